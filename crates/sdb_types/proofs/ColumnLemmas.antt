@@ -1,0 +1,149 @@
+-- A column set at its place, and columns stay columns.
+use Rattle.std.proofs.Common.{◌≡◌, ℕ, suc, ◌+◌, ◌≤◌, List, [], ◌∷◌, ◌++◌, Bool, true, false, not, ◌&&◌, cond, refl, sym, ap, ◌∙◌, subst, arith, rules, length, take, drop, set}
+use Rattle.std.specs.Prelude.{insert, remove, slice_set, take_while, if◌then◌else◌}
+use Rattle.std.specs.declared.cmp.Ordering.{Ordering}
+use Rattle.std.specs.declared.cmp.Ordering.TheVariants.{Less, Equal, Greater}
+use Rattle.std.specs.Ordering.{is_lt, is_eq, ordering_reverse}
+use Rattle.sdb_types.specs.declared.value.Value.{Value}
+use Rattle.sdb_types.specs.declared.pair.Pair.{Pair}
+use Rattle.std.proofs.Common.{Result, Ok, Err, OnOk, OnErr}
+use Rattle.sdb_types.specs.declared.memory.NoMemory.{NoMemory}
+use Rattle.sdb_types.specs.Order.{name_cmp}
+use Rattle.sdb_types.proofs.Bools.{and_first, and_second, and_both}
+use Rattle.sdb_types.proofs.KeyOrder.{name_exact, name_total}
+use Rattle.sdb_types.specs.Columns.{is_null, starts_above, are_columns, is_named, is_below, choose_by, put_pair, take_out, with_column, place_in, stands_first}
+
+pub by_order : {G : Type 0} (r : Ordering) → (r ≡ Less → G) → (r ≡ Equal → G) → (r ≡ Greater → G) → G
+by_order Less f g h = f refl
+by_order Equal f g h = g refl
+by_order Greater f g h = h refl
+
+one_more : (n : ℕ) → 1 + n ≡ suc n
+one_more n = omega arith
+
+pub place-take_while : (name : List ℕ) (es : List Pair) → length (take_while (is_below name) es) ≡ place_in name es
+place-take_while name [] = refl
+place-take_while name (e ∷ es) =
+    by_order (name_cmp e.name name)
+    (λ q. simp (q, one_more) (ap suc (place-take_while name es)))
+    (λ q. simp q refl)
+    (λ q. simp q refl)
+
+pub put_before : (p : Pair) (es : List Pair) → stands_first p.name (drop (place_in p.name es) es) ≡ false → insert es (place_in p.name es) p ≡ put_pair p es
+put_before p [] h = refl
+put_before p (e ∷ es) h =
+    by_order (name_cmp e.name p.name)
+    (λ q. let t = simp q at h in simp q (ap (λ l. e ∷ l) (put_before p es t)))
+    (λ q. let t = simp q at h in cc)
+    (λ q. simp q refl)
+
+pub put_over : (p : Pair) (es : List Pair) → stands_first p.name (drop (place_in p.name es) es) ≡ true → slice_set es (place_in p.name es) p ≡ put_pair p es
+put_over p [] h = cc
+put_over p (e ∷ es) h =
+    by_order (name_cmp e.name p.name)
+    (λ q. let t = simp q at h in simp q (ap (λ l. e ∷ l) (put_over p es t)))
+    (λ q. simp q refl)
+    (λ q. let t = simp q at h in cc)
+
+pub take_at : (name : List ℕ) (es : List Pair) → stands_first name (drop (place_in name es) es) ≡ true → remove es (place_in name es) ≡ take_out name es
+take_at name [] h = cc
+take_at name (e ∷ es) h =
+    by_order (name_cmp e.name name)
+    (λ q. let t = simp q at h in simp q (ap (λ l. e ∷ l) (take_at name es t)))
+    (λ q. simp q refl)
+    (λ q. let t = simp q at h in cc)
+
+pub take_none : (name : List ℕ) (es : List Pair) → stands_first name (drop (place_in name es) es) ≡ false → es ≡ take_out name es
+take_none name [] h = refl
+take_none name (e ∷ es) h =
+    by_order (name_cmp e.name name)
+    (λ q. let t = simp q at h in simp q (ap (λ l. e ∷ l) (take_none name es t)))
+    (λ q. let t = simp q at h in cc)
+    (λ q. simp q refl)
+
+-- what stands above a name that is above another stands above that one
+not_above : (name : List ℕ) (p : Pair) (es : List Pair) → is_lt (name_cmp name p.name) ≡ true → starts_above name es ≡ true → starts_above name (put_pair p es) ≡ true
+not_above name p [] h k = h
+not_above name p (e ∷ es) h k =
+    by_order (name_cmp e.name p.name)
+    (λ q. simp q k)
+    (λ q. simp q h)
+    (λ q. simp q h)
+
+less_of : (r : Ordering) → is_lt r ≡ true → r ≡ Less
+less_of Less h = refl
+less_of Equal h = cc
+less_of Greater h = cc
+
+pub put-are_columns : (p : Pair) (es : List Pair) → is_null p.value ≡ false → are_columns es ≡ true → are_columns (put_pair p es) ≡ true
+put-are_columns p [] n h = simp n refl
+put-are_columns p (e ∷ es) n h =
+    let full = and_first _ _ h in
+    let rest = and_second _ _ h in
+    let above = and_first _ _ rest in
+    let tail = and_second _ _ rest in
+    by_order (name_cmp e.name p.name)
+    (λ q. simp q (and_both _ _ full (and_both _ _ (not_above e.name p es (ap is_lt q) above) (put-are_columns p es n tail))))
+    (λ q. simp q (and_both _ _ (ap not n) (and_both _ _ (subst (λ (x : List ℕ). starts_above x es ≡ true) (name_exact _ _ q) above) tail)))
+    (λ q. simp q (and_both _ _ (ap not n) (and_both _ _ (ap is_lt (name_total.antisymm p.name e.name ∙ ap ordering_reverse q)) h)))
+
+above_more : (name : List ℕ) (e : Pair) (es : List Pair) → is_lt (name_cmp name e.name) ≡ true → starts_above e.name es ≡ true → starts_above name es ≡ true
+above_more name e [] h k = refl
+above_more name e (f ∷ es) h k = ap is_lt (name_total.trans name e.name f.name (less_of _ h) (less_of _ k))
+
+above_out : (name other : List ℕ) (es : List Pair) → are_columns es ≡ true → starts_above name es ≡ true → starts_above name (take_out other es) ≡ true
+above_out name other [] c k = refl
+above_out name other (e ∷ es) c k =
+    by_order (name_cmp e.name other)
+    (λ q. simp q k)
+    (λ q. simp q (above_more name e es k (and_first _ _ (and_second _ _ c))))
+    (λ q. simp q k)
+
+pub out-are_columns : (name : List ℕ) (es : List Pair) → are_columns es ≡ true → are_columns (take_out name es) ≡ true
+out-are_columns name [] h = refl
+out-are_columns name (e ∷ es) h =
+    let rest = and_second _ _ h in
+    let tail = and_second _ _ rest in
+    by_order (name_cmp e.name name)
+    (λ q. simp q (and_both _ _ (and_first _ _ h) (and_both _ _ (above_out e.name name es tail (and_first _ _ rest)) (out-are_columns name es tail))))
+    (λ q. simp q tail)
+    (λ q. simp q h)
+
+pub with_column-are_columns : (p : Pair) (es : List Pair) → are_columns es ≡ true → are_columns (with_column p es) ≡ true
+with_column-are_columns p es h =
+    elim (is_null p.value) as (λ b. is_null p.value ≡ b → are_columns (if b then take_out p.name es else put_pair p es) ≡ true) [
+      | true ↦ λ q. out-are_columns p.name es h
+      | false ↦ λ q. put-are_columns p es q h
+    ] refl
+
+pub place_within : (name : List ℕ) (es : List Pair) → place_in name es ≤ length es
+place_within name [] = omega arith
+place_within name (e ∷ es) =
+    by_order (name_cmp e.name name)
+    (λ q. simp q (omega (arith, place_within name es)))
+    (λ q. simp q (omega arith))
+    (λ q. simp q (omega arith))
+
+-- the same at a place that a count has given
+module _ (p : Pair) (es : List Pair) (n : ℕ) (counted : n ≡ length (take_while (is_below p.name) es)) where
+  abbrev at : n ≡ place_in p.name es
+  at = counted ∙ place-take_while p.name es
+
+  pub with_column-over : stands_first p.name (drop n es) ≡ true → is_null p.value ≡ false → slice_set es n p ≡ with_column p es
+  with_column-over h k = let t = rw at at h in rw (at, k) (put_over p es t)
+
+  pub with_column-before : stands_first p.name (drop n es) ≡ false → is_null p.value ≡ false → insert es n p ≡ with_column p es
+  with_column-before h k = let t = rw at at h in rw (at, k) (put_before p es t)
+
+  pub with_column-out : stands_first p.name (drop n es) ≡ true → is_null p.value ≡ true → remove es n ≡ with_column p es
+  with_column-out h k = let t = rw at at h in rw (at, k) (take_at p.name es t)
+
+  pub with_column-none : stands_first p.name (drop n es) ≡ false → is_null p.value ≡ true → es ≡ with_column p es
+  with_column-none h k = let t = rw at at h in rw k (take_none p.name es t)
+
+  pub place_fits : n ≤ length es
+  place_fits = rw at (place_within p.name es)
+
+pub after_put : (r : Result (Unit {0}) NoMemory) (new old : List Pair) (p : Pair) → OnOk r (new ≡ with_column p old) → OnErr r (new ≡ old) → are_columns old ≡ true → are_columns new ≡ true
+after_put (Ok x) new old p o e h = rw o (with_column-are_columns p old h)
+after_put (Err x) new old p o e h = rw e h

@@ -1,0 +1,5 @@
+pub mod Bools
+pub mod KeyOrder
+pub mod ColumnLemmas
+pub mod TxIdLemmas
+pub mod Pieces

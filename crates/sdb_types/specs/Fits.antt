@@ -1,0 +1,28 @@
+use Rattle.std.specs.Prelude.{ℕ, ℤ, ◌<◌, ◌^◌, All, List, FitsSigned}
+use Rattle.std.specs.Prelude.{◌≡◌, true}
+use Rattle.std.specs.Int.{w32, w64}
+use Rattle.sdb_types.specs.Identifier.{is_name}
+use Rattle.sdb_types.specs.declared.pair.Pair.{Pair}
+use Rattle.sdb_types.specs.declared.key.Key.{Key}
+use Rattle.sdb_types.specs.declared.value.Value.{Value}
+use Rattle.sdb_types.specs.declared.value.Value.TheVariants as value
+
+abbrev pub AreBytes : List ℕ → Type 0
+AreBytes bytes = All (λ b. b < 256) bytes
+
+abbrev pub value_fits : Value → Type 0
+value_fits value.Null = Unit {0}
+value_fits (value.Bool b) = Unit {0}
+value_fits (value.Int n) = FitsSigned w32 n
+value_fits (value.BigInt n) = FitsSigned w64 n
+value_fits (value.Text text) = AreBytes text
+value_fits (value.Blob bytes) = AreBytes bytes
+
+abbrev pub pair_fits : Pair → Type 0
+pair_fits p = (is_name p.name ≡ true) × value_fits p.value
+
+pub record key_fits (k : Key) : Type 0 where
+  pub ns : is_name k.table.ns ≡ true
+  pub table : is_name k.table.table ≡ true
+  pub partition : All value_fits k.partition
+  pub clustering : All value_fits k.clustering

@@ -1,0 +1,9 @@
+pub mod Identifier
+pub mod Order
+pub mod Columns
+pub mod ValueLaws
+pub mod TxId
+pub mod Fits
+pub mod Exact
+pub mod Bytes
+pub mod Held

@@ -1,0 +1,137 @@
+//! The columns of a record.
+ghost use Rattle.std.specs.Prelude.{◌≡◌, [], length, true, IfOk, OnOk, OnErr, drop, take_while};
+ghost use Rattle.std.specs.Option.{option_copied};
+ghost use Rattle.std.specs.Slice.{IsItemAt};
+ghost use Rattle.sdb_types.specs.Columns.{are_columns, column, with_column, is_below, is_null, stands_first};
+
+use crate::memory::{Duplicate, NoMemory};
+use crate::name::Name;
+use crate::seq::Seq;
+use crate::pair::Pair;
+use crate::value::Value;
+use std::alloc::Global;
+use std::marker::Model;
+
+/// Columns in ascending order of their names, each name once and none with Null.
+#[derive(Debug, Drop)]
+pub struct Columns {
+    pairs: Seq<Pair>,
+}
+
+impl Model for Columns {
+    ghost use Rattle.std.specs.Prelude.{List, ◌≡◌, true};
+    ghost use Rattle.sdb_types.specs.declared.pair.Pair.{Pair};
+    ghost use Rattle.sdb_types.specs.Columns.{are_columns};
+
+    ghost Value = { List Pair };
+
+    ghost view = { λ c. c.pairs };
+
+    ghost invariant = { λ c. are_columns c.pairs ≡ true };
+}
+
+fn is_null_value(value: &Value) -> bool
+    ensures { result ≡ is_null value.now }
+{
+    match value {
+        Value::Null => true,
+        _ => false,
+    }
+}
+
+// Where the name stands, or would stand.
+fn place_of(pairs: &[Pair], name: &Name) -> usize
+    ensures { result ≡ length (take_while (is_below name.now) pairs.now) }
+{
+    pairs
+        .iter()
+        .take_while(|pair| pair.name.cmp(name).is_lt())
+        .count()
+}
+
+fn is_at(pairs: &[Pair], place: usize, name: &Name) -> bool
+    ensures { result ≡ stands_first name.now (drop place pairs.now) }
+{
+    match pairs.get(place) {
+        Some(pair) => pair.name.cmp(name).is_eq(),
+        None => false,
+    }
+}
+
+fn find_value<'a>(pairs: &'a [Pair], name: &Name) -> Option<&'a Value>
+    ensures { option_copied result ≡ column pairs.now name.now }
+{
+    pairs
+        .iter()
+        .find(|pair| pair.name.cmp(name).is_eq())
+        .map(|pair| &pair.value)
+}
+
+fn put(pairs: &mut Seq<Pair>, pair: Pair) -> Result<(), NoMemory>
+    ensures ok { OnOk result (pairs.new ≡ with_column pair pairs.old) }
+    ensures err { OnErr result (pairs.new ≡ pairs.old) }
+{
+    let place = place_of(pairs.as_slice(), &pair.name);
+    let known = is_at(pairs.as_slice(), place, &pair.name);
+    if is_null_value(&pair.value) {
+        if known {
+            pairs.remove(place);
+        }
+        return Ok(());
+    }
+    if known {
+        pairs.replace(place, pair);
+        return Ok(());
+    }
+    pairs.insert(place, pair)
+}
+
+impl Columns {
+    pub fn new(alloc: Global) -> Columns
+        ensures { result ≡ [] }
+    {
+        Columns {
+            pairs: Seq::new(alloc),
+        }
+    }
+
+    pub fn len(&self) -> usize
+        ensures len { result ≡ length self.now }
+        ensures columns { are_columns self.now ≡ true }
+    {
+        self.pairs.len()
+    }
+
+    pub fn at(&self, i: usize) -> Option<&Pair>
+        ensures { IsItemAt self.now i result }
+    {
+        self.pairs.at(i)
+    }
+
+    pub fn pairs(&self) -> &[Pair]
+        ensures { result.now ≡ self.now }
+    {
+        self.pairs.as_slice()
+    }
+
+    pub fn get(&self, name: &Name) -> Option<&Value>
+        ensures { option_copied result ≡ column self.now name.now }
+    {
+        find_value(self.pairs.as_slice(), name)
+    }
+
+    pub fn set(&mut self, name: Name, value: Value) -> Result<(), NoMemory>
+        ensures ok { OnOk result (self.new ≡ with_column (record { name = name; value = value }) self.old) }
+        ensures err { OnErr result (self.new ≡ self.old) }
+    {
+        put(&mut self.pairs, Pair { name, value })
+    }
+}
+
+impl Duplicate for Columns {
+    fn copy(&self) -> Result<Columns, NoMemory> {
+        Ok(Columns {
+            pairs: self.pairs.copy()?,
+        })
+    }
+}

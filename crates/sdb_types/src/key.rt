@@ -1,0 +1,52 @@
+//! Names of tables, and keys of records.
+ghost use Rattle.std.specs.Prelude.{◌≡◌, IfOk};
+ghost use Rattle.sdb_types.specs.Order.{key_cmp};
+
+use crate::memory::{Duplicate, NoMemory};
+use crate::name::Name;
+use crate::value::Values;
+use std::cmp::Ordering;
+
+/// A table's name: its namespace, and its own name.
+#[derive(Debug, Drop, PartialEq, Eq, PartialOrd, Ord)]
+pub struct TableName {
+    pub ns: Name,
+    pub table: Name,
+}
+
+impl Duplicate for TableName {
+    fn copy(&self) -> Result<TableName, NoMemory> {
+        Ok(TableName {
+            ns: self.ns.copy()?,
+            table: self.table.copy()?,
+        })
+    }
+}
+
+/// A record's primary key: the values of its partition columns, and of its clustering columns.
+#[derive(Debug, Drop, PartialEq, Eq, PartialOrd, Ord)]
+pub struct Key {
+    pub table: TableName,
+    pub partition: Values,
+    pub clustering: Values,
+}
+
+impl Duplicate for Key {
+    fn copy(&self) -> Result<Key, NoMemory> {
+        Ok(Key {
+            table: self.table.copy()?,
+            partition: self.partition.copy()?,
+            clustering: self.clustering.copy()?,
+        })
+    }
+}
+
+impl Key {
+    /// The order of keys: by namespace and table, then by partition, then by clustering. Lists compare item by
+    /// item, and a front stands before the whole. Takes no memory.
+    pub fn compare(&self, other: &Key) -> Ordering
+        ensures { result ≡ key_cmp self.now other.now }
+    {
+        self.cmp(other)
+    }
+}

@@ -1,0 +1,39 @@
+//! The plain types of the data model: values, names, keys, records, requests to a store and their replies, and
+//! the traits of what lies outside the program.
+#![tactic(auto)]
+
+mod columns;
+mod columns_order;
+mod exact;
+mod feed;
+mod key;
+mod known;
+pub mod laws;
+mod memory;
+mod name;
+mod outside;
+mod pair;
+mod record;
+mod seq;
+mod seq_order;
+mod text;
+mod tray;
+mod txid;
+mod value;
+mod value_order;
+
+pub use columns::Columns;
+pub use exact::{Exact, same};
+pub use feed::Feed;
+pub use key::{Key, TableName};
+pub use known::Known;
+pub use memory::{Duplicate, NoMemory};
+pub use name::{Name, NameRefused};
+pub use outside::{Failed, Sink, SinkRefused, Source};
+pub use pair::Pair;
+pub use record::{Condition, Record, Records, Reply, Request, Span, State};
+pub use seq::Seq;
+pub use text::Txt;
+pub use tray::Tray;
+pub use txid::TxId;
+pub use value::{Names, Octets, Value, Values};

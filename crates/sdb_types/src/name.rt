@@ -1,0 +1,152 @@
+//! Names: identifiers of 1 to 71 bytes.
+ghost use Rattle.std.specs.Prelude.{◌≡◌, ◌↔◌, length, true, false, refl, ◌==◌, OnOk, IfOk, Some, IsErrOf};
+ghost use Rattle.std.specs.List.{list_all};
+ghost use lib.Pointwise.{pointwise};
+ghost use Rattle.std.specs.Cmp as Cmp;
+ghost use Rattle.std.specs.Cmp.Lexicographic.{slice_cmp, nat_list_cmp_total, nat_list_eq_equiv, texts_ties, texts_po};
+ghost use Rattle.std.specs.Ordering.{nat_cmp};
+ghost use Rattle.sdb_types.specs.Identifier.{is_start, is_part, is_identifier, is_name};
+ghost use Rattle.sdb_types.specs.declared.name.NameRefused.TheVariants.{NoMemory as RefusedNoMemory};
+
+use crate::memory::{Duplicate, NoMemory};
+use std::alloc::{AllocError, Global};
+use std::cmp::Ordering;
+use std::marker::Model;
+use thiserror::Error;
+
+#[derive(Clone, Copy, Debug, PartialEq, Eq, Error)]
+pub enum NameRefused {
+    #[error("not a name")]
+    BadName,
+    #[error("out of memory")]
+    NoMemory,
+}
+
+impl From<NoMemory> for NameRefused {
+    ghost from_gives = { λ _ e. e ≡ RefusedNoMemory };
+
+    fn from(_e: NoMemory) -> NameRefused {
+        NameRefused::NoMemory
+    }
+}
+
+impl From<AllocError> for NameRefused {
+    ghost from_gives = { λ _ e. e ≡ RefusedNoMemory };
+
+    fn from(_e: AllocError) -> NameRefused {
+        NameRefused::NoMemory
+    }
+}
+
+/// A name, seen as its bytes.
+#[derive(Debug, Drop)]
+pub struct Name {
+    text: String,
+}
+
+impl Model for Name {
+    ghost use Rattle.std.specs.Prelude.{List, ℕ, ◌≡◌, true};
+    ghost use Rattle.std.specs.String.{string_bytes};
+    ghost use Rattle.sdb_types.specs.Identifier.{is_name};
+
+    ghost Value = { List ℕ };
+
+    ghost view = { λ t. string_bytes t.text };
+
+    ghost invariant = { λ t. is_name (string_bytes t.text) ≡ true };
+}
+
+fn starts(b: u8) -> bool
+    ensures { result ≡ is_start b }
+{
+    b.is_ascii_alphabetic() || b == b'_'
+}
+
+fn goes_on(b: u8) -> bool
+    ensures { result ≡ is_part b }
+{
+    starts(b) || b.is_ascii_digit()
+}
+
+fn all_go_on(bytes: &[u8]) -> bool
+    ensures { result ≡ list_all is_part bytes.now }
+{
+    bytes.iter().all(|b| goes_on(*b))
+}
+
+fn is_identifier_text(bytes: &[u8]) -> bool
+    ensures { result ≡ is_identifier bytes.now }
+{
+    match bytes.split_first() {
+        Some((first, rest)) => starts(*first) && all_go_on(rest),
+        None => false,
+    }
+}
+
+impl Name {
+    pub fn new(alloc: Global, text: &str) -> Result<Name, NameRefused>
+        ensures ok { IfOk result (λ n. n ≡ text.now) }
+        ensures named { OnOk result (is_name text.now ≡ true) }
+        ensures bad { IsErrOf result NameRefused.BadName ↔ (is_name text.now ≡ false) }
+    {
+        if text.len() > 71 || !is_identifier_text(text.as_bytes()) {
+            return Err(NameRefused::BadName);
+        }
+        Ok(Name {
+            text: String::from_str(alloc, text)?,
+        })
+    }
+
+    pub fn as_str(&self) -> &str
+        ensures text { result.now ≡ self.now }
+        ensures named { is_name self.now ≡ true }
+    {
+        self.text.as_str()
+    }
+}
+
+impl Duplicate for Name {
+    fn copy(&self) -> Result<Name, NoMemory> {
+        Ok(Name {
+            text: self.text.clone()?,
+        })
+    }
+}
+
+impl PartialEq for Name {
+    ghost eq = { pointwise ◌==◌ };
+
+    ghost laws = { Cmp.partial_equiv_from_equiv nat_list_eq_equiv };
+
+    fn eq(&self, other: &Self) -> bool {
+        self.as_str() == other.as_str()
+    }
+}
+
+impl Eq for Name {
+    ghost laws = { nat_list_eq_equiv };
+}
+
+impl PartialOrd for Name {
+    ghost partial_cmp = { λ x y. Some (slice_cmp nat_cmp x y) };
+
+    ghost laws = { texts_po };
+
+    fn partial_cmp(&self, other: &Self) -> Option<Ordering> {
+        Some(self.cmp(other))
+    }
+}
+
+impl Ord for Name {
+    ghost cmp = { slice_cmp nat_cmp };
+
+    ghost total = { nat_list_cmp_total };
+
+    ghost matches_partial_cmp = { λ x y. refl };
+
+    ghost matches_eq = { texts_ties };
+
+    fn cmp(&self, other: &Self) -> Ordering {
+        self.as_str().cmp(other.as_str())
+    }
+}

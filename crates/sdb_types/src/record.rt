@@ -1,0 +1,116 @@
+//! Records, and what a store is asked and answers.
+ghost use Rattle.std.specs.Prelude.{◌≡◌, IfOk};
+
+use crate::columns::Columns;
+use crate::key::{Key, TableName};
+use crate::memory::{Duplicate, NoMemory};
+use crate::seq::Seq;
+use crate::txid::TxId;
+use crate::value::Values;
+
+/// A record of a store. Its key columns stand in its key alone.
+#[derive(Debug, Drop, PartialEq, Eq)]
+pub struct Record {
+    pub key: Key,
+    pub columns: Columns,
+}
+
+impl Duplicate for Record {
+    fn copy(&self) -> Result<Record, NoMemory> {
+        Ok(Record {
+            key: self.key.copy()?,
+            columns: self.columns.copy()?,
+        })
+    }
+}
+
+pub type Records = Seq<Record>;
+
+/// One partition of a table, or the whole table where no partition is named.
+#[derive(Debug, Drop, PartialEq, Eq)]
+pub struct Span {
+    pub table: TableName,
+    pub partition: Option<Values>,
+}
+
+impl Duplicate for Span {
+    fn copy(&self) -> Result<Span, NoMemory> {
+        Ok(Span {
+            table: self.table.copy()?,
+            partition: self.partition.copy()?,
+        })
+    }
+}
+
+/// The state of a transactional record or of a coordinator row.
+#[derive(Clone, Copy, Debug, PartialEq, Eq)]
+pub enum State {
+    Prepared,
+    Deleted,
+    Committed,
+    Aborted,
+}
+
+impl Duplicate for State {
+    fn copy(&self) -> Result<State, NoMemory> {
+        Ok(*self)
+    }
+}
+
+/// What has to hold of the record at a key for a write to take effect: that there is none, or that it is in this
+/// state and was written by this transaction.
+#[derive(Clone, Copy, Debug, PartialEq, Eq)]
+pub enum Condition {
+    Absent,
+    Version(TxId, State),
+}
+
+impl Duplicate for Condition {
+    fn copy(&self) -> Result<Condition, NoMemory> {
+        Ok(*self)
+    }
+}
+
+/// One call on one store.
+#[derive(Debug, Drop, PartialEq, Eq)]
+pub enum Request {
+    Get(Key),
+    Scan(Span),
+    PutIf(Record, Condition),
+    DeleteIf(Key, Condition),
+}
+
+impl Duplicate for Request {
+    fn copy(&self) -> Result<Request, NoMemory> {
+        match self {
+            Request::Get(key) => Ok(Request::Get(key.copy()?)),
+            Request::Scan(span) => Ok(Request::Scan(span.copy()?)),
+            Request::PutIf(rec, condition) => Ok(Request::PutIf(rec.copy()?, *condition)),
+            Request::DeleteIf(key, condition) => Ok(Request::DeleteIf(key.copy()?, *condition)),
+        }
+    }
+}
+
+/// What a store answers to a request.
+#[derive(Debug, Drop, PartialEq, Eq)]
+pub enum Reply {
+    Found(Option<Record>),
+    Rows(Records),
+    Applied,
+    NotMet(Option<Record>),
+    Fault,
+    NoMemory,
+}
+
+impl Duplicate for Reply {
+    fn copy(&self) -> Result<Reply, NoMemory> {
+        match self {
+            Reply::Found(found) => Ok(Reply::Found(found.copy()?)),
+            Reply::Rows(rows) => Ok(Reply::Rows(rows.copy()?)),
+            Reply::Applied => Ok(Reply::Applied),
+            Reply::NotMet(found) => Ok(Reply::NotMet(found.copy()?)),
+            Reply::Fault => Ok(Reply::Fault),
+            Reply::NoMemory => Ok(Reply::NoMemory),
+        }
+    }
+}
