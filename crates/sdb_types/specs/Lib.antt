@@ -7,3 +7,4 @@ pub mod Fits
 pub mod Exact
 pub mod Bytes
 pub mod Held
+pub mod Contents

@@ -1,0 +1,107 @@
+//! What happens in a run, and its outcome.
+ghost use Rattle.std.specs.Prelude.{◌≡◌, IfOk};
+
+use crate::answer::{Answer, Rows};
+use sdb_types::{Duplicate, Name, NoMemory, Reply, Request, Seq, TableName, TxId, Txt};
+
+/// What became of a call and its reply.
+#[derive(Clone, Copy, Debug, PartialEq, Eq)]
+pub enum How {
+    /// The call was made, and the client was handed the store's reply.
+    Seen,
+    /// The call was made, and the client was handed a fault.
+    Lost,
+    /// The call wasn't made, and the client was handed a fault.
+    Discarded,
+    /// The store itself failed: the call had its whole effect or none.
+    Broken,
+}
+
+/// One step of one client, or a stop, a move of the clock or an idle step. Clients are numbered from 1.
+#[derive(Debug, Drop, PartialEq, Eq)]
+pub enum Event {
+    /// A client takes a statement, answered at once or not.
+    Take(u32, Txt, Option<Answer>),
+    /// A client makes a call on the store of this name and digests the reply. An answer ends its statement.
+    Call(u32, Name, Request, How, Reply, Option<Answer>),
+    /// A client stops for good.
+    Stop(u32),
+    /// The clock shows this moment, in milliseconds.
+    Clock(i64),
+    /// A client that is stopped, or has nothing to do, was to take a step.
+    Idle(u32),
+}
+
+pub type Events = Seq<Event>;
+
+/// A recorded transaction, with the number of the event that gives its place in the order.
+#[derive(Clone, Copy, Debug, PartialEq, Eq)]
+pub struct Point {
+    pub id: TxId,
+    pub event: u64,
+}
+
+pub type Points = Seq<Point>;
+
+/// The rows of a table, all columns in the order of their names.
+#[derive(Debug, Drop, PartialEq, Eq)]
+pub struct TableDump {
+    pub name: TableName,
+    pub rows: Rows,
+}
+
+pub type TableRows = Seq<TableDump>;
+
+/// What a run has come to: its events, the recorded transactions in order, and the final rows.
+#[derive(Debug, Drop, PartialEq, Eq)]
+pub struct Outcome {
+    pub events: Events,
+    pub order: Points,
+    pub tables: TableRows,
+}
+
+impl Duplicate for Event {
+    fn copy(&self) -> Result<Event, NoMemory> {
+        match self {
+            Event::Take(client, text, answer) => {
+                Ok(Event::Take(*client, text.copy()?, answer.copy()?))
+            }
+            Event::Call(client, store, request, how, reply, answer) => Ok(Event::Call(
+                *client,
+                store.copy()?,
+                request.copy()?,
+                *how,
+                reply.copy()?,
+                answer.copy()?,
+            )),
+            Event::Stop(client) => Ok(Event::Stop(*client)),
+            Event::Clock(moment) => Ok(Event::Clock(*moment)),
+            Event::Idle(client) => Ok(Event::Idle(*client)),
+        }
+    }
+}
+
+impl Duplicate for Point {
+    fn copy(&self) -> Result<Point, NoMemory> {
+        Ok(*self)
+    }
+}
+
+impl Duplicate for TableDump {
+    fn copy(&self) -> Result<TableDump, NoMemory> {
+        Ok(TableDump {
+            name: self.name.copy()?,
+            rows: self.rows.copy()?,
+        })
+    }
+}
+
+impl Duplicate for Outcome {
+    fn copy(&self) -> Result<Outcome, NoMemory> {
+        Ok(Outcome {
+            events: self.events.copy()?,
+            order: self.order.copy()?,
+            tables: self.tables.copy()?,
+        })
+    }
+}

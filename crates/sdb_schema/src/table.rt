@@ -1,0 +1,79 @@
+//! Tables.
+ghost use Rattle.std.specs.Prelude.{◌≡◌, IfOk};
+
+use sdb_types::{Duplicate, Name, Names, NoMemory, Seq, TableName};
+
+/// What a column's values are.
+#[derive(Clone, Copy, Debug, PartialEq, Eq)]
+pub enum Kind {
+    Boolean,
+    Int,
+    BigInt,
+    Text,
+    Blob,
+}
+
+/// Which way a clustering column is ordered.
+#[derive(Clone, Copy, Debug, PartialEq, Eq)]
+pub enum Direction {
+    Asc,
+    Desc,
+}
+
+#[derive(Debug, Drop, PartialEq, Eq)]
+pub struct Column {
+    pub name: Name,
+    pub kind: Kind,
+}
+
+/// A clustering column.
+#[derive(Debug, Drop, PartialEq, Eq)]
+pub struct Order {
+    pub name: Name,
+    pub direction: Direction,
+}
+
+pub type ColumnList = Seq<Column>;
+
+pub type Orders = Seq<Order>;
+
+/// A table: its columns in the order of their names, its primary key (the partition columns, then the clustering
+/// columns), and the columns that are indexed.
+#[derive(Debug, Drop, PartialEq, Eq)]
+pub struct Table {
+    pub name: TableName,
+    pub columns: ColumnList,
+    pub partition: Names,
+    pub clustering: Orders,
+    pub indexed: Names,
+}
+
+impl Duplicate for Column {
+    fn copy(&self) -> Result<Column, NoMemory> {
+        Ok(Column {
+            name: self.name.copy()?,
+            kind: self.kind,
+        })
+    }
+}
+
+impl Duplicate for Order {
+    fn copy(&self) -> Result<Order, NoMemory> {
+        Ok(Order {
+            name: self.name.copy()?,
+            direction: self.direction,
+        })
+    }
+}
+
+impl Duplicate for Table {
+    fn copy(&self) -> Result<Table, NoMemory> {
+        Ok(Table {
+            name: self.name.copy()?,
+            columns: self.columns.copy()?,
+            partition: self.partition.copy()?,
+            clustering: self.clustering.copy()?,
+            indexed: self.indexed.copy()?,
+        })
+    }
+}
