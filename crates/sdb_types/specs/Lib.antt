@@ -6,5 +6,6 @@ pub mod TxId
 pub mod Fits
 pub mod Exact
 pub mod Bytes
+pub mod Draws
 pub mod Held
 pub mod Contents

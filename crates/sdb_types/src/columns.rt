@@ -6,8 +6,8 @@ ghost use Rattle.sdb_types.specs.Columns.{are_columns, column, with_column, is_b
 
 use crate::memory::{Duplicate, NoMemory};
 use crate::name::Name;
-use crate::seq::Seq;
 use crate::pair::Pair;
+use crate::seq::Seq;
 use crate::value::Value;
 use std::alloc::Global;
 use std::marker::Model;

@@ -25,4 +25,3 @@ pub fn same<T: Exact>(a: &T, b: &T) -> bool
 {
     a == b
 }
-

@@ -1,64 +1,22 @@
-// Bytes in memory as a source whose calls fail as listed.
-ghost use Rattle.std.specs.Prelude.{◌≡◌, ◌≤◌, ◌<◌, ◌+◌, List, ℕ, length, IsErr, ◌↔◌, IsTrue, cond, min, take, OnErr, IfOk, Some, nat_lt, ◌-◌, ◌^◌};
-ghost use Rattle.sdb_types.specs.Bytes.{fails_at, is_listed as is_listed_lem, HasRisen, Takes, IsAtEnd};
+//! Bytes in memory as a source whose calls fail as listed.
+ghost use Rattle.std.specs.Prelude.{◌≡◌, ◌≤◌, ◌<◌, ◌+◌, List, ℕ, length, IsErr, ◌↔◌, IsTrue, min, take, OnErr, IfOk, Some, if◌then◌else◌};
+ghost use Rattle.sdb_types.specs.Bytes.{fails_at, HasRisen, Takes, IsAtEnd};
+ghost use Rattle.sdb_types.specs.Draws.{counted};
 
+use crate::calls::{CallCounter, Calls};
 use crate::outside::{Failed, Source};
+use crate::value::Octets;
 use std::marker::Model;
 
-#[derive(Drop)]
+/// A source of bytes in memory. A call takes at most `most` bytes, and fails exactly where its number, from 1, is
+/// listed.
+#[derive(Debug, Drop)]
 pub struct Feed {
-    bytes: Vec<u8>,
+    bytes: Octets,
     at: usize,
     most: usize,
-    calls: Calls,
-}
-
-/// The calls made so far, and which of them fail.
-#[derive(Drop)]
-pub struct Calls {
-    failing: Vec<u64>,
-    made: u64,
-    failed: u64,
-    ghost fewer: { failed ≤ made },
-}
-
-impl Calls {
-    pub fn new(failing: Vec<u64>) -> Self
-        ensures failing { result.failing ≡ failing }
-        ensures made { result.made ≡ 0 }
-        ensures failed { result.failed ≡ 0 }
-    {
-        Calls {
-            failing,
-            made: 0,
-            failed: 0,
-        }
-    }
-
-    /// Counts one more call, and says whether it fails.
-    pub fn next_fails(&mut self) -> bool
-        ensures fails { result ≡ fails_at (self.old.made + 1) self.old.failing.items }
-        ensures failing { self.new.failing ≡ self.old.failing }
-        ensures made { self.new.made ≡ cond (nat_lt self.old.made (2 ^ 64 - 1)) (self.old.made + 1) self.old.made }
-        ensures failed { self.new.failed ≡ cond result (self.old.failed + 1) self.old.failed }
-    {
-        if self.made == u64::MAX {
-            return false;
-        }
-        self.made += 1;
-        if self.made < u64::MAX && is_listed(self.made, &self.failing) {
-            self.failed += 1;
-            true
-        } else {
-            false
-        }
-    }
-}
-
-fn is_listed(n: u64, failing: &[u64]) -> bool
-    ensures { result ≡ is_listed_lem n failing.now }
-{
-    failing.iter().any(|x| *x == n)
+    failing: Calls,
+    calls: CallCounter,
 }
 
 impl Model for Feed {
@@ -67,21 +25,22 @@ impl Model for Feed {
 
     ghost Value = { FeedState };
 
-    ghost view = { λ f. record { left = drop f.at f.bytes.items; most = f.most; failing = f.calls.failing.items; made = f.calls.made; failed = f.calls.failed } };
+    ghost view = { λ f. record { left = drop f.at f.bytes; most = f.most; failing = f.failing; made = f.calls.made; failed = f.calls.failed } };
 
-    ghost invariant = { λ f. (f.at ≤ length f.bytes.items) × (0 < f.most) };
+    ghost invariant = { λ f. (f.at ≤ length f.bytes) × (0 < f.most) };
 }
 
 impl Feed {
-    pub fn new(bytes: Vec<u8>, most: usize, failing: Vec<u64>) -> Self
+    pub fn new(bytes: Octets, most: usize, failing: Calls) -> Feed
         requires { 0 < most }
-        ensures { result ≡ record { left = bytes.items; most = most; failing = failing.items; made = 0; failed = 0 } }
+        ensures { result ≡ record { left = bytes; most = most; failing = failing; made = 0; failed = 0 } }
     {
         Feed {
             bytes,
             at: 0,
             most,
-            calls: Calls::new(failing),
+            failing,
+            calls: CallCounter::new(),
         }
     }
 }
@@ -93,6 +52,8 @@ impl Source for Feed {
 
     ghost faults = { λ f. f.failed };
 
+    /// Reads the least of `most`, the buffer's length and what is left. It fails exactly where the call is listed, and
+    /// its count rises there alone.
     fn read(&mut self, buffer: &mut [u8]) -> Result<usize, Failed>
         requires { 0 < length buffer.old }
         ensures fits { IfOk result (λ n. n ≤ length buffer.old) }
@@ -103,13 +64,17 @@ impl Source for Feed {
         ensures err { OnErr result (self.new.left ≡ self.old.left) }
         ensures exact { IsErr result ↔ IsTrue (fails_at (self.old.made + 1) self.old.failing) }
         ensures length { IfOk result (λ n. n ≡ min (min self.old.most (length buffer.old)) (length self.old.left)) }
+        ensures count { self.new.failed ≡ (if fails_at (self.old.made + 1) self.old.failing then self.old.failed + 1 else self.old.failed) }
+        ensures made { self.new.made ≡ counted self.old.made }
+        ensures kept { (self.new.most ≡ self.old.most) × (self.new.failing ≡ self.old.failing) }
     {
-        if self.calls.next_fails() {
+        if self.calls.next_fails(&self.failing) {
             return Err(Failed);
         }
-        let n = self.most.min(buffer.len()).min(self.bytes.len() - self.at);
+        let bytes = self.bytes.as_slice();
+        let n = self.most.min(buffer.len()).min(bytes.len() - self.at);
         let end = self.at + n;
-        buffer[..n].copy_from_slice(&self.bytes[self.at..end]);
+        buffer[..n].copy_from_slice(&bytes[self.at..end]);
         self.at = end;
         Ok(n)
     }

@@ -102,4 +102,3 @@ impl Known for Pair {
         self.value.known();
     }
 }
-

@@ -2,6 +2,7 @@
 //! the traits of what lies outside the program.
 #![tactic(auto)]
 
+mod calls;
 mod columns;
 mod columns_order;
 mod exact;
@@ -11,17 +12,20 @@ mod known;
 pub mod laws;
 mod memory;
 mod name;
+mod numbers;
 mod outside;
 mod pair;
 mod record;
 mod seq;
 mod seq_order;
 mod text;
+mod ticks;
 mod tray;
 mod txid;
 mod value;
 mod value_order;
 
+pub use calls::{CallCounter, Calls};
 pub use columns::Columns;
 pub use exact::{Exact, same};
 pub use feed::Feed;
@@ -29,11 +33,13 @@ pub use key::{Key, TableName};
 pub use known::Known;
 pub use memory::{Duplicate, NoMemory};
 pub use name::{Name, NameRefused};
-pub use outside::{Failed, Sink, SinkRefused, Source};
+pub use numbers::Numbers;
+pub use outside::{Clock, Failed, Ids, Sink, SinkRefused, Source};
 pub use pair::Pair;
 pub use record::{Condition, Record, Records, Reply, Request, Span, State};
 pub use seq::Seq;
 pub use text::Txt;
+pub use ticks::{Moments, Ticks};
 pub use tray::Tray;
 pub use txid::TxId;
 pub use value::{Names, Octets, Value, Values};
