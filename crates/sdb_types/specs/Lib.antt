@@ -5,6 +5,7 @@ pub mod ValueLaws
 pub mod TxId
 pub mod Fits
 pub mod Exact
+pub mod Exactness
 pub mod Bytes
 pub mod Draws
 pub mod Held

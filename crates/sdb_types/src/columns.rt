@@ -3,7 +3,9 @@ ghost use Rattle.std.specs.Prelude.{◌≡◌, [], length, true, IfOk, OnOk, OnE
 ghost use Rattle.std.specs.Option.{option_copied};
 ghost use Rattle.std.specs.Slice.{IsItemAt};
 ghost use Rattle.sdb_types.specs.Columns.{are_columns, column, with_column, is_below, is_null, stands_first};
+ghost use Rattle.sdb_types.specs.Fits.{columns_fit};
 
+use crate::known::Known;
 use crate::memory::{Duplicate, NoMemory};
 use crate::name::Name;
 use crate::pair::Pair;
@@ -133,5 +135,13 @@ impl Duplicate for Columns {
         Ok(Columns {
             pairs: self.pairs.copy()?,
         })
+    }
+}
+
+impl Known for Columns {
+    ghost fits = { columns_fit };
+
+    fn known(&self) {
+        self.pairs.known();
     }
 }

@@ -1,10 +1,17 @@
 //! Equality that tells values apart.
 ghost use Rattle.std.specs.Prelude.{◌≡◌, true, IsTrue, ◌↔◌};
-ghost use lib.Pointwise.{pointwise_decides};
-ghost use Rattle.sdb_types.specs.ValueLaws.{value_exact, value_total};
-ghost use Rattle.sdb_types.specs.Exact.{order_decides};
+ghost use Rattle.std.specs.Cmp.{unsigned_Decides, signed_Decides, booleans_Decides};
+ghost use Rattle.std.specs.Cmp.Lexicographic.{pointwise_decides, bytes_decides};
+ghost use Rattle.sdb_types.specs.Exactness.{maybe_tells, value_tells, table_tells, pair_tells, id_tells, key_tells, columns_tell, record_tells, span_tells, state_tells, condition_tells, request_tells, reply_tells};
 
+use crate::columns::Columns;
+use crate::key::{Key, TableName};
+use crate::name::Name;
+use crate::pair::Pair;
+use crate::record::{Condition, Record, Reply, Request, Span, State};
 use crate::seq::Seq;
+use crate::text::Txt;
+use crate::txid::TxId;
 use crate::value::Value;
 
 /// A type whose `==` holds of equal values alone.
@@ -12,16 +19,109 @@ pub trait Exact: Eq {
     ghost decides: { (a b : Self) → (Self.eq a b ≡ true → a ≡ b) × (a ≡ b → Self.eq a b ≡ true) };
 }
 
-impl Exact for Value {
-    ghost decides = { order_decides value_total value_exact };
+/// Whether two values are equal.
+pub fn same<T: Exact>(a: &T, b: &T) -> bool
+    ensures { IsTrue result ↔ (a.now ≡ b.now) }
+{
+    a == b
+}
+
+impl Exact for bool {
+    ghost decides = { booleans_Decides };
+}
+
+impl Exact for u8 {
+    ghost decides = { unsigned_Decides };
+}
+
+impl Exact for u16 {
+    ghost decides = { unsigned_Decides };
+}
+
+impl Exact for u32 {
+    ghost decides = { unsigned_Decides };
+}
+
+impl Exact for u64 {
+    ghost decides = { unsigned_Decides };
+}
+
+impl Exact for u128 {
+    ghost decides = { unsigned_Decides };
+}
+
+impl Exact for usize {
+    ghost decides = { unsigned_Decides };
+}
+
+impl Exact for i32 {
+    ghost decides = { signed_Decides };
+}
+
+impl Exact for i64 {
+    ghost decides = { signed_Decides };
+}
+
+impl<T: Exact> Exact for Option<T> {
+    ghost decides = { maybe_tells T.decides };
 }
 
 impl<T: Exact> Exact for Seq<T> {
     ghost decides = { pointwise_decides T.decides };
 }
 
-pub fn same<T: Exact>(a: &T, b: &T) -> bool
-    ensures { IsTrue result ↔ (a.now ≡ b.now) }
-{
-    a == b
+impl Exact for Name {
+    ghost decides = { bytes_decides };
+}
+
+impl Exact for Txt {
+    ghost decides = { bytes_decides };
+}
+
+impl Exact for Value {
+    ghost decides = { value_tells };
+}
+
+impl Exact for TableName {
+    ghost decides = { table_tells };
+}
+
+impl Exact for Key {
+    ghost decides = { key_tells };
+}
+
+impl Exact for Pair {
+    ghost decides = { pair_tells };
+}
+
+impl Exact for Columns {
+    ghost decides = { columns_tell };
+}
+
+impl Exact for Record {
+    ghost decides = { record_tells };
+}
+
+impl Exact for Span {
+    ghost decides = { span_tells };
+}
+
+impl Exact for TxId {
+    ghost decides = { id_tells };
+}
+
+impl Exact for State {
+    ghost decides = { state_tells };
+}
+
+impl Exact for Condition {
+    ghost decides = { condition_tells };
+}
+
+impl Exact for Request {
+    ghost decides = { request_tells };
+}
+
+impl Exact for Reply {
+    ghost decides = { reply_tells };
 }

@@ -11,6 +11,12 @@ use uuid::Uuid;
 #[derive(Clone, Copy, Debug, PartialEq, Eq)]
 pub struct TxId(pub u128);
 
+impl Duplicate for TxId {
+    fn copy(&self) -> Result<TxId, NoMemory> {
+        Ok(*self)
+    }
+}
+
 impl TxId {
     /// The lower-case hyphenated form.
     pub fn text(self, alloc: Global) -> Result<Txt, NoMemory>
