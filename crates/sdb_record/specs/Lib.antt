@@ -1,0 +1,7 @@
+pub mod Names
+pub mod Parts
+pub mod Ids
+pub mod Meta
+pub mod Coordinator
+pub mod Rolls
+pub mod Moved

@@ -1,0 +1,38 @@
+-- Versions, and whether what was read still stands.
+use Rattle.std.specs.Prelude.{◌≡◌, Bool, true, false, ◌==◌, Option, Some, None}
+use Rattle.sdb_types.specs.declared.txid.TxId.{TxId}
+use Rattle.sdb_types.specs.declared.record.Record.{Record}
+use Rattle.sdb_types.specs.declared.record.State.TheVariants as state
+use Rattle.sdb_types.specs.declared.record.Condition.{Condition}
+use Rattle.sdb_types.specs.declared.record.Condition.TheVariants as condition
+use Rattle.sdb_types.specs.Contents.{holds}
+use Rattle.sdb_record.specs.Meta.{id_in}
+
+-- the version of what stands at a key: the transaction that wrote it, or none where there is no record
+abbrev pub version_of : Option Record → Option TxId
+version_of None = None
+version_of (Some r) = id_in r.columns
+
+abbrev pub same_version : Option TxId → Option TxId → Bool
+same_version None None = true
+same_version None (Some b) = false
+same_version (Some a) None = false
+same_version (Some a) (Some b) = a.0 == b.0
+
+-- the condition that a version that was read still stands: the committed record of that transaction, or none
+abbrev pub condition_of : Option TxId → Condition
+condition_of None = condition.Absent
+condition_of (Some id) = condition.Version id state.Committed
+
+-- What is found at a key is no longer what was read there: with a version, it is not that transaction's record in
+-- state 3; with none, there is a record.
+abbrev pub Moved : Option Record → Option TxId → Type 0
+Moved found version = holds (condition_of version) found ≡ false
+
+abbrev pub is_unchanged : Option Record → Option TxId → Bool
+is_unchanged found version = holds (condition_of version) found
+
+-- The same of a key that the transaction writes, in a rescan: the base of the write has another version than the scan
+-- found, where none counts as a version of its own.
+abbrev pub BaseMoved : Option Record → Option TxId → Type 0
+BaseMoved base version = same_version (version_of base) version ≡ false

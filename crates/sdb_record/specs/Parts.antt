@@ -1,0 +1,52 @@
+-- The parts of a record's columns: the user's, and the before image.
+use Rattle.std.specs.Prelude.{Bool, not, ◌&&◌, nat_le, List, [], ◌∷◌, length, filter, Option, Some, None}
+use Rattle.std.specs.Option.{option_map}
+use Rattle.std.specs.List.{list_all, filter_map}
+use Rattle.sdb_types.specs.declared.pair.Pair.{Pair}
+use Rattle.sdb_types.specs.declared.key.Key.{Key}
+use Rattle.sdb_types.specs.declared.record.Record.{Record}
+use Rattle.sdb_types.specs.Columns.{with_column}
+use Rattle.sdb_record.specs.Names.{before_name, base_name, is_before, is_user}
+
+-- the columns with each of these set, in order
+abbrev pub with_columns : List Pair → List Pair → List Pair
+with_columns [] columns = columns
+with_columns (p ∷ ps) columns = with_columns ps (with_column p columns)
+
+abbrev pub is_user_pair : Pair → Bool
+is_user_pair p = is_user p.name
+
+abbrev pub is_before_pair : Pair → Bool
+is_before_pair p = is_before p.name
+
+-- the user columns
+abbrev pub user_columns : List Pair → List Pair
+user_columns ps = filter is_user_pair ps
+
+-- the columns outside the before image
+abbrev pub own_columns : List Pair → List Pair
+own_columns ps = filter (λ p. not (is_before_pair p)) ps
+
+-- a column of the base as it is kept
+abbrev pub before_pair : Pair → Pair
+before_pair p = record { name = before_name p.name; value = p.value }
+
+-- the column of the base that is kept in this one
+abbrev pub base_pair : Pair → Option Pair
+base_pair p = option_map (λ name. record { name = name; value = p.value }) (base_name p.name)
+
+-- the before image: the columns of the base that are kept
+abbrev pub before_part : List Pair → List Pair
+before_part ps = filter_map base_pair ps
+
+-- These columns are user columns alone, each with a name of at most 64 bytes.
+abbrev pub are_user_columns : List Pair → Bool
+are_user_columns ps = list_all (λ p. is_user_pair p && nat_le (length p.name) 64) ps
+
+abbrev pub record_with : Key → List Pair → Option Record
+record_with key [] = None
+record_with key (p ∷ ps) = Some (record { key = key; columns = p ∷ ps })
+
+-- the record that a before image keeps, or none where there is no before image
+unfoldable pub before_record : Record → Option Record
+before_record r = record_with r.key (before_part r.columns)
