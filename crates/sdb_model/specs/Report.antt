@@ -1,0 +1,96 @@
+-- The text of a report: what a run has come to, line by line. Every line ends with LF.
+use Rattle.std.specs.Prelude.{ℕ, ◌+◌, List, [], ◌∷◌, ◌++◌, length, codes, Option, None, Some, decimal}
+use Rattle.std.specs.List.{flat_map}
+use Rattle.std.specs.Fmt.{signed_decimal}
+use Rattle.sdb_types.specs.Contents.{state_number}
+use Rattle.sdb_types.specs.Order.{table_text}
+use Rattle.sdb_types.specs.TxId.{id_text}
+use Rattle.sdb_types.specs.declared.record.Condition.{Condition}
+use Rattle.sdb_types.specs.declared.record.Condition.TheVariants.{Absent, Version}
+use Rattle.sdb_types.specs.declared.record.Record.{Record}
+use Rattle.sdb_types.specs.declared.record.Reply.{Reply}
+use Rattle.sdb_types.specs.declared.record.Reply.TheVariants as reply
+use Rattle.sdb_types.specs.declared.record.Request.{Request}
+use Rattle.sdb_types.specs.declared.record.Request.TheVariants as ask
+use Rattle.sdb_model.specs.Texts.{key_text_of, span_text_of, record_text_of, row_text_of, answer_text_of}
+use Rattle.sdb_model.specs.declared.answer.Answer.{Answer}
+use Rattle.sdb_model.specs.declared.event.Event.{Event}
+use Rattle.sdb_model.specs.declared.event.Event.TheVariants as event
+use Rattle.sdb_model.specs.declared.event.How.{How}
+use Rattle.sdb_model.specs.declared.event.How.TheVariants.{Seen, Lost, Discarded, Broken}
+use Rattle.sdb_model.specs.declared.event.Outcome.{Outcome}
+use Rattle.sdb_model.specs.declared.event.Point.{Point}
+use Rattle.sdb_model.specs.declared.event.TableDump.{TableDump}
+
+---- parts of an event
+
+-- the answer that an event gives, or `-`
+abbrev pub given_text_of : Option Answer → List ℕ
+given_text_of None = codes "-"
+given_text_of (Some a) = answer_text_of a
+
+-- what a write asks of the record at its key
+abbrev pub condition_text_of : Condition → List ℕ
+condition_text_of Absent = codes "absent"
+condition_text_of (Version id state) = id_text id.0 ++ codes " " ++ signed_decimal (state_number state)
+
+abbrev pub request_text_of : Request → List ℕ
+request_text_of (ask.Get key) = codes "get " ++ key_text_of key
+request_text_of (ask.Scan span) = codes "scan " ++ span_text_of span
+request_text_of (ask.PutIf r condition) = codes "put " ++ record_text_of r ++ codes " if " ++ condition_text_of condition
+request_text_of (ask.DeleteIf key condition) = codes "delete " ++ key_text_of key ++ codes " if " ++ condition_text_of condition
+
+abbrev pub how_text_of : How → List ℕ
+how_text_of Seen = codes "seen"
+how_text_of Lost = codes "lost"
+how_text_of Discarded = codes "dropped"
+how_text_of Broken = codes "failed"
+
+-- a record that was found, or none
+abbrev pub found_text_of : Option Record → List ℕ
+found_text_of None = codes "none"
+found_text_of (Some r) = record_text_of r
+
+-- how many records, then each record behind a space
+abbrev pub records_text_of : List Record → List ℕ
+records_text_of rs = decimal (length rs) ++ flat_map (λ r. codes " " ++ record_text_of r) rs
+
+abbrev pub reply_text_of : Reply → List ℕ
+reply_text_of (reply.Found found) = codes "found " ++ found_text_of found
+reply_text_of (reply.Rows rows) = codes "rows " ++ records_text_of rows
+reply_text_of reply.Applied = codes "applied"
+reply_text_of (reply.NotMet found) = codes "notmet " ++ found_text_of found
+reply_text_of reply.Fault = codes "fault"
+reply_text_of reply.NoMemory = codes "nomemory"
+
+---- lines
+
+-- the line of an event, but for its number
+abbrev pub event_text_of : Event → List ℕ
+event_text_of (event.Take client text given) = codes "take " ++ decimal client ++ codes " " ++ given_text_of given ++ codes " : " ++ text
+event_text_of (event.Call client store request how reply given) =
+    codes "call " ++ decimal client ++ codes " " ++ store ++ codes " " ++ request_text_of request ++ codes " " ++ how_text_of how ++ codes " " ++ reply_text_of reply ++ codes " " ++ given_text_of given
+event_text_of (event.Stop client) = codes "stop " ++ decimal client
+event_text_of (event.Clock moment) = codes "clock " ++ signed_decimal moment
+event_text_of (event.Idle client) = codes "idle " ++ decimal client
+
+-- the events' lines, the first with this number
+abbrev pub event_lines : ℕ → List Event → List ℕ
+event_lines n [] = []
+event_lines n (e ∷ es) = (decimal n ++ codes " " ++ event_text_of e ++ codes "\n") ++ event_lines (n + 1) es
+
+-- a recorded transaction, with the number of the event that gives its place
+abbrev pub point_line : Point → List ℕ
+point_line p = id_text p.id.0 ++ codes " " ++ decimal p.event ++ codes "\n"
+
+-- a table and its rows
+abbrev pub table_lines : TableDump → List ℕ
+table_lines t = codes "table " ++ table_text t.name ++ codes " " ++ decimal (length t.rows) ++ codes "\n" ++ flat_map (λ row. row_text_of row ++ codes "\n") t.rows
+
+abbrev pub report_text_of : Outcome → List ℕ
+report_text_of o =
+    codes "scalardb report 1\n"
+    ++ codes "events " ++ decimal (length o.events) ++ codes "\n" ++ event_lines 1 o.events
+    ++ codes "order " ++ decimal (length o.order) ++ codes "\n" ++ flat_map point_line o.order
+    ++ codes "tables " ++ decimal (length o.tables) ++ codes "\n" ++ flat_map table_lines o.tables
+    ++ codes "end\n"
