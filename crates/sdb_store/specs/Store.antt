@@ -1,0 +1,30 @@
+-- What the calls of a store mean.
+use Rattle.std.specs.Prelude.{◌≡◌, ◌⊎◌, ℕ}
+use Rattle.sdb_types.specs.declared.record.Request.{Request}
+use Rattle.sdb_types.specs.declared.record.Reply.{Reply}
+use Rattle.sdb_types.specs.declared.record.Reply.TheVariants as reply
+use Rattle.sdb_types.specs.Contents.{Contents, reply_to, after}
+use Rattle.sdb_types.specs.Bytes.{HasRisen}
+
+-- The answer is the map's reply, and the contents are what the map then holds.
+abbrev pub Answers : Request → Reply → Contents → Contents → Type 0
+Answers q r old new = (r ≡ reply_to q old) × (new ≡ after q old)
+
+-- A call on a store of known contents: it answers as the map does and leaves what the map leaves. A fault leaves the
+-- contents as before or as after the call, and want of memory leaves them as before.
+abbrev pub Performs : Request → Reply → Contents → Contents → Type 0
+Performs q reply.Fault old new = (new ≡ old) ⊎ (new ≡ after q old)
+Performs q reply.NoMemory old new = new ≡ old
+Performs q (reply.Found found) old new = Answers q (reply.Found found) old new
+Performs q (reply.Rows rows) old new = Answers q (reply.Rows rows) old new
+Performs q reply.Applied old new = Answers q reply.Applied old new
+Performs q (reply.NotMet found) old new = Answers q (reply.NotMet found) old new
+
+-- A fault comes only where the count of faults rose.
+abbrev pub HasCause : Reply → ℕ → ℕ → Type 0
+HasCause reply.Fault before now = HasRisen before now
+HasCause reply.NoMemory before now = Unit {0}
+HasCause (reply.Found found) before now = Unit {0}
+HasCause (reply.Rows rows) before now = Unit {0}
+HasCause reply.Applied before now = Unit {0}
+HasCause (reply.NotMet found) before now = Unit {0}
