@@ -1,2 +1,11 @@
 pub mod Texts
 pub mod Report
+pub mod Rows
+pub mod Exec
+pub mod Events
+pub mod Follows
+pub mod Reading
+pub mod Images
+pub mod Transactions
+pub mod Told
+pub mod Form

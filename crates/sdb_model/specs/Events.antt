@@ -1,0 +1,89 @@
+-- What events do to what the stores hold, and when a list of events agrees with the stores.
+use Rattle.std.specs.Prelude.{◌≡◌, ◌⊎◌, ℕ, zero, suc, Bool, true, false, if◌then◌else◌, List, [], ◌∷◌, map, Option, Some, None, find, codes}
+use Rattle.std.specs.Option.{option_map, option_map_or}
+use Rattle.sdb_types.specs.declared.key.Key.{Key}
+use Rattle.sdb_types.specs.declared.key.TableName.{TableName}
+use Rattle.sdb_types.specs.declared.record.Record.{Record}
+use Rattle.sdb_types.specs.declared.record.Request.{Request}
+use Rattle.sdb_types.specs.declared.record.Request.TheVariants as ask
+use Rattle.sdb_types.specs.declared.record.Reply.{Reply}
+use Rattle.sdb_types.specs.declared.record.Reply.TheVariants as reply
+use Rattle.sdb_types.specs.Contents.{Contents, record_at, apply, after}
+use Rattle.sdb_model.specs.declared.event.Event.{Event}
+use Rattle.sdb_model.specs.declared.event.Event.TheVariants as event
+use Rattle.sdb_model.specs.declared.event.How.{How}
+use Rattle.sdb_model.specs.declared.event.How.TheVariants.{Seen, Lost, Discarded, Broken}
+use Rattle.sdb_model.specs.declared.script.Place.{Place}
+use Rattle.sdb_model.specs.Rows.{Name, same_name}
+
+-- What one attached store holds, under the store's name.
+pub record Shelf : Type 0 where
+  pub name : Name
+  pub contents : Contents
+
+-- what the store of a name holds
+abbrev pub held_by : List Shelf → Name → Option Contents
+held_by shelves name = option_map (λ s. s.contents) (find (λ s. same_name s.name name) shelves)
+
+-- with other contents in the store of a name, and every other store as it was
+abbrev pub with_contents : List Shelf → Name → Contents → List Shelf
+with_contents shelves name contents = map (λ s. if same_name s.name name then record { name = s.name; contents = contents } else s) shelves
+
+abbrev pub first_name : List Shelf → Name
+first_name [] = []
+first_name (s ∷ ss) = s.name
+
+-- The store of a namespace: the one where it is placed, or else the first that was attached.
+abbrev pub store_of : List Place → List Shelf → Name → Name
+store_of places shelves ns = option_map_or (λ p. p.store) (find (λ p. same_name p.ns ns) places) (first_name shelves)
+
+-- the record at a key, in the store of the key's table
+abbrev pub standing : List Place → List Shelf → Key → Option Record
+standing places shelves key = option_map_or (λ m. record_at m key) (held_by shelves (store_of places shelves key.table.ns)) None
+
+abbrev pub table_asked : Request → TableName
+table_asked (ask.Get key) = key.table
+table_asked (ask.Scan span) = span.table
+table_asked (ask.PutIf rec condition) = rec.key.table
+table_asked (ask.DeleteIf key condition) = key.table
+
+-- What a call does to its store. Seen: the store's reply and its effect, or want of memory and no effect. Lost: the
+-- effect, and a fault for the client. Discarded: no effect, and a fault. Broken: the store itself failed, with its
+-- effect or without.
+abbrev pub IsPerformed : Request → How → Reply → Contents → Contents → Type 0
+IsPerformed q Seen r before now = (apply q before ≡ (r, now)) ⊎ (r ≡ reply.NoMemory) × (now ≡ before)
+IsPerformed q Lost r before now = (r ≡ reply.Fault) × (now ≡ after q before)
+IsPerformed q Discarded r before now = (r ≡ reply.Fault) × (now ≡ before)
+IsPerformed q Broken r before now = (r ≡ reply.Fault) × ((now ≡ before) ⊎ (now ≡ after q before))
+
+-- One call: it goes to the store of its table, does to it what its request, how and reply say, and leaves every other
+-- store as it was.
+pub record IsCall (places : List Place) (store : Name) (q : Request) (how : How) (r : Reply) (before now : List Shelf) : Type 0 where
+  pub held : Contents
+  pub left : Contents
+  pub placed : store ≡ store_of places before (table_asked q).ns
+  pub found : held_by before store ≡ Some held
+  pub performed : IsPerformed q how r held left
+  pub others : now ≡ with_contents before store left
+
+-- The effect of an event on what the stores hold: only a call has one.
+abbrev pub Effect : List Place → Event → List Shelf → List Shelf → Type 0
+Effect places (event.Take client text answer) before now = now ≡ before
+Effect places (event.Call client store q how r answer) before now = IsCall places store q how r before now
+Effect places (event.Stop client) before now = now ≡ before
+Effect places (event.Clock moment) before now = now ≡ before
+Effect places (event.Idle client) before now = now ≡ before
+
+-- A trace: what the stores hold after each event, one moment made from the one before by the event's effect, from the
+-- opening to the closing.
+abbrev pub IsTrace : List Place → List Event → List Shelf → List (List Shelf) → List Shelf → Type 0
+IsTrace places [] opening [] closing = closing ≡ opening
+IsTrace places [] opening (m ∷ ms) closing = ⊥
+IsTrace places (e ∷ es) opening [] closing = ⊥
+IsTrace places (e ∷ es) opening (m ∷ ms) closing = Effect places e opening m × IsTrace places es m ms closing
+
+-- What the stores hold at a moment: moment 0 is the opening, and moment i is after event i.
+abbrev pub moment : List Shelf → List (List Shelf) → ℕ → List Shelf
+moment opening ms zero = opening
+moment opening [] (suc i) = opening
+moment opening (m ∷ ms) (suc i) = moment m ms i

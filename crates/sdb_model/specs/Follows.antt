@@ -1,0 +1,148 @@
+-- Which events a script allows.
+use Rattle.std.specs.Prelude.{◌≡◌, ◌⊎◌, ℕ, zero, suc, ◌+◌, ◌-◌, ◌≤◌, ◌<◌, Bool, true, false, not, ◌&&◌, ◌||◌, ◌==◌, nat_lt, nat_le, if◌then◌else◌, MatchBool, List, [], ◌∷◌, ◌++◌, length, Option, Some, None, is_none, is_some, fold, slice_get, unwrap_or}
+use Rattle.std.specs.Option.{option_map_or}
+use Rattle.std.specs.List.{list_any, count_by}
+use Rattle.sdb_types.specs.declared.record.Reply.{Reply}
+use Rattle.sdb_types.specs.declared.record.Reply.TheVariants as reply
+use Rattle.sdb_types.specs.declared.record.Request.{Request}
+use Rattle.sdb_model.specs.declared.answer.Answer.{Answer}
+use Rattle.sdb_model.specs.declared.event.Event.{Event}
+use Rattle.sdb_model.specs.declared.event.Event.TheVariants as event
+use Rattle.sdb_model.specs.declared.event.How.{How}
+use Rattle.sdb_model.specs.declared.event.How.TheVariants.{Seen, Lost, Discarded, Broken}
+use Rattle.sdb_model.specs.declared.script.Act.{Act}
+use Rattle.sdb_model.specs.declared.script.Act.TheVariants as act
+use Rattle.sdb_model.specs.declared.script.Move.{Move}
+use Rattle.sdb_model.specs.declared.script.Move.TheVariants as move
+use Rattle.sdb_model.specs.declared.script.ScriptClient.{ScriptClient}
+use Rattle.sdb_model.specs.Rows.{Name}
+
+---- where a client stands after the events so far
+
+abbrev pub takes_by : ℕ → Event → Bool
+takes_by client (event.Take c text answer) = c == client
+takes_by client _ = false
+
+abbrev pub stops : ℕ → Event → Bool
+stops client (event.Stop c) = c == client
+stops client _ = false
+
+-- how many statements a client has taken
+abbrev pub taken_by : ℕ → List Event → ℕ
+taken_by client past = count_by (takes_by client) past
+
+-- whether a client has stopped
+abbrev pub has_stopped : ℕ → List Event → Bool
+has_stopped client past = list_any (stops client) past
+
+-- whether a client has a call pending after one more event
+abbrev pub pends_after : ℕ → Bool → Event → Bool
+pends_after client was (event.Take c text answer) = if c == client then is_none answer else was
+pends_after client was (event.Call c store q how r answer) = if c == client then is_none answer else was
+pends_after client was _ = was
+
+-- A client has a call pending exactly where its last Take or Call has no answer.
+abbrev pub is_pending : ℕ → List Event → Bool
+is_pending client past = fold (pends_after client) false past
+
+-- the texts of a client's statements, in the script's order
+abbrev pub texts_of : List ScriptClient → ℕ → List (List ℕ)
+texts_of clients zero = []
+texts_of clients (suc i) = option_map_or (λ c. c.statements) (slice_get clients i) []
+
+abbrev pub has_work : List ScriptClient → ℕ → List Event → Bool
+has_work clients client past = not (has_stopped client past) && (is_pending client past || nat_lt (taken_by client past) (length (texts_of clients client)))
+
+---- one step
+
+-- Which hows a call of an act may have. A step's reply is seen, unless the store itself fails; a lost reply is lost, unless
+-- the store itself fails or wants memory; a discarded call is never made.
+abbrev pub IsHowOfStep : How → Reply → Type 0
+IsHowOfStep Seen r = Unit {0}
+IsHowOfStep Broken r = Unit {0}
+IsHowOfStep Lost r = ⊥
+IsHowOfStep Discarded r = ⊥
+
+abbrev pub IsHowOfLose : How → Reply → Type 0
+IsHowOfLose Lost r = Unit {0}
+IsHowOfLose Broken r = Unit {0}
+IsHowOfLose Seen r = r ≡ reply.NoMemory
+IsHowOfLose Discarded r = ⊥
+
+abbrev pub IsHowOfDiscard : How → Reply → Type 0
+IsHowOfDiscard how r = how ≡ Discarded
+
+-- The event is one call of the client, with a how that is allowed.
+abbrev pub IsCallOf : ℕ → (How → Reply → Type 0) → Event → Type 0
+IsCallOf client allowed (event.Call c store q how r answer) = (c ≡ client) × allowed how r
+IsCallOf client allowed _ = ⊥
+
+-- The event is the taking of the client's next statement.
+abbrev pub IsTakeOf : List ScriptClient → ℕ → List Event → Event → Type 0
+IsTakeOf clients client past (event.Take c text answer) = (c ≡ client) × (slice_get (texts_of clients client) (taken_by client past) ≡ Some text)
+IsTakeOf clients client past _ = ⊥
+
+-- A step of a client: Idle where it is stopped or has no work, one call where a call is pending, and otherwise the taking
+-- of its next statement.
+abbrev pub IsStep : List ScriptClient → ℕ → (How → Reply → Type 0) → List Event → Event → Type 0
+IsStep clients client allowed past e =
+    MatchBool (has_work clients client past)
+    (MatchBool (is_pending client past) (IsCallOf client allowed e) (IsTakeOf clients client past e))
+    (e ≡ event.Idle client)
+
+-- The event is what an act gives after the events so far.
+abbrev pub IsActed : List ScriptClient → Act → List Event → Event → Type 0
+IsActed clients (act.Step client) past e = IsStep clients client IsHowOfStep past e
+IsActed clients (act.Lose client) past e = IsStep clients client IsHowOfLose past e
+IsActed clients (act.Discard client) past e = IsStep clients client IsHowOfDiscard past e
+IsActed clients (act.Stop client) past e = e ≡ event.Stop client
+IsActed clients (act.Clock moment) past e = e ≡ event.Clock moment
+
+---- moves
+
+-- All events are steps of one client.
+abbrev pub AreStepsOf : List ScriptClient → ℕ → List Event → List Event → Type 0
+AreStepsOf clients client past [] = Unit {0}
+AreStepsOf clients client past (e ∷ es) = IsStep clients client IsHowOfStep past e × AreStepsOf clients client (past ++ e ∷ []) es
+
+-- A client is among those from one number up to another, that one left out.
+abbrev pub IsAmong : ℕ → ℕ → ℕ → Type 0
+IsAmong low high client = (low ≤ client) × (client < high)
+
+-- None of the clients from one number up to another has work.
+abbrev pub AllIdle : List ScriptClient → List Event → ℕ → ℕ → Type 0
+AllIdle clients past low high = (c : ℕ) → IsAmong low high c → has_work clients c past ≡ false
+
+-- The clients are numbered from 1.
+abbrev pub end_of : List ScriptClient → ℕ
+end_of clients = length clients + 1
+
+-- It is a client's turn, where the clients before `from` had theirs in this round: it is the next that has work, in this
+-- round, or else in the round after it.
+abbrev pub IsTurn : List ScriptClient → List Event → ℕ → ℕ → Type 0
+IsTurn clients past from client =
+    (has_work clients client past ≡ true)
+    × (IsAmong from (end_of clients) client × AllIdle clients past from client
+      ⊎ IsAmong 1 from client × AllIdle clients past from (end_of clients) × AllIdle clients past 1 client)
+
+-- The rest: each client that has work and isn't stopped takes one step in turn, by number, round after round, until none
+-- has work. The clients before `from` had their turn in this round.
+abbrev pub IsRest : List ScriptClient → ℕ → List Event → List Event → Type 0
+IsRest clients from past [] = AllIdle clients past 1 (end_of clients)
+IsRest clients from past (e ∷ es) =
+    (client : ℕ) × IsTurn clients past from client × IsStep clients client IsHowOfStep past e × IsRest clients (client + 1) (past ++ e ∷ []) es
+
+-- The events are those of one move.
+abbrev pub IsMoved : List ScriptClient → Move → List Event → List Event → Type 0
+IsMoved clients (move.Act a) past es = (e : Event) × (es ≡ e ∷ []) × IsActed clients a past e
+IsMoved clients (move.Repeat client times) past es = (length es ≡ times) × AreStepsOf clients client past es
+IsMoved clients move.Rest past es = IsRest clients 1 past es
+
+abbrev pub AreMoved : List ScriptClient → List Move → List Event → List Event → Type 0
+AreMoved clients [] past es = es ≡ []
+AreMoved clients (m ∷ ms) past es =
+    (front : List Event) × (back : List Event) × (es ≡ front ++ back) × IsMoved clients m past front × AreMoved clients ms (past ++ front) back
+
+-- The events are, in order, those of a script's moves.
+abbrev pub Follows : List ScriptClient → List Move → List Event → Type 0
+Follows clients moves events = AreMoved clients moves [] events

@@ -1,0 +1,168 @@
+-- Transactions: where one begins and ends among the events, what its body is, which are recorded, and their order.
+use Rattle.std.specs.Prelude.{◌≡◌, ◌⊎◌, ℕ, zero, suc, ◌+◌, ◌-◌, ◌*◌, ◌/◌, ◌%◌, ◌^◌, ◌<◌, Bool, true, false, not, ◌&&◌, ◌||◌, ◌==◌, if◌then◌else◌, List, [], ◌∷◌, ◌++◌, map, filter, fold, find, length, Option, Some, None, is_some, IsSome, IsSomeAnd, unwrap_or, take_while, All, Contains, ◌↔◌}
+use Rattle.std.specs.Option.{option_map, option_map_or, option_and_then}
+use Rattle.std.specs.List.{enumerate_from}
+use Rattle.std.specs.List.Sorted.{IsStrictlyIncreasing}
+use Rattle.sdb_types.specs.declared.txid.TxId.{TxId}
+use Rattle.sdb_types.specs.declared.key.Key.{Key}
+use Rattle.sdb_types.specs.declared.record.Record.{Record}
+use Rattle.sdb_types.specs.declared.record.State.TheVariants.{Prepared, Deleted}
+use Rattle.sdb_types.specs.declared.record.Condition.{Condition}
+use Rattle.sdb_types.specs.declared.record.Request.{Request}
+use Rattle.sdb_types.specs.declared.record.Request.TheVariants as ask
+use Rattle.sdb_types.specs.declared.record.Reply.{Reply}
+use Rattle.sdb_types.specs.declared.record.Reply.TheVariants as reply
+use Rattle.sdb_types.specs.Contents.{is_version}
+use Rattle.sdb_model.specs.declared.answer.Answer.{Answer}
+use Rattle.sdb_model.specs.declared.answer.Answer.TheVariants as answer
+use Rattle.sdb_model.specs.declared.event.Event.{Event}
+use Rattle.sdb_model.specs.declared.event.Event.TheVariants as event
+use Rattle.sdb_model.specs.declared.event.How.{How}
+use Rattle.sdb_model.specs.declared.event.How.TheVariants.{Seen, Lost, Discarded, Broken}
+use Rattle.sdb_model.specs.declared.event.Point.{Point}
+use Rattle.sdb_model.specs.declared.script.Place.{Place}
+use Rattle.sdb_model.specs.Events.{Shelf}
+use Rattle.sdb_model.specs.Images.{decision_at}
+use Rattle.sdb_model.specs.Reading.{reads_begin, reads_commit, reads_rollback}
+use Rattle.sdb_record.specs.declared.coordinator.Decision.TheVariants as decision
+
+-- events with their numbers, from 1
+abbrev pub numbered : List Event → List (ℕ × Event)
+numbered events = enumerate_from 1 events
+
+---- the statements of a client
+
+-- A statement that a client took: the number of its Take, its text, its answer, if it has one, and the number of the event
+-- that gave the answer.
+pub record Said : Type 0 where
+  pub taken : ℕ
+  pub text : List ℕ
+  pub answer : Option Answer
+  pub answered : ℕ
+
+-- the last statement, answered by an event
+abbrev pub with_answer : List Said → ℕ → Answer → List Said
+with_answer [] n a = []
+with_answer (s ∷ []) n a = record { taken = s.taken; text = s.text; answer = Some a; answered = n } ∷ []
+with_answer (s ∷ t ∷ ss) n a = s ∷ with_answer (t ∷ ss) n a
+
+abbrev pub said_after : ℕ → List Said → ℕ × Event → List Said
+said_after client ss (n, event.Take c text answer) = if c == client then ss ++ record { taken = n; text = text; answer = answer; answered = n } ∷ [] else ss
+said_after client ss (n, event.Call c store q how r (Some a)) = if c == client then with_answer ss n a else ss
+said_after client ss _ = ss
+
+-- A client's statements, in order. The answer to a statement stands in its Take, or in the first later event of that
+-- client that has an answer.
+abbrev pub said : ℕ → List Event → List Said
+said client events = fold (said_after client) [] (numbered events)
+
+---- one transaction
+
+-- A transaction's id tells its client, by the number, and which of the client's transactions it is, both from 1.
+abbrev pub client_of : TxId → ℕ
+client_of id = id.0 / 2 ^ 64
+
+abbrev pub ordinal_of : TxId → ℕ
+ordinal_of id = id.0 % 2 ^ 64
+
+abbrev pub id_of : ℕ → ℕ → TxId
+id_of client ordinal = record { 0 = client * 2 ^ 64 + ordinal }
+
+abbrev pub is_done : Option Answer → Bool
+is_done (Some answer.Done) = true
+is_done _ = false
+
+abbrev pub is_conflict : Option Answer → Bool
+is_conflict (Some (answer.Conflict key found)) = true
+is_conflict _ = false
+
+-- A transaction begins with a statement that reads as BEGIN and is answered Done.
+abbrev pub begins : Said → Bool
+begins s = reads_begin s.text && is_done s.answer
+
+-- A transaction that is open ends with the first statement that reads as COMMIT, or is answered Conflict, or reads as
+-- ROLLBACK and is answered Done.
+abbrev pub ends : Said → Bool
+ends s = reads_commit s.text || is_conflict s.answer || (reads_rollback s.text && is_done s.answer)
+
+-- the BEGIN of the k-th transaction, k from 1, and the statements after it
+abbrev pub from_begin : ℕ → List Said → List Said
+from_begin zero ss = []
+from_begin (suc k) [] = []
+from_begin (suc k) (s ∷ ss) = if begins s then (if k == 0 then s ∷ ss else from_begin k ss) else from_begin (suc k) ss
+
+abbrev pub first_of : {X : Type 0} → List X → Option X
+first_of [] = None
+first_of (x ∷ xs) = Some x
+
+abbrev pub rest_of : {X : Type 0} → List X → List X
+rest_of [] = []
+rest_of (x ∷ xs) = xs
+
+-- a transaction's BEGIN and what its client said since
+abbrev pub said_since : List Event → TxId → List Said
+said_since events id = from_begin (ordinal_of id) (said (client_of id) events)
+
+-- the number of the event at which a transaction began
+abbrev pub begun : List Event → TxId → Option ℕ
+begun events id = option_map (λ s. s.taken) (first_of (said_since events id))
+
+-- the statement that ended a transaction, if one did
+abbrev pub ending : List Event → TxId → Option Said
+ending events id = find ends (rest_of (said_since events id))
+
+-- A transaction's COMMIT: the statement that ended it, where that reads as COMMIT.
+abbrev pub commit_of : List Event → TxId → Option Said
+commit_of events id = option_and_then (λ s. if reads_commit s.text then Some s else None) (ending events id)
+
+-- Some answers say that a statement changed nothing of its transaction, and left it open.
+abbrev pub changes_nothing : Answer → Bool
+changes_nothing (answer.Busy key id at) = true
+changes_nothing answer.Faulted = true
+changes_nothing (answer.BadRecord key) = true
+changes_nothing (answer.Refused refusal) = true
+changes_nothing answer.OpenTransactions = true
+changes_nothing answer.NoMemory = true
+changes_nothing _ = false
+
+abbrev pub is_effective : Said → Bool
+is_effective s = not (option_map_or changes_nothing s.answer false)
+
+-- A transaction's body: its client's statements between its BEGIN and its end, but for those that changed nothing.
+abbrev pub body : List Event → TxId → List Said
+body events id = filter is_effective (take_while (λ s. not (ends s)) (rest_of (said_since events id)))
+
+---- its place in the order
+
+-- A prepare of a transaction: a put of a record of it in state PREPARED or DELETED.
+abbrev pub prepares : TxId → Request → Bool
+prepares id (ask.PutIf rec condition) = is_version id Prepared rec || is_version id Deleted rec
+prepares id _ = false
+
+-- a prepare call that was seen and applied
+abbrev pub is_prepared_by : TxId → Event → Bool
+is_prepared_by id (event.Call c store q Seen reply.Applied answer) = prepares id q
+is_prepared_by id _ = false
+
+abbrev pub last_prepare : List Event → TxId → Option ℕ
+last_prepare events id = fold (λ (found : Option ℕ) (e : ℕ × Event). if is_prepared_by id e.1 then Some e.0 else found) None (numbered events)
+
+-- A transaction's point: the number of its last prepare call that was seen and applied; where there is none, of the event
+-- that took its COMMIT; and 0 without one.
+abbrev pub point : List Event → TxId → ℕ
+point events id = unwrap_or (last_prepare events id) (option_map_or (λ s. s.taken) (commit_of events id) 0)
+
+---- which transactions are recorded, and their order
+
+-- A transaction is recorded where the coordinator's table holds its row, well formed, with the decision that it is
+-- committed.
+abbrev pub Recorded : List Place → List Shelf → TxId → Type 0
+Recorded places shelves id = IsSomeAnd (decision_at places shelves id) (λ d. d.decision ≡ decision.Committed)
+
+-- The order: the recorded transactions, each once, by rising point, each with its point. Each is one that a client began,
+-- and whose COMMIT was taken.
+pub record IsOrder (places : List Place) (events : List Event) (closing : List Shelf) (order : List Point) : Type 0 where
+  pub recorded : (id : TxId) → id.0 < 2 ^ 128 → Contains (map (λ p. p.id) order) id ↔ Recorded places closing id
+  pub points : All (λ p. p.event ≡ point events p.id) order
+  pub rising : IsStrictlyIncreasing (map (λ p. p.event) order)
+  pub taken : All (λ p. IsSome (commit_of events p.id)) order
