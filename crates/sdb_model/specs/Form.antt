@@ -64,14 +64,13 @@ statement_line s = codes "  " ++ statement_text_of s
 abbrev pub form_lines : List ℕ → List Statement → List (List ℕ)
 form_lines name ss = schema_line ∷ client_line name ∷ map statement_line ss ++ codes "run" ∷ codes "rest" ∷ []
 
+-- a script of one client on the one table, whose one move is `rest`
+abbrev pub client_script : ScriptClient → Script
+client_script client = record { places = []; catalog = account_table ∷ []; clients = client ∷ []; moves = move.Rest ∷ [] }
+
 -- what these lines say
 abbrev pub form_script : List ℕ → List Statement → Script
-form_script name ss = record {
-  places = [];
-  catalog = account_table ∷ [];
-  clients = record { name = name; statements = map statement_text_of ss } ∷ [];
-  moves = move.Rest ∷ [];
-}
+form_script name ss = client_script (record { name = name; statements = map statement_text_of ss })
 
 -- a client's name: an identifier of at most 64 bytes
 abbrev pub is_client_name : List ℕ → Bool

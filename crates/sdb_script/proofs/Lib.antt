@@ -1,0 +1,4 @@
+pub mod Again
+pub mod Cut
+pub mod Texts
+pub mod Forms
