@@ -70,7 +70,7 @@ not_above name p (e ∷ es) h k =
     (λ q. simp q h)
     (λ q. simp q h)
 
-less_of : (r : Ordering) → is_lt r ≡ true → r ≡ Less
+pub less_of : (r : Ordering) → is_lt r ≡ true → r ≡ Less
 less_of Less h = refl
 less_of Equal h = cc
 less_of Greater h = cc
@@ -87,7 +87,7 @@ put-are_columns p (e ∷ es) n h =
     (λ q. simp q (and_both _ _ (ap not n) (and_both _ _ (subst (λ (x : List ℕ). starts_above x es ≡ true) (name_exact _ _ q) above) tail)))
     (λ q. simp q (and_both _ _ (ap not n) (and_both _ _ (ap is_lt (name_total.antisymm p.name e.name ∙ ap ordering_reverse q)) h)))
 
-above_more : (name : List ℕ) (e : Pair) (es : List Pair) → is_lt (name_cmp name e.name) ≡ true → starts_above e.name es ≡ true → starts_above name es ≡ true
+pub above_more : (name : List ℕ) (e : Pair) (es : List Pair) → is_lt (name_cmp name e.name) ≡ true → starts_above e.name es ≡ true → starts_above name es ≡ true
 above_more name e [] h k = refl
 above_more name e (f ∷ es) h k = ap is_lt (name_total.trans name e.name f.name (less_of _ h) (less_of _ k))
 
