@@ -1,5 +1,5 @@
 -- What a store that tells its contents answers is what any store may answer.
-use Rattle.std.proofs.Common.{◌≡◌, List, [], ◌∷◌, Bool, true, false, cond, ◌&&◌, T, map, filter, IfSome, Option, Some, None, option_map, refl}
+use Rattle.std.proofs.Common.{◌≡◌, List, [], ◌∷◌, Bool, true, false, cond, T, map, filter, IfSome, Option, Some, None, option_map, refl}
 use Rattle.std.specs.Prelude.{if◌then◌else◌}
 use Rattle.std.specs.List.{list_all}
 use Rattle.std.specs.FinMap.{get, entries, entries_sorted}
@@ -13,7 +13,7 @@ use Rattle.sdb_types.specs.declared.record.Request.{Request}
 use Rattle.sdb_types.specs.declared.record.Request.TheVariants as ask
 use Rattle.sdb_types.specs.declared.record.Reply.TheVariants as reply
 use Rattle.sdb_types.specs.Order.{key_cmp}
-use Rattle.sdb_types.specs.Contents.{Contents, record_of, record_at, in_span, rows_among, rows_in, holds, put_reply, reply_to, starts_after, rise, are_rows_of, IsUnmet, CanAnswer}
+use Rattle.sdb_types.specs.Contents.{Contents, record_of, record_at, in_span, rows_among, rows_in, holds, put_reply, reply_to, starts_after, rise, are_rows_of, CanAnswer}
 use Rattle.sdb_types.proofs.Bools.{and_first, and_second, and_both}
 
 truth : (b : Bool) → T b → b ≡ true
