@@ -60,7 +60,7 @@ dotted [] (y ∷ ys) t u h k = rw (above_dot y (and_first _ _ k)).0 refl
 dotted (x ∷ xs) [] t u h k = rw (above_dot x (and_first _ _ h)).1 refl
 dotted (x ∷ xs) (y ∷ ys) t u h k = ap (ordering_then (nat_cmp x y)) (dotted xs ys t u (and_second _ _ h) (and_second _ _ k)) ∙ then_assoc (nat_cmp x y) _ _
 
-parts : (xs : List ℕ) → is_name xs ≡ true → list_all is_part xs ≡ true
+pub parts : (xs : List ℕ) → is_name xs ≡ true → list_all is_part xs ≡ true
 parts [] h = refl
 parts (x ∷ xs) h =
     let named = and_second (nat_le (length (x ∷ xs)) 71) (is_start x && list_all is_part xs) h in
