@@ -1,17 +1,16 @@
 -- A column set at its place, and columns stay columns.
-use Rattle.std.proofs.Common.{◌≡◌, ℕ, suc, ◌+◌, ◌≤◌, List, [], ◌∷◌, ◌++◌, Bool, true, false, not, ◌&&◌, cond, refl, sym, ap, ◌∙◌, subst, arith, rules, length, take, drop, set}
+use Rattle.std.proofs.Common.{◌≡◌, ℕ, suc, ◌+◌, ◌≤◌, List, [], ◌∷◌, true, false, not, refl, ap, ◌∙◌, subst, arith, length, drop}
 use Rattle.std.specs.Prelude.{insert, remove, slice_set, take_while, if◌then◌else◌}
 use Rattle.std.specs.declared.cmp.Ordering.{Ordering}
 use Rattle.std.specs.declared.cmp.Ordering.TheVariants.{Less, Equal, Greater}
-use Rattle.std.specs.Ordering.{is_lt, is_eq, ordering_reverse}
-use Rattle.sdb_types.specs.declared.value.Value.{Value}
+use Rattle.std.specs.Ordering.{is_lt, ordering_reverse}
 use Rattle.sdb_types.specs.declared.pair.Pair.{Pair}
 use Rattle.std.proofs.Common.{Result, Ok, Err, OnOk, OnErr}
 use Rattle.sdb_types.specs.declared.memory.NoMemory.{NoMemory}
 use Rattle.sdb_types.specs.Order.{name_cmp}
 use Rattle.sdb_types.proofs.Bools.{and_first, and_second, and_both}
 use Rattle.sdb_types.proofs.KeyOrder.{name_exact, name_total}
-use Rattle.sdb_types.specs.Columns.{is_null, starts_above, are_columns, is_named, is_below, choose_by, put_pair, take_out, with_column, place_in, stands_first}
+use Rattle.sdb_types.specs.Columns.{is_null, starts_above, are_columns, is_below, put_pair, take_out, with_column, place_in, stands_first}
 
 pub by_order : {G : Type 0} (r : Ordering) → (r ≡ Less → G) → (r ≡ Equal → G) → (r ≡ Greater → G) → G
 by_order Less f g h = f refl
@@ -70,7 +69,7 @@ not_above name p (e ∷ es) h k =
     (λ q. simp q h)
     (λ q. simp q h)
 
-less_of : (r : Ordering) → is_lt r ≡ true → r ≡ Less
+pub less_of : (r : Ordering) → is_lt r ≡ true → r ≡ Less
 less_of Less h = refl
 less_of Equal h = cc
 less_of Greater h = cc
@@ -87,7 +86,7 @@ put-are_columns p (e ∷ es) n h =
     (λ q. simp q (and_both _ _ (ap not n) (and_both _ _ (subst (λ (x : List ℕ). starts_above x es ≡ true) (name_exact _ _ q) above) tail)))
     (λ q. simp q (and_both _ _ (ap not n) (and_both _ _ (ap is_lt (name_total.antisymm p.name e.name ∙ ap ordering_reverse q)) h)))
 
-above_more : (name : List ℕ) (e : Pair) (es : List Pair) → is_lt (name_cmp name e.name) ≡ true → starts_above e.name es ≡ true → starts_above name es ≡ true
+pub above_more : (name : List ℕ) (e : Pair) (es : List Pair) → is_lt (name_cmp name e.name) ≡ true → starts_above e.name es ≡ true → starts_above name es ≡ true
 above_more name e [] h k = refl
 above_more name e (f ∷ es) h k = ap is_lt (name_total.trans name e.name f.name (less_of _ h) (less_of _ k))
 

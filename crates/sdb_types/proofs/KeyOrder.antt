@@ -1,23 +1,20 @@
 -- The order of keys is total, and only equal keys tie.
-use Rattle.std.proofs.Common.{◌≡◌, ℕ, ◌+◌, List, [], ◌∷◌, ◌++◌, Bool, true, false, ℤ, refl, sym, ap, ◌∙◌, arith, rules}
+use Rattle.std.proofs.Common.{◌≡◌, ℕ, List, [], ◌∷◌, ◌++◌, true, refl, ap, ◌∙◌, arith}
 use Rattle.std.specs.declared.cmp.Ordering.{Ordering}
 use Rattle.std.specs.declared.cmp.Ordering.TheVariants.{Less, Equal, Greater}
-use Rattle.std.specs.Ordering.{nat_cmp, int_cmp, bool_cmp, ordering_then, on, then_cmp}
-use Rattle.std.specs.Cmp.{IsTotalOrder, bool_cmp_total}
+use Rattle.std.specs.Ordering.{nat_cmp, ordering_then}
+use Rattle.std.specs.Cmp.{IsTotalOrder}
 use Rattle.std.specs.Cmp.Lexicographic.{slice_cmp, lists_total, nat_list_cmp_total}
-use Rattle.std.specs.FinMap.{IsAntisymmetric, nat_cmp-IsAntisymmetric, int_cmp-IsAntisymmetric, slice_cmp-IsAntisymmetric}
-use Rattle.std.proofs.lemmas.Cmp.{nat_cmp_total, int_cmp_total, on_total, then_total}
-use Rattle.sdb_types.specs.declared.value.Value.{Value}
-use Rattle.sdb_types.specs.declared.value.Value.TheVariants as value
+use Rattle.std.specs.FinMap.{IsAntisymmetric, nat_cmp-IsAntisymmetric, slice_cmp-IsAntisymmetric}
+use Rattle.std.proofs.lemmas.Cmp.{on_total, then_total}
 use Rattle.sdb_types.specs.declared.key.TableName.{TableName}
-use Rattle.sdb_types.specs.declared.key.Key.{Key}
 use Rattle.std.proofs.lemmas.Bool.Decides.{nat_tests}
 use Rattle.std.specs.List.{list_all}
 use Rattle.std.specs.Prelude.{nat_le, ◌&&◌, length}
 use Rattle.sdb_types.specs.Identifier.{is_start, is_part, is_name}
 use Rattle.sdb_types.proofs.Bools.{and_first, and_second, and_both, or_first}
 use Rattle.sdb_types.specs.ValueLaws.{then_equal, value_exact, value_total}
-use Rattle.sdb_types.specs.Order.{kind_of, truth_of, number_of, bytes_of, value_cmp, name_cmp, table_cmp, key_cmp, table_text}
+use Rattle.sdb_types.specs.Order.{name_cmp, table_cmp, key_cmp, table_text}
 
 pub name_exact : IsAntisymmetric name_cmp
 name_exact = slice_cmp-IsAntisymmetric nat_cmp-IsAntisymmetric
@@ -63,7 +60,7 @@ dotted [] (y ∷ ys) t u h k = rw (above_dot y (and_first _ _ k)).0 refl
 dotted (x ∷ xs) [] t u h k = rw (above_dot x (and_first _ _ h)).1 refl
 dotted (x ∷ xs) (y ∷ ys) t u h k = ap (ordering_then (nat_cmp x y)) (dotted xs ys t u (and_second _ _ h) (and_second _ _ k)) ∙ then_assoc (nat_cmp x y) _ _
 
-parts : (xs : List ℕ) → is_name xs ≡ true → list_all is_part xs ≡ true
+pub parts : (xs : List ℕ) → is_name xs ≡ true → list_all is_part xs ≡ true
 parts [] h = refl
 parts (x ∷ xs) h =
     let named = and_second (nat_le (length (x ∷ xs)) 71) (is_start x && list_all is_part xs) h in

@@ -3,3 +3,5 @@ pub mod KeyOrder
 pub mod ColumnLemmas
 pub mod TxIdLemmas
 pub mod Pieces
+pub mod Replies
+pub mod ColumnMap

@@ -1,5 +1,5 @@
 -- Pieces that were taken or written one after another.
-use Rattle.std.proofs.Common.{◌-◌, length-drop, ◌≡◌, ◌∙◌, sym, ap, ℕ, ◌+◌, ◌≤◌, List, ◌++◌, length, take, drop, append_assoc, arith, refl}
+use Rattle.std.proofs.Common.{◌-◌, length-drop, ◌≡◌, ◌∙◌, sym, ap, ℕ, ◌+◌, ◌≤◌, List, ◌++◌, length, take, drop, append_assoc, arith}
 use Rattle.std.proofs.lemmas.List.{length-take, take_all, take-append-le, drop-drop, take-append-drop}
 use Rattle.std.proofs.Math.Seq.{take-add}
 use Rattle.std.specs.Prelude.{Option, Some, None, option_map}

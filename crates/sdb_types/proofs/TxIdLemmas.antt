@@ -1,5 +1,5 @@
 -- The text of an id, and the id of a text.
-use Rattle.std.proofs.Common.{◌≡◌, ℕ, zero, suc, ◌+◌, ◌*◌, ◌/◌, ◌%◌, ◌<◌, ◌^◌, List, [], ◌∷◌, All, length, get_or, Some, refl, sym, ap, ◌∙◌, inl, arith}
+use Rattle.std.proofs.Common.{◌≡◌, ℕ, zero, suc, ◌<◌, ◌^◌, List, All, Some, refl, sym, ap, ◌∙◌, inl, arith}
 use Rattle.std.specs.Int.{w128, to_be_bytes, from_be_bytes, bytes_high_first, byte_at}
 use Rattle.uuid.specs.Text.{lower, parsed}
 use Rattle.std.proofs.Common.{Result, Ok, Err, IsOk, IfOk, ◌↔◌}

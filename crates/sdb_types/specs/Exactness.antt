@@ -1,24 +1,13 @@
 -- The tests of equality hold of equal values alone.
-use Rattle.std.proofs.Common.{◌≡◌, List, Bool, true, false, ◌&&◌, Option, Some, None, refl, ap}
+use Rattle.std.proofs.Common.{◌≡◌, Bool, true, ◌&&◌, Some, None, refl, ap}
 use Rattle.std.specs.Cmp.{first_so, second_so, unsigned_Decides}
 use Rattle.std.specs.Cmp.Lexicographic.{pointwise, pointwise_decides, bytes_decides}
 use Rattle.std.specs.Option.{option_eq}
 use Rattle.sdb_types.specs.Exact.{order_decides}
 use Rattle.sdb_types.specs.ValueLaws.{value_exact, value_total}
-use Rattle.sdb_types.specs.declared.value.Value.{Value}
-use Rattle.sdb_types.specs.declared.key.TableName.{TableName}
-use Rattle.sdb_types.specs.declared.key.Key.{Key}
-use Rattle.sdb_types.specs.declared.pair.Pair.{Pair}
-use Rattle.sdb_types.specs.declared.txid.TxId.{TxId}
-use Rattle.sdb_types.specs.declared.record.Record.{Record}
-use Rattle.sdb_types.specs.declared.record.Span.{Span}
-use Rattle.sdb_types.specs.declared.record.State.{State}
 use Rattle.sdb_types.specs.declared.record.State.TheVariants.{Prepared, Deleted, Committed, Aborted}
-use Rattle.sdb_types.specs.declared.record.Condition.{Condition}
 use Rattle.sdb_types.specs.declared.record.Condition.TheVariants.{Absent, Version}
-use Rattle.sdb_types.specs.declared.record.Request.{Request}
 use Rattle.sdb_types.specs.declared.record.Request.TheVariants as ask
-use Rattle.sdb_types.specs.declared.record.Reply.{Reply}
 use Rattle.sdb_types.specs.declared.record.Reply.TheVariants as reply
 use Rattle.sdb_types.specs.contracts.value_order.ValuePartialEq.TheImpl as value_eq
 use Rattle.sdb_types.specs.contracts.key.TableNamePartialEq.TheImpl as table_eq

@@ -1,5 +1,5 @@
 -- What is known of every value of a type: the ranges of its numbers, and that names, texts and columns are such.
-use Rattle.std.specs.Prelude.{◌≡◌, true, ℕ, ℤ, ◌<◌, ◌^◌, All, List, Option, IfSome, FitsSigned}
+use Rattle.std.specs.Prelude.{◌≡◌, true, ℕ, ◌<◌, ◌^◌, All, List, IfSome, FitsSigned}
 use Rattle.std.specs.Int.{w32, w64}
 use Rattle.std.specs.Str.{IsUtf8}
 use Rattle.sdb_types.specs.Identifier.{is_name}

@@ -97,6 +97,14 @@ impl Columns {
         }
     }
 
+    /// The columns that these pairs are, in the order of their names.
+    pub fn from_pairs(pairs: Seq<Pair>) -> Columns
+        requires { are_columns pairs ≡ true }
+        ensures { result ≡ pairs }
+    {
+        Columns { pairs }
+    }
+
     pub fn len(&self) -> usize
         ensures len { result ≡ length self.now }
         ensures columns { are_columns self.now ≡ true }

@@ -18,6 +18,8 @@ mod pair;
 mod record;
 mod seq;
 mod seq_order;
+#[cfg(test)]
+mod tests;
 mod text;
 mod ticks;
 mod tray;

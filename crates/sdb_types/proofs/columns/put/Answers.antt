@@ -1,4 +1,4 @@
-use Rattle.std.proofs.Common.{◌≡◌, ◌∙◌, sym, rules, length, arith}
+use Rattle.std.proofs.Common.{◌∙◌, rules}
 use Rattle.sdb_types.proofs.ColumnLemmas.{with_column-over, with_column-before, with_column-out, with_column-none, place_fits}
 use Rattle.sdb_types.proofs.columns.put.Goals as goal
 use Rattle.sdb_types.proofs.columns.put.Goals.{then-known, else-known}

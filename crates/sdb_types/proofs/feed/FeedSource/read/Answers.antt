@@ -1,4 +1,4 @@
-use Rattle.std.proofs.Common.{◌≡◌, sym, ap, arith, length, Some, ◌∙◌, drop, take, ◌+◌, ◌-◌}
+use Rattle.std.proofs.Common.{sym, ap, arith, length, Some, ◌∙◌, drop, take, ◌+◌, ◌-◌}
 use Rattle.sdb_types.proofs.Pieces.{filled}
 use Rattle.sdb_types.proofs.feed.FeedSource.read.Goals as goal
 

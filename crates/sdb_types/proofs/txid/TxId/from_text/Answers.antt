@@ -1,4 +1,4 @@
-use Rattle.std.proofs.Common.{◌≡◌, ℕ, List, Option, Some, IsTrue, ◌∙◌, ap, sym, subst, rules, true≢false}
+use Rattle.std.proofs.Common.{ℕ, Option, Some, ◌∙◌, ap, sym, true≢false}
 use Rattle.sdb_types.specs.declared.txid.TxId.{TxId}
 use Rattle.sdb_types.specs.TxId.{id_text}
 use Rattle.sdb_types.proofs.TxIdLemmas.{number_read, read_or_refused}
