@@ -4,6 +4,7 @@
 mod access;
 mod coordinator;
 mod meta;
+mod part;
 mod roll;
 mod write;
 
