@@ -28,7 +28,7 @@ pub use feed::Feed;
 pub use key::{Key, TableName};
 pub use known::Known;
 pub use memory::{Duplicate, NoMemory};
-pub use name::{Name, NameRefused};
+pub use name::{Name, NameRefused, is_identifier_text};
 pub use outside::{Failed, Sink, SinkRefused, Source};
 pub use pair::Pair;
 pub use record::{Condition, Record, Records, Reply, Request, Span, State};
