@@ -65,3 +65,7 @@ is_early_name state name = is_committed state && is_before name
 -- the first column of a part whose name passes a test, as the record has it
 abbrev pub first_within : (List ℕ → Bool) → Part → List Pair → Option (List ℕ)
 first_within test part ps = option_map (λ p. name_from part p.name) (find (λ p. test p.name) (columns_of part ps))
+
+-- the same, looked for among the columns of the record
+abbrev pub first_of_part : (List ℕ → Bool) → Part → List Pair → Option (List ℕ)
+first_of_part test part ps = option_map (λ p. p.name) (find (λ p. passes_name test (name_within part p.name)) ps)

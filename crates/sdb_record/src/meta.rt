@@ -1,13 +1,20 @@
 //! The metadata of transactional records.
-ghost use Rattle.std.specs.Prelude.{◌≡◌, true, ◌||◌, MatchResult, Ok, Err, IfErr};
-ghost use Rattle.std.specs.Option.{option_copied};
+ghost use Rattle.std.specs.Prelude.{◌≡◌, true, ◌||◌, MatchResult, Ok, Err, IfErr, IfOk, IfSome, find};
+ghost use Rattle.std.specs.Option.{option_copied, option_map};
+ghost use Rattle.std.specs.List.{list_any};
 ghost use Rattle.sdb_types.specs.Identifier.{is_name};
+ghost use Rattle.sdb_record.specs.declared.meta.MetaRefused.TheVariants.{NoMemory as OutOfMemory};
+ghost use Rattle.sdb_record.specs.Names.{base_name};
+ghost use Rattle.sdb_record.specs.Parts.{is_before_pair};
+ghost use Rattle.sdb_record.specs.Refused.{Refuses, IfBad};
 ghost use Rattle.sdb_record.specs.Ids.{id_of_text};
-ghost use Rattle.sdb_record.specs.Meta.{id_in_value, state_in_value, version_in_value, moment_in_value, tombstone_in_value, only_if, committed_at_by, is_committed, is_deleted};
-ghost use Rattle.sdb_record.specs.Inside.{allows, meta_within};
+ghost use Rattle.sdb_record.specs.Meta.{id_in_value, state_in_value, version_in_value, moment_in_value, tombstone_in_value, only_if, committed_at_by, is_committed, is_deleted, kept_badly, is_misnamed, checked, checked_before};
+ghost use Rattle.sdb_record.specs.Inside.{allows, meta_within, checked_within, first_of_part, is_stray_name, is_early_name, passes_name, name_within};
 
-use crate::part::{MetaColumn, Part, is_before_name, is_user_name, value_within};
-use sdb_types::{Columns, State, TxId, Txt, Value};
+use crate::part::{MetaColumn, Part, is_before_name, is_user_name, kept_name, value_within};
+use sdb_types::{Columns, Name, NameRefused, NoMemory, Record, State, TxId, Txt, Value, is_identifier_text};
+use std::alloc::Global;
+use thiserror::Error;
 
 /// What the metadata columns of a record say.
 #[derive(Clone, Copy, Debug, PartialEq, Eq)]
@@ -24,9 +31,27 @@ pub struct Meta {
     pub has_before: bool,
 }
 
+/// Why a record or a coordinator row is refused.
+#[derive(Debug, Drop, Error)]
+pub enum MetaRefused {
+    /// The first column that fails.
+    #[error("bad column")]
+    BadMeta(Name),
+    #[error("out of memory")]
+    NoMemory,
+}
+
+impl From<NoMemory> for MetaRefused {
+    ghost from_gives = { λ _ e. e ≡ OutOfMemory };
+
+    fn from(_e: NoMemory) -> MetaRefused {
+        MetaRefused::NoMemory
+    }
+}
+
 const LAST_MOMENT: i64 = 9_007_199_254_740_992;
 
-fn read_id(text: &Txt) -> Option<TxId>
+pub fn read_id(text: &Txt) -> Option<TxId>
     ensures { result ≡ id_of_text text.now }
 {
     TxId::from_text(text)
@@ -80,6 +105,45 @@ fn tombstone_of(committed: bool, value: Option<&Value>) -> Option<bool>
     }
 }
 
+// A column of a part that stands there though it may not, or whose name is too long.
+fn is_stray(part: Part, name: &str, forbidden: bool) -> bool
+    ensures { result ≡ passes_name (is_stray_name forbidden) (name_within part name.now) }
+{
+    match part.name_within(name) {
+        Some(name) => is_user_name(name) && (forbidden || name.len() > 64),
+        None => false,
+    }
+}
+
+fn is_early(part: Part, name: &str, state: State) -> bool
+    ensures { result ≡ passes_name (is_early_name state) (name_within part name.now) }
+{
+    match part.name_within(name) {
+        Some(name) => is_committed_state(state) && is_before_name(name),
+        None => false,
+    }
+}
+
+fn find_stray(columns: &Columns, part: Part, forbidden: bool) -> Option<&Name>
+    ensures { option_copied result ≡ first_of_part (is_stray_name forbidden) part columns.now }
+{
+    columns
+        .pairs()
+        .iter()
+        .find(|pair| is_stray(part, pair.name.as_str(), forbidden))
+        .map(|pair| &pair.name)
+}
+
+fn find_early(columns: &Columns, part: Part, state: State) -> Option<&Name>
+    ensures { option_copied result ≡ first_of_part (is_early_name state) part columns.now }
+{
+    columns
+        .pairs()
+        .iter()
+        .find(|pair| is_early(part, pair.name.as_str(), state))
+        .map(|pair| &pair.name)
+}
+
 fn is_committed_state(state: State) -> bool
     ensures { result ≡ is_committed state }
 {
@@ -115,6 +179,34 @@ fn committed_at_of(state: State, value: Option<&Value>) -> Option<Option<i64>>
         Some(_) => None,
         None => Some(None),
     }
+}
+
+fn is_misnamed_column(name: &str) -> bool
+    ensures { result ≡ kept_badly (base_name name.now) }
+{
+    match kept_name(name) {
+        Some(name) => !is_identifier_text(name.as_bytes()),
+        None => false,
+    }
+}
+
+fn find_misnamed(columns: &Columns) -> Option<&Name>
+    ensures { option_copied result ≡ option_map (λ p. p.name) (find is_misnamed columns.now) }
+{
+    columns
+        .pairs()
+        .iter()
+        .find(|pair| is_misnamed_column(pair.name.as_str()))
+        .map(|pair| &pair.name)
+}
+
+fn has_before(columns: &Columns) -> bool
+    ensures { result ≡ list_any is_before_pair columns.now }
+{
+    columns
+        .pairs()
+        .iter()
+        .any(|pair| is_before_name(pair.name.as_str()))
 }
 
 // What the metadata columns of a part say, or the name of the first that fails.
@@ -153,4 +245,77 @@ fn read_meta(columns: &Columns, part: Part) -> Result<Meta, &'static str>
         tombstone,
         has_before: false,
     })
+}
+
+fn text_of(name: &Name) -> &str
+    ensures text { result.now ≡ name.now }
+    ensures named { is_name result.now ≡ true }
+{
+    name.as_str()
+}
+
+// Whether the record may have no user column.
+fn forbids_rows(meta: &Meta) -> bool
+    ensures { result ≡ (is_deleted meta.now.state || meta.now.tombstone) }
+{
+    is_deleted_state(meta.state) || meta.tombstone
+}
+
+// The first eight checks of a part.
+fn check_part(columns: &Columns, part: Part) -> Result<Meta, &str>
+    ensures checked { MatchResult result (λ m. checked_within part columns.now ≡ Ok m) (λ e. checked_within part columns.now ≡ Err e.now) }
+    ensures named { IfErr result (λ e. is_name e.now ≡ true) }
+{
+    let meta = read_meta(columns, part)?;
+    if let Some(name) = find_stray(columns, part, forbids_rows(&meta)) {
+        return Err(text_of(name));
+    }
+    if let Some(name) = find_early(columns, part, meta.state) {
+        return Err(text_of(name));
+    }
+    Ok(meta)
+}
+
+// All nine checks.
+#[tactic(auto, unfolding(crate::specs::Meta::checked))]
+fn check(columns: &Columns) -> Result<Meta, &str>
+    ensures checked { MatchResult result (λ m. checked columns.now ≡ Ok m) (λ e. checked columns.now ≡ Err e.now) }
+    ensures named { IfErr result (λ e. is_name e.now ≡ true) }
+{
+    let meta = check_part(columns, Part::Own)?;
+    if !has_before(columns) {
+        return Ok(meta);
+    }
+    if let Some(name) = find_misnamed(columns) {
+        return Err(text_of(name));
+    }
+    check_part(columns, Part::Before)?;
+    Ok(Meta {
+        has_before: true,
+        ..meta
+    })
+}
+
+/// A refusal that names a column.
+pub fn refused(alloc: Global, name: &str) -> MetaRefused
+    requires { is_name name.now ≡ true }
+    ensures { IfBad result (λ bad. bad ≡ name.now) }
+{
+    match Name::new(alloc, name) {
+        Ok(name) => MetaRefused::BadMeta(name),
+        Err(NameRefused::NoMemory) => MetaRefused::NoMemory,
+        Err(NameRefused::BadName) => unreachable!(),
+    }
+}
+
+/// The metadata of a transactional record, or the first column that fails. Want of memory can only stand in place of
+/// such a refusal.
+pub fn meta_of(alloc: Global, rec: &Record) -> Result<Meta, MetaRefused>
+    ensures ok { IfOk result (λ meta. checked rec.now.columns ≡ Ok meta) }
+    ensures refused { IfErr result (Refuses (checked rec.now.columns)) }
+{
+    match check(&rec.columns) {
+        Ok(meta) => Ok(meta),
+        Err(name) => Err(refused(alloc, name)),
+    }
 }

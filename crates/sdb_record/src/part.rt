@@ -1,12 +1,13 @@
 //! Names of columns, and the parts of a record that they stand in.
-ghost use Rattle.std.specs.Prelude.{◌≡◌, Bool, true};
+ghost use Rattle.std.specs.Prelude.{◌≡◌, true, IfOk};
 ghost use Rattle.std.specs.Option.{option_copied};
 ghost use Rattle.sdb_types.specs.Columns.{column};
 ghost use Rattle.sdb_types.specs.Identifier.{is_name};
 ghost use Rattle.sdb_record.specs.Names.{is_meta, is_before, is_user, base_name, same_name};
 ghost use Rattle.sdb_record.specs.Inside.{meta_name, name_from, name_within, columns_of};
 
-use sdb_types::{Columns, Name, Pair, Value};
+use sdb_types::{Columns, Name, NameRefused, NoMemory, Pair, Value};
+use std::alloc::Global;
 
 /// A part of a record that holds metadata: its own columns, or the before image that it keeps.
 #[derive(Clone, Copy, Debug, PartialEq, Eq)]
@@ -53,7 +54,7 @@ impl MetaColumn {
     }
 }
 
-fn is_text(name: &str, text: &str) -> bool
+pub fn is_text(name: &str, text: &str) -> bool
     ensures { result ≡ same_name name.now text.now }
 {
     name.cmp(text).is_eq()
@@ -106,13 +107,25 @@ impl Part {
     }
 }
 
-fn find_text<'a>(pairs: &'a [Pair], name: &str) -> Option<&'a Value>
+pub fn find_text<'a>(pairs: &'a [Pair], name: &str) -> Option<&'a Value>
     ensures { option_copied result ≡ column pairs.now name.now }
 {
     pairs
         .iter()
         .find(|pair| is_text(pair.name.as_str(), name))
         .map(|pair| &pair.value)
+}
+
+/// The name with this text.
+pub fn known_name(alloc: Global, text: &str) -> Result<Name, NoMemory>
+    requires { is_name text.now ≡ true }
+    ensures { IfOk result (λ name. name ≡ text.now) }
+{
+    match Name::new(alloc, text) {
+        Ok(name) => Ok(name),
+        Err(NameRefused::NoMemory) => Err(NoMemory),
+        Err(NameRefused::BadName) => unreachable!(),
+    }
 }
 
 /// The value of a metadata column of a part.

@@ -1,4 +1,4 @@
-use Rattle.std.proofs.Common.{rules, ◌≡◌, ◌<◌, ◌^◌, IfSome}
+use Rattle.std.proofs.Common.{rules, ◌<◌, ◌^◌, IfSome}
 use Rattle.sdb_types.specs.declared.txid.TxId.{TxId}
 use Rattle.sdb_record.proofs.IdLemmas.{reads}
 use Rattle.sdb_record.proofs.meta.read_id.Goals as goal

@@ -1,5 +1,3 @@
-use Rattle.std.proofs.Common.{◌≡◌, ℕ, List, Some, None}
-use Rattle.std.specs.Option.{option_copied}
 use Rattle.sdb_record.proofs.NameLemmas.{stripped}
 use Rattle.sdb_record.proofs.part.kept_name.Goals as goal
 

@@ -1,4 +1,4 @@
-use Rattle.std.proofs.Common.{◌≡◌, ◌∙◌, sym, ap}
+use Rattle.std.proofs.Common.{◌∙◌, sym, ap}
 use Rattle.sdb_types.specs.Columns.{column}
 use Rattle.sdb_record.specs.Inside.{meta_name}
 use Rattle.sdb_record.proofs.Within.{column-columns_of}
