@@ -1,6 +1,6 @@
 -- The coordinator's rows, each the one decision on a transaction.
 use Rattle.std.specs.Prelude.{ℕ, ℤ, pos, ◌+ℤ◌, int_le, Bool, if◌then◌else◌, List, [], ◌∷◌, Option, Some, None, Result, Ok, codes}
-use Rattle.std.specs.Ordering.{int_eq, is_eq}
+use Rattle.std.specs.Ordering.{int_eq}
 use Rattle.sdb_types.specs.declared.value.Value.{Value}
 use Rattle.sdb_types.specs.declared.value.Value.TheVariants as value
 use Rattle.sdb_types.specs.declared.key.Key.{Key}
@@ -8,16 +8,16 @@ use Rattle.sdb_types.specs.declared.key.TableName.{TableName}
 use Rattle.sdb_types.specs.declared.txid.TxId.{TxId}
 use Rattle.sdb_types.specs.declared.record.Record.{Record}
 use Rattle.sdb_types.specs.Columns.{column}
-use Rattle.sdb_types.specs.Order.{table_cmp}
 use Rattle.sdb_types.specs.TxId.{id_text}
 use Rattle.sdb_types.specs.Contents.{tx_id, tx_state}
 use Rattle.sdb_record.specs.declared.coordinator.Decision.{Decision}
 use Rattle.sdb_record.specs.declared.coordinator.Decision.TheVariants as decision
 use Rattle.sdb_record.specs.declared.coordinator.Decided.{Decided}
-use Rattle.sdb_record.specs.Names.{tx_created_at}
+use Rattle.sdb_record.specs.Names.{tx_created_at, same_name}
 use Rattle.sdb_record.specs.Ids.{id_of_text}
 use Rattle.sdb_record.specs.Meta.{moment_in, need}
 
+-- The table of the coordinator's rows.
 abbrev pub coordinator_table : TableName
 coordinator_table = record { ns = codes "coordinator"; table = codes "state" }
 
@@ -44,10 +44,13 @@ abbrev pub if_empty : {A : Type 0} → List Value → Option A → Option A
 if_empty [] o = o
 if_empty (v ∷ vs) o = None
 
+abbrev pub is_coordinator_table : TableName → Bool
+is_coordinator_table t = same_name t.ns coordinator_table.ns && same_name t.table coordinator_table.table
+
 -- the transaction whose row has this key
 unfoldable pub id_of_key : Key → Option TxId
 id_of_key key =
-    if is_eq (table_cmp key.table coordinator_table) then if_empty key.clustering (id_in_values key.partition) else None
+    if is_coordinator_table key.table then if_empty key.clustering (id_in_values key.partition) else None
 
 abbrev pub numbered_decision : ℤ → Option Decision
 numbered_decision n =

@@ -2,6 +2,8 @@ pub mod Names
 pub mod Parts
 pub mod Ids
 pub mod Meta
+pub mod Inside
+pub mod Refused
 pub mod Coordinator
 pub mod Rolls
 pub mod Moved

@@ -84,11 +84,13 @@ abbrev pub absent : Option Value → Option (Option ℤ)
 absent None = Some None
 absent (Some v) = None
 
+abbrev pub committed_at_by : State → Option Value → Option (Option ℤ)
+committed_at_by state v = if is_committed state then present (moment_in_value v) else absent v
+
 -- When the record was committed: a moment in state 3, and no column in states 1 and 2. None where the column is of
 -- neither form.
 abbrev pub committed_at_in : State → List Pair → Option (Option ℤ)
-committed_at_in state ps =
-    if is_committed state then present (moment_in ps tx_committed_at) else absent (column ps tx_committed_at)
+committed_at_in state ps = committed_at_by state (column ps tx_committed_at)
 
 abbrev pub tombstone_in_value : Bool → Option Value → Option Bool
 tombstone_in_value committed None = Some false
@@ -128,18 +130,25 @@ is_stray state tombstone p =
 abbrev pub is_early : State → Pair → Bool
 is_early state p = is_committed state && is_before_pair p
 
--- The first eight checks, of columns whose state is one of those allowed.
-unfoldable pub checked_part : (State → Bool) → List Pair → Result Meta (List ℕ)
-checked_part allowed ps =
+-- The first six checks, of columns whose state is one of those allowed: what the metadata columns say.
+unfoldable pub meta_in : (State → Bool) → List Pair → Result Meta (List ℕ)
+meta_in allowed ps =
     need (id_in ps) tx_id (λ id.
     need (only_if allowed (state_in ps)) tx_state (λ state.
     need (version_in ps) tx_version (λ version.
     need (moment_in ps tx_prepared_at) tx_prepared_at (λ prepared_at.
     need (committed_at_in state ps) tx_committed_at (λ committed_at.
     need (tombstone_in state ps) tx_tombstone (λ tombstone.
-    refuse (find (is_stray state tombstone) ps) (
-    refuse (find (is_early state) ps) (
-    Ok (record { id = id; state = state; version = version; prepared_at = prepared_at; committed_at = committed_at; tombstone = tombstone; has_before = false })))))))))
+    Ok (record { id = id; state = state; version = version; prepared_at = prepared_at; committed_at = committed_at; tombstone = tombstone; has_before = false })))))))
+
+-- the seventh and the eighth check
+abbrev pub checked_columns : List Pair → Meta → Result Meta (List ℕ)
+checked_columns ps meta =
+    refuse (find (is_stray meta.state meta.tombstone) ps) (refuse (find (is_early meta.state) ps) (Ok meta))
+
+-- The first eight checks.
+abbrev pub checked_part : (State → Bool) → List Pair → Result Meta (List ℕ)
+checked_part allowed ps = then_check (meta_in allowed ps) (checked_columns ps)
 
 abbrev pub kept_badly : Option (List ℕ) → Bool
 kept_badly None = false

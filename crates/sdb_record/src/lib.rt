@@ -4,11 +4,14 @@
 mod access;
 mod coordinator;
 mod meta;
+mod part;
 mod roll;
+mod row;
 mod write;
 
 pub use access::{Access, Image, Images, Read, Reads, Scan, Scans};
 pub use coordinator::{Decided, Decision};
-pub use meta::Meta;
+pub use meta::{Meta, MetaRefused, meta_of};
 pub use roll::Back;
+pub use row::{coordinator_key, coordinator_row, decision_of, expired};
 pub use write::{Change, Changes, Keyed, Write, Writes};

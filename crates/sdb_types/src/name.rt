@@ -74,7 +74,8 @@ fn all_go_on(bytes: &[u8]) -> bool
     bytes.iter().all(|b| goes_on(*b))
 }
 
-fn is_identifier_text(bytes: &[u8]) -> bool
+/// Whether bytes are an identifier: a letter of ASCII or `_`, then letters, digits and `_`.
+pub fn is_identifier_text(bytes: &[u8]) -> bool
     ensures { result ≡ is_identifier bytes.now }
 {
     match bytes.split_first() {

@@ -1,0 +1,62 @@
+-- Names with a prefix.
+use Rattle.std.proofs.Common.{◌≡◌, ◌≢◌, ℕ, List, [], ◌∷◌, ◌++◌, drop, length, Bool, true, false, eqb, cond, refl, sym, ap, ◌∙◌, subst, arith, Option, Some, None, IfSome, MatchOption}
+use Rattle.std.specs.Prelude.{if◌then◌else◌, is_some}
+use Rattle.std.proofs.lemmas.Bool.Decides.{Decides-eqb}
+use Rattle.std.specs.Borrow.{Bor}
+use Rattle.std.specs.Option.{option_copied}
+use Rattle.std.specs.Str.Pattern.{FindsTextPrefix, StripsPrefix}
+use Rattle.std.specs.Cmp.{tied_itself}
+use Rattle.std.specs.Ordering.{is_eq}
+use Rattle.sdb_types.specs.Exact.{equal_of}
+use Rattle.sdb_types.specs.Order.{name_cmp}
+use Rattle.sdb_types.proofs.KeyOrder.{name_exact, name_total}
+use Rattle.sdb_record.specs.Names.{before_prefix, before_name, after_front, base_name, is_before, same_name}
+
+-- what follows a front in a text that begins with it
+pub after_front-append : (front rest : List ℕ) → after_front front (front ++ rest) ≡ Some rest
+after_front-append [] rest = refl
+after_front-append (c ∷ cs) rest = simp ((Decides-eqb c c).1 refl) (after_front-append cs rest)
+
+pub is_front : (front text rest : List ℕ) → after_front front text ≡ Some rest → text ≡ front ++ rest
+is_front [] text rest h = cc
+is_front (c ∷ cs) [] rest h = absurd (cc)
+is_front (c ∷ cs) (t ∷ ts) rest h =
+    elim (eqb t c) as (λ b. eqb t c ≡ b → cond b (after_front cs ts) None ≡ Some rest → t ∷ ts ≡ (c ∷ cs) ++ rest) [
+      | true ↦ λ q k. let e = (Decides-eqb t c).0 q in let r = is_front cs ts rest k in cc
+      | false ↦ λ q k. absurd (cc)
+    ] refl h
+
+pub no_front : (front text : List ℕ) → ((rest : List ℕ) → text ≡ front ++ rest → ⊥) → after_front front text ≡ None
+no_front front text h =
+    elim (after_front front text) as (λ o. after_front front text ≡ o → o ≡ None) [
+      | None ↦ λ q. refl
+      | Some rest ↦ λ q. absurd (h rest (is_front front text rest q))
+    ] refl
+
+pub base_name-before_name : (name : List ℕ) → base_name (before_name name) ≡ Some name
+unfolding base_name
+base_name-before_name name = after_front-append before_prefix name
+
+pub base_name-is : (text name : List ℕ) → base_name text ≡ Some name → text ≡ before_name name
+unfolding base_name
+base_name-is text name h = is_front before_prefix text name h
+
+pub base_name-none : (text : List ℕ) → ((rest : List ℕ) → text ≡ before_name rest → ⊥) → base_name text ≡ None
+unfolding base_name
+base_name-none text h = no_front before_prefix text h
+
+-- what `strip_prefix` gives
+pub stripped : (text : List ℕ) (r : Option (Bor (List ℕ))) → MatchOption r (FindsTextPrefix before_prefix text None) (λ x. StripsPrefix (FindsTextPrefix before_prefix) text x.now) → option_copied r ≡ base_name text
+stripped text None h = sym (base_name-none text h)
+stripped text (Some x) h =
+    let e : text ≡ before_name (drop h.0 text) = h.1.1 in
+    let f : before_name (drop h.0 text) ≡ before_name x.now = ap before_name (sym h.2) in
+    sym (ap base_name (e ∙ f) ∙ base_name-before_name x.now)
+
+---- names that are the same
+
+pub same_name-true : (a b : List ℕ) → same_name a b ≡ true → a ≡ b
+same_name-true a b h = name_exact a b (equal_of (name_cmp a b) h)
+
+pub same_name-itself : (a : List ℕ) → same_name a a ≡ true
+same_name-itself a = ap is_eq (tied_itself name_total a)

@@ -1,0 +1,9 @@
+use Rattle.std.proofs.Common.{◌∙◌, sym, ap}
+use Rattle.sdb_types.specs.Columns.{column}
+use Rattle.sdb_record.specs.Inside.{meta_name}
+use Rattle.sdb_record.proofs.Within.{column-columns_of}
+use Rattle.sdb_record.proofs.part.value_within.Goals as goal
+
+pub returns : goal.returns
+returns c =
+    c.find_text.ensures ∙ ap (λ ps. column ps c.text.result.now) c.pairs.ensures ∙ ap (column c.args.columns.now) c.text.ensures.text ∙ sym (column-columns_of c.args.part c.args.columns.now (meta_name c.args.wanted))

@@ -1,0 +1,136 @@
+//! Names of columns, and the parts of a record that they stand in.
+ghost use Rattle.std.specs.Prelude.{◌≡◌, true, IfOk};
+ghost use Rattle.std.specs.Option.{option_copied};
+ghost use Rattle.sdb_types.specs.Columns.{column};
+ghost use Rattle.sdb_types.specs.Identifier.{is_name};
+ghost use Rattle.sdb_record.specs.Names.{is_meta, is_before, is_user, base_name, same_name};
+ghost use Rattle.sdb_record.specs.Inside.{meta_name, name_from, name_within, columns_of};
+
+use sdb_types::{Columns, Name, NameRefused, NoMemory, Pair, Value};
+use std::alloc::Global;
+
+/// A part of a record that holds metadata: its own columns, or the before image that it keeps.
+#[derive(Clone, Copy, Debug, PartialEq, Eq)]
+pub enum Part {
+    Own,
+    Before,
+}
+
+/// A metadata column.
+#[derive(Clone, Copy, Debug, PartialEq, Eq)]
+pub enum MetaColumn {
+    Id,
+    State,
+    Version,
+    PreparedAt,
+    CommittedAt,
+    Tombstone,
+}
+
+impl MetaColumn {
+    ghost use Rattle.std.specs.Prelude.{◌≡◌, true};
+    ghost use Rattle.sdb_types.specs.Identifier.{is_name};
+    ghost use Rattle.sdb_record.specs.Inside.{meta_name, name_from};
+
+    /// The name that a record has for the column.
+    pub fn text(self, part: Part) -> &'static str
+        ensures text { result.now ≡ name_from part (meta_name self) }
+        ensures named { is_name result.now ≡ true }
+    {
+        match (part, self) {
+            (Part::Own, MetaColumn::Id) => "tx_id",
+            (Part::Own, MetaColumn::State) => "tx_state",
+            (Part::Own, MetaColumn::Version) => "tx_version",
+            (Part::Own, MetaColumn::PreparedAt) => "tx_prepared_at",
+            (Part::Own, MetaColumn::CommittedAt) => "tx_committed_at",
+            (Part::Own, MetaColumn::Tombstone) => "tx_tombstone",
+            (Part::Before, MetaColumn::Id) => "before_tx_id",
+            (Part::Before, MetaColumn::State) => "before_tx_state",
+            (Part::Before, MetaColumn::Version) => "before_tx_version",
+            (Part::Before, MetaColumn::PreparedAt) => "before_tx_prepared_at",
+            (Part::Before, MetaColumn::CommittedAt) => "before_tx_committed_at",
+            (Part::Before, MetaColumn::Tombstone) => "before_tx_tombstone",
+        }
+    }
+}
+
+pub fn is_text(name: &str, text: &str) -> bool
+    ensures { result ≡ same_name name.now text.now }
+{
+    name.cmp(text).is_eq()
+}
+
+#[tactic(auto, unfolding(crate::specs::Names::is_meta))]
+fn is_meta_name(name: &str) -> bool
+    ensures { result ≡ is_meta name.now }
+{
+    is_text(name, "tx_id")
+        || is_text(name, "tx_state")
+        || is_text(name, "tx_version")
+        || is_text(name, "tx_prepared_at")
+        || is_text(name, "tx_committed_at")
+        || is_text(name, "tx_tombstone")
+}
+
+/// What follows the prefix in the name of a column of a before image.
+pub fn kept_name(name: &str) -> Option<&str>
+    ensures { option_copied result ≡ base_name name.now }
+{
+    name.strip_prefix("before_")
+}
+
+pub fn is_before_name(name: &str) -> bool
+    ensures { result ≡ is_before name.now }
+{
+    kept_name(name).is_some()
+}
+
+pub fn is_user_name(name: &str) -> bool
+    ensures { result ≡ is_user name.now }
+{
+    !is_meta_name(name) && !is_before_name(name)
+}
+
+impl Part {
+    ghost use Rattle.std.specs.Prelude.{◌≡◌};
+    ghost use Rattle.std.specs.Option.{option_copied};
+    ghost use Rattle.sdb_record.specs.Inside.{name_within};
+
+    /// The name that a column has in the part, if it stands there.
+    pub fn name_within(self, name: &str) -> Option<&str>
+        ensures { option_copied result ≡ name_within self name.now }
+    {
+        match self {
+            Part::Own => Some(name),
+            Part::Before => kept_name(name),
+        }
+    }
+}
+
+pub fn find_text<'a>(pairs: &'a [Pair], name: &str) -> Option<&'a Value>
+    ensures { option_copied result ≡ column pairs.now name.now }
+{
+    pairs
+        .iter()
+        .find(|pair| is_text(pair.name.as_str(), name))
+        .map(|pair| &pair.value)
+}
+
+/// The name with this text.
+pub fn known_name(alloc: Global, text: &str) -> Result<Name, NoMemory>
+    requires { is_name text.now ≡ true }
+    ensures { IfOk result (λ name. name ≡ text.now) }
+{
+    match Name::new(alloc, text) {
+        Ok(name) => Ok(name),
+        Err(NameRefused::NoMemory) => Err(NoMemory),
+        Err(NameRefused::BadName) => unreachable!(),
+    }
+}
+
+/// The value of a metadata column of a part.
+pub fn value_within(columns: &Columns, part: Part, wanted: MetaColumn) -> Option<&Value>
+    ensures { option_copied result ≡ column (columns_of part columns.now) (meta_name wanted) }
+{
+    find_text(columns.pairs(), wanted.text(part))
+}

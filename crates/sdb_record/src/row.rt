@@ -1,0 +1,118 @@
+//! The coordinator's rows, made and read.
+ghost use Rattle.std.specs.Prelude.{◌≡◌, Ok, IfOk, IfErr};
+ghost use Rattle.std.specs.Option.{option_copied};
+ghost use Rattle.sdb_record.specs.Refused.{Refuses};
+ghost use Rattle.sdb_record.specs.Coordinator.{coordinator_table, coordinator_key_of, coordinator_row_of, decision_number, is_coordinator_table, id_in_values, id_of_key, decision_in_value, decision_in, is_expired};
+
+use crate::coordinator::{Decided, Decision};
+use crate::meta::{MetaRefused, moment_of, read_id, refused};
+use crate::part::{find_text, is_text, known_name};
+use sdb_types::{Columns, Key, NoMemory, Record, Seq, TableName, TxId, Value};
+use std::alloc::Global;
+
+fn decision_value(decision: Decision) -> i32
+    ensures { result ≡ decision_number decision }
+{
+    match decision {
+        Decision::Committed => 3,
+        Decision::Aborted => 4,
+    }
+}
+
+/// The key of a transaction's row.
+#[tactic(auto, unfolding(crate::specs::Coordinator::coordinator_key_of))]
+pub fn coordinator_key(alloc: Global, id: TxId) -> Result<Key, NoMemory>
+    ensures { IfOk result (λ key. key ≡ coordinator_key_of id) }
+{
+    let table = TableName {
+        ns: known_name(alloc, "coordinator")?,
+        table: known_name(alloc, "state")?,
+    };
+    let mut partition = Seq::new(alloc);
+    partition.push(Value::Text(id.text(alloc)?))?;
+    Ok(Key {
+        table,
+        partition,
+        clustering: Seq::new(alloc),
+    })
+}
+
+/// The row of a decision on a transaction, made at a moment from 0 to 2^53.
+#[tactic(auto, unfolding(crate::specs::Coordinator::coordinator_row_of))]
+pub fn coordinator_row(alloc: Global, id: TxId, decision: Decision, now: i64) -> Result<Record, NoMemory>
+    ensures { IfOk result (λ row. row ≡ coordinator_row_of id decision now) }
+{
+    let mut columns = Columns::new(alloc);
+    columns.set(known_name(alloc, "tx_created_at")?, Value::BigInt(now))?;
+    columns.set(known_name(alloc, "tx_state")?, Value::Int(decision_value(decision)))?;
+    Ok(Record {
+        key: coordinator_key(alloc, id)?,
+        columns,
+    })
+}
+
+fn is_coordinator(table: &TableName) -> bool
+    ensures { result ≡ is_coordinator_table table.now }
+{
+    is_text(table.ns.as_str(), "coordinator") && is_text(table.table.as_str(), "state")
+}
+
+fn id_of_values(values: &[Value]) -> Option<TxId>
+    ensures { result ≡ id_in_values values.now }
+{
+    match values {
+        [Value::Text(text)] => read_id(text),
+        _ => None,
+    }
+}
+
+#[tactic(auto, unfolding(crate::specs::Coordinator::id_of_key))]
+fn id_of_row(key: &Key) -> Option<TxId>
+    ensures { result ≡ id_of_key key.now }
+{
+    if !is_coordinator(&key.table) || key.clustering.len() > 0 {
+        return None;
+    }
+    id_of_values(key.partition.as_slice())
+}
+
+fn decision_of_value(value: Option<&Value>) -> Option<Decision>
+    ensures { result ≡ decision_in_value (option_copied value.entry) }
+{
+    match value {
+        Some(Value::Int(3)) => Some(Decision::Committed),
+        Some(Value::Int(4)) => Some(Decision::Aborted),
+        _ => None,
+    }
+}
+
+/// The decision that a coordinator row records, or the first column that fails. Want of memory can only stand in place
+/// of such a refusal.
+#[tactic(auto, unfolding(crate::specs::Coordinator::decision_in))]
+pub fn decision_of(alloc: Global, row: &Record) -> Result<Decided, MetaRefused>
+    ensures ok { IfOk result (λ decided. decision_in row.now ≡ Ok decided) }
+    ensures refused { IfErr result (Refuses (decision_in row.now)) }
+{
+    if id_of_row(&row.key).is_none() {
+        return Err(refused(alloc, "tx_id"));
+    }
+    let pairs = row.columns.pairs();
+    let Some(created_at) = moment_of(find_text(pairs, "tx_created_at")) else {
+        return Err(refused(alloc, "tx_created_at"));
+    };
+    let Some(decision) = decision_of_value(find_text(pairs, "tx_state")) else {
+        return Err(refused(alloc, "tx_state"));
+    };
+    Ok(Decided {
+        decision,
+        created_at,
+    })
+}
+
+/// Whether a record that was prepared at a moment, and that no row decides, may be given up: 15 seconds have passed.
+/// Both moments are in milliseconds.
+pub fn expired(prepared_at: i64, now: i64) -> bool
+    ensures { result ≡ is_expired prepared_at now }
+{
+    i128::from(now) >= i128::from(prepared_at) + 15_000
+}
