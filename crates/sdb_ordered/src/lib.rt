@@ -1,0 +1,10 @@
+//! A store in memory that keeps its records in the order of their keys.
+#![tactic(auto)]
+
+mod tree;
+
+use sdb_store::Memory;
+pub use tree::Tree;
+
+/// The store in memory over a tree. It tells what it holds.
+pub type Ordered = Memory<Tree>;
