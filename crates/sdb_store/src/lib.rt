@@ -1,6 +1,14 @@
 //! A store of records: what each of its calls means, and what the stores in memory share.
 #![tactic(auto)]
 
+mod condition;
+mod fail;
+mod memory;
+mod rows;
 mod store;
 
+pub use condition::holds;
+pub use fail::{Fail, Fails};
+pub use memory::Memory;
+pub use rows::Rows;
 pub use store::{Store, call};

@@ -1,0 +1,10 @@
+use Rattle.std.proofs.Common.{◌∙◌, ap}
+use Rattle.std.specs.FinMap.{insert}
+use Rattle.sdb_types.proofs.KeyOrder.{key_total, key_exact}
+use Rattle.sdb_ordered.proofs.TreeLemmas.{inserted}
+use Rattle.sdb_ordered.proofs.tree.TreeRows.insert.Goals as goal
+
+pub returns-clause-ok : goal.returns-clause-ok
+returns-clause-ok c =
+    inserted key_total key_exact c.self.inside.rows.entries c.insert.new.self.entries c.args.rec.key c.args.rec.columns c.in_ok-insert.ensures.updates.0
+    ∙ ap (λ m. insert m c.args.rec.key c.args.rec.columns) c.self.view_is

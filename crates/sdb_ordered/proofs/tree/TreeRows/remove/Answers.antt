@@ -1,0 +1,10 @@
+use Rattle.std.proofs.Common.{◌∙◌, ap}
+use Rattle.std.specs.FinMap.{remove}
+use Rattle.sdb_types.proofs.KeyOrder.{key_total, key_exact}
+use Rattle.sdb_ordered.proofs.TreeLemmas.{removed}
+use Rattle.sdb_ordered.proofs.tree.TreeRows.remove.Goals as goal
+
+pub returns-clause-ok : goal.returns-clause-ok
+returns-clause-ok c =
+    removed key_total key_exact c.self.inside.rows.entries c.remove.new.self.entries c.args.key.now c.remove.ensures.updates.0
+    ∙ ap (λ m. remove m c.args.key.now) c.self.view_is

@@ -1,0 +1,97 @@
+//! Records in the order of their keys.
+ghost use Rattle.std.specs.Prelude.{◌≡◌, IfOk, OnOk, OnErr};
+ghost use Rattle.std.specs.FinMap as map;
+ghost use Rattle.std.specs.BTreeMap.{IsOrdered};
+ghost use Rattle.sdb_types.specs.Order.{key_cmp};
+ghost use Rattle.sdb_types.specs.Contents.{record_at, in_span, rows_in, rows_among};
+
+use sdb_store::Rows;
+use sdb_types::{Columns, Duplicate, Key, NoMemory, Record, Records, Seq, Span};
+use std::alloc::Global;
+use std::collections::BTreeMap;
+use std::marker::Model;
+
+/// A tree from key to columns, seen as what it holds.
+#[derive(Drop)]
+pub struct Tree {
+    alloc: Global,
+    rows: BTreeMap<Key, Columns>,
+}
+
+impl Model for Tree {
+    ghost use Rattle.std.specs.FinMap as map;
+    ghost use Rattle.sdb_types.specs.Contents.{Contents};
+    ghost use Rattle.sdb_store.specs.HeldCode.{coded_contents};
+
+    ghost Value = { Contents };
+
+    ghost coded = { coded_contents };
+
+    ghost view = { λ t. map.from_entries t.rows.entries };
+}
+
+/// Whether a key lies in a span. Takes no memory.
+pub fn lies_in(span: &Span, key: &Key) -> bool
+    ensures { result ≡ in_span span.now key.now }
+{
+    if span.table.cmp(&key.table).is_ne() {
+        return false;
+    }
+    match &span.partition {
+        Some(part) => part.cmp(&key.partition).is_eq(),
+        None => true,
+    }
+}
+
+// The records of a span among the entries of a tree.
+fn rows_of(alloc: Global, rows: &BTreeMap<Key, Columns>, span: &Span) -> Result<Records, NoMemory>
+    ensures rows { IfOk result (λ found. found ≡ rows_among span.now rows.now.entries) }
+    ensures ordered { IsOrdered key_cmp rows.now }
+{
+    let mut found = Seq::new(alloc);
+    for (key, columns) in rows {
+        if lies_in(span, key) {
+            found.push(Record {
+                key: key.copy()?,
+                columns: columns.copy()?,
+            })?;
+        }
+    }
+    Ok(found)
+}
+
+impl Rows for Tree {
+    ghost contents = { λ t. t };
+
+    fn new(alloc: Global) -> Tree {
+        Tree {
+            alloc,
+            rows: BTreeMap::new(alloc),
+        }
+    }
+
+    fn find(&self, key: &Key) -> Result<Option<Record>, NoMemory> {
+        match self.rows.get(key) {
+            Some(columns) => Ok(Some(Record {
+                key: key.copy()?,
+                columns: columns.copy()?,
+            })),
+            None => Ok(None),
+        }
+    }
+
+    fn list(&self, span: &Span) -> Result<Records, NoMemory> {
+        rows_of(self.alloc, &self.rows, span)
+    }
+
+    fn insert(&mut self, rec: Record) -> Result<(), NoMemory> {
+        let Record { key, columns } = rec;
+        self.rows.insert(key, columns)?;
+        Ok(())
+    }
+
+    fn remove(&mut self, key: &Key) -> Result<(), NoMemory> {
+        self.rows.remove(key);
+        Ok(())
+    }
+}

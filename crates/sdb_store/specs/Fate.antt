@@ -1,0 +1,59 @@
+-- Which calls of a store in memory fail, and what comes of a call.
+use Rattle.std.specs.Prelude.{◌≡◌, ◌⊎◌, ◌==◌, ◌+◌, ◌-◌, ◌^◌, ℕ, nat_lt, if◌then◌else◌, List, Option, Some, None, find}
+use Rattle.sdb_types.specs.declared.record.Request.{Request}
+use Rattle.sdb_types.specs.declared.record.Reply.{Reply}
+use Rattle.sdb_types.specs.declared.record.Reply.TheVariants as reply
+use Rattle.sdb_types.specs.Contents.{Contents, after}
+use Rattle.sdb_store.specs.declared.fail.Fail.{Fail}
+use Rattle.sdb_store.specs.declared.fail.Fate.{Fate}
+use Rattle.sdb_store.specs.declared.fail.Fate.TheVariants as fate
+use Rattle.sdb_store.specs.Store.{Answers}
+
+-- the number of calls after one more, which stops at the greatest of its type
+abbrev pub next_number : ℕ → ℕ
+next_number made = if nat_lt made (2 ^ 64 - 1) then made + 1 else made
+
+abbrev pub listed_fate : Option Fail → Fate
+listed_fate None = fate.Answers
+listed_fate (Some fail) = if fail.after then fate.FailsAfter else fate.FailsBefore
+
+-- What becomes of the call with that number: the first entry that lists it says whether it fails before its effect or
+-- after it. The call numbered 2^64 - 1 and later ones never fail.
+abbrev pub fate_of : ℕ → List Fail → Fate
+fate_of n failing = if nat_lt n (2 ^ 64 - 1) then listed_fate (find (λ fail. fail.call == n) failing) else fate.Answers
+
+-- A store in memory as its callers see it: what it holds, which calls fail, how many were made and how many failed.
+pub record Held : Type 0 where
+  pub contents : Contents
+  pub failing : List Fail
+  pub made : ℕ
+  pub failed : ℕ
+
+-- A call for which there is no memory changes nothing.
+pub record Starves (r : Reply) (old new : Held) : Type 0 where
+  pub reply : r ≡ reply.NoMemory
+  pub contents : new.contents ≡ old.contents
+  pub failed : new.failed ≡ old.failed
+
+-- A call whose reply is the map's.
+pub record Replies (q : Request) (r : Reply) (old new : Held) : Type 0 where
+  pub answer : Answers q r old.contents new.contents
+  pub failed : new.failed ≡ old.failed
+
+-- A call that fails and leaves these contents.
+pub record Faulted (r : Reply) (left : Contents) (old new : Held) : Type 0 where
+  pub reply : r ≡ reply.Fault
+  pub contents : new.contents ≡ left
+  pub failed : new.failed ≡ old.failed + 1
+
+abbrev pub ComesOf : Fate → Request → Reply → Held → Held → Type 0
+ComesOf fate.Answers q r old new = Replies q r old new ⊎ Starves r old new
+ComesOf fate.FailsBefore q r old new = Faulted r old.contents old new
+ComesOf fate.FailsAfter q r old new = Faulted r (after q old.contents) old new ⊎ Starves r old new
+
+-- One call of a store in memory: it fails exactly where it is listed, and has its effect first where the entry says so.
+-- Otherwise it answers as the map does. Want of memory stands in place of both, and then nothing changes.
+pub record Serves (q : Request) (r : Reply) (old new : Held) : Type 0 where
+  pub failing : new.failing ≡ old.failing
+  pub made : new.made ≡ next_number old.made
+  pub outcome : ComesOf (fate_of (old.made + 1) old.failing) q r old new

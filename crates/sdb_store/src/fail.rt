@@ -1,0 +1,103 @@
+//! Calls that fail as listed.
+ghost use Rattle.std.specs.Prelude.{◌≡◌, ◌≢◌, ◌+◌, ◌<◌, ◌≤◌, find, ◌==◌};
+ghost use Rattle.std.specs.Option.{option_copied};
+ghost use Rattle.sdb_store.specs.Fate.{fate_of, listed_fate, next_number};
+
+use sdb_types::{Duplicate, NoMemory, Reply, Seq};
+
+/// The call with this number, from 1, fails: after its effect, or before it.
+#[derive(Clone, Copy, Debug, PartialEq, Eq)]
+pub struct Fail {
+    pub call: u64,
+    pub after: bool,
+}
+
+impl Duplicate for Fail {
+    fn copy(&self) -> Result<Fail, NoMemory> {
+        Ok(*self)
+    }
+}
+
+/// The calls that fail. Of two entries with one number the first counts.
+pub type Fails = Seq<Fail>;
+
+/// What becomes of a call.
+#[derive(Clone, Copy, Debug, PartialEq, Eq)]
+pub enum Fate {
+    Answers,
+    FailsBefore,
+    FailsAfter,
+}
+
+/// The calls made so far, and which of them fail.
+#[derive(Drop)]
+pub struct Calls {
+    pub failing: Fails,
+    pub made: u64,
+    pub failed: u64,
+    ghost fewer: { failed ≤ made },
+}
+
+// The first entry with that number.
+fn entry_at(n: u64, failing: &[Fail]) -> Option<&Fail>
+    ensures { option_copied result ≡ find (λ fail. fail.call == n) failing.now }
+{
+    failing.iter().find(|fail| fail.call == n)
+}
+
+fn fate_listed(entry: Option<&Fail>) -> Fate
+    ensures { result ≡ listed_fate (option_copied entry.entry) }
+{
+    match entry {
+        None => Fate::Answers,
+        Some(fail) => {
+            if fail.after {
+                Fate::FailsAfter
+            } else {
+                Fate::FailsBefore
+            }
+        }
+    }
+}
+
+impl Calls {
+    pub fn new(failing: Fails) -> Calls
+        ensures failing { result.failing ≡ failing }
+        ensures made { result.made ≡ 0 }
+        ensures failed { result.failed ≡ 0 }
+    {
+        Calls {
+            failing,
+            made: 0,
+            failed: 0,
+        }
+    }
+
+    /// Counts one more call, and says what becomes of it.
+    pub fn next(&mut self) -> Fate
+        ensures fate { result ≡ fate_of (self.old.made + 1) self.old.failing }
+        ensures failing { self.new.failing ≡ self.old.failing }
+        ensures made { self.new.made ≡ next_number self.old.made }
+        ensures failed { self.new.failed ≡ self.old.failed }
+        ensures room { result ≢ Fate.Answers → self.new.failed < self.new.made }
+    {
+        if self.made >= u64::MAX - 1 {
+            self.made = u64::MAX;
+            return Fate::Answers;
+        }
+        self.made += 1;
+        fate_listed(entry_at(self.made, self.failing.as_slice()))
+    }
+
+    /// Counts a call that fails.
+    pub fn fail(&mut self) -> Reply
+        requires { self.old.failed < self.old.made }
+        ensures reply { result ≡ Reply.Fault }
+        ensures failing { self.new.failing ≡ self.old.failing }
+        ensures made { self.new.made ≡ self.old.made }
+        ensures failed { self.new.failed ≡ self.old.failed + 1 }
+    {
+        self.failed += 1;
+        Reply::Fault
+    }
+}

@@ -1,0 +1,175 @@
+//! A store that keeps its records in memory, and whose calls fail as listed.
+ghost use Rattle.std.specs.Prelude.{◌≡◌, ◌≤◌, IfOk, OnErr, MatchResult};
+ghost use Rattle.std.specs.FinMap as map;
+ghost use Rattle.sdb_types.specs.declared.record.Request.TheVariants.{Get, Scan, PutIf, DeleteIf};
+ghost use Rattle.sdb_types.specs.Contents.{CanAnswer, holds as holds_lem};
+ghost use Rattle.sdb_store.specs.Store.{Answers, Performs, HasCause};
+ghost use Rattle.sdb_store.specs.Fate.{Serves};
+
+use crate::condition::holds;
+use crate::fail::{Calls, Fails, Fate};
+use crate::rows::Rows;
+use crate::store::Store;
+use sdb_types::{Condition, Duplicate, Key, NoMemory, Record, Reply, Span};
+use std::alloc::Global;
+use std::marker::Model;
+
+/// A store in memory.
+#[derive(Drop)]
+pub struct Memory<R: Rows> {
+    rows: R,
+    calls: Calls,
+}
+
+impl<R: Rows> Model for Memory<R> {
+    ghost use Rattle.sdb_store.specs.Fate.{Held};
+    ghost use Rattle.sdb_store.specs.HeldCode.{coded_held};
+
+    ghost Value = { Held };
+
+    ghost coded = { coded_held };
+
+    ghost view = { λ m. record { contents = R.contents m.rows; failing = m.calls.failing; made = m.calls.made; failed = m.calls.failed } };
+}
+
+impl<R: Rows> Memory<R> {
+    /// An empty store, whose calls fail as listed.
+    pub fn new(alloc: Global, failing: Fails) -> Memory<R>
+        ensures { result ≡ record { contents = map.empty; failing = failing; made = 0; failed = 0 } }
+    {
+        Memory {
+            rows: R::new(alloc),
+            calls: Calls::new(failing),
+        }
+    }
+}
+
+// A get that does not fail.
+fn found<R: Rows>(rows: &R, key: &Key) -> Result<Reply, NoMemory>
+    ensures { IfOk result (λ reply. Answers (Get key.now) reply (R.contents rows.now) (R.contents rows.now)) }
+{
+    Ok(Reply::Found(rows.find(key)?))
+}
+
+// A scan that does not fail.
+fn listed<R: Rows>(rows: &R, span: &Span) -> Result<Reply, NoMemory>
+    ensures { IfOk result (λ reply. Answers (Scan span.now) reply (R.contents rows.now) (R.contents rows.now)) }
+{
+    Ok(Reply::Rows(rows.list(span)?))
+}
+
+// A put that does not fail.
+fn put<R: Rows>(rows: &mut R, rec: &Record, condition: &Condition) -> Result<Reply, NoMemory>
+    ensures ok { IfOk result (λ reply. Answers (PutIf rec.now condition.now) reply (R.contents rows.old) (R.contents rows.new)) }
+    ensures err { OnErr result (R.contents rows.new ≡ R.contents rows.old) }
+{
+    let found = rows.find(&rec.key)?;
+    if !holds(condition, found.as_ref()) {
+        return Ok(Reply::NotMet(found));
+    }
+    rows.insert(rec.copy()?)?;
+    Ok(Reply::Applied)
+}
+
+// A delete that does not fail.
+fn delete<R: Rows>(rows: &mut R, key: &Key, condition: &Condition) -> Result<Reply, NoMemory>
+    ensures ok { IfOk result (λ reply. Answers (DeleteIf key.now condition.now) reply (R.contents rows.old) (R.contents rows.new)) }
+    ensures err { OnErr result (R.contents rows.new ≡ R.contents rows.old) }
+{
+    let found = rows.find(key)?;
+    if !holds(condition, found.as_ref()) {
+        return Ok(Reply::NotMet(found));
+    }
+    rows.remove(key)?;
+    Ok(Reply::Applied)
+}
+
+fn reply_of(answer: Result<Reply, NoMemory>) -> Reply
+    ensures { MatchResult answer (λ reply. result ≡ reply) (λ _. result ≡ Reply.NoMemory) }
+{
+    match answer {
+        Ok(reply) => reply,
+        Err(NoMemory) => Reply::NoMemory,
+    }
+}
+
+impl<R: Rows> Store for Memory<R> {
+    ghost tells = { λ _. Unit {0} };
+
+    ghost contents = { λ m. m.contents };
+
+    ghost faults = { λ m. m.failed };
+
+    fn get(&mut self, key: &Key) -> Reply
+        ensures told { Unit {0} → Unit {0} }
+        ensures performed { Unit {0} → Performs (Get key.now) result self.old.contents self.new.contents }
+        ensures lawful { CanAnswer (Get key.now) result }
+        ensures counted { self.old.failed ≤ self.new.failed }
+        ensures cause { HasCause result self.old.failed self.new.failed }
+        ensures exact { Serves (Get key.now) result self.old self.new }
+    {
+        match self.calls.next() {
+            Fate::Answers => reply_of(found(&self.rows, key)),
+            Fate::FailsBefore => self.calls.fail(),
+            Fate::FailsAfter => match found(&self.rows, key) {
+                Ok(_) => self.calls.fail(),
+                Err(NoMemory) => Reply::NoMemory,
+            },
+        }
+    }
+
+    #[tactic(auto, using(crate::proofs::Lawful::rows_lawful))]
+    fn scan(&mut self, span: &Span) -> Reply
+        ensures told { Unit {0} → Unit {0} }
+        ensures performed { Unit {0} → Performs (Scan span.now) result self.old.contents self.new.contents }
+        ensures lawful { CanAnswer (Scan span.now) result }
+        ensures counted { self.old.failed ≤ self.new.failed }
+        ensures cause { HasCause result self.old.failed self.new.failed }
+        ensures exact { Serves (Scan span.now) result self.old self.new }
+    {
+        match self.calls.next() {
+            Fate::Answers => reply_of(listed(&self.rows, span)),
+            Fate::FailsBefore => self.calls.fail(),
+            Fate::FailsAfter => match listed(&self.rows, span) {
+                Ok(_) => self.calls.fail(),
+                Err(NoMemory) => Reply::NoMemory,
+            },
+        }
+    }
+
+    fn put_if(&mut self, rec: &Record, condition: &Condition) -> Reply
+        ensures told { Unit {0} → Unit {0} }
+        ensures performed { Unit {0} → Performs (PutIf rec.now condition.now) result self.old.contents self.new.contents }
+        ensures lawful { CanAnswer (PutIf rec.now condition.now) result }
+        ensures counted { self.old.failed ≤ self.new.failed }
+        ensures cause { HasCause result self.old.failed self.new.failed }
+        ensures exact { Serves (PutIf rec.now condition.now) result self.old self.new }
+    {
+        match self.calls.next() {
+            Fate::Answers => reply_of(put(&mut self.rows, rec, condition)),
+            Fate::FailsBefore => self.calls.fail(),
+            Fate::FailsAfter => match put(&mut self.rows, rec, condition) {
+                Ok(_) => self.calls.fail(),
+                Err(NoMemory) => Reply::NoMemory,
+            },
+        }
+    }
+
+    fn delete_if(&mut self, key: &Key, condition: &Condition) -> Reply
+        ensures told { Unit {0} → Unit {0} }
+        ensures performed { Unit {0} → Performs (DeleteIf key.now condition.now) result self.old.contents self.new.contents }
+        ensures lawful { CanAnswer (DeleteIf key.now condition.now) result }
+        ensures counted { self.old.failed ≤ self.new.failed }
+        ensures cause { HasCause result self.old.failed self.new.failed }
+        ensures exact { Serves (DeleteIf key.now condition.now) result self.old self.new }
+    {
+        match self.calls.next() {
+            Fate::Answers => reply_of(delete(&mut self.rows, key, condition)),
+            Fate::FailsBefore => self.calls.fail(),
+            Fate::FailsAfter => match delete(&mut self.rows, key, condition) {
+                Ok(_) => self.calls.fail(),
+                Err(NoMemory) => Reply::NoMemory,
+            },
+        }
+    }
+}
