@@ -110,10 +110,14 @@ table_lines t = codes "table " ++ table_text t.name ++ codes " " ++ decimal (len
 abbrev pub heading : List ℕ → ℕ → List ℕ
 heading word count = word ++ codes " " ++ decimal count ++ codes "\n"
 
+abbrev pub events_text_of : List Event → List ℕ
+events_text_of es = heading (codes "events") (length es) ++ event_lines 1 es
+
+abbrev pub order_text_of : List Point → List ℕ
+order_text_of ps = heading (codes "order") (length ps) ++ flat_map point_line ps
+
+abbrev pub tables_text_of : List TableDump → List ℕ
+tables_text_of ts = heading (codes "tables") (length ts) ++ flat_map table_lines ts
+
 abbrev pub report_text_of : Outcome → List ℕ
-report_text_of o =
-    codes "scalardb report 1\n"
-    ++ heading (codes "events") (length o.events) ++ event_lines 1 o.events
-    ++ heading (codes "order") (length o.order) ++ flat_map point_line o.order
-    ++ heading (codes "tables") (length o.tables) ++ flat_map table_lines o.tables
-    ++ codes "end\n"
+report_text_of o = codes "scalardb report 1\n" ++ events_text_of o.events ++ order_text_of o.order ++ tables_text_of o.tables ++ codes "end\n"

@@ -1,0 +1,6 @@
+//! The texts of scripts and reports.
+#![tactic(auto)]
+
+mod report;
+
+pub use report::report_text;
