@@ -12,6 +12,7 @@ use Rattle.sdb_types.specs.declared.record.Reply.{Reply}
 use Rattle.sdb_types.specs.declared.record.Reply.TheVariants as reply
 use Rattle.sdb_types.specs.declared.record.Request.{Request}
 use Rattle.sdb_types.specs.declared.record.Request.TheVariants as ask
+use Rattle.sdb_types.specs.declared.value.Value.{Value}
 use Rattle.sdb_model.specs.Texts.{key_text_of, span_text_of, record_text_of, row_text_of, answer_text_of}
 use Rattle.sdb_model.specs.declared.answer.Answer.{Answer}
 use Rattle.sdb_model.specs.declared.event.Event.{Event}
@@ -63,34 +64,60 @@ reply_text_of (reply.NotMet found) = codes "notmet " ++ found_text_of found
 reply_text_of reply.Fault = codes "fault"
 reply_text_of reply.NoMemory = codes "nomemory"
 
----- lines
+---- events
+
+abbrev pub take_text_of : ℕ → List ℕ → Option Answer → List ℕ
+take_text_of client text given = codes "take " ++ decimal client ++ codes " " ++ given_text_of given ++ codes " : " ++ text
+
+-- who asked which store for what
+abbrev pub asked_text_of : ℕ → List ℕ → Request → List ℕ
+asked_text_of client store request = codes "call " ++ decimal client ++ codes " " ++ store ++ codes " " ++ request_text_of request
+
+-- what became of a call, what the client was handed, and the answer that came of it
+abbrev pub came_text_of : How → Reply → Option Answer → List ℕ
+came_text_of how reply given = codes " " ++ how_text_of how ++ codes " " ++ reply_text_of reply ++ codes " " ++ given_text_of given
 
 -- the line of an event, but for its number
 abbrev pub event_text_of : Event → List ℕ
-event_text_of (event.Take client text given) = codes "take " ++ decimal client ++ codes " " ++ given_text_of given ++ codes " : " ++ text
-event_text_of (event.Call client store request how reply given) =
-    codes "call " ++ decimal client ++ codes " " ++ store ++ codes " " ++ request_text_of request ++ codes " " ++ how_text_of how ++ codes " " ++ reply_text_of reply ++ codes " " ++ given_text_of given
+event_text_of (event.Take client text given) = take_text_of client text given
+event_text_of (event.Call client store request how reply given) = asked_text_of client store request ++ came_text_of how reply given
 event_text_of (event.Stop client) = codes "stop " ++ decimal client
 event_text_of (event.Clock moment) = codes "clock " ++ signed_decimal moment
 event_text_of (event.Idle client) = codes "idle " ++ decimal client
 
--- the events' lines, the first with this number
+---- lines
+
+abbrev pub event_line : ℕ → Event → List ℕ
+event_line n e = decimal n ++ codes " " ++ event_text_of e ++ codes "\n"
+
+-- the lines of events, the first with this number
 abbrev pub event_lines : ℕ → List Event → List ℕ
 event_lines n [] = []
-event_lines n (e ∷ es) = (decimal n ++ codes " " ++ event_text_of e ++ codes "\n") ++ event_lines (n + 1) es
+event_lines n (e ∷ es) = event_line n e ++ event_lines (n + 1) es
 
--- a recorded transaction, with the number of the event that gives its place
+-- a recorded transaction, and the number of the event that gives its place in the order
 abbrev pub point_line : Point → List ℕ
 point_line p = id_text p.id.0 ++ codes " " ++ decimal p.event ++ codes "\n"
 
--- a table and its rows
+abbrev pub row_line : List Value → List ℕ
+row_line row = row_text_of row ++ codes "\n"
+
+-- a table's name and how many rows it has, then its rows
 abbrev pub table_lines : TableDump → List ℕ
-table_lines t = codes "table " ++ table_text t.name ++ codes " " ++ decimal (length t.rows) ++ codes "\n" ++ flat_map (λ row. row_text_of row ++ codes "\n") t.rows
+table_lines t = codes "table " ++ table_text t.name ++ codes " " ++ decimal (length t.rows) ++ codes "\n" ++ flat_map row_line t.rows
+
+-- how many follow
+abbrev pub heading : List ℕ → ℕ → List ℕ
+heading word count = word ++ codes " " ++ decimal count ++ codes "\n"
+
+abbrev pub events_text_of : List Event → List ℕ
+events_text_of es = heading (codes "events") (length es) ++ event_lines 1 es
+
+abbrev pub order_text_of : List Point → List ℕ
+order_text_of ps = heading (codes "order") (length ps) ++ flat_map point_line ps
+
+abbrev pub tables_text_of : List TableDump → List ℕ
+tables_text_of ts = heading (codes "tables") (length ts) ++ flat_map table_lines ts
 
 abbrev pub report_text_of : Outcome → List ℕ
-report_text_of o =
-    codes "scalardb report 1\n"
-    ++ codes "events " ++ decimal (length o.events) ++ codes "\n" ++ event_lines 1 o.events
-    ++ codes "order " ++ decimal (length o.order) ++ codes "\n" ++ flat_map point_line o.order
-    ++ codes "tables " ++ decimal (length o.tables) ++ codes "\n" ++ flat_map table_lines o.tables
-    ++ codes "end\n"
+report_text_of o = codes "scalardb report 1\n" ++ events_text_of o.events ++ order_text_of o.order ++ tables_text_of o.tables ++ codes "end\n"

@@ -1,5 +1,5 @@
 -- The texts of values, keys, spans, columns, records, rows and answers.
-use Rattle.std.specs.Prelude.{ℕ, Bool, true, false, ◌==◌, if◌then◌else◌, List, [], ◌∷◌, ◌++◌, length, codes, Option, None, Some, decimal}
+use Rattle.std.specs.Prelude.{ℕ, ℤ, Bool, true, false, ◌==◌, if◌then◌else◌, List, [], ◌∷◌, ◌++◌, length, codes, Option, None, Some, decimal}
 use Rattle.std.specs.List.{flat_map, join_by}
 use Rattle.std.specs.Fmt.{signed_decimal}
 use Rattle.hex.specs.Hex.{encode_upper}
@@ -9,10 +9,12 @@ use Rattle.sdb_types.specs.declared.key.Key.{Key}
 use Rattle.sdb_types.specs.declared.pair.Pair.{Pair}
 use Rattle.sdb_types.specs.declared.record.Record.{Record}
 use Rattle.sdb_types.specs.declared.record.Span.{Span}
+use Rattle.sdb_types.specs.declared.txid.TxId.{TxId}
 use Rattle.sdb_types.specs.declared.value.Value.{Value}
 use Rattle.sdb_types.specs.declared.value.Value.TheVariants as value
 use Rattle.sdb_model.specs.declared.answer.Answer.{Answer}
 use Rattle.sdb_model.specs.declared.answer.Answer.TheVariants as answer
+use Rattle.sdb_model.specs.declared.answer.Refusal.{Refusal}
 
 ---- values
 
@@ -88,19 +90,29 @@ found_columns_text_of (Some r) = columns_text_of r.columns
 abbrev pub rows_text_of : List (List Value) → List ℕ
 rows_text_of rows = decimal (length rows) ++ flat_map (λ row. codes " " ++ row_text_of row) rows
 
+-- a key whose record is undecided, the transaction that prepared it, and when
+abbrev pub busy_text_of : Key → TxId → ℤ → List ℕ
+busy_text_of key id at = codes "busy " ++ key_text_of key ++ codes " " ++ id_text id.0 ++ codes " " ++ signed_decimal at
+
+abbrev pub conflict_text_of : Key → Option Record → List ℕ
+conflict_text_of key found = codes "conflict " ++ key_text_of key ++ codes " " ++ found_columns_text_of found
+
+abbrev pub refusal_text_of : Refusal → List ℕ
+refusal_text_of refusal = codes "refused " ++ decimal refusal.kind ++ codes " " ++ decimal refusal.place
+
 abbrev pub answer_text_of : Answer → List ℕ
 answer_text_of (answer.Rows rows) = codes "rows " ++ rows_text_of rows
 answer_text_of (answer.Count n) = codes "count " ++ decimal n
 answer_text_of answer.Done = codes "done"
 answer_text_of answer.Committed = codes "committed"
 answer_text_of (answer.Duplicate key) = codes "duplicate " ++ key_text_of key
-answer_text_of (answer.Busy key id at) = codes "busy " ++ key_text_of key ++ codes " " ++ id_text id.0 ++ codes " " ++ signed_decimal at
-answer_text_of (answer.Conflict key found) = codes "conflict " ++ key_text_of key ++ codes " " ++ found_columns_text_of found
+answer_text_of (answer.Busy key id at) = busy_text_of key id at
+answer_text_of (answer.Conflict key found) = conflict_text_of key found
 answer_text_of (answer.Expired id) = codes "expired " ++ id_text id.0
 answer_text_of answer.Faulted = codes "faulted"
 answer_text_of (answer.Unknown id) = codes "unknown " ++ id_text id.0
 answer_text_of (answer.BadRecord key) = codes "badrecord " ++ key_text_of key
-answer_text_of (answer.Refused r) = codes "refused " ++ decimal r.kind ++ codes " " ++ decimal r.place
+answer_text_of (answer.Refused refusal) = refusal_text_of refusal
 answer_text_of answer.Vacuuming = codes "vacuuming"
 answer_text_of answer.OpenTransactions = codes "opentransactions"
 answer_text_of answer.NoMemory = codes "nomemory"
