@@ -3,4 +3,4 @@ pub mod Within
 pub mod IdLemmas
 pub mod ColumnLaws
 pub mod Fine
-pub mod Prepared
+pub mod PreparedLaws

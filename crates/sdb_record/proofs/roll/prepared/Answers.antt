@@ -2,7 +2,7 @@ use Rattle.std.proofs.Common.{◌≡◌, ◌∙◌, ap, sym, true, subst, List, 
 use Rattle.std.specs.Option.{option_copied}
 use Rattle.sdb_types.specs.declared.pair.Pair.{Pair}
 use Rattle.sdb_record.specs.Parts.{are_short}
-use Rattle.sdb_record.proofs.Prepared.{base-short, as_prepared}
+use Rattle.sdb_record.proofs.PreparedLaws.{base-short, as_prepared}
 use Rattle.sdb_record.proofs.roll.prepared.Goals as goal
 
 pub row_with_base-requires-clause-short : goal.row_with_base-requires-clause-short
