@@ -2,6 +2,11 @@
 use Rattle.std.proofs.Common.{◌≡◌, ◌≢◌, ℕ, List, [], ◌∷◌, ◌++◌, drop, length, Bool, true, false, eqb, cond, refl, sym, ap, ◌∙◌, subst, arith, Option, Some, None, IfSome, MatchOption}
 use Rattle.std.specs.Prelude.{if◌then◌else◌, is_some}
 use Rattle.std.proofs.lemmas.Bool.Decides.{Decides-eqb}
+use Rattle.std.proofs.Common.{◌+◌, ◌≤◌, length-append}
+use Rattle.std.specs.Prelude.{nat_le}
+use Rattle.std.proofs.lemmas.Bool.Decides.{nat_tests}
+use Rattle.sdb_types.specs.Identifier.{is_identifier, is_name}
+use Rattle.sdb_types.proofs.Bools.{and_first, and_both}
 use Rattle.std.specs.Borrow.{Bor}
 use Rattle.std.specs.Option.{option_copied}
 use Rattle.std.specs.Str.Pattern.{FindsTextPrefix, StripsPrefix}
@@ -60,3 +65,17 @@ same_name-true a b h = name_exact a b (equal_of (name_cmp a b) h)
 
 pub same_name-itself : (a : List ℕ) → same_name a a ≡ true
 same_name-itself a = ap is_eq (tied_itself name_total a)
+
+pub nat_at_most : (m n : ℕ) → nat_le m n ≡ true → m ≤ n
+nat_at_most m n h = grind (arith, nat_tests)
+
+pub at_most_nat : (m n : ℕ) → m ≤ n → nat_le m n ≡ true
+at_most_nat m n h = grind (arith, nat_tests)
+
+-- what a name of a before image keeps is a name, where it is an identifier
+pub kept-is_name : (text name : List ℕ) → is_name text ≡ true → base_name text ≡ Some name → is_identifier name ≡ true → is_name name ≡ true
+kept-is_name text name h k i =
+    let e : text ≡ before_name name = base_name-is text name k in
+    let n : length text ≤ 71 = nat_at_most (length text) 71 (and_first (nat_le (length text) 71) (is_identifier text) h) in
+    let m : length text ≡ 7 + length name = ap length e ∙ length-append before_prefix name in
+    and_both (nat_le (length name) 71) (is_identifier name) (at_most_nat (length name) 71 (omega arith)) i

@@ -1,7 +1,7 @@
 -- The metadata of a transactional record: nine checks in their order, and the first column that fails.
 use Rattle.std.specs.Prelude.{ℕ, ℤ, pos, int_le, Bool, true, false, not, ◌&&◌, ◌||◌, if◌then◌else◌, nat_lt, List, length, Option, Some, None, Result, Ok, Err, is_ok, find}
 use Rattle.std.specs.Ordering.{int_eq}
-use Rattle.std.specs.List.{list_any}
+use Rattle.std.specs.List.{list_any, list_all}
 use Rattle.sdb_types.specs.declared.pair.Pair.{Pair}
 use Rattle.sdb_types.specs.declared.value.Value.{Value}
 use Rattle.sdb_types.specs.declared.value.Value.TheVariants as value
@@ -157,6 +157,10 @@ kept_badly (Some name) = not (is_identifier name)
 -- a column of a before image whose name keeps no identifier
 abbrev pub is_misnamed : Pair → Bool
 is_misnamed p = kept_badly (base_name p.name)
+
+-- whether each column of a before image keeps an identifier
+abbrev pub keep_identifiers : List Pair → Bool
+keep_identifiers ps = list_all (λ p. not (is_misnamed p)) ps
 
 -- a before image keeps a committed record; a column of it that fails is named as it is kept
 abbrev pub with_before : Meta → Result Meta (List ℕ) → Result Meta (List ℕ)

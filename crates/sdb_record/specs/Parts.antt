@@ -1,5 +1,5 @@
 -- The parts of a record's columns: the user's, and the before image.
-use Rattle.std.specs.Prelude.{Bool, not, ◌&&◌, nat_le, List, [], ◌∷◌, length, filter, Option, Some, None}
+use Rattle.std.specs.Prelude.{ℕ, Bool, not, ◌&&◌, nat_le, List, [], ◌∷◌, length, filter, Option, Some, None}
 use Rattle.std.specs.Option.{option_map}
 use Rattle.std.specs.List.{list_all, filter_map}
 use Rattle.sdb_types.specs.declared.pair.Pair.{Pair}
@@ -50,3 +50,7 @@ record_with key (p ∷ ps) = Some (record { key = key; columns = p ∷ ps })
 -- the record that a before image keeps, or none where there is no before image
 unfoldable pub before_record : Record → Option Record
 before_record r = record_with r.key (before_part r.columns)
+
+-- each name leaves room for the prefix
+abbrev pub are_short : List Pair → Bool
+are_short ps = list_all (λ p. nat_le (length p.name) 64) ps

@@ -1,5 +1,5 @@
 -- What a write leaves unresolved, what that is rolled to, and the committed image of a record.
-use Rattle.std.specs.Prelude.{◌≡◌, ℤ, pos, ◌+ℤ◌, Bool, true, false, if◌then◌else◌, List, [], ◌∷◌, map, Option, Some, None, IfSome}
+use Rattle.std.specs.Prelude.{◌≡◌, ℤ, pos, ◌+ℤ◌, Bool, true, false, if◌then◌else◌, List, [], ◌∷◌, ◌++◌, map, Option, Some, None, IfSome}
 use Rattle.std.specs.Int.{int_min}
 use Rattle.sdb_types.specs.declared.pair.Pair.{Pair}
 use Rattle.sdb_types.specs.declared.value.Value.{Value}
@@ -47,14 +47,19 @@ next_version_of _ = pos 1
 abbrev pub next_version : Option Record → ℤ
 next_version base = next_version_of (column (base_columns base) tx_version)
 
+-- who wrote a record, and its state
+abbrev pub writer_columns : TxId → State → List Pair
+writer_columns id state =
+    record { name = tx_id; value = value.Text (id_text id.0) } ∷ record { name = tx_state; value = value.Int (state_number state) } ∷ []
+
+-- how often the row was written, and when this time
+abbrev pub age_columns : ℤ → ℤ → List Pair
+age_columns version prepared_at =
+    record { name = tx_version; value = value.Int version } ∷ record { name = tx_prepared_at; value = value.BigInt prepared_at } ∷ []
+
 -- the metadata of what a transaction leaves unresolved
 abbrev pub new_meta : Write → TxId → ℤ → List Pair
-new_meta w id now =
-    record { name = tx_id; value = value.Text (id_text id.0) }
-    ∷ record { name = tx_state; value = value.Int (state_number (state_of_change w.change)) }
-    ∷ record { name = tx_version; value = value.Int (next_version w.base) }
-    ∷ record { name = tx_prepared_at; value = value.BigInt now }
-    ∷ []
+new_meta w id now = writer_columns id (state_of_change w.change) ++ age_columns (next_version w.base) now
 
 -- The record that a transaction puts for a write: the new row, each column of the base as it is kept, and the metadata.
 unfoldable pub prepared_record : Write → TxId → ℤ → Record
@@ -81,11 +86,14 @@ abbrev pub tombstone_mark : Bool → List Pair
 tombstone_mark true = record { name = tx_tombstone; value = value.Bool true } ∷ []
 tombstone_mark false = []
 
+abbrev pub forward_columns : List Pair → ℤ → List Pair
+forward_columns ps created_at =
+    with_columns (tombstone_mark (is_in state.Deleted ps)) (with_columns (record { name = tx_state; value = value.Int (state_number state.Committed) } ∷ record { name = tx_committed_at; value = value.BigInt created_at } ∷ []) (own_columns ps))
+
 -- An unresolved record rolled forward: without its before image, in state 3, committed at the moment of the coordinator's
 -- row, and a tombstone where it was in state 2.
 unfoldable pub forward_record : Record → ℤ → Record
-forward_record r created_at =
-    record { key = r.key; columns = with_columns (tombstone_mark (is_in state.Deleted r.columns)) (with_columns (record { name = tx_state; value = value.Int (state_number state.Committed) } ∷ record { name = tx_committed_at; value = value.BigInt created_at } ∷ []) (own_columns r.columns)) }
+forward_record r created_at = record { key = r.key; columns = forward_columns r.columns created_at }
 
 abbrev pub back_to : Key → Option Record → Back
 back_to key None = back.Remove key

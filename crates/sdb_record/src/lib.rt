@@ -12,6 +12,6 @@ mod write;
 pub use access::{Access, Image, Images, Read, Reads, Scan, Scans};
 pub use coordinator::{Decided, Decision};
 pub use meta::{Meta, MetaRefused, meta_of};
-pub use roll::Back;
+pub use roll::{Back, committed_image, prepared, rolled_back, rolled_forward};
 pub use row::{coordinator_key, coordinator_row, decision_of, expired};
 pub use write::{Change, Changes, Keyed, Write, Writes};

@@ -1,9 +1,306 @@
 //! What a write leaves unresolved, and what that is rolled to.
-use sdb_types::{Key, Record};
+ghost use Rattle.std.specs.Prelude.{◌≡◌, ◌≤◌, ◌++◌, [], ◌∷◌, map, length, true, IfOk, OnOk};
+ghost use Rattle.std.specs.Option.{option_copied};
+ghost use Rattle.sdb_types.specs.Columns.{are_columns, with_column};
+ghost use Rattle.sdb_types.specs.Contents.{state_number};
+ghost use Rattle.sdb_record.specs.Names.{before_name};
+ghost use Rattle.sdb_record.specs.Meta.{keep_identifiers, is_in, is_unresolved, is_taken};
+ghost use Rattle.sdb_record.specs.Parts.{with_columns, before_pair, own_columns, before_part, before_record, are_user_columns, are_short};
+ghost use Rattle.sdb_record.specs.Rolls.{prepared_record, forward_record, forward_columns, back_of, image_of, next_version, next_version_of, new_columns, new_meta, writer_columns, age_columns, base_columns, state_of_change, IsWrite};
+ghost use Rattle.sdb_types.specs.Identifier.{is_name};
+
+use crate::coordinator::{Decided, Decision};
+use crate::part::{find_text, is_before_name, kept_name, known_name};
+use crate::write::{Change, Write};
+use sdb_types::{Columns, Duplicate, Key, Name, NoMemory, Pair, Record, State, TxId, Value};
+use std::alloc::Global;
 
 /// What undoes an unresolved record: putting the record that stood before, or removing it.
 #[derive(Debug, Drop, PartialEq, Eq)]
 pub enum Back {
     Put(Record),
     Remove(Key),
+}
+
+// Sets a copy of each column, in order.
+fn lay(columns: &mut Columns, pairs: &[Pair]) -> Result<(), NoMemory>
+    ensures { OnOk result (columns.new ≡ with_columns pairs.now columns.old) }
+{
+    for pair in pairs {
+        columns.set(pair.name.copy()?, pair.value.copy()?)?;
+    }
+    Ok(())
+}
+
+// Sets a copy of each column outside the before image.
+fn lay_own(columns: &mut Columns, pairs: &[Pair]) -> Result<(), NoMemory>
+    ensures { OnOk result (columns.new ≡ with_columns (own_columns pairs.now) columns.old) }
+{
+    for pair in pairs {
+        if !is_before_name(pair.name.as_str()) {
+            columns.set(pair.name.copy()?, pair.value.copy()?)?;
+        }
+    }
+    Ok(())
+}
+
+// Sets each column of the base that is kept.
+fn lay_base(alloc: Global, columns: &mut Columns, pairs: &[Pair]) -> Result<(), NoMemory>
+    requires { keep_identifiers pairs.now ≡ true }
+    ensures { OnOk result (columns.new ≡ with_columns (before_part pairs.now) columns.old) }
+{
+    for pair in pairs {
+        if let Some(name) = kept_name(pair.name.as_str()) {
+            columns.set(known_name(alloc, name)?, pair.value.copy()?)?;
+        }
+    }
+    Ok(())
+}
+
+// The columns outside the before image.
+fn own_part(alloc: Global, columns: &Columns) -> Result<Columns, NoMemory>
+    ensures { IfOk result (λ own. own ≡ own_columns columns.now) }
+{
+    let _length = columns.len();
+    let mut own = Columns::new(alloc);
+    lay_own(&mut own, columns.pairs())?;
+    Ok(own)
+}
+
+// The columns of the base that are kept.
+fn base_part(alloc: Global, columns: &Columns) -> Result<Columns, NoMemory>
+    requires { keep_identifiers columns.now ≡ true }
+    ensures { IfOk result (λ base. base ≡ before_part columns.now) }
+{
+    let _length = columns.len();
+    let mut base = Columns::new(alloc);
+    lay_base(alloc, &mut base, columns.pairs())?;
+    Ok(base)
+}
+
+fn state_value(state: State) -> i32
+    ensures { result ≡ state_number state }
+{
+    match state {
+        State::Prepared => 1,
+        State::Deleted => 2,
+        State::Committed => 3,
+        State::Aborted => 4,
+    }
+}
+
+fn has_state(columns: &Columns, state: State) -> bool
+    ensures { result ≡ is_in state columns.now }
+{
+    match find_text(columns.pairs(), "tx_state") {
+        Some(value) => *value == Value::Int(state_value(state)),
+        None => false,
+    }
+}
+
+// The name under which a column of the base is kept.
+fn kept_as(alloc: Global, name: &Name) -> Result<Name, NoMemory>
+    requires { length name.now ≤ 64 }
+    ensures { IfOk result (λ kept. kept ≡ before_name name.now) }
+{
+    let mut text = String::from_str(alloc, "before_")?;
+    text.push_str(name.as_str())?;
+    known_name(alloc, text.as_str())
+}
+
+// Sets each column of the base, as it is kept.
+fn lay_kept(alloc: Global, columns: &mut Columns, base: &[Pair]) -> Result<(), NoMemory>
+    requires { are_short base.now ≡ true }
+    ensures { OnOk result (columns.new ≡ with_columns (map before_pair base.now) columns.old) }
+{
+    for pair in base {
+        columns.set(kept_as(alloc, &pair.name)?, pair.value.copy()?)?;
+    }
+    Ok(())
+}
+
+// How many columns stand before those of a before image.
+fn kept_place(row: &[Pair]) -> usize
+    ensures { result ≤ length row.now }
+{
+    row.iter()
+        .take_while(|pair| pair.name.as_str().cmp("before_").is_lt())
+        .count()
+}
+
+// The columns of a row with those of the base, as they are kept: each is set at the end.
+fn row_with_base(alloc: Global, row: &[Pair], base: &[Pair]) -> Result<Columns, NoMemory>
+    requires row { are_columns row.now ≡ true }
+    requires user { are_user_columns row.now ≡ true }
+    requires base { are_columns base.now ≡ true }
+    requires short { are_short base.now ≡ true }
+    ensures { IfOk result (λ columns. columns ≡ with_columns (map before_pair base.now) row.now) }
+{
+    let (below, above) = row.split_at(kept_place(row));
+    let mut columns = Columns::new(alloc);
+    lay(&mut columns, below)?;
+    lay_kept(alloc, &mut columns, base)?;
+    lay(&mut columns, above)?;
+    Ok(columns)
+}
+
+fn row_pairs(change: &Change) -> &[Pair]
+    ensures pairs { result.now ≡ new_columns change.now }
+    ensures columns { are_columns result.now ≡ true }
+{
+    match change {
+        Change::Row(columns) => {
+            let _length = columns.len();
+            columns.pairs()
+        }
+        Change::Delete => &[],
+    }
+}
+
+fn base_pairs(base: &Option<Record>) -> &[Pair]
+    ensures pairs { result.now ≡ base_columns base.now }
+    ensures columns { are_columns result.now ≡ true }
+{
+    match base {
+        Some(rec) => {
+            let _length = rec.columns.len();
+            rec.columns.pairs()
+        }
+        None => &[],
+    }
+}
+
+fn version_above(version: Option<&Value>) -> i32
+    ensures { result ≡ next_version_of (option_copied version.entry) }
+{
+    match version {
+        Some(Value::Int(i32::MAX)) => i32::MAX,
+        Some(Value::Int(n)) => *n + 1,
+        _ => 1,
+    }
+}
+
+fn state_left(change: &Change) -> State
+    ensures { result ≡ state_of_change change.now }
+{
+    match change {
+        Change::Row(_) => State::Prepared,
+        Change::Delete => State::Deleted,
+    }
+}
+
+fn set_known(alloc: Global, columns: &mut Columns, name: &str, value: Value) -> Result<(), NoMemory>
+    requires { is_name name.now ≡ true }
+    ensures { OnOk result (columns.new ≡ with_column (record { name = name.now; value = value }) columns.old) }
+{
+    columns.set(known_name(alloc, name)?, value)
+}
+
+// Says who wrote a record, and in which state it is.
+fn set_writer(alloc: Global, columns: &mut Columns, id: TxId, state: State) -> Result<(), NoMemory>
+    ensures { OnOk result (columns.new ≡ with_columns (writer_columns id state) columns.old) }
+{
+    set_known(alloc, columns, "tx_id", Value::Text(id.text(alloc)?))?;
+    set_known(alloc, columns, "tx_state", Value::Int(state_value(state)))?;
+    Ok(())
+}
+
+fn set_age(alloc: Global, columns: &mut Columns, version: i32, now: i64) -> Result<(), NoMemory>
+    ensures { OnOk result (columns.new ≡ with_columns (age_columns version now) columns.old) }
+{
+    set_known(alloc, columns, "tx_version", Value::Int(version))?;
+    set_known(alloc, columns, "tx_prepared_at", Value::BigInt(now))?;
+    Ok(())
+}
+
+/// The record that a transaction puts for a write at a moment from 0 to 2^53: the new row, each column of the base as it
+/// is kept, and the metadata.
+#[tactic(auto, unfolding(crate::specs::Rolls::prepared_record))]
+pub fn prepared(alloc: Global, write: &Write, id: TxId, now: i64) -> Result<Record, NoMemory>
+    requires { IsWrite write.now }
+    ensures { IfOk result (λ rec. rec ≡ prepared_record write.now id now) }
+{
+    let base = base_pairs(&write.base);
+    let version = version_above(find_text(base, "tx_version"));
+    let mut columns = row_with_base(alloc, row_pairs(&write.change), base)?;
+    set_writer(alloc, &mut columns, id, state_left(&write.change))?;
+    set_age(alloc, &mut columns, version, now)?;
+    Ok(Record {
+        key: write.key.copy()?,
+        columns,
+    })
+}
+
+// The columns of an unresolved record that is rolled forward.
+fn forward_part(alloc: Global, columns: &Columns, created_at: i64) -> Result<Columns, NoMemory>
+    ensures { IfOk result (λ forward. forward ≡ forward_columns columns.now created_at) }
+{
+    let mut forward = own_part(alloc, columns)?;
+    set_known(alloc, &mut forward, "tx_state", Value::Int(3))?;
+    set_known(alloc, &mut forward, "tx_committed_at", Value::BigInt(created_at))?;
+    if has_state(columns, State::Deleted) {
+        set_known(alloc, &mut forward, "tx_tombstone", Value::Bool(true))?;
+    }
+    Ok(forward)
+}
+
+/// An unresolved record rolled forward: without its before image, in state 3, committed at the moment of the
+/// coordinator's row, and a tombstone where it was in state 2.
+#[tactic(auto, unfolding(crate::specs::Rolls::forward_record))]
+pub fn rolled_forward(alloc: Global, rec: &Record, created_at: i64) -> Result<Record, NoMemory>
+    ensures { IfOk result (λ forward. forward ≡ forward_record rec.now created_at) }
+{
+    Ok(Record {
+        key: rec.key.copy()?,
+        columns: forward_part(alloc, &rec.columns, created_at)?,
+    })
+}
+
+// The record that a before image keeps.
+#[tactic(auto, unfolding(crate::specs::Parts::before_record))]
+fn kept_record(alloc: Global, rec: &Record) -> Result<Option<Record>, NoMemory>
+    requires { keep_identifiers rec.now.columns ≡ true }
+    ensures { IfOk result (λ base. base ≡ before_record rec.now) }
+{
+    let columns = base_part(alloc, &rec.columns)?;
+    if columns.len() == 0 {
+        return Ok(None);
+    }
+    Ok(Some(Record {
+        key: rec.key.copy()?,
+        columns,
+    }))
+}
+
+/// What undoes an unresolved record: its before image is put, or it is removed where it has none.
+pub fn rolled_back(alloc: Global, rec: &Record) -> Result<Back, NoMemory>
+    requires { is_unresolved rec.now ≡ true }
+    ensures { IfOk result (λ back. back ≡ back_of rec.now) }
+{
+    match kept_record(alloc, rec)? {
+        Some(base) => Ok(Back::Put(base)),
+        None => Ok(Back::Remove(rec.key.copy()?)),
+    }
+}
+
+/// The committed record that a record stands for, under the coordinator's row of its transaction. A tombstone stands for
+/// itself.
+pub fn committed_image(
+    alloc: Global,
+    rec: &Record,
+    decided: Option<&Decided>,
+) -> Result<Option<Record>, NoMemory>
+    requires { is_taken rec.now ≡ true }
+    ensures { IfOk result (λ image. image ≡ image_of rec.now (option_copied decided.entry)) }
+{
+    if has_state(&rec.columns, State::Committed) {
+        return Ok(Some(rec.copy()?));
+    }
+    match decided {
+        Some(Decided {
+            decision: Decision::Committed,
+            created_at,
+        }) => Ok(Some(rolled_forward(alloc, rec, *created_at)?)),
+        _ => kept_record(alloc, rec),
+    }
 }
