@@ -1,0 +1,4 @@
+//! The top call of the program.
+#![tactic(auto)]
+
+pub fn placeholder() {}

@@ -1,0 +1,6 @@
+//! One transaction: its reads, its writes and its COMMIT.
+#![tactic(auto)]
+
+mod txn;
+
+pub use txn::{Progress, Requests, Stage, Txn};
