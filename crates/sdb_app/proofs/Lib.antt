@@ -1,1 +1,2 @@
 pub mod FirstRun
+pub mod FirstTold
