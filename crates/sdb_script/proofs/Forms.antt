@@ -1,6 +1,6 @@
 -- The lines that a draft has taken begin a script, and a line that may not come next begins none.
 use Rattle.std.proofs.Common.{◌≡◌, ◌⊎◌, inl, inr, ltb, ℕ, zero, suc, ◌+◌, ◌<◌, ◌≤◌, ◌^◌, Bool, true, false, ◌&&◌, ◌==◌, ◌++◌, List, [], ◌∷◌, length, take, drop, Option, Some, None, Result, Ok, Err, refl, sym, ap, subst, ◌∙◌, append_assoc, arith, ℤ, pos, negsuc}
-use Rattle.std.specs.Prelude.{codes, map, int_le, nat_le}
+use Rattle.std.specs.Prelude.{codes, map, int_le, nat_le, IsSome, is_some}
 use Rattle.std.specs.Option.{option_map, option_and_then}
 use Rattle.std.specs.Fmt.{signed_decimal}
 use Rattle.std.specs.Str.{bytes_eq}
@@ -15,6 +15,8 @@ use Rattle.sdb_model.specs.declared.script.ScriptClient.{ScriptClient}
 use Rattle.sdb_model.specs.Reading.{statement_text_of}
 use Rattle.sdb_model.specs.Rows.{fits_int}
 use Rattle.sdb_model.specs.Form.{schema_line, client_line, statement_line, insert_of, is_client_name, form_lines, form_script, client_script, AreBuilt, IsForm, BeginsForm, IsBadNext, IsFirstBad, lines_of, most_bytes, IsScriptText, IsNotBuilt}
+use Rattle.sdb_script.specs.declared.draft.Form.{Form}
+use Rattle.sdb_script.specs.Inserts.{IsInsertForm}
 use Rattle.sdb_script.specs.declared.draft.Stage.{Stage}
 use Rattle.sdb_script.specs.declared.draft.Stage.TheVariants as stage
 use Rattle.sdb_script.specs.Scan.{after, number_at}
@@ -81,6 +83,13 @@ named_at stage.Schema name = None
 named_at stage.Client name = None
 named_at _ name = Some name
 
+abbrev pub inserted_at : Stage → ℤ × ℤ → Option (ℤ × ℤ)
+inserted_at stage.Schema p = None
+inserted_at stage.Client p = None
+inserted_at stage.Begin p = None
+inserted_at stage.Insert p = None
+inserted_at _ p = Some p
+
 -- The lines are the first ones of a script, and the draft has their name and texts.
 pub record Stands (front : List (List ℕ)) (d : Drafted) : Type 0 where
   pub name : List ℕ
@@ -92,9 +101,10 @@ pub record Stands (front : List (List ℕ)) (d : Drafted) : Type 0 where
   pub lines : front ≡ take (lines_at d.stage) (form_lines name (statements_of n m))
   pub texts : d.texts ≡ take (texts_at d.stage) (texts_of n m)
   pub named : d.name ≡ named_at d.stage name
+  pub inserted : d.numbers ≡ inserted_at d.stage (n, m)
 
 pub stands_first : Stands [] first_draft
-stands_first = record { name = codes "a"; n = pos 0; m = pos 0; is_named = refl; fits_n = refl; fits_m = refl; lines = refl; texts = refl; named = refl }
+stands_first = record { name = codes "a"; n = pos 0; m = pos 0; is_named = refl; fits_n = refl; fits_m = refl; lines = refl; texts = refl; named = refl; inserted = refl }
 
 take_then_drop : (s : Stage) (name : List ℕ) (n m : ℤ) → take (lines_at s) (form_lines name (statements_of n m)) ++ drop (lines_at s) (form_lines name (statements_of n m)) ≡ form_lines name (statements_of n m)
 take_then_drop stage.Schema name n m = refl
@@ -178,9 +188,9 @@ insert_is line p h =
     let b = pair_is a.0.0 a.0.1 p line a.2 in
     (subst (λ (q : ℤ × ℤ). fits_int q.0 ≡ true) b.3 b.0, subst (λ (q : ℤ × ℤ). fits_int q.1 ≡ true) b.3 b.1, subst (λ (q : ℤ × ℤ). line ≡ statement_line (insert_of q.0 q.1)) b.3 b.2)
 
-open_step : (front : List (List ℕ)) (line : List ℕ) (s : Stage) (o : Option (List ℕ)) (ts : List (List ℕ)) (e : Drafted)
-    → Stands front (record { stage = s; name = o; texts = ts }) → drafted_at s (record { stage = s; name = o; texts = ts }) line ≡ Some e → Stands (front ++ line ∷ []) e
-open_step front line stage.Schema o ts e st h =
+open_step : (front : List (List ℕ)) (line : List ℕ) (s : Stage) (o : Option (List ℕ)) (ts : List (List ℕ)) (ps : Option (ℤ × ℤ)) (e : Drafted)
+    → Stands front (record { stage = s; name = o; texts = ts; numbers = ps }) → drafted_at s (record { stage = s; name = o; texts = ts; numbers = ps }) line ≡ Some e → Stands (front ++ line ∷ []) e
+open_step front line stage.Schema o ts ps e st h =
     let a = if_line_is line schema_line _ e h in
     subst (λ (x : Drafted). Stands (front ++ line ∷ []) x) a.1
     (record {
@@ -193,8 +203,9 @@ open_step front line stage.Schema o ts e st h =
       lines = rw (st.lines, a.0) refl;
       texts = st.texts;
       named = st.named;
+      inserted = st.inserted;
     })
-open_step front line stage.Client o ts e st h =
+open_step front line stage.Client o ts ps e st h =
     let a = map_is _ (client_in line) e h in
     let b = client_is line a.0 a.1 in
     subst (λ (x : Drafted). Stands (front ++ line ∷ []) x) a.2
@@ -207,9 +218,9 @@ open_step front line stage.Client o ts e st h =
       fits_m = st.fits_m;
       lines = ap (λ (x : List (List ℕ)). x ++ line ∷ []) st.lines ∙ ap (λ (x : List ℕ). schema_line ∷ x ∷ []) b.0;
       texts = st.texts;
-      named = refl;
+      named = refl; inserted = st.inserted;
     })
-open_step front line stage.Begin o ts e st h =
+open_step front line stage.Begin o ts ps e st h =
     let a = if_line_is line (statement_line statement.Begin) _ e h in
     subst (λ (x : Drafted). Stands (front ++ line ∷ []) x) a.1
     (record {
@@ -222,8 +233,9 @@ open_step front line stage.Begin o ts e st h =
       lines = rw (st.lines, a.0) refl;
       texts = rw st.texts refl;
       named = st.named;
+      inserted = st.inserted;
     })
-open_step front line stage.Insert o ts e st h =
+open_step front line stage.Insert o ts ps e st h =
     let a = map_is _ (insert_in line) e h in
     let b = insert_is line a.0 a.1 in
     subst (λ (x : Drafted). Stands (front ++ line ∷ []) x) a.2
@@ -236,9 +248,9 @@ open_step front line stage.Insert o ts e st h =
       fits_m = b.1;
       lines = ap (λ (x : List (List ℕ)). x ++ line ∷ []) st.lines ∙ ap (λ (x : List ℕ). schema_line ∷ client_line st.name ∷ statement_line statement.Begin ∷ x ∷ []) b.2;
       texts = ap (λ (x : List (List ℕ)). x ++ statement_text_of (insert_of a.0.0 a.0.1) ∷ []) st.texts;
-      named = st.named;
+      named = st.named; inserted = refl;
     })
-open_step front line stage.Commit o ts e st h =
+open_step front line stage.Commit o ts ps e st h =
     let a = if_line_is line (statement_line statement.Commit) _ e h in
     subst (λ (x : Drafted). Stands (front ++ line ∷ []) x) a.1
     (record {
@@ -251,8 +263,9 @@ open_step front line stage.Commit o ts e st h =
       lines = rw (st.lines, a.0) refl;
       texts = rw st.texts refl;
       named = st.named;
+      inserted = st.inserted;
     })
-open_step front line stage.Run o ts e st h =
+open_step front line stage.Run o ts ps e st h =
     let a = if_line_is line (codes "run") _ e h in
     subst (λ (x : Drafted). Stands (front ++ line ∷ []) x) a.1
     (record {
@@ -265,8 +278,9 @@ open_step front line stage.Run o ts e st h =
       lines = rw (st.lines, a.0) refl;
       texts = st.texts;
       named = st.named;
+      inserted = st.inserted;
     })
-open_step front line stage.Rest o ts e st h =
+open_step front line stage.Rest o ts ps e st h =
     let a = if_line_is line (codes "rest") _ e h in
     subst (λ (x : Drafted). Stands (front ++ line ∷ []) x) a.1
     (record {
@@ -279,11 +293,12 @@ open_step front line stage.Rest o ts e st h =
       lines = rw (st.lines, a.0) refl;
       texts = st.texts;
       named = st.named;
+      inserted = st.inserted;
     })
-open_step front line stage.End o ts e st h = no_some e h
+open_step front line stage.End o ts ps e st h = no_some e h
 
 pub stands_more : (front : List (List ℕ)) (line : List ℕ) (d e : Drafted) → Stands front d → drafted d line ≡ Some e → Stands (front ++ line ∷ []) e
-stands_more front line d e st h = open_step front line d.stage d.name d.texts e st h
+stands_more front line d e st h = open_step front line d.stage d.name d.texts d.numbers e st h
 
 ---- no script goes on so
 
@@ -292,40 +307,40 @@ not_line line wanted d h is =
     let t : bytes_eq line wanted ≡ true = rw is (itself wanted) in
     no_some d (sym (rw t at h))
 
-dead_at : (front : List (List ℕ)) (line : List ℕ) (s : Stage) (o : Option (List ℕ)) (ts : List (List ℕ)) (more : List (List ℕ)) (name : List ℕ) (n m : ℤ)
-    → Stands front (record { stage = s; name = o; texts = ts }) → drafted_at s (record { stage = s; name = o; texts = ts }) line ≡ None
+dead_at : (front : List (List ℕ)) (line : List ℕ) (s : Stage) (o : Option (List ℕ)) (ts : List (List ℕ)) (ps : Option (ℤ × ℤ)) (more : List (List ℕ)) (name : List ℕ) (n m : ℤ)
+    → Stands front (record { stage = s; name = o; texts = ts; numbers = ps }) → drafted_at s (record { stage = s; name = o; texts = ts; numbers = ps }) line ≡ None
     → is_client_name name ≡ true → fits_int n ≡ true → fits_int m ≡ true → (front ++ line ∷ []) ++ more ≡ form_lines name (statements_of n m) → ⊥
-dead_at front line stage.Schema o ts more name n m st h c f g e =
+dead_at front line stage.Schema o ts ps more name n m st h c f g e =
     let k : line ∷ more ≡ form_lines name (statements_of n m) = rw st.lines at e in
     let is : line ≡ schema_line = cc in
     not_line line schema_line _ h is
-dead_at front line stage.Client o ts more name n m st h c f g e =
+dead_at front line stage.Client o ts ps more name n m st h c f g e =
     let k : schema_line ∷ line ∷ more ≡ form_lines name (statements_of n m) = rw st.lines at e in
     let is : line ≡ client_line name = cc in
     let t : client_in line ≡ Some name = ap client_in is ∙ client_again name c in
     no_some _ (sym (rw t at h))
-dead_at front line stage.Begin o ts more name n m st h c f g e =
+dead_at front line stage.Begin o ts ps more name n m st h c f g e =
     let k : schema_line ∷ client_line st.name ∷ line ∷ more ≡ form_lines name (statements_of n m) = rw st.lines at e in
     let is : line ≡ statement_line statement.Begin = cc in
     not_line line (statement_line statement.Begin) _ h is
-dead_at front line stage.Insert o ts more name n m st h c f g e =
+dead_at front line stage.Insert o ts ps more name n m st h c f g e =
     let k : schema_line ∷ client_line st.name ∷ statement_line statement.Begin ∷ line ∷ more ≡ form_lines name (statements_of n m) = rw st.lines at e in
     let is : line ≡ statement_line (insert_of n m) = cc in
     let t : insert_in line ≡ Some (n, m) = ap insert_in is ∙ insert_again n m f g in
     no_some _ (sym (rw t at h))
-dead_at front line stage.Commit o ts more name n m st h c f g e =
+dead_at front line stage.Commit o ts ps more name n m st h c f g e =
     let k : schema_line ∷ client_line st.name ∷ statement_line statement.Begin ∷ statement_line (insert_of st.n st.m) ∷ line ∷ more ≡ form_lines name (statements_of n m) = rw st.lines at e in
     let is : line ≡ statement_line statement.Commit = cc in
     not_line line (statement_line statement.Commit) _ h is
-dead_at front line stage.Run o ts more name n m st h c f g e =
+dead_at front line stage.Run o ts ps more name n m st h c f g e =
     let k : schema_line ∷ client_line st.name ∷ statement_line statement.Begin ∷ statement_line (insert_of st.n st.m) ∷ statement_line statement.Commit ∷ line ∷ more ≡ form_lines name (statements_of n m) = rw st.lines at e in
     let is : line ≡ codes "run" = cc in
     not_line line (codes "run") _ h is
-dead_at front line stage.Rest o ts more name n m st h c f g e =
+dead_at front line stage.Rest o ts ps more name n m st h c f g e =
     let k : schema_line ∷ client_line st.name ∷ statement_line statement.Begin ∷ statement_line (insert_of st.n st.m) ∷ statement_line statement.Commit ∷ codes "run" ∷ line ∷ more ≡ form_lines name (statements_of n m) = rw st.lines at e in
     let is : line ≡ codes "rest" = cc in
     not_line line (codes "rest") _ h is
-dead_at front line stage.End o ts more name n m st h c f g e =
+dead_at front line stage.End o ts ps more name n m st h c f g e =
     let k : schema_line ∷ client_line st.name ∷ statement_line statement.Begin ∷ statement_line (insert_of st.n st.m) ∷ statement_line statement.Commit ∷ codes "run" ∷ codes "rest" ∷ line ∷ more ≡ form_lines name (statements_of n m) = rw st.lines at e in
     let is : line ∷ more ≡ [] = cc in
     cc
@@ -334,7 +349,7 @@ pub dead : (front : List (List ℕ)) (line : List ℕ) (d : Drafted) → Stands 
 dead front line d st h b =
     let f = b.form in
     let a = f.built in
-    dead_at front line d.stage d.name d.texts b.more f.name a.0 a.1 st h f.named a.2 a.3 (f.lined ∙ ap (form_lines f.name) a.4)
+    dead_at front line d.stage d.name d.texts d.numbers b.more f.name a.0 a.1 st h f.named a.2 a.3 (f.lined ∙ ap (form_lines f.name) a.4)
 
 ---- the whole text
 
@@ -363,29 +378,30 @@ all_lines front (l ∷ ls) d e number st h =
     ] refl h
 
 -- A draft that has ended is a script, which is the client's.
-whole_at : (lines : List (List ℕ)) (s : Stage) (o : Option (List ℕ)) (ts : List (List ℕ)) (client : ScriptClient) → Stands lines (record { stage = s; name = o; texts = ts })
-    → s ≡ stage.End → o ≡ Some client.name → client.statements ≡ ts → IsForm lines (client_script client)
-whole_at lines stage.End o ts client st end named said =
-    let same : st.name ≡ client.name = some_is _ _ (sym st.named ∙ named) in
-    let parts : client.statements ≡ texts_of st.n st.m = said ∙ st.texts in
+whole_at : (lines : List (List ℕ)) (s : Stage) (o : Option (List ℕ)) (ts : List (List ℕ)) (ps : Option (ℤ × ℤ)) (form : Form) → Stands lines (record { stage = s; name = o; texts = ts; numbers = ps })
+    → s ≡ stage.End → o ≡ Some form.client.name → form.client.statements ≡ ts → ps ≡ Some (form.id, form.balance) → IsForm lines (client_script form.client) × IsInsertForm form
+whole_at lines stage.End o ts ps form st end named said inserted =
+    let same : st.name ≡ form.client.name = some_is _ _ (sym st.named ∙ named) in
+    let numbers : (st.n, st.m) ≡ (form.id, form.balance) = some_is _ _ (sym st.inserted ∙ inserted) in
+    let parts : form.client.statements ≡ texts_of st.n st.m = said ∙ st.texts in
+    (record {
+      name = st.name; statements = statements_of st.n st.m; named = st.is_named; built = (st.n, st.m, st.fits_n, st.fits_m, refl); lined = st.lines;
+      said = λ i. client_script (record { name = sym same i; statements = parts i }) },
     record {
-      name = st.name;
-      statements = statements_of st.n st.m;
-      named = st.is_named;
-      built = (st.n, st.m, st.fits_n, st.fits_m, refl);
-      lined = st.lines;
-      said = λ i. client_script (record { name = sym same i; statements = parts i });
-    }
-whole_at lines stage.Schema o ts client st end named said = absurd cc
-whole_at lines stage.Client o ts client st end named said = absurd cc
-whole_at lines stage.Begin o ts client st end named said = absurd cc
-whole_at lines stage.Insert o ts client st end named said = absurd cc
-whole_at lines stage.Commit o ts client st end named said = absurd cc
-whole_at lines stage.Run o ts client st end named said = absurd cc
-whole_at lines stage.Rest o ts client st end named said = absurd cc
+      fits_id = subst (λ (p : ℤ × ℤ). fits_int p.0 ≡ true) numbers st.fits_n;
+      fits_balance = subst (λ (p : ℤ × ℤ). fits_int p.1 ≡ true) numbers st.fits_m;
+      statements = subst (λ (p : ℤ × ℤ). form.client.statements ≡ texts_of p.0 p.1) numbers parts })
+whole_at lines stage.Schema o ts ps form st end named said inserted = absurd cc
+whole_at lines stage.Client o ts ps form st end named said inserted = absurd cc
+whole_at lines stage.Begin o ts ps form st end named said inserted = absurd cc
+whole_at lines stage.Insert o ts ps form st end named said inserted = absurd cc
+whole_at lines stage.Commit o ts ps form st end named said inserted = absurd cc
+whole_at lines stage.Run o ts ps form st end named said inserted = absurd cc
+whole_at lines stage.Rest o ts ps form st end named said inserted = absurd cc
 
-pub whole : (lines : List (List ℕ)) (d : Drafted) (client : ScriptClient) → drafted_from 1 first_draft lines ≡ Ok d → d.stage ≡ stage.End → d.name ≡ Some client.name → client.statements ≡ d.texts → IsForm lines (client_script client)
-whole lines d client h end named said = whole_at lines d.stage d.name d.texts client (all_lines [] lines first_draft d 1 stands_first h) end named said
+pub whole : (lines : List (List ℕ)) (d : Drafted) (form : Form) → drafted_from 1 first_draft lines ≡ Ok d → d.stage ≡ stage.End → d.name ≡ Some form.client.name → form.client.statements ≡ d.texts → d.numbers ≡ Some (form.id, form.balance)
+    → IsForm lines (client_script form.client) × IsInsertForm form
+whole lines d form h end named said inserted = whole_at lines d.stage d.name d.texts d.numbers form (all_lines [] lines first_draft d 1 stands_first h) end named said inserted
 
 short : (lines : List (List ℕ)) (script : Script) (k : ℕ) → length lines ≡ k → k < 7 → ¬ IsForm lines script
 short lines script k is less f =
@@ -393,22 +409,22 @@ short lines script k is less f =
     let full : length lines ≡ length (form_lines f.name (statements_of a.0 a.1)) = ap length (f.lined ∙ ap (form_lines f.name) a.4) in
     omega (arith, full)
 
-not_form_at : (lines : List (List ℕ)) (s : Stage) (o : Option (List ℕ)) (ts : List (List ℕ)) (script : Script) → Stands lines (record { stage = s; name = o; texts = ts })
-    → (s ≡ stage.End → o ≡ None) → ¬ IsForm lines script
-not_form_at lines stage.Schema o ts script st none = short lines script 0 (ap length st.lines) (omega arith)
-not_form_at lines stage.Client o ts script st none = short lines script 1 (ap length st.lines) (omega arith)
-not_form_at lines stage.Begin o ts script st none = short lines script 2 (ap length st.lines) (omega arith)
-not_form_at lines stage.Insert o ts script st none = short lines script 3 (ap length st.lines) (omega arith)
-not_form_at lines stage.Commit o ts script st none = short lines script 4 (ap length st.lines) (omega arith)
-not_form_at lines stage.Run o ts script st none = short lines script 5 (ap length st.lines) (omega arith)
-not_form_at lines stage.Rest o ts script st none = short lines script 6 (ap length st.lines) (omega arith)
-not_form_at lines stage.End o ts script st none = λ f. no_some st.name (sym (none refl) ∙ st.named)
+not_form_at : (lines : List (List ℕ)) (s : Stage) (o : Option (List ℕ)) (ts : List (List ℕ)) (ps : Option (ℤ × ℤ)) (script : Script) → Stands lines (record { stage = s; name = o; texts = ts; numbers = ps })
+    → (s ≡ stage.End → IsSome o → ¬ IsSome ps) → ¬ IsForm lines script
+not_form_at lines stage.Schema o ts ps script st none = short lines script 0 (ap length st.lines) (omega arith)
+not_form_at lines stage.Client o ts ps script st none = short lines script 1 (ap length st.lines) (omega arith)
+not_form_at lines stage.Begin o ts ps script st none = short lines script 2 (ap length st.lines) (omega arith)
+not_form_at lines stage.Insert o ts ps script st none = short lines script 3 (ap length st.lines) (omega arith)
+not_form_at lines stage.Commit o ts ps script st none = short lines script 4 (ap length st.lines) (omega arith)
+not_form_at lines stage.Run o ts ps script st none = short lines script 5 (ap length st.lines) (omega arith)
+not_form_at lines stage.Rest o ts ps script st none = short lines script 6 (ap length st.lines) (omega arith)
+not_form_at lines stage.End o ts ps script st none = λ f. none refl (ap is_some st.named) (ap is_some st.inserted)
 
 -- Lines that don't end a script are bad behind the last.
-pub ends_early : (lines : List (List ℕ)) (d : Drafted) (n : ℕ) → drafted_from 1 first_draft lines ≡ Ok d → (d.stage ≡ stage.End → d.name ≡ None) → n ≡ length lines + 1 → IsFirstBad lines n
+pub ends_early : (lines : List (List ℕ)) (d : Drafted) (n : ℕ) → drafted_from 1 first_draft lines ≡ Ok d → (d.stage ≡ stage.End → IsSome d.name → ¬ IsSome d.numbers) → n ≡ length lines + 1 → IsFirstBad lines n
 ends_early lines d n h none counted =
     let st = all_lines [] lines first_draft d 1 stands_first h in
-    record { front = lines; rest = []; split = sym (append-nil lines); before = stands_begin lines d st; number = counted; here = λ script. not_form_at lines d.stage d.name d.texts script st none }
+    record { front = lines; rest = []; split = sym (append-nil lines); before = stands_begin lines d st; number = counted; here = λ script. not_form_at lines d.stage d.name d.texts d.numbers script st none }
 
 pub first_bad : (lines : List (List ℕ)) (n : ℕ) → drafted_from 1 first_draft lines ≡ Err n → IsFirstBad lines n
 first_bad lines n h = bad_line [] lines first_draft 1 n stands_first refl h

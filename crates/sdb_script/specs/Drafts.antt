@@ -11,14 +11,16 @@ use Rattle.sdb_script.specs.declared.draft.Stage.{Stage}
 use Rattle.sdb_script.specs.declared.draft.Stage.TheVariants as stage
 use Rattle.sdb_script.specs.Scan.{after, number_at}
 
--- What was read so far: what line may come next, the client's name, and its statements' texts.
+-- What was read so far: what line may come next, the client's name, its statements' texts, and the id and the balance that
+-- it inserts.
 pub record Drafted : Type 0 where
   pub stage : Stage
   pub name : Option (List ℕ)
   pub texts : List (List ℕ)
+  pub numbers : Option (ℤ × ℤ)
 
 abbrev pub first_draft : Drafted
-first_draft = record { stage = stage.Schema; name = None; texts = [] }
+first_draft = record { stage = stage.Schema; name = None; texts = []; numbers = None }
 
 ---- single lines
 
@@ -53,16 +55,19 @@ abbrev pub to_stage : Drafted → Stage → Drafted
 to_stage d s = record d { stage = s }
 
 abbrev pub with_text : Drafted → Stage → List ℕ → Drafted
-with_text d s text = record { stage = s; name = d.name; texts = d.texts ++ text ∷ [] }
+with_text d s text = record { stage = s; name = d.name; texts = d.texts ++ text ∷ []; numbers = d.numbers }
+
+abbrev pub with_insert : Drafted → ℤ × ℤ → Drafted
+with_insert d p = record { stage = stage.Commit; name = d.name; texts = d.texts ++ statement_text_of (insert_of p.0 p.1) ∷ []; numbers = Some p }
 
 abbrev pub if_line : List ℕ → List ℕ → Drafted → Option Drafted
 if_line line wanted d = if bytes_eq line wanted then Some d else None
 
 abbrev pub drafted_at : Stage → Drafted → List ℕ → Option Drafted
 drafted_at stage.Schema d line = if_line line schema_line (to_stage d stage.Client)
-drafted_at stage.Client d line = option_map (λ name. record { stage = stage.Begin; name = Some name; texts = d.texts }) (client_in line)
+drafted_at stage.Client d line = option_map (λ name. record { stage = stage.Begin; name = Some name; texts = d.texts; numbers = d.numbers }) (client_in line)
 drafted_at stage.Begin d line = if_line line (statement_line statement.Begin) (with_text d stage.Insert (statement_text_of statement.Begin))
-drafted_at stage.Insert d line = option_map (λ p. with_text d stage.Commit (statement_text_of (insert_of p.0 p.1))) (insert_in line)
+drafted_at stage.Insert d line = option_map (with_insert d) (insert_in line)
 drafted_at stage.Commit d line = if_line line (statement_line statement.Commit) (with_text d stage.Run (statement_text_of statement.Commit))
 drafted_at stage.Run d line = if_line line (codes "run") (to_stage d stage.Rest)
 drafted_at stage.Rest d line = if_line line (codes "rest") (to_stage d stage.End)

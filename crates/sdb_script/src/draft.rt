@@ -1,5 +1,5 @@
 //! A script that is being read, line by line.
-ghost use Rattle.std.specs.Prelude.{◌≡◌, ◌++◌, ◌&&◌, Some, None, IfSome, IfNone, true, false, OnOk, IfOk, IsErrOf, codes};
+ghost use Rattle.std.specs.Prelude.{◌≡◌, ◌++◌, ◌&&◌, Some, None, IfSome, IfNone, IsSome, true, false, OnOk, IfOk, IsErrOf, codes};
 ghost use Rattle.std.specs.Str.{bytes_eq};
 ghost use Rattle.std.specs.Fmt.{signed_decimal};
 ghost use Rattle.std.specs.String.{string_bytes};
@@ -52,11 +52,20 @@ impl From<AllocError> for LineRefused {
     }
 }
 
+/// A script of one client that inserts one account.
+#[derive(Debug, Drop)]
+pub struct Form {
+    pub client: ScriptClient,
+    pub id: i64,
+    pub balance: i64,
+}
+
 #[derive(Drop)]
 pub struct Draft {
     stage: Stage,
     name: Option<Name>,
     texts: Texts,
+    numbers: Option<(i64, i64)>,
 }
 
 impl Model for Draft {
@@ -64,7 +73,7 @@ impl Model for Draft {
 
     ghost Value = { Drafted };
 
-    ghost view = { λ d. record { stage = d.stage; name = d.name; texts = d.texts } };
+    ghost view = { λ d. record { stage = d.stage; name = d.name; texts = d.texts; numbers = d.numbers } };
 }
 
 fn is_line(line: &[u8], wanted: &str) -> bool
@@ -192,6 +201,7 @@ impl Draft {
             stage: Stage::Schema,
             name: None,
             texts: Texts::new(alloc),
+            numbers: None,
         }
     }
 
@@ -246,6 +256,7 @@ impl Draft {
     {
         let (id, balance) = insert_in(alloc, line)?;
         self.texts.push(insert_text(alloc, id, balance)?)?;
+        self.numbers = Some((id, balance));
         self.stage = Stage::Commit;
         Ok(())
     }
@@ -271,15 +282,19 @@ impl Draft {
         }
     }
 
-    /// The client, where the last line was taken.
-    pub fn finish(self) -> Option<ScriptClient>
-        ensures some { IfSome result (λ client. (self.stage ≡ Stage.End) × (self.name ≡ Some client.name) × (client.statements ≡ self.texts)) }
-        ensures none { IfNone result (self.stage ≡ Stage.End → self.name ≡ None) }
+    /// The script, where the last line was taken.
+    pub fn finish(self) -> Option<Form>
+        ensures some { IfSome result (λ form. (self.stage ≡ Stage.End) × (self.name ≡ Some form.client.name) × (form.client.statements ≡ self.texts) × (self.numbers ≡ Some (form.id, form.balance))) }
+        ensures none { IfNone result (self.stage ≡ Stage.End → IsSome self.name → ¬ IsSome self.numbers) }
     {
-        match (self.stage, self.name) {
-            (Stage::End, Some(name)) => Some(ScriptClient {
-                name,
-                statements: self.texts,
+        match (self.stage, self.name, self.numbers) {
+            (Stage::End, Some(name), Some((id, balance))) => Some(Form {
+                client: ScriptClient {
+                    name,
+                    statements: self.texts,
+                },
+                id,
+                balance,
             }),
             _ => None,
         }

@@ -3,11 +3,11 @@ ghost use Rattle.std.specs.Prelude.{◌≡◌, ◌+◌, ◌<◌, ◌==◌, take,
 ghost use Rattle.sdb_model.specs.Form.{lines_of, client_script, most_bytes, IsScriptText, IsNotBuilt};
 ghost use Rattle.sdb_model.specs.declared.script.Script.{Script};
 ghost use Rattle.sdb_script.specs.Drafts.{first_draft, drafted_from};
+ghost use Rattle.sdb_script.specs.Inserts.{IsInsertForm};
 ghost use Rattle.sdb_script.specs.declared.form.FormRefused.TheVariants.{NoMemory as OutOfMemory};
 
-use crate::draft::{Draft, LineRefused};
+use crate::draft::{Draft, Form, LineRefused};
 use crate::lines::{first_line, lf_count};
-use sdb_model::ScriptClient;
 use sdb_types::NoMemory;
 use std::alloc::Global;
 
@@ -51,12 +51,13 @@ fn read_lines(alloc: Global, bytes: &[u8]) -> Result<(Draft, u64), FormRefused>
     Ok((draft, number))
 }
 
-/// The client of a script of the form that can be played so far.
+/// The script that a text says, where it is of the form that can be played so far.
 ///
 /// The text has at most 65,536 bytes. Its lines are the schema of `bank.account`, one `client` line, the client's
 /// statements (BEGIN, one INSERT of an account whose two numbers fit an INT, and COMMIT), `run` and `rest`.
-pub fn read_form(alloc: Global, bytes: &[u8]) -> Result<ScriptClient, FormRefused>
-    ensures ok { IfOk result (λ client. IsScriptText bytes.now (client_script client)) }
+pub fn read_form(alloc: Global, bytes: &[u8]) -> Result<Form, FormRefused>
+    ensures ok { IfOk result (λ form. IsScriptText bytes.now (client_script form.client)) }
+    ensures insert { IfOk result IsInsertForm }
     ensures not_built { (n : ℕ) → IsErrOf result (FormRefused.NotBuilt n) → IsNotBuilt bytes.now n }
 {
     if bytes.len() > MOST_BYTES {
@@ -64,7 +65,7 @@ pub fn read_form(alloc: Global, bytes: &[u8]) -> Result<ScriptClient, FormRefuse
     }
     match read_lines(alloc, bytes) {
         Ok((draft, number)) => match draft.finish() {
-            Some(client) => Ok(client),
+            Some(form) => Ok(form),
             None => Err(FormRefused::NotBuilt(number)),
         },
         Err(refused) => Err(refused),

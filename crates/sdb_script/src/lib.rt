@@ -7,5 +7,6 @@ mod lines;
 mod report;
 mod scan;
 
+pub use draft::Form;
 pub use form::{FormRefused, MOST_BYTES, form_is_exact, read_form};
 pub use report::report_text;

@@ -10,7 +10,13 @@ returns-in-Some-clause-ok c =
     let read = c.in-Ok.ensures in
     let ended = c.in-Some.ensures in
     let small : length c.args.bytes.now ≤ most_bytes = omega arith in
-    (small, whole (lines_of c.args.bytes.now) c.in-Ok.draft c.in-Some.client read.ok.0 ended.some.0 ended.some.1 ended.some.2)
+    (small, (whole (lines_of c.args.bytes.now) c.in-Ok.draft c.in-Some.form read.ok.0 ended.some.0 ended.some.1 ended.some.2 ended.some.3).0)
+
+pub returns-in-Some-clause-insert : goal.returns-in-Some-clause-insert
+returns-in-Some-clause-insert c =
+    let read = c.in-Ok.ensures in
+    let ended = c.in-Some.ensures in
+    (whole (lines_of c.args.bytes.now) c.in-Ok.draft c.in-Some.form read.ok.0 ended.some.0 ended.some.1 ended.some.2 ended.some.3).1
 
 pub returns-in-None-clause-not_built : goal.returns-in-None-clause-not_built
 returns-in-None-clause-not_built c = λ n is.
