@@ -1,2 +1,3 @@
 pub mod FirstRun
 pub mod FirstTold
+pub mod Fates

@@ -1,4 +1,12 @@
 //! The top call of the program.
 #![tactic(auto)]
 
-pub fn placeholder() {}
+
+
+mod status;
+mod stores;
+mod streams;
+
+
+pub use status::Status;
+pub use stores::Stores;
