@@ -1,3 +1,4 @@
 pub mod FirstRun
 pub mod FirstTold
 pub mod Fates
+pub mod CallSteps

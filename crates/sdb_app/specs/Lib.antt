@@ -1,3 +1,4 @@
 pub mod First
+pub mod Calls
 pub mod Streams
 pub mod Status
