@@ -1,0 +1,5 @@
+pub mod Texts
+pub mod Loops
+pub mod FieldLaws
+pub mod ItemLaws
+pub mod RecordLaws
