@@ -10,7 +10,7 @@ use Rattle.std.proofs.lemmas.List.{take_at, drop_at, take-append-drop, length-ap
 use Rattle.std.proofs.lemmas.Nat.{be_bytes_2, be_bytes_4, be_bytes_8, from_be_bytes-to_be_bytes_2, from_be_bytes-to_be_bytes_4, from_be_bytes-to_be_bytes_8}
 use Rattle.sdb_types.specs.declared.value.Value.{Value}
 use Rattle.sdb_types.specs.declared.value.Value.TheVariants as value
-use Rattle.sdb_types.specs.Fits.{value_fits, text_fits}
+use Rattle.sdb_types.specs.Fits.{value_fits}
 use Rattle.sdb_codec.specs.Spelling.{sized_bytes, value_bytes, ValueFitsField}
 use Rattle.sdb_codec.specs.Reading.{◌>>=◌, number_at, sized_at, text_at, bool_at, value_of, value_at}
 

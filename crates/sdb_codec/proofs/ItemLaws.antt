@@ -1,12 +1,12 @@
 -- Items one after another: what is read is what was written, and what was written is read again.
-use Rattle.std.proofs.Common.{◌≡◌, ℕ, zero, suc, ◌+◌, ◌<◌, List, [], ◌∷◌, ◌++◌, length, All, Option, Some, None, Result, Ok, Err, refl, ap, subst, ◌∙◌, append_assoc, arith, flat_map, get_or}
+use Rattle.std.proofs.Common.{◌≡◌, ℕ, zero, suc, List, [], ◌∷◌, ◌++◌, length, All, Option, Some, None, Result, Ok, refl, ap, subst, ◌∙◌, append_assoc, arith, flat_map}
 use Rattle.std.specs.List.{AllByRecursion}
 use Rattle.std.proofs.lemmas.List.Elements.{All-from_recursion}
 use Rattle.std.proofs.lemmas.List.Concat.{flat_map-cons}
 use Rattle.sdb_types.specs.declared.value.Value.{Value}
 use Rattle.sdb_types.specs.Fits.{value_fits}
 use Rattle.sdb_codec.specs.Spelling.{value_bytes, values_bytes, ValueFitsField, ValuesFitFields}
-use Rattle.sdb_codec.specs.Reading.{◌>>=◌, count_at, items_at, value_at, values_at}
+use Rattle.sdb_codec.specs.Reading.{◌>>=◌, items_at, value_at, values_at}
 use Rattle.sdb_codec.proofs.FieldLaws.{IsBytes, IsBytes-rest, bind_ok, ok_is, Takes, Takes-then, Takes-after, value_takes, value_again}
 
 -- each item after the one before

@@ -1,8 +1,7 @@
 -- Keys, columns and records: what is read is what was written, and what was written is read again.
-use Rattle.std.proofs.Common.{◌≡◌, ℕ, zero, suc, ◌+◌, ◌<◌, ◌≤◌, ◌^◌, Bool, true, false, not, cond, ◌&&◌, ◌==◌, eqb, List, [], ◌∷◌, ◌++◌, length, All, Option, Some, None, option_map, Result, Ok, Err, IfOk, refl, sym, ap, subst, ◌∙◌, append_assoc, arith, flat_map}
-use Rattle.std.specs.List.{list_all, AllByRecursion}
+use Rattle.std.proofs.Common.{◌≡◌, ℕ, suc, ◌<◌, ◌≤◌, ◌^◌, true, false, not, cond, ◌==◌, eqb, List, [], ◌∷◌, ◌++◌, length, All, Option, Some, None, option_map, Result, Ok, Err, IfOk, refl, sym, ap, subst, ◌∙◌, append_assoc, arith, flat_map}
+use Rattle.std.specs.List.{list_all}
 use Rattle.std.specs.Int.{w16, to_be_bytes}
-use Rattle.std.specs.Ordering.{is_lt}
 use Rattle.std.proofs.lemmas.Bool.{eqb-true}
 use Rattle.std.proofs.lemmas.Bool.Decides.{nat_tests}
 use Rattle.std.proofs.lemmas.List.{append-nil, nil_from_length, length-append}
@@ -12,10 +11,10 @@ use Rattle.sdb_types.specs.declared.pair.Pair.{Pair}
 use Rattle.sdb_types.specs.declared.key.Key.{Key}
 use Rattle.sdb_types.specs.declared.key.TableName.{TableName}
 use Rattle.sdb_types.specs.declared.record.Record.{Record}
-use Rattle.sdb_types.specs.Identifier.{is_letter, is_start, is_part, is_identifier, is_name}
-use Rattle.sdb_types.specs.Order.{name_cmp, table_text}
+use Rattle.sdb_types.specs.Identifier.{is_part, is_identifier, is_name}
+use Rattle.sdb_types.specs.Order.{table_text}
 use Rattle.sdb_types.specs.Columns.{is_null, starts_above, are_columns}
-use Rattle.sdb_types.specs.Fits.{value_fits, pair_fits, key_fits, columns_fit, record_fits}
+use Rattle.sdb_types.specs.Fits.{pair_fits, key_fits, columns_fit, record_fits}
 use Rattle.sdb_types.proofs.Bools.{and_first, and_second, and_both}
 use Rattle.sdb_types.proofs.KeyOrder.{parts}
 use Rattle.sdb_types.proofs.ColumnMap.{tail_above, tail_columns}
@@ -23,7 +22,7 @@ use Rattle.sdb_codec.specs.declared.refused.ReadRefused.{ReadRefused}
 use Rattle.sdb_codec.specs.Spelling.{sized_bytes, value_bytes, values_bytes, key_bytes, pair_bytes, columns_bytes, record_bytes, ValueFitsField, KeyFitsFields, ColumnsFitFields, RecordFitsFields}
 use Rattle.sdb_codec.specs.Reading.{◌>>=◌, number_at, sized_at, value_at, values_at, name_of, dot_split, names_of, table_at, key_at, is_above, column_name_at, column_value_at, pair_at, items_at, columns_at, format_at, record_at, whole, from_front, record_in, key_in, Reads}
 use Rattle.sdb_codec.proofs.FieldLaws.{IsBytes, IsBytes-rest, bind_ok, guard_ok, passed_ok, ok_is, Takes, Takes-then, Takes-after, TakesValue, wide16, number_takes, number_again, sized_takes, sized_again, value_takes, value_again}
-use Rattle.sdb_codec.proofs.ItemLaws.{Chain, Chain-all, items_take, items_again, TakesValues, values_take, values_again}
+use Rattle.sdb_codec.proofs.ItemLaws.{Chain, Chain-all, items_take, items_again, values_take, values_again}
 
 ---- tables
 
@@ -67,11 +66,11 @@ names_taken left text t h =
     elim (dot_split text) as (λ o. dot_split text ≡ o → names_of left o ≡ Ok t → text ≡ table_text t) [
       | None ↦ λ q e. absurd cc
       | Some p ↦ λ q e.
-        let a = bind_ok (name_of left p.0) (λ ns. name_of left p.1 >>= λ table. Ok (record { ns = ns; table = table })) t e in
-        let b = bind_ok (name_of left p.1) (λ table. Ok (record { ns = a.0; table = table })) t a.2 in
-        let ns = passed_ok (is_name p.0) left p.0 a.0 a.1 in
-        let table = passed_ok (is_name p.1) left p.1 b.0 b.1 in
-        subst (λ (u : TableName). text ≡ table_text u) (ok_is (record { ns = a.0; table = b.0 }) t b.2) (dot_joined text p q ∙ λ i. ns.1 i ++ 46 ∷ table.1 i)
+          let a = bind_ok (name_of left p.0) (λ ns. name_of left p.1 >>= λ table. Ok (record { ns = ns; table = table })) t e in
+          let b = bind_ok (name_of left p.1) (λ table. Ok (record { ns = a.0; table = table })) t a.2 in
+          let ns = passed_ok (is_name p.0) left p.0 a.0 a.1 in
+          let table = passed_ok (is_name p.1) left p.1 b.0 b.1 in
+          subst (λ (u : TableName). text ≡ table_text u) (ok_is (record { ns = a.0; table = b.0 }) t b.2) (dot_joined text p q ∙ λ i. ns.1 i ++ 46 ∷ table.1 i)
     ] refl h
 
 table_takes : (bytes : List ℕ) (x : TableName × List ℕ) → IsBytes bytes → table_at bytes ≡ Ok x → Takes bytes (sized_bytes (table_text x.0)) x.1
@@ -192,9 +191,10 @@ above_first p ps h q qs e = subst (λ (l : List Pair). starts_above p.name l ≡
 
 chain_of : (before : Option Pair) (ps : List Pair) → ((q : Pair) (qs : List Pair) → ps ≡ q ∷ qs → is_above before q.name ≡ true) → are_columns ps ≡ true → All pair_fits ps → All (λ p. ValueFitsField p.value) ps → Chain Readable before ps
 chain_of before [] first sorted known fits = tt
-chain_of before (p ∷ ps) first sorted known fits =
-    ((known 0 p (omega arith), (first p ps refl, full_first p ps sorted, fits 0 p (omega arith)))
-    , chain_of (Some p) ps (above_first p ps (tail_above p ps sorted)) (tail_columns p ps sorted) (λ i d lt. known (suc i) d (omega arith)) (λ i d lt. fits (suc i) d (omega arith)))
+chain_of before (p ∷ ps) first sorted known fits = (
+  (known 0 p (omega arith), (first p ps refl, full_first p ps sorted, fits 0 p (omega arith))),
+  chain_of (Some p) ps (above_first p ps (tail_above p ps sorted)) (tail_columns p ps sorted) (λ i d lt. known (suc i) d (omega arith)) (λ i d lt. fits (suc i) d (omega arith)),
+)
 
 abbrev pub TakesColumns : List ℕ → List Pair × List ℕ → Type 0
 TakesColumns bytes x = Takes bytes (columns_bytes x.0) x.1 × ColumnsFitFields x.0 × (are_columns x.0 ≡ true)

@@ -1,12 +1,12 @@
 -- Names and texts as bytes.
-use Rattle.std.proofs.Common.{◌≡◌, ℕ, suc, zero, ◌<◌, ◌≤◌, ◌+◌, ◌-◌, ◌==◌, Bool, true, false, not, cond, ◌&&◌, ◌||◌, eqb, ltb, List, [], ◌∷◌, ◌++◌, length, take, drop, Option, Some, None, option_map, refl, sym, ap, ◌∙◌, inl, inr, arith, add-one, IsUtf8, IsAscii, All, true≢false}
-use Rattle.std.specs.List.{list_all, position, position_or_len, prefix_len}
+use Rattle.std.proofs.Common.{◌≡◌, ℕ, suc, zero, ◌<◌, ◌+◌, ◌==◌, true, false, not, cond, ltb, List, [], ◌∷◌, length, take, drop, Option, Some, None, option_map, refl, ◌∙◌, inl, inr, arith, add-one, IsUtf8, IsAscii}
+use Rattle.std.specs.List.{list_all, position, prefix_len}
 use Rattle.std.specs.Str.{is_utf8}
-use Rattle.std.proofs.lemmas.Str.{IsUtf8-from_ascii, IsUtf8-from_is_utf8, is_utf8-from_IsUtf8}
+use Rattle.std.proofs.lemmas.Str.{IsUtf8-from_ascii, IsUtf8-from_is_utf8}
 use Rattle.std.proofs.lemmas.Bool.{cases_lt, lt-ltb, le-ltb, ltb-true}
 use Rattle.std.proofs.lemmas.Bool.Decides.{nat_tests}
-use Rattle.sdb_types.specs.Identifier.{is_letter, is_start, is_part, is_identifier, is_name}
-use Rattle.sdb_types.proofs.Bools.{and_first, and_second, and_both}
+use Rattle.sdb_types.specs.Identifier.{is_start, is_part, is_name}
+use Rattle.sdb_types.proofs.Bools.{and_first, and_second}
 use Rattle.sdb_types.proofs.KeyOrder.{parts}
 use Rattle.sdb_codec.specs.Reading.{dot_split}
 
@@ -59,17 +59,17 @@ dot_at (c ∷ cs) n e =
     elim (c == 46) as (λ b. n ≡ cond (not b) (1 + m) 0 → cond {A = Parts} b (Some ([], cs)) (option_map (onto c) (dot_split cs)) ≡ cond {A = Parts} (ltb n (suc (length cs))) (Some (round (c ∷ cs) n)) None) [
       | true ↦ λ q. let first : ltb 0 (suc (length cs)) ≡ true = lt-ltb 0 (suc (length cs)) (omega arith) in rw (q, first) refl
       | false ↦ λ q.
-        let k : n ≡ suc m = q ∙ omega arith in
-        elim (cases_lt m (length cs)) [
-          | inl lt ↦
-            let here : ltb m (length cs) ≡ true = lt-ltb m (length cs) lt in
-            let there : ltb (suc m) (suc (length cs)) ≡ true = lt-ltb (suc m) (suc (length cs)) (omega arith) in
-            rw (rest, k, here, there) refl
-          | inr le ↦
-            let here : ltb m (length cs) ≡ false = le-ltb m (length cs) le in
-            let there : ltb (suc m) (suc (length cs)) ≡ false = le-ltb (suc m) (suc (length cs)) (omega arith) in
-            rw (rest, k, here, there) refl
-        ]
+          let k : n ≡ suc m = q ∙ omega arith in
+          elim (cases_lt m (length cs)) [
+            | inl lt ↦
+                let here : ltb m (length cs) ≡ true = lt-ltb m (length cs) lt in
+                let there : ltb (suc m) (suc (length cs)) ≡ true = lt-ltb (suc m) (suc (length cs)) (omega arith) in
+                rw (rest, k, here, there) refl
+            | inr le ↦
+                let here : ltb m (length cs) ≡ false = le-ltb m (length cs) le in
+                let there : ltb (suc m) (suc (length cs)) ≡ false = le-ltb (suc m) (suc (length cs)) (omega arith) in
+                rw (rest, k, here, there) refl
+          ]
     ] e
 
 -- where there is no dot

@@ -20,7 +20,11 @@ fn is_above(before: Option<&Pair>, name: &Name) -> bool
 }
 
 #[tactic(auto, unfolding(crate::specs::Reading::column_name_at))]
-fn column_name_at<'a>(alloc: Global, before: Option<&Pair>, bytes: &'a [u8]) -> Result<(Name, &'a [u8]), Stopped>
+fn column_name_at<'a>(
+    alloc: Global,
+    before: Option<&Pair>,
+    bytes: &'a [u8],
+) -> Result<(Name, &'a [u8]), Stopped>
     ensures { Gives (λ x. (x.0, x.1.now)) result (column_name_at_lem (option_copied before.entry) bytes.now) }
 {
     let (text, rest) = sized_at(bytes.len(), bytes)?;
@@ -42,7 +46,11 @@ fn column_value_at(alloc: Global, bytes: &[u8]) -> Result<(Value, &[u8]), Stoppe
 }
 
 #[tactic(auto, unfolding(crate::specs::Reading::pair_at))]
-fn pair_at<'a>(alloc: Global, before: Option<&Pair>, bytes: &'a [u8]) -> Result<(Pair, &'a [u8]), Stopped>
+fn pair_at<'a>(
+    alloc: Global,
+    before: Option<&Pair>,
+    bytes: &'a [u8],
+) -> Result<(Pair, &'a [u8]), Stopped>
     ensures { Gives (λ x. (x.0, x.1.now)) result (pair_at_lem (option_copied before.entry) bytes.now) }
 {
     let (name, rest) = column_name_at(alloc, before, bytes)?;
