@@ -44,7 +44,7 @@ pub passed_ok : {A : Type 0} (b : Bool) (d : ℕ) (x y : A) → cond b (Ok x) (E
 passed_ok true d x y e = (refl, cc)
 passed_ok false d x y e = absurd cc
 
-abbrev done : {A : Type 0} → A → Result A ℕ
+abbrev pub done : {A : Type 0} → A → Result A ℕ
 done x = Ok x
 
 pub ok_is : {A : Type 0} (x y : A) → done x ≡ done y → x ≡ y

@@ -50,7 +50,7 @@ module _ {X : Type 0} (item_at : Option X → List ℕ → Result (X × List ℕ
 
 ---- values behind a count
 
-abbrev values_after : Option Value → List ℕ → Result (Value × List ℕ) ℕ
+abbrev pub values_after : Option Value → List ℕ → Result (Value × List ℕ) ℕ
 values_after before rest = value_at rest
 
 abbrev Readable : Option Value → Value → Type 0

@@ -3,3 +3,4 @@ pub mod Loops
 pub mod FieldLaws
 pub mod ItemLaws
 pub mod RecordLaws
+pub mod PlaceLaws

@@ -58,10 +58,10 @@ dot_again : (xs ys : List ℕ) → list_all is_part xs ≡ true → dot_split (x
 dot_again [] ys h = refl
 dot_again (x ∷ xs) ys h = rw (no_dot x (and_first (is_part x) _ h), dot_again xs ys (and_second (is_part x) _ h)) refl
 
-name_length : (name : List ℕ) → is_name name ≡ true → length name ≤ 71
+pub name_length : (name : List ℕ) → is_name name ≡ true → length name ≤ 71
 name_length name h = let short = and_first _ (is_identifier name) h in grind (arith, nat_tests)
 
-names_taken : (left : ℕ) (text : List ℕ) (t : TableName) → names_of left (dot_split text) ≡ Ok t → text ≡ table_text t
+pub names_taken : (left : ℕ) (text : List ℕ) (t : TableName) → names_of left (dot_split text) ≡ Ok t → text ≡ table_text t
 names_taken left text t h =
     elim (dot_split text) as (λ o. dot_split text ≡ o → names_of left o ≡ Ok t → text ≡ table_text t) [
       | None ↦ λ q e. absurd cc
@@ -73,7 +73,7 @@ names_taken left text t h =
           subst (λ (u : TableName). text ≡ table_text u) (ok_is (record { ns = a.0; table = b.0 }) t b.2) (dot_joined text p q ∙ λ i. ns.1 i ++ 46 ∷ table.1 i)
     ] refl h
 
-table_takes : (bytes : List ℕ) (x : TableName × List ℕ) → IsBytes bytes → table_at bytes ≡ Ok x → Takes bytes (sized_bytes (table_text x.0)) x.1
+pub table_takes : (bytes : List ℕ) (x : TableName × List ℕ) → IsBytes bytes → table_at bytes ≡ Ok x → Takes bytes (sized_bytes (table_text x.0)) x.1
 unfolding table_at
 table_takes bytes x fits e =
     let left : ℕ = length bytes in
@@ -83,7 +83,7 @@ table_takes bytes x fits e =
     let named = names_taken left a.0.0 b.0 b.1 in
     subst (λ (y : TableName × List ℕ). Takes bytes (sized_bytes (table_text y.0)) y.1) (ok_is (b.0, a.0.1) x b.2) (subst (λ (s : List ℕ). Takes bytes (sized_bytes s) a.0.1) named t.0)
 
-table_again : (t : TableName) (rest : List ℕ) → is_name t.ns ≡ true → is_name t.table ≡ true → table_at (sized_bytes (table_text t) ++ rest) ≡ Ok (t, rest)
+pub table_again : (t : TableName) (rest : List ℕ) → is_name t.ns ≡ true → is_name t.table ≡ true → table_at (sized_bytes (table_text t) ++ rest) ≡ Ok (t, rest)
 unfolding table_at
 table_again t rest ns table =
     let short : length (table_text t) < 2 ^ 32 = omega (arith, length-append t.ns (46 ∷ t.table), name_length t.ns ns, name_length t.table table) in
@@ -131,7 +131,7 @@ Follows before p = (is_above before p.name ≡ true) × (is_null p.value ≡ fal
 abbrev TakesPair : Option Pair → List ℕ → Pair × List ℕ → Type 0
 TakesPair before bytes x = Takes bytes (pair_bytes x.0) x.1 × Follows before x.0
 
-column_name_takes : (before : Option Pair) (bytes : List ℕ) (x : List ℕ × List ℕ) → IsBytes bytes → column_name_at before bytes ≡ Ok x → Takes bytes (sized_bytes x.0) x.1 × (is_above before x.0 ≡ true)
+pub column_name_takes : (before : Option Pair) (bytes : List ℕ) (x : List ℕ × List ℕ) → IsBytes bytes → column_name_at before bytes ≡ Ok x → Takes bytes (sized_bytes x.0) x.1 × (is_above before x.0 ≡ true)
 unfolding column_name_at
 column_name_takes before bytes x fits e =
     let left : ℕ = length bytes in
@@ -142,7 +142,7 @@ column_name_takes before bytes x fits e =
     let t = sized_takes left bytes a.0 fits a.1 in
     subst (λ (y : List ℕ × List ℕ). Takes bytes (sized_bytes y.0) y.1 × (is_above before y.0 ≡ true)) above.1 (subst (λ (s : List ℕ). Takes bytes (sized_bytes s) a.0.1) named.1 t.0, above.0)
 
-column_value_takes : (bytes : List ℕ) (x : Value × List ℕ) → IsBytes bytes → column_value_at bytes ≡ Ok x → TakesValue bytes x × (is_null x.0 ≡ false)
+pub column_value_takes : (bytes : List ℕ) (x : Value × List ℕ) → IsBytes bytes → column_value_at bytes ≡ Ok x → TakesValue bytes x × (is_null x.0 ≡ false)
 unfolding column_value_at
 column_value_takes bytes x fits e =
     let a = bind_ok (value_at bytes) (λ v. cond (is_null v.0) (Err (length bytes)) (Ok v)) x e in
@@ -226,7 +226,7 @@ columns_again ps rest known fits =
 abbrev pub TakesRecord : List ℕ → Record × List ℕ → Type 0
 TakesRecord bytes x = Takes bytes (record_bytes x.0) x.1 × RecordFitsFields x.0
 
-format_takes : (bytes rest : List ℕ) → format_at bytes ≡ Ok rest → bytes ≡ 1 ∷ rest
+pub format_takes : (bytes rest : List ℕ) → format_at bytes ≡ Ok rest → bytes ≡ 1 ∷ rest
 format_takes [] rest e = absurd cc
 format_takes (n ∷ bytes) rest e =
     let g = passed_ok (n == 1) (length (n ∷ bytes)) bytes rest e in

@@ -1,9 +1,10 @@
 //! Reading records and keys.
-ghost use Rattle.std.specs.Prelude.{◌≡◌, List, IfOk, Ok};
+ghost use Rattle.std.specs.Prelude.{◌≡◌, IfOk, IfErr, Ok};
 ghost use Rattle.sdb_types.specs.declared.key.Key.{Key};
 ghost use Rattle.sdb_types.specs.declared.record.Record.{Record};
 ghost use Rattle.sdb_types.specs.Fits.{key_fits, record_fits};
 ghost use Rattle.sdb_codec.specs.Spelling.{key_bytes, record_bytes, KeyFitsFields, RecordFitsFields};
+ghost use Rattle.sdb_codec.specs.Places.{IsRefusedAt, key_due, record_due};
 ghost use Rattle.sdb_codec.specs.Reading.{Gives, Reads, format_at as format_at_lem, key_at as key_at_lem, record_at as record_at_lem, whole, record_in, key_in, refusal};
 
 use crate::columns::columns_at;
@@ -100,7 +101,8 @@ pub fn read_record(alloc: Global, bytes: &[u8]) -> Result<Record, ReadRefused>
     ensures found { IfOk result (λ r. RecordFitsFields r × (bytes.now ≡ record_bytes r)) }
     // What is spelled so is read, unless memory runs out.
     ensures only { (r : Record) → record_fits r → RecordFitsFields r → bytes.now ≡ record_bytes r → Reads result (Ok r) }
-    // Which place is bad.
+    // The bad place is where the first field begins that is cut off or isn't of its form, or where bytes follow the whole.
+    ensures place { IfErr result (IsRefusedAt record_due bytes.now) }
     ensures exact { Reads result (record_in bytes.now) }
 {
     record_of(alloc, bytes)
@@ -112,7 +114,8 @@ pub fn read_key(alloc: Global, bytes: &[u8]) -> Result<Key, ReadRefused>
     ensures found { IfOk result (λ k. KeyFitsFields k × (bytes.now ≡ key_bytes k)) }
     // What is spelled so is read, unless memory runs out.
     ensures only { (k : Key) → key_fits k → KeyFitsFields k → bytes.now ≡ key_bytes k → Reads result (Ok k) }
-    // Which place is bad.
+    // The bad place is where the first field begins that is cut off or isn't of its form, or where bytes follow the whole.
+    ensures place { IfErr result (IsRefusedAt key_due bytes.now) }
     ensures exact { Reads result (key_in bytes.now) }
 {
     key_of(alloc, bytes)
