@@ -537,3 +537,61 @@ record_refused bytes r fits h = refused_at record_due bytes (record_at bytes) (�
 
 pub key_refused : (bytes : List ℕ) (r : Result Key ReadRefused) → IsBytes bytes → Reads r (key_in bytes) → IfErr r (IsRefusedAt key_due bytes)
 key_refused bytes r fits h = refused_at key_due bytes (key_at bytes) (λ l e. key_break [] bytes l fits e) (λ x e. key_pass [] bytes x fits e) r h
+
+---- one place
+
+-- two fields of the form that is due, at the front of the same bytes
+field_same : (d : Due) (f g : Field) (r s : List ℕ) → HasForm d f → HasForm d g → field_bytes f ++ r ≡ field_bytes g ++ s → (due_after d f ≡ due_after d g) × (r ≡ s)
+field_same FormatDue Format Format r s p q e = (refl, cc)
+field_same TableDue (Table t) (Table u) r s p q e =
+    let both = sym (table_again t r p.0 p.1) ∙ ap table_at e ∙ table_again u s q.0 q.1 in
+    (refl, ap (λ (x : TableName × List ℕ). x.1) (ok_is (t, r) (u, s) both))
+field_same CountDue (Count n) (Count m) r s p q e = let same : n ≡ m = cc in (ap (λ (k : ℕ). replicate k ItemDue) same, cc)
+field_same ItemDue (Item v) (Item w) r s p q e =
+    let a = value_reads v r p.0 p.1 in
+    let b = value_reads w s q.0 q.1 in
+    (refl, ap (λ (x : Value × List ℕ). x.1) (ok_is (a.0, r) (b.0, s) (sym a.1 ∙ ap value_at e ∙ b.1)))
+field_same ColumnCountDue (ColumnCount n) (ColumnCount m) r s p q e =
+    let both = ok_is (n, r) (m, s) (sym (number_again w16 (2 ^ 16) wide16 0 n r p) ∙ ap (number_at w16 0) e ∙ number_again w16 (2 ^ 16) wide16 0 m s q) in
+    (ap (λ (x : ℕ × List ℕ). columns_due None x.0) both, ap (λ (x : ℕ × List ℕ). x.1) both)
+field_same (NameDue before more) (Name a) (Name b) r s p q e =
+    let short : length a < 2 ^ 32 = omega (arith, name_length a p.0) in
+    let also : length b < 2 ^ 32 = omega (arith, name_length b q.0) in
+    let both = ok_is (a, r) (b, s) (sym (sized_again 0 a r short) ∙ ap (sized_at 0) e ∙ sized_again 0 b s also) in
+    (ap (λ (x : List ℕ × List ℕ). CellDue ∷ columns_due (Some x.0) more) both, ap (λ (x : List ℕ × List ℕ). x.1) both)
+field_same CellDue (Item v) (Item w) r s p q e =
+    let a = value_reads v r p.1 p.2 in
+    let b = value_reads w s q.1 q.2 in
+    (refl, ap (λ (x : Value × List ℕ). x.1) (ok_is (a.0, r) (b.0, s) (sym a.1 ∙ ap value_at e ∙ b.1)))
+field_same d f g r s p q e = absurd assumption
+
+front_of : (f : Field) (fs : List Field) (r : List ℕ) → flat_map field_bytes (f ∷ fs) ++ r ≡ field_bytes f ++ (flat_map field_bytes fs ++ r)
+front_of f fs r = ap (λ (t : List ℕ). t ++ r) (flat_map-cons field_bytes f fs) ∙ append_assoc (field_bytes f) (flat_map field_bytes fs) r
+
+same_place : (due : List Due) (fs gs : List Field) (b c : List Due) (r s : List ℕ) → Leads due fs b → Leads due gs c → flat_map field_bytes fs ++ r ≡ flat_map field_bytes gs ++ s → IsWrong b r → IsWrong c s
+    → length (flat_map field_bytes fs) ≡ length (flat_map field_bytes gs)
+same_place due [] [] b c r s p q e w v = refl
+same_place [] [] (g ∷ gs) b c r s p q e w v = absurd q
+same_place (d ∷ due) [] (g ∷ gs) b c r s p q e w v =
+    let wrong : IsWrong (d ∷ due) r = subst (λ (x : List Due). IsWrong x r) (sym p) w in
+    absurd (wrong g (flat_map field_bytes gs ++ s) q.0 (e ∙ front_of g gs s))
+same_place [] (f ∷ fs) gs b c r s p q e w v = absurd p
+same_place (d ∷ due) (f ∷ fs) [] b c r s p q e w v =
+    let wrong : IsWrong (d ∷ due) s = subst (λ (x : List Due). IsWrong x s) (sym q) v in
+    absurd (wrong f (flat_map field_bytes fs ++ r) p.0 (sym e ∙ front_of f fs r))
+same_place (d ∷ due) (f ∷ fs) (g ∷ gs) b c r s p q e w v =
+    let parts = sym (front_of f fs r) ∙ e ∙ front_of g gs s in
+    let same = field_same d f g (flat_map field_bytes fs ++ r) (flat_map field_bytes gs ++ s) p.0 q.0 parts in
+    let led : Leads (due_after d f ++ due) gs c = subst (λ (x : List Due). Leads (x ++ due) gs c) (sym same.0) q.1 in
+    let rest = same_place (due_after d f ++ due) fs gs b c r s p.1 led same.1 w v in
+    let all : length (field_bytes f ++ (flat_map field_bytes fs ++ r)) ≡ length (field_bytes g ++ (flat_map field_bytes gs ++ s)) = ap length parts in
+    let tails : length (flat_map field_bytes fs ++ r) ≡ length (flat_map field_bytes gs ++ s) = ap length same.1 in
+    let first = length-append (field_bytes f) (flat_map field_bytes fs ++ r) in
+    let second = length-append (field_bytes g) (flat_map field_bytes gs ++ s) in
+    let one = ap length (flat_map-cons field_bytes f fs) ∙ length-append (field_bytes f) (flat_map field_bytes fs) in
+    let two = ap length (flat_map-cons field_bytes g gs) ∙ length-append (field_bytes g) (flat_map field_bytes gs) in
+    omega (arith, rest, all, tails, first, second, one, two)
+
+-- the first wrong place is one
+pub one_place : (due : List Due) (bytes : List ℕ) (p q : ℕ) → IsFirstWrong due bytes p → IsFirstWrong due bytes q → p ≡ q
+one_place due bytes p q a b = sym a.here ∙ same_place due a.fields b.fields a.after b.after a.rest b.rest a.leads b.leads (sym a.split ∙ b.split) a.wrong b.wrong ∙ b.here

@@ -291,3 +291,10 @@ record_round_trip r known fits =
 pub key_round_trip : (k : Key) → key_fits k → KeyFitsFields k → key_in (key_bytes k) ≡ Ok k
 key_round_trip k known fits =
     ap (from_front (length (key_bytes k))) (whole_again key_at key_bytes KeyFitsFields (λ x. key_fits x × KeyFitsFields x) (λ x rest h. key_again x rest h.0 h.1) k (known, fits))
+
+-- and tells its record apart
+pub record_apart : (r s : Record) → record_fits r → record_fits s → RecordFitsFields r → RecordFitsFields s → record_bytes r ≡ record_bytes s → r ≡ s
+record_apart r s known also fits fit e = ok_is r s (sym (record_round_trip r known fits) ∙ ap record_in e ∙ record_round_trip s also fit)
+
+pub key_apart : (k l : Key) → key_fits k → key_fits l → KeyFitsFields k → KeyFitsFields l → key_bytes k ≡ key_bytes l → k ≡ l
+key_apart k l known also fits fit e = ok_is k l (sym (key_round_trip k known fits) ∙ ap key_in e ∙ key_round_trip l also fit)
