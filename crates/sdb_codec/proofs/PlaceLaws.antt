@@ -1,9 +1,8 @@
 -- The place at which reading stops is the first wrong one.
-use Rattle.std.proofs.Common.{◌≡◌, ◌≢◌, ℕ, zero, suc, ◌+◌, ◌-◌, ◌<◌, ◌≤◌, ◌^◌, ◌⊎◌, inl, inr, Bool, true, false, cond, ◌==◌, eqb, ltb, List, [], ◌∷◌, ◌++◌, length, take, drop, replicate, Option, Some, None, option_map, Result, Ok, Err, IfErr, refl, sym, ap, subst, ◌∙◌, append_assoc, arith, flat_map, get_or, IsUtf8}
+use Rattle.std.proofs.Common.{◌≡◌, ◌≢◌, ℕ, zero, suc, ◌-◌, ◌<◌, ◌^◌, ◌⊎◌, inl, inr, Bool, true, false, cond, ◌==◌, eqb, ltb, List, [], ◌∷◌, ◌++◌, length, take, drop, replicate, Option, Some, None, option_map, Result, Ok, Err, IfErr, refl, sym, ap, subst, ◌∙◌, append_assoc, arith, flat_map, IsUtf8}
 use Rattle.std.specs.Str.{is_utf8}
-use Rattle.std.specs.Ordering.{is_lt}
 use Rattle.std.specs.Int.{Width, w16, w32, w64, byte_len, from_be_bytes, to_be_bytes, cast_signed, cast_unsigned}
-use Rattle.std.proofs.lemmas.Bool.{le-ltb, eqb-true}
+use Rattle.std.proofs.lemmas.Bool.{le-ltb}
 use Rattle.std.proofs.lemmas.Str.{IsUtf8-from_is_utf8}
 use Rattle.std.proofs.lemmas.List.{append-nil, take_at, drop_at, length-append}
 use Rattle.std.proofs.lemmas.List.Concat.{flat_map-cons, flat_map-append}
@@ -14,16 +13,15 @@ use Rattle.sdb_types.specs.declared.key.Key.{Key}
 use Rattle.sdb_types.specs.declared.key.TableName.{TableName}
 use Rattle.sdb_types.specs.declared.record.Record.{Record}
 use Rattle.sdb_types.specs.Identifier.{is_name}
-use Rattle.sdb_types.specs.Order.{name_cmp, table_text}
 use Rattle.sdb_types.specs.Columns.{is_null}
 use Rattle.sdb_codec.specs.declared.refused.ReadRefused.{ReadRefused}
 use Rattle.sdb_codec.specs.declared.refused.ReadRefused.TheVariants as refused
 use Rattle.sdb_codec.specs.Spelling.{sized_bytes, value_bytes, ValueFitsField}
-use Rattle.sdb_codec.specs.Reading.{◌>>=◌, number_at, sized_at, text_at, bool_at, value_of, value_at, count_at, items_at, values_at, name_of, dot_split, names_of, table_at, key_at, is_above, column_name_at, column_value_at, pair_at, columns_at, format_at, record_at, whole, from_front, record_in, key_in, Reads}
+use Rattle.sdb_codec.specs.Reading.{◌>>=◌, number_at, sized_at, text_at, bool_at, value_of, value_at, items_at, values_at, name_of, dot_split, names_of, table_at, key_at, is_above, column_name_at, column_value_at, pair_at, columns_at, format_at, record_at, whole, from_front, record_in, key_in, Reads}
 use Rattle.sdb_codec.specs.Places.{Field, Format, Table, Count, Item, ColumnCount, Name, field_bytes, Due, FormatDue, TableDue, CountDue, ItemDue, ColumnCountDue, NameDue, CellDue, key_due, record_due, columns_due, due_after, IsText, stands_above, HasForm, Leads, IsWrong, IsFirstWrong, IsRefusedAt}
-use Rattle.sdb_codec.proofs.FieldLaws.{IsBytes, IsBytes-rest, bind_ok, guard_ok, passed_ok, ok_is, done, Takes, IsWide, wide16, wide32, wide64, number_takes, number_again, sized_again, text_again, value_takes}
+use Rattle.sdb_codec.proofs.FieldLaws.{IsBytes, IsBytes-rest, bind_ok, guard_ok, passed_ok, ok_is, done, IsWide, wide16, wide32, wide64, number_takes, number_again, sized_again, text_again, value_takes}
 use Rattle.sdb_codec.proofs.ItemLaws.{values_after, values_take}
-use Rattle.sdb_codec.proofs.RecordLaws.{name_length, table_takes, table_again, column_name_takes, column_value_takes, columns_take, key_takes, record_takes, format_takes}
+use Rattle.sdb_codec.proofs.RecordLaws.{name_length, table_takes, table_again, column_name_takes, column_value_takes, key_takes, format_takes}
 
 ---- fields one after another
 
