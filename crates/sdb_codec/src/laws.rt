@@ -1,0 +1,18 @@
+//! Laws of the spelling of records and keys.
+ghost use Rattle.std.specs.Prelude.{◌≡◌, ℕ, List};
+ghost use Rattle.sdb_types.specs.declared.key.Key.{Key};
+ghost use Rattle.sdb_types.specs.declared.record.Record.{Record};
+ghost use Rattle.sdb_types.specs.Fits.{key_fits, record_fits};
+ghost use Rattle.sdb_codec.specs.Spelling.{key_bytes, record_bytes, KeyFitsFields, RecordFitsFields};
+ghost use Rattle.sdb_codec.specs.Places.{Due, IsFirstWrong};
+
+/// The bytes of a record tell it apart from every other, and so do those of a key.
+pub fn spelling_exact()
+    ensures records { (r s : Record) → record_fits r → record_fits s → RecordFitsFields r → RecordFitsFields s → record_bytes r ≡ record_bytes s → r ≡ s }
+    ensures keys { (k l : Key) → key_fits k → key_fits l → KeyFitsFields k → KeyFitsFields l → key_bytes k ≡ key_bytes l → k ≡ l }
+{}
+
+/// There is at most one first wrong place.
+pub fn one_place()
+    ensures { (due : List Due) (bytes : List ℕ) (p q : ℕ) → IsFirstWrong due bytes p → IsFirstWrong due bytes q → p ≡ q }
+{}
