@@ -16,7 +16,7 @@ use Rattle.sdb_types.proofs.ColumnLemmas.{by_order}
 use Rattle.std.proofs.lemmas.List.{append-nil}
 use Rattle.std.specs.Prelude.{is_some, map, nat_le, length}
 use Rattle.sdb_record.specs.Names.{before_name, base_name, is_before, is_meta}
-use Rattle.sdb_record.specs.Parts.{with_columns, before_pair, base_pair, before_part, are_user_columns, is_user_pair}
+use Rattle.sdb_record.specs.Parts.{with_columns, before_pair, base_pair, before_part, are_user_columns, is_user_pair, is_column_name}
 use Rattle.sdb_record.proofs.NameLemmas.{base_name-before_name, base_name-is}
 
 pub swapped : (a b : List ℕ) (r : Ordering) → name_cmp a b ≡ r → name_cmp b a ≡ ordering_reverse r
@@ -38,14 +38,14 @@ put-less p q (e ∷ es) h =
     by_order (name_cmp e.name p.name)
     (λ k. let l = less_less e.name p.name q.name k h in simp (k, l) (ap (λ xs. e ∷ xs) (put-less p q es h)))
     (λ k.
-        let same : e.name ≡ p.name = name_exact e.name p.name k in
-        let l : name_cmp e.name q.name ≡ Less = subst (λ (x : List ℕ). name_cmp x q.name ≡ Less) (sym same) h in
-        simp (l, k, h) refl)
+    let same : e.name ≡ p.name = name_exact e.name p.name k in
+    let l : name_cmp e.name q.name ≡ Less = subst (λ (x : List ℕ). name_cmp x q.name ≡ Less) (sym same) h in
+    simp (l, k, h) refl)
     (λ k.
-        by_order (name_cmp e.name q.name)
-        (λ l. simp (l, k, h) refl)
-        (λ l. simp (l, k, h, above) refl)
-        (λ l. simp (l, k, h, above) refl))
+    by_order (name_cmp e.name q.name)
+    (λ l. simp (l, k, h) refl)
+    (λ l. simp (l, k, h, above) refl)
+    (λ l. simp (l, k, h, above) refl))
 
 pub put-apart : (p q : Pair) (es : List Pair) → (p.name ≡ q.name → ⊥) → put_pair p (put_pair q es) ≡ put_pair q (put_pair p es)
 put-apart p q es apart =
@@ -214,7 +214,7 @@ are_columns-kept (p ∷ ps) c =
 abbrev pub not_before : List ℕ → Bool
 not_before name = not (is_before name)
 
-is_before-kept : (name : List ℕ) → is_before (before_name name) ≡ true
+pub is_before-kept : (name : List ℕ) → is_before (before_name name) ≡ true
 is_before-kept name = ap is_some (base_name-before_name name)
 
 pub leaves-kept : (ps : List Pair) → are_columns ps ≡ true → list_all (leaves not_before) (map before_pair ps) ≡ true
@@ -225,9 +225,9 @@ leaves-kept (p ∷ ps) c =
 pub stays-user : (ps : List Pair) → are_columns ps ≡ true → are_user_columns ps ≡ true → list_all (stays not_before) ps ≡ true
 stays-user [] c u = refl
 stays-user (p ∷ ps) c u =
-    let here = and_first (is_user_pair p && nat_le (length p.name) 64) (are_user_columns ps) u in
-    let user = and_first (is_user_pair p) (nat_le (length p.name) 64) here in
-    and_both (stays not_before p) _ (and_both (not (is_null p.value)) _ (columns-full p ps c) (and_second (not (is_meta p.name)) (not (is_before p.name)) user)) (stays-user ps (columns-rest p ps c) (and_second (is_user_pair p && nat_le (length p.name) 64) (are_user_columns ps) u))
+    let here = and_first (is_user_pair p && is_column_name p.name) (are_user_columns ps) u in
+    let user = and_first (is_user_pair p) (is_column_name p.name) here in
+    and_both (stays not_before p) _ (and_both (not (is_null p.value)) _ (columns-full p ps c) (and_second (not (is_meta p.name)) (not (is_before p.name)) user)) (stays-user ps (columns-rest p ps c) (and_second (is_user_pair p && is_column_name p.name) (are_user_columns ps) u))
 
 list_all-tail : {X : Type 0} (t : X → Bool) (xs ys : List X) → list_all t (xs ++ ys) ≡ true → list_all t ys ≡ true
 list_all-tail t [] ys h = h

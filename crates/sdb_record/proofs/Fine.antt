@@ -6,6 +6,7 @@ use Rattle.sdb_types.specs.declared.value.Value.{Value}
 use Rattle.sdb_types.specs.declared.value.Value.TheVariants as value
 use Rattle.sdb_types.specs.declared.pair.Pair.{Pair}
 use Rattle.sdb_types.specs.declared.record.State.{State}
+use Rattle.sdb_types.specs.declared.record.Record.{Record}
 use Rattle.sdb_types.specs.declared.record.State.TheVariants.{Prepared, Deleted, Committed, Aborted}
 use Rattle.sdb_types.specs.Columns.{column}
 use Rattle.sdb_types.specs.Identifier.{is_identifier}
@@ -18,8 +19,8 @@ use Rattle.std.proofs.lemmas.Bool.Decides.{nat_tests}
 use Rattle.sdb_record.specs.declared.meta.Meta.{Meta}
 use Rattle.sdb_record.proofs.NameLemmas.{same_name-true}
 use Rattle.sdb_record.specs.Names.{tx_version, tx_prepared_at, tx_committed_at, tx_tombstone, base_name, is_before, is_meta, same_name}
-use Rattle.sdb_record.specs.Parts.{before_part, is_before_pair, is_user_pair, are_short}
-use Rattle.sdb_record.specs.Meta.{id_in, state_in, state_in_value, version_in, moment_in, committed_at_in, tombstone_in, is_stray, is_early, is_committed, is_deleted, is_misnamed, is_in, need, refuse, then_check, only_if, meta_in, checked_columns, checked_part, checked_before, checked, any_state, with_before, keep_identifiers, kept_badly}
+use Rattle.sdb_record.specs.Parts.{before_part, is_before_pair, is_user_pair, are_short, are_stored}
+use Rattle.sdb_record.specs.Meta.{id_in, state_in, state_in_value, version_in, moment_in, committed_at_in, tombstone_in, is_stray, is_early, is_committed, is_deleted, is_misnamed, is_in, need, refuse, then_check, only_if, meta_in, checked_columns, checked_part, checked_before, checked, any_state, with_before, keep_identifiers, kept_badly, is_taken}
 
 ---- steps that went on
 
@@ -27,10 +28,10 @@ need-ok : {A B : Type 0} (o : Option A) (name : List ℕ) (next : A → Result B
 need-ok None name next y h = absurd (cc)
 need-ok (Some x) name next y h = (x, refl, h)
 
-need-some : {A B : Type 0} (o : Option A) (name : List ℕ) (next : A → Result B (List ℕ)) (x : A) → o ≡ Some x → need o name next ≡ next x
+pub need-some : {A B : Type 0} (o : Option A) (name : List ℕ) (next : A → Result B (List ℕ)) (x : A) → o ≡ Some x → need o name next ≡ next x
 need-some o name next x h = ap (λ p. need p name next) h
 
-refuse-ok : {B : Type 0} (o : Option Pair) (next : Result B (List ℕ)) (y : B) → refuse o next ≡ Ok y → (o ≡ None) × (next ≡ Ok y)
+pub refuse-ok : {B : Type 0} (o : Option Pair) (next : Result B (List ℕ)) (y : B) → refuse o next ≡ Ok y → (o ≡ None) × (next ≡ Ok y)
 refuse-ok None next y h = (refl, h)
 refuse-ok (Some p) next y h = absurd (cc)
 
@@ -172,9 +173,10 @@ keep-before ps m y h =
     ] refl h
 
 -- what a taken record keeps has names
-pub taken-keep : (ps : List Pair) → is_ok (checked ps) ≡ true → keep_identifiers ps ≡ true
-taken-keep ps h =
-    let y = ok-of (checked ps) h in
+pub taken-keep : (r : Record) → is_taken r ≡ true → keep_identifiers r.columns ≡ true
+taken-keep r h =
+    let ps = r.columns in
+    let y = ok-of (checked ps) (and_second (are_stored ps) (is_ok (checked ps)) h) in
     let w = taken ps y.0 y.1 in
     keep-before ps w.0 y.0 w.2
 
@@ -182,7 +184,7 @@ twice : (b : Bool) → not (not b) ≡ true → b ≡ true
 twice true h = refl
 twice false h = cc
 
-keeps_here : (o : Option (List ℕ)) (name : List ℕ) → not (kept_badly o) ≡ true → o ≡ Some name → is_identifier name ≡ true
+pub keeps_here : (o : Option (List ℕ)) (name : List ℕ) → not (kept_badly o) ≡ true → o ≡ Some name → is_identifier name ≡ true
 keeps_here None name h k = absurd (cc)
 keeps_here (Some n) name h k =
     let e : n ≡ name = cc in
@@ -252,8 +254,9 @@ committed-state allowed ps m f h =
     ap is_committed (sym s)
 
 -- a committed record's names leave room for the prefix
-pub taken-short : (ps : List Pair) → is_ok (checked ps) ≡ true → is_in Committed ps ≡ true → are_short ps ≡ true
-taken-short ps h k =
-    let y = ok-of (checked ps) h in
+pub taken-short : (r : Record) → is_taken r ≡ true → is_in Committed r.columns ≡ true → are_short r.columns ≡ true
+taken-short r h k =
+    let ps = r.columns in
+    let y = ok-of (checked ps) (and_second (are_stored ps) (is_ok (checked ps)) h) in
     let w = taken ps y.0 y.1 in
     committed-short ps w.0 (committed-state any_state ps w.0 w.1 k) w.1.strays w.1.early

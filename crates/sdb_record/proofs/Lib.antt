@@ -4,3 +4,9 @@ pub mod IdLemmas
 pub mod ColumnLaws
 pub mod Fine
 pub mod PreparedLaws
+pub mod Settings
+pub mod States
+pub mod RollLaws
+pub mod WriteLaws
+pub mod TakenLaws
+pub mod ImageLaws

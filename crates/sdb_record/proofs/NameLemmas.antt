@@ -5,8 +5,9 @@ use Rattle.std.proofs.lemmas.Bool.Decides.{Decides-eqb}
 use Rattle.std.proofs.Common.{◌+◌, ◌≤◌, length-append}
 use Rattle.std.specs.Prelude.{nat_le}
 use Rattle.std.proofs.lemmas.Bool.Decides.{nat_tests}
-use Rattle.sdb_types.specs.Identifier.{is_identifier, is_name}
-use Rattle.sdb_types.proofs.Bools.{and_first, and_both}
+use Rattle.sdb_types.specs.Identifier.{is_identifier, is_name, is_start, is_part}
+use Rattle.std.specs.List.{list_all}
+use Rattle.sdb_types.proofs.Bools.{and_first, and_second, and_both, or_first}
 use Rattle.std.specs.Borrow.{Bor}
 use Rattle.std.specs.Option.{option_copied}
 use Rattle.std.specs.Str.Pattern.{FindsTextPrefix, StripsPrefix}
@@ -79,3 +80,16 @@ kept-is_name text name h k i =
     let n : length text ≤ 71 = nat_at_most (length text) 71 (and_first (nat_le (length text) 71) (is_identifier text) h) in
     let m : length text ≡ 7 + length name = ap length e ∙ length-append before_prefix name in
     and_both (nat_le (length name) 71) (is_identifier name) (at_most_nat (length name) 71 (omega arith)) i
+
+parts : (c : ℕ) (cs : List ℕ) → is_identifier (c ∷ cs) ≡ true → list_all is_part (c ∷ cs) ≡ true
+parts c cs h =
+    let start = and_first (is_start c) (list_all is_part cs) h in
+    and_both (is_part c) _ (or_first (is_start c) _ start) (and_second (is_start c) (list_all is_part cs) h)
+
+-- a short name has a name to be kept under
+pub before-is_name : (name : List ℕ) → is_identifier name ≡ true → nat_le (length name) 64 ≡ true → is_name (before_name name) ≡ true
+before-is_name [] i h = absurd (cc)
+before-is_name (c ∷ cs) i h =
+    let n : length (c ∷ cs) ≤ 64 = nat_at_most (length (c ∷ cs)) 64 h in
+    let m : length (before_name (c ∷ cs)) ≡ 7 + length (c ∷ cs) = length-append before_prefix (c ∷ cs) in
+    and_both (nat_le (length (before_name (c ∷ cs))) 71) (is_identifier (before_name (c ∷ cs))) (at_most_nat (length (before_name (c ∷ cs))) 71 (omega arith)) (parts c cs i)

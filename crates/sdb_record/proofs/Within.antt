@@ -22,7 +22,7 @@ not_kept text name h =
     ] refl
 
 -- the values of two choices
-chosen : (b : Bool) (x y : Pair) (o u : Option Pair) → x.value ≡ y.value → option_map (λ (p : Pair). p.value) o ≡ option_map (λ (p : Pair). p.value) u
+pub chosen : (b : Bool) (x y : Pair) (o u : Option Pair) → x.value ≡ y.value → option_map (λ (p : Pair). p.value) o ≡ option_map (λ (p : Pair). p.value) u
     → option_map (λ (p : Pair). p.value) (cond b (Some x) o) ≡ option_map (λ (p : Pair). p.value) (cond b (Some y) u)
 chosen true x y o u e f = ap Some e
 chosen false x y o u e f = f

@@ -14,7 +14,7 @@ use Rattle.sdb_types.specs.Identifier.{is_identifier}
 use Rattle.sdb_types.specs.Contents.{tx_id, tx_state, state_number, has_value}
 use Rattle.sdb_record.specs.declared.meta.Meta.{Meta}
 use Rattle.sdb_record.specs.Names.{tx_version, tx_prepared_at, tx_committed_at, tx_tombstone, before_name, base_name}
-use Rattle.sdb_record.specs.Parts.{before_part, is_user_pair, is_before_pair}
+use Rattle.sdb_record.specs.Parts.{before_part, is_user_pair, is_before_pair, are_stored}
 use Rattle.sdb_record.specs.Ids.{id_of_text}
 
 ---- what single columns say
@@ -189,9 +189,9 @@ any_state state = true
 unfoldable pub checked : List Pair → Result Meta (List ℕ)
 checked ps = then_check (checked_part any_state ps) (checked_before ps)
 
--- A transactional record, as those that transactions leave.
+-- A transactional record: columns as a record holds them, which pass the checks.
 abbrev pub is_taken : Record → Bool
-is_taken r = is_ok (checked r.columns)
+is_taken r = are_stored r.columns && is_ok (checked r.columns)
 
 -- a transactional record in state 1 or 2
 abbrev pub is_unresolved : Record → Bool

@@ -5,7 +5,8 @@ use Rattle.std.specs.List.{list_all, filter_map}
 use Rattle.sdb_types.specs.declared.pair.Pair.{Pair}
 use Rattle.sdb_types.specs.declared.key.Key.{Key}
 use Rattle.sdb_types.specs.declared.record.Record.{Record}
-use Rattle.sdb_types.specs.Columns.{with_column}
+use Rattle.sdb_types.specs.Columns.{with_column, are_columns}
+use Rattle.sdb_types.specs.Identifier.{is_name, is_identifier}
 use Rattle.sdb_record.specs.Names.{before_name, base_name, is_before, is_user}
 
 -- the columns with each of these set, in order
@@ -39,9 +40,17 @@ base_pair p = option_map (λ name. record { name = name; value = p.value }) (bas
 abbrev pub before_part : List Pair → List Pair
 before_part ps = filter_map base_pair ps
 
+-- Columns as a record holds them: in the order of their names, none NULL, and each with a name.
+abbrev pub are_stored : List Pair → Bool
+are_stored ps = are_columns ps && list_all (λ p. is_name p.name) ps
+
+-- an identifier of at most 64 bytes
+abbrev pub is_column_name : List ℕ → Bool
+is_column_name name = nat_le (length name) 64 && is_identifier name
+
 -- These columns are user columns alone, each with a name of at most 64 bytes.
 abbrev pub are_user_columns : List Pair → Bool
-are_user_columns ps = list_all (λ p. is_user_pair p && nat_le (length p.name) 64) ps
+are_user_columns ps = list_all (λ p. is_user_pair p && is_column_name p.name) ps
 
 abbrev pub record_with : Key → List Pair → Option Record
 record_with key [] = None

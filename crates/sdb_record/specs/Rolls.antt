@@ -1,5 +1,5 @@
 -- What a write leaves unresolved, what that is rolled to, and the committed image of a record.
-use Rattle.std.specs.Prelude.{◌≡◌, ℤ, pos, ◌+ℤ◌, Bool, true, false, if◌then◌else◌, List, [], ◌∷◌, ◌++◌, map, Option, Some, None, IfSome}
+use Rattle.std.specs.Prelude.{◌&&◌, ◌≡◌, ℤ, pos, ◌+ℤ◌, Bool, true, false, if◌then◌else◌, List, [], ◌∷◌, ◌++◌, map, Option, Some, None, IfSome}
 use Rattle.std.specs.Int.{int_min}
 use Rattle.sdb_types.specs.declared.pair.Pair.{Pair}
 use Rattle.sdb_types.specs.declared.value.Value.{Value}
@@ -9,7 +9,7 @@ use Rattle.sdb_types.specs.declared.txid.TxId.{TxId}
 use Rattle.sdb_types.specs.declared.record.Record.{Record}
 use Rattle.sdb_types.specs.declared.record.State.{State}
 use Rattle.sdb_types.specs.declared.record.State.TheVariants as state
-use Rattle.sdb_types.specs.Columns.{column}
+use Rattle.sdb_types.specs.Columns.{column, are_columns}
 use Rattle.sdb_types.specs.TxId.{id_text}
 use Rattle.sdb_types.specs.Contents.{tx_id, tx_state, state_number, has_value}
 use Rattle.sdb_record.specs.declared.write.Change.{Change}
@@ -72,7 +72,7 @@ IsBaseOf key base = (base.key ≡ key) × (is_taken base ≡ true) × (is_in sta
 
 -- a row holds user columns alone
 abbrev pub is_change : Change → Bool
-is_change (change.Row columns) = are_user_columns columns
+is_change (change.Row columns) = are_columns columns && are_user_columns columns
 is_change change.Delete = true
 
 -- a write that a transaction may prepare

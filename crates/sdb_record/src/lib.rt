@@ -3,7 +3,9 @@
 
 mod access;
 mod coordinator;
+pub mod laws;
 mod meta;
+mod moved;
 mod part;
 mod roll;
 mod row;
@@ -12,6 +14,8 @@ mod write;
 pub use access::{Access, Image, Images, Read, Reads, Scan, Scans};
 pub use coordinator::{Decided, Decision};
 pub use meta::{Meta, MetaRefused, meta_of};
+pub use moved::{condition_of, has_version, is_unchanged, version_of};
+pub use part::is_user_name;
 pub use roll::{Back, committed_image, prepared, rolled_back, rolled_forward};
 pub use row::{coordinator_key, coordinator_row, decision_of, expired};
 pub use write::{Change, Changes, Keyed, Write, Writes};

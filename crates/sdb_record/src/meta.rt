@@ -1,18 +1,20 @@
 //! The metadata of transactional records.
-ghost use Rattle.std.specs.Prelude.{◌≡◌, true, ◌||◌, MatchResult, Ok, Err, IfErr, IfOk, IfSome, find};
+ghost use Rattle.std.specs.Prelude.{◌≡◌, true, ◌||◌, MatchResult, Ok, Err, IfErr, IfOk, OnOk, IfSome, find};
 ghost use Rattle.std.specs.Option.{option_copied, option_map};
 ghost use Rattle.std.specs.List.{list_any};
 ghost use Rattle.sdb_types.specs.Identifier.{is_name};
 ghost use Rattle.sdb_record.specs.declared.meta.MetaRefused.TheVariants.{NoMemory as OutOfMemory};
 ghost use Rattle.sdb_record.specs.Names.{base_name};
-ghost use Rattle.sdb_record.specs.Parts.{is_before_pair};
+ghost use Rattle.sdb_record.specs.Parts.{is_before_pair, are_stored};
 ghost use Rattle.sdb_record.specs.Refused.{Refuses, IfBad};
 ghost use Rattle.sdb_record.specs.Ids.{id_of_text};
-ghost use Rattle.sdb_record.specs.Meta.{id_in_value, state_in_value, version_in_value, moment_in_value, tombstone_in_value, only_if, committed_at_by, is_committed, is_deleted, kept_badly, is_misnamed, checked, checked_before};
+ghost use Rattle.sdb_record.specs.Meta.{id_in_value, state_in_value, version_in_value, moment_in_value, tombstone_in_value, only_if, committed_at_by, is_committed, is_deleted, kept_badly, is_misnamed, checked, checked_before, is_taken};
 ghost use Rattle.sdb_record.specs.Inside.{allows, meta_within, checked_within, first_of_part, is_stray_name, is_early_name, passes_name, name_within};
 
 use crate::part::{MetaColumn, Part, is_before_name, is_user_name, kept_name, value_within};
-use sdb_types::{Columns, Name, NameRefused, NoMemory, Record, State, TxId, Txt, Value, is_identifier_text};
+use sdb_types::{
+    Columns, Name, NameRefused, NoMemory, Record, State, TxId, Txt, Value, is_identifier_text,
+};
 use std::alloc::Global;
 use thiserror::Error;
 
@@ -57,7 +59,7 @@ pub fn read_id(text: &Txt) -> Option<TxId>
     TxId::from_text(text)
 }
 
-fn id_of(value: Option<&Value>) -> Option<TxId>
+pub fn id_of(value: Option<&Value>) -> Option<TxId>
     ensures { result ≡ id_in_value (option_copied value.entry) }
 {
     match value {
@@ -308,12 +310,24 @@ pub fn refused(alloc: Global, name: &str) -> MetaRefused
     }
 }
 
+// The columns of a record stand in order, and each has a name.
+fn are_stored(columns: &Columns)
+    ensures { are_stored columns.now ≡ true }
+{
+    let _length = columns.len();
+    for pair in columns.pairs() {
+        let _text = pair.name.as_str();
+    }
+}
+
 /// The metadata of a transactional record, or the first column that fails. Want of memory can only stand in place of
 /// such a refusal.
 pub fn meta_of(alloc: Global, rec: &Record) -> Result<Meta, MetaRefused>
     ensures ok { IfOk result (λ meta. checked rec.now.columns ≡ Ok meta) }
     ensures refused { IfErr result (Refuses (checked rec.now.columns)) }
+    ensures taken { OnOk result (is_taken rec.now ≡ true) }
 {
+    are_stored(&rec.columns);
     match check(&rec.columns) {
         Ok(meta) => Ok(meta),
         Err(name) => Err(refused(alloc, name)),

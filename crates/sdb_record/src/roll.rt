@@ -89,7 +89,7 @@ fn state_value(state: State) -> i32
     }
 }
 
-fn has_state(columns: &Columns, state: State) -> bool
+pub fn has_state(columns: &Columns, state: State) -> bool
     ensures { result ≡ is_in state columns.now }
 {
     match find_text(columns.pairs(), "tx_state") {
@@ -237,7 +237,12 @@ fn forward_part(alloc: Global, columns: &Columns, created_at: i64) -> Result<Col
 {
     let mut forward = own_part(alloc, columns)?;
     set_known(alloc, &mut forward, "tx_state", Value::Int(3))?;
-    set_known(alloc, &mut forward, "tx_committed_at", Value::BigInt(created_at))?;
+    set_known(
+        alloc,
+        &mut forward,
+        "tx_committed_at",
+        Value::BigInt(created_at),
+    )?;
     if has_state(columns, State::Deleted) {
         set_known(alloc, &mut forward, "tx_tombstone", Value::Bool(true))?;
     }
@@ -297,10 +302,12 @@ pub fn committed_image(
         return Ok(Some(rec.copy()?));
     }
     match decided {
-        Some(Decided {
-            decision: Decision::Committed,
-            created_at,
-        }) => Ok(Some(rolled_forward(alloc, rec, *created_at)?)),
+        Some(
+            Decided {
+                decision: Decision::Committed,
+                created_at,
+            },
+        ) => Ok(Some(rolled_forward(alloc, rec, *created_at)?)),
         _ => kept_record(alloc, rec),
     }
 }

@@ -39,12 +39,20 @@ pub fn coordinator_key(alloc: Global, id: TxId) -> Result<Key, NoMemory>
 
 /// The row of a decision on a transaction, made at a moment from 0 to 2^53.
 #[tactic(auto, unfolding(crate::specs::Coordinator::coordinator_row_of))]
-pub fn coordinator_row(alloc: Global, id: TxId, decision: Decision, now: i64) -> Result<Record, NoMemory>
+pub fn coordinator_row(
+    alloc: Global,
+    id: TxId,
+    decision: Decision,
+    now: i64,
+) -> Result<Record, NoMemory>
     ensures { IfOk result (λ row. row ≡ coordinator_row_of id decision now) }
 {
     let mut columns = Columns::new(alloc);
     columns.set(known_name(alloc, "tx_created_at")?, Value::BigInt(now))?;
-    columns.set(known_name(alloc, "tx_state")?, Value::Int(decision_value(decision)))?;
+    columns.set(
+        known_name(alloc, "tx_state")?,
+        Value::Int(decision_value(decision)),
+    )?;
     Ok(Record {
         key: coordinator_key(alloc, id)?,
         columns,

@@ -1,0 +1,6 @@
+use Rattle.sdb_record.proofs.TakenLaws.{prepared-base}
+use Rattle.sdb_record.proofs.ImageLaws.{prepared-back}
+use Rattle.sdb_record.proofs.laws.rolled_back_is_base.Goals as goal
+
+pub returns : goal.returns
+returns c = record { base = prepared-base; back = prepared-back }

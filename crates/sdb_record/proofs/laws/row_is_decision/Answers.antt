@@ -1,0 +1,5 @@
+use Rattle.sdb_record.proofs.ImageLaws.{row-key, key-of-id, row-decision}
+use Rattle.sdb_record.proofs.laws.row_is_decision.Goals as goal
+
+pub returns : goal.returns
+returns c = record { key = row-key; id = key-of-id; decision = row-decision }

@@ -1,0 +1,66 @@
+//! Whether what was read still stands.
+ghost use Rattle.std.specs.Prelude.{◌≡◌};
+ghost use Rattle.sdb_types.specs.declared.value.Value.TheVariants as value;
+ghost use Rattle.sdb_types.specs.Columns.{column};
+ghost use Rattle.sdb_types.specs.Contents.{has_value, is_version, tx_id};
+ghost use Rattle.sdb_types.specs.TxId.{id_text};
+ghost use Rattle.sdb_record.specs.Meta.{id_in};
+ghost use Rattle.sdb_record.specs.Moved.{condition_of, is_unchanged, version_of};
+
+use crate::meta::id_of;
+use crate::part::find_text;
+use crate::roll::has_state;
+use sdb_types::{Columns, Condition, Record, State, TxId};
+
+fn writer_of(columns: &Columns) -> Option<TxId>
+    ensures { result ≡ id_in columns.now }
+{
+    id_of(find_text(columns.pairs(), "tx_id"))
+}
+
+fn is_written_by(columns: &Columns, id: TxId) -> bool
+    ensures { result ≡ has_value (column columns.now tx_id) (value.Text (id_text id.0)) }
+{
+    match writer_of(columns) {
+        Some(writer) => writer.0 == id.0,
+        None => false,
+    }
+}
+
+/// The version of what stands at a key: the transaction that wrote it, or none where there is no record.
+pub fn version_of(found: &Option<Record>) -> Option<TxId>
+    ensures { result ≡ version_of found.now }
+{
+    match found {
+        Some(rec) => writer_of(&rec.columns),
+        None => None,
+    }
+}
+
+/// The condition that a version that was read still stands.
+pub fn condition_of(version: Option<TxId>) -> Condition
+    ensures { result ≡ condition_of version }
+{
+    match version {
+        Some(id) => Condition::Version(id, State::Committed),
+        None => Condition::Absent,
+    }
+}
+
+/// Whether a record is the version of a transaction in a state.
+pub fn has_version(rec: &Record, id: TxId, state: State) -> bool
+    ensures { result ≡ is_version id state rec.now }
+{
+    is_written_by(&rec.columns, id) && has_state(&rec.columns, state)
+}
+
+/// Whether what is found at a key is still what was read there: the committed record of that transaction, or none.
+pub fn is_unchanged(found: &Option<Record>, version: Option<TxId>) -> bool
+    ensures { result ≡ is_unchanged found.now version }
+{
+    match (found, version) {
+        (Some(rec), Some(id)) => has_version(rec, id, State::Committed),
+        (None, None) => true,
+        _ => false,
+    }
+}
