@@ -1,0 +1,10 @@
+//! Stores by name, and the namespaces that are placed on them.
+#![tactic(auto)]
+
+mod place;
+mod registry;
+mod stores;
+
+pub use place::{Place, PlaceRefused};
+pub use registry::Registry;
+pub use stores::{AttachRefused, Stores};
