@@ -8,3 +8,4 @@ pub mod Exact
 pub mod Bytes
 pub mod Held
 pub mod Contents
+pub mod HashInput
