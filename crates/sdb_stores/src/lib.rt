@@ -4,6 +4,8 @@
 mod place;
 mod registry;
 mod stores;
+#[cfg(test)]
+mod tests;
 
 pub use place::{Place, PlaceRefused};
 pub use registry::Registry;

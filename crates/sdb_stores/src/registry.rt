@@ -17,6 +17,10 @@ pub trait Registry {
     /// The store at that place tells what it holds.
     ghost tells: { Self → ℕ → Type 0 };
 
+    /// How many stores are attached.
+    fn len(&self) -> usize
+        ensures { result ≡ length (shelves self.now) };
+
     /// The names of the stores.
     fn names(&self) -> Result<Names, NoMemory>
         ensures { IfOk result (λ names. names ≡ names_of (shelves self.now)) };

@@ -154,6 +154,10 @@ impl Registry for Stores {
 
     ghost tells = { λ s i. IsSomeAnd (slice_get s.slots.items i) (λ slot. (Store-box slot.store).tells slot.store.value) };
 
+    fn len(&self) -> usize {
+        self.slots.len()
+    }
+
     fn names(&self) -> Result<Names, NoMemory> {
         names_in(*self.slots.allocator(), &self.slots)
     }
