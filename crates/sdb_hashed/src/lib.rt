@@ -3,6 +3,8 @@
 
 mod buckets;
 mod section;
+#[cfg(test)]
+mod tests;
 
 pub use buckets::Buckets;
 use sdb_store::Memory;
