@@ -10,3 +10,4 @@ pub mod Bytes
 pub mod Draws
 pub mod Held
 pub mod Contents
+pub mod HashInput

@@ -8,7 +8,7 @@ use crate::value::Values;
 use std::cmp::Ordering;
 
 /// A table's name: its namespace, and its own name.
-#[derive(Debug, Drop, PartialEq, Eq, PartialOrd, Ord)]
+#[derive(Debug, Drop, PartialEq, Eq, PartialOrd, Ord, Hash)]
 pub struct TableName {
     pub ns: Name,
     pub table: Name,
@@ -24,7 +24,7 @@ impl Duplicate for TableName {
 }
 
 /// A record's primary key: the values of its partition columns, and of its clustering columns.
-#[derive(Debug, Drop, PartialEq, Eq, PartialOrd, Ord)]
+#[derive(Debug, Drop, PartialEq, Eq, PartialOrd, Ord, Hash)]
 pub struct Key {
     pub table: TableName,
     pub partition: Values,

@@ -7,6 +7,7 @@ mod columns;
 mod columns_order;
 mod exact;
 mod feed;
+mod hashes;
 mod key;
 mod known;
 pub mod laws;

@@ -1,0 +1,30 @@
+//! The partitions of tables.
+ghost use Rattle.std.specs.Prelude.{◌≡◌, IfOk};
+ghost use Rattle.sdb_hashed.specs.Section.{section_of as section_of_lem};
+
+use sdb_types::{Duplicate, Key, NoMemory, TableName, Values};
+
+/// One partition of a table.
+#[derive(Debug, Drop, PartialEq, Eq, Hash)]
+pub struct Section {
+    pub table: TableName,
+    pub partition: Values,
+}
+
+impl Section {
+    /// The partition that a key lies in.
+    pub fn of(key: &Key) -> Result<Section, NoMemory>
+        ensures { IfOk result (λ section. section ≡ section_of_lem key.now) }
+    {
+        Section::named(&key.table, &key.partition)
+    }
+
+    pub fn named(table: &TableName, partition: &Values) -> Result<Section, NoMemory>
+        ensures { IfOk result (λ section. section ≡ record { table = table.now; partition = partition.now }) }
+    {
+        Ok(Section {
+            table: table.copy()?,
+            partition: partition.copy()?,
+        })
+    }
+}

@@ -1,0 +1,187 @@
+-- Stores seen through what each shows.
+use Rattle.std.proofs.Common.{◌≡◌, ◌⊎◌, inl, inr, ℕ, suc, zero, ◌+◌, ◌-◌, ◌^◌, ◌<◌, ◌≤◌, List, [], ◌∷◌, ◌++◌, length, map, take, drop, get_or, slice_set, Bool, true, false, not, cond, nat_lt, Option, Some, None, IfOk, Result, refl, sym, ap, subst, ◌∙◌, arith, add-one, add_comm, add_assoc}
+use Rattle.std.specs.Prelude.{slice_get, position, remove, sum_by, Any, IsSomeAnd, unwrap_or}
+use Rattle.std.specs.Option.{option_map}
+use Rattle.std.specs.List.{prefix_len}
+use Rattle.std.specs.Str.{bytes_eq}
+use Rattle.std.proofs.lemmas.List.{map-set, length-map, map-append, take-map, drop-map}
+use Rattle.std.proofs.lemmas.List.Sums.{sum_by-set, sum_by-cons}
+use Rattle.std.proofs.lemmas.List.Quantifiers.{position-Some, any-set}
+use Rattle.std.proofs.lemmas.Option.{slice_get-map, slice_get-get_or, slice_get_within, get_or_from_slice_get}
+use Rattle.std.proofs.lemmas.Slice.Eq.{bytes_eq-Decides}
+use Rattle.sdb_types.specs.Bytes.{HasRisen}
+use Rattle.sdb_types.specs.declared.key.TableName.{TableName}
+use Rattle.sdb_types.specs.Contents.{CanAnswer}
+use Rattle.sdb_types.specs.declared.record.Request.{Request}
+use Rattle.sdb_types.specs.declared.record.Reply.{Reply}
+use Rattle.sdb_types.specs.declared.record.Reply.TheVariants as reply
+use Rattle.sdb_store.specs.Store.{Performs, HasCause}
+use Rattle.sdb_stores.specs.declared.place.Place.{Place}
+use Rattle.sdb_stores.specs.Shelf.{Shelf, IsCallAt, IsTakenOut, HaveCause, names_of, place_of, placed_on, home, home_of, total_faults}
+
+---- places
+
+prefix_len-map : {A B : Type 0} (f : A → B) (p : B → Bool) (xs : List A) → prefix_len p (map f xs) ≡ prefix_len (λ x. p (f x)) xs
+prefix_len-map f p [] = refl
+prefix_len-map f p (x ∷ xs) = ap (λ (n : ℕ). cond (p (f x)) (1 + n) 0) (prefix_len-map f p xs)
+
+position-map : {A B : Type 0} (f : A → B) (p : B → Bool) (xs : List A) → position p (map f xs) ≡ position (λ x. p (f x)) xs
+position-map f p xs =
+    ap (λ (n : ℕ). cond (nat_lt n (length (map f xs))) (Some n) None) (prefix_len-map f (λ y. not (p y)) xs)
+    ∙ ap (λ (m : ℕ). cond (nat_lt (prefix_len (λ x. not (p (f x))) xs) m) (Some (prefix_len (λ x. not (p (f x))) xs)) None) (length-map xs f)
+
+-- a place among the items is one among the names that they show
+pub placed : {A : Type 0} (shelf : A → Shelf) (xs ys : List A) (name : List ℕ) (r : Option ℕ) → ys ≡ xs → r ≡ position (λ x. bytes_eq (shelf x).name name) ys → r ≡ place_of name (names_of (map shelf xs))
+placed shelf xs ys name r same is =
+    is ∙ ap (position (λ x. bytes_eq (shelf x).name name)) same
+    ∙ sym (position-map (λ s. s.name) (λ n. bytes_eq n name) (map shelf xs) ∙ position-map shelf (λ s. bytes_eq s.name name) xs)
+
+names_of-map : {A : Type 0} (shelf : A → Shelf) (xs : List A) → names_of (map shelf xs) ≡ map (λ x. (shelf x).name) xs
+names_of-map shelf [] = refl
+names_of-map shelf (x ∷ xs) = ap (λ ns. (shelf x).name ∷ ns) (names_of-map shelf xs)
+
+pub named : {A E : Type 0} (shelf : A → Shelf) (xs ys : List A) (r : Result (List (List ℕ)) E) → ys ≡ xs → IfOk r (λ names. names ≡ map (λ x. (shelf x).name) ys) → IfOk r (λ names. names ≡ names_of (map shelf xs))
+named shelf xs ys r same h =
+    let e : map (λ x. (shelf x).name) ys ≡ names_of (map shelf xs) = ap (map (λ x. (shelf x).name)) same ∙ sym (names_of-map shelf xs) in
+    subst (λ (ns : List (List ℕ)). IfOk r (λ names. names ≡ ns)) e h
+
+place_within : (name : List ℕ) (names : List (List ℕ)) → 0 < length names → unwrap_or (place_of name names) 0 < length names
+place_within name names some =
+    elim (place_of name names) as (λ o. place_of name names ≡ o → unwrap_or o 0 < length names) [
+      | None ↦ λ e. some
+      | Some i ↦ λ e. (position-Some (λ n. bytes_eq n name) names i [] e).0
+    ] refl
+
+within_home : (o : Option (List ℕ)) (names : List (List ℕ)) → 0 < length names → home_of o names < length names
+within_home None names some = some
+within_home (Some store) names some = place_within store names some
+
+-- the store of a namespace stands among the stores
+pub home_within : {A : Type 0} (shelf : A → Shelf) (xs : List A) (places : List Place) (ns : List ℕ) (at : ℕ) → 0 < length (map shelf xs) → at ≡ home ns places (names_of (map shelf xs)) → at < length xs
+home_within shelf xs places ns at some is =
+    let same : length (names_of (map shelf xs)) ≡ length xs = length-map (map shelf xs) (λ s. s.name) ∙ length-map xs shelf in
+    let n : 0 < length (names_of (map shelf xs)) = omega (arith, same, length-map xs shelf) in
+    let h : home ns places (names_of (map shelf xs)) < length (names_of (map shelf xs)) = within_home (placed_on ns places) (names_of (map shelf xs)) n in
+    omega (arith, same, is)
+
+stands_at : {A : Type 0} (shelf : A → Shelf) (xs : List A) (at : ℕ) (x : A) → at < length xs → x ≡ get_or xs at x → slice_get (map shelf xs) at ≡ Some (shelf x)
+stands_at shelf xs at x inside is = slice_get-map shelf xs at ∙ ap (option_map shelf) (slice_get-get_or xs at x inside) ∙ ap (λ z. Some (shelf z)) (sym is)
+
+pub name_at : {A : Type 0} (shelf : A → Shelf) (xs : List A) (at home : ℕ) (x : A) → at < length xs → x ≡ get_or xs at x → at ≡ home → slice_get (names_of (map shelf xs)) home ≡ Some (shelf x).name
+name_at shelf xs at home x inside is same =
+    subst (λ (i : ℕ). slice_get (names_of (map shelf xs)) i ≡ Some (shelf x).name) same
+    (slice_get-map (λ s. s.name) (map shelf xs) at ∙ ap (option_map (λ s. s.name)) (stands_at shelf xs at x inside is))
+
+pub same_home : (names : List (List ℕ)) (places : List Place) (t u : TableName) (at : ℕ) → at ≡ home t.ns places names → t ≡ u → at ≡ home u.ns places names
+same_home names places t u at is same = is ∙ ap (λ (v : TableName). home v.ns places names) same
+
+---- a call
+
+telling_set : {A : Type 0} (P : A → Type 0) (xs : List A) (at : ℕ) (y : A) → (IsSomeAnd (slice_get xs at) P → P y) → (i : ℕ) → IsSomeAnd (slice_get xs i) P → IsSomeAnd (slice_get (slice_set xs at y) i) P
+telling_set P [] at y f i h = absurd h
+telling_set P (x ∷ xs) zero y f zero h = f h
+telling_set P (x ∷ xs) zero y f (suc i) h = h
+telling_set P (x ∷ xs) (suc at) y f zero h = h
+telling_set P (x ∷ xs) (suc at) y f (suc i) h = telling_set P xs at y f i h
+
+told_at : {A : Type 0} (P : A → Type 0) (xs : List A) (at : ℕ) (x : A) → slice_get xs at ≡ Some x → IsSomeAnd (slice_get xs at) P → P x
+told_at P xs at x e h = subst (λ (o : Option _). IsSomeAnd o P) e h
+
+pub called_at : {A : Type 0} (shelf : A → Shelf) (P : A → Type 0) (xs : List A) (at home : ℕ) (q : Request) (r : Reply) (x y : A) → at < length xs → x ≡ get_or xs at x → at ≡ home
+    → (shelf y).name ≡ (shelf x).name → (P x → P y) → (P x → Performs q r (shelf x).contents (shelf y).contents) → CanAnswer q r → (shelf x).faults ≤ (shelf y).faults → HasCause r (shelf x).faults (shelf y).faults
+    → IsCallAt home q r (map shelf xs) (map shelf (slice_set xs at y)) (λ i. IsSomeAnd (slice_get xs i) P) (λ i. IsSomeAnd (slice_get (slice_set xs at y) i) P)
+called_at shelf P xs at home q r x y inside is same name told performed lawful counted cause =
+    let here : slice_get xs at ≡ Some x = slice_get-get_or xs at x inside ∙ ap Some (sym is) in
+    let call : IsCallAt at q r (map shelf xs) (map shelf (slice_set xs at y)) (λ i. IsSomeAnd (slice_get xs i) P) (λ i. IsSomeAnd (slice_get (slice_set xs at y) i) P) = record {
+      before = shelf x;
+      now = shelf y;
+      stood = stands_at shelf xs at x inside is;
+      rest = map-set shelf xs at y;
+      name = name;
+      performed = λ h. performed (told_at P xs at x here h);
+      lawful = lawful;
+      counted = counted;
+      cause = cause;
+      telling = telling_set P xs at y (λ h. told (told_at P xs at x here h));
+    } in
+    subst (λ (i : ℕ). IsCallAt i q r (map shelf xs) (map shelf (slice_set xs at y)) (λ i. IsSomeAnd (slice_get xs i) P) (λ i. IsSomeAnd (slice_get (slice_set xs at y) i) P)) same call
+
+set_same : {A : Type 0} (xs : List A) (at : ℕ) (x : A) → slice_get xs at ≡ Some x → slice_set xs at x ≡ xs
+set_same [] at x e = refl
+set_same (y ∷ xs) zero x e = let same : y ≡ x = cc in ap (λ z. z ∷ xs) (sym same)
+set_same (y ∷ xs) (suc at) x e = ap (λ zs. y ∷ zs) (set_same xs at x e)
+
+-- a call changes no name
+pub same_names : {t u : ℕ → Type 0} (at : ℕ) (q : Request) (r : Reply) (m n : List Shelf) → IsCallAt at q r m n t u → names_of n ≡ names_of m
+same_names at q r m n call =
+    ap names_of call.rest ∙ map-set (λ s. s.name) m at call.now ∙ ap (slice_set (names_of m) at) call.name
+    ∙ set_same (names_of m) at call.before.name (slice_get-map (λ s. s.name) m at ∙ ap (option_map (λ s. s.name)) call.stood)
+
+balance : {t u : ℕ → Type 0} (at : ℕ) (q : Request) (r : Reply) (m n : List Shelf) (call : IsCallAt at q r m n t u) → total_faults n + call.before.faults ≡ total_faults m + call.now.faults
+balance at q r m n call =
+    let inside : at < length m = slice_get_within m at call.before call.stood in
+    let stood : get_or m at call.before ≡ call.before = get_or_from_slice_get m at call.before call.before call.stood in
+    ap (λ (k : List Shelf). total_faults k + call.before.faults) call.rest
+    ∙ ap (λ (s : Shelf). total_faults (slice_set m at call.now) + s.faults) (sym stood)
+    ∙ sum_by-set (λ s. s.faults) m at call.now call.before inside
+
+pub grown : {t u : ℕ → Type 0} (at : ℕ) (q : Request) (r : Reply) (m n : List Shelf) → IsCallAt at q r m n t u → total_faults m ≤ total_faults n
+grown at q r m n call = omega (arith, balance at q r m n call, call.counted)
+
+risen : {t u : ℕ → Type 0} (at : ℕ) (q : Request) (r : Reply) (m n : List Shelf) (call : IsCallAt at q r m n t u) → HasRisen call.before.faults call.now.faults → (total_faults m < total_faults n) ⊎ Any (λ s. 2 ^ 64 - 1 ≤ s.faults) n
+risen at q r m n call h =
+    elim h [
+      | inl rose ↦ inl (omega (arith, balance at q r m n call, rose))
+      | inr most ↦ inr (subst (Any (λ s. 2 ^ 64 - 1 ≤ s.faults)) (sym call.rest) (any-set (λ s. 2 ^ 64 - 1 ≤ s.faults) m at call.now (slice_get_within m at call.before call.stood) most))
+    ]
+
+-- a fault raises the count of all stores
+pub caused : {t u : ℕ → Type 0} (at : ℕ) (q : Request) (r : Reply) (m n : List Shelf) → IsCallAt at q r m n t u → HaveCause r m n
+caused at q reply.Fault m n call = risen at q reply.Fault m n call call.cause
+caused at q reply.NoMemory m n call = tt
+caused at q (reply.Found found) m n call = tt
+caused at q (reply.Rows rows) m n call = tt
+caused at q reply.Applied m n call = tt
+caused at q (reply.NotMet found) m n call = tt
+
+---- a store taken out
+
+map-remove : {A B : Type 0} (f : A → B) (xs : List A) (i : ℕ) → map f (remove xs i) ≡ remove (map f xs) i
+map-remove f xs i = map-append f (take i xs) (drop (suc i) xs) ∙ ap (λ ys. ys ++ map f (drop (suc i) xs)) (sym (take-map f i xs)) ∙ ap (λ ys. take i (map f xs) ++ ys) (sym (drop-map f (suc i) xs))
+
+told_before : {A : Type 0} (P : A → Type 0) (xs : List A) (at i : ℕ) → i < at → IsSomeAnd (slice_get xs i) P → IsSomeAnd (slice_get (remove xs at) i) P
+told_before P [] at i less h = absurd h
+told_before P (x ∷ xs) zero i less h = absurd (omega arith)
+told_before P (x ∷ xs) (suc at) zero less h = h
+told_before P (x ∷ xs) (suc at) (suc i) less h = told_before P xs at i (omega arith) h
+
+told_behind : {A : Type 0} (P : A → Type 0) (xs : List A) (at i : ℕ) → at ≤ i → IsSomeAnd (slice_get xs (suc i)) P → IsSomeAnd (slice_get (remove xs at) i) P
+told_behind P [] at i most h = absurd h
+told_behind P (x ∷ xs) zero i most h = h
+told_behind P (x ∷ xs) (suc at) zero most h = absurd (omega arith)
+told_behind P (x ∷ xs) (suc at) (suc i) most h = told_behind P xs at i (omega arith) h
+
+pub taken_out : {A : Type 0} (shelf : A → Shelf) (P : A → Type 0) (xs ys : List A) (name : List ℕ) (at : ℕ) (x : A) → Some at ≡ place_of name (names_of (map shelf xs)) → x ≡ get_or xs at x → ys ≡ remove xs at
+    → IsTakenOut name (record { name = name; contents = (shelf x).contents; faults = (shelf x).faults }) (P x) (map shelf xs) (map shelf ys) (λ i. IsSomeAnd (slice_get xs i) P) (λ i. IsSomeAnd (slice_get ys i) P)
+taken_out shelf P xs ys name at x found is out =
+    let place : (at < length (names_of (map shelf xs))) × (bytes_eq (get_or (names_of (map shelf xs)) at []) name ≡ true) × ((k : ℕ) → k < at → bytes_eq (get_or (names_of (map shelf xs)) k []) name ≡ false) = position-Some (λ n. bytes_eq n name) (names_of (map shelf xs)) at [] (sym found) in
+    let inside : at < length xs = omega (arith, place.0, length-map (map shelf xs) (λ s. s.name), length-map xs shelf) in
+    let stands : slice_get (map shelf xs) at ≡ Some (shelf x) = stands_at shelf xs at x inside is in
+    let own : (shelf x).name ≡ name = sym (get_or_from_slice_get (names_of (map shelf xs)) at (shelf x).name [] (name_at shelf xs at at x inside is refl)) ∙ (bytes_eq-Decides (get_or (names_of (map shelf xs)) at []) name).0 place.1 in
+    record {
+      at = at;
+      found = sym found;
+      taken = stands ∙ ap (λ n. Some (record { name = n; contents = (shelf x).contents; faults = (shelf x).faults })) own;
+      rest = ap (map shelf) out ∙ map-remove shelf xs at;
+      telling = told_at P xs at x (slice_get-get_or xs at x inside ∙ ap Some (sym is));
+      before = λ i less h. subst (λ (zs : List _). IsSomeAnd (slice_get zs i) P) (sym out) (told_before P xs at i less h);
+      behind = λ i most h. subst (λ (zs : List _). IsSomeAnd (slice_get zs i) P) (sym out) (told_behind P xs at i most (rw (← add-one) h));
+    }
+
+less_one : {A : Type 0} (f : A → ℕ) (xs : List A) (at : ℕ) (x : A) → slice_get xs at ≡ Some x → sum_by f (remove xs at) + f x ≡ sum_by f xs
+less_one f [] at x e = cc
+less_one f (y ∷ xs) zero x e = let same : y ≡ x = cc in add_comm (sum_by f xs) (f x) ∙ ap (λ z. f z + sum_by f xs) (sym same) ∙ sym (sum_by-cons f y xs)
+less_one f (y ∷ xs) (suc at) x e = ap (λ n. n + f x) (sum_by-cons f y (remove xs at)) ∙ add_assoc (f y) (sum_by f (remove xs at)) (f x) ∙ ap (λ n. f y + n) (less_one f xs at x e) ∙ sym (sum_by-cons f y xs)
+
+pub counted_out : {t u : ℕ → Type 0} (name : List ℕ) (store : Shelf) (handed : Type 0) (m n : List Shelf) → IsTakenOut name store handed m n t u → total_faults n + store.faults ≡ total_faults m
+counted_out name store handed m n h = ap (λ (k : List Shelf). total_faults k + store.faults) h.rest ∙ less_one (λ s. s.faults) m h.at store h.taken

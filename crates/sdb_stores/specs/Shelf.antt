@@ -1,0 +1,89 @@
+-- Stores by name, as their callers see them.
+use Rattle.std.specs.Prelude.{◌≡◌, ◌⊎◌, ◌<◌, ◌≤◌, ◌+◌, ◌-◌, ◌^◌, ℕ, not, List, map, filter, find, position, sum_by, Any, Option, Some, None, unwrap_or, slice_get, slice_set, remove}
+use Rattle.std.specs.Option.{option_map}
+use Rattle.std.specs.Str.{bytes_eq}
+use Rattle.sdb_types.specs.declared.key.TableName.{TableName}
+use Rattle.sdb_types.specs.declared.record.Request.{Request}
+use Rattle.sdb_types.specs.declared.record.Request.TheVariants as ask
+use Rattle.sdb_types.specs.declared.record.Reply.{Reply}
+use Rattle.sdb_types.specs.declared.record.Reply.TheVariants as reply
+use Rattle.sdb_types.specs.Contents.{Contents, CanAnswer}
+use Rattle.sdb_store.specs.Store.{Performs, HasCause}
+use Rattle.sdb_stores.specs.declared.place.Place.{Place}
+
+-- a store: its name, what it holds where it tells that, and how often it has failed
+pub record Shelf : Type 0 where
+  pub name : List ℕ
+  pub contents : Contents
+  pub faults : ℕ
+
+abbrev pub names_of : List Shelf → List (List ℕ)
+names_of shelves = map (λ s. s.name) shelves
+
+-- where a name stands
+abbrev pub place_of : List ℕ → List (List ℕ) → Option ℕ
+place_of name names = position (λ n. bytes_eq n name) names
+
+-- the name of the store that a namespace is placed on
+abbrev pub placed_on : List ℕ → List Place → Option (List ℕ)
+placed_on ns places = option_map (λ p. p.store) (find (λ p. bytes_eq p.ns ns) places)
+
+abbrev pub home_of : Option (List ℕ) → List (List ℕ) → ℕ
+home_of None names = 0
+home_of (Some store) names = unwrap_or (place_of store names) 0
+
+-- where the store of a namespace stands: the one that it is placed on, and otherwise the first
+abbrev pub home : List ℕ → List Place → List (List ℕ) → ℕ
+home ns places names = home_of (placed_on ns places) names
+
+-- the places that name another store
+abbrev pub places_without : List ℕ → List Place → List Place
+places_without store places = filter (λ p. not (bytes_eq p.store store)) places
+
+-- the table that a request is about
+abbrev pub table_of : Request → TableName
+table_of (ask.Get key) = key.table
+table_of (ask.Scan span) = span.table
+table_of (ask.PutIf r condition) = r.key.table
+table_of (ask.DeleteIf key condition) = key.table
+
+-- One call on the store at that place. Every other store stays as it was, and each store that told what it holds goes
+-- on telling it.
+pub record IsCallAt (at : ℕ) (q : Request) (r : Reply) (old new : List Shelf) (told tells : ℕ → Type 0) : Type 0 where
+  pub before : Shelf
+  pub now : Shelf
+  pub stood : slice_get old at ≡ Some before
+  pub rest : new ≡ slice_set old at now
+  pub name : now.name ≡ before.name
+  pub performed : told at → Performs q r before.contents now.contents
+  pub lawful : CanAnswer q r
+  pub counted : before.faults ≤ now.faults
+  pub cause : HasCause r before.faults now.faults
+  pub telling : (i : ℕ) → told i → tells i
+
+-- The store of that name was taken out, as this one, and the others stay in their order, each telling what it told.
+pub record IsTakenOut (name : List ℕ) (store : Shelf) (handed : Type 0) (old new : List Shelf) (told tells : ℕ → Type 0) : Type 0 where
+  pub at : ℕ
+  pub found : place_of name (names_of old) ≡ Some at
+  pub taken : slice_get old at ≡ Some store
+  pub rest : new ≡ remove old at
+  pub telling : told at → handed
+  pub before : (i : ℕ) → i < at → told i → tells i
+  pub behind : (i : ℕ) → at ≤ i → told (i + 1) → tells i
+
+-- the count of all stores together
+abbrev pub total_faults : List Shelf → ℕ
+total_faults shelves = sum_by (λ s. s.faults) shelves
+
+-- The count of all stores rose, or that of one of them stands at the greatest value of its type.
+abbrev pub HaveRisen : List Shelf → List Shelf → Type 0
+HaveRisen old new = (total_faults old < total_faults new) ⊎ Any (λ s. 2 ^ 64 - 1 ≤ s.faults) new
+
+-- A fault comes only where the count of all stores rose.
+abbrev pub HaveCause : Reply → List Shelf → List Shelf → Type 0
+HaveCause reply.Fault old new = HaveRisen old new
+HaveCause reply.NoMemory old new = Unit {0}
+HaveCause (reply.Found found) old new = Unit {0}
+HaveCause (reply.Rows rows) old new = Unit {0}
+HaveCause reply.Applied old new = Unit {0}
+HaveCause (reply.NotMet found) old new = Unit {0}
