@@ -1,2 +1,4 @@
 pub mod Texts
 pub mod Report
+pub mod SqlTokens
+pub mod Sql

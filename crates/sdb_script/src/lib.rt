@@ -4,3 +4,6 @@
 mod report;
 
 pub use report::report_text;
+
+#[cfg(test)]
+mod tests;
