@@ -1,6 +1,7 @@
 -- The tokens of a statement's text: how each is spelled, which stands where, and the bytes that begin none. The longest
 -- token is taken. Tokens are separated by spaces and tabs, or by nothing where it is clear where one ends.
 use Rattle.std.specs.Prelude.{ℕ, ℤ, pos, negsuc, zero, suc, ◌+◌, ◌-◌, ◌*◌, ◌^◌, ◌==◌, nat_le, nat_lt, Bool, false, not, ◌&&◌, ◌||◌, if◌then◌else◌, List, [], ◌∷◌, ◌++◌, length, map, take, drop, codes, Option, Some, None, is_some, Result, Ok, Err, find, fold}
+use Rattle.std.specs.Char.{to_ascii_lowercase}
 use Rattle.std.specs.List.{prefix_len, position_or_len, starts_with}
 use Rattle.std.specs.Str.{is_utf8, bytes_eq}
 use Rattle.hex.specs.Hex.{decode_of}
@@ -44,12 +45,12 @@ keywords =
     word.Begin ∷ word.Commit ∷ word.Rollback ∷ word.Vacuum ∷ word.Insert ∷ word.Upsert ∷ word.Into ∷ word.Values ∷ word.Update ∷ word.Set ∷ word.Where
     ∷ word.Delete ∷ word.From ∷ word.Select ∷ word.Limit ∷ word.And ∷ word.Is ∷ word.Not ∷ word.Null ∷ word.True ∷ word.False ∷ []
 
-abbrev pub upper : ℕ → ℕ
-upper b = if nat_le 97 b && nat_le b 122 then b - 32 else b
+abbrev pub lower : List ℕ → List ℕ
+lower = map to_ascii_lowercase
 
 -- the keyword that a word spells, in any case
 unfoldable pub keyword_of : List ℕ → Option Keyword
-keyword_of text = find (λ k. bytes_eq (map upper text) (keyword_text k)) keywords
+keyword_of text = find (λ k. bytes_eq (lower text) (lower (keyword_text k))) keywords
 
 abbrev pub sign_text : Sign → List ℕ
 sign_text sign.NotEqual = codes "<>"
@@ -205,8 +206,8 @@ sign_token None = Err Bad
 unfoldable pub token_at : List ℕ → Lexeme
 token_at bytes =
     if begins is_start bytes then letter_at bytes
-    else if begins (λ b. b == 34) bytes then quoted_name_at (drop 1 bytes)
     else if begins is_digit bytes then number_at bytes
+    else if begins (λ b. b == 34) bytes then quoted_name_at (drop 1 bytes)
     else if begins (λ b. b == 45) bytes then negative_at (drop 1 bytes)
     else if begins is_single_quote bytes then text_at (drop 1 bytes)
     else sign_token (sign_of bytes)
