@@ -9,3 +9,5 @@ pub mod Images
 pub mod Transactions
 pub mod Told
 pub mod Form
+pub mod SqlTokens
+pub mod Sql

@@ -6,6 +6,7 @@ mod event;
 mod script;
 mod statement;
 mod text;
+mod token;
 
 pub use answer::{Answer, Refusal, Rows};
 pub use event::{Event, Events, How, Outcome, Point, Points, TableDump, TableRows};
@@ -15,3 +16,4 @@ pub use text::{
     answer_text, key_text, put_answer, put_columns, put_id, put_key, put_number, put_record,
     put_row, put_signed, put_span, put_table, put_value,
 };
+pub use token::{Keyword, Placed, Sign, Token};

@@ -10,3 +10,6 @@ mod scan;
 pub use draft::Form;
 pub use form::{FormRefused, MOST_BYTES, form_is_exact, read_form};
 pub use report::report_text;
+
+#[cfg(test)]
+mod tests;

@@ -1,0 +1,62 @@
+//! Why no token, or no step, is taken.
+ghost use Rattle.std.specs.Prelude.{◌≡◌};
+ghost use Rattle.sdb_sqltext.specs.declared.fault.LexError.TheVariants.{NoMemory as OutOfMemory};
+ghost use Rattle.sdb_sqltext.specs.declared.fault.ParseRefused.TheVariants.{NoMemory as RefusedNoMemory};
+
+use sdb_types::NoMemory;
+use std::alloc::{AllocError, AllocFailed};
+use thiserror::Error;
+
+#[derive(Clone, Copy, Debug, PartialEq, Eq)]
+pub enum LexError {
+    NoMemory,
+    /// No token begins here.
+    Bad,
+    /// A number outside 64 signed bits.
+    Wide,
+}
+
+impl From<NoMemory> for LexError {
+    ghost from_gives = { λ _ e. e ≡ OutOfMemory };
+
+    fn from(_e: NoMemory) -> LexError {
+        LexError::NoMemory
+    }
+}
+
+impl From<AllocError> for LexError {
+    ghost from_gives = { λ _ e. e ≡ OutOfMemory };
+
+    fn from(_e: AllocError) -> LexError {
+        LexError::NoMemory
+    }
+}
+
+impl<T: Drop> From<AllocFailed<T>> for LexError {
+    ghost from_gives = { λ _ e. e ≡ OutOfMemory };
+
+    fn from(_e: AllocFailed<T>) -> LexError {
+        LexError::NoMemory
+    }
+}
+
+/// Why a text is no statement. A place is an offset in bytes.
+#[derive(Clone, Copy, Debug, PartialEq, Eq, Error)]
+pub enum ParseRefused {
+    #[error("no token begins at {0}")]
+    BadToken(usize),
+    #[error("no statement goes on at {0}")]
+    NotAStatement(usize),
+    #[error("a number out of range at {0}")]
+    TooWide(usize),
+    #[error("out of memory")]
+    NoMemory,
+}
+
+impl From<NoMemory> for ParseRefused {
+    ghost from_gives = { λ _ e. e ≡ RefusedNoMemory };
+
+    fn from(_e: NoMemory) -> ParseRefused {
+        ParseRefused::NoMemory
+    }
+}

@@ -1,0 +1,6 @@
+//! Statements as text: reading and printing.
+#![tactic(auto)]
+
+mod fault;
+mod lexer;
+mod marks;
