@@ -75,7 +75,7 @@ fn id_of_values(values: &[Value]) -> Option<TxId>
 }
 
 #[tactic(auto, unfolding(crate::specs::Coordinator::id_of_key))]
-fn id_of_row(key: &Key) -> Option<TxId>
+pub fn id_of_row(key: &Key) -> Option<TxId>
     ensures { result ≡ id_of_key key.now }
 {
     if !is_coordinator(&key.table) || key.clustering.len() > 0 {
