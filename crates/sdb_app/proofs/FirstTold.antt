@@ -59,7 +59,7 @@ no_length : {A : Type 0} (es : List A) → length es ≡ 0 → es ≡ []
 no_length [] e = refl
 no_length (x ∷ es) e = absurd (omega arith)
 
-no_entries : entries (empty {X = List Pair} {R = key_cmp}) ≡ []
+pub no_entries : entries (empty {X = List Pair} {R = key_cmp}) ≡ []
 no_entries = no_length _ (sym (len-entries empty) ∙ len-empty key_cmp (List Pair))
 
 one_row : (n m : ℤ) → entries (last_tables n m) ≡ (account_key n, account_columns m) ∷ []

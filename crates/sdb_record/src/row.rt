@@ -74,6 +74,7 @@ fn id_of_values(values: &[Value]) -> Option<TxId>
     }
 }
 
+/// The transaction whose coordinator row has this key, or none where it is no such key. Takes no memory.
 #[tactic(auto, unfolding(crate::specs::Coordinator::id_of_key))]
 pub fn id_of_row(key: &Key) -> Option<TxId>
     ensures { result ≡ id_of_key key.now }

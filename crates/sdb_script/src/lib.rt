@@ -7,7 +7,7 @@ mod lines;
 mod report;
 mod scan;
 
-pub use draft::Form;
+pub use draft::{Form, insert_text};
 pub use form::{FormRefused, MOST_BYTES, form_is_exact, read_form};
 pub use report::report_text;
 
