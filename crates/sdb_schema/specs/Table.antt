@@ -112,17 +112,22 @@ none_of (n ∷ ns) = None
 unfoldable pub checked_table : Table → Result Table TableRefused
 checked_table t =
     refuse (none_of t.partition) (λ u. refused.NoPartitionKey)
-    (refuse (first_unknown t.columns (t.partition ++ (order_names t.clustering ++ t.indexed))) refused.UnknownColumn
+    (refuse (first_unknown t.columns (key_names t)) refused.UnknownColumn
+    (refuse (first_unknown t.columns t.indexed) refused.UnknownColumn
     (refuse (first_listed_twice t.columns) refused.RepeatedColumn
     (refuse (first_repeated [] (key_names t)) refused.RepeatedColumn
     (refuse (first_reserved t.columns) refused.ReservedName
     (refuse (limit_passed t) refused.TooMany
-    (Ok t))))))
+    (Ok t)))))))
 
 -- A table as it may be used: its columns in the order of their names, each with an identifier of at most 64 bytes, and no
 -- refusal.
 abbrev pub is_table : Table → Bool
 is_table t = rises t.columns && (list_all (λ c. is_column_name c.name) t.columns && is_ok (checked_table t))
+
+-- columns with names of at most 64 bytes
+abbrev pub are_short : List Column → Bool
+are_short cs = list_all (λ c. nat_le (length c.name) 64) cs
 
 -- A refusal that comes; want of memory may stand in the place of any outcome.
 abbrev pub Refuses : Result Table TableRefused → TableRefused → Type 0

@@ -1,0 +1,7 @@
+use Rattle.std.proofs.Common.{◌≡◌, ◌∙◌, sym, ap, rules, true, [], subst}
+use Rattle.sdb_schema.specs.Table.{rises, put_columns, in_order}
+use Rattle.sdb_schema.proofs.ColumnOrder.{in_order-rising}
+use Rattle.sdb_schema.proofs.make.ordered.Goals as goal
+
+pub returns-then-names_rise : goal.returns-then-names_rise
+returns-then-names_rise c = sym (in_order-rising c.args.columns (search rules))
