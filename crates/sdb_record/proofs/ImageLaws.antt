@@ -205,3 +205,9 @@ written o id f small h =
     found : (f : Option TxId) → option_map_or (λ (x : TxId). eqb x.0 id.0) f false ≡ true → id_in_value o ≡ f → has_value o (value.Text (id_text id.0)) ≡ true
     found None k e = absurd (cc)
     found (Some x) k e = subst (λ (n : ℕ). has_value o (value.Text (id_text n)) ≡ true) ((Decides-eqb x.0 id.0).0 k) (id-value o x e)
+
+pub checked-state : (ps : List Pair) (m : Meta) → checked ps ≡ Ok m → is_in Committed ps ≡ is_committed m.state
+checked-state ps m h =
+    let t = taken ps m h in
+    let same = final-says ps t.0 m t.2 in
+    is_in-says ps t.0.state Committed t.1.says.state ∙ says-committed t.0.state ∙ ap is_committed same.1
