@@ -1,15 +1,14 @@
 -- The order of a table's keys is total, and only equal keys tie.
-use Rattle.std.proofs.Common.{◌≡◌, List, [], ◌∷◌, refl, sym, ap, ◌∙◌, subst}
+use Rattle.std.proofs.Common.{◌≡◌, List, [], ◌∷◌, refl, sym, ap, ◌∙◌}
 use Rattle.std.specs.declared.cmp.Ordering.{Ordering}
 use Rattle.std.specs.declared.cmp.Ordering.TheVariants.{Less, Equal, Greater}
-use Rattle.std.specs.Ordering.{ordering_then, ordering_reverse, on, then_cmp}
+use Rattle.std.specs.Ordering.{ordering_reverse, on, then_cmp}
 use Rattle.std.specs.Cmp.{IsTotalOrder}
-use Rattle.std.specs.Cmp.Lexicographic.{slice_cmp, lists_total}
+use Rattle.std.specs.Cmp.Lexicographic.{lists_total}
 use Rattle.std.specs.FinMap.{IsAntisymmetric, slice_cmp-IsAntisymmetric}
 use Rattle.std.proofs.lemmas.Cmp.{on_total, then_total}
 use Rattle.sdb_types.specs.declared.value.Value.{Value}
-use Rattle.sdb_types.specs.declared.key.Key.{Key}
-use Rattle.sdb_types.specs.Order.{value_cmp, table_cmp}
+use Rattle.sdb_types.specs.Order.{value_cmp}
 use Rattle.sdb_types.specs.ValueLaws.{then_equal, value_exact, value_total}
 use Rattle.sdb_types.proofs.KeyOrder.{table_exact, table_total}
 use Rattle.sdb_schema.specs.declared.table.Direction.{Direction}

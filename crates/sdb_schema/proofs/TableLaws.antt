@@ -1,5 +1,5 @@
 -- What passes the checks is a table.
-use Rattle.std.proofs.Common.{◌≡◌, List, [], Bool, true, ◌&&◌, refl, sym, ap, ◌∙◌, subst, Option, Some, None, Result, Ok, Err}
+use Rattle.std.proofs.Common.{◌≡◌, List, [], true, refl, sym, ap, ◌∙◌, Option, Some, None, Result, Ok}
 use Rattle.std.specs.Prelude.{is_ok}
 use Rattle.std.specs.List.{list_all}
 use Rattle.sdb_types.specs.Identifier.{is_name}
@@ -8,7 +8,7 @@ use Rattle.sdb_record.specs.Parts.{is_column_name}
 use Rattle.sdb_schema.specs.declared.table.Column.{Column}
 use Rattle.sdb_schema.specs.declared.table.Table.{Table}
 use Rattle.sdb_schema.specs.declared.make.TableRefused.{TableRefused}
-use Rattle.sdb_schema.specs.Table.{refuse, none_of, first_unknown, key_names, first_listed_twice, first_repeated, first_reserved, limit_passed, checked_table, in_order, rises, is_table, are_short}
+use Rattle.sdb_schema.specs.Table.{refuse, none_of, first_unknown, key_names, first_listed_twice, checked_table, in_order, rises, is_table, are_short}
 use Rattle.sdb_schema.proofs.ColumnOrder.{in_order-rises, all-put_columns, column-names}
 
 refuse-ok : {A B : Type 0} (o : Option A) (f : A → TableRefused) (next : Result B TableRefused) (y : B) → refuse o f next ≡ Ok y → (o ≡ None) × (next ≡ Ok y)

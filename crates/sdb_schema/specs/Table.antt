@@ -1,14 +1,12 @@
 -- What a table is, and why columns and keys make none.
-use Rattle.std.specs.Prelude.{◌≡◌, ℕ, Bool, true, false, not, ◌&&◌, ◌||◌, if◌then◌else◌, nat_le, List, [], ◌∷◌, ◌++◌, length, map, find, Option, Some, None, is_some, Result, Ok, Err, is_ok, ◌==◌, codes}
-use Rattle.std.specs.Option.{option_map, option_map_or}
+use Rattle.std.specs.Prelude.{◌≡◌, ℕ, Bool, true, false, not, ◌&&◌, ◌||◌, if◌then◌else◌, nat_le, List, [], ◌∷◌, ◌++◌, length, map, find, Option, Some, None, Result, Ok, Err, is_ok}
+use Rattle.std.specs.Option.{option_map}
 use Rattle.std.specs.List.{list_all, list_any}
-use Rattle.std.specs.Ordering.{is_lt, is_eq}
+use Rattle.std.specs.Ordering.{is_lt}
 use Rattle.sdb_types.specs.Order.{name_cmp}
 use Rattle.sdb_record.specs.Names.{is_user, same_name}
 use Rattle.sdb_record.specs.Parts.{is_column_name}
-use Rattle.sdb_types.specs.declared.key.TableName.{TableName}
 use Rattle.sdb_schema.specs.declared.table.Kind.{Kind}
-use Rattle.sdb_schema.specs.declared.table.Kind.TheVariants as kind
 use Rattle.sdb_schema.specs.declared.table.Column.{Column}
 use Rattle.sdb_schema.specs.declared.table.Order.{Order}
 use Rattle.sdb_schema.specs.declared.table.Table.{Table}

@@ -1,4 +1,4 @@
-use Rattle.std.proofs.Common.{◌≡◌, ◌∙◌, ap, sym, rules, length}
+use Rattle.std.proofs.Common.{◌≡◌, ◌∙◌, ap, length}
 use Rattle.std.specs.Prelude.{insert, take_while}
 use Rattle.sdb_schema.proofs.CatalogLaws.{with_table-is, below}
 use Rattle.sdb_schema.proofs.catalog.put.Goals as goal

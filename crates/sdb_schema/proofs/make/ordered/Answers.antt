@@ -1,5 +1,4 @@
-use Rattle.std.proofs.Common.{◌≡◌, ◌∙◌, sym, ap, rules, true, [], subst}
-use Rattle.sdb_schema.specs.Table.{rises, put_columns, in_order}
+use Rattle.std.proofs.Common.{sym, rules}
 use Rattle.sdb_schema.proofs.ColumnOrder.{in_order-rising}
 use Rattle.sdb_schema.proofs.make.ordered.Goals as goal
 

@@ -1,4 +1,4 @@
-use Rattle.std.proofs.Common.{◌≡◌, ◌∙◌, OnOk, ap, sym, rules, length}
+use Rattle.std.proofs.Common.{◌≡◌, ◌∙◌, ap, length}
 use Rattle.std.specs.Prelude.{insert, take_while}
 use Rattle.sdb_schema.proofs.ColumnOrder.{put_column-is, below}
 use Rattle.sdb_schema.proofs.make.put.Goals as goal

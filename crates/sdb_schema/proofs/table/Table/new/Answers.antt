@@ -1,7 +1,4 @@
-use Rattle.std.proofs.Common.{◌≡◌, ◌∙◌, ap, sym, subst, true, List, rules}
-use Rattle.std.specs.List.{list_all}
-use Rattle.sdb_types.specs.Identifier.{is_name}
-use Rattle.sdb_schema.specs.declared.table.Column.{Column}
+use Rattle.std.proofs.Common.{rules}
 use Rattle.sdb_schema.proofs.TableLaws.{made}
 use Rattle.sdb_schema.proofs.table.Table.new.Goals as goal
 
