@@ -1,22 +1,20 @@
 -- Columns set one after another.
-use Rattle.std.proofs.Common.{◌≡◌, ℕ, List, [], ◌∷◌, ◌++◌, Bool, true, false, not, ◌&&◌, cond, refl, sym, ap, ◌∙◌, subst, arith, append_assoc, Option, Some, None}
-use Rattle.std.specs.Prelude.{if◌then◌else◌, filter}
-use Rattle.std.specs.List.{list_all, filter_map, cons_option}
-use Rattle.std.specs.Option.{option_map}
+use Rattle.std.proofs.Common.{◌≡◌, ℕ, List, [], ◌∷◌, ◌++◌, Bool, true, false, not, ◌&&◌, cond, refl, sym, ap, ◌∙◌, subst, append_assoc, Some, None}
+use Rattle.std.specs.Prelude.{filter}
+use Rattle.std.specs.List.{list_all}
 use Rattle.std.specs.declared.cmp.Ordering.{Ordering}
 use Rattle.std.specs.declared.cmp.Ordering.TheVariants.{Less, Equal, Greater}
-use Rattle.std.specs.Ordering.{is_lt, is_eq, ordering_reverse}
-use Rattle.sdb_types.specs.declared.value.Value.{Value}
+use Rattle.std.specs.Ordering.{is_lt, ordering_reverse}
 use Rattle.sdb_types.specs.declared.pair.Pair.{Pair}
 use Rattle.sdb_types.specs.Order.{name_cmp}
-use Rattle.sdb_types.specs.Columns.{is_null, starts_above, are_columns, put_pair, take_out, with_column, choose_by}
+use Rattle.sdb_types.specs.Columns.{is_null, starts_above, are_columns, put_pair, with_column}
 use Rattle.sdb_types.proofs.Bools.{and_first, and_second, and_both}
 use Rattle.sdb_types.proofs.KeyOrder.{name_exact, name_total}
 use Rattle.sdb_types.proofs.ColumnLemmas.{by_order}
 use Rattle.std.proofs.lemmas.List.{append-nil}
-use Rattle.std.specs.Prelude.{is_some, map, nat_le, length}
+use Rattle.std.specs.Prelude.{is_some, map}
 use Rattle.sdb_record.specs.Names.{before_name, base_name, is_before, is_meta}
-use Rattle.sdb_record.specs.Parts.{with_columns, before_pair, base_pair, before_part, are_user_columns, is_user_pair, is_column_name}
+use Rattle.sdb_record.specs.Parts.{with_columns, before_pair, before_part, are_user_columns, is_user_pair, is_column_name}
 use Rattle.sdb_record.proofs.NameLemmas.{base_name-before_name, base_name-is}
 
 pub swapped : (a b : List ℕ) (r : Ordering) → name_cmp a b ≡ r → name_cmp b a ≡ ordering_reverse r

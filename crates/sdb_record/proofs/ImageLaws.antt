@@ -1,25 +1,24 @@
 -- Images, versions and decisions.
-use Rattle.std.proofs.Common.{◌≡◌, ℕ, ℤ, pos, ◌<◌, ◌^◌, List, [], ◌∷◌, Bool, true, false, not, ◌&&◌, cond, refl, sym, ap, ◌∙◌, subst, Option, Some, None, Ok, Err, Result, IfSome}
-use Rattle.std.specs.Prelude.{is_ok, is_some, find}
+use Rattle.std.proofs.Common.{◌≡◌, ℕ, ℤ, pos, ◌<◌, ◌^◌, List, Bool, true, false, not, cond, refl, sym, ap, ◌∙◌, subst, Option, Some, None, Ok, Err, Result, IfSome}
+use Rattle.std.specs.Prelude.{find}
 use Rattle.std.specs.Ordering.{is_eq}
 use Rattle.std.specs.Cmp.{tied_itself, both_ways}
 use Rattle.std.proofs.Common.{eqb}
 use Rattle.std.proofs.lemmas.Bool.Decides.{Decides-eqb}
-use Rattle.std.specs.Option.{option_map, option_map_or}
+use Rattle.std.specs.Option.{option_map_or}
 use Rattle.std.specs.List.{list_any}
 use Rattle.sdb_types.specs.declared.value.Value.{Value}
 use Rattle.sdb_types.specs.declared.value.Value.TheVariants as value
 use Rattle.sdb_types.specs.declared.pair.Pair.{Pair}
-use Rattle.sdb_types.specs.declared.key.Key.{Key}
 use Rattle.sdb_types.specs.declared.record.Record.{Record}
 use Rattle.sdb_types.specs.declared.record.State.{State}
-use Rattle.sdb_types.specs.declared.record.State.TheVariants.{Prepared, Deleted, Committed, Aborted}
+use Rattle.sdb_types.specs.declared.record.State.TheVariants.{Deleted, Committed}
 use Rattle.sdb_types.specs.declared.txid.TxId.{TxId}
 use Rattle.sdb_types.specs.TxId.{id_text}
 use Rattle.sdb_types.specs.ValueLaws.{value_total}
 use Rattle.sdb_types.specs.Columns.{column}
 use Rattle.sdb_types.specs.Contents.{tx_id, tx_state, state_number, has_value, is_version}
-use Rattle.sdb_types.proofs.Bools.{and_first, and_second, and_both}
+use Rattle.sdb_types.proofs.Bools.{and_first, and_both}
 use Rattle.sdb_record.specs.declared.meta.Meta.{Meta}
 use Rattle.sdb_record.specs.declared.write.Change.{Change}
 use Rattle.sdb_record.specs.declared.write.Change.TheVariants as change
@@ -27,19 +26,17 @@ use Rattle.sdb_record.specs.declared.write.Write.{Write}
 use Rattle.sdb_record.specs.declared.coordinator.Decision.{Decision}
 use Rattle.sdb_record.specs.declared.coordinator.Decision.TheVariants as decision
 use Rattle.sdb_record.specs.declared.coordinator.Decided.{Decided}
-use Rattle.sdb_record.specs.Names.{tx_tombstone, tx_created_at, same_name}
+use Rattle.sdb_record.specs.Names.{tx_tombstone, tx_created_at}
 use Rattle.sdb_record.specs.Parts.{before_record, before_part, is_before_pair, are_stored, user_columns}
-use Rattle.sdb_record.specs.Ids.{id_of_text}
-use Rattle.sdb_record.specs.Meta.{checked, id_in, id_in_value, is_in, is_taken, is_unresolved, is_moment, moment_in_value, any_state, checked_before, checked_part, with_before, refuse, is_misnamed, is_committed}
+use Rattle.sdb_record.specs.Meta.{checked, id_in, id_in_value, is_in, is_taken, is_unresolved, is_moment, moment_in_value, checked_before, checked_part, with_before, refuse, is_misnamed, is_committed}
 use Rattle.sdb_record.specs.Coordinator.{coordinator_key_of, coordinator_row_of, id_of_key, decision_in, decision_in_value, decision_number}
-use Rattle.sdb_record.specs.Rolls.{prepared_record, forward_record, forward_columns, back_of, back_to, image_of, image_under, row_of_image, row_of_change, is_tombstone, new_columns, state_of_change, next_version, base_columns, IsWrite}
-use Rattle.sdb_record.proofs.NameLemmas.{same_name-itself}
+use Rattle.sdb_record.specs.Rolls.{prepared_record, forward_record, forward_columns, back_of, back_to, image_of, image_under, row_of_image, row_of_change, new_columns, state_of_change, next_version, base_columns, IsWrite}
 use Rattle.sdb_record.proofs.IdLemmas.{id_of_text-id_text, id_of_text-is}
-use Rattle.sdb_record.proofs.Fine.{ok-of, taken, has_value-is, Fine, refuse-ok, need-some}
+use Rattle.sdb_record.proofs.Fine.{taken, has_value-is, refuse-ok, need-some}
 use Rattle.sdb_record.proofs.States.{state_value, is_in-says, says-committed}
-use Rattle.sdb_record.proofs.RollLaws.{has_int, forward-id, forward-in, forward-tombstone, forward-user, forward-taken, forward-committed, forward-key, before-kept, Kept, mark_value}
-use Rattle.sdb_record.proofs.WriteLaws.{marked, marked-id, marked-state, marked-other, marked-user, with_base, row-kept, fitting, no-column}
-use Rattle.sdb_record.proofs.TakenLaws.{left_columns, prepared-columns, prepared-key, prepared-base, open-left, left-taken, left-checked, other-meta, absent-column}
+use Rattle.sdb_record.proofs.RollLaws.{has_int, forward-id, forward-in, forward-tombstone, forward-user, forward-taken, forward-committed, forward-key, before-kept, mark_value}
+use Rattle.sdb_record.proofs.WriteLaws.{marked-id, marked-state, marked-other, marked-user, with_base, row-kept, fitting, no-column}
+use Rattle.sdb_record.proofs.TakenLaws.{prepared-columns, prepared-key, prepared-base, left-taken, other-meta, absent-column}
 
 ---- what a transaction left
 
@@ -205,3 +202,9 @@ written o id f small h =
     found : (f : Option TxId) → option_map_or (λ (x : TxId). eqb x.0 id.0) f false ≡ true → id_in_value o ≡ f → has_value o (value.Text (id_text id.0)) ≡ true
     found None k e = absurd (cc)
     found (Some x) k e = subst (λ (n : ℕ). has_value o (value.Text (id_text n)) ≡ true) ((Decides-eqb x.0 id.0).0 k) (id-value o x e)
+
+pub checked-state : (ps : List Pair) (m : Meta) → checked ps ≡ Ok m → is_in Committed ps ≡ is_committed m.state
+checked-state ps m h =
+    let t = taken ps m h in
+    let same = final-says ps t.0 m t.2 in
+    is_in-says ps t.0.state Committed t.1.says.state ∙ says-committed t.0.state ∙ ap is_committed same.1

@@ -1,6 +1,5 @@
 -- Names with a prefix.
-use Rattle.std.proofs.Common.{◌≡◌, ◌≢◌, ℕ, List, [], ◌∷◌, ◌++◌, drop, length, Bool, true, false, eqb, cond, refl, sym, ap, ◌∙◌, subst, arith, Option, Some, None, IfSome, MatchOption}
-use Rattle.std.specs.Prelude.{if◌then◌else◌, is_some}
+use Rattle.std.proofs.Common.{◌≡◌, ℕ, List, [], ◌∷◌, ◌++◌, drop, length, true, false, eqb, cond, refl, sym, ap, ◌∙◌, arith, Option, Some, None, MatchOption}
 use Rattle.std.proofs.lemmas.Bool.Decides.{Decides-eqb}
 use Rattle.std.proofs.Common.{◌+◌, ◌≤◌, length-append}
 use Rattle.std.specs.Prelude.{nat_le}
@@ -16,7 +15,7 @@ use Rattle.std.specs.Ordering.{is_eq}
 use Rattle.sdb_types.specs.Exact.{equal_of}
 use Rattle.sdb_types.specs.Order.{name_cmp}
 use Rattle.sdb_types.proofs.KeyOrder.{name_exact, name_total}
-use Rattle.sdb_record.specs.Names.{before_prefix, before_name, after_front, base_name, is_before, same_name}
+use Rattle.sdb_record.specs.Names.{before_prefix, before_name, after_front, base_name, same_name}
 
 -- what follows a front in a text that begins with it
 pub after_front-append : (front rest : List ℕ) → after_front front (front ++ rest) ≡ Some rest

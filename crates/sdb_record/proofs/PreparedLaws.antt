@@ -1,5 +1,5 @@
 -- The record of a write, as it is put together.
-use Rattle.std.proofs.Common.{◌≡◌, ℕ, ℤ, List, [], ◌∷◌, ◌++◌, true, refl, sym, ap, ◌∙◌, subst, map, Option, Some, None, IfSome}
+use Rattle.std.proofs.Common.{◌≡◌, ℤ, List, true, refl, ap, ◌∙◌, map, Option, Some, None, IfSome}
 use Rattle.sdb_types.specs.declared.value.Value.{Value}
 use Rattle.sdb_types.specs.declared.pair.Pair.{Pair}
 use Rattle.sdb_types.specs.declared.key.Key.{Key}

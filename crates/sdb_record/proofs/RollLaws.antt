@@ -1,6 +1,6 @@
 -- What rolling forward leaves, and that it is a transactional record.
-use Rattle.std.proofs.Common.{◌≡◌, ℕ, ℤ, pos, List, [], ◌∷◌, length, Bool, true, false, not, ◌&&◌, ◌||◌, cond, refl, sym, ap, ◌∙◌, subst, map, Option, Some, None, Ok, Err, Result}
-use Rattle.std.specs.Prelude.{find, filter, is_some, is_ok, nat_lt, if◌then◌else◌}
+use Rattle.std.proofs.Common.{◌≡◌, ℕ, ℤ, pos, List, [], ◌∷◌, length, Bool, true, false, not, ◌&&◌, ◌||◌, cond, refl, sym, ap, ◌∙◌, subst, Option, Some, None, Ok, Err, Result}
+use Rattle.std.specs.Prelude.{find, filter, is_some, is_ok, nat_lt}
 use Rattle.std.specs.List.{list_any, list_all}
 use Rattle.sdb_types.specs.declared.value.Value.{Value}
 use Rattle.sdb_types.specs.declared.value.Value.TheVariants as value
@@ -8,11 +8,11 @@ use Rattle.sdb_types.specs.declared.pair.Pair.{Pair}
 use Rattle.sdb_types.specs.declared.record.Record.{Record}
 use Rattle.sdb_types.specs.declared.record.State.{State}
 use Rattle.sdb_types.specs.declared.record.State.TheVariants.{Prepared, Deleted, Committed, Aborted}
-use Rattle.sdb_types.specs.Columns.{column, are_columns, put_pair, with_column}
+use Rattle.sdb_types.specs.Columns.{column, are_columns, put_pair}
 use Rattle.sdb_types.specs.Identifier.{is_name}
 use Rattle.std.specs.Ordering.{is_eq}
 use Rattle.std.specs.Cmp.{tied_itself}
-use Rattle.sdb_types.specs.Contents.{tx_id, tx_state, state_number, has_value, is_version}
+use Rattle.sdb_types.specs.Contents.{tx_id, tx_state, has_value, is_version}
 use Rattle.sdb_types.specs.ValueLaws.{value_total}
 use Rattle.sdb_types.specs.TxId.{id_text}
 use Rattle.sdb_types.specs.declared.txid.TxId.{TxId}
@@ -23,12 +23,12 @@ use Rattle.sdb_types.proofs.ColumnLemmas.{with_column-are_columns}
 use Rattle.sdb_record.specs.declared.meta.Meta.{Meta}
 use Rattle.sdb_record.specs.Names.{tx_version, tx_prepared_at, tx_committed_at, tx_tombstone, same_name, is_user, is_before, is_meta, base_name}
 use Rattle.sdb_record.specs.Parts.{with_columns, own_columns, user_columns, is_before_pair, is_user_pair, are_stored, before_part, before_record, record_with}
-use Rattle.sdb_record.specs.Meta.{id_in, id_in_value, state_in_value, version_in_value, moment_in_value, is_moment, is_in, is_committed, is_deleted, is_stray, is_early, any_state, checked, checked_before, is_taken, is_unresolved, present, tombstone_in_value, refuse, is_misnamed, with_before, checked_part, keep_identifiers}
+use Rattle.sdb_record.specs.Meta.{id_in, id_in_value, state_in_value, version_in_value, moment_in_value, is_moment, is_in, is_committed, is_deleted, is_stray, any_state, checked, checked_before, is_taken, is_unresolved, present, tombstone_in_value, refuse, is_misnamed, with_before, checked_part, keep_identifiers}
 use Rattle.sdb_record.specs.Rolls.{forward_columns, forward_record, tombstone_mark}
-use Rattle.sdb_record.proofs.Fine.{Says, Fine, taken, ok-of, checked-fine, none-first, none-rest, none-make, or-false, taken-keep, keeps_here, fine, fine-any, refuse-ok}
+use Rattle.sdb_record.proofs.Fine.{Says, Fine, taken, ok-of, checked-fine, none-first, none-rest, or-false, taken-keep, keeps_here, fine, fine-any, refuse-ok}
 use Rattle.sdb_record.proofs.States.{is_in-says, says-committed, says-deleted, no-tombstone, state_value}
-use Rattle.sdb_record.proofs.ColumnLaws.{not_before, are_columns-filter, leaves, are_columns-before_part}
-use Rattle.sdb_record.proofs.Settings.{column-put-same, column-put-other, none-put, none-filter, all-put, all-filter, filter-put, filter-with_columns, column-filter}
+use Rattle.sdb_record.proofs.ColumnLaws.{not_before, are_columns-filter, are_columns-before_part}
+use Rattle.sdb_record.proofs.Settings.{column-put-same, column-put-other, none-put, none-filter, all-put, all-filter, filter-put, column-filter}
 
 ---- the columns
 

@@ -1,17 +1,15 @@
 -- What is read of columns in which others were set.
-use Rattle.std.proofs.Common.{◌≡◌, ℕ, List, [], ◌∷◌, Bool, true, false, not, ◌&&◌, ◌||◌, cond, refl, sym, ap, ◌∙◌, subst, map, Option, Some, None}
+use Rattle.std.proofs.Common.{◌≡◌, ℕ, List, [], ◌∷◌, Bool, true, false, not, ◌&&◌, cond, refl, sym, ap, ◌∙◌, map, Some, None}
 use Rattle.std.specs.Prelude.{find, filter, is_some}
-use Rattle.std.specs.List.{list_any, list_all, filter_map, cons_option}
+use Rattle.std.specs.List.{list_all, cons_option}
 use Rattle.std.specs.Option.{option_map}
-use Rattle.std.specs.declared.cmp.Ordering.TheVariants.{Less, Equal, Greater}
-use Rattle.sdb_types.specs.declared.value.Value.{Value}
 use Rattle.sdb_types.specs.declared.pair.Pair.{Pair}
 use Rattle.sdb_types.specs.Order.{name_cmp}
-use Rattle.sdb_types.specs.Columns.{column, is_named, is_null, put_pair, take_out, with_column}
+use Rattle.sdb_types.specs.Columns.{column, is_named, is_null, put_pair, with_column}
 use Rattle.sdb_types.proofs.Bools.{and_first, and_second, and_both}
 use Rattle.sdb_types.proofs.KeyOrder.{name_exact}
 use Rattle.sdb_types.proofs.ColumnLemmas.{by_order}
-use Rattle.sdb_record.specs.Names.{same_name, before_name, base_name, is_before}
+use Rattle.sdb_record.specs.Names.{same_name, base_name}
 use Rattle.sdb_record.specs.Parts.{with_columns, before_pair, base_pair, before_part}
 use Rattle.sdb_record.proofs.NameLemmas.{same_name-itself, same_name-true, base_name-before_name}
 use Rattle.sdb_record.proofs.Within.{chosen}

@@ -1,5 +1,5 @@
 -- States, and the columns that say them.
-use Rattle.std.proofs.Common.{◌≡◌, ℕ, ℤ, pos, List, Bool, true, false, not, cond, refl, sym, ap, ◌∙◌, subst, Option, Some, None}
+use Rattle.std.proofs.Common.{◌≡◌, ℤ, pos, List, Bool, true, false, cond, refl, ap, ◌∙◌, Option, Some, None}
 use Rattle.std.specs.Ordering.{int_eq}
 use Rattle.std.specs.Cmp.{signed_Decides}
 use Rattle.sdb_types.specs.declared.value.Value.{Value}

@@ -1,5 +1,5 @@
 -- A transaction's record of a write is a transactional record, and keeps the base.
-use Rattle.std.proofs.Common.{◌≡◌, ℕ, suc, ℤ, pos, negsuc, ◌+ℤ◌, ◌<◌, ◌^◌, ◌+◌, ◌≤◌, List, [], ◌∷◌, length, Bool, true, false, not, ◌&&◌, ◌||◌, cond, refl, sym, ap, ◌∙◌, subst, map, Option, Some, None, Ok, Result, IfSome, arith}
+use Rattle.std.proofs.Common.{◌≡◌, ℕ, ℤ, pos, negsuc, ◌<◌, ◌^◌, ◌+◌, List, [], ◌∷◌, length, Bool, true, false, not, ◌&&◌, ◌||◌, cond, refl, sym, ap, ◌∙◌, subst, map, Option, Some, None, Ok, IfSome, arith}
 use Rattle.std.specs.Prelude.{find, is_some, is_ok, nat_lt, nat_le, int_le, int_lt}
 use Rattle.std.specs.List.{list_any, list_all}
 use Rattle.std.specs.Int.{int_min}
@@ -11,7 +11,7 @@ use Rattle.sdb_types.specs.declared.pair.Pair.{Pair}
 use Rattle.sdb_types.specs.declared.key.Key.{Key}
 use Rattle.sdb_types.specs.declared.record.Record.{Record}
 use Rattle.sdb_types.specs.declared.record.State.{State}
-use Rattle.sdb_types.specs.declared.record.State.TheVariants.{Prepared, Deleted, Committed, Aborted}
+use Rattle.sdb_types.specs.declared.record.State.TheVariants.{Prepared}
 use Rattle.sdb_types.specs.declared.txid.TxId.{TxId}
 use Rattle.sdb_types.specs.TxId.{id_text}
 use Rattle.sdb_types.specs.Columns.{column, are_columns, with_column, is_null, is_named}
@@ -25,15 +25,15 @@ use Rattle.sdb_record.specs.declared.write.Change.TheVariants as change
 use Rattle.sdb_record.specs.declared.write.Write.{Write}
 use Rattle.sdb_record.specs.Names.{tx_version, tx_prepared_at, tx_committed_at, tx_tombstone, before_name, is_user, is_before, is_meta, base_name}
 use Rattle.sdb_record.specs.Parts.{with_columns, before_pair, is_before_pair, is_user_pair, is_column_name, are_stored, are_short, are_user_columns, before_part, before_record, record_with}
-use Rattle.sdb_record.specs.Meta.{checked, checked_part, checked_before, meta_in, is_taken, is_in, is_moment, id_in_value, state_in_value, version_in, version_in_value, moment_in_value, absent, tombstone_in_value, is_committed, is_deleted, is_stray, is_early, committed_at_in, tombstone_in, present, is_misnamed, kept_badly, any_state, with_before, refuse}
-use Rattle.sdb_record.specs.Rolls.{prepared_record, new_meta, base_columns, new_columns, state_of_change, next_version, next_version_of, IsBaseOf, IsWrite, is_change}
+use Rattle.sdb_record.specs.Meta.{checked, checked_part, checked_before, meta_in, is_taken, is_moment, id_in_value, state_in_value, version_in_value, moment_in_value, absent, tombstone_in_value, is_committed, is_deleted, is_stray, is_early, committed_at_in, tombstone_in, present, is_misnamed, kept_badly, any_state, with_before, refuse}
+use Rattle.sdb_record.specs.Rolls.{prepared_record, base_columns, new_columns, state_of_change, next_version, next_version_of, IsBaseOf, IsWrite, is_change}
 use Rattle.sdb_record.proofs.NameLemmas.{before-is_name, base_name-before_name}
 use Rattle.sdb_record.proofs.PreparedLaws.{base-short}
 use Rattle.sdb_record.proofs.IdLemmas.{id_of_text-id_text}
-use Rattle.sdb_record.proofs.ColumnLaws.{stays, not_before, not-true, columns-full, columns-rest, is_before-kept}
+use Rattle.sdb_record.proofs.ColumnLaws.{not_before, columns-full, columns-rest}
 use Rattle.sdb_record.proofs.Settings.{none-with_columns, misses, all-with_columns, has_both, no_before}
-use Rattle.sdb_record.proofs.Fine.{Says, Fine, taken, fine-committed, checked-fine, checked_part-fine, committed-state, ok-of, none-make, taken-short}
-use Rattle.sdb_record.proofs.RollLaws.{any-none, before_part-any, present-moment, refuse_before}
+use Rattle.sdb_record.proofs.Fine.{Says, Fine, taken, fine-committed, checked-fine, checked_part-fine, committed-state, ok-of, none-make}
+use Rattle.sdb_record.proofs.RollLaws.{any-none, before_part-any, refuse_before}
 use Rattle.sdb_record.proofs.WriteLaws.{Fitting, fitting, with_base, base-kept, no-column, marked, marked-id, marked-state, marked-version, marked-time, marked-other, marked-before, marked-in-order, all-user, kept-user}
 
 ---- the base

@@ -1,16 +1,16 @@
 -- Columns of a before image, as the record has them.
-use Rattle.std.proofs.Common.{◌≡◌, ℕ, List, [], ◌∷◌, ◌++◌, Bool, true, false, cond, refl, sym, ap, ◌∙◌, subst, arith, ◌||◌, Option, Some, None, Result, Ok, Err}
+use Rattle.std.proofs.Common.{◌≡◌, ℕ, List, [], ◌∷◌, Bool, true, false, cond, refl, sym, ap, ◌∙◌, ◌||◌, Option, Some, None, Result, Ok, Err}
 use Rattle.std.specs.Prelude.{find}
 use Rattle.std.specs.Option.{option_map}
 use Rattle.sdb_types.specs.declared.pair.Pair.{Pair}
-use Rattle.sdb_types.specs.Columns.{column, is_named}
+use Rattle.sdb_types.specs.Columns.{column}
 use Rattle.sdb_record.specs.declared.part.Part.{Part}
 use Rattle.sdb_record.specs.declared.part.Part.TheVariants.{Own, Before}
 use Rattle.sdb_record.specs.Names.{before_name, base_name, same_name}
 use Rattle.sdb_record.specs.declared.meta.Meta.{Meta}
 use Rattle.sdb_record.specs.Meta.{refuse, then_check, checked_columns, is_deleted, is_stray, is_early}
-use Rattle.sdb_record.specs.Parts.{before_part, base_pair}
-use Rattle.sdb_record.specs.Inside.{columns_of, name_from, name_within, passes_name, first_within, first_of_part, named_from, meta_within, checked_within, is_stray_name, is_early_name}
+use Rattle.sdb_record.specs.Parts.{before_part}
+use Rattle.sdb_record.specs.Inside.{columns_of, name_from, passes_name, first_within, first_of_part, named_from, meta_within, checked_within, is_stray_name, is_early_name}
 use Rattle.sdb_record.proofs.NameLemmas.{base_name-before_name, base_name-is, same_name-true}
 
 -- a column that keeps none of the base isn't one of its columns

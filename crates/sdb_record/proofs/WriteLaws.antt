@@ -1,33 +1,26 @@
 -- What a transaction's record of a write says and keeps.
-use Rattle.std.proofs.Common.{◌≡◌, ℕ, ℤ, pos, ◌<◌, ◌^◌, List, [], ◌∷◌, ◌++◌, length, Bool, true, false, not, ◌&&◌, ◌||◌, cond, refl, sym, ap, ◌∙◌, subst, map, Option, Some, None, Ok, IfSome}
-use Rattle.std.specs.Prelude.{find, filter, is_some, is_ok, nat_lt, nat_le}
-use Rattle.std.specs.List.{list_any, list_all}
-use Rattle.std.specs.Int.{int_min}
-use Rattle.sdb_types.specs.declared.value.Value.{Value}
+use Rattle.std.proofs.Common.{◌≡◌, ℕ, ℤ, List, [], ◌∷◌, Bool, true, false, not, ◌&&◌, refl, sym, ap, ◌∙◌, map, Option, Some, None, IfSome}
+use Rattle.std.specs.Prelude.{find, is_ok}
+use Rattle.std.specs.List.{list_all}
 use Rattle.sdb_types.specs.declared.value.Value.TheVariants as value
 use Rattle.sdb_types.specs.declared.pair.Pair.{Pair}
 use Rattle.sdb_types.specs.declared.key.Key.{Key}
 use Rattle.sdb_types.specs.declared.record.Record.{Record}
 use Rattle.sdb_types.specs.declared.record.State.{State}
-use Rattle.sdb_types.specs.declared.record.State.TheVariants.{Prepared, Deleted, Committed, Aborted}
 use Rattle.sdb_types.specs.declared.txid.TxId.{TxId}
 use Rattle.sdb_types.specs.TxId.{id_text}
-use Rattle.sdb_types.specs.Columns.{column, are_columns, put_pair, with_column, is_named, is_null}
-use Rattle.sdb_types.specs.Identifier.{is_name, is_identifier}
+use Rattle.sdb_types.specs.Columns.{column, are_columns, put_pair, is_named, is_null}
+use Rattle.sdb_types.specs.Identifier.{is_name}
 use Rattle.sdb_types.specs.Contents.{tx_id, tx_state, state_number}
 use Rattle.sdb_types.proofs.Bools.{and_first, and_second, and_both}
 use Rattle.sdb_types.proofs.ColumnLemmas.{with_column-are_columns}
-use Rattle.sdb_record.specs.declared.meta.Meta.{Meta}
-use Rattle.sdb_record.specs.declared.write.Change.{Change}
-use Rattle.sdb_record.specs.declared.write.Change.TheVariants as change
 use Rattle.sdb_record.specs.declared.write.Write.{Write}
-use Rattle.sdb_record.specs.Names.{tx_version, tx_prepared_at, tx_committed_at, tx_tombstone, same_name, before_name, is_user, is_before, is_meta, base_name}
-use Rattle.sdb_record.specs.Parts.{with_columns, before_pair, own_columns, user_columns, is_before_pair, is_user_pair, is_column_name, are_stored, are_user_columns, before_part, before_record, record_with}
-use Rattle.sdb_record.specs.Meta.{checked, meta_in, is_taken, is_in, is_moment}
-use Rattle.sdb_record.specs.Rolls.{prepared_record, new_meta, base_columns, new_columns, state_of_change, next_version, writer_columns, age_columns, IsBaseOf, IsWrite, is_change}
-use Rattle.sdb_record.proofs.NameLemmas.{same_name-true}
+use Rattle.sdb_record.specs.Names.{tx_version, tx_prepared_at, same_name, before_name, is_user, is_before, is_meta, base_name}
+use Rattle.sdb_record.specs.Parts.{with_columns, before_pair, user_columns, is_user_pair, is_column_name, are_stored, are_user_columns, before_part}
+use Rattle.sdb_record.specs.Meta.{checked}
+use Rattle.sdb_record.specs.Rolls.{base_columns, new_columns, IsBaseOf, IsWrite}
 use Rattle.sdb_record.proofs.PreparedLaws.{change-user, change-columns}
-use Rattle.sdb_record.proofs.ColumnLaws.{stays, leaves, not_before, not-true, with_columns-apart, with_columns-none, are_columns-kept, leaves-kept, stays-user, is_before-kept, columns-full, columns-rest}
+use Rattle.sdb_record.proofs.ColumnLaws.{stays, leaves, not_before, with_columns-apart, with_columns-none, are_columns-kept, leaves-kept, stays-user, is_before-kept, columns-full, columns-rest}
 use Rattle.sdb_record.proofs.Settings.{column-put-same, column-put-other, none-with_columns, misses, filter-with_columns, filter-all, before_part-with_columns, before_part-kept, other_name}
 use Rattle.sdb_record.proofs.Fine.{none-make}
 

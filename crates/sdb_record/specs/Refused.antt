@@ -1,5 +1,5 @@
 -- What a refusal says.
-use Rattle.std.specs.Prelude.{◌≡◌, ℕ, List, Result, Ok, Err, IsErr}
+use Rattle.std.specs.Prelude.{◌≡◌, ℕ, List, Result, Err, IsErr}
 use Rattle.sdb_record.specs.declared.meta.MetaRefused.{MetaRefused}
 use Rattle.sdb_record.specs.declared.meta.MetaRefused.TheVariants.{BadMeta, NoMemory}
 

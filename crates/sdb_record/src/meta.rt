@@ -8,7 +8,8 @@ ghost use Rattle.sdb_record.specs.Names.{base_name};
 ghost use Rattle.sdb_record.specs.Parts.{is_before_pair, are_stored};
 ghost use Rattle.sdb_record.specs.Refused.{Refuses, IfBad};
 ghost use Rattle.sdb_record.specs.Ids.{id_of_text};
-ghost use Rattle.sdb_record.specs.Meta.{id_in_value, state_in_value, version_in_value, moment_in_value, tombstone_in_value, only_if, committed_at_by, is_committed, is_deleted, kept_badly, is_misnamed, checked, checked_before, is_taken};
+ghost use Rattle.sdb_record.specs.Meta.{id_in_value, state_in_value, version_in_value, moment_in_value, tombstone_in_value, only_if, committed_at_by, is_committed, is_deleted, kept_badly, is_misnamed, checked, checked_before, is_taken, is_in};
+ghost use Rattle.sdb_types.specs.declared.record.State.TheVariants.{Committed};
 ghost use Rattle.sdb_record.specs.Inside.{allows, meta_within, checked_within, first_of_part, is_stray_name, is_early_name, passes_name, name_within};
 
 use crate::part::{MetaColumn, Part, is_before_name, is_user_name, kept_name, value_within};
@@ -31,6 +32,18 @@ pub struct Meta {
     pub committed_at: Option<i64>,
     pub tombstone: bool,
     pub has_before: bool,
+}
+
+impl Meta {
+    ghost use Rattle.std.specs.Prelude.{◌≡◌};
+    ghost use Rattle.sdb_record.specs.Meta.{is_committed};
+
+    /// Whether the record is in state 3, and not unresolved.
+    pub fn is_committed(&self) -> bool
+        ensures { result ≡ is_committed self.now.state }
+    {
+        is_committed_state(self.state)
+    }
 }
 
 /// Why a record or a coordinator row is refused.
@@ -326,6 +339,7 @@ pub fn meta_of(alloc: Global, rec: &Record) -> Result<Meta, MetaRefused>
     ensures ok { IfOk result (λ meta. checked rec.now.columns ≡ Ok meta) }
     ensures refused { IfErr result (Refuses (checked rec.now.columns)) }
     ensures taken { OnOk result (is_taken rec.now ≡ true) }
+    ensures state { IfOk result (λ meta. is_in Committed rec.now.columns ≡ is_committed meta.state) }
 {
     are_stored(&rec.columns);
     match check(&rec.columns) {

@@ -1,0 +1,4 @@
+pub mod ColumnOrder
+pub mod TableLaws
+pub mod OrderLaws
+pub mod CatalogLaws

@@ -1,5 +1,5 @@
 -- Catalogs: tables in the order of their names.
-use Rattle.std.specs.Prelude.{ℕ, Bool, true, ◌&&◌, if◌then◌else◌, nat_le, List, [], ◌∷◌, length, find, Option}
+use Rattle.std.specs.Prelude.{Bool, true, ◌&&◌, if◌then◌else◌, nat_le, List, [], ◌∷◌, length, find, Option}
 use Rattle.std.specs.List.{list_all, list_any}
 use Rattle.std.specs.Ordering.{is_lt, is_eq}
 use Rattle.sdb_types.specs.declared.key.TableName.{TableName}

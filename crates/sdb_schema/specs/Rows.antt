@@ -1,5 +1,5 @@
 -- Which rows a table takes.
-use Rattle.std.specs.Prelude.{◌≡◌, ℕ, ℤ, pos, negsuc, int_le, Bool, true, false, not, ◌&&◌, List, [], ◌∷◌, find, Option, Some, None, is_none}
+use Rattle.std.specs.Prelude.{◌≡◌, ℕ, pos, negsuc, int_le, Bool, true, false, not, ◌&&◌, List, [], ◌∷◌, find, Option, Some, None, is_none}
 use Rattle.std.specs.Option.{option_map, option_map_or}
 use Rattle.std.specs.List.{list_all}
 use Rattle.sdb_types.specs.declared.value.Value.{Value}
@@ -13,7 +13,7 @@ use Rattle.sdb_schema.specs.declared.table.Column.{Column}
 use Rattle.sdb_schema.specs.declared.table.Table.{Table}
 use Rattle.sdb_schema.specs.declared.row.RowRefused.{RowRefused}
 use Rattle.sdb_schema.specs.declared.row.RowRefused.TheVariants as refused
-use Rattle.sdb_schema.specs.Table.{is_key_column, has_column, kind_in, order_names}
+use Rattle.sdb_schema.specs.Table.{is_key_column, kind_in, order_names}
 
 -- whether a value is of a kind; NULL is of none
 abbrev pub is_of_kind : Kind → Value → Bool

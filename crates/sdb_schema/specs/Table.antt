@@ -1,14 +1,12 @@
 -- What a table is, and why columns and keys make none.
-use Rattle.std.specs.Prelude.{◌≡◌, ℕ, Bool, true, false, not, ◌&&◌, ◌||◌, if◌then◌else◌, nat_le, List, [], ◌∷◌, ◌++◌, length, map, find, Option, Some, None, is_some, Result, Ok, Err, is_ok, ◌==◌, codes}
-use Rattle.std.specs.Option.{option_map, option_map_or}
+use Rattle.std.specs.Prelude.{◌≡◌, ℕ, Bool, true, false, not, ◌&&◌, ◌||◌, if◌then◌else◌, nat_le, List, [], ◌∷◌, ◌++◌, length, map, find, Option, Some, None, Result, Ok, Err, is_ok}
+use Rattle.std.specs.Option.{option_map}
 use Rattle.std.specs.List.{list_all, list_any}
-use Rattle.std.specs.Ordering.{is_lt, is_eq}
+use Rattle.std.specs.Ordering.{is_lt}
 use Rattle.sdb_types.specs.Order.{name_cmp}
 use Rattle.sdb_record.specs.Names.{is_user, same_name}
 use Rattle.sdb_record.specs.Parts.{is_column_name}
-use Rattle.sdb_types.specs.declared.key.TableName.{TableName}
 use Rattle.sdb_schema.specs.declared.table.Kind.{Kind}
-use Rattle.sdb_schema.specs.declared.table.Kind.TheVariants as kind
 use Rattle.sdb_schema.specs.declared.table.Column.{Column}
 use Rattle.sdb_schema.specs.declared.table.Order.{Order}
 use Rattle.sdb_schema.specs.declared.table.Table.{Table}
@@ -112,17 +110,22 @@ none_of (n ∷ ns) = None
 unfoldable pub checked_table : Table → Result Table TableRefused
 checked_table t =
     refuse (none_of t.partition) (λ u. refused.NoPartitionKey)
-    (refuse (first_unknown t.columns (t.partition ++ (order_names t.clustering ++ t.indexed))) refused.UnknownColumn
+    (refuse (first_unknown t.columns (key_names t)) refused.UnknownColumn
+    (refuse (first_unknown t.columns t.indexed) refused.UnknownColumn
     (refuse (first_listed_twice t.columns) refused.RepeatedColumn
     (refuse (first_repeated [] (key_names t)) refused.RepeatedColumn
     (refuse (first_reserved t.columns) refused.ReservedName
     (refuse (limit_passed t) refused.TooMany
-    (Ok t))))))
+    (Ok t)))))))
 
 -- A table as it may be used: its columns in the order of their names, each with an identifier of at most 64 bytes, and no
 -- refusal.
 abbrev pub is_table : Table → Bool
 is_table t = rises t.columns && (list_all (λ c. is_column_name c.name) t.columns && is_ok (checked_table t))
+
+-- columns with names of at most 64 bytes
+abbrev pub are_short : List Column → Bool
+are_short cs = list_all (λ c. nat_le (length c.name) 64) cs
 
 -- A refusal that comes; want of memory may stand in the place of any outcome.
 abbrev pub Refuses : Result Table TableRefused → TableRefused → Type 0

@@ -2,12 +2,16 @@
 #![tactic(auto)]
 
 mod catalog;
+pub mod laws;
 mod make;
 mod order;
 mod row;
 mod table;
 
-pub use catalog::Catalog;
-pub use table::{Column, ColumnList, Direction, Kind, Order, Orders, Table};
+pub use catalog::{AddRefused, Catalog};
 pub use make::TableRefused;
 pub use row::RowRefused;
+pub use table::{Column, ColumnList, Direction, Kind, Order, Orders, Table};
+
+#[cfg(test)]
+mod tests;

@@ -205,8 +205,14 @@ impl Table {
         ensures { result ≡ fits_table self.now row_key.now columns.now }
     {
         let listed = self.columns.as_slice();
-        are_values(listed, self.partition.as_slice(), row_key.partition.as_slice())
-            && are_ordered_values(listed, self.clustering.as_slice(), row_key.clustering.as_slice())
-            && all_stored(self, columns.pairs())
+        are_values(
+            listed,
+            self.partition.as_slice(),
+            row_key.partition.as_slice(),
+        ) && are_ordered_values(
+            listed,
+            self.clustering.as_slice(),
+            row_key.clustering.as_slice(),
+        ) && all_stored(self, columns.pairs())
     }
 }

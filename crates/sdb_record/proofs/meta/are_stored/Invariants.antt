@@ -1,4 +1,4 @@
-use Rattle.std.proofs.Common.{◌≡◌, true, take, drop, ◌∷◌}
+use Rattle.std.proofs.Common.{◌≡◌, true, take}
 use Rattle.std.specs.List.{list_all}
 use Rattle.sdb_types.specs.Identifier.{is_name}
 use Rattle.sdb_record.proofs.meta.are_stored.Given as goal

@@ -1,4 +1,4 @@
-use Rattle.std.proofs.Common.{◌≡◌, ◌∙◌, sym, ap, Some, None, ◌<◌, ◌^◌, rules}
+use Rattle.std.proofs.Common.{◌∙◌, sym, Some, None, ◌<◌, ◌^◌, rules}
 use Rattle.sdb_types.specs.Columns.{column}
 use Rattle.sdb_types.specs.Contents.{tx_id}
 use Rattle.sdb_record.proofs.ImageLaws.{written}

@@ -1,4 +1,4 @@
-use Rattle.std.proofs.Common.{◌≡◌, ◌∙◌, ap, []}
+use Rattle.std.proofs.Common.{◌∙◌, ap, []}
 use Rattle.sdb_record.specs.Parts.{before_part, with_columns}
 use Rattle.sdb_record.proofs.ColumnLaws.{with_columns-none, are_columns-before_part}
 use Rattle.sdb_record.proofs.roll.base_part.Goals as goal

@@ -1,4 +1,4 @@
-use Rattle.std.proofs.Common.{◌≡◌, ◌∙◌, ap, []}
+use Rattle.std.proofs.Common.{◌∙◌, ap, []}
 use Rattle.std.specs.Prelude.{not}
 use Rattle.sdb_record.specs.Parts.{own_columns, is_before_pair, with_columns}
 use Rattle.sdb_record.proofs.ColumnLaws.{with_columns-none, are_columns-filter}

@@ -1,4 +1,4 @@
-use Rattle.std.proofs.Common.{◌≡◌, ◌∙◌, ap, sym, true, subst, List, rules}
+use Rattle.std.proofs.Common.{◌≡◌, sym, true, subst, List, rules}
 use Rattle.std.specs.Option.{option_copied}
 use Rattle.sdb_types.specs.declared.pair.Pair.{Pair}
 use Rattle.sdb_record.specs.Parts.{are_short, are_user_columns}

@@ -1,4 +1,4 @@
-use Rattle.std.proofs.Common.{◌≡◌, ◌∙◌, ap, [], rules}
+use Rattle.std.proofs.Common.{◌∙◌, ap}
 use Rattle.sdb_record.specs.Parts.{with_columns}
 use Rattle.sdb_record.proofs.ColumnLaws.{laid_in_three}
 use Rattle.sdb_record.proofs.roll.row_with_base.Goals as goal
