@@ -3,6 +3,7 @@ ghost use Rattle.std.specs.Prelude.{◌≡◌, IfOk, OnOk, OnErr};
 ghost use Rattle.std.specs.FinMap as map;
 ghost use Rattle.std.specs.BTreeMap.{IsOrdered};
 ghost use Rattle.sdb_types.specs.Order.{key_cmp};
+ghost use Rattle.sdb_ordered.specs.Start.{span_start};
 ghost use Rattle.sdb_types.specs.Contents.{record_at, in_span, rows_in, rows_among};
 
 use sdb_store::Rows;
@@ -43,19 +44,36 @@ pub fn lies_in(span: &Span, key: &Key) -> bool
     }
 }
 
-// The records of a span among the entries of a tree.
+// The least key of a span.
+fn start_of(alloc: Global, span: &Span) -> Result<Key, NoMemory>
+    ensures { IfOk result (λ key. key ≡ span_start span.now) }
+{
+    let partition = match &span.partition {
+        Some(partition) => partition.copy()?,
+        None => Seq::new(alloc),
+    };
+    Ok(Key {
+        table: span.table.copy()?,
+        partition,
+        clustering: Seq::new(alloc),
+    })
+}
+
+// The records of a span among the entries of a tree: they stand together, from the span's least key on.
 fn rows_of(alloc: Global, rows: &BTreeMap<Key, Columns>, span: &Span) -> Result<Records, NoMemory>
     ensures rows { IfOk result (λ found. found ≡ rows_among span.now rows.now.entries) }
-    ensures ordered { IsOrdered key_cmp rows.now }
+    ensures ordered { OnOk result (IsOrdered key_cmp rows.now) }
 {
+    let start = start_of(alloc, span)?;
     let mut found = Seq::new(alloc);
-    for (key, columns) in rows {
-        if lies_in(span, key) {
-            found.push(Record {
-                key: key.copy()?,
-                columns: columns.copy()?,
-            })?;
+    for (key, columns) in rows.range(start..) {
+        if !lies_in(span, key) {
+            break;
         }
+        found.push(Record {
+            key: key.copy()?,
+            columns: columns.copy()?,
+        })?;
     }
     Ok(found)
 }
