@@ -6,6 +6,9 @@ ghost use Rattle.hex.specs.Hex.{decode_of};
 ghost use Rattle.sdb_types.specs.Identifier.{is_start, is_identifier};
 ghost use Rattle.sdb_model.specs.SqlTokens as spec;
 ghost use Rattle.sdb_model.specs.SqlTokens.{sign_text};
+ghost use Rattle.std.specs.List.{AllByRecursion};
+ghost use Rattle.sdb_model.specs.Sql.{Tokens, CanSpell, tokens_text};
+ghost use Rattle.sdb_sqltokens.specs.Printed.{GivesAll};
 ghost use Rattle.sdb_sqltokens.specs.Lexing.{Agrees, Takes, GivesTokens};
 
 use crate::fault::{LexError, LexRefused};
@@ -244,9 +247,8 @@ fn is_gap(b: u8) -> bool
     b == b' ' || b == b'\t'
 }
 
-/// The tokens of a text, and where each begins.
 #[tactic(auto, unfolding(sdb_model::specs::SqlTokens::lexed))]
-pub fn lex(alloc: Global, bytes: &[u8]) -> Result<Seq<Placed>, LexRefused>
+fn read_tokens(alloc: Global, bytes: &[u8]) -> Result<Seq<Placed>, LexRefused>
     ensures { GivesTokens result (spec.lexed bytes.now) }
 {
     let mut placed = Seq::new(alloc);
@@ -268,4 +270,14 @@ pub fn lex(alloc: Global, bytes: &[u8]) -> Result<Seq<Placed>, LexRefused>
         }
     }
     Ok(placed)
+}
+
+/// The tokens of a text, and where each begins.
+pub fn lex(alloc: Global, bytes: &[u8]) -> Result<Seq<Placed>, LexRefused>
+    // The longest token is taken everywhere, and the first fault is told.
+    ensures value { GivesTokens result (spec.lexed bytes.now) }
+    // Tokens that are printed are read again, unless memory runs out.
+    ensures printed { (ts : Tokens) → AllByRecursion CanSpell ts → bytes.now ≡ tokens_text ts → GivesAll result ts }
+{
+    read_tokens(alloc, bytes)
 }

@@ -1,9 +1,9 @@
-use Rattle.std.proofs.Common.{◌≤◌, ◌<◌, length, sym, ◌∙◌, arith, length-drop}
-use Rattle.sdb_sqltokens.proofs.Lexing.{one_token}
+use Rattle.std.proofs.Common.{ap, ◌∙◌}
+use Rattle.sdb_model.specs.SqlTokens.{lexed}
+use Rattle.sdb_sqltokens.proofs.AllPrinted.{printed_read, gives_all}
 use Rattle.sdb_sqltokens.proofs.lexer.lex.Goals as goal
 
-pub loop-rest-preserved : goal.loop-rest-preserved
-loop-rest-preserved c =
-    let has : 0 < length c.loop-rest.rest.now = omega arith in
-    let turn = one_token c.loop-rest.rest.now c.args.bytes.now c.loop-rest.placed _ c.in-Ok.token c.in-Ok.n has (sym c.is_gap.ensures ∙ c.if-is_gap.false) c.in-Ok.ensures.value c.in-Ok.ensures.within.0 c.in-Ok.ensures.within.1 c.loop-rest.invariant.1 c.loop-rest.invariant.0 in
-    rw (c.in_ok-push-in-Ok.ensures.ok, c.split_at.ensures.back) (turn, omega (arith, length-drop c.in-Ok.n c.loop-rest.rest.now, c.loop-rest.invariant.1))
+pub returns-clause-printed : goal.returns-clause-printed
+returns-clause-printed c = λ ts fits is.
+    let read = printed_read ts fits in
+    gives_all c.read_tokens.result (lexed c.args.bytes.now) read.0 ts c.read_tokens.ensures (ap lexed is ∙ read.1) read.2
