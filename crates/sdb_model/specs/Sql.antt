@@ -1,5 +1,5 @@
 -- Which statement a text is: the tokens of each statement, and what a text that is none is refused for.
-use Rattle.std.specs.Prelude.{◌≡◌, ◌⊎◌, ℕ, ℤ, pos, negsuc, Bool, true, false, ◌&&◌, ◌||◌, nat_le, if◌then◌else◌, List, [], ◌∷◌, ◌++◌, length, map, codes, Option, Some, None, IfSome, Ok, Err, FitsSigned}
+use Rattle.std.specs.Prelude.{◌≡◌, ◌⊎◌, ℕ, ℤ, pos, negsuc, Bool, true, false, ◌||◌, nat_le, if◌then◌else◌, List, [], ◌∷◌, ◌++◌, length, map, codes, Option, Some, None, IfSome, Ok, Err, FitsSigned}
 use Rattle.std.specs.List.{flat_map, AllByRecursion}
 use Rattle.std.specs.Int.{w64}
 use Rattle.std.specs.Str.{is_utf8}
@@ -188,26 +188,41 @@ tokens_of = map (λ p. p.token)
 abbrev pub Reads : List ℕ → Statement → Type 0
 Reads text st = (ps : List Placed) × (lexed text ≡ Ok ps) × IsWhole st × Spells (tokens_of ps) st
 
--- a token that some text spells
+-- a token that statements have and that some text spells
 abbrev pub CanSpell : Token → Type 0
 CanSpell (Word w) = Unit {0}
-CanSpell (Name n) = (is_identifier n && nat_le (length n) 64) ≡ true
-CanSpell Overlong = Unit {0}
+CanSpell (Name n) = (is_identifier n ≡ true) × (nat_le (length n) 64 ≡ true)
+CanSpell Overlong = ⊥
 CanSpell (Number n) = FitsSigned w64 n
 CanSpell (Text text) = is_utf8 text ≡ true
 CanSpell (Blob bytes) = AreBytes bytes
 CanSpell (Mark s) = Unit {0}
 
--- some statement begins with these tokens, and goes on with tokens that a text can spell
+abbrev pub insert_word : Bool → Keyword
+insert_word false = word.Insert
+insert_word true = word.Upsert
+
+-- Some statement begins with these tokens and goes on with more that are as asked. That an INSERT has as many literals as
+-- names is asked for at the `)` that closes the literals, so up to there their numbers may differ.
+abbrev pub BeginsBy : (Tokens → Type 0) → Tokens → Type 0
+BeginsBy Asked ts =
+    ((st : Statement) × (more : Tokens) × Asked more × IsWhole st × Spells (ts ++ more) st)
+    ⊎ ((upsert : Bool) × (i : Insert) × (next : Token) × (more : Tokens) × Asked (next ∷ more) × HasItems i.columns × HasItems i.values × AllByRecursion IsLiteral i.values
+    × (ts ++ next ∷ more ≡ insert_tokens (insert_word upsert) i))
+
+-- a statement begins so, and goes on with tokens that a text can spell
 abbrev pub Begins : Tokens → Type 0
-Begins ts = (st : Statement) × (more : Tokens) × AllByRecursion CanSpell more × IsWhole st × Spells (ts ++ more) st
+Begins = BeginsBy (AllByRecursion CanSpell)
+
+-- no statement begins so, whatever it goes on with
+abbrev pub NoneBegins : Tokens → Type 0
+NoneBegins ts = BeginsBy (λ more. Unit {0}) ts → ⊥
 
 -- The fault is at the first token such that no statement begins with the tokens up to it; or at the text's end, where some
 -- statement begins with all tokens and none ends there.
 abbrev pub IsFirstWrong : List Placed → ℕ → ℕ → Type 0
 IsFirstWrong ps end at =
-    ((front : List Placed) × (p : Placed) × (back : List Placed) × (ps ≡ front ++ p ∷ back) × (at ≡ p.at) × Begins (tokens_of front)
-    × ((st : Statement) (more : Tokens) → IsWhole st → Spells (tokens_of front ++ p.token ∷ [] ++ more) st → ⊥))
+    ((front : List Placed) × (p : Placed) × (back : List Placed) × (ps ≡ front ++ p ∷ back) × (at ≡ p.at) × Begins (tokens_of front) × NoneBegins (tokens_of front ++ p.token ∷ []))
     ⊎ ((at ≡ end) × Begins (tokens_of ps) × ((st : Statement) → IsWhole st → Spells (tokens_of ps) st → ⊥))
 
 -- a text has bytes that begin no token, at this offset, and no fault before

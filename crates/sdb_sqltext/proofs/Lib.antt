@@ -1,3 +1,1 @@
-pub mod Words
-pub mod Enclosed
-pub mod Lexing
+pub mod Read

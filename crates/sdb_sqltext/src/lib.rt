@@ -1,6 +1,8 @@
-//! Statements as text: reading and printing.
+//! Statements as text.
 #![tactic(auto)]
 
-mod fault;
-mod lexer;
-mod marks;
+mod print;
+mod spell;
+
+pub use print::print_statement;
+pub use spell::spelled;

@@ -1,0 +1,5 @@
+pub mod Words
+pub mod Enclosed
+pub mod Lexing
+pub mod Printed
+pub mod AllPrinted

@@ -1,0 +1,14 @@
+-- What is printed is read again.
+use Rattle.std.specs.Prelude.{◌≡◌, Result, Ok, Err, List}
+use Rattle.std.specs.List.{AllByRecursion}
+use Rattle.sdb_model.specs.Sql.{Tokens, CanSpell, tokens_of, tokens_text}
+use Rattle.sdb_model.specs.declared.token.Placed.{Placed}
+use Rattle.sdb_sqltokens.specs.declared.fault.LexRefused.{LexRefused}
+use Rattle.sdb_sqltokens.specs.declared.fault.LexRefused.TheVariants as refused
+
+-- these tokens are read, unless memory runs out
+abbrev pub GivesAll : Result (List Placed) LexRefused → Tokens → Type 0
+GivesAll (Ok ps) ts = tokens_of ps ≡ ts
+GivesAll (Err refused.NoMemory) ts = Unit {0}
+GivesAll (Err (refused.BadToken at)) ts = ⊥
+GivesAll (Err (refused.TooWide at)) ts = ⊥
