@@ -70,10 +70,10 @@ keeps_at es q qs m old new left at a moved =
       stage = λ h. staged ∙ goes_on qs (subst (λ (x : List Request). 0 < length x) rest h);
       applied = rw rest a.1;
       events =
-        ap (λ (a : Option Answer). (es ++ call_event q (reply_to q m) a ∷ []) ++ commit_events new.left (after q m)) answered
-        ∙ ap (λ (l : List Request). (es ++ call_event q (reply_to q m) (answer_behind qs) ∷ []) ++ commit_events l (after q m)) rest
-        ∙ append_assoc es (call_event q (reply_to q m) (answer_behind qs) ∷ []) (commit_events qs (after q m))
-        ∙ ap (λ (l : List Request). es ++ commit_events l m) (sym left);
+          ap (λ (a : Option Answer). (es ++ call_event q (reply_to q m) a ∷ []) ++ commit_events new.left (after q m)) answered
+          ∙ ap (λ (l : List Request). (es ++ call_event q (reply_to q m) (answer_behind qs) ∷ []) ++ commit_events l (after q m)) rest
+          ∙ append_assoc es (call_event q (reply_to q m) (answer_behind qs) ∷ []) (commit_events qs (after q m))
+          ∙ ap (λ (l : List Request). es ++ commit_events l m) (sym left);
       left = rw (rest, left) refl;
     }
 

@@ -111,9 +111,9 @@ unfolding coordinator_key_of
 first_rows n m =
     let same : key_cmp (account_key n) (account_key n) ≡ Equal = tied_itself key_total (account_key n) in
     let all : entries (held_committed n m) ≡ (account_key n, (committed_account n m).columns) ∷ (coordinator_key_of first_id, first_row.columns) ∷ [] =
-      entries-insert key_total (held_decided n m) (account_key n) (committed_account n m).columns
-      ∙ ap (λ (es : List (Key × List Pair)). put key_cmp (account_key n) (committed_account n m).columns es) (entries-insert key_total (held_prepared n m) (coordinator_key_of first_id) first_row.columns ∙ ap (λ (es : List (Key × List Pair)). put key_cmp (coordinator_key_of first_id) first_row.columns es) (entries-insert key_total empty (account_key n) (prepared_account n m).columns ∙ ap (λ (es : List (Key × List Pair)). put key_cmp (account_key n) (prepared_account n m).columns es) no_entries))
-      ∙ rw same refl in
+    entries-insert key_total (held_decided n m) (account_key n) (committed_account n m).columns
+    ∙ ap (λ (es : List (Key × List Pair)). put key_cmp (account_key n) (committed_account n m).columns es) (entries-insert key_total (held_prepared n m) (coordinator_key_of first_id) first_row.columns ∙ ap (λ (es : List (Key × List Pair)). put key_cmp (coordinator_key_of first_id) first_row.columns es) (entries-insert key_total empty (account_key n) (prepared_account n m).columns ∙ ap (λ (es : List (Key × List Pair)). put key_cmp (account_key n) (prepared_account n m).columns es) no_entries))
+    ∙ rw same refl in
     rw (all, committed_columns n m) refl
 
 -- the outcome, in the pieces of which it is made
@@ -121,4 +121,4 @@ pub first_outcome_is : (n m : ℤ) (events : List Event) (held : Contents) → e
 first_outcome_is n m events held same_events same_held =
     ap (λ (es : List Event). outcome_of es (record { id = first_id; event = 5 }) held) same_events
     ∙ ap (λ (rows : List (List Value)). record { events = first_events n m; order = record { id = first_id; event = 5 } ∷ []; tables = record { name = account_name; rows = rows } ∷ [] })
-      (ap shown_rows same_held ∙ first_rows n m)
+    (ap shown_rows same_held ∙ first_rows n m)

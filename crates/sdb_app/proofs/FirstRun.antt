@@ -160,10 +160,12 @@ same_id id small e =
 -- no other transaction has a row
 pub others_undecided : (n m : ℤ) (id : TxId) → eq_by_cmp key_cmp (coordinator_key_of id) (coordinator_key_of first_id) ≡ false → decision_at [] (shelves_of (held_committed n m)) id ≡ None
 others_undecided n m id apart =
-    rw (at_other (held_decided n m) (account_key n) (committed_account n m).columns (coordinator_key_of id) (row_apart id n),
-        at_other (held_prepared n m) (coordinator_key_of first_id) first_row.columns (coordinator_key_of id) apart,
-        at_other empty (account_key n) (prepared_account n m).columns (coordinator_key_of id) (row_apart id n),
-        at_empty (coordinator_key_of id)) refl
+    rw (
+      at_other (held_decided n m) (account_key n) (committed_account n m).columns (coordinator_key_of id) (row_apart id n),
+      at_other (held_prepared n m) (coordinator_key_of first_id) first_row.columns (coordinator_key_of id) apart,
+      at_other empty (account_key n) (prepared_account n m).columns (coordinator_key_of id) (row_apart id n),
+      at_empty (coordinator_key_of id),
+    ) refl
 
 pub recorded_first : (n m : ℤ) → Recorded [] (shelves_of (held_committed n m)) first_id
 recorded_first n m = rw (first_decided n m) refl
@@ -192,7 +194,8 @@ pub first_order : (n m : ℤ) → IsOrder [] (first_events n m) (shelves_of (hel
 first_order n m = record {
   recorded = λ id small. (
     (λ has. subst (Recorded [] (shelves_of (held_committed n m))) (one_id id has) (recorded_first n m)),
-    (λ recorded. let same = only_first n m id small recorded in (0, omega arith, sym same)));
+    (λ recorded. let same = only_first n m id small recorded in (0, omega arith, sym same)),
+  );
   points = only_point (λ p. p.event ≡ point (first_events n m) p.id) (record { id = first_id; event = 5 }) (rw (first_point n m) refl);
   rising = λ k less. absurd (omega arith);
   taken = only_point (λ p. IsSome (commit_of (first_events n m) p.id)) (record { id = first_id; event = 5 }) refl;

@@ -84,21 +84,23 @@ not_catalog key e = rw e refl
 
 no_row : (n m : ℤ) (key : Key) → eq_by_cmp key_cmp key (account_key n) ≡ false → eq_by_cmp key_cmp key (coordinator_key_of first_id) ≡ false → row_at [] (shelves_of (held_committed n m)) key ≡ None
 no_row n m key apart other =
-    rw (at_other (held_decided n m) (account_key n) (committed_account n m).columns key apart,
-        at_other (held_prepared n m) (coordinator_key_of first_id) first_row.columns key other,
-        at_other empty (account_key n) (prepared_account n m).columns key apart,
-        at_empty key) refl
+    rw (
+      at_other (held_decided n m) (account_key n) (committed_account n m).columns key apart,
+      at_other (held_prepared n m) (coordinator_key_of first_id) first_row.columns key other,
+      at_other empty (account_key n) (prepared_account n m).columns key apart,
+      at_empty key,
+    ) refl
 
 pub first_images : (n m : ℤ) → AreImages catalog [] (shelves_of (held_committed n m)) (last_tables n m)
 first_images n m key =
     by_test (eq_by_cmp key_cmp key (account_key n))
     (λ t. let same : key ≡ account_key n = key_exact _ _ (equal_of _ t) in
-      subst (λ (k : Key). get (last_tables n m) k ≡ (if is_some (find_table catalog k.table) then row_at [] (shelves_of (held_committed n m)) k else None)) (sym same)
-        (get-insert key_total empty (account_key n) (account_columns m) (account_key n) ∙ rw (tied_same (account_key n)) (sym (account_row n m))))
+    subst (λ (k : Key). get (last_tables n m) k ≡ (if is_some (find_table catalog k.table) then row_at [] (shelves_of (held_committed n m)) k else None)) (sym same)
+    (get-insert key_total empty (account_key n) (account_columns m) (account_key n) ∙ rw (tied_same (account_key n)) (sym (account_row n m))))
     (λ t. let none : get (last_tables n m) key ≡ None = get-insert key_total empty (account_key n) (account_columns m) key ∙ rw (t, get-empty key_cmp key) refl in
-      none ∙ by_test (eq_by_cmp key_cmp key (coordinator_key_of first_id))
-        (λ u. rw (not_catalog key (key_exact _ _ (equal_of _ u))) refl)
-        (λ u. rw (no_row n m key t u) (sym (same_else (is_some (find_table catalog key.table)) None))))
+    none ∙ by_test (eq_by_cmp key_cmp key (coordinator_key_of first_id))
+    (λ u. rw (not_catalog key (key_exact _ _ (equal_of _ u))) refl)
+    (λ u. rw (no_row n m key t u) (sym (same_else (is_some (find_table catalog key.table)) None))))
 
 ---- told
 
@@ -125,9 +127,9 @@ not_first : (id : TxId) (n m : ℤ) → ¬ (id ≡ first_id) → said_since (fir
 not_first id n m other =
     by_test (1 == client_of id)
     (λ c. by_test (ordinal_of id == 1)
-      (λ o. absurd (other (id_parts id c o)))
-      (λ o. let same : client_of id ≡ 1 = grind (arith, nat_tests) in
-        ap (λ (k : ℕ). from_begin (ordinal_of id) (said k (first_events n m))) same ∙ from_none (ordinal_of id) n m o))
+    (λ o. absurd (other (id_parts id c o)))
+    (λ o. let same : client_of id ≡ 1 = grind (arith, nat_tests) in
+    ap (λ (k : ℕ). from_begin (ordinal_of id) (said k (first_events n m))) same ∙ from_none (ordinal_of id) n m o))
     (λ c. rw (silent (client_of id) n m c) (nothing (ordinal_of id)))
   where
     nothing : (k : ℕ) → from_begin k [] ≡ []
@@ -163,7 +165,8 @@ first_told n m f g = record {
   images = subst (AreImages catalog [] (shelves_of (held_committed n m))) (sym (ap (λ (r : List (List Answer) × Tables). r.1) (first_serial n m f g))) (first_images n m);
   committed = λ id small told. elim (same_or_not id) [
     | inl same ↦ subst (Recorded [] (shelves_of (held_committed n m))) (sym same) (recorded_first n m)
-    | inr other ↦ absurd (told_first id n m answer.Committed told other) ];
+    | inr other ↦ absurd (told_first id n m answer.Committed told other)
+  ];
   known = λ id small recorded. inl (subst (λ (x : TxId). commit_answer (first_events n m) x ≡ Some answer.Committed) (sym (only_first n m id small recorded)) refl);
 }
 
@@ -198,17 +201,48 @@ next_turn : (clients : List ScriptClient) (past : List Event) → length clients
 next_turn clients past one work = (work, inr ((omega arith, omega arith), (λ c among. vacuous 2 (length clients + 1) c (omega arith) among), (λ c among. vacuous 1 1 c (omega arith) among)))
 
 pub first_follows : (name : List ℕ) (n m : ℤ) → Follows (first_clients name n m) (move.Rest ∷ []) (first_events n m)
-first_follows name n m =
-    (first_events n m, [], refl,
-      (1, first_turn (first_clients name n m) (take 0 (first_events n m)) refl refl, (refl, refl),
-      (1, next_turn (first_clients name n m) (take 1 (first_events n m)) refl refl, (refl, refl),
-      (1, next_turn (first_clients name n m) (take 2 (first_events n m)) refl refl, (refl, tt),
-      (1, next_turn (first_clients name n m) (take 3 (first_events n m)) refl refl, (refl, refl),
-      (1, next_turn (first_clients name n m) (take 4 (first_events n m)) refl refl, (refl, tt),
-      (1, next_turn (first_clients name n m) (take 5 (first_events n m)) refl refl, (refl, tt),
-      (1, next_turn (first_clients name n m) (take 6 (first_events n m)) refl refl, (refl, tt),
-      λ c among. let one : 1 ≡ c = omega (arith, among.0, among.1) in subst (λ (k : ℕ). has_work (first_clients name n m) k (first_events n m) ≡ false) one refl))))))),
-      refl)
+first_follows name n m = (
+  first_events n m,
+  [],
+  refl,
+  (
+    1,
+    first_turn (first_clients name n m) (take 0 (first_events n m)) refl refl,
+    (refl, refl),
+    (
+      1,
+      next_turn (first_clients name n m) (take 1 (first_events n m)) refl refl,
+      (refl, refl),
+      (
+        1,
+        next_turn (first_clients name n m) (take 2 (first_events n m)) refl refl,
+        (refl, tt),
+        (
+          1,
+          next_turn (first_clients name n m) (take 3 (first_events n m)) refl refl,
+          (refl, refl),
+          (
+            1,
+            next_turn (first_clients name n m) (take 4 (first_events n m)) refl refl,
+            (refl, tt),
+            (
+              1,
+              next_turn (first_clients name n m) (take 5 (first_events n m)) refl refl,
+              (refl, tt),
+              (
+                1,
+                next_turn (first_clients name n m) (take 6 (first_events n m)) refl refl,
+                (refl, tt),
+                λ c among. let one : 1 ≡ c = omega (arith, among.0, among.1) in subst (λ (k : ℕ). has_work (first_clients name n m) k (first_events n m) ≡ false) one refl,
+              ),
+            ),
+          ),
+        ),
+      ),
+    ),
+  ),
+  refl,
+)
 
 -- what the stores hold after each event
 abbrev pub first_moments : ℤ → ℤ → List (List Shelf)
@@ -217,14 +251,28 @@ first_moments n m =
     ∷ shelves_of (held_prepared n m) ∷ shelves_of (held_decided n m) ∷ shelves_of (held_committed n m) ∷ []
 
 pub first_trace : (n m : ℤ) → IsTrace [] (first_events n m) (shelves_of empty) (first_moments n m) (shelves_of (held_committed n m))
-first_trace n m =
-    (refl, (refl,
-    (record { held = empty; left = empty; placed = refl; found = refl; performed = inl (finds_none n); others = refl },
-    (refl,
-    (record { held = empty; left = held_prepared n m; placed = refl; found = refl; performed = inl (prepares n m); others = refl },
-    (record { held = held_prepared n m; left = held_decided n m; placed = refl; found = refl; performed = inl (decides n m); others = refl },
-    (record { held = held_decided n m; left = held_committed n m; placed = refl; found = refl; performed = inl (forwards n m); others = refl },
-    refl)))))))
+first_trace n m = (
+  refl,
+  (
+    refl,
+    (
+      record { held = empty; left = empty; placed = refl; found = refl; performed = inl (finds_none n); others = refl },
+      (
+        refl,
+        (
+          record { held = empty; left = held_prepared n m; placed = refl; found = refl; performed = inl (prepares n m); others = refl },
+          (
+            record { held = held_prepared n m; left = held_decided n m; placed = refl; found = refl; performed = inl (decides n m); others = refl },
+            (
+              record { held = held_decided n m; left = held_committed n m; placed = refl; found = refl; performed = inl (forwards n m); others = refl },
+              refl,
+            ),
+          ),
+        ),
+      ),
+    ),
+  ),
+)
 
 ---- the whole
 

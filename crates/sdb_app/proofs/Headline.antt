@@ -17,12 +17,16 @@ pub played_is : (form : Form) (old new : Option (List ℕ)) (opening closing : C
 played_is form old new opening closing r is_empty held =
     let i = r.insert in
     let run : IsRun (client_script form.client) (shelves_of empty) (shelves_of (held_committed form.id form.balance)) (first_outcome form.id form.balance) =
-      subst (λ (texts : List (List ℕ)). IsRun (client_script (record { name = form.client.name; statements = texts })) (shelves_of empty) (shelves_of (held_committed form.id form.balance)) (first_outcome form.id form.balance)) (sym i.statements)
-        (first_run form.client.name form.id form.balance i.fits_id i.fits_balance) in
+    subst (λ (texts : List (List ℕ)). IsRun (client_script (record { name = form.client.name; statements = texts })) (shelves_of empty) (shelves_of (held_committed form.id form.balance)) (first_outcome form.id form.balance)) (sym i.statements)
+    (first_run form.client.name form.id form.balance i.fits_id i.fits_balance) in
     let from : IsRun (client_script form.client) (shelves_of opening) (shelves_of (held_committed form.id form.balance)) (first_outcome form.id form.balance) =
-      subst (λ (m : Contents). IsRun (client_script form.client) (shelves_of m) (shelves_of (held_committed form.id form.balance)) (first_outcome form.id form.balance)) (sym is_empty) run in
+    subst (λ (m : Contents). IsRun (client_script form.client) (shelves_of m) (shelves_of (held_committed form.id form.balance)) (first_outcome form.id form.balance)) (sym is_empty) run in
     record {
-      text = r.text; script = client_script form.client; taken = r.taken; ended = r.ended; form = r.script;
+      text = r.text;
+      script = client_script form.client;
+      taken = r.taken;
+      ended = r.ended;
+      form = r.script;
       run = subst (λ (m : Contents). IsRun (client_script form.client) (shelves_of opening) (shelves_of m) (first_outcome form.id form.balance)) (sym held) from;
     }
 

@@ -63,7 +63,12 @@ fn account_records(alloc: Global, stores: &mut Stores) -> Result<Records, NoMemo
 }
 
 /// The outcome of a run of one transaction, with the rows that the store holds.
-pub fn outcome(alloc: Global, stores: &mut Stores, events: Events, point: Point) -> Result<Outcome, NoMemory>
+pub fn outcome(
+    alloc: Global,
+    stores: &mut Stores,
+    events: Events,
+    point: Point,
+) -> Result<Outcome, NoMemory>
     ensures outcome { IfOk result (λ outcome. outcome ≡ outcome_of events point stores.old) }
     ensures same { OnOk result (stores.new ≡ stores.old) }
 {

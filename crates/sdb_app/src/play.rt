@@ -14,15 +14,14 @@ ghost use Rattle.sdb_app.specs.First.{first_events, held_committed, call_event, 
 ghost use Rattle.sdb_app.specs.Calls.{AreApplied, after_all, commit_events, answer_of_progress};
 ghost use Rattle.sdb_app.specs.Played.{begun_txn, asking_txn, written_txn, committing_txn, take_insert, take_commit, commit_calls, found_none, counted_one};
 
-
 use crate::stores::Stores;
 use sdb_model::{Answer, Event, Events, How};
-use sdb_txn::{Progress, Stage, Txn};
 use sdb_record::{Change, Keyed};
 use sdb_script::insert_text;
+use sdb_txn::{Progress, Stage, Txn};
 use sdb_types::{
-    Columns, Duplicate, Key, Name, NameRefused, NoMemory, Reply, Request, TableName, TxId, Txt, Value,
-    Values,
+    Columns, Duplicate, Key, Name, NameRefused, NoMemory, Reply, Request, TableName, TxId, Txt,
+    Value, Values,
 };
 use std::alloc::Global;
 
@@ -37,7 +36,13 @@ pub fn call(stores: &mut Stores, request: &Request) -> Result<Reply, NoMemory>
 }
 
 // Records a call of the one client whose reply it saw.
-fn push_call(alloc: Global, events: &mut Events, request: Request, reply: Reply, answer: Option<Answer>) -> Result<(), NoMemory>
+fn push_call(
+    alloc: Global,
+    events: &mut Events,
+    request: Request,
+    reply: Reply,
+    answer: Option<Answer>,
+) -> Result<(), NoMemory>
     ensures { OnOk result (events.new ≡ events.old ++ call_event request reply answer ∷ []) }
 {
     events.push(Event::Call(
@@ -51,7 +56,12 @@ fn push_call(alloc: Global, events: &mut Events, request: Request, reply: Reply,
 }
 
 // Records the taking of a statement by the one client.
-fn push_take(alloc: Global, events: &mut Events, text: &str, answer: Option<Answer>) -> Result<(), NoMemory>
+fn push_take(
+    alloc: Global,
+    events: &mut Events,
+    text: &str,
+    answer: Option<Answer>,
+) -> Result<(), NoMemory>
     ensures { OnOk result (events.new ≡ events.old ++ event.Take 1 text.now answer ∷ []) }
 {
     events.push(Event::Take(1, Txt::new(alloc, text)?, answer))
@@ -80,7 +90,12 @@ fn answer_to(progress: Progress) -> Option<Answer>
 }
 
 // Makes the pending call, whose reply lets the transaction go on.
-fn step(alloc: Global, txn: &mut Txn, stores: &mut Stores, request: &Request) -> Result<(Reply, Progress), NoMemory>
+fn step(
+    alloc: Global,
+    txn: &mut Txn,
+    stores: &mut Stores,
+    request: &Request,
+) -> Result<(Reply, Progress), NoMemory>
     requires calls { is_calling txn.old.stage ≡ true }
     requires left { 0 < length txn.old.left }
     requires wished { IsWished txn.old.left (reply_to request.now stores.old) }
@@ -94,7 +109,12 @@ fn step(alloc: Global, txn: &mut Txn, stores: &mut Stores, request: &Request) ->
 }
 
 // Makes the calls of a COMMIT, each of which is applied.
-fn make_calls(alloc: Global, txn: &mut Txn, stores: &mut Stores, events: &mut Events) -> Result<(), NoMemory>
+fn make_calls(
+    alloc: Global,
+    txn: &mut Txn,
+    stores: &mut Stores,
+    events: &mut Events,
+) -> Result<(), NoMemory>
     requires stage { txn.old.stage ≡ Stage.Committing }
     requires applied { AreApplied txn.old.left stores.old }
     ensures events { OnOk result (events.new ≡ events.old ++ commit_events txn.old.left stores.old) }
@@ -195,7 +215,12 @@ fn ask_account(alloc: Global, txn: &mut Txn, id: i64) -> Result<(), NoMemory>
 }
 
 // Reads an account's key, which has no record.
-fn read_account(alloc: Global, txn: &mut Txn, stores: &mut Stores, id: i64) -> Result<(Request, Reply), NoMemory>
+fn read_account(
+    alloc: Global,
+    txn: &mut Txn,
+    stores: &mut Stores,
+    id: i64,
+) -> Result<(Request, Reply), NoMemory>
     requires asking { txn.old ≡ asking_txn id }
     requires empty { stores.old ≡ map.empty }
     ensures call { IfOk result (λ c. (c.0 ≡ get_account id) × (c.1 ≡ found_none)) }
@@ -216,7 +241,14 @@ fn push_insert(alloc: Global, events: &mut Events, id: i64, balance: i64) -> Res
 }
 
 // Takes the INSERT of an account.
-fn insert(alloc: Global, txn: &mut Txn, stores: &mut Stores, events: &mut Events, id: i64, balance: i64) -> Result<(), NoMemory>
+fn insert(
+    alloc: Global,
+    txn: &mut Txn,
+    stores: &mut Stores,
+    events: &mut Events,
+    id: i64,
+    balance: i64,
+) -> Result<(), NoMemory>
     requires id { fits_int id ≡ true }
     requires balance { fits_int balance ≡ true }
     requires begun { txn.old ≡ begun_txn }
@@ -242,7 +274,14 @@ fn ask_commit(alloc: Global, txn: &mut Txn, id: i64, balance: i64) -> Result<(),
 }
 
 // Takes the COMMIT of the inserted account.
-fn commit(alloc: Global, txn: &mut Txn, stores: &mut Stores, events: &mut Events, id: i64, balance: i64) -> Result<(), NoMemory>
+fn commit(
+    alloc: Global,
+    txn: &mut Txn,
+    stores: &mut Stores,
+    events: &mut Events,
+    id: i64,
+    balance: i64,
+) -> Result<(), NoMemory>
     requires written { txn.old ≡ written_txn id balance }
     requires empty { stores.old ≡ map.empty }
     ensures events { OnOk result (events.new ≡ (events.old ++ take_commit ∷ []) ++ commit_calls id balance) }

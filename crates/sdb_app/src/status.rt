@@ -42,7 +42,10 @@ impl Status {
     {
         match self {
             Status::Done => Txt::new(alloc, ""),
-            Status::Usage => Txt::new(alloc, "usage: scalardb replay | sql | schema [NS=STORE]... | load NS.TABLE insert|update|upsert N | export NS.TABLE | bench N"),
+            Status::Usage => Txt::new(
+                alloc,
+                "usage: scalardb replay | sql | schema [NS=STORE]... | load NS.TABLE insert|update|upsert N | export NS.TABLE | bench N",
+            ),
             Status::ReadFault => Txt::new(alloc, "read fault"),
             Status::WriteFault => Txt::new(alloc, "write fault"),
             Status::NoMemory => Txt::new(alloc, "out of memory"),

@@ -123,7 +123,7 @@ abbrev pub IsTurn : List ScriptClient → List Event → ℕ → ℕ → Type 0
 IsTurn clients past from client =
     (has_work clients client past ≡ true)
     × (IsAmong from (end_of clients) client × AllIdle clients past from client
-      ⊎ IsAmong 1 from client × AllIdle clients past from (end_of clients) × AllIdle clients past 1 client)
+    ⊎ IsAmong 1 from client × AllIdle clients past from (end_of clients) × AllIdle clients past 1 client)
 
 -- The rest: each client that has work and isn't stopped takes one step in turn, by number, round after round, until none
 -- has work. The clients before `from` had their turn in this round.

@@ -218,7 +218,8 @@ open_step front line stage.Client o ts ps e st h =
       fits_m = st.fits_m;
       lines = ap (λ (x : List (List ℕ)). x ++ line ∷ []) st.lines ∙ ap (λ (x : List ℕ). schema_line ∷ x ∷ []) b.0;
       texts = st.texts;
-      named = refl; inserted = st.inserted;
+      named = refl;
+      inserted = st.inserted;
     })
 open_step front line stage.Begin o ts ps e st h =
     let a = if_line_is line (statement_line statement.Begin) _ e h in
@@ -248,7 +249,8 @@ open_step front line stage.Insert o ts ps e st h =
       fits_m = b.1;
       lines = ap (λ (x : List (List ℕ)). x ++ line ∷ []) st.lines ∙ ap (λ (x : List ℕ). schema_line ∷ client_line st.name ∷ statement_line statement.Begin ∷ x ∷ []) b.2;
       texts = ap (λ (x : List (List ℕ)). x ++ statement_text_of (insert_of a.0.0 a.0.1) ∷ []) st.texts;
-      named = st.named; inserted = refl;
+      named = st.named;
+      inserted = refl;
     })
 open_step front line stage.Commit o ts ps e st h =
     let a = if_line_is line (statement_line statement.Commit) _ e h in
@@ -383,14 +385,21 @@ whole_at : (lines : List (List ℕ)) (s : Stage) (o : Option (List ℕ)) (ts : L
 whole_at lines stage.End o ts ps form st end named said inserted =
     let same : st.name ≡ form.client.name = some_is _ _ (sym st.named ∙ named) in
     let numbers : (st.n, st.m) ≡ (form.id, form.balance) = some_is _ _ (sym st.inserted ∙ inserted) in
-    let parts : form.client.statements ≡ texts_of st.n st.m = said ∙ st.texts in
-    (record {
-      name = st.name; statements = statements_of st.n st.m; named = st.is_named; built = (st.n, st.m, st.fits_n, st.fits_m, refl); lined = st.lines;
-      said = λ i. client_script (record { name = sym same i; statements = parts i }) },
-    record {
-      fits_id = subst (λ (p : ℤ × ℤ). fits_int p.0 ≡ true) numbers st.fits_n;
-      fits_balance = subst (λ (p : ℤ × ℤ). fits_int p.1 ≡ true) numbers st.fits_m;
-      statements = subst (λ (p : ℤ × ℤ). form.client.statements ≡ texts_of p.0 p.1) numbers parts })
+    let parts : form.client.statements ≡ texts_of st.n st.m = said ∙ st.texts in (
+      record {
+        name = st.name;
+        statements = statements_of st.n st.m;
+        named = st.is_named;
+        built = (st.n, st.m, st.fits_n, st.fits_m, refl);
+        lined = st.lines;
+        said = λ i. client_script (record { name = sym same i; statements = parts i });
+      },
+      record {
+        fits_id = subst (λ (p : ℤ × ℤ). fits_int p.0 ≡ true) numbers st.fits_n;
+        fits_balance = subst (λ (p : ℤ × ℤ). fits_int p.1 ≡ true) numbers st.fits_m;
+        statements = subst (λ (p : ℤ × ℤ). form.client.statements ≡ texts_of p.0 p.1) numbers parts;
+      },
+    )
 whole_at lines stage.Schema o ts ps form st end named said inserted = absurd cc
 whole_at lines stage.Client o ts ps form st end named said inserted = absurd cc
 whole_at lines stage.Begin o ts ps form st end named said inserted = absurd cc

@@ -75,10 +75,7 @@ fn prepare(alloc: Global, write: &Write, id: TxId, now: i64) -> Result<Request, 
     requires { is_new_write write.now ≡ true }
     ensures { IfOk result (λ request. request ≡ prepare_of id now write.now) }
 {
-    Ok(Request::PutIf(
-        prepared(alloc, write, id, now)?,
-        Condition::Absent,
-    ))
+    Ok(Request::PutIf(prepared(alloc, write, id, now)?, Condition::Absent))
 }
 
 fn decide(alloc: Global, id: TxId, now: i64) -> Result<Request, NoMemory>
@@ -101,7 +98,13 @@ fn forward(alloc: Global, write: &Write, id: TxId, now: i64) -> Result<Request, 
     ))
 }
 
-fn put_prepares(asks: &mut Requests, alloc: Global, writes: &[Write], id: TxId, now: i64) -> Result<(), NoMemory>
+fn put_prepares(
+    asks: &mut Requests,
+    alloc: Global,
+    writes: &[Write],
+    id: TxId,
+    now: i64,
+) -> Result<(), NoMemory>
     requires { are_new_writes writes.now ≡ true }
     ensures { OnOk result (asks.new ≡ asks.old ++ map (prepare_of id now) writes.now) }
 {
@@ -111,7 +114,13 @@ fn put_prepares(asks: &mut Requests, alloc: Global, writes: &[Write], id: TxId, 
     Ok(())
 }
 
-fn put_forwards(asks: &mut Requests, alloc: Global, writes: &[Write], id: TxId, now: i64) -> Result<(), NoMemory>
+fn put_forwards(
+    asks: &mut Requests,
+    alloc: Global,
+    writes: &[Write],
+    id: TxId,
+    now: i64,
+) -> Result<(), NoMemory>
     requires { are_new_writes writes.now ≡ true }
     ensures { OnOk result (asks.new ≡ asks.old ++ map (forward_of id now) writes.now) }
 {

@@ -5,14 +5,12 @@ use Rattle.std.specs.declared.cmp.Ordering.{Ordering}
 use Rattle.std.specs.declared.cmp.Ordering.TheVariants.{Less, Equal, Greater}
 use Rattle.std.specs.Ordering.{is_lt, ordering_reverse}
 use Rattle.sdb_types.specs.declared.pair.Pair.{Pair}
-use Rattle.std.proofs.Common.{Result, Ok, Err, OnOk, OnErr, ◌-◌, Some, None}
-use Rattle.std.specs.Prelude.{slice_get}
+use Rattle.std.proofs.Common.{Result, Ok, Err, OnOk, OnErr}
 use Rattle.sdb_types.specs.declared.memory.NoMemory.{NoMemory}
 use Rattle.sdb_types.specs.Order.{name_cmp}
 use Rattle.sdb_types.proofs.Bools.{and_first, and_second, and_both}
 use Rattle.sdb_types.proofs.KeyOrder.{name_exact, name_total}
 use Rattle.sdb_types.specs.Columns.{is_null, starts_above, are_columns, is_below, put_pair, take_out, with_column, place_in, stands_first}
-use Rattle.sdb_types.specs.Columns.{is_null, starts_above, are_columns, is_named, is_below, choose_by, put_pair, take_out, with_column, place_in, stands_first, ends_below}
 
 pub by_order : {G : Type 0} (r : Ordering) → (r ≡ Less → G) → (r ≡ Equal → G) → (r ≡ Greater → G) → G
 by_order Less f g h = f refl
@@ -148,30 +146,3 @@ module _ (p : Pair) (es : List Pair) (n : ℕ) (counted : n ≡ length (take_whi
 pub after_put : (r : Result (Unit {0}) NoMemory) (new old : List Pair) (p : Pair) → OnOk r (new ≡ with_column p old) → OnErr r (new ≡ old) → are_columns old ≡ true → are_columns new ≡ true
 after_put (Ok x) new old p o e h = rw o (with_column-are_columns p old h)
 after_put (Err x) new old p o e h = rw e h
-
--- where the last column is below a name, each is
-first_below : (name : List ℕ) (e : Pair) (es : List Pair) → are_columns (e ∷ es) ≡ true → ends_below name (e ∷ es) ≡ true → is_lt (name_cmp e.name name) ≡ true
-first_below name e [] c h = h
-first_below name e (f ∷ es) c h =
-    let rest = and_second (not (is_null e.value)) (starts_above e.name (f ∷ es) && are_columns (f ∷ es)) c in
-    let above = and_first (starts_above e.name (f ∷ es)) (are_columns (f ∷ es)) rest in
-    let tail = and_second (starts_above e.name (f ∷ es)) (are_columns (f ∷ es)) rest in
-    ap is_lt (name_total.trans e.name f.name name (less_of _ above) (less_of _ (first_below name f es tail h)))
-
-ends_rest : (name : List ℕ) (e : Pair) (es : List Pair) → ends_below name (e ∷ es) ≡ true → ends_below name es ≡ true
-ends_rest name e [] h = refl
-ends_rest name e (f ∷ es) h = h
-
-pub all_below : (name : List ℕ) (es : List Pair) → are_columns es ≡ true → ends_below name es ≡ true → length es ≡ length (take_while (is_below name) es)
-all_below name [] c h = refl
-all_below name (e ∷ es) c h =
-    let rest = and_second (not (is_null e.value)) (starts_above e.name es && are_columns es) c in
-    let tail = and_second (starts_above e.name es) (are_columns es) rest in
-    simp (less_of _ (first_below name e es c h), one_more) (ap suc (all_below name es tail (ends_rest name e es h)))
-
-pub last_below : (name : List ℕ) (es : List Pair) (e : Pair) → slice_get es (length es - 1) ≡ Some e → is_below name e ≡ ends_below name es
-last_below name [] e h = absurd (cc)
-last_below name (f ∷ []) e h = let same : f ≡ e = cc in ap (is_below name) (sym same)
-last_below name (f ∷ g ∷ es) e h =
-    let n : length (f ∷ g ∷ es) - 1 ≡ suc (length (g ∷ es) - 1) = omega arith in
-    last_below name (g ∷ es) e (ap (slice_get (f ∷ g ∷ es)) (sym n) ∙ h)

@@ -61,9 +61,3 @@ place_in name (e ∷ es) = choose_by (name_cmp e.name name) (suc (place_in name 
 abbrev pub stands_first : List ℕ → List Pair → Bool
 stands_first name [] = false
 stands_first name (e ∷ es) = is_named name e
-
--- whether the last column has a smaller name, if there is one
-abbrev pub ends_below : List ℕ → List Pair → Bool
-ends_below name [] = true
-ends_below name (e ∷ []) = is_below name e
-ends_below name (e ∷ f ∷ es) = ends_below name (f ∷ es)

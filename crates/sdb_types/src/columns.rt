@@ -4,7 +4,6 @@ ghost use Rattle.std.specs.Option.{option_copied};
 ghost use Rattle.std.specs.Slice.{IsItemAt};
 ghost use Rattle.sdb_types.specs.Columns.{are_columns, column, with_column, is_below, is_null, stands_first};
 ghost use Rattle.sdb_types.specs.Fits.{columns_fit};
-ghost use Rattle.sdb_types.specs.Columns.{are_columns, column, with_column, is_below, is_null, stands_first, ends_below};
 
 use crate::known::Known;
 use crate::memory::{Duplicate, NoMemory};
@@ -42,33 +41,14 @@ fn is_null_value(value: &Value) -> bool
     }
 }
 
-fn count_below(pairs: &[Pair], name: &Name) -> usize
+// Where the name stands, or would stand.
+fn place_of(pairs: &[Pair], name: &Name) -> usize
     ensures { result ≡ length (take_while (is_below name.now) pairs.now) }
 {
     pairs
         .iter()
         .take_while(|pair| pair.name.cmp(name).is_lt())
         .count()
-}
-
-fn ends_below(pairs: &[Pair], name: &Name) -> bool
-    ensures { result ≡ ends_below name.now pairs.now }
-{
-    match pairs.last() {
-        Some(pair) => pair.name.cmp(name).is_lt(),
-        None => true,
-    }
-}
-
-// Where the name stands, or would stand. At the end it is found at once.
-fn place_of(pairs: &[Pair], name: &Name) -> usize
-    requires { are_columns pairs.now ≡ true }
-    ensures { result ≡ length (take_while (is_below name.now) pairs.now) }
-{
-    if ends_below(pairs, name) {
-        return pairs.len();
-    }
-    count_below(pairs, name)
 }
 
 fn is_at(pairs: &[Pair], place: usize, name: &Name) -> bool
@@ -90,7 +70,6 @@ fn find_value<'a>(pairs: &'a [Pair], name: &Name) -> Option<&'a Value>
 }
 
 fn put(pairs: &mut Seq<Pair>, pair: Pair) -> Result<(), NoMemory>
-    requires { are_columns pairs.old ≡ true }
     ensures ok { OnOk result (pairs.new ≡ with_column pair pairs.old) }
     ensures err { OnErr result (pairs.new ≡ pairs.old) }
 {

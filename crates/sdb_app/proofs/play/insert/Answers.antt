@@ -17,9 +17,9 @@ returns-clause-events c =
     let same_id : to_z w64 (of_z w64 c.args.id) ≡ c.args.id = search rules in
     let same_balance : to_z w64 (of_z w64 c.args.balance) ≡ c.args.balance = search rules in
     let pushed : c.push_insert.new.events ≡ c.args.events.now ++ take_insert c.args.id c.args.balance ∷ [] =
-      c.in_ok-push_insert.ensures
-      ∙ ap (λ (n : ℤ). c.args.events.now ++ take_insert n (to_z w64 (of_z w64 c.args.balance)) ∷ []) same_id
-      ∙ ap (λ (m : ℤ). c.args.events.now ++ take_insert c.args.id m ∷ []) same_balance in
+    c.in_ok-push_insert.ensures
+    ∙ ap (λ (n : ℤ). c.args.events.now ++ take_insert n (to_z w64 (of_z w64 c.args.balance)) ∷ []) same_id
+    ∙ ap (λ (m : ℤ). c.args.events.now ++ take_insert c.args.id m ∷ []) same_balance in
     let asked : c.in_ok-request.request ≡ get_account c.args.id = search rules in
     let found : c.in_ok-request.reply ≡ found_none = search rules in
     c.in_ok-push_call.ensures

@@ -12,7 +12,7 @@ loop-request-preserved c =
     let first : slice_get c.loop-request.txn.left 0 ≡ Some c.in-Some.request = sym c.in_ok-request.ensures ∙ c.in-Some.is in
     let done = c.in_ok-reply.ensures in
     let k = kept c.loop-request.events c.push_call.new.events c.in-Some.request c.loop-request.stores c.step.new.stores c.loop-request.txn c.step.new.txn c.in_ok-reply.reply c.in_ok-reply.progress c.answer_to.result
-        first (before.stage (some_left _ _ first)) before.applied done.txn done.step.0 done.step.1 c.answer_to.ensures c.in_ok-push_call.ensures done.stores in
+    first (before.stage (some_left _ _ first)) before.applied done.txn done.step.0 done.step.1 c.answer_to.ensures c.in_ok-push_call.ensures done.stores in
     record { stage = k.stage; applied = k.applied; events = k.events ∙ before.events; left = k.left ∙ before.left }
 
 pub returns-clause-events : goal.returns-clause-events

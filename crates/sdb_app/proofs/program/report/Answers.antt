@@ -12,8 +12,8 @@ returns-clause-report c =
     let same_id : to_z w64 (of_z w64 c.args.form.now.id) ≡ c.args.form.now.id = search rules in
     let same_balance : to_z w64 (of_z w64 c.args.form.now.balance) ≡ c.args.form.now.balance = search rules in
     let made : c.in_ok-outcome.outcome ≡ first_outcome c.args.form.now.id c.args.form.now.balance =
-      c.in_ok-outcome.ensures.outcome
-      ∙ first_outcome_is (to_z w64 (of_z w64 c.args.form.now.id)) (to_z w64 (of_z w64 c.args.form.now.balance)) c.in_ok-events.events c.play.new.stores c.in_ok-events.ensures.events c.in_ok-events.ensures.stores
-      ∙ ap (λ (n : ℤ). first_outcome n (to_z w64 (of_z w64 c.args.form.now.balance))) same_id
-      ∙ ap (λ (m : ℤ). first_outcome c.args.form.now.id m) same_balance in
+    c.in_ok-outcome.ensures.outcome
+    ∙ first_outcome_is (to_z w64 (of_z w64 c.args.form.now.id)) (to_z w64 (of_z w64 c.args.form.now.balance)) c.in_ok-events.events c.play.new.stores c.in_ok-events.ensures.events c.in_ok-events.ensures.stores
+    ∙ ap (λ (n : ℤ). first_outcome n (to_z w64 (of_z w64 c.args.form.now.balance))) same_id
+    ∙ ap (λ (m : ℤ). first_outcome c.args.form.now.id m) same_balance in
     subst (λ (o : Outcome). IfOk c.report_text.result (λ t. t ≡ report_text_of o)) made c.report_text.ensures

@@ -11,6 +11,7 @@ returns-in-Ok-write_all-clause-done g c = λ _.
 
 pub returns-in-Err-Failed-clause-write_fault : goal.returns-in-Err-Failed-clause-write_fault
 returns-in-Err-Failed-clause-write_fault g c = λ _.
-    let bytes : c.as_bytes.result.now ≡ report_text_of (first_outcome c.in-Ok.form.id c.in-Ok.form.balance) = c.as_bytes.ensures.value ∙ c.as_str.ensures ∙ c.in-Ok-report.ensures.report in
-    (c.in-Err-Failed.ensures.failed (ap Err c.in-Err-Failed.field-0-is),
-    front_written c.in-Ok.form _ _ c.args.stores.now c.report.new.stores c.as_bytes.result.now _ _ c.in-Ok.ensures.read c.requires c.in-Ok-report.ensures.stores bytes c.in-Err-Failed.ensures.front)
+    let bytes : c.as_bytes.result.now ≡ report_text_of (first_outcome c.in-Ok.form.id c.in-Ok.form.balance) = c.as_bytes.ensures.value ∙ c.as_str.ensures ∙ c.in-Ok-report.ensures.report in (
+      c.in-Err-Failed.ensures.failed (ap Err c.in-Err-Failed.field-0-is),
+      front_written c.in-Ok.form _ _ c.args.stores.now c.report.new.stores c.as_bytes.result.now _ _ c.in-Ok.ensures.read c.requires c.in-Ok-report.ensures.stores bytes c.in-Err-Failed.ensures.front,
+    )

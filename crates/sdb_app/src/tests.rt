@@ -1,0 +1,101 @@
+//! The program's top call on whole inputs, and on sources and sinks that fail.
+use crate::{Status, Stores, run};
+use sdb_types::{Calls, Feed, Moments, NoMemory, Numbers, Octets, Ticks, Tray};
+use std::alloc::Global;
+use std::test::Fail;
+
+const SCRIPT: &[u8] =
+    b"schema {\"bank.account\":{\"partition-key\":[\"id\"],\"columns\":{\"id\":\"INT\",\"balance\":\"INT\"}}}\nclient a\n  BEGIN\n  INSERT INTO bank.account (id, balance) VALUES (1, 100)\n  COMMIT\nrun\nrest\n";
+
+const REPORT: &[u8] =
+    b"scalardb report 1\nevents 7\n1 take 1 done : BEGIN\n2 take 1 - : INSERT INTO bank.account (id, balance) VALUES (1, 100)\n3 call 1 ordered get bank.account(1) seen found none count 1\n4 take 1 - : COMMIT\n5 call 1 ordered put bank.account(1){balance=100,tx_id='00000000-0000-0001-0000-000000000001',tx_prepared_at=0L,tx_state=1,tx_version=1} if absent seen applied -\n6 call 1 ordered put coordinator.state('00000000-0000-0001-0000-000000000001'){tx_created_at=0L,tx_state=3} if absent seen applied -\n7 call 1 ordered put bank.account(1){balance=100,tx_committed_at=0L,tx_id='00000000-0000-0001-0000-000000000001',tx_prepared_at=0L,tx_state=3,tx_version=1} if 00000000-0000-0001-0000-000000000001 1 seen applied committed\norder 1\n00000000-0000-0001-0000-000000000001 5\ntables 1\ntable bank.account 1\n(100,1)\nend\n";
+
+fn calls(alloc: Global, failing: &[u64]) -> Result<Calls, NoMemory> {
+    Calls::from_slice(alloc, failing)
+}
+
+// How the program ends on these words and this input, and what it wrote.
+fn ended(
+    alloc: Global,
+    words: &[&str],
+    script: &[u8],
+    reads_fail: &[u64],
+    writes_fail: &[u64],
+) -> Result<(Status, Tray), Fail> {
+    let mut given = Vec::new(alloc);
+    for word in words {
+        given.push(String::from_str(alloc, word)?)?;
+    }
+    let mut stores = Stores::new(alloc);
+    let mut input = Feed::new(
+        Octets::from_slice(alloc, script)?,
+        100,
+        calls(alloc, reads_fail)?,
+    );
+    let mut output = Tray::new(alloc, 10, calls(alloc, writes_fail)?);
+    let mut clock = Ticks::new(Moments::new(alloc));
+    let mut ids = Numbers::new(1);
+    let status = run(
+        alloc,
+        &given,
+        &mut stores,
+        &mut input,
+        &mut output,
+        &mut clock,
+        &mut ids,
+    );
+    Ok((status, output))
+}
+
+#[test]
+fn the_first_script_has_its_report(rt: HostRuntime) -> Result<(), Fail> {
+    let (status, output) = ended(rt.alloc(), &["replay"], SCRIPT, &[], &[])?;
+    assert_eq!(rt; status, Status::Done);
+    assert_eq!(rt; output.written().as_slice(), REPORT);
+    Ok(())
+}
+
+#[test]
+fn a_failed_read_writes_nothing(rt: HostRuntime) -> Result<(), Fail> {
+    let (status, output) = ended(rt.alloc(), &["replay"], SCRIPT, &[2], &[])?;
+    assert_eq!(rt; status, Status::ReadFault);
+    assert_eq!(rt; output.written().as_slice(), b"".as_slice());
+    Ok(())
+}
+
+#[test]
+fn a_failed_write_leaves_a_front(rt: HostRuntime) -> Result<(), Fail> {
+    let (status, output) = ended(rt.alloc(), &["replay"], SCRIPT, &[], &[2])?;
+    assert_eq!(rt; status, Status::WriteFault);
+    assert_eq!(rt; output.written().as_slice(), b"scalardb r".as_slice());
+    Ok(())
+}
+
+#[test]
+fn other_words_are_usage(rt: HostRuntime) -> Result<(), Fail> {
+    for words in [
+        ["replay", "replay"].as_slice(),
+        [].as_slice(),
+        ["Replay"].as_slice(),
+    ] {
+        let (status, output) = ended(rt.alloc(), words, SCRIPT, &[], &[])?;
+        assert_eq!(rt; status, Status::Usage);
+        assert_eq!(rt; output.written().len(), 0);
+    }
+    Ok(())
+}
+
+#[test]
+fn another_script_is_not_built(rt: HostRuntime) -> Result<(), Fail> {
+    let (status, _) = ended(
+        rt.alloc(),
+        &["replay"],
+        b"schema {}\nrun\n".as_slice(),
+        &[],
+        &[],
+    )?;
+    assert_eq!(rt; status, Status::NotBuilt(1));
+    assert_eq!(rt; status.line(rt.alloc())?.as_str(), "not built at 1");
+    assert_eq!(rt; status.code(), 13);
+    Ok(())
+}
