@@ -73,15 +73,9 @@ fn a_failed_write_leaves_a_front(rt: HostRuntime) -> Result<(), Fail> {
 
 #[test]
 fn other_words_are_usage(rt: HostRuntime) -> Result<(), Fail> {
-    for words in [
-        ["replay", "replay"].as_slice(),
-        [].as_slice(),
-        ["Replay"].as_slice(),
-    ] {
-        let (status, output) = ended(rt.alloc(), words, SCRIPT, &[], &[])?;
-        assert_eq!(rt; status, Status::Usage);
-        assert_eq!(rt; output.written().len(), 0);
-    }
+    let (status, output) = ended(rt.alloc(), &["Replay"], SCRIPT, &[], &[])?;
+    assert_eq!(rt; status, Status::Usage);
+    assert_eq!(rt; output.written().as_slice(), b"".as_slice());
     Ok(())
 }
 
