@@ -1,0 +1,17 @@
+use Rattle.std.proofs.Common.{rules, ℕ, ◌≢◌, ◌≡◌, ◌-◌, length, Some, ap, sym, ◌∙◌, subst, List}
+use Rattle.std.specs.Prelude.{slice_get, slice_set}
+use Rattle.sdb_plain.specs.declared.points.Said.{Said}
+use Rattle.sdb_plain.specs.Points.{all_said}
+use Rattle.sdb_model.specs.Transactions.{with_answer}
+use Rattle.sdb_plain.proofs.Saying.{last_answered, none_answered}
+use Rattle.sdb_plain.proofs.points.answer_last.Goals as goal
+
+pub returns : goal.returns
+returns c =
+    let ss = c.args.said.now in
+    let whole = last_answered ss c.in-Some.last.now c.args.number c.args.answer.now c.in-Some.ensures.value in
+    let put : c.replace.new.self ≡ slice_set ss (length ss - 1) c.in_ok-last-in-Some.last = c.replace.ensures ∙ ap (λ (n : ℕ). slice_set ss (n - 1) c.in_ok-last-in-Some.last) c.len-at.ensures in
+    ap all_said (put ∙ ap (λ (s : Said). slice_set ss (length ss - 1) s) c.in_ok-last-in-Some.ensures) ∙ whole
+
+pub returns-in-None : goal.returns-in-None
+returns-in-None c = none_answered c.args.said.now c.args.number c.args.answer.now c.in-None.ensures.value

@@ -1,0 +1,34 @@
+-- What the slow functions on transactions hold.
+use Rattle.std.specs.Prelude.{Option, Some, None, find, length, take_while, insert as list_insert, nat_le, if◌then◌else◌, List, [], ◌∷◌, map, fold}
+use Rattle.sdb_types.specs.declared.txid.TxId.{TxId}
+use Rattle.sdb_model.specs.declared.event.Event.{Event}
+use Rattle.sdb_model.specs.declared.event.Point.{Point}
+use Rattle.std.specs.Option.{option_and_then}
+use Rattle.sdb_model.specs.Reading.{reads_commit}
+use Rattle.sdb_model.specs.Transactions.{Said as SaidOf, ends, rest_of, point}
+use Rattle.sdb_plain.specs.declared.points.Said.{Said}
+
+-- a statement that was said, as the definitions have it
+abbrev pub said_of : Said → SaidOf
+said_of s = record { taken = s.taken; text = s.text; answer = s.answer; answered = s.answered }
+
+abbrev pub all_said : List Said → List SaidOf
+all_said = map said_of
+
+---- the order of some transactions
+
+abbrev pub point_at : List Event → TxId → Point
+point_at events id = record { id = id; event = point events id }
+
+-- with a point put before the first that is later
+abbrev pub placed_point : List Point → Point → List Point
+placed_point ps p = list_insert ps (length (take_while (λ q. nat_le q.event p.event) ps)) p
+
+-- transactions, each with its point, by rising point
+abbrev pub order_of : List Event → List TxId → List Point
+order_of events ids = fold placed_point [] (map (point_at events) ids)
+
+---- the COMMIT of a transaction, among what its client said since its BEGIN
+
+abbrev pub commit_among : List SaidOf → Option SaidOf
+commit_among ss = option_and_then (λ s. if reads_commit s.text then Some s else None) (find ends (rest_of ss))

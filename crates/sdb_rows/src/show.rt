@@ -1,0 +1,76 @@
+//! What is shown of rows.
+ghost use Rattle.std.specs.Prelude.{◌≡◌, IfOk, map};
+ghost use Rattle.sdb_model.specs.Rows.{value_of};
+ghost use Rattle.sdb_model.specs.Exec.{shown_names as shown_names_lem};
+
+use crate::read::value_at;
+use sdb_model::Rows;
+use sdb_record::Image;
+use sdb_schema::{Column, Table};
+use sdb_types::{Duplicate, Name, Names, NoMemory, Value, Values};
+use std::alloc::Global;
+
+fn names_of_columns(alloc: Global, columns: &[Column]) -> Result<Names, NoMemory>
+    ensures { IfOk result (λ names. names ≡ map (λ c. c.name) columns.now) }
+{
+    let mut names = Names::new(alloc);
+    for column in columns {
+        names.push(column.name.copy()?)?;
+    }
+    Ok(names)
+}
+
+/// The columns that a SELECT names, for `*` all in name order.
+pub fn shown_names(
+    alloc: Global,
+    table: &Table,
+    columns: &Option<Names>,
+) -> Result<Names, NoMemory>
+    ensures { IfOk result (λ names. names ≡ shown_names_lem table.now columns.now) }
+{
+    match columns {
+        Some(names) => names.copy(),
+        None => names_of_columns(alloc, table.columns.as_slice()),
+    }
+}
+
+fn value_shown(table: &Table, row: &Image, name: &Name) -> Result<Value, NoMemory>
+    ensures { IfOk result (λ v. v ≡ value_of table.now row.now name.now) }
+{
+    match value_at(table, row, name) {
+        Some(value) => value.copy(),
+        None => Ok(Value::Null),
+    }
+}
+
+/// What a row gives the columns of these names.
+pub fn shown(
+    alloc: Global,
+    table: &Table,
+    names: &[Name],
+    row: &Image,
+) -> Result<Values, NoMemory>
+    ensures { IfOk result (λ values. values ≡ map (value_of table.now row.now) names.now) }
+{
+    let mut values = Values::new(alloc);
+    for name in names {
+        values.push(value_shown(table, row, name)?)?;
+    }
+    Ok(values)
+}
+
+/// What rows give the columns of these names, in the rows' order.
+pub fn shown_all(
+    alloc: Global,
+    table: &Table,
+    names: &[Name],
+    rows: &[Image],
+) -> Result<Rows, NoMemory>
+    ensures { IfOk result (λ found. found ≡ map (λ r. map (value_of table.now r) names.now) rows.now) }
+{
+    let mut found = Rows::new(alloc);
+    for row in rows {
+        found.push(shown(alloc, table, names, row)?)?;
+    }
+    Ok(found)
+}
