@@ -1,0 +1,5 @@
+pub mod Verbs
+pub mod Heads
+pub mod States
+pub mod Machine
+pub mod Parsing
