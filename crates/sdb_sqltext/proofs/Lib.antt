@@ -4,3 +4,8 @@ pub mod Viable
 pub mod Places
 pub mod Clauses
 pub mod Again
+pub mod Within
+pub mod Answered
+pub mod Turns
+pub mod Linked
+pub mod Follow

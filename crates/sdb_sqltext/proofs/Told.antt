@@ -182,7 +182,7 @@ pub bind_some : {A B : Type 0} (r : Option A) (f : A → Option B) (y : B) → (
 bind_some (Some x) f y e = (x, refl, e)
 bind_some None f y e = absurd cc
 
-word_is : (k : Keyword) (t : Token) → is_word k t ≡ true → t ≡ Word k
+pub word_is : (k : Keyword) (t : Token) → is_word k t ≡ true → t ≡ Word k
 word_is k (Word w) h = ap Word (same_true keyword_type.the_type (search rules) w k h)
 word_is k (Name n) h = absurd cc
 word_is k Overlong h = absurd cc
@@ -191,7 +191,7 @@ word_is k (Text x) h = absurd cc
 word_is k (Blob x) h = absurd cc
 word_is k (Mark s) h = absurd cc
 
-sign_is : (k : Sign) (t : Token) → is_sign k t ≡ true → t ≡ Mark k
+pub sign_is : (k : Sign) (t : Token) → is_sign k t ≡ true → t ≡ Mark k
 sign_is k (Word w) h = absurd cc
 sign_is k (Name n) h = absurd cc
 sign_is k Overlong h = absurd cc
