@@ -1,6 +1,6 @@
 -- The lines that a draft has taken begin a script, and a line that may not come next begins none.
-use Rattle.std.proofs.Common.{◌≡◌, ◌⊎◌, inl, inr, ltb, ℕ, zero, suc, ◌+◌, ◌<◌, ◌≤◌, ◌^◌, Bool, true, false, ◌&&◌, ◌==◌, ◌++◌, List, [], ◌∷◌, length, take, drop, Option, Some, None, Result, Ok, Err, refl, sym, ap, subst, ◌∙◌, append_assoc, arith, ℤ, pos, negsuc}
-use Rattle.std.specs.Prelude.{codes, map, int_le, nat_le, IsSome, is_some}
+use Rattle.std.proofs.Common.{◌≡◌, inl, inr, ltb, ℕ, ◌+◌, ◌<◌, ◌≤◌, ◌^◌, Bool, true, false, ◌&&◌, ◌==◌, ◌++◌, List, [], ◌∷◌, length, take, drop, Option, Some, None, Ok, Err, refl, sym, ap, subst, ◌∙◌, append_assoc, arith, ℤ, pos, negsuc}
+use Rattle.std.specs.Prelude.{codes, map, int_le, IsSome, is_some}
 use Rattle.std.specs.Option.{option_map, option_and_then}
 use Rattle.std.specs.Fmt.{signed_decimal}
 use Rattle.std.specs.Str.{bytes_eq}
@@ -11,36 +11,34 @@ use Rattle.sdb_types.proofs.Bools.{and_first, and_second}
 use Rattle.sdb_model.specs.declared.statement.Statement.{Statement}
 use Rattle.sdb_model.specs.declared.statement.Statement.TheVariants as statement
 use Rattle.sdb_model.specs.declared.script.Script.{Script}
-use Rattle.sdb_model.specs.declared.script.ScriptClient.{ScriptClient}
 use Rattle.sdb_model.specs.Reading.{statement_text_of}
 use Rattle.sdb_model.specs.Rows.{fits_int}
-use Rattle.sdb_model.specs.Form.{schema_line, client_line, statement_line, insert_of, is_client_name, form_lines, form_script, client_script, AreBuilt, IsForm, BeginsForm, IsBadNext, IsFirstBad, lines_of, most_bytes, IsScriptText, IsNotBuilt}
+use Rattle.sdb_model.specs.Form.{schema_line, client_line, statement_line, insert_of, is_client_name, form_lines, form_script, client_script, IsForm, BeginsForm, IsBadNext, IsFirstBad, lines_of, IsScriptText, IsNotBuilt}
 use Rattle.sdb_script.specs.declared.draft.Form.{Form}
 use Rattle.sdb_script.specs.Inserts.{IsInsertForm}
 use Rattle.sdb_script.specs.declared.draft.Stage.{Stage}
 use Rattle.sdb_script.specs.declared.draft.Stage.TheVariants as stage
-use Rattle.sdb_script.specs.Scan.{after, number_at}
-use Rattle.sdb_script.specs.Drafts.{Drafted, first_draft, if_named, client_in, if_insert, second_in, numbers_in, insert_in, to_stage, with_text, if_line, drafted, drafted_at, drafted_next, drafted_from, insert_front}
+use Rattle.sdb_script.specs.Scan.{after}
+use Rattle.sdb_script.specs.Drafts.{Drafted, first_draft, if_named, client_in, if_insert, numbers_in, insert_in, if_line, drafted, drafted_at, drafted_next, drafted_from}
 use Rattle.sdb_script.proofs.Again.{IsWithin, number_again}
-use Rattle.sdb_script.proofs.Texts.{insert_pieces}
 
-by_test : {G : Type 0} (t : Bool) → (t ≡ true → G) → (t ≡ false → G) → G
+pub by_test : {G : Type 0} (t : Bool) → (t ≡ true → G) → (t ≡ false → G) → G
 by_test true a b = a refl
 by_test false a b = b refl
 
-same_bytes : (a b : List ℕ) → bytes_eq a b ≡ true → a ≡ b
+pub same_bytes : (a b : List ℕ) → bytes_eq a b ≡ true → a ≡ b
 same_bytes a b h = (bytes_eq-Decides a b).0 h
 
-itself : (a : List ℕ) → bytes_eq a a ≡ true
+pub itself : (a : List ℕ) → bytes_eq a a ≡ true
 itself a = (bytes_eq-Decides a a).1 refl
 
 ---- an insert's line is read again
 
-fits_long : (n : ℤ) → fits_int n ≡ true → IsWithin (2 ^ 63) n
+pub fits_long : (n : ℤ) → fits_int n ≡ true → IsWithin (2 ^ 63) n
 fits_long (pos n) h = let k = and_second (int_le (negsuc 2147483647) (pos n)) _ h in grind (arith, nat_tests)
 fits_long (negsuc n) h = let k = and_first (int_le (negsuc 2147483647) (negsuc n)) _ h in grind (arith, nat_tests)
 
-numbers_again : (n m : ℤ) → fits_int n ≡ true → fits_int m ≡ true → numbers_in (statement_line (insert_of n m)) ≡ Some (n, m)
+pub numbers_again : (n m : ℤ) → fits_int n ≡ true → fits_int m ≡ true → numbers_in (statement_line (insert_of n m)) ≡ Some (n, m)
 unfolding numbers_in
 numbers_again n m f g =
     rw (append_assoc, number_again n (44 ∷ 32 ∷ ((signed_decimal m ++ []) ++ 41 ∷ [])) (fits_long n f) refl, append-nil, number_again m (41 ∷ []) (fits_long m g) refl) refl
@@ -132,27 +130,27 @@ stands_begin front d s = record {
 
 ---- one line more
 
-some_is : {A : Type 0} (x y : A) → Some x ≡ Some y → x ≡ y
+pub some_is : {A : Type 0} (x y : A) → Some x ≡ Some y → x ≡ y
 some_is x y e = cc
 
-no_some : {A G : Type 0} (x : A) → ◌≡◌ {A = Option A} None (Some x) → G
+pub no_some : {A G : Type 0} (x : A) → ◌≡◌ {A = Option A} None (Some x) → G
 no_some x e = absurd cc
 
-if_line_is : (line wanted : List ℕ) (d e : Drafted) → if_line line wanted d ≡ Some e → (line ≡ wanted) × (d ≡ e)
+pub if_line_is : (line wanted : List ℕ) (d e : Drafted) → if_line line wanted d ≡ Some e → (line ≡ wanted) × (d ≡ e)
 if_line_is line wanted d e h =
     by_test (bytes_eq line wanted)
     (λ t. (same_bytes line wanted t, some_is d e (rw t at h)))
     (λ t. no_some e (rw t at h))
 
-map_is : {A B : Type 0} (f : A → B) (o : Option A) (y : B) → option_map f o ≡ Some y → (x : A) × (o ≡ Some x) × (f x ≡ y)
+pub map_is : {A B : Type 0} (f : A → B) (o : Option A) (y : B) → option_map f o ≡ Some y → (x : A) × (o ≡ Some x) × (f x ≡ y)
 map_is f (Some x) y e = (x, refl, some_is _ _ e)
 map_is f None y e = no_some y e
 
-bind_is : {A B : Type 0} (f : A → Option B) (o : Option A) (y : B) → option_and_then f o ≡ Some y → (x : A) × (o ≡ Some x) × (f x ≡ Some y)
+pub bind_is : {A B : Type 0} (f : A → Option B) (o : Option A) (y : B) → option_and_then f o ≡ Some y → (x : A) × (o ≡ Some x) × (f x ≡ Some y)
 bind_is f (Some x) y e = (x, refl, e)
 bind_is f None y e = no_some y e
 
-after_is : (word bytes rest : List ℕ) → after word bytes ≡ Some rest → bytes ≡ word ++ rest
+pub after_is : (word bytes rest : List ℕ) → after word bytes ≡ Some rest → bytes ≡ word ++ rest
 after_is [] bytes rest h = some_is _ _ h
 after_is (w ∷ ws) [] rest h = no_some rest h
 after_is (w ∷ ws) (b ∷ bs) rest h =
@@ -160,7 +158,7 @@ after_is (w ∷ ws) (b ∷ bs) rest h =
     (λ t. let same : w ≡ b = grind (arith, nat_tests) in rw same (ap (λ (x : List ℕ). b ∷ x) (after_is ws bs rest (rw t at h))))
     (λ t. no_some rest (rw t at h))
 
-client_is : (line name : List ℕ) → client_in line ≡ Some name → (line ≡ client_line name) × (is_client_name name ≡ true)
+pub client_is : (line name : List ℕ) → client_in line ≡ Some name → (line ≡ client_line name) × (is_client_name name ≡ true)
 client_is line name h =
     let a = bind_is if_named (after (codes "client ") line) name h in
     by_test (is_client_name a.0)
@@ -171,7 +169,7 @@ after_again : (word rest : List ℕ) → after word (word ++ rest) ≡ Some rest
 after_again [] rest = refl
 after_again (w ∷ ws) rest = let t : (w == w) ≡ true = grind (arith, nat_tests) in rw t (after_again ws rest)
 
-client_again : (name : List ℕ) → is_client_name name ≡ true → client_in (client_line name) ≡ Some name
+pub client_again : (name : List ℕ) → is_client_name name ≡ true → client_in (client_line name) ≡ Some name
 client_again name h = rw (after_again (codes "client ") name, h) refl
 
 pair_is : (n m : ℤ) (p : ℤ × ℤ) (line : List ℕ) → if_insert line n m ≡ Some p → (fits_int n ≡ true) × (fits_int m ≡ true) × (line ≡ statement_line (insert_of n m)) × ((n, m) ≡ p)

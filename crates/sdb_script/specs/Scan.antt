@@ -1,5 +1,5 @@
 -- Reading from the front of a text: what stands there, and the bytes after it, or nothing.
-use Rattle.std.specs.Prelude.{◌≡◌, ◌^◌, ℕ, zero, suc, ◌+◌, ◌-◌, ◌*◌, min, Bool, true, false, if◌then◌else◌, ◌==◌, nat_lt, List, [], ◌∷◌, ℤ, pos, negsuc, Option, Some, None}
+use Rattle.std.specs.Prelude.{◌^◌, ℕ, zero, suc, ◌+◌, ◌-◌, ◌*◌, min, Bool, false, if◌then◌else◌, ◌==◌, nat_lt, List, [], ◌∷◌, ℤ, pos, negsuc, Option, Some, None}
 use Rattle.std.specs.Option.{option_and_then, option_map}
 use Rattle.std.specs.Char.{is_ascii_digit}
 

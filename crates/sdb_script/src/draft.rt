@@ -76,20 +76,20 @@ impl Model for Draft {
     ghost view = { λ d. record { stage = d.stage; name = d.name; texts = d.texts; numbers = d.numbers } };
 }
 
-fn is_line(line: &[u8], wanted: &str) -> bool
+pub fn is_line(line: &[u8], wanted: &str) -> bool
     ensures { result ≡ bytes_eq line.now wanted.now }
 {
     line == wanted.as_bytes()
 }
 
-fn fits_int(n: i64) -> bool
+pub fn fits_int(n: i64) -> bool
     ensures { result ≡ fits_int_lem n }
 {
     (-2147483648..=2147483647).contains(&n)
 }
 
 // The client that a line names.
-fn client_in(alloc: Global, line: &[u8]) -> Result<Name, LineRefused>
+pub fn client_in(alloc: Global, line: &[u8]) -> Result<Name, LineRefused>
     ensures ok { IfOk result (λ name. client_in line.now ≡ Some name) }
     ensures bad { IsErrOf result LineRefused.Bad → client_in line.now ≡ None }
 {
@@ -139,7 +139,7 @@ pub fn insert_text(alloc: Global, id: i64, balance: i64) -> Result<Txt, NoMemory
 }
 
 // Whether a line is that of a statement with this text.
-fn is_statement_line(alloc: Global, line: &[u8], text: &str) -> Result<bool, NoMemory>
+pub fn is_statement_line(alloc: Global, line: &[u8], text: &str) -> Result<bool, NoMemory>
     ensures { IfOk result (λ is. is ≡ bytes_eq line.now (codes "  " ++ text.now)) }
 {
     let mut whole = String::new(alloc);
@@ -171,7 +171,7 @@ fn insert_checked(
 
 // The numbers that stand where an insert has its id and its balance.
 #[tactic(auto, unfolding(crate::specs::Drafts::numbers_in))]
-fn numbers_in(line: &[u8]) -> Option<(i64, i64)>
+pub fn numbers_in(line: &[u8]) -> Option<(i64, i64)>
     ensures { result ≡ numbers_in line.now }
 {
     let rest = after(b"  INSERT INTO bank.account (id, balance) VALUES (", line)?;

@@ -1,4 +1,4 @@
-use Rattle.std.proofs.Common.{◌≡◌, ◌∙◌, ◌≤◌, ◌+◌, length, inr, arith, sym, ap, Err}
+use Rattle.std.proofs.Common.{◌≡◌, ◌∙◌, ◌≤◌, length, inr, arith, sym, ap, Err}
 use Rattle.sdb_script.specs.Drafts.{drafted_from, first_draft}
 use Rattle.sdb_script.specs.declared.form.FormRefused.TheVariants.{NotBuilt}
 use Rattle.sdb_model.specs.Form.{most_bytes, lines_of}

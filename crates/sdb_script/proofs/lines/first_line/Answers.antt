@@ -1,4 +1,4 @@
-use Rattle.std.proofs.Common.{◌+◌, subst, arith}
+use Rattle.std.proofs.Common.{◌+◌, arith}
 use Rattle.std.proofs.lemmas.List.{take_rest}
 use Rattle.sdb_script.proofs.Cut.{lines_first, lines_whole}
 use Rattle.sdb_script.proofs.lines.first_line.Goals as goal

@@ -1,4 +1,4 @@
-use Rattle.std.proofs.Common.{sym, ◌∙◌, arith}
+use Rattle.std.proofs.Common.{sym, ◌∙◌}
 use Rattle.sdb_script.proofs.Again.{after_short}
 use Rattle.sdb_script.proofs.scan.after.Goals as goal
 

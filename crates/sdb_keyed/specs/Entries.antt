@@ -1,0 +1,18 @@
+-- Values by key, as a list of entries in the order in which their keys were first used, each key once.
+use Rattle.std.specs.Prelude.{Bool, List, Option}
+use Rattle.std.specs.Map.{lookup}
+use Rattle.indexmap.specs.IndexMap.{insert_entry}
+use Rattle.sdb_types.specs.declared.key.Key.{Key}
+use Rattle.sdb_types.specs.contracts.key.KeyPartialEq.TheImpl as key_eq
+
+-- whether two keys are one, as `==` of keys tells
+abbrev pub same_key : Key → Key → Bool
+same_key = (key_eq.ghosts).eq
+
+-- the value of the first entry with that key
+abbrev pub value_at : {V : Type 0} → List (Key × V) → Key → Option V
+value_at es key = lookup (same_key key) es
+
+-- with a value at a key: a key that is there keeps its place and takes the value, and a new key goes last
+abbrev pub with_value : {V : Type 0} → List (Key × V) → Key → V → List (Key × V)
+with_value es key v = insert_entry same_key es key v

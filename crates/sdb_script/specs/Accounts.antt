@@ -1,0 +1,109 @@
+-- The form of the scripts that can be played so far, as a grammar over the whole text: one client, whose transactions insert
+-- and select single accounts.
+use Rattle.std.specs.Prelude.{◌≡◌, ◌⊎◌, ℕ, ◌+◌, ◌≤◌, ◌<◌, ◌==◌, ℤ, Bool, true, false, ◌&&◌, List, [], ◌∷◌, ◌++◌, map, codes, Some, None, length, take, count_by}
+use Rattle.sdb_types.specs.declared.value.Value.TheVariants as value
+use Rattle.sdb_model.specs.declared.script.Script.{Script}
+use Rattle.sdb_model.specs.declared.statement.Comparison.TheVariants.{Eq}
+use Rattle.sdb_model.specs.declared.statement.Test.TheVariants.{Compare}
+use Rattle.sdb_model.specs.declared.statement.Statement.{Statement}
+use Rattle.sdb_model.specs.declared.statement.Statement.TheVariants as statement
+use Rattle.sdb_model.specs.Reading.{statement_text_of}
+use Rattle.sdb_model.specs.Rows.{fits_int}
+use Rattle.sdb_model.specs.Form.{lines_of, account_name, insert_of, form_lines, form_script, is_client_name}
+use Rattle.std.specs.List.{list_all}
+use Rattle.sdb_script.specs.declared.account.AccountStatement.{AccountStatement}
+use Rattle.sdb_script.specs.declared.drawing.AccountForm.{AccountForm}
+use Rattle.sdb_script.specs.declared.account.AccountStatement.TheVariants as account
+
+---- statements
+
+-- `SELECT balance FROM bank.account WHERE id = N`
+abbrev pub select_of : ℤ → Statement
+select_of n = statement.Select (record { table = account_name; columns = Some (codes "balance" ∷ []); tests = Compare (codes "id") Eq (value.BigInt n) ∷ []; limit = None })
+
+abbrev pub statement_of : AccountStatement → Statement
+statement_of account.Begin = statement.Begin
+statement_of (account.Insert n m) = insert_of n m
+statement_of (account.Select n) = select_of n
+statement_of account.Commit = statement.Commit
+
+abbrev pub account_text : AccountStatement → List ℕ
+account_text a = statement_text_of (statement_of a)
+
+-- the numbers of an account are in the range of INT
+abbrev pub fits_account : AccountStatement → Bool
+fits_account account.Begin = true
+fits_account (account.Insert n m) = fits_int n && fits_int m
+fits_account (account.Select n) = fits_int n
+fits_account account.Commit = true
+
+-- what stands between BEGIN and COMMIT: an INSERT or a SELECT of an account, with numbers in the range of INT
+abbrev pub IsInside : Statement → Type 0
+IsInside s =
+    ((n : ℤ) × (m : ℤ) × (fits_int n ≡ true) × (fits_int m ≡ true) × (s ≡ insert_of n m))
+    ⊎ ((n : ℤ) × (fits_int n ≡ true) × (s ≡ select_of n))
+
+-- Transactions one after the other, outside of one or inside: outside BEGIN comes next; inside come INSERTs and SELECTs, and
+-- then COMMIT. The last COMMIT may be missing.
+abbrev pub AreTransactions : Bool → List Statement → Type 0
+AreTransactions inside [] = Unit {0}
+AreTransactions false (s ∷ ss) = (s ≡ statement.Begin) × AreTransactions true ss
+AreTransactions true (s ∷ ss) = ((s ≡ statement.Commit) × AreTransactions false ss) ⊎ (IsInside s × AreTransactions true ss)
+
+---- the form
+
+-- lines of this form, with the script that they say: the schema of `bank.account`, one client with its statements, `run`, and
+-- the one move `rest`
+pub record IsAccountForm (lines : List (List ℕ)) (script : Script) : Type 0 where
+  pub name : List ℕ
+  pub statements : List Statement
+  pub named : is_client_name name ≡ true
+  pub built : AreTransactions false statements
+  pub lined : lines ≡ form_lines name statements
+  pub said : script ≡ form_script name statements
+
+-- the number of bytes of a script that are read
+abbrev pub most_script_bytes : ℕ
+most_script_bytes = 67108864
+
+-- A text is that of a script: it has at most so many bytes, and its lines are of the form.
+abbrev pub IsAccountScript : List ℕ → Script → Type 0
+IsAccountScript text script = (length text ≤ most_script_bytes) × IsAccountForm (lines_of text) script
+
+---- the first line that is not of the form
+
+-- Lines begin a script of the form.
+pub record BeginsAccountForm (lines : List (List ℕ)) : Type 0 where
+  pub more : List (List ℕ)
+  pub script : Script
+  pub form : IsAccountForm (lines ++ more) script
+
+-- Behind these lines the next is bad: with it they begin no script; where there is none, they are not yet a script.
+abbrev pub IsBadNextLine : List (List ℕ) → List (List ℕ) → Type 0
+IsBadNextLine front [] = (script : Script) → ¬ IsAccountForm front script
+IsBadNextLine front (line ∷ rest) = ¬ BeginsAccountForm (front ++ line ∷ [])
+
+-- The first line that is not of the form: the lines before it begin a script, and with it they don't; or all lines begin
+-- one, which they don't end, and it is the line after the last.
+pub record IsFirstBadLine (lines : List (List ℕ)) (n : ℕ) : Type 0 where
+  pub front : List (List ℕ)
+  pub rest : List (List ℕ)
+  pub split : lines ≡ front ++ rest
+  pub before : BeginsAccountForm front
+  pub number : n ≡ length front + 1
+  pub here : IsBadNextLine front rest
+
+-- A text isn't played because of its line n: the line that holds the first byte past the limit, or the first line that is
+-- not of the form.
+abbrev pub IsNotPlayed : List ℕ → ℕ → Type 0
+IsNotPlayed text n =
+    ((most_script_bytes < length text) × (n ≡ count_by (λ b. b == 10) (take most_script_bytes text) + 1))
+    ⊎ ((length text ≤ most_script_bytes) × IsFirstBadLine (lines_of text) n)
+
+---- what is read
+
+-- The client's statements and their texts: each has numbers in the range of INT, and they are transactions.
+pub record IsFormOf (form : AccountForm) : Type 0 where
+  pub fit : list_all fits_account form.statements ≡ true
+  pub texts : form.client.statements ≡ map account_text form.statements
+  pub built : AreTransactions false (map statement_of form.statements)

@@ -1,0 +1,74 @@
+//! Reading scripts of account transactions, the form that can be played so far.
+ghost use Rattle.std.specs.Prelude.{◌≡◌, ◌+◌, ◌<◌, ◌==◌, take, count_by, ℕ, List, Ok, Err, IfOk, IsErrOf, length};
+ghost use Rattle.sdb_model.specs.Form.{lines_of, client_script};
+ghost use Rattle.sdb_model.specs.declared.script.Script.{Script};
+ghost use Rattle.sdb_script.specs.Accounts.{IsAccountScript, IsNotPlayed, IsFormOf, most_script_bytes};
+ghost use Rattle.sdb_script.specs.Drawn.{nothing_drawn, drawn_from};
+
+use crate::draft::LineRefused;
+use crate::drawing::{AccountForm, Drawing};
+use crate::form::FormRefused;
+use crate::lines::{first_line, lf_count};
+use std::alloc::Global;
+
+/// The number of bytes that are read of a script.
+pub const MOST_SCRIPT_BYTES: usize = 67_108_864;
+
+// What all lines say, and the number of the line after the last.
+fn read_lines(alloc: Global, bytes: &[u8]) -> Result<(Drawing, u64), FormRefused>
+    ensures ok { IfOk result (λ d. (drawn_from 1 nothing_drawn (lines_of bytes.now) ≡ Ok d.0) × (d.1 ≡ length (lines_of bytes.now) + 1)) }
+    ensures bad { (n : ℕ) → IsErrOf result (FormRefused.NotBuilt n) → drawn_from 1 nothing_drawn (lines_of bytes.now) ≡ Err n }
+{
+    let mut drawing = Drawing::new(alloc);
+    let mut rest = bytes;
+    let mut number: u64 = 1;
+    while !rest.is_empty() {
+        let (line, behind) = first_line(rest);
+        match drawing.take(alloc, line) {
+            Ok(()) => {}
+            Err(LineRefused::Bad) => return Err(FormRefused::NotBuilt(number)),
+            Err(LineRefused::NoMemory) => return Err(FormRefused::NoMemory),
+        }
+        rest = behind;
+        number += 1;
+    }
+    Ok((drawing, number))
+}
+
+/// The script that a text says, where it is of the form that can be played so far.
+///
+/// The text has at most 67,108,864 bytes. Its lines are the schema of `bank.account`, one `client` line, the client's
+/// statements, `run` and `rest`. The statements are transactions: BEGIN, any number of INSERTs and SELECTs of single
+/// accounts whose numbers fit an INT, and COMMIT, which may be missing in the last. Takes time and memory linear in the
+/// text's length.
+pub fn read_account_script(alloc: Global, bytes: &[u8]) -> Result<AccountForm, FormRefused>
+    ensures ok { IfOk result (λ form. IsAccountScript bytes.now (client_script form.client)) }
+    ensures statements { IfOk result IsFormOf }
+    ensures not_built { (n : ℕ) → IsErrOf result (FormRefused.NotBuilt n) → IsNotPlayed bytes.now n }
+{
+    if bytes.len() > MOST_SCRIPT_BYTES {
+        return Err(FormRefused::NotBuilt(last_line(bytes)));
+    }
+    match read_lines(alloc, bytes) {
+        Ok((drawing, number)) => match drawing.finish() {
+            Some(form) => Ok(form),
+            None => Err(FormRefused::NotBuilt(number)),
+        },
+        Err(refused) => Err(refused),
+    }
+}
+
+// The number of the line that holds the first byte past the limit.
+fn last_line(bytes: &[u8]) -> u64
+    requires { most_script_bytes < length bytes.now }
+    ensures { result ≡ count_by (λ b. b == 10) (take most_script_bytes bytes.now) + 1 }
+{
+    let (read, _) = bytes.split_at(MOST_SCRIPT_BYTES);
+    lf_count(read) as u64 + 1
+}
+
+/// A text is a script's, or isn't because of one of its lines, and not both.
+pub fn account_script_is_exact()
+    ensures apart { (text : List ℕ) (script : Script) (n : ℕ) → IsAccountScript text script → ¬ IsNotPlayed text n }
+    ensures one { (text : List ℕ) (n m : ℕ) → IsNotPlayed text n → IsNotPlayed text m → n ≡ m }
+{}

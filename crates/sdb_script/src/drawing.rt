@@ -1,0 +1,196 @@
+//! A script of account transactions that is being read, line by line.
+ghost use Rattle.std.specs.Prelude.{◌≡◌, ◌++◌, ◌∷◌, [], Some, None, IfSome, IfNone, IsSome, true, false, OnOk, IfOk, IsErrOf, codes};
+ghost use Rattle.std.specs.Str.{bytes_eq};
+ghost use Rattle.sdb_model.specs.declared.script.ScriptClient.{ScriptClient};
+ghost use Rattle.sdb_script.specs.Drafts.{client_in};
+ghost use Rattle.sdb_script.specs.Drawn.{Drawn, nothing_drawn, drawn, drawn_among, told_by, if_wanted, to_section, with_statement, inside_after as inside_after_lem, section_of as section_of_lem};
+
+use crate::account::{AccountStatement, AccountStatements, account_in, account_text};
+use crate::draft::{LineRefused, client_in, is_line};
+use sdb_model::{ScriptClient, Texts};
+use sdb_types::{Name, NoMemory};
+use std::alloc::Global;
+use std::marker::Model;
+
+/// What line may come next.
+#[derive(Clone, Copy, Debug, PartialEq, Eq)]
+pub enum Section {
+    Schema,
+    Client,
+    /// A statement outside of a transaction, or `run`.
+    Outside,
+    /// A statement inside of a transaction, or `run`.
+    Inside,
+    Rest,
+    End,
+}
+
+/// A script of one client whose transactions insert and select accounts.
+#[derive(Debug, Drop)]
+pub struct AccountForm {
+    /// The client, with the texts of its statements.
+    pub client: ScriptClient,
+    /// Its statements.
+    pub statements: AccountStatements,
+}
+
+/// What was read of a script.
+#[derive(Drop)]
+pub struct Drawing {
+    section: Section,
+    name: Option<Name>,
+    texts: Texts,
+    statements: AccountStatements,
+}
+
+impl Model for Drawing {
+    ghost use Rattle.sdb_script.specs.Drawn.{Drawn};
+
+    ghost Value = { Drawn };
+
+    ghost view = { λ d. record { section = d.section; name = d.name; texts = d.texts; statements = d.statements } };
+}
+
+// Whether one is inside of a transaction behind a statement, where it may come there.
+fn inside_after(inside: bool, statement: AccountStatement) -> Option<bool>
+    ensures { result ≡ inside_after_lem inside statement }
+{
+    match (inside, statement) {
+        (false, AccountStatement::Begin) => Some(true),
+        (true, AccountStatement::Insert(_, _)) => Some(true),
+        (true, AccountStatement::Select(_)) => Some(true),
+        (true, AccountStatement::Commit) => Some(false),
+        _ => None,
+    }
+}
+
+fn section_of(inside: bool) -> Section
+    ensures { result ≡ section_of_lem inside }
+{
+    if inside {
+        Section::Inside
+    } else {
+        Section::Outside
+    }
+}
+
+impl Drawing {
+    /// Nothing was read yet.
+    pub fn new(alloc: Global) -> Drawing
+        ensures { result ≡ nothing_drawn }
+    {
+        Drawing {
+            section: Section::Schema,
+            name: None,
+            texts: Texts::new(alloc),
+            statements: AccountStatements::new(alloc),
+        }
+    }
+
+    // Goes on to a section, where the line is the one that is wanted.
+    fn go(&mut self, line: &[u8], wanted: &str, next: Section) -> Result<(), LineRefused>
+        ensures ok { OnOk result (if_wanted line.now wanted.now (to_section self.old next) ≡ Some self.new) }
+        ensures bad { IsErrOf result LineRefused.Bad → if_wanted line.now wanted.now (to_section self.old next) ≡ None }
+    {
+        if !is_line(line, wanted) {
+            return Err(LineRefused::Bad);
+        }
+        self.section = next;
+        Ok(())
+    }
+
+    // Takes the client's name.
+    fn take_client(&mut self, alloc: Global, line: &[u8]) -> Result<(), LineRefused>
+        requires { self.old.section ≡ Section.Client }
+        ensures ok { OnOk result (drawn self.old line.now ≡ Some self.new) }
+        ensures bad { IsErrOf result LineRefused.Bad → drawn self.old line.now ≡ None }
+    {
+        let name = client_in(alloc, line)?;
+        self.name = Some(name);
+        self.section = Section::Outside;
+        Ok(())
+    }
+
+    // Adds a statement, behind which one is inside of a transaction or not.
+    fn add(
+        &mut self,
+        alloc: Global,
+        statement: AccountStatement,
+        inside: bool,
+    ) -> Result<(), NoMemory>
+        ensures { OnOk result (self.new ≡ with_statement self.old statement inside) }
+    {
+        self.texts.push(account_text(alloc, statement)?)?;
+        self.statements.push(statement)?;
+        self.section = section_of(inside);
+        Ok(())
+    }
+
+    // Takes a statement, inside of a transaction or outside.
+    fn take_statement(
+        &mut self,
+        alloc: Global,
+        line: &[u8],
+        inside: bool,
+    ) -> Result<(), LineRefused>
+        ensures ok { OnOk result (told_by inside self.old line.now ≡ Some self.new) }
+        ensures bad { IsErrOf result LineRefused.Bad → told_by inside self.old line.now ≡ None }
+    {
+        let Some(statement) = account_in(alloc, line)? else {
+            return Err(LineRefused::Bad);
+        };
+        let Some(next) = inside_after(inside, statement) else {
+            return Err(LineRefused::Bad);
+        };
+        self.add(alloc, statement, next)?;
+        Ok(())
+    }
+
+    // Takes `run` or a statement.
+    fn take_among(&mut self, alloc: Global, line: &[u8], inside: bool) -> Result<(), LineRefused>
+        ensures ok { OnOk result (drawn_among inside self.old line.now ≡ Some self.new) }
+        ensures bad { IsErrOf result LineRefused.Bad → drawn_among inside self.old line.now ≡ None }
+    {
+        if is_line(line, "run") {
+            self.section = Section::Rest;
+            return Ok(());
+        }
+        self.take_statement(alloc, line, inside)
+    }
+
+    /// Takes one line more.
+    pub fn take(&mut self, alloc: Global, line: &[u8]) -> Result<(), LineRefused>
+        ensures ok { OnOk result (drawn self.old line.now ≡ Some self.new) }
+        ensures bad { IsErrOf result LineRefused.Bad → drawn self.old line.now ≡ None }
+    {
+        match self.section {
+            Section::Schema => self.go(
+                line,
+                "schema {\"bank.account\":{\"partition-key\":[\"id\"],\"columns\":{\"id\":\"INT\",\"balance\":\"INT\"}}}",
+                Section::Client,
+            ),
+            Section::Client => self.take_client(alloc, line),
+            Section::Outside => self.take_among(alloc, line, false),
+            Section::Inside => self.take_among(alloc, line, true),
+            Section::Rest => self.go(line, "rest", Section::End),
+            Section::End => Err(LineRefused::Bad),
+        }
+    }
+
+    /// The script, where the last line was taken.
+    pub fn finish(self) -> Option<AccountForm>
+        ensures some { IfSome result (λ form. (self.section ≡ Section.End) × (self.name ≡ Some form.client.name) × (form.client.statements ≡ self.texts) × (form.statements ≡ self.statements)) }
+        ensures none { IfNone result (self.section ≡ Section.End → ¬ IsSome self.name) }
+    {
+        match (self.section, self.name) {
+            (Section::End, Some(name)) => Some(AccountForm {
+                client: ScriptClient {
+                    name,
+                    statements: self.texts,
+                },
+                statements: self.statements,
+            }),
+            _ => None,
+        }
+    }
+}
