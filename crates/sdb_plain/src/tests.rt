@@ -1,4 +1,7 @@
 //! One client inserts one account: the answers, the row, and the place in the order.
+ghost use Rattle.std.specs.Prelude.{◌≡◌, true, IfOk};
+ghost use Rattle.sdb_schema.specs.Table.{are_short, is_table};
+
 use super::*;
 use sdb_model::{Answer, Event, Events, How, Insert, Point, Statement};
 use sdb_schema::{Catalog, Column, ColumnList, Kind, Orders, Table};
@@ -28,36 +31,45 @@ fn key(alloc: Global, table: TableName, value: Value) -> Result<Key, Fail> {
     })
 }
 
-fn column(alloc: Global, name: &str) -> Result<Column, Fail> {
+fn column(alloc: Global, name: &str) -> Result<Column, Fail>
+    ensures { IfOk result (λ column. column.name ≡ name.now) }
+{
     Ok(Column {
         name: Name::new(alloc, name)?,
         kind: Kind::Int,
     })
 }
 
-fn catalog(alloc: Global) -> Result<Catalog, Fail> {
+fn account_columns(alloc: Global) -> Result<ColumnList, Fail>
+    ensures { IfOk result (λ columns. are_short columns ≡ true) }
+{
     let mut columns = ColumnList::new(alloc);
     columns.push(column(alloc, "balance")?)?;
     columns.push(column(alloc, "id")?)?;
+    Ok(columns)
+}
+
+fn account_table(alloc: Global) -> Result<Table, Fail>
+    ensures { IfOk result (λ table. is_table table ≡ true) }
+{
+    let columns = account_columns(alloc)?;
     let mut partition = Names::new(alloc);
     partition.push(Name::new(alloc, "id")?)?;
     let name = table_name(alloc, "bank", "account")?;
-    let table = Table::new(
+    Ok(Table::new(
         alloc,
         name,
         columns,
         partition,
         Orders::new(alloc),
         Names::new(alloc),
-    );
+    )?)
+}
+
+fn catalog(alloc: Global) -> Result<Catalog, Fail> {
     let mut catalog = Catalog::new(alloc);
-    match table {
-        Ok(table) => match catalog.add(table) {
-            Ok(()) => Ok(catalog),
-            Err(_) => Ok(Catalog::new(alloc)),
-        },
-        Err(_) => Ok(catalog),
-    }
+    catalog.add(account_table(alloc)?)?;
+    Ok(catalog)
 }
 
 // INSERT INTO bank.account (id, balance) VALUES (1, 100)
