@@ -1,6 +1,5 @@
-pub mod FirstRun
-pub mod FirstTold
 pub mod Fates
 pub mod CallSteps
-pub mod FirstCalls
+pub mod Looks
+pub mod Plays
 pub mod Headline
