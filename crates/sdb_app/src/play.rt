@@ -247,7 +247,8 @@ fn insert(
     ensures txn { OnOk result (txn.new ≡ changed_by (AccountStatement.Insert id balance) (row_seen txn.old (account_key_lem id)) txn.old) }
 {
     if images.is_empty() {
-        txn.write(account_change(alloc, id, balance)?)?;
+        let change = account_change(alloc, id, balance)?;
+        txn.write(change)?;
         Ok(Answer::Count(1))
     } else {
         Ok(Answer::Duplicate(account_key(alloc, id)?))
@@ -518,6 +519,7 @@ pub fn play(
     ensures events { IfOk result (λ log. log.events ≡ (taken_all (start finite.empty) statements.now).events) }
     ensures order { IfOk result (λ log. log.order ≡ (taken_all (start finite.empty) statements.now).order) }
     ensures stores { OnOk result (stores.new ≡ (taken_all (start finite.empty) statements.now).held) }
+    ensures countable { OnOk result (length texts.now < 2 ^ 64) }
 {
     let mut log = Log {
         events: Events::new(alloc),

@@ -1,5 +1,5 @@
 //! The top call.
-ghost use Rattle.std.specs.Prelude.{◌≡◌, ◌↔◌, ◌≤◌, ℕ, true, false, map, string_bytes, IfOk, IfErr, OnOk, IsErrOf};
+ghost use Rattle.std.specs.Prelude.{◌≡◌, ◌↔◌, ◌≤◌, ◌<◌, ◌^◌, ℕ, length, true, false, map, string_bytes, IfOk, IfErr, OnOk, IsErrOf};
 ghost use Rattle.std.specs.FinMap as finite;
 ghost use Rattle.sdb_types.specs.Bytes.{HasRisen};
 ghost use Rattle.sdb_model.specs.Report.{report_text_of};
@@ -52,6 +52,7 @@ fn report(alloc: Global, stores: &mut Stores, form: &AccountForm) -> Result<Txt,
     requires empty { stores.old ≡ finite.empty }
     ensures report { IfOk result (λ text. text ≡ report_text_of (outcome_of (taken_all (start finite.empty) form.now.statements).events (taken_all (start finite.empty) form.now.statements).order (taken_all (start finite.empty) form.now.statements).held)) }
     ensures stores { OnOk result (stores.new ≡ (taken_all (start finite.empty) form.now.statements).held) }
+    ensures countable { OnOk result (length form.now.client.statements < 2 ^ 64) }
 {
     let log = play(alloc, stores, &form.client.statements, &form.statements)?;
     let outcome = outcome(alloc, stores, log)?;

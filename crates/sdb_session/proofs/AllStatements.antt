@@ -20,7 +20,7 @@ use Rattle.sdb_model.specs.declared.statement.Statement.{Statement}
 use Rattle.sdb_model.specs.Exec.{Tables}
 use Rattle.sdb_model.specs.Form.{client_script}
 use Rattle.sdb_model.specs.Transactions.{client_of}
-use Rattle.sdb_model.specs.Told.{IsRun}
+use Rattle.sdb_model.specs.Told.{IsRun, AreImages}
 use Rattle.sdb_script.specs.Accounts.{account_text, statement_of, fits_account}
 use Rattle.sdb_script.specs.declared.account.AccountStatement.{AccountStatement}
 use Rattle.sdb_script.specs.declared.account.AccountStatement.TheVariants as account
@@ -36,12 +36,13 @@ use Rattle.sdb_session.proofs.Changes.{commit_goes}
 use Rattle.sdb_session.proofs.Ids.{is_own, own_says}
 use Rattle.sdb_session.proofs.Works.{works_none}
 use Rattle.sdb_session.proofs.Folds.{traced_none}
-use Rattle.sdb_session.proofs.Exec.{AreAccounts, IsAccount}
-use Rattle.sdb_session.proofs.Images.{Settled, Agree, in_accounts, AreInserts}
+use Rattle.sdb_session.proofs.Exec.{catalog, AreAccounts, IsAccount}
+use Rattle.sdb_session.proofs.Images.{Settled, Agree, in_accounts, AreInserts, images_agree}
 use Rattle.sdb_session.proofs.Stands.{Past, Closed, Opened, Stands, StandsAt, row_of}
 use Rattle.sdb_session.proofs.Steps.{step_begin, step_look, look_idle}
 use Rattle.sdb_session.proofs.Commits.{step_commit, no_row}
-use Rattle.sdb_session.proofs.Run.{nothing_at, stands_run}
+use Rattle.sdb_session.proofs.Run.{nothing_at, stands_run, stands_told}
+use Rattle.sdb_session.specs.Opening.{IsOpening, AreAccountRows, IsTakenFrom}
 
 -- the client's ids have no rows yet
 abbrev pub IsFresh : Contents → Type 0
@@ -211,3 +212,15 @@ next_of ss a later bound built fit =
       may = and_first (may_take (is_open (taken_all (start empty) ss).current) a) (are_taken (opens a) later) r.later;
       idle = r.idle;
     }
+
+---- from any contents
+
+pub taken_from : (c : ScriptClient) (opening : Contents) (d0 : Tables) (ss : List AccountStatement) → IsOpening opening → AreImages catalog [] (shelves_of opening) d0 → AreAccountRows d0
+    → c.statements ≡ map account_text ss → length c.statements < 2 ^ 64 → are_taken false ss ≡ true → list_all fits_account ss ≡ true → IsTakenFrom opening d0 (taken_all (start opening) ss)
+taken_from c opening d0 ss opens images accounts texts bound built fit =
+    let settled : Settled opening = record { at = opens.settled } in
+    let all : ss ++ [] ≡ ss = append-nil ss in
+    let r = reach c opening d0 [] ss [] (start opening) opens.fresh bound (texts ∙ ap (map account_text) (sym all))
+    (record { stands = start_stands c opening d0 settled (images_agree opening d0 settled images) accounts; idle = tt; later = ap (are_taken false) all ∙ built; fit = ap (list_all fits_account) all ∙ fit }) in
+    let size : length ss ≡ length c.statements = sym (ap length texts ∙ length-map ss account_text) in
+    stands_told c opening d0 (length ss) (taken_all (start opening) ss).current (taken_all (start opening) ss) r.stands (omega arith)

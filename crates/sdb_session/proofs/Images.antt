@@ -68,6 +68,13 @@ are_images m d settled agree key =
     (λ t. ap (λ (b : Bool). cond b (row_found (record_at m key)) None) t ∙ sym (settled_image m key (record_at m key) (settled.at key t)) ∙ sym (ap (λ (b : Bool). cond b (row_at [] (shelves_of m) key) None) (one_table (in_accounts key) ∙ t)))
     (λ t. ap (λ (b : Bool). cond b (row_found (record_at m key)) None) t ∙ sym (ap (λ (b : Bool). cond b (row_at [] (shelves_of m) key) None) (one_table (in_accounts key) ∙ t)))
 
+pub images_agree : (m : Contents) (d : Tables) → Settled m → AreImages catalog [] (shelves_of m) d → Agree m d
+images_agree m d settled images = record {
+  at = λ key. images key ∙ by_test (in_accounts key)
+      (λ t. ap (λ (b : Bool). cond b (row_at [] (shelves_of m) key) None) (one_table (in_accounts key) ∙ t) ∙ settled_image m key (record_at m key) (settled.at key t) ∙ sym (ap (λ (b : Bool). cond b (row_found (record_at m key)) None) t))
+      (λ t. ap (λ (b : Bool). cond b (row_at [] (shelves_of m) key) None) (one_table (in_accounts key) ∙ t) ∙ sym (ap (λ (b : Bool). cond b (row_found (record_at m key)) None) t));
+}
+
 ---- the writes of accounts
 
 -- an account that is inserted, on a base that was read

@@ -26,8 +26,9 @@ use Rattle.sdb_model.specs.Images.{decision_at}
 use Rattle.sdb_model.specs.Form.{client_script, account_name}
 use Rattle.sdb_txn.specs.Txn.{Working}
 use Rattle.sdb_model.specs.Transactions.{Said, id_of, client_of, ordinal_of, point, last_prepare, commit_of, begun, Recorded, IsOrder}
-use Rattle.sdb_model.specs.Told.{serial, dumps_of, AreImages, IsTold, KeepsRealTime, StandsBefore, IsRun, commit_answer}
+use Rattle.sdb_model.specs.Told.{serial, dumps_of, AreImages, AreBodies, answers_told, IsTold, KeepsRealTime, StandsBefore, IsRun, commit_answer}
 use Rattle.sdb_session.specs.Session.{Session, shelves_of, outcome_of, account_rows}
+use Rattle.sdb_session.specs.Opening.{IsTakenFrom}
 use Rattle.sdb_session.proofs.Basics.{by_test, true_false, some_is, not_none}
 use Rattle.sdb_session.proofs.Ids.{is_own, Own, own_says, own_is, own_client, own_ordinal, own_small, id_parts}
 use Rattle.sdb_session.proofs.Works.{works_all}
@@ -81,7 +82,7 @@ done_own id fs d few =
     let small : ordinal_of id < 2 ^ 64 = omega arith in
     subst (λ (x : TxId). is_own (length fs) x ≡ true) (sym (id_parts id (ordinal_of id) d.client refl)) (own_is (length fs) (ordinal_of id) small w.low w.high)
 
-module _ (c : ScriptClient) (d0 : Tables) (k : ℕ) (s : Session) (fs : List Finished) (rest : List Said) (d : Tables) (p : Past c empty d0 k s fs rest d) (bound : k < 2 ^ 64) (no_end : NoEnd rest) where
+module _ (c : ScriptClient) (opening : Contents) (d0 : Tables) (k : ℕ) (s : Session) (fs : List Finished) (rest : List Said) (d : Tables) (p : Past c opening d0 k s fs rest d) (bound : k < 2 ^ 64) where
   few : length fs < 2 ^ 64
   few = let a = p.few in omega arith
 
@@ -100,6 +101,7 @@ module _ (c : ScriptClient) (d0 : Tables) (k : ℕ) (s : Session) (fs : List Fin
   all_parts : AllFrom (λ j f. Parts s.events (id_of 1 j) f) 1 fs
   all_parts = all_turned (Placed fs) (λ j f. Parts s.events (id_of 1 j) f) 1 (1 + length fs) fs (omega arith) own_parts (all_placed fs)
 
+module _ (c : ScriptClient) (d0 : Tables) (k : ℕ) (s : Session) (fs : List Finished) (rest : List Said) (d : Tables) (p : Past c empty d0 k s fs rest d) (bound : k < 2 ^ 64) (no_end : NoEnd rest) where
   ---- which are recorded
 
   decision_own : (id : TxId) → id.0 < 2 ^ 128 → is_own (length fs) id ≡ true → decision_at [] (shelves_of s.held) id ≡ Some (record { decision = decision.Committed; created_at = pos 0 })
@@ -126,7 +128,7 @@ module _ (c : ScriptClient) (d0 : Tables) (k : ℕ) (s : Session) (fs : List Fin
       let r = contained 1 fs id h in
       let low = r.1 in
       let high = r.2 in
-      let a = few in
+      let a = few c empty d0 k s fs rest d p bound in
       own_recorded id small (ap (is_own (length fs)) (sym r.3) ∙ own_is (length fs) r.0 (omega arith) low (omega arith))
 
   lists : (id : TxId) → id.0 < 2 ^ 128 → Recorded [] (shelves_of s.held) id → Contains (map (λ (q : Point). q.id) (order_of 1 fs)) id
@@ -145,10 +147,10 @@ module _ (c : ScriptClient) (d0 : Tables) (k : ℕ) (s : Session) (fs : List Fin
     recorded = λ id small. (listed id small, lists id small);
     points = all_points (λ q. q.event ≡ point s.events q.id) 1 fs
         (all_turned (λ j f. Parts s.events (id_of 1 j) f × (unwrap_or (last_prepare s.events (id_of 1 j)) f.commit.taken ≡ f.point)) (λ j f. f.point ≡ point s.events (id_of 1 j)) 1 (1 + length fs) fs (omega arith) (λ j f low high h. point_is j f h)
-        (both_from (λ j f. Parts s.events (id_of 1 j) f) (λ j f. unwrap_or (last_prepare s.events (id_of 1 j)) f.commit.taken ≡ f.point) 1 fs all_parts p.points));
+        (both_from (λ j f. Parts s.events (id_of 1 j) f) (λ j f. unwrap_or (last_prepare s.events (id_of 1 j)) f.commit.taken ≡ f.point) 1 fs (all_parts c empty d0 k s fs rest d p bound) p.points));
     rising = chain_rises 1 0 fs p.chain;
     taken = all_points (λ q. IsSome (commit_of s.events q.id)) 1 fs
-        (all_turned (λ j f. Parts s.events (id_of 1 j) f) (λ j f. IsSome (commit_of s.events (id_of 1 j))) 1 (1 + length fs) fs (omega arith) (λ j f low high h. ap is_some h.commit) all_parts);
+        (all_turned (λ j f. Parts s.events (id_of 1 j) f) (λ j f. IsSome (commit_of s.events (id_of 1 j))) 1 (1 + length fs) fs (omega arith) (λ j f low high h. ap is_some h.commit) (all_parts c empty d0 k s fs rest d p bound));
   }
 
   ---- told
@@ -162,7 +164,7 @@ module _ (c : ScriptClient) (d0 : Tables) (k : ℕ) (s : Session) (fs : List Fin
     where
       by_place : client_of id ≡ 1 → (o : Option Finished) → finished_at (ordinal_of id) fs ≡ o → Done_as id fs
       by_place client (Some f) at = record { finished = f; at = at; client = client }
-      by_place client None at = absurd (not_none x (sym (no_commit s.events id fs rest client p.heard.spoken all_finished no_end at) ∙ h))
+      by_place client None at = absurd (not_none x (sym (no_commit s.events id fs rest client p.heard.spoken (all_finished c empty d0 k s fs rest d p bound) no_end at) ∙ h))
 
   told_done : (id : TxId) (a : Answer) → commit_answer s.events id ≡ Some a → Done_as id fs
   told_done id a h = by_commit (commit_of s.events id) refl h
@@ -173,15 +175,15 @@ module _ (c : ScriptClient) (d0 : Tables) (k : ℕ) (s : Session) (fs : List Fin
 
   finished_told : (id : TxId) → Done_as id fs → commit_answer s.events id ≡ Some answer.Committed
   finished_told id x =
-      let f = finished_of IsFinished fs (ordinal_of id) x.finished all_finished x.at in
-      ap (option_and_then (λ (y : Said). y.answer)) (parts_of id x).commit ∙ f.told
+      let f = finished_of IsFinished fs (ordinal_of id) x.finished (all_finished c empty d0 k s fs rest d p bound) x.at in
+      ap (option_and_then (λ (y : Said). y.answer)) (parts_of c empty d0 k s fs rest d p bound id x).commit ∙ f.told
 
   real_time_is : KeepsRealTime [] s.events (shelves_of s.held) (order_of 1 fs)
   real_time_is early late small_early small_late x commits told recorded n began behind =
       let e = answered_done early x commits in
       let l = own_done late fs (recorded_own late small_late recorded) in
-      let pe = parts_of early e in
-      let pl = parts_of late l in
+      let pe = parts_of c empty d0 k s fs rest d p bound early e in
+      let pl = parts_of c empty d0 k s fs rest d p bound late l in
       let we = within (ordinal_of early) fs e.finished e.at in
       let wl = within (ordinal_of late) fs l.finished l.at in
       let same : e.finished.commit ≡ x = some_is e.finished.commit x (sym pe.commit ∙ commits) in
@@ -208,11 +210,11 @@ told_is : (c : ScriptClient) (k : ℕ) (s : Session) (fs : List Finished) (rest 
     → IsTold catalog [] s.events (shelves_of s.held) (order_of 1 fs) (record { name = account_name; rows = account_rows s.held } ∷ [])
 told_is c k s fs rest d p bound no_end = record {
   bodies = map (λ (f : Finished). f.statements) fs;
-  read = are_bodies s.events 1 fs (all_parts c empty k s fs rest d p bound no_end) (all_finished c empty k s fs rest d p bound no_end);
-  answers = are_answers s.events 1 fs (all_parts c empty k s fs rest d p bound no_end) (all_finished c empty k s fs rest d p bound no_end) ∙ sym (ap (λ (r : List (List Answer) × Tables). map (map Some) r.0) p.serial);
+  read = are_bodies s.events 1 fs (all_parts c empty empty k s fs rest d p bound) (all_finished c empty empty k s fs rest d p bound);
+  answers = are_answers s.events 1 fs (all_parts c empty empty k s fs rest d p bound) (all_finished c empty empty k s fs rest d p bound) ∙ sym (ap (λ (r : List (List Answer) × Tables). map (map Some) r.0) p.serial);
   printed = final_rows s.held d p.agree p.accounts ∙ sym (ap (λ (r : List (List Answer) × Tables). dumps_of catalog r.1) p.serial);
   images = subst (AreImages catalog [] (shelves_of s.held)) (sym (ap (λ (r : List (List Answer) × Tables). r.1) p.serial)) (are_images s.held d p.settled p.agree);
-  committed = λ id small told. own_recorded c empty k s fs rest d p bound no_end id small (done_own id fs (told_done c empty k s fs rest d p bound no_end id answer.Committed told) (few c empty k s fs rest d p bound no_end));
+  committed = λ id small told. own_recorded c empty k s fs rest d p bound no_end id small (done_own id fs (told_done c empty k s fs rest d p bound no_end id answer.Committed told) (few c empty empty k s fs rest d p bound));
   known = λ id small recorded. inl (finished_told c empty k s fs rest d p bound no_end id (own_done id fs (recorded_own c empty k s fs rest d p bound no_end id small recorded)));
 }
 
@@ -232,3 +234,20 @@ pub stands_run : (c : ScriptClient) (s : Session) (o : Option Working) → Stand
     → IsRun (client_script c) (shelves_of empty) (shelves_of s.held) (outcome_of s.events s.order s.held)
 stands_run c s None h bound = past_run c s h.fs [] h.d h.past bound nothing_ends
 stands_run c s (Some w) h bound = past_run c s h.fs (h.begin ∷ h.body) h.d h.past bound (open_ends h.begin h.body h.begins h.plain)
+
+---- from any contents
+
+past_told : (c : ScriptClient) (opening : Contents) (d0 : Tables) (k : ℕ) (s : Session) (fs : List Finished) (rest : List Said) (d : Tables) → Past c opening d0 k s fs rest d → k < 2 ^ 64 → IsTakenFrom opening d0 s
+past_told c opening d0 k s fs rest d p bound = record {
+  moments = p.heard.traced.moments;
+  trace = p.heard.traced.trace;
+  bodies = map (λ (f : Finished). f.statements) fs;
+  read = subst (λ (ps : List Point). AreBodies s.events ps (map (λ (f : Finished). f.statements) fs)) (sym p.ordered) (are_bodies s.events 1 fs (all_parts c opening d0 k s fs rest d p bound) (all_finished c opening d0 k s fs rest d p bound));
+  answers = ap (map (answers_told s.events)) p.ordered ∙ are_answers s.events 1 fs (all_parts c opening d0 k s fs rest d p bound) (all_finished c opening d0 k s fs rest d p bound) ∙ sym (ap (λ (r : List (List Answer) × Tables). map (map Some) r.0) p.serial);
+  printed = final_rows s.held d p.agree p.accounts ∙ sym (ap (λ (r : List (List Answer) × Tables). dumps_of catalog r.1) p.serial);
+  images = subst (AreImages catalog [] (shelves_of s.held)) (sym (ap (λ (r : List (List Answer) × Tables). r.1) p.serial)) (are_images s.held d p.settled p.agree);
+}
+
+pub stands_told : (c : ScriptClient) (opening : Contents) (d0 : Tables) (k : ℕ) (o : Option Working) (s : Session) → StandsAt c opening d0 k o s → k < 2 ^ 64 → IsTakenFrom opening d0 s
+stands_told c opening d0 k None s h bound = past_told c opening d0 k s h.fs [] h.d h.past bound
+stands_told c opening d0 k (Some w) s h bound = past_told c opening d0 k s h.fs (h.begin ∷ h.body) h.d h.past bound

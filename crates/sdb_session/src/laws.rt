@@ -3,8 +3,11 @@ ghost use Rattle.std.specs.Prelude.{◌≡◌, ℕ, ◌<◌, ◌^◌, ◌++◌, 
 ghost use Rattle.std.specs.FinMap.{empty};
 ghost use Rattle.std.specs.List.{list_all};
 ghost use Rattle.sdb_model.specs.declared.script.ScriptClient.{ScriptClient};
-ghost use Rattle.sdb_model.specs.Form.{client_script};
-ghost use Rattle.sdb_model.specs.Told.{IsRun};
+ghost use Rattle.sdb_types.specs.Contents.{Contents};
+ghost use Rattle.sdb_model.specs.Exec.{Tables};
+ghost use Rattle.sdb_model.specs.Form.{client_script, account_table};
+ghost use Rattle.sdb_model.specs.Told.{IsRun, AreImages};
+ghost use Rattle.sdb_session.specs.Opening.{IsOpening, AreAccountRows, IsTakenFrom};
 ghost use Rattle.sdb_script.specs.declared.account.AccountStatement.{AccountStatement};
 ghost use Rattle.sdb_script.specs.Accounts.{account_text, fits_account};
 ghost use Rattle.sdb_session.specs.Session.{shelves_of, start, taken_all, outcome_of, are_taken, may_take, is_open, IsReady, IsIdle};
@@ -15,6 +18,13 @@ ghost use Rattle.sdb_session.specs.Session.{shelves_of, start, taken_all, outcom
 pub fn one_client_is_serial()
     ensures run { (c : ScriptClient) (ss : List AccountStatement) → c.statements ≡ map account_text ss → length c.statements < 2 ^ 64 → are_taken false ss ≡ true → list_all fits_account ss ≡ true
         → IsRun (client_script c) (shelves_of empty) (shelves_of (taken_all (start empty) ss).held) (outcome_of (taken_all (start empty) ss).events (taken_all (start empty) ss).order (taken_all (start empty) ss).held) }
+{}
+
+/// The same from any contents whose account records are committed ones: the answers and the rows are those of the
+/// transactions, run whole on the rows that stood there.
+pub fn one_client_from_any_contents()
+    ensures told { (c : ScriptClient) (opening : Contents) (d0 : Tables) (ss : List AccountStatement) → IsOpening opening → AreImages (account_table ∷ []) [] (shelves_of opening) d0 → AreAccountRows d0
+        → c.statements ≡ map account_text ss → length c.statements < 2 ^ 64 → are_taken false ss ≡ true → list_all fits_account ss ≡ true → IsTakenFrom opening d0 (taken_all (start opening) ss) }
 {}
 
 /// Before each of the statements a read finds a committed record or none, and the calls of a COMMIT are answered as it wishes.
