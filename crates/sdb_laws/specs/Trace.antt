@@ -1,0 +1,55 @@
+-- A trace beside the events, newest first, and what was done.
+use Rattle.std.specs.Prelude.{◌≡◌, ℕ, Bool, false, not, ◌&&◌, List, [], ◌∷◌, Option, Some, None}
+use Rattle.sdb_types.specs.declared.key.Key.{Key}
+use Rattle.sdb_types.specs.declared.record.Condition.{Condition}
+use Rattle.sdb_types.specs.declared.record.Request.{Request}
+use Rattle.sdb_types.specs.declared.record.Request.TheVariants as ask
+use Rattle.sdb_types.specs.Contents.{holds}
+use Rattle.sdb_model.specs.declared.event.Event.{Event}
+use Rattle.sdb_model.specs.declared.event.Event.TheVariants as event
+use Rattle.sdb_model.specs.declared.script.Place.{Place}
+use Rattle.sdb_model.specs.Events.{Shelf, Effect, standing}
+use Rattle.sdb_laws.specs.Plan.{Plan}
+use Rattle.sdb_laws.specs.History.{Ends, History, start, happens}
+use Rattle.sdb_laws.specs.Lawful.{Played}
+
+-- what the stores held last
+abbrev pub closing : List Shelf → List (List Shelf) → List Shelf
+closing opening [] = opening
+closing opening (s ∷ ss) = s
+
+-- What the stores hold after each event is made by the event's effect from what they held before.
+abbrev pub IsTraced : List Place → List Shelf → List Played → List (List Shelf) → Type 0
+IsTraced places opening [] [] = Unit {0}
+IsTraced places opening [] (s ∷ ss) = ⊥
+IsTraced places opening (p ∷ past) [] = ⊥
+IsTraced places opening (p ∷ past) (s ∷ ss) = IsTraced places opening past ss × Effect places p.event (closing opening ss) s
+
+-- nothing stands at any key
+abbrev pub StartsEmpty : List Place → List Shelf → Type 0
+StartsEmpty places opening = (k : Key) → standing places opening k ≡ None
+
+-- A write took effect where its condition held before it and fails after it: what the protocol puts or removes never meets
+-- the condition of its own put.
+abbrev pub took_at : List Place → Key → Condition → List Shelf → List Shelf → Bool
+took_at places k c before now = holds c (standing places before k) && not (holds c (standing places now k))
+
+abbrev pub took_effect : List Place → Request → List Shelf → List Shelf → Bool
+took_effect places (ask.Get key) before now = false
+took_effect places (ask.Scan span) before now = false
+took_effect places (ask.PutIf r c) before now = took_at places r.key c before now
+took_effect places (ask.DeleteIf key c) before now = took_at places key c before now
+
+abbrev pub has_effect : List Place → Event → List Shelf → List Shelf → Bool
+has_effect places (event.Call client store q how r answer) before now = took_effect places q before now
+has_effect places _ before now = false
+
+abbrev pub after_end : (ℕ → Plan) → History → Option ℕ → History
+after_end plan w None = w
+after_end plan w (Some t) = happens plan w (Ends t) false
+
+-- what the events did, over a trace
+abbrev pub history : (ℕ → Plan) → List Place → List Shelf → List Played → List (List Shelf) → History
+history plan places opening [] ss = start
+history plan places opening (p ∷ past) [] = start
+history plan places opening (p ∷ past) (s ∷ ss) = after_end plan (happens plan (history plan places opening past ss) p.role (has_effect places p.event (closing opening ss) s)) p.ends

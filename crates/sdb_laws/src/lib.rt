@@ -1,0 +1,11 @@
+//! The law of the protocol over events: what is so at every moment of a run whose events follow the protocol's rules.
+//!
+//! It speaks of lists of events, of what replies said in them, and of a trace of the stores; of no machine and no store. Each
+//! law is the contract of a function with an empty body.
+#![tactic(auto)]
+
+pub mod images;
+pub mod reads;
+pub mod rows;
+pub mod runs;
+pub mod worked;

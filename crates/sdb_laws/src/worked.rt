@@ -1,0 +1,23 @@
+//! Runs that the rules let through, and runs that they refuse.
+ghost use Rattle.std.specs.Prelude.{List};
+ghost use Rattle.sdb_record.specs.declared.write.Write.{Write};
+ghost use Rattle.sdb_laws.specs.Lawful.{Played, IsLawful};
+ghost use Rattle.sdb_laws.specs.Worked.{updates, deletes_it, plan_with, lost_decision, recovery, vacuumed, decided_early, prepared_twice, rolled_blindly, checked_moved, removed_while_open};
+
+/// These runs are lawful: the reply to a decision is lost; a reader rolls a decided transaction forward; VACUUM removes a
+/// tombstone.
+pub fn worked_runs_are_lawful()
+    ensures lost_decision { IsLawful (plan_with updates) lost_decision }
+    ensures recovery { IsLawful (plan_with updates) recovery }
+    ensures vacuum { IsLawful (plan_with deletes_it) vacuumed }
+{}
+
+/// These aren't: COMMITTED is put before the prepare; a key is prepared twice; what isn't known to be committed is rolled
+/// forward; a check finds an undecided record; a tombstone is removed while a transaction is open.
+pub fn other_runs_are_refused()
+    ensures decided_early { (w : Write) → IsLawful (plan_with w) decided_early → ⊥ }
+    ensures prepared_twice { IsLawful (plan_with updates) prepared_twice → ⊥ }
+    ensures rolled_blindly { IsLawful (plan_with updates) rolled_blindly → ⊥ }
+    ensures checked_moved { (past : List Played) → IsLawful (plan_with updates) (checked_moved past) → ⊥ }
+    ensures removed_while_open { IsLawful (plan_with deletes_it) removed_while_open → ⊥ }
+{}

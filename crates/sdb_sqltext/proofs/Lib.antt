@@ -1,0 +1,11 @@
+pub mod Told
+pub mod Complete
+pub mod Viable
+pub mod Places
+pub mod Clauses
+pub mod Again
+pub mod Within
+pub mod Answered
+pub mod Turns
+pub mod Linked
+pub mod Follow

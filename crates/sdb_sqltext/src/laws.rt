@@ -1,0 +1,17 @@
+//! Laws of the grammar of statements.
+ghost use Rattle.std.specs.Prelude.{◌≡◌, ℕ, List};
+ghost use Rattle.sdb_model.specs.declared.answer.Refusal.{Refusal};
+ghost use Rattle.sdb_model.specs.declared.statement.Statement.{Statement};
+ghost use Rattle.sdb_model.specs.Sql.{Reads, Refuses, statement_text_of};
+
+/// A text is read as one statement at most, or is refused for one cause.
+pub fn one_reading()
+    ensures statement { (text : List ℕ) (a b : Statement) → Reads text a → Reads text b → a ≡ b }
+    ensures refusal { (text : List ℕ) (a b : Refusal) → Refuses text a → Refuses text b → a ≡ b }
+    ensures either { (text : List ℕ) (st : Statement) (r : Refusal) → Reads text st → Refuses text r → ⊥ }
+{}
+
+/// A statement that some text is read as is read again from its printed text.
+pub fn printed_again()
+    ensures { (text : List ℕ) (st : Statement) → Reads text st → Reads (statement_text_of st) st }
+{}

@@ -1,0 +1,6 @@
+pub mod Words
+pub mod Enclosed
+pub mod Lexing
+pub mod Printed
+pub mod AllPrinted
+pub mod Spelled

@@ -1,0 +1,54 @@
+-- What letters, digits and `_` at the front make.
+use Rattle.std.proofs.Common.{◌≡◌, ℕ, zero, suc, ◌+◌, ◌<◌, Bool, true, false, ◌&&◌, List, [], ◌∷◌, take, refl, arith}
+use Rattle.std.specs.List.{list_all, prefix_len}
+use Rattle.std.specs.Str.{IsAscii, IsUtf8, is_utf8}
+use Rattle.std.proofs.lemmas.Bool.Decides.{nat_tests}
+use Rattle.std.proofs.lemmas.Str.{IsUtf8-from_ascii, IsUtf8-from_is_utf8}
+use Rattle.sdb_types.specs.Identifier.{is_start, is_part, is_identifier}
+use Rattle.sdb_model.specs.SqlTokens.{begins, word_len}
+
+pub by_test : {G : Type 0} (t : Bool) → (t ≡ true → G) → (t ≡ false → G) → G
+by_test true a b = a refl
+by_test false a b = b refl
+
+one_more : (n : ℕ) → 1 + n ≡ suc n
+one_more n = omega arith
+
+all_pass : (p : ℕ → Bool) (bs : List ℕ) → list_all p (take (prefix_len p bs) bs) ≡ true
+all_pass p [] = refl
+all_pass p (b ∷ bs) = by_test (p b) (λ e. rw (e, one_more, e) (all_pass p bs)) (λ e. rw e refl)
+
+start_is_part : (b : ℕ) → is_start b ≡ true → is_part b ≡ true
+start_is_part b h = rw h refl
+
+pub front_is_identifier : (bs : List ℕ) → begins is_start bs ≡ true → is_identifier (take (word_len bs) bs) ≡ true
+front_is_identifier [] h = absurd cc
+front_is_identifier (b ∷ bs) h =
+    let p = start_is_part b h in
+    rw (p, one_more, h) (all_pass is_part bs)
+
+start_small : (b : ℕ) → is_start b ≡ true → b < 128
+start_small b h = grind (arith, nat_tests)
+
+part_small : (b : ℕ) → is_part b ≡ true → b < 128
+part_small b h = grind (arith, nat_tests)
+
+and_true : (a b : Bool) → (a && b) ≡ true → (a ≡ true) × (b ≡ true)
+and_true true b h = (refl, h)
+and_true false b h = absurd cc
+
+all_small : (bs : List ℕ) → list_all is_part bs ≡ true → IsAscii bs
+all_small [] h i = omega arith
+all_small (b ∷ bs) h zero = part_small b (and_true (is_part b) (list_all is_part bs) h).0
+all_small (b ∷ bs) h (suc i) = all_small bs (and_true (is_part b) (list_all is_part bs) h).1 i
+
+pub identifier_is_text : (bs : List ℕ) → is_identifier bs ≡ true → IsUtf8 bs
+identifier_is_text [] h = absurd cc
+identifier_is_text (b ∷ bs) h =
+    let p = and_true (is_start b) (list_all is_part bs) h in
+    let q = start_is_part b p.0 in
+    let all : list_all is_part (b ∷ bs) ≡ true = rw (q) p.1 in
+    IsUtf8-from_ascii (b ∷ bs) (all_small (b ∷ bs) all)
+
+pub no_utf8 : (bs : List ℕ) → (IsUtf8 bs → ⊥) → is_utf8 bs ≡ false
+no_utf8 bs not_so = by_test (is_utf8 bs) (λ e. absurd (not_so (IsUtf8-from_is_utf8 bs e))) (λ e. e)

@@ -1,0 +1,12 @@
+//! The tokens of statements, read from a text and printed.
+#![tactic(auto)]
+
+mod fault;
+pub mod laws;
+mod lexer;
+mod marks;
+mod printer;
+
+pub use fault::LexRefused;
+pub use lexer::lex;
+pub use printer::put_tokens;

@@ -1,0 +1,198 @@
+//! Kinds of bytes, and how many of a kind stand at the front.
+ghost use Rattle.std.specs.Prelude.{◌≡◌, ◌==◌, ◌≤◌, ◌<◌, ◌^◌, true, IsTrue, IfSome, ◌-◌, length, min, find};
+ghost use Rattle.std.specs.List.{starts_with};
+ghost use Rattle.std.specs.Str.{bytes_eq};
+ghost use Rattle.sdb_types.specs.Identifier as identifier;
+ghost use Rattle.sdb_model.specs.SqlTokens as spec;
+ghost use Rattle.sdb_model.specs.SqlTokens.{lower, keyword_text, sign_text};
+
+use sdb_model::{Keyword, Sign};
+
+const KEYWORDS: [Keyword; 21] = [
+    Keyword::Begin,
+    Keyword::Commit,
+    Keyword::Rollback,
+    Keyword::Vacuum,
+    Keyword::Insert,
+    Keyword::Upsert,
+    Keyword::Into,
+    Keyword::Values,
+    Keyword::Update,
+    Keyword::Set,
+    Keyword::Where,
+    Keyword::Delete,
+    Keyword::From,
+    Keyword::Select,
+    Keyword::Limit,
+    Keyword::And,
+    Keyword::Is,
+    Keyword::Not,
+    Keyword::Null,
+    Keyword::True,
+    Keyword::False,
+];
+
+// Each before those that are its front.
+const SIGNS: [Sign; 12] = [
+    Sign::NotEqual,
+    Sign::LessOrEqual,
+    Sign::GreaterOrEqual,
+    Sign::Less,
+    Sign::Greater,
+    Sign::Equal,
+    Sign::Dot,
+    Sign::Comma,
+    Sign::Open,
+    Sign::Close,
+    Sign::Star,
+    Sign::Semicolon,
+];
+
+pub fn is_start(b: u8) -> bool
+    ensures { result ≡ identifier.is_start b }
+{
+    b.is_ascii_alphabetic() || b == b'_'
+}
+
+pub fn is_part(b: u8) -> bool
+    ensures { result ≡ identifier.is_part b }
+{
+    is_start(b) || b.is_ascii_digit()
+}
+
+pub fn begins_start(bytes: &[u8]) -> bool
+    ensures { result ≡ spec.begins identifier.is_start bytes.now }
+{
+    match bytes {
+        [b, ..] => is_start(*b),
+        [] => false,
+    }
+}
+
+pub fn begins_digit(bytes: &[u8]) -> bool
+    ensures { result ≡ spec.begins spec.is_digit bytes.now }
+{
+    match bytes {
+        [b, ..] => b.is_ascii_digit(),
+        [] => false,
+    }
+}
+
+pub fn begins_with(byte: u8, bytes: &[u8]) -> bool
+    ensures { result ≡ spec.begins (λ b. b == byte) bytes.now }
+{
+    match bytes {
+        [b, ..] => *b == byte,
+        [] => false,
+    }
+}
+
+/// How many letters, digits and `_` stand at the front.
+pub fn word_len(bytes: &[u8]) -> usize
+    ensures len { result ≡ spec.word_len bytes.now }
+    ensures some { spec.begins identifier.is_start bytes.now ≡ true → 0 < result }
+    ensures within { result ≤ length bytes.now }
+{
+    bytes.iter().take_while(|b| is_part(**b)).count()
+}
+
+/// How many digits stand at the front.
+pub fn digits_len(bytes: &[u8]) -> usize
+    ensures len { result ≡ spec.digits_len bytes.now }
+    ensures some { spec.begins spec.is_digit bytes.now ≡ true → 0 < result }
+    ensures within { result ≤ length bytes.now }
+{
+    bytes.iter().take_while(|b| b.is_ascii_digit()).count()
+}
+
+// The number that digits are, or the largest.
+fn digits_value(digits: &[u8]) -> u64
+    ensures { result ≡ min (spec.digits_value digits.now) (2 ^ 64 - 1) }
+{
+    let mut n: u64 = 0;
+    for b in digits {
+        n = n
+            .saturating_mul(10)
+            .saturating_add(u64::from(b.saturating_sub(b'0')));
+    }
+    n
+}
+
+/// The number that the digits at the front are, or the largest.
+pub fn number_of(bytes: &[u8]) -> u64
+    ensures { result ≡ min (spec.number_of bytes.now) (2 ^ 64 - 1) }
+{
+    digits_value(&bytes[..digits_len(bytes)])
+}
+
+fn spells(word: &[u8], keyword: Keyword) -> bool
+    ensures { result ≡ bytes_eq (lower word.now) (lower (keyword_text keyword)) }
+{
+    word.eq_ignore_ascii_case(keyword.text().as_bytes())
+}
+
+fn find_keyword(keywords: &[Keyword], word: &[u8]) -> Option<Keyword>
+    ensures { result ≡ find (λ k. bytes_eq (lower word.now) (lower (keyword_text k))) keywords.now }
+{
+    for keyword in keywords {
+        if spells(word, *keyword) {
+            return Some(*keyword);
+        }
+    }
+    None
+}
+
+/// The keyword that a word spells, in any case.
+#[tactic(auto, unfolding(sdb_model::specs::SqlTokens::keyword_of))]
+pub fn keyword_of(word: &[u8]) -> Option<Keyword>
+    ensures { result ≡ spec.keyword_of word.now }
+{
+    find_keyword(&KEYWORDS, word)
+}
+
+fn begins_sign(bytes: &[u8], sign: Sign) -> bool
+    ensures value { result ≡ starts_with ◌==◌ bytes.now (sign_text sign) }
+    ensures fits { IsTrue result → length (sign_text sign) ≤ length bytes.now }
+{
+    bytes.starts_with(sign.text().as_bytes())
+}
+
+fn find_sign(signs: &[Sign], bytes: &[u8]) -> Option<Sign>
+    ensures value { result ≡ find (λ s. starts_with ◌==◌ bytes.now (sign_text s)) signs.now }
+    ensures fits { IfSome result (λ s. length (sign_text s) ≤ length bytes.now) }
+{
+    for sign in signs {
+        if begins_sign(bytes, *sign) {
+            return Some(*sign);
+        }
+    }
+    None
+}
+
+/// The longest sign at the front.
+#[tactic(auto, unfolding(sdb_model::specs::SqlTokens::sign_of))]
+pub fn sign_of(bytes: &[u8]) -> Option<Sign>
+    ensures value { result ≡ spec.sign_of bytes.now }
+    ensures fits { IfSome result (λ s. length (sign_text s) ≤ length bytes.now) }
+{
+    find_sign(&SIGNS, bytes)
+}
+
+/// Where the next quote stands, or the length.
+pub fn quote_place(bytes: &[u8]) -> usize
+    ensures place { result ≡ spec.quote_place bytes.now }
+    ensures within { result ≤ length bytes.now }
+{
+    bytes.iter().take_while(|b| **b != b'\'').count()
+}
+
+/// Begins with a quote that no second one follows.
+pub fn closes(bytes: &[u8]) -> bool
+    ensures value { result ≡ spec.closes bytes.now }
+    ensures some { IsTrue result → 0 < length bytes.now }
+{
+    match bytes {
+        [first, rest @ ..] => *first == b'\'' && !begins_with(b'\'', rest),
+        [] => false,
+    }
+}
