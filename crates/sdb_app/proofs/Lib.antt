@@ -1,6 +1,6 @@
-pub mod FirstRun
-pub mod FirstTold
 pub mod Fates
 pub mod CallSteps
-pub mod FirstCalls
+pub mod Looks
+pub mod Ends
+pub mod Plays
 pub mod Headline

@@ -5,9 +5,9 @@ use Rattle.sdb_types.specs.Bytes.{Takes, Appends, IsAtEnd}
 use Rattle.sdb_model.specs.declared.event.Outcome.{Outcome}
 use Rattle.sdb_model.specs.declared.script.Script.{Script}
 use Rattle.sdb_model.specs.Events.{Shelf}
-use Rattle.sdb_model.specs.Form.{IsScriptText, IsNotBuilt, client_script, most_bytes}
-use Rattle.sdb_script.specs.declared.draft.Form.{Form}
-use Rattle.sdb_script.specs.Inserts.{IsInsertForm}
+use Rattle.sdb_model.specs.Form.{client_script}
+use Rattle.sdb_script.specs.declared.drawing.AccountForm.{AccountForm}
+use Rattle.sdb_script.specs.Accounts.{IsAccountScript, IsNotPlayed, IsFormOf, most_script_bytes}
 use Rattle.sdb_app.specs.declared.status.Status.{Status}
 use Rattle.sdb_app.specs.declared.status.Status.TheVariants as status
 use Rattle.sdb_model.specs.Report.{report_text_of}
@@ -26,7 +26,7 @@ pub record IsPlayed (old_input new_input : Option (List ℕ)) (opening closing :
   pub script : Script
   pub taken : Takes text old_input new_input
   pub ended : IsAtEnd new_input
-  pub form : IsScriptText text script
+  pub form : IsAccountScript text script
   pub run : IsRun script opening closing outcome
 
 -- The headline: a script was played, and its report was written, whole and nothing else.
@@ -48,16 +48,16 @@ pub record IsFrontWritten (old_input new_input old_output new_output : Option (L
 pub record IsRefused (old_input new_input : Option (List ℕ)) (n : ℕ) : Type 0 where
   pub text : List ℕ
   pub taken : Takes text old_input new_input
-  pub whole : IsAtEnd new_input ⊎ (most_bytes < length text)
-  pub refused : IsNotBuilt text n
+  pub whole : IsAtEnd new_input ⊎ (most_script_bytes < length text)
+  pub refused : IsNotPlayed text n
 
 -- The input was read to its end and is this script.
-pub record IsFormRead (old_input new_input : Option (List ℕ)) (form : Form) : Type 0 where
+pub record IsFormRead (old_input new_input : Option (List ℕ)) (form : AccountForm) : Type 0 where
   pub text : List ℕ
   pub taken : Takes text old_input new_input
   pub ended : IsAtEnd new_input
-  pub script : IsScriptText text (client_script form.client)
-  pub insert : IsInsertForm form
+  pub script : IsAccountScript text (client_script form.client)
+  pub statements : IsFormOf form
 
 -- the endings without a script
 abbrev pub refuses_input : Status → Bool

@@ -1,13 +1,14 @@
 //! What a run has come to: its order, and the final rows.
-ghost use Rattle.std.specs.Prelude.{◌≡◌, ◌∷◌, [], IfOk, OnOk, map, unwrap_or};
+ghost use Rattle.std.specs.Prelude.{◌≡◌, ◌++◌, ◌∷◌, [], IfOk, OnOk, map};
+ghost use Rattle.std.specs.List.{filter_map, cons_option};
 ghost use Rattle.std.specs.Option.{option_copied};
 ghost use Rattle.sdb_types.specs.Contents.{rows_in};
-ghost use Rattle.sdb_model.specs.Form.{account_name};
-ghost use Rattle.sdb_app.specs.Outcomes.{account_span as account_span_lem, shown_row as shown_row_lem, outcome_of};
+ghost use Rattle.sdb_session.specs.Session.{account_span as account_span_lem, row_shown as row_shown_lem, account_rows as account_rows_lem, outcome_of, first_value as first_value_lem};
 
-use crate::play::{account_table, call, known_name};
+use crate::play::{Log, account_table, balance, call};
 use crate::stores::Stores;
-use sdb_model::{Events, Outcome, Point, Points, Rows, TableDump, TableRows};
+use sdb_model::{Outcome, Rows, TableDump, TableRows};
+use sdb_txn::row_of;
 use sdb_types::{Duplicate, NoMemory, Record, Records, Reply, Request, Span, Value, Values};
 use std::alloc::Global;
 
@@ -20,32 +21,47 @@ fn account_span(alloc: Global) -> Result<Span, NoMemory>
     })
 }
 
-fn value_or_null(value: Option<&Value>) -> Result<Value, NoMemory>
-    ensures { IfOk result (λ v. v ≡ unwrap_or (option_copied value.entry) Value.Null) }
+fn first_value(values: &Values) -> Result<Value, NoMemory>
+    ensures { IfOk result (λ v. v ≡ first_value_lem values.now) }
 {
-    match value {
-        Some(value) => value.copy(),
-        None => Ok(Value::Null),
+    match values.as_slice() {
+        [value, ..] => value.copy(),
+        [] => Ok(Value::Null),
     }
 }
 
-// The row of an account's record: its balance and its id.
-fn shown_row(alloc: Global, rec: &Record) -> Result<Values, NoMemory>
-    ensures { IfOk result (λ row. row ≡ shown_row_lem rec.now) }
+// The row of an account's record: its balance and its id; a tombstone has none.
+fn row_shown(alloc: Global, rec: &Record) -> Result<Option<Values>, NoMemory>
+    ensures { IfOk result (λ row. row ≡ row_shown_lem rec.now) }
 {
-    let balance = known_name(alloc, "balance")?;
-    let mut row = Values::new(alloc);
-    row.push(value_or_null(rec.columns.get(&balance))?)?;
-    row.push(value_or_null(rec.key.partition.at(0))?)?;
-    Ok(row)
+    match row_of(alloc, rec)? {
+        Some(columns) => {
+            let mut row = Values::new(alloc);
+            row.push(balance(alloc, &columns)?)?;
+            row.push(first_value(&rec.key.partition)?)?;
+            Ok(Some(row))
+        }
+        None => Ok(None),
+    }
+}
+
+// Adds the row of a record, where it has one.
+fn push_row(alloc: Global, rows: &mut Rows, rec: &Record) -> Result<(), NoMemory>
+    ensures { OnOk result (rows.new ≡ rows.old ++ cons_option (row_shown_lem rec.now) []) }
+{
+    match row_shown(alloc, rec)? {
+        Some(row) => rows.push(row)?,
+        None => {}
+    }
+    Ok(())
 }
 
 fn rows_of(alloc: Global, records: &[Record]) -> Result<Rows, NoMemory>
-    ensures { IfOk result (λ rows. rows ≡ map shown_row_lem records.now) }
+    ensures { IfOk result (λ rows. rows ≡ filter_map row_shown_lem records.now) }
 {
     let mut rows = Rows::new(alloc);
     for rec in records {
-        rows.push(shown_row(alloc, rec)?)?;
+        push_row(alloc, &mut rows, rec)?;
     }
     Ok(rows)
 }
@@ -62,14 +78,9 @@ fn account_records(alloc: Global, stores: &mut Stores) -> Result<Records, NoMemo
     }
 }
 
-/// The outcome of a run of one transaction, with the rows that the store holds.
-pub fn outcome(
-    alloc: Global,
-    stores: &mut Stores,
-    events: Events,
-    point: Point,
-) -> Result<Outcome, NoMemory>
-    ensures outcome { IfOk result (λ outcome. outcome ≡ outcome_of events point stores.old) }
+/// The outcome of a run, with the rows that the store holds.
+pub fn outcome(alloc: Global, stores: &mut Stores, log: Log) -> Result<Outcome, NoMemory>
+    ensures outcome { IfOk result (λ outcome. outcome ≡ outcome_of log.events log.order stores.old) }
     ensures same { OnOk result (stores.new ≡ stores.old) }
 {
     let records = account_records(alloc, stores)?;
@@ -78,11 +89,9 @@ pub fn outcome(
         name: account_table(alloc)?,
         rows: rows_of(alloc, records.as_slice())?,
     })?;
-    let mut order = Points::new(alloc);
-    order.push(point)?;
     Ok(Outcome {
-        events,
-        order,
+        events: log.events,
+        order: log.order,
         tables,
     })
 }

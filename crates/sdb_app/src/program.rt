@@ -1,11 +1,10 @@
 //! The top call.
-ghost use Rattle.std.specs.Prelude.{◌≡◌, ◌↔◌, ◌≤◌, ℕ, true, false, map, string_bytes, IfOk, IfErr, OnOk, IsErrOf};
+ghost use Rattle.std.specs.Prelude.{◌≡◌, ◌↔◌, ◌≤◌, ◌<◌, ◌^◌, ℕ, length, true, false, map, string_bytes, IfOk, IfErr, OnOk, IsErrOf};
 ghost use Rattle.std.specs.FinMap as finite;
 ghost use Rattle.sdb_types.specs.Bytes.{HasRisen};
-ghost use Rattle.sdb_model.specs.Form.{IsNotBuilt};
 ghost use Rattle.sdb_model.specs.Report.{report_text_of};
-ghost use Rattle.sdb_script.specs.Inserts.{IsInsertForm};
-ghost use Rattle.sdb_app.specs.First.{shelves_of, first_outcome, held_committed};
+ghost use Rattle.sdb_script.specs.Accounts.{IsFormOf};
+ghost use Rattle.sdb_session.specs.Session.{shelves_of, outcome_of, taken_all, start};
 ghost use Rattle.sdb_app.specs.Run.{is_replay as is_replay_lem, IsReplayed, IsFrontWritten, IsRefused, IsFormRead, refuses_input, writes_nothing};
 
 use crate::outcome::outcome;
@@ -13,9 +12,8 @@ use crate::play::play;
 use crate::status::Status;
 use crate::stores::Stores;
 use crate::streams::{Input, ReadRefused, read_input, write_all};
-use sdb_model::Point;
-use sdb_script::{Form, FormRefused, MOST_BYTES, read_form, report_text};
-use sdb_types::{Clock, Ids, NoMemory, Sink, SinkRefused, Source, TxId, Txt};
+use sdb_script::{AccountForm, FormRefused, MOST_SCRIPT_BYTES, read_account_script, report_text};
+use sdb_types::{Clock, Ids, NoMemory, Sink, SinkRefused, Source, Txt};
 use std::alloc::Global;
 
 fn is_replay(words: &[String]) -> bool
@@ -28,45 +26,36 @@ fn is_replay(words: &[String]) -> bool
 }
 
 // Reads a script, or says how the program ends without one.
-fn read_script<R: Source>(alloc: Global, input: &mut R) -> Result<Form, Status>
+fn read_script<R: Source>(alloc: Global, input: &mut R) -> Result<AccountForm, Status>
     ensures read { IfOk result (IsFormRead (R.remaining input.old) (R.remaining input.new)) }
     ensures read_fault { IsErrOf result Status.ReadFault → HasRisen (R.faults input.old) (R.faults input.new) }
     ensures not_built { (n : ℕ) → IsErrOf result (Status.NotBuilt n) → IsRefused (R.remaining input.old) (R.remaining input.new) n }
     ensures kinds { IfErr result (λ status. refuses_input status ≡ true) }
     ensures counted { R.faults input.old ≤ R.faults input.new }
 {
-    let bytes = match read_input(alloc, input, MOST_BYTES) {
+    let bytes = match read_input(alloc, input, MOST_SCRIPT_BYTES) {
         Ok(Input::Whole(bytes)) => bytes,
         Ok(Input::Longer(bytes)) => bytes,
         Err(ReadRefused::Failed) => return Err(Status::ReadFault),
         Err(ReadRefused::NoMemory) => return Err(Status::NoMemory),
     };
-    match read_form(alloc, &bytes) {
+    match read_account_script(alloc, &bytes) {
         Ok(form) => Ok(form),
         Err(FormRefused::NotBuilt(n)) => Err(Status::NotBuilt(n)),
         Err(FormRefused::NoMemory) => Err(Status::NoMemory),
     }
 }
 
-// The first transaction of the first client.
-const FIRST_ID: TxId = TxId(0x1_0000_0000_0000_0001);
-
-// The event of its one prepare: behind BEGIN, the INSERT with its read, and the taking of the COMMIT.
-const LAST_PREPARE: u64 = 5;
-
-// Plays a script that inserts one account, and writes its report's text.
-fn report(alloc: Global, stores: &mut Stores, form: &Form) -> Result<Txt, NoMemory>
-    requires form { IsInsertForm form.now }
+// Plays a script, and writes its report's text.
+fn report(alloc: Global, stores: &mut Stores, form: &AccountForm) -> Result<Txt, NoMemory>
+    requires form { IsFormOf form.now }
     requires empty { stores.old ≡ finite.empty }
-    ensures report { IfOk result (λ text. text ≡ report_text_of (first_outcome form.now.id form.now.balance)) }
-    ensures stores { OnOk result (stores.new ≡ held_committed form.now.id form.now.balance) }
+    ensures report { IfOk result (λ text. text ≡ report_text_of (outcome_of (taken_all (start finite.empty) form.now.statements).events (taken_all (start finite.empty) form.now.statements).order (taken_all (start finite.empty) form.now.statements).held)) }
+    ensures stores { OnOk result (stores.new ≡ (taken_all (start finite.empty) form.now.statements).held) }
+    ensures countable { OnOk result (length form.now.client.statements < 2 ^ 64) }
 {
-    let events = play(alloc, stores, form.id, form.balance)?;
-    let point = Point {
-        id: FIRST_ID,
-        event: LAST_PREPARE,
-    };
-    let outcome = outcome(alloc, stores, events, point)?;
+    let log = play(alloc, stores, &form.client.statements, &form.statements)?;
+    let outcome = outcome(alloc, stores, log)?;
     report_text(alloc, &outcome)
 }
 

@@ -56,6 +56,48 @@ fn the_first_script_has_its_report(rt: HostRuntime) -> Result<(), Fail> {
 }
 
 #[test]
+fn extra_reads(rt: HostRuntime) -> Result<(), Fail> {
+    let (status, output) = ended(
+        rt.alloc(),
+        &["replay"],
+        b"schema {\"bank.account\":{\"partition-key\":[\"id\"],\"columns\":{\"id\":\"INT\",\"balance\":\"INT\"}}}\nclient c1\n  BEGIN\n  INSERT INTO bank.account (id, balance) VALUES (1, 100)\n  COMMIT\n  BEGIN\n  SELECT balance FROM bank.account WHERE id = 1\n  SELECT balance FROM bank.account WHERE id = 2\n  COMMIT\nrun\nrest\n".as_slice(),
+        &[],
+        &[],
+    )?;
+    assert_eq!(rt; status, Status::Done);
+    assert_eq!(rt; output.written().as_slice(), b"scalardb report 1\nevents 16\n1 take 1 done : BEGIN\n2 take 1 - : INSERT INTO bank.account (id, balance) VALUES (1, 100)\n3 call 1 ordered get bank.account(1) seen found none count 1\n4 take 1 - : COMMIT\n5 call 1 ordered put bank.account(1){balance=100,tx_id='00000000-0000-0001-0000-000000000001',tx_prepared_at=0L,tx_state=1,tx_version=1} if absent seen applied -\n6 call 1 ordered put coordinator.state('00000000-0000-0001-0000-000000000001'){tx_created_at=0L,tx_state=3} if absent seen applied -\n7 call 1 ordered put bank.account(1){balance=100,tx_committed_at=0L,tx_id='00000000-0000-0001-0000-000000000001',tx_prepared_at=0L,tx_state=3,tx_version=1} if 00000000-0000-0001-0000-000000000001 1 seen applied committed\n8 take 1 done : BEGIN\n9 take 1 - : SELECT balance FROM bank.account WHERE id = 1\n10 call 1 ordered get bank.account(1) seen found bank.account(1){balance=100,tx_committed_at=0L,tx_id='00000000-0000-0001-0000-000000000001',tx_prepared_at=0L,tx_state=3,tx_version=1} rows 1 (100)\n11 take 1 - : SELECT balance FROM bank.account WHERE id = 2\n12 call 1 ordered get bank.account(2) seen found none rows 0\n13 take 1 - : COMMIT\n14 call 1 ordered get bank.account(1) seen found bank.account(1){balance=100,tx_committed_at=0L,tx_id='00000000-0000-0001-0000-000000000001',tx_prepared_at=0L,tx_state=3,tx_version=1} -\n15 call 1 ordered get bank.account(2) seen found none -\n16 call 1 ordered put coordinator.state('00000000-0000-0001-0000-000000000002'){tx_created_at=0L,tx_state=3} if absent seen applied committed\norder 2\n00000000-0000-0001-0000-000000000001 5\n00000000-0000-0001-0000-000000000002 13\ntables 1\ntable bank.account 1\n(100,1)\nend\n".as_slice());
+    Ok(())
+}
+
+#[test]
+fn an_insert_of_a_row_is_a_duplicate(rt: HostRuntime) -> Result<(), Fail> {
+    let (status, output) = ended(
+        rt.alloc(),
+        &["replay"],
+        b"schema {\"bank.account\":{\"partition-key\":[\"id\"],\"columns\":{\"id\":\"INT\",\"balance\":\"INT\"}}}\nclient a\n  BEGIN\n  INSERT INTO bank.account (id, balance) VALUES (1, 100)\n  COMMIT\n  BEGIN\n  INSERT INTO bank.account (id, balance) VALUES (1, 200)\n  INSERT INTO bank.account (id, balance) VALUES (1, 200)\n  COMMIT\nrun\nrest\n".as_slice(),
+        &[],
+        &[],
+    )?;
+    assert_eq!(rt; status, Status::Done);
+    assert_eq!(rt; output.written().as_slice(), b"scalardb report 1\nevents 14\n1 take 1 done : BEGIN\n2 take 1 - : INSERT INTO bank.account (id, balance) VALUES (1, 100)\n3 call 1 ordered get bank.account(1) seen found none count 1\n4 take 1 - : COMMIT\n5 call 1 ordered put bank.account(1){balance=100,tx_id='00000000-0000-0001-0000-000000000001',tx_prepared_at=0L,tx_state=1,tx_version=1} if absent seen applied -\n6 call 1 ordered put coordinator.state('00000000-0000-0001-0000-000000000001'){tx_created_at=0L,tx_state=3} if absent seen applied -\n7 call 1 ordered put bank.account(1){balance=100,tx_committed_at=0L,tx_id='00000000-0000-0001-0000-000000000001',tx_prepared_at=0L,tx_state=3,tx_version=1} if 00000000-0000-0001-0000-000000000001 1 seen applied committed\n8 take 1 done : BEGIN\n9 take 1 - : INSERT INTO bank.account (id, balance) VALUES (1, 200)\n10 call 1 ordered get bank.account(1) seen found bank.account(1){balance=100,tx_committed_at=0L,tx_id='00000000-0000-0001-0000-000000000001',tx_prepared_at=0L,tx_state=3,tx_version=1} duplicate bank.account(1)\n11 take 1 duplicate bank.account(1) : INSERT INTO bank.account (id, balance) VALUES (1, 200)\n12 take 1 - : COMMIT\n13 call 1 ordered get bank.account(1) seen found bank.account(1){balance=100,tx_committed_at=0L,tx_id='00000000-0000-0001-0000-000000000001',tx_prepared_at=0L,tx_state=3,tx_version=1} -\n14 call 1 ordered put coordinator.state('00000000-0000-0001-0000-000000000002'){tx_created_at=0L,tx_state=3} if absent seen applied committed\norder 2\n00000000-0000-0001-0000-000000000001 5\n00000000-0000-0001-0000-000000000002 12\ntables 1\ntable bank.account 1\n(100,1)\nend\n".as_slice());
+    Ok(())
+}
+
+#[test]
+fn the_last_transaction_may_lack_its_commit(rt: HostRuntime) -> Result<(), Fail> {
+    let (status, output) = ended(
+        rt.alloc(),
+        &["replay"],
+        b"schema {\"bank.account\":{\"partition-key\":[\"id\"],\"columns\":{\"id\":\"INT\",\"balance\":\"INT\"}}}\nclient a\n  BEGIN\n  SELECT balance FROM bank.account WHERE id = 5\n  INSERT INTO bank.account (id, balance) VALUES (5, 7)\n  SELECT balance FROM bank.account WHERE id = 5\nrun\nrest\n".as_slice(),
+        &[],
+        &[],
+    )?;
+    assert_eq!(rt; status, Status::Done);
+    assert_eq!(rt; output.written().as_slice(), b"scalardb report 1\nevents 5\n1 take 1 done : BEGIN\n2 take 1 - : SELECT balance FROM bank.account WHERE id = 5\n3 call 1 ordered get bank.account(5) seen found none rows 0\n4 take 1 count 1 : INSERT INTO bank.account (id, balance) VALUES (5, 7)\n5 take 1 rows 1 (7) : SELECT balance FROM bank.account WHERE id = 5\norder 0\ntables 1\ntable bank.account 0\nend\n".as_slice());
+    Ok(())
+}
+
+#[test]
 fn a_failed_read_writes_nothing(rt: HostRuntime) -> Result<(), Fail> {
     let (status, output) = ended(rt.alloc(), &["replay"], SCRIPT, &[2], &[])?;
     assert_eq!(rt; status, Status::ReadFault);

@@ -1,2 +1,3 @@
 pub mod Commit
 pub mod Txn
+pub mod Held

@@ -1,6 +1,10 @@
 //! One transaction: its reads, its writes and its COMMIT.
 #![tactic(auto)]
 
+mod requests;
+mod row;
 mod txn;
 
-pub use txn::{Progress, Requests, Stage, Txn};
+pub use requests::Requests;
+pub use row::row_of;
+pub use txn::{Progress, Stage, Txn};

@@ -1,21 +1,19 @@
 //! A transaction, step by step: what it asks of the stores, and what becomes of the replies.
-ghost use Rattle.std.specs.Prelude.{◌≡◌, ◌++◌, ◌<◌, ◌⊎◌, [], ◌∷◌, length, drop, take, map, true, OnOk, OnErr, IfOk, Some, None};
+ghost use Rattle.std.specs.Prelude.{◌≡◌, ◌≢◌, ◌+◌, ◌*◌, ◌<◌, ◌⊎◌, [], ◌∷◌, length, drop, true, false, OnOk, OnErr, IfOk, IfSome, Some, None, Option};
 ghost use Rattle.std.specs.Option.{option_copied};
 ghost use Rattle.std.specs.List.{slice_get};
+ghost use Rattle.sdb_record.specs.Rolls.{is_change, IsWrite, IsBaseOf};
+ghost use Rattle.sdb_txn.specs.Commit.{commit_requests, only_read, write_at};
 ghost use Rattle.sdb_types.specs.declared.record.Request.TheVariants.{Get};
-ghost use Rattle.sdb_record.specs.Rolls.{is_change, state_of_change, IsWrite};
-ghost use Rattle.sdb_record.specs.declared.write.Write.{Write};
-ghost use Rattle.sdb_txn.specs.Commit.{prepare_of, decide_of, forward_of, commit_requests};
-ghost use Rattle.sdb_txn.specs.Txn.{Working, new_write, is_new_write, are_new_writes, IsWished, is_calling, progress_of, advanced};
+ghost use Rattle.sdb_txn.specs.Txn.{is_get, tail_of, images_with as images_of, row_with, images_found, noted_by, at_commit, gone_on, found_in as found_in_lem};
+ghost use Rattle.sdb_txn.specs.Txn.{Working, begun, is_known, images_known, got, got_after, base_at, noted, written, asking, found_at, IsWished, is_calling, progress_of, advanced};
 
-use sdb_record::{
-    Change, Decision, Images, Keyed, Write, Writes, coordinator_row, prepared, rolled_forward,
-};
-use sdb_types::{Condition, Key, NoMemory, Record, Reply, Request, Seq, State, TxId};
+use crate::requests::{Drafts, Notes, Requests, commit_asks};
+use crate::row::{images_with, row_of_change, row_of_found};
+use sdb_record::{Images, Keyed, Write};
+use sdb_types::{Columns, Duplicate, Key, NoMemory, Record, Reply, Request, TxId};
 use std::alloc::Global;
 use std::marker::Model;
-
-pub type Requests = Seq<Request>;
 
 /// Where a transaction stands.
 #[derive(Clone, Copy, Debug, PartialEq, Eq)]
@@ -34,7 +32,7 @@ pub enum Stage {
 pub enum Progress {
     /// A call is pending.
     More,
-    /// The rows that a read found.
+    /// The row that a read found or knew, or none.
     Rows(Images),
     Committed,
     NoMemory,
@@ -45,112 +43,34 @@ pub enum Progress {
 pub struct Txn {
     id: TxId,
     stage: Stage,
-    writes: Writes,
+    notes: Notes,
+    drafts: Drafts,
     asks: Requests,
     at: usize,
 }
 
 impl Model for Txn {
     ghost use Rattle.std.specs.Prelude.{◌≡◌, ◌≤◌, true, drop, length};
-    ghost use Rattle.sdb_txn.specs.Txn.{Working, are_new_writes};
+    ghost use Rattle.sdb_txn.specs.Txn.{Working, AreWrites};
+    ghost use Rattle.sdb_txn.specs.Held.{writes_in, AreKeyed, AreBases};
 
     ghost Value = { Working };
 
-    ghost view = { λ t. record { id = t.id; stage = t.stage; writes = t.writes; left = drop t.at t.asks } };
+    ghost view = { λ t. record { id = t.id; stage = t.stage; reads = t.notes; writes = writes_in t.drafts; left = drop t.at t.asks } };
 
-    ghost invariant = { λ t. (are_new_writes t.writes ≡ true) × (t.at ≤ length t.asks) };
-}
-
-// The state in which a change leaves its key prepared.
-fn state_left(change: &Change) -> State
-    ensures { result ≡ state_of_change change.now }
-{
-    match change {
-        Change::Row(_) => State::Prepared,
-        Change::Delete => State::Deleted,
-    }
-}
-
-fn prepare(alloc: Global, write: &Write, id: TxId, now: i64) -> Result<Request, NoMemory>
-    requires { is_new_write write.now ≡ true }
-    ensures { IfOk result (λ request. request ≡ prepare_of id now write.now) }
-{
-    Ok(Request::PutIf(prepared(alloc, write, id, now)?, Condition::Absent))
-}
-
-fn decide(alloc: Global, id: TxId, now: i64) -> Result<Request, NoMemory>
-    ensures { IfOk result (λ request. request ≡ decide_of id now) }
-{
-    Ok(Request::PutIf(
-        coordinator_row(alloc, id, Decision::Committed, now)?,
-        Condition::Absent,
-    ))
-}
-
-fn forward(alloc: Global, write: &Write, id: TxId, now: i64) -> Result<Request, NoMemory>
-    requires { is_new_write write.now ≡ true }
-    ensures { IfOk result (λ request. request ≡ forward_of id now write.now) }
-{
-    let rec = prepared(alloc, write, id, now)?;
-    Ok(Request::PutIf(
-        rolled_forward(alloc, &rec, now)?,
-        Condition::Version(id, state_left(&write.change)),
-    ))
-}
-
-fn put_prepares(
-    asks: &mut Requests,
-    alloc: Global,
-    writes: &[Write],
-    id: TxId,
-    now: i64,
-) -> Result<(), NoMemory>
-    requires { are_new_writes writes.now ≡ true }
-    ensures { OnOk result (asks.new ≡ asks.old ++ map (prepare_of id now) writes.now) }
-{
-    for write in writes {
-        asks.push(prepare(alloc, write, id, now)?)?;
-    }
-    Ok(())
-}
-
-fn put_forwards(
-    asks: &mut Requests,
-    alloc: Global,
-    writes: &[Write],
-    id: TxId,
-    now: i64,
-) -> Result<(), NoMemory>
-    requires { are_new_writes writes.now ≡ true }
-    ensures { OnOk result (asks.new ≡ asks.old ++ map (forward_of id now) writes.now) }
-{
-    for write in writes {
-        asks.push(forward(alloc, write, id, now)?)?;
-    }
-    Ok(())
-}
-
-// The calls of a COMMIT, all made when it is taken.
-fn commit_asks(alloc: Global, writes: &[Write], id: TxId, now: i64) -> Result<Requests, NoMemory>
-    requires { are_new_writes writes.now ≡ true }
-    ensures { IfOk result (λ asks. asks ≡ commit_requests id now writes.now) }
-{
-    let mut asks = Requests::new(alloc);
-    put_prepares(&mut asks, alloc, writes, id, now)?;
-    asks.push(decide(alloc, id, now)?)?;
-    put_forwards(&mut asks, alloc, writes, id, now)?;
-    Ok(asks)
+    ghost invariant = { λ t. AreBases t.notes × AreKeyed t.drafts × AreWrites (writes_in t.drafts) × (t.at ≤ length t.asks) };
 }
 
 impl Txn {
     /// A transaction that has read and written nothing.
     pub fn begin(alloc: Global, id: TxId) -> Txn
-        ensures { result ≡ record { id = id; stage = Stage.Open; writes = []; left = [] } }
+        ensures { result ≡ begun id }
     {
         Txn {
             id,
             stage: Stage::Open,
-            writes: Writes::new(alloc),
+            notes: Notes::new(alloc),
+            drafts: Drafts::new(alloc),
             asks: Requests::new(alloc),
             at: 0,
         }
@@ -162,6 +82,13 @@ impl Txn {
         self.id
     }
 
+    /// How many keys it has written.
+    pub fn write_count(&self) -> usize
+        ensures { result ≡ length self.now.writes }
+    {
+        self.drafts.len()
+    }
+
     /// The call that is pending, if one is. Takes no memory.
     pub fn pending(&self) -> Option<&Request>
         ensures { option_copied result ≡ slice_get self.now.left 0 }
@@ -169,47 +96,100 @@ impl Txn {
         self.asks.at(self.at)
     }
 
-    /// Reads a key that has not been read.
-    pub fn get(&mut self, alloc: Global, key: Key) -> Progress
-        requires { self.old.stage ≡ Stage.Open }
-        ensures more { result ≡ Progress.More → self.new ≡ record self.old { stage = Stage.Reading; left = Get key ∷ [] } }
-        ensures starved { result ≡ Progress.NoMemory → self.new ≡ self.old }
-        ensures kinds { (result ≡ Progress.More) ⊎ (result ≡ Progress.NoMemory) }
+    // The row that is seen at a key where this was found.
+    fn row_at(
+        &self,
+        alloc: Global,
+        key: &Key,
+        found: &Option<Record>,
+    ) -> Result<Option<Columns>, NoMemory>
+        ensures { IfOk result (λ row. row ≡ row_with (write_at self.now.writes key.now) found.now) }
+    {
+        match self.drafts.get(key) {
+            Some(write) => row_of_change(&write.change),
+            None => row_of_found(alloc, found),
+        }
+    }
+
+    // The row that is seen at a key, where it was read.
+    fn known(&self, alloc: Global, key: &Key) -> Result<Option<Images>, NoMemory>
+        ensures { IfOk result (λ images. images ≡ images_known self.now key.now) }
+    {
+        match self.notes.get(key) {
+            Some(found) => {
+                let row = self.row_at(alloc, key, found)?;
+                Ok(Some(images_with(alloc, key, row)?))
+            }
+            None => Ok(None),
+        }
+    }
+
+    // Begins to read a key.
+    fn ask(&mut self, alloc: Global, key: Key) -> Result<(), NoMemory>
+        ensures ok { OnOk result (self.new ≡ asking self.old key) }
+        ensures err { OnErr result (self.new ≡ self.old) }
     {
         let mut asks = Requests::new(alloc);
-        if asks.push(Request::Get(key)).is_err() {
-            return Progress::NoMemory;
-        }
+        asks.push(Request::Get(key))?;
         self.asks = asks;
         self.at = 0;
         self.stage = Stage::Reading;
-        Progress::More
-    }
-
-    /// Writes a key that was read and had no record.
-    pub fn write(&mut self, change: Keyed) -> Result<(), NoMemory>
-        requires open { self.old.stage ≡ Stage.Open }
-        requires change { is_change change.change ≡ true }
-        ensures ok { OnOk result (self.new ≡ record self.old { writes = self.old.writes ++ new_write change ∷ [] }) }
-        ensures err { OnErr result (self.new ≡ self.old) }
-    {
-        let Keyed { key, change } = change;
-        self.writes.push(Write {
-            key,
-            base: None,
-            change,
-        })?;
         Ok(())
     }
 
-    /// Takes the COMMIT, at this moment. Want of memory ends the transaction before any call.
+    /// Reads a key. One that was read is answered at once, with what the transaction wrote there or found; another one
+    /// by a call.
+    pub fn get(&mut self, alloc: Global, key: Key) -> Progress
+        requires { self.old.stage ≡ Stage.Open }
+        ensures told { result ≢ Progress.NoMemory → result ≡ got self.old key }
+        ensures after { result ≢ Progress.NoMemory → self.new ≡ got_after self.old key }
+        ensures starved { result ≡ Progress.NoMemory → self.new ≡ self.old }
+    {
+        match self.known(alloc, &key) {
+            Ok(Some(images)) => Progress::Rows(images),
+            Ok(None) => match self.ask(alloc, key) {
+                Ok(()) => Progress::More,
+                Err(NoMemory) => Progress::NoMemory,
+            },
+            Err(NoMemory) => Progress::NoMemory,
+        }
+    }
+
+    // What was found at a key.
+    fn base(&self, key: &Key) -> Result<Option<Record>, NoMemory>
+        ensures { IfOk result (λ base. base ≡ base_at self.now.reads key.now) }
+    {
+        match self.notes.get(key) {
+            Some(found) => found.copy(),
+            None => Ok(None),
+        }
+    }
+
+    /// Writes a key that was not written yet. What was found there is the base, none where it was not read.
+    pub fn write(&mut self, change: Keyed) -> Result<(), NoMemory>
+        requires open { self.old.stage ≡ Stage.Open }
+        requires change { is_change change.change ≡ true }
+        requires new { write_at self.old.writes change.key ≡ None }
+        ensures ok { OnOk result (self.new ≡ written self.old change) }
+        ensures err { OnErr result (self.new ≡ self.old) }
+    {
+        let Keyed { key, change } = change;
+        let base = self.base(&key)?;
+        let place = key.copy()?;
+        self.drafts.put(place, Write { key, base, change })?;
+        Ok(())
+    }
+
+    /// Takes the COMMIT, at this moment: it makes two calls for each write, one for each key that was only read, and one
+    /// more. Want of memory ends the transaction before any call.
     pub fn commit(&mut self, alloc: Global, now: i64) -> Progress
         requires { self.old.stage ≡ Stage.Open }
-        ensures more { result ≡ Progress.More → self.new ≡ record self.old { stage = Stage.Committing; left = commit_requests self.old.id now self.old.writes } }
+        ensures more { result ≡ Progress.More → self.new ≡ record self.old { stage = Stage.Committing; left = commit_requests self.old.id now self.old.reads self.old.writes } }
+        ensures calls { result ≡ Progress.More → length self.new.left ≡ 2 * length self.old.writes + length (only_read self.old.reads self.old.writes) + 1 }
         ensures starved { result ≡ Progress.NoMemory → self.new ≡ record self.old { stage = Stage.Ended } }
         ensures kinds { (result ≡ Progress.More) ⊎ (result ≡ Progress.NoMemory) }
     {
-        match commit_asks(alloc, self.writes.as_slice(), self.id, now) {
+        match commit_asks(alloc, &self.notes, &self.drafts, self.id, now) {
             Ok(asks) => {
                 self.asks = asks;
                 self.at = 0;
@@ -223,34 +203,97 @@ impl Txn {
         }
     }
 
-    /// Digests the reply to the pending call, which is the one that lets the transaction go on. Takes no memory.
+    // The key of the read that is pending.
+    fn asked_key(&self) -> Result<Key, NoMemory>
+        requires { is_get self.now.left ≡ true }
+        ensures { IfOk result (λ key. self.now.left ≡ Get key ∷ tail_of self.now.left) }
+    {
+        match self.pending() {
+            Some(Request::Get(key)) => key.copy(),
+            _ => unreachable!(),
+        }
+    }
+
+    // Notes what a read found.
+    fn note(
+        &mut self,
+        alloc: Global,
+        key: Key,
+        found: Option<Record>,
+    ) -> Result<Images, NoMemory>
+        requires unread { is_known self.old key ≡ false }
+        requires base { IfSome found (IsBaseOf key) }
+        ensures images { IfOk result (λ images. images ≡ images_of key (row_with (write_at self.old.writes key) found)) }
+        ensures ok { OnOk result (self.new ≡ noted self.old key found) }
+        ensures err { OnErr result (self.new ≡ self.old) }
+    {
+        let row = self.row_at(alloc, &key, &found)?;
+        let images = images_with(alloc, &key, row)?;
+        self.notes.put(key, found)?;
+        self.asks = Requests::new(alloc);
+        self.at = 0;
+        self.stage = Stage::Open;
+        Ok(images)
+    }
+
+    // Digests the reply to a read.
+    fn read(&mut self, alloc: Global, reply: &Reply) -> Result<Images, NoMemory>
+        requires reading { self.old.stage ≡ Stage.Reading }
+        requires wished { IsWished self.old reply.now }
+        ensures images { IfOk result (λ images. images ≡ images_found self.old.writes self.old.left reply.now) }
+        ensures ok { OnOk result (self.new ≡ noted_by self.old self.old.left reply.now) }
+        ensures err { OnErr result (self.new ≡ self.old) }
+    {
+        let key = self.asked_key()?;
+        let found = found_in(reply)?;
+        self.note(alloc, key, found)
+    }
+
+    // Goes on behind a call of a COMMIT.
     #[tactic(auto, using(crate::proofs::Left::drop_next))]
-    pub fn advance(&mut self, alloc: Global, reply: &Reply) -> Progress
-        requires calls { is_calling self.old.stage ≡ true }
+    fn go_on(&mut self) -> Progress
         requires left { 0 < length self.old.left }
-        requires wished { IsWished self.old.left reply.now }
-        ensures progress { result ≡ progress_of self.old }
-        ensures after { self.new ≡ advanced self.old }
+        ensures progress { result ≡ at_commit (tail_of self.old.left) }
+        ensures after { self.new ≡ gone_on self.old }
     {
         let count = self.asks.len();
         let next = self.at + 1;
-        match self.stage {
-            Stage::Reading => {
-                self.at = next;
-                self.stage = Stage::Open;
-                Progress::Rows(Images::new(alloc))
-            }
-            Stage::Open | Stage::Ended => unreachable!(),
-            Stage::Committing => {
-                self.at = next;
-                if next < count {
-                    self.stage = Stage::Committing;
-                    Progress::More
-                } else {
-                    self.stage = Stage::Ended;
-                    Progress::Committed
-                }
-            }
+        self.at = next;
+        if next < count {
+            self.stage = Stage::Committing;
+            Progress::More
+        } else {
+            self.stage = Stage::Ended;
+            Progress::Committed
         }
+    }
+
+    /// Digests the reply to the pending call, which is one that lets the transaction go on.
+    pub fn advance(&mut self, alloc: Global, reply: &Reply) -> Progress
+        requires calls { is_calling self.old.stage ≡ true }
+        requires left { 0 < length self.old.left }
+        requires wished { IsWished self.old reply.now }
+        ensures progress { result ≢ Progress.NoMemory → result ≡ progress_of self.old reply.now }
+        ensures after { result ≢ Progress.NoMemory → self.new ≡ advanced self.old reply.now }
+        ensures starved { result ≡ Progress.NoMemory → self.new ≡ self.old }
+    {
+        match self.stage {
+            Stage::Reading => match self.read(alloc, reply) {
+                Ok(images) => Progress::Rows(images),
+                Err(NoMemory) => Progress::NoMemory,
+            },
+            Stage::Committing => self.go_on(),
+            Stage::Open | Stage::Ended => unreachable!(),
+        }
+    }
+}
+
+// The record that a reply found, or none.
+fn found_in(reply: &Reply) -> Result<Option<Record>, NoMemory>
+    ensures { IfOk result (λ found. found ≡ found_in_lem reply.now) }
+{
+    match reply {
+        Reply::Found(found) => found.copy(),
+        _ => Ok(None),
     }
 }

@@ -1,28 +1,19 @@
-use Rattle.std.proofs.Common.{◌≡◌, ◌∙◌, ◌++◌, ◌∷◌, [], List, ap, rules, ℤ, to_z, of_z, w64}
-use Rattle.sdb_types.specs.declared.record.Request.{Request}
-use Rattle.sdb_types.specs.declared.record.Reply.{Reply}
+use Rattle.std.proofs.Common.{◌≡◌, ◌∙◌, sym, ap, Option, None, List, rules, ℤ, to_z, of_z, w32}
+use Rattle.sdb_types.specs.declared.pair.Pair.{Pair}
 use Rattle.sdb_record.specs.declared.write.Keyed.{Keyed}
 use Rattle.sdb_record.specs.Rolls.{is_change}
-use Rattle.sdb_model.specs.declared.event.Event.{Event}
-use Rattle.sdb_app.specs.First.{call_event, get_account}
-use Rattle.sdb_app.specs.Played.{counted_one, found_none, take_insert}
-use Rattle.sdb_app.proofs.FirstCalls.{account_fine}
+use Rattle.sdb_txn.specs.Commit.{write_at}
+use Rattle.sdb_txn.specs.Txn.{base_at, row_seen}
+use Rattle.sdb_session.specs.Session.{account_key}
+use Rattle.sdb_app.proofs.Looks.{account_fine, no_row, no_write, empty_list}
 use Rattle.sdb_app.proofs.play.insert.Goals as goal
 
 pub write-requires-clause-change : goal.write-requires-clause-change
-write-requires-clause-change c = ap (λ (k : Keyed). is_change k.change) c.in_ok-account_change.ensures ∙ account_fine c.args.balance
+write-requires-clause-change c = ap (λ (k : Keyed). is_change k.change) c.in_ok-change.ensures ∙ account_fine c.args.balance
 
-pub returns-clause-events : goal.returns-clause-events
-returns-clause-events c =
-    let same_id : to_z w64 (of_z w64 c.args.id) ≡ c.args.id = search rules in
-    let same_balance : to_z w64 (of_z w64 c.args.balance) ≡ c.args.balance = search rules in
-    let pushed : c.push_insert.new.events ≡ c.args.events.now ++ take_insert c.args.id c.args.balance ∷ [] =
-    c.in_ok-push_insert.ensures
-    ∙ ap (λ (n : ℤ). c.args.events.now ++ take_insert n (to_z w64 (of_z w64 c.args.balance)) ∷ []) same_id
-    ∙ ap (λ (m : ℤ). c.args.events.now ++ take_insert c.args.id m ∷ []) same_balance in
-    let asked : c.in_ok-request.request ≡ get_account c.args.id = search rules in
-    let found : c.in_ok-request.reply ≡ found_none = search rules in
-    c.in_ok-push_call.ensures
-    ∙ ap (λ (es : List Event). es ++ call_event c.in_ok-request.request c.in_ok-request.reply counted_one ∷ []) pushed
-    ∙ ap (λ (q : Request). (c.args.events.now ++ take_insert c.args.id c.args.balance ∷ []) ++ call_event q c.in_ok-request.reply counted_one ∷ []) asked
-    ∙ ap (λ (r : Reply). (c.args.events.now ++ take_insert c.args.id c.args.balance ∷ []) ++ call_event (get_account c.args.id) r counted_one ∷ []) found
+pub write-requires-clause-new : goal.write-requires-clause-new
+write-requires-clause-new c =
+    let none : row_seen c.args.txn.now (account_key c.args.id) ≡ None =
+    no_row (account_key c.args.id) (row_seen c.args.txn.now (account_key c.args.id)) c.args.images.now c.requires.seen (empty_list c.args.images.now (sym c.is_empty.ensures ∙ c.if-is_empty.true)) in
+    let same : to_z w32 (of_z w32 c.args.id) ≡ c.args.id = search rules in
+    ap (λ (k : Keyed). write_at c.args.txn.now.writes k.key) c.in_ok-change.ensures ∙ ap (λ (n : ℤ). write_at c.args.txn.now.writes (account_key n)) same ∙ no_write c.args.txn.now.writes (account_key c.args.id) (base_at c.args.txn.now.reads (account_key c.args.id)) c.requires.puts none

@@ -1,15 +1,23 @@
-use Rattle.std.proofs.Common.{◌≡◌, ◌∙◌, ◌++◌, ◌∷◌, [], List, ap, rules, ℤ, to_z, of_z, w64}
-use Rattle.sdb_model.specs.declared.event.Event.{Event}
-use Rattle.sdb_app.specs.First.{first_events}
-use Rattle.sdb_app.specs.Played.{take_begin}
-use Rattle.sdb_app.proofs.FirstCalls.{played}
+use Rattle.std.proofs.Common.{◌≡◌, ◌∙◌, ◌<◌, ◌^◌, length, arith}
+use Rattle.sdb_session.specs.Session.{session_of}
+use Rattle.sdb_app.proofs.Plays.{before, next_behind}
 use Rattle.sdb_app.proofs.play.play.Goals as goal
 
-pub returns-clause-events : goal.returns-clause-events
-returns-clause-events c =
-    let same_id : to_z w64 (of_z w64 c.args.id) ≡ c.args.id = search rules in
-    let same_balance : to_z w64 (of_z w64 c.args.balance) ≡ c.args.balance = search rules in
-    let one : c.push_take.new.events ≡ [] ++ take_begin ∷ [] = c.in_ok-push_take.ensures ∙ ap (λ (es : List Event). es ++ take_begin ∷ []) c.new-events.ensures in
-    played (to_z w64 (of_z w64 c.args.id)) (to_z w64 (of_z w64 c.args.balance)) c.push_take.new.events c.insert.new.events c.commit.new.events one c.in_ok-insert.ensures.events c.in_ok-commit.ensures.events
-    ∙ ap (λ (n : ℤ). first_events n (to_z w64 (of_z w64 c.args.balance))) same_id
-    ∙ ap (λ (m : ℤ). first_events c.args.id m) same_balance
+pub take-requires-clause-may : goal.take-requires-clause-may
+take-requires-clause-may c =
+    let bound : length c.args.statements.now < 2 ^ 64 = omega arith in
+    (before c.args.statements.now c.loop-i.i c.statement_at-statement.result (session_of c.loop-i.log.events c.loop-i.log.order c.loop-i.stores c.loop-i.current) c.statement_at-statement.ensures c.loop-i.invariant bound c.requires.built c.requires.fit).may
+
+pub take-requires-clause-idle : goal.take-requires-clause-idle
+take-requires-clause-idle c =
+    let bound : length c.args.statements.now < 2 ^ 64 = omega arith in
+    (before c.args.statements.now c.loop-i.i c.statement_at-statement.result (session_of c.loop-i.log.events c.loop-i.log.order c.loop-i.stores c.loop-i.current) c.statement_at-statement.ensures c.loop-i.invariant bound c.requires.built c.requires.fit).idle
+
+pub take-requires-clause-ready : goal.take-requires-clause-ready
+take-requires-clause-ready c =
+    let bound : length c.args.statements.now < 2 ^ 64 = omega arith in
+    (before c.args.statements.now c.loop-i.i c.statement_at-statement.result (session_of c.loop-i.log.events c.loop-i.log.order c.loop-i.stores c.loop-i.current) c.statement_at-statement.ensures c.loop-i.invariant bound c.requires.built c.requires.fit).ready
+
+pub loop-i-preserved : goal.loop-i-preserved
+loop-i-preserved c =
+    next_behind c.args.statements.now c.loop-i.i c.statement_at-statement.result (session_of c.loop-i.log.events c.loop-i.log.order c.loop-i.stores c.loop-i.current) (session_of c.take.new.log.events c.take.new.log.order c.take.new.stores c.in_ok-current.current) c.statement_at-statement.ensures c.loop-i.invariant c.in_ok-current.ensures.session

@@ -1,7 +1,0 @@
-use Rattle.std.proofs.Common.{◌≡◌, ◌++◌, take}
-use Rattle.std.specs.Prelude.{map}
-use Rattle.sdb_txn.specs.Commit.{forward_of}
-use Rattle.sdb_txn.proofs.txn.put_forwards.Given as goal
-
-abbrev pub invariant-loop-write : goal.invariant-loop-write
-invariant-loop-write l = l.asks ≡ l.initial.asks ++ map (forward_of l.id l.now) (take l.write-index l.writes)
