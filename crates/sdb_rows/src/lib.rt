@@ -8,4 +8,3 @@ mod show;
 pub use change::{deletes, inserted_key, literal_at, named_columns, set_columns, updates};
 pub use read::{is_key_name, kind_of, passes, passing, value_at};
 pub use show::{shown, shown_all, shown_names};
-

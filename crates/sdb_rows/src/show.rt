@@ -21,11 +21,7 @@ fn names_of_columns(alloc: Global, columns: &[Column]) -> Result<Names, NoMemory
 }
 
 /// The columns that a SELECT names, for `*` all in name order.
-pub fn shown_names(
-    alloc: Global,
-    table: &Table,
-    columns: &Option<Names>,
-) -> Result<Names, NoMemory>
+pub fn shown_names(alloc: Global, table: &Table, columns: &Option<Names>) -> Result<Names, NoMemory>
     ensures { IfOk result (λ names. names ≡ shown_names_lem table.now columns.now) }
 {
     match columns {
@@ -44,12 +40,7 @@ fn value_shown(table: &Table, row: &Image, name: &Name) -> Result<Value, NoMemor
 }
 
 /// What a row gives the columns of these names.
-pub fn shown(
-    alloc: Global,
-    table: &Table,
-    names: &[Name],
-    row: &Image,
-) -> Result<Values, NoMemory>
+pub fn shown(alloc: Global, table: &Table, names: &[Name], row: &Image) -> Result<Values, NoMemory>
     ensures { IfOk result (λ values. values ≡ map (value_of table.now row.now) names.now) }
 {
     let mut values = Values::new(alloc);

@@ -171,7 +171,6 @@ not_prepared id q (reply.NotMet x) a h = refl
 not_prepared id q reply.Fault a h = refl
 not_prepared id q reply.NoMemory a h = refl
 
-
 pub passed_by : (id : TxId) (qs : List Request) (es : List Event) (m : Contents) → AllByRecursion (λ q. prepares id q ≡ false) qs → last_prepare (es ++ commit_events qs m) id ≡ last_prepare es id
 passed_by id [] es m h = ap (λ x. last_prepare x id) (append-nil es)
 passed_by id (q ∷ qs) es m h =

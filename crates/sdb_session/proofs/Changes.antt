@@ -101,6 +101,7 @@ no_row_no_write ws key row h e = by_write (write_at ws key) refl
   where
     change_none : (w : Write) → IsInsert w → row_of_change w.change ≡ None → ⊥
     change_none w i e = not_none _ (sym e ∙ ap row_of_change i.change)
+
     by_write : (o : Option Write) → write_at ws key ≡ o → write_at ws key ≡ None
     by_write None at = at
     by_write (Some w) at = absurd (change_none w (find_insert ws key w h at) (sym (ap (λ (o : Option Write). row_written o row) at) ∙ e))

@@ -74,6 +74,7 @@ find_rows q (e ∷ es) h =
     here : eq_by_cmp key_cmp q e.0 ≡ true → find key_cmp q (filter_map row_entry es) ≡ None → (row : Option (List Pair)) → find key_cmp q (cons_option (option_map (λ columns. (e.0, columns)) row) (filter_map row_entry es)) ≡ row
     here t none None = none
     here t none (Some columns) = ap (λ (b : Bool). cond b (Some columns) (find key_cmp q (filter_map row_entry es))) t
+
     passed : eq_by_cmp key_cmp q e.0 ≡ false → (row : Option (List Pair)) → find key_cmp q (cons_option (option_map (λ columns. (e.0, columns)) row) (filter_map row_entry es)) ≡ find key_cmp q (filter_map row_entry es)
     passed t None = refl
     passed t (Some columns) = ap (λ (b : Bool). cond b (Some columns) (find key_cmp q (filter_map row_entry es))) t
@@ -99,11 +100,11 @@ entries_are m d agree =
     let ordered = is_sorted-where_key key_cmp (in_span account_span) (entries m) (entries_sorted m) in
     same_entries key_cmp key_total key_exact (entries d) (filter_map row_entry (account_entries m)) (entries_sorted d) (sorted_rows (account_entries m) ordered)
     (λ q. sym (get-entries d q) ∙ agree.at q ∙ sym (
-      find_rows q (account_entries m) ordered
-      ∙ ap (row_at_key q) (find-where_key key_cmp (in_span account_span) q (λ x t. ap (λ (k : Key). in_span account_span k) (sym (key_exact q x t))) (entries m))
-      ∙ ap (λ (b : Bool). row_at_key q (cond b (find key_cmp q (entries m)) None)) (in_account_span q)
-      ∙ ap (λ (found : Option (List Pair)). row_at_key q (cond (in_accounts q) found None)) (sym (get-entries m q))
-      ∙ same_row q (in_accounts q) (get m q)))
+    find_rows q (account_entries m) ordered
+    ∙ ap (row_at_key q) (find-where_key key_cmp (in_span account_span) q (λ x t. ap (λ (k : Key). in_span account_span k) (sym (key_exact q x t))) (entries m))
+    ∙ ap (λ (b : Bool). row_at_key q (cond b (find key_cmp q (entries m)) None)) (in_account_span q)
+    ∙ ap (λ (found : Option (List Pair)). row_at_key q (cond (in_accounts q) found None)) (sym (get-entries m q))
+    ∙ same_row q (in_accounts q) (get m q)))
 
 ---- in the table's order
 
