@@ -255,14 +255,20 @@ fn points_of(alloc: Global, events: &[Event], ids: &[TxId]) -> Result<Points, No
     Ok(points)
 }
 
+fn in_order(alloc: Global, points: &[Point]) -> Result<Points, NoMemory>
+    ensures { IfOk result (λ order. order ≡ fold placed_point [] points.now) }
+{
+    let mut order = Points::new(alloc);
+    for point in points {
+        place(&mut order, *point)?;
+    }
+    Ok(order)
+}
+
 /// Transactions, each with its point, by rising point: of the recorded transactions, the order of a run.
 pub fn order_of(alloc: Global, events: &[Event], ids: &[TxId]) -> Result<Points, NoMemory>
     ensures { IfOk result (λ order. order ≡ order_of_lem events.now ids.now) }
 {
     let points = points_of(alloc, events, ids)?;
-    let mut order = Points::new(alloc);
-    for point in points.as_slice() {
-        place(&mut order, *point)?;
-    }
-    Ok(order)
+    in_order(alloc, points.as_slice())
 }
