@@ -21,7 +21,7 @@ insert() {
 
 # A SELECT of so many tests.
 select_tests() {
-    echo -n "SELECT * FROM shop.item WHERE $(seq -f 'c%g >= %g' -s ' AND ' 1 "$1")"
+    echo -n "SELECT * FROM shop.item WHERE $(seq 1 "$1" | awk '{ printf "%sc%d >= %d", NR > 1 ? " AND " : "", $1, $1 }')"
 }
 
 # An UPDATE that sets a text of so many bytes.
@@ -35,7 +35,7 @@ timed() {
 }
 
 printf '%16s %8s %8s %10s %10s\n' statement small large 'small, s' 'large, s'
-for shape in insert:75:3900 select_tests:60:2900 update_text:980:65400; do
+for shape in insert:109:5100 select_tests:66:3300 update_text:985:65500; do
     IFS=: read -r name small large <<<"$shape"
     $name "$small" >"$room/small"
     $name "$large" >"$room/large"
