@@ -21,7 +21,7 @@ insert() {
 
 # A SELECT of so many tests.
 select_tests() {
-    echo -n "SELECT * FROM shop.item WHERE $(seq 1 "$1" | awk '{ printf "%sc%d >= %d", NR > 1 ? " AND " : "", $1, $1 }')"
+    echo -n "SELECT * FROM shop.item WHERE $(seq 1 "$1" | awk '{ printf "%sc%d >= %d", (NR > 1 ? " AND " : ""), $1, $1 }')"
 }
 
 # An UPDATE that sets a text of so many bytes.
