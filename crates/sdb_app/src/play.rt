@@ -284,12 +284,7 @@ struct Found {
 }
 
 // Makes the call of a read.
-fn read(
-    alloc: Global,
-    txn: &mut Txn,
-    stores: &mut Stores,
-    key: Key,
-) -> Result<Found, NoMemory>
+fn read(alloc: Global, txn: &mut Txn, stores: &mut Stores, key: Key) -> Result<Found, NoMemory>
     requires asking { txn.old.left ≡ Request.Get key ∷ [] }
     requires stage { txn.old.stage ≡ Stage.Reading }
     requires unread { is_known txn.old key ≡ false }
@@ -444,10 +439,7 @@ fn begin(alloc: Global, log: &mut Log, text: &Txt) -> Result<Txn, NoMemory>
 {
     push_take(&mut log.events, text, Some(Answer::Done))?;
     let ordinal = log.order.len() as u128 + 1;
-    Ok(Txn::begin(
-        alloc,
-        TxId(0x1_0000_0000_0000_0000 + ordinal),
-    ))
+    Ok(Txn::begin(alloc, TxId(0x1_0000_0000_0000_0000 + ordinal)))
 }
 
 // Takes a statement.

@@ -1,11 +1,11 @@
 -- The final rows are those of the plain tables.
-use Rattle.std.proofs.Common.{◌≡◌, ℕ, zero, suc, ◌+◌, Bool, true, false, cond, List, [], ◌∷◌, ◌++◌, length, take, drop, Option, Some, None, refl, sym, ap, subst, ◌∙◌, arith, append_assoc}
-use Rattle.std.specs.Prelude.{map, filter, fold, T, ◌&&◌, unwrap_or, codes, insert as list_insert, take_while}
+use Rattle.std.proofs.Common.{◌≡◌, ℕ, suc, ◌+◌, Bool, true, false, cond, List, [], ◌∷◌, ◌++◌, length, take, drop, Option, Some, None, refl, sym, ap, subst, ◌∙◌, append_assoc}
+use Rattle.std.specs.Prelude.{map, filter, fold, T, ◌&&◌, insert as list_insert, take_while}
 use Rattle.std.specs.FinMap.{get, entries, get-entries, entries_sorted, find}
 use Rattle.std.specs.FinMap.Entries.{is_sorted, below_all, same_entries, find-where_key, is_sorted-where_key, where_key}
 use Rattle.std.specs.List.{AllByRecursion, filter_map, cons_option, prefix_len}
 use Rattle.std.specs.Option.{option_map, option_and_then}
-use Rattle.std.specs.Ordering.{eq_by_cmp, is_eq, is_lt}
+use Rattle.std.specs.Ordering.{eq_by_cmp, is_lt}
 use Rattle.std.specs.declared.cmp.Ordering.{Ordering}
 use Rattle.std.specs.declared.cmp.Ordering.TheVariants.{Less, Equal, Greater}
 use Rattle.std.proofs.lemmas.List.{append-nil}
@@ -13,21 +13,19 @@ use Rattle.std.proofs.Math.Numerals.{one-add}
 use Rattle.sdb_types.specs.declared.key.Key.{Key}
 use Rattle.sdb_types.specs.declared.pair.Pair.{Pair}
 use Rattle.sdb_types.specs.declared.value.Value.{Value}
-use Rattle.sdb_types.specs.declared.record.Record.{Record}
-use Rattle.sdb_types.specs.Order.{key_cmp, table_cmp}
-use Rattle.sdb_types.specs.Contents.{Contents, record_at, record_of, in_span, rows_in}
+use Rattle.sdb_types.specs.Order.{key_cmp}
+use Rattle.sdb_types.specs.Contents.{Contents, record_of, in_span}
 use Rattle.sdb_types.proofs.KeyOrder.{key_total, key_exact}
 use Rattle.sdb_record.specs.declared.access.Image.{Image}
 use Rattle.sdb_record.specs.Rolls.{row_of_image}
 use Rattle.sdb_schema.specs.Order.{row_key_cmp}
-use Rattle.sdb_model.specs.declared.event.TableDump.{TableDump}
 use Rattle.sdb_model.specs.Exec.{Tables, all_rows, is_row_of, row_of_entry, sorted, placed, shown}
 use Rattle.sdb_model.specs.Form.{account_name, account_table}
 use Rattle.sdb_model.specs.Told.{dumps_of}
-use Rattle.sdb_session.specs.Session.{account_key, account_span, account_rows, row_shown, balance_of, first_value}
-use Rattle.sdb_session.proofs.Basics.{by_test, true_false}
+use Rattle.sdb_session.specs.Session.{account_span, account_rows, row_shown, balance_of, first_value}
+use Rattle.sdb_session.proofs.Basics.{by_test}
 use Rattle.sdb_session.proofs.Ids.{same_key}
-use Rattle.sdb_session.proofs.Exec.{catalog, IsAccount, AreAccounts, first_t, second_t, none_below, less_not_equal}
+use Rattle.sdb_session.proofs.Exec.{catalog, IsAccount, AreAccounts, first_t, second_t, none_below}
 use Rattle.sdb_session.proofs.Images.{Agree, in_accounts}
 
 abbrev pub Entry : Type 0
@@ -74,6 +72,7 @@ find_rows q (e ∷ es) h =
     here : eq_by_cmp key_cmp q e.0 ≡ true → find key_cmp q (filter_map row_entry es) ≡ None → (row : Option (List Pair)) → find key_cmp q (cons_option (option_map (λ columns. (e.0, columns)) row) (filter_map row_entry es)) ≡ row
     here t none None = none
     here t none (Some columns) = ap (λ (b : Bool). cond b (Some columns) (find key_cmp q (filter_map row_entry es))) t
+
     passed : eq_by_cmp key_cmp q e.0 ≡ false → (row : Option (List Pair)) → find key_cmp q (cons_option (option_map (λ columns. (e.0, columns)) row) (filter_map row_entry es)) ≡ find key_cmp q (filter_map row_entry es)
     passed t None = refl
     passed t (Some columns) = ap (λ (b : Bool). cond b (Some columns) (find key_cmp q (filter_map row_entry es))) t
@@ -99,11 +98,11 @@ entries_are m d agree =
     let ordered = is_sorted-where_key key_cmp (in_span account_span) (entries m) (entries_sorted m) in
     same_entries key_cmp key_total key_exact (entries d) (filter_map row_entry (account_entries m)) (entries_sorted d) (sorted_rows (account_entries m) ordered)
     (λ q. sym (get-entries d q) ∙ agree.at q ∙ sym (
-      find_rows q (account_entries m) ordered
-      ∙ ap (row_at_key q) (find-where_key key_cmp (in_span account_span) q (λ x t. ap (λ (k : Key). in_span account_span k) (sym (key_exact q x t))) (entries m))
-      ∙ ap (λ (b : Bool). row_at_key q (cond b (find key_cmp q (entries m)) None)) (in_account_span q)
-      ∙ ap (λ (found : Option (List Pair)). row_at_key q (cond (in_accounts q) found None)) (sym (get-entries m q))
-      ∙ same_row q (in_accounts q) (get m q)))
+    find_rows q (account_entries m) ordered
+    ∙ ap (row_at_key q) (find-where_key key_cmp (in_span account_span) q (λ x t. ap (λ (k : Key). in_span account_span k) (sym (key_exact q x t))) (entries m))
+    ∙ ap (λ (b : Bool). row_at_key q (cond b (find key_cmp q (entries m)) None)) (in_account_span q)
+    ∙ ap (λ (found : Option (List Pair)). row_at_key q (cond (in_accounts q) found None)) (sym (get-entries m q))
+    ∙ same_row q (in_accounts q) (get m q)))
 
 ---- in the table's order
 

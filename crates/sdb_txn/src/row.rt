@@ -92,11 +92,7 @@ pub fn row_of_change(change: &Change) -> Result<Option<Columns>, NoMemory>
 }
 
 // A row as an image.
-pub fn images_with(
-    alloc: Global,
-    key: &Key,
-    row: Option<Columns>,
-) -> Result<Images, NoMemory>
+pub fn images_with(alloc: Global, key: &Key, row: Option<Columns>) -> Result<Images, NoMemory>
     ensures { IfOk result (λ images. images ≡ images_with_lem key.now row) }
 {
     let mut images = Images::new(alloc);

@@ -215,12 +215,7 @@ impl Txn {
     }
 
     // Notes what a read found.
-    fn note(
-        &mut self,
-        alloc: Global,
-        key: Key,
-        found: Option<Record>,
-    ) -> Result<Images, NoMemory>
+    fn note(&mut self, alloc: Global, key: Key, found: Option<Record>) -> Result<Images, NoMemory>
         requires unread { is_known self.old key ≡ false }
         requires base { IfSome found (IsBaseOf key) }
         ensures images { IfOk result (λ images. images ≡ images_of key (row_with (write_at self.old.writes key) found)) }
