@@ -1,7 +1,7 @@
 -- One call of a COMMIT more.
-use Rattle.std.proofs.Common.{◌≡◌, ◌⊎◌, ℕ, zero, suc, ◌+◌, ◌-◌, ◌<◌, Bool, true, false, List, [], ◌∷◌, ◌++◌, length, drop, Option, Some, None, refl, sym, ap, subst, ◌∙◌, append_assoc, arith}
+use Rattle.std.proofs.Common.{◌≡◌, ◌<◌, false, List, [], ◌∷◌, ◌++◌, length, drop, Option, Some, None, refl, sym, ap, subst, ◌∙◌, append_assoc, arith}
 use Rattle.std.specs.List.{slice_get}
-use Rattle.std.specs.Prelude.{◌==◌, if◌then◌else◌}
+use Rattle.std.specs.Prelude.{◌==◌}
 use Rattle.std.proofs.lemmas.Bool.Decides.{nat_tests}
 use Rattle.sdb_types.specs.declared.record.Request.{Request}
 use Rattle.sdb_types.specs.declared.record.Reply.{Reply}
@@ -12,7 +12,7 @@ use Rattle.sdb_txn.specs.Commit.{Noted}
 use Rattle.sdb_txn.specs.declared.txn.Progress.{Progress}
 use Rattle.sdb_txn.specs.declared.txn.Stage.{Stage}
 use Rattle.sdb_txn.specs.declared.txn.Stage.TheVariants as stage
-use Rattle.sdb_txn.specs.Txn.{Working, IsWished, IsWishedOf, is_calling, progress_of, advanced, gone_on, committing, at_commit}
+use Rattle.sdb_txn.specs.Txn.{Working, IsWished, IsWishedOf, progress_of, advanced, gone_on, committing, at_commit}
 use Rattle.sdb_session.specs.Session.{call_event, after_all, commit_events, answer_behind, AreWished}
 use Rattle.sdb_app.specs.Calls.{answer_of_progress}
 

@@ -1,9 +1,8 @@
 -- A COMMIT, and the statements of each kind, as the session has them.
-use Rattle.std.proofs.Common.{◌≡◌, ◌∙◌, ℕ, ◌+◌, ◌*◌, ◌^◌, Bool, true, false, List, [], ◌∷◌, ◌++◌, length, Option, Some, None, IfSome, refl, sym, ap, subst, arith, ℤ, pos}
+use Rattle.std.proofs.Common.{◌≡◌, ◌∙◌, ℕ, ◌+◌, List, [], ◌∷◌, ◌++◌, length, Option, Some, None, sym, ap, subst, pos}
 use Rattle.sdb_types.specs.declared.txid.TxId.{TxId}
 use Rattle.sdb_types.specs.declared.record.Request.{Request}
 use Rattle.sdb_types.specs.Contents.{Contents}
-use Rattle.sdb_model.specs.declared.answer.Answer.{Answer}
 use Rattle.sdb_model.specs.declared.answer.Answer.TheVariants as answer
 use Rattle.sdb_model.specs.declared.event.Event.{Event}
 use Rattle.sdb_model.specs.declared.event.Point.{Point}
@@ -13,7 +12,7 @@ use Rattle.sdb_script.specs.declared.account.AccountStatement.TheVariants as acc
 use Rattle.sdb_txn.specs.Commit.{commit_requests}
 use Rattle.sdb_txn.specs.Txn.{Working, begun}
 use Rattle.sdb_txn.specs.declared.txn.Stage.TheVariants.{Committing}
-use Rattle.sdb_session.specs.Session.{Session, session_of, committed_session, begun_session, asked_at_commit, take_event, commit_events, after_all, AreWished}
+use Rattle.sdb_session.specs.Session.{session_of, committed_session, begun_session, asked_at_commit, take_event, commit_events, after_all, AreWished}
 use Rattle.sdb_session.proofs.Basics.{length_more}
 
 -- with its COMMIT taken

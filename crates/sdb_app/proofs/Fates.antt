@@ -1,5 +1,5 @@
 -- A store in memory whose list of failing calls is empty never fails.
-use Rattle.std.proofs.Common.{◌≡◌, ◌⊎◌, ℕ, ◌+◌, ◌-◌, ◌^◌, Bool, true, false, List, [], ◌∷◌, length, refl, sym, ap, subst, ◌∙◌, arith, inl, inr}
+use Rattle.std.proofs.Common.{◌≡◌, ◌⊎◌, ℕ, ◌+◌, ◌-◌, ◌^◌, true, false, List, [], ◌∷◌, length, refl, subst, arith, inl, inr}
 use Rattle.std.specs.Prelude.{nat_lt}
 use Rattle.sdb_types.specs.declared.record.Request.{Request}
 use Rattle.sdb_types.specs.declared.record.Reply.{Reply}
@@ -7,7 +7,7 @@ use Rattle.sdb_types.specs.declared.record.Reply.TheVariants as reply
 use Rattle.sdb_store.specs.declared.fail.Fail.{Fail}
 use Rattle.sdb_store.specs.declared.fail.Fate.TheVariants as fate
 use Rattle.sdb_store.specs.Store.{Answers}
-use Rattle.sdb_store.specs.Fate.{Held, Serves, Starves, ComesOf, fate_of}
+use Rattle.sdb_store.specs.Fate.{Held, Serves, ComesOf, fate_of}
 
 no_fate : (n : ℕ) (failing : List Fail) → length failing ≡ 0 → fate_of n failing ≡ fate.Answers
 no_fate n [] e = elim (nat_lt n (2 ^ 64 - 1)) as (λ b. nat_lt n (2 ^ 64 - 1) ≡ b → fate_of n [] ≡ fate.Answers) [ true ↦ λ t. rw t refl | false ↦ λ t. rw t refl ] refl

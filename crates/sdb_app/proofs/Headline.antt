@@ -1,20 +1,18 @@
 -- A script that was read and played is a run of the headline.
-use Rattle.std.proofs.Common.{◌≡◌, ◌∙◌, ℕ, ◌≤◌, ◌<◌, ◌^◌, Bool, true, false, inl, inr, ◌⊎◌, List, [], ◌∷◌, Option, length, take, refl, sym, ap, subst}
+use Rattle.std.proofs.Common.{◌≡◌, ℕ, ◌≤◌, ◌<◌, ◌^◌, Bool, true, false, inl, inr, List, [], ◌∷◌, Option, length, take, refl, sym, subst}
 use Rattle.std.specs.FinMap.{empty}
 use Rattle.std.specs.Prelude.{map}
-use Rattle.std.specs.List.{list_all}
 use Rattle.sdb_types.specs.Contents.{Contents}
 use Rattle.sdb_types.specs.Bytes.{Appends}
 use Rattle.sdb_model.specs.Form.{client_script}
 use Rattle.sdb_model.specs.Report.{report_text_of}
 use Rattle.sdb_model.specs.Told.{IsRun}
 use Rattle.sdb_model.specs.declared.event.Outcome.{Outcome}
-use Rattle.sdb_model.specs.declared.statement.Statement.TheVariants as statement
-use Rattle.sdb_script.specs.Accounts.{AreTransactions, IsInside, IsFormOf, account_text, statement_of, fits_account}
+use Rattle.sdb_script.specs.Accounts.{AreTransactions, IsFormOf, statement_of}
 use Rattle.sdb_script.specs.declared.account.AccountStatement.{AccountStatement}
 use Rattle.sdb_script.specs.declared.account.AccountStatement.TheVariants as account
 use Rattle.sdb_script.specs.declared.drawing.AccountForm.{AccountForm}
-use Rattle.sdb_session.specs.Session.{Session, shelves_of, outcome_of, taken_all, start, are_taken, may_take, opens}
+use Rattle.sdb_session.specs.Session.{Session, shelves_of, outcome_of, taken_all, start, are_taken}
 use Rattle.sdb_session.proofs.AllStatements.{run_from_empty}
 use Rattle.sdb_app.specs.Run.{IsFormRead, IsPlayed, IsReplayed, IsFrontWritten}
 

@@ -1,15 +1,13 @@
 -- A statement that looks at an account.
-use Rattle.std.proofs.Common.{◌≡◌, ◌∙◌, ℕ, Bool, true, false, cond, List, [], ◌∷◌, ◌++◌, length, Option, Some, None, IfSome, refl, sym, ap, subst, arith, append_assoc, ℤ, pos}
-use Rattle.std.specs.Prelude.{map, is_some, ◌==◌, find as find_by}
+use Rattle.std.proofs.Common.{◌≡◌, ◌∙◌, ℕ, Bool, true, false, cond, List, [], ◌∷◌, ◌++◌, length, Option, Some, None, refl, sym, ap, subst, arith, append_assoc, ℤ}
+use Rattle.std.specs.Prelude.{map, is_some, ◌==◌}
 use Rattle.std.specs.FinMap.{find}
-use Rattle.std.specs.List.{AllByRecursion}
 use Rattle.std.specs.Option.{option_and_then}
 use Rattle.std.specs.Ordering.{eq_by_cmp, is_eq}
 use Rattle.std.specs.Cmp.{tied_itself}
 use Rattle.std.proofs.lemmas.Bool.Decides.{nat_tests}
 use Rattle.sdb_types.specs.declared.key.Key.{Key}
 use Rattle.sdb_types.specs.declared.pair.Pair.{Pair}
-use Rattle.sdb_types.specs.declared.value.Value.{Value}
 use Rattle.sdb_types.specs.declared.record.Record.{Record}
 use Rattle.sdb_types.specs.declared.record.Request.TheVariants as ask
 use Rattle.sdb_types.specs.declared.record.Reply.TheVariants as reply
@@ -21,14 +19,13 @@ use Rattle.sdb_record.specs.declared.write.Write.{Write}
 use Rattle.sdb_record.specs.declared.write.Change.TheVariants as change
 use Rattle.sdb_record.specs.Names.{is_meta, base_name}
 use Rattle.sdb_record.specs.Rolls.{is_change, row_of_change}
-use Rattle.sdb_model.specs.declared.answer.Answer.{Answer}
 use Rattle.sdb_model.specs.declared.event.Event.{Event}
 use Rattle.sdb_model.specs.declared.event.Point.{Point}
 use Rattle.sdb_script.specs.declared.account.AccountStatement.{AccountStatement}
 use Rattle.sdb_script.specs.Accounts.{account_text}
 use Rattle.sdb_txn.specs.Commit.{Noted, write_at}
-use Rattle.sdb_txn.specs.Txn.{Working, is_known, found_at, base_at, row_found, row_with, row_seen, images_with, noted}
-use Rattle.sdb_session.specs.Session.{Session, session_of, looked, reading, answer_to, changed_by, key_read, account_columns, balance_of, rows_shown, ArePuts, look_events, take_event, call_event}
+use Rattle.sdb_txn.specs.Txn.{Working, is_known, found_at, base_at, row_with, row_seen, images_with, noted}
+use Rattle.sdb_session.specs.Session.{session_of, looked, reading, answer_to, changed_by, key_read, account_columns, balance_of, rows_shown, ArePuts, look_events, take_event, call_event}
 
 by_test : {G : Type 0} (t : Bool) → (t ≡ true → G) → (t ≡ false → G) → G
 by_test true a b = a refl

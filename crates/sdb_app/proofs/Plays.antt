@@ -1,7 +1,7 @@
 -- Playing one statement more.
 use Rattle.std.proofs.Common.{◌≡◌, ◌∙◌, ℕ, zero, suc, ◌+◌, ◌<◌, ◌≤◌, ◌^◌, true, false, List, [], ◌∷◌, ◌++◌, length, take, drop, Option, Some, None, refl, sym, ap, subst, arith}
 use Rattle.std.specs.FinMap.{empty}
-use Rattle.std.specs.Prelude.{map, fold}
+use Rattle.std.specs.Prelude.{map}
 use Rattle.std.specs.List.{slice_get, list_all}
 use Rattle.std.specs.Option.{option_map}
 use Rattle.std.proofs.Math.Numerals.{add-one}
@@ -9,7 +9,7 @@ use Rattle.std.proofs.lemmas.List.Sums.{fold-append}
 use Rattle.std.proofs.lemmas.Option.{slice_get-map}
 use Rattle.sdb_script.specs.Accounts.{account_text, fits_account}
 use Rattle.sdb_script.specs.declared.account.AccountStatement.{AccountStatement}
-use Rattle.sdb_session.specs.Session.{Session, start, taken, taken_at, taken_all, are_taken, may_take, is_open, IsReadyAt, IsIdle}
+use Rattle.sdb_session.specs.Session.{Session, start, taken, taken_all, are_taken, may_take, is_open, IsReadyAt, IsIdle}
 use Rattle.sdb_session.proofs.AllStatements.{next_of}
 
 some_is : {A : Type 0} (x y : A) → Some x ≡ Some y → x ≡ y

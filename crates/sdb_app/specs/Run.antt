@@ -1,5 +1,5 @@
 -- What the program promises of one of its runs.
-use Rattle.std.specs.Prelude.{◌≡◌, ◌⊎◌, ℕ, ◌≤◌, ◌<◌, Bool, true, false, List, [], ◌∷◌, length, take, Option, codes}
+use Rattle.std.specs.Prelude.{◌⊎◌, ℕ, ◌≤◌, ◌<◌, Bool, true, false, List, [], ◌∷◌, length, take, Option, codes}
 use Rattle.std.specs.Str.{bytes_eq}
 use Rattle.sdb_types.specs.Bytes.{Takes, Appends, IsAtEnd}
 use Rattle.sdb_model.specs.declared.event.Outcome.{Outcome}

@@ -1,5 +1,5 @@
 -- What was read of an input.
-use Rattle.std.specs.Prelude.{◌≡◌, ℕ, ◌<◌, ◌≤◌, List, length, Option}
+use Rattle.std.specs.Prelude.{ℕ, ◌<◌, ◌≤◌, List, length, Option}
 use Rattle.sdb_types.specs.Bytes.{Takes, IsAtEnd}
 use Rattle.sdb_app.specs.declared.streams.Input.{Input}
 use Rattle.sdb_app.specs.declared.streams.Input.TheVariants as input

@@ -1,10 +1,8 @@
 -- What holds before the first statement holds behind each.
-use Rattle.std.proofs.Common.{◌≡◌, ◌⊎◌, ℕ, zero, suc, ◌+◌, ◌<◌, ◌≤◌, ◌^◌, Bool, true, false, cond, List, [], ◌∷◌, ◌++◌, length, take, Option, Some, None, IfSome, refl, sym, ap, subst, ◌∙◌, arith, inl, inr, append_assoc, pos, length-append}
-use Rattle.std.specs.Prelude.{map, fold, ◌&&◌, is_some}
-use Rattle.std.specs.FinMap.{empty, get-empty, entries, len, len-entries, len-empty}
+use Rattle.std.proofs.Common.{◌≡◌, ℕ, ◌+◌, ◌<◌, ◌^◌, Bool, true, false, cond, List, [], ◌∷◌, ◌++◌, length, Option, Some, None, IfSome, refl, sym, ap, subst, ◌∙◌, arith, append_assoc, pos, length-append}
+use Rattle.std.specs.Prelude.{map, is_some}
+use Rattle.std.specs.FinMap.{empty, get-empty, entries, len-entries, len-empty}
 use Rattle.std.specs.List.{slice_get, AllByRecursion, list_all}
-use Rattle.std.proofs.Math.Numerals.{add-one}
-use Rattle.std.proofs.lemmas.Bool.Decides.{nat_tests}
 use Rattle.sdb_types.specs.declared.pair.Pair.{Pair}
 use Rattle.sdb_types.specs.declared.txid.TxId.{TxId}
 use Rattle.sdb_types.specs.declared.record.Record.{Record}
@@ -16,12 +14,11 @@ use Rattle.sdb_record.specs.declared.write.Write.{Write}
 use Rattle.sdb_record.specs.declared.write.Change.{Change}
 use Rattle.sdb_record.specs.Rolls.{IsBaseOf, row_of_change}
 use Rattle.sdb_model.specs.declared.script.ScriptClient.{ScriptClient}
-use Rattle.sdb_model.specs.declared.statement.Statement.{Statement}
 use Rattle.sdb_model.specs.Exec.{Tables}
 use Rattle.sdb_model.specs.Form.{client_script}
 use Rattle.sdb_model.specs.Transactions.{client_of}
 use Rattle.sdb_model.specs.Told.{IsRun, AreImages}
-use Rattle.sdb_script.specs.Accounts.{account_text, statement_of, fits_account}
+use Rattle.sdb_script.specs.Accounts.{account_text, fits_account}
 use Rattle.sdb_script.specs.declared.account.AccountStatement.{AccountStatement}
 use Rattle.sdb_script.specs.declared.account.AccountStatement.TheVariants as account
 use Rattle.sdb_txn.specs.Commit.{Noted}
@@ -38,7 +35,7 @@ use Rattle.sdb_session.proofs.Works.{works_none}
 use Rattle.sdb_session.proofs.Folds.{traced_none}
 use Rattle.sdb_session.proofs.Exec.{catalog, AreAccounts, IsAccount}
 use Rattle.sdb_session.proofs.Images.{Settled, Agree, in_accounts, AreInserts, images_agree}
-use Rattle.sdb_session.proofs.Stands.{Past, Closed, Opened, Stands, StandsAt, row_of}
+use Rattle.sdb_session.proofs.Stands.{Closed, Stands, StandsAt, row_of}
 use Rattle.sdb_session.proofs.Steps.{step_begin, step_look, look_idle}
 use Rattle.sdb_session.proofs.Commits.{step_commit, no_row}
 use Rattle.sdb_session.proofs.Run.{nothing_at, stands_run, stands_told}

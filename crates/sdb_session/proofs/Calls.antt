@@ -1,6 +1,6 @@
 -- The calls of a COMMIT: each is answered as it is wished, and what they leave.
-use Rattle.std.proofs.Common.{◌≡◌, ◌⊎◌, ℕ, zero, suc, ◌+◌, ◌<◌, ◌^◌, Bool, true, false, cond, List, [], ◌∷◌, ◌++◌, length, Option, Some, None, IfSome, refl, sym, ap, subst, ◌∙◌, arith, ℤ, pos, append_assoc}
-use Rattle.std.specs.Prelude.{◌==◌, map, filter, not, is_some, ◌||◌, ◌&&◌}
+use Rattle.std.proofs.Common.{◌≡◌, ℕ, ◌+◌, ◌<◌, ◌^◌, Bool, true, false, cond, List, [], ◌∷◌, ◌++◌, length, Option, Some, None, refl, sym, ap, subst, ◌∙◌, arith, ℤ, pos, append_assoc}
+use Rattle.std.specs.Prelude.{◌==◌, map, ◌||◌, ◌&&◌}
 use Rattle.std.specs.FinMap.{insert}
 use Rattle.std.specs.List.{AllByRecursion}
 use Rattle.std.specs.Ordering.{is_eq}
@@ -23,8 +23,7 @@ use Rattle.sdb_types.specs.TxId.{id_text}
 use Rattle.sdb_types.specs.Exact.{equal_of}
 use Rattle.sdb_types.specs.ValueLaws.{value_exact}
 use Rattle.sdb_types.specs.Order.{value_cmp}
-use Rattle.sdb_types.specs.Contents.{Contents, record_at, reply_to, after, holds, is_version, has_value, tx_id, tx_state, state_number}
-use Rattle.sdb_types.proofs.Bools.{and_first, and_second}
+use Rattle.sdb_types.specs.Contents.{Contents, record_at, reply_to, after, holds, is_version, has_value, tx_id, tx_state}
 use Rattle.sdb_record.specs.declared.write.Write.{Write}
 use Rattle.sdb_record.specs.declared.write.Change.{Change}
 use Rattle.sdb_record.specs.declared.write.Change.TheVariants as change
@@ -48,7 +47,7 @@ use Rattle.sdb_session.specs.Session.{call_event, commit_events, answer_behind, 
 use Rattle.sdb_session.proofs.Basics.{some_is, by_test, true_false, length_more}
 use Rattle.sdb_session.proofs.Works.{Works, works_call}
 use Rattle.sdb_session.proofs.Folds.{said_more, prepare_more, Traced, traced_call}
-use Rattle.sdb_session.proofs.Puts.{put_all, Stand, stand_insert, stand_put, AreDistinct}
+use Rattle.sdb_session.proofs.Puts.{put_all, Stand, stand_insert, AreDistinct}
 
 -- each call is answered as it is wished, one after the other
 abbrev pub Goes : List Noted → List Request → Contents → Contents → Type 0

@@ -1,31 +1,29 @@
 -- What a transaction has written, and the rows that it sees.
-use Rattle.std.proofs.Common.{◌≡◌, ℕ, Bool, true, false, cond, List, [], ◌∷◌, ◌++◌, length, Option, Some, None, IfSome, refl, sym, ap, subst, ◌∙◌, arith, ℤ, pos, append_assoc, ◌+◌}
-use Rattle.std.specs.FinMap.{insert, get, get-insert, find}
+use Rattle.std.proofs.Common.{◌≡◌, Bool, true, false, cond, List, [], ◌∷◌, ◌++◌, Option, Some, None, refl, sym, ap, subst, ◌∙◌, pos, append_assoc}
+use Rattle.std.specs.FinMap.{get, get-insert}
 use Rattle.std.specs.List.{AllByRecursion}
 use Rattle.std.specs.Option.{option_and_then}
 use Rattle.std.specs.Ordering.{eq_by_cmp}
-use Rattle.std.specs.Prelude.{is_some, not, filter, map}
+use Rattle.std.specs.Prelude.{is_some, not, filter}
 use Rattle.sdb_types.specs.declared.key.Key.{Key}
 use Rattle.sdb_types.specs.declared.pair.Pair.{Pair}
 use Rattle.sdb_types.specs.declared.txid.TxId.{TxId}
 use Rattle.sdb_types.specs.declared.record.Record.{Record}
-use Rattle.sdb_types.specs.declared.record.Request.{Request}
 use Rattle.sdb_types.specs.Order.{key_cmp}
 use Rattle.sdb_types.specs.Contents.{Contents, record_at, holds}
 use Rattle.sdb_types.proofs.KeyOrder.{key_total}
 use Rattle.sdb_record.specs.declared.write.Write.{Write}
 use Rattle.sdb_record.specs.declared.write.Change.{Change}
-use Rattle.sdb_record.specs.declared.write.Change.TheVariants as change
 use Rattle.sdb_record.specs.Coordinator.{coordinator_key_of}
 use Rattle.sdb_record.specs.Moved.{condition_of, version_of}
-use Rattle.sdb_record.specs.Rolls.{row_of_image, row_of_change}
+use Rattle.sdb_record.specs.Rolls.{row_of_change}
 use Rattle.sdb_model.specs.Exec.{Tables}
-use Rattle.sdb_txn.specs.Commit.{Noted, write_at, only_read, commit_requests, prepare_of, extra_read, decide_of, forward_of}
+use Rattle.sdb_txn.specs.Commit.{Noted, write_at, commit_requests}
 use Rattle.sdb_txn.specs.Txn.{found_at, base_at, row_found, row_with}
 use Rattle.sdb_session.proofs.Basics.{by_test, true_false, some_is, not_none}
-use Rattle.sdb_session.proofs.Ids.{same_key, tied_same, account_apart, row_apart}
+use Rattle.sdb_session.proofs.Ids.{same_key, tied_same, account_apart}
 use Rattle.sdb_session.proofs.Puts.{IsApart, AreDistinct, Stand, put_all, put_apart, stand_put, stand_insert, apart_turned, base_holds}
-use Rattle.sdb_session.proofs.Calls.{Goes, goes_commit, to_prepare, left_by_commit, decided, prepare_key}
+use Rattle.sdb_session.proofs.Calls.{Goes, goes_commit, to_prepare, left_by_commit, prepare_key}
 use Rattle.sdb_session.proofs.Images.{AreInserts, IsInsert, insert_table, rows_apart, put_row, with_writes}
 
 ---- lists with one more

@@ -1,19 +1,18 @@
 -- A COMMIT keeps what holds of the run.
-use Rattle.std.proofs.Common.{◌≡◌, ◌⊎◌, ℕ, zero, suc, ◌+◌, ◌*◌, ◌<◌, ◌≤◌, ◌^◌, Bool, true, false, cond, List, [], ◌∷◌, ◌++◌, length, Option, Some, None, IfSome, refl, sym, ap, subst, ◌∙◌, arith, append_assoc, length-append, ℤ, pos}
-use Rattle.std.specs.Prelude.{map, filter, ◌==◌, unwrap_or, not, is_some}
-use Rattle.std.specs.FinMap.{get, insert}
-use Rattle.std.specs.List.{AllByRecursion, slice_get}
+use Rattle.std.proofs.Common.{◌≡◌, ℕ, suc, ◌+◌, ◌*◌, ◌<◌, ◌^◌, Bool, true, false, cond, List, [], ◌∷◌, ◌++◌, length, Option, Some, None, refl, sym, ap, subst, ◌∙◌, arith, append_assoc, length-append, pos}
+use Rattle.std.specs.Prelude.{map, unwrap_or}
+use Rattle.std.specs.FinMap.{insert}
+use Rattle.std.specs.List.{slice_get}
 use Rattle.std.specs.Ordering.{eq_by_cmp}
 use Rattle.std.proofs.lemmas.List.{append-nil, map-append, length-map}
 use Rattle.sdb_types.specs.declared.key.Key.{Key}
 use Rattle.sdb_types.specs.declared.txid.TxId.{TxId}
-use Rattle.sdb_types.specs.declared.record.Record.{Record}
 use Rattle.sdb_types.specs.declared.record.Request.{Request}
 use Rattle.sdb_types.specs.Order.{key_cmp}
-use Rattle.sdb_types.specs.Contents.{Contents, record_at, record_of}
+use Rattle.sdb_types.specs.Contents.{Contents, record_at}
 use Rattle.sdb_record.specs.declared.write.Write.{Write}
 use Rattle.sdb_record.specs.declared.coordinator.Decision.TheVariants as decision
-use Rattle.sdb_record.specs.Coordinator.{coordinator_key_of, coordinator_row_of}
+use Rattle.sdb_record.specs.Coordinator.{coordinator_key_of}
 use Rattle.sdb_record.proofs.ImageLaws.{row-key}
 use Rattle.sdb_model.specs.declared.answer.Answer.{Answer}
 use Rattle.sdb_model.specs.declared.answer.Answer.TheVariants as answer
@@ -22,25 +21,25 @@ use Rattle.sdb_model.specs.declared.event.Point.{Point}
 use Rattle.sdb_model.specs.declared.script.ScriptClient.{ScriptClient}
 use Rattle.sdb_model.specs.declared.statement.Statement.{Statement}
 use Rattle.sdb_model.specs.Exec.{Tables}
-use Rattle.sdb_model.specs.Transactions.{Said, begins, id_of, client_of, last_prepare}
+use Rattle.sdb_model.specs.Transactions.{Said, id_of, client_of, last_prepare}
 use Rattle.sdb_model.specs.Told.{serial, run_body}
 use Rattle.sdb_script.specs.declared.account.AccountStatement.TheVariants as account
 use Rattle.sdb_script.specs.Accounts.{account_text}
 use Rattle.sdb_txn.specs.Commit.{Noted, only_read, prepare_of, extra_read, decide_of, forward_of, commit_requests}
 use Rattle.sdb_txn.specs.Txn.{Working}
 use Rattle.sdb_session.specs.Session.{Session, take_event, after_all, commit_events, asked_at_commit, committed_session, point_of}
-use Rattle.sdb_session.proofs.Basics.{by_test, true_false, some_is, length_more}
+use Rattle.sdb_session.proofs.Basics.{by_test, true_false, length_more}
 use Rattle.sdb_session.proofs.Ids.{is_own, own_is, not_own, own_more, own_client, own_small, same_row, tied_same}
 use Rattle.sdb_session.proofs.Puts.{at_other, at_key, put_apart, put_all}
 use Rattle.sdb_session.proofs.Exec.{catalog}
 use Rattle.sdb_session.proofs.Calls.{Goes, goes_left, decided, to_prepare, to_forward, left_by_commit, passed_by, prepared_last, last_of, behind_prepares, others_pass}
 use Rattle.sdb_session.proofs.Saids.{Finished, IsFinished, saids_of}
-use Rattle.sdb_session.proofs.Orders.{order_of, AllFrom, all_more, all_turned, IsChain, last_answered, chain_more, last_more}
+use Rattle.sdb_session.proofs.Orders.{order_of, AllFrom, all_more, all_turned, chain_more, last_more}
 use Rattle.sdb_session.proofs.Images.{Settled, Agree, AreInserts, with_writes, rows_apart, commit_settled, commit_agrees}
 use Rattle.sdb_session.proofs.Changes.{commit_goes}
-use Rattle.sdb_session.proofs.Heard.{Heard, heard_take, said_by, answered_by, heard_commit, calls_length, Quiet, quiet_take}
+use Rattle.sdb_session.proofs.Heard.{Heard, heard_take, said_by, answered_by, heard_commit, calls_length, quiet_take}
 use Rattle.sdb_session.proofs.Texts.{commit_begins_not, commit_commits}
-use Rattle.sdb_session.proofs.Stands.{Past, Closed, Opened, row_of, row_after}
+use Rattle.sdb_session.proofs.Stands.{Closed, Opened, row_of, row_after}
 
 ---- how many calls
 

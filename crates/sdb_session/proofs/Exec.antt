@@ -1,9 +1,9 @@
 -- What a statement on an account answers and leaves on plain tables.
-use Rattle.std.proofs.Common.{◌≡◌, ℕ, Bool, true, false, cond, List, [], ◌∷◌, ◌++◌, length, Option, Some, None, refl, sym, ap, subst, ◌∙◌, arith, ℤ, pos}
+use Rattle.std.proofs.Common.{◌≡◌, Bool, true, false, cond, List, [], ◌∷◌, Option, Some, None, refl, sym, ap, subst, ◌∙◌, ℤ}
 use Rattle.std.specs.Prelude.{map, filter, is_some, ◌&&◌, codes, T}
 use Rattle.std.specs.FinMap.{get, insert, entries, get-entries, entries-insert, entries_sorted, find}
 use Rattle.std.specs.FinMap.Entries.{put, is_sorted, below_all, by_order}
-use Rattle.std.specs.List.{list_all, AllByRecursion}
+use Rattle.std.specs.List.{AllByRecursion}
 use Rattle.std.specs.Ordering.{eq_by_cmp, is_eq, is_lt, int_cmp}
 use Rattle.std.specs.Cmp.{int_cmp_total}
 use Rattle.std.specs.declared.cmp.Ordering.{Ordering}
@@ -12,9 +12,8 @@ use Rattle.sdb_types.specs.declared.key.Key.{Key}
 use Rattle.sdb_types.specs.declared.pair.Pair.{Pair}
 use Rattle.sdb_types.specs.declared.value.Value.{Value}
 use Rattle.sdb_types.specs.declared.value.Value.TheVariants as value
-use Rattle.sdb_types.specs.Order.{key_cmp, value_cmp}
+use Rattle.sdb_types.specs.Order.{key_cmp}
 use Rattle.sdb_types.proofs.KeyOrder.{key_total}
-use Rattle.sdb_types.proofs.Bools.{and_first, and_second, and_both}
 use Rattle.sdb_record.specs.declared.access.Image.{Image}
 use Rattle.sdb_schema.specs.declared.table.Table.{Table}
 use Rattle.sdb_model.specs.declared.answer.Answer.{Answer}
@@ -23,16 +22,15 @@ use Rattle.sdb_model.specs.declared.statement.Comparison.TheVariants.{Eq}
 use Rattle.sdb_model.specs.declared.statement.Test.{Test}
 use Rattle.sdb_model.specs.declared.statement.Test.TheVariants.{Compare}
 use Rattle.sdb_model.specs.Rows.{fits_int}
-use Rattle.sdb_model.specs.Exec.{Tables, exec, all_rows, passes, row_of_entry, sorted, shown}
-use Rattle.sdb_model.specs.Form.{account_name, account_table, insert_of}
-use Rattle.sdb_script.specs.Accounts.{select_of, fits_account, statement_of}
+use Rattle.sdb_model.specs.Exec.{Tables, exec, passes, row_of_entry, sorted, shown}
+use Rattle.sdb_model.specs.Form.{account_table, insert_of}
+use Rattle.sdb_script.specs.Accounts.{select_of}
 use Rattle.sdb_script.specs.declared.account.AccountStatement.{AccountStatement}
 use Rattle.sdb_script.specs.declared.account.AccountStatement.TheVariants as account
 use Rattle.sdb_txn.specs.Txn.{images_with}
-use Rattle.sdb_session.specs.Session.{account_key, account_columns, answer_to, rows_shown, balance_of, key_read}
-use Rattle.sdb_session.proofs.Basics.{by_test, true_false}
-use Rattle.sdb_session.proofs.Ids.{same_key, tied_same}
-use Rattle.sdb_session.proofs.Puts.{apart_turned}
+use Rattle.sdb_session.specs.Session.{account_key, account_columns, answer_to, rows_shown}
+use Rattle.sdb_session.proofs.Basics.{by_test}
+use Rattle.sdb_session.proofs.Ids.{same_key}
 
 abbrev pub catalog : List Table
 catalog = account_table ∷ []

@@ -1,19 +1,16 @@
 -- What a list of events says, with one event more.
-use Rattle.std.proofs.Common.{◌≡◌, ◌⊎◌, ℕ, zero, suc, ◌+◌, Bool, true, false, cond, List, [], ◌∷◌, ◌++◌, length, Option, Some, None, refl, sym, ap, subst, ◌∙◌, inl, arith}
+use Rattle.std.proofs.Common.{◌≡◌, ℕ, ◌+◌, cond, List, [], ◌∷◌, ◌++◌, length, Option, Some, None, refl, sym, ap, subst, ◌∙◌, inl}
 use Rattle.std.specs.Prelude.{fold}
-use Rattle.std.specs.List.{enumerate_from}
 use Rattle.std.proofs.lemmas.List.Sums.{fold-append}
 use Rattle.sdb_types.specs.declared.txid.TxId.{TxId}
 use Rattle.sdb_types.specs.declared.record.Request.{Request}
 use Rattle.sdb_types.specs.declared.record.Reply.{Reply}
-use Rattle.sdb_types.specs.declared.record.Reply.TheVariants as reply
 use Rattle.sdb_types.specs.Contents.{Contents, reply_to, after}
 use Rattle.sdb_model.specs.declared.answer.Answer.{Answer}
 use Rattle.sdb_model.specs.declared.event.Event.{Event}
 use Rattle.sdb_model.specs.declared.event.How.TheVariants as How
-use Rattle.sdb_model.specs.declared.script.Place.{Place}
-use Rattle.sdb_model.specs.Events.{Shelf, Effect, IsTrace, IsCall, table_asked}
-use Rattle.sdb_model.specs.Transactions.{Said, said, said_after, numbered, last_prepare, is_prepared_by}
+use Rattle.sdb_model.specs.Events.{Shelf, Effect, IsTrace, IsCall}
+use Rattle.sdb_model.specs.Transactions.{said, said_after, numbered, last_prepare, is_prepared_by}
 use Rattle.sdb_session.specs.Session.{take_event, call_event, shelves_of, store_name}
 use Rattle.sdb_session.proofs.Basics.{enumerate_more}
 

@@ -1,5 +1,5 @@
 -- The ids of one client's transactions, and the keys of their coordinator rows.
-use Rattle.std.proofs.Common.{◌≡◌, ◌⊎◌, ℕ, zero, suc, ◌+◌, ◌*◌, ◌/◌, ◌%◌, ◌<◌, ◌≤◌, ◌^◌, Bool, true, false, cond, List, [], ◌∷◌, Option, Some, None, refl, sym, ap, subst, ◌∙◌, arith}
+use Rattle.std.proofs.Common.{◌≡◌, ℕ, ◌+◌, ◌*◌, ◌<◌, ◌≤◌, ◌^◌, Bool, true, false, List, [], ◌∷◌, Some, refl, sym, ap, subst, ◌∙◌, arith}
 use Rattle.std.specs.Prelude.{◌==◌, ◌&&◌, nat_le}
 use Rattle.std.specs.Ordering.{eq_by_cmp, is_eq}
 use Rattle.std.specs.Cmp.{tied_itself}
@@ -17,7 +17,7 @@ use Rattle.sdb_record.specs.Ids.{id_of_text}
 use Rattle.sdb_record.proofs.IdLemmas.{id_of_text-id_text}
 use Rattle.sdb_model.specs.Form.{account_name}
 use Rattle.sdb_model.specs.Transactions.{id_of, client_of, ordinal_of}
-use Rattle.sdb_session.proofs.Basics.{some_is, by_test, true_false}
+use Rattle.sdb_session.proofs.Basics.{some_is, by_test}
 
 pub same_id : (a b : TxId) → a.0 ≡ b.0 → a ≡ b
 same_id a b e = λ i. record { 0 = e i }

@@ -1,12 +1,11 @@
 -- The images of what a store holds, and what a COMMIT makes of them.
-use Rattle.std.proofs.Common.{◌≡◌, ℕ, Bool, true, false, cond, List, [], ◌∷◌, ◌++◌, length, Option, Some, None, IfSome, refl, sym, ap, subst, ◌∙◌, arith, ℤ, pos, ◌<◌, ◌^◌}
+use Rattle.std.proofs.Common.{◌≡◌, Bool, true, false, cond, List, [], ◌∷◌, Option, Some, None, IfSome, refl, sym, ap, subst, ◌∙◌, ℤ, pos, ◌<◌, ◌^◌}
 use Rattle.std.specs.FinMap.{insert, get, get-insert}
 use Rattle.std.specs.List.{AllByRecursion}
 use Rattle.std.specs.Option.{option_and_then}
 use Rattle.std.specs.Ordering.{eq_by_cmp, is_eq}
 use Rattle.std.specs.Prelude.{is_some}
 use Rattle.sdb_types.specs.declared.key.Key.{Key}
-use Rattle.sdb_types.specs.declared.key.TableName.{TableName}
 use Rattle.sdb_types.specs.declared.pair.Pair.{Pair}
 use Rattle.sdb_types.specs.declared.txid.TxId.{TxId}
 use Rattle.sdb_types.specs.declared.record.Record.{Record}
@@ -22,18 +21,18 @@ use Rattle.sdb_record.specs.declared.coordinator.Decision.TheVariants as decisio
 use Rattle.sdb_record.specs.Coordinator.{coordinator_key_of, coordinator_row_of}
 use Rattle.sdb_record.specs.Meta.{is_in, is_taken, is_moment}
 use Rattle.sdb_record.specs.Names.{is_meta, base_name}
-use Rattle.sdb_record.specs.Rolls.{IsBaseOf, IsWrite, is_change, image_of, row_of_image, row_of_change, prepared_record, forward_record}
+use Rattle.sdb_record.specs.Rolls.{IsBaseOf, IsWrite, is_change, image_of, row_of_image, row_of_change, prepared_record}
 use Rattle.sdb_record.proofs.RollLaws.{forward-committed, forward-taken}
 use Rattle.sdb_record.proofs.ImageLaws.{prepared-unresolved, forward-prepared-row, image-settled}
-use Rattle.sdb_model.specs.Exec.{Tables, find_table}
+use Rattle.sdb_model.specs.Exec.{Tables}
 use Rattle.sdb_model.specs.Form.{account_name, account_table}
-use Rattle.sdb_model.specs.Images.{decision_on, image_at, row_at}
+use Rattle.sdb_model.specs.Images.{decision_on, row_at}
 use Rattle.sdb_model.specs.Told.{AreImages}
 use Rattle.sdb_txn.specs.Txn.{row_found}
 use Rattle.sdb_session.specs.Session.{account_key, account_columns, shelves_of}
-use Rattle.sdb_session.proofs.Basics.{by_test, true_false}
-use Rattle.sdb_session.proofs.Ids.{same_key, row_apart, account_apart, tied_same}
-use Rattle.sdb_session.proofs.Puts.{at_other, at_same, IsApart, put_all, put_apart}
+use Rattle.sdb_session.proofs.Basics.{by_test}
+use Rattle.sdb_session.proofs.Ids.{same_key, row_apart, account_apart}
+use Rattle.sdb_session.proofs.Puts.{at_other, IsApart, put_all, put_apart}
 use Rattle.sdb_session.proofs.Calls.{to_prepare, to_forward, decided, left_by_commit}
 use Rattle.sdb_session.proofs.Exec.{catalog}
 

@@ -1,19 +1,15 @@
 -- The order of one client's transactions.
-use Rattle.std.proofs.Common.{◌≡◌, ◌⊎◌, ℕ, zero, suc, ◌+◌, ◌<◌, ◌≤◌, ◌^◌, Bool, true, false, cond, List, [], ◌∷◌, ◌++◌, length, Option, Some, None, refl, sym, ap, subst, ◌∙◌, arith, append_assoc}
-use Rattle.std.specs.Prelude.{map, All, Contains, slice_index, slice_index_or, IsSome, unwrap_or}
+use Rattle.std.proofs.Common.{◌≡◌, ℕ, zero, suc, ◌+◌, ◌<◌, ◌≤◌, List, [], ◌∷◌, ◌++◌, length, Some, refl, sym, ap, subst, ◌∙◌, arith, append_assoc}
+use Rattle.std.specs.Prelude.{map, All, Contains, slice_index}
 use Rattle.std.specs.List.{AllByRecursion}
 use Rattle.std.specs.List.Sorted.{IsStrictlyIncreasing}
-use Rattle.std.specs.Option.{option_map_or}
-use Rattle.std.proofs.Math.Numerals.{one-add, add-one}
+use Rattle.std.proofs.Math.Numerals.{add-one}
 use Rattle.sdb_types.specs.declared.txid.TxId.{TxId}
-use Rattle.sdb_model.specs.declared.answer.Answer.{Answer}
 use Rattle.sdb_model.specs.declared.event.Event.{Event}
 use Rattle.sdb_model.specs.declared.event.Point.{Point}
-use Rattle.sdb_model.specs.declared.statement.Statement.{Statement}
-use Rattle.sdb_model.specs.Transactions.{Said, id_of, commit_of, body, point, last_prepare}
+use Rattle.sdb_model.specs.Transactions.{Said, id_of}
 use Rattle.sdb_model.specs.Told.{AreRead, AreBodies, answers_told, StandsBefore}
-use Rattle.sdb_session.proofs.Basics.{some_is, by_test, true_false, length_more}
-use Rattle.sdb_session.proofs.Ids.{Own, is_own, own_says, id_parts}
+use Rattle.sdb_session.proofs.Basics.{some_is, length_more}
 use Rattle.sdb_session.proofs.Saids.{Finished, IsFinished, AreFinished, finished_at, Parts}
 
 -- the points of transactions, the first with this ordinal

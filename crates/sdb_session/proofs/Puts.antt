@@ -1,10 +1,10 @@
 -- What a store holds after the puts of a COMMIT.
-use Rattle.std.proofs.Common.{◌≡◌, ℕ, Bool, true, false, cond, List, [], ◌∷◌, ◌++◌, length, Option, Some, None, IfSome, refl, sym, ap, subst, ◌∙◌, arith, ℤ, pos, ◌<◌, ◌^◌}
-use Rattle.std.specs.FinMap.{insert, get, get-insert}
+use Rattle.std.proofs.Common.{◌≡◌, ℕ, true, false, List, [], ◌∷◌, Option, Some, None, IfSome, refl, sym, ap, subst, ◌∙◌}
+use Rattle.std.specs.FinMap.{insert, get-insert}
 use Rattle.std.specs.List.{AllByRecursion}
 use Rattle.std.specs.Ordering.{eq_by_cmp, is_eq}
 use Rattle.std.specs.Cmp.{tied_itself}
-use Rattle.std.specs.Prelude.{is_ok, ◌&&◌, Result, Ok, Err}
+use Rattle.std.specs.Prelude.{is_ok, Result, Ok, Err}
 use Rattle.sdb_types.specs.declared.key.Key.{Key}
 use Rattle.sdb_types.specs.declared.pair.Pair.{Pair}
 use Rattle.sdb_types.specs.declared.txid.TxId.{TxId}
@@ -16,19 +16,18 @@ use Rattle.sdb_types.specs.Columns.{column}
 use Rattle.sdb_types.specs.Order.{key_cmp}
 use Rattle.sdb_types.specs.TxId.{id_text}
 use Rattle.sdb_types.specs.ValueLaws.{value_total}
-use Rattle.sdb_types.specs.Contents.{Contents, record_at, record_of, holds, is_version, has_value, tx_id}
+use Rattle.sdb_types.specs.Contents.{Contents, record_at, record_of, holds, has_value, tx_id}
 use Rattle.sdb_types.proofs.KeyOrder.{key_total}
-use Rattle.sdb_types.proofs.Bools.{and_first, and_second, and_both}
+use Rattle.sdb_types.proofs.Bools.{and_second, and_both}
 use Rattle.sdb_record.specs.declared.meta.Meta.{Meta}
 use Rattle.sdb_record.specs.declared.write.Write.{Write}
-use Rattle.sdb_record.specs.Ids.{id_of_text}
-use Rattle.sdb_record.specs.Meta.{checked, id_in, id_in_value, is_in, is_taken}
+use Rattle.sdb_record.specs.Meta.{checked, id_in, id_in_value, is_in}
 use Rattle.sdb_record.specs.Parts.{are_stored}
 use Rattle.sdb_record.specs.Moved.{condition_of, version_of}
 use Rattle.sdb_record.specs.Rolls.{IsBaseOf}
 use Rattle.sdb_record.proofs.Fine.{taken}
 use Rattle.sdb_record.proofs.IdLemmas.{id_of_text-is}
-use Rattle.sdb_session.proofs.Basics.{by_test, some_is, true_false}
+use Rattle.sdb_session.proofs.Basics.{by_test, true_false}
 use Rattle.sdb_session.proofs.Ids.{tied_same, same_key}
 
 ---- single puts

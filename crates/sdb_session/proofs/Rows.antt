@@ -1,11 +1,11 @@
 -- The final rows are those of the plain tables.
-use Rattle.std.proofs.Common.{◌≡◌, ℕ, zero, suc, ◌+◌, Bool, true, false, cond, List, [], ◌∷◌, ◌++◌, length, take, drop, Option, Some, None, refl, sym, ap, subst, ◌∙◌, arith, append_assoc}
-use Rattle.std.specs.Prelude.{map, filter, fold, T, ◌&&◌, unwrap_or, codes, insert as list_insert, take_while}
+use Rattle.std.proofs.Common.{◌≡◌, ℕ, suc, ◌+◌, Bool, true, false, cond, List, [], ◌∷◌, ◌++◌, length, take, drop, Option, Some, None, refl, sym, ap, subst, ◌∙◌, append_assoc}
+use Rattle.std.specs.Prelude.{map, filter, fold, T, ◌&&◌, insert as list_insert, take_while}
 use Rattle.std.specs.FinMap.{get, entries, get-entries, entries_sorted, find}
 use Rattle.std.specs.FinMap.Entries.{is_sorted, below_all, same_entries, find-where_key, is_sorted-where_key, where_key}
 use Rattle.std.specs.List.{AllByRecursion, filter_map, cons_option, prefix_len}
 use Rattle.std.specs.Option.{option_map, option_and_then}
-use Rattle.std.specs.Ordering.{eq_by_cmp, is_eq, is_lt}
+use Rattle.std.specs.Ordering.{eq_by_cmp, is_lt}
 use Rattle.std.specs.declared.cmp.Ordering.{Ordering}
 use Rattle.std.specs.declared.cmp.Ordering.TheVariants.{Less, Equal, Greater}
 use Rattle.std.proofs.lemmas.List.{append-nil}
@@ -13,21 +13,19 @@ use Rattle.std.proofs.Math.Numerals.{one-add}
 use Rattle.sdb_types.specs.declared.key.Key.{Key}
 use Rattle.sdb_types.specs.declared.pair.Pair.{Pair}
 use Rattle.sdb_types.specs.declared.value.Value.{Value}
-use Rattle.sdb_types.specs.declared.record.Record.{Record}
-use Rattle.sdb_types.specs.Order.{key_cmp, table_cmp}
-use Rattle.sdb_types.specs.Contents.{Contents, record_at, record_of, in_span, rows_in}
+use Rattle.sdb_types.specs.Order.{key_cmp}
+use Rattle.sdb_types.specs.Contents.{Contents, record_of, in_span}
 use Rattle.sdb_types.proofs.KeyOrder.{key_total, key_exact}
 use Rattle.sdb_record.specs.declared.access.Image.{Image}
 use Rattle.sdb_record.specs.Rolls.{row_of_image}
 use Rattle.sdb_schema.specs.Order.{row_key_cmp}
-use Rattle.sdb_model.specs.declared.event.TableDump.{TableDump}
 use Rattle.sdb_model.specs.Exec.{Tables, all_rows, is_row_of, row_of_entry, sorted, placed, shown}
 use Rattle.sdb_model.specs.Form.{account_name, account_table}
 use Rattle.sdb_model.specs.Told.{dumps_of}
-use Rattle.sdb_session.specs.Session.{account_key, account_span, account_rows, row_shown, balance_of, first_value}
-use Rattle.sdb_session.proofs.Basics.{by_test, true_false}
+use Rattle.sdb_session.specs.Session.{account_span, account_rows, row_shown, balance_of, first_value}
+use Rattle.sdb_session.proofs.Basics.{by_test}
 use Rattle.sdb_session.proofs.Ids.{same_key}
-use Rattle.sdb_session.proofs.Exec.{catalog, IsAccount, AreAccounts, first_t, second_t, none_below, less_not_equal}
+use Rattle.sdb_session.proofs.Exec.{catalog, IsAccount, AreAccounts, first_t, second_t, none_below}
 use Rattle.sdb_session.proofs.Images.{Agree, in_accounts}
 
 abbrev pub Entry : Type 0

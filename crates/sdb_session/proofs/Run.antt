@@ -1,6 +1,6 @@
 -- What holds after all statements is a run of the headline.
-use Rattle.std.proofs.Common.{◌≡◌, ◌⊎◌, ℕ, zero, suc, ◌+◌, ◌-◌, ◌<◌, ◌≤◌, ◌^◌, Bool, true, false, cond, List, [], ◌∷◌, ◌++◌, length, Option, Some, None, IfSome, refl, sym, ap, subst, ◌∙◌, arith, ℤ, pos, inl, inr}
-use Rattle.std.specs.Prelude.{map, nat_lt, ◌==◌, unwrap_or, is_some, IsSome, IsSomeAnd, All, Contains, ◌↔◌}
+use Rattle.std.proofs.Common.{◌≡◌, ℕ, zero, suc, ◌+◌, ◌-◌, ◌<◌, ◌≤◌, ◌^◌, Bool, true, false, cond, List, [], ◌∷◌, length, Option, Some, None, refl, sym, ap, subst, ◌∙◌, arith, pos, inl}
+use Rattle.std.specs.Prelude.{map, nat_lt, ◌==◌, unwrap_or, is_some, IsSome, IsSomeAnd, Contains}
 use Rattle.std.specs.FinMap.{empty, get-empty}
 use Rattle.std.specs.Option.{option_and_then, option_map_or}
 use Rattle.std.specs.Result.{result_ok}
@@ -16,28 +16,25 @@ use Rattle.sdb_record.specs.Coordinator.{coordinator_key_of, decision_in}
 use Rattle.sdb_record.proofs.ImageLaws.{row-decision}
 use Rattle.sdb_model.specs.declared.answer.Answer.{Answer}
 use Rattle.sdb_model.specs.declared.answer.Answer.TheVariants as answer
-use Rattle.sdb_model.specs.declared.event.Event.{Event}
 use Rattle.sdb_model.specs.declared.event.Point.{Point}
 use Rattle.sdb_model.specs.declared.script.ScriptClient.{ScriptClient}
-use Rattle.sdb_model.specs.declared.statement.Statement.{Statement}
-use Rattle.sdb_model.specs.Events.{IsTrace}
 use Rattle.sdb_model.specs.Exec.{Tables}
 use Rattle.sdb_model.specs.Images.{decision_at}
 use Rattle.sdb_model.specs.Form.{client_script, account_name}
 use Rattle.sdb_txn.specs.Txn.{Working}
-use Rattle.sdb_model.specs.Transactions.{Said, id_of, client_of, ordinal_of, point, last_prepare, commit_of, begun, Recorded, IsOrder}
-use Rattle.sdb_model.specs.Told.{serial, dumps_of, AreImages, AreBodies, answers_told, IsTold, KeepsRealTime, StandsBefore, IsRun, commit_answer}
+use Rattle.sdb_model.specs.Transactions.{Said, id_of, client_of, ordinal_of, point, last_prepare, commit_of, Recorded, IsOrder}
+use Rattle.sdb_model.specs.Told.{dumps_of, AreImages, AreBodies, answers_told, IsTold, KeepsRealTime, StandsBefore, IsRun, commit_answer}
 use Rattle.sdb_session.specs.Session.{Session, shelves_of, outcome_of, account_rows}
 use Rattle.sdb_session.specs.Opening.{IsTakenFrom}
-use Rattle.sdb_session.proofs.Basics.{by_test, true_false, some_is, not_none}
-use Rattle.sdb_session.proofs.Ids.{is_own, Own, own_says, own_is, own_client, own_ordinal, own_small, id_parts}
+use Rattle.sdb_session.proofs.Basics.{by_test, some_is, not_none}
+use Rattle.sdb_session.proofs.Ids.{is_own, own_says, own_is, own_client, own_ordinal, id_parts}
 use Rattle.sdb_session.proofs.Works.{works_all}
 use Rattle.sdb_session.proofs.Exec.{catalog}
-use Rattle.sdb_session.proofs.Saids.{Finished, IsFinished, AreFinished, finished_at, Parts, parts, no_commit, other_client, NoEnd, nothing_ends, open_ends, saids_of}
-use Rattle.sdb_session.proofs.Orders.{order_of, AllFrom, all_turned, all_placed, Placed, finished_of, some_at, all_points, contained, contains_own, IsChain, chain_finished, chain_rises, chain_in_order, stands_before, are_bodies, are_answers}
+use Rattle.sdb_session.proofs.Saids.{Finished, IsFinished, AreFinished, finished_at, Parts, parts, no_commit, other_client, NoEnd, nothing_ends, open_ends}
+use Rattle.sdb_session.proofs.Orders.{order_of, AllFrom, all_turned, all_placed, Placed, finished_of, some_at, all_points, contained, contains_own, chain_finished, chain_rises, chain_in_order, stands_before, are_bodies, are_answers}
 use Rattle.sdb_session.proofs.Images.{are_images}
 use Rattle.sdb_session.proofs.Rows.{final_rows}
-use Rattle.sdb_session.proofs.Stands.{Past, Closed, Opened, Stands, StandsAt, row_of, row_after}
+use Rattle.sdb_session.proofs.Stands.{Past, StandsAt, row_of}
 
 pub nothing_at : (key : Key) → record_at empty key ≡ None
 nothing_at key = rw (get-empty key_cmp key) refl

@@ -1,6 +1,6 @@
 -- The transactions of one client among what it said.
-use Rattle.std.proofs.Common.{◌≡◌, ◌⊎◌, ℕ, zero, suc, ◌+◌, ◌<◌, ◌≤◌, Bool, true, false, cond, List, [], ◌∷◌, ◌++◌, length, take, Option, Some, None, refl, sym, ap, subst, ◌∙◌, arith, append_assoc}
-use Rattle.std.specs.Prelude.{◌==◌, map, filter, find, not, is_none, ◌&&◌, ◌||◌, take_while}
+use Rattle.std.proofs.Common.{◌≡◌, ℕ, zero, suc, ◌+◌, ◌<◌, ◌≤◌, Bool, true, false, cond, List, [], ◌∷◌, ◌++◌, take, Option, Some, None, refl, sym, ap, subst, ◌∙◌, arith, append_assoc}
+use Rattle.std.specs.Prelude.{◌==◌, map, filter, find, not, take_while}
 use Rattle.std.specs.List.{AllByRecursion, prefix_len}
 use Rattle.std.specs.Option.{option_and_then, option_map}
 use Rattle.std.proofs.Math.Numerals.{one-add}
@@ -11,10 +11,10 @@ use Rattle.sdb_model.specs.declared.answer.Answer.TheVariants as answer
 use Rattle.sdb_model.specs.declared.event.Event.{Event}
 use Rattle.sdb_model.specs.declared.statement.Statement.{Statement}
 use Rattle.sdb_model.specs.Reading.{reads_commit}
-use Rattle.sdb_model.specs.Transactions.{Said, said, said_since, from_begin, begins, ends, is_effective, first_of, rest_of, begun, ending, commit_of, body, client_of, ordinal_of}
+use Rattle.sdb_model.specs.Transactions.{Said, said, said_since, from_begin, begins, ends, is_effective, first_of, rest_of, begun, commit_of, body, client_of, ordinal_of}
 use Rattle.sdb_model.specs.Told.{AreRead}
 use Rattle.std.proofs.lemmas.Bool.Decides.{nat_tests}
-use Rattle.sdb_session.proofs.Basics.{some_is, by_test, true_false}
+use Rattle.sdb_session.proofs.Basics.{some_is}
 
 -- a statement between BEGIN and COMMIT
 pub record IsPlain (s : Said) : Type 0 where

@@ -1,39 +1,23 @@
 -- What holds of one client's run after each of its statements.
-use Rattle.std.proofs.Common.{◌≡◌, ◌⊎◌, ℕ, zero, suc, ◌+◌, ◌<◌, ◌≤◌, ◌^◌, Bool, true, false, cond, List, [], ◌∷◌, ◌++◌, length, Option, Some, None, IfSome, refl, sym, ap, subst, ◌∙◌, arith, append_assoc, length-append, ℤ, pos}
-use Rattle.std.specs.Prelude.{map, ◌==◌, unwrap_or, ◌&&◌, ◌||◌, not}
-use Rattle.std.specs.FinMap.{get, insert}
-use Rattle.std.specs.List.{AllByRecursion, slice_get}
-use Rattle.std.specs.Ordering.{eq_by_cmp}
-use Rattle.std.proofs.lemmas.List.{append-nil}
-use Rattle.sdb_types.specs.declared.key.Key.{Key}
-use Rattle.sdb_types.specs.declared.pair.Pair.{Pair}
+use Rattle.std.proofs.Common.{◌≡◌, ℕ, ◌+◌, ◌<◌, ◌≤◌, ◌^◌, true, false, cond, List, [], ◌∷◌, ◌++◌, length, Option, Some, None, pos}
+use Rattle.std.specs.Prelude.{map, unwrap_or}
 use Rattle.sdb_types.specs.declared.txid.TxId.{TxId}
 use Rattle.sdb_types.specs.declared.record.Record.{Record}
-use Rattle.sdb_types.specs.declared.record.Request.{Request}
-use Rattle.sdb_types.specs.Order.{key_cmp}
 use Rattle.sdb_types.specs.Contents.{Contents, record_at}
-use Rattle.sdb_record.specs.declared.write.Write.{Write}
 use Rattle.sdb_record.specs.declared.coordinator.Decision.TheVariants as decision
 use Rattle.sdb_record.specs.Coordinator.{coordinator_key_of, coordinator_row_of}
 use Rattle.sdb_model.specs.declared.answer.Answer.{Answer}
-use Rattle.sdb_model.specs.declared.answer.Answer.TheVariants as answer
-use Rattle.sdb_model.specs.declared.event.Event.{Event}
-use Rattle.sdb_model.specs.declared.event.Point.{Point}
 use Rattle.sdb_model.specs.declared.script.ScriptClient.{ScriptClient}
 use Rattle.sdb_model.specs.declared.statement.Statement.{Statement}
-use Rattle.sdb_model.specs.Exec.{Tables, exec}
-use Rattle.sdb_model.specs.Transactions.{Said, said, begins, ends, is_effective, id_of, client_of, last_prepare}
+use Rattle.sdb_model.specs.Exec.{Tables}
+use Rattle.sdb_model.specs.Transactions.{Said, begins, id_of, last_prepare}
 use Rattle.sdb_model.specs.Told.{AreRead, serial, run_body}
-use Rattle.sdb_script.specs.declared.account.AccountStatement.{AccountStatement}
-use Rattle.sdb_script.specs.declared.account.AccountStatement.TheVariants as account
-use Rattle.sdb_script.specs.Accounts.{account_text, statement_of, fits_account}
-use Rattle.sdb_txn.specs.Commit.{Noted, commit_requests}
 use Rattle.sdb_txn.specs.Txn.{Working}
 use Rattle.sdb_session.specs.Session.{Session}
 use Rattle.sdb_session.proofs.Ids.{is_own}
 use Rattle.sdb_session.proofs.Puts.{AreDistinct, Stand}
 use Rattle.sdb_session.proofs.Exec.{catalog, AreAccounts}
-use Rattle.sdb_session.proofs.Saids.{Finished, IsPlain, ArePlain, saids_of}
+use Rattle.sdb_session.proofs.Saids.{Finished, ArePlain, saids_of}
 use Rattle.sdb_session.proofs.Orders.{order_of, AllFrom, IsChain, last_answered}
 use Rattle.sdb_session.proofs.Images.{Settled, Agree, AreInserts, with_writes}
 use Rattle.sdb_session.proofs.Changes.{AreNotes}

@@ -1,45 +1,41 @@
 -- Each statement keeps what holds of the run: BEGIN, and a statement inside a transaction.
-use Rattle.std.proofs.Common.{◌≡◌, ◌⊎◌, ℕ, zero, suc, ◌+◌, ◌<◌, ◌≤◌, ◌^◌, Bool, true, false, cond, List, [], ◌∷◌, ◌++◌, length, Option, Some, None, IfSome, refl, sym, ap, subst, ◌∙◌, arith, append_assoc, length-append, ℤ, pos}
-use Rattle.std.specs.Prelude.{map, ◌==◌, unwrap_or, ◌&&◌, ◌||◌, not, is_some}
-use Rattle.std.specs.FinMap.{get, insert}
-use Rattle.std.specs.List.{AllByRecursion, slice_get}
-use Rattle.std.specs.Ordering.{eq_by_cmp}
+use Rattle.std.proofs.Common.{◌≡◌, ℕ, suc, ◌+◌, ◌≤◌, Bool, true, false, cond, List, [], ◌∷◌, ◌++◌, length, Option, Some, None, IfSome, refl, sym, ap, subst, ◌∙◌, arith, append_assoc}
+use Rattle.std.specs.Prelude.{map, unwrap_or, is_some}
+use Rattle.std.specs.FinMap.{get}
+use Rattle.std.specs.List.{slice_get}
 use Rattle.std.proofs.lemmas.List.{append-nil, map-append}
 use Rattle.sdb_types.specs.declared.key.Key.{Key}
 use Rattle.sdb_types.specs.declared.pair.Pair.{Pair}
-use Rattle.sdb_types.specs.declared.txid.TxId.{TxId}
 use Rattle.sdb_types.specs.declared.record.Record.{Record}
-use Rattle.sdb_types.specs.Order.{key_cmp}
 use Rattle.sdb_types.specs.Contents.{Contents, record_at}
-use Rattle.sdb_types.proofs.Bools.{and_first, and_second, and_both}
+use Rattle.sdb_types.proofs.Bools.{and_first, and_second}
 use Rattle.sdb_record.specs.declared.write.Write.{Write}
 use Rattle.sdb_record.specs.Coordinator.{coordinator_key_of}
 use Rattle.sdb_record.specs.Rolls.{IsBaseOf}
 use Rattle.sdb_model.specs.declared.answer.Answer.{Answer}
 use Rattle.sdb_model.specs.declared.answer.Answer.TheVariants as answer
-use Rattle.sdb_model.specs.declared.event.Event.{Event}
 use Rattle.sdb_model.specs.declared.script.ScriptClient.{ScriptClient}
 use Rattle.sdb_model.specs.declared.statement.Statement.{Statement}
 use Rattle.sdb_model.specs.Exec.{Tables, exec}
 use Rattle.sdb_model.specs.Reading.{Reads}
 use Rattle.sdb_model.specs.Rows.{fits_int}
 use Rattle.sdb_schema.specs.declared.table.Table.{Table}
-use Rattle.sdb_model.specs.Transactions.{Said, begins, ends, is_effective, is_done, is_conflict, changes_nothing, id_of, last_prepare}
+use Rattle.sdb_model.specs.Transactions.{Said, is_done, is_conflict, changes_nothing, id_of, last_prepare}
 use Rattle.sdb_model.specs.Told.{AreRead, run_body}
 use Rattle.sdb_script.specs.declared.account.AccountStatement.{AccountStatement}
 use Rattle.sdb_script.specs.declared.account.AccountStatement.TheVariants as account
 use Rattle.sdb_script.specs.Accounts.{account_text, statement_of, fits_account}
 use Rattle.sdb_txn.specs.Commit.{Noted, write_at}
-use Rattle.sdb_txn.specs.Txn.{Working, begun, is_known, found_at, base_at, row_found, row_with, row_seen, noted, written, write_of}
-use Rattle.sdb_session.specs.Session.{Session, take_event, account_key, account_columns, account_change, key_read, answer_to, changed_by, after_read, reading, look_events, begun_session, looked, IsIdle}
-use Rattle.sdb_session.proofs.Basics.{by_test, true_false, some_is, length_more}
+use Rattle.sdb_txn.specs.Txn.{Working, begun, is_known, found_at, base_at, row_found, row_with, row_seen, noted, write_of}
+use Rattle.sdb_session.specs.Session.{Session, take_event, account_key, account_columns, account_change, key_read, answer_to, changed_by, reading, begun_session, looked, IsIdle}
+use Rattle.sdb_session.proofs.Basics.{true_false, length_more}
 use Rattle.sdb_session.proofs.Puts.{AreDistinct, Stand}
 use Rattle.sdb_session.proofs.Exec.{catalog, AreAccounts, accounts_insert, exec_insert, exec_select, tables_after}
-use Rattle.sdb_session.proofs.Saids.{Finished, IsPlain, ArePlain, saids_of}
-use Rattle.sdb_session.proofs.Orders.{order_of, AllFrom, all_turned, IsChain, last_answered}
-use Rattle.sdb_session.proofs.Images.{Settled, Agree, in_accounts, AreInserts, IsInsert, with_writes, put_row}
+use Rattle.sdb_session.proofs.Saids.{Finished, IsPlain, saids_of}
+use Rattle.sdb_session.proofs.Orders.{order_of, all_turned}
+use Rattle.sdb_session.proofs.Images.{Settled, Agree, in_accounts, AreInserts, IsInsert, with_writes}
 use Rattle.sdb_session.proofs.Changes.{AreNotes, all_append, distinct_more, writes_more, not_written, rows_with, row_with_is, row_written, no_row_no_write, base_is, found_last}
-use Rattle.sdb_session.proofs.Heard.{Heard, heard_take, said_by, Quiet, quiet_take, Answered, look_heard}
+use Rattle.sdb_session.proofs.Heard.{Heard, heard_take, said_by, Quiet, quiet_take, look_heard}
 use Rattle.sdb_session.proofs.Texts.{begin_begins, IsOther, insert_other, select_other, reads_itself}
 use Rattle.sdb_session.proofs.Stands.{Past, Closed, Opened}
 

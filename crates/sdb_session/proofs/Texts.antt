@@ -1,5 +1,5 @@
 -- What the texts of statements on accounts read as.
-use Rattle.std.proofs.Common.{◌≡◌, Bool, true, false, List, [], ◌∷◌, refl, ℤ}
+use Rattle.std.proofs.Common.{◌≡◌, true, false, refl, ℤ}
 use Rattle.sdb_model.specs.Reading.{Reads, reads_begin, reads_commit, reads_rollback}
 use Rattle.sdb_script.specs.Accounts.{account_text, statement_of}
 use Rattle.sdb_script.specs.declared.account.AccountStatement.{AccountStatement}

@@ -1,7 +1,7 @@
 -- The events of one client are those of the move `rest`.
-use Rattle.std.proofs.Common.{◌≡◌, ◌⊎◌, ℕ, zero, suc, ◌+◌, ◌<◌, ◌≤◌, Bool, true, false, cond, List, [], ◌∷◌, ◌++◌, length, Option, Some, None, refl, sym, ap, subst, ◌∙◌, arith, inl, inr, append_assoc}
-use Rattle.std.specs.Prelude.{fold, nat_lt, not, ◌&&◌, ◌||◌, MatchBool, is_none}
-use Rattle.std.specs.List.{slice_get, count_by, list_any}
+use Rattle.std.proofs.Common.{◌≡◌, ℕ, ◌+◌, ◌≤◌, Bool, true, false, List, [], ◌∷◌, ◌++◌, length, Option, Some, refl, sym, ap, subst, ◌∙◌, arith, inl, inr, append_assoc}
+use Rattle.std.specs.Prelude.{nat_lt, ◌||◌, MatchBool, is_none}
+use Rattle.std.specs.List.{slice_get}
 use Rattle.std.proofs.lemmas.List.{append-nil}
 use Rattle.std.proofs.lemmas.List.Sums.{fold-append}
 use Rattle.sdb_types.specs.declared.record.Request.{Request}
@@ -9,13 +9,12 @@ use Rattle.sdb_types.specs.declared.record.Reply.{Reply}
 use Rattle.sdb_model.specs.declared.answer.Answer.{Answer}
 use Rattle.sdb_model.specs.declared.event.Event.{Event}
 use Rattle.sdb_model.specs.declared.event.Event.TheVariants as event
-use Rattle.sdb_model.specs.declared.event.How.TheVariants.{Seen}
 use Rattle.sdb_model.specs.declared.script.Move.TheVariants as move
 use Rattle.sdb_model.specs.declared.script.ScriptClient.{ScriptClient}
-use Rattle.sdb_model.specs.Follows.{Follows, IsRest, IsTurn, IsStep, IsCallOf, IsTakeOf, IsHowOfStep, AllIdle, IsAmong, has_work, has_stopped, is_pending, taken_by, takes_by, stops, pends_after, texts_of}
+use Rattle.sdb_model.specs.Follows.{Follows, IsRest, IsTurn, IsStep, IsCallOf, IsTakeOf, IsHowOfStep, AllIdle, IsAmong, has_work, has_stopped, is_pending, taken_by, takes_by, stops, pends_after}
 use Rattle.sdb_session.specs.Session.{take_event, call_event}
 use Rattle.std.proofs.lemmas.Bool.Decides.{nat_tests}
-use Rattle.sdb_session.proofs.Basics.{by_test, some_is, got_below, below_tests, count_more, any_more}
+use Rattle.sdb_session.proofs.Basics.{got_below, below_tests, count_more, any_more}
 
 -- Each event is a step of the one client, which has work.
 abbrev pub AreWorked : ScriptClient → List Event → List Event → Type 0

@@ -1,12 +1,11 @@
 -- One client's run of its statements, one after the other, over what a store holds.
-use Rattle.std.specs.Prelude.{◌≡◌, ℕ, ◌+◌, ℤ, pos, Bool, true, false, ◌&&◌, if◌then◌else◌, List, [], ◌∷◌, ◌++◌, map, fold, length, codes, Option, Some, None, IfSome, is_some, unwrap_or}
+use Rattle.std.specs.Prelude.{◌≡◌, ℕ, ◌+◌, ℤ, pos, Bool, true, false, ◌&&◌, if◌then◌else◌, List, [], ◌∷◌, ◌++◌, fold, length, codes, Option, Some, None, IfSome, is_some, unwrap_or}
 use Rattle.std.specs.Option.{option_map}
 use Rattle.std.specs.List.{filter_map, AllByRecursion}
 use Rattle.sdb_types.specs.declared.key.Key.{Key}
 use Rattle.sdb_types.specs.declared.pair.Pair.{Pair}
 use Rattle.sdb_types.specs.declared.value.Value.{Value}
 use Rattle.sdb_types.specs.declared.value.Value.TheVariants as value
-use Rattle.sdb_types.specs.declared.txid.TxId.{TxId}
 use Rattle.sdb_types.specs.declared.record.Record.{Record}
 use Rattle.sdb_types.specs.declared.record.Request.{Request}
 use Rattle.sdb_types.specs.declared.record.Request.TheVariants as ask
@@ -34,7 +33,7 @@ use Rattle.sdb_script.specs.declared.account.AccountStatement.TheVariants as acc
 use Rattle.sdb_script.specs.Accounts.{account_text}
 use Rattle.sdb_txn.specs.Commit.{Noted, commit_requests}
 use Rattle.sdb_txn.specs.declared.txn.Stage.TheVariants as stage
-use Rattle.sdb_txn.specs.Txn.{IsWishedOf, Working, begun, is_known, base_at, row_seen, noted, written}
+use Rattle.sdb_txn.specs.Txn.{IsWishedOf, Working, begun, is_known, row_seen, noted, written}
 
 -- the one store
 abbrev pub store_name : List ℕ

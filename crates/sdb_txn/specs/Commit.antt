@@ -1,5 +1,5 @@
 -- The calls of a COMMIT.
-use Rattle.std.specs.Prelude.{◌≡◌, ℤ, Bool, not, List, [], ◌∷◌, ◌++◌, map, filter, find, is_some, Option}
+use Rattle.std.specs.Prelude.{ℤ, not, List, ◌∷◌, ◌++◌, map, filter, find, is_some, Option}
 use Rattle.std.specs.Ordering.{eq_by_cmp}
 use Rattle.sdb_types.specs.declared.key.Key.{Key}
 use Rattle.sdb_types.specs.declared.record.Record.{Record}

@@ -1,5 +1,4 @@
-use Rattle.std.proofs.Common.{◌≡◌, ◌∙◌, sym, ap, Option, None, List, rules, ℤ, to_z, of_z, w32}
-use Rattle.sdb_types.specs.declared.pair.Pair.{Pair}
+use Rattle.std.proofs.Common.{◌≡◌, ◌∙◌, sym, ap, None, rules, ℤ, to_z, of_z, w32}
 use Rattle.sdb_record.specs.declared.write.Keyed.{Keyed}
 use Rattle.sdb_record.specs.Rolls.{is_change}
 use Rattle.sdb_txn.specs.Commit.{write_at}

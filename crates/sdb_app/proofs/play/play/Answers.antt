@@ -1,4 +1,4 @@
-use Rattle.std.proofs.Common.{◌≡◌, ◌∙◌, ◌<◌, ◌^◌, length, arith}
+use Rattle.std.proofs.Common.{◌<◌, ◌^◌, length, arith}
 use Rattle.sdb_session.specs.Session.{session_of}
 use Rattle.sdb_app.proofs.Plays.{before, next_behind}
 use Rattle.sdb_app.proofs.play.play.Goals as goal

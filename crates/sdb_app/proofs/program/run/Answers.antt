@@ -1,4 +1,4 @@
-use Rattle.std.proofs.Common.{◌≡◌, ◌∙◌, List, ℕ, Err, ap}
+use Rattle.std.proofs.Common.{◌≡◌, ◌∙◌, Err, ap}
 use Rattle.sdb_model.specs.Report.{report_text_of}
 use Rattle.sdb_app.proofs.Headline.{replayed, front_written, played_outcome}
 use Rattle.sdb_app.proofs.program.run.Goals as goal

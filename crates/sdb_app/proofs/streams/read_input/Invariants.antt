@@ -1,4 +1,4 @@
-use Rattle.std.proofs.Common.{◌≤◌, ◌≡◌, ◌-◌, ◌+◌, take, length, vec_len}
+use Rattle.std.proofs.Common.{◌≤◌, ◌≡◌, ◌-◌, ◌+◌, length, vec_len}
 use Rattle.sdb_types.specs.Bytes.{Takes}
 use Rattle.sdb_app.proofs.streams.read_input.Given as goal
 

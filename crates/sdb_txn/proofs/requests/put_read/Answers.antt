@@ -1,4 +1,4 @@
-use Rattle.std.proofs.Common.{◌≡◌, ◌∙◌, sym, ap, refl, Bool, true, false, not, List, [], ◌∷◌, ◌++◌, Option, Some, None}
+use Rattle.std.proofs.Common.{◌≡◌, ◌∙◌, sym, ap, refl, true, false, not, List, [], ◌∷◌, ◌++◌, Option, Some, None}
 use Rattle.std.proofs.lemmas.List.{append-nil}
 use Rattle.std.specs.Prelude.{is_some}
 use Rattle.std.specs.Borrow.{Bor}
@@ -8,7 +8,6 @@ use Rattle.sdb_types.specs.declared.record.Request.{Request}
 use Rattle.sdb_types.specs.declared.record.Request.TheVariants as ask
 use Rattle.sdb_record.specs.declared.write.Write.{Write}
 use Rattle.sdb_keyed.specs.Entries.{value_at}
-use Rattle.sdb_txn.specs.Held.{read_again, writes_in}
 use Rattle.sdb_txn.proofs.Keys.{reads_again}
 use Rattle.sdb_txn.proofs.requests.put_read.Goals as goal
 

@@ -1,5 +1,4 @@
-use Rattle.std.proofs.Common.{◌≡◌, ◌∙◌, sym, ap, List, Option, Some, None}
-use Rattle.sdb_record.specs.declared.access.Image.{Image}
+use Rattle.std.proofs.Common.{◌≡◌, ◌∙◌, sym, ap, Some, None}
 use Rattle.sdb_keyed.specs.Entries.{value_at}
 use Rattle.sdb_txn.specs.Commit.{write_at}
 use Rattle.sdb_txn.specs.Txn.{Working, images_known, images_with, row_with}

@@ -1,6 +1,5 @@
-use Rattle.std.proofs.Common.{◌≡◌, ◌∙◌, sym, ap, false, List, [], ◌∷◌, ◌++◌, Option, Some, None, arith}
+use Rattle.std.proofs.Common.{◌≡◌, ◌∙◌, ap, false, List, [], ◌∷◌, ◌++◌, arith}
 use Rattle.std.specs.Prelude.{is_some}
-use Rattle.sdb_types.specs.declared.record.Request.{Request}
 use Rattle.sdb_txn.specs.Commit.{Noted}
 use Rattle.sdb_txn.specs.Txn.{Working, found_at, noted}
 use Rattle.sdb_txn.specs.Held.{writes_in}

@@ -1,5 +1,4 @@
-use Rattle.std.proofs.Common.{◌≡◌, ◌∙◌, sym, ap, subst, IfOk, List, Option, Some, None}
-use Rattle.sdb_types.specs.declared.pair.Pair.{Pair}
+use Rattle.std.proofs.Common.{◌≡◌, ◌∙◌, sym, ap, subst, IfOk, Option, Some, None}
 use Rattle.sdb_record.specs.declared.write.Write.{Write}
 use Rattle.sdb_txn.specs.Commit.{write_at}
 use Rattle.sdb_txn.specs.Txn.{Working, row_with}

@@ -1,4 +1,4 @@
-use Rattle.std.proofs.Common.{◌≡◌, ◌∙◌, sym, ap, List, Option, Some, None, rules, drop}
+use Rattle.std.proofs.Common.{◌≡◌, ◌∙◌, ap, List, None, rules, drop}
 use Rattle.sdb_record.specs.declared.write.Write.{Write}
 use Rattle.sdb_txn.specs.Commit.{write_at}
 use Rattle.sdb_txn.specs.Txn.{Working, base_at, written}
