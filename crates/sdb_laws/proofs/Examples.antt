@@ -110,7 +110,7 @@ no_denial a e d = clash (sym d ∙ ap (λ x. option_map_or is_denial x false) (s
 no_read : {A : Type 0} (u : ℕ) → ◌≡◌ {A = Option ℕ} (Some u) None → A
 no_read u e = absurd (cc)
 
-first_lawful : (w : Write) → IsLawful (plan_with w) first_run
+pub first_lawful : (w : Write) → IsLawful (plan_with w) first_run
 unfolding same_key write_at written coordinator_row_of coordinator_key_of
 first_lawful w = (
   (

@@ -19,3 +19,6 @@ pub mod Derived
 pub mod Times
 pub mod Examples
 pub mod Points
+pub mod Order
+pub mod ModelTime
+pub mod FirstTrace

@@ -97,7 +97,7 @@ no_row (change.Row columns) e = clash (by e)
     by e = absurd (cc)
 no_row change.Delete e = refl
 
-firm_row : (plan : ℕ → Plan) (t : ℕ) (k : Key) → IsWrite (write_there (plan t) k) → row_of_image (firm_record plan t k) ≡ row_of_change (write_there (plan t) k).change
+pub firm_row : (plan : ℕ → Plan) (t : ℕ) (k : Key) → IsWrite (write_there (plan t) k) → row_of_image (firm_record plan t k) ≡ row_of_change (write_there (plan t) k).change
 unfolding firm_record held_record
 firm_row plan t k h = forward-prepared-row (write_there (plan t) k) (id t) (plan t).now (plan t).now h
 

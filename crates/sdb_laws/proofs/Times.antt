@@ -32,7 +32,7 @@ pub whole_of : (plan : ℕ → Plan) (places : List Place) (opening : List Shelf
 whole_of plan places opening past ss r = whole plan places opening past ss r.empty r.lawful r.traced
 
 -- what each part keeps, each event keeps
-one_more : (plan : ℕ → Plan) (places : List Place) (opening : List Shelf) (p : Played) (past : List Played) (s : List Shelf) (ss : List (List Shelf)) (P : History → Type 0)
+pub one_more : (plan : ℕ → Plan) (places : List Place) (opening : List Shelf) (p : Played) (past : List Played) (s : List Shelf) (ss : List (List Shelf)) (P : History → Type 0)
     → ((w : History) (r : Role) (done : Bool) → All plan w → Allowed plan w r done → P w → P (happens plan w r done))
     → IsRunOf plan places opening (p ∷ past) (s ∷ ss) → P (history plan places opening past ss) → P (history plan places opening (p ∷ past) (s ∷ ss))
 one_more plan places opening p past s ss P stable r h = over p.ends
@@ -53,7 +53,7 @@ one_more plan places opening p past s ss P stable r h = over p.ends
     over None = next
     over (Some t) = stable (happens plan (history plan places opening past ss) p.role (has_effect places p.event (closing opening ss) s)) (Ends t) false (all_kept plan (history plan places opening past ss) p.role (has_effect places p.event (closing opening ss) s) i.all m.allowed) tt next
 
-earlier_run : (plan : ℕ → Plan) (places : List Place) (opening : List Shelf) (p : Played) (past : List Played) (s : List Shelf) (ss : List (List Shelf)) → IsRunOf plan places opening (p ∷ past) (s ∷ ss) → IsRunOf plan places opening past ss
+pub earlier_run : (plan : ℕ → Plan) (places : List Place) (opening : List Shelf) (p : Played) (past : List Played) (s : List Shelf) (ss : List (List Shelf)) → IsRunOf plan places opening (p ∷ past) (s ∷ ss) → IsRunOf plan places opening past ss
 earlier_run plan places opening p past s ss r = record { empty = r.empty; lawful = r.lawful.0; traced = r.traced.0 }
 
 pub lasts : (plan : ℕ → Plan) (places : List Place) (opening : List Shelf) (later past : List Played) (more ss : List (List Shelf)) (P : History → Type 0)

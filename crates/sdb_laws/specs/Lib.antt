@@ -5,3 +5,5 @@ pub mod Trace
 pub mod Records
 pub mod Explained
 pub mod Worked
+pub mod Serial
+pub mod Faithful

@@ -23,6 +23,9 @@ use Rattle.sdb_model.specs.declared.answer.Answer.TheVariants as answer
 use Rattle.sdb_model.specs.declared.event.Event.{Event}
 use Rattle.sdb_model.specs.declared.event.Event.TheVariants as event
 use Rattle.sdb_model.specs.declared.event.How.TheVariants.{Seen, Lost}
+use Rattle.std.specs.FinMap.{empty}
+use Rattle.sdb_types.specs.Contents.{Contents, after}
+use Rattle.sdb_model.specs.Events.{Shelf}
 use Rattle.sdb_laws.specs.Plan.{Plan, Got}
 use Rattle.sdb_laws.specs.History.{Role, Other, Begins, Takes, Prepares, Checks, Decides, Rolls, Removes, Stops, Yes, Silence}
 use Rattle.sdb_laws.specs.Lawful.{Played, id}
@@ -202,3 +205,22 @@ removed_while_open =
     ∷ ending two (Rolls two account Committed) (call 2 (ask.PutIf (forward deletes_it two) (condition.Version (id two) state.Deleted)) reply.Applied (Some answer.Committed))
     ∷ plays (Decides two Yes) (call 2 (put_row two) reply.Applied None)
     ∷ second_run deletes_it delete_text
+
+---- a trace of the first run
+
+-- what the one store holds
+abbrev pub store_with : Contents → List Shelf
+store_with held = record { name = codes "ordered"; contents = held } ∷ []
+
+abbrev pub when_prepared : Contents
+when_prepared = after (ask.PutIf (prepared inserts one) condition.Absent) empty
+
+abbrev pub when_decided : Contents
+when_decided = after (put_row one) when_prepared
+
+abbrev pub when_rolled : Contents
+when_rolled = after (ask.PutIf (forward inserts one) (condition.Version (id one) state.Prepared)) when_decided
+
+abbrev pub first_moments : List (List Shelf)
+first_moments =
+    store_with when_rolled ∷ store_with when_decided ∷ store_with when_prepared ∷ store_with empty ∷ store_with empty ∷ store_with empty ∷ store_with empty ∷ []

@@ -6,6 +6,8 @@
 
 pub mod images;
 pub mod reads;
+pub mod real_time;
 pub mod rows;
 pub mod runs;
+pub mod serial;
 pub mod worked;

@@ -1,8 +1,18 @@
 //! Runs that the rules let through, and runs that they refuse.
-ghost use Rattle.std.specs.Prelude.{List};
+ghost use Rattle.std.specs.Prelude.{◌≡◌, List, [], Some};
+ghost use Rattle.std.specs.FinMap.{empty};
+ghost use Rattle.sdb_record.specs.declared.coordinator.Decision.TheVariants.{Committed};
 ghost use Rattle.sdb_record.specs.declared.write.Write.{Write};
 ghost use Rattle.sdb_laws.specs.Lawful.{Played, IsLawful};
-ghost use Rattle.sdb_laws.specs.Worked.{updates, deletes_it, plan_with, lost_decision, recovery, vacuumed, decided_early, prepared_twice, rolled_blindly, checked_moved, removed_while_open};
+ghost use Rattle.sdb_laws.specs.Trace.{history};
+ghost use Rattle.sdb_laws.specs.Explained.{IsRunOf};
+ghost use Rattle.sdb_laws.specs.Worked.{one, store_with, first_run, first_moments, updates, deletes_it, plan_with, lost_decision, recovery, vacuumed, decided_early, prepared_twice, rolled_blindly, checked_moved, removed_while_open};
+
+/// There are runs: one client inserts a record into an empty store, and its transaction is recorded.
+pub fn a_run_exists()
+    ensures run { (w : Write) → IsRunOf (plan_with w) [] (store_with empty) first_run first_moments }
+    ensures recorded { (w : Write) → (history (plan_with w) [] (store_with empty) first_run first_moments).row one ≡ Some Committed }
+{}
 
 /// These runs are lawful: the reply to a decision is lost; a reader rolls a decided transaction forward; VACUUM removes a
 /// tombstone.
