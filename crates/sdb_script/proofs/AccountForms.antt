@@ -12,10 +12,10 @@ use Rattle.sdb_script.specs.declared.account.AccountStatement.{AccountStatement}
 use Rattle.sdb_script.specs.declared.account.AccountStatement.TheVariants as account
 use Rattle.sdb_script.specs.declared.drawing.Section.{Section}
 use Rattle.sdb_script.specs.declared.drawing.Section.TheVariants as section
-use Rattle.sdb_script.specs.Drafts.{client_in}
+use Rattle.sdb_script.specs.Pieces.{client_in}
 use Rattle.sdb_script.specs.Accounts.{statement_of, account_text, fits_account, AreTransactions, BeginsAccountForm}
 use Rattle.sdb_script.specs.Drawn.{Drawn, nothing_drawn, account_line, account_in, inside_after, section_of, with_statement, if_wanted, told_by, drawn_among, drawn_at, drawn}
-use Rattle.sdb_script.proofs.Forms.{by_test, same_bytes, itself, some_is, no_some, bind_is, map_is, client_is, client_again}
+use Rattle.sdb_script.proofs.PieceLaws.{by_test, same_bytes, itself, some_is, no_some, bind_is, map_is, client_is, client_again}
 use Rattle.sdb_script.proofs.AccountLines.{account_is, account_again, one_account}
 
 ---- transactions, as statements on accounts

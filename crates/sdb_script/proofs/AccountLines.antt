@@ -10,11 +10,11 @@ use Rattle.sdb_model.specs.Rows.{fits_int}
 use Rattle.sdb_script.specs.declared.account.AccountStatement.{AccountStatement}
 use Rattle.sdb_script.specs.declared.account.AccountStatement.TheVariants as account
 use Rattle.sdb_script.specs.Scan.{after, number_at}
-use Rattle.sdb_script.specs.Drafts.{numbers_in}
+use Rattle.sdb_script.specs.Pieces.{numbers_in}
 use Rattle.sdb_script.specs.Accounts.{account_text, fits_account}
 use Rattle.sdb_script.specs.Drawn.{account_line, if_account, first_some, insert_at, select_front, number_in, select_at, word_at, account_in}
 use Rattle.sdb_script.proofs.Again.{number_again}
-use Rattle.sdb_script.proofs.Forms.{by_test, same_bytes, itself, fits_long, numbers_again, some_is, no_some, bind_is}
+use Rattle.sdb_script.proofs.PieceLaws.{by_test, same_bytes, itself, fits_long, numbers_again, some_is, no_some, bind_is}
 
 ---- what is read is that line's
 

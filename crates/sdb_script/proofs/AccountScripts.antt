@@ -14,7 +14,7 @@ use Rattle.sdb_script.specs.declared.drawing.Section.TheVariants as section
 use Rattle.sdb_script.specs.declared.drawing.AccountForm.{AccountForm}
 use Rattle.sdb_script.specs.Accounts.{statement_of, account_text, fits_account, AreTransactions, IsAccountForm, IsAccountScript, BeginsAccountForm, IsBadNextLine, IsFirstBadLine, IsNotPlayed, IsFormOf}
 use Rattle.sdb_script.specs.Drawn.{Drawn, nothing_drawn, account_line, drawn, drawn_next, drawn_from}
-use Rattle.sdb_script.proofs.Forms.{by_test, some_is}
+use Rattle.sdb_script.proofs.PieceLaws.{by_test, some_is}
 use Rattle.sdb_script.proofs.AccountForms.{AllFit, Accounts, accounts_of, transactions_of, statement_lines, Stands, stands_first, stands_begin, stands_more, dead, not_run}
 
 ---- the whole text

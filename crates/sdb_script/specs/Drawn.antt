@@ -8,7 +8,7 @@ use Rattle.sdb_script.specs.declared.account.AccountStatement.TheVariants as acc
 use Rattle.sdb_script.specs.declared.drawing.Section.{Section}
 use Rattle.sdb_script.specs.declared.drawing.Section.TheVariants as section
 use Rattle.sdb_script.specs.Scan.{after, number_at}
-use Rattle.sdb_script.specs.Drafts.{client_in, numbers_in}
+use Rattle.sdb_script.specs.Pieces.{client_in, numbers_in}
 use Rattle.sdb_script.specs.Accounts.{fits_account, account_text}
 
 -- What was read so far: what may come next, the client's name, and its statements with their texts.

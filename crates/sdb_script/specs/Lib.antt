@@ -1,5 +1,4 @@
 pub mod Scan
-pub mod Drafts
-pub mod Inserts
+pub mod Pieces
 pub mod Accounts
 pub mod Drawn

@@ -8,7 +8,7 @@ ghost use Rattle.sdb_script.specs.Accounts.{account_text as account_text_lem, fi
 ghost use Rattle.sdb_script.specs.Drawn.{account_line, if_account as if_account_lem, insert_at, select_at, word_at, account_in as account_in_lem, number_in as number_in_lem};
 ghost use Rattle.sdb_script.specs.declared.account.AccountStatement.TheVariants as account;
 
-use crate::draft::{fits_int, insert_text, is_line, is_statement_line, numbers_in};
+use crate::line::{fits_int, insert_text, is_line, is_statement_line, numbers_in};
 use crate::scan::{after, number_at};
 use sdb_types::{NoMemory, Seq, Txt};
 use std::alloc::Global;

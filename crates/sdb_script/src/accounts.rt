@@ -4,12 +4,29 @@ ghost use Rattle.sdb_model.specs.Form.{lines_of, client_script};
 ghost use Rattle.sdb_model.specs.declared.script.Script.{Script};
 ghost use Rattle.sdb_script.specs.Accounts.{IsAccountScript, IsNotPlayed, IsFormOf, most_script_bytes};
 ghost use Rattle.sdb_script.specs.Drawn.{nothing_drawn, drawn_from};
+ghost use Rattle.sdb_script.specs.declared.accounts.FormRefused.TheVariants.{NoMemory as OutOfMemory};
 
-use crate::draft::LineRefused;
 use crate::drawing::{AccountForm, Drawing};
-use crate::form::FormRefused;
+use crate::line::LineRefused;
 use crate::lines::{first_line, lf_count};
+use sdb_types::NoMemory;
 use std::alloc::Global;
+
+/// Why a text isn't played.
+#[derive(Clone, Copy, Debug, PartialEq, Eq)]
+pub enum FormRefused {
+    /// The number of the line that holds the first byte past the limit, or of the first line that is not of the form.
+    NotBuilt(u64),
+    NoMemory,
+}
+
+impl From<NoMemory> for FormRefused {
+    ghost from_gives = { λ _ e. e ≡ OutOfMemory };
+
+    fn from(_e: NoMemory) -> FormRefused {
+        FormRefused::NoMemory
+    }
+}
 
 /// The number of bytes that are read of a script.
 pub const MOST_SCRIPT_BYTES: usize = 67_108_864;

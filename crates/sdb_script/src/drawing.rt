@@ -2,11 +2,11 @@
 ghost use Rattle.std.specs.Prelude.{◌≡◌, ◌++◌, ◌∷◌, [], Some, None, IfSome, IfNone, IsSome, true, false, OnOk, IfOk, IsErrOf, codes};
 ghost use Rattle.std.specs.Str.{bytes_eq};
 ghost use Rattle.sdb_model.specs.declared.script.ScriptClient.{ScriptClient};
-ghost use Rattle.sdb_script.specs.Drafts.{client_in};
+ghost use Rattle.sdb_script.specs.Pieces.{client_in};
 ghost use Rattle.sdb_script.specs.Drawn.{Drawn, nothing_drawn, drawn, drawn_among, told_by, if_wanted, to_section, with_statement, inside_after as inside_after_lem, section_of as section_of_lem};
 
 use crate::account::{AccountStatement, AccountStatements, account_in, account_text};
-use crate::draft::{LineRefused, client_in, is_line};
+use crate::line::{LineRefused, client_in, is_line};
 use sdb_model::{ScriptClient, Texts};
 use sdb_types::{Name, NoMemory};
 use std::alloc::Global;

@@ -1,6 +1,6 @@
 use Rattle.std.proofs.Common.{◌≡◌, ◌∙◌, ◌≤◌, length, inr, arith, sym, ap, Err}
 use Rattle.sdb_script.specs.Drawn.{drawn_from, nothing_drawn}
-use Rattle.sdb_script.specs.declared.form.FormRefused.TheVariants.{NotBuilt}
+use Rattle.sdb_script.specs.declared.accounts.FormRefused.TheVariants.{NotBuilt}
 use Rattle.sdb_script.specs.Accounts.{most_script_bytes}
 use Rattle.sdb_model.specs.Form.{lines_of}
 use Rattle.sdb_script.proofs.AccountScripts.{first_bad, whole, ends_early}

@@ -4,7 +4,7 @@ use Rattle.std.specs.String.{string_bytes}
 use Rattle.sdb_model.specs.Reading.{statement_text_of}
 use Rattle.sdb_model.specs.Form.{insert_of}
 use Rattle.sdb_script.proofs.Texts.{insert_pieces}
-use Rattle.sdb_script.proofs.draft.insert_text.Goals as goal
+use Rattle.sdb_script.proofs.line.insert_text.Goals as goal
 
 pub returns : goal.returns
 returns c =
