@@ -1,8 +1,9 @@
 //! A hash map whose keys keep the order of their first use.
-ghost use Rattle.std.specs.Prelude.{◌≡◌, [], OnOk, OnErr, slice_get, length};
+ghost use Rattle.std.specs.Prelude.{◌≡◌, [], OnOk, OnErr, slice_get, length, position, take};
 ghost use Rattle.std.specs.Option.{option_copied, option_map};
+ghost use Rattle.std.specs.Map.{keys_of};
 ghost use Rattle.std.specs.Map.Iter.{deref_pair};
-ghost use Rattle.sdb_keyed.specs.Entries.{value_at, with_value};
+ghost use Rattle.sdb_keyed.specs.Entries.{same_key, value_at, with_value};
 
 use indexmap::IndexMap;
 use sdb_types::{Key, NoMemory};
@@ -56,6 +57,22 @@ impl<V> KeyMap<V> {
         ensures { option_copied result ≡ value_at self.now key.now }
     {
         self.entries.get(key)
+    }
+
+    /// The place of a key, from 0.
+    pub fn place(&self, key: &Key) -> Option<usize>
+        ensures { result ≡ position (same_key key.now) (keys_of self.now) }
+    {
+        self.entries.get_index_of(key)
+    }
+
+    /// Keeps the keys that were put first, so many, and drops the others. Takes no memory.
+    pub fn truncate(&mut self, len: usize)
+    where
+        V: Drop,
+        ensures { self.new ≡ take len self.old }
+    {
+        self.entries.truncate(len);
     }
 
     /// Puts a value at a key. A key that is there keeps its place, and a new one goes last.
