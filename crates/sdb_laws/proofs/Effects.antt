@@ -54,11 +54,11 @@ after_delete key c m k = by (holds c (record_at m key))
 
 ---- shelves
 
-first_same : (shelves : List Shelf) (name : Name) (c : Contents) → first_name (with_contents shelves name c) ≡ first_name shelves
+pub first_same : (shelves : List Shelf) (name : Name) (c : Contents) → first_name (with_contents shelves name c) ≡ first_name shelves
 first_same [] name c = refl
 first_same (s ∷ ss) name c = elim (same_name s.name name) as (λ b. (if b then record { name = s.name; contents = c } else s).name ≡ s.name) [ true ↦ refl | false ↦ refl ]
 
-store_same : (places : List Place) (shelves : List Shelf) (name : Name) (c : Contents) (ns : Name) → store_of places (with_contents shelves name c) ns ≡ store_of places shelves ns
+pub store_same : (places : List Place) (shelves : List Shelf) (name : Name) (c : Contents) (ns : Name) → store_of places (with_contents shelves name c) ns ≡ store_of places shelves ns
 store_same places shelves name c ns = ap (λ x. option_map_or (λ (p : Place). p.store) (find (λ p. same_name p.ns ns) places) x) (first_same shelves name c)
 
 same_name_is : (a b : Name) → same_name a b ≡ true → a ≡ b
@@ -68,7 +68,7 @@ same_name_self : (a : Name) → same_name a a ≡ true
 same_name_self a = same_name-itself a
 
 -- the store of the call
-held_there : (shelves : List Shelf) (name : Name) (c held : Contents) → held_by shelves name ≡ Some held → held_by (with_contents shelves name c) name ≡ Some c
+pub held_there : (shelves : List Shelf) (name : Name) (c held : Contents) → held_by shelves name ≡ Some held → held_by (with_contents shelves name c) name ≡ Some c
 held_there [] name c held h = absurd (cc)
 held_there (s ∷ ss) name c held h = by (held_there ss name c held) (same_name s.name name) refl h
   where
@@ -77,7 +77,7 @@ held_there (s ∷ ss) name c held h = by (held_there ss name c held) (same_name 
     by rest false e f = rw e (rw e (rest f))
 
 -- every other store
-held_elsewhere : (shelves : List Shelf) (name other : Name) (c : Contents) → (name ≢ other) → held_by (with_contents shelves name c) other ≡ held_by shelves other
+pub held_elsewhere : (shelves : List Shelf) (name other : Name) (c : Contents) → (name ≢ other) → held_by (with_contents shelves name c) other ≡ held_by shelves other
 held_elsewhere [] name other c n = refl
 held_elsewhere (s ∷ ss) name other c n = by (held_elsewhere ss name other c n) (same_name s.name name) refl (same_name s.name other) refl
   where
@@ -111,36 +111,41 @@ pub record AtCall (places : List Place) (q : Request) (r : Reply) (before now : 
   pub here : (k : Key) → k.table.ns ≡ (table_asked q).ns → (standing places before k ≡ record_at held k) × (standing places now k ≡ record_at left k)
   pub there : (k : Key) → ((standing places before k ≡ record_at held k) × (standing places now k ≡ record_at left k)) ⊎ ((standing places now k ≡ standing places before k) × (k.table.ns ≢ (table_asked q).ns))
 
+same_name_tells : (a b : Name) → (a ≡ b) ⊎ (a ≢ b)
+same_name_tells a b = by (same_name a b) refl
+  where
+    by : (x : Bool) → same_name a b ≡ x → (a ≡ b) ⊎ (a ≢ b)
+    by true e = inl (same_name_is a b e)
+    by false e = inr (λ same. no (sym e ∙ ap (same_name a) (sym same) ∙ same_name_self a))
+      where
+        no : false ≡ true → ⊥
+        no x = absurd (cc)
+
+now_at : (places : List Place) (store : Name) (q : Request) (how : How) (r : Reply) (before now : List Shelf) (c : IsCall places store q how r before now) (k : Key) → standing places now k ≡ option_map_or (λ m. record_at m k) (held_by (with_contents before store c.left) (store_of places before k.table.ns)) None
+now_at places store q how r before now c k = ap (λ s. standing places s k) c.others ∙ ap (λ n. option_map_or (λ m. record_at m k) (held_by (with_contents before store c.left) n) None) (store_same places before store c.left k.table.ns)
+
+-- in the call's store
+pub stands_in_store : (places : List Place) (store : Name) (q : Request) (how : How) (r : Reply) (before now : List Shelf) (c : IsCall places store q how r before now) (k : Key) → store ≡ store_of places before k.table.ns → (standing places before k ≡ record_at c.held k) × (standing places now k ≡ record_at c.left k)
+stands_in_store places store q how r before now c k e = (
+  ap (λ (n : Name). option_map_or (λ m. record_at m k) (held_by before n) None) (sym e) ∙ ap (λ (x : Option Contents). option_map_or (λ m. record_at m k) x None) c.found,
+  now_at places store q how r before now c k ∙ ap (λ (n : Name). option_map_or (λ m. record_at m k) (held_by (with_contents before store c.left) n) None) (sym e) ∙ ap (λ (x : Option Contents). option_map_or (λ m. record_at m k) x None) (held_there before store c.left c.held c.found),
+)
+
+stands_elsewhere : (places : List Place) (store : Name) (q : Request) (how : How) (r : Reply) (before now : List Shelf) (c : IsCall places store q how r before now) (k : Key) → store ≢ store_of places before k.table.ns → standing places now k ≡ standing places before k
+stands_elsewhere places store q how r before now c k n = now_at places store q how r before now c k ∙ ap (λ (x : Option Contents). option_map_or (λ m. record_at m k) x None) (held_elsewhere before store (store_of places before k.table.ns) c.left n)
+
+-- in the call's store, or in another
+pub stands_anywhere : (places : List Place) (store : Name) (q : Request) (how : How) (r : Reply) (before now : List Shelf) (c : IsCall places store q how r before now) (k : Key) → ((standing places before k ≡ record_at c.held k) × (standing places now k ≡ record_at c.left k)) ⊎ ((standing places now k ≡ standing places before k) × (k.table.ns ≢ (table_asked q).ns))
+stands_anywhere places store q how r before now c k = elim (same_name_tells store (store_of places before k.table.ns)) [
+  | inl e ↦ inl (stands_in_store places store q how r before now c k e)
+  | inr n ↦ inr (stands_elsewhere places store q how r before now c k n, λ e. n (c.placed ∙ ap (store_of places before) (sym e)))
+]
+
 pub at_call : (places : List Place) (store : Name) (q : Request) (how : How) (r : Reply) (before now : List Shelf) → IsCall places store q how r before now → AtCall places q r before now
 at_call places store q how r before now c = record {
   held = c.held;
   left = c.left;
   moved = moved q how r c.held c.left c.performed;
-  here = λ k e. in_store k (c.placed ∙ ap (store_of places before) (sym e));
-  there = λ k. elim (same_name_tells store (store_of places before k.table.ns)) [
-    | inl e ↦ inl (in_store k e)
-    | inr n ↦ inr (elsewhere k n, λ e. n (c.placed ∙ ap (store_of places before) (sym e)))
-  ];
+  here = λ k e. stands_in_store places store q how r before now c k (c.placed ∙ ap (store_of places before) (sym e));
+  there = stands_anywhere places store q how r before now c;
 }
-  where
-    now_at : (k : Key) → standing places now k ≡ option_map_or (λ m. record_at m k) (held_by (with_contents before store c.left) (store_of places before k.table.ns)) None
-    now_at k = ap (λ s. standing places s k) c.others ∙ ap (λ n. option_map_or (λ m. record_at m k) (held_by (with_contents before store c.left) n) None) (store_same places before store c.left k.table.ns)
-
-    in_store : (k : Key) → store ≡ store_of places before k.table.ns → (standing places before k ≡ record_at c.held k) × (standing places now k ≡ record_at c.left k)
-    in_store k e = (
-      ap (λ (n : Name). option_map_or (λ m. record_at m k) (held_by before n) None) (sym e) ∙ ap (λ (x : Option Contents). option_map_or (λ m. record_at m k) x None) c.found,
-      now_at k ∙ ap (λ (n : Name). option_map_or (λ m. record_at m k) (held_by (with_contents before store c.left) n) None) (sym e) ∙ ap (λ (x : Option Contents). option_map_or (λ m. record_at m k) x None) (held_there before store c.left c.held c.found),
-    )
-
-    elsewhere : (k : Key) → store ≢ store_of places before k.table.ns → standing places now k ≡ standing places before k
-    elsewhere k n = now_at k ∙ ap (λ (x : Option Contents). option_map_or (λ m. record_at m k) x None) (held_elsewhere before store (store_of places before k.table.ns) c.left n)
-
-    same_name_tells : (a b : Name) → (a ≡ b) ⊎ (a ≢ b)
-    same_name_tells a b = by (same_name a b) refl
-      where
-        by : (x : Bool) → same_name a b ≡ x → (a ≡ b) ⊎ (a ≢ b)
-        by true e = inl (same_name_is a b e)
-        by false e = inr (λ same. no (sym e ∙ ap (same_name a) (sym same) ∙ same_name_self a))
-          where
-            no : false ≡ true → ⊥
-            no x = absurd (cc)

@@ -17,3 +17,4 @@ pub mod Steps
 pub mod Commits
 pub mod Run
 pub mod AllStatements
+pub mod Abouts

@@ -2,7 +2,10 @@
 ghost use Rattle.std.specs.Prelude.{◌≡◌, ℕ, ◌<◌, ◌^◌, ◌++◌, ◌∷◌, List, [], length, map, true, false};
 ghost use Rattle.std.specs.FinMap.{empty};
 ghost use Rattle.std.specs.List.{list_all};
+ghost use Rattle.sdb_model.specs.declared.script.Place.{Place};
 ghost use Rattle.sdb_model.specs.declared.script.ScriptClient.{ScriptClient};
+ghost use Rattle.sdb_model.specs.Events.{Shelf, store_of};
+ghost use Rattle.sdb_spread.specs.Spread.{AreShelved, HoldAs, moved_outcome, placed_script};
 ghost use Rattle.sdb_types.specs.Contents.{Contents};
 ghost use Rattle.sdb_model.specs.Exec.{Tables};
 ghost use Rattle.sdb_model.specs.Form.{client_script, account_table};
@@ -18,6 +21,15 @@ ghost use Rattle.sdb_session.specs.Session.{shelves_of, start, taken_all, outcom
 pub fn one_client_is_serial()
     ensures run { (c : ScriptClient) (ss : List AccountStatement) → c.statements ≡ map account_text ss → length c.statements < 2 ^ 64 → are_taken false ss ≡ true → list_all fits_account ss ≡ true
         → IsRun (client_script c) (shelves_of empty) (shelves_of (taken_all (start empty) ss).held) (outcome_of (taken_all (start empty) ss).events (taken_all (start empty) ss).order (taken_all (start empty) ss).held) }
+{}
+
+/// The same on any stores, wherever the accounts and the coordinator's rows are placed, where none of these tables holds a
+/// record: each call goes to the store of its table, and what the stores then hold of these tables is what one store would.
+pub fn one_client_on_any_stores()
+    ensures run { (c : ScriptClient) (ss : List AccountStatement) (places : List Place) (opening : List Shelf) → c.statements ≡ map account_text ss → length c.statements < 2 ^ 64 → are_taken false ss ≡ true → list_all fits_account ss ≡ true
+        → AreShelved places opening → HoldAs (account_table ∷ []) places opening empty
+        → (closing : List Shelf) × IsRun (placed_script (client_script c) places) opening closing (moved_outcome (store_of places opening) (outcome_of (taken_all (start empty) ss).events (taken_all (start empty) ss).order (taken_all (start empty) ss).held))
+            × HoldAs (account_table ∷ []) places closing (taken_all (start empty) ss).held }
 {}
 
 /// The same from any contents whose account records are committed ones: the answers and the rows are those of the

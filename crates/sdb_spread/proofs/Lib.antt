@@ -1,0 +1,5 @@
+pub mod Moved
+pub mod Followed
+pub mod Told
+pub mod Calls
+pub mod Traces

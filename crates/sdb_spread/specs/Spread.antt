@@ -1,0 +1,59 @@
+-- A run whose tables stand on one store, and the same run with its tables spread over several.
+use Rattle.std.specs.Prelude.{◌≡◌, Bool, true, ◌||◌, List, [], ◌∷◌, map, is_some, IsSome}
+use Rattle.std.specs.List.{AllByRecursion}
+use Rattle.sdb_types.specs.declared.key.Key.{Key}
+use Rattle.sdb_types.specs.declared.key.TableName.{TableName}
+use Rattle.sdb_types.specs.Contents.{Contents, record_at}
+use Rattle.sdb_schema.specs.declared.table.Table.{Table}
+use Rattle.sdb_record.specs.Coordinator.{is_coordinator_table}
+use Rattle.sdb_model.specs.declared.event.Event.{Event}
+use Rattle.sdb_model.specs.declared.event.Event.TheVariants as event
+use Rattle.sdb_model.specs.declared.event.Outcome.{Outcome}
+use Rattle.sdb_model.specs.declared.script.Place.{Place}
+use Rattle.sdb_model.specs.declared.script.Script.{Script}
+use Rattle.sdb_model.specs.Rows.{Name}
+use Rattle.sdb_model.specs.Exec.{find_table}
+use Rattle.sdb_model.specs.Events.{Shelf, held_by, store_of, standing, table_asked}
+
+-- one store, and nothing else
+abbrev pub one_shelf : Name → Contents → List Shelf
+one_shelf name held = record { name = name; contents = held } ∷ []
+
+-- an event, with its call made on the store that is given for its table's namespace
+abbrev pub moved_event : (Name → Name) → Event → Event
+moved_event at (event.Take client text answer) = event.Take client text answer
+moved_event at (event.Call client store q how r answer) = event.Call client (at (table_asked q).ns) q how r answer
+moved_event at (event.Stop client) = event.Stop client
+moved_event at (event.Clock moment) = event.Clock moment
+moved_event at (event.Idle client) = event.Idle client
+
+abbrev pub moved_events : (Name → Name) → List Event → List Event
+moved_events at = map (moved_event at)
+
+-- an outcome, with its calls so moved
+abbrev pub moved_outcome : (Name → Name) → Outcome → Outcome
+moved_outcome at o = record { events = moved_events at o.events; order = o.order; tables = o.tables }
+
+-- a script with these places
+abbrev pub placed_script : Script → List Place → Script
+placed_script script places = record { places = places; catalog = script.catalog; clients = script.clients; moves = script.moves }
+
+-- the tables that a run is about: those of its catalog, and the coordinator's
+abbrev pub is_played : List Table → TableName → Bool
+is_played catalog table = is_some (find_table catalog table) || is_coordinator_table table
+
+-- a call is about one of them
+abbrev pub IsAbout : List Table → Event → Type 0
+IsAbout catalog (event.Call client store q how r answer) = is_played catalog (table_asked q) ≡ true
+IsAbout catalog _ = Unit {0}
+
+abbrev pub AreAbout : List Table → List Event → Type 0
+AreAbout catalog events = AllByRecursion (IsAbout catalog) events
+
+-- At each key of these tables the stores hold what the one store does.
+pub record HoldAs (catalog : List Table) (places : List Place) (shelves : List Shelf) (held : Contents) : Type 0 where
+  pub at : (key : Key) → is_played catalog key.table ≡ true → standing places shelves key ≡ record_at held key
+
+-- Each namespace has a store that is attached.
+abbrev pub AreShelved : List Place → List Shelf → Type 0
+AreShelved places shelves = (ns : Name) → IsSome (held_by shelves (store_of places shelves ns))

@@ -1,0 +1,41 @@
+//! Which store a table stands on changes nothing of a run but the names of the stores in its calls.
+ghost use Rattle.std.specs.Prelude.{◌≡◌, ◌≢◌, List, [], true};
+ghost use Rattle.sdb_types.specs.declared.record.Request.{Request};
+ghost use Rattle.sdb_types.specs.declared.record.Reply.{Reply};
+ghost use Rattle.sdb_types.specs.declared.record.Reply.TheVariants as reply;
+ghost use Rattle.sdb_types.specs.declared.record.Span.{Span};
+ghost use Rattle.sdb_types.specs.Contents.{Contents, reply_to, after, rows_in};
+ghost use Rattle.sdb_schema.specs.declared.table.Table.{Table};
+ghost use Rattle.sdb_model.specs.declared.event.Event.{Event};
+ghost use Rattle.sdb_model.specs.declared.event.How.TheVariants as how;
+ghost use Rattle.sdb_model.specs.declared.event.Outcome.{Outcome};
+ghost use Rattle.sdb_model.specs.declared.script.Place.{Place};
+ghost use Rattle.sdb_model.specs.declared.script.Script.{Script};
+ghost use Rattle.sdb_model.specs.Rows.{Name};
+ghost use Rattle.sdb_model.specs.Events.{Shelf, IsCall, IsTrace, held_by, store_of, table_asked};
+ghost use Rattle.sdb_model.specs.Told.{IsRun};
+ghost use Rattle.sdb_spread.specs.Spread.{AreAbout, AreShelved, HoldAs, is_played, moved_events, moved_outcome, one_shelf, placed_script};
+
+/// A run on one store, whose events agree with several stores too, and leave in them what the one store holds, is a run on
+/// these: its calls go to the stores of their tables, and its order, its answers and its rows stay.
+pub fn runs_on_many_stores()
+    ensures run { (script : Script) (name : Name) (m0 m1 : Contents) (o : Outcome) (places : List Place) (at : Name → Name) (opening closing : List Shelf) (moments : List (List Shelf))
+        → script.places ≡ [] → IsRun script (one_shelf name m0) (one_shelf name m1) o
+        → IsTrace places (moved_events at o.events) opening moments closing → HoldAs script.catalog places closing m1
+        → IsRun (placed_script script places) opening closing (moved_outcome at o) }
+{}
+
+/// Each list of events that agrees with one store agrees with several that hold the same to begin with, and leaves the same in
+/// them.
+pub fn traces_on_many_stores()
+    ensures traced { (catalog : List Table) (name : Name) (m0 m1 : Contents) (events : List Event) (singles : List (List Shelf)) (places : List Place) (opening : List Shelf)
+        → IsTrace [] events (one_shelf name m0) singles (one_shelf name m1) → AreAbout catalog events → AreShelved places opening → HoldAs catalog places opening m0
+        → (moments : List (List Shelf)) × (closing : List Shelf) × IsTrace places (moved_events (store_of places opening) events) opening moments closing × HoldAs catalog places closing m1 }
+{}
+
+/// A call that was seen, and found memory, is answered as by the one store, and leaves the same.
+pub fn calls_on_many_stores()
+    ensures called { (catalog : List Table) (places : List Place) (store : Name) (q : Request) (r : Reply) (before now : List Shelf) (held : Contents)
+        → IsCall places store q how.Seen r before now → r ≢ reply.NoMemory → is_played catalog (table_asked q) ≡ true → HoldAs catalog places before held
+        → (r ≡ reply_to q held) × HoldAs catalog places now (after q held) }
+{}
