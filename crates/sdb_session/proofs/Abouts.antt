@@ -1,20 +1,18 @@
 -- The calls of one client are about accounts and the coordinator's rows, so that its run is one on any stores.
-use Rattle.std.proofs.Common.{◌≡◌, ℕ, ◌<◌, ◌^◌, ℤ, Bool, true, false, List, [], ◌∷◌, ◌++◌, length, Option, Some, None, refl, sym, ap, ◌∙◌, pos}
-use Rattle.std.specs.Prelude.{map, filter, fold, not, is_some, if◌then◌else◌}
+use Rattle.std.proofs.Common.{◌≡◌, ℕ, ◌<◌, ◌^◌, ℤ, Bool, true, false, List, [], ◌∷◌, ◌++◌, length, Option, Some, None, refl, ap, pos}
+use Rattle.std.specs.Prelude.{map, not, is_some, if◌then◌else◌}
 use Rattle.std.specs.FinMap.{empty}
 use Rattle.std.specs.List.{AllByRecursion, list_all}
 use Rattle.sdb_types.specs.declared.key.Key.{Key}
 use Rattle.sdb_types.specs.declared.pair.Pair.{Pair}
 use Rattle.sdb_types.specs.declared.record.Record.{Record}
 use Rattle.sdb_types.specs.declared.record.Request.{Request}
-use Rattle.sdb_types.specs.declared.record.Request.TheVariants as ask
 use Rattle.sdb_types.specs.declared.txid.TxId.{TxId}
-use Rattle.sdb_types.specs.Contents.{Contents, record_at, reply_to, after}
+use Rattle.sdb_types.specs.Contents.{Contents, record_at, after}
 use Rattle.sdb_record.specs.declared.write.Write.{Write}
 use Rattle.sdb_record.specs.Coordinator.{coordinator_key_of, coordinator_row_of}
 use Rattle.sdb_record.specs.Rolls.{prepared_record, forward_record}
 use Rattle.sdb_model.specs.declared.answer.Answer.{Answer}
-use Rattle.sdb_model.specs.declared.event.Event.{Event}
 use Rattle.sdb_model.specs.declared.script.Place.{Place}
 use Rattle.sdb_model.specs.declared.script.ScriptClient.{ScriptClient}
 use Rattle.sdb_model.specs.Events.{Shelf, store_of, table_asked}
@@ -26,15 +24,15 @@ use Rattle.sdb_script.specs.declared.account.AccountStatement.TheVariants as acc
 use Rattle.sdb_spread.specs.Spread.{is_played, IsAbout, AreAbout, AreShelved, HoldAs, moved_outcome, placed_script}
 use Rattle.sdb_spread.proofs.Told.{run_moved}
 use Rattle.sdb_spread.proofs.Traces.{traced}
-use Rattle.sdb_txn.specs.Commit.{Noted, write_at, only_read, prepare_of, extra_read, decide_of, forward_of, commit_requests}
+use Rattle.sdb_txn.specs.Commit.{Noted, write_at, only_read, prepare_of, extra_read, forward_of}
 use Rattle.sdb_txn.specs.Txn.{Working, is_known, noted, row_seen}
-use Rattle.sdb_session.specs.Session.{Session, start, account_key, take_event, call_event, answer_behind, commit_events, key_read, answer_to, changed_by, after_read, look_events, asked_at_commit, reading, looked, taken_inside, taken_at, taken, taken_all, outcome_of, store_name, shelves_of, are_taken}
+use Rattle.sdb_session.specs.Session.{Session, start, take_event, commit_events, key_read, answer_to, changed_by, look_events, asked_at_commit, reading, looked, taken_inside, taken_at, taken, taken_all, outcome_of, store_name, are_taken}
 use Rattle.sdb_session.proofs.Exec.{catalog}
 use Rattle.sdb_session.proofs.AllStatements.{run_from_empty}
 
-all_more : {A : Type 0} {P : A → Type 0} (xs ys : List A) → AllByRecursion P xs → AllByRecursion P ys → AllByRecursion P (xs ++ ys)
-all_more [] ys h k = k
-all_more (x ∷ xs) ys h k = (h.0, all_more xs ys h.1 k)
+all_more : {A : Type 0} (P : A → Type 0) (xs ys : List A) → AllByRecursion P xs → AllByRecursion P ys → AllByRecursion P (xs ++ ys)
+all_more P [] ys h k = k
+all_more P (x ∷ xs) ys h k = (h.0, all_more P xs ys h.1 k)
 
 ---- requests
 
@@ -78,8 +76,8 @@ reads_played (e ∷ es) ws h = read_played (not (is_some (write_at ws e.0))) e (
 asked_played : (w : Working) → AreReads w.reads → AreWrites w.writes → AllByRecursion IsPlayed (asked_at_commit w)
 unfolding coordinator_row_of
 asked_played w reads writes =
-    all_more (map (prepare_of w.id (pos 0)) w.writes) _ (prepares_played w.id (pos 0) w.writes writes)
-    (all_more (map extra_read (only_read w.reads w.writes)) _ (reads_played w.reads w.writes reads) (row_played w.id, forwards_played w.id (pos 0) w.writes writes))
+    all_more IsPlayed (map (prepare_of w.id (pos 0)) w.writes) _ (prepares_played w.id (pos 0) w.writes writes)
+    (all_more IsPlayed (map extra_read (only_read w.reads w.writes)) _ (reads_played w.reads w.writes reads) (row_played w.id, forwards_played w.id (pos 0) w.writes writes))
 
 commit_about : (qs : List Request) (m : Contents) → AllByRecursion IsPlayed qs → AreAbout catalog (commit_events qs m)
 commit_about [] m h = tt
@@ -107,10 +105,10 @@ read_of account.Commit = refl
 
 after_read_of : (b : Bool) (w : Working) (key : Key) (found : Option Record) → IsOfAccount key → OfAccounts w → OfAccounts (if b then w else noted w key found)
 after_read_of true w key found e h = h
-after_read_of false w key found e h = record { reads = all_more w.reads _ h.reads (e, tt); writes = h.writes }
+after_read_of false w key found e h = record { reads = all_more (λ e. IsOfAccount e.0) w.reads _ h.reads (e, tt); writes = h.writes }
 
 changed_of : (a : AccountStatement) (row : Option (List Pair)) (w : Working) → OfAccounts w → OfAccounts (changed_by a row w)
-changed_of (account.Insert n m) None w h = record { reads = h.reads; writes = all_more w.writes _ h.writes (refl, tt) }
+changed_of (account.Insert n m) None w h = record { reads = h.reads; writes = all_more (λ (x : Write). IsOfAccount x.key) w.writes _ h.writes (refl, tt) }
 changed_of (account.Insert n m) (Some columns) w h = h
 changed_of (account.Select n) row w h = h
 changed_of account.Begin row w h = h
@@ -118,11 +116,11 @@ changed_of account.Commit row w h = h
 
 look_about : (b : Bool) (text : List ℕ) (key : Key) (found : Option Record) (a : Answer) → IsOfAccount key → AreAbout catalog (look_events b text key found a)
 look_about true text key found a e = (tt, tt)
-look_about false text key found a e = (tt, account_played key e, tt)
+look_about false text key found a e = (tt, (account_played key e, tt))
 
 looked_about : (s : Session) (w : Working) (a : AccountStatement) → AreAbout catalog s.events → OfAccounts w → Abouts (looked s w a)
 looked_about s w a h k = record {
-  events = all_more s.events _ h (look_about (is_known w (key_read a)) (account_text a) (key_read a) (record_at s.held (key_read a)) (answer_to a (row_seen (reading s w a) (key_read a))) (read_of a));
+  events = all_more (IsAbout catalog) s.events _ h (look_about (is_known w (key_read a)) (account_text a) (key_read a) (record_at s.held (key_read a)) (answer_to a (row_seen (reading s w a) (key_read a))) (read_of a));
   current = changed_of a (row_seen (reading s w a) (key_read a)) (reading s w a) (after_read_of (is_known w (key_read a)) w (key_read a) (record_at s.held (key_read a)) (read_of a) k);
 }
 
@@ -131,12 +129,12 @@ inside_about s w account.Begin h k = h
 inside_about s w (account.Insert n m) h k = looked_about s w (account.Insert n m) h.events k
 inside_about s w (account.Select n) h k = looked_about s w (account.Select n) h.events k
 inside_about s w account.Commit h k = record {
-  events = all_more (s.events ++ take_event (account_text account.Commit) None ∷ []) _ (all_more s.events _ h.events (tt, tt)) (commit_about (asked_at_commit w) s.held (asked_played w k.reads k.writes));
+  events = all_more (IsAbout catalog) (s.events ++ take_event (account_text account.Commit) None ∷ []) _ (all_more (IsAbout catalog) s.events _ h.events (tt, tt)) (commit_about (asked_at_commit w) s.held (asked_played w k.reads k.writes));
   current = tt;
 }
 
 about_at : (o : Option Working) (s : Session) (a : AccountStatement) → Abouts s → IsCurrent o → Abouts (taken_at o s a)
-about_at None s a h k = record { events = all_more s.events _ h.events (tt, tt); current = record { reads = tt; writes = tt } }
+about_at None s a h k = record { events = all_more (IsAbout catalog) s.events _ h.events (tt, tt); current = record { reads = tt; writes = tt } }
 about_at (Some w) s a h k = inside_about s w a h k
 
 all_about : (s : Session) (ss : List AccountStatement) → Abouts s → Abouts (taken_all s ss)

@@ -29,7 +29,7 @@ pub fn one_client_on_any_stores()
     ensures run { (c : ScriptClient) (ss : List AccountStatement) (places : List Place) (opening : List Shelf) → c.statements ≡ map account_text ss → length c.statements < 2 ^ 64 → are_taken false ss ≡ true → list_all fits_account ss ≡ true
         → AreShelved places opening → HoldAs (account_table ∷ []) places opening empty
         → (closing : List Shelf) × IsRun (placed_script (client_script c) places) opening closing (moved_outcome (store_of places opening) (outcome_of (taken_all (start empty) ss).events (taken_all (start empty) ss).order (taken_all (start empty) ss).held))
-            × HoldAs (account_table ∷ []) places closing (taken_all (start empty) ss).held }
+        × HoldAs (account_table ∷ []) places closing (taken_all (start empty) ss).held }
 {}
 
 /// The same from any contents whose account records are committed ones: the answers and the rows are those of the

@@ -1,35 +1,31 @@
 -- One call on the store of its table, and on the one store.
-use Rattle.std.proofs.Common.{◌≡◌, ◌≢◌, Bool, true, false, cond, List, [], ◌∷◌, Option, Some, None, ◌⊎◌, inl, inr, refl, sym, ap, subst, ◌∙◌, option_map}
-use Rattle.std.specs.Prelude.{◌&&◌, if◌then◌else◌, IsSome, is_some, map}
-use Rattle.std.specs.FinMap.{get, empty}
+use Rattle.std.proofs.Common.{◌≡◌, ◌≢◌, Bool, true, false, List, Option, Some, None, inl, inr, refl, sym, ap, ◌∙◌, option_map}
+use Rattle.std.specs.Prelude.{◌&&◌, if◌then◌else◌}
+use Rattle.std.specs.FinMap.{get}
 use Rattle.sdb_types.specs.declared.key.Key.{Key}
 use Rattle.sdb_types.specs.declared.key.TableName.{TableName}
 use Rattle.sdb_types.specs.declared.record.Record.{Record}
-use Rattle.sdb_types.specs.declared.record.Condition.{Condition}
 use Rattle.sdb_types.specs.declared.record.Request.{Request}
 use Rattle.sdb_types.specs.declared.record.Request.TheVariants as ask
 use Rattle.sdb_types.specs.declared.record.Reply.{Reply}
 use Rattle.sdb_types.specs.declared.record.Reply.TheVariants as reply
 use Rattle.sdb_types.specs.declared.record.Span.{Span}
-use Rattle.sdb_types.specs.Contents.{Contents, record_at, record_of, in_span, is_partition, holds, put_reply, reply_to, after, apply}
+use Rattle.sdb_types.specs.Contents.{Contents, record_at, record_of, in_span, is_partition, holds, put_reply, reply_to, after}
 use Rattle.sdb_types.specs.Exact.{equal_of}
 use Rattle.sdb_types.specs.Order.{table_cmp}
 use Rattle.sdb_types.proofs.Bools.{and_first}
 use Rattle.sdb_types.proofs.KeyOrder.{table_exact}
 use Rattle.sdb_schema.specs.declared.table.Table.{Table}
-use Rattle.sdb_record.proofs.NameLemmas.{same_name-itself}
 use Rattle.sdb_hashed.proofs.Spans.{same_rows}
-use Rattle.sdb_model.specs.declared.event.Event.{Event}
-use Rattle.sdb_model.specs.declared.event.Event.TheVariants as event
 use Rattle.sdb_model.specs.declared.event.How.{How}
-use Rattle.sdb_model.specs.declared.event.How.TheVariants.{Seen, Lost, Discarded, Broken}
+use Rattle.sdb_model.specs.declared.event.How.TheVariants.{Seen}
 use Rattle.sdb_model.specs.declared.script.Place.{Place}
-use Rattle.sdb_model.specs.Rows.{Name, same_name}
-use Rattle.sdb_model.specs.Events.{Shelf, held_by, with_contents, store_of, standing, table_asked, IsPerformed, IsCall, Effect, IsTrace}
+use Rattle.sdb_model.specs.Rows.{Name}
+use Rattle.sdb_model.specs.Events.{Shelf, store_of, table_asked, IsCall}
 use Rattle.sdb_laws.specs.Plan.{same_key}
 use Rattle.sdb_laws.proofs.Keys.{same_key_tells}
 use Rattle.sdb_laws.proofs.Effects.{after_put, after_delete, stands_in_store, stands_anywhere}
-use Rattle.sdb_spread.specs.Spread.{one_shelf, moved_event, moved_events, is_played, IsAbout, AreAbout, HoldAs, AreShelved}
+use Rattle.sdb_spread.specs.Spread.{is_played, HoldAs}
 
 ---- contents that agree on a table
 
@@ -109,9 +105,9 @@ pub called : (catalog : List Table) (places : List Place) (store : Name) (q : Re
     → (r ≡ reply_to q held) × HoldAs catalog places now (after q held)
 called catalog places store q r before now held c memory about h = elim c.performed [
   | inl p ↦ (
-      sym (ap (λ (x : Reply × Contents). x.0) p) ∙ same_reply q c.held held s,
-      held_as catalog places store q Seen r before now held (after q held) c h (λ k same. ap (λ (x : Reply × Contents). record_at x.1 k) (sym p) ∙ same_after q c.held held s k same) (left_apart q held),
-    )
+    sym (ap (λ (x : Reply × Contents). x.0) p) ∙ same_reply q c.held held s,
+    held_as catalog places store q Seen r before now held (after q held) c h (λ k same. ap (λ (x : Reply × Contents). record_at x.1 k) (sym p) ∙ same_after q c.held held s k same) (left_apart q held),
+  )
   | inr w ↦ absurd (memory w.0)
 ]
   where

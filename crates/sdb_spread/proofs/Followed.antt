@@ -1,5 +1,5 @@
 -- Events that follow a script's moves still do when their calls are moved to other stores.
-use Rattle.std.proofs.Common.{◌≡◌, ℕ, ◌+◌, Bool, true, false, List, [], ◌∷◌, ◌++◌, length, Some, refl, sym, ap, subst, ◌∙◌, inl, inr}
+use Rattle.std.proofs.Common.{◌≡◌, ℕ, ◌+◌, Bool, true, false, List, [], ◌∷◌, ◌++◌, ap, subst, ◌∙◌, inl, inr}
 use Rattle.std.specs.Prelude.{MatchBool}
 use Rattle.std.specs.List.{slice_get}
 use Rattle.std.proofs.lemmas.List.{length-map}
@@ -13,7 +13,7 @@ use Rattle.sdb_model.specs.declared.script.Move.{Move}
 use Rattle.sdb_model.specs.declared.script.Move.TheVariants as move
 use Rattle.sdb_model.specs.declared.script.ScriptClient.{ScriptClient}
 use Rattle.sdb_model.specs.Rows.{Name}
-use Rattle.sdb_model.specs.Follows.{has_work, is_pending, taken_by, texts_of, IsCallOf, IsTakeOf, IsStep, IsHowOfStep, IsHowOfLose, IsHowOfDiscard, IsActed, AreStepsOf, AllIdle, IsTurn, IsRest, IsMoved, AreMoved, Follows, end_of}
+use Rattle.sdb_model.specs.Follows.{has_work, is_pending, texts_of, IsCallOf, IsTakeOf, IsStep, IsHowOfStep, IsHowOfLose, IsHowOfDiscard, IsActed, AreStepsOf, AllIdle, IsTurn, IsRest, IsMoved, AreMoved, Follows, end_of}
 use Rattle.sdb_spread.specs.Spread.{moved_event, moved_events}
 use Rattle.sdb_spread.proofs.Moved.{moved_more, work_moved, pending_moved, taken_moved}
 

@@ -1,22 +1,18 @@
 -- What doesn't ask for the stores of calls is the same when they are moved.
-use Rattle.std.proofs.Common.{◌≡◌, ℕ, ◌+◌, Bool, true, false, cond, List, [], ◌∷◌, ◌++◌, Option, Some, None, refl, sym, ap, ◌∙◌}
+use Rattle.std.proofs.Common.{◌≡◌, ℕ, ◌+◌, Bool, false, cond, List, [], ◌∷◌, ◌++◌, Option, Some, None, refl, ap, ◌∙◌}
 use Rattle.std.specs.Prelude.{map, fold, find, filter, take_while, not, nat_lt, ◌&&◌, ◌||◌, unwrap_or, length}
 use Rattle.std.specs.List.{count_by, list_any, enumerate_from}
 use Rattle.std.specs.Option.{option_map, option_map_or, option_and_then}
 use Rattle.sdb_types.specs.declared.txid.TxId.{TxId}
-use Rattle.sdb_types.specs.declared.record.Reply.{Reply}
 use Rattle.sdb_types.specs.declared.record.Reply.TheVariants as reply
-use Rattle.sdb_model.specs.declared.answer.Answer.{Answer}
 use Rattle.sdb_model.specs.declared.event.Event.{Event}
 use Rattle.sdb_model.specs.declared.event.Event.TheVariants as event
 use Rattle.sdb_model.specs.declared.event.How.TheVariants.{Seen, Lost, Discarded, Broken}
-use Rattle.sdb_model.specs.declared.event.Point.{Point}
 use Rattle.sdb_model.specs.declared.script.ScriptClient.{ScriptClient}
 use Rattle.sdb_model.specs.Reading.{reads_commit}
 use Rattle.sdb_model.specs.Rows.{Name}
 use Rattle.sdb_model.specs.Follows.{takes_by, stops, pends_after, taken_by, has_stopped, is_pending, has_work, texts_of}
-use Rattle.sdb_model.specs.Transactions.{Said, said, said_after, from_begin, said_since, begun, commit_of, ending, ends, body, is_effective, first_of, rest_of, ordinal_of, client_of, is_prepared_by, last_prepare, point}
-use Rattle.sdb_model.specs.Told.{answers_told, commit_answer}
+use Rattle.sdb_model.specs.Transactions.{Said, said, said_after, from_begin, begun, commit_of, ends, body, is_effective, first_of, rest_of, ordinal_of, client_of, is_prepared_by, last_prepare, point}
 use Rattle.sdb_spread.specs.Spread.{moved_event, moved_events}
 
 ---- lists

@@ -1,8 +1,7 @@
 -- A run on one store is one on several that hold the same.
-use Rattle.std.proofs.Common.{◌≡◌, ℕ, ◌<◌, ◌^◌, Bool, true, false, cond, List, [], ◌∷◌, ◌++◌, Option, Some, None, refl, sym, ap, subst, ◌∙◌, ◌⊎◌, option_map}
-use Rattle.std.specs.Prelude.{map, IsSome, IsSomeAnd, Contains, ◌↔◌, ◌||◌, is_some, slice_index_or, find, if◌then◌else◌}
-use Rattle.std.specs.Option.{option_and_then, option_map_or}
-use Rattle.std.specs.FinMap.{get, empty}
+use Rattle.std.proofs.Common.{◌≡◌, Bool, true, false, List, [], ◌∷◌, Option, Some, None, refl, sym, ap, subst, ◌∙◌, ◌⊎◌}
+use Rattle.std.specs.Prelude.{map, IsSome, IsSomeAnd, Contains, ◌↔◌, ◌||◌, is_some, slice_index_or, if◌then◌else◌}
+use Rattle.std.specs.Option.{option_and_then}
 use Rattle.sdb_types.specs.declared.key.Key.{Key}
 use Rattle.sdb_types.specs.declared.pair.Pair.{Pair}
 use Rattle.sdb_types.specs.declared.record.Record.{Record}
@@ -25,12 +24,12 @@ use Rattle.sdb_model.specs.declared.event.TableDump.{TableDump}
 use Rattle.sdb_model.specs.declared.script.Place.{Place}
 use Rattle.sdb_model.specs.declared.script.Script.{Script}
 use Rattle.sdb_model.specs.declared.statement.Statement.{Statement}
-use Rattle.sdb_model.specs.Rows.{Name, same_name}
+use Rattle.sdb_model.specs.Rows.{Name}
 use Rattle.sdb_model.specs.Exec.{find_table}
-use Rattle.sdb_model.specs.Events.{Shelf, held_by, standing, IsTrace}
+use Rattle.sdb_model.specs.Events.{Shelf, standing, IsTrace}
 use Rattle.sdb_model.specs.Images.{decision_at, decision_on, row_at}
-use Rattle.sdb_model.specs.Transactions.{Said, begun, body, commit_of, point, Recorded, IsOrder}
-use Rattle.sdb_model.specs.Told.{AreBodies, AreRead, answers_told, commit_answer, serial, AreImages, IsTold, KeepsRealTime, StandsBefore, IsRun}
+use Rattle.sdb_model.specs.Transactions.{Said, IsOrder}
+use Rattle.sdb_model.specs.Told.{AreBodies, AreRead, answers_told, commit_answer, IsTold, KeepsRealTime, IsRun}
 use Rattle.sdb_spread.specs.Spread.{one_shelf, moved_events, moved_outcome, placed_script, is_played, HoldAs}
 use Rattle.sdb_spread.proofs.Moved.{begun_moved, body_moved, commit_moved, point_moved}
 use Rattle.sdb_spread.proofs.Followed.{follows_moved}

@@ -1,14 +1,13 @@
 -- Events that agree with one store agree with several that hold the same.
-use Rattle.std.proofs.Common.{◌≡◌, ◌≢◌, Bool, true, false, List, [], ◌∷◌, Option, Some, None, ◌⊎◌, inl, inr, refl, sym, ap, subst, ◌∙◌, option_map}
-use Rattle.std.specs.Prelude.{IsSome, is_some, map, find}
+use Rattle.std.proofs.Common.{◌≡◌, ◌≢◌, Bool, true, false, List, [], ◌∷◌, Option, Some, None, inl, inr, refl, sym, ap, subst, ◌∙◌}
+use Rattle.std.specs.Prelude.{IsSome, is_some}
 use Rattle.std.specs.FinMap.{empty}
 use Rattle.std.specs.Option.{option_map_or}
 use Rattle.sdb_types.specs.declared.key.Key.{Key}
 use Rattle.sdb_types.specs.declared.key.TableName.{TableName}
 use Rattle.sdb_types.specs.declared.record.Request.{Request}
 use Rattle.sdb_types.specs.declared.record.Reply.{Reply}
-use Rattle.sdb_types.specs.declared.record.Reply.TheVariants as reply
-use Rattle.sdb_types.specs.Contents.{Contents, record_at, reply_to, after, apply}
+use Rattle.sdb_types.specs.Contents.{Contents, record_at, after}
 use Rattle.sdb_schema.specs.declared.table.Table.{Table}
 use Rattle.sdb_record.proofs.NameLemmas.{same_name-itself, same_name-true}
 use Rattle.sdb_model.specs.declared.event.Event.{Event}
@@ -19,7 +18,7 @@ use Rattle.sdb_model.specs.declared.script.Place.{Place}
 use Rattle.sdb_model.specs.Rows.{Name, same_name}
 use Rattle.sdb_model.specs.Events.{Shelf, held_by, with_contents, store_of, standing, table_asked, IsPerformed, IsCall, Effect, IsTrace}
 use Rattle.sdb_laws.proofs.Effects.{store_same, held_there, held_elsewhere}
-use Rattle.sdb_spread.specs.Spread.{one_shelf, moved_event, moved_events, is_played, IsAbout, AreAbout, HoldAs, AreShelved}
+use Rattle.sdb_spread.specs.Spread.{one_shelf, moved_event, moved_events, is_played, AreAbout, HoldAs, AreShelved}
 use Rattle.sdb_spread.proofs.Calls.{SameOf, same_reply, same_after, left_apart, held_as}
 
 ---- the one store
