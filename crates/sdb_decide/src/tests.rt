@@ -3,7 +3,7 @@ ghost use Rattle.std.specs.Prelude.{◌≡◌, All, IfOk, OnOk};
 ghost use Rattle.sdb_record.specs.Rolls.{IsWrite};
 
 use crate::{Abort, Commit, Decide, DecideStep};
-use sdb_record::{Change, Decision, Write, Writes, coordinator_key, coordinator_row};
+use sdb_record::{Change, Decision, Write, Writes, coordinator_row};
 use sdb_types::{
     Columns, Condition, Duplicate, Key, Name, NoMemory, Record, Reply, Request, Seq, TableName,
     TxId, Value,
@@ -25,8 +25,8 @@ enum Answer {
     BadRow,
 }
 
-// What a step tells, of this transaction.
-#[derive(Clone, Copy)]
+// What a step tells. Other is a step of another transaction, or a call that the answer isn't for.
+#[derive(Clone, Copy, PartialEq, Eq)]
 enum Told {
     More,
     Committed,
@@ -35,102 +35,110 @@ enum Told {
     Unknown,
     BadRecord,
     NoMemory,
+    Other,
+}
+
+fn if_own(id: TxId, told: Told) -> Told {
+    if id.0 == OWN.0 { told } else { Told::Other }
+}
+
+fn if_own_row(key: &Key, told: Told) -> Told {
+    match key.partition.at(0) {
+        Some(Value::Text(id)) if id.as_str() == "00000000-0000-0002-0000-000000000001" => told,
+        _ => Told::Other,
+    }
+}
+
+fn told_by(step: &DecideStep) -> Told {
+    match step {
+        DecideStep::More => Told::More,
+        DecideStep::Committed => Told::Committed,
+        DecideStep::Expired(id) => if_own(*id, Told::Expired),
+        DecideStep::Faulted => Told::Faulted,
+        DecideStep::Unknown(id) => if_own(*id, Told::Unknown),
+        DecideStep::BadRecord(key) => if_own_row(key, Told::BadRecord),
+        DecideStep::NoMemory => Told::NoMemory,
+    }
 }
 
 // A get finds a row with these columns.
-fn find(decide: &mut Decide, columns: Columns) -> Result<DecideStep, NoMemory> {
+fn find(decide: &mut Decide, columns: Columns) -> Result<Told, NoMemory> {
     let key = match decide.request() {
         Some(Request::Get(key)) => key.copy()?,
-        _ => return Ok(DecideStep::More),
+        _ => return Ok(Told::Other),
     };
-    Ok(decide.take(Reply::Found(Some(Record { key, columns }))))
+    let row = Record { key, columns };
+    Ok(told_by(&decide.take(Reply::Found(Some(row)))))
 }
 
 // A put isn't met: a row with these columns stands there.
-fn meet(decide: &mut Decide, columns: Columns) -> Result<DecideStep, NoMemory> {
+fn meet(decide: &mut Decide, columns: Columns) -> Result<Told, NoMemory> {
     let key = match decide.request() {
         Some(Request::PutIf(rec, Condition::Absent)) => rec.key.copy()?,
         _ => return find(decide, columns),
     };
-    Ok(decide.take(Reply::NotMet(Some(Record { key, columns }))))
+    let row = Record { key, columns };
+    Ok(told_by(&decide.take(Reply::NotMet(Some(row)))))
 }
 
-fn find_none(decide: &mut Decide) -> DecideStep {
+fn find_none(decide: &mut Decide) -> Told {
     match decide.request() {
-        Some(Request::Get(_)) => decide.take(Reply::Found(None)),
-        _ => DecideStep::More,
+        Some(Request::Get(_)) => told_by(&decide.take(Reply::Found(None))),
+        _ => Told::Other,
     }
 }
 
-fn apply(decide: &mut Decide) -> DecideStep {
+fn apply(decide: &mut Decide) -> Told {
     match decide.request() {
-        Some(Request::PutIf(_, _)) => decide.take(Reply::Applied),
-        _ => DecideStep::More,
+        Some(Request::PutIf(_, _)) => told_by(&decide.take(Reply::Applied)),
+        _ => Told::Other,
     }
 }
 
-fn fault(decide: &mut Decide) -> DecideStep {
+fn fault(decide: &mut Decide) -> Told {
     match decide.request() {
-        Some(_) => decide.take(Reply::Fault),
-        None => DecideStep::More,
+        Some(_) => told_by(&decide.take(Reply::Fault)),
+        None => Told::Other,
     }
 }
 
-fn starve(decide: &mut Decide) -> DecideStep {
+fn starve(decide: &mut Decide) -> Told {
     match decide.request() {
-        Some(_) => decide.take(Reply::NoMemory),
-        None => DecideStep::More,
+        Some(_) => told_by(&decide.take(Reply::NoMemory)),
+        None => Told::Other,
     }
 }
 
-fn columns_of(alloc: Global, decision: Decision) -> Result<Columns, NoMemory> {
-    Ok(coordinator_row(alloc, OWN, decision, 3)?.columns)
+// The row of a decision stands there.
+fn stand(alloc: Global, decide: &mut Decide, decision: Decision) -> Result<Told, NoMemory> {
+    meet(decide, coordinator_row(alloc, OWN, decision, 3)?.columns)
 }
 
-fn give(alloc: Global, decide: &mut Decide, answer: Answer) -> Result<DecideStep, NoMemory> {
+fn give(alloc: Global, decide: &mut Decide, answer: Answer) -> Result<Told, NoMemory> {
     match answer {
         Answer::Applied => Ok(apply(decide)),
         Answer::Fault => Ok(fault(decide)),
         Answer::Starved => Ok(starve(decide)),
         Answer::NoRow => Ok(find_none(decide)),
-        Answer::Committed => meet(decide, columns_of(alloc, Decision::Committed)?),
-        Answer::Aborted => meet(decide, columns_of(alloc, Decision::Aborted)?),
+        Answer::Committed => stand(alloc, decide, Decision::Committed),
+        Answer::Aborted => stand(alloc, decide, Decision::Aborted),
         Answer::BadRow => meet(decide, Columns::new(alloc)),
     }
 }
 
-fn step_of(alloc: Global, told: Told) -> Result<DecideStep, NoMemory> {
-    match told {
-        Told::More => Ok(DecideStep::More),
-        Told::Committed => Ok(DecideStep::Committed),
-        Told::Expired => Ok(DecideStep::Expired(OWN)),
-        Told::Faulted => Ok(DecideStep::Faulted),
-        Told::Unknown => Ok(DecideStep::Unknown(OWN)),
-        Told::BadRecord => Ok(DecideStep::BadRecord(coordinator_key(alloc, OWN)?)),
-        Told::NoMemory => Ok(DecideStep::NoMemory),
-    }
-}
-
-// The decision after these answers.
-fn after(alloc: Global, answers: &[Answer]) -> Result<Decide, NoMemory> {
+// What the last of these answers to a decision tells.
+fn last(alloc: Global, before: &[Answer], answer: Answer) -> Result<Told, NoMemory> {
     let mut decide = Decide::new(alloc, OWN, 7)?;
-    for answer in answers {
+    for answer in before {
         give(alloc, &mut decide, *answer)?;
     }
-    Ok(decide)
-}
-
-// Whether one more answer tells this.
-fn tells(alloc: Global, before: &[Answer], answer: Answer, told: Told) -> Result<bool, NoMemory> {
-    let mut decide = after(alloc, before)?;
-    let step = give(alloc, &mut decide, answer)?;
-    Ok(step == step_of(alloc, told)?)
+    give(alloc, &mut decide, answer)
 }
 
 // Whether each answer tells what stands beside it.
 fn all_tell(alloc: Global, before: &[Answer], table: &[(Answer, Told)]) -> Result<bool, NoMemory> {
     for (answer, told) in table {
-        if !tells(alloc, before, *answer, *told)? {
+        if last(alloc, before, *answer)? != *told {
             return Ok(false);
         }
     }
@@ -252,24 +260,24 @@ fn writes_key(request: Option<&Request>, n: i32) -> bool {
     }
 }
 
-// The call on the key of that number faults. Whether another is left.
-fn forward_faults(commit: &mut Commit, n: i32) -> bool {
-    if !writes_key(commit.request(), n) {
-        return false;
-    }
+fn forward_faults(commit: &mut Commit) -> bool {
     match commit.request() {
         Some(_) => commit.take(Reply::Fault),
         None => false,
     }
 }
 
+// The roll forward of the key of that number is pending, and faults. Whether that is so, and whether another is left.
+fn rolls_forward(commit: &mut Commit, n: i32, left: bool) -> bool {
+    writes_key(commit.request(), n) && forward_faults(commit) == left
+}
+
 #[test]
 fn rolls_every_write_forward(rt: HostRuntime) -> Result<(), Fail> {
     let alloc = rt.alloc();
     let mut commit = Commit::new(alloc, &two_deletes(alloc)?, OWN, 7)?;
-    assert!(rt; forward_faults(&mut commit, 1));
-    assert!(rt; writes_key(commit.request(), 2));
-    assert!(rt; !forward_faults(&mut commit, 2));
+    assert!(rt; rolls_forward(&mut commit, 1, true));
+    assert!(rt; rolls_forward(&mut commit, 2, false));
     assert!(rt; commit.request().is_none());
     Ok(())
 }
@@ -279,6 +287,10 @@ fn back_faults(abort: &mut Abort) -> bool {
         Some(_) => abort.take(Reply::Fault),
         None => false,
     }
+}
+
+fn rolls_back(abort: &mut Abort, n: i32, left: bool) -> bool {
+    writes_key(abort.request(), n) && back_faults(abort) == left
 }
 
 fn row_is_put(abort: &mut Abort) -> bool {
@@ -301,10 +313,8 @@ fn start(alloc: Global, touched: usize, with_row: bool) -> Result<Abort, Fail> {
 #[test]
 fn rolls_every_write_back(rt: HostRuntime) -> Result<(), Fail> {
     let mut abort = start(rt.alloc(), 2, false)?;
-    assert!(rt; writes_key(abort.request(), 1));
-    assert!(rt; back_faults(&mut abort));
-    assert!(rt; writes_key(abort.request(), 2));
-    assert!(rt; !back_faults(&mut abort));
+    assert!(rt; rolls_back(&mut abort, 1, true));
+    assert!(rt; rolls_back(&mut abort, 2, false));
     assert!(rt; abort.request().is_none());
     Ok(())
 }
@@ -313,8 +323,7 @@ fn rolls_every_write_back(rt: HostRuntime) -> Result<(), Fail> {
 fn rolls_back_what_was_touched_behind_the_row(rt: HostRuntime) -> Result<(), Fail> {
     let mut abort = start(rt.alloc(), 1, true)?;
     assert!(rt; row_is_put(&mut abort));
-    assert!(rt; writes_key(abort.request(), 1));
-    assert!(rt; !back_faults(&mut abort));
+    assert!(rt; rolls_back(&mut abort, 1, false));
     Ok(())
 }
 

@@ -46,92 +46,103 @@ fn begin(alloc: Global) -> Result<Prepare, Fail> {
     Ok(Prepare::new(alloc, &writes, OWN, 7)?)
 }
 
-fn puts(request: Option<&Request>, n: i32) -> bool {
-    match request {
-        Some(Request::PutIf(rec, Condition::Absent)) => match rec.key.partition.at(0) {
-            Some(Value::Int(k)) => *k == n,
-            _ => false,
-        },
-        _ => false,
+// What a step tells: a conflict is at the key of that number, with a record there.
+#[derive(Clone, Copy, PartialEq, Eq)]
+enum Told {
+    More,
+    Done,
+    Conflict(i32),
+    Faulted,
+    NoMemory,
+    Other,
+}
+
+fn conflict_at(key: &Key) -> Told {
+    match key.partition.at(0) {
+        Some(Value::Int(n)) => Told::Conflict(*n),
+        _ => Told::Other,
     }
 }
 
-fn apply(prepare: &mut Prepare) -> PrepareStep {
-    match prepare.request() {
-        Some(Request::PutIf(_, _)) => prepare.take(Reply::Applied),
-        _ => PrepareStep::Done,
+fn told_by(step: &PrepareStep) -> Told {
+    match step {
+        PrepareStep::More => Told::More,
+        PrepareStep::Done => Told::Done,
+        PrepareStep::Conflict(key, Some(_)) => conflict_at(key),
+        PrepareStep::Conflict(_, None) => Told::Other,
+        PrepareStep::Faulted => Told::Faulted,
+        PrepareStep::NoMemory => Told::NoMemory,
     }
 }
 
-fn fault(prepare: &mut Prepare) -> PrepareStep {
+fn apply(prepare: &mut Prepare) -> Told {
     match prepare.request() {
-        Some(_) => prepare.take(Reply::Fault),
-        None => PrepareStep::Done,
+        Some(Request::PutIf(_, _)) => told_by(&prepare.take(Reply::Applied)),
+        _ => Told::Other,
     }
 }
 
-fn starve(prepare: &mut Prepare) -> PrepareStep {
+fn fault(prepare: &mut Prepare) -> Told {
     match prepare.request() {
-        Some(_) => prepare.take(Reply::NoMemory),
-        None => PrepareStep::Done,
+        Some(_) => told_by(&prepare.take(Reply::Fault)),
+        None => Told::Other,
+    }
+}
+
+fn starve(prepare: &mut Prepare) -> Told {
+    match prepare.request() {
+        Some(_) => told_by(&prepare.take(Reply::NoMemory)),
+        None => Told::Other,
     }
 }
 
 // A record without columns stands there.
-fn miss(alloc: Global, prepare: &mut Prepare) -> Result<PrepareStep, Fail> {
+fn miss(alloc: Global, prepare: &mut Prepare) -> Result<Told, Fail> {
     let key = match prepare.request() {
         Some(Request::PutIf(rec, Condition::Absent)) => rec.key.copy()?,
-        _ => return Ok(PrepareStep::Done),
+        _ => return Ok(Told::Other),
     };
     let columns = Columns::new(alloc);
-    Ok(prepare.take(Reply::NotMet(Some(Record { key, columns }))))
+    let row = Record { key, columns };
+    Ok(told_by(&prepare.take(Reply::NotMet(Some(row)))))
+}
+
+// It has ended, and so many writes may have taken effect.
+fn has_ended(prepare: &Prepare, touched: usize) -> bool {
+    prepare.request().is_none() && prepare.touched() == touched
 }
 
 #[test]
 fn each_write_is_prepared(rt: HostRuntime) -> Result<(), Fail> {
     let mut prepare = begin(rt.alloc())?;
-    assert!(rt; puts(prepare.request(), 1));
-    assert!(rt; apply(&mut prepare) == PrepareStep::More);
-    assert!(rt; puts(prepare.request(), 2));
-    assert!(rt; apply(&mut prepare) == PrepareStep::Done);
-    assert!(rt; prepare.touched() == 2);
-    assert!(rt; prepare.request().is_none());
+    assert!(rt; apply(&mut prepare) == Told::More);
+    assert!(rt; apply(&mut prepare) == Told::Done);
+    assert!(rt; has_ended(&prepare, 2));
     Ok(())
-}
-
-fn conflict_at(alloc: Global, n: i32) -> Result<PrepareStep, Fail> {
-    let key = key_of(alloc, n)?;
-    let rec = Record {
-        key: key_of(alloc, n)?,
-        columns: Columns::new(alloc),
-    };
-    Ok(PrepareStep::Conflict(key, Some(rec)))
 }
 
 #[test]
 fn what_stands_there_is_a_conflict(rt: HostRuntime) -> Result<(), Fail> {
     let alloc = rt.alloc();
     let mut prepare = begin(alloc)?;
-    apply(&mut prepare);
-    assert!(rt; miss(alloc, &mut prepare)? == conflict_at(alloc, 2)?);
-    assert!(rt; prepare.touched() == 1);
-    assert!(rt; prepare.request().is_none());
+    assert!(rt; apply(&mut prepare) == Told::More);
+    assert!(rt; miss(alloc, &mut prepare)? == Told::Conflict(2));
+    assert!(rt; has_ended(&prepare, 1));
     Ok(())
 }
 
 #[test]
 fn fault_may_have_taken_effect(rt: HostRuntime) -> Result<(), Fail> {
     let mut prepare = begin(rt.alloc())?;
-    assert!(rt; fault(&mut prepare) == PrepareStep::Faulted);
-    assert!(rt; prepare.touched() == 1);
-    assert!(rt; prepare.request().is_none());
+    assert!(rt; fault(&mut prepare) == Told::Faulted);
+    assert!(rt; has_ended(&prepare, 1));
     Ok(())
 }
 
 #[test]
 fn want_of_memory_has_no_effect(rt: HostRuntime) -> Result<(), Fail> {
     let mut prepare = begin(rt.alloc())?;
-    assert!(rt; starve(&mut prepare) == PrepareStep::NoMemory);
-    assert!(rt; prepare.touched() == 0);
+    assert!(rt; starve(&mut prepare) == Told::NoMemory);
+    assert!(rt; has_ended(&prepare, 0));
     Ok(())
 }

@@ -1,6 +1,6 @@
 //! What each reply leads to, of a record that was prepared at the moment 1,000.
 use crate::{Recover, RecoverStep};
-use sdb_record::{Decision, coordinator_key, coordinator_row, meta_of};
+use sdb_record::{Decision, coordinator_row, meta_of};
 use sdb_types::{
     Columns, Condition, Duplicate, Key, Name, NoMemory, Record, Reply, Request, Seq, TableName,
     TxId, Txt, Value,
@@ -9,6 +9,8 @@ use std::alloc::Global;
 use std::test::Fail;
 
 const OTHER: TxId = TxId(0x1_0000_0000_0000_0001);
+
+const OTHER_TEXT: &str = "00000000-0000-0001-0000-000000000001";
 
 // The moment at which the record has expired, and the last before it.
 const EXPIRED: i64 = 16_000;
@@ -28,8 +30,9 @@ enum Answer {
     NotMet,
 }
 
-// What a step tells: the record as it was committed, or what stood there before.
-#[derive(Clone, Copy)]
+// What a step tells: an image is the record as it was committed, or none. Other is anything else, or a call that the answer
+// isn't for.
+#[derive(Clone, Copy, PartialEq, Eq)]
 enum Told {
     More,
     Forward,
@@ -38,6 +41,7 @@ enum Told {
     Faulted,
     BadRecord,
     NoMemory,
+    Other,
 }
 
 fn key_of(alloc: Global) -> Result<Key, Fail> {
@@ -64,7 +68,7 @@ fn record_of(alloc: Global, state: i32) -> Result<Record, Fail> {
         key: key_of(alloc)?,
         columns: Columns::new(alloc),
     };
-    let id = Txt::new(alloc, "00000000-0000-0001-0000-000000000001")?;
+    let id = Txt::new(alloc, OTHER_TEXT)?;
     set(alloc, &mut rec, "tx_id", Value::Text(id))?;
     set(alloc, &mut rec, "tx_state", Value::Int(state))?;
     set(alloc, &mut rec, "tx_version", Value::Int(1))?;
@@ -80,104 +84,145 @@ fn committed(alloc: Global) -> Result<Record, Fail> {
     Ok(rec)
 }
 
-// A get finds a row with these columns.
-fn find(recover: &mut Recover, columns: Columns, now: i64) -> Result<RecoverStep, NoMemory> {
-    let key = match recover.request() {
-        Some(Request::Get(key)) => key.copy()?,
-        _ => return Ok(RecoverStep::More),
-    };
-    let row = Record { key, columns };
-    Ok(recover.take(Reply::Found(Some(row)), now))
-}
-
-// A put isn't met: a row with these columns stands there.
-fn meet(recover: &mut Recover, columns: Columns, now: i64) -> Result<RecoverStep, NoMemory> {
-    let key = match recover.request() {
-        Some(Request::PutIf(rec, Condition::Absent)) => rec.key.copy()?,
-        _ => return find(recover, columns, now),
-    };
-    let row = Record { key, columns };
-    Ok(recover.take(Reply::NotMet(Some(row)), now))
-}
-
-fn find_none(recover: &mut Recover, now: i64) -> RecoverStep {
-    match recover.request() {
-        Some(Request::Get(_)) => recover.take(Reply::Found(None), now),
-        _ => RecoverStep::More,
+fn if_same(rec: &Record, image: &Record) -> Told {
+    if *rec == *image {
+        Told::Forward
+    } else {
+        Told::Other
     }
 }
 
-fn apply(recover: &mut Recover, now: i64) -> RecoverStep {
-    match recover.request() {
-        Some(Request::PutIf(_, _)) => recover.take(Reply::Applied, now),
-        Some(Request::DeleteIf(_, _)) => recover.take(Reply::Applied, now),
-        _ => RecoverStep::More,
+fn if_prepared_at(id: TxId, prepared_at: i64) -> Told {
+    if id.0 == OTHER.0 && prepared_at == 1_000 {
+        Told::Busy
+    } else {
+        Told::Other
+    }
+}
+
+fn if_row(key: &Key) -> Told {
+    match key.partition.at(0) {
+        Some(Value::Text(id)) if id.as_str() == OTHER_TEXT => Told::BadRecord,
+        _ => Told::Other,
+    }
+}
+
+fn told_by(step: &RecoverStep, image: &Record) -> Told {
+    match step {
+        RecoverStep::More => Told::More,
+        RecoverStep::Image(Some(rec)) => if_same(rec, image),
+        RecoverStep::Image(None) => Told::Back,
+        RecoverStep::Busy(id, prepared_at) => if_prepared_at(*id, *prepared_at),
+        RecoverStep::Faulted => Told::Faulted,
+        RecoverStep::BadRecord(key) => if_row(key),
+        RecoverStep::NoMemory => Told::NoMemory,
+    }
+}
+
+// A recovery, the moment at which it takes replies, and the record as it was committed.
+#[derive(Drop)]
+struct Run {
+    recover: Recover,
+    now: i64,
+    image: Record,
+}
+
+// A get finds a row with these columns.
+fn find(run: &mut Run, columns: Columns) -> Result<Told, NoMemory> {
+    let key = match run.recover.request() {
+        Some(Request::Get(key)) => key.copy()?,
+        _ => return Ok(Told::Other),
+    };
+    let row = Record { key, columns };
+    let step = run.recover.take(Reply::Found(Some(row)), run.now);
+    Ok(told_by(&step, &run.image))
+}
+
+// A put isn't met: a row with these columns stands there.
+fn meet(run: &mut Run, columns: Columns) -> Result<Told, NoMemory> {
+    let key = match run.recover.request() {
+        Some(Request::PutIf(rec, Condition::Absent)) => rec.key.copy()?,
+        _ => return find(run, columns),
+    };
+    let row = Record { key, columns };
+    let step = run.recover.take(Reply::NotMet(Some(row)), run.now);
+    Ok(told_by(&step, &run.image))
+}
+
+fn find_none(run: &mut Run) -> Told {
+    match run.recover.request() {
+        Some(Request::Get(_)) => {
+            let step = run.recover.take(Reply::Found(None), run.now);
+            told_by(&step, &run.image)
+        }
+        _ => Told::Other,
+    }
+}
+
+fn apply(run: &mut Run) -> Told {
+    match run.recover.request() {
+        Some(Request::PutIf(_, _) | Request::DeleteIf(_, _)) => {
+            let step = run.recover.take(Reply::Applied, run.now);
+            told_by(&step, &run.image)
+        }
+        _ => Told::Other,
     }
 }
 
 // A roll isn't met: no record stands there.
-fn miss(recover: &mut Recover, now: i64) -> RecoverStep {
-    match recover.request() {
-        Some(Request::PutIf(_, Condition::Version(_, _))) => {
-            recover.take(Reply::NotMet(None), now)
+fn miss(run: &mut Run) -> Told {
+    match run.recover.request() {
+        Some(
+            Request::PutIf(_, Condition::Version(_, _))
+            | Request::DeleteIf(_, Condition::Version(_, _)),
+        ) => {
+            let step = run.recover.take(Reply::NotMet(None), run.now);
+            told_by(&step, &run.image)
         }
-        Some(Request::DeleteIf(_, Condition::Version(_, _))) => {
-            recover.take(Reply::NotMet(None), now)
+        _ => Told::Other,
+    }
+}
+
+fn fault(run: &mut Run) -> Told {
+    match run.recover.request() {
+        Some(_) => {
+            let step = run.recover.take(Reply::Fault, run.now);
+            told_by(&step, &run.image)
         }
-        _ => RecoverStep::More,
+        None => Told::Other,
     }
 }
 
-fn fault(recover: &mut Recover, now: i64) -> RecoverStep {
-    match recover.request() {
-        Some(_) => recover.take(Reply::Fault, now),
-        None => RecoverStep::More,
+fn starve(run: &mut Run) -> Told {
+    match run.recover.request() {
+        Some(_) => {
+            let step = run.recover.take(Reply::NoMemory, run.now);
+            told_by(&step, &run.image)
+        }
+        None => Told::Other,
     }
 }
 
-fn starve(recover: &mut Recover, now: i64) -> RecoverStep {
-    match recover.request() {
-        Some(_) => recover.take(Reply::NoMemory, now),
-        None => RecoverStep::More,
-    }
+// The row of a decision stands there.
+fn stand(alloc: Global, run: &mut Run, decision: Decision) -> Result<Told, NoMemory> {
+    meet(run, coordinator_row(alloc, OTHER, decision, 1_020)?.columns)
 }
 
-fn columns_of(alloc: Global, decision: Decision) -> Result<Columns, NoMemory> {
-    Ok(coordinator_row(alloc, OTHER, decision, 1_020)?.columns)
-}
-
-fn give(
-    alloc: Global,
-    recover: &mut Recover,
-    answer: Answer,
-    now: i64,
-) -> Result<RecoverStep, NoMemory> {
+fn give(alloc: Global, run: &mut Run, answer: Answer) -> Result<Told, NoMemory> {
     match answer {
-        Answer::Applied => Ok(apply(recover, now)),
-        Answer::Fault => Ok(fault(recover, now)),
-        Answer::Starved => Ok(starve(recover, now)),
-        Answer::NoRow => Ok(find_none(recover, now)),
-        Answer::Committed => meet(recover, columns_of(alloc, Decision::Committed)?, now),
-        Answer::Aborted => meet(recover, columns_of(alloc, Decision::Aborted)?, now),
-        Answer::BadRow => meet(recover, Columns::new(alloc), now),
-        Answer::NotMet => Ok(miss(recover, now)),
-    }
-}
-
-fn step_of(alloc: Global, told: Told) -> Result<RecoverStep, Fail> {
-    match told {
-        Told::More => Ok(RecoverStep::More),
-        Told::Forward => Ok(RecoverStep::Image(Some(committed(alloc)?))),
-        Told::Back => Ok(RecoverStep::Image(None)),
-        Told::Busy => Ok(RecoverStep::Busy(OTHER, 1_000)),
-        Told::Faulted => Ok(RecoverStep::Faulted),
-        Told::BadRecord => Ok(RecoverStep::BadRecord(coordinator_key(alloc, OTHER)?)),
-        Told::NoMemory => Ok(RecoverStep::NoMemory),
+        Answer::Applied => Ok(apply(run)),
+        Answer::Fault => Ok(fault(run)),
+        Answer::Starved => Ok(starve(run)),
+        Answer::NoRow => Ok(find_none(run)),
+        Answer::Committed => stand(alloc, run, Decision::Committed),
+        Answer::Aborted => stand(alloc, run, Decision::Aborted),
+        Answer::BadRow => meet(run, Columns::new(alloc)),
+        Answer::NotMet => Ok(miss(run)),
     }
 }
 
 // The recovery of an unresolved record.
-fn begin(alloc: Global, rec: Record) -> Result<Recover, NoMemory> {
+fn recovery(alloc: Global, rec: Record) -> Result<Recover, NoMemory> {
     let Ok(meta) = meta_of(alloc, &rec) else {
         return Err(NoMemory);
     };
@@ -187,26 +232,24 @@ fn begin(alloc: Global, rec: Record) -> Result<Recover, NoMemory> {
     Recover::new(alloc, rec)
 }
 
-// The recovery of a new row after these answers, each at the moment at which it has expired.
-fn after(alloc: Global, answers: &[Answer]) -> Result<Recover, Fail> {
-    let mut recover = begin(alloc, record_of(alloc, 1)?)?;
-    for answer in answers {
-        give(alloc, &mut recover, *answer, EXPIRED)?;
-    }
-    Ok(recover)
+// The recovery of a new row, when it has expired.
+fn begin(alloc: Global) -> Result<Run, Fail> {
+    let image = committed(alloc)?;
+    Ok(Run {
+        recover: recovery(alloc, record_of(alloc, 1)?)?,
+        now: EXPIRED,
+        image,
+    })
 }
 
-// Whether one more answer tells this, at a moment.
-fn tells(
-    alloc: Global,
-    before: &[Answer],
-    answer: Answer,
-    now: i64,
-    told: Told,
-) -> Result<bool, Fail> {
-    let mut recover = after(alloc, before)?;
-    let step = give(alloc, &mut recover, answer, now)?;
-    Ok(step == step_of(alloc, told)?)
+// What the last of these answers to the recovery of a new row tells, at a moment. The others come when the row has expired.
+fn last(alloc: Global, before: &[Answer], answer: Answer, now: i64) -> Result<Told, Fail> {
+    let mut run = begin(alloc)?;
+    for answer in before {
+        give(alloc, &mut run, *answer)?;
+    }
+    run.now = now;
+    Ok(give(alloc, &mut run, answer)?)
 }
 
 // Whether each answer tells what stands beside it, at a moment.
@@ -217,7 +260,7 @@ fn all_tell(
     table: &[(Answer, Told)],
 ) -> Result<bool, Fail> {
     for (answer, told) in table {
-        if !tells(alloc, before, *answer, now, *told)? {
+        if last(alloc, before, *answer, now)? != *told {
             return Ok(false);
         }
     }
@@ -233,6 +276,12 @@ const TO_EARLY_LOOK: [(Answer, Told); 6] = [
     (Answer::BadRow, Told::BadRecord),
 ];
 
+#[test]
+fn busy_before_15_seconds_have_passed(rt: HostRuntime) -> Result<(), Fail> {
+    assert!(rt; all_tell(rt.alloc(), &[], EARLIER, &TO_EARLY_LOOK)?);
+    Ok(())
+}
+
 const TO_LATE_LOOK: [(Answer, Told); 6] = [
     (Answer::NoRow, Told::More),
     (Answer::Committed, Told::More),
@@ -243,8 +292,7 @@ const TO_LATE_LOOK: [(Answer, Told); 6] = [
 ];
 
 #[test]
-fn busy_until_15_seconds_have_passed(rt: HostRuntime) -> Result<(), Fail> {
-    assert!(rt; all_tell(rt.alloc(), &[], EARLIER, &TO_EARLY_LOOK)?);
+fn puts_aborted_when_15_seconds_have_passed(rt: HostRuntime) -> Result<(), Fail> {
     assert!(rt; all_tell(rt.alloc(), &[], EXPIRED, &TO_LATE_LOOK)?);
     Ok(())
 }
@@ -290,9 +338,14 @@ const TO_FORWARD: [(Answer, Told); 4] = [
 #[test]
 fn committed_row_is_followed(rt: HostRuntime) -> Result<(), Fail> {
     let put = [Answer::NoRow, Answer::Committed];
-    let again = [Answer::NoRow, Answer::Fault, Answer::Committed];
     assert!(rt; all_tell(rt.alloc(), &[Answer::Committed], EARLIER, &TO_FORWARD)?);
     assert!(rt; all_tell(rt.alloc(), &put, EXPIRED, &TO_FORWARD)?);
+    Ok(())
+}
+
+#[test]
+fn committed_row_is_followed_when_found_again(rt: HostRuntime) -> Result<(), Fail> {
+    let again = [Answer::NoRow, Answer::Fault, Answer::Committed];
     assert!(rt; all_tell(rt.alloc(), &again, EXPIRED, &TO_FORWARD)?);
     Ok(())
 }
@@ -306,12 +359,22 @@ const TO_BACK: [(Answer, Told); 4] = [
 
 #[test]
 fn aborted_row_is_followed(rt: HostRuntime) -> Result<(), Fail> {
-    let own = [Answer::NoRow, Answer::Applied];
     let put = [Answer::NoRow, Answer::Aborted];
-    let again = [Answer::NoRow, Answer::Fault, Answer::Aborted];
     assert!(rt; all_tell(rt.alloc(), &[Answer::Aborted], EARLIER, &TO_BACK)?);
-    assert!(rt; all_tell(rt.alloc(), &own, EXPIRED, &TO_BACK)?);
     assert!(rt; all_tell(rt.alloc(), &put, EXPIRED, &TO_BACK)?);
+    Ok(())
+}
+
+#[test]
+fn aborted_row_is_followed_when_found_again(rt: HostRuntime) -> Result<(), Fail> {
+    let again = [Answer::NoRow, Answer::Fault, Answer::Aborted];
     assert!(rt; all_tell(rt.alloc(), &again, EXPIRED, &TO_BACK)?);
+    Ok(())
+}
+
+#[test]
+fn own_put_of_aborted_rolls_back(rt: HostRuntime) -> Result<(), Fail> {
+    let own = [Answer::NoRow, Answer::Applied];
+    assert!(rt; all_tell(rt.alloc(), &own, EXPIRED, &TO_BACK)?);
     Ok(())
 }
