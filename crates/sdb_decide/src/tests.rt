@@ -126,19 +126,58 @@ fn give(alloc: Global, decide: &mut Decide, answer: Answer) -> Result<Told, NoMe
     }
 }
 
-// What the last of these answers to a decision tells.
-fn last(alloc: Global, before: &[Answer], answer: Answer) -> Result<Told, NoMemory> {
-    let mut decide = Decide::new(alloc, OWN, 7)?;
-    for answer in before {
-        give(alloc, &mut decide, *answer)?;
-    }
-    give(alloc, &mut decide, answer)
+// The call that is answered.
+#[derive(Clone, Copy)]
+enum Call {
+    Put,
+    Look,
+    Abort,
+    SecondLook,
 }
 
-// Whether each answer tells what stands beside it.
-fn all_tell(alloc: Global, before: &[Answer], table: &[(Answer, Told)]) -> Result<bool, NoMemory> {
-    for (answer, told) in table {
-        if last(alloc, before, *answer)? != *told {
+// The deciding put faults; then there is no row; then the put of ABORTED faults.
+fn reach(decide: &mut Decide, call: Call) {
+    match call {
+        Call::Put => {}
+        Call::Look => {
+            fault(decide);
+        }
+        Call::Abort => {
+            fault(decide);
+            find_none(decide);
+        }
+        Call::SecondLook => {
+            fault(decide);
+            find_none(decide);
+            fault(decide);
+        }
+    }
+}
+
+fn begin(alloc: Global) -> Result<Decide, NoMemory> {
+    Decide::new(alloc, OWN, 7)
+}
+
+fn answer_to(
+    alloc: Global,
+    decide: &mut Decide,
+    call: Call,
+    answer: Answer,
+) -> Result<Told, NoMemory> {
+    reach(decide, call);
+    give(alloc, decide, answer)
+}
+
+// What an answer to a call tells.
+fn answered(alloc: Global, call: Call, answer: Answer) -> Result<Told, NoMemory> {
+    let mut decide = begin(alloc)?;
+    answer_to(alloc, &mut decide, call, answer)
+}
+
+// Whether each answer to a call tells what stands beside it.
+fn all_tell(alloc: Global, call: Call, table: &[(Answer, Told)]) -> Result<bool, NoMemory> {
+    for (answer, wanted) in table {
+        if answered(alloc, call, *answer)? != *wanted {
             return Ok(false);
         }
     }
@@ -156,7 +195,7 @@ const TO_PUT: [(Answer, Told); 6] = [
 
 #[test]
 fn deciding_put_is_answered(rt: HostRuntime) -> Result<(), NoMemory> {
-    assert!(rt; all_tell(rt.alloc(), &[], &TO_PUT)?);
+    assert!(rt; all_tell(rt.alloc(), Call::Put, &TO_PUT)?);
     Ok(())
 }
 
@@ -171,7 +210,7 @@ const TO_LOOK: [(Answer, Told); 6] = [
 
 #[test]
 fn row_is_looked_for_after_a_fault(rt: HostRuntime) -> Result<(), NoMemory> {
-    assert!(rt; all_tell(rt.alloc(), &[Answer::Fault], &TO_LOOK)?);
+    assert!(rt; all_tell(rt.alloc(), Call::Look, &TO_LOOK)?);
     Ok(())
 }
 
@@ -187,7 +226,7 @@ const TO_ABORT: [(Answer, Told); 6] = [
 
 #[test]
 fn put_of_aborted_is_answered(rt: HostRuntime) -> Result<(), NoMemory> {
-    assert!(rt; all_tell(rt.alloc(), &[Answer::Fault, Answer::NoRow], &TO_ABORT)?);
+    assert!(rt; all_tell(rt.alloc(), Call::Abort, &TO_ABORT)?);
     Ok(())
 }
 
@@ -203,8 +242,7 @@ const TO_SECOND_LOOK: [(Answer, Told); 6] = [
 
 #[test]
 fn row_is_looked_for_a_second_time(rt: HostRuntime) -> Result<(), NoMemory> {
-    let before = [Answer::Fault, Answer::NoRow, Answer::Fault];
-    assert!(rt; all_tell(rt.alloc(), &before, &TO_SECOND_LOOK)?);
+    assert!(rt; all_tell(rt.alloc(), Call::SecondLook, &TO_SECOND_LOOK)?);
     Ok(())
 }
 

@@ -242,14 +242,36 @@ fn begin(alloc: Global) -> Result<Run, Fail> {
     })
 }
 
-// What the last of these answers to the recovery of a new row tells, at a moment. The others come when the row has expired.
-fn last(alloc: Global, before: &[Answer], answer: Answer, now: i64) -> Result<Told, Fail> {
-    let mut run = begin(alloc)?;
-    for answer in before {
-        give(alloc, &mut run, *answer)?;
+// These answers come.
+fn give_all(alloc: Global, run: &mut Run, answers: &[Answer]) -> Result<(), NoMemory> {
+    for answer in answers {
+        give(alloc, run, *answer)?;
     }
+    Ok(())
+}
+
+// What one more answer tells, at a moment.
+fn answer_to(
+    alloc: Global,
+    run: &mut Run,
+    before: &[Answer],
+    answer: Answer,
+    now: i64,
+) -> Result<Told, NoMemory> {
+    give_all(alloc, run, before)?;
     run.now = now;
-    Ok(give(alloc, &mut run, answer)?)
+    give(alloc, run, answer)
+}
+
+// What the last of these answers to the recovery of a new row tells, at a moment. The others come when the row has expired.
+fn answered(
+    alloc: Global,
+    before: &[Answer],
+    answer: Answer,
+    now: i64,
+) -> Result<Result<Told, NoMemory>, Fail> {
+    let mut run = begin(alloc)?;
+    Ok(answer_to(alloc, &mut run, before, answer, now))
 }
 
 // Whether each answer tells what stands beside it, at a moment.
@@ -260,7 +282,7 @@ fn all_tell(
     table: &[(Answer, Told)],
 ) -> Result<bool, Fail> {
     for (answer, told) in table {
-        if last(alloc, before, *answer, now)? != *told {
+        if answered(alloc, before, *answer, now)?? != *told {
             return Ok(false);
         }
     }
