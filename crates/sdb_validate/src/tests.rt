@@ -1,7 +1,7 @@
 //! What extra reads give.
 use crate::checks::lies_in;
 use crate::{Validate, ValidateStep};
-use sdb_record::{Change, Read, Reads, Scan, Scans, Write, Writes, version_of};
+use sdb_record::{Change, Read, Reads, Scan, Scans, Write, Writes};
 use sdb_types::{
     Columns, Duplicate, Key, Name, Record, Reply, Request, Seq, Span, TableName, TxId, Value,
 };
@@ -11,9 +11,6 @@ use std::test::Fail;
 const FIRST: TxId = TxId(0x1_0000_0000_0000_0001);
 
 const SECOND: TxId = TxId(0x2_0000_0000_0000_0001);
-
-// The id of the transaction that wrote a record, or none without a record.
-type Version = Option<TxId>;
 
 fn table_of(alloc: Global) -> Result<TableName, Fail> {
     Ok(TableName {
@@ -48,42 +45,20 @@ fn record_of(alloc: Global, n: i32, id: TxId) -> Result<Record, Fail> {
     })
 }
 
-fn found_of(alloc: Global, n: i32, version: Version) -> Result<Option<Record>, Fail> {
+fn found_of(alloc: Global, n: i32, version: Option<TxId>) -> Result<Option<Record>, Fail> {
     match version {
         Some(id) => Ok(Some(record_of(alloc, n, id)?)),
         None => Ok(None),
     }
 }
 
-// What a step tells: a conflict is at the key of that number, where a record of that version stands.
-#[derive(Clone, Copy, PartialEq, Eq)]
-enum Told {
-    More,
-    Valid,
-    Conflict(i32, Version),
-    Faulted,
-    NoMemory,
-    Other,
+// The conflict at a key where this version stands.
+fn conflict(alloc: Global, n: i32, version: Option<TxId>) -> Result<ValidateStep, Fail> {
+    let found = found_of(alloc, n, version)?;
+    Ok(ValidateStep::Conflict(key_of(alloc, n)?, found))
 }
 
-fn conflict_at(key: &Key, version: Version) -> Told {
-    match key.partition.at(0) {
-        Some(Value::Int(n)) => Told::Conflict(*n, version),
-        _ => Told::Other,
-    }
-}
-
-fn told_by(step: &ValidateStep) -> Told {
-    match step {
-        ValidateStep::More => Told::More,
-        ValidateStep::Valid => Told::Valid,
-        ValidateStep::Conflict(key, found) => conflict_at(key, version_of(found)),
-        ValidateStep::Faulted => Told::Faulted,
-        ValidateStep::NoMemory => Told::NoMemory,
-    }
-}
-
-fn push_read(alloc: Global, reads: &mut Reads, n: i32, version: Version) -> Result<(), Fail> {
+fn push_read(alloc: Global, reads: &mut Reads, n: i32, version: Option<TxId>) -> Result<(), Fail> {
     let key = key_of(alloc, n)?;
     reads.push(Read { key, version })?;
     Ok(())
@@ -100,25 +75,28 @@ fn rereads(alloc: Global) -> Result<Validate, Fail> {
 }
 
 // The pending get finds the version of a transaction.
-fn find_version(alloc: Global, validate: &mut Validate, id: TxId) -> Result<Told, Fail> {
+fn find_version(alloc: Global, validate: &mut Validate, id: TxId) -> Result<ValidateStep, Fail> {
     let key = match validate.request() {
         Some(Request::Get(key)) => key.copy()?,
-        _ => return Ok(Told::Other),
+        _ => return Ok(ValidateStep::NoMemory),
     };
     let columns = columns_of(alloc, id)?;
-    let row = Record { key, columns };
-    Ok(told_by(&validate.take(Reply::Found(Some(row)))))
+    Ok(validate.take(Reply::Found(Some(Record { key, columns }))))
 }
 
-fn find_none(validate: &mut Validate) -> Told {
+fn find_none(validate: &mut Validate) -> ValidateStep {
     match validate.request() {
-        Some(Request::Get(_)) => told_by(&validate.take(Reply::Found(None))),
-        _ => Told::Other,
+        Some(Request::Get(_)) => validate.take(Reply::Found(None)),
+        _ => ValidateStep::NoMemory,
     }
 }
 
 // The pending get finds this version.
-fn find(alloc: Global, validate: &mut Validate, version: Version) -> Result<Told, Fail> {
+fn find(
+    alloc: Global,
+    validate: &mut Validate,
+    version: Option<TxId>,
+) -> Result<ValidateStep, Fail> {
     match version {
         Some(id) => find_version(alloc, validate, id),
         None => Ok(find_none(validate)),
@@ -129,49 +107,27 @@ fn find(alloc: Global, validate: &mut Validate, version: Version) -> Result<Told
 fn reads_each_key_again(rt: HostRuntime) -> Result<(), Fail> {
     let alloc = rt.alloc();
     let mut validate = rereads(alloc)?;
-    assert!(rt; find(alloc, &mut validate, Some(FIRST))? == Told::More);
-    assert!(rt; find(alloc, &mut validate, None)? == Told::Valid);
+    assert!(rt; find(alloc, &mut validate, Some(FIRST))? == ValidateStep::More);
+    assert!(rt; find(alloc, &mut validate, None)? == ValidateStep::Valid);
     assert!(rt; validate.request().is_none());
     Ok(())
 }
 
-// The get of the key 1 finds this version.
-fn moves(alloc: Global, version: Version) -> Result<Told, Fail> {
-    find(alloc, &mut rereads(alloc)?, version)
+// Whether the get of the key 1 is a conflict that finds this version.
+fn is_moved(alloc: Global, version: Option<TxId>) -> Result<bool, Fail> {
+    let step = find(alloc, &mut rereads(alloc)?, version)?;
+    Ok(step == conflict(alloc, 1, version)?)
 }
 
 #[test]
 fn moved_key_is_a_conflict(rt: HostRuntime) -> Result<(), Fail> {
     let alloc = rt.alloc();
-    assert!(rt; moves(alloc, Some(SECOND))? == Told::Conflict(1, Some(SECOND)));
-    assert!(rt; moves(alloc, None)? == Told::Conflict(1, None));
+    assert!(rt; is_moved(alloc, Some(SECOND))?);
+    assert!(rt; is_moved(alloc, None)?);
     Ok(())
 }
 
-#[derive(Clone, Copy)]
-enum Failure {
-    Fault,
-    Starved,
-}
-
-// The pending call fails.
-fn fails(validate: &mut Validate, reply: Failure) -> Told {
-    match (validate.request(), reply) {
-        (Some(_), Failure::Fault) => told_by(&validate.take(Reply::Fault)),
-        (Some(_), Failure::Starved) => told_by(&validate.take(Reply::NoMemory)),
-        (None, _) => Told::Other,
-    }
-}
-
-#[test]
-fn failures_end_it(rt: HostRuntime) -> Result<(), Fail> {
-    let alloc = rt.alloc();
-    assert!(rt; fails(&mut rereads(alloc)?, Failure::Fault) == Told::Faulted);
-    assert!(rt; fails(&mut rereads(alloc)?, Failure::Starved) == Told::NoMemory);
-    Ok(())
-}
-
-fn reads_of(alloc: Global, versions: [Version; 3]) -> Result<Reads, Fail> {
+fn reads_of(alloc: Global, versions: [Option<TxId>; 3]) -> Result<Reads, Fail> {
     let mut reads = Reads::new(alloc);
     let mut n = 0i32;
     for version in versions {
@@ -184,7 +140,7 @@ fn reads_of(alloc: Global, versions: [Version; 3]) -> Result<Reads, Fail> {
 }
 
 // A scan of the table that found these versions of the keys 1, 2 and 3.
-fn scan_of(alloc: Global, versions: [Version; 3]) -> Result<Scans, Fail> {
+fn scan_of(alloc: Global, versions: [Option<TxId>; 3]) -> Result<Scans, Fail> {
     let found = reads_of(alloc, versions)?;
     let span = Span {
         table: table_of(alloc)?,
@@ -195,74 +151,15 @@ fn scan_of(alloc: Global, versions: [Version; 3]) -> Result<Scans, Fail> {
     Ok(scans)
 }
 
-// The delete of a key over a base of this version.
-fn delete_of(alloc: Global, n: i32, version: Version) -> Result<Write, Fail> {
-    let base = found_of(alloc, n, version)?;
-    Ok(Write {
-        key: key_of(alloc, n)?,
-        base,
-        change: Change::Delete,
-    })
-}
-
-// A delete of the key 1 over a base of this version, or no write.
-fn writes_of(alloc: Global, base: Option<Version>) -> Result<Writes, Fail> {
-    let mut own = Writes::new(alloc);
-    if let Some(version) = base {
-        own.push(delete_of(alloc, 1, version)?)?;
-    }
-    Ok(own)
-}
-
 // The pending rescan finds one row.
-fn find_one(alloc: Global, validate: &mut Validate, row: Record) -> Result<Told, Fail> {
+fn find_one(alloc: Global, validate: &mut Validate, row: Record) -> Result<ValidateStep, Fail> {
     match validate.request() {
         Some(Request::Scan(span)) if lies_in(span, &row.key) => {}
-        _ => return Ok(Told::Other),
+        _ => return Ok(ValidateStep::NoMemory),
     }
     let mut rows = Seq::new(alloc);
     rows.push(row)?;
-    Ok(told_by(&validate.take(Reply::Rows(rows))))
-}
-
-// The rescan of a table in which this version of the key 1 was found.
-fn rescan_of(alloc: Global, version: Version, base: Option<Version>) -> Result<Validate, Fail> {
-    let scans = scan_of(alloc, [version, None, None])?;
-    let own = writes_of(alloc, base)?;
-    Ok(Validate::new(alloc, &Reads::new(alloc), &scans, &own)?)
-}
-
-// The rescan finds the key 1 in the first transaction's version.
-fn rescan(alloc: Global, version: Version, base: Option<Version>) -> Result<Told, Fail> {
-    let mut validate = rescan_of(alloc, version, base)?;
-    find_one(alloc, &mut validate, record_of(alloc, 1, FIRST)?)
-}
-
-const FOUND_FIRST: Told = Told::Conflict(1, Some(FIRST));
-
-#[test]
-fn phantom_is_a_conflict(rt: HostRuntime) -> Result<(), Fail> {
-    let alloc = rt.alloc();
-    assert!(rt; rescan(alloc, Some(FIRST), None)? == Told::Valid);
-    assert!(rt; rescan(alloc, None, None)? == FOUND_FIRST);
-    Ok(())
-}
-
-#[test]
-fn written_key_is_left_out_if_its_base_was_found(rt: HostRuntime) -> Result<(), Fail> {
-    let alloc = rt.alloc();
-    assert!(rt; rescan(alloc, Some(SECOND), Some(Some(SECOND)))? == Told::Valid);
-    assert!(rt; rescan(alloc, None, Some(None))? == Told::Valid);
-    Ok(())
-}
-
-// In the second case the row came between the scan and the write.
-#[test]
-fn written_key_is_a_conflict_if_its_base_was_not_found(rt: HostRuntime) -> Result<(), Fail> {
-    let alloc = rt.alloc();
-    assert!(rt; rescan(alloc, Some(FIRST), Some(Some(SECOND)))? == FOUND_FIRST);
-    assert!(rt; rescan(alloc, None, Some(Some(FIRST)))? == FOUND_FIRST);
-    Ok(())
+    Ok(validate.take(Reply::Rows(rows)))
 }
 
 // The pending rescan finds two rows.
@@ -271,41 +168,91 @@ fn find_two(
     validate: &mut Validate,
     first: Record,
     second: Record,
-) -> Result<Told, Fail> {
+) -> Result<ValidateStep, Fail> {
     if !first.key.compare(&second.key).is_lt() {
-        return Ok(Told::Other);
+        return Ok(ValidateStep::NoMemory);
     }
     match validate.request() {
         Some(Request::Scan(span)) if lies_in(span, &first.key) && lies_in(span, &second.key) => {}
-        _ => return Ok(Told::Other),
+        _ => return Ok(ValidateStep::NoMemory),
     }
     let mut rows = Seq::new(alloc);
     rows.push(first)?;
     rows.push(second)?;
-    Ok(told_by(&validate.take(Reply::Rows(rows))))
+    Ok(validate.take(Reply::Rows(rows)))
 }
 
-// The rescan of a table in which these versions were found finds the keys 2 and 3 in the second transaction's versions.
-fn rescan_two(alloc: Global, versions: [Version; 3]) -> Result<Told, Fail> {
+// What the rescan gives that finds the key 1 in the first transaction's version, where these versions were found.
+fn rescan(alloc: Global, versions: [Option<TxId>; 3], own: &Writes) -> Result<ValidateStep, Fail> {
+    let scans = scan_of(alloc, versions)?;
+    let mut validate = Validate::new(alloc, &Reads::new(alloc), &scans, own)?;
+    find_one(alloc, &mut validate, record_of(alloc, 1, FIRST)?)
+}
+
+fn passes(alloc: Global, version: Option<TxId>, own: &Writes) -> Result<bool, Fail> {
+    Ok(rescan(alloc, [version, None, None], own)? == ValidateStep::Valid)
+}
+
+fn conflicts(alloc: Global, version: Option<TxId>, own: &Writes) -> Result<bool, Fail> {
+    let step = rescan(alloc, [version, None, None], own)?;
+    Ok(step == conflict(alloc, 1, Some(FIRST))?)
+}
+
+#[test]
+fn phantom_is_a_conflict(rt: HostRuntime) -> Result<(), Fail> {
+    let alloc = rt.alloc();
+    let own = Writes::new(alloc);
+    assert!(rt; passes(alloc, Some(FIRST), &own)?);
+    assert!(rt; conflicts(alloc, None, &own)?);
+    Ok(())
+}
+
+// A delete of the key 1, over a base of this version.
+fn delete_over(alloc: Global, version: Option<TxId>) -> Result<Writes, Fail> {
+    let key = key_of(alloc, 1)?;
+    let base = found_of(alloc, 1, version)?;
+    let mut own = Writes::new(alloc);
+    own.push(Write {
+        key,
+        base,
+        change: Change::Delete,
+    })?;
+    Ok(own)
+}
+
+#[test]
+fn written_key_is_left_out_if_its_base_was_found(rt: HostRuntime) -> Result<(), Fail> {
+    let alloc = rt.alloc();
+    let own = delete_over(alloc, Some(SECOND))?;
+    assert!(rt; passes(alloc, Some(SECOND), &own)?);
+    assert!(rt; conflicts(alloc, Some(FIRST), &own)?);
+    Ok(())
+}
+
+// What the rescan gives that finds the keys 2 and 3 in the second transaction's versions, where these versions were found.
+fn rescan_two(alloc: Global, versions: [Option<TxId>; 3]) -> Result<ValidateStep, Fail> {
     let scans = scan_of(alloc, versions)?;
     let mut validate = Validate::new(alloc, &Reads::new(alloc), &scans, &Writes::new(alloc))?;
     let second = record_of(alloc, 2, SECOND)?;
     find_two(alloc, &mut validate, second, record_of(alloc, 3, SECOND)?)
 }
 
-#[test]
-fn conflict_is_the_first_in_key_order(rt: HostRuntime) -> Result<(), Fail> {
-    let alloc = rt.alloc();
-    let gone = [Some(FIRST), None, Some(FIRST)];
-    let new = [None, None, Some(FIRST)];
-    assert!(rt; rescan_two(alloc, gone)? == Told::Conflict(1, None));
-    assert!(rt; rescan_two(alloc, new)? == Told::Conflict(2, Some(SECOND)));
-    Ok(())
+// Whether that rescan's conflict is at the key of that number, with this version there.
+fn starts_at(
+    alloc: Global,
+    versions: [Option<TxId>; 3],
+    n: i32,
+    version: Option<TxId>,
+) -> Result<bool, Fail> {
+    let step = rescan_two(alloc, versions)?;
+    Ok(step == conflict(alloc, n, version)?)
 }
 
 #[test]
-fn moved_row_behind_others_is_a_conflict(rt: HostRuntime) -> Result<(), Fail> {
-    let moved = [None, Some(SECOND), Some(FIRST)];
-    assert!(rt; rescan_two(rt.alloc(), moved)? == Told::Conflict(3, Some(SECOND)));
+fn conflict_is_the_first_in_key_order(rt: HostRuntime) -> Result<(), Fail> {
+    let alloc = rt.alloc();
+    assert!(rt; starts_at(alloc, [Some(FIRST), None, Some(FIRST)], 1, None)?);
+    assert!(rt; starts_at(alloc, [None, None, Some(FIRST)], 2, Some(SECOND))?);
+    assert!(rt; starts_at(alloc, [None, Some(SECOND), Some(FIRST)], 3, Some(SECOND))?);
     Ok(())
 }
