@@ -1,6 +1,6 @@
-//! What each reply leads to.
+//! What each reply leads to, of a record that was prepared at the moment 1,000.
 use crate::{Recover, RecoverStep};
-use sdb_record::{Decision, coordinator_key, coordinator_row, meta_of};
+use sdb_record::{Decision, coordinator_row, meta_of};
 use sdb_types::{
     Columns, Condition, Duplicate, Key, Name, NoMemory, Record, Reply, Request, Seq, TableName,
     TxId, Txt, Value,
@@ -10,19 +10,39 @@ use std::test::Fail;
 
 const OTHER: TxId = TxId(0x1_0000_0000_0000_0001);
 
-// How a call is answered: a get finds no row, a call finds the row of a decision, or one that says nothing.
+const OTHER_TEXT: &str = "00000000-0000-0001-0000-000000000001";
+
+// The moment at which the record has expired, and the last before it.
+const EXPIRED: i64 = 16_000;
+
+const EARLIER: i64 = 15_999;
+
+// How a call is answered: a get finds no row, a call finds the row of a decision, or one that says nothing; a roll isn't met.
 #[derive(Clone, Copy)]
 enum Answer {
     Applied,
     Fault,
     Starved,
     NoRow,
-    Row(Decision),
+    Committed,
+    Aborted,
     BadRow,
+    NotMet,
 }
 
-use Answer::{Applied, BadRow, Fault, NoRow, Row, Starved};
-use Decision::{Aborted, Committed};
+// What a step tells: an image is the record as it was committed, or none. Other is anything else, or a call that the answer
+// isn't for.
+#[derive(Clone, Copy, PartialEq, Eq)]
+enum Told {
+    More,
+    Forward,
+    Back,
+    Busy,
+    Faulted,
+    BadRecord,
+    NoMemory,
+    Other,
+}
 
 fn key_of(alloc: Global) -> Result<Key, Fail> {
     let mut partition = Seq::new(alloc);
@@ -42,17 +62,17 @@ fn set(alloc: Global, rec: &mut Record, name: &str, value: Value) -> Result<(), 
     Ok(())
 }
 
-// The record of a new row, of the moment 0, in a state.
+// A record of the other transaction, of the moment 1,000, in a state.
 fn record_of(alloc: Global, state: i32) -> Result<Record, Fail> {
     let mut rec = Record {
         key: key_of(alloc)?,
         columns: Columns::new(alloc),
     };
-    let id = Txt::new(alloc, "00000000-0000-0001-0000-000000000001")?;
+    let id = Txt::new(alloc, OTHER_TEXT)?;
     set(alloc, &mut rec, "tx_id", Value::Text(id))?;
     set(alloc, &mut rec, "tx_state", Value::Int(state))?;
     set(alloc, &mut rec, "tx_version", Value::Int(1))?;
-    set(alloc, &mut rec, "tx_prepared_at", Value::BigInt(0))?;
+    set(alloc, &mut rec, "tx_prepared_at", Value::BigInt(1_000))?;
     set(alloc, &mut rec, "balance", Value::Int(100))?;
     Ok(rec)
 }
@@ -60,260 +80,323 @@ fn record_of(alloc: Global, state: i32) -> Result<Record, Fail> {
 // The same record, committed at the moment of the coordinator's row.
 fn committed(alloc: Global) -> Result<Record, Fail> {
     let mut rec = record_of(alloc, 3)?;
-    set(alloc, &mut rec, "tx_committed_at", Value::BigInt(20))?;
+    set(alloc, &mut rec, "tx_committed_at", Value::BigInt(1_020))?;
     Ok(rec)
 }
 
+fn if_same(rec: &Record, image: &Record) -> Told {
+    if *rec == *image {
+        Told::Forward
+    } else {
+        Told::Other
+    }
+}
+
+fn if_prepared_at(id: TxId, prepared_at: i64) -> Told {
+    if id.0 == OTHER.0 && prepared_at == 1_000 {
+        Told::Busy
+    } else {
+        Told::Other
+    }
+}
+
+fn if_row(key: &Key) -> Told {
+    match key.partition.at(0) {
+        Some(Value::Text(id)) if id.as_str() == OTHER_TEXT => Told::BadRecord,
+        _ => Told::Other,
+    }
+}
+
+fn told_by(step: &RecoverStep, image: &Record) -> Told {
+    match step {
+        RecoverStep::More => Told::More,
+        RecoverStep::Image(Some(rec)) => if_same(rec, image),
+        RecoverStep::Image(None) => Told::Back,
+        RecoverStep::Busy(id, prepared_at) => if_prepared_at(*id, *prepared_at),
+        RecoverStep::Faulted => Told::Faulted,
+        RecoverStep::BadRecord(key) => if_row(key),
+        RecoverStep::NoMemory => Told::NoMemory,
+    }
+}
+
+// A recovery, the moment at which it takes replies, and the record as it was committed.
+#[derive(Drop)]
+struct Run {
+    recover: Recover,
+    now: i64,
+    image: Record,
+}
+
 // A get finds a row with these columns.
-fn find(recover: &mut Recover, columns: Columns, now: i64) -> Result<RecoverStep, NoMemory> {
-    let key = match recover.request() {
+fn find(run: &mut Run, columns: Columns) -> Result<Told, NoMemory> {
+    let key = match run.recover.request() {
         Some(Request::Get(key)) => key.copy()?,
-        _ => return Ok(RecoverStep::More),
+        _ => return Ok(Told::Other),
     };
     let row = Record { key, columns };
-    Ok(recover.take(Reply::Found(Some(row)), now))
+    let step = run.recover.take(Reply::Found(Some(row)), run.now);
+    Ok(told_by(&step, &run.image))
 }
 
 // A put isn't met: a row with these columns stands there.
-fn meet(recover: &mut Recover, columns: Columns, now: i64) -> Result<RecoverStep, NoMemory> {
-    let key = match recover.request() {
+fn meet(run: &mut Run, columns: Columns) -> Result<Told, NoMemory> {
+    let key = match run.recover.request() {
         Some(Request::PutIf(rec, Condition::Absent)) => rec.key.copy()?,
-        _ => return Ok(RecoverStep::More),
+        _ => return find(run, columns),
     };
     let row = Record { key, columns };
-    Ok(recover.take(Reply::NotMet(Some(row)), now))
+    let step = run.recover.take(Reply::NotMet(Some(row)), run.now);
+    Ok(told_by(&step, &run.image))
 }
 
-fn stand(recover: &mut Recover, columns: Columns, now: i64) -> Result<RecoverStep, NoMemory> {
-    match recover.request() {
-        Some(Request::Get(_)) => find(recover, columns, now),
-        _ => meet(recover, columns, now),
+fn find_none(run: &mut Run) -> Told {
+    match run.recover.request() {
+        Some(Request::Get(_)) => {
+            let step = run.recover.take(Reply::Found(None), run.now);
+            told_by(&step, &run.image)
+        }
+        _ => Told::Other,
     }
 }
 
-fn find_none(recover: &mut Recover, now: i64) -> RecoverStep {
-    match recover.request() {
-        Some(Request::Get(_)) => recover.take(Reply::Found(None), now),
-        _ => RecoverStep::More,
+fn apply(run: &mut Run) -> Told {
+    match run.recover.request() {
+        Some(Request::PutIf(_, _) | Request::DeleteIf(_, _)) => {
+            let step = run.recover.take(Reply::Applied, run.now);
+            told_by(&step, &run.image)
+        }
+        _ => Told::Other,
     }
 }
 
-fn apply(recover: &mut Recover, now: i64) -> RecoverStep {
-    match recover.request() {
-        Some(Request::PutIf(_, _)) => recover.take(Reply::Applied, now),
-        Some(Request::DeleteIf(_, _)) => recover.take(Reply::Applied, now),
-        _ => RecoverStep::More,
+// A roll isn't met: no record stands there.
+fn miss(run: &mut Run) -> Told {
+    match run.recover.request() {
+        Some(
+            Request::PutIf(_, Condition::Version(_, _))
+            | Request::DeleteIf(_, Condition::Version(_, _)),
+        ) => {
+            let step = run.recover.take(Reply::NotMet(None), run.now);
+            told_by(&step, &run.image)
+        }
+        _ => Told::Other,
     }
 }
 
-fn fault(recover: &mut Recover, now: i64) -> RecoverStep {
-    match recover.request() {
-        Some(_) => recover.take(Reply::Fault, now),
-        None => RecoverStep::More,
+fn fault(run: &mut Run) -> Told {
+    match run.recover.request() {
+        Some(_) => {
+            let step = run.recover.take(Reply::Fault, run.now);
+            told_by(&step, &run.image)
+        }
+        None => Told::Other,
     }
 }
 
-fn starve(recover: &mut Recover, now: i64) -> RecoverStep {
-    match recover.request() {
-        Some(_) => recover.take(Reply::NoMemory, now),
-        None => RecoverStep::More,
+fn starve(run: &mut Run) -> Told {
+    match run.recover.request() {
+        Some(_) => {
+            let step = run.recover.take(Reply::NoMemory, run.now);
+            told_by(&step, &run.image)
+        }
+        None => Told::Other,
     }
 }
 
-fn give(
-    alloc: Global,
-    recover: &mut Recover,
-    answer: Answer,
-    now: i64,
-) -> Result<RecoverStep, NoMemory> {
+// The row of a decision stands there.
+fn stand(alloc: Global, run: &mut Run, decision: Decision) -> Result<Told, NoMemory> {
+    meet(run, coordinator_row(alloc, OTHER, decision, 1_020)?.columns)
+}
+
+fn give(alloc: Global, run: &mut Run, answer: Answer) -> Result<Told, NoMemory> {
     match answer {
-        Applied => Ok(apply(recover, now)),
-        Fault => Ok(fault(recover, now)),
-        Starved => Ok(starve(recover, now)),
-        NoRow => Ok(find_none(recover, now)),
-        Row(decision) => stand(
-            recover,
-            coordinator_row(alloc, OTHER, decision, 20)?.columns,
-            now,
-        ),
-        BadRow => stand(recover, Columns::new(alloc), now),
+        Answer::Applied => Ok(apply(run)),
+        Answer::Fault => Ok(fault(run)),
+        Answer::Starved => Ok(starve(run)),
+        Answer::NoRow => Ok(find_none(run)),
+        Answer::Committed => stand(alloc, run, Decision::Committed),
+        Answer::Aborted => stand(alloc, run, Decision::Aborted),
+        Answer::BadRow => meet(run, Columns::new(alloc)),
+        Answer::NotMet => Ok(miss(run)),
     }
 }
 
 // The recovery of an unresolved record.
-fn begin(alloc: Global, rec: &Record) -> Result<Recover, NoMemory> {
-    let Ok(meta) = meta_of(alloc, rec) else {
+fn recovery(alloc: Global, rec: Record) -> Result<Recover, NoMemory> {
+    let Ok(meta) = meta_of(alloc, &rec) else {
         return Err(NoMemory);
     };
     if meta.is_committed() {
         return Err(NoMemory);
     }
-    let rec = rec.copy()?;
     Recover::new(alloc, rec)
 }
 
-// There was no row, at a moment at which the record had expired: ABORTED is put.
-fn aborting(alloc: Global, rec: &Record) -> Result<Recover, NoMemory> {
-    let mut recover = begin(alloc, rec)?;
-    find_none(&mut recover, 15_000);
-    Ok(recover)
+// The recovery of a new row, when it has expired.
+fn begin(alloc: Global) -> Result<Run, Fail> {
+    let image = committed(alloc)?;
+    Ok(Run {
+        recover: recovery(alloc, record_of(alloc, 1)?)?,
+        now: EXPIRED,
+        image,
+    })
 }
 
-// That put faulted: the row is looked for a second time.
-fn looking_again(alloc: Global, rec: &Record) -> Result<Recover, NoMemory> {
-    let mut recover = aborting(alloc, rec)?;
-    fault(&mut recover, 15_000);
-    Ok(recover)
-}
-
-// Another answer is taken.
-fn then(
-    alloc: Global,
-    recover: Result<Recover, NoMemory>,
-    answer: Answer,
-) -> Result<Recover, NoMemory> {
-    let mut recover = recover?;
-    give(alloc, &mut recover, answer, 15_000)?;
-    Ok(recover)
-}
-
-fn step_of(
-    alloc: Global,
-    mut recover: Recover,
-    answer: Answer,
-    now: i64,
-) -> Result<RecoverStep, NoMemory> {
-    give(alloc, &mut recover, answer, now)
-}
-
-// Whether this answer gives this at a moment.
-fn gives_at(
-    alloc: Global,
-    recover: Result<Recover, NoMemory>,
-    now: i64,
-    answer: Answer,
-    step: RecoverStep,
-) -> bool {
-    let Ok(recover) = recover else { return false };
-    match step_of(alloc, recover, answer, now) {
-        Ok(given) => given == step,
-        Err(_) => false,
+// These answers come.
+fn give_all(alloc: Global, run: &mut Run, answers: &[Answer]) -> Result<(), NoMemory> {
+    for answer in answers {
+        give(alloc, run, *answer)?;
     }
-}
-
-// The same at the moment at which the record has expired.
-fn gives(
-    alloc: Global,
-    recover: Result<Recover, NoMemory>,
-    answer: Answer,
-    step: RecoverStep,
-) -> bool {
-    gives_at(alloc, recover, 15_000, answer, step)
-}
-
-#[test]
-fn busy_until_15_seconds_have_passed(rt: HostRuntime) -> Result<(), Fail> {
-    let alloc = rt.alloc();
-    let rec = record_of(alloc, 1)?;
-    assert!(rt;
-        gives_at(
-            alloc,
-            begin(alloc, &rec),
-            14_999,
-            NoRow,
-            RecoverStep::Busy(OTHER, 0)
-        )
-    );
-    assert!(rt; gives_at(alloc, begin(alloc, &rec), 15_000, NoRow, RecoverStep::More));
-    assert!(rt;
-        gives_at(
-            alloc,
-            begin(alloc, &rec),
-            14_999,
-            Row(Aborted),
-            RecoverStep::More
-        )
-    );
     Ok(())
 }
 
-// Whether a row COMMITTED rolls the record to this one.
-fn rolls_forward(alloc: Global, recover: Result<Recover, NoMemory>, image: &Record) -> bool {
-    let rolling = then(alloc, recover, Row(Committed));
-    match image.copy() {
-        Ok(image) => gives(alloc, rolling, Applied, RecoverStep::Image(Some(image))),
-        Err(_) => false,
-    }
+// What one more answer tells, at a moment.
+fn answer_to(
+    alloc: Global,
+    run: &mut Run,
+    before: &[Answer],
+    answer: Answer,
+    now: i64,
+) -> Result<Told, NoMemory> {
+    give_all(alloc, run, before)?;
+    run.now = now;
+    give(alloc, run, answer)
 }
+
+// What the last of these answers to the recovery of a new row tells, at a moment. The others come when the row has expired.
+fn answered(
+    alloc: Global,
+    before: &[Answer],
+    answer: Answer,
+    now: i64,
+) -> Result<Result<Told, NoMemory>, Fail> {
+    let mut run = begin(alloc)?;
+    Ok(answer_to(alloc, &mut run, before, answer, now))
+}
+
+// Whether each answer tells what stands beside it, at a moment.
+fn all_tell(
+    alloc: Global,
+    before: &[Answer],
+    now: i64,
+    table: &[(Answer, Told)],
+) -> Result<bool, Fail> {
+    for (answer, told) in table {
+        if answered(alloc, before, *answer, now)?? != *told {
+            return Ok(false);
+        }
+    }
+    Ok(true)
+}
+
+const TO_EARLY_LOOK: [(Answer, Told); 6] = [
+    (Answer::NoRow, Told::Busy),
+    (Answer::Committed, Told::More),
+    (Answer::Aborted, Told::More),
+    (Answer::Fault, Told::Faulted),
+    (Answer::Starved, Told::NoMemory),
+    (Answer::BadRow, Told::BadRecord),
+];
+
+#[test]
+fn busy_before_15_seconds_have_passed(rt: HostRuntime) -> Result<(), Fail> {
+    assert!(rt; all_tell(rt.alloc(), &[], EARLIER, &TO_EARLY_LOOK)?);
+    Ok(())
+}
+
+const TO_LATE_LOOK: [(Answer, Told); 6] = [
+    (Answer::NoRow, Told::More),
+    (Answer::Committed, Told::More),
+    (Answer::Aborted, Told::More),
+    (Answer::Fault, Told::Faulted),
+    (Answer::Starved, Told::NoMemory),
+    (Answer::BadRow, Told::BadRecord),
+];
+
+#[test]
+fn puts_aborted_when_15_seconds_have_passed(rt: HostRuntime) -> Result<(), Fail> {
+    assert!(rt; all_tell(rt.alloc(), &[], EXPIRED, &TO_LATE_LOOK)?);
+    Ok(())
+}
+
+const TO_ABORT: [(Answer, Told); 6] = [
+    (Answer::Applied, Told::More),
+    (Answer::Committed, Told::More),
+    (Answer::Aborted, Told::More),
+    (Answer::Fault, Told::More),
+    (Answer::Starved, Told::NoMemory),
+    (Answer::BadRow, Told::BadRecord),
+];
+
+#[test]
+fn put_of_aborted_is_answered(rt: HostRuntime) -> Result<(), Fail> {
+    assert!(rt; all_tell(rt.alloc(), &[Answer::NoRow], EXPIRED, &TO_ABORT)?);
+    Ok(())
+}
+
+const TO_SECOND_LOOK: [(Answer, Told); 6] = [
+    (Answer::Committed, Told::More),
+    (Answer::Aborted, Told::More),
+    (Answer::NoRow, Told::Faulted),
+    (Answer::Fault, Told::Faulted),
+    (Answer::Starved, Told::NoMemory),
+    (Answer::BadRow, Told::BadRecord),
+];
+
+#[test]
+fn row_is_looked_for_a_second_time(rt: HostRuntime) -> Result<(), Fail> {
+    let before = [Answer::NoRow, Answer::Fault];
+    assert!(rt; all_tell(rt.alloc(), &before, EXPIRED, &TO_SECOND_LOOK)?);
+    Ok(())
+}
+
+const TO_FORWARD: [(Answer, Told); 4] = [
+    (Answer::Applied, Told::Forward),
+    (Answer::NotMet, Told::Forward),
+    (Answer::Fault, Told::Faulted),
+    (Answer::Starved, Told::NoMemory),
+];
 
 #[test]
 fn committed_row_is_followed(rt: HostRuntime) -> Result<(), Fail> {
-    let alloc = rt.alloc();
-    let rec = record_of(alloc, 1)?;
-    let image = committed(alloc)?;
-    assert!(rt; rolls_forward(alloc, begin(alloc, &rec), &image));
-    assert!(rt; rolls_forward(alloc, aborting(alloc, &rec), &image));
-    assert!(rt; rolls_forward(alloc, looking_again(alloc, &rec), &image));
+    let put = [Answer::NoRow, Answer::Committed];
+    assert!(rt; all_tell(rt.alloc(), &[Answer::Committed], EARLIER, &TO_FORWARD)?);
+    assert!(rt; all_tell(rt.alloc(), &put, EXPIRED, &TO_FORWARD)?);
     Ok(())
 }
 
-// Whether this answer rolls the record back to none.
-fn rolls_back(alloc: Global, recover: Result<Recover, NoMemory>, answer: Answer) -> bool {
-    let rolling = then(alloc, recover, answer);
-    gives(alloc, rolling, Applied, RecoverStep::Image(None))
+#[test]
+fn committed_row_is_followed_when_found_again(rt: HostRuntime) -> Result<(), Fail> {
+    let again = [Answer::NoRow, Answer::Fault, Answer::Committed];
+    assert!(rt; all_tell(rt.alloc(), &again, EXPIRED, &TO_FORWARD)?);
+    Ok(())
 }
+
+const TO_BACK: [(Answer, Told); 4] = [
+    (Answer::Applied, Told::Back),
+    (Answer::NotMet, Told::Back),
+    (Answer::Fault, Told::Faulted),
+    (Answer::Starved, Told::NoMemory),
+];
 
 #[test]
 fn aborted_row_is_followed(rt: HostRuntime) -> Result<(), Fail> {
-    let alloc = rt.alloc();
-    let rec = record_of(alloc, 1)?;
-    assert!(rt; rolls_back(alloc, begin(alloc, &rec), Row(Aborted)));
-    assert!(rt; rolls_back(alloc, aborting(alloc, &rec), Row(Aborted)));
-    assert!(rt; rolls_back(alloc, aborting(alloc, &rec), Applied));
-    assert!(rt; rolls_back(alloc, looking_again(alloc, &rec), Row(Aborted)));
+    let put = [Answer::NoRow, Answer::Aborted];
+    assert!(rt; all_tell(rt.alloc(), &[Answer::Aborted], EARLIER, &TO_BACK)?);
+    assert!(rt; all_tell(rt.alloc(), &put, EXPIRED, &TO_BACK)?);
     Ok(())
 }
 
 #[test]
-fn failures_end_it(rt: HostRuntime) -> Result<(), Fail> {
-    let alloc = rt.alloc();
-    let rec = record_of(alloc, 1)?;
-    assert!(rt; gives(alloc, begin(alloc, &rec), Fault, RecoverStep::Faulted));
-    assert!(rt; gives(alloc, aborting(alloc, &rec), Starved, RecoverStep::NoMemory));
-    assert!(rt;
-        gives(
-            alloc,
-            looking_again(alloc, &rec),
-            NoRow,
-            RecoverStep::Faulted
-        )
-    );
-    assert!(rt;
-        gives(
-            alloc,
-            looking_again(alloc, &rec),
-            Fault,
-            RecoverStep::Faulted
-        )
-    );
-    let forward = then(alloc, begin(alloc, &rec), Row(Committed));
-    assert!(rt; gives(alloc, forward, Fault, RecoverStep::Faulted));
+fn aborted_row_is_followed_when_found_again(rt: HostRuntime) -> Result<(), Fail> {
+    let again = [Answer::NoRow, Answer::Fault, Answer::Aborted];
+    assert!(rt; all_tell(rt.alloc(), &again, EXPIRED, &TO_BACK)?);
     Ok(())
 }
 
-fn names_bad_row(alloc: Global, recover: Result<Recover, NoMemory>) -> bool {
-    match coordinator_key(alloc, OTHER) {
-        Ok(key) => gives(alloc, recover, BadRow, RecoverStep::BadRecord(key)),
-        Err(_) => false,
-    }
-}
-
 #[test]
-fn bad_rows_are_named(rt: HostRuntime) -> Result<(), Fail> {
-    let alloc = rt.alloc();
-    let rec = record_of(alloc, 1)?;
-    assert!(rt; names_bad_row(alloc, begin(alloc, &rec)));
-    assert!(rt; names_bad_row(alloc, aborting(alloc, &rec)));
-    assert!(rt; names_bad_row(alloc, looking_again(alloc, &rec)));
+fn own_put_of_aborted_rolls_back(rt: HostRuntime) -> Result<(), Fail> {
+    let own = [Answer::NoRow, Answer::Applied];
+    assert!(rt; all_tell(rt.alloc(), &own, EXPIRED, &TO_BACK)?);
     Ok(())
 }
