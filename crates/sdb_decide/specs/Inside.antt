@@ -1,0 +1,10 @@
+-- What a decision is inside.
+use Rattle.std.specs.Prelude.{◌≡◌}
+use Rattle.sdb_phases.specs.Work.{decide_of, abort_of, look_of}
+use Rattle.sdb_decide.specs.declared.decide.Decide.TheInside.{Inside}
+
+-- its calls are made when the COMMIT is taken
+pub record HasCalls (d : Inside) : Type 0 where
+  pub put : d.put ≡ decide_of d.id d.moment
+  pub look : d.look ≡ look_of d.id
+  pub abort : d.abort ≡ abort_of d.id d.moment

@@ -1,0 +1,70 @@
+//! Rolling forward.
+ghost use Rattle.std.specs.Prelude.{◌≡◌, ◌+◌, [], map, All, IfOk, IsSome, length, slice_get, nat_lt};
+ghost use Rattle.std.specs.Option.{option_copied};
+ghost use Rattle.sdb_record.specs.Rolls.{IsWrite};
+ghost use Rattle.sdb_phases.specs.Work.{forward_of};
+ghost use Rattle.sdb_phases.specs.Steps.{CanGet, walk_request};
+
+use sdb_phases::forward;
+use sdb_record::{Write, Writes};
+use sdb_types::{NoMemory, Reply, Request, Seq, TxId};
+use std::alloc::Global;
+use std::marker::Model;
+
+/// The roll forward of each write, in order. What they are answered has no effect.
+#[derive(Drop)]
+pub struct Commit {
+    asks: Seq<Request>,
+    at: usize,
+}
+
+impl Model for Commit {
+    ghost use Rattle.sdb_phases.specs.Steps.{Walk};
+
+    ghost Value = { Walk };
+
+    ghost view = { λ c. record { asks = c.asks; at = c.at } };
+}
+
+fn forwards(alloc: Global, writes: &[Write], id: TxId, now: i64) -> Result<Seq<Request>, NoMemory>
+    requires { All IsWrite writes.now }
+    ensures { IfOk result (λ asks. asks ≡ map (forward_of id now) writes.now) }
+{
+    let mut asks = Seq::new(alloc);
+    for write in writes {
+        asks.push(forward(alloc, write, id, now)?)?;
+    }
+    Ok(asks)
+}
+
+impl Commit {
+    /// The roll forward of these writes, for a transaction whose COMMIT was taken at a moment from 0 to 2^53.
+    pub fn new(alloc: Global, writes: &Writes, id: TxId, now: i64) -> Result<Commit, NoMemory>
+        requires { All IsWrite writes.now }
+        ensures { IfOk result (λ c. c ≡ record { asks = map (forward_of id now) writes.now; at = 0 }) }
+    {
+        Ok(Commit {
+            asks: forwards(alloc, writes.as_slice(), id, now)?,
+            at: 0,
+        })
+    }
+
+    /// The call that is pending; none where it has ended. Takes no memory.
+    pub fn request(&self) -> Option<&Request>
+        ensures { option_copied result ≡ walk_request self.now }
+    {
+        self.asks.at(self.at)
+    }
+
+    /// Takes the reply to the pending call, whatever it is. Whether a call is left. Takes no memory.
+    pub fn take(&mut self, _reply: Reply) -> bool
+        requires pending { IsSome (walk_request self.old) }
+        requires reply { CanGet (walk_request self.old) _reply }
+        ensures left { result ≡ nat_lt (self.old.at + 1) (length self.old.asks) }
+        ensures after { self.new ≡ record self.old { at = self.old.at + 1 } }
+    {
+        let count = self.asks.len();
+        self.at += 1;
+        self.at < count
+    }
+}

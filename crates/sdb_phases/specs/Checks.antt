@@ -1,0 +1,149 @@
+-- The extra reads of a COMMIT, and what each is to find.
+use Rattle.std.specs.Prelude.{Bool, not, if◌then◌else◌, List, [], ◌∷◌, ◌++◌, map, filter, Option, Some, None, is_none}
+use Rattle.std.specs.Option.{option_map}
+use Rattle.std.specs.List.{list_any}
+use Rattle.std.specs.Ordering.{is_eq, is_lt}
+use Rattle.std.specs.FinMap.{FinMap, get, insert, empty, entries}
+use Rattle.sdb_types.specs.declared.key.Key.{Key}
+use Rattle.sdb_types.specs.declared.txid.TxId.{TxId}
+use Rattle.sdb_types.specs.declared.record.Record.{Record}
+use Rattle.sdb_types.specs.declared.record.Span.{Span}
+use Rattle.sdb_types.specs.declared.record.Request.{Request}
+use Rattle.sdb_types.specs.declared.record.Request.TheVariants as ask
+use Rattle.sdb_types.specs.declared.record.Reply.{Reply}
+use Rattle.sdb_types.specs.declared.record.Reply.TheVariants as reply
+use Rattle.sdb_types.specs.Order.{key_cmp}
+use Rattle.sdb_types.specs.Contents.{in_span}
+use Rattle.sdb_record.specs.declared.access.Read.{Read}
+use Rattle.sdb_record.specs.declared.access.Scan.{Scan}
+use Rattle.sdb_record.specs.declared.write.Write.{Write}
+use Rattle.sdb_record.specs.Moved.{version_of, same_version, is_unchanged}
+use Rattle.sdb_phases.specs.declared.check.Wish.{Wish}
+use Rattle.sdb_phases.specs.declared.check.Wish.TheVariants as wish
+use Rattle.sdb_phases.specs.declared.check.Wanted.{Wanted}
+use Rattle.sdb_phases.specs.declared.check.Target.{Target}
+use Rattle.sdb_phases.specs.declared.check.Target.TheVariants as target
+use Rattle.sdb_phases.specs.declared.check.Check.{Check}
+use Rattle.sdb_phases.specs.Work.{Work}
+
+abbrev pub same_key : Key → Key → Bool
+same_key a b = is_eq (key_cmp a b)
+
+---- what a transaction read and wrote, by key
+
+-- the version that a scan found at a key, or none where it found no record
+abbrev pub version_read : List Read → Key → Option TxId
+version_read [] key = None
+version_read (r ∷ rs) key = if same_key key r.key then r.version else version_read rs key
+
+-- the version of the base of the write of a key, or none where the key isn't written
+abbrev pub base_of : List Write → Key → Option (Option TxId)
+base_of [] key = None
+base_of (w ∷ ws) key = if same_key key w.key then Some (version_of w.base) else base_of ws key
+
+abbrev pub is_written : List Write → Key → Bool
+is_written ws key = list_any (λ w. same_key key w.key) ws
+
+-- the record that stands at a key among rows
+abbrev pub record_among : List Record → Key → Option Record
+record_among [] key = None
+record_among (r ∷ rs) key = if same_key key r.key then Some r else record_among rs key
+
+---- what a rescan is to find
+
+-- A key that isn't written is to have the version that the scan found. A written key is left out of the rescan, on
+-- condition that its base has the version that the scan found.
+abbrev pub is_granted : Wish → Option Record → Bool
+is_granted (wish.Unchanged version) found = is_unchanged found version
+is_granted (wish.Based same) found = same
+
+-- a base has the version that is wished
+abbrev pub wished_version : Option Wish → Option TxId → Bool
+wished_version None base = is_none base
+wished_version (Some (wish.Unchanged version)) base = same_version base version
+wished_version (Some (wish.Based same)) base = same
+
+abbrev pub Wishes : Type 0
+Wishes = FinMap key_cmp Wish
+
+abbrev pub with_reads : List Read → Wishes → Wishes
+with_reads [] m = m
+with_reads (r ∷ rs) m = with_reads rs (insert m r.key (wish.Unchanged r.version))
+
+abbrev pub with_write : Span → Write → Wishes → Wishes
+with_write span w m =
+    if in_span span w.key then insert m w.key (wish.Based (wished_version (get m w.key) (version_of w.base))) else m
+
+abbrev pub with_writes : Span → List Write → Wishes → Wishes
+with_writes span [] m = m
+with_writes span (w ∷ ws) m = with_writes span ws (with_write span w m)
+
+-- what a rescan is to find, by key: at the keys that the scan found, and at the written keys of its span
+abbrev pub wishes : List Write → Scan → Wishes
+wishes own scan = with_writes scan.span own (with_reads scan.found empty)
+
+abbrev pub wanted_of : Key × Wish → Wanted
+wanted_of e = record { key = e.0; wish = e.1 }
+
+abbrev pub wanted : List Write → Scan → List Wanted
+wanted own scan = map wanted_of (entries (wishes own scan))
+
+abbrev pub wish_at : List Wanted → Key → Option Wish
+wish_at [] key = None
+wish_at (w ∷ ws) key = if same_key key w.key then Some w.wish else wish_at ws key
+
+-- a key at which nothing is wanted is to have no record
+abbrev pub is_fulfilled : Option Wish → Option Record → Bool
+is_fulfilled None found = is_none found
+is_fulfilled (Some w) found = is_granted w found
+
+-- at that key the rows are not what is wanted
+abbrev pub differs : List Wanted → List Record → Key → Bool
+differs ws rows key = not (is_fulfilled (wish_at ws key) (record_among rows key))
+
+abbrev pub lesser : Key → Option Key → Key
+lesser key None = key
+lesser key (Some other) = if is_lt (key_cmp other key) then other else key
+
+-- the least of keys in key order
+abbrev pub least : List Key → Option Key
+least [] = None
+least (key ∷ keys) = Some (lesser key (least keys))
+
+abbrev pub keys_among : List Wanted → List Record → List Key
+keys_among ws rows = map (λ w. w.key) ws ++ map (λ r. r.key) rows
+
+-- The first key in key order at which the rows are not what is wanted, with what stands there.
+abbrev pub first_difference : List Wanted → List Record → Option (Key × Option Record)
+first_difference ws rows =
+    option_map (λ key. (key, record_among rows key)) (least (filter (differs ws rows) (keys_among ws rows)))
+
+---- checks
+
+-- a get is to find the version that was read, and a scan what is wanted
+abbrev pub check_of_read : Read → Check
+check_of_read r = record { request = ask.Get r.key; target = target.Version r.version }
+
+abbrev pub check_of_scan : List Write → Scan → Check
+check_of_scan own scan = record { request = ask.Scan scan.span; target = target.Rows (wanted own scan) }
+
+-- The checks of a COMMIT: a get of each key that was read by a get and isn't written, in order of first reading, and then
+-- each scan again.
+abbrev pub checks_of : List Write → List Read → List Scan → List Check
+checks_of own reads scans =
+    map check_of_read (filter (λ r. not (is_written own r.key)) reads) ++ map (check_of_scan own) scans
+
+abbrev pub checks : Work → List Check
+checks p = checks_of p.writes p.reads p.scans
+
+abbrev pub changed : Bool → Key → Option Record → Option (Key × Option Record)
+changed same key found = if same then None else Some (key, found)
+
+-- the first key at which a check doesn't find what it is to find, with what stands there
+abbrev pub difference_at : Request → Target → Reply → Option (Key × Option Record)
+difference_at (ask.Get key) (target.Version version) (reply.Found found) = changed (is_unchanged found version) key found
+difference_at (ask.Scan span) (target.Rows ws) (reply.Rows rows) = first_difference ws rows
+difference_at _ _ _ = None
+
+abbrev pub difference_in : Check → Reply → Option (Key × Option Record)
+difference_in c r = difference_at c.request c.target r

@@ -1,0 +1,145 @@
+-- The recovery of one unresolved record, as a function of the replies so far.
+use Rattle.std.specs.Prelude.{◌≡◌, ℕ, ℤ, Bool, true, false, if◌then◌else◌, List, [], ◌∷◌, Option, Some, None, Result, Ok, Err}
+use Rattle.sdb_types.specs.declared.record.Record.{Record}
+use Rattle.sdb_types.specs.declared.record.Condition.{Condition}
+use Rattle.sdb_types.specs.declared.record.Condition.TheVariants as condition
+use Rattle.sdb_types.specs.declared.record.Request.{Request}
+use Rattle.sdb_types.specs.declared.record.Request.TheVariants as ask
+use Rattle.sdb_types.specs.declared.record.Reply.{Reply}
+use Rattle.sdb_types.specs.declared.record.Reply.TheVariants as reply
+use Rattle.sdb_record.specs.declared.coordinator.Decided.{Decided}
+use Rattle.sdb_record.specs.declared.coordinator.Decision.TheVariants as decision
+use Rattle.sdb_record.specs.declared.meta.Meta.{Meta}
+use Rattle.sdb_record.specs.Coordinator.{coordinator_key_of, decision_in, is_expired}
+use Rattle.sdb_record.specs.Meta.{is_moment}
+use Rattle.sdb_record.specs.Parts.{before_record}
+use Rattle.sdb_record.specs.Rolls.{forward_record}
+use Rattle.sdb_phases.specs.declared.step.RecoverStep.{RecoverStep}
+use Rattle.sdb_phases.specs.declared.step.RecoverStep.TheVariants as steps
+use Rattle.sdb_phases.specs.declared.step.RecoverPhase.{RecoverPhase}
+use Rattle.sdb_phases.specs.declared.step.RecoverPhase.TheVariants as phase
+use Rattle.sdb_phases.specs.Work.{look_of, abort_of, undo}
+use Rattle.sdb_phases.specs.Steps.{CanGet}
+
+-- an unresolved record that was found, what its metadata says, and where its recovery stands
+pub record Recovers : Type 0 where
+  pub rec : Record
+  pub meta : Meta
+  pub phase : RecoverPhase
+
+-- the record still stands as it was found
+abbrev pub stands_found : Meta → Condition
+stands_found meta = condition.Version meta.id meta.state
+
+-- the record that it is rolled to: the row's moment is that of the commit
+abbrev pub recover_forward : Record → Meta → ℤ → Request
+recover_forward rec meta created_at = ask.PutIf (forward_record rec created_at) (stands_found meta)
+
+abbrev pub recover_back : Record → Meta → Request
+recover_back rec meta = undo (stands_found meta) rec.key (before_record rec)
+
+abbrev pub recover_request_at : Record → Meta → RecoverPhase → Option Request
+recover_request_at rec meta phase.Look = Some (look_of meta.id)
+recover_request_at rec meta (phase.Abort now) = Some (abort_of meta.id now)
+recover_request_at rec meta phase.Again = Some (look_of meta.id)
+recover_request_at rec meta (phase.Forward created_at) = Some (recover_forward rec meta created_at)
+recover_request_at rec meta phase.Back = Some (recover_back rec meta)
+recover_request_at rec meta phase.Ended = None
+
+abbrev pub recover_request : Recovers → Option Request
+recover_request r = recover_request_at r.rec r.meta r.phase
+
+abbrev pub roll_to : Meta → Result Decided (List ℕ) → RecoverPhase × RecoverStep
+roll_to meta (Err column) = (phase.Ended, steps.BadRecord (coordinator_key_of meta.id))
+roll_to meta (Ok d) = elim d.decision [ decision.Committed ↦ (phase.Forward d.created_at, steps.More) | decision.Aborted ↦ (phase.Back, steps.More) ]
+
+-- a coordinator row is followed: the record is rolled forward or back by it
+abbrev pub row_followed : Meta → Record → RecoverPhase × RecoverStep
+row_followed meta row = roll_to meta (decision_in row)
+
+-- Without a row the record's transaction may still decide, until the record expires; then ABORTED is put.
+abbrev pub undecided : Meta → ℤ → RecoverPhase × RecoverStep
+undecided meta now =
+    if is_expired meta.prepared_at now then (phase.Abort now, steps.More)
+    else (phase.Ended, steps.Busy meta.id meta.prepared_at)
+
+-- The coordinator's row is asked for first, and the record is rolled by it; the roll's reply ends it with the record that it
+-- was rolled to, whether the roll was applied or something else stood there.
+abbrev pub recover_next : Record → Meta → RecoverPhase → ℤ → Reply → RecoverPhase × RecoverStep
+recover_next rec meta phase.Look now (reply.Found (Some row)) = row_followed meta row
+recover_next rec meta phase.Look now (reply.Found None) = undecided meta now
+recover_next rec meta phase.Look now reply.Fault = (phase.Ended, steps.Faulted)
+recover_next rec meta (phase.Abort moment) now reply.Applied = (phase.Back, steps.More)
+recover_next rec meta (phase.Abort moment) now (reply.NotMet (Some row)) = row_followed meta row
+recover_next rec meta (phase.Abort moment) now reply.Fault = (phase.Again, steps.More)
+recover_next rec meta phase.Again now (reply.Found (Some row)) = row_followed meta row
+recover_next rec meta phase.Again now (reply.Found None) = (phase.Ended, steps.Faulted)
+recover_next rec meta phase.Again now reply.Fault = (phase.Ended, steps.Faulted)
+recover_next rec meta (phase.Forward created_at) now reply.Applied = (phase.Ended, steps.Image (Some (forward_record rec created_at)))
+recover_next rec meta (phase.Forward created_at) now (reply.NotMet found) = (phase.Ended, steps.Image (Some (forward_record rec created_at)))
+recover_next rec meta (phase.Forward created_at) now reply.Fault = (phase.Ended, steps.Faulted)
+recover_next rec meta phase.Back now reply.Applied = (phase.Ended, steps.Image (before_record rec))
+recover_next rec meta phase.Back now (reply.NotMet found) = (phase.Ended, steps.Image (before_record rec))
+recover_next rec meta phase.Back now reply.Fault = (phase.Ended, steps.Faulted)
+recover_next rec meta p now r = (phase.Ended, steps.NoMemory)
+
+-- where a reply at a moment leads
+abbrev pub recovered : Recovers → ℤ → Reply → Recovers
+recovered r now q = record r { phase = (recover_next r.rec r.meta r.phase now q).0 }
+
+abbrev pub recover_result : Recovers → ℤ → Reply → RecoverStep
+recover_result r now q = (recover_next r.rec r.meta r.phase now q).1
+
+-- the call that follows is made from what the reply told
+abbrev pub makes_call : RecoverPhase → Bool
+makes_call (phase.Abort now) = true
+makes_call (phase.Forward created_at) = true
+makes_call p = false
+
+abbrev pub may_starve : RecoverPhase × RecoverStep → Bool
+may_starve (p, steps.NoMemory) = true
+may_starve (p, s) = makes_call p
+
+-- It stands and answers as the step says. Want of memory may stand in its place, and ends it, only where that is the step or
+-- where the step makes a call.
+abbrev pub Gives : RecoverPhase × RecoverStep → RecoverPhase → RecoverStep → Type 0
+Gives want p steps.NoMemory = (p ≡ phase.Ended) × (may_starve want ≡ true)
+Gives want p s = (p ≡ want.0) × (s ≡ want.1)
+
+---- after any replies
+
+-- a reply, with the moment at which it is digested
+pub record Heard : Type 0 where
+  pub reply : Reply
+  pub now : ℤ
+
+-- where the replies lead, the newest first
+abbrev pub recover_after : Record → Meta → List Heard → RecoverPhase
+recover_after rec meta [] = phase.Look
+recover_after rec meta (c ∷ past) = (recover_next rec meta (recover_after rec meta past) c.now c.reply).0
+
+abbrev pub recover_pending : Record → Meta → List Heard → Option Request
+recover_pending rec meta past = recover_request_at rec meta (recover_after rec meta past)
+
+-- what it answers to the newest reply
+abbrev pub recover_answer : Record → Meta → List Heard → RecoverStep
+recover_answer rec meta [] = steps.More
+recover_answer rec meta (c ∷ past) = (recover_next rec meta (recover_after rec meta past) c.now c.reply).1
+
+-- each reply is one that the call pending could get, and each moment is from 0 to 2^53
+abbrev pub RecoverPlayed : Record → Meta → List Heard → Type 0
+RecoverPlayed rec meta [] = Unit {0}
+RecoverPlayed rec meta (c ∷ past) =
+    RecoverPlayed rec meta past × CanGet (recover_pending rec meta past) c.reply × (is_moment c.now ≡ true)
+
+pub data RecoverNext : Type 0 where
+  Ask : (request : Request) → RecoverNext
+  Ends : (answer : RecoverStep) → RecoverNext
+
+abbrev pub asked : RecoverStep → Option Request → RecoverNext
+asked answer None = Ends answer
+asked answer (Some q) = Ask q
+
+-- what a recovery does next, after these replies
+abbrev pub recover_next_of : Record → Meta → List Heard → RecoverNext
+recover_next_of rec meta past = asked (recover_answer rec meta past) (recover_pending rec meta past)

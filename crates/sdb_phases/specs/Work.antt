@@ -1,0 +1,67 @@
+-- What is committed, and the calls that write it.
+use Rattle.std.specs.Prelude.{ℤ, List, map, Option, Some, None}
+use Rattle.sdb_types.specs.declared.key.Key.{Key}
+use Rattle.sdb_types.specs.declared.txid.TxId.{TxId}
+use Rattle.sdb_types.specs.declared.record.Record.{Record}
+use Rattle.sdb_types.specs.declared.record.Condition.{Condition}
+use Rattle.sdb_types.specs.declared.record.Condition.TheVariants as condition
+use Rattle.sdb_types.specs.declared.record.Request.{Request}
+use Rattle.sdb_types.specs.declared.record.Request.TheVariants as ask
+use Rattle.sdb_record.specs.declared.coordinator.Decision.TheVariants as decision
+use Rattle.sdb_record.specs.declared.access.Read.{Read}
+use Rattle.sdb_record.specs.declared.access.Scan.{Scan}
+use Rattle.sdb_record.specs.declared.write.Write.{Write}
+use Rattle.sdb_record.specs.Coordinator.{coordinator_key_of, coordinator_row_of}
+use Rattle.sdb_record.specs.Moved.{version_of, condition_of}
+use Rattle.sdb_record.specs.Rolls.{prepared_record, forward_record, state_of_change}
+
+-- A transaction as its COMMIT takes it, at a moment: what it writes, in order of first writing; the keys that it read by
+-- gets, in order of first reading; the spans that it scanned.
+pub record Work : Type 0 where
+  pub id : TxId
+  pub now : ℤ
+  pub writes : List Write
+  pub reads : List Read
+  pub scans : List Scan
+
+-- Prepare: the prepared record is put, on condition that the base still stands.
+abbrev pub prepare_of : TxId → ℤ → Write → Request
+prepare_of id now w = ask.PutIf (prepared_record w id now) (condition_of (version_of w.base))
+
+-- a write's record still stands as it was prepared
+abbrev pub stands_prepared : TxId → Write → Condition
+stands_prepared id w = condition.Version id (state_of_change w.change)
+
+-- Roll forward: the committed record is put, on condition that the record stands as it was prepared.
+abbrev pub forward_of : TxId → ℤ → Write → Request
+forward_of id now w = ask.PutIf (forward_record (prepared_record w id now) now) (stands_prepared id w)
+
+-- what was there before is put again, or the record is removed where there was none
+abbrev pub undo : Condition → Key → Option Record → Request
+undo condition key None = ask.DeleteIf key condition
+undo condition key (Some base) = ask.PutIf base condition
+
+-- Roll back: the base again, on condition that the record stands as it was prepared.
+abbrev pub back_of : TxId → Write → Request
+back_of id w = undo (stands_prepared id w) w.key w.base
+
+-- The deciding put: the coordinator's row COMMITTED, on condition that there is none.
+abbrev pub decide_of : TxId → ℤ → Request
+decide_of id now = ask.PutIf (coordinator_row_of id decision.Committed now) condition.Absent
+
+-- The row ABORTED, on condition that there is none.
+abbrev pub abort_of : TxId → ℤ → Request
+abort_of id now = ask.PutIf (coordinator_row_of id decision.Aborted now) condition.Absent
+
+-- The look at the coordinator's row.
+abbrev pub look_of : TxId → Request
+look_of id = ask.Get (coordinator_key_of id)
+
+abbrev pub prepares : Work → List Request
+prepares p = map (prepare_of p.id p.now) p.writes
+
+abbrev pub forwards : Work → List Request
+forwards p = map (forward_of p.id p.now) p.writes
+
+abbrev pub backs : Work → List Request
+backs p = map (back_of p.id) p.writes

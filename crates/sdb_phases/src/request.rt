@@ -1,0 +1,85 @@
+//! The calls of a COMMIT, made from what it writes.
+ghost use Rattle.std.specs.Prelude.{◌≡◌, IfOk};
+ghost use Rattle.sdb_record.specs.Rolls.{IsWrite, state_of_change};
+ghost use Rattle.sdb_phases.specs.Work.{prepare_of, forward_of, back_of, decide_of, abort_of, look_of, stands_prepared};
+
+use sdb_record::{
+    Change, Decision, Write, condition_of, coordinator_key, coordinator_row, prepared,
+    rolled_forward, version_of,
+};
+use sdb_types::{Condition, Duplicate, NoMemory, Request, State, TxId};
+use std::alloc::Global;
+
+// The state in which a change leaves its key prepared.
+fn state_left(change: &Change) -> State
+    ensures { result ≡ state_of_change change.now }
+{
+    match change {
+        Change::Row(_) => State::Prepared,
+        Change::Delete => State::Deleted,
+    }
+}
+
+fn as_prepared(write: &Write, id: TxId) -> Condition
+    ensures { result ≡ stands_prepared id write.now }
+{
+    Condition::Version(id, state_left(&write.change))
+}
+
+/// The prepare of a write, at a moment from 0 to 2^53.
+pub fn prepare(alloc: Global, write: &Write, id: TxId, now: i64) -> Result<Request, NoMemory>
+    requires { IsWrite write.now }
+    ensures { IfOk result (λ request. request ≡ prepare_of id now write.now) }
+{
+    Ok(Request::PutIf(
+        prepared(alloc, write, id, now)?,
+        condition_of(version_of(&write.base)),
+    ))
+}
+
+/// The roll forward of a write that was prepared at a moment from 0 to 2^53, and is committed at that moment.
+pub fn forward(alloc: Global, write: &Write, id: TxId, now: i64) -> Result<Request, NoMemory>
+    requires { IsWrite write.now }
+    ensures { IfOk result (λ request. request ≡ forward_of id now write.now) }
+{
+    let rec = prepared(alloc, write, id, now)?;
+    Ok(Request::PutIf(rolled_forward(alloc, &rec, now)?, as_prepared(write, id)))
+}
+
+/// The roll back of a write.
+pub fn back(write: &Write, id: TxId) -> Result<Request, NoMemory>
+    ensures { IfOk result (λ request. request ≡ back_of id write.now) }
+{
+    let condition = as_prepared(write, id);
+    match &write.base {
+        Some(base) => Ok(Request::PutIf(base.copy()?, condition)),
+        None => Ok(Request::DeleteIf(write.key.copy()?, condition)),
+    }
+}
+
+/// The put of a transaction's row COMMITTED, made at a moment from 0 to 2^53.
+pub fn decide_row(alloc: Global, id: TxId, now: i64) -> Result<Request, NoMemory>
+    ensures { IfOk result (λ request. request ≡ decide_of id now) }
+{
+    Ok(Request::PutIf(
+        coordinator_row(alloc, id, Decision::Committed, now)?,
+        Condition::Absent,
+    ))
+}
+
+/// The put of a transaction's row ABORTED, made at a moment from 0 to 2^53.
+pub fn abort_row(alloc: Global, id: TxId, now: i64) -> Result<Request, NoMemory>
+    ensures { IfOk result (λ request. request ≡ abort_of id now) }
+{
+    Ok(Request::PutIf(
+        coordinator_row(alloc, id, Decision::Aborted, now)?,
+        Condition::Absent,
+    ))
+}
+
+/// The look for a transaction's row.
+pub fn look(alloc: Global, id: TxId) -> Result<Request, NoMemory>
+    ensures { IfOk result (λ request. request ≡ look_of id) }
+{
+    Ok(Request::Get(coordinator_key(alloc, id)?))
+}

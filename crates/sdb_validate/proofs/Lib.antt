@@ -1,0 +1,6 @@
+pub mod Firsts
+pub mod Merges
+pub mod Ordered
+pub mod Rescans
+pub mod Trees
+pub mod Places

@@ -1,0 +1,4 @@
+pub mod Merge
+pub mod WishCode
+pub mod Inside
+pub mod Rescan

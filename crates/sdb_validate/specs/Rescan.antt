@@ -1,0 +1,46 @@
+-- What a rescan means: at each key it finds what the scan found.
+use Rattle.std.specs.Prelude.{◌≡◌, Bool, true, false, ◌&&◌, if◌then◌else◌, List, [], ◌∷◌, Option, Some, None}
+use Rattle.std.specs.Ordering.{is_lt}
+use Rattle.std.specs.declared.cmp.Ordering.TheVariants.{Less}
+use Rattle.sdb_types.specs.declared.key.Key.{Key}
+use Rattle.sdb_types.specs.declared.txid.TxId.{TxId}
+use Rattle.sdb_types.specs.declared.record.Record.{Record}
+use Rattle.sdb_types.specs.declared.record.Span.{Span}
+use Rattle.sdb_types.specs.Order.{key_cmp}
+use Rattle.sdb_types.specs.Contents.{in_span}
+use Rattle.sdb_record.specs.declared.access.Read.{Read}
+use Rattle.sdb_record.specs.declared.access.Scan.{Scan}
+use Rattle.sdb_record.specs.declared.write.Write.{Write}
+use Rattle.sdb_record.specs.Moved.{same_version, is_unchanged}
+use Rattle.sdb_phases.specs.Checks.{base_of, version_read, record_among}
+
+-- the version of the base of a written key of the span
+abbrev pub base_in : Span → List Write → Key → Option (Option TxId)
+base_in span own key = if in_span span key then base_of own key else None
+
+abbrev pub kept_by : Option (Option TxId) → Option TxId → Option Record → Bool
+kept_by (Some base) version found = same_version base version
+kept_by None version found = is_unchanged found version
+
+-- At that key the rows are what the scan found: a key that isn't written has the version that the scan found, and the base
+-- of a written key of the span has that version, whatever stands there.
+abbrev pub is_kept : List Write → Scan → List Record → Key → Bool
+is_kept own scan rows key =
+    kept_by (base_in scan.span own key) (version_read scan.found key) (record_among rows key)
+
+---- what a scan found stands in key order
+
+abbrev pub starts_behind : Key → List Read → Bool
+starts_behind key [] = true
+starts_behind key (r ∷ rs) = is_lt (key_cmp key r.key)
+
+abbrev pub reads_rise : List Read → Bool
+reads_rise [] = true
+reads_rise (r ∷ rs) = starts_behind r.key rs && reads_rise rs
+
+-- A rescan passes where every key is kept. Else its conflict is at the first key in key order that isn't, with what stands
+-- there.
+abbrev pub IsFirstLost : List Write → Scan → List Record → Option (Key × Option Record) → Type 0
+IsFirstLost own scan rows None = (key : Key) → is_kept own scan rows key ≡ true
+IsFirstLost own scan rows (Some d) =
+    (d.1 ≡ record_among rows d.0) × (is_kept own scan rows d.0 ≡ false) × ((key : Key) → key_cmp key d.0 ≡ Less → is_kept own scan rows key ≡ true)

@@ -1,0 +1,12 @@
+//! The extra reads of a COMMIT: whether what the transaction read still stands.
+#![tactic(auto)]
+
+mod checks;
+mod key_map;
+pub mod laws;
+mod rescan;
+mod validate;
+
+pub use checks::lies_in;
+pub use sdb_phases::ValidateStep;
+pub use validate::Validate;
