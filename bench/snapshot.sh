@@ -10,10 +10,10 @@ program=${1:-$root/crates/sdb_snapshot_bench/out/sdb_snapshot_bench}
 room=$(mktemp -d)
 trap 'rm -rf "$room"' EXIT
 
-# The least of three runs, in seconds.
+# The least processor time of three runs, in seconds.
 timed() {
     for _ in 1 2 3; do
-        /usr/bin/time -o "$room/cost" -f '%e' "$program" "$@" >/dev/null
+        /usr/bin/time -o "$room/cost" -f '%U' "$program" "$@" >/dev/null
         cat "$room/cost"
     done | sort -n | head -n 1
 }

@@ -2,14 +2,13 @@
 use Rattle.std.proofs.Common.{◌≡◌, Bool, true, false, cond, List, [], ◌∷◌, ◌++◌, Option, Some, None, IfSome, refl, sym, ap, subst, ◌∙◌}
 use Rattle.std.specs.Prelude.{is_some, Result, Ok, Err, OnOk, OnErr}
 use Rattle.std.specs.Option.{option_and_then}
-use Rattle.std.specs.List.{AllByRecursion}
 use Rattle.sdb_types.specs.declared.key.Key.{Key}
 use Rattle.sdb_types.specs.declared.record.Record.{Record}
 use Rattle.sdb_keyed.specs.Entries.{same_key, value_at}
 use Rattle.sdb_record.specs.declared.write.Write.{Write}
 use Rattle.sdb_record.specs.declared.write.Keyed.{Keyed}
 use Rattle.sdb_record.specs.Rolls.{IsBaseOf}
-use Rattle.sdb_snapshot.specs.Noted.{Note, AreBases, AreCommitted, is_noted, base_at, with_images}
+use Rattle.sdb_snapshot.specs.Noted.{Note, AreCommitted, is_noted, base_at, with_images}
 use Rattle.sdb_snapshot.specs.Written.{AreChanges, HaveBases, HaveKeysOnce, is_written, write_at, with_write, with_writes, with_change_of, write_of}
 use Rattle.sdb_snapshot.specs.Held.{AreKept}
 use Rattle.sdb_snapshot.proofs.Keys.{by_test, same_itself, same_exact, value_last}

@@ -2,7 +2,6 @@
 //! it.
 #![tactic(auto)]
 
-use anyhow::{Context, bail};
 use sdb_record::{Change, Changes, Keyed, meta_of};
 use sdb_snapshot::Snapshot;
 use sdb_types::{Columns, Duplicate, Key, Name, Record, Span, TableName, Txt, Value, Values};
@@ -11,6 +10,7 @@ use std::env;
 use std::rt::HostRuntime;
 
 /// The call that is made.
+#[derive(Drop)]
 enum Call {
     Overlay,
     Lookup,
@@ -18,6 +18,7 @@ enum Call {
 }
 
 /// So many partitions of so many rows, and how often the call is made.
+#[derive(Drop)]
 struct Load {
     call: Call,
     partitions: i64,
@@ -25,57 +26,57 @@ struct Load {
     turns: i64,
 }
 
-fn table(alloc: Global) -> anyhow::Result<TableName> {
-    Ok(TableName {
-        ns: Name::new(alloc, "shop")?,
-        table: Name::new(alloc, "item")?,
+fn table(alloc: Global) -> Option<TableName> {
+    Some(TableName {
+        ns: Name::new(alloc, "shop").ok()?,
+        table: Name::new(alloc, "item").ok()?,
     })
 }
 
-fn values(alloc: Global, number: i64) -> anyhow::Result<Values> {
+fn values(alloc: Global, number: i64) -> Option<Values> {
     let mut values = Values::new(alloc);
-    values.push(Value::BigInt(number))?;
-    Ok(values)
+    values.push(Value::BigInt(number)).ok()?;
+    Some(values)
 }
 
-fn key_of(alloc: Global, partition: i64, row: i64) -> anyhow::Result<Key> {
-    Ok(Key {
+fn key_of(alloc: Global, partition: i64, row: i64) -> Option<Key> {
+    Some(Key {
         table: table(alloc)?,
         partition: values(alloc, partition)?,
         clustering: values(alloc, row)?,
     })
 }
 
-fn set(alloc: Global, columns: &mut Columns, name: &str, value: Value) -> anyhow::Result<()> {
-    columns.set(Name::new(alloc, name)?, value)?;
-    Ok(())
+fn set(alloc: Global, columns: &mut Columns, name: &str, value: Value) -> Option<()> {
+    columns.set(Name::new(alloc, name).ok()?, value).ok()?;
+    Some(())
 }
 
 // The columns of a committed record.
-fn columns_of(alloc: Global) -> anyhow::Result<Columns> {
+fn columns_of(alloc: Global) -> Option<Columns> {
     let mut columns = Columns::new(alloc);
-    let id = Txt::new(alloc, "00000000-0000-0001-0000-000000000001")?;
+    let id = Txt::new(alloc, "00000000-0000-0001-0000-000000000001").ok()?;
     set(alloc, &mut columns, "qty", Value::Int(1))?;
     set(alloc, &mut columns, "tx_id", Value::Text(id))?;
     set(alloc, &mut columns, "tx_state", Value::Int(3))?;
     set(alloc, &mut columns, "tx_version", Value::Int(1))?;
     set(alloc, &mut columns, "tx_prepared_at", Value::BigInt(0))?;
     set(alloc, &mut columns, "tx_committed_at", Value::BigInt(0))?;
-    Ok(columns)
+    Some(columns)
 }
 
 // Notes a committed record of a key, where the key was not read.
-fn note(alloc: Global, seen: &mut Snapshot, partition: i64, row: i64) -> anyhow::Result<()> {
+fn note(alloc: Global, seen: &mut Snapshot, partition: i64, row: i64) -> Option<()> {
     let key = key_of(alloc, partition, row)?;
     let rec = Record {
-        key: key.copy()?,
+        key: key.copy().ok()?,
         columns: columns_of(alloc)?,
     };
-    let meta = meta_of(alloc, &rec)?;
+    let meta = meta_of(alloc, &rec).ok()?;
     if meta.is_committed() && seen.lookup(&key).is_none() {
-        seen.note_get(key, Some(rec))?;
+        seen.note_get(key, Some(rec)).ok()?;
     }
-    Ok(())
+    Some(())
 }
 
 fn note_partition(
@@ -83,48 +84,49 @@ fn note_partition(
     seen: &mut Snapshot,
     partition: i64,
     rows: i64,
-) -> anyhow::Result<()> {
+) -> Option<()> {
     for row in 0..rows {
         note(alloc, seen, partition, row)?;
     }
-    Ok(())
+    Some(())
 }
 
-fn noted(alloc: Global, load: &Load) -> anyhow::Result<Snapshot> {
+fn noted(alloc: Global, load: &Load) -> Option<Snapshot> {
     let mut seen = Snapshot::new(alloc);
     for partition in 0..load.partitions {
         note_partition(alloc, &mut seen, partition, load.rows)?;
     }
-    Ok(seen)
+    Some(seen)
 }
 
 // How many rows of a partition are seen.
-fn rows_of(alloc: Global, seen: &Snapshot, partition: i64) -> anyhow::Result<usize> {
+fn rows_of(alloc: Global, seen: &Snapshot, partition: i64) -> Option<usize> {
     let span = Span {
         table: table(alloc)?,
         partition: Some(values(alloc, partition)?),
     };
-    Ok(seen.overlay_span(&span)?.len())
+    Some(seen.overlay_span(&span).ok()?.len())
 }
 
 // Writes a key that was read, and says how many keys are written.
-fn write(alloc: Global, seen: &mut Snapshot, key: Key) -> anyhow::Result<usize> {
+fn write(alloc: Global, seen: &mut Snapshot, key: Key) -> Option<usize> {
     if seen.lookup(&key).is_some() {
         let mut changes = Changes::new(alloc);
         changes.push(Keyed {
             key,
             change: Change::Delete,
-        })?;
-        seen.write(changes)?;
+        })
+        .ok()?;
+        seen.write(changes).ok()?;
     }
-    Ok(seen.writes().len())
+    Some(seen.writes().len())
 }
 
 // Makes the call at a partition, or at its first row.
-fn make(alloc: Global, seen: &mut Snapshot, call: &Call, partition: i64) -> anyhow::Result<usize> {
+fn make(alloc: Global, seen: &mut Snapshot, call: &Call, partition: i64) -> Option<usize> {
     match call {
         Call::Overlay => rows_of(alloc, seen, partition),
-        Call::Lookup => Ok(usize::from(seen.lookup(&key_of(alloc, partition, 0)?).is_some())),
+        Call::Lookup => Some(usize::from(seen.lookup(&key_of(alloc, partition, 0)?).is_some())),
         Call::Write => write(alloc, seen, key_of(alloc, partition, 0)?),
     }
 }
@@ -136,7 +138,7 @@ fn after(partition: i64, partitions: i64) -> i64 {
 }
 
 // Goes through the partitions, one call a turn, and gives what the last turn told.
-fn play(alloc: Global, load: &Load) -> anyhow::Result<usize> {
+fn play(alloc: Global, load: &Load) -> Option<usize> {
     let mut seen = noted(alloc, load)?;
     let mut last = 0;
     let mut partition = 0;
@@ -144,37 +146,41 @@ fn play(alloc: Global, load: &Load) -> anyhow::Result<usize> {
         last = make(alloc, &mut seen, &load.call, partition)?;
         partition = after(partition, load.partitions);
     }
-    Ok(last)
+    Some(last)
 }
 
-fn call_of(word: &str) -> anyhow::Result<Call> {
+fn call_of(word: &str) -> Option<Call> {
     match word {
-        "overlay" => Ok(Call::Overlay),
-        "lookup" => Ok(Call::Lookup),
-        "write" => Ok(Call::Write),
-        _ => bail!("no such call"),
+        "overlay" => Some(Call::Overlay),
+        "lookup" => Some(Call::Lookup),
+        "write" => Some(Call::Write),
+        _ => None,
     }
 }
 
-fn number(word: Option<String>) -> anyhow::Result<i64> {
-    Ok(word.context("a word is missing")?.as_str().parse()?)
+fn number(word: Option<String>) -> Option<i64> {
+    word?.as_str().parse().ok()
 }
 
 // The words behind the program's name: the call, the partitions, the rows of each, and the turns.
-fn load(rt: &HostRuntime) -> anyhow::Result<Load> {
-    let mut words = env::args(rt)?;
+fn load(rt: &HostRuntime) -> Option<Load> {
+    let mut words = env::args(rt).ok()?;
     let _program = words.next();
-    Ok(Load {
-        call: call_of(words.next().context("a word is missing")?.as_str())?,
+    Some(Load {
+        call: call_of(words.next()?.as_str())?,
         partitions: number(words.next())?,
         rows: number(words.next())?,
         turns: number(words.next())?,
     })
 }
 
-fn main(rt: HostRuntime) -> anyhow::Result<()> {
-    let load = load(&rt)?;
-    let last = play(rt.alloc(), &load)?;
-    println!(rt; "{last}")?;
-    Ok(())
+fn main(rt: HostRuntime) {
+    let last = match load(&rt) {
+        Some(load) => play(rt.alloc(), &load),
+        None => None,
+    };
+    let _ = match last {
+        Some(last) => println!(rt; "{last}"),
+        None => println!(rt; "none"),
+    };
 }
