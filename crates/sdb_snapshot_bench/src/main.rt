@@ -79,12 +79,7 @@ fn note(alloc: Global, seen: &mut Snapshot, partition: i64, row: i64) -> Option<
     Some(())
 }
 
-fn note_partition(
-    alloc: Global,
-    seen: &mut Snapshot,
-    partition: i64,
-    rows: i64,
-) -> Option<()> {
+fn note_partition(alloc: Global, seen: &mut Snapshot, partition: i64, rows: i64) -> Option<()> {
     for row in 0..rows {
         note(alloc, seen, partition, row)?;
     }
@@ -112,11 +107,12 @@ fn rows_of(alloc: Global, seen: &Snapshot, partition: i64) -> Option<usize> {
 fn write(alloc: Global, seen: &mut Snapshot, key: Key) -> Option<usize> {
     if seen.lookup(&key).is_some() {
         let mut changes = Changes::new(alloc);
-        changes.push(Keyed {
-            key,
-            change: Change::Delete,
-        })
-        .ok()?;
+        changes
+            .push(Keyed {
+                key,
+                change: Change::Delete,
+            })
+            .ok()?;
         seen.write(changes).ok()?;
     }
     Some(seen.writes().len())
