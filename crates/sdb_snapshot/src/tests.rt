@@ -1,12 +1,11 @@
 //! What a transaction sees of what it read and wrote.
-ghost use Rattle.std.specs.Prelude.{◌≡◌, true, IfOk, IfSome};
-ghost use Rattle.sdb_types.specs.Contents.{in_span};
+ghost use Rattle.std.specs.Prelude.{◌≡◌, [], ◌∷◌, true, IfOk, IfSome};
 ghost use Rattle.sdb_record.specs.Rolls.{IsBaseOf, is_change};
 
 use super::{MOST_WRITES, NoteRefused, Snapshot, WriteRefused};
 use sdb_record::{Change, Changes, Keyed, meta_of};
 use sdb_types::{
-    Columns, Duplicate, Key, Name, Record, Records, Span, TableName, Txt, Value, Values,
+    Columns, Duplicate, Key, Name, NoMemory, Record, Records, Span, TableName, Txt, Value, Values,
 };
 use std::alloc::Global;
 use std::process::Abort;
@@ -27,12 +26,10 @@ fn account(alloc: Global, id: i32) -> Result<Key, Fail> {
     })
 }
 
-// The span of a key's table.
-fn table_of(key: &Key) -> Result<Span, Fail>
-    ensures { IfOk result (λ span. in_span span key.now ≡ true) }
-{
+// The span of all accounts.
+fn accounts(alloc: Global) -> Result<Span, Fail> {
     Ok(Span {
-        table: key.table.copy()?,
+        table: account(alloc, 0)?.table,
         partition: None,
     })
 }
@@ -83,22 +80,80 @@ fn note(rt: &impl Abort, seen: &mut Snapshot, key: &Key, image: Option<Record>) 
     Ok(())
 }
 
+fn note_record(
+    rt: &impl Abort,
+    alloc: Global,
+    seen: &mut Snapshot,
+    key: &Key,
+    tombstone: bool,
+) -> Result<(), Fail> {
+    let rec = committed(rt, alloc, key, tombstone)?;
+    note(rt, seen, key, Some(rec))
+}
+
+// Notes a scan that finds no record.
+fn scan_nothing(alloc: Global, seen: &mut Snapshot, span: &Span) -> Result<(), NoteRefused> {
+    seen.note_scan(span.copy()?, Records::new(alloc))
+}
+
+fn one_change(alloc: Global, key: &Key, change: Change) -> Result<Changes, NoMemory>
+    ensures { IfOk result (λ ks. ks ≡ record { key = key.now; change = change } ∷ []) }
+{
+    let mut changes = Changes::new(alloc);
+    changes.push(Keyed {
+        key: key.copy()?,
+        change,
+    })?;
+    Ok(changes)
+}
+
 fn write(
     rt: &impl Abort,
     alloc: Global,
     seen: &mut Snapshot,
     key: &Key,
     change: Change,
-) -> Result<Result<(), WriteRefused>, Fail>
+) -> Result<(), WriteRefused>
     requires { is_change change ≡ true }
 {
     assert!(rt; seen.lookup(key).is_some());
-    let mut changes = Changes::new(alloc);
-    changes.push(Keyed {
-        key: key.copy()?,
-        change,
-    })?;
-    Ok(seen.write(changes))
+    match one_change(alloc, key, change) {
+        Ok(changes) => seen.write(changes),
+        Err(NoMemory) => Err(WriteRefused::NoMemory),
+    }
+}
+
+fn insert(
+    rt: &impl Abort,
+    alloc: Global,
+    seen: &mut Snapshot,
+    key: &Key,
+) -> Result<(), WriteRefused> {
+    write(rt, alloc, seen, key, Change::Row(Columns::new(alloc)))
+}
+
+fn delete(
+    rt: &impl Abort,
+    alloc: Global,
+    seen: &mut Snapshot,
+    key: &Key,
+) -> Result<(), WriteRefused> {
+    write(rt, alloc, seen, key, Change::Delete)
+}
+
+fn rows(seen: &Snapshot, span: &Span) -> Result<usize, Fail> {
+    Ok(seen.overlay_span(span)?.len())
+}
+
+fn rows_at(seen: &Snapshot, key: &Key) -> Result<usize, Fail> {
+    Ok(seen.overlay_key(key)?.len())
+}
+
+fn first_write_deletes(seen: &Snapshot) -> bool {
+    match seen.writes().first() {
+        Some(write) => write.change == Change::Delete,
+        None => false,
+    }
 }
 
 // A row that is inserted shows in a span that was scanned before its key was read, and once it is deleted its key still
@@ -107,30 +162,26 @@ fn write(
 fn inserted_and_then_deleted(rt: HostRuntime) -> Result<(), Fail> {
     let alloc = rt.alloc();
     let key = account(alloc, 1)?;
-    let span = table_of(&key)?;
+    let span = accounts(alloc)?;
     let mut seen = Snapshot::new(alloc);
-    seen.note_scan(span.copy()?, Records::new(alloc))?;
+    scan_nothing(alloc, &mut seen, &span)?;
     note(&rt, &mut seen, &key, None)?;
-    write(
-        &rt,
-        alloc,
-        &mut seen,
-        &key,
-        Change::Row(Columns::new(alloc)),
-    )??;
-    assert!(rt; seen.scanned(&span));
-    assert_eq!(rt; seen.overlay_span(&span)?.len(), 1);
-    assert_eq!(rt; seen.overlay_key(&key)?.len(), 1);
-    write(&rt, alloc, &mut seen, &key, Change::Delete)??;
-    assert_eq!(rt; seen.overlay_span(&span)?.len(), 0);
-    assert_eq!(rt; seen.overlay_key(&key)?.len(), 0);
+    insert(&rt, alloc, &mut seen, &key)?;
+    assert_eq!(rt; rows(&seen, &span)?, 1);
+    delete(&rt, alloc, &mut seen, &key)?;
+    assert_eq!(rt; rows(&seen, &span)?, 0);
     assert_eq!(rt; seen.writes().len(), 1);
-    assert!(rt;
-        seen.writes()
-            .iter()
-            .all(|write| write.change == Change::Delete)
-    );
+    assert!(rt; first_write_deletes(&seen));
     Ok(())
+}
+
+// Whether the first row of a span is that of a key, with one column.
+fn first_row_is(seen: &Snapshot, span: &Span, key: &Key) -> Result<bool, Fail> {
+    let rows = seen.overlay_span(span)?;
+    match rows.first() {
+        Some(row) => Ok(row.key == *key && row.columns.len() == 1),
+        None => Ok(false),
+    }
 }
 
 // What gets noted shows in a span that was scanned before, in the order of keys and without the protocol's columns; a
@@ -138,61 +189,46 @@ fn inserted_and_then_deleted(rt: HostRuntime) -> Result<(), Fail> {
 #[test]
 fn a_get_shows_in_a_scanned_span(rt: HostRuntime) -> Result<(), Fail> {
     let alloc = rt.alloc();
+    let span = accounts(alloc)?;
     let mut seen = Snapshot::new(alloc);
-    let span = table_of(&account(alloc, 1)?)?;
-    seen.note_scan(span.copy()?, Records::new(alloc))?;
+    scan_nothing(alloc, &mut seen, &span)?;
     for (id, tombstone) in [(3, false), (2, true), (1, false)] {
-        let key = account(alloc, id)?;
-        let rec = committed(&rt, alloc, &key, tombstone)?;
-        note(&rt, &mut seen, &key, Some(rec))?;
+        note_record(&rt, alloc, &mut seen, &account(alloc, id)?, tombstone)?;
     }
-    let rows = seen.overlay_span(&span)?;
-    assert_eq!(rt; rows.len(), 2);
-    assert!(rt; rows.first().is_some_and(|row| row.columns.len() == 1));
-    assert!(rt; rows.first().map(|row| &row.key) == Some(&account(alloc, 1)?));
+    assert_eq!(rt; rows(&seen, &span)?, 2);
+    assert!(rt; first_row_is(&seen, &span, &account(alloc, 1)?)?);
     assert_eq!(rt; seen.reads().len(), 3);
-    assert_eq!(rt; seen.scans().len(), 1);
     Ok(())
 }
 
-fn scan_one(
-    seen: &mut Snapshot,
-    alloc: Global,
-    span: Span,
-    rec: Record,
-) -> Result<Result<(), NoteRefused>, Fail>
-    requires inside { in_span span rec.key ≡ true }
-    requires committed { IsBaseOf rec.key rec }
-{
-    let mut records = Records::new(alloc);
-    records.push(rec)?;
-    Ok(seen.note_scan(span, records))
+fn tells_none_at(refused: Result<(), NoteRefused>, key: &Key) -> bool {
+    match refused {
+        Err(NoteRefused::Differs(differs, None)) => differs == *key,
+        _ => false,
+    }
 }
 
-// A scan tells a record where a get found none, and notes nothing; a scan that finds none either is noted.
+// A scan tells where a record that a get found is absent, and notes nothing.
 #[test]
 fn a_scan_that_differs_is_not_noted(rt: HostRuntime) -> Result<(), Fail> {
     let alloc = rt.alloc();
     let key = account(alloc, 1)?;
-    let span = table_of(&key)?;
+    let span = accounts(alloc)?;
     let mut seen = Snapshot::new(alloc);
-    note(&rt, &mut seen, &key, None)?;
-    let rec = committed(&rt, alloc, &key, true)?;
-    let found = rec.copy()?;
-    let refused = scan_one(&mut seen, alloc, span.copy()?, rec)?;
-    assert!(rt; refused == Err(NoteRefused::Differs(key, Some(found))));
+    note_record(&rt, alloc, &mut seen, &key, true)?;
+    let refused = scan_nothing(alloc, &mut seen, &span);
+    assert!(rt; tells_none_at(refused, &key));
     assert!(rt; !seen.scanned(&span));
-    seen.note_scan(span.copy()?, Records::new(alloc))?;
-    assert!(rt; seen.scanned(&span));
+    assert_eq!(rt; seen.scans().len(), 0);
     Ok(())
 }
 
-// So many keys are written, one after the other.
-fn write_keys(rt: &impl Abort, alloc: Global, seen: &mut Snapshot, many: i32) -> Result<(), Fail> {
+// Reads and deletes so many keys, one after the other.
+fn delete_keys(rt: &impl Abort, alloc: Global, seen: &mut Snapshot, many: i32) -> Result<(), Fail> {
     for id in 0..many {
         let key = account(alloc, id)?;
         note(rt, seen, &key, None)?;
-        write(rt, alloc, seen, &key, Change::Delete)??;
+        delete(rt, alloc, seen, &key)?;
     }
     Ok(())
 }
@@ -201,22 +237,15 @@ fn write_keys(rt: &impl Abort, alloc: Global, seen: &mut Snapshot, many: i32) ->
 #[test]
 fn so_many_keys_may_be_written(rt: HostRuntime) -> Result<(), Fail> {
     let alloc = rt.alloc();
-    let mut seen = Snapshot::new(alloc);
-    write_keys(&rt, alloc, &mut seen, 4096)?;
     let last = account(alloc, 4096)?;
+    let mut seen = Snapshot::new(alloc);
+    delete_keys(&rt, alloc, &mut seen, 4096)?;
     note(&rt, &mut seen, &last, None)?;
-    let refused = write(&rt, alloc, &mut seen, &last, Change::Delete)?;
+    let refused = insert(&rt, alloc, &mut seen, &last);
     assert!(rt; refused == Err(WriteRefused::TooManyWrites));
     assert_eq!(rt; seen.writes().len(), MOST_WRITES);
-    assert_eq!(rt; seen.overlay_key(&last)?.len(), 0);
-    write(
-        &rt,
-        alloc,
-        &mut seen,
-        &account(alloc, 7)?,
-        Change::Row(Columns::new(alloc)),
-    )??;
-    assert_eq!(rt; seen.overlay_key(&account(alloc, 7)?)?.len(), 1);
-    assert_eq!(rt; seen.writes().len(), MOST_WRITES);
+    assert_eq!(rt; rows_at(&seen, &last)?, 0);
+    insert(&rt, alloc, &mut seen, &account(alloc, 7)?)?;
+    assert_eq!(rt; rows_at(&seen, &account(alloc, 7)?)?, 1);
     Ok(())
 }
