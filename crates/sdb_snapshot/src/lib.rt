@@ -12,6 +12,3 @@ mod snapshot;
 pub use drafts::{MOST_WRITES, WriteRefused};
 pub use sdb_record::{Access, Read, Reads, Scan, Scans};
 pub use snapshot::{NoteRefused, Snapshot};
-
-#[cfg(test)]
-mod tests;

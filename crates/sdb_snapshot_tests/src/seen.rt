@@ -2,8 +2,8 @@
 ghost use Rattle.std.specs.Prelude.{◌≡◌, [], ◌∷◌, true, IfOk, IfSome};
 ghost use Rattle.sdb_record.specs.Rolls.{IsBaseOf, is_change};
 
-use super::{MOST_WRITES, NoteRefused, Snapshot, WriteRefused};
 use sdb_record::{Change, Changes, Keyed, meta_of};
+use sdb_snapshot::{MOST_WRITES, NoteRefused, Snapshot, WriteRefused};
 use sdb_types::{
     Columns, Duplicate, Key, Name, NoMemory, Record, Records, Span, TableName, Txt, Value, Values,
 };
