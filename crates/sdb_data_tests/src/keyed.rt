@@ -30,3 +30,17 @@ fn a_key_keeps_its_place(rt: HostRuntime) -> Result<(), Fail> {
     assert_eq!(rt; map.get(&account(alloc, 3)?).copied(), None);
     Ok(())
 }
+
+#[test]
+fn later_keys_are_cut_off(rt: HostRuntime) -> Result<(), Fail> {
+    let alloc = rt.alloc();
+    let mut map: KeyMap<u32> = KeyMap::new(alloc);
+    map.put(account(alloc, 2)?, 10)?;
+    map.put(account(alloc, 1)?, 20)?;
+    assert_eq!(rt; map.place(&account(alloc, 1)?), Some(1));
+    map.truncate(1);
+    assert_eq!(rt; map.len(), 1);
+    assert_eq!(rt; map.place(&account(alloc, 1)?), None);
+    assert_eq!(rt; map.place(&account(alloc, 2)?), Some(0));
+    Ok(())
+}

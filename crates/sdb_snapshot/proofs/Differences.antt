@@ -1,0 +1,232 @@
+-- The first key that differs, and what is noted of a scan.
+use Rattle.std.proofs.Common.{◌≡◌, Bool, true, false, ◌||◌, cond, List, [], ◌∷◌, ◌++◌, Option, Some, None, IfSome, refl, sym, ap, subst, ◌∙◌}
+use Rattle.std.specs.Prelude.{is_some, find}
+use Rattle.std.specs.Option.{option_map, option_and_then}
+use Rattle.std.specs.List.{AllByRecursion, list_all}
+use Rattle.std.specs.declared.cmp.Ordering.{Ordering}
+use Rattle.std.specs.declared.cmp.Ordering.TheVariants.{Less, Equal, Greater}
+use Rattle.std.specs.Ordering.{is_eq, is_lt, is_le}
+use Rattle.std.specs.Cmp.{tied_itself}
+use Rattle.sdb_types.specs.declared.key.Key.{Key}
+use Rattle.sdb_types.specs.declared.record.Record.{Record}
+use Rattle.sdb_types.specs.declared.record.Span.{Span}
+use Rattle.sdb_types.specs.Order.{key_cmp}
+use Rattle.sdb_types.specs.Exact.{equal_of}
+use Rattle.sdb_types.specs.Contents.{in_span, starts_after, rise}
+use Rattle.sdb_types.proofs.Bools.{and_first, and_second}
+use Rattle.sdb_types.proofs.KeyOrder.{key_total, key_exact}
+use Rattle.sdb_keyed.specs.Entries.{same_key, value_at}
+use Rattle.sdb_record.specs.declared.write.Write.{Write}
+use Rattle.sdb_record.specs.declared.write.Keyed.{Keyed}
+use Rattle.sdb_record.specs.Rolls.{IsBaseOf, IsWrite}
+use Rattle.sdb_snapshot.specs.Noted.{Note, is_noted, base_at, with_note, with_images, has_key, record_in, has_moved, differs, IsFirstDifference, IsUnmoved, AreKeysOf, AreBases, AreCommitted}
+use Rattle.sdb_snapshot.specs.Written.{write_at, with_write, with_writes, with_change_of, write_of, AreWrites, AreChanges}
+use Rattle.sdb_snapshot.specs.Held.{WereRead, differs_from}
+use Rattle.sdb_snapshot.proofs.Keys.{by_test, same_exact, value_last, or_else}
+
+---- what is noted of a scan
+
+or_none : {A : Type 0} (o : Option A) → or_else o None ≡ o
+or_none None = refl
+or_none (Some x) = refl
+
+or_or : {A : Type 0} (o p q : Option A) → or_else (or_else o p) q ≡ or_else o (or_else p q)
+or_or None p q = refl
+or_or (Some x) p q = refl
+
+pub or_there : {A : Type 0} (o p : Option A) → is_some o ≡ true → or_else o p ≡ o
+or_there None p h = absurd (cc)
+or_there (Some x) p h = refl
+
+note_step : (notes : List Note) (k : Key) (f : Option Record) (q : Key) → value_at (with_note notes k f) q ≡ or_else (value_at notes q) (cond (same_key q k) (Some f) None)
+note_step notes k f q =
+    by_test (is_noted notes k)
+    (λ t. ap (λ b. value_at (cond b notes (notes ++ (k, f) ∷ [])) q) t
+    ∙ by_test (same_key q k)
+    (λ u. sym (or_there (value_at notes q) (cond (same_key q k) (Some f) None) (subst (λ (x : Key). is_some (value_at notes x) ≡ true) (sym (same_exact q k u)) t)))
+    (λ u. sym (ap (λ b. or_else (value_at notes q) (cond b (Some f) None)) u ∙ or_none (value_at notes q))))
+    (λ t. ap (λ b. value_at (cond b notes (notes ++ (k, f) ∷ [])) q) t ∙ value_last notes k f q)
+
+found_first : (b : Bool) (r : Record) (o : Option Record) → or_else (cond b (Some (Some r)) None) (option_map Some o) ≡ option_map Some (cond b (Some r) o)
+found_first true r o = refl
+found_first false r o = refl
+
+pub noted_images : (notes : List Note) (rs : List Record) (q : Key) → value_at (with_images notes rs) q ≡ or_else (value_at notes q) (option_map Some (record_in rs q))
+noted_images notes [] q = sym (or_none (value_at notes q))
+noted_images notes (r ∷ rs) q =
+    noted_images (with_note notes r.key (Some r)) rs q
+    ∙ ap (λ o. or_else o (option_map Some (record_in rs q))) (note_step notes r.key (Some r) q)
+    ∙ or_or (value_at notes q) (cond (same_key q r.key) (Some (Some r)) None) (option_map Some (record_in rs q))
+    ∙ ap (or_else (value_at notes q)) (found_first (same_key q r.key) r (record_in rs q))
+
+joined : (o : Option Record) → option_and_then (λ x. x) (option_map Some o) ≡ o
+joined None = refl
+joined (Some r) = refl
+
+-- the records of a scan, noted alone
+pub base_images : (rs : List Record) (q : Key) → base_at (with_images [] rs) q ≡ record_in rs q
+base_images rs q = ap (option_and_then (λ x. x)) (noted_images [] rs q) ∙ joined (record_in rs q)
+
+pub stands_is : (now : List Note) (rs : List Record) (q : Key) → now ≡ with_images [] rs → base_at now q ≡ record_in rs q
+stands_is now rs q is = ap (λ (ns : List Note). base_at ns q) is ∙ base_images rs q
+
+pub still_noted : (notes : List Note) (rs : List Record) (q : Key) → is_noted notes q ≡ true → is_noted (with_images notes rs) q ≡ true
+still_noted notes rs q h = ap is_some (noted_images notes rs q) ∙ ap is_some (or_there (value_at notes q) (option_map Some (record_in rs q)) h) ∙ h
+
+pub noted_last_keeps : (notes : List Note) (k : Key) (f : Option Record) (q : Key) → is_noted notes q ≡ true → is_noted (notes ++ (k, f) ∷ []) q ≡ true
+noted_last_keeps notes k f q h = ap is_some (value_last notes k f q) ∙ ap is_some (or_there (value_at notes q) (cond (same_key q k) (Some f) None) h) ∙ h
+
+---- the first that differs
+
+less_of : (o : Ordering) → is_lt o ≡ true → o ≡ Less
+less_of Less h = refl
+less_of Equal h = cc
+less_of Greater h = cc
+
+behind : (k q : Key) (rs : List Record) → starts_after k rs ≡ true → rise rs ≡ true → has_key rs q ≡ true → key_cmp k q ≡ Less
+behind k q [] s h has = absurd (cc)
+behind k q (r ∷ rs) s h has =
+    by_test (is_eq (key_cmp q r.key))
+    (λ t. subst (λ (x : Key). key_cmp k x ≡ Less) (sym (key_exact q r.key (equal_of (key_cmp q r.key) t))) (less_of (key_cmp k r.key) s))
+    (λ t. key_total.trans k r.key q (less_of (key_cmp k r.key) s)
+    (behind r.key q rs (and_first (starts_after r.key rs) (rise rs) h) (and_second (starts_after r.key rs) (rise rs) h) (sym (ap (λ b. b || has_key rs q) t) ∙ has)))
+
+some_is : {A : Type 0} (x y : A) → Some x ≡ Some y → x ≡ y
+some_is x y e = cc
+
+-- what is found first among keys that rise stands at the least key
+least : (p : Key → Bool) (rs : List Record) (r : Record) (q : Key) → rise rs ≡ true → find (λ s. p s.key) rs ≡ Some r → has_key rs q ≡ true → p q ≡ true → is_le (key_cmp r.key q) ≡ true
+least p [] r q h found has pq = absurd (cc)
+least p (s ∷ rs) r q h found has pq =
+    by_test (p s.key)
+    (λ t. let is : s ≡ r = some_is s r (sym (ap (λ b. cond b (Some s) (find (λ x. p x.key) rs)) t) ∙ found) in
+    subst (λ (x : Record). is_le (key_cmp x.key q) ≡ true) is
+    (by_test (is_eq (key_cmp q s.key))
+    (λ u. subst (λ (x : Key). is_le (key_cmp s.key x) ≡ true) (sym (key_exact q s.key (equal_of (key_cmp q s.key) u))) (ap is_le (tied_itself key_total s.key)))
+    (λ u. ap is_le (behind s.key q rs (and_first (starts_after s.key rs) (rise rs) h) (and_second (starts_after s.key rs) (rise rs) h) (sym (ap (λ b. b || has_key rs q) u) ∙ has)))))
+    (λ t. by_test (is_eq (key_cmp q s.key))
+    (λ u. let same : p q ≡ p s.key = ap p (key_exact q s.key (equal_of (key_cmp q s.key) u)) in
+    let no : true ≡ false = sym pq ∙ same ∙ t in absurd (cc))
+    (λ u. least p rs r q (and_second (starts_after s.key rs) (rise rs) h) (sym (ap (λ b. cond b (Some s) (find (λ x. p x.key) rs)) t) ∙ found) (sym (ap (λ b. b || has_key rs q) u) ∙ has) pq))
+
+none_passes : (p : Key → Bool) (rs : List Record) (q : Key) → find (λ s. p s.key) rs ≡ None → has_key rs q ≡ true → p q ≡ false
+none_passes p [] q found has = absurd (cc)
+none_passes p (s ∷ rs) q found has =
+    by_test (p s.key)
+    (λ t. let some : ◌≡◌ {A = Option Record} (Some s) None = sym (ap (λ b. cond b (Some s) (find (λ x. p x.key) rs)) t) ∙ found in absurd (cc))
+    (λ t. by_test (is_eq (key_cmp q s.key))
+    (λ u. ap p (key_exact q s.key (equal_of (key_cmp q s.key) u)) ∙ t)
+    (λ u. none_passes p rs q (sym (ap (λ b. cond b (Some s) (find (λ x. p x.key) rs)) t) ∙ found) (sym (ap (λ b. b || has_key rs q) u) ∙ has)))
+
+passes : (p : Key → Bool) (rs : List Record) (r : Record) → find (λ s. p s.key) rs ≡ Some r → p r.key ≡ true
+passes p [] r found = absurd (cc)
+passes p (s ∷ rs) r found =
+    by_test (p s.key)
+    (λ t. let is : s ≡ r = some_is s r (sym (ap (λ b. cond b (Some s) (find (λ x. p x.key) rs)) t) ∙ found) in subst (λ (x : Record). p x.key ≡ true) is t)
+    (λ t. passes p rs r (sym (ap (λ b. cond b (Some s) (find (λ x. p x.key) rs)) t) ∙ found))
+
+inside_all : (span : Span) (p : Key → Bool) (rs : List Record) (r : Record) → list_all (λ s. in_span span s.key) rs ≡ true → find (λ s. p s.key) rs ≡ Some r → in_span span r.key ≡ true
+inside_all span p [] r all found = absurd (cc)
+inside_all span p (s ∷ rs) r all found =
+    by_test (p s.key)
+    (λ t. let is : s ≡ r = some_is s r (sym (ap (λ b. cond b (Some s) (find (λ x. p x.key) rs)) t) ∙ found) in
+    subst (λ (x : Record). in_span span x.key ≡ true) is (and_first (in_span span s.key) (list_all (λ x. in_span span x.key) rs) all))
+    (λ t. inside_all span p rs r (and_second (in_span span s.key) (list_all (λ x. in_span span x.key) rs) all) (sym (ap (λ b. cond b (Some s) (find (λ x. p x.key) rs)) t) ∙ found))
+
+moved_noted : (o : Option (Option Record)) (f : Option Record) → has_moved o f ≡ true → is_some o ≡ true
+moved_noted None f h = absurd (cc)
+moved_noted (Some x) f h = refl
+
+pub first_difference : (notes : List Note) (span : Span) (images ks : List Record) (r : Record) (found : Option Record) → AreKeysOf notes span ks → find (λ s. differs notes images s.key) ks ≡ Some r → found ≡ record_in images r.key → IsFirstDifference notes span images r.key found
+first_difference notes span images ks r found keys at is = record {
+  inside = inside_all span (differs notes images) ks r (and_second (rise ks) (list_all (λ s. in_span span s.key) ks) keys.rows) at;
+  moved = passes (differs notes images) ks r at;
+  stands = is;
+  first = λ q inside moved. least (differs notes images) ks r q (and_first (rise ks) (list_all (λ s. in_span span s.key) ks) keys.rows) at (keys.noted q inside (moved_noted (value_at notes q) (record_in images q) moved)) moved;
+}
+
+pub none_differs : (notes : List Note) (span : Span) (images ks : List Record) → AreKeysOf notes span ks → find (λ s. differs notes images s.key) ks ≡ None → IsUnmoved notes span images
+none_differs notes span images ks keys at q inside =
+    by_test (differs notes images q)
+    (λ t. t ∙ sym t ∙ none_passes (differs notes images) ks q at (keys.noted q inside (moved_noted (value_at notes q) (record_in images q) t)))
+    (λ t. t)
+
+-- other notes that are those of a scan's records alone
+pub find_moved_is : (notes now : List Note) (images ks : List Record) → now ≡ with_images [] images → find (λ r. differs_from notes now r.key) ks ≡ find (λ r. differs notes images r.key) ks
+find_moved_is notes now images [] is = refl
+find_moved_is notes now images (r ∷ rs) is =
+    ap (λ (b : Bool). cond b (Some r) (find (λ s. differs_from notes now s.key) rs)) (ap (has_moved (value_at notes r.key)) (stands_is now images r.key is))
+    ∙ ap (cond (differs notes images r.key) (Some r)) (find_moved_is notes now images rs is)
+
+-- the first difference, as it is told
+pub moved_told : (notes seen now : List Note) (span : Span) (images ks : List Record) (r : Record) (k : Key) (found : Option Record) → notes ≡ seen → AreKeysOf notes span ks → now ≡ with_images [] images
+    → Some r ≡ find (λ s. differs_from notes now s.key) ks → k ≡ r.key → found ≡ base_at now r.key → IsFirstDifference seen span images k found
+moved_told notes seen now span images ks r k found view keys is at key base =
+    subst (λ (ns : List Note). IsFirstDifference ns span images k found) view
+    (subst (λ (x : Key). IsFirstDifference notes span images x found) (sym key)
+    (first_difference notes span images ks r found keys (sym (find_moved_is notes now images ks is) ∙ sym at) (base ∙ stands_is now images r.key is)))
+
+pub none_told : (notes seen now : List Note) (span : Span) (images ks : List Record) → notes ≡ seen → AreKeysOf notes span ks → now ≡ with_images [] images → None ≡ find (λ s. differs_from notes now s.key) ks → IsUnmoved seen span images
+none_told notes seen now span images ks view keys is at =
+    subst (λ (ns : List Note). IsUnmoved ns span images) view (none_differs notes span images ks keys (sym (find_moved_is notes now images ks is) ∙ sym at))
+
+---- what is kept is fine
+
+all_last : {A : Type 0} (P : A → Type 0) (xs : List A) (x : A) → AllByRecursion P xs → P x → AllByRecursion P (xs ++ x ∷ [])
+all_last P [] x h p = (p, tt)
+all_last P (y ∷ ys) x h p = (h.0, all_last P ys x h.1 p)
+
+pub bases_last : (notes : List Note) (k : Key) (f : Option Record) → AreBases notes → IfSome f (IsBaseOf k) → AreBases (notes ++ (k, f) ∷ [])
+bases_last notes k f h g = all_last (λ (e : Note). IfSome e.1 (IsBaseOf e.0)) notes (k, f) h g
+
+pub bases_images : (notes : List Note) (rs : List Record) → AreBases notes → AreCommitted rs → AreBases (with_images notes rs)
+bases_images notes [] h g = h
+bases_images notes (r ∷ rs) h g = bases_images (with_note notes r.key (Some r)) rs (by_noted (is_noted notes r.key)) g.1
+  where
+    by_noted : (b : Bool) → AreBases (cond b notes (notes ++ (r.key, Some r) ∷ []))
+    by_noted true = h
+    by_noted false = bases_last notes r.key (Some r) h g.0
+
+base_fine : (notes : List Note) (key : Key) → AreBases notes → IfSome (base_at notes key) (IsBaseOf key)
+base_fine [] key h = tt
+base_fine (e ∷ notes) key h =
+    by_test (same_key key e.0)
+    (λ t. subst (λ (o : Option (Option Record)). IfSome (option_and_then (λ x. x) o) (IsBaseOf key)) (sym (ap (λ (b : Bool). cond b (Some e.1) (value_at notes key)) t)) (subst (λ (k : Key). IfSome e.1 (IsBaseOf k)) (sym (same_exact key e.0 t)) h.0))
+    (λ t. subst (λ (o : Option (Option Record)). IfSome (option_and_then (λ x. x) o) (IsBaseOf key)) (sym (ap (λ (b : Bool). cond b (Some e.1) (value_at notes key)) t)) (base_fine notes key h.1))
+
+write_fine : (ws : List Write) (w : Write) → AreWrites ws → IsWrite w → AreWrites (with_write ws w)
+write_fine [] w h g = (g, tt)
+write_fine (x ∷ xs) w h g = by_same (same_key w.key x.key) (write_fine xs w h.1 g)
+  where
+    by_same : (b : Bool) → AreWrites (with_write xs w) → AreWrites (cond b (with_change_of x w ∷ xs) (x ∷ with_write xs w))
+    by_same true rest = (record { base = h.0.base; change = g.change }, h.1)
+    by_same false rest = (h.0, rest)
+
+pub writes_fine : (notes : List Note) (ws : List Write) (ks : List Keyed) → AreBases notes → AreWrites ws → AreChanges notes ks → AreWrites (with_writes notes ws ks)
+writes_fine notes ws [] bases h g = h
+writes_fine notes ws (k ∷ ks) bases h g =
+    writes_fine notes (with_write ws (write_of notes k)) ks bases (write_fine ws (write_of notes k) h (record { base = base_fine notes k.key bases; change = g.0.1 })) g.1
+
+read_rest : (notes : List Note) (x : Write) (xs : List Write) → WereRead notes (x ∷ xs) → WereRead notes xs
+read_rest notes x xs read q there = read q (step (same_key q x.key) (write_at xs q) there)
+  where
+    step : (b : Bool) (o : Option Write) → is_some o ≡ true → is_some (cond b (Some x) o) ≡ true
+    step true o g = refl
+    step false o g = g
+
+kept_or_later : (notes : List Note) (x w : Write) (xs : List Write) (q : Key) (b : Bool) → WereRead notes xs → (is_some (write_at (with_write xs w) q) ≡ true → is_noted notes q ≡ true)
+    → is_some (write_at (cond b (with_change_of x w ∷ xs) (x ∷ with_write xs w)) q) ≡ true → same_key q x.key ≡ false → is_noted notes q ≡ true
+kept_or_later notes x w xs q true read more g t = read q (sym (ap (λ b. is_some (cond b (Some (with_change_of x w)) (write_at xs q))) t) ∙ g)
+kept_or_later notes x w xs q false read more g t = more (sym (ap (λ b. is_some (cond b (Some x) (write_at (with_write xs w) q))) t) ∙ g)
+
+write_keeps : (notes : List Note) (ws : List Write) (w : Write) → is_noted notes w.key ≡ true → WereRead notes ws → WereRead notes (with_write ws w)
+write_keeps notes [] w h read q at = by_test (same_key q w.key)
+    (λ t. subst (λ (k : Key). is_noted notes k ≡ true) (sym (same_exact q w.key t)) h)
+    (λ t. let no : false ≡ true = sym (ap (λ b. is_some (cond b (Some w) None)) t) ∙ at in absurd (cc))
+write_keeps notes (x ∷ xs) w h read q at = by_test (same_key q x.key)
+    (λ t. read q (ap (λ b. is_some (cond b (Some x) (write_at xs q))) t))
+    (λ t. kept_or_later notes x w xs q (same_key w.key x.key) (read_rest notes x xs read) (write_keeps notes xs w h (read_rest notes x xs read) q) at t)
+
+pub writes_read : (notes : List Note) (ws : List Write) (ks : List Keyed) → WereRead notes ws → AreChanges notes ks → WereRead notes (with_writes notes ws ks)
+writes_read notes ws [] read h = read
+writes_read notes ws (k ∷ ks) read h = writes_read notes (with_write ws (write_of notes k)) ks (write_keeps notes ws (write_of notes k) h.0.0 read) h.1

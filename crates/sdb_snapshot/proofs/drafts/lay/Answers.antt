@@ -1,0 +1,18 @@
+use Rattle.std.proofs.Common.{◌≡◌, Some, None, ◌∙◌, ap, sym}
+use Rattle.std.specs.Prelude.{slice_get}
+use Rattle.std.proofs.lemmas.Option.{slice_get-get_or}
+use Rattle.sdb_snapshot.proofs.Places.{place_in, place_is, found_none, place_within, laid_at, laid_none}
+use Rattle.sdb_snapshot.proofs.drafts.lay.Goals as goal
+
+pub returns-in-Some : goal.returns-in-Some
+returns-in-Some c =
+    let ws = c.args.writes.now.items in
+    let place : place_in ws c.args.keyed.key ≡ Some c.in-Some.i = sym (place_is c.args.places.now ws c.args.keyed.key c.requires) ∙ sym c.in-Some.ensures in
+    let at : slice_get ws c.in-Some.i ≡ Some c.index_mut.result.now = slice_get-get_or ws c.in-Some.i c.index_mut.result.now (place_within ws c.args.keyed.key c.in-Some.i place) ∙ ap Some (sym c.index_mut.ensures.value) in
+    sym (laid_at ws c.args.keyed c.in-Some.i c.index_mut.result.now place at)
+
+pub returns : goal.returns
+returns c =
+    let ws = c.args.writes.now.items in
+    let place : place_in ws c.args.keyed.key ≡ None = sym (place_is c.args.places.now ws c.args.keyed.key c.requires) ∙ sym c.in-None.ensures in
+    sym (laid_none ws c.args.keyed (found_none ws c.args.keyed.key place))

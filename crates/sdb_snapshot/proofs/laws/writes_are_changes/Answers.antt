@@ -1,0 +1,5 @@
+use Rattle.sdb_snapshot.proofs.Shown.{own_is}
+use Rattle.sdb_snapshot.proofs.laws.writes_are_changes.Goals as goal
+
+pub returns : goal.returns
+returns c = own_is

@@ -1,0 +1,18 @@
+use Rattle.std.proofs.Common.{◌+◌, List, Some, drop, ap, ◌∙◌, subst, sym, refl}
+use Rattle.sdb_snapshot.specs.Noted.{Note, with_images}
+use Rattle.sdb_snapshot.specs.Held.{StartsWith}
+use Rattle.sdb_snapshot.proofs.Fronts.{starts_itself, drop_next}
+use Rattle.sdb_snapshot.proofs.Orders.{note_front}
+use Rattle.sdb_snapshot.proofs.notes.Notes.note_each.Goals as goal
+
+pub loop-rec-init : goal.loop-rec-init
+loop-rec-init c = record { told = refl; front = starts_itself c.args.self.now }
+
+pub loop-rec-preserved : goal.loop-rec-preserved
+loop-rec-preserved c = record {
+  told =
+      ap (λ (ns : List Note). with_images ns (drop (c.loop-rec.rec-index + 1) c.args.records.now)) c.in_ok-note_record.ensures.ok
+      ∙ sym (ap (with_images c.loop-rec.self) (drop_next c.args.records.now c.loop-rec.rec-index c.rec-item.result c.loop-rec-test.true c.rec-item.is))
+      ∙ c.loop-rec.invariant.told;
+  front = subst (λ (ns : List Note). StartsWith c.args.self.now ns) (sym c.in_ok-note_record.ensures.ok) (note_front c.args.self.now c.loop-rec.self c.rec-item.result.key (Some c.rec-item.result) c.loop-rec.invariant.front);
+}

@@ -1,0 +1,39 @@
+-- How a transaction keeps what it has read and written.
+use Rattle.std.specs.Prelude.{◌≡◌, Bool, true, List, [], ◌∷◌, map, is_some}
+use Rattle.std.specs.FinMap.{get}
+use Rattle.std.specs.Map.{keys_of}
+use Rattle.sdb_types.specs.declared.key.Key.{Key}
+use Rattle.sdb_types.specs.Contents.{Contents}
+use Rattle.sdb_record.specs.declared.write.Write.{Write}
+use Rattle.sdb_snapshot.specs.Noted.{Note, AreBases, is_noted, note_at, base_at, has_moved}
+use Rattle.sdb_snapshot.specs.Written.{AreWrites, HaveBases, HaveKeysOnce, is_written}
+
+-- the keys noted stand in a tree
+abbrev pub InOrder : List Note → Contents → Type 0
+InOrder notes order = (q : Key) → is_noted notes q ≡ true → is_some (get order q) ≡ true
+
+-- the keys of a map are those of the writes, each at its place
+abbrev pub ArePlaces : List (Key × Unit {0}) → List Write → Type 0
+ArePlaces places ws = keys_of places ≡ map (λ w. w.key) ws
+
+-- each key that was written was read
+abbrev pub WereRead : List Note → List Write → Type 0
+WereRead notes ws = (q : Key) → is_written ws q ≡ true → is_noted notes q ≡ true
+
+-- what holds of all that a transaction has noted and written
+pub record AreKept (notes : List Note) (ws : List Write) : Type 0 where
+  pub read : WereRead notes ws
+  pub bases : AreBases notes
+  pub fine : AreWrites ws
+  pub based : HaveBases notes ws
+  pub once : HaveKeysOnce ws
+
+-- a list begins with another
+abbrev pub StartsWith : {A : Type 0} → List A → List A → Type 0
+StartsWith [] ys = Unit {0}
+StartsWith (x ∷ xs) [] = ⊥
+StartsWith (x ∷ xs) (y ∷ ys) = (x ≡ y) × StartsWith xs ys
+
+-- a key was read with another version than other notes have
+abbrev pub differs_from : List Note → List Note → Key → Bool
+differs_from notes now key = has_moved (note_at notes key) (base_at now key)

@@ -1,0 +1,24 @@
+-- How changes are taken: first each new key goes last, then each change stands at its key.
+use Rattle.std.specs.Prelude.{if◌then◌else◌, List, [], ◌∷◌, ◌++◌}
+use Rattle.sdb_keyed.specs.Entries.{same_key}
+use Rattle.sdb_record.specs.declared.write.Write.{Write}
+use Rattle.sdb_record.specs.declared.write.Keyed.{Keyed}
+use Rattle.sdb_snapshot.specs.Noted.{Note}
+use Rattle.sdb_snapshot.specs.Written.{is_written, write_of}
+
+-- with a write whose key is new
+abbrev pub with_new : List Write → Write → List Write
+with_new ws w = if is_written ws w.key then ws else ws ++ w ∷ []
+
+abbrev pub with_news : List Note → List Write → List Keyed → List Write
+with_news notes ws [] = ws
+with_news notes ws (k ∷ ks) = with_news notes (with_new ws (write_of notes k)) ks
+
+-- with the change of a key that is written
+abbrev pub with_laid : List Write → Keyed → List Write
+with_laid [] k = []
+with_laid (x ∷ xs) k = if same_key k.key x.key then record { key = x.key; base = x.base; change = k.change } ∷ xs else x ∷ with_laid xs k
+
+abbrev pub with_laids : List Write → List Keyed → List Write
+with_laids ws [] = ws
+with_laids ws (k ∷ ks) = with_laids (with_laid ws k) ks

@@ -1,0 +1,83 @@
+-- What a transaction has read and written, and the rows that it sees.
+use Rattle.std.specs.Prelude.{◌≡◌, Bool, true, List, [], ◌∷◌, ◌++◌, Option, Some, None}
+use Rattle.std.specs.List.{list_any}
+use Rattle.std.specs.FinMap.{get}
+use Rattle.sdb_types.specs.declared.key.Key.{Key}
+use Rattle.sdb_types.specs.declared.pair.Pair.{Pair}
+use Rattle.sdb_types.specs.declared.record.Record.{Record}
+use Rattle.sdb_types.specs.declared.record.Span.{Span}
+use Rattle.sdb_record.specs.declared.access.Access.{Access}
+use Rattle.sdb_record.specs.declared.access.Image.{Image}
+use Rattle.sdb_record.specs.declared.access.Read.{Read}
+use Rattle.sdb_record.specs.declared.access.Scan.{Scan}
+use Rattle.sdb_record.specs.declared.write.Keyed.{Keyed}
+use Rattle.sdb_record.specs.declared.write.Write.{Write}
+use Rattle.sdb_record.specs.Moved.{version_of}
+use Rattle.sdb_record.specs.Rolls.{row_of_change}
+use Rattle.sdb_model.specs.Exec.{Tables}
+use Rattle.sdb_types.specs.contracts.record.SpanPartialEq.TheImpl as span_eq
+use Rattle.sdb_snapshot.specs.Noted.{Note, base_at, reads_of, with_images}
+use Rattle.sdb_snapshot.specs.Written.{write_at, with_writes}
+use Rattle.sdb_snapshot.specs.Rows.{in_access, rows_at, with_own, tables_of_notes, row_found}
+
+-- The keys read, with what was found, in the order of first reading; the gets that made a call; the spans scanned, with
+-- the versions found; and the writes, one for each key, in the order of first writing.
+pub record Seen : Type 0 where
+  pub notes : List Note
+  pub reads : List Read
+  pub scans : List Scan
+  pub writes : List Write
+
+abbrev pub nothing : Seen
+nothing = record { notes = []; reads = []; scans = []; writes = [] }
+
+-- with a get that made a call
+abbrev pub with_get : Seen → Key → Option Record → Seen
+with_get s key image =
+    record s { notes = s.notes ++ (key, image) ∷ []; reads = s.reads ++ record { key = key; version = version_of image } ∷ [] }
+
+-- with a scan that made a call: its records are noted where their keys were not read
+abbrev pub with_scan : Seen → Span → List Record → Seen
+with_scan s span images =
+    record s { notes = with_images s.notes images; scans = s.scans ++ record { span = span; found = reads_of images } ∷ [] }
+
+-- with changes, one after the other
+abbrev pub with_written : Seen → List Keyed → Seen
+with_written s changes = record s { writes = with_writes s.notes s.writes changes }
+
+abbrev pub same_span : Span → Span → Bool
+same_span = (span_eq.ghosts).eq
+
+-- a span was scanned
+abbrev pub is_scanned : List Scan → Span → Bool
+is_scanned scans span = list_any (λ s. same_span s.span span) scans
+
+-- the tables that a transaction sees: the rows noted, with its own changes laid over them
+abbrev pub tables_seen : Seen → Tables
+tables_seen s = with_own (tables_of_notes s.notes) s.writes
+
+-- The rows that it sees at an access: all rows noted whose keys lie there, also those that another read noted, with its
+-- own changes laid over them, in the order of their keys.
+abbrev pub overlay : Access → Seen → List Image
+overlay a s = rows_at a (tables_seen s)
+
+-- The notes have, at each key of an access, the row of these tables: a key that was not read is one that has no row.
+abbrev pub Agrees : Seen → Access → Tables → Type 0
+Agrees s a d = (q : Key) → in_access a q ≡ true → row_found (base_at s.notes q) ≡ get d q
+
+-- the row that a transaction sees at a key: what it wrote there, or else the row of what it found
+abbrev pub row_with : Option Write → Option Record → Option (List Pair)
+row_with None found = row_found found
+row_with (Some w) found = row_of_change w.change
+
+abbrev pub row_seen : List Note → List Write → Key → Option (List Pair)
+row_seen notes ws key = row_with (write_at ws key) (base_at notes key)
+
+-- the images of the rows that are seen at keys
+abbrev pub images_with : Key → Option (List Pair) → List Image
+images_with key None = []
+images_with key (Some columns) = record { key = key; columns = columns } ∷ []
+
+abbrev pub images_at : (Key → Option (List Pair)) → List Record → List Image
+images_at f [] = []
+images_at f (r ∷ rs) = images_with r.key (f r.key) ++ images_at f rs

@@ -1,0 +1,68 @@
+//! Whether a scan finds what was read before.
+ghost use Rattle.std.specs.Prelude.{◌≡◌, IfOk, find};
+ghost use Rattle.std.specs.Option.{option_copied};
+ghost use Rattle.sdb_record.specs.Moved.{same_version as same_version_lem, version_of as version_of_lem};
+ghost use Rattle.sdb_snapshot.specs.Noted.{base_at, reads_of};
+ghost use Rattle.sdb_snapshot.specs.Held.{differs_from};
+
+use crate::notes::Notes;
+use sdb_record::{Read, Reads, version_of};
+use sdb_types::{Duplicate, Key, NoMemory, Record, TxId};
+use std::alloc::Global;
+
+fn same_version(a: Option<TxId>, b: Option<TxId>) -> bool
+    ensures { result ≡ same_version_lem a b }
+{
+    match (a, b) {
+        (Some(a), Some(b)) => a.0 == b.0,
+        (None, None) => true,
+        _ => false,
+    }
+}
+
+// The version of what was found at a key, none where it was not read.
+fn version_at(notes: &Notes, key: &Key) -> Option<TxId>
+    ensures { result ≡ version_of_lem (base_at notes.now key.now) }
+{
+    match notes.get(key) {
+        Some(found) => version_of(found),
+        None => None,
+    }
+}
+
+// Whether a key was read with another version than is found now.
+fn differs(notes: &Notes, now: &Notes, key: &Key) -> bool
+    ensures { result ≡ differs_from notes.now now.now key.now }
+{
+    match notes.get(key) {
+        Some(noted) => !same_version(version_of(noted), version_at(now, key)),
+        None => false,
+    }
+}
+
+/// The first of the keys that differs.
+pub fn first_moved<'a>(notes: &Notes, now: &Notes, keys: &'a [Record]) -> Option<&'a Record>
+    ensures { option_copied result ≡ find (λ r. differs_from notes.now now.now r.key) keys.now }
+{
+    for rec in keys {
+        if differs(notes, now, &rec.key) {
+            return Some(rec);
+        }
+    }
+    None
+}
+
+/// The keys of records with their versions.
+pub fn versions_of(alloc: Global, records: &[Record]) -> Result<Reads, NoMemory>
+    ensures { IfOk result (λ reads. reads ≡ reads_of records.now) }
+{
+    let mut reads = Reads::new(alloc);
+    for rec in records {
+        let found = Some(rec.copy()?);
+        reads.push(Read {
+            key: rec.key.copy()?,
+            version: version_of(&found),
+        })?;
+    }
+    Ok(reads)
+}

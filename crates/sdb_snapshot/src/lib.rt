@@ -1,0 +1,14 @@
+//! What a transaction has read and written, and the rows that it sees.
+#![tactic(auto)]
+
+mod difference;
+mod drafts;
+pub mod laws;
+mod notes;
+mod overlay;
+mod row;
+mod snapshot;
+
+pub use drafts::{MOST_WRITES, WriteRefused};
+pub use sdb_record::{Access, Read, Reads, Scan, Scans};
+pub use snapshot::{NoteRefused, Snapshot};

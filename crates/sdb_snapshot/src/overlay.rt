@@ -1,0 +1,96 @@
+//! The rows that a transaction sees.
+ghost use Rattle.std.specs.Prelude.{◌≡◌, ◌++◌, IfOk, OnOk};
+ghost use Rattle.sdb_snapshot.specs.Noted.{base_at};
+ghost use Rattle.sdb_snapshot.specs.Rows.{row_found};
+ghost use Rattle.sdb_snapshot.specs.Seen.{images_at, images_with, row_seen};
+
+use crate::drafts::Drafts;
+use crate::notes::Notes;
+use crate::row::{row_of_change, row_of_found};
+use sdb_record::{Image, Images};
+use sdb_types::{Columns, Duplicate, Key, NoMemory, Record};
+use std::alloc::Global;
+
+// The row of what was found at a key.
+fn row_noted(alloc: Global, notes: &Notes, key: &Key) -> Result<Option<Columns>, NoMemory>
+    ensures { IfOk result (λ row. row ≡ row_found (base_at notes.now key.now)) }
+{
+    match notes.get(key) {
+        Some(found) => row_of_found(alloc, found),
+        None => Ok(None),
+    }
+}
+
+// The row that is seen at a key: what was written there, or else the row of what was found.
+fn row_at(
+    alloc: Global,
+    notes: &Notes,
+    drafts: &Drafts,
+    key: &Key,
+) -> Result<Option<Columns>, NoMemory>
+    ensures { IfOk result (λ row. row ≡ row_seen notes.now drafts.now key.now) }
+{
+    match drafts.get(key) {
+        Some(write) => row_of_change(&write.change),
+        None => row_noted(alloc, notes, key),
+    }
+}
+
+// Puts the image of a row last, where there is one.
+fn put_image(images: &mut Images, key: &Key, row: Option<Columns>) -> Result<(), NoMemory>
+    ensures { OnOk result (images.new ≡ images.old ++ images_with key.now row) }
+{
+    if let Some(columns) = row {
+        images.push(Image {
+            key: key.copy()?,
+            columns,
+        })?;
+    }
+    Ok(())
+}
+
+/// The row that is seen at a key, as an image.
+pub fn image_of_key(
+    alloc: Global,
+    notes: &Notes,
+    drafts: &Drafts,
+    key: &Key,
+) -> Result<Images, NoMemory>
+    ensures { IfOk result (λ images. images ≡ images_with key.now (row_seen notes.now drafts.now key.now)) }
+{
+    let mut images = Images::new(alloc);
+    let row = row_at(alloc, notes, drafts, key)?;
+    put_image(&mut images, key, row)?;
+    Ok(images)
+}
+
+// Puts the image of each key's row last.
+fn put_images(
+    alloc: Global,
+    images: &mut Images,
+    notes: &Notes,
+    drafts: &Drafts,
+    keys: &[Record],
+) -> Result<(), NoMemory>
+    ensures { OnOk result (images.new ≡ images.old ++ images_at (row_seen notes.now drafts.now) keys.now) }
+{
+    for rec in keys {
+        let row = row_at(alloc, notes, drafts, &rec.key)?;
+        put_image(images, &rec.key, row)?;
+    }
+    Ok(())
+}
+
+/// The rows that are seen at keys, as images.
+pub fn images_of_keys(
+    alloc: Global,
+    notes: &Notes,
+    drafts: &Drafts,
+    keys: &[Record],
+) -> Result<Images, NoMemory>
+    ensures { IfOk result (λ images. images ≡ images_at (row_seen notes.now drafts.now) keys.now) }
+{
+    let mut images = Images::new(alloc);
+    put_images(alloc, &mut images, notes, drafts, keys)?;
+    Ok(images)
+}

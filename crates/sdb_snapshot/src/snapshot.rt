@@ -1,0 +1,235 @@
+//! What a transaction has read and written.
+ghost use Rattle.std.specs.Prelude.{◌≡◌, ◌≤◌, ◌<◌, ◌++◌, [], ◌∷◌, IfOk, OnOk, OnErr, IfSome, length, true, false, Err, Option};
+ghost use Rattle.std.specs.Option.{option_copied, option_map};
+ghost use Rattle.sdb_types.specs.Contents.{are_rows_of};
+ghost use Rattle.sdb_types.specs.declared.key.Key.{Key as KeyValue};
+ghost use Rattle.sdb_types.specs.declared.record.Record.{Record as RecordValue};
+ghost use Rattle.sdb_record.specs.declared.access.Access.TheVariants as access;
+ghost use Rattle.sdb_record.specs.Rolls.{IsBaseOf};
+ghost use Rattle.sdb_snapshot.specs.Noted.{AreCommitted, IsFirstDifference, IsUnmoved, is_noted, note_at, with_images};
+ghost use Rattle.sdb_snapshot.specs.Written.{AreChanges, AreWrites, HaveBases, HaveKeysOnce, most_writes};
+ghost use Rattle.sdb_snapshot.specs.Seen.{is_scanned, nothing, overlay, with_get, with_scan, with_written};
+ghost use Rattle.sdb_snapshot.specs.declared.drafts.WriteRefused.TheVariants as refused;
+ghost use Rattle.sdb_snapshot.specs.declared.snapshot.NoteRefused.TheVariants as refused_note;
+
+use crate::difference::{first_moved, versions_of};
+use crate::drafts::{Drafts, WriteRefused};
+use crate::notes::Notes;
+use crate::overlay::{image_of_key, images_of_keys};
+use sdb_record::{Changes, Images, Read, Reads, Scan, Scans, Writes, version_of};
+use sdb_types::{Duplicate, Key, NoMemory, Record, Records, Span};
+use std::alloc::Global;
+use std::marker::Model;
+use thiserror::Error;
+
+/// Why a scan was not noted.
+#[derive(Debug, Drop, Error, PartialEq, Eq)]
+pub enum NoteRefused {
+    /// A key that was read has another version now: the record of the scan there, or none.
+    #[error("a read differs")]
+    Differs(Key, Option<Record>),
+    #[error("out of memory")]
+    NoMemory,
+}
+
+impl From<NoMemory> for NoteRefused {
+    ghost from_gives = { λ _ e. e ≡ refused_note.NoMemory };
+
+    fn from(_e: NoMemory) -> NoteRefused {
+        NoteRefused::NoMemory
+    }
+}
+
+/// What a transaction has read and written.
+///
+/// Noted records are found by a hash of the key and so are own writes: `lookup` takes constant time, and `write` constant
+/// time for each change, as far as hashes don't collide. The noted keys stand in a tree in their own order too, so that
+/// `overlay_span` looks at the keys of its span alone.
+#[derive(Drop)]
+pub struct Snapshot {
+    alloc: Global,
+    notes: Notes,
+    drafts: Drafts,
+    reads: Reads,
+    scans: Scans,
+}
+
+impl Model for Snapshot {
+    ghost use Rattle.sdb_snapshot.specs.Held.{AreKept};
+    ghost use Rattle.sdb_snapshot.specs.Seen.{Seen};
+
+    ghost Value = { Seen };
+
+    ghost view = { λ s. record { notes = s.notes; reads = s.reads; scans = s.scans; writes = s.drafts } };
+
+    ghost invariant = { λ s. AreKept s.notes s.drafts };
+}
+
+impl Snapshot {
+    /// Nothing read and nothing written.
+    pub fn new(alloc: Global) -> Snapshot
+        ensures { result ≡ nothing }
+    {
+        Snapshot {
+            alloc,
+            notes: Notes::new(alloc),
+            drafts: Drafts::new(alloc),
+            reads: Reads::new(alloc),
+            scans: Scans::new(alloc),
+        }
+    }
+
+    /// What was found at a key, where it was read: by a get, or as a row of a scan. Takes no memory.
+    pub fn lookup(&self, key: &Key) -> Option<Option<&Record>>
+        ensures { option_map option_copied result ≡ note_at self.now.notes key.now }
+    {
+        match self.notes.get(key) {
+            Some(found) => Some(found.as_ref()),
+            None => None,
+        }
+    }
+
+    // Notes a get that made a call.
+    fn note_read(&mut self, key: Key, image: Option<Record>, read: Read) -> Result<(), NoMemory>
+        requires unread { is_noted self.old.notes key ≡ false }
+        requires image { IfSome image (IsBaseOf key) }
+        ensures ok { OnOk result (self.new ≡ record self.old { notes = self.old.notes ++ (key, image) ∷ []; reads = self.old.reads ++ read ∷ [] }) }
+        ensures err { OnErr result (self.new ≡ self.old) }
+    {
+        let len = self.reads.len();
+        self.reads.push(read)?;
+        match self.notes.note(key, image) {
+            Ok(()) => Ok(()),
+            Err(NoMemory) => {
+                self.reads.remove(len);
+                Err(NoMemory)
+            }
+        }
+    }
+
+    /// Notes a get that made a call: of a key that was not read, with its committed record or none.
+    pub fn note_get(&mut self, key: Key, image: Option<Record>) -> Result<(), NoMemory>
+        requires unread { is_noted self.old.notes key ≡ false }
+        requires image { IfSome image (IsBaseOf key) }
+        ensures ok { OnOk result (self.new ≡ with_get self.old key image) }
+        ensures err { OnErr result (self.new ≡ self.old) }
+    {
+        let read = Read {
+            key: key.copy()?,
+            version: version_of(&image),
+        };
+        self.note_read(key, image, read)
+    }
+
+    /// Whether a span was scanned. Takes no memory, and time for each scan that was noted.
+    pub fn scanned(&self, span: &Span) -> bool
+        ensures { result ≡ is_scanned self.now.scans span.now }
+    {
+        self.scans.iter().any(|scan| scan.span == *span)
+    }
+
+    // Finds the first difference between what was read and a scan.
+    fn find_moved(&self, span: &Span, images: &Records) -> Result<(), NoteRefused>
+        ensures unmoved { OnOk result (IsUnmoved self.now.notes span.now images.now) }
+        ensures differs { (key : KeyValue) (found : Option RecordValue) → result ≡ Err (refused_note.Differs key found) → IsFirstDifference self.now.notes span.now images.now key found }
+    {
+        let keys = self.notes.keys_in(span)?;
+        let mut now = Notes::new(self.alloc);
+        now.note_all(images.as_slice())?;
+        match first_moved(&self.notes, &now, keys.as_slice()) {
+            Some(rec) => Err(NoteRefused::Differs(rec.key.copy()?, now.base(&rec.key)?)),
+            None => Ok(()),
+        }
+    }
+
+    // Notes a scan that differs nowhere.
+    fn note_rows(&mut self, scan: Scan, images: &Records) -> Result<(), NoMemory>
+        requires { AreCommitted images.now }
+        ensures ok { OnOk result (self.new ≡ record self.old { notes = with_images self.old.notes images.now; scans = self.old.scans ++ scan ∷ [] }) }
+        ensures err { OnErr result (self.new ≡ self.old) }
+    {
+        let len = self.scans.len();
+        self.scans.push(scan)?;
+        match self.notes.note_all(images.as_slice()) {
+            Ok(()) => Ok(()),
+            Err(NoMemory) => {
+                self.scans.remove(len);
+                Err(NoMemory)
+            }
+        }
+    }
+
+    /// Notes a scan that made a call, with the committed records found, tombstones included: those of keys that were not
+    /// read are noted. Where a key that was read has another version among them, it tells the first such key, and notes
+    /// nothing.
+    pub fn note_scan(&mut self, span: Span, images: Records) -> Result<(), NoteRefused>
+        requires rows { are_rows_of span images ≡ true }
+        requires committed { AreCommitted images }
+        ensures ok { OnOk result (self.new ≡ with_scan self.old span images) }
+        ensures unmoved { OnOk result (IsUnmoved self.old.notes span images) }
+        ensures differs { (key : KeyValue) (found : Option RecordValue) → result ≡ Err (refused_note.Differs key found) → IsFirstDifference self.old.notes span images key found }
+        ensures err { OnErr result (self.new ≡ self.old) }
+    {
+        match self.find_moved(&span, &images) {
+            Ok(()) => {
+                let found = versions_of(self.alloc, images.as_slice())?;
+                self.note_rows(Scan { span, found }, &images)?;
+                Ok(())
+            }
+            Err(refused) => Err(refused),
+        }
+    }
+
+    /// The row that is seen at a key: what was written there, or else what was found.
+    pub fn overlay_key(&self, key: &Key) -> Result<Images, NoMemory>
+        ensures { IfOk result (λ images. images ≡ overlay (access.Get key.now) self.now) }
+    {
+        image_of_key(self.alloc, &self.notes, &self.drafts, key)
+    }
+
+    /// The rows that are seen in a span, in the order of their keys: all that were noted there, also those that another
+    /// read noted, with what was written laid over them; tombstones and deleted rows are left out. With m keys noted in the
+    /// span among n in all it takes time in the order of m + log n, since their tree is read from the span's least key on.
+    pub fn overlay_span(&self, span: &Span) -> Result<Images, NoMemory>
+        ensures { IfOk result (λ images. images ≡ overlay (access.Scan span.now) self.now) }
+    {
+        let keys = self.notes.keys_in(span)?;
+        images_of_keys(self.alloc, &self.notes, &self.drafts, keys.as_slice())
+    }
+
+    /// Writes changes of keys that were read, in order: all or, where they are refused, none. A key that was written keeps
+    /// its place and its base, and takes the change.
+    pub fn write(&mut self, changes: Changes) -> Result<(), WriteRefused>
+        requires { AreChanges self.old.notes changes }
+        ensures ok { OnOk result (self.new ≡ with_written self.old changes) }
+        ensures fits { OnOk result (length (with_written self.old changes).writes ≤ most_writes) }
+        ensures many { result ≡ Err refused.TooManyWrites → most_writes < length (with_written self.old changes).writes }
+        ensures err { OnErr result (self.new ≡ self.old) }
+    {
+        self.drafts.write(&self.notes, changes)
+    }
+
+    /// The writes: one for each key, with its base, in the order of first writing. Each may be prepared. Takes no memory.
+    pub fn writes(&self) -> &Writes
+        ensures all { result.now ≡ self.now.writes }
+        ensures fine { AreWrites self.now.writes }
+        ensures based { HaveBases self.now.notes self.now.writes }
+        ensures once { HaveKeysOnce self.now.writes }
+    {
+        self.drafts.all()
+    }
+
+    /// The gets that made a call, in their order. Takes no memory.
+    pub fn reads(&self) -> &Reads
+        ensures { result.now ≡ self.now.reads }
+    {
+        &self.reads
+    }
+
+    /// The scans that made a call, in their order, with the versions found, tombstones included. Takes no memory.
+    pub fn scans(&self) -> &Scans
+        ensures { result.now ≡ self.now.scans }
+    {
+        &self.scans
+    }
+}
