@@ -11,6 +11,3 @@ mod streams;
 pub use program::run;
 pub use status::Status;
 pub use stores::Stores;
-
-#[cfg(test)]
-mod tests;

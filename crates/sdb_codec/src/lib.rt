@@ -13,6 +13,3 @@ pub use lengths::{key_has_spelling, record_has_spelling};
 pub use reading::{read_key, read_record};
 pub use refused::ReadRefused;
 pub use writing::{write_key, write_record};
-
-#[cfg(test)]
-mod tests;

@@ -3,8 +3,6 @@
 
 mod buckets;
 mod section;
-#[cfg(test)]
-mod tests;
 
 pub use buckets::Buckets;
 use sdb_store::Memory;

@@ -4,6 +4,3 @@
 mod map;
 
 pub use map::KeyMap;
-
-#[cfg(test)]
-mod tests;

@@ -10,6 +10,3 @@ pub use order::{Answers, Bodies, Body, run_body, serial};
 pub use points::{Said, last_prepare, order_of, point, statements_said};
 pub use statement::exec;
 pub use tables::PlainTables;
-
-#[cfg(test)]
-mod tests;

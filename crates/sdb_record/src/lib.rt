@@ -19,6 +19,3 @@ pub use part::is_user_name;
 pub use roll::{Back, committed_image, prepared, rolled_back, rolled_forward};
 pub use row::{coordinator_key, coordinator_row, decision_of, expired, id_of_row};
 pub use write::{Change, Changes, Keyed, Write, Writes};
-
-#[cfg(test)]
-mod tests;

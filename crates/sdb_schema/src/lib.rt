@@ -12,6 +12,3 @@ pub use catalog::{AddRefused, Catalog};
 pub use make::TableRefused;
 pub use row::RowRefused;
 pub use table::{Column, ColumnList, Direction, Kind, Order, Orders, Table};
-
-#[cfg(test)]
-mod tests;

@@ -4,8 +4,6 @@
 mod place;
 mod registry;
 mod stores;
-#[cfg(test)]
-mod tests;
 
 pub use place::{Place, PlaceRefused};
 pub use registry::Registry;

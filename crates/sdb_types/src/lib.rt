@@ -19,8 +19,6 @@ mod pair;
 mod record;
 mod seq;
 mod seq_order;
-#[cfg(test)]
-mod tests;
 mod text;
 mod ticks;
 mod tray;

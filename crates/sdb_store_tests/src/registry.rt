@@ -4,10 +4,8 @@ ghost use Rattle.std.specs.FinMap as map;
 ghost use Rattle.sdb_types.specs.declared.record.Reply.TheVariants.{Fault};
 ghost use Rattle.sdb_store.specs.Store.{HasCause};
 
-use crate::place::PlaceRefused;
-use crate::registry::Registry;
-use crate::stores::{AttachRefused, Stores};
 use sdb_store::{Store, call};
+use sdb_stores::{AttachRefused, PlaceRefused, Registry, Stores};
 use sdb_types::{Condition, Key, Name, Record, Reply, Request, Seq, Span, TableName};
 use std::alloc::Global;
 use std::test::Fail;

@@ -1,6 +1,6 @@
 //! The bytes of a record from outside, and that each call succeeds where there is memory.
 
-use super::*;
+use sdb_codec::*;
 use sdb_types::{Columns, Key, Name, Record, TableName, Txt, Value, Values};
 use std::alloc::Global;
 use std::test::Fail;

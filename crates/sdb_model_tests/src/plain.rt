@@ -2,8 +2,8 @@
 ghost use Rattle.std.specs.Prelude.{◌≡◌, true, IfOk};
 ghost use Rattle.sdb_schema.specs.Table.{are_short, is_table};
 
-use super::*;
 use sdb_model::{Answer, Event, Events, How, Insert, Point, Statement};
+use sdb_plain::*;
 use sdb_schema::{Catalog, Column, ColumnList, Kind, Orders, Table};
 use sdb_types::{
     Columns, Condition, Key, Name, Names, Record, Reply, Request, Seq, TableName, TxId, Txt, Value,

@@ -1,5 +1,5 @@
 //! Keys put and found.
-use super::KeyMap;
+use sdb_keyed::KeyMap;
 use sdb_types::{Key, Name, TableName, Value, Values};
 use std::alloc::Global;
 use std::test::Fail;

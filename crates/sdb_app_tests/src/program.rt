@@ -1,5 +1,5 @@
 //! The program's top call on whole inputs, and on sources and sinks that fail.
-use crate::{Status, Stores, run};
+use sdb_app::{Status, Stores, run};
 use sdb_types::{Calls, Feed, Moments, NoMemory, Numbers, Octets, Ticks, Tray};
 use std::alloc::Global;
 use std::test::Fail;

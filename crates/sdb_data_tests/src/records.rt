@@ -1,4 +1,4 @@
-use crate::{
+use sdb_record::{
     Change, Decision, MetaRefused, Write, committed_image, coordinator_key, coordinator_row,
     decision_of, expired, meta_of, prepared, rolled_back, rolled_forward,
 };

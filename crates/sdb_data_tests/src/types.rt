@@ -1,6 +1,6 @@
 //! What no clause says: texts from outside, refusals, and that each call succeeds where there is memory.
 
-use super::*;
+use sdb_types::*;
 use std::alloc::Global;
 use std::test::Fail;
 

@@ -1,5 +1,5 @@
 //! The same calls on both stores in memory.
-use crate::Hashed;
+use sdb_hashed::Hashed;
 use sdb_ordered::Ordered;
 use sdb_store::{Fails, Store, call};
 use sdb_types::{

@@ -1,4 +1,4 @@
-use crate::{Table, TableRefused};
+use sdb_schema::{Table, TableRefused};
 use sdb_types::{Name, Seq, TableName};
 use std::alloc::Global;
 use std::test::Fail;

@@ -1,6 +1,6 @@
 //! The report of a whole run, and of a run of nothing.
-use crate::report_text;
 use sdb_model::{Answer, Event, Events, How, Outcome, Point, Points, Rows, TableDump, TableRows};
+use sdb_script::report_text;
 use sdb_types::{
     Columns, Condition, Key, Name, NameRefused, NoMemory, Record, Reply, Request, State, TableName,
     TxId, Txt, Value, Values,

@@ -1,0 +1,5 @@
+//! What the program answers: tests against inputs and reports from outside.
+#![tactic(auto)]
+
+#[cfg(test)]
+mod program;

@@ -1,0 +1,11 @@
+//! What statements, scripts and reports are as texts: tests against texts from outside.
+#![tactic(auto)]
+
+#[cfg(test)]
+mod parsed;
+#[cfg(test)]
+mod printed;
+#[cfg(test)]
+mod reports;
+#[cfg(test)]
+mod tokens;
