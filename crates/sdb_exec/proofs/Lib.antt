@@ -6,3 +6,4 @@ pub mod Narrow
 pub mod Laid
 pub mod Local
 pub mod Whole
+pub mod InOrder

@@ -58,7 +58,7 @@ keeps_key : (b : Bool) (r : Image) (c : List Pair) → (cond b (record { key = r
 keeps_key true r c = refl
 keeps_key false r c = refl
 
-ordered : (d : Tables) → is_sorted key_cmp (entries d) ≡ true
+pub ordered : (d : Tables) → is_sorted key_cmp (entries d) ≡ true
 ordered d = true_from_T _ (entries_sorted d)
 
 pub updates : (p : Image → Bool) (f : Image → List Pair) (d : Tables)

@@ -2,7 +2,7 @@
 use Rattle.std.specs.Prelude.{◌≡◌, ℕ, Bool, true, false, not, ◌&&◌, ◌||◌, ◌==◌, if◌then◌else◌, List, [], ◌∷◌, map, filter, find, length, Option, Some, None, is_some, unwrap_or}
 use Rattle.std.specs.Option.{option_map}
 use Rattle.std.specs.List.{list_all}
-use Rattle.std.specs.Ordering.{is_eq}
+use Rattle.std.specs.Ordering.{is_eq, is_lt}
 use Rattle.std.specs.FinMap.{insert, remove}
 use Rattle.sdb_types.specs.declared.key.Key.{Key}
 use Rattle.sdb_types.specs.declared.pair.Pair.{Pair}
@@ -113,3 +113,16 @@ all_fit t d = list_all (λ r. not (is_row_of t r) || fits_table t r.key r.column
 abbrev pub IsExec : List Table → Planned → Tables → PlanStep → Type 0
 IsExec catalog p d (Read a) = ⊥
 IsExec catalog p d (Finished answer changes) = exec catalog p.statement d ≡ (answer, with_changes d changes)
+
+---- the order of keys
+
+-- keys that rise strictly
+abbrev pub keys_rise : List Key → Bool
+keys_rise [] = true
+keys_rise (k ∷ ks) = list_all (λ q. is_lt (key_cmp k q)) ks && keys_rise ks
+
+abbrev pub row_keys : List Image → List Key
+row_keys rows = map (λ r. r.key) rows
+
+abbrev pub change_keys : List Keyed → List Key
+change_keys changes = map (λ k. k.key) changes

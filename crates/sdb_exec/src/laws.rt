@@ -7,7 +7,9 @@ ghost use Rattle.sdb_schema.specs.declared.table.Table.{Table};
 ghost use Rattle.sdb_schema.specs.Table.{is_table};
 ghost use Rattle.sdb_model.specs.Exec.{Tables, all_rows, named_table};
 ghost use Rattle.sdb_exec.specs.Reads.{access_of, in_access, rows_at};
-ghost use Rattle.sdb_exec.specs.Plans.{Planned, first_unfit, are_shaped, all_fit, step_of, IsExec};
+ghost use Rattle.sdb_model.specs.declared.statement.Statement.{Statement};
+ghost use Rattle.sdb_record.specs.declared.access.Image.{Image};
+ghost use Rattle.sdb_exec.specs.Plans.{Planned, first_unfit, are_shaped, all_fit, step_of, IsExec, changes_on, keys_rise, row_keys, change_keys};
 
 /// On the rows of its access a plan finishes as its statement does on the whole tables, with the same answer and the same
 /// tables after it: where all rows of its table fit, and also where those that it reads do and each other one has a key
@@ -20,4 +22,10 @@ pub fn plan_is_exec()
 /// Tables that agree at the keys of an access have the same rows there, so a plan finishes on both alike.
 pub fn access_is_local()
     ensures { (a : Access) (d e : Tables) → ((q : Key) → in_access a q ≡ true → get d q ≡ get e q) → rows_at a d ≡ rows_at a e }
+{}
+
+/// The rows of an access rise strictly by key, and on such rows so do a plan's changes.
+pub fn changes_in_key_order()
+    ensures rows { (a : Access) (d : Tables) → keys_rise (row_keys (rows_at a d)) ≡ true }
+    ensures changes { (t : Table) (s : Statement) (rows : List Image) → keys_rise (row_keys rows) ≡ true → keys_rise (change_keys (changes_on t s rows)) ≡ true }
 {}
