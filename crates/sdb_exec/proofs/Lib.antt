@@ -7,3 +7,4 @@ pub mod Laid
 pub mod Local
 pub mod Whole
 pub mod InOrder
+pub mod Fits

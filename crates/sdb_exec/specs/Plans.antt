@@ -126,3 +126,25 @@ row_keys rows = map (λ r. r.key) rows
 
 abbrev pub change_keys : List Keyed → List Key
 change_keys changes = map (λ k. k.key) changes
+
+---- changes that fit
+
+-- the row that a change leaves, if it leaves one, fits the table
+abbrev pub leaves_fit : Table → Key → Change → Bool
+leaves_fit t key (change.Row columns) = fits_table t key columns
+leaves_fit t key change.Delete = true
+
+abbrev pub change_fits : Table → Keyed → Bool
+change_fits t k = leaves_fit t k.key k.change
+
+-- an insert has as many literals as names
+abbrev pub has_all_literals : Statement → Bool
+has_all_literals (statement.Insert s) = length s.columns == length s.values
+has_all_literals (statement.Upsert s) = length s.columns == length s.values
+has_all_literals (statement.Update s) = true
+has_all_literals (statement.Delete s) = true
+has_all_literals (statement.Select s) = true
+has_all_literals statement.Begin = true
+has_all_literals statement.Commit = true
+has_all_literals statement.Rollback = true
+has_all_literals statement.Vacuum = true

@@ -9,7 +9,10 @@ ghost use Rattle.sdb_model.specs.Exec.{Tables, all_rows, named_table};
 ghost use Rattle.sdb_exec.specs.Reads.{access_of, in_access, rows_at};
 ghost use Rattle.sdb_model.specs.declared.statement.Statement.{Statement};
 ghost use Rattle.sdb_record.specs.declared.access.Image.{Image};
-ghost use Rattle.sdb_exec.specs.Plans.{Planned, first_unfit, are_shaped, all_fit, step_of, IsExec, changes_on, keys_rise, row_keys, change_keys};
+ghost use Rattle.sdb_exec.specs.Plans.{Planned, first_unfit, are_shaped, all_fit, step_of, IsExec, changes_on, keys_rise, row_keys, change_keys, change_fits, has_all_literals};
+ghost use Rattle.sdb_exec.specs.Refused.{refusal_on};
+ghost use Rattle.sdb_schema.specs.Rows.{fits_table};
+ghost use Rattle.std.specs.List.{list_all};
 
 /// On the rows of its access a plan finishes as its statement does on the whole tables, with the same answer and the same
 /// tables after it: where all rows of its table fit, and also where those that it reads do and each other one has a key
@@ -28,4 +31,10 @@ pub fn access_is_local()
 pub fn changes_in_key_order()
     ensures rows { (a : Access) (d : Tables) → keys_rise (row_keys (rows_at a d)) ≡ true }
     ensures changes { (t : Table) (s : Statement) (rows : List Image) → keys_rise (row_keys rows) ≡ true → keys_rise (change_keys (changes_on t s rows)) ≡ true }
+{}
+
+/// The rows that a statement writes fit its table, where the statement isn't refused, an insert has as many literals as names,
+/// and the rows that were read fit.
+pub fn changes_fit_their_table()
+    ensures { (t : Table) (s : Statement) (rows : List Image) → has_all_literals s ≡ true → refusal_on t s ≡ None → list_all (λ r. fits_table t r.key r.columns) rows ≡ true → list_all (change_fits t) (changes_on t s rows) ≡ true }
 {}
