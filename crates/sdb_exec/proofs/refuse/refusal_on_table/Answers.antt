@@ -1,0 +1,21 @@
+use Rattle.std.proofs.Common.{◌≡◌, ◌∙◌, ◌<◌, ◌^◌, ◌+◌, ap, sym, rules, arith, length, subst}
+use Rattle.std.specs.Option.{option_map}
+use Rattle.sdb_exec.specs.Refused.{mentions}
+use Rattle.sdb_exec.proofs.Places.{place_small}
+use Rattle.sdb_exec.proofs.refuse.refusal_on_table.Goals as goal
+
+pub overflow_cast-result : goal.overflow_cast-result
+overflow_cast-result c =
+    let few : length (mentions c.args.statement.now) < 2 ^ 32 = rw (← c.in_ok-mentions.ensures, ← c.len.ensures) c.if-len-ge-MOST.false in
+    let small : c.in-Some.fault.index + 1 < 2 ^ 32 =
+    place_small c.args.table.now c.args.statement.now _ c.requires few (sym c.first_fault-found.ensures ∙ ap (option_map (λ f. record { kind = f.kind; place = f.index + 1 })) c.in-Some.is)
+    in
+    omega arith
+
+pub overflow_add-result : goal.overflow_add-result
+overflow_add-result c =
+    let few : length (mentions c.args.statement.now) < 2 ^ 32 = rw (← c.in_ok-mentions.ensures, ← c.len.ensures) c.if-len-ge-MOST.false in
+    let small : c.in-Some.fault.index + 1 < 2 ^ 32 =
+    place_small c.args.table.now c.args.statement.now _ c.requires few (sym c.first_fault-found.ensures ∙ ap (option_map (λ f. record { kind = f.kind; place = f.index + 1 })) c.in-Some.is)
+    in
+    omega arith

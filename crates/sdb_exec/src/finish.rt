@@ -1,0 +1,135 @@
+//! What a statement gives on the rows that it read.
+ghost use Rattle.std.specs.Prelude.{◌≡◌, ◌∷◌, [], IfOk, find, unwrap_or};
+ghost use Rattle.std.specs.Option.{option_copied, option_map};
+ghost use Rattle.sdb_model.specs.Exec.{with_named};
+ghost use Rattle.sdb_model.specs.declared.statement.Statement.TheVariants as statement;
+ghost use Rattle.sdb_exec.specs.declared.plan.PlanStep.TheVariants as step;
+ghost use Rattle.sdb_exec.specs.Plans.{is_unfit as is_unfit_lem, first_unfit as first_unfit_lem, columns_at, put_row, answer_on, changes_on, finished};
+
+use crate::plan::PlanStep;
+use crate::select::selected;
+use sdb_model::{Answer, Delete, Insert, Select, Statement, Update};
+use sdb_record::{Change, Changes, Image, Keyed};
+use sdb_rows::{deletes, inserted_key, named_columns, passing, updates};
+use sdb_schema::Table;
+use sdb_types::{Columns, Duplicate, Key, NoMemory, Seq};
+use std::alloc::Global;
+
+type Step = Result<PlanStep, NoMemory>;
+
+fn is_unfit(table: &Table, row: &Image) -> bool
+    ensures { result ≡ is_unfit_lem table.now row.now }
+{
+    !table.fits(&row.key, &row.columns)
+}
+
+fn first_unfit<'a>(table: &Table, rows: &'a [Image]) -> Option<&'a Key>
+    ensures { option_copied result ≡ first_unfit_lem table.now rows.now }
+{
+    rows.iter()
+        .find(|row| is_unfit(table, row))
+        .map(|row| &row.key)
+}
+
+fn columns_of<'a>(rows: &'a [Image], key: &Key) -> Option<&'a Columns>
+    ensures { option_copied result ≡ columns_at key.now rows.now }
+{
+    rows.iter()
+        .find(|row| key.compare(&row.key).is_eq())
+        .map(|row| &row.columns)
+}
+
+fn columns_or_none(alloc: Global, found: Option<&Columns>) -> Result<Columns, NoMemory>
+    ensures { IfOk result (λ columns. columns ≡ unwrap_or (option_copied found.entry) []) }
+{
+    match found {
+        Some(columns) => columns.copy(),
+        None => Ok(Columns::new(alloc)),
+    }
+}
+
+fn one_change(alloc: Global, key: Key, columns: Columns) -> Result<Changes, NoMemory>
+    ensures { IfOk result (λ changes. changes ≡ put_row key columns ∷ []) }
+{
+    let mut changes = Seq::new(alloc);
+    changes.push(Keyed {
+        key,
+        change: Change::Row(columns),
+    })?;
+    Ok(changes)
+}
+
+fn insert(alloc: Global, table: &Table, insert: &Insert, rows: &[Image]) -> Step
+    ensures { IfOk result (λ s. s ≡ step.Finished (answer_on table.now (statement.Insert insert.now) rows.now) (changes_on table.now (statement.Insert insert.now) rows.now)) }
+{
+    let key = inserted_key(alloc, table, insert)?;
+    if columns_of(rows, &key).is_some() {
+        return Ok(PlanStep::Finished(Answer::Duplicate(key), Seq::new(alloc)));
+    }
+    let columns = named_columns(
+        table,
+        insert.columns.as_slice(),
+        insert.values.as_slice(),
+        Columns::new(alloc),
+    )?;
+    let changes = one_change(alloc, key, columns)?;
+    Ok(PlanStep::Finished(Answer::Count(1), changes))
+}
+
+fn upsert(alloc: Global, table: &Table, insert: &Insert, rows: &[Image]) -> Step
+    ensures { IfOk result (λ s. s ≡ step.Finished (answer_on table.now (statement.Upsert insert.now) rows.now) (changes_on table.now (statement.Upsert insert.now) rows.now)) }
+{
+    let key = inserted_key(alloc, table, insert)?;
+    let before = columns_or_none(alloc, columns_of(rows, &key))?;
+    let columns = named_columns(
+        table,
+        insert.columns.as_slice(),
+        insert.values.as_slice(),
+        before,
+    )?;
+    let changes = one_change(alloc, key, columns)?;
+    Ok(PlanStep::Finished(Answer::Count(1), changes))
+}
+
+fn update(alloc: Global, table: &Table, update: &Update, rows: &[Image]) -> Step
+    ensures { IfOk result (λ s. s ≡ step.Finished (answer_on table.now (statement.Update update.now) rows.now) (changes_on table.now (statement.Update update.now) rows.now)) }
+{
+    let found = passing(alloc, table, update.tests.as_slice(), rows)?;
+    let changes = updates(alloc, table, update.sets.as_slice(), found.as_slice())?;
+    let count = found.len() as u64;
+    Ok(PlanStep::Finished(Answer::Count(count), changes))
+}
+
+fn delete(alloc: Global, table: &Table, delete: &Delete, rows: &[Image]) -> Step
+    ensures { IfOk result (λ s. s ≡ step.Finished (answer_on table.now (statement.Delete delete.now) rows.now) (changes_on table.now (statement.Delete delete.now) rows.now)) }
+{
+    let found = passing(alloc, table, delete.tests.as_slice(), rows)?;
+    let changes = deletes(alloc, found.as_slice())?;
+    let deleted = found.len() as u64;
+    Ok(PlanStep::Finished(Answer::Count(deleted), changes))
+}
+
+fn select(alloc: Global, table: &Table, select: &Select, rows: &[Image]) -> Step
+    ensures { IfOk result (λ s. s ≡ step.Finished (answer_on table.now (statement.Select select.now) rows.now) (changes_on table.now (statement.Select select.now) rows.now)) }
+{
+    let found = passing(alloc, table, select.tests.as_slice(), rows)?;
+    let shown = selected(alloc, table, select, found)?;
+    Ok(PlanStep::Finished(Answer::Rows(shown), Seq::new(alloc)))
+}
+
+/// The answer and the changes of a statement on rows; over rows of which some don't fit, BadRecord of the first.
+pub fn finish(alloc: Global, table: &Table, statement: &Statement, rows: &[Image]) -> Step
+    ensures { IfOk result (λ s. s ≡ finished table.now statement.now rows.now (first_unfit_lem table.now rows.now)) }
+{
+    if let Some(key) = first_unfit(table, rows) {
+        return Ok(PlanStep::Finished(Answer::BadRecord(key.copy()?), Seq::new(alloc)));
+    }
+    match statement {
+        Statement::Insert(s) => insert(alloc, table, s, rows),
+        Statement::Upsert(s) => upsert(alloc, table, s, rows),
+        Statement::Update(s) => update(alloc, table, s, rows),
+        Statement::Delete(s) => delete(alloc, table, s, rows),
+        Statement::Select(s) => select(alloc, table, s, rows),
+        _ => Ok(PlanStep::Finished(Answer::Done, Seq::new(alloc))),
+    }
+}

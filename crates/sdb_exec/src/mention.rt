@@ -1,0 +1,121 @@
+//! The columns that a statement mentions.
+ghost use Rattle.std.specs.Prelude.{◌≡◌, ◌++◌, IfOk, OnOk, map, unwrap_or, []};
+ghost use Rattle.sdb_exec.specs.Refused.{mention_of_name, mention_of_set, mention_of_test, listed as listed_lem, written as written_lem, mentions as mentions_lem};
+
+use sdb_model::{Statement, Test};
+use sdb_types::{Duplicate, Name, NoMemory, Pair, Seq, Value};
+use std::alloc::Global;
+
+/// A column name in a statement, with its literal where it has one.
+#[derive(Debug, Drop)]
+pub struct Mention {
+    pub name: Name,
+    pub literal: Option<Value>,
+}
+
+pub type Mentions = Seq<Mention>;
+
+fn of_name(name: &Name) -> Result<Mention, NoMemory>
+    ensures { IfOk result (λ m. m ≡ mention_of_name name.now) }
+{
+    Ok(Mention {
+        name: name.copy()?,
+        literal: None,
+    })
+}
+
+fn of_literal(name: &Name, literal: &Value) -> Result<Mention, NoMemory>
+    ensures { IfOk result (λ m. m ≡ record { name = name.now; literal = Some literal.now }) }
+{
+    Ok(Mention {
+        name: name.copy()?,
+        literal: Some(literal.copy()?),
+    })
+}
+
+fn of_test(test: &Test) -> Result<Mention, NoMemory>
+    ensures { IfOk result (λ m. m ≡ mention_of_test test.now) }
+{
+    match test {
+        Test::Compare(name, _, literal) => of_literal(name, literal),
+        Test::IsNull(name) => of_name(name),
+        Test::NotNull(name) => of_name(name),
+    }
+}
+
+// Each name of an insert with the literal at its place.
+fn listed(alloc: Global, names: &[Name], values: &[Value]) -> Result<Mentions, NoMemory>
+    ensures { IfOk result (λ ms. ms ≡ listed_lem names.now values.now) }
+{
+    let mut found = Seq::new(alloc);
+    let mut values = values;
+    for name in names {
+        match values.split_first() {
+            Some((value, rest)) => {
+                found.push(of_literal(name, value)?)?;
+                values = rest;
+            }
+            None => found.push(of_name(name)?)?,
+        }
+    }
+    Ok(found)
+}
+
+fn of_sets(alloc: Global, sets: &[Pair]) -> Result<Mentions, NoMemory>
+    ensures { IfOk result (λ ms. ms ≡ map mention_of_set sets.now) }
+{
+    let mut found = Seq::new(alloc);
+    for pair in sets {
+        found.push(of_literal(&pair.name, &pair.value)?)?;
+    }
+    Ok(found)
+}
+
+/// The mentions of the columns that an insert lists or SET names.
+pub fn written_in(alloc: Global, statement: &Statement) -> Result<Mentions, NoMemory>
+    ensures { IfOk result (λ ms. ms ≡ written_lem statement.now) }
+{
+    match statement {
+        Statement::Insert(s) => listed(alloc, s.columns.as_slice(), s.values.as_slice()),
+        Statement::Upsert(s) => listed(alloc, s.columns.as_slice(), s.values.as_slice()),
+        Statement::Update(s) => of_sets(alloc, s.sets.as_slice()),
+        _ => Ok(Seq::new(alloc)),
+    }
+}
+
+fn add_names(mentions: &mut Mentions, names: &[Name]) -> Result<(), NoMemory>
+    ensures { OnOk result (mentions.new ≡ mentions.old ++ map mention_of_name names.now) }
+{
+    for name in names {
+        mentions.push(of_name(name)?)?;
+    }
+    Ok(())
+}
+
+fn add_tests(mentions: &mut Mentions, tests: &[Test]) -> Result<(), NoMemory>
+    ensures { OnOk result (mentions.new ≡ mentions.old ++ map mention_of_test tests.now) }
+{
+    for test in tests {
+        mentions.push(of_test(test)?)?;
+    }
+    Ok(())
+}
+
+/// All mentions of a statement, in the order in which they appear.
+pub fn mentions_of(alloc: Global, statement: &Statement) -> Result<Mentions, NoMemory>
+    ensures { IfOk result (λ ms. ms ≡ mentions_lem statement.now) }
+{
+    let mut found = written_in(alloc, statement)?;
+    match statement {
+        Statement::Update(s) => add_tests(&mut found, s.tests.as_slice())?,
+        Statement::Delete(s) => add_tests(&mut found, s.tests.as_slice())?,
+        Statement::Select(s) => {
+            if let Some(names) = &s.columns {
+                add_names(&mut found, names.as_slice())?;
+            }
+            add_tests(&mut found, s.tests.as_slice())?
+        }
+        _ => {}
+    }
+    Ok(found)
+}

@@ -1,0 +1,331 @@
+//! Why a statement is refused.
+ghost use Rattle.std.specs.Prelude.{◌≡◌, ◌+◌, not, ◌&&◌, true, false, [], Some, None, position, IfOk};
+ghost use Rattle.std.specs.Option.{option_map, option_map_or};
+ghost use Rattle.std.specs.List.{list_any};
+ghost use Rattle.sdb_types.specs.Columns.{is_null as is_null_lem};
+ghost use Rattle.sdb_schema.specs.Table.{is_table, has_column as has_column_lem, key_names as key_names_lem};
+ghost use Rattle.sdb_model.specs.Rows.{same_name};
+ghost use Rattle.sdb_exec.specs.Refused.{suits as suits_lem, is_within as is_within_lem, is_unknown as is_unknown_lem, names_key as names_key_lem, is_of_other_kind as is_of_other_kind_lem, is_null_in_key as is_null_in_key_lem, is_out_of_range as is_out_of_range_lem, is_too_long as is_too_long_lem, is_named_by, or_next, repeat_place, refusal, first_place, written as written_lem, mentions as mentions_lem, key_refusal, literal_refusal, missing_refusal, refusal_on};
+
+use crate::mention::{Mention, mentions_of, written_in};
+use sdb_model::{Insert, Refusal, Statement};
+use sdb_rows::{is_key_name, kind_of};
+use sdb_schema::{Column, Kind, Table};
+use sdb_types::{Duplicate, Name, Names, NoMemory, Seq, Value};
+use std::alloc::Global;
+
+const LARGEST: i64 = 9_007_199_254_740_992;
+
+const LONGEST: usize = 4096;
+
+const MOST: usize = 1 << 32;
+
+// A refusal's kind, and the index, from 0, of the mention or the column of the key that it names.
+#[derive(Clone, Copy)]
+struct Fault {
+    kind: u8,
+    index: usize,
+}
+
+fn of_kind(kind: u8, index: Option<usize>) -> Option<Fault>
+    ensures { option_map (λ f. record { kind = f.kind; place = f.index + 1 }) result ≡ refusal kind (option_map (λ i. i + 1) index) }
+{
+    match index {
+        Some(index) => Some(Fault { kind, index }),
+        None => None,
+    }
+}
+
+fn has_column(columns: &[Column], name: &Name) -> bool
+    ensures { result ≡ has_column_lem columns.now name.now }
+{
+    columns.iter().any(|column| column.name.cmp(name).is_eq())
+}
+
+fn is_unknown(table: &Table, mention: &Mention) -> bool
+    ensures { result ≡ is_unknown_lem table.now mention.now }
+{
+    !has_column(table.columns.as_slice(), &mention.name)
+}
+
+fn find_unknown(table: &Table, mentions: &[Mention]) -> Option<usize>
+    ensures { result ≡ position (is_unknown_lem table.now) mentions.now }
+{
+    mentions
+        .iter()
+        .position(|mention| is_unknown(table, mention))
+}
+
+fn names_column(mentions: &[Mention], name: &Name) -> bool
+    ensures { result ≡ list_any (is_named_by name.now) mentions.now }
+{
+    mentions
+        .iter()
+        .any(|mention| mention.name.cmp(name).is_eq())
+}
+
+// The index of the first mention whose column is mentioned before it. Compares each with those before it, up to that one.
+fn find_repeat(mentions: &[Mention]) -> Option<usize>
+    ensures { option_map (λ i. i + 1) result ≡ repeat_place [] mentions.now }
+{
+    let mut i = 0;
+    while i < mentions.len() {
+        if names_column(&mentions[..i], &mentions[i].name) {
+            return Some(i);
+        }
+        i += 1;
+    }
+    None
+}
+
+fn names_key(table: &Table, mention: &Mention) -> bool
+    ensures { result ≡ names_key_lem table.now mention.now }
+{
+    is_key_name(table, &mention.name)
+}
+
+fn find_key(table: &Table, mentions: &[Mention]) -> Option<usize>
+    ensures { result ≡ position (names_key_lem table.now) mentions.now }
+{
+    mentions
+        .iter()
+        .position(|mention| names_key(table, mention))
+}
+
+fn suits(kind: Kind, value: &Value) -> bool
+    ensures { result ≡ suits_lem kind value.now }
+{
+    match (kind, value) {
+        (_, Value::Null) => true,
+        (Kind::Boolean, Value::Bool(_)) => true,
+        (Kind::Int, Value::Int(_)) => true,
+        (Kind::Int, Value::BigInt(_)) => true,
+        (Kind::BigInt, Value::BigInt(_)) => true,
+        (Kind::Text, Value::Text(_)) => true,
+        (Kind::Blob, Value::Blob(_)) => true,
+        _ => false,
+    }
+}
+
+fn is_of_other_kind(table: &Table, mention: &Mention) -> bool
+    ensures { result ≡ is_of_other_kind_lem table.now mention.now }
+{
+    match &mention.literal {
+        Some(literal) => !suits(kind_of(table, &mention.name), literal),
+        None => false,
+    }
+}
+
+fn find_other_kind(table: &Table, mentions: &[Mention]) -> Option<usize>
+    ensures { result ≡ position (is_of_other_kind_lem table.now) mentions.now }
+{
+    mentions
+        .iter()
+        .position(|mention| is_of_other_kind(table, mention))
+}
+
+fn is_null(literal: &Option<Value>) -> bool
+    ensures { result ≡ option_map_or is_null_lem literal.now false }
+{
+    matches!(literal, Some(Value::Null))
+}
+
+fn is_null_in_key(table: &Table, mention: &Mention) -> bool
+    ensures { result ≡ is_null_in_key_lem table.now mention.now }
+{
+    is_null(&mention.literal) && is_key_name(table, &mention.name)
+}
+
+fn find_null(table: &Table, mentions: &[Mention]) -> Option<usize>
+    ensures { result ≡ position (is_null_in_key_lem table.now) mentions.now }
+{
+    mentions
+        .iter()
+        .position(|mention| is_null_in_key(table, mention))
+}
+
+fn is_within(kind: Kind, value: &Value) -> bool
+    ensures { result ≡ is_within_lem kind value.now }
+{
+    match (kind, value) {
+        (Kind::Int, Value::BigInt(n)) => *n >= -2147483648 && *n <= 2147483647,
+        (_, Value::BigInt(n)) => *n >= -LARGEST && *n <= LARGEST,
+        _ => true,
+    }
+}
+
+fn is_out_of_range(table: &Table, mention: &Mention) -> bool
+    ensures { result ≡ is_out_of_range_lem table.now mention.now }
+{
+    match &mention.literal {
+        Some(literal) => !is_within(kind_of(table, &mention.name), literal),
+        None => false,
+    }
+}
+
+fn find_outside(table: &Table, mentions: &[Mention]) -> Option<usize>
+    ensures { result ≡ position (is_out_of_range_lem table.now) mentions.now }
+{
+    mentions
+        .iter()
+        .position(|mention| is_out_of_range(table, mention))
+}
+
+fn is_too_long(mention: &Mention) -> bool
+    ensures { result ≡ is_too_long_lem mention.now }
+{
+    match &mention.literal {
+        Some(Value::Text(text)) => text.len() > LONGEST,
+        Some(Value::Blob(bytes)) => bytes.len() > LONGEST,
+        _ => false,
+    }
+}
+
+fn find_long(mentions: &[Mention]) -> Option<usize>
+    ensures { result ≡ position is_too_long_lem mentions.now }
+{
+    mentions.iter().position(|mention| is_too_long(mention))
+}
+
+// The columns of the primary key.
+fn key_names(alloc: Global, table: &Table) -> Result<Names, NoMemory>
+    ensures { IfOk result (λ names. names ≡ key_names_lem table.now) }
+{
+    let mut names = table.partition.copy()?;
+    for order in table.clustering.as_slice() {
+        names.push(order.name.copy()?)?;
+    }
+    Ok(names)
+}
+
+fn is_listed(names: &[Name], name: &Name) -> bool
+    ensures { result ≡ list_any (λ n. same_name n name.now) names.now }
+{
+    names.iter().any(|n| n.cmp(name).is_eq())
+}
+
+fn find_unlisted(keys: &[Name], names: &[Name]) -> Option<usize>
+    ensures { result ≡ position (λ key. not (list_any (λ n. same_name n key) names.now)) keys.now }
+{
+    keys.iter().position(|key| !is_listed(names, key))
+}
+
+fn column_fault(table: &Table, written: &[Mention], mentions: &[Mention]) -> Option<Fault>
+    ensures { option_map (λ f. record { kind = f.kind; place = f.index + 1 }) result ≡ or_next (refusal 7 (first_place (is_unknown_lem table.now) mentions.now)) (refusal 8 (repeat_place [] written.now)) }
+{
+    match of_kind(7, find_unknown(table, mentions)) {
+        Some(found) => Some(found),
+        None => of_kind(8, find_repeat(written)),
+    }
+}
+
+fn kind_fault(table: &Table, mentions: &[Mention]) -> Option<Fault>
+    ensures { option_map (λ f. record { kind = f.kind; place = f.index + 1 }) result ≡ or_next (refusal 10 (first_place (is_of_other_kind_lem table.now) mentions.now)) (refusal 11 (first_place (is_null_in_key_lem table.now) mentions.now)) }
+{
+    match of_kind(10, find_other_kind(table, mentions)) {
+        Some(found) => Some(found),
+        None => of_kind(11, find_null(table, mentions)),
+    }
+}
+
+fn size_fault(table: &Table, mentions: &[Mention]) -> Option<Fault>
+    ensures { option_map (λ f. record { kind = f.kind; place = f.index + 1 }) result ≡ or_next (refusal 12 (first_place (is_out_of_range_lem table.now) mentions.now)) (refusal 13 (first_place is_too_long_lem mentions.now)) }
+{
+    match of_kind(12, find_outside(table, mentions)) {
+        Some(found) => Some(found),
+        None => of_kind(13, find_long(mentions)),
+    }
+}
+
+fn literal_fault(table: &Table, mentions: &[Mention]) -> Option<Fault>
+    ensures { option_map (λ f. record { kind = f.kind; place = f.index + 1 }) result ≡ literal_refusal table.now mentions.now }
+{
+    match kind_fault(table, mentions) {
+        Some(found) => Some(found),
+        None => size_fault(table, mentions),
+    }
+}
+
+fn key_fault(table: &Table, statement: &Statement, written: &[Mention]) -> Option<Fault>
+    requires { written.now ≡ written_lem statement.now }
+    ensures { option_map (λ f. record { kind = f.kind; place = f.index + 1 }) result ≡ key_refusal table.now statement.now }
+{
+    match statement {
+        Statement::Update(_) => of_kind(9, find_key(table, written)),
+        _ => None,
+    }
+}
+
+// The first column of the key that an insert lacks.
+fn insert_fault(keys: &[Name], insert: &Insert) -> Option<Fault>
+    ensures { option_map (λ f. record { kind = f.kind; place = f.index + 1 }) result ≡ refusal 14 (first_place (λ key. not (list_any (λ n. same_name n key) insert.now.columns)) keys.now) }
+{
+    of_kind(14, find_unlisted(keys, insert.columns.as_slice()))
+}
+
+fn missing_fault(table: &Table, keys: &[Name], statement: &Statement) -> Option<Fault>
+    requires { keys.now ≡ key_names_lem table.now }
+    ensures { option_map (λ f. record { kind = f.kind; place = f.index + 1 }) result ≡ missing_refusal table.now statement.now }
+{
+    match statement {
+        Statement::Insert(s) => insert_fault(keys, s),
+        Statement::Upsert(s) => insert_fault(keys, s),
+        _ => None,
+    }
+}
+
+fn first_fault(
+    table: &Table,
+    keys: &[Name],
+    statement: &Statement,
+    written: &[Mention],
+    mentions: &[Mention],
+) -> Option<Fault>
+    requires keys { keys.now ≡ key_names_lem table.now }
+    requires written { written.now ≡ written_lem statement.now }
+    requires mentions { mentions.now ≡ mentions_lem statement.now }
+    ensures { option_map (λ f. record { kind = f.kind; place = f.index + 1 }) result ≡ refusal_on table.now statement.now }
+{
+    if let Some(found) = column_fault(table, written, mentions) {
+        return Some(found);
+    }
+    if let Some(found) = key_fault(table, statement, written) {
+        return Some(found);
+    }
+    match literal_fault(table, mentions) {
+        Some(found) => Some(found),
+        None => missing_fault(table, keys, statement),
+    }
+}
+
+/// The refusal of a statement on its table, if there is one. Takes time linear in the statement. A statement with more mentions
+/// than 32 bits can number counts as one that wants memory.
+pub fn refusal_on_table(
+    alloc: Global,
+    table: &Table,
+    statement: &Statement,
+) -> Result<Option<Refusal>, NoMemory>
+    requires { is_table table.now ≡ true }
+    ensures { IfOk result (λ r. r ≡ refusal_on table.now statement.now) }
+{
+    let keys = key_names(alloc, table)?;
+    let written = written_in(alloc, statement)?;
+    let mentions = mentions_of(alloc, statement)?;
+    if mentions.len() >= MOST {
+        return Err(NoMemory);
+    }
+    let found = first_fault(
+        table,
+        keys.as_slice(),
+        statement,
+        written.as_slice(),
+        mentions.as_slice(),
+    );
+    match found {
+        None => Ok(None),
+        Some(fault) => Ok(Some(Refusal {
+            kind: fault.kind,
+            place: fault.index as u32 + 1,
+        })),
+    }
+}

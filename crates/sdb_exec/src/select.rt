@@ -1,0 +1,64 @@
+//! The rows that a SELECT shows.
+ghost use Rattle.std.specs.Prelude.{◌≡◌, IfOk, Some, map};
+ghost use Rattle.sdb_model.specs.Exec.{sorted as sorted_lem, cut as cut_lem, shown as shown_lem};
+
+use sdb_model::{Rows, Select};
+use sdb_record::{Image, Images};
+use sdb_rows::{shown_all, shown_names};
+use sdb_schema::Table;
+use sdb_types::{NoMemory, Seq};
+use std::alloc::Global;
+
+// Rows in the order of their table: n log n comparisons.
+fn sorted(table: &Table, rows: Images) -> Result<Images, NoMemory>
+    ensures { IfOk result (λ found. found ≡ sorted_lem table.now rows) }
+{
+    let mut rows = rows.into_vec();
+    rows.reverse();
+    rows.sort_by(|a, b| table.compare(&a.key, &b.key))?;
+    Ok(Seq::from_vec(rows))
+}
+
+// The first n rows.
+fn first(n: i64, rows: &[Image]) -> &[Image]
+    ensures { result.now ≡ cut_lem (Some n) rows.now }
+{
+    let all = rows.len();
+    if n < 0 {
+        return &[];
+    }
+    let count = n as u64;
+    if count < all as u64 {
+        &rows[..count as usize]
+    } else {
+        rows
+    }
+}
+
+fn cut(limit: Option<i64>, rows: &[Image]) -> &[Image]
+    ensures { result.now ≡ cut_lem limit rows.now }
+{
+    match limit {
+        None => rows,
+        Some(n) => first(n, rows),
+    }
+}
+
+/// What a SELECT shows of the rows that pass.
+pub fn selected(
+    alloc: Global,
+    table: &Table,
+    select: &Select,
+    rows: Images,
+) -> Result<Rows, NoMemory>
+    ensures { IfOk result (λ found. found ≡ map (shown_lem table.now select.now.columns) (cut_lem select.now.limit (sorted_lem table.now rows))) }
+{
+    let found = sorted(table, rows)?;
+    let names = shown_names(alloc, table, &select.columns)?;
+    shown_all(
+        alloc,
+        table,
+        names.as_slice(),
+        cut(select.limit, found.as_slice()),
+    )
+}
