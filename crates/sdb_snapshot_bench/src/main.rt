@@ -159,7 +159,7 @@ fn number(word: Option<String>) -> Option<i64> {
 }
 
 // The words behind the program's name: the call, the partitions, the rows of each, and the turns.
-fn load(rt: &HostRuntime) -> Option<Load> {
+fn load_asked(rt: &HostRuntime) -> Option<Load> {
     let mut words = env::args(rt).ok()?;
     let _program = words.next();
     Some(Load {
@@ -171,7 +171,7 @@ fn load(rt: &HostRuntime) -> Option<Load> {
 }
 
 fn main(rt: HostRuntime) {
-    let last = match load(&rt) {
+    let last = match load_asked(&rt) {
         Some(load) => play(rt.alloc(), &load),
         None => None,
     };
