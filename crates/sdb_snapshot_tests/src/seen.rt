@@ -156,23 +156,46 @@ fn first_write_deletes(seen: &Snapshot) -> bool {
     }
 }
 
-// A row that is inserted shows in a span that was scanned before its key was read, and once it is deleted its key still
-// has a write.
+// A row that is inserted shows in a span that was scanned before its key was read.
+fn inserts(
+    rt: &impl Abort,
+    alloc: Global,
+    seen: &mut Snapshot,
+    key: &Key,
+    span: &Span,
+) -> Result<(), Fail> {
+    scan_nothing(alloc, seen, span)?;
+    note(rt, seen, key, None)?;
+    insert(rt, alloc, seen, key)?;
+    assert_eq!(rt; rows(seen, span)?, 1);
+    Ok(())
+}
+
+// Once it is deleted it shows no more, and its key still has a write.
+fn deletes(
+    rt: &impl Abort,
+    alloc: Global,
+    seen: &mut Snapshot,
+    key: &Key,
+    span: &Span,
+) -> Result<(), Fail> {
+    delete(rt, alloc, seen, key)?;
+    assert_eq!(rt; rows(seen, span)?, 0);
+    assert!(rt; first_write_deletes(seen));
+    Ok(())
+}
+
+fn inserts_and_deletes(rt: &impl Abort, alloc: Global, key: &Key, span: &Span) -> Result<(), Fail> {
+    let mut seen = Snapshot::new(alloc);
+    inserts(rt, alloc, &mut seen, key, span)?;
+    deletes(rt, alloc, &mut seen, key, span)
+}
+
 #[test]
 fn inserted_and_then_deleted(rt: HostRuntime) -> Result<(), Fail> {
-    let alloc = rt.alloc();
-    let key = account(alloc, 1)?;
-    let span = accounts(alloc)?;
-    let mut seen = Snapshot::new(alloc);
-    scan_nothing(alloc, &mut seen, &span)?;
-    note(&rt, &mut seen, &key, None)?;
-    insert(&rt, alloc, &mut seen, &key)?;
-    assert_eq!(rt; rows(&seen, &span)?, 1);
-    delete(&rt, alloc, &mut seen, &key)?;
-    assert_eq!(rt; rows(&seen, &span)?, 0);
-    assert_eq!(rt; seen.writes().len(), 1);
-    assert!(rt; first_write_deletes(&seen));
-    Ok(())
+    let key = account(rt.alloc(), 1)?;
+    let span = accounts(rt.alloc())?;
+    inserts_and_deletes(&rt, rt.alloc(), &key, &span)
 }
 
 // Whether the first row of a span is that of a key, with one column.
@@ -184,21 +207,33 @@ fn first_row_is(seen: &Snapshot, span: &Span, key: &Key) -> Result<bool, Fail> {
     }
 }
 
+fn note_three(rt: &impl Abort, alloc: Global, seen: &mut Snapshot) -> Result<(), Fail> {
+    for (id, tombstone) in [(3, false), (2, true), (1, false)] {
+        note_record(rt, alloc, seen, &account(alloc, id)?, tombstone)?;
+    }
+    Ok(())
+}
+
+fn shows_two(rt: &impl Abort, seen: &Snapshot, span: &Span, first: &Key) -> Result<(), Fail> {
+    assert_eq!(rt; rows(seen, span)?, 2);
+    assert!(rt; first_row_is(seen, span, first)?);
+    Ok(())
+}
+
+fn notes_and_shows(rt: &impl Abort, alloc: Global, key: &Key, span: &Span) -> Result<(), Fail> {
+    let mut seen = Snapshot::new(alloc);
+    scan_nothing(alloc, &mut seen, span)?;
+    note_three(rt, alloc, &mut seen)?;
+    shows_two(rt, &seen, span, key)
+}
+
 // What gets noted shows in a span that was scanned before, in the order of keys and without the protocol's columns; a
 // tombstone shows no row.
 #[test]
 fn a_get_shows_in_a_scanned_span(rt: HostRuntime) -> Result<(), Fail> {
-    let alloc = rt.alloc();
-    let span = accounts(alloc)?;
-    let mut seen = Snapshot::new(alloc);
-    scan_nothing(alloc, &mut seen, &span)?;
-    for (id, tombstone) in [(3, false), (2, true), (1, false)] {
-        note_record(&rt, alloc, &mut seen, &account(alloc, id)?, tombstone)?;
-    }
-    assert_eq!(rt; rows(&seen, &span)?, 2);
-    assert!(rt; first_row_is(&seen, &span, &account(alloc, 1)?)?);
-    assert_eq!(rt; seen.reads().len(), 3);
-    Ok(())
+    let key = account(rt.alloc(), 1)?;
+    let span = accounts(rt.alloc())?;
+    notes_and_shows(&rt, rt.alloc(), &key, &span)
 }
 
 fn tells_none_at(refused: Result<(), NoteRefused>, key: &Key) -> bool {
@@ -208,19 +243,20 @@ fn tells_none_at(refused: Result<(), NoteRefused>, key: &Key) -> bool {
     }
 }
 
+fn differs(rt: &impl Abort, alloc: Global, key: &Key, span: &Span) -> Result<(), Fail> {
+    let mut seen = Snapshot::new(alloc);
+    note_record(rt, alloc, &mut seen, key, true)?;
+    assert!(rt; tells_none_at(scan_nothing(alloc, &mut seen, span), key));
+    assert!(rt; !seen.scanned(span));
+    Ok(())
+}
+
 // A scan tells where a record that a get found is absent, and notes nothing.
 #[test]
 fn a_scan_that_differs_is_not_noted(rt: HostRuntime) -> Result<(), Fail> {
-    let alloc = rt.alloc();
-    let key = account(alloc, 1)?;
-    let span = accounts(alloc)?;
-    let mut seen = Snapshot::new(alloc);
-    note_record(&rt, alloc, &mut seen, &key, true)?;
-    let refused = scan_nothing(alloc, &mut seen, &span);
-    assert!(rt; tells_none_at(refused, &key));
-    assert!(rt; !seen.scanned(&span));
-    assert_eq!(rt; seen.scans().len(), 0);
-    Ok(())
+    let key = account(rt.alloc(), 1)?;
+    let span = accounts(rt.alloc())?;
+    differs(&rt, rt.alloc(), &key, &span)
 }
 
 // Reads and deletes so many keys, one after the other.
@@ -233,19 +269,40 @@ fn delete_keys(rt: &impl Abort, alloc: Global, seen: &mut Snapshot, many: i32) -
     Ok(())
 }
 
+fn refuses_one_more(
+    rt: &impl Abort,
+    alloc: Global,
+    seen: &mut Snapshot,
+    last: &Key,
+) -> Result<(), Fail> {
+    note(rt, seen, last, None)?;
+    assert!(rt; insert(rt, alloc, seen, last) == Err(WriteRefused::TooManyWrites));
+    assert_eq!(rt; seen.writes().len(), MOST_WRITES);
+    Ok(())
+}
+
+fn writes_again(
+    rt: &impl Abort,
+    alloc: Global,
+    seen: &mut Snapshot,
+    key: &Key,
+) -> Result<(), Fail> {
+    insert(rt, alloc, seen, key)?;
+    assert_eq!(rt; rows_at(seen, key)?, 1);
+    Ok(())
+}
+
+fn fills(rt: &impl Abort, alloc: Global, last: &Key, key: &Key) -> Result<(), Fail> {
+    let mut seen = Snapshot::new(alloc);
+    delete_keys(rt, alloc, &mut seen, 4096)?;
+    refuses_one_more(rt, alloc, &mut seen, last)?;
+    writes_again(rt, alloc, &mut seen, key)
+}
+
 // 4,096 keys may be written, and written again; one more is refused, and changes nothing.
 #[test]
 fn so_many_keys_may_be_written(rt: HostRuntime) -> Result<(), Fail> {
-    let alloc = rt.alloc();
-    let last = account(alloc, 4096)?;
-    let mut seen = Snapshot::new(alloc);
-    delete_keys(&rt, alloc, &mut seen, 4096)?;
-    note(&rt, &mut seen, &last, None)?;
-    let refused = insert(&rt, alloc, &mut seen, &last);
-    assert!(rt; refused == Err(WriteRefused::TooManyWrites));
-    assert_eq!(rt; seen.writes().len(), MOST_WRITES);
-    assert_eq!(rt; rows_at(&seen, &last)?, 0);
-    insert(&rt, alloc, &mut seen, &account(alloc, 7)?)?;
-    assert_eq!(rt; rows_at(&seen, &account(alloc, 7)?)?, 1);
-    Ok(())
+    let last = account(rt.alloc(), 4096)?;
+    let key = account(rt.alloc(), 7)?;
+    fills(&rt, rt.alloc(), &last, &key)
 }
