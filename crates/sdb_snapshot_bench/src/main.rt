@@ -2,6 +2,9 @@
 //! it.
 #![tactic(auto)]
 
+ghost use Rattle.std.specs.Prelude.{IfSome};
+ghost use Rattle.sdb_record.specs.Rolls.{IsBaseOf};
+
 use sdb_record::{Change, Changes, Keyed, meta_of};
 use sdb_snapshot::Snapshot;
 use sdb_types::{Columns, Duplicate, Key, Name, Record, Span, TableName, Txt, Value, Values};
@@ -65,15 +68,28 @@ fn columns_of(alloc: Global) -> Option<Columns> {
     Some(columns)
 }
 
+// A committed record of a key.
+fn committed(alloc: Global, key: &Key) -> Option<Record>
+    ensures { IfSome result (IsBaseOf key.now) }
+{
+    let Ok(same) = key.copy() else {
+        return None;
+    };
+    let rec = Record {
+        key: same,
+        columns: columns_of(alloc)?,
+    };
+    match meta_of(alloc, &rec) {
+        Ok(meta) if meta.is_committed() => Some(rec),
+        _ => None,
+    }
+}
+
 // Notes a committed record of a key, where the key was not read.
 fn note(alloc: Global, seen: &mut Snapshot, partition: i64, row: i64) -> Option<()> {
     let key = key_of(alloc, partition, row)?;
-    let rec = Record {
-        key: key.copy().ok()?,
-        columns: columns_of(alloc)?,
-    };
-    let meta = meta_of(alloc, &rec).ok()?;
-    if meta.is_committed() && seen.lookup(&key).is_none() {
+    let rec = committed(alloc, &key)?;
+    if seen.lookup(&key).is_none() {
         seen.note_get(key, Some(rec)).ok()?;
     }
     Some(())
