@@ -1,20 +1,44 @@
 -- A script that was read and played is a run of the headline.
-use Rattle.std.proofs.Common.{◌≡◌, ℕ, ◌≤◌, ◌<◌, ◌^◌, Bool, true, false, inl, inr, List, [], ◌∷◌, Option, length, take, refl, sym, subst}
+use Rattle.std.proofs.Common.{◌≡◌, ◌∙◌, Result, Ok, Err, IfErr, ℕ, ◌≤◌, ◌<◌, ◌^◌, Bool, true, false, inl, inr, List, [], ◌∷◌, Option, Some, None, length, take, refl, sym, ap, subst}
 use Rattle.std.specs.FinMap.{empty}
-use Rattle.std.specs.Prelude.{map}
-use Rattle.sdb_types.specs.Contents.{Contents}
+use Rattle.std.specs.Prelude.{map, slice_get, IsErrAnd}
+use Rattle.std.proofs.lemmas.List.{length-map}
+use Rattle.sdb_types.specs.declared.key.Key.{Key}
+use Rattle.sdb_types.specs.Contents.{Contents, rows_in}
 use Rattle.sdb_types.specs.Bytes.{Appends}
+use Rattle.sdb_stores.specs.Shelf.{Shelf as Counted, AreDistinct, names_of, total_faults}
+use Rattle.sdb_stores.specs.declared.place.Place.{Place as Placed}
+use Rattle.sdb_model.specs.declared.event.Event.{Event}
+use Rattle.sdb_model.specs.declared.event.Outcome.{Outcome}
+use Rattle.sdb_model.specs.declared.event.Point.{Point}
+use Rattle.sdb_model.specs.declared.script.Place.{Place}
+use Rattle.sdb_model.specs.declared.script.Script.{Script}
+use Rattle.sdb_model.specs.Events.{Shelf, store_of}
 use Rattle.sdb_model.specs.Form.{client_script}
 use Rattle.sdb_model.specs.Report.{report_text_of}
+use Rattle.sdb_model.specs.Rows.{Name}
 use Rattle.sdb_model.specs.Told.{IsRun}
-use Rattle.sdb_model.specs.declared.event.Outcome.{Outcome}
-use Rattle.sdb_script.specs.Accounts.{AreTransactions, IsFormOf, statement_of}
+use Rattle.sdb_script.specs.Accounts.{ArePlaces, AreTransactions, IsFormOf, account_text, statement_of}
 use Rattle.sdb_script.specs.declared.account.AccountStatement.{AccountStatement}
 use Rattle.sdb_script.specs.declared.account.AccountStatement.TheVariants as account
 use Rattle.sdb_script.specs.declared.drawing.AccountForm.{AccountForm}
-use Rattle.sdb_session.specs.Session.{Session, shelves_of, outcome_of, taken_all, start, are_taken}
-use Rattle.sdb_session.proofs.AllStatements.{run_from_empty}
-use Rattle.sdb_app.specs.Run.{IsFormRead, IsPlayed, IsReplayed, IsFrontWritten}
+use Rattle.sdb_session.specs.Session.{Session, account_span, outcome_of, store_name, taken_all, start, are_taken}
+use Rattle.sdb_session.proofs.AllStatements.{run_from_empty, settled_from_empty}
+use Rattle.sdb_spread.specs.Spread.{HoldAs, moved_outcome}
+use Rattle.sdb_spread.proofs.Told.{run_moved}
+use Rattle.sdb_play.specs.Board.{AreFit, GoOn, Refuses, catalog, placed, shown}
+use Rattle.sdb_play.specs.Closing.{AreSettled}
+use Rattle.sdb_play.specs.Opening.{first_key, opening_records}
+use Rattle.sdb_play.specs.Played.{IsPlayedOn}
+use Rattle.sdb_play.specs.declared.refused.PlayRefused.{PlayRefused}
+use Rattle.sdb_play.specs.declared.refused.PlayRefused.TheVariants as refused
+use Rattle.sdb_play.proofs.Empty.{no_record}
+use Rattle.sdb_play.proofs.Refusals.{refused_after}
+use Rattle.sdb_play.proofs.Rows.{settled_rows}
+use Rattle.sdb_app.specs.declared.status.Status.{Status}
+use Rattle.sdb_app.specs.declared.status.Status.TheVariants as status
+use Rattle.sdb_app.specs.Run.{TellOf, IsFormRead, IsFront, IsReadAnd, IsReported, IsScriptRead, IsTold, IsWritten, Stops, placed_form, script_of, status_of}
+use Rattle.sdb_app.proofs.Placing.{fit_for}
 
 ---- statements in their order
 
@@ -39,38 +63,146 @@ played form = taken_all (start empty) form.statements
 abbrev pub played_outcome : AccountForm → Outcome
 played_outcome form = outcome_of (played form).events (played form).order (played form).held
 
-pub form_run : (form : AccountForm) → IsFormOf form → length form.client.statements < 2 ^ 64 → IsRun (client_script form.client) (shelves_of empty) (shelves_of (played form).held) (played_outcome form)
-form_run form f bound = run_from_empty form.client form.statements f.texts bound (built_taken false form.statements f.built) f.fit
+-- what was played on stores is a run on them
+pub told_run : (names : List Name) (form : AccountForm) (places : List Place) (opening now : List Shelf) (story : List Event) (points : List Point) (o : Outcome) → IsFormOf names form → length form.client.statements < 2 ^ 64 → IsPlayedOn places opening now form.statements story points
+    → o ≡ moved_outcome (store_of places opening) (played_outcome form) → IsRun (placed_form form places) opening now o
+told_run names form places opening now story points o f bound p is =
+    let run = run_from_empty form.client form.statements f.texts bound (built_taken false form.statements f.built) f.fit in
+    subst (λ (x : Outcome). IsRun (placed_form form places) opening now x) (sym is)
+    (run_moved (client_script form.client) store_name empty (played form).held (played_outcome form) places (store_of places opening) opening now p.on.moments refl run p.on.trace p.on.holds)
 
-pub played_is : (form : AccountForm) (old new : Option (List ℕ)) (opening closing : Contents) → IsFormRead old new form → length form.client.statements < 2 ^ 64 → opening ≡ empty → closing ≡ (played form).held
-    → IsPlayed old new (shelves_of opening) (shelves_of closing) (played_outcome form)
-played_is form old new opening closing r bound is_empty held =
-    let run = form_run form r.statements bound in
-    let from : IsRun (client_script form.client) (shelves_of opening) (shelves_of (played form).held) (played_outcome form) =
-    subst (λ (m : Contents). IsRun (client_script form.client) (shelves_of m) (shelves_of (played form).held) (played_outcome form)) (sym is_empty) run in
+-- what an outcome is of
+abbrev pub IsOutcomeOf : List Placed → List Counted → (ℕ → Type 0) → List Event → List Point → Outcome → Type 0
+IsOutcomeOf places now tells story points o =
+    (opening : List Shelf) (statements : List AccountStatement) → AreFit places now tells → IsPlayedOn (placed places) opening (shown now) statements story points
+    → o ≡ moved_outcome (store_of (placed places) opening) (outcome_of (taken_all (start empty) statements).events (taken_all (start empty) statements).order (taken_all (start empty) statements).held)
+
+pub told_by : {t u : ℕ → Type 0} (names : List Name) (form : AccountForm) (p q : List Placed) (old mid new : List Counted) (story : List Event) (points : List Point) (o : Outcome) (text : List ℕ) → IsFormOf names form → length form.client.statements < 2 ^ 64 → GoOn p q old mid t u
+    → (AreFit p old t → HoldAs catalog (placed p) (shown old) empty → IsPlayedOn (placed p) (shown old) (shown mid) form.statements story points) → IsOutcomeOf q mid u story points o → (AreFit q mid u → shown new ≡ shown mid) → text ≡ report_text_of o
+    → AreFit p old t → HoldAs catalog (placed p) (shown old) empty → IsTold (placed_form form (placed p)) (shown old) (shown new) text
+told_by names form p q old mid new story points o text f bound goes plays made still written fit holds =
+    let at = plays fit holds in
+    let there = subst (λ (x : List Placed). IsPlayedOn (placed x) (shown old) (shown mid) form.statements story points) (sym goes.places) at in
+    let is : o ≡ moved_outcome (store_of (placed p) (shown old)) (played_outcome form) = made (shown old) form.statements (goes.fit fit) there ∙ ap (λ (x : List Placed). moved_outcome (store_of (placed x) (shown old)) (played_outcome form)) goes.places in
     record {
-      text = r.text;
-      script = client_script form.client;
-      taken = r.taken;
-      ended = r.ended;
-      form = r.script;
-      run = subst (λ (m : Contents). IsRun (client_script form.client) (shelves_of opening) (shelves_of m) (played_outcome form)) (sym held) from;
+      outcome = o;
+      run = subst (λ (s : List Shelf). IsRun (placed_form form (placed p)) (shown old) s o) (sym (still (goes.fit fit))) (told_run names form (placed p) (shown old) (shown mid) story points o f bound at is);
+      text = written;
     }
 
-pub replayed : (form : AccountForm) (old new : Option (List ℕ)) (opening closing : Contents) (bytes : List ℕ) (before after : Option (List ℕ)) → IsFormRead old new form → length form.client.statements < 2 ^ 64 → opening ≡ empty → closing ≡ (played form).held
-    → bytes ≡ report_text_of (played_outcome form) → Appends bytes before after → IsReplayed old new before after (shelves_of opening) (shelves_of closing)
-replayed form old new opening closing bytes before after r bound is_empty held text written = record {
-  outcome = played_outcome form;
-  played = played_is form old new opening closing r bound is_empty held;
-  written = subst (λ (x : List ℕ). Appends x before after) text written;
+-- the final rows are those of committed records
+pub no_foreign : {t u : ℕ → Type 0} (names : List Name) (form : AccountForm) (p q : List Placed) (old mid : List Counted) (story : List Event) (points : List Point) → IsFormOf names form → length form.client.statements < 2 ^ 64 → GoOn p q old mid t u
+    → (AreFit p old t → HoldAs catalog (placed p) (shown old) empty → IsPlayedOn (placed p) (shown old) (shown mid) form.statements story points)
+    → ((held : Contents) → AreFit q mid u → HoldAs catalog (placed q) (shown mid) held → AreSettled (rows_in account_span held) → ⊥) → AreFit p old t → HoldAs catalog (placed p) (shown old) empty → ⊥
+no_foreign names form p q old mid story points f bound goes plays never fit holds =
+    let at = plays fit holds in
+    let size : length form.client.statements ≡ length form.statements = ap length f.texts ∙ length-map form.statements account_text in
+    never (played form).held (goes.fit fit) (subst (λ (x : List Placed). HoldAs catalog (placed x) (shown mid) (played form).held) (sym goes.places) at.on.holds)
+    (settled_rows (played form).held (settled_from_empty form.statements (subst (λ (n : ℕ). n < 2 ^ 64) size bound) (built_taken false form.statements f.built) f.fit))
+
+---- the whole
+
+-- how the program ends where playing was refused
+pub stops : (old new : List Counted) (near far : Type 0) (found : Key → Type 0) (e : PlayRefused) (s : Status) → s ≡ status_of e → (near → far) → Refuses near old new e → Stops old new far found s
+stops old new near far found e s is f h = subst (Stops old new far found) (sym is) (by e h)
+  where
+    by : (e : PlayRefused) → Refuses near old new e → Stops old new far found (status_of e)
+    by refused.StoreFault h = h
+    by (refused.BadStore key) h = f h
+    by refused.NoMemory h = tt
+
+-- what is so of an error that is passed on
+pub passed_on : {T : Type 0} (P : Status → Type 0) (r : Result T Status) (e : Status) → IsErrAnd r (λ y. y ≡ e) → P e → IfErr r P
+passed_on P (Ok x) e h p = absurd h
+passed_on P (Err y) e h p = subst P (sym h) p
+
+pub stopped_on : {T : Type 0} (old new : List Counted) (near far : Type 0) (found : Key → Type 0) (r : Result T Status) (e : PlayRefused) → IsErrAnd r (λ y. y ≡ status_of e) → (near → far) → Refuses near old new e → IfErr r (Stops old new far found)
+stopped_on old new near far found (Ok x) e h f k = absurd h
+stopped_on old new near far found (Err y) e h f k = stops old new near far found e y h f k
+
+-- what stopped the look for records stopped the whole
+pub stops_as : (old mid new : List Counted) (near far : Type 0) (was found : Key → Type 0) (s : Status) → mid ≡ old → (near → far) → ((key : Key) → was key → found key) → Stops mid new near was s → Stops old new far found s
+stops_as old mid new near far was found s same f g h = subst (λ (x : List Counted). Stops x new far found s) same (by s h)
+  where
+    by : (s : Status) → Stops mid new near was s → Stops mid new far found s
+    by status.StoreFault h = h
+    by status.NoMemory h = tt
+    by (status.NotEmpty key) h = g key h
+    by (status.BadStore key) h = f h
+    by status.Done h = absurd h
+    by status.Usage h = absurd h
+    by status.ReadFault h = absurd h
+    by status.WriteFault h = absurd h
+    by (status.NotBuilt n) h = absurd h
+
+-- stores that are the same go on to tell
+pub tell_on : {t u : ℕ → Type 0} (script : Script) (before mid : List Counted) → mid ≡ before → ((i : ℕ) → t i → u i) → TellOf script before t → TellOf script mid u
+tell_on script before mid same telling all at store table here about named =
+    telling at (all at store table (ap (λ (ss : List Counted). slice_get ss at) (sym same) ∙ here) about (ap (λ (ss : List Counted). store_of script.places (shown ss) table.ns) (sym same) ∙ named))
+
+-- The stores of a form's tables tell, and it has its places.
+pub fit_form : {t u : ℕ → Type 0} (form : AccountForm) (ps : List Placed) (old mid : List Counted) → placed ps ≡ form.places → mid ≡ old → IsFormOf (names_of old) form → 0 < length old → AreDistinct (names_of old) → ((i : ℕ) → t i → u i) → TellOf (script_of form) old t → AreFit ps mid u
+fit_form form ps old mid same still f some distinct telling all =
+    fit_for ps form.places mid same (subst (λ (ss : List Counted). ArePlaces (names_of ss) form.places) (sym still) f.placed) (subst (λ (ss : List Counted). 0 < length ss) (sym still) some) (subst (λ (ss : List Counted). AreDistinct (names_of ss)) (sym still) distinct)
+    (tell_on (script_of form) old mid still telling all)
+
+-- the whole is told: ps and mid are behind the placing, qs and then behind the look for records
+pub reported : {u v : ℕ → Type 0} (form : AccountForm) (ps qs : List Placed) (old mid then : List Counted) (new : List Shelf) (text : List ℕ) → placed ps ≡ form.places → mid ≡ old → GoOn ps qs mid then u v → AreFit ps mid u
+    → first_key (opening_records (placed ps) (shown mid)) ≡ None → shown then ≡ shown mid
+    → (AreFit qs then v → HoldAs catalog (placed qs) (shown then) empty → IsTold (placed_form form (placed qs)) (shown then) new text) → IsReported (script_of form) (shown old) new text
+reported form ps qs old mid then new text same still goes fit none quiet tells =
+    let places : placed qs ≡ form.places = ap placed goes.places ∙ same in
+    let stores : shown then ≡ shown old = quiet ∙ ap shown still in
+    let holds : HoldAs catalog (placed qs) (shown then) empty =
+    subst (λ (ss : List Shelf). HoldAs catalog (placed qs) ss empty) (sym quiet) (subst (λ (xs : List Placed). HoldAs catalog (placed xs) (shown mid) empty) (sym goes.places) (no_record (placed ps) (shown mid) none)) in
+    let told = tells (goes.fit fit) holds in
+    record {
+      empty = sym (ap (λ (ss : List Shelf). first_key (opening_records form.places ss)) (ap shown still)) ∙ sym (ap (λ (xs : List Place). first_key (opening_records xs (shown mid))) same) ∙ none;
+      told = subst (λ (xs : List Place). IsTold (placed_form form xs) (shown old) new text) places (subst (λ (ss : List Shelf). IsTold (placed_form form (placed qs)) ss new text) stores told);
+    }
+
+-- stores that all tell stop nothing
+pub never_foreign : {u v : ℕ → Type 0} (ps qs : List Placed) (mid then : List Counted) → GoOn ps qs mid then u v → AreFit ps mid u → first_key (opening_records (placed ps) (shown mid)) ≡ None → shown then ≡ shown mid → (AreFit qs then v → HoldAs catalog (placed qs) (shown then) empty → ⊥) → ⊥
+never_foreign ps qs mid then goes fit none quiet never =
+    never (goes.fit fit)
+    (subst (λ (ss : List Shelf). HoldAs catalog (placed qs) ss empty) (sym quiet) (subst (λ (xs : List Placed). HoldAs catalog (placed xs) (shown mid) empty) (sym goes.places) (no_record (placed ps) (shown mid) none)))
+
+-- the first record is that of the form's tables
+pub found_first : (form : AccountForm) (ps : List Placed) (old mid : List Counted) (key : Key) → placed ps ≡ form.places → mid ≡ old → first_key (opening_records (placed ps) (shown mid)) ≡ Some key → first_key (opening_records form.places (shown old)) ≡ Some key
+found_first form ps old mid key same still found =
+    sym (ap (λ (ss : List Shelf). first_key (opening_records form.places ss)) (ap shown still)) ∙ sym (ap (λ (xs : List Place). first_key (opening_records xs (shown mid))) same) ∙ found
+
+-- a script that was read, and what is so of it where the stores of its tables tell
+pub read_and : {t u : ℕ → Type 0} (P Q : Script → Type 0) (form : AccountForm) (old new : Option (List ℕ)) (names : List Name) (before mid : List Counted) → names ≡ names_of mid → mid ≡ before → ((i : ℕ) → t i → u i) → IsFormRead names old new form → (TellOf (script_of form) mid u → P (script_of form)) → (P (script_of form) → Q (script_of form))
+    → IsReadAnd before t old new Q
+read_and P Q form old new names before mid named same telling h so then = record {
+  script = script_of form;
+  read = subst (λ (ns : List Name). IsScriptRead ns old new (script_of form)) (named ∙ ap names_of same) h.read;
+  so = λ all. then (so (tell_on (script_of form) before mid same telling all));
 }
 
-pub front_written : (form : AccountForm) (old new : Option (List ℕ)) (opening closing : Contents) (bytes : List ℕ) (before after : Option (List ℕ)) → IsFormRead old new form → length form.client.statements < 2 ^ 64 → opening ≡ empty → closing ≡ (played form).held
-    → bytes ≡ report_text_of (played_outcome form) → (k : ℕ) × (k ≤ length bytes) × Appends (take k bytes) before after → IsFrontWritten old new before after (shelves_of opening) (shelves_of closing)
-front_written form old new opening closing bytes before after r bound is_empty held text w = record {
-  outcome = played_outcome form;
-  size = w.0;
-  within = subst (λ (x : List ℕ). w.0 ≤ length x) text w.1;
-  played = played_is form old new opening closing r bound is_empty held;
-  written = subst (λ (x : List ℕ). Appends (take w.0 x) before after) text w.2;
-}
+pub written_of : (script : Script) (before mid : List Counted) (closing : List Shelf) (text bytes : List ℕ) (old new : Option (List ℕ)) → mid ≡ before → bytes ≡ text → Appends bytes old new → IsReported script (shown mid) closing text → IsWritten script (shown before) closing old new
+written_of script before mid closing text bytes old new same is written told =
+    let r = subst (λ (ss : List Counted). IsReported script (shown ss) closing text) same told in
+    record { outcome = r.told.outcome; played = record { empty = r.empty; run = r.told.run }; written = subst (λ (x : List ℕ). Appends x old new) (is ∙ r.told.text) written }
+
+pub front_of : (script : Script) (before mid : List Counted) (closing : List Shelf) (text bytes : List ℕ) (old new : Option (List ℕ)) → mid ≡ before → bytes ≡ text → (k : ℕ) × (k ≤ length bytes) × Appends (take k bytes) old new → IsReported script (shown mid) closing text → IsFront script (shown before) closing old new
+front_of script before mid closing text bytes old new same is w told =
+    let r = subst (λ (ss : List Counted). IsReported script (shown ss) closing text) same told in
+    record {
+      outcome = r.told.outcome;
+      size = w.0;
+      within = subst (λ (x : List ℕ). w.0 ≤ length x) (is ∙ r.told.text) w.1;
+      played = record { empty = r.empty; run = r.told.run };
+      written = subst (λ (x : List ℕ). Appends (take w.0 x) old new) (is ∙ r.told.text) w.2;
+    }
+
+-- what stopped a script that was read
+pub found_of : (script : Script) (before mid : List Counted) (key : Key) → mid ≡ before → first_key (opening_records script.places (shown mid)) ≡ Some key → first_key (opening_records script.places (shown before)) ≡ Some key
+found_of script before mid key same found = sym (ap (λ (ss : List Counted). first_key (opening_records script.places (shown ss))) same) ∙ found
+
+pub stops_found : (old new : List Counted) (foreign : Type 0) (found : Key → Type 0) (s : Status) (key : Key) → Stops old new foreign found s → s ≡ status.NotEmpty key → found key
+stops_found old new foreign found s key h is = subst (Stops old new foreign found) is h
+
+pub stops_foreign : (old new : List Counted) (foreign : Type 0) (found : Key → Type 0) (s : Status) (key : Key) → Stops old new foreign found s → s ≡ status.BadStore key → foreign
+stops_foreign old new foreign found s key h is = subst (Stops old new foreign found) is h

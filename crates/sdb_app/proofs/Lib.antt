@@ -1,6 +1,2 @@
-pub mod Fates
-pub mod CallSteps
-pub mod Looks
-pub mod Ends
-pub mod Plays
+pub mod Placing
 pub mod Headline

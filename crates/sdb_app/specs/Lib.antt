@@ -1,4 +1,3 @@
-pub mod Calls
 pub mod Run
 pub mod Streams
 pub mod Status

@@ -1,11 +1,22 @@
 -- What the program promises of one of its runs.
-use Rattle.std.specs.Prelude.{◌⊎◌, ℕ, ◌≤◌, ◌<◌, Bool, true, false, List, [], ◌∷◌, length, take, Option, codes}
+use Rattle.std.specs.Prelude.{◌≡◌, ◌⊎◌, ℕ, ◌≤◌, ◌<◌, Bool, true, false, List, [], ◌∷◌, length, slice_get, take, Option, Some, None, codes}
 use Rattle.std.specs.Str.{bytes_eq}
+use Rattle.sdb_types.specs.declared.key.Key.{Key}
 use Rattle.sdb_types.specs.Bytes.{Takes, Appends, IsAtEnd}
+use Rattle.sdb_stores.specs.Shelf.{Shelf as Counted, HaveRisen, names_of}
+use Rattle.sdb_types.specs.declared.key.TableName.{TableName}
+use Rattle.sdb_model.specs.Events.{store_of}
+use Rattle.sdb_spread.specs.Spread.{is_played}
+use Rattle.sdb_play.specs.Board.{shown}
+use Rattle.sdb_play.specs.Opening.{first_key, opening_records}
+use Rattle.sdb_play.specs.declared.refused.PlayRefused.{PlayRefused}
+use Rattle.sdb_play.specs.declared.refused.PlayRefused.TheVariants as refused
+use Rattle.sdb_model.specs.declared.script.Place.{Place}
 use Rattle.sdb_model.specs.declared.event.Outcome.{Outcome}
 use Rattle.sdb_model.specs.declared.script.Script.{Script}
 use Rattle.sdb_model.specs.Events.{Shelf}
-use Rattle.sdb_model.specs.Form.{client_script}
+use Rattle.sdb_model.specs.Form.{client_script, placed_script}
+use Rattle.sdb_model.specs.Rows.{Name}
 use Rattle.sdb_script.specs.declared.drawing.AccountForm.{AccountForm}
 use Rattle.sdb_script.specs.Accounts.{IsAccountScript, IsNotPlayed, IsFormOf, most_script_bytes}
 use Rattle.sdb_app.specs.declared.status.Status.{Status}
@@ -19,45 +30,104 @@ is_replay [] = false
 is_replay (word ∷ []) = bytes_eq word (codes "replay")
 is_replay (word ∷ other ∷ words) = false
 
--- The input was read to its end and is the text of a script. One outcome is that of a run that follows the script, from what
--- the stores held at the entry to what they hold at the exit.
-pub record IsPlayed (old_input new_input : Option (List ℕ)) (opening closing : List Shelf) (outcome : Outcome) : Type 0 where
+-- The input was read to its end and is the text of a script over these stores.
+pub record IsScriptRead (stores : List Name) (old_input new_input : Option (List ℕ)) (script : Script) : Type 0 where
   pub text : List ℕ
-  pub script : Script
   pub taken : Takes text old_input new_input
   pub ended : IsAtEnd new_input
-  pub form : IsAccountScript text script
+  pub form : IsAccountScript stores text script
+
+-- The stores that keep the tables of a script, and the coordinator's rows, tell what they hold.
+abbrev pub TellOf : Script → List Counted → (ℕ → Type 0) → Type 0
+TellOf script shelves tells =
+    (at : ℕ) (store : Counted) (table : TableName) → slice_get shelves at ≡ Some store → is_played script.catalog table ≡ true → store_of script.places (shown shelves) table.ns ≡ store.name → tells at
+
+-- The tables of a script were empty, and one outcome is that of a run that follows it, from what the stores held at the entry
+-- to what they hold at the exit.
+pub record IsPlayed (script : Script) (opening closing : List Shelf) (outcome : Outcome) : Type 0 where
+  pub empty : first_key (opening_records script.places opening) ≡ None
   pub run : IsRun script opening closing outcome
 
--- The headline: a script was played, and its report was written, whole and nothing else.
-pub record IsReplayed (old_input new_input old_output new_output : Option (List ℕ)) (opening closing : List Shelf) : Type 0 where
+-- A script was played, and its report was written, whole and nothing else.
+pub record IsWritten (script : Script) (opening closing : List Shelf) (old_output new_output : Option (List ℕ)) : Type 0 where
   pub outcome : Outcome
-  pub played : IsPlayed old_input new_input opening closing outcome
+  pub played : IsPlayed script opening closing outcome
   pub written : Appends (report_text_of outcome) old_output new_output
 
 -- A script was played, and a front of its report was written.
-pub record IsFrontWritten (old_input new_input old_output new_output : Option (List ℕ)) (opening closing : List Shelf) : Type 0 where
+pub record IsFront (script : Script) (opening closing : List Shelf) (old_output new_output : Option (List ℕ)) : Type 0 where
   pub outcome : Outcome
   pub size : ℕ
   pub within : size ≤ length (report_text_of outcome)
-  pub played : IsPlayed old_input new_input opening closing outcome
+  pub played : IsPlayed script opening closing outcome
   pub written : Appends (take size (report_text_of outcome)) old_output new_output
 
--- Bytes that were read of the input are no script because of that line: they are all of it, or more than are read of a
--- script, and the rest is left.
-pub record IsRefused (old_input new_input : Option (List ℕ)) (n : ℕ) : Type 0 where
+-- A script was read over these stores, and this is so of it where the stores of its tables tell what they hold.
+pub record IsReadAnd (stores : List Counted) (tells : ℕ → Type 0) (old_input new_input : Option (List ℕ)) (P : Script → Type 0) : Type 0 where
+  pub script : Script
+  pub read : IsScriptRead (names_of stores) old_input new_input script
+  pub so : TellOf script stores tells → P script
+
+-- The headline.
+abbrev pub IsReplayed : List Counted → (ℕ → Type 0) → List Counted → Option (List ℕ) → Option (List ℕ) → Option (List ℕ) → Option (List ℕ) → Type 0
+IsReplayed old tells new old_input new_input old_output new_output = IsReadAnd old tells old_input new_input (λ script. IsWritten script (shown old) (shown new) old_output new_output)
+
+abbrev pub IsFrontWritten : List Counted → (ℕ → Type 0) → List Counted → Option (List ℕ) → Option (List ℕ) → Option (List ℕ) → Option (List ℕ) → Type 0
+IsFrontWritten old tells new old_input new_input old_output new_output = IsReadAnd old tells old_input new_input (λ script. IsFront script (shown old) (shown new) old_output new_output)
+
+-- The key is that of the first record in the tables of the script.
+abbrev pub IsNotEmpty : List Counted → (ℕ → Type 0) → Option (List ℕ) → Option (List ℕ) → Key → Type 0
+IsNotEmpty old tells old_input new_input key = IsReadAnd old tells old_input new_input (λ script. first_key (opening_records script.places (shown old)) ≡ Some key)
+
+-- Some store of the script's tables does not tell what it holds.
+abbrev pub IsUntold : List Counted → (ℕ → Type 0) → Option (List ℕ) → Option (List ℕ) → Type 0
+IsUntold old tells old_input new_input = IsReadAnd old tells old_input new_input (λ script. ⊥)
+
+-- Bytes that were read of the input are no script over these stores because of that line: they are all of it, or more than are
+-- read of a script, and the rest is left.
+pub record IsRefused (stores : List Name) (old_input new_input : Option (List ℕ)) (n : ℕ) : Type 0 where
   pub text : List ℕ
   pub taken : Takes text old_input new_input
   pub whole : IsAtEnd new_input ⊎ (most_script_bytes < length text)
-  pub refused : IsNotPlayed text n
+  pub refused : IsNotPlayed stores text n
+
+-- The script of a form.
+abbrev pub script_of : AccountForm → Script
+script_of form = placed_script (client_script form.client) form.places
 
 -- The input was read to its end and is this script.
-pub record IsFormRead (old_input new_input : Option (List ℕ)) (form : AccountForm) : Type 0 where
-  pub text : List ℕ
-  pub taken : Takes text old_input new_input
-  pub ended : IsAtEnd new_input
-  pub script : IsAccountScript text (client_script form.client)
-  pub statements : IsFormOf form
+pub record IsFormRead (stores : List Name) (old_input new_input : Option (List ℕ)) (form : AccountForm) : Type 0 where
+  pub read : IsScriptRead stores old_input new_input (script_of form)
+  pub statements : IsFormOf stores form
+
+-- how the program ends where playing was refused
+abbrev pub status_of : PlayRefused → Status
+status_of refused.StoreFault = status.StoreFault
+status_of (refused.BadStore key) = status.BadStore key
+status_of refused.NoMemory = status.NoMemory
+
+-- the script of a form, with these places
+abbrev pub placed_form : AccountForm → List Place → Script
+placed_form form places = placed_script (client_script form.client) places
+
+-- The text is the report of a run that follows the script.
+pub record IsTold (script : Script) (opening closing : List Shelf) (report : List ℕ) : Type 0 where
+  pub outcome : Outcome
+  pub run : IsRun script opening closing outcome
+  pub text : report ≡ report_text_of outcome
+
+-- The tables of the script were empty, and the text is its report.
+pub record IsReported (script : Script) (opening closing : List Shelf) (report : List ℕ) : Type 0 where
+  pub empty : first_key (opening_records script.places opening) ≡ None
+  pub told : IsTold script opening closing report
+
+-- Why a script was not played to its end.
+abbrev pub Stops : List Counted → List Counted → Type 0 → (Key → Type 0) → Status → Type 0
+Stops old new foreign found status.StoreFault = HaveRisen old new
+Stops old new foreign found status.NoMemory = Unit {0}
+Stops old new foreign found (status.NotEmpty key) = found key
+Stops old new foreign found (status.BadStore key) = foreign
+Stops old new foreign found _ = ⊥
 
 -- the endings without a script
 abbrev pub refuses_input : Status → Bool
@@ -70,5 +140,8 @@ refuses_input _ = false
 abbrev pub writes_nothing : Status → Bool
 writes_nothing status.Usage = true
 writes_nothing status.ReadFault = true
+writes_nothing status.StoreFault = true
+writes_nothing (status.NotEmpty key) = true
+writes_nothing (status.BadStore key) = true
 writes_nothing (status.NotBuilt n) = true
 writes_nothing _ = false

@@ -1,13 +1,11 @@
 //! The top call of the program.
 #![tactic(auto)]
 
-mod outcome;
-mod play;
+mod places;
 mod program;
+mod replay;
 mod status;
-mod stores;
 mod streams;
 
 pub use program::run;
 pub use status::Status;
-pub use stores::Stores;

@@ -1,19 +1,16 @@
 //! The top call.
-ghost use Rattle.std.specs.Prelude.{◌≡◌, ◌↔◌, ◌≤◌, ◌<◌, ◌^◌, ℕ, length, true, false, map, string_bytes, IfOk, IfErr, OnOk, IsErrOf};
-ghost use Rattle.std.specs.FinMap as finite;
+ghost use Rattle.std.specs.Prelude.{◌≡◌, ◌↔◌, ◌<◌, ◌≤◌, ℕ, length, true, false, map, string_bytes, IfOk, IfErr, IsErrOf};
+ghost use Rattle.sdb_types.specs.declared.key.Key.{Key};
 ghost use Rattle.sdb_types.specs.Bytes.{HasRisen};
-ghost use Rattle.sdb_model.specs.Report.{report_text_of};
-ghost use Rattle.sdb_script.specs.Accounts.{IsFormOf};
-ghost use Rattle.sdb_session.specs.Session.{shelves_of, outcome_of, taken_all, start};
-ghost use Rattle.sdb_app.specs.Run.{is_replay as is_replay_lem, IsReplayed, IsFrontWritten, IsRefused, IsFormRead, refuses_input, writes_nothing};
+ghost use Rattle.sdb_stores.specs.Shelf.{HaveRisen, names_of, total_faults};
+ghost use Rattle.sdb_app.specs.Run.{is_replay as is_replay_lem, IsReplayed, IsFrontWritten, IsNotEmpty, IsUntold, IsRefused, IsFormRead, refuses_input, writes_nothing};
 
-use crate::outcome::outcome;
-use crate::play::play;
+use crate::replay::replay;
 use crate::status::Status;
-use crate::stores::Stores;
 use crate::streams::{Input, ReadRefused, read_input, write_all};
-use sdb_script::{AccountForm, FormRefused, MOST_SCRIPT_BYTES, read_account_script, report_text};
-use sdb_types::{Clock, Ids, NoMemory, Sink, SinkRefused, Source, Txt};
+use sdb_script::{AccountForm, FormRefused, MOST_SCRIPT_BYTES, read_account_script};
+use sdb_stores::Registry;
+use sdb_types::{Clock, Ids, Names, NoMemory, Sink, SinkRefused, Source};
 use std::alloc::Global;
 
 fn is_replay(words: &[String]) -> bool
@@ -25,11 +22,15 @@ fn is_replay(words: &[String]) -> bool
     }
 }
 
-// Reads a script, or says how the program ends without one.
-fn read_script<R: Source>(alloc: Global, input: &mut R) -> Result<AccountForm, Status>
-    ensures read { IfOk result (IsFormRead (R.remaining input.old) (R.remaining input.new)) }
+// Reads a script over stores of these names, or says how the program ends without one.
+fn read_script<R: Source>(
+    alloc: Global,
+    input: &mut R,
+    stores: &Names,
+) -> Result<AccountForm, Status>
+    ensures read { IfOk result (IsFormRead stores.now (R.remaining input.old) (R.remaining input.new)) }
     ensures read_fault { IsErrOf result Status.ReadFault → HasRisen (R.faults input.old) (R.faults input.new) }
-    ensures not_built { (n : ℕ) → IsErrOf result (Status.NotBuilt n) → IsRefused (R.remaining input.old) (R.remaining input.new) n }
+    ensures not_built { (n : ℕ) → IsErrOf result (Status.NotBuilt n) → IsRefused stores.now (R.remaining input.old) (R.remaining input.new) n }
     ensures kinds { IfErr result (λ status. refuses_input status ≡ true) }
     ensures counted { R.faults input.old ≤ R.faults input.new }
 {
@@ -39,64 +40,66 @@ fn read_script<R: Source>(alloc: Global, input: &mut R) -> Result<AccountForm, S
         Err(ReadRefused::Failed) => return Err(Status::ReadFault),
         Err(ReadRefused::NoMemory) => return Err(Status::NoMemory),
     };
-    match read_account_script(alloc, &bytes) {
+    match read_account_script(alloc, &bytes, stores) {
         Ok(form) => Ok(form),
         Err(FormRefused::NotBuilt(n)) => Err(Status::NotBuilt(n)),
         Err(FormRefused::NoMemory) => Err(Status::NoMemory),
     }
 }
 
-// Plays a script, and writes its report's text.
-fn report(alloc: Global, stores: &mut Stores, form: &AccountForm) -> Result<Txt, NoMemory>
-    requires form { IsFormOf form.now }
-    requires empty { stores.old ≡ finite.empty }
-    ensures report { IfOk result (λ text. text ≡ report_text_of (outcome_of (taken_all (start finite.empty) form.now.statements).events (taken_all (start finite.empty) form.now.statements).order (taken_all (start finite.empty) form.now.statements).held)) }
-    ensures stores { OnOk result (stores.new ≡ (taken_all (start finite.empty) form.now.statements).held) }
-    ensures countable { OnOk result (length form.now.client.statements < 2 ^ 64) }
-{
-    let log = play(alloc, stores, &form.client.statements, &form.statements)?;
-    let outcome = outcome(alloc, stores, log)?;
-    report_text(alloc, &outcome)
-}
-
-/// Runs the program on its words, those after its name.
+/// Runs the program on its words, those after its name, and on the stores of a registry, at least one.
 ///
-/// `replay` reads a script of the form that can be played so far, plays it on the store, which is empty, and writes the
-/// report of the run. Nothing is written before the run has ended.
-pub fn run<R: Source, W: Sink, C: Clock, I: Ids>(
+/// `replay` takes all places away and reads a script of the form that can be played so far. It places the namespaces as the
+/// script says, sees to it that the script's tables are empty, plays it on the stores, and writes the report of the run. Nothing
+/// is written before the run has ended. What is said of a run and of records is said where the
+/// stores of the script's tables tell what they hold.
+pub fn run<S: Registry, R: Source, W: Sink, C: Clock, I: Ids>(
     alloc: Global,
     words: &[String],
-    stores: &mut Stores,
+    stores: &mut S,
     input: &mut R,
     output: &mut W,
     _clock: &mut C,
     _ids: &mut I,
 ) -> Status
-    requires { stores.old ≡ finite.empty }
+    requires { 0 < length (S.shelves stores.old) }
     // The words are none that the program knows.
     ensures usage { (result ≡ Status.Usage) ↔ (is_replay_lem (map string_bytes words.now) ≡ false) }
     ensures read_fault { result ≡ Status.ReadFault → HasRisen (R.faults input.old) (R.faults input.new) }
     // The text that was read isn't built because of that line.
-    ensures not_built { (n : ℕ) → result ≡ Status.NotBuilt n → IsRefused (R.remaining input.old) (R.remaining input.new) n }
+    ensures not_built { (n : ℕ) → result ≡ Status.NotBuilt n → IsRefused (names_of (S.shelves stores.old)) (R.remaining input.old) (R.remaining input.new) n }
+    ensures store_fault { result ≡ Status.StoreFault → HaveRisen (S.shelves stores.old) (S.shelves stores.new) }
+    // The record is the first in the tables of the script that was read.
+    ensures not_empty { (key : Key) → result ≡ Status.NotEmpty key → IsNotEmpty (S.shelves stores.old) (S.tells stores.old) (R.remaining input.old) (R.remaining input.new) key }
+    // Some store of the script's tables doesn't tell what it holds.
+    ensures bad_store { (key : Key) → result ≡ Status.BadStore key → IsUntold (S.shelves stores.old) (S.tells stores.old) (R.remaining input.old) (R.remaining input.new) }
     // A front of the report of a run was written.
-    ensures write_fault { result ≡ Status.WriteFault → HasRisen (W.faults output.old) (W.faults output.new)
-        × IsFrontWritten (R.remaining input.old) (R.remaining input.new) (W.written output.old) (W.written output.new) (shelves_of stores.old) (shelves_of stores.new) }
+    ensures write_fault { result ≡ Status.WriteFault → HasRisen (W.faults output.old) (W.faults output.new) }
+    ensures front { result ≡ Status.WriteFault → IsFrontWritten (S.shelves stores.old) (S.tells stores.old) (S.shelves stores.new) (R.remaining input.old) (R.remaining input.new) (W.written output.old) (W.written output.new) }
     // The headline.
-    ensures done { result ≡ Status.Done → IsReplayed (R.remaining input.old) (R.remaining input.new) (W.written output.old) (W.written output.new) (shelves_of stores.old) (shelves_of stores.new) }
+    ensures done { result ≡ Status.Done → IsReplayed (S.shelves stores.old) (S.tells stores.old) (S.shelves stores.new) (R.remaining input.old) (R.remaining input.new) (W.written output.old) (W.written output.new) }
     // Nothing is written before the run has ended.
     ensures unwritten { writes_nothing result ≡ true → W.written output.new ≡ W.written output.old }
     ensures counted { R.faults input.old ≤ R.faults input.new }
     ensures counted_output { W.faults output.old ≤ W.faults output.new }
+    // The stores are those that were attached, in their order.
+    ensures names { names_of (S.shelves stores.new) ≡ names_of (S.shelves stores.old) }
+    ensures counted_stores { total_faults (S.shelves stores.old) ≤ total_faults (S.shelves stores.new) }
 {
     if !is_replay(words) {
         return Status::Usage;
     }
-    let form = match read_script(alloc, input) {
+    stores.clear_places();
+    let Ok(names) = stores.names() else {
+        return Status::NoMemory;
+    };
+    let form = match read_script(alloc, input, &names) {
         Ok(form) => form,
         Err(status) => return status,
     };
-    let Ok(text) = report(alloc, stores, &form) else {
-        return Status::NoMemory;
+    let text = match replay(alloc, stores, &form) {
+        Ok(text) => text,
+        Err(status) => return status,
     };
     match write_all(output, text.as_str().as_bytes()) {
         Ok(()) => Status::Done,

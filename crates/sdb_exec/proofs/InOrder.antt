@@ -18,7 +18,7 @@ use Rattle.sdb_record.specs.declared.write.Keyed.{Keyed}
 use Rattle.sdb_model.specs.declared.statement.Statement.{Statement}
 use Rattle.sdb_model.specs.declared.statement.Statement.TheVariants as statement
 use Rattle.sdb_model.specs.Exec.{Tables, row_of_entry, passes, key_of, with_sets}
-use Rattle.sdb_snapshot.specs.Rows.{in_access, rows_at}
+use Rattle.sdb_model.specs.Access.{in_access, rows_at}
 use Rattle.sdb_exec.specs.Plans.{keys_rise, row_keys, change_keys, columns_at, changes_on}
 use Rattle.sdb_exec.proofs.Laid.{keyed}
 use Rattle.sdb_exec.proofs.Local.{ordered}

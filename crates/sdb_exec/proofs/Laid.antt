@@ -17,7 +17,7 @@ use Rattle.sdb_record.specs.declared.write.Keyed.{Keyed}
 use Rattle.sdb_record.specs.declared.access.Image.{Image}
 use Rattle.sdb_model.specs.Exec.{Tables, row_of_entry, entry_of_row}
 use Rattle.sdb_record.specs.Rolls.{row_of_change}
-use Rattle.sdb_snapshot.specs.Rows.{with_row, with_changes}
+use Rattle.sdb_model.specs.Access.{with_row, with_changes}
 
 pub true_from_T : (b : Bool) → T b → b ≡ true
 true_from_T true h = refl

@@ -20,7 +20,7 @@ use Rattle.sdb_model.specs.declared.answer.Answer.TheVariants as answer
 use Rattle.sdb_model.specs.Exec.{Tables, exec, all_rows, is_row_of, passes, key_of, with_named, with_sets, sorted, cut, shown}
 use Rattle.sdb_exec.specs.declared.plan.PlanStep.{PlanStep}
 use Rattle.sdb_exec.specs.declared.plan.PlanStep.TheVariants.{Read, Finished}
-use Rattle.sdb_snapshot.specs.Rows.{with_changes}
+use Rattle.sdb_model.specs.Access.{with_changes}
 use Rattle.sdb_exec.specs.Reads.{access_of}
 
 -- A plan: a statement, its table, and whether the rows were asked for.

@@ -6,7 +6,7 @@ ghost use Rattle.sdb_record.specs.declared.access.Access.{Access};
 ghost use Rattle.sdb_schema.specs.declared.table.Table.{Table};
 ghost use Rattle.sdb_schema.specs.Table.{is_table};
 ghost use Rattle.sdb_model.specs.Exec.{Tables, all_rows, named_table};
-ghost use Rattle.sdb_snapshot.specs.Rows.{in_access, rows_at};
+ghost use Rattle.sdb_model.specs.Access.{in_access, rows_at};
 ghost use Rattle.sdb_exec.specs.Reads.{access_of};
 ghost use Rattle.sdb_model.specs.declared.statement.Statement.{Statement};
 ghost use Rattle.sdb_record.specs.declared.access.Image.{Image};

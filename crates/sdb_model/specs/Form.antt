@@ -7,6 +7,7 @@ use Rattle.sdb_schema.specs.declared.table.Kind.TheVariants as kind
 use Rattle.sdb_schema.specs.declared.table.Column.{Column}
 use Rattle.sdb_schema.specs.declared.table.Table.{Table}
 use Rattle.sdb_model.specs.declared.script.Move.TheVariants as move
+use Rattle.sdb_model.specs.declared.script.Place.{Place}
 use Rattle.sdb_model.specs.declared.script.ScriptClient.{ScriptClient}
 use Rattle.sdb_model.specs.declared.script.Script.{Script}
 use Rattle.sdb_model.specs.declared.statement.Insert.{Insert}
@@ -70,3 +71,7 @@ form_script name ss = client_script (record { name = name; statements = map stat
 -- a client's name: an identifier of at most 64 bytes
 abbrev pub is_client_name : List ℕ → Bool
 is_client_name name = nat_le (length name) 64 && is_identifier name
+
+-- a script with these places
+abbrev pub placed_script : Script → List Place → Script
+placed_script script places = record { places = places; catalog = script.catalog; clients = script.clients; moves = script.moves }

@@ -11,3 +11,4 @@ pub mod Told
 pub mod Form
 pub mod SqlTokens
 pub mod Sql
+pub mod Access

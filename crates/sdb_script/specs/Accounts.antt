@@ -1,7 +1,9 @@
--- The form of the scripts that can be played so far, as a grammar over the whole text: one client, whose transactions insert
--- and select single accounts.
-use Rattle.std.specs.Prelude.{◌≡◌, ◌⊎◌, ℕ, ◌+◌, ◌≤◌, ◌<◌, ◌==◌, ℤ, Bool, true, false, ◌&&◌, List, [], ◌∷◌, ◌++◌, map, codes, Some, None, length, take, count_by}
+-- The form of the scripts that can be played so far, as a grammar over the whole text: places of namespaces, and one client,
+-- whose transactions insert and select single accounts.
+use Rattle.std.specs.Prelude.{◌≡◌, ◌≢◌, ◌⊎◌, ℕ, ◌+◌, ◌≤◌, ◌<◌, ◌==◌, nat_le, ℤ, Bool, true, false, ◌&&◌, List, [], ◌∷◌, ◌++◌, map, codes, Some, None, length, take, count_by, All, AllPairs, Contains}
+use Rattle.sdb_types.specs.Identifier.{is_identifier}
 use Rattle.sdb_types.specs.declared.value.Value.TheVariants as value
+use Rattle.sdb_model.specs.declared.script.Place.{Place}
 use Rattle.sdb_model.specs.declared.script.Script.{Script}
 use Rattle.sdb_model.specs.declared.statement.Comparison.TheVariants.{Eq}
 use Rattle.sdb_model.specs.declared.statement.Test.TheVariants.{Compare}
@@ -9,7 +11,7 @@ use Rattle.sdb_model.specs.declared.statement.Statement.{Statement}
 use Rattle.sdb_model.specs.declared.statement.Statement.TheVariants as statement
 use Rattle.sdb_model.specs.Reading.{statement_text_of}
 use Rattle.sdb_model.specs.Rows.{fits_int}
-use Rattle.sdb_model.specs.Form.{lines_of, account_name, insert_of, form_lines, form_script, is_client_name}
+use Rattle.sdb_model.specs.Form.{lines_of, account_name, insert_of, form_lines, form_script, placed_script, is_client_name}
 use Rattle.std.specs.List.{list_all}
 use Rattle.sdb_script.specs.declared.account.AccountStatement.{AccountStatement}
 use Rattle.sdb_script.specs.declared.drawing.AccountForm.{AccountForm}
@@ -50,60 +52,85 @@ AreTransactions inside [] = Unit {0}
 AreTransactions false (s ∷ ss) = (s ≡ statement.Begin) × AreTransactions true ss
 AreTransactions true (s ∷ ss) = ((s ≡ statement.Commit) × AreTransactions false ss) ⊎ (IsInside s × AreTransactions true ss)
 
+---- places
+
+-- `place NS STORE`
+abbrev pub place_line : Place → List ℕ
+place_line p = codes "place " ++ p.ns ++ codes " " ++ p.store
+
+-- what may name a namespace: an identifier of at most 64 bytes
+abbrev pub is_namespace : List ℕ → Bool
+is_namespace ns = nat_le (length ns) 64 && is_identifier ns
+
+-- Places that a script may have over these attached stores.
+pub record ArePlaces (stores : List (List ℕ)) (places : List Place) : Type 0 where
+  -- each namespace is a name
+  pub named : All (λ p. is_namespace p.ns ≡ true) places
+  -- none is the one that holds the catalog
+  pub free : All (λ p. p.ns ≢ codes "scalardb") places
+  -- no two places have one namespace
+  pub once : AllPairs (λ p q. p.ns ≢ q.ns) places
+  -- each store is attached
+  pub attached : All (λ p. Contains stores p.store) places
+
 ---- the form
 
--- lines of this form, with the script that they say: the schema of `bank.account`, one client with its statements, `run`, and
--- the one move `rest`
-pub record IsAccountForm (lines : List (List ℕ)) (script : Script) : Type 0 where
+-- lines of this form over the attached stores, with the script that they say: places, the schema of `bank.account`, one
+-- client with its statements, `run`, and the one move `rest`
+pub record IsAccountForm (stores : List (List ℕ)) (lines : List (List ℕ)) (script : Script) : Type 0 where
+  pub places : List Place
   pub name : List ℕ
   pub statements : List Statement
+  pub placed : ArePlaces stores places
   pub named : is_client_name name ≡ true
   pub built : AreTransactions false statements
-  pub lined : lines ≡ form_lines name statements
-  pub said : script ≡ form_script name statements
+  pub lined : lines ≡ map place_line places ++ form_lines name statements
+  pub said : script ≡ placed_script (form_script name statements) places
 
 -- the number of bytes of a script that are read
 abbrev pub most_script_bytes : ℕ
 most_script_bytes = 67108864
 
 -- A text is that of a script: it has at most so many bytes, and its lines are of the form.
-abbrev pub IsAccountScript : List ℕ → Script → Type 0
-IsAccountScript text script = (length text ≤ most_script_bytes) × IsAccountForm (lines_of text) script
+abbrev pub IsAccountScript : List (List ℕ) → List ℕ → Script → Type 0
+IsAccountScript stores text script = (length text ≤ most_script_bytes) × IsAccountForm stores (lines_of text) script
 
 ---- the first line that is not of the form
 
 -- Lines begin a script of the form.
-pub record BeginsAccountForm (lines : List (List ℕ)) : Type 0 where
+pub record BeginsAccountForm (stores : List (List ℕ)) (lines : List (List ℕ)) : Type 0 where
   pub more : List (List ℕ)
   pub script : Script
-  pub form : IsAccountForm (lines ++ more) script
+  pub form : IsAccountForm stores (lines ++ more) script
 
 -- Behind these lines the next is bad: with it they begin no script; where there is none, they are not yet a script.
-abbrev pub IsBadNextLine : List (List ℕ) → List (List ℕ) → Type 0
-IsBadNextLine front [] = (script : Script) → ¬ IsAccountForm front script
-IsBadNextLine front (line ∷ rest) = ¬ BeginsAccountForm (front ++ line ∷ [])
+abbrev pub IsBadNextLine : List (List ℕ) → List (List ℕ) → List (List ℕ) → Type 0
+IsBadNextLine stores front [] = (script : Script) → ¬ IsAccountForm stores front script
+IsBadNextLine stores front (line ∷ rest) = ¬ BeginsAccountForm stores (front ++ line ∷ [])
 
 -- The first line that is not of the form: the lines before it begin a script, and with it they don't; or all lines begin
 -- one, which they don't end, and it is the line after the last.
-pub record IsFirstBadLine (lines : List (List ℕ)) (n : ℕ) : Type 0 where
+pub record IsFirstBadLine (stores : List (List ℕ)) (lines : List (List ℕ)) (n : ℕ) : Type 0 where
   pub front : List (List ℕ)
   pub rest : List (List ℕ)
   pub split : lines ≡ front ++ rest
-  pub before : BeginsAccountForm front
+  pub before : BeginsAccountForm stores front
   pub number : n ≡ length front + 1
-  pub here : IsBadNextLine front rest
+  pub here : IsBadNextLine stores front rest
 
 -- A text isn't played because of its line n: the line that holds the first byte past the limit, or the first line that is
 -- not of the form.
-abbrev pub IsNotPlayed : List ℕ → ℕ → Type 0
-IsNotPlayed text n =
+abbrev pub IsNotPlayed : List (List ℕ) → List ℕ → ℕ → Type 0
+IsNotPlayed stores text n =
     ((most_script_bytes < length text) × (n ≡ count_by (λ b. b == 10) (take most_script_bytes text) + 1))
-    ⊎ ((length text ≤ most_script_bytes) × IsFirstBadLine (lines_of text) n)
+    ⊎ ((length text ≤ most_script_bytes) × IsFirstBadLine stores (lines_of text) n)
 
 ---- what is read
 
--- The client's statements and their texts: each has numbers in the range of INT, and they are transactions.
-pub record IsFormOf (form : AccountForm) : Type 0 where
+-- What is known of the places, and of the client's statements and their texts: each has numbers in the range of INT, and they
+-- are transactions.
+pub record IsFormOf (stores : List (List ℕ)) (form : AccountForm) : Type 0 where
+  pub placed : ArePlaces stores form.places
   pub fit : list_all fits_account form.statements ≡ true
   pub texts : form.client.statements ≡ map account_text form.statements
   pub built : AreTransactions false (map statement_of form.statements)

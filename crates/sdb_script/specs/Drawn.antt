@@ -1,25 +1,28 @@
 -- A script of account transactions that is being read, line by line.
 use Rattle.std.specs.Prelude.{ℕ, ◌+◌, ℤ, Bool, true, false, ◌&&◌, if◌then◌else◌, List, [], ◌∷◌, ◌++◌, codes, Option, Some, None, Result, Ok, Err}
+use Rattle.std.specs.List.{list_any}
 use Rattle.std.specs.Option.{option_map, option_and_then}
 use Rattle.std.specs.Str.{bytes_eq}
+use Rattle.sdb_model.specs.declared.script.Place.{Place}
 use Rattle.sdb_model.specs.Form.{schema_line}
 use Rattle.sdb_script.specs.declared.account.AccountStatement.{AccountStatement}
 use Rattle.sdb_script.specs.declared.account.AccountStatement.TheVariants as account
 use Rattle.sdb_script.specs.declared.drawing.Section.{Section}
 use Rattle.sdb_script.specs.declared.drawing.Section.TheVariants as section
 use Rattle.sdb_script.specs.Scan.{after, number_at}
-use Rattle.sdb_script.specs.Pieces.{client_in, numbers_in}
+use Rattle.sdb_script.specs.Pieces.{client_in, place_in, numbers_in}
 use Rattle.sdb_script.specs.Accounts.{fits_account, account_text}
 
--- What was read so far: what may come next, the client's name, and its statements with their texts.
+-- What was read so far: what may come next, the places, the client's name, and its statements with their texts.
 pub record Drawn : Type 0 where
   pub section : Section
+  pub places : List Place
   pub name : Option (List ℕ)
   pub texts : List (List ℕ)
   pub statements : List AccountStatement
 
 abbrev pub nothing_drawn : Drawn
-nothing_drawn = record { section = section.Schema; name = None; texts = []; statements = [] }
+nothing_drawn = record { section = section.Schema; places = []; name = None; texts = []; statements = [] }
 
 ---- the statement of a line
 
@@ -75,10 +78,10 @@ abbrev pub to_section : Drawn → Section → Drawn
 to_section d s = record d { section = s }
 
 abbrev pub named : Drawn → List ℕ → Drawn
-named d name = record { section = section.Outside; name = Some name; texts = d.texts; statements = d.statements }
+named d name = record { section = section.Outside; places = d.places; name = Some name; texts = d.texts; statements = d.statements }
 
 abbrev pub with_statement : Drawn → AccountStatement → Bool → Drawn
-with_statement d a inside = record { section = section_of inside; name = d.name; texts = d.texts ++ account_text a ∷ []; statements = d.statements ++ a ∷ [] }
+with_statement d a inside = record { section = section_of inside; places = d.places; name = d.name; texts = d.texts ++ account_text a ∷ []; statements = d.statements ++ a ∷ [] }
 
 abbrev pub if_wanted : List ℕ → List ℕ → Drawn → Option Drawn
 if_wanted line wanted d = if bytes_eq line wanted then Some d else None
@@ -89,23 +92,34 @@ told_by inside d line = option_and_then (λ a. option_map (with_statement d a) (
 abbrev pub drawn_among : Bool → Drawn → List ℕ → Option Drawn
 drawn_among inside d line = if bytes_eq line (codes "run") then Some (to_section d section.Rest) else told_by inside d line
 
-abbrev pub drawn_at : Section → Drawn → List ℕ → Option Drawn
-drawn_at section.Schema d line = if_wanted line schema_line (to_section d section.Client)
-drawn_at section.Client d line = option_map (named d) (client_in line)
-drawn_at section.Outside d line = drawn_among false d line
-drawn_at section.Inside d line = drawn_among true d line
-drawn_at section.Rest d line = if_wanted line (codes "rest") (to_section d section.End)
-drawn_at section.End d line = None
+-- whether the namespace was placed before
+abbrev pub is_placed : List Place → List ℕ → Bool
+is_placed places ns = list_any (λ p. bytes_eq p.ns ns) places
+
+abbrev pub with_place : Drawn → Place → Option Drawn
+with_place d p = if is_placed d.places p.ns then None else Some (record d { places = d.places ++ p ∷ [] })
+
+-- the schema, or a place
+abbrev pub drawn_first : List (List ℕ) → Drawn → List ℕ → Option Drawn
+drawn_first stores d line = if bytes_eq line schema_line then Some (to_section d section.Client) else option_and_then (with_place d) (place_in stores line)
+
+abbrev pub drawn_at : List (List ℕ) → Section → Drawn → List ℕ → Option Drawn
+drawn_at stores section.Schema d line = drawn_first stores d line
+drawn_at stores section.Client d line = option_map (named d) (client_in line)
+drawn_at stores section.Outside d line = drawn_among false d line
+drawn_at stores section.Inside d line = drawn_among true d line
+drawn_at stores section.Rest d line = if_wanted line (codes "rest") (to_section d section.End)
+drawn_at stores section.End d line = None
 
 -- what was read with one line more, where that line may come next
-abbrev pub drawn : Drawn → List ℕ → Option Drawn
-drawn d line = drawn_at d.section d line
+abbrev pub drawn : List (List ℕ) → Drawn → List ℕ → Option Drawn
+drawn stores d line = drawn_at stores d.section d line
 
 abbrev pub drawn_next : ℕ → Option Drawn → (Drawn → Result Drawn ℕ) → Result Drawn ℕ
 drawn_next number (Some d) goes = goes d
 drawn_next number None goes = Err number
 
 -- what was read of all lines, or the number of the first that may not come
-abbrev pub drawn_from : ℕ → Drawn → List (List ℕ) → Result Drawn ℕ
-drawn_from number d [] = Ok d
-drawn_from number d (l ∷ ls) = drawn_next number (drawn d l) (λ e. drawn_from (number + 1) e ls)
+abbrev pub drawn_from : List (List ℕ) → ℕ → Drawn → List (List ℕ) → Result Drawn ℕ
+drawn_from stores number d [] = Ok d
+drawn_from stores number d (l ∷ ls) = drawn_next number (drawn stores d l) (λ e. drawn_from stores (number + 1) e ls)

@@ -1,6 +1,6 @@
 //! Reading scripts of account transactions, the form that can be played so far.
 ghost use Rattle.std.specs.Prelude.{◌≡◌, ◌+◌, ◌<◌, ◌==◌, take, count_by, ℕ, List, Ok, Err, IfOk, IsErrOf, length};
-ghost use Rattle.sdb_model.specs.Form.{lines_of, client_script};
+ghost use Rattle.sdb_model.specs.Form.{lines_of, client_script, placed_script};
 ghost use Rattle.sdb_model.specs.declared.script.Script.{Script};
 ghost use Rattle.sdb_script.specs.Accounts.{IsAccountScript, IsNotPlayed, IsFormOf, most_script_bytes};
 ghost use Rattle.sdb_script.specs.Drawn.{nothing_drawn, drawn_from};
@@ -9,7 +9,7 @@ ghost use Rattle.sdb_script.specs.declared.accounts.FormRefused.TheVariants.{NoM
 use crate::drawing::{AccountForm, Drawing};
 use crate::line::LineRefused;
 use crate::lines::{first_line, lf_count};
-use sdb_types::NoMemory;
+use sdb_types::{Names, NoMemory};
 use std::alloc::Global;
 
 /// Why a text isn't played.
@@ -32,16 +32,16 @@ impl From<NoMemory> for FormRefused {
 pub const MOST_SCRIPT_BYTES: usize = 67_108_864;
 
 // What all lines say, and the number of the line after the last.
-fn read_lines(alloc: Global, bytes: &[u8]) -> Result<(Drawing, u64), FormRefused>
-    ensures ok { IfOk result (λ d. (drawn_from 1 nothing_drawn (lines_of bytes.now) ≡ Ok d.0) × (d.1 ≡ length (lines_of bytes.now) + 1)) }
-    ensures bad { (n : ℕ) → IsErrOf result (FormRefused.NotBuilt n) → drawn_from 1 nothing_drawn (lines_of bytes.now) ≡ Err n }
+fn read_lines(alloc: Global, bytes: &[u8], stores: &Names) -> Result<(Drawing, u64), FormRefused>
+    ensures ok { IfOk result (λ d. (drawn_from stores.now 1 nothing_drawn (lines_of bytes.now) ≡ Ok d.0) × (d.1 ≡ length (lines_of bytes.now) + 1)) }
+    ensures bad { (n : ℕ) → IsErrOf result (FormRefused.NotBuilt n) → drawn_from stores.now 1 nothing_drawn (lines_of bytes.now) ≡ Err n }
 {
     let mut drawing = Drawing::new(alloc);
     let mut rest = bytes;
     let mut number: u64 = 1;
     while !rest.is_empty() {
         let (line, behind) = first_line(rest);
-        match drawing.take(alloc, line) {
+        match drawing.take(alloc, line, stores) {
             Ok(()) => {}
             Err(LineRefused::Bad) => return Err(FormRefused::NotBuilt(number)),
             Err(LineRefused::NoMemory) => return Err(FormRefused::NoMemory),
@@ -52,21 +52,28 @@ fn read_lines(alloc: Global, bytes: &[u8]) -> Result<(Drawing, u64), FormRefused
     Ok((drawing, number))
 }
 
-/// The script that a text says, where it is of the form that can be played so far.
+/// The script that a text says, where it is of the form that can be played so far over the attached stores, of which the
+/// names are given.
 ///
-/// The text has at most 67,108,864 bytes. Its lines are the schema of `bank.account`, one `client` line, the client's
-/// statements, `run` and `rest`. The statements are transactions: BEGIN, any number of INSERTs and SELECTs of single
-/// accounts whose numbers fit an INT, and COMMIT, which may be missing in the last. Takes time and memory linear in the
-/// text's length.
-pub fn read_account_script(alloc: Global, bytes: &[u8]) -> Result<AccountForm, FormRefused>
-    ensures ok { IfOk result (λ form. IsAccountScript bytes.now (client_script form.client)) }
-    ensures statements { IfOk result IsFormOf }
-    ensures not_built { (n : ℕ) → IsErrOf result (FormRefused.NotBuilt n) → IsNotPlayed bytes.now n }
+/// The text has at most 67,108,864 bytes. Its lines are any number of `place` lines, the schema of `bank.account`, one
+/// `client` line, the client's statements, `run` and `rest`. A `place` line names a namespace, which isn't `scalardb` and
+/// was not placed before, and an attached store. The statements are transactions: BEGIN, any number of INSERTs and SELECTs
+/// of single accounts whose numbers fit an INT, and COMMIT, which may be missing in the last. Takes memory linear in the
+/// text's length, and time linear in it but for the places, of which each is compared with those before it and with the
+/// stores.
+pub fn read_account_script(
+    alloc: Global,
+    bytes: &[u8],
+    stores: &Names,
+) -> Result<AccountForm, FormRefused>
+    ensures ok { IfOk result (λ form. IsAccountScript stores.now bytes.now (placed_script (client_script form.client) form.places)) }
+    ensures statements { IfOk result (IsFormOf stores.now) }
+    ensures not_built { (n : ℕ) → IsErrOf result (FormRefused.NotBuilt n) → IsNotPlayed stores.now bytes.now n }
 {
     if bytes.len() > MOST_SCRIPT_BYTES {
         return Err(FormRefused::NotBuilt(last_line(bytes)));
     }
-    match read_lines(alloc, bytes) {
+    match read_lines(alloc, bytes, stores) {
         Ok((drawing, number)) => match drawing.finish() {
             Some(form) => Ok(form),
             None => Err(FormRefused::NotBuilt(number)),
@@ -86,6 +93,6 @@ fn last_line(bytes: &[u8]) -> u64
 
 /// A text is a script's, or isn't because of one of its lines, and not both.
 pub fn account_script_is_exact()
-    ensures apart { (text : List ℕ) (script : Script) (n : ℕ) → IsAccountScript text script → ¬ IsNotPlayed text n }
-    ensures one { (text : List ℕ) (n m : ℕ) → IsNotPlayed text n → IsNotPlayed text m → n ≡ m }
+    ensures apart { (stores : List (List ℕ)) (text : List ℕ) (script : Script) (n : ℕ) → IsAccountScript stores text script → ¬ IsNotPlayed stores text n }
+    ensures one { (stores : List (List ℕ)) (text : List ℕ) (n m : ℕ) → IsNotPlayed stores text n → IsNotPlayed stores text m → n ≡ m }
 {}

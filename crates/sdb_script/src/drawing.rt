@@ -1,20 +1,23 @@
 //! A script of account transactions that is being read, line by line.
 ghost use Rattle.std.specs.Prelude.{◌≡◌, ◌++◌, ◌∷◌, [], Some, None, IfSome, IfNone, IsSome, true, false, OnOk, IfOk, IsErrOf, codes};
+ghost use Rattle.std.specs.Option.{option_and_then, option_map};
 ghost use Rattle.std.specs.Str.{bytes_eq};
 ghost use Rattle.sdb_model.specs.declared.script.ScriptClient.{ScriptClient};
-ghost use Rattle.sdb_script.specs.Pieces.{client_in};
-ghost use Rattle.sdb_script.specs.Drawn.{Drawn, nothing_drawn, drawn, drawn_among, told_by, if_wanted, to_section, with_statement, inside_after as inside_after_lem, section_of as section_of_lem};
+ghost use Rattle.sdb_script.specs.Pieces.{client_in, place_in};
+ghost use Rattle.sdb_script.specs.Drawn.{Drawn, nothing_drawn, drawn, drawn_first, drawn_among, told_by, if_wanted, named, to_section, with_place, with_statement, inside_after as inside_after_lem, section_of as section_of_lem};
 
 use crate::account::{AccountStatement, AccountStatements, account_in, account_text};
 use crate::line::{LineRefused, client_in, is_line};
-use sdb_model::{ScriptClient, Texts};
-use sdb_types::{Name, NoMemory};
+use crate::places::{is_placed, place_in};
+use sdb_model::{Places, ScriptClient, Texts};
+use sdb_types::{Name, Names, NoMemory};
 use std::alloc::Global;
 use std::marker::Model;
 
 /// What line may come next.
 #[derive(Clone, Copy, Debug, PartialEq, Eq)]
 pub enum Section {
+    /// A place, or the schema.
     Schema,
     Client,
     /// A statement outside of a transaction, or `run`.
@@ -28,6 +31,8 @@ pub enum Section {
 /// A script of one client whose transactions insert and select accounts.
 #[derive(Debug, Drop)]
 pub struct AccountForm {
+    /// Where namespaces are kept, in the order of their lines.
+    pub places: Places,
     /// The client, with the texts of its statements.
     pub client: ScriptClient,
     /// Its statements.
@@ -38,6 +43,7 @@ pub struct AccountForm {
 #[derive(Drop)]
 pub struct Drawing {
     section: Section,
+    places: Places,
     name: Option<Name>,
     texts: Texts,
     statements: AccountStatements,
@@ -48,7 +54,7 @@ impl Model for Drawing {
 
     ghost Value = { Drawn };
 
-    ghost view = { λ d. record { section = d.section; name = d.name; texts = d.texts; statements = d.statements } };
+    ghost view = { λ d. record { section = d.section; places = d.places; name = d.name; texts = d.texts; statements = d.statements } };
 }
 
 // Whether one is inside of a transaction behind a statement, where it may come there.
@@ -81,6 +87,7 @@ impl Drawing {
     {
         Drawing {
             section: Section::Schema,
+            places: Places::new(alloc),
             name: None,
             texts: Texts::new(alloc),
             statements: AccountStatements::new(alloc),
@@ -99,11 +106,38 @@ impl Drawing {
         Ok(())
     }
 
+    // Takes a place.
+    fn take_place(&mut self, alloc: Global, line: &[u8], stores: &Names) -> Result<(), LineRefused>
+        ensures ok { OnOk result (option_and_then (with_place self.old) (place_in stores.now line.now) ≡ Some self.new) }
+        ensures bad { IsErrOf result LineRefused.Bad → option_and_then (with_place self.old) (place_in stores.now line.now) ≡ None }
+    {
+        let place = place_in(alloc, line, stores)?;
+        if is_placed(&self.places, &place.ns) {
+            return Err(LineRefused::Bad);
+        }
+        self.places.push(place)?;
+        Ok(())
+    }
+
+    // Takes the schema or a place.
+    fn take_first(&mut self, alloc: Global, line: &[u8], stores: &Names) -> Result<(), LineRefused>
+        ensures ok { OnOk result (drawn_first stores.now self.old line.now ≡ Some self.new) }
+        ensures bad { IsErrOf result LineRefused.Bad → drawn_first stores.now self.old line.now ≡ None }
+    {
+        if is_line(
+            line,
+            "schema {\"bank.account\":{\"partition-key\":[\"id\"],\"columns\":{\"id\":\"INT\",\"balance\":\"INT\"}}}",
+        ) {
+            self.section = Section::Client;
+            return Ok(());
+        }
+        self.take_place(alloc, line, stores)
+    }
+
     // Takes the client's name.
     fn take_client(&mut self, alloc: Global, line: &[u8]) -> Result<(), LineRefused>
-        requires { self.old.section ≡ Section.Client }
-        ensures ok { OnOk result (drawn self.old line.now ≡ Some self.new) }
-        ensures bad { IsErrOf result LineRefused.Bad → drawn self.old line.now ≡ None }
+        ensures ok { OnOk result (option_map (named self.old) (client_in line.now) ≡ Some self.new) }
+        ensures bad { IsErrOf result LineRefused.Bad → client_in line.now ≡ None }
     {
         let name = client_in(alloc, line)?;
         self.name = Some(name);
@@ -159,16 +193,12 @@ impl Drawing {
     }
 
     /// Takes one line more.
-    pub fn take(&mut self, alloc: Global, line: &[u8]) -> Result<(), LineRefused>
-        ensures ok { OnOk result (drawn self.old line.now ≡ Some self.new) }
-        ensures bad { IsErrOf result LineRefused.Bad → drawn self.old line.now ≡ None }
+    pub fn take(&mut self, alloc: Global, line: &[u8], stores: &Names) -> Result<(), LineRefused>
+        ensures ok { OnOk result (drawn stores.now self.old line.now ≡ Some self.new) }
+        ensures bad { IsErrOf result LineRefused.Bad → drawn stores.now self.old line.now ≡ None }
     {
         match self.section {
-            Section::Schema => self.go(
-                line,
-                "schema {\"bank.account\":{\"partition-key\":[\"id\"],\"columns\":{\"id\":\"INT\",\"balance\":\"INT\"}}}",
-                Section::Client,
-            ),
+            Section::Schema => self.take_first(alloc, line, stores),
             Section::Client => self.take_client(alloc, line),
             Section::Outside => self.take_among(alloc, line, false),
             Section::Inside => self.take_among(alloc, line, true),
@@ -179,11 +209,12 @@ impl Drawing {
 
     /// The script, where the last line was taken.
     pub fn finish(self) -> Option<AccountForm>
-        ensures some { IfSome result (λ form. (self.section ≡ Section.End) × (self.name ≡ Some form.client.name) × (form.client.statements ≡ self.texts) × (form.statements ≡ self.statements)) }
+        ensures some { IfSome result (λ form. (self.section ≡ Section.End) × (self.name ≡ Some form.client.name) × (form.places ≡ self.places) × (form.client.statements ≡ self.texts) × (form.statements ≡ self.statements)) }
         ensures none { IfNone result (self.section ≡ Section.End → ¬ IsSome self.name) }
     {
         match (self.section, self.name) {
             (Section::End, Some(name)) => Some(AccountForm {
+                places: self.places,
                 client: ScriptClient {
                     name,
                     statements: self.texts,

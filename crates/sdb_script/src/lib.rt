@@ -6,6 +6,7 @@ mod accounts;
 mod drawing;
 mod line;
 mod lines;
+mod places;
 mod report;
 mod scan;
 

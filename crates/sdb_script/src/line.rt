@@ -56,11 +56,11 @@ pub fn client_in(alloc: Global, line: &[u8]) -> Result<Name, LineRefused>
     let Some(rest) = after(b"client ", line) else {
         return Err(LineRefused::Bad);
     };
-    client_named(alloc, rest)
+    name_of(alloc, rest)
 }
 
-// A client's name.
-fn client_named(alloc: Global, bytes: &[u8]) -> Result<Name, LineRefused>
+/// The name of a client or of a namespace.
+pub fn name_of(alloc: Global, bytes: &[u8]) -> Result<Name, LineRefused>
     ensures ok { IfOk result (λ name. (name ≡ bytes.now) × (is_client_name_lem bytes.now ≡ true)) }
     ensures bad { IsErrOf result LineRefused.Bad → is_client_name_lem bytes.now ≡ false }
 {

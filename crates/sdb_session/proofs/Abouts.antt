@@ -16,12 +16,12 @@ use Rattle.sdb_model.specs.declared.answer.Answer.{Answer}
 use Rattle.sdb_model.specs.declared.script.Place.{Place}
 use Rattle.sdb_model.specs.declared.script.ScriptClient.{ScriptClient}
 use Rattle.sdb_model.specs.Events.{Shelf, store_of, table_asked}
-use Rattle.sdb_model.specs.Form.{account_name, client_script}
+use Rattle.sdb_model.specs.Form.{account_name, client_script, placed_script}
 use Rattle.sdb_model.specs.Told.{IsRun}
 use Rattle.sdb_script.specs.Accounts.{account_text, fits_account}
 use Rattle.sdb_script.specs.declared.account.AccountStatement.{AccountStatement}
 use Rattle.sdb_script.specs.declared.account.AccountStatement.TheVariants as account
-use Rattle.sdb_spread.specs.Spread.{is_played, IsAbout, AreAbout, AreShelved, HoldAs, moved_outcome, placed_script}
+use Rattle.sdb_spread.specs.Spread.{is_played, IsAbout, AreAbout, AreShelved, HoldAs, moved_outcome}
 use Rattle.sdb_spread.proofs.Told.{run_moved}
 use Rattle.sdb_spread.proofs.Traces.{traced}
 use Rattle.sdb_txn.specs.Commit.{Noted, write_at, only_read, prepare_of, extra_read, forward_of}
@@ -141,6 +141,10 @@ all_about : (s : Session) (ss : List AccountStatement) → Abouts s → Abouts (
 all_about s [] h = h
 all_about s (a ∷ ss) h = all_about (taken s a) ss (about_at s.current s a h h.current)
 
+-- the calls of a run are about the one table and the coordinator's
+pub about_all : (ss : List AccountStatement) → AreAbout catalog (taken_all (start empty) ss).events
+about_all ss = (all_about (start empty) ss (record { events = tt; current = tt })).events
+
 ---- the run, on any stores
 
 pub run_anywhere : (c : ScriptClient) (ss : List AccountStatement) (places : List Place) (opening : List Shelf) → c.statements ≡ map account_text ss → length c.statements < 2 ^ 64 → are_taken false ss ≡ true → list_all fits_account ss ≡ true
@@ -148,6 +152,5 @@ pub run_anywhere : (c : ScriptClient) (ss : List AccountStatement) (places : Lis
     → (closing : List Shelf) × IsRun (placed_script (client_script c) places) opening closing (moved_outcome (store_of places opening) (outcome_of (taken_all (start empty) ss).events (taken_all (start empty) ss).order (taken_all (start empty) ss).held)) × HoldAs catalog places closing (taken_all (start empty) ss).held
 run_anywhere c ss places opening texts bound built fit shelved holds =
     let run = run_from_empty c ss texts bound built fit in
-    let about = all_about (start empty) ss (record { events = tt; current = tt }) in
-    let many = traced catalog store_name empty (taken_all (start empty) ss).held (taken_all (start empty) ss).events run.moments places opening run.consistent about.events shelved holds in
+    let many = traced catalog store_name empty (taken_all (start empty) ss).held (taken_all (start empty) ss).events run.moments places opening run.consistent (about_all ss) shelved holds in
     (many.1, run_moved (client_script c) store_name empty (taken_all (start empty) ss).held (outcome_of (taken_all (start empty) ss).events (taken_all (start empty) ss).order (taken_all (start empty) ss).held) places (store_of places opening) opening many.1 many.0 refl run many.2 many.3, many.3)

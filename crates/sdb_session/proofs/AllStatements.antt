@@ -193,6 +193,18 @@ run_from_empty c ss texts bound built fit =
 abbrev client_of_texts : List AccountStatement → ScriptClient
 client_of_texts ss = record { name = []; statements = map account_text ss }
 
+settled_at : (c : ScriptClient) (opening : Contents) (d0 : Tables) (k : ℕ) (o : Option Working) (s : Session) → StandsAt c opening d0 k o s → Settled s.held
+settled_at c opening d0 k None s h = h.past.settled
+settled_at c opening d0 k (Some w) s h = h.past.settled
+
+-- each record of an account that the statements leave is a committed one
+pub settled_from_empty : (ss : List AccountStatement) → length ss < 2 ^ 64 → are_taken false ss ≡ true → list_all fits_account ss ≡ true → Settled (taken_all (start empty) ss).held
+settled_from_empty ss bound built fit =
+    let all : ss ++ [] ≡ ss = append-nil ss in
+    let size : length (map account_text ss) ≡ length ss = length-map ss account_text in
+    let r = reached_from_empty (client_of_texts ss) ss [] (ap (map account_text) (sym all)) (omega (arith, size)) (ap (are_taken false) all ∙ built) (ap (list_all fits_account) all ∙ fit) in
+    settled_at (client_of_texts ss) empty empty (length ss) (taken_all (start empty) ss).current (taken_all (start empty) ss) r.stands
+
 -- what holds before a statement that comes next
 pub record Next (ss : List AccountStatement) (a : AccountStatement) : Type 0 where
   pub ready : IsReady (taken_all (start empty) ss) a

@@ -28,7 +28,8 @@ use Rattle.sdb_record.specs.Rolls.{row_of_change}
 use Rattle.sdb_model.specs.Exec.{Tables, all_rows, row_of_entry}
 use Rattle.sdb_snapshot.specs.Noted.{Note, is_noted, base_at, has_key, AreKeysOf}
 use Rattle.sdb_snapshot.specs.Written.{write_at, with_write, with_writes, with_change_of, write_of}
-use Rattle.sdb_snapshot.specs.Rows.{in_access, rows_at, with_row, with_changes, with_own, row_found, tables_of_notes}
+use Rattle.sdb_model.specs.Access.{in_access, rows_at, with_row, with_changes}
+use Rattle.sdb_snapshot.specs.Rows.{with_own, row_found, tables_of_notes}
 use Rattle.sdb_snapshot.specs.Held.{WereRead}
 use Rattle.sdb_snapshot.specs.Seen.{Seen, tables_seen, overlay, Agrees, row_with, row_seen, images_with, images_at}
 use Rattle.sdb_snapshot.proofs.Keys.{by_test, same_is, same_exact}

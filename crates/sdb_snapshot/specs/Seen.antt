@@ -18,7 +18,8 @@ use Rattle.sdb_model.specs.Exec.{Tables}
 use Rattle.sdb_types.specs.contracts.record.SpanPartialEq.TheImpl as span_eq
 use Rattle.sdb_snapshot.specs.Noted.{Note, base_at, reads_of, with_images}
 use Rattle.sdb_snapshot.specs.Written.{write_at, with_writes}
-use Rattle.sdb_snapshot.specs.Rows.{in_access, rows_at, with_own, tables_of_notes, row_found}
+use Rattle.sdb_model.specs.Access.{in_access, rows_at}
+use Rattle.sdb_snapshot.specs.Rows.{with_own, tables_of_notes, row_found}
 
 -- The keys read, with what was found, in the order of first reading; the gets that made a call; the spans scanned, with
 -- the versions found; and the writes, one for each key, in the order of first writing.

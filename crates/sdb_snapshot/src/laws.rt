@@ -5,7 +5,8 @@ ghost use Rattle.sdb_record.specs.declared.write.Keyed.{Keyed};
 ghost use Rattle.sdb_record.specs.declared.write.Write.{Write};
 ghost use Rattle.sdb_model.specs.Exec.{Tables};
 ghost use Rattle.sdb_snapshot.specs.Noted.{Note};
-ghost use Rattle.sdb_snapshot.specs.Rows.{rows_at, with_changes, with_own};
+ghost use Rattle.sdb_model.specs.Access.{rows_at, with_changes};
+ghost use Rattle.sdb_snapshot.specs.Rows.{with_own};
 ghost use Rattle.sdb_snapshot.specs.Seen.{Agrees, Seen, overlay};
 ghost use Rattle.sdb_snapshot.specs.Written.{with_writes};
 

@@ -30,7 +30,8 @@ use Rattle.sdb_model.specs.Events.{Shelf, standing, IsTrace}
 use Rattle.sdb_model.specs.Images.{decision_at, decision_on, row_at}
 use Rattle.sdb_model.specs.Transactions.{Said, IsOrder}
 use Rattle.sdb_model.specs.Told.{AreBodies, AreRead, answers_told, commit_answer, IsTold, KeepsRealTime, IsRun}
-use Rattle.sdb_spread.specs.Spread.{one_shelf, moved_events, moved_outcome, placed_script, is_played, HoldAs}
+use Rattle.sdb_model.specs.Form.{placed_script}
+use Rattle.sdb_spread.specs.Spread.{one_shelf, moved_events, moved_outcome, is_played, HoldAs}
 use Rattle.sdb_spread.proofs.Moved.{begun_moved, body_moved, commit_moved, point_moved}
 use Rattle.sdb_spread.proofs.Followed.{follows_moved}
 

@@ -10,7 +10,6 @@ use Rattle.sdb_model.specs.declared.event.Event.{Event}
 use Rattle.sdb_model.specs.declared.event.Event.TheVariants as event
 use Rattle.sdb_model.specs.declared.event.Outcome.{Outcome}
 use Rattle.sdb_model.specs.declared.script.Place.{Place}
-use Rattle.sdb_model.specs.declared.script.Script.{Script}
 use Rattle.sdb_model.specs.Rows.{Name}
 use Rattle.sdb_model.specs.Exec.{find_table}
 use Rattle.sdb_model.specs.Events.{Shelf, held_by, store_of, standing, table_asked}
@@ -33,10 +32,6 @@ moved_events at = map (moved_event at)
 -- an outcome, with its calls so moved
 abbrev pub moved_outcome : (Name → Name) → Outcome → Outcome
 moved_outcome at o = record { events = moved_events at o.events; order = o.order; tables = o.tables }
-
--- a script with these places
-abbrev pub placed_script : Script → List Place → Script
-placed_script script places = record { places = places; catalog = script.catalog; clients = script.clients; moves = script.moves }
 
 -- the tables that a run is about: those of its catalog, and the coordinator's
 abbrev pub is_played : List Table → TableName → Bool

@@ -36,7 +36,7 @@ placed shelf xs ys name r same is =
     is ∙ ap (position (λ x. bytes_eq (shelf x).name name)) same
     ∙ sym (position-map (λ s. s.name) (λ n. bytes_eq n name) (map shelf xs) ∙ position-map shelf (λ s. bytes_eq s.name name) xs)
 
-names_of-map : {A : Type 0} (shelf : A → Shelf) (xs : List A) → names_of (map shelf xs) ≡ map (λ x. (shelf x).name) xs
+pub names_of-map : {A : Type 0} (shelf : A → Shelf) (xs : List A) → names_of (map shelf xs) ≡ map (λ x. (shelf x).name) xs
 names_of-map shelf [] = refl
 names_of-map shelf (x ∷ xs) = ap (λ ns. (shelf x).name ∷ ns) (names_of-map shelf xs)
 
@@ -106,7 +106,7 @@ called_at shelf P xs at home q r x y inside is same name told performed lawful c
     } in
     subst (λ (i : ℕ). IsCallAt i q r (map shelf xs) (map shelf (slice_set xs at y)) (λ i. IsSomeAnd (slice_get xs i) P) (λ i. IsSomeAnd (slice_get (slice_set xs at y) i) P)) same call
 
-set_same : {A : Type 0} (xs : List A) (at : ℕ) (x : A) → slice_get xs at ≡ Some x → slice_set xs at x ≡ xs
+pub set_same : {A : Type 0} (xs : List A) (at : ℕ) (x : A) → slice_get xs at ≡ Some x → slice_set xs at x ≡ xs
 set_same [] at x e = refl
 set_same (y ∷ xs) zero x e = let same : y ≡ x = cc in ap (λ z. z ∷ xs) (sym same)
 set_same (y ∷ xs) (suc at) x e = ap (λ zs. y ∷ zs) (set_same xs at x e)
@@ -146,7 +146,7 @@ caused at q (reply.NotMet found) m n call = tt
 
 ---- a store taken out
 
-map-remove : {A B : Type 0} (f : A → B) (xs : List A) (i : ℕ) → map f (remove xs i) ≡ remove (map f xs) i
+pub map-remove : {A B : Type 0} (f : A → B) (xs : List A) (i : ℕ) → map f (remove xs i) ≡ remove (map f xs) i
 map-remove f xs i = map-append f (take i xs) (drop (suc i) xs) ∙ ap (λ ys. ys ++ map f (drop (suc i) xs)) (sym (take-map f i xs)) ∙ ap (λ ys. take i (map f xs) ++ ys) (sym (drop-map f (suc i) xs))
 
 told_before : {A : Type 0} (P : A → Type 0) (xs : List A) (at i : ℕ) → i < at → IsSomeAnd (slice_get xs i) P → IsSomeAnd (slice_get (remove xs at) i) P
@@ -160,6 +160,12 @@ told_behind P [] at i most h = absurd h
 told_behind P (x ∷ xs) zero i most h = h
 told_behind P (x ∷ xs) (suc at) zero most h = absurd (omega arith)
 told_behind P (x ∷ xs) (suc at) (suc i) most h = told_behind P xs at i (omega arith) h
+
+-- a store that has a place stands among the stores
+pub found_within : {A : Type 0} (shelf : A → Shelf) (xs : List A) (name : List ℕ) (at : ℕ) → Some at ≡ place_of name (names_of (map shelf xs)) → at < length xs
+found_within shelf xs name at found =
+    let place : at < length (names_of (map shelf xs)) = (position-Some (λ n. bytes_eq n name) (names_of (map shelf xs)) at [] (sym found)).0 in
+    omega (arith, place, length-map (map shelf xs) (λ s. s.name), length-map xs shelf)
 
 pub taken_out : {A : Type 0} (shelf : A → Shelf) (P : A → Type 0) (xs ys : List A) (name : List ℕ) (at : ℕ) (x : A) → Some at ≡ place_of name (names_of (map shelf xs)) → x ≡ get_or xs at x → ys ≡ remove xs at
     → IsTakenOut name (record { name = name; contents = (shelf x).contents; faults = (shelf x).faults }) (P x) (map shelf xs) (map shelf ys) (λ i. IsSomeAnd (slice_get xs i) P) (λ i. IsSomeAnd (slice_get ys i) P)

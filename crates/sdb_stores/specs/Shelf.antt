@@ -1,5 +1,6 @@
 -- Stores by name, as their callers see them.
-use Rattle.std.specs.Prelude.{◌≡◌, ◌⊎◌, ◌<◌, ◌≤◌, ◌+◌, ◌-◌, ◌^◌, ℕ, not, List, map, filter, find, position, sum_by, Any, Option, Some, None, unwrap_or, slice_get, slice_set, remove}
+use Rattle.std.specs.Prelude.{◌≡◌, ◌≢◌, ◌⊎◌, ◌<◌, ◌≤◌, ◌+◌, ◌-◌, ◌^◌, ℕ, not, List, map, filter, find, position, sum_by, Any, Option, Some, None, unwrap_or, slice_get, slice_set, remove}
+use Rattle.std.specs.List.{AllPairs}
 use Rattle.std.specs.Option.{option_map}
 use Rattle.std.specs.Str.{bytes_eq}
 use Rattle.sdb_types.specs.declared.key.TableName.{TableName}
@@ -19,6 +20,10 @@ pub record Shelf : Type 0 where
 
 abbrev pub names_of : List Shelf → List (List ℕ)
 names_of shelves = map (λ s. s.name) shelves
+
+-- no name stands twice
+abbrev pub AreDistinct : List (List ℕ) → Type 0
+AreDistinct names = AllPairs ◌≢◌ names
 
 -- where a name stands
 abbrev pub place_of : List ℕ → List (List ℕ) → Option ℕ

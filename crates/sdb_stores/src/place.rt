@@ -59,7 +59,7 @@ pub(crate) fn leave(places: &mut Vec<Place>, store: &Name)
 }
 
 /// The table that a request is about.
-pub(crate) fn table_of(request: &Request) -> &TableName
+pub fn table_of(request: &Request) -> &TableName
     ensures { result.now ≡ table_of_lem request.now }
 {
     match request {

@@ -1,6 +1,6 @@
 //! A registry of stores.
 ghost use Rattle.std.specs.Prelude.{◌≡◌, ◌<◌, ◌≤◌, ◌↔◌, ◌++◌, ◌∷◌, [], ℕ, List, length, map, Some, None, IsSome, IfOk, OnOk, OnErr, IsErrOf, slice_get};
-ghost use Rattle.sdb_stores.specs.Shelf.{Shelf, IsCallAt, HaveCause, home, names_of, place_of, placed_on, table_of, total_faults};
+ghost use Rattle.sdb_stores.specs.Shelf.{Shelf, AreDistinct, IsCallAt, HaveCause, home, names_of, place_of, placed_on, table_of, total_faults};
 ghost use Rattle.sdb_stores.specs.declared.place.Place.{Place};
 
 use crate::place::PlaceRefused;
@@ -21,9 +21,10 @@ pub trait Registry {
     fn len(&self) -> usize
         ensures { result ≡ length (shelves self.now) };
 
-    /// The names of the stores.
+    /// The names of the stores. No two stores have the same.
     fn names(&self) -> Result<Names, NoMemory>
-        ensures { IfOk result (λ names. names ≡ names_of (shelves self.now)) };
+        ensures names { IfOk result (λ names. names ≡ names_of (shelves self.now)) }
+        ensures distinct { AreDistinct (names_of (shelves self.now)) };
 
     /// Places a namespace on a store.
     fn place(&mut self, ns: Name, store: &Name) -> Result<(), PlaceRefused>

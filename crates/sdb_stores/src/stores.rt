@@ -3,7 +3,7 @@ ghost use Rattle.std.specs.Prelude.{◌≡◌, ◌<◌, ◌≤◌, ◌↔◌, �
 ghost use Rattle.std.specs.Str.{bytes_eq};
 ghost use Rattle.sdb_types.specs.Contents.{CanAnswer};
 ghost use Rattle.sdb_store.specs.Store.{Performs, HasCause};
-ghost use Rattle.sdb_stores.specs.Shelf.{Shelf, IsCallAt, IsTakenOut, HaveCause, home, names_of, place_of, placed_on, places_without, table_of as table_of_lem, total_faults};
+ghost use Rattle.sdb_stores.specs.Shelf.{Shelf, AreDistinct, IsCallAt, IsTakenOut, HaveCause, home, names_of, place_of, placed_on, places_without, table_of as table_of_lem, total_faults};
 ghost use Rattle.sdb_stores.specs.declared.place.Place.{Place};
 
 use crate::place::{Place, PlaceRefused, find_store, leave, table_of};
@@ -30,6 +30,7 @@ struct Slot {
 pub struct Stores {
     slots: Vec<Slot>,
     places: Vec<Place>,
+    ghost distinct: { AreDistinct (map (λ slot. slot.name) slots.items) },
 }
 
 // What a slot shows.

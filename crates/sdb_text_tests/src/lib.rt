@@ -8,4 +8,6 @@ mod printed;
 #[cfg(test)]
 mod reports;
 #[cfg(test)]
+mod scripts;
+#[cfg(test)]
 mod tokens;

@@ -214,3 +214,12 @@ put_note notes later key found bases unread base put =
 
 abbrev pub working_of : TxId → Stage → List Noted → List Write → List Request → Working
 working_of id s ns ws left = record { id = id; stage = s; reads = ns; writes = ws; left = left }
+
+---- what a reply is wished to be
+
+-- whether nothing was found tells whether there was nothing
+pub none_tells : {A : Type 0} (o : Option A) (b : Bool) → is_some o ≡ not b → (b ≡ true → o ≡ None) × (o ≡ None → b ≡ true)
+none_tells None true is = (λ t. refl, λ e. refl)
+none_tells None false is = (λ t. refl, λ e. absurd (let f : false ≡ true = is in cc))
+none_tells (Some x) true is = (λ t. absurd (let f : true ≡ false = is in cc), λ e. refl)
+none_tells (Some x) false is = (λ t. absurd (let f : false ≡ true = t in cc), λ e. absurd (some_none x e))

@@ -7,4 +7,4 @@ mod txn;
 
 pub use requests::Requests;
 pub use row::row_of;
-pub use txn::{Progress, Stage, Txn};
+pub use txn::{Progress, Stage, Txn, is_committed};

@@ -1,17 +1,19 @@
 //! A transaction, step by step: what it asks of the stores, and what becomes of the replies.
-ghost use Rattle.std.specs.Prelude.{◌≡◌, ◌≢◌, ◌+◌, ◌*◌, ◌<◌, ◌⊎◌, [], ◌∷◌, length, drop, true, false, OnOk, OnErr, IfOk, IfSome, Some, None, Option};
+ghost use Rattle.std.specs.Prelude.{◌≡◌, ◌≢◌, ◌+◌, ◌*◌, ◌<◌, ◌⊎◌, ◌↔◌, ◌&&◌, [], ◌∷◌, length, drop, true, false, OnOk, OnErr, IfOk, IfSome, Some, None, Option};
 ghost use Rattle.std.specs.Option.{option_copied};
 ghost use Rattle.std.specs.List.{slice_get};
 ghost use Rattle.sdb_record.specs.Rolls.{is_change, IsWrite, IsBaseOf};
 ghost use Rattle.sdb_txn.specs.Commit.{commit_requests, only_read, write_at};
 ghost use Rattle.sdb_types.specs.declared.record.Request.TheVariants.{Get};
-ghost use Rattle.sdb_txn.specs.Txn.{is_get, tail_of, images_with as images_of, row_with, images_found, noted_by, at_commit, gone_on, found_in as found_in_lem};
+ghost use Rattle.sdb_record.specs.Meta.{is_taken, is_in};
+ghost use Rattle.sdb_types.specs.declared.record.State.TheVariants.{Committed};
+ghost use Rattle.sdb_txn.specs.Txn.{IsGot, is_get, tail_of, images_with as images_of, row_with, images_found, noted_by, at_commit, gone_on, found_in as found_in_lem};
 ghost use Rattle.sdb_txn.specs.Txn.{Working, begun, is_known, images_known, got, got_after, base_at, noted, written, asking, found_at, IsWished, is_calling, progress_of, advanced};
 
 use crate::requests::{Drafts, Notes, Requests, commit_asks};
 use crate::row::{images_with, row_of_change, row_of_found};
-use sdb_record::{Images, Keyed, Write};
-use sdb_types::{Columns, Duplicate, Key, NoMemory, Record, Reply, Request, TxId};
+use sdb_record::{Images, Keyed, Write, meta_of};
+use sdb_types::{Columns, Duplicate, Key, NoMemory, Record, Reply, Request, TxId, same};
 use std::alloc::Global;
 use std::marker::Model;
 
@@ -203,6 +205,57 @@ impl Txn {
         }
     }
 
+    // Whether a key was read.
+    fn has_read(&self, key: &Key) -> bool
+        ensures { result ≡ is_known self.now key.now }
+    {
+        self.notes.get(key).is_some()
+    }
+
+    // Whether this is what was found at a key.
+    fn is_noted(&self, key: &Key, found: &Option<Record>) -> bool
+        ensures { (result ≡ true) ↔ (found.now ≡ base_at self.now.reads key.now) }
+    {
+        match self.notes.get(key) {
+            Some(noted) => same(found, noted),
+            None => found.is_none(),
+        }
+    }
+
+    // Whether a read wishes for a reply: its key was not read, and the record that was found, if one was, is committed.
+    fn reads(&self, alloc: Global, key: &Key, reply: &Reply) -> bool
+        ensures { (result ≡ true) ↔ IsGot Stage.Reading self.now.reads key.now reply.now }
+    {
+        match reply {
+            Reply::Found(found) => !self.has_read(key) && is_readable(alloc, key, found),
+            _ => false,
+        }
+    }
+
+    // Whether an extra read found what was read.
+    fn reads_again(&self, key: &Key, reply: &Reply) -> bool
+        ensures { (result ≡ true) ↔ (reply.now ≡ Reply.Found (base_at self.now.reads key.now)) }
+    {
+        match reply {
+            Reply::Found(found) => self.is_noted(key, found),
+            _ => false,
+        }
+    }
+
+    /// Whether the reply to the pending call is one that lets the transaction go on.
+    pub fn wishes(&self, alloc: Global, reply: &Reply) -> bool
+        requires { is_calling self.now.stage ≡ true }
+        ensures { (result ≡ true) ↔ IsWished self.now reply.now }
+    {
+        match (self.pending(), self.stage) {
+            (Some(Request::Get(key)), Stage::Reading) => self.reads(alloc, key, reply),
+            (Some(Request::Get(key)), _) => self.reads_again(key, reply),
+            (Some(Request::PutIf(_, _)), Stage::Committing) => is_applied(reply),
+            (Some(Request::DeleteIf(_, _)), Stage::Committing) => is_applied(reply),
+            _ => false,
+        }
+    }
+
     // The key of the read that is pending.
     fn asked_key(&self) -> Result<Key, NoMemory>
         requires { is_get self.now.left ≡ true }
@@ -280,6 +333,42 @@ impl Txn {
             Stage::Committing => self.go_on(),
             Stage::Open | Stage::Ended => unreachable!(),
         }
+    }
+}
+
+/// Whether a record is a committed one that passes the checks.
+pub fn is_committed(alloc: Global, rec: &Record) -> bool
+    ensures { result ≡ (is_taken rec.now && is_in Committed rec.now.columns) }
+{
+    match meta_of(alloc, rec) {
+        Ok(meta) => meta.is_committed(),
+        Err(_) => false,
+    }
+}
+
+// Whether a record is a committed one of a key.
+fn is_base(alloc: Global, key: &Key, rec: &Record) -> bool
+    ensures { (result ≡ true) ↔ IsBaseOf key.now rec.now }
+{
+    same(&rec.key, key) && is_committed(alloc, rec)
+}
+
+// Whether what was found at a key is no record, or a committed one.
+fn is_readable(alloc: Global, key: &Key, found: &Option<Record>) -> bool
+    ensures { (result ≡ true) ↔ IfSome found.now (IsBaseOf key.now) }
+{
+    match found {
+        Some(rec) => is_base(alloc, key, rec),
+        None => true,
+    }
+}
+
+fn is_applied(reply: &Reply) -> bool
+    ensures { (result ≡ true) ↔ (reply.now ≡ Reply.Applied) }
+{
+    match reply {
+        Reply::Applied => true,
+        _ => false,
     }
 }
 

@@ -11,24 +11,24 @@ returns-in-Some-clause-ok c =
     let read = c.in-Ok.ensures in
     let ended = c.in-Some.ensures in
     let small : length c.args.bytes.now ≤ most_script_bytes = omega arith in
-    (small, (whole (lines_of c.args.bytes.now) c.in-Ok.drawing c.in-Some.form read.ok.0 ended.some.0 ended.some.1 ended.some.2 ended.some.3).0)
+    (small, (whole c.args.stores.now (lines_of c.args.bytes.now) c.in-Ok.drawing c.in-Some.form read.ok.0 ended.some.0 ended.some.1 ended.some.2 ended.some.3 ended.some.4).0)
 
 pub returns-in-Some-clause-statements : goal.returns-in-Some-clause-statements
 returns-in-Some-clause-statements c =
     let read = c.in-Ok.ensures in
     let ended = c.in-Some.ensures in
-    (whole (lines_of c.args.bytes.now) c.in-Ok.drawing c.in-Some.form read.ok.0 ended.some.0 ended.some.1 ended.some.2 ended.some.3).1
+    (whole c.args.stores.now (lines_of c.args.bytes.now) c.in-Ok.drawing c.in-Some.form read.ok.0 ended.some.0 ended.some.1 ended.some.2 ended.some.3 ended.some.4).1
 
 pub returns-in-None-clause-not_built : goal.returns-in-None-clause-not_built
 returns-in-None-clause-not_built c = λ n is.
     let read = c.in-Ok.ensures in
     let small : length c.args.bytes.now ≤ most_script_bytes = omega arith in
     let same : c.in-Ok.number ≡ n = cc in
-    inr (small, ends_early (lines_of c.args.bytes.now) c.in-Ok.drawing n read.ok.0 c.in-None.ensures.none (sym same ∙ read.ok.1))
+    inr (small, ends_early c.args.stores.now (lines_of c.args.bytes.now) c.in-Ok.drawing n read.ok.0 c.in-None.ensures.none (sym same ∙ read.ok.1))
 
 pub returns-in-Err-clause-not_built : goal.returns-in-Err-clause-not_built
 returns-in-Err-clause-not_built c = λ n is.
     let small : length c.args.bytes.now ≤ most_script_bytes = omega arith in
     let same : c.in-Err.refused ≡ NotBuilt n = cc in
-    let failed : drawn_from 1 nothing_drawn (lines_of c.args.bytes.now) ≡ Err n = c.in-Err.ensures.bad n (ap Err same) in
-    inr (small, first_bad (lines_of c.args.bytes.now) n failed)
+    let failed : drawn_from c.args.stores.now 1 nothing_drawn (lines_of c.args.bytes.now) ≡ Err n = c.in-Err.ensures.bad n (ap Err same) in
+    inr (small, first_bad c.args.stores.now (lines_of c.args.bytes.now) n failed)

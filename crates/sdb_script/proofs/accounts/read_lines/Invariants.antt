@@ -5,7 +5,7 @@ use Rattle.sdb_script.proofs.accounts.read_lines.Given as goal
 
 abbrev pub invariant-loop-rest : goal.invariant-loop-rest
 invariant-loop-rest l = record {
-  same : drawn_from l.number l.drawing (lines_of l.rest) ≡ drawn_from 1 nothing_drawn (lines_of l.bytes);
+  same : drawn_from l.stores l.number l.drawing (lines_of l.rest) ≡ drawn_from l.stores 1 nothing_drawn (lines_of l.bytes);
   count : l.number + length (lines_of l.rest) ≡ length (lines_of l.bytes) + 1;
   small : l.number + length l.rest ≤ length l.bytes + 1;
 }

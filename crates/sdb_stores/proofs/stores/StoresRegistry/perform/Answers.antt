@@ -1,5 +1,12 @@
 use Rattle.sdb_stores.proofs.Called.{called_at, home_within, same_home, same_names, grown, caused}
+use Rattle.sdb_stores.proofs.Distinct.{called_on}
 use Rattle.sdb_stores.proofs.stores.StoresRegistry.perform.Goals as goal
+
+pub invariant_of-self : goal.invariant_of-self
+invariant_of-self g c =
+    let xs = c.args.self.now.slots.items in
+    let inside = home_within _ xs c.args.self.now.places.items c.table_of.result.now.ns c.home_of-at.result c.requires c.home_of-at.ensures in
+    record { distinct = called_on _ xs c.home_of-at.result c.index_mut-slot.result.now c.call_slot.new.slot c.args.self.now.distinct inside c.index_mut-slot.ensures.value c.call_slot.ensures.name }
 
 pub returns-clause-called : goal.returns-clause-called
 returns-clause-called g c =

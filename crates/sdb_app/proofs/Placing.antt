@@ -1,0 +1,115 @@
+-- The places of a script, once its namespaces are placed.
+use Rattle.std.proofs.Common.{◌≡◌, ◌≢◌, ◌∙◌, ℕ, zero, suc, ◌+◌, ◌<◌, ◌≤◌, Bool, true, false, cond, List, [], ◌∷◌, ◌++◌, length, map, take, Option, Some, None, IfSome, refl, sym, ap, subst, arith, get_or}
+use Rattle.std.specs.Prelude.{slice_get, IsSome, find, is_some}
+use Rattle.std.specs.List.{All, AllPairs, Contains}
+use Rattle.std.specs.Option.{option_map}
+use Rattle.std.specs.Str.{bytes_eq}
+use Rattle.std.proofs.Math.Numerals.{add-one}
+use Rattle.std.proofs.lemmas.Option.{slice_get_within, get_or_from_slice_get}
+use Rattle.std.proofs.lemmas.Slice.Eq.{bytes_eq-Decides}
+use Rattle.sdb_types.specs.declared.key.TableName.{TableName}
+use Rattle.sdb_stores.specs.Shelf.{Shelf as Counted, AreDistinct, home, names_of, place_of, placed_on}
+use Rattle.sdb_stores.specs.declared.place.Place.{Place as Placed}
+use Rattle.sdb_stores.proofs.Distinct.{apart}
+use Rattle.sdb_model.specs.declared.script.Place.{Place}
+use Rattle.sdb_model.specs.Rows.{Name}
+use Rattle.sdb_script.specs.Accounts.{ArePlaces}
+use Rattle.sdb_model.specs.Events.{store_of}
+use Rattle.sdb_spread.specs.Spread.{is_played}
+use Rattle.sdb_play.specs.Board.{AreFit, catalog, placed, shown}
+use Rattle.sdb_play.proofs.Shelves.{named_home}
+
+some_is : {A : Type 0} (x y : A) → Some x ≡ Some y → x ≡ y
+some_is x y e = cc
+
+none_some : {A : Type 0} (x : A) → ◌≡◌ {A = Option A} None (Some x) → ⊥
+none_some x e = cc
+
+by_test : {G : Type 0} (t : Bool) → (t ≡ true → G) → (t ≡ false → G) → G
+by_test true a b = a refl
+by_test false a b = b refl
+
+---- the stores of places
+
+-- a name that is among others has a place there
+contained : (name : Name) (names : List Name) → Contains names name → IsSome (place_of name names)
+contained name names h = by (place_of name names) refl
+  where
+    by : (o : Option ℕ) → place_of name names ≡ o → IsSome (place_of name names)
+    by None e = absurd (apart name names e h.0 name h.1 h.2)
+    by (Some i) e = ap is_some e
+
+pub attached_at : (names : List Name) (places : List Place) (i : ℕ) (p : Place) → ArePlaces names places → slice_get places i ≡ Some p → IsSome (place_of p.store names)
+attached_at names places i p h e =
+    let here : get_or places i p ≡ p = get_or_from_slice_get places i p p e in
+    contained p.store names (subst (λ (x : Place). Contains names x.store) here (h.attached i p (slice_get_within places i p e)))
+
+homed_by : (ps : List Placed) (names : List Name) → ((k : ℕ) (p : Place) → slice_get (placed ps) k ≡ Some p → IsSome (place_of p.store names)) → (ns : Name) → IfSome (placed_on ns ps) (λ store. IsSome (place_of store names))
+homed_by [] names h ns = tt
+homed_by (p ∷ ps) names h ns =
+    by_test (bytes_eq p.ns ns)
+    (λ t. subst (λ (b : Bool). IfSome (option_map (λ (x : Placed). x.store) (cond b (Some p) (find (λ (x : Placed). bytes_eq x.ns ns) ps))) (λ store. IsSome (place_of store names))) (sym t) (h 0 (record { ns = p.ns; store = p.store }) refl))
+    (λ t. subst (λ (b : Bool). IfSome (option_map (λ (x : Placed). x.store) (cond b (Some p) (find (λ (x : Placed). bytes_eq x.ns ns) ps))) (λ store. IsSome (place_of store names))) (sym t) (homed_by ps names (λ k q e. h (suc k) q e) ns))
+
+named_there : (shelves : List Counted) (at : ℕ) (name : Name) → slice_get (names_of shelves) at ≡ Some name → (s : Counted) × (slice_get shelves at ≡ Some s) × (s.name ≡ name)
+named_there [] at name e = absurd (none_some name e)
+named_there (s ∷ ss) zero name e = (s, refl, some_is s.name name e)
+named_there (s ∷ ss) (suc at) name e = named_there ss at name e
+
+-- what a script's stores are to tell, at the places that it has
+abbrev pub Tell : List Place → List Counted → (ℕ → Type 0) → Type 0
+Tell places shelves tells = (at : ℕ) (store : Counted) (table : TableName) → slice_get shelves at ≡ Some store → is_played catalog table ≡ true → store_of places (shown shelves) table.ns ≡ store.name → tells at
+
+-- stores whose tables tell are fit for a run with the places of a script
+pub fit_for : {tells : ℕ → Type 0} (ps : List Placed) (places : List Place) (shelves : List Counted) → placed ps ≡ places → ArePlaces (names_of shelves) places → 0 < length shelves → AreDistinct (names_of shelves) → Tell places shelves tells → AreFit ps shelves tells
+fit_for ps places shelves same h some distinct telling =
+    let homed = homed_by ps (names_of shelves) (λ k p e. attached_at (names_of shelves) places k p h (ap (λ (xs : List Place). slice_get xs k) (sym same) ∙ e)) in
+    record {
+      some = some;
+      distinct = distinct;
+      homed = homed;
+      telling = λ table about.
+          let there = named_there shelves (home table.ns ps (names_of shelves)) (store_of (placed ps) (shown shelves) table.ns) (named_home ps shelves table.ns some (homed table.ns)) in
+          telling (home table.ns ps (names_of shelves)) there.0 table there.1 about (sym (ap (λ (xs : List Place). store_of xs (shown shelves) table.ns) same) ∙ sym there.2);
+    }
+
+---- one place more
+
+free_by : (ps : List Placed) (ns : Name) → ((k : ℕ) (p : Place) → slice_get (placed ps) k ≡ Some p → p.ns ≢ ns) → placed_on ns ps ≡ None
+free_by [] ns h = refl
+free_by (p ∷ ps) ns h =
+    by_test (bytes_eq p.ns ns)
+    (λ t. absurd (h 0 (record { ns = p.ns; store = p.store }) refl ((bytes_eq-Decides p.ns ns).0 t)))
+    (λ t. ap (λ (b : Bool). option_map (λ (x : Placed). x.store) (cond b (Some p) (find (λ (x : Placed). bytes_eq x.ns ns) ps))) t ∙ free_by ps ns (λ k q e. h (suc k) q e))
+
+taken_at : {A : Type 0} (xs : List A) (i k : ℕ) (x : A) → slice_get (take i xs) k ≡ Some x → (k < i) × (slice_get xs k ≡ Some x)
+taken_at [] zero k x e = absurd (none_some x e)
+taken_at [] (suc i) k x e = absurd (none_some x e)
+taken_at (y ∷ ys) zero k x e = absurd (none_some x e)
+taken_at (y ∷ ys) (suc i) zero x e = (omega arith, e)
+taken_at (y ∷ ys) (suc i) (suc k) x e = let t = taken_at ys i k x e in (let n = t.0 in omega arith, t.1)
+
+-- the next namespace has no place yet
+pub free_at : (ps : List Placed) (names : List Name) (places : List Place) (i : ℕ) (p : Place) → ArePlaces names places → placed ps ≡ take i places → slice_get places i ≡ Some p → placed_on p.ns ps ≡ None
+free_at ps names places i p h same here =
+    free_by ps p.ns (λ k q e.
+    let t = taken_at places i k q (ap (λ (xs : List Place). slice_get xs k) (sym same) ∙ e) in
+    let low : get_or places k p ≡ q = get_or_from_slice_get places k q p t.1 in
+    let high : get_or places i p ≡ p = get_or_from_slice_get places i p p here in
+    λ alike. h.once k i p t.0 (slice_get_within places i p here) (ap (λ (x : Place). x.ns) low ∙ alike ∙ ap (λ (x : Place). x.ns) (sym high)))
+
+take_suc : {A : Type 0} (xs : List A) (i : ℕ) (x : A) → slice_get xs i ≡ Some x → take (suc i) xs ≡ take i xs ++ x ∷ []
+take_suc [] i x e = absurd (none_some x e)
+take_suc (y ∷ ys) zero x e = ap (λ z. z ∷ []) (some_is y x e)
+take_suc (y ∷ ys) (suc i) x e = ap (λ zs. y ∷ zs) (take_suc ys i x e)
+
+-- and then it has one
+pub placed_more : (ps qs : List Placed) (places : List Place) (i : ℕ) (p : Place) → slice_get places i ≡ Some p → placed ps ≡ take i places → placed qs ≡ placed ps ++ p ∷ [] → placed qs ≡ take (i + 1) places
+placed_more ps qs places i p here same more =
+    more ∙ ap (λ (xs : List Place). xs ++ p ∷ []) same ∙ sym (ap (λ (k : ℕ). take k places) (add-one i) ∙ take_suc places i p here)
+
+pub all_placed : {A : Type 0} (xs : List A) (i : ℕ) → length xs ≤ i → take i xs ≡ xs
+all_placed [] zero h = refl
+all_placed [] (suc i) h = refl
+all_placed (x ∷ xs) zero h = absurd (omega arith)
+all_placed (x ∷ xs) (suc i) h = ap (λ ys. x ∷ ys) (all_placed xs i (omega arith))

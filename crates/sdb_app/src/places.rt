@@ -1,0 +1,50 @@
+//! Placing the namespaces of a script.
+ghost use Rattle.std.specs.Prelude.{◌≡◌, ◌<◌, ◌++◌, ◌∷◌, [], ℕ, length, Some, None, IsSome, OnOk, slice_get};
+ghost use Rattle.sdb_script.specs.Accounts.{ArePlaces};
+ghost use Rattle.sdb_stores.specs.Shelf.{names_of, place_of, placed_on};
+ghost use Rattle.sdb_play.specs.Board.{placed};
+
+use sdb_model::{Place, Places};
+use sdb_stores::{PlaceRefused, Registry};
+use sdb_types::{Duplicate, NoMemory};
+
+// The i-th place.
+fn place_at(places: &Places, i: usize) -> &Place
+    requires { i < length places.now }
+    ensures { slice_get places.now i ≡ Some result.now }
+{
+    match places.at(i) {
+        Some(place) => place,
+        None => unreachable!(),
+    }
+}
+
+// Places one namespace, which has none yet, on a store that is attached.
+fn place<R: Registry>(stores: &mut R, place: &Place) -> Result<(), NoMemory>
+    requires attached { IsSome (place_of place.now.store (names_of (R.shelves stores.old))) }
+    requires free { placed_on place.now.ns (R.places stores.old) ≡ None }
+    ensures places { OnOk result (placed (R.places stores.new) ≡ placed (R.places stores.old) ++ place.now ∷ []) }
+    ensures stores { R.shelves stores.new ≡ R.shelves stores.old }
+    ensures telling { (i : ℕ) → R.tells stores.old i → R.tells stores.new i }
+{
+    match stores.place(place.ns.copy()?, &place.store) {
+        Ok(()) => Ok(()),
+        Err(PlaceRefused::NoMemory) => Err(NoMemory),
+        Err(PlaceRefused::NoStore) => unreachable!(),
+        Err(PlaceRefused::AlreadyPlaced) => unreachable!(),
+    }
+}
+
+/// Places the namespaces of a script, where none has a place yet.
+pub fn place_all<R: Registry>(stores: &mut R, places: &Places) -> Result<(), NoMemory>
+    requires none { R.places stores.old ≡ [] }
+    requires fit { ArePlaces (names_of (R.shelves stores.old)) places.now }
+    ensures places { OnOk result (placed (R.places stores.new) ≡ places.now) }
+    ensures stores { R.shelves stores.new ≡ R.shelves stores.old }
+    ensures telling { (i : ℕ) → R.tells stores.old i → R.tells stores.new i }
+{
+    for i in 0..places.len() {
+        place(stores, place_at(places, i))?;
+    }
+    Ok(())
+}

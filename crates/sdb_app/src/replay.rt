@@ -1,0 +1,86 @@
+//! Playing a script on stores.
+ghost use Rattle.std.specs.Prelude.{◌≡◌, ◌<◌, ◌≤◌, ◌^◌, [], length, Some, None, IfOk, IfErr, OnOk};
+ghost use Rattle.std.specs.FinMap as finite;
+ghost use Rattle.sdb_stores.specs.Shelf.{AreDistinct, names_of, total_faults};
+ghost use Rattle.sdb_script.specs.Accounts.{IsFormOf};
+ghost use Rattle.sdb_spread.specs.Spread.{HoldAs};
+ghost use Rattle.sdb_play.specs.Board.{AreFit, GoOn, Refuses, catalog, placed, shown};
+ghost use Rattle.sdb_play.specs.Opening.{first_key, opening_records};
+ghost use Rattle.sdb_app.specs.Run.{TellOf, IsReported, IsTold, Stops, placed_form, script_of};
+
+use crate::places::place_all;
+use crate::status::Status;
+use sdb_play::{PlayRefused, first_record, outcome, play};
+use sdb_script::{AccountForm, report_text};
+use sdb_stores::Registry;
+use sdb_types::{NoMemory, Txt};
+use std::alloc::Global;
+
+impl From<NoMemory> for Status {
+    ghost use Rattle.std.specs.Prelude.{◌≡◌};
+    ghost use Rattle.sdb_app.specs.declared.status.Status.TheVariants as status;
+
+    ghost from_gives = { λ _ s. s ≡ status.NoMemory };
+
+    fn from(_e: NoMemory) -> Status {
+        Status::NoMemory
+    }
+}
+
+impl From<PlayRefused> for Status {
+    ghost use Rattle.std.specs.Prelude.{◌≡◌};
+    ghost use Rattle.sdb_app.specs.Run.{status_of};
+
+    ghost from_gives = { λ refused s. s ≡ status_of refused };
+
+    fn from(refused: PlayRefused) -> Status {
+        match refused {
+            PlayRefused::StoreFault => Status::StoreFault,
+            PlayRefused::BadStore(key) => Status::BadStore(key),
+            PlayRefused::NoMemory => Status::NoMemory,
+        }
+    }
+}
+
+// Sees to it that the tables of a script are empty.
+fn be_empty<R: Registry>(alloc: Global, stores: &mut R) -> Result<(), Status>
+    requires some { 0 < length (R.shelves stores.old) }
+    ensures empty { OnOk result (AreFit (R.places stores.old) (R.shelves stores.old) (R.tells stores.old) → first_key (opening_records (placed (R.places stores.old)) (shown (R.shelves stores.old))) ≡ None) }
+    ensures still { OnOk result (AreFit (R.places stores.old) (R.shelves stores.old) (R.tells stores.old) → shown (R.shelves stores.new) ≡ shown (R.shelves stores.old)) }
+    ensures goes { GoOn (R.places stores.old) (R.places stores.new) (R.shelves stores.old) (R.shelves stores.new) (R.tells stores.old) (R.tells stores.new) }
+    ensures err { IfErr result (Stops (R.shelves stores.old) (R.shelves stores.new) ⊥ (λ key. AreFit (R.places stores.old) (R.shelves stores.old) (R.tells stores.old) → first_key (opening_records (placed (R.places stores.old)) (shown (R.shelves stores.old))) ≡ Some key)) }
+{
+    match first_record(alloc, stores)? {
+        None => Ok(()),
+        Some(key) => Err(Status::NotEmpty(key)),
+    }
+}
+
+// Plays the statements of a script, and writes the report's text.
+fn tell<R: Registry>(alloc: Global, stores: &mut R, form: &AccountForm) -> Result<Txt, PlayRefused>
+    requires some { 0 < length (R.shelves stores.old) }
+    requires form { IsFormOf (names_of (R.shelves stores.old)) form.now }
+    ensures told { IfOk result (λ text. AreFit (R.places stores.old) (R.shelves stores.old) (R.tells stores.old) → HoldAs catalog (placed (R.places stores.old)) (shown (R.shelves stores.old)) finite.empty → IsTold (placed_form form.now (placed (R.places stores.old))) (shown (R.shelves stores.old)) (shown (R.shelves stores.new)) text) }
+    ensures goes { GoOn (R.places stores.old) (R.places stores.new) (R.shelves stores.old) (R.shelves stores.new) (R.tells stores.old) (R.tells stores.new) }
+    ensures err { IfErr result (Refuses (AreFit (R.places stores.old) (R.shelves stores.old) (R.tells stores.old) → HoldAs catalog (placed (R.places stores.old)) (shown (R.shelves stores.old)) finite.empty → ⊥) (R.shelves stores.old) (R.shelves stores.new)) }
+{
+    let log = play(alloc, stores, &form.client.statements, &form.statements)?;
+    let outcome = outcome(alloc, stores, log)?;
+    Ok(report_text(alloc, &outcome)?)
+}
+
+/// Plays a script on stores of which none has a place yet, and gives the text of its report.
+pub fn replay<R: Registry>(alloc: Global, stores: &mut R, form: &AccountForm) -> Result<Txt, Status>
+    requires some { 0 < length (R.shelves stores.old) }
+    requires unplaced { R.places stores.old ≡ [] }
+    requires distinct { AreDistinct (names_of (R.shelves stores.old)) }
+    requires form { IsFormOf (names_of (R.shelves stores.old)) form.now }
+    ensures report { IfOk result (λ text. TellOf (script_of form.now) (R.shelves stores.old) (R.tells stores.old) → IsReported (script_of form.now) (shown (R.shelves stores.old)) (shown (R.shelves stores.new)) text) }
+    ensures names { names_of (R.shelves stores.new) ≡ names_of (R.shelves stores.old) }
+    ensures counted { total_faults (R.shelves stores.old) ≤ total_faults (R.shelves stores.new) }
+    ensures err { IfErr result (Stops (R.shelves stores.old) (R.shelves stores.new) (TellOf (script_of form.now) (R.shelves stores.old) (R.tells stores.old) → ⊥) (λ key. TellOf (script_of form.now) (R.shelves stores.old) (R.tells stores.old) → first_key (opening_records form.now.places (shown (R.shelves stores.old))) ≡ Some key)) }
+{
+    place_all(stores, &form.places)?;
+    be_empty(alloc, stores)?;
+    Ok(tell(alloc, stores, form)?)
+}

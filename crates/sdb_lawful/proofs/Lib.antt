@@ -1,0 +1,6 @@
+mod PlanLaws
+mod TakeLaws
+mod CallLaws
+mod KnownLaws
+mod RollLaws
+mod WholeLaw

@@ -1,0 +1,9 @@
+use Rattle.std.proofs.Common.{◌≡◌, drop}
+use Rattle.sdb_lawful.specs.Rules.{any_held_forward}
+use Rattle.std.specs.List.{list_any}
+use Rattle.std.specs.Prelude.{◌&&◌}
+use Rattle.sdb_said.specs.Shown.{is_held_by, is_forward}
+use Rattle.sdb_lawful.proofs.rolls.any_held_forward.Given as goal
+
+abbrev pub invariant-loop-rec : goal.invariant-loop-rec
+invariant-loop-rec l = any_held_forward (drop l.rec-index l.shown) l.moments l.id.0 l.key l.target ≡ any_held_forward l.shown l.moments l.id.0 l.key l.target

@@ -1,0 +1,11 @@
+//! Whether a list of events keeps the rules of the protocol: the law's definition decided, slowly, by search.
+#![tactic(auto)]
+
+mod commit;
+mod lawful;
+pub mod laws;
+mod rolls;
+mod rules;
+
+pub use commit::prepared_if_sound;
+pub use lawful::is_lawful;

@@ -1,0 +1,404 @@
+//! Rolls, removals and answers, each decided.
+ghost use Rattle.std.specs.Prelude.{◌≡◌, ◌&&◌, not, false, IfOk, OnOk};
+ghost use Rattle.std.specs.Option.{option_copied, option_map_or};
+ghost use Rattle.std.specs.List.{list_any};
+ghost use Rattle.sdb_record.specs.Meta.{is_committed as is_committed_lem};
+ghost use Rattle.sdb_laws.specs.Lawful.{answer_of as answer_of_lem, is_denial as is_denial_lem};
+ghost use Rattle.sdb_said.specs.Shown.{is_kept_in as is_kept_in_lem, keeps_none as keeps_none_lem, is_held_by as is_held_by_lem, is_forward as is_forward_lem};
+ghost use Rattle.sdb_lawful.specs.Rules.{is_known_committed as is_known_committed_lem, is_known_aborted as is_known_aborted_lem, own as own_lem, with_own, known_moments as known_moments_lem, any_held_forward as any_held_forward_lem, is_rolled_forward as is_rolled_forward_lem, rolls_open as rolls_open_lem, rolls_forward, is_put_back as is_put_back_lem, is_taken_back as is_taken_back_lem, undoes as undoes_lem, rolls_back, rolls_well, removes_version as removes_version_lem, removes_well, is_committed_answer as is_committed_answer_lem, denies as denies_lem, may_tell as may_tell_lem, may_deny as may_deny_lem, answers_well};
+
+use crate::commit::{is_data, prepared_by};
+use crate::rules::are_shut;
+use sdb_model::{Answer, Event};
+use sdb_record::{Decision, coordinator_key};
+use sdb_said::{
+    Plan, Played, is_asked, is_dead, is_forward, is_held_by, is_kept_in, is_met_once, is_risked,
+    is_same_key, is_taken, is_won, keeps_none, moment_of, moments, settles_gone, shows_abort,
+    shows_bad_row, shows_commit, write_of, writes_of,
+};
+use sdb_types::{Condition, Key, NoMemory, Record, Request, Seq, State, TxId};
+use std::alloc::Global;
+
+/// Whether a transaction is known to be committed: it won, or its row was shown.
+pub fn is_known_committed(
+    alloc: Global,
+    shown: &[Record],
+    past: &[Played],
+    id: TxId,
+) -> Result<bool, NoMemory>
+    ensures { IfOk result (λ known. known ≡ is_known_committed_lem shown.now past.now id.0) }
+{
+    if is_won(past, id) {
+        return Ok(true);
+    }
+    let row = coordinator_key(alloc, id)?;
+    Ok(shows_commit(alloc, shown, &row))
+}
+
+/// Whether it is known to be aborted.
+pub fn is_known_aborted(
+    alloc: Global,
+    shown: &[Record],
+    past: &[Played],
+    id: TxId,
+) -> Result<bool, NoMemory>
+    ensures { IfOk result (λ known. known ≡ is_known_aborted_lem shown.now past.now id.0) }
+{
+    if is_dead(past, id) || (is_met_once(past, id) && !is_risked(past, id)) {
+        return Ok(true);
+    }
+    let row = coordinator_key(alloc, id)?;
+    Ok(shows_abort(alloc, shown, &row))
+}
+
+// What a transaction has prepared itself at a key.
+fn own(
+    alloc: Global,
+    past: &[Played],
+    plans: &[Plan],
+    id: TxId,
+    key: &Key,
+) -> Result<Option<Record>, NoMemory>
+    ensures { IfOk result (λ found. found ≡ own_lem past.now plans.now id.0 key.now) }
+{
+    if is_asked(past, id, key) {
+        let write = write_of(writes_of(plans, id), key);
+        prepared_by(alloc, id, moment_of(plans, id), write)
+    } else {
+        Ok(None)
+    }
+}
+
+fn add_own(found: &mut Seq<i64>, won: bool, moment: i64) -> Result<(), NoMemory>
+    ensures { OnOk result (found.new ≡ with_own won moment found.old) }
+{
+    if won { found.push(moment) } else { Ok(()) }
+}
+
+fn known_moments(
+    alloc: Global,
+    shown: &[Record],
+    past: &[Played],
+    plans: &[Plan],
+    id: TxId,
+) -> Result<Seq<i64>, NoMemory>
+    ensures { IfOk result (λ found. found ≡ known_moments_lem shown.now past.now plans.now id.0) }
+{
+    let row = coordinator_key(alloc, id)?;
+    let mut found = moments(alloc, shown, &row)?;
+    add_own(&mut found, is_won(past, id), moment_of(plans, id))?;
+    Ok(found)
+}
+
+fn any_held_forward(
+    alloc: Global,
+    shown: &[Record],
+    moments: &[i64],
+    id: TxId,
+    key: &Key,
+    target: &Record,
+) -> Result<bool, NoMemory>
+    ensures { IfOk result (λ found. found ≡ any_held_forward_lem shown.now moments.now id.0 key.now target.now) }
+{
+    for rec in shown {
+        if is_held_by(rec, key, id) && is_forward(alloc, rec, moments, target)? {
+            return Ok(true);
+        }
+    }
+    Ok(false)
+}
+
+fn is_own_forward(
+    alloc: Global,
+    own: &Option<Record>,
+    moments: &[i64],
+    target: &Record,
+) -> Result<bool, NoMemory>
+    ensures { IfOk result (λ found. found ≡ option_map_or (λ r. is_forward_lem r moments.now target.now) own.now false) }
+{
+    match own {
+        Some(rec) => is_forward(alloc, rec, moments, target),
+        None => Ok(false),
+    }
+}
+
+fn is_open_state(state: State) -> bool
+    ensures { result ≡ not (is_committed_lem state) }
+{
+    !matches!(state, State::Committed)
+}
+
+fn rolls_open(condition: Condition, id: TxId) -> bool
+    ensures { result ≡ rolls_open_lem condition id.0 }
+{
+    match condition {
+        Condition::Absent => false,
+        Condition::Version(other, state) => other.0 == id.0 && is_open_state(state),
+    }
+}
+
+/// A roll forward of what is known to be committed, by anybody.
+pub fn may_roll_forward(
+    alloc: Global,
+    shown: &[Record],
+    past: &[Played],
+    plans: &[Plan],
+    event: &Event,
+    id: TxId,
+    key: &Key,
+) -> Result<bool, NoMemory>
+    ensures { IfOk result (λ well. well ≡ rolls_forward shown.now past.now plans.now event.now id.0 key.now) }
+{
+    match event {
+        Event::Call(_, _, Request::PutIf(target, condition), _, _, _) => {
+            if !rolls_open(*condition, id) || !is_data(key) {
+                return Ok(false);
+            }
+            let own = own(alloc, past, plans, id, key)?;
+            let moments = known_moments(alloc, shown, past, plans, id)?;
+            if is_own_forward(alloc, &own, moments.as_slice(), target)? {
+                return Ok(true);
+            }
+            any_held_forward(alloc, shown, moments.as_slice(), id, key, target)
+        }
+        _ => Ok(false),
+    }
+}
+
+fn own_keeps(own: &Option<Record>, base: &Record) -> bool
+    ensures { result ≡ option_map_or (λ r. is_kept_in_lem r base.now) own.now false }
+{
+    match own {
+        Some(rec) => is_kept_in(rec, base),
+        None => false,
+    }
+}
+
+fn any_keeps(shown: &[Record], id: TxId, key: &Key, base: &Record) -> bool
+    ensures { result ≡ list_any (λ r. is_held_by_lem id.0 key.now r && is_kept_in_lem r base.now) shown.now }
+{
+    shown
+        .iter()
+        .any(|rec| is_held_by(rec, key, id) && is_kept_in(rec, base))
+}
+
+fn is_put_back(shown: &[Record], own: &Option<Record>, id: TxId, key: &Key, base: &Record) -> bool
+    ensures { result ≡ is_put_back_lem shown.now own.now id.0 key.now base.now }
+{
+    own_keeps(own, base) || any_keeps(shown, id, key, base)
+}
+
+fn own_keeps_none(own: &Option<Record>) -> bool
+    ensures { result ≡ option_map_or keeps_none_lem own.now false }
+{
+    match own {
+        Some(rec) => keeps_none(rec),
+        None => false,
+    }
+}
+
+fn any_keeps_none(shown: &[Record], id: TxId, key: &Key) -> bool
+    ensures { result ≡ list_any (λ r. is_held_by_lem id.0 key.now r && keeps_none_lem r) shown.now }
+{
+    shown
+        .iter()
+        .any(|rec| is_held_by(rec, key, id) && keeps_none(rec))
+}
+
+fn is_taken_back(shown: &[Record], own: &Option<Record>, id: TxId, key: &Key) -> bool
+    ensures { result ≡ is_taken_back_lem shown.now own.now id.0 key.now }
+{
+    own_keeps_none(own) || any_keeps_none(shown, id, key)
+}
+
+fn undoes(shown: &[Record], own: &Option<Record>, request: &Request, id: TxId, key: &Key) -> bool
+    ensures { result ≡ undoes_lem shown.now own.now request.now id.0 key.now }
+{
+    match request {
+        Request::PutIf(base, condition) => {
+            rolls_open(*condition, id) && is_put_back(shown, own, id, key, base)
+        }
+        Request::DeleteIf(at, condition) => {
+            rolls_open(*condition, id)
+                && (is_same_key(at, key) && is_taken_back(shown, own, id, key))
+        }
+        Request::Get(_) => false,
+        Request::Scan(_) => false,
+    }
+}
+
+/// A roll back of what is known to be aborted, by anybody.
+pub fn may_roll_back(
+    alloc: Global,
+    shown: &[Record],
+    past: &[Played],
+    plans: &[Plan],
+    event: &Event,
+    id: TxId,
+    key: &Key,
+) -> Result<bool, NoMemory>
+    ensures { IfOk result (λ well. well ≡ rolls_back shown.now past.now plans.now event.now id.0 key.now) }
+{
+    match event {
+        Event::Call(_, _, request, _, _, _) => {
+            if !is_data(key) || !is_known_aborted(alloc, shown, past, id)? {
+                return Ok(false);
+            }
+            let own = own(alloc, past, plans, id, key)?;
+            Ok(undoes(shown, &own, request, id, key))
+        }
+        _ => Ok(false),
+    }
+}
+
+/// A roll by a decision.
+pub fn may_roll(
+    alloc: Global,
+    shown: &[Record],
+    past: &[Played],
+    plans: &[Plan],
+    event: &Event,
+    id: TxId,
+    key: &Key,
+    decision: Decision,
+) -> Result<bool, NoMemory>
+    ensures { IfOk result (λ well. well ≡ rolls_well shown.now past.now plans.now event.now id.0 key.now decision) }
+{
+    match decision {
+        Decision::Committed => may_roll_forward(alloc, shown, past, plans, event, id, key),
+        Decision::Aborted => may_roll_back(alloc, shown, past, plans, event, id, key),
+    }
+}
+
+fn removes_version(condition: Condition, id: TxId) -> bool
+    ensures { result ≡ removes_version_lem condition id.0 }
+{
+    match condition {
+        Condition::Absent => false,
+        Condition::Version(other, state) => { other.0 == id.0 && matches!(state, State::Committed) }
+    }
+}
+
+/// VACUUM's removal of a tombstone that was read, while no transaction is open of a client that goes on.
+pub fn may_remove(
+    alloc: Global,
+    shown: &[Record],
+    past: &[Played],
+    event: &Event,
+    key: &Key,
+    id: TxId,
+) -> Result<bool, NoMemory>
+    ensures { IfOk result (λ well. well ≡ removes_well shown.now past.now event.now key.now id.0) }
+{
+    match event {
+        Event::Call(_, _, Request::DeleteIf(at, condition), _, _, _) => {
+            if !is_same_key(at, key) || !removes_version(*condition, id) {
+                return Ok(false);
+            }
+            if !is_data(key) || !are_shut(past) {
+                return Ok(false);
+            }
+            settles_gone(alloc, shown, key, id)
+        }
+        _ => Ok(false),
+    }
+}
+
+fn answer_of(event: &Event) -> Option<&Answer>
+    ensures { option_copied result ≡ answer_of_lem event.now }
+{
+    match event {
+        Event::Take(_, _, answer) => answer.as_ref(),
+        Event::Call(_, _, _, _, _, answer) => answer.as_ref(),
+        Event::Stop(_) => None,
+        Event::Clock(_) => None,
+        Event::Idle(_) => None,
+    }
+}
+
+fn is_committed_answer(answer: Option<&Answer>) -> bool
+    ensures { result ≡ is_committed_answer_lem (option_copied answer.entry) }
+{
+    matches!(answer, Some(Answer::Committed))
+}
+
+fn is_denial(answer: &Answer) -> bool
+    ensures { result ≡ is_denial_lem answer.now }
+{
+    !matches!(answer, Answer::Committed | Answer::Unknown(_))
+}
+
+fn denies(answer: Option<&Answer>) -> bool
+    ensures { result ≡ denies_lem (option_copied answer.entry) }
+{
+    match answer {
+        Some(answer) => is_denial(answer),
+        None => false,
+    }
+}
+
+/// Committed may be answered.
+pub fn may_tell(
+    alloc: Global,
+    shown: &[Record],
+    whole: &[Played],
+    past: &[Played],
+    ends: Option<TxId>,
+) -> Result<bool, NoMemory>
+    ensures { IfOk result (λ well. well ≡ may_tell_lem shown.now whole.now past.now ends) }
+{
+    match ends {
+        None => Ok(false),
+        Some(id) => {
+            if !is_taken(past, id) {
+                return Ok(false);
+            }
+            is_known_committed(alloc, shown, whole, id)
+        }
+    }
+}
+
+/// An answer may be given that denies a COMMIT.
+pub fn may_deny(
+    alloc: Global,
+    shown: &[Record],
+    whole: &[Played],
+    past: &[Played],
+    ends: Option<TxId>,
+) -> Result<bool, NoMemory>
+    ensures { IfOk result (λ well. well ≡ may_deny_lem shown.now whole.now past.now ends) }
+{
+    match ends {
+        None => Ok(true),
+        Some(id) => {
+            if !is_taken(past, id) || is_known_aborted(alloc, shown, whole, id)? {
+                return Ok(true);
+            }
+            if !is_risked(whole, id) {
+                return Ok(true);
+            }
+            let row = coordinator_key(alloc, id)?;
+            Ok(shows_bad_row(alloc, shown, &row))
+        }
+    }
+}
+
+/// The answer that an event gives is true as far as the events tell.
+pub fn answers_truly(
+    alloc: Global,
+    shown: &[Record],
+    whole: &[Played],
+    past: &[Played],
+    played: &Played,
+) -> Result<bool, NoMemory>
+    ensures { IfOk result (λ well. well ≡ answers_well shown.now whole.now past.now played.now) }
+{
+    let answer = answer_of(&played.event);
+    if is_committed_answer(answer) && !may_tell(alloc, shown, whole, past, played.ends)? {
+        return Ok(false);
+    }
+    if denies(answer) {
+        return may_deny(alloc, shown, whole, past, played.ends);
+    }
+    Ok(true)
+}

@@ -1,0 +1,485 @@
+//! The rules of the protocol, each decided.
+ghost use Rattle.std.specs.Prelude.{◌≡◌, ◌&&◌, not, IfOk, is_some, slice_get, false, nat_lt, ◌^◌, ◌||◌};
+ghost use Rattle.std.specs.Option.{option_copied, option_map_or};
+ghost use Rattle.std.specs.List.{list_any, list_all, enumerate_from};
+ghost use Rattle.sdb_types.specs.declared.record.Condition.TheVariants as condition;
+ghost use Rattle.sdb_types.specs.declared.record.Request.TheVariants as ask;
+ghost use Rattle.sdb_record.specs.Coordinator.{coordinator_row_of};
+ghost use Rattle.sdb_record.specs.Meta.{is_moment as is_moment_lem};
+ghost use Rattle.sdb_record.specs.Moved.{is_unchanged as is_unchanged_lem, same_version as same_version_lem};
+ghost use Rattle.sdb_model.specs.Reading.{reads_begin as reads_begin_lem, reads_commit as reads_commit_lem};
+ghost use Rattle.sdb_laws.specs.Lawful.{is_quiet as is_quiet_lem};
+ghost use Rattle.sdb_laws.specs.Plan.{version_noted as version_noted_lem};
+ghost use Rattle.sdb_said.specs.Values.{note_of, same_request};
+ghost use Rattle.sdb_said.specs.Said.{told_in, open_in, stopped_in, owner_of};
+ghost use Rattle.sdb_lawful.specs.Rules.{fits_reply as fits_reply_lem, in_commit as in_commit_lem, is_done as is_done_lem, begins_well, commits_well as commits_well_lem, takes_well, is_put as is_put_lem, puts_write as puts_write_lem, prepares_well, is_as_noted as is_as_noted_lem, are_as_noted as are_as_noted_lem, finds_noted as finds_noted_lem, checks_well, same_noted as same_noted_lem, agrees_at as agrees_at_lem, agrees as agrees_lem, is_note_checked as is_note_checked_lem, is_ready as is_ready_lem, decides_well, aborts_well, stops_well, are_shut as are_shut_lem, is_shut as is_shut_lem, is_left as is_left_lem};
+
+use crate::commit::{are_fine_notes, are_fine_writes, is_in_span, prepared_by, version_among};
+use sdb_model::{Answer, Event};
+use sdb_record::{
+    Decision, Read, Scan, Write, condition_of, coordinator_row, has_version, version_of,
+};
+use sdb_said::{
+    Note, Plan, Played, Role, Word, is_asked, is_begun, is_checked, is_deciding, is_open,
+    is_past_prepares, is_same_key, is_same_request, is_same_span, is_stopped, is_taken, is_told,
+    moment_of, notes_of, owner, row_of, write_of, writes_of,
+};
+use sdb_types::{Condition, Key, NoMemory, Record, Reply, Request, State, TxId, Txt};
+use std::alloc::Global;
+
+const LAST_MOMENT: i64 = 9_007_199_254_740_992;
+
+fn is_moment(moment: i64) -> bool
+    ensures { result ≡ is_moment_lem moment }
+{
+    moment >= 0 && moment <= LAST_MOMENT
+}
+
+fn reads_begin(text: &Txt) -> bool
+    ensures { result ≡ reads_begin_lem text.now }
+{
+    text.as_str().as_bytes() == b"BEGIN".as_slice()
+}
+
+fn reads_commit(text: &Txt) -> bool
+    ensures { result ≡ reads_commit_lem text.now }
+{
+    text.as_str().as_bytes() == b"COMMIT".as_slice()
+}
+
+fn is_done(answer: &Option<Answer>) -> bool
+    ensures { result ≡ is_done_lem answer.now }
+{
+    matches!(answer, Some(Answer::Done))
+}
+
+// An id has 128 bits.
+fn fits(id: TxId) -> bool
+    ensures { result ≡ nat_lt id.0 (2 ^ 128) }
+{
+    let _number = id.0;
+    true
+}
+
+fn fits_reply(word: Word, reply: &Reply) -> bool
+    ensures { result ≡ fits_reply_lem word reply.now }
+{
+    match (word, reply) {
+        (Word::Yes, Reply::Applied) => true,
+        (Word::No, Reply::NotMet(_)) => true,
+        (Word::Wanting, Reply::NoMemory) => true,
+        (Word::Silence, Reply::Found(_)) => true,
+        (Word::Silence, Reply::Rows(_)) => true,
+        (Word::Silence, Reply::Fault) => true,
+        _ => false,
+    }
+}
+
+fn in_commit(past: &[Played], client: u32, id: TxId) -> bool
+    ensures { result ≡ in_commit_lem past.now client id.0 }
+{
+    is_taken(past, id)
+        && (is_open(past, id) && (owner(past, id) == client && !is_stopped(past, client)))
+}
+
+/// BEGIN: it is answered, and the id is new.
+pub fn may_begin(past: &[Played], event: &Event, id: TxId, client: u32) -> bool
+    ensures { result ≡ begins_well past.now event.now id.0 client }
+{
+    match event {
+        Event::Take(by, text, answer) => {
+            *by == client
+                && (reads_begin(text) && (is_done(answer) && (!is_begun(past, id) && fits(id))))
+        }
+        _ => false,
+    }
+}
+
+fn commits_well(
+    alloc: Global,
+    shown: &[Record],
+    past: &[Played],
+    plans: &[Plan],
+    id: TxId,
+) -> Result<bool, NoMemory>
+    ensures { IfOk result (λ well. well ≡ commits_well_lem shown.now past.now plans.now id.0) }
+{
+    if is_taken(past, id) || !is_moment(moment_of(plans, id)) {
+        return Ok(false);
+    }
+    if !are_fine_writes(alloc, shown, writes_of(plans, id))? {
+        return Ok(false);
+    }
+    are_fine_notes(alloc, shown, notes_of(plans, id))
+}
+
+/// The taking of a COMMIT: the transaction is open and has no other, and what it read was shown.
+pub fn may_take(
+    alloc: Global,
+    shown: &[Record],
+    past: &[Played],
+    plans: &[Plan],
+    event: &Event,
+    id: TxId,
+) -> Result<bool, NoMemory>
+    ensures { IfOk result (λ well. well ≡ takes_well shown.now past.now plans.now event.now id.0) }
+{
+    match event {
+        Event::Take(by, text, _) => {
+            if !reads_commit(text) {
+                return Ok(false);
+            }
+            if !(owner(past, id) == *by && (is_open(past, id) && !is_stopped(past, *by))) {
+                return Ok(false);
+            }
+            commits_well(alloc, shown, past, plans, id)
+        }
+        _ => Ok(false),
+    }
+}
+
+fn is_put(request: &Request, write: Option<&Write>, rec: Option<Record>) -> bool
+    ensures { result ≡ is_put_lem request.now (option_copied write.entry) rec }
+{
+    match write {
+        None => false,
+        Some(write) => match rec {
+            None => false,
+            Some(rec) => {
+                let put = Request::PutIf(rec, condition_of(version_of(&write.base)));
+                is_same_request(request, &put)
+            }
+        },
+    }
+}
+
+fn puts_write(
+    alloc: Global,
+    id: TxId,
+    now: i64,
+    request: &Request,
+    write: Option<&Write>,
+) -> Result<bool, NoMemory>
+    ensures { IfOk result (λ puts. puts ≡ puts_write_lem id.0 now request.now (option_copied write.entry)) }
+{
+    let rec = prepared_by(alloc, id, now, write)?;
+    Ok(is_put(request, write, rec))
+}
+
+/// A prepare: of a write, where its base stands, once, and before any check.
+pub fn may_prepare(
+    alloc: Global,
+    past: &[Played],
+    plans: &[Plan],
+    event: &Event,
+    id: TxId,
+    key: &Key,
+    word: Word,
+) -> Result<bool, NoMemory>
+    ensures { IfOk result (λ well. well ≡ prepares_well past.now plans.now event.now id.0 key.now word) }
+{
+    match event {
+        Event::Call(client, _, request, _, reply, _) => {
+            if !in_commit(past, *client, id) || !fits_reply(word, reply) {
+                return Ok(false);
+            }
+            if is_past_prepares(past, id) || is_asked(past, id, key) {
+                return Ok(false);
+            }
+            let write = write_of(writes_of(plans, id), key);
+            puts_write(alloc, id, moment_of(plans, id), request, write)
+        }
+        _ => Ok(false),
+    }
+}
+
+// Whether what is found is still of the version.
+fn stands(found: Option<&Record>, version: Option<TxId>) -> bool
+    ensures { result ≡ is_unchanged_lem (option_copied found.entry) version }
+{
+    match (found, version) {
+        (Some(rec), Some(id)) => has_version(rec, id, State::Committed),
+        (None, None) => true,
+        _ => false,
+    }
+}
+
+fn is_as_noted(writes: &[Write], scan: &Scan, rows: &[Record], key: &Key) -> bool
+    ensures { result ≡ is_as_noted_lem writes.now scan.now rows.now key.now }
+{
+    !is_in_span(&scan.span, key)
+        || (write_of(writes, key).is_some()
+            || stands(row_of(rows, key), version_among(scan.found.as_slice(), key)))
+}
+
+fn rows_as_noted(writes: &[Write], scan: &Scan, rows: &[Record]) -> bool
+    ensures { result ≡ list_all (λ r. is_as_noted_lem writes.now scan.now rows.now r.key) rows.now }
+{
+    rows.iter()
+        .all(|row| is_as_noted(writes, scan, rows, &row.key))
+}
+
+fn found_as_noted(writes: &[Write], scan: &Scan, rows: &[Record], found: &[Read]) -> bool
+    ensures { result ≡ list_all (λ r. is_as_noted_lem writes.now scan.now rows.now r.key) found.now }
+{
+    found
+        .iter()
+        .all(|read| is_as_noted(writes, scan, rows, &read.key))
+}
+
+fn are_as_noted(writes: &[Write], scan: &Scan, rows: &[Record]) -> bool
+    ensures { result ≡ are_as_noted_lem writes.now scan.now rows.now }
+{
+    rows_as_noted(writes, scan, rows) && found_as_noted(writes, scan, rows, scan.found.as_slice())
+}
+
+fn finds_noted(writes: &[Write], note: &Note, request: &Request, reply: &Reply) -> bool
+    ensures { result ≡ finds_noted_lem writes.now note.now request.now reply.now }
+{
+    match (note, request, reply) {
+        (Note::Got(read), Request::Get(key), Reply::Found(found)) => {
+            is_same_key(key, &read.key) && sdb_record::is_unchanged(found, read.version)
+        }
+        (Note::Scanned(scan), Request::Scan(span), Reply::Rows(rows)) => {
+            is_same_span(span, &scan.span) && are_as_noted(writes, scan, rows.as_slice())
+        }
+        _ => false,
+    }
+}
+
+fn finds(notes: &[Note], i: usize, writes: &[Write], request: &Request, reply: &Reply) -> bool
+    ensures { result ≡ option_map_or (λ n. finds_noted_lem writes.now n request.now reply.now) (slice_get notes.now i) false }
+{
+    match notes.get(i) {
+        Some(note) => finds_noted(writes, note, request, reply),
+        None => false,
+    }
+}
+
+/// A check: it reads again what was noted and finds all as it was, before the put of COMMITTED.
+pub fn may_check(past: &[Played], plans: &[Plan], event: &Event, id: TxId, i: usize) -> bool
+    ensures { result ≡ checks_well past.now plans.now event.now id.0 i }
+{
+    match event {
+        Event::Call(client, _, request, _, reply, _) => {
+            in_commit(past, *client, id)
+                && (!is_deciding(past, id)
+                    && finds(notes_of(plans, id), i, writes_of(plans, id), request, reply))
+        }
+        _ => false,
+    }
+}
+
+fn version_noted(note: &Note, key: &Key) -> Option<Option<TxId>>
+    ensures { result ≡ version_noted_lem (note_of note.now) key.now }
+{
+    match note {
+        Note::Got(read) => {
+            if is_same_key(&read.key, key) {
+                Some(read.version)
+            } else {
+                None
+            }
+        }
+        Note::Scanned(scan) => {
+            if is_in_span(&scan.span, key) {
+                Some(version_among(scan.found.as_slice(), key))
+            } else {
+                None
+            }
+        }
+    }
+}
+
+fn same_version(a: Option<TxId>, b: Option<TxId>) -> bool
+    ensures { result ≡ same_version_lem a b }
+{
+    match (a, b) {
+        (Some(a), Some(b)) => a.0 == b.0,
+        (None, None) => true,
+        _ => false,
+    }
+}
+
+fn same_noted(noted: Option<Option<TxId>>, base: Option<TxId>) -> bool
+    ensures { result ≡ same_noted_lem noted base }
+{
+    match noted {
+        None => true,
+        Some(version) => same_version(version, base),
+    }
+}
+
+fn agrees_at(writes: &[Write], note: &Note, write: &Write) -> bool
+    ensures { result ≡ agrees_at_lem writes.now note.now write.now }
+{
+    match write_of(writes, &write.key) {
+        Some(first) => same_noted(version_noted(note, &write.key), version_of(&first.base)),
+        None => true,
+    }
+}
+
+fn agrees(writes: &[Write], note: &Note) -> bool
+    ensures { result ≡ agrees_lem writes.now note.now }
+{
+    writes.iter().all(|write| agrees_at(writes, note, write))
+}
+
+fn is_note_checked(past: &[Played], id: TxId, writes: &[Write], i: usize, note: &Note) -> bool
+    ensures { result ≡ is_note_checked_lem past.now id.0 writes.now i note.now }
+{
+    match note {
+        Note::Got(read) => write_of(writes, &read.key).is_some() || is_checked(past, id, i),
+        Note::Scanned(_) => is_checked(past, id, i),
+    }
+}
+
+fn all_told(past: &[Played], id: TxId, writes: &[Write]) -> bool
+    ensures { result ≡ list_all (λ w. told_in past.now id.0 w.key) writes.now }
+{
+    writes.iter().all(|write| is_told(past, id, &write.key))
+}
+
+fn all_agree(writes: &[Write], notes: &[Note]) -> bool
+    ensures { result ≡ list_all (agrees_lem writes.now) notes.now }
+{
+    notes.iter().all(|note| agrees(writes, note))
+}
+
+fn all_checked(past: &[Played], id: TxId, writes: &[Write], notes: &[Note]) -> bool
+    ensures { result ≡ list_all (λ e. is_note_checked_lem past.now id.0 writes.now e.0 e.1) (enumerate_from 0 notes.now) }
+{
+    notes
+        .iter()
+        .enumerate()
+        .all(|(i, note)| is_note_checked(past, id, writes, i, note))
+}
+
+fn is_ready(past: &[Played], id: TxId, writes: &[Write], notes: &[Note]) -> bool
+    ensures { result ≡ is_ready_lem past.now id.0 writes.now notes.now }
+{
+    all_told(past, id, writes) && (all_agree(writes, notes) && all_checked(past, id, writes, notes))
+}
+
+// Whether a request puts this row, where there is none.
+fn puts_row(
+    alloc: Global,
+    request: &Request,
+    id: TxId,
+    decision: Decision,
+    moment: i64,
+) -> Result<bool, NoMemory>
+    ensures { IfOk result (λ puts. puts ≡ same_request request.now (ask.PutIf (coordinator_row_of id decision moment) condition.Absent)) }
+{
+    let row = coordinator_row(alloc, id, decision, moment)?;
+    let put = Request::PutIf(row, Condition::Absent);
+    Ok(is_same_request(request, &put))
+}
+
+/// The put of COMMITTED: each write was prepared and each noted read checked.
+pub fn may_decide(
+    alloc: Global,
+    past: &[Played],
+    plans: &[Plan],
+    event: &Event,
+    id: TxId,
+    word: Word,
+) -> Result<bool, NoMemory>
+    ensures { IfOk result (λ well. well ≡ decides_well past.now plans.now event.now id.0 word) }
+{
+    match event {
+        Event::Call(client, _, request, _, reply, _) => {
+            if !in_commit(past, *client, id) || !fits_reply(word, reply) {
+                return Ok(false);
+            }
+            if !puts_row(
+                alloc,
+                request,
+                id,
+                Decision::Committed,
+                moment_of(plans, id),
+            )? {
+                return Ok(false);
+            }
+            Ok(is_ready(past, id, writes_of(plans, id), notes_of(plans, id)))
+        }
+        _ => Ok(false),
+    }
+}
+
+/// A put of a row ABORTED, by anybody.
+pub fn may_abort(
+    alloc: Global,
+    event: &Event,
+    id: TxId,
+    moment: i64,
+    word: Word,
+) -> Result<bool, NoMemory>
+    ensures { IfOk result (λ well. well ≡ aborts_well event.now id.0 moment word) }
+{
+    match event {
+        Event::Call(_, _, request, _, reply, _) => {
+            if !fits_reply(word, reply) || !is_moment(moment) {
+                return Ok(false);
+            }
+            if !fits(id) {
+                return Ok(false);
+            }
+            puts_row(alloc, request, id, Decision::Aborted, moment)
+        }
+        _ => Ok(false),
+    }
+}
+
+pub fn may_stop(event: &Event, client: u32) -> bool
+    ensures { result ≡ stops_well event.now client }
+{
+    match event {
+        Event::Stop(by) => *by == client,
+        _ => false,
+    }
+}
+
+/// No part: the event changes nothing at the stores, and is no stop.
+pub fn is_quiet(event: &Event) -> bool
+    ensures { result ≡ is_quiet_lem event.now }
+{
+    match event {
+        Event::Take(_, _, _) => true,
+        Event::Call(_, _, Request::Get(_), _, _, _) => true,
+        Event::Call(_, _, Request::Scan(_), _, _, _) => true,
+        Event::Call(_, _, Request::PutIf(_, _), _, _, _) => false,
+        Event::Call(_, _, Request::DeleteIf(_, _), _, _, _) => false,
+        Event::Stop(_) => false,
+        Event::Clock(_) => true,
+        Event::Idle(_) => true,
+    }
+}
+
+// It is not open, or its client has stopped.
+#[tactic(auto, unfolding(crate::specs::Rules::is_left))]
+fn is_left(past: &[Played], id: TxId) -> bool
+    ensures { result ≡ is_left_lem past.now id.0 }
+{
+    if !is_open(past, id) {
+        return true;
+    }
+    let client = owner(past, id);
+    is_stopped(past, client)
+}
+
+fn is_shut(past: &[Played], role: &Role) -> bool
+    ensures { result ≡ is_shut_lem past.now role.now }
+{
+    match role {
+        Role::Begins(id, _) => is_left(past, *id),
+        _ => true,
+    }
+}
+
+/// Whether no transaction is open of a client that goes on.
+pub fn are_shut(past: &[Played]) -> bool
+    ensures { result ≡ are_shut_lem past.now }
+{
+    past.iter().all(|played| is_shut(past, &played.role))
+}

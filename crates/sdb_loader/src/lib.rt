@@ -1,0 +1,13 @@
+//! Catalogs read from the JSON of a schema.
+#![tactic(auto)]
+
+mod fault;
+mod fields;
+pub mod laws;
+mod load;
+mod parts;
+mod tables;
+mod words;
+
+pub use fault::SchemaFault;
+pub use load::catalog_of;

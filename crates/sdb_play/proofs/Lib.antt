@@ -1,0 +1,12 @@
+pub mod Shelves
+pub mod Heard
+pub mod Refusals
+pub mod CallSteps
+pub mod Commits
+pub mod Looks
+pub mod Ends
+pub mod Takes
+pub mod Plays
+pub mod Empty
+pub mod Rows
+pub mod Closings

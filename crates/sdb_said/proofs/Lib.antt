@@ -1,0 +1,4 @@
+pub mod Lists
+pub mod SaidLaws
+pub mod ShownLaws
+pub mod SettledLaws

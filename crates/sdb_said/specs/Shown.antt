@@ -1,0 +1,177 @@
+-- What the replies showed: the records, and tests on them.
+use Rattle.std.specs.Prelude.{ℕ, ℤ, pos, Bool, true, false, not, ◌&&◌, ◌||◌, ◌==◌, if◌then◌else◌, List, [], ◌∷◌, ◌++◌, Option, Some, None, is_some, is_none}
+use Rattle.std.specs.Option.{option_map_or}
+use Rattle.std.specs.Result.{result_ok}
+use Rattle.std.specs.Ordering.{is_eq}
+use Rattle.std.specs.List.{list_any, filter_map}
+use Rattle.sdb_types.specs.declared.key.Key.{Key}
+use Rattle.sdb_types.specs.declared.pair.Pair.{Pair}
+use Rattle.sdb_types.specs.declared.txid.TxId.{TxId}
+use Rattle.sdb_types.specs.declared.value.Value.{Value}
+use Rattle.sdb_types.specs.declared.value.Value.TheVariants as value
+use Rattle.sdb_types.specs.declared.record.Record.{Record}
+use Rattle.sdb_types.specs.declared.record.State.TheVariants.{Deleted, Committed}
+use Rattle.sdb_types.specs.declared.record.Reply.{Reply}
+use Rattle.sdb_types.specs.declared.record.Reply.TheVariants as reply
+use Rattle.sdb_types.specs.Columns.{column}
+use Rattle.sdb_types.specs.Contents.{tx_id, has_value}
+use Rattle.sdb_types.specs.Order.{value_cmp}
+use Rattle.sdb_record.specs.declared.coordinator.Decided.{Decided}
+use Rattle.sdb_record.specs.declared.coordinator.Decision.{Decision}
+use Rattle.sdb_record.specs.declared.coordinator.Decision.TheVariants as decision
+use Rattle.sdb_record.specs.Coordinator.{coordinator_key_of, decision_in}
+use Rattle.sdb_record.specs.Meta.{id_in, id_in_value, is_in}
+use Rattle.sdb_record.specs.Names.{tx_tombstone, before_name, base_name, same_name}
+use Rattle.sdb_record.specs.Parts.{is_before_pair}
+use Rattle.sdb_record.specs.Rolls.{forward_record, is_tombstone}
+use Rattle.sdb_model.specs.declared.event.Event.{Event}
+use Rattle.sdb_model.specs.declared.event.Event.TheVariants as event
+use Rattle.sdb_laws.specs.Plan.{same_key}
+use Rattle.sdb_laws.specs.Lawful.{row_among, id}
+use Rattle.sdb_said.specs.Values.{same_record}
+use Rattle.sdb_said.specs.declared.played.Played.{Played}
+
+---- the records shown
+
+-- the first row of its key
+abbrev pub is_first : List Record → Record → Bool
+is_first rows r = option_map_or (λ x. same_record x r) (row_among rows r.key) false
+
+abbrev pub with_rows : List Record → List Record → List Record → List Record
+with_rows rows [] found = found
+with_rows rows (r ∷ rs) found = with_rows rows rs (if is_first rows r then found ++ r ∷ [] else found)
+
+abbrev pub with_found : Option Record → List Record → List Record
+with_found None found = found
+with_found (Some r) found = found ++ r ∷ []
+
+-- with the records that a reply shows
+abbrev pub with_reply : Reply → List Record → List Record
+with_reply (reply.Found o) found = with_found o found
+with_reply (reply.Rows rows) found = with_rows rows rows found
+with_reply reply.Applied found = found
+with_reply (reply.NotMet o) found = with_found o found
+with_reply reply.Fault found = found
+with_reply reply.NoMemory found = found
+
+abbrev pub with_event : Event → List Record → List Record
+with_event (event.Call client store q how r answer) found = with_reply r found
+with_event (event.Take client text answer) found = found
+with_event (event.Stop client) found = found
+with_event (event.Clock moment) found = found
+with_event (event.Idle client) found = found
+
+abbrev pub gathered : List Played → List Record → List Record
+gathered [] found = found
+gathered (p ∷ past) found = gathered past (with_event p.event found)
+
+-- the records that events showed
+abbrev pub shown : List Played → List Record
+shown past = gathered past []
+
+---- single records
+
+abbrev pub writer_is : ℕ → Option TxId → Bool
+writer_is u writer = option_map_or (λ i. u == i.0) writer false
+
+-- the writer of the record that a before image keeps
+abbrev pub kept_writer : List Pair → Option TxId
+kept_writer ps = id_in_value (column ps (before_name tx_id))
+
+abbrev pub keeps_tombstone : List Pair → Bool
+keeps_tombstone ps = has_value (column ps (before_name tx_tombstone)) (value.Bool true)
+
+abbrev pub no_more : List Pair → Bool
+no_more [] = true
+no_more (p ∷ ps) = false
+
+abbrev pub keeps_next : Option (List ℕ) → Value → (List Pair → Bool) → List Pair → Bool
+keeps_next None v rest base = rest base
+keeps_next (Some name) v rest [] = false
+keeps_next (Some name) v rest (b ∷ bs) = same_name b.name name && (is_eq (value_cmp b.value v) && rest bs)
+
+-- the columns of a before image keep exactly these
+abbrev pub keeps : List Pair → List Pair → Bool
+keeps [] base = no_more base
+keeps (p ∷ ps) base = keeps_next (base_name p.name) p.value (keeps ps) base
+
+-- a record keeps this one as its before image
+abbrev pub is_kept_in : Record → Record → Bool
+is_kept_in r b = same_key r.key b.key && (not (no_more b.columns) && keeps r.columns b.columns)
+
+abbrev pub keeps_none : Record → Bool
+keeps_none r = not (list_any is_before_pair r.columns)
+
+-- not committed, at a key
+abbrev pub is_held : Key → Record → Bool
+is_held k r = same_key r.key k && not (is_in Committed r.columns)
+
+abbrev pub is_held_by : ℕ → Key → Record → Bool
+is_held_by u k r = is_held k r && writer_is u (id_in r.columns)
+
+---- rows of the coordinator
+
+abbrev pub decided : Record → Option Decided
+decided r = result_ok (decision_in r)
+
+abbrev pub is_commit : Decision → Bool
+is_commit decision.Committed = true
+is_commit decision.Aborted = false
+
+abbrev pub commits : Option Decided → Bool
+commits d = option_map_or (λ x. is_commit x.decision) d false
+
+abbrev pub aborts : Option Decided → Bool
+aborts d = option_map_or (λ x. not (is_commit x.decision)) d false
+
+abbrev pub commit_moment : Option Decided → Option ℤ
+commit_moment None = None
+commit_moment (Some d) = if is_commit d.decision then Some d.created_at else None
+
+abbrev pub row_moment : Key → Record → Option ℤ
+row_moment row r = if same_key r.key row then commit_moment (decided r) else None
+
+-- a row of this key was shown that says COMMITTED, or ABORTED, or is none
+abbrev pub shows_commit : List Record → Key → Bool
+shows_commit rs row = list_any (λ r. same_key r.key row && commits (decided r)) rs
+
+abbrev pub shows_abort : List Record → Key → Bool
+shows_abort rs row = list_any (λ r. same_key r.key row && aborts (decided r)) rs
+
+abbrev pub shows_bad_row : List Record → Key → Bool
+shows_bad_row rs row = list_any (λ r. same_key r.key row && is_none (decided r)) rs
+
+-- the moments of the rows COMMITTED that were shown
+abbrev pub moments : List Record → Key → List ℤ
+moments rs row = filter_map (row_moment row) rs
+
+---- committed records that a read comes to
+
+abbrev pub is_forward : Record → List ℤ → Record → Bool
+is_forward r ms b = list_any (λ m. same_record b (forward_record r m)) ms
+
+abbrev pub is_itself : List Record → Key → Record → Bool
+is_itself rs k b = list_any (λ r. same_record r b) rs && (same_key b.key k && is_in Committed b.columns)
+
+abbrev pub is_back : List Record → Key → Record → Bool
+is_back rs k b = list_any (λ r. is_held k r && (is_some (id_in r.columns) && is_kept_in r b)) rs
+
+abbrev pub forward_from : List Record → Key → Record → Record → Bool
+forward_from rs k b r = is_held k r && option_map_or (λ i. is_forward r (moments rs (coordinator_key_of i)) b) (id_in r.columns) false
+
+abbrev pub is_settled : List Record → Key → Record → Bool
+is_settled rs k b = is_itself rs k b || (is_back rs k b || list_any (forward_from rs k b) rs)
+
+-- a record of this writer that a read of the key comes to
+abbrev pub settles : List Record → Key → ℕ → Bool
+settles rs k u =
+    list_any (λ r. same_key r.key k && (is_in Committed r.columns && writer_is u (id_in r.columns))) rs
+    || (list_any (λ r. is_held k r && (is_some (id_in r.columns) && writer_is u (kept_writer r.columns))) rs
+    || (list_any (is_held_by u k) rs && shows_commit rs (coordinator_key_of (id u))))
+
+-- and that is a tombstone
+abbrev pub settles_gone : List Record → Key → ℕ → Bool
+settles_gone rs k u =
+    list_any (λ r. same_key r.key k && (is_in Committed r.columns && (writer_is u (id_in r.columns) && is_tombstone r))) rs
+    || (list_any (λ r. is_held k r && (is_some (id_in r.columns) && (writer_is u (kept_writer r.columns) && keeps_tombstone r.columns))) rs
+    || (list_any (λ r. is_held_by u k r && (is_in Deleted r.columns || is_tombstone r)) rs && shows_commit rs (coordinator_key_of (id u))))

@@ -1,0 +1,19 @@
+//! What a list of events, newest first, has said and shown, told by search.
+#![tactic(auto)]
+
+pub mod laws;
+mod plan;
+mod played;
+mod records;
+mod same;
+
+pub use plan::{Note, Plan, moment_of, notes_of, write_of, writes_of};
+pub use played::{
+    Played, Role, Word, is_asked, is_begun, is_checked, is_dead, is_deciding, is_met_once, is_open,
+    is_past_prepares, is_risked, is_stopped, is_taken, is_told, is_won, owner,
+};
+pub use records::{
+    is_forward, is_held_by, is_kept_in, is_settled, keeps_none, moments, row_of, settles,
+    settles_gone, shown, shows_abort, shows_bad_row, shows_commit,
+};
+pub use same::{is_same_key, is_same_record, is_same_request, is_same_span};

@@ -1,0 +1,66 @@
+//! What transactions go into their COMMITs with.
+ghost use Rattle.std.specs.Prelude.{◌≡◌, find};
+ghost use Rattle.std.specs.Option.{option_copied};
+ghost use Rattle.sdb_said.specs.Values.{planned, writes_in, notes_in, moment_in, write_in};
+
+use crate::same::is_same_key;
+use sdb_record::{Read, Scan, Write, Writes};
+use sdb_types::{Key, Seq, TxId};
+
+/// One noted read: a key with the version found there, or a span with the versions found in it.
+#[derive(Debug, Drop)]
+pub enum Note {
+    Got(Read),
+    Scanned(Scan),
+}
+
+/// What a transaction goes into its COMMIT with: its writes, its noted reads in the order in which they are checked, and the
+/// moment of the COMMIT in milliseconds.
+#[derive(Debug, Drop)]
+pub struct Plan {
+    pub id: TxId,
+    pub writes: Writes,
+    pub notes: Seq<Note>,
+    pub now: i64,
+}
+
+fn plan_of(plans: &[Plan], id: TxId) -> Option<&Plan>
+    ensures { option_copied result ≡ planned plans.now id.0 }
+{
+    plans.iter().find(|plan| id.0 == plan.id.0)
+}
+
+/// The writes of a transaction, none where it has no plan.
+pub fn writes_of(plans: &[Plan], id: TxId) -> &[Write]
+    ensures { result.now ≡ writes_in plans.now id.0 }
+{
+    match plan_of(plans, id) {
+        Some(plan) => plan.writes.as_slice(),
+        None => &[],
+    }
+}
+
+pub fn notes_of(plans: &[Plan], id: TxId) -> &[Note]
+    ensures { result.now ≡ notes_in plans.now id.0 }
+{
+    match plan_of(plans, id) {
+        Some(plan) => plan.notes.as_slice(),
+        None => &[],
+    }
+}
+
+pub fn moment_of(plans: &[Plan], id: TxId) -> i64
+    ensures { result ≡ moment_in plans.now id.0 }
+{
+    match plan_of(plans, id) {
+        Some(plan) => plan.now,
+        None => 0,
+    }
+}
+
+/// The write of a key.
+pub fn write_of<'a>(writes: &'a [Write], key: &Key) -> Option<&'a Write>
+    ensures { option_copied result ≡ write_in writes.now key.now }
+{
+    writes.iter().find(|write| is_same_key(&write.key, key))
+}

@@ -1,0 +1,499 @@
+//! The records that replies showed, and what they tell.
+ghost use Rattle.std.specs.Prelude.{◌≡◌, ◌&&◌, ◌||◌, not, IfOk, OnOk, is_some, [], ◌++◌};
+ghost use Rattle.std.specs.Option.{option_copied};
+ghost use Rattle.std.specs.List.{list_any, cons_option};
+ghost use Rattle.sdb_types.specs.Columns.{column};
+ghost use Rattle.sdb_types.specs.declared.record.State.TheVariants.{Committed, Deleted};
+ghost use Rattle.sdb_record.specs.Ids.{id_of_text};
+ghost use Rattle.sdb_record.specs.Meta.{id_in, id_in_value, is_in};
+ghost use Rattle.sdb_record.specs.Names.{base_name, is_before, same_name};
+ghost use Rattle.sdb_record.specs.Parts.{is_before_pair};
+ghost use Rattle.sdb_record.specs.Rolls.{forward_record, is_tombstone as is_tombstone_lem};
+ghost use Rattle.sdb_laws.specs.Lawful.{row_among};
+ghost use Rattle.sdb_laws.specs.Plan.{same_key};
+ghost use Rattle.sdb_said.specs.Values.{same_record};
+ghost use Rattle.sdb_said.specs.Shown.{is_first as is_first_lem, with_rows, with_found, with_reply, with_event, shown as shown_lem, writer_is as writer_is_lem, kept_writer as kept_writer_lem, keeps_tombstone as keeps_tombstone_lem, keeps as keeps_lem, is_kept_in as is_kept_in_lem, keeps_none as keeps_none_lem, is_held as is_held_lem, is_held_by as is_held_by_lem, decided as decided_lem, commits as commits_lem, aborts as aborts_lem, commit_moment as commit_moment_lem, row_moment as row_moment_lem, shows_commit as shows_commit_lem, shows_abort as shows_abort_lem, shows_bad_row as shows_bad_row_lem, moments as moments_lem, is_forward as is_forward_lem, is_itself as is_itself_lem, is_back as is_back_lem, forward_from as forward_from_lem, is_settled as is_settled_lem, settles as settles_lem, settles_gone as settles_gone_lem};
+
+use crate::played::Played;
+use crate::same::{is_same_key, is_same_record};
+use sdb_model::Event;
+use sdb_record::{Decided, Decision, coordinator_key, decision_of, rolled_forward};
+use sdb_types::{
+    Columns, Duplicate, Key, NoMemory, Pair, Record, Records, Reply, Seq, TxId, Txt, Value,
+};
+use std::alloc::Global;
+
+/// The first row of a key.
+pub fn row_of<'a>(rows: &'a [Record], key: &Key) -> Option<&'a Record>
+    ensures { option_copied result ≡ row_among rows.now key.now }
+{
+    rows.iter().find(|row| is_same_key(&row.key, key))
+}
+
+fn is_first(rows: &[Record], rec: &Record) -> bool
+    ensures { result ≡ is_first_lem rows.now rec.now }
+{
+    match row_of(rows, &rec.key) {
+        Some(row) => is_same_record(row, rec),
+        None => false,
+    }
+}
+
+fn add_rows(found: &mut Records, rows: &[Record]) -> Result<(), NoMemory>
+    ensures { OnOk result (found.new ≡ with_rows rows.now rows.now found.old) }
+{
+    for row in rows {
+        if is_first(rows, row) {
+            found.push(row.copy()?)?;
+        }
+    }
+    Ok(())
+}
+
+fn add_found(found: &mut Records, rec: &Option<Record>) -> Result<(), NoMemory>
+    ensures { OnOk result (found.new ≡ with_found rec.now found.old) }
+{
+    match rec {
+        Some(rec) => {
+            found.push(rec.copy()?)?;
+            Ok(())
+        }
+        None => Ok(()),
+    }
+}
+
+fn add_reply(found: &mut Records, reply: &Reply) -> Result<(), NoMemory>
+    ensures { OnOk result (found.new ≡ with_reply reply.now found.old) }
+{
+    match reply {
+        Reply::Found(rec) => add_found(found, rec),
+        Reply::NotMet(rec) => add_found(found, rec),
+        Reply::Rows(rows) => add_rows(found, rows.as_slice()),
+        Reply::Applied => Ok(()),
+        Reply::Fault => Ok(()),
+        Reply::NoMemory => Ok(()),
+    }
+}
+
+fn add_event(found: &mut Records, event: &Event) -> Result<(), NoMemory>
+    ensures { OnOk result (found.new ≡ with_event event.now found.old) }
+{
+    match event {
+        Event::Call(_, _, _, _, reply, _) => add_reply(found, reply),
+        _ => Ok(()),
+    }
+}
+
+/// The records that replies showed, in the order of the events.
+pub fn shown(alloc: Global, past: &[Played]) -> Result<Records, NoMemory>
+    ensures { IfOk result (λ found. found ≡ shown_lem past.now) }
+{
+    let mut found = Seq::new(alloc);
+    for played in past {
+        add_event(&mut found, &played.event)?;
+    }
+    Ok(found)
+}
+
+fn is_text(name: &str, text: &str) -> bool
+    ensures { result ≡ same_name name.now text.now }
+{
+    name.cmp(text).is_eq()
+}
+
+fn find_text<'a>(pairs: &'a [Pair], name: &str) -> Option<&'a Value>
+    ensures { option_copied result ≡ column pairs.now name.now }
+{
+    pairs
+        .iter()
+        .find(|pair| is_text(pair.name.as_str(), name))
+        .map(|pair| &pair.value)
+}
+
+fn read_id(text: &Txt) -> Option<TxId>
+    ensures { result ≡ id_of_text text.now }
+{
+    TxId::from_text(text)
+}
+
+fn id_of(value: Option<&Value>) -> Option<TxId>
+    ensures { result ≡ id_in_value (option_copied value.entry) }
+{
+    match value {
+        Some(Value::Text(text)) => read_id(text),
+        _ => None,
+    }
+}
+
+pub fn writer(rec: &Record) -> Option<TxId>
+    ensures { result ≡ id_in rec.now.columns }
+{
+    id_of(find_text(rec.columns.pairs(), "tx_id"))
+}
+
+fn kept_writer(columns: &Columns) -> Option<TxId>
+    ensures { result ≡ kept_writer_lem columns.now }
+{
+    id_of(find_text(columns.pairs(), "before_tx_id"))
+}
+
+fn is_writer(writer: Option<TxId>, id: TxId) -> bool
+    ensures { result ≡ writer_is_lem id.0 writer }
+{
+    match writer {
+        Some(other) => id.0 == other.0,
+        None => false,
+    }
+}
+
+fn is_committed(rec: &Record) -> bool
+    ensures { result ≡ is_in Committed rec.now.columns }
+{
+    match find_text(rec.columns.pairs(), "tx_state") {
+        Some(value) => *value == Value::Int(3),
+        None => false,
+    }
+}
+
+fn is_deleted(rec: &Record) -> bool
+    ensures { result ≡ is_in Deleted rec.now.columns }
+{
+    match find_text(rec.columns.pairs(), "tx_state") {
+        Some(value) => *value == Value::Int(2),
+        None => false,
+    }
+}
+
+fn is_tombstone(rec: &Record) -> bool
+    ensures { result ≡ is_tombstone_lem rec.now }
+{
+    match find_text(rec.columns.pairs(), "tx_tombstone") {
+        Some(value) => *value == Value::Bool(true),
+        None => false,
+    }
+}
+
+fn keeps_tombstone(columns: &Columns) -> bool
+    ensures { result ≡ keeps_tombstone_lem columns.now }
+{
+    match find_text(columns.pairs(), "before_tx_tombstone") {
+        Some(value) => *value == Value::Bool(true),
+        None => false,
+    }
+}
+
+fn kept_name(name: &str) -> Option<&str>
+    ensures { option_copied result ≡ base_name name.now }
+{
+    name.strip_prefix("before_")
+}
+
+fn keeps(kept: &[Pair], base: &[Pair]) -> bool
+    ensures { result ≡ keeps_lem kept.now base.now }
+{
+    match kept.split_first() {
+        None => base.is_empty(),
+        Some((pair, rest)) => match kept_name(pair.name.as_str()) {
+            None => keeps(rest, base),
+            Some(name) => match base.split_first() {
+                None => false,
+                Some((first, others)) => {
+                    is_text(first.name.as_str(), name)
+                        && (first.value == pair.value && keeps(rest, others))
+                }
+            },
+        },
+    }
+}
+
+/// Whether a record keeps this one as its before image.
+pub fn is_kept_in(rec: &Record, base: &Record) -> bool
+    ensures { result ≡ is_kept_in_lem rec.now base.now }
+{
+    is_same_key(&rec.key, &base.key)
+        && (!base.columns.pairs().is_empty() && keeps(rec.columns.pairs(), base.columns.pairs()))
+}
+
+fn is_before_name(name: &str) -> bool
+    ensures { result ≡ is_before name.now }
+{
+    kept_name(name).is_some()
+}
+
+fn has_kept(pairs: &[Pair]) -> bool
+    ensures { result ≡ list_any is_before_pair pairs.now }
+{
+    pairs.iter().any(|pair| is_before_name(pair.name.as_str()))
+}
+
+/// Whether it keeps none.
+pub fn keeps_none(rec: &Record) -> bool
+    ensures { result ≡ keeps_none_lem rec.now }
+{
+    !has_kept(rec.columns.pairs())
+}
+
+fn is_held(rec: &Record, key: &Key) -> bool
+    ensures { result ≡ is_held_lem key.now rec.now }
+{
+    is_same_key(&rec.key, key) && !is_committed(rec)
+}
+
+pub fn is_held_by(rec: &Record, key: &Key, id: TxId) -> bool
+    ensures { result ≡ is_held_by_lem id.0 key.now rec.now }
+{
+    is_held(rec, key) && is_writer(writer(rec), id)
+}
+
+fn decided(alloc: Global, row: &Record) -> Option<Decided>
+    ensures { result ≡ decided_lem row.now }
+{
+    match decision_of(alloc, row) {
+        Ok(decided) => Some(decided),
+        Err(_) => None,
+    }
+}
+
+fn commits(decided: Option<Decided>) -> bool
+    ensures { result ≡ commits_lem decided }
+{
+    match decided {
+        Some(decided) => matches!(decided.decision, Decision::Committed),
+        None => false,
+    }
+}
+
+fn aborts(decided: Option<Decided>) -> bool
+    ensures { result ≡ aborts_lem decided }
+{
+    match decided {
+        Some(decided) => !matches!(decided.decision, Decision::Committed),
+        None => false,
+    }
+}
+
+fn commit_moment(decided: Option<Decided>) -> Option<i64>
+    ensures { result ≡ commit_moment_lem decided }
+{
+    match decided {
+        Some(decided) => match decided.decision {
+            Decision::Committed => Some(decided.created_at),
+            Decision::Aborted => None,
+        },
+        None => None,
+    }
+}
+
+fn row_moment(alloc: Global, row: &Key, rec: &Record) -> Option<i64>
+    ensures { result ≡ row_moment_lem row.now rec.now }
+{
+    if is_same_key(&rec.key, row) {
+        commit_moment(decided(alloc, rec))
+    } else {
+        None
+    }
+}
+
+/// Whether a row of this key was shown that says COMMITTED.
+pub fn shows_commit(alloc: Global, shown: &[Record], row: &Key) -> bool
+    ensures { result ≡ shows_commit_lem shown.now row.now }
+{
+    shown.iter().any(|rec| is_same_key(&rec.key, row) && commits(decided(alloc, rec)))
+}
+
+pub fn shows_abort(alloc: Global, shown: &[Record], row: &Key) -> bool
+    ensures { result ≡ shows_abort_lem shown.now row.now }
+{
+    shown.iter().any(|rec| is_same_key(&rec.key, row) && aborts(decided(alloc, rec)))
+}
+
+/// Whether a row of this key was shown that is none.
+pub fn shows_bad_row(alloc: Global, shown: &[Record], row: &Key) -> bool
+    ensures { result ≡ shows_bad_row_lem shown.now row.now }
+{
+    shown.iter().any(|rec| is_same_key(&rec.key, row) && decided(alloc, rec).is_none())
+}
+
+fn add_moment(alloc: Global, found: &mut Seq<i64>, row: &Key, rec: &Record) -> Result<(), NoMemory>
+    ensures { OnOk result (found.new ≡ found.old ++ cons_option (row_moment_lem row.now rec.now) []) }
+{
+    match row_moment(alloc, row, rec) {
+        Some(moment) => found.push(moment),
+        None => Ok(()),
+    }
+}
+
+/// The moments of the rows COMMITTED of this key that were shown.
+pub fn moments(alloc: Global, shown: &[Record], row: &Key) -> Result<Seq<i64>, NoMemory>
+    ensures { IfOk result (λ found. found ≡ moments_lem shown.now row.now) }
+{
+    let mut found = Seq::new(alloc);
+    for rec in shown {
+        add_moment(alloc, &mut found, row, rec)?;
+    }
+    Ok(found)
+}
+
+fn is_forward_at(
+    alloc: Global,
+    rec: &Record,
+    moment: i64,
+    target: &Record,
+) -> Result<bool, NoMemory>
+    ensures { IfOk result (λ found. found ≡ same_record target.now (forward_record rec.now moment)) }
+{
+    let forward = rolled_forward(alloc, rec, moment)?;
+    Ok(is_same_record(target, &forward))
+}
+
+/// Whether this is what the record is rolled forward to, at one of these moments.
+pub fn is_forward(
+    alloc: Global,
+    rec: &Record,
+    moments: &[i64],
+    target: &Record,
+) -> Result<bool, NoMemory>
+    ensures { IfOk result (λ found. found ≡ is_forward_lem rec.now moments.now target.now) }
+{
+    for moment in moments {
+        if is_forward_at(alloc, rec, *moment, target)? {
+            return Ok(true);
+        }
+    }
+    Ok(false)
+}
+
+fn is_among(shown: &[Record], base: &Record) -> bool
+    ensures { result ≡ list_any (λ r. same_record r base.now) shown.now }
+{
+    shown.iter().any(|rec| is_same_record(rec, base))
+}
+
+fn is_itself(shown: &[Record], key: &Key, base: &Record) -> bool
+    ensures { result ≡ is_itself_lem shown.now key.now base.now }
+{
+    is_among(shown, base) && (is_same_key(&base.key, key) && is_committed(base))
+}
+
+fn is_back(shown: &[Record], key: &Key, base: &Record) -> bool
+    ensures { result ≡ is_back_lem shown.now key.now base.now }
+{
+    shown.iter().any(|rec| is_held(rec, key) && (writer(rec).is_some() && is_kept_in(rec, base)))
+}
+
+fn forward_from(
+    alloc: Global,
+    shown: &[Record],
+    key: &Key,
+    base: &Record,
+    rec: &Record,
+) -> Result<bool, NoMemory>
+    ensures { IfOk result (λ found. found ≡ forward_from_lem shown.now key.now base.now rec.now) }
+{
+    if !is_held(rec, key) {
+        return Ok(false);
+    }
+    match writer(rec) {
+        None => Ok(false),
+        Some(id) => {
+            let row = coordinator_key(alloc, id)?;
+            let moments = moments(alloc, shown, &row)?;
+            is_forward(alloc, rec, moments.as_slice(), base)
+        }
+    }
+}
+
+fn any_forward(alloc: Global, shown: &[Record], key: &Key, base: &Record) -> Result<bool, NoMemory>
+    ensures { IfOk result (λ found. found ≡ list_any (forward_from_lem shown.now key.now base.now) shown.now) }
+{
+    for rec in shown {
+        if forward_from(alloc, shown, key, base, rec)? {
+            return Ok(true);
+        }
+    }
+    Ok(false)
+}
+
+/// Whether a read of the key comes to this committed record.
+pub fn is_settled(
+    alloc: Global,
+    shown: &[Record],
+    key: &Key,
+    base: &Record,
+) -> Result<bool, NoMemory>
+    ensures { IfOk result (λ found. found ≡ is_settled_lem shown.now key.now base.now) }
+{
+    if is_itself(shown, key, base) || is_back(shown, key, base) {
+        return Ok(true);
+    }
+    any_forward(alloc, shown, key, base)
+}
+
+fn settles_itself(shown: &[Record], key: &Key, id: TxId) -> bool
+    ensures { result ≡ list_any (λ r. same_key r.key key.now && (is_in Committed r.columns && writer_is_lem id.0 (id_in r.columns))) shown.now }
+{
+    shown.iter().any(|rec| {
+        is_same_key(&rec.key, key) && (is_committed(rec) && is_writer(writer(rec), id))
+    })
+}
+
+fn settles_back(shown: &[Record], key: &Key, id: TxId) -> bool
+    ensures { result ≡ list_any (λ r. is_held_lem key.now r && (is_some (id_in r.columns) && writer_is_lem id.0 (kept_writer_lem r.columns))) shown.now }
+{
+    shown.iter().any(|rec| {
+        is_held(rec, key) && (writer(rec).is_some() && is_writer(kept_writer(&rec.columns), id))
+    })
+}
+
+fn any_held(shown: &[Record], key: &Key, id: TxId) -> bool
+    ensures { result ≡ list_any (is_held_by_lem id.0 key.now) shown.now }
+{
+    shown.iter().any(|rec| is_held_by(rec, key, id))
+}
+
+/// Whether a read of the key comes to a committed record of this transaction.
+pub fn settles(alloc: Global, shown: &[Record], key: &Key, id: TxId) -> Result<bool, NoMemory>
+    ensures { IfOk result (λ found. found ≡ settles_lem shown.now key.now id.0) }
+{
+    if settles_itself(shown, key, id) || settles_back(shown, key, id) {
+        return Ok(true);
+    }
+    let row = coordinator_key(alloc, id)?;
+    Ok(any_held(shown, key, id) && shows_commit(alloc, shown, &row))
+}
+
+fn gone_itself(shown: &[Record], key: &Key, id: TxId) -> bool
+    ensures { result ≡ list_any (λ r. same_key r.key key.now && (is_in Committed r.columns && (writer_is_lem id.0 (id_in r.columns) && is_tombstone_lem r))) shown.now }
+{
+    shown.iter().any(|rec| {
+        is_same_key(&rec.key, key)
+            && (is_committed(rec) && (is_writer(writer(rec), id) && is_tombstone(rec)))
+    })
+}
+
+fn gone_back(shown: &[Record], key: &Key, id: TxId) -> bool
+    ensures { result ≡ list_any (λ r. is_held_lem key.now r && (is_some (id_in r.columns) && (writer_is_lem id.0 (kept_writer_lem r.columns) && keeps_tombstone_lem r.columns))) shown.now }
+{
+    shown.iter().any(|rec| {
+        is_held(rec, key)
+            && (writer(rec).is_some()
+                && (is_writer(kept_writer(&rec.columns), id) && keeps_tombstone(&rec.columns)))
+    })
+}
+
+fn gone_forward(shown: &[Record], key: &Key, id: TxId) -> bool
+    ensures { result ≡ list_any (λ r. is_held_by_lem id.0 key.now r && (is_in Deleted r.columns || is_tombstone_lem r)) shown.now }
+{
+    shown.iter().any(|rec| is_held_by(rec, key, id) && (is_deleted(rec) || is_tombstone(rec)))
+}
+
+/// Whether a read of the key comes to a tombstone of this transaction.
+pub fn settles_gone(alloc: Global, shown: &[Record], key: &Key, id: TxId) -> Result<bool, NoMemory>
+    ensures { IfOk result (λ found. found ≡ settles_gone_lem shown.now key.now id.0) }
+{
+    if gone_itself(shown, key, id) || gone_back(shown, key, id) {
+        return Ok(true);
+    }
+    let row = coordinator_key(alloc, id)?;
+    Ok(gone_forward(shown, key, id) && shows_commit(alloc, shown, &row))
+}

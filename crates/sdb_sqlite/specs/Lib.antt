@@ -1,0 +1,4 @@
+pub mod Stopping
+pub mod Bodies
+pub mod Spans
+pub mod Written

@@ -1,0 +1,31 @@
+-- What a call answers that stops before it has an answer.
+use Rattle.std.specs.Prelude.{ℕ}
+use Rattle.sqlite.specs.declared.error.Error.{Error}
+use Rattle.sqlite.specs.declared.error.Error.TheVariants.{SqliteFailure}
+use Rattle.sqlite.specs.declared.error.ErrorCode.TheVariants.{OutOfMemory}
+use Rattle.sdb_types.specs.declared.record.Reply.{Reply}
+use Rattle.sdb_types.specs.declared.record.Reply.TheVariants as reply
+use Rattle.sdb_store.specs.Fate.{next_number}
+use Rattle.sdb_sqlite.specs.declared.refused.Stopped.{Stopped}
+use Rattle.sdb_sqlite.specs.declared.refused.Stopped.TheVariants as stopped
+
+-- what a refused statement stops a call for
+abbrev pub stopped_by : Error → Stopped
+stopped_by (SqliteFailure OutOfMemory) = stopped.NoMemory
+stopped_by _ = stopped.Refused
+
+-- Want of memory is answered as such, and everything else is a fault.
+abbrev pub stop_reply : Stopped → Reply
+stop_reply stopped.NoMemory = reply.NoMemory
+stop_reply stopped.Refused = reply.Fault
+stop_reply stopped.Unfit = reply.Fault
+stop_reply stopped.Foreign = reply.Fault
+stop_reply stopped.Tied = reply.Fault
+
+-- the count of faults after that
+abbrev pub stop_faults : Stopped → ℕ → ℕ
+stop_faults stopped.NoMemory faults = faults
+stop_faults stopped.Refused faults = next_number faults
+stop_faults stopped.Unfit faults = next_number faults
+stop_faults stopped.Foreign faults = next_number faults
+stop_faults stopped.Tied faults = next_number faults

@@ -1,0 +1,117 @@
+//! The store.
+ghost use Rattle.std.specs.Prelude.{◌≡◌, ◌≤◌};
+ghost use Rattle.std.specs.FinMap as map;
+ghost use Rattle.sdb_types.specs.declared.record.Request.TheVariants.{Get, Scan, PutIf, DeleteIf};
+ghost use Rattle.sdb_types.specs.Contents.{CanAnswer};
+ghost use Rattle.sdb_codec.specs.Spelling.{KeyFitsFields, RecordFitsFields};
+ghost use Rattle.sdb_store.specs.Store.{Performs, HasCause};
+ghost use Rattle.sdb_sqlite.specs.Written.{written_reply};
+
+use crate::calls::{Written, delete, find, list, put};
+use crate::refused::{KeptRefused, stop};
+use crate::statements::make_table;
+use sdb_store::Store;
+use sdb_types::{Condition, Key, Record, Reply, Span};
+use sqlite::{Alter, Connection, Error, ErrorCode};
+use std::alloc::Global;
+
+/// Records in the table `records` of a database.
+///
+/// A row has the bytes of a key, the table's name, the bytes of the key's partition, and the bytes of the record. A row
+/// whose body spells no record of its key stands for a record without columns. A call that changes anything changes it in one
+/// statement.
+#[derive(Drop)]
+pub struct Kept<S: Alter + Drop> {
+    alloc: Global,
+    connection: Connection<S>,
+    faults: u64,
+}
+
+fn refused(error: Error) -> KeptRefused {
+    match error {
+        Error::SqliteFailure(ErrorCode::OutOfMemory) => KeptRefused::NoMemory,
+        _ => KeptRefused::Database,
+    }
+}
+
+impl<S: Alter + Drop> Kept<S> {
+    /// A store over a connection. The table is made where there is none of its name. The connection is dropped where
+    /// that is refused.
+    pub fn new(alloc: Global, mut connection: Connection<S>) -> Result<Kept<S>, KeptRefused> {
+        match make_table(&mut connection) {
+            Ok(_) => Ok(Kept {
+                alloc,
+                connection,
+                faults: 0,
+            }),
+            Err(error) => Err(refused(error)),
+        }
+    }
+}
+
+fn reply_of(written: Written) -> Reply
+    ensures { result ≡ written_reply written }
+{
+    match written {
+        Written::Applied => Reply::Applied,
+        Written::NotMet(found) => Reply::NotMet(found),
+    }
+}
+
+impl<S: Alter + Drop> Store for Kept<S> {
+    // It does not tell what it holds.
+    ghost tells = { λ _. ⊥ };
+
+    ghost contents = { λ _. map.empty };
+
+    ghost faults = { λ kept. kept.faults };
+
+    fn get(&mut self, key: &Key) -> Reply
+        ensures told { ⊥ → ⊥ }
+        ensures performed { ⊥ → Performs (Get key.now) result map.empty map.empty }
+        ensures lawful { CanAnswer (Get key.now) result }
+        ensures counted { self.old.faults ≤ self.new.faults }
+        ensures cause { HasCause result self.old.faults self.new.faults }
+        ensures unfit { ¬ KeyFitsFields key.now → result ≡ Reply.Fault }
+    {
+        match find(self.alloc, &mut self.connection, key) {
+            Ok(found) => Reply::Found(found),
+            Err(stopped) => stop(&mut self.faults, stopped),
+        }
+    }
+
+    fn scan(&mut self, span: &Span) -> Reply {
+        match list(self.alloc, &mut self.connection, span) {
+            Ok(rows) => Reply::Rows(rows),
+            Err(stopped) => stop(&mut self.faults, stopped),
+        }
+    }
+
+    fn put_if(&mut self, rec: &Record, condition: &Condition) -> Reply
+        ensures told { ⊥ → ⊥ }
+        ensures performed { ⊥ → Performs (PutIf rec.now condition.now) result map.empty map.empty }
+        ensures lawful { CanAnswer (PutIf rec.now condition.now) result }
+        ensures counted { self.old.faults ≤ self.new.faults }
+        ensures cause { HasCause result self.old.faults self.new.faults }
+        ensures unfit { ¬ RecordFitsFields rec.now → result ≡ Reply.Fault }
+    {
+        match put(self.alloc, &mut self.connection, rec, condition) {
+            Ok(written) => reply_of(written),
+            Err(stopped) => stop(&mut self.faults, stopped),
+        }
+    }
+
+    fn delete_if(&mut self, key: &Key, condition: &Condition) -> Reply
+        ensures told { ⊥ → ⊥ }
+        ensures performed { ⊥ → Performs (DeleteIf key.now condition.now) result map.empty map.empty }
+        ensures lawful { CanAnswer (DeleteIf key.now condition.now) result }
+        ensures counted { self.old.faults ≤ self.new.faults }
+        ensures cause { HasCause result self.old.faults self.new.faults }
+        ensures unfit { ¬ KeyFitsFields key.now → result ≡ Reply.Fault }
+    {
+        match delete(self.alloc, &mut self.connection, key, condition) {
+            Ok(written) => reply_of(written),
+            Err(stopped) => stop(&mut self.faults, stopped),
+        }
+    }
+}

@@ -1,0 +1,98 @@
+//! The rows of a scan.
+ghost use Rattle.std.specs.Prelude.{◌≡◌, true, All, IfOk, OnOk};
+ghost use Rattle.std.specs.List.Sorted.{IsPermutation, IsSortedByKey};
+ghost use Rattle.sdb_types.specs.Order.{key_cmp};
+ghost use Rattle.sdb_types.specs.Contents.{in_span as in_span_lem, starts_after as starts_after_lem, rise, are_rows_of};
+
+use crate::body::record_at;
+use crate::refused::Stopped;
+use sdb_codec::{ReadRefused, read_key};
+use sdb_types::{Key, NoMemory, Record, Records, Seq, Span};
+use sqlite::Row;
+use std::alloc::Global;
+
+/// Whether a key lies in a span. Takes no memory.
+fn lies_in(span: &Span, key: &Key) -> bool
+    ensures { result ≡ in_span_lem span.now key.now }
+{
+    if span.table.cmp(&key.table).is_ne() {
+        return false;
+    }
+    match &span.partition {
+        Some(part) => part.cmp(&key.partition).is_eq(),
+        None => true,
+    }
+}
+
+fn key_of(alloc: Global, bytes: &[u8]) -> Result<Key, Stopped> {
+    match read_key(alloc, bytes) {
+        Ok(key) => Ok(key),
+        Err(ReadRefused::BadBytes(_)) => Err(Stopped::Foreign),
+        Err(ReadRefused::NoMemory) => Err(Stopped::NoMemory),
+    }
+}
+
+fn record_of_row(alloc: Global, span: &Span, row: &Row) -> Result<Record, Stopped>
+    ensures { IfOk result (λ r. in_span_lem span.now r.key ≡ true) }
+{
+    let key: Vec<u8> = row.get(0)?;
+    let key = key_of(alloc, &key)?;
+    if !lies_in(span, &key) {
+        return Err(Stopped::Foreign);
+    }
+    let body: Vec<u8> = row.get(1)?;
+    Ok(record_at(alloc, key, &body)?)
+}
+
+fn records_of_rows(alloc: Global, span: &Span, rows: &[Row]) -> Result<Records, Stopped>
+    ensures { IfOk result (λ records. All (λ r. in_span_lem span.now r.key ≡ true) records) }
+{
+    let mut records = Seq::new(alloc);
+    for row in rows {
+        records.push(record_of_row(alloc, span, row)?)?;
+    }
+    Ok(records)
+}
+
+// Puts records in the order of their keys.
+fn put_in_order(records: &mut Vec<Record>) -> Result<(), NoMemory>
+    ensures same { IsPermutation records.old.items records.new.items }
+    ensures sorted { OnOk result (IsSortedByKey (λ r. r.key) key_cmp records.new.items) }
+{
+    records.sort_by(|a, b| a.key.compare(&b.key))?;
+    Ok(())
+}
+
+fn starts_after(key: &Key, records: &[Record]) -> bool
+    ensures { result ≡ starts_after_lem key.now records.now }
+{
+    match records {
+        [] => true,
+        [first, ..] => key.compare(&first.key).is_lt(),
+    }
+}
+
+fn rises(records: &[Record]) -> bool
+    ensures { result ≡ rise records.now }
+{
+    let mut rest = records;
+    while let [first, others @ ..] = rest {
+        if !starts_after(&first.key, others) {
+            return false;
+        }
+        rest = others;
+    }
+    true
+}
+
+/// The records of a span that its rows stand for, in the order of their keys.
+pub fn records_of(alloc: Global, span: &Span, rows: &[Row]) -> Result<Records, Stopped>
+    ensures { IfOk result (λ records. are_rows_of span.now records ≡ true) }
+{
+    let mut records = records_of_rows(alloc, span, rows)?.into_vec();
+    put_in_order(&mut records)?;
+    if !rises(&records) {
+        return Err(Stopped::Tied);
+    }
+    Ok(Seq::from_vec(records))
+}

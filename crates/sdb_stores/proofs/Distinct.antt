@@ -1,0 +1,70 @@
+-- Names that stay distinct when a store comes, goes or is called.
+use Rattle.std.proofs.Common.{◌≡◌, ◌≢◌, ℕ, zero, suc, ◌+◌, ◌<◌, ◌≤◌, List, [], ◌∷◌, ◌++◌, length, map, slice_set, Bool, true, false, Option, Some, None, refl, sym, ap, subst, ◌∙◌, arith, get_or}
+use Rattle.std.specs.Prelude.{slice_get, remove, is_some, if◌then◌else◌, position, IsSomeAnd}
+use Rattle.std.specs.List.{position_or_len}
+use Rattle.std.specs.Option.{option_map}
+use Rattle.std.specs.Str.{bytes_eq}
+use Rattle.std.proofs.lemmas.Grind.{common_steps}
+use Rattle.std.proofs.lemmas.List.{map-set, map-append, length-map}
+use Rattle.std.proofs.lemmas.List.Sums.{fails_before_first}
+use Rattle.std.proofs.lemmas.List.Quantifiers.{all_pairs_push, all_pairs_remove}
+use Rattle.std.proofs.lemmas.Option.{slice_get-map, slice_get-get_or}
+use Rattle.std.proofs.lemmas.Slice.Eq.{bytes_eq-Decides}
+use Rattle.sdb_stores.specs.Shelf.{Shelf, AreDistinct, names_of, place_of}
+use Rattle.sdb_stores.proofs.Called.{names_of-map, map-remove, set_same}
+
+-- names that are distinct among the items are so among what they show
+pub shown : {A : Type 0} (shelf : A → Shelf) (xs : List A) → AreDistinct (map (λ a. (shelf a).name) xs) → AreDistinct (names_of (map shelf xs))
+shown shelf xs h = subst AreDistinct (sym (names_of-map shelf xs)) h
+
+---- one more
+
+none_before : {A : Type 0} (p : A → Bool) (xs : List A) (d : A) → position p xs ≡ None → (k : ℕ) → k < length xs → p (get_or xs k d) ≡ false
+none_before p xs d e k inside =
+    let n : length xs ≤ position_or_len p xs = grind (arith, common_steps) in
+    fails_before_first p xs k d (omega (arith, n))
+
+-- no name is one that has no place among them
+pub apart : (name : List ℕ) (names : List (List ℕ)) → place_of name names ≡ None → (k : ℕ) (d : List ℕ) → k < length names → get_or names k d ≢ name
+apart name names none k d inside same =
+    let e : true ≡ false = sym ((bytes_eq-Decides (get_or names k d) name).1 same) ∙ none_before (λ n. bytes_eq n name) names d none k inside in cc
+
+none_of : {A : Type 0} (o : Option A) → is_some o ≡ false → o ≡ None
+none_of None e = refl
+none_of (Some x) e = absurd (let f : true ≡ false = e in cc)
+
+pub attached : {A : Type 0} (shelf : A → Shelf) (xs ys : List A) (x : A) (done : Bool) (o : Option ℕ) → AreDistinct (map (λ a. (shelf a).name) xs) → o ≡ place_of (shelf x).name (names_of (map shelf xs)) → is_some o ≡ false
+    → ys ≡ (if done then xs ++ x ∷ [] else xs) → AreDistinct (map (λ a. (shelf a).name) ys)
+attached shelf xs ys x false o h found free is = subst (λ (zs : List _). AreDistinct (map (λ a. (shelf a).name) zs)) (sym is) h
+attached shelf xs ys x true o h found free is =
+    let none : place_of (shelf x).name (map (λ a. (shelf a).name) xs) ≡ None = ap (place_of (shelf x).name) (sym (names_of-map shelf xs)) ∙ sym found ∙ none_of o free in
+    subst AreDistinct (sym (ap (map (λ a. (shelf a).name)) is ∙ map-append (λ a. (shelf a).name) xs (x ∷ []))) (all_pairs_push ◌≢◌ (map (λ a. (shelf a).name) xs) (shelf x).name h (apart (shelf x).name (map (λ a. (shelf a).name) xs) none))
+
+-- each that told goes on, and the one that comes tells where it told
+kept : {A : Type 0} (P : A → Type 0) (xs : List A) (y : A) (i : ℕ) → IsSomeAnd (slice_get xs i) P → IsSomeAnd (slice_get (xs ++ y ∷ []) i) P
+kept P [] y i h = absurd h
+kept P (x ∷ xs) y zero h = h
+kept P (x ∷ xs) y (suc i) h = kept P xs y i h
+
+pub told_more : {A : Type 0} (P : A → Type 0) (xs ys : List A) (y : A) → ys ≡ xs ++ y ∷ [] → (i : ℕ) → IsSomeAnd (slice_get xs i) P → IsSomeAnd (slice_get ys i) P
+told_more P xs ys y is i h = subst (λ (zs : List _). IsSomeAnd (slice_get zs i) P) (sym is) (kept P xs y i h)
+
+last : {A : Type 0} (P : A → Type 0) (xs : List A) (y : A) → P y → IsSomeAnd (slice_get (xs ++ y ∷ []) (length xs)) P
+last P [] y h = h
+last P (x ∷ xs) y h = last P xs y h
+
+pub told_last : {A B : Type 0} (P : A → Type 0) (f : A → B) (xs ys : List A) (y : A) → ys ≡ xs ++ y ∷ [] → P y → IsSomeAnd (slice_get ys (length (map f xs))) P
+told_last P f xs ys y is h =
+    subst (λ (zs : List _). IsSomeAnd (slice_get zs (length (map f xs))) P) (sym is)
+    (subst (λ (n : ℕ). IsSomeAnd (slice_get (xs ++ y ∷ []) n) P) (sym (length-map xs f)) (last P xs y h))
+
+---- one taken out, and one that is called
+
+pub detached : {A : Type 0} (f : A → List ℕ) (xs ys : List A) (at : ℕ) → at < length xs → AreDistinct (map f xs) → ys ≡ remove xs at → AreDistinct (map f ys)
+detached f xs ys at inside h is =
+    subst AreDistinct (sym (ap (map f) is ∙ map-remove f xs at)) (all_pairs_remove ◌≢◌ (map f xs) at (subst (λ (n : ℕ). at < n) (sym (length-map xs f)) inside) h)
+
+pub called_on : {A : Type 0} (f : A → List ℕ) (xs : List A) (at : ℕ) (x y : A) → AreDistinct (map f xs) → at < length xs → x ≡ get_or xs at x → f y ≡ f x → AreDistinct (map f (slice_set xs at y))
+called_on f xs at x y h inside is name =
+    let here : slice_get (map f xs) at ≡ Some (f x) = slice_get-map f xs at ∙ ap (option_map f) (slice_get-get_or xs at x inside ∙ ap Some (sym is)) in
+    subst AreDistinct (sym (map-set f xs at y ∙ ap (slice_set (map f xs) at) name ∙ set_same (map f xs) at (f x) here)) h
