@@ -3,14 +3,22 @@
 use Rattle.std.specs.Prelude.{◌≡◌, ◌≢◌, ◌⊎◌, ℕ, ◌+◌, ◌≤◌, ◌<◌, ◌==◌, nat_le, ℤ, Bool, true, false, ◌&&◌, List, [], ◌∷◌, ◌++◌, map, codes, Some, None, length, take, count_by, All, AllPairs, Contains}
 use Rattle.sdb_types.specs.Identifier.{is_identifier}
 use Rattle.sdb_types.specs.declared.value.Value.TheVariants as value
+use Rattle.std.specs.Prelude.{find}
+use Rattle.std.specs.Option.{option_map_or}
+use Rattle.sdb_schema.specs.declared.table.Kind.{Kind}
+use Rattle.sdb_schema.specs.declared.table.Kind.TheVariants as kind
+use Rattle.sdb_schema.specs.declared.table.Table.{Table}
+use Rattle.sdb_model.specs.declared.script.Move.TheVariants as move
 use Rattle.sdb_model.specs.declared.script.Place.{Place}
+use Rattle.sdb_model.specs.declared.script.ScriptClient.{ScriptClient}
 use Rattle.sdb_model.specs.declared.script.Script.{Script}
 use Rattle.sdb_model.specs.declared.statement.Comparison.TheVariants.{Eq}
 use Rattle.sdb_model.specs.declared.statement.Test.TheVariants.{Compare}
 use Rattle.sdb_model.specs.declared.statement.Statement.{Statement}
 use Rattle.sdb_model.specs.declared.statement.Statement.TheVariants as statement
 use Rattle.sdb_model.specs.Reading.{statement_text_of}
-use Rattle.sdb_model.specs.Rows.{fits_int}
+use Rattle.sdb_model.specs.Exec.{find_table}
+use Rattle.sdb_model.specs.Rows.{fits_int, same_name}
 use Rattle.sdb_model.specs.Form.{lines_of, account_name, insert_of, form_lines, form_script, placed_script, is_client_name}
 use Rattle.std.specs.List.{list_all}
 use Rattle.sdb_script.specs.declared.account.AccountStatement.{AccountStatement}
@@ -38,6 +46,38 @@ fits_account account.Begin = true
 fits_account (account.Insert n m) = fits_int n && fits_int m
 fits_account (account.Select n) = fits_int n
 fits_account account.Commit = true
+
+---- the table that statements speak of
+
+abbrev pub is_int : Kind → Bool
+is_int kind.Int = true
+is_int k = false
+
+-- the table has a column of this name, an INT
+abbrev pub has_int : Table → List ℕ → Bool
+has_int t name = option_map_or (λ c. is_int c.kind) (find (λ c. same_name c.name name) t.columns) false
+
+-- these names are this one alone
+abbrev pub are_only : List (List ℕ) → List ℕ → Bool
+are_only [] name = false
+are_only (n ∷ []) name = same_name n name
+are_only (n ∷ m ∷ ns) name = false
+
+-- the key of the table is `id` alone, an INT, and it has a `balance`, an INT
+abbrev pub is_account_table : Table → Bool
+is_account_table t = are_only t.partition (codes "id") && (length t.clustering == 0 && (has_int t (codes "id") && has_int t (codes "balance")))
+
+-- `bank.account` stands in the catalog, and is such a table
+abbrev pub has_accounts : List Table → Bool
+has_accounts catalog = option_map_or is_account_table (find_table catalog account_name) false
+
+-- a statement can be built over a catalog: its `bank.account` is as statements need it, and the numbers are in range
+abbrev pub is_built : List Table → AccountStatement → Bool
+is_built catalog a = has_accounts catalog && fits_account a
+
+-- a script of one client over the tables of a catalog, whose one move is `rest`
+abbrev pub script_of_client : List Place → List Table → ScriptClient → Script
+script_of_client places catalog client = record { places = places; catalog = catalog; clients = client ∷ []; moves = move.Rest ∷ [] }
 
 -- what stands between BEGIN and COMMIT: an INSERT or a SELECT of an account, with numbers in the range of INT
 abbrev pub IsInside : Statement → Type 0

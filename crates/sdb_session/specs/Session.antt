@@ -1,8 +1,9 @@
 -- One client's run of its statements, one after the other, over what a store holds.
-use Rattle.std.specs.Prelude.{◌≡◌, ℕ, ◌+◌, ℤ, pos, Bool, true, false, ◌&&◌, if◌then◌else◌, List, [], ◌∷◌, ◌++◌, fold, length, codes, Option, Some, None, IfSome, is_some, unwrap_or}
+use Rattle.std.specs.Prelude.{◌≡◌, ℕ, ◌+◌, ℤ, pos, Bool, true, false, ◌&&◌, if◌then◌else◌, List, [], ◌∷◌, ◌++◌, map, fold, length, codes, Option, Some, None, IfSome, is_some, unwrap_or}
 use Rattle.std.specs.Option.{option_map}
 use Rattle.std.specs.List.{filter_map, AllByRecursion}
 use Rattle.sdb_types.specs.declared.key.Key.{Key}
+use Rattle.sdb_types.specs.declared.key.TableName.{TableName}
 use Rattle.sdb_types.specs.declared.pair.Pair.{Pair}
 use Rattle.sdb_types.specs.declared.value.Value.{Value}
 use Rattle.sdb_types.specs.declared.value.Value.TheVariants as value
@@ -25,6 +26,9 @@ use Rattle.sdb_model.specs.declared.event.Event.TheVariants as event
 use Rattle.sdb_model.specs.declared.event.How.TheVariants.{Seen}
 use Rattle.sdb_model.specs.declared.event.Point.{Point}
 use Rattle.sdb_model.specs.declared.event.Outcome.{Outcome}
+use Rattle.sdb_model.specs.declared.event.TableDump.{TableDump}
+use Rattle.sdb_model.specs.Exec.{shown}
+use Rattle.sdb_schema.specs.declared.table.Table.{Table}
 use Rattle.sdb_model.specs.Events.{Shelf}
 use Rattle.sdb_model.specs.Form.{account_name}
 use Rattle.sdb_model.specs.Transactions.{id_of}
@@ -205,6 +209,27 @@ account_rows held = filter_map row_shown (rows_in account_span held)
 -- what a run has come to
 abbrev pub outcome_of : List Event → List Point → Contents → Outcome
 outcome_of events order held = record { events = events; order = order; tables = record { name = account_name; rows = account_rows held } ∷ [] }
+
+---- the final rows of any tables
+
+-- all keys of a table
+abbrev pub whole : TableName → Span
+whole table = record { table = table; partition = None }
+
+-- the row of a committed record, all columns in name order; a tombstone has none
+abbrev pub shown_row : Table → Record → Option (List Value)
+shown_row t r = option_map (λ columns. shown t None (record { key = r.key; columns = columns })) (row_of_image r)
+
+-- the rows that the store holds of a table, whose records are committed ones, in the order of their keys
+abbrev pub rows_held : Contents → Table → List (List Value)
+rows_held held t = filter_map (shown_row t) (rows_in (whole t.name) held)
+
+abbrev pub dump_held : Contents → Table → TableDump
+dump_held held t = record { name = t.name; rows = rows_held held t }
+
+-- what a run over the tables of a catalog has come to
+abbrev pub outcome_on : List Table → List Event → List Point → Contents → Outcome
+outcome_on catalog events order held = record { events = events; order = order; tables = map (dump_held held) catalog }
 
 ---- which statements may come
 
