@@ -1,23 +1,27 @@
 -- The ids of one client's transactions, and the keys of their coordinator rows.
-use Rattle.std.proofs.Common.{◌≡◌, ℕ, ◌+◌, ◌*◌, ◌<◌, ◌≤◌, ◌^◌, Bool, true, false, List, [], ◌∷◌, Some, refl, sym, ap, subst, ◌∙◌, arith}
+use Rattle.std.proofs.Common.{◌≡◌, ℕ, ◌+◌, ◌*◌, ◌<◌, ◌≤◌, ◌^◌, Bool, true, false, List, [], ◌∷◌, Option, None, Some, refl, sym, ap, subst, ◌∙◌, arith}
 use Rattle.std.specs.Prelude.{◌==◌, ◌&&◌, nat_le}
 use Rattle.std.specs.Ordering.{eq_by_cmp, is_eq}
 use Rattle.std.specs.Cmp.{tied_itself}
 use Rattle.std.proofs.lemmas.Bool.Decides.{nat_tests}
 use Rattle.sdb_types.specs.declared.txid.TxId.{TxId}
 use Rattle.sdb_types.specs.declared.key.Key.{Key}
+use Rattle.sdb_types.specs.declared.pair.Pair.{Pair}
 use Rattle.sdb_types.specs.declared.value.Value.{Value}
 use Rattle.sdb_types.specs.declared.value.Value.TheVariants as value
 use Rattle.sdb_types.specs.Order.{key_cmp}
 use Rattle.sdb_types.specs.Exact.{equal_of}
 use Rattle.sdb_types.specs.TxId.{id_text}
+use Rattle.sdb_types.specs.Columns.{column}
+use Rattle.sdb_types.specs.Contents.{tx_id}
 use Rattle.sdb_types.proofs.KeyOrder.{key_total, key_exact}
 use Rattle.sdb_record.specs.Coordinator.{coordinator_key_of}
 use Rattle.sdb_record.specs.Ids.{id_of_text}
-use Rattle.sdb_record.proofs.IdLemmas.{id_of_text-id_text}
+use Rattle.sdb_record.specs.Meta.{id_in, id_in_value}
+use Rattle.sdb_record.proofs.IdLemmas.{id_of_text-id_text, id_of_text-is}
 use Rattle.sdb_model.specs.Form.{account_name}
 use Rattle.sdb_model.specs.Transactions.{id_of, client_of, ordinal_of}
-use Rattle.sdb_session.proofs.Basics.{some_is, by_test}
+use Rattle.sdb_session.proofs.Basics.{some_is, by_test, not_none}
 
 pub same_id : (a b : TxId) → a.0 ≡ b.0 → a ≡ b
 same_id a b e = λ i. record { 0 = e i }
@@ -113,3 +117,16 @@ row_apart id key e = rw e refl
 pub account_apart : (id : TxId) (key : Key) → key.table ≡ account_name → eq_by_cmp key_cmp key (coordinator_key_of id) ≡ false
 unfolding coordinator_key_of
 account_apart id key e = rw e refl
+
+-- an id that a record names is small
+pub id_in_small : (columns : List Pair) (id : TxId) → id_in columns ≡ Some id → id.0 < 2 ^ 128
+id_in_small columns id h = by_value (column columns tx_id) h
+  where
+    by_value : (o : Option Value) → id_in_value o ≡ Some id → id.0 < 2 ^ 128
+    by_value None e = absurd (not_none id e)
+    by_value (Some (value.Text text)) e = (id_of_text-is text id e).0
+    by_value (Some value.Null) e = absurd (not_none id e)
+    by_value (Some (value.Bool b)) e = absurd (not_none id e)
+    by_value (Some (value.Int n)) e = absurd (not_none id e)
+    by_value (Some (value.BigInt n)) e = absurd (not_none id e)
+    by_value (Some (value.Blob bytes)) e = absurd (not_none id e)

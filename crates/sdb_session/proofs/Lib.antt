@@ -4,6 +4,7 @@ pub mod Folds
 pub mod Ids
 pub mod Puts
 pub mod Calls
+pub mod Accounts
 pub mod Exec
 pub mod Saids
 pub mod Orders
@@ -12,6 +13,7 @@ pub mod Rows
 pub mod Heard
 pub mod Changes
 pub mod Texts
+pub mod Finals
 pub mod Stands
 pub mod Steps
 pub mod Commits

@@ -1,43 +1,45 @@
 -- What holds after all statements is a run of the headline.
-use Rattle.std.proofs.Common.{◌≡◌, ℕ, zero, suc, ◌+◌, ◌-◌, ◌<◌, ◌≤◌, ◌^◌, Bool, true, false, cond, List, [], ◌∷◌, length, Option, Some, None, refl, sym, ap, subst, ◌∙◌, arith, pos, inl}
+use Rattle.std.proofs.Common.{◌≡◌, ℕ, zero, suc, ◌+◌, ◌-◌, ◌<◌, ◌≤◌, ◌^◌, Bool, true, false, cond, List, [], ◌∷◌, length, Option, Some, None, refl, sym, ap, subst, ◌∙◌, arith, pos, inl, ◌⊎◌}
 use Rattle.std.specs.Prelude.{map, nat_lt, ◌==◌, unwrap_or, is_some, IsSome, IsSomeAnd, Contains}
-use Rattle.std.specs.FinMap.{empty, get-empty}
+use Rattle.std.specs.FinMap.{empty}
 use Rattle.std.specs.Option.{option_and_then, option_map_or}
 use Rattle.std.specs.Result.{result_ok}
 use Rattle.std.proofs.lemmas.Bool.Decides.{nat_tests}
-use Rattle.sdb_types.specs.declared.key.Key.{Key}
-use Rattle.sdb_types.specs.Order.{key_cmp}
 use Rattle.sdb_types.specs.declared.txid.TxId.{TxId}
 use Rattle.sdb_types.specs.declared.record.Record.{Record}
 use Rattle.sdb_types.specs.Contents.{Contents, record_at}
 use Rattle.sdb_record.specs.declared.coordinator.Decided.{Decided}
 use Rattle.sdb_record.specs.declared.coordinator.Decision.TheVariants as decision
-use Rattle.sdb_record.specs.Coordinator.{coordinator_key_of, decision_in}
+use Rattle.sdb_record.specs.Coordinator.{coordinator_key_of, coordinator_table, decision_in}
 use Rattle.sdb_record.proofs.ImageLaws.{row-decision}
+use Rattle.sdb_schema.specs.declared.table.Table.{Table}
+use Rattle.sdb_schema.specs.Catalog.{is_catalog}
 use Rattle.sdb_model.specs.declared.answer.Answer.{Answer}
 use Rattle.sdb_model.specs.declared.answer.Answer.TheVariants as answer
 use Rattle.sdb_model.specs.declared.event.Point.{Point}
 use Rattle.sdb_model.specs.declared.script.ScriptClient.{ScriptClient}
-use Rattle.sdb_model.specs.Exec.{Tables}
+use Rattle.sdb_model.specs.Exec.{Tables, find_table}
 use Rattle.sdb_model.specs.Images.{decision_at}
-use Rattle.sdb_model.specs.Form.{client_script, account_name}
+use Rattle.sdb_script.specs.Accounts.{has_accounts, script_of_client}
 use Rattle.sdb_txn.specs.Txn.{Working}
 use Rattle.sdb_model.specs.Transactions.{Said, id_of, client_of, ordinal_of, point, last_prepare, commit_of, Recorded, IsOrder}
 use Rattle.sdb_model.specs.Told.{dumps_of, AreImages, AreBodies, answers_told, IsTold, KeepsRealTime, StandsBefore, IsRun, commit_answer}
-use Rattle.sdb_session.specs.Session.{Session, shelves_of, outcome_of, account_rows}
+use Rattle.sdb_session.specs.Session.{Session, shelves_of, dump_held, outcome_of}
 use Rattle.sdb_session.specs.Opening.{IsTakenFrom}
 use Rattle.sdb_session.proofs.Basics.{by_test, some_is, not_none}
 use Rattle.sdb_session.proofs.Ids.{is_own, own_says, own_is, own_client, own_ordinal, id_parts}
 use Rattle.sdb_session.proofs.Works.{works_all}
-use Rattle.sdb_session.proofs.Exec.{catalog}
 use Rattle.sdb_session.proofs.Saids.{Finished, IsFinished, AreFinished, finished_at, Parts, parts, no_commit, other_client, NoEnd, nothing_ends, open_ends}
 use Rattle.sdb_session.proofs.Orders.{order_of, AllFrom, all_turned, all_placed, Placed, finished_of, some_at, all_points, contained, contains_own, chain_finished, chain_rises, chain_in_order, stands_before, are_bodies, are_answers}
-use Rattle.sdb_session.proofs.Images.{are_images}
-use Rattle.sdb_session.proofs.Rows.{final_rows}
+use Rattle.sdb_session.proofs.Finals.{final_dumps, nothing_at}
 use Rattle.sdb_session.proofs.Stands.{Past, StandsAt, row_of}
 
-pub nothing_at : (key : Key) → record_at empty key ≡ None
-nothing_at key = rw (get-empty key_cmp key) refl
+-- What is printed of such contents is what plain tables hold: the coordinator's table is none of the catalog's, and where the
+-- catalog has no accounts, nothing stands there.
+pub record IsPrintable (catalog : List Table) (held : Contents) : Type 0 where
+  pub fine : is_catalog catalog ≡ true
+  pub apart : find_table catalog coordinator_table ≡ None
+  pub has : (has_accounts catalog ≡ true) ⊎ (held ≡ empty)
 
 -- what is finished stands within their number
 record Within (k : ℕ) (fs : List Finished) : Type 0 where
@@ -79,7 +81,7 @@ done_own id fs d few =
     let small : ordinal_of id < 2 ^ 64 = omega arith in
     subst (λ (x : TxId). is_own (length fs) x ≡ true) (sym (id_parts id (ordinal_of id) d.client refl)) (own_is (length fs) (ordinal_of id) small w.low w.high)
 
-module _ (c : ScriptClient) (opening : Contents) (d0 : Tables) (k : ℕ) (s : Session) (fs : List Finished) (rest : List Said) (d : Tables) (p : Past c opening d0 k s fs rest d) (bound : k < 2 ^ 64) where
+module _ (catalog : List Table) (c : ScriptClient) (opening : Contents) (d0 : Tables) (k : ℕ) (s : Session) (fs : List Finished) (rest : List Said) (d : Tables) (p : Past catalog c opening d0 k s fs rest d) (bound : k < 2 ^ 64) where
   few : length fs < 2 ^ 64
   few = let a = p.few in omega arith
 
@@ -98,7 +100,7 @@ module _ (c : ScriptClient) (opening : Contents) (d0 : Tables) (k : ℕ) (s : Se
   all_parts : AllFrom (λ j f. Parts s.events (id_of 1 j) f) 1 fs
   all_parts = all_turned (Placed fs) (λ j f. Parts s.events (id_of 1 j) f) 1 (1 + length fs) fs (omega arith) own_parts (all_placed fs)
 
-module _ (c : ScriptClient) (d0 : Tables) (k : ℕ) (s : Session) (fs : List Finished) (rest : List Said) (d : Tables) (p : Past c empty d0 k s fs rest d) (bound : k < 2 ^ 64) (no_end : NoEnd rest) where
+module _ (catalog : List Table) (c : ScriptClient) (d0 : Tables) (k : ℕ) (s : Session) (fs : List Finished) (rest : List Said) (d : Tables) (p : Past catalog c empty d0 k s fs rest d) (bound : k < 2 ^ 64) (no_end : NoEnd rest) where
   ---- which are recorded
 
   decision_own : (id : TxId) → id.0 < 2 ^ 128 → is_own (length fs) id ≡ true → decision_at [] (shelves_of s.held) id ≡ Some (record { decision = decision.Committed; created_at = pos 0 })
@@ -125,7 +127,7 @@ module _ (c : ScriptClient) (d0 : Tables) (k : ℕ) (s : Session) (fs : List Fin
       let r = contained 1 fs id h in
       let low = r.1 in
       let high = r.2 in
-      let a = few c empty d0 k s fs rest d p bound in
+      let a = few catalog c empty d0 k s fs rest d p bound in
       own_recorded id small (ap (is_own (length fs)) (sym r.3) ∙ own_is (length fs) r.0 (omega arith) low (omega arith))
 
   lists : (id : TxId) → id.0 < 2 ^ 128 → Recorded [] (shelves_of s.held) id → Contains (map (λ (q : Point). q.id) (order_of 1 fs)) id
@@ -144,10 +146,10 @@ module _ (c : ScriptClient) (d0 : Tables) (k : ℕ) (s : Session) (fs : List Fin
     recorded = λ id small. (listed id small, lists id small);
     points = all_points (λ q. q.event ≡ point s.events q.id) 1 fs
         (all_turned (λ j f. Parts s.events (id_of 1 j) f × (unwrap_or (last_prepare s.events (id_of 1 j)) f.commit.taken ≡ f.point)) (λ j f. f.point ≡ point s.events (id_of 1 j)) 1 (1 + length fs) fs (omega arith) (λ j f low high h. point_is j f h)
-        (both_from (λ j f. Parts s.events (id_of 1 j) f) (λ j f. unwrap_or (last_prepare s.events (id_of 1 j)) f.commit.taken ≡ f.point) 1 fs (all_parts c empty d0 k s fs rest d p bound) p.points));
+        (both_from (λ j f. Parts s.events (id_of 1 j) f) (λ j f. unwrap_or (last_prepare s.events (id_of 1 j)) f.commit.taken ≡ f.point) 1 fs (all_parts catalog c empty d0 k s fs rest d p bound) p.points));
     rising = chain_rises 1 0 fs p.chain;
     taken = all_points (λ q. IsSome (commit_of s.events q.id)) 1 fs
-        (all_turned (λ j f. Parts s.events (id_of 1 j) f) (λ j f. IsSome (commit_of s.events (id_of 1 j))) 1 (1 + length fs) fs (omega arith) (λ j f low high h. ap is_some h.commit) (all_parts c empty d0 k s fs rest d p bound));
+        (all_turned (λ j f. Parts s.events (id_of 1 j) f) (λ j f. IsSome (commit_of s.events (id_of 1 j))) 1 (1 + length fs) fs (omega arith) (λ j f low high h. ap is_some h.commit) (all_parts catalog c empty d0 k s fs rest d p bound));
   }
 
   ---- told
@@ -161,7 +163,7 @@ module _ (c : ScriptClient) (d0 : Tables) (k : ℕ) (s : Session) (fs : List Fin
     where
       by_place : client_of id ≡ 1 → (o : Option Finished) → finished_at (ordinal_of id) fs ≡ o → Done_as id fs
       by_place client (Some f) at = record { finished = f; at = at; client = client }
-      by_place client None at = absurd (not_none x (sym (no_commit s.events id fs rest client p.heard.spoken (all_finished c empty d0 k s fs rest d p bound) no_end at) ∙ h))
+      by_place client None at = absurd (not_none x (sym (no_commit s.events id fs rest client p.heard.spoken (all_finished catalog c empty d0 k s fs rest d p bound) no_end at) ∙ h))
 
   told_done : (id : TxId) (a : Answer) → commit_answer s.events id ≡ Some a → Done_as id fs
   told_done id a h = by_commit (commit_of s.events id) refl h
@@ -172,15 +174,15 @@ module _ (c : ScriptClient) (d0 : Tables) (k : ℕ) (s : Session) (fs : List Fin
 
   finished_told : (id : TxId) → Done_as id fs → commit_answer s.events id ≡ Some answer.Committed
   finished_told id x =
-      let f = finished_of IsFinished fs (ordinal_of id) x.finished (all_finished c empty d0 k s fs rest d p bound) x.at in
-      ap (option_and_then (λ (y : Said). y.answer)) (parts_of c empty d0 k s fs rest d p bound id x).commit ∙ f.told
+      let f = finished_of IsFinished fs (ordinal_of id) x.finished (all_finished catalog c empty d0 k s fs rest d p bound) x.at in
+      ap (option_and_then (λ (y : Said). y.answer)) (parts_of catalog c empty d0 k s fs rest d p bound id x).commit ∙ f.told
 
   real_time_is : KeepsRealTime [] s.events (shelves_of s.held) (order_of 1 fs)
   real_time_is early late small_early small_late x commits told recorded n began behind =
       let e = answered_done early x commits in
       let l = own_done late fs (recorded_own late small_late recorded) in
-      let pe = parts_of c empty d0 k s fs rest d p bound early e in
-      let pl = parts_of c empty d0 k s fs rest d p bound late l in
+      let pe = parts_of catalog c empty d0 k s fs rest d p bound early e in
+      let pl = parts_of catalog c empty d0 k s fs rest d p bound late l in
       let we = within (ordinal_of early) fs e.finished e.at in
       let wl = within (ordinal_of late) fs l.finished l.at in
       let same : e.finished.commit ≡ x = some_is e.finished.commit x (sym pe.commit ∙ commits) in
@@ -203,48 +205,47 @@ module _ (c : ScriptClient) (d0 : Tables) (k : ℕ) (s : Session) (fs : List Fin
       less_or a b f g = by_test (nat_lt a b) (λ t. f (grind (arith, nat_tests))) (λ t. g (grind (arith, nat_tests)))
 
 -- with the tables run from empty ones
-told_is : (c : ScriptClient) (k : ℕ) (s : Session) (fs : List Finished) (rest : List Said) (d : Tables) → Past c empty empty k s fs rest d → k < 2 ^ 64 → NoEnd rest
-    → IsTold catalog [] s.events (shelves_of s.held) (order_of 1 fs) (record { name = account_name; rows = account_rows s.held } ∷ [])
-told_is c k s fs rest d p bound no_end = record {
+told_is : (catalog : List Table) (c : ScriptClient) (k : ℕ) (s : Session) (fs : List Finished) (rest : List Said) (d : Tables) → Past catalog c empty empty k s fs rest d → k < 2 ^ 64 → NoEnd rest → IsPrintable catalog s.held
+    → IsTold catalog [] s.events (shelves_of s.held) (order_of 1 fs) (map (dump_held s.held) catalog)
+told_is catalog c k s fs rest d p bound no_end print = record {
   bodies = map (λ (f : Finished). f.statements) fs;
-  read = are_bodies s.events 1 fs (all_parts c empty empty k s fs rest d p bound) (all_finished c empty empty k s fs rest d p bound);
-  answers = are_answers s.events 1 fs (all_parts c empty empty k s fs rest d p bound) (all_finished c empty empty k s fs rest d p bound) ∙ sym (ap (λ (r : List (List Answer) × Tables). map (map Some) r.0) p.serial);
-  printed = final_rows s.held d p.agree p.accounts ∙ sym (ap (λ (r : List (List Answer) × Tables). dumps_of catalog r.1) p.serial);
-  images = subst (AreImages catalog [] (shelves_of s.held)) (sym (ap (λ (r : List (List Answer) × Tables). r.1) p.serial)) (are_images s.held d p.settled p.agree);
-  committed = λ id small told. own_recorded c empty k s fs rest d p bound no_end id small (done_own id fs (told_done c empty k s fs rest d p bound no_end id answer.Committed told) (few c empty empty k s fs rest d p bound));
-  known = λ id small recorded. inl (finished_told c empty k s fs rest d p bound no_end id (own_done id fs (recorded_own c empty k s fs rest d p bound no_end id small recorded)));
+  read = are_bodies s.events 1 fs (all_parts catalog c empty empty k s fs rest d p bound) (all_finished catalog c empty empty k s fs rest d p bound);
+  answers = are_answers s.events 1 fs (all_parts catalog c empty empty k s fs rest d p bound) (all_finished catalog c empty empty k s fs rest d p bound) ∙ sym (ap (λ (r : List (List Answer) × Tables). map (map Some) r.0) p.serial);
+  printed = final_dumps catalog s.held d print.fine print.apart p.kept p.images print.has ∙ sym (ap (λ (r : List (List Answer) × Tables). dumps_of catalog r.1) p.serial);
+  images = subst (AreImages catalog [] (shelves_of s.held)) (sym (ap (λ (r : List (List Answer) × Tables). r.1) p.serial)) p.images;
+  committed = λ id small told. own_recorded catalog c empty k s fs rest d p bound no_end id small (done_own id fs (told_done catalog c empty k s fs rest d p bound no_end id answer.Committed told) (few catalog c empty empty k s fs rest d p bound));
+  known = λ id small recorded. inl (finished_told catalog c empty k s fs rest d p bound no_end id (own_done id fs (recorded_own catalog c empty k s fs rest d p bound no_end id small recorded)));
 }
 
-past_run : (c : ScriptClient) (s : Session) (fs : List Finished) (rest : List Said) (d : Tables) → Past c empty empty (length c.statements) s fs rest d → length c.statements < 2 ^ 64 → NoEnd rest
-    → IsRun (client_script c) (shelves_of empty) (shelves_of s.held) (outcome_of s.events s.order s.held)
-past_run c s fs rest d p bound no_end =
+past_run : (catalog : List Table) (c : ScriptClient) (s : Session) (fs : List Finished) (rest : List Said) (d : Tables) → Past catalog c empty empty (length c.statements) s fs rest d → length c.statements < 2 ^ 64 → NoEnd rest → IsPrintable catalog s.held
+    → IsRun (script_of_client [] catalog c) (shelves_of empty) (shelves_of s.held) (outcome_of catalog s.events s.order s.held)
+past_run catalog c s fs rest d p bound no_end print =
     record {
       moments = p.heard.traced.moments;
       follows = works_all c s.events p.heard.works;
       consistent = p.heard.traced.trace;
-      order = subst (IsOrder [] s.events (shelves_of s.held)) (sym p.ordered) (order_is c empty (length c.statements) s fs rest d p bound no_end);
-      told = subst (λ (ps : List Point). IsTold catalog [] s.events (shelves_of s.held) ps (record { name = account_name; rows = account_rows s.held } ∷ [])) (sym p.ordered) (told_is c (length c.statements) s fs rest d p bound no_end);
-      real_time = subst (KeepsRealTime [] s.events (shelves_of s.held)) (sym p.ordered) (real_time_is c empty (length c.statements) s fs rest d p bound no_end);
+      order = subst (IsOrder [] s.events (shelves_of s.held)) (sym p.ordered) (order_is catalog c empty (length c.statements) s fs rest d p bound no_end);
+      told = subst (λ (ps : List Point). IsTold catalog [] s.events (shelves_of s.held) ps (map (dump_held s.held) catalog)) (sym p.ordered) (told_is catalog c (length c.statements) s fs rest d p bound no_end print);
+      real_time = subst (KeepsRealTime [] s.events (shelves_of s.held)) (sym p.ordered) (real_time_is catalog c empty (length c.statements) s fs rest d p bound no_end);
     }
 
-pub stands_run : (c : ScriptClient) (s : Session) (o : Option Working) → StandsAt c empty empty (length c.statements) o s → length c.statements < 2 ^ 64
-    → IsRun (client_script c) (shelves_of empty) (shelves_of s.held) (outcome_of s.events s.order s.held)
-stands_run c s None h bound = past_run c s h.fs [] h.d h.past bound nothing_ends
-stands_run c s (Some w) h bound = past_run c s h.fs (h.begin ∷ h.body) h.d h.past bound (open_ends h.begin h.body h.begins h.plain)
+pub stands_run : (catalog : List Table) (c : ScriptClient) (s : Session) (o : Option Working) → StandsAt catalog c empty empty (length c.statements) o s → length c.statements < 2 ^ 64 → IsPrintable catalog s.held
+    → IsRun (script_of_client [] catalog c) (shelves_of empty) (shelves_of s.held) (outcome_of catalog s.events s.order s.held)
+stands_run catalog c s None h bound print = past_run catalog c s h.fs [] h.d h.past bound nothing_ends print
+stands_run catalog c s (Some w) h bound print = past_run catalog c s h.fs (h.begin ∷ h.body) h.d h.past bound (open_ends h.begin h.body h.begins h.plain) print
 
 ---- from any contents
 
-past_told : (c : ScriptClient) (opening : Contents) (d0 : Tables) (k : ℕ) (s : Session) (fs : List Finished) (rest : List Said) (d : Tables) → Past c opening d0 k s fs rest d → k < 2 ^ 64 → IsTakenFrom opening d0 s
-past_told c opening d0 k s fs rest d p bound = record {
+past_told : (catalog : List Table) (c : ScriptClient) (opening : Contents) (d0 : Tables) (k : ℕ) (s : Session) (fs : List Finished) (rest : List Said) (d : Tables) → Past catalog c opening d0 k s fs rest d → k < 2 ^ 64 → IsTakenFrom catalog opening d0 s
+past_told catalog c opening d0 k s fs rest d p bound = record {
   moments = p.heard.traced.moments;
   trace = p.heard.traced.trace;
   bodies = map (λ (f : Finished). f.statements) fs;
-  read = subst (λ (ps : List Point). AreBodies s.events ps (map (λ (f : Finished). f.statements) fs)) (sym p.ordered) (are_bodies s.events 1 fs (all_parts c opening d0 k s fs rest d p bound) (all_finished c opening d0 k s fs rest d p bound));
-  answers = ap (map (answers_told s.events)) p.ordered ∙ are_answers s.events 1 fs (all_parts c opening d0 k s fs rest d p bound) (all_finished c opening d0 k s fs rest d p bound) ∙ sym (ap (λ (r : List (List Answer) × Tables). map (map Some) r.0) p.serial);
-  printed = final_rows s.held d p.agree p.accounts ∙ sym (ap (λ (r : List (List Answer) × Tables). dumps_of catalog r.1) p.serial);
-  images = subst (AreImages catalog [] (shelves_of s.held)) (sym (ap (λ (r : List (List Answer) × Tables). r.1) p.serial)) (are_images s.held d p.settled p.agree);
+  read = subst (λ (ps : List Point). AreBodies s.events ps (map (λ (f : Finished). f.statements) fs)) (sym p.ordered) (are_bodies s.events 1 fs (all_parts catalog c opening d0 k s fs rest d p bound) (all_finished catalog c opening d0 k s fs rest d p bound));
+  answers = ap (map (answers_told s.events)) p.ordered ∙ are_answers s.events 1 fs (all_parts catalog c opening d0 k s fs rest d p bound) (all_finished catalog c opening d0 k s fs rest d p bound) ∙ sym (ap (λ (r : List (List Answer) × Tables). map (map Some) r.0) p.serial);
+  images = subst (AreImages catalog [] (shelves_of s.held)) (sym (ap (λ (r : List (List Answer) × Tables). r.1) p.serial)) p.images;
 }
 
-pub stands_told : (c : ScriptClient) (opening : Contents) (d0 : Tables) (k : ℕ) (o : Option Working) (s : Session) → StandsAt c opening d0 k o s → k < 2 ^ 64 → IsTakenFrom opening d0 s
-stands_told c opening d0 k None s h bound = past_told c opening d0 k s h.fs [] h.d h.past bound
-stands_told c opening d0 k (Some w) s h bound = past_told c opening d0 k s h.fs (h.begin ∷ h.body) h.d h.past bound
+pub stands_told : (catalog : List Table) (c : ScriptClient) (opening : Contents) (d0 : Tables) (k : ℕ) (o : Option Working) (s : Session) → StandsAt catalog c opening d0 k o s → k < 2 ^ 64 → IsTakenFrom catalog opening d0 s
+stands_told catalog c opening d0 k None s h bound = past_told catalog c opening d0 k s h.fs [] h.d h.past bound
+stands_told catalog c opening d0 k (Some w) s h bound = past_told catalog c opening d0 k s h.fs (h.begin ∷ h.body) h.d h.past bound

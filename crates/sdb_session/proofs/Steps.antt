@@ -21,28 +21,30 @@ use Rattle.sdb_model.specs.Reading.{Reads}
 use Rattle.sdb_model.specs.Rows.{fits_int}
 use Rattle.sdb_schema.specs.declared.table.Table.{Table}
 use Rattle.sdb_model.specs.Transactions.{Said, is_done, is_conflict, changes_nothing, id_of, last_prepare}
-use Rattle.sdb_model.specs.Told.{AreRead, run_body}
+use Rattle.sdb_model.specs.Told.{AreImages, AreRead, run_body}
 use Rattle.sdb_script.specs.declared.account.AccountStatement.{AccountStatement}
 use Rattle.sdb_script.specs.declared.account.AccountStatement.TheVariants as account
 use Rattle.sdb_script.specs.Accounts.{account_text, statement_of, fits_account}
 use Rattle.sdb_txn.specs.Commit.{Noted, write_at}
 use Rattle.sdb_txn.specs.Txn.{Working, begun, is_known, found_at, base_at, row_found, row_with, row_seen, noted, write_of}
-use Rattle.sdb_session.specs.Session.{Session, take_event, account_key, account_columns, account_change, key_read, answer_to, changed_by, reading, begun_session, looked, IsIdle}
+use Rattle.sdb_session.specs.Opening.{IsResolved}
+use Rattle.sdb_session.specs.Session.{Session, take_event, account_key, account_columns, account_change, key_read, answer_to, changed_by, reading, begun_session, looked, shelves_of, IsIdle}
 use Rattle.sdb_session.proofs.Basics.{true_false, length_more}
 use Rattle.sdb_session.proofs.Puts.{AreDistinct, Stand}
-use Rattle.sdb_session.proofs.Exec.{catalog, AreAccounts, accounts_insert, exec_insert, exec_select, tables_after}
+use Rattle.sdb_session.proofs.Exec.{AreAccounts, accounts_insert, exec_insert, exec_select, tables_after}
 use Rattle.sdb_session.proofs.Saids.{Finished, IsPlain, saids_of}
 use Rattle.sdb_session.proofs.Orders.{order_of, all_turned}
-use Rattle.sdb_session.proofs.Images.{Settled, Agree, in_accounts, AreInserts, IsInsert, with_writes}
+use Rattle.sdb_session.proofs.Accounts.{Accounts}
+use Rattle.sdb_session.proofs.Images.{Kept, in_accounts, AreInserts, IsInsert, with_writes, row_read, still_settled}
 use Rattle.sdb_session.proofs.Changes.{AreNotes, all_append, distinct_more, writes_more, not_written, rows_with, row_with_is, row_written, no_row_no_write, base_is, found_last}
 use Rattle.sdb_session.proofs.Heard.{Heard, heard_take, said_by, Quiet, quiet_take, look_heard}
 use Rattle.sdb_session.proofs.Texts.{begin_begins, IsOther, insert_other, select_other, reads_itself}
 use Rattle.sdb_session.proofs.Stands.{Past, Closed, Opened}
 
 -- What is finished stays as it is behind events without a prepare.
-past_quiet : (c : ScriptClient) (opening : Contents) (d0 : Tables) (k n : ℕ) (s t : Session) (fs : List Finished) (rest more : List Said) (d : Tables) → t.order ≡ s.order → t.held ≡ s.held → Past c opening d0 k s fs rest d
-    → Heard c opening n false t.events t.held (saids_of fs ++ more) → Quiet s.events t.events → k ≤ n → Past c opening d0 n t fs more d
-past_quiet c opening d0 k n s t fs rest more d order held p h q le = record {
+past_quiet : (catalog : List Table) (c : ScriptClient) (opening : Contents) (d0 : Tables) (k n : ℕ) (s t : Session) (fs : List Finished) (rest more : List Said) (d : Tables) → t.order ≡ s.order → t.held ≡ s.held → Past catalog c opening d0 k s fs rest d
+    → Heard c opening n false t.events t.held (saids_of fs ++ more) → Quiet s.events t.events → k ≤ n → Past catalog c opening d0 n t fs more d
+past_quiet catalog c opening d0 k n s t fs rest more d order held p h q le = record {
   heard = h;
   chain = p.chain;
   last = let a = p.last in let b = q.longer in omega arith;
@@ -52,16 +54,16 @@ past_quiet c opening d0 k n s t fs rest more d order held p h q le = record {
       (λ j f low high e. ap (λ (o : Option ℕ). unwrap_or o f.commit.taken) (q.prepares (id_of 1 j)) ∙ e) p.points;
   fresh = λ j low high. q.prepares (id_of 1 j) ∙ p.fresh j low high;
   rows = λ id small. ap (λ (m : Contents). record_at m (coordinator_key_of id)) held ∙ p.rows id small;
-  settled = subst Settled (sym held) p.settled;
-  agree = subst (λ (m : Contents). Agree m d) (sym held) p.agree;
+  kept = subst (Kept opening) (sym held) p.kept;
+  images = subst (λ (m : Contents). AreImages catalog [] (shelves_of m) d) (sym held) p.images;
   accounts = p.accounts;
   serial = p.serial;
 }
 
 ---- BEGIN
 
-pub step_begin : (c : ScriptClient) (opening : Contents) (d0 : Tables) (k : ℕ) (s : Session) → Closed c opening d0 k s → slice_get c.statements k ≡ Some (account_text account.Begin) → Opened c opening d0 (k + 1) (begun_session s) (begun (id_of 1 (length s.order + 1)))
-step_begin c opening d0 k s h next =
+pub step_begin : (catalog : List Table) (c : ScriptClient) (opening : Contents) (d0 : Tables) (k : ℕ) (s : Session) → Closed catalog c opening d0 k s → slice_get c.statements k ≡ Some (account_text account.Begin) → Opened catalog c opening d0 (k + 1) (begun_session s) (begun (id_of 1 (length s.order + 1)))
+step_begin catalog c opening d0 k s h next =
     let p = h.past in
     let list : (saids_of h.fs ++ []) ++ said_by s.events (account_text account.Begin) (Some answer.Done) ∷ [] ≡ saids_of h.fs ++ said_by s.events (account_text account.Begin) (Some answer.Done) ∷ [] =
     ap (λ xs. xs ++ said_by s.events (account_text account.Begin) (Some answer.Done) ∷ []) (append-nil (saids_of h.fs)) in
@@ -75,7 +77,7 @@ step_begin c opening d0 k s h next =
       begin = said_by s.events (account_text account.Begin) (Some answer.Done);
       body = [];
       d = h.d;
-      past = past_quiet c opening d0 k (k + 1) s (begun_session s) h.fs [] (said_by s.events (account_text account.Begin) (Some answer.Done) ∷ []) h.d refl refl p heard_here (quiet_take s.events (account_text account.Begin) (Some answer.Done)) (omega arith);
+      past = past_quiet catalog c opening d0 k (k + 1) s (begun_session s) h.fs [] (said_by s.events (account_text account.Begin) (Some answer.Done) ∷ []) h.d refl refl p heard_here (quiet_take s.events (account_text account.Begin) (Some answer.Done)) (omega arith);
       begins = rw begin_begins refl;
       low = omega arith;
       high = omega arith;
@@ -119,12 +121,12 @@ other_of (account.Select n) h = select_other n
 other_of account.Commit h = true_false (sym h)
 
 -- its answer is that of plain tables
-exec_looks : (a : AccountStatement) (d : Tables) → looks a ≡ true → fits_account a ≡ true → AreAccounts d
+exec_looks : (catalog : List Table) (a : AccountStatement) (d : Tables) → Accounts catalog → looks a ≡ true → fits_account a ≡ true → AreAccounts d
     → exec catalog (statement_of a) d ≡ (answer_to a (get d (key_read a)), tables_after a (get d (key_read a)) d)
-exec_looks account.Begin d h f all = true_false (sym h)
-exec_looks (account.Insert n m) d h f all = exec_insert n m d (and_first (fits_int n) (fits_int m) f) (and_second (fits_int n) (fits_int m) f)
-exec_looks (account.Select n) d h f all = exec_select n d f all
-exec_looks account.Commit d h f all = true_false (sym h)
+exec_looks catalog account.Begin d k h f all = true_false (sym h)
+exec_looks catalog (account.Insert n m) d k h f all = exec_insert catalog n m d k (and_first (fits_int n) (fits_int m) f) (and_second (fits_int n) (fits_int m) f)
+exec_looks catalog (account.Select n) d k h f all = exec_select catalog n d k f all
+exec_looks catalog account.Commit d k h f all = true_false (sym h)
 
 plain_at : (a : AccountStatement) (given : Answer) (taken answered : ℕ) → IsOther a → is_done (Some given) ≡ false → is_conflict (Some given) ≡ false → changes_nothing given ≡ false → IsPlain (record { taken = taken; text = account_text a; answer = Some given; answered = answered })
 plain_at a given taken answered o done conflict nothing = record { begins = rw o.begins refl; ends = rw (o.commits, conflict, o.rolls) refl; effective = rw nothing refl }
@@ -149,13 +151,13 @@ with_answers xs d = (xs, d)
 abbrev behind : List Answer → Answer × Tables → List Answer × Tables
 behind xs q = (xs ++ q.0 ∷ [], q.1)
 
-run_behind : (ss : List Statement) (s : Statement) (d : Tables) → run_body catalog (ss ++ s ∷ []) d ≡ onto catalog s (run_body catalog ss d)
-run_behind [] s d = refl
-run_behind (t ∷ ss) s d = ap (before (exec catalog t d).0) (run_behind ss s (exec catalog t d).1)
+run_behind : (catalog : List Table) (ss : List Statement) (s : Statement) (d : Tables) → run_body catalog (ss ++ s ∷ []) d ≡ onto catalog s (run_body catalog ss d)
+run_behind catalog [] s d = refl
+run_behind catalog (t ∷ ss) s d = ap (before (exec catalog t d).0) (run_behind catalog ss s (exec catalog t d).1)
 
 -- the body of a transaction with a statement more
-run_more : (ss : List Statement) (s : Statement) (d e : Tables) (answers : List Answer) (q : Answer × Tables) → run_body catalog ss d ≡ (answers, e) → exec catalog s e ≡ q → run_body catalog (ss ++ s ∷ []) d ≡ behind answers q
-run_more ss s d e answers q h x = run_behind ss s d ∙ ap (onto catalog s) h ∙ ap (behind answers) x
+run_more : (catalog : List Table) (ss : List Statement) (s : Statement) (d e : Tables) (answers : List Answer) (q : Answer × Tables) → run_body catalog ss d ≡ (answers, e) → exec catalog s e ≡ q → run_body catalog (ss ++ s ∷ []) d ≡ behind answers q
+run_more catalog ss s d e answers q h x = run_behind catalog ss s d ∙ ap (onto catalog s) h ∙ ap (behind answers) x
 
 read_more : (xs : List Said) (x : Said) (ss : List Statement) (s : Statement) → AreRead xs ss → Reads x.text s → AreRead (xs ++ x ∷ []) (ss ++ s ∷ [])
 read_more [] x [] s h r = (r, tt)
@@ -192,16 +194,19 @@ base_read : (s : Session) (w : Working) (a : AccountStatement) → AreNotes w.re
 base_read s w a notes =
     base_is (reading s w a).reads s.held (key_read a) (after_notes w (key_read a) s.held (is_known w (key_read a)) notes) (after_known w (key_read a) (record_at s.held (key_read a)) (is_known w (key_read a)) refl)
 
+-- the account of a statement that looks at one is resolved
+looks_resolved : (opening : Contents) (a : AccountStatement) → looks a ≡ true → IsResolved opening a → IfSome (record_at opening (key_read a)) (IsBaseOf (key_read a))
+looks_resolved opening account.Begin is h = true_false (sym is)
+looks_resolved opening (account.Insert n m) is h = h
+looks_resolved opening (account.Select n) is h = h
+looks_resolved opening account.Commit is h = true_false (sym is)
+
 -- the row that is seen where a key has been read is that of the tables with the transaction's writes
-seen_row : (s : Session) (w : Working) (a : AccountStatement) (d : Tables) → AreNotes w.reads s.held → AreInserts w.writes → AreDistinct w.writes → Agree s.held d → row_seen (reading s w a) (key_read a) ≡ get (with_writes w.writes d) (key_read a)
-seen_row s w a d notes inserts distinct agree =
-    let stands : get d (key_read a) ≡ row_found (record_at s.held (key_read a)) = agree.at (key_read a) ∙ ap (λ (b : Bool). cond b (row_found (record_at s.held (key_read a))) None) (key_in a) in
-    seen_base s w a notes ∙ row_with_is (write_at w.writes (key_read a)) (record_at s.held (key_read a)) ∙ ap (row_written (write_at w.writes (key_read a))) (sym stands) ∙ sym (rows_with w.writes d (key_read a) inserts distinct)
-  where
-    seen_base : (s : Session) (w : Working) (a : AccountStatement) → AreNotes w.reads s.held → row_seen (reading s w a) (key_read a) ≡ row_with (write_at w.writes (key_read a)) (record_at s.held (key_read a))
-    seen_base s w a notes =
-        ap (λ (ws : List Write). row_with (write_at ws (key_read a)) (base_at (reading s w a).reads (key_read a))) (after_writes w (key_read a) (record_at s.held (key_read a)) (is_known w (key_read a)))
-        ∙ ap (row_with (write_at w.writes (key_read a))) (base_read s w a notes)
+seen_row : (s : Session) (w : Working) (a : AccountStatement) (d : Tables) → AreNotes w.reads s.held → AreInserts w.writes → AreDistinct w.writes → get d (key_read a) ≡ row_found (record_at s.held (key_read a)) → row_seen (reading s w a) (key_read a) ≡ get (with_writes w.writes d) (key_read a)
+seen_row s w a d notes inserts distinct stands =
+    ap (λ (ws : List Write). row_with (write_at ws (key_read a)) (base_at (reading s w a).reads (key_read a))) (after_writes w (key_read a) (record_at s.held (key_read a)) (is_known w (key_read a)))
+    ∙ ap (row_with (write_at w.writes (key_read a))) (base_read s w a notes)
+    ∙ row_with_is (write_at w.writes (key_read a)) (record_at s.held (key_read a)) ∙ ap (row_written (write_at w.writes (key_read a))) (sym stands) ∙ sym (rows_with w.writes d (key_read a) inserts distinct)
 
 ---- what it leaves of the transaction
 
@@ -267,18 +272,20 @@ look_idle s w a row h = changed_idle a row (reading s w a) (after_idle w (key_re
 abbrev said_as : Session → Working → AccountStatement → ℕ → Said
 said_as s w a answered = record { taken = 1 + length s.events; text = account_text a; answer = Some (answer_to a (row_seen (reading s w a) (key_read a))); answered = answered }
 
-pub step_look : (c : ScriptClient) (opening : Contents) (d0 : Tables) (k : ℕ) (s : Session) (w : Working) (a : AccountStatement) → Opened c opening d0 k s w → looks a ≡ true → fits_account a ≡ true → slice_get c.statements k ≡ Some (account_text a)
-    → Opened c opening d0 (k + 1) (looked s w a) (changed_by a (row_seen (reading s w a) (key_read a)) (reading s w a))
-step_look c opening d0 k s w a h is fits next =
+pub step_look : (catalog : List Table) (c : ScriptClient) (opening : Contents) (d0 : Tables) (k : ℕ) (s : Session) (w : Working) (a : AccountStatement) → Accounts catalog → IsResolved opening a → Opened catalog c opening d0 k s w → looks a ≡ true → fits_account a ≡ true → slice_get c.statements k ≡ Some (account_text a)
+    → Opened catalog c opening d0 (k + 1) (looked s w a) (changed_by a (row_seen (reading s w a) (key_read a)) (reading s w a))
+step_look catalog c opening d0 k s w a known resolved h is fits next =
     let p = h.past in
+    let settled = still_settled opening s.held (key_read a) (key_in a) (looks_resolved opening a is resolved) p.kept in
+    let stands = row_read catalog s.held h.d (key_read a) known p.images (key_in a) settled in
     let heard = look_heard c opening k s.events s.held (saids_of h.fs ++ h.begin ∷ h.body) (is_known w (key_read a)) (account_text a) (key_read a) (answer_to a (row_seen (reading s w a) (key_read a))) p.heard next in
     let list : (saids_of h.fs ++ h.begin ∷ h.body) ++ said_as s w a heard.answered ∷ [] ≡ saids_of h.fs ++ h.begin ∷ (h.body ++ said_as s w a heard.answered ∷ []) = append_assoc (saids_of h.fs) (h.begin ∷ h.body) (said_as s w a heard.answered ∷ []) in
     let same : (reading s w a).writes ≡ w.writes = after_writes w (key_read a) (record_at s.held (key_read a)) (is_known w (key_read a)) in
-    let seen : row_seen (reading s w a) (key_read a) ≡ get (with_writes w.writes h.d) (key_read a) = seen_row s w a h.d h.notes h.inserts h.distinct p.agree in
-    let done = wrote a (row_seen (reading s w a) (key_read a)) (reading s w a) s.held h.d refl (base_read s w a h.notes) (p.settled.at (key_read a) (key_in a))
+    let seen : row_seen (reading s w a) (key_read a) ≡ get (with_writes w.writes h.d) (key_read a) = seen_row s w a h.d h.notes h.inserts h.distinct stands in
+    let done = wrote a (row_seen (reading s w a) (key_read a)) (reading s w a) s.held h.d refl (base_read s w a h.notes) settled
     (subst AreInserts (sym same) h.inserts) (subst AreDistinct (sym same) h.distinct) (subst (λ (ws : List Write). Stand (λ x. x.base) ws s.held) (sym same) h.bases) in
     let ran : exec catalog (statement_of a) (with_writes w.writes h.d) ≡ (answer_to a (row_seen (reading s w a) (key_read a)), tables_after a (row_seen (reading s w a) (key_read a)) (with_writes w.writes h.d)) =
-    subst (λ (x : Option (List Pair)). exec catalog (statement_of a) (with_writes w.writes h.d) ≡ (answer_to a x, tables_after a x (with_writes w.writes h.d))) (sym seen) (exec_looks a (with_writes w.writes h.d) is fits h.accounts) in
+    subst (λ (x : Option (List Pair)). exec catalog (statement_of a) (with_writes w.writes h.d) ≡ (answer_to a x, tables_after a x (with_writes w.writes h.d))) (sym seen) (exec_looks catalog a (with_writes w.writes h.d) known is fits h.accounts) in
     let tables : tables_after a (row_seen (reading s w a) (key_read a)) (with_writes w.writes h.d) ≡ with_writes (changed_by a (row_seen (reading s w a) (key_read a)) (reading s w a)).writes h.d =
     ap (λ (ws : List Write). tables_after a (row_seen (reading s w a) (key_read a)) (with_writes ws h.d)) (sym same) ∙ done.tables in
     let high = h.high in
@@ -288,7 +295,7 @@ step_look c opening d0 k s w a h is fits next =
       begin = h.begin;
       body = h.body ++ said_as s w a heard.answered ∷ [];
       d = h.d;
-      past = past_quiet c opening d0 k (k + 1) s (looked s w a) h.fs (h.begin ∷ h.body) (h.begin ∷ (h.body ++ said_as s w a heard.answered ∷ [])) h.d refl refl p
+      past = past_quiet catalog c opening d0 k (k + 1) s (looked s w a) h.fs (h.begin ∷ h.body) (h.begin ∷ (h.body ++ said_as s w a heard.answered ∷ [])) h.d refl refl p
           (subst (λ (ss : List Said). Heard c opening (k + 1) false (looked s w a).events s.held ss) list heard.heard) heard.quiet (omega arith);
       begins = h.begins;
       low = h.low;
@@ -298,7 +305,7 @@ step_look c opening d0 k s w a h is fits next =
       answers = h.answers ++ answer_to a (row_seen (reading s w a) (key_read a)) ∷ [];
       read = read_more h.body (said_as s w a heard.answered) h.statements (statement_of a) h.read (reads_itself a);
       answered = answers_more h.body (said_as s w a heard.answered) h.answers (answer_to a (row_seen (reading s w a) (key_read a))) h.answered refl;
-      run = run_more h.statements (statement_of a) h.d (with_writes w.writes h.d) h.answers (answer_to a (row_seen (reading s w a) (key_read a)), tables_after a (row_seen (reading s w a) (key_read a)) (with_writes w.writes h.d)) h.run ran
+      run = run_more catalog h.statements (statement_of a) h.d (with_writes w.writes h.d) h.answers (answer_to a (row_seen (reading s w a) (key_read a)), tables_after a (row_seen (reading s w a) (key_read a)) (with_writes w.writes h.d)) h.run ran
           ∙ ap (with_answers (h.answers ++ answer_to a (row_seen (reading s w a) (key_read a)) ∷ [])) tables;
       accounts = subst AreAccounts tables (accounts_after a (row_seen (reading s w a) (key_read a)) (with_writes w.writes h.d) h.accounts);
       id = changed_id a (row_seen (reading s w a) (key_read a)) (reading s w a) ∙ after_id w (key_read a) (record_at s.held (key_read a)) (is_known w (key_read a)) ∙ h.id;

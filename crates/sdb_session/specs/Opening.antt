@@ -1,40 +1,57 @@
 -- One client's run from any contents.
-use Rattle.std.specs.Prelude.{◌≡◌, ℤ, List, [], ◌∷◌, map, Some, None, IfSome, true}
+use Rattle.std.specs.Prelude.{◌≡◌, ℤ, false, List, [], map, Some, None, IfSome}
 use Rattle.std.specs.List.{AllByRecursion}
 use Rattle.std.specs.FinMap.{entries}
-use Rattle.std.specs.Ordering.{is_eq}
 use Rattle.sdb_types.specs.declared.key.Key.{Key}
 use Rattle.sdb_types.specs.declared.txid.TxId.{TxId}
-use Rattle.sdb_types.specs.Order.{table_cmp}
+use Rattle.sdb_types.specs.declared.record.Record.{Record}
+use Rattle.sdb_types.specs.declared.record.State.TheVariants.{Committed}
 use Rattle.sdb_types.specs.Contents.{Contents, record_at}
-use Rattle.sdb_record.specs.Coordinator.{coordinator_key_of}
+use Rattle.sdb_record.specs.Coordinator.{coordinator_key_of, coordinator_table}
+use Rattle.sdb_record.specs.Meta.{id_in, is_in}
 use Rattle.sdb_record.specs.Rolls.{IsBaseOf}
+use Rattle.sdb_schema.specs.declared.table.Table.{Table}
 use Rattle.sdb_model.specs.declared.statement.Statement.{Statement}
 use Rattle.sdb_model.specs.Events.{Shelf, IsTrace}
-use Rattle.sdb_model.specs.Exec.{Tables}
-use Rattle.sdb_model.specs.Form.{account_name, account_table}
+use Rattle.sdb_model.specs.Exec.{Tables, find_table}
+use Rattle.sdb_model.specs.Form.{account_name}
 use Rattle.sdb_model.specs.Transactions.{client_of}
-use Rattle.sdb_model.specs.Told.{serial, dumps_of, AreImages, AreBodies, answers_told}
-use Rattle.sdb_session.specs.Session.{Session, shelves_of, account_key, account_rows}
+use Rattle.sdb_model.specs.Told.{serial, AreImages, AreBodies, answers_told}
+use Rattle.sdb_script.specs.declared.account.AccountStatement.{AccountStatement}
+use Rattle.sdb_script.specs.declared.account.AccountStatement.TheVariants as account
+use Rattle.sdb_session.specs.Session.{Session, shelves_of, account_key}
 
--- Contents from which a client can begin: each record of an account is a committed one that passes the checks, and no
--- transaction of the client has a coordinator row yet.
-pub record IsOpening (opening : Contents) : Type 0 where
-  pub settled : (key : Key) → is_eq (table_cmp account_name key.table) ≡ true → IfSome (record_at opening key) (IsBaseOf key)
+-- Contents from which a client can begin over the tables of a catalog. Records may stand there in any state, and of any
+-- transactions but the client's own.
+pub record IsOpening (catalog : List Table) (opening : Contents) : Type 0 where
+  -- the coordinator's table is none of the catalog's
+  pub apart : find_table catalog coordinator_table ≡ None
+  -- no transaction of the client has a coordinator row yet
   pub fresh : (id : TxId) → client_of id ≡ 1 → record_at opening (coordinator_key_of id) ≡ None
+  -- and none has left a record unresolved
+  pub unwritten : (key : Key) (r : Record) (id : TxId) → record_at opening key ≡ Some r → is_in Committed r.columns ≡ false → id_in r.columns ≡ Some id → client_of id ≡ 1 → ⊥
 
--- each row is that of an account
+-- The account that a statement names has a committed record, which passes the checks, or none.
+abbrev pub IsResolved : Contents → AccountStatement → Type 0
+IsResolved opening account.Begin = Unit {0}
+IsResolved opening (account.Insert n m) = IfSome (record_at opening (account_key n)) (IsBaseOf (account_key n))
+IsResolved opening (account.Select n) = IfSome (record_at opening (account_key n)) (IsBaseOf (account_key n))
+IsResolved opening account.Commit = Unit {0}
+
+abbrev pub AreResolved : Contents → List AccountStatement → Type 0
+AreResolved opening ss = AllByRecursion (IsResolved opening) ss
+
+-- each row of `bank.account` is that of an account
 abbrev pub AreAccountRows : Tables → Type 0
-AreAccountRows d = AllByRecursion (λ e. (n : ℤ) × (e.0 ≡ account_key n)) (entries d)
+AreAccountRows d = AllByRecursion (λ e. e.0.table ≡ account_name → (n : ℤ) × (e.0 ≡ account_key n)) (entries d)
 
 -- What a client was told since these contents, whose rows are these tables: a trace agrees with the events; the transactions
--- that it committed, in their order, run whole on these tables, give the answers and the rows; and those are the images
--- of what the store holds.
-pub record IsTakenFrom (opening : Contents) (d0 : Tables) (s : Session) : Type 0 where
+-- that it committed, in their order, run whole on these tables, give the answers; and the rows that they leave are the
+-- images of what the store holds.
+pub record IsTakenFrom (catalog : List Table) (opening : Contents) (d0 : Tables) (s : Session) : Type 0 where
   pub moments : List (List Shelf)
   pub trace : IsTrace [] s.events (shelves_of opening) moments (shelves_of s.held)
   pub bodies : List (List Statement)
   pub read : AreBodies s.events s.order bodies
-  pub answers : map (answers_told s.events) s.order ≡ map (map Some) (serial (account_table ∷ []) bodies d0).0
-  pub printed : record { name = account_name; rows = account_rows s.held } ∷ [] ≡ dumps_of (account_table ∷ []) (serial (account_table ∷ []) bodies d0).1
-  pub images : AreImages (account_table ∷ []) [] (shelves_of s.held) (serial (account_table ∷ []) bodies d0).1
+  pub answers : map (answers_told s.events) s.order ≡ map (map Some) (serial catalog bodies d0).0
+  pub images : AreImages catalog [] (shelves_of s.held) (serial catalog bodies d0).1

@@ -191,27 +191,6 @@ taken_all s ss = fold taken s ss
 
 ---- the final rows
 
-abbrev pub account_span : Span
-account_span = record { table = account_name; partition = None }
-
-abbrev pub first_value : List Value → Value
-first_value [] = value.Null
-first_value (v ∷ vs) = v
-
--- the row of an account's record: its balance and its id; a tombstone has none
-abbrev pub row_shown : Record → Option (List Value)
-row_shown r = option_map (λ columns. balance_of columns ∷ first_value r.key.partition ∷ []) (row_of_image r)
-
--- the rows of the accounts that the store holds
-abbrev pub account_rows : Contents → List (List Value)
-account_rows held = filter_map row_shown (rows_in account_span held)
-
--- what a run has come to
-abbrev pub outcome_of : List Event → List Point → Contents → Outcome
-outcome_of events order held = record { events = events; order = order; tables = record { name = account_name; rows = account_rows held } ∷ [] }
-
----- the final rows of any tables
-
 -- all keys of a table
 abbrev pub whole : TableName → Span
 whole table = record { table = table; partition = None }
@@ -228,8 +207,8 @@ abbrev pub dump_held : Contents → Table → TableDump
 dump_held held t = record { name = t.name; rows = rows_held held t }
 
 -- what a run over the tables of a catalog has come to
-abbrev pub outcome_on : List Table → List Event → List Point → Contents → Outcome
-outcome_on catalog events order held = record { events = events; order = order; tables = map (dump_held held) catalog }
+abbrev pub outcome_of : List Table → List Event → List Point → Contents → Outcome
+outcome_of catalog events order held = record { events = events; order = order; tables = map (dump_held held) catalog }
 
 ---- which statements may come
 
