@@ -269,4 +269,4 @@ taken_from catalog c opening d0 ss clear resolved images accounts texts bound bu
     let r = reach catalog c opening d0 [] ss [] (start opening) clear bound (texts ∙ ap (map account_text) (sym all))
     (record { stands = start_stands catalog c opening d0 images accounts; idle = tt; later = ap (are_taken false) all ∙ built; fit = ap (list_all (is_built catalog)) all ∙ fit; resolved = subst (AreResolved opening) (sym all) resolved }) in
     let size : length ss ≡ length c.statements = sym (ap length texts ∙ length-map ss account_text) in
-    stands_told catalog c opening d0 (length ss) (taken_all (start opening) ss).current (taken_all (start opening) ss) r.stands (omega arith)
+    stands_told catalog c opening d0 (length ss) (taken_all (start opening) ss).current (taken_all (start opening) ss) refl r.stands (omega arith)

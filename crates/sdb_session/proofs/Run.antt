@@ -1,5 +1,5 @@
 -- What holds after all statements is a run of the headline.
-use Rattle.std.proofs.Common.{◌≡◌, ℕ, zero, suc, ◌+◌, ◌-◌, ◌<◌, ◌≤◌, ◌^◌, Bool, true, false, cond, List, [], ◌∷◌, length, Option, Some, None, refl, sym, ap, subst, ◌∙◌, arith, pos, inl, ◌⊎◌}
+use Rattle.std.proofs.Common.{◌≡◌, ℕ, zero, suc, ◌+◌, ◌-◌, ◌<◌, ◌≤◌, ◌^◌, Bool, true, false, cond, List, [], ◌∷◌, length, Option, Some, None, IfSome, refl, sym, ap, subst, ◌∙◌, arith, pos, inl, ◌⊎◌}
 use Rattle.std.specs.Prelude.{map, nat_lt, ◌==◌, unwrap_or, is_some, IsSome, IsSomeAnd, Contains}
 use Rattle.std.specs.FinMap.{empty}
 use Rattle.std.specs.Option.{option_and_then, option_map_or}
@@ -22,17 +22,17 @@ use Rattle.sdb_model.specs.Exec.{Tables, find_table}
 use Rattle.sdb_model.specs.Images.{decision_at}
 use Rattle.sdb_script.specs.Accounts.{has_accounts, script_of_client}
 use Rattle.sdb_txn.specs.Txn.{Working}
-use Rattle.sdb_model.specs.Transactions.{Said, id_of, client_of, ordinal_of, point, last_prepare, commit_of, Recorded, IsOrder}
-use Rattle.sdb_model.specs.Told.{dumps_of, AreImages, AreBodies, answers_told, IsTold, KeepsRealTime, StandsBefore, IsRun, commit_answer}
+use Rattle.sdb_model.specs.Transactions.{Said, id_of, body, client_of, ordinal_of, point, last_prepare, commit_of, Recorded, IsOrder}
+use Rattle.sdb_model.specs.Told.{dumps_of, serial, AreImages, AreBodies, AreRead, answers_told, IsTold, KeepsRealTime, StandsBefore, IsRun, commit_answer}
 use Rattle.sdb_session.specs.Session.{Session, shelves_of, dump_held, outcome_of}
-use Rattle.sdb_session.specs.Opening.{IsTakenFrom}
+use Rattle.sdb_session.specs.Opening.{IsTakenFrom, IsToldInside}
 use Rattle.sdb_session.proofs.Basics.{by_test, some_is, not_none}
 use Rattle.sdb_session.proofs.Ids.{is_own, own_says, own_is, own_client, own_ordinal, id_parts}
 use Rattle.sdb_session.proofs.Works.{works_all}
-use Rattle.sdb_session.proofs.Saids.{Finished, IsFinished, AreFinished, finished_at, Parts, parts, no_commit, other_client, NoEnd, nothing_ends, open_ends}
+use Rattle.sdb_session.proofs.Saids.{Finished, IsFinished, AreFinished, finished_at, Parts, parts, no_commit, other_client, NoEnd, nothing_ends, open_ends, open_body}
 use Rattle.sdb_session.proofs.Orders.{order_of, AllFrom, all_turned, all_placed, Placed, finished_of, some_at, all_points, contained, contains_own, chain_finished, chain_rises, chain_in_order, stands_before, are_bodies, are_answers}
 use Rattle.sdb_session.proofs.Finals.{final_dumps, nothing_at}
-use Rattle.sdb_session.proofs.Stands.{Past, StandsAt, row_of}
+use Rattle.sdb_session.proofs.Stands.{Past, Opened, StandsAt, row_of}
 
 -- What is printed of such contents is what plain tables hold: the coordinator's table is none of the catalog's, and where the
 -- catalog has no accounts, nothing stands there.
@@ -236,16 +236,34 @@ stands_run catalog c s (Some w) h bound print = past_run catalog c s h.fs (h.beg
 
 ---- from any contents
 
-past_told : (catalog : List Table) (c : ScriptClient) (opening : Contents) (d0 : Tables) (k : ℕ) (s : Session) (fs : List Finished) (rest : List Said) (d : Tables) → Past catalog c opening d0 k s fs rest d → k < 2 ^ 64 → IsTakenFrom catalog opening d0 s
-past_told catalog c opening d0 k s fs rest d p bound = record {
-  moments = p.heard.traced.moments;
-  trace = p.heard.traced.trace;
-  bodies = map (λ (f : Finished). f.statements) fs;
-  read = subst (λ (ps : List Point). AreBodies s.events ps (map (λ (f : Finished). f.statements) fs)) (sym p.ordered) (are_bodies s.events 1 fs (all_parts catalog c opening d0 k s fs rest d p bound) (all_finished catalog c opening d0 k s fs rest d p bound));
-  answers = ap (map (answers_told s.events)) p.ordered ∙ are_answers s.events 1 fs (all_parts catalog c opening d0 k s fs rest d p bound) (all_finished catalog c opening d0 k s fs rest d p bound) ∙ sym (ap (λ (r : List (List Answer) × Tables). map (map Some) r.0) p.serial);
-  images = subst (AreImages catalog [] (shelves_of s.held)) (sym (ap (λ (r : List (List Answer) × Tables). r.1) p.serial)) p.images;
-}
+past_told : (catalog : List Table) (c : ScriptClient) (opening : Contents) (d0 : Tables) (k : ℕ) (s : Session) (fs : List Finished) (rest : List Said) (d : Tables) → Past catalog c opening d0 k s fs rest d → k < 2 ^ 64 → IfSome s.current (λ w. IsToldInside catalog s.events w.id d) → IsTakenFrom catalog opening d0 s
+past_told catalog c opening d0 k s fs rest d p bound inside =
+    let left : (serial catalog (map (λ (f : Finished). f.statements) fs) d0).1 ≡ d = ap (λ (r : List (List Answer) × Tables). r.1) p.serial in
+    record {
+      moments = p.heard.traced.moments;
+      trace = p.heard.traced.trace;
+      bodies = map (λ (f : Finished). f.statements) fs;
+      read = subst (λ (ps : List Point). AreBodies s.events ps (map (λ (f : Finished). f.statements) fs)) (sym p.ordered) (are_bodies s.events 1 fs (all_parts catalog c opening d0 k s fs rest d p bound) (all_finished catalog c opening d0 k s fs rest d p bound));
+      answers = ap (map (answers_told s.events)) p.ordered ∙ are_answers s.events 1 fs (all_parts catalog c opening d0 k s fs rest d p bound) (all_finished catalog c opening d0 k s fs rest d p bound) ∙ sym (ap (λ (r : List (List Answer) × Tables). map (map Some) r.0) p.serial);
+      inside = subst (λ (x : Tables). IfSome s.current (λ w. IsToldInside catalog s.events w.id x)) (sym left) inside;
+      images = subst (AreImages catalog [] (shelves_of s.held)) (sym left) p.images;
+    }
 
-pub stands_told : (catalog : List Table) (c : ScriptClient) (opening : Contents) (d0 : Tables) (k : ℕ) (o : Option Working) (s : Session) → StandsAt catalog c opening d0 k o s → k < 2 ^ 64 → IsTakenFrom catalog opening d0 s
-stands_told catalog c opening d0 k None s h bound = past_told catalog c opening d0 k s h.fs [] h.d h.past bound
-stands_told catalog c opening d0 k (Some w) s h bound = past_told catalog c opening d0 k s h.fs (h.begin ∷ h.body) h.d h.past bound
+-- what was told inside of the transaction that is open
+told_inside : (catalog : List Table) (c : ScriptClient) (opening : Contents) (d0 : Tables) (k : ℕ) (s : Session) (w : Working) → (h : Opened catalog c opening d0 k s w) → k < 2 ^ 64 → IsToldInside catalog s.events w.id h.d
+told_inside catalog c opening d0 k s w h bound =
+    let room = h.room in
+    let few : length h.fs + 1 < 2 ^ 64 = omega arith in
+    let next : length h.fs + 1 ≡ suc (length h.fs) = omega arith in
+    let said : body s.events w.id ≡ h.body =
+    open_body s.events w.id h.fs h.begin h.body (ap client_of h.id ∙ own_client (length h.fs + 1) few) (ap ordinal_of h.id ∙ own_ordinal (length h.fs + 1) few ∙ next) h.past.heard.spoken (chain_finished 0 h.fs h.past.chain) h.begins h.plain in
+    record {
+      statements = h.statements;
+      read = subst (λ (ss : List Said). AreRead ss h.statements) (sym said) h.read;
+      answers = ap (map (λ (x : Said). x.answer)) said ∙ h.answered ∙ sym (ap (λ (r : List Answer × Tables). map Some r.0) h.run);
+    }
+
+pub stands_told : (catalog : List Table) (c : ScriptClient) (opening : Contents) (d0 : Tables) (k : ℕ) (o : Option Working) (s : Session) → s.current ≡ o → StandsAt catalog c opening d0 k o s → k < 2 ^ 64 → IsTakenFrom catalog opening d0 s
+stands_told catalog c opening d0 k None s is h bound = past_told catalog c opening d0 k s h.fs [] h.d h.past bound (subst (λ (x : Option Working). IfSome x (λ w. IsToldInside catalog s.events w.id h.d)) (sym is) tt)
+stands_told catalog c opening d0 k (Some w) s is h bound =
+    past_told catalog c opening d0 k s h.fs (h.begin ∷ h.body) h.d h.past bound (subst (λ (x : Option Working). IfSome x (λ v. IsToldInside catalog s.events v.id h.d)) (sym is) (told_inside catalog c opening d0 k s w h bound))

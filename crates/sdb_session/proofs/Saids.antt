@@ -1,5 +1,5 @@
 -- The transactions of one client among what it said.
-use Rattle.std.proofs.Common.{◌≡◌, ℕ, zero, suc, ◌+◌, ◌<◌, ◌≤◌, Bool, true, false, cond, List, [], ◌∷◌, ◌++◌, take, Option, Some, None, refl, sym, ap, subst, ◌∙◌, arith, append_assoc}
+use Rattle.std.proofs.Common.{◌≡◌, ℕ, zero, suc, ◌+◌, ◌<◌, ◌≤◌, Bool, true, false, cond, List, [], ◌∷◌, ◌++◌, length, take, Option, Some, None, refl, sym, ap, subst, ◌∙◌, arith, append_assoc}
 use Rattle.std.specs.Prelude.{◌==◌, map, filter, find, not, take_while}
 use Rattle.std.specs.List.{AllByRecursion, prefix_len}
 use Rattle.std.specs.Option.{option_and_then, option_map}
@@ -168,6 +168,24 @@ parts events id fs rest f client is all fin at =
           ap (λ ss. filter is_effective (take_while (λ x. not (ends x)) (rest_of ss))) here
           ∙ ap (filter is_effective) (before_end f f.body s.more fin.plain fin) ∙ all_effective f.body fin.plain;
     }
+
+-- what was said from the BEGIN of the transaction that is open
+open_since : (fs : List Finished) (b : Said) (ss : List Said) → AreFinished fs → begins b ≡ true → from_begin (suc (length fs)) (saids_of fs ++ b ∷ ss) ≡ b ∷ ss
+open_since [] b ss all h = first_begin b ss h
+open_since (f ∷ fs) b ss all h = skip_one (length fs) f fs (b ∷ ss) all.0 ∙ open_since fs b ss all.1 h
+
+all_before : (ss : List Said) → ArePlain ss → take_while (λ s. not (ends s)) ss ≡ ss
+all_before [] h = refl
+all_before (s ∷ ss) h =
+    let n = prefix_len (λ s. not (ends s)) ss in
+    ap (λ (b : Bool). take (cond (not b) (1 + n) 0) (s ∷ ss)) h.0.ends ∙ ap (λ (k : ℕ). take k (s ∷ ss)) (one-add n) ∙ ap (λ xs. s ∷ xs) (all_before ss h.1)
+
+-- the body of the transaction that is open
+pub open_body : (events : List Event) (id : TxId) (fs : List Finished) (b : Said) (ss : List Said) → client_of id ≡ 1 → ordinal_of id ≡ suc (length fs) → said 1 events ≡ saids_of fs ++ b ∷ ss → AreFinished fs → begins b ≡ true → ArePlain ss → body events id ≡ ss
+open_body events id fs b ss client ordinal is all h plain =
+    let here : said_since events id ≡ b ∷ ss =
+    ap (λ (c : ℕ). from_begin (ordinal_of id) (said c events)) client ∙ ap (λ (k : ℕ). from_begin k (said 1 events)) ordinal ∙ ap (from_begin (suc (length fs))) is ∙ open_since fs b ss all h in
+    ap (λ xs. filter is_effective (take_while (λ x. not (ends x)) (rest_of xs))) here ∙ ap (filter is_effective) (all_before ss plain) ∙ all_effective ss plain
 
 -- a transaction that was not committed has no COMMIT
 pub no_commit : (events : List Event) (id : TxId) (fs : List Finished) (rest : List Said) → client_of id ≡ 1 → said 1 events ≡ saids_of fs ++ rest → AreFinished fs → NoEnd rest → finished_at (ordinal_of id) fs ≡ None → commit_of events id ≡ None

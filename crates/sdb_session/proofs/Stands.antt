@@ -61,6 +61,7 @@ pub record Opened (catalog : List Table) (c : ScriptClient) (opening : Contents)
   pub body : List Said
   pub d : Tables
   pub past : Past catalog c opening d0 k s fs (begin ∷ body) d
+  pub room : length fs < k
   pub begins : begins begin ≡ true
   pub low : last_answered 0 fs < begin.taken
   pub high : begin.taken ≤ length s.events

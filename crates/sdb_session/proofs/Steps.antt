@@ -78,6 +78,7 @@ step_begin catalog c opening d0 k s h next =
       body = [];
       d = h.d;
       past = past_quiet catalog c opening d0 k (k + 1) s (begun_session s) h.fs [] (said_by s.events (account_text account.Begin) (Some answer.Done) ∷ []) h.d refl refl p heard_here (quiet_take s.events (account_text account.Begin) (Some answer.Done)) (omega arith);
+      room = let few = p.few in omega arith;
       begins = rw begin_begins refl;
       low = omega arith;
       high = omega arith;
@@ -297,6 +298,7 @@ step_look catalog c opening d0 k s w a known resolved h is fits next =
       d = h.d;
       past = past_quiet catalog c opening d0 k (k + 1) s (looked s w a) h.fs (h.begin ∷ h.body) (h.begin ∷ (h.body ++ said_as s w a heard.answered ∷ [])) h.d refl refl p
           (subst (λ (ss : List Said). Heard c opening (k + 1) false (looked s w a).events s.held ss) list heard.heard) heard.quiet (omega arith);
+      room = let room = h.room in omega arith;
       begins = h.begins;
       low = h.low;
       high = omega arith;

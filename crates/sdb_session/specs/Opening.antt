@@ -15,8 +15,9 @@ use Rattle.sdb_model.specs.declared.statement.Statement.{Statement}
 use Rattle.sdb_model.specs.Events.{Shelf, IsTrace}
 use Rattle.sdb_model.specs.Exec.{Tables, find_table}
 use Rattle.sdb_model.specs.Form.{account_name}
-use Rattle.sdb_model.specs.Transactions.{client_of}
-use Rattle.sdb_model.specs.Told.{serial, AreImages, AreBodies, answers_told}
+use Rattle.sdb_model.specs.declared.event.Event.{Event}
+use Rattle.sdb_model.specs.Transactions.{body, client_of}
+use Rattle.sdb_model.specs.Told.{serial, run_body, AreImages, AreBodies, AreRead, answers_told}
 use Rattle.sdb_script.specs.declared.account.AccountStatement.{AccountStatement}
 use Rattle.sdb_script.specs.declared.account.AccountStatement.TheVariants as account
 use Rattle.sdb_session.specs.Session.{Session, shelves_of, account_key}
@@ -45,13 +46,20 @@ AreResolved opening ss = AllByRecursion (IsResolved opening) ss
 abbrev pub AreAccountRows : Tables → Type 0
 AreAccountRows d = AllByRecursion (λ e. e.0.table ≡ account_name → (n : ℤ) × (e.0 ≡ account_key n)) (entries d)
 
+-- What was told inside of a transaction that is open: its statements so far, run on these tables, give the answers.
+pub record IsToldInside (catalog : List Table) (events : List Event) (id : TxId) (d : Tables) : Type 0 where
+  pub statements : List Statement
+  pub read : AreRead (body events id) statements
+  pub answers : map (λ s. s.answer) (body events id) ≡ map Some (run_body catalog statements d).0
+
 -- What a client was told since these contents, whose rows are these tables: a trace agrees with the events; the transactions
--- that it committed, in their order, run whole on these tables, give the answers; and the rows that they leave are the
--- images of what the store holds.
+-- that it committed, in their order, run whole on these tables, give the answers, and so do the statements of one that is
+-- open, on the tables that those leave; and these tables are the images of what the store holds.
 pub record IsTakenFrom (catalog : List Table) (opening : Contents) (d0 : Tables) (s : Session) : Type 0 where
   pub moments : List (List Shelf)
   pub trace : IsTrace [] s.events (shelves_of opening) moments (shelves_of s.held)
   pub bodies : List (List Statement)
   pub read : AreBodies s.events s.order bodies
   pub answers : map (answers_told s.events) s.order ≡ map (map Some) (serial catalog bodies d0).0
+  pub inside : IfSome s.current (λ w. IsToldInside catalog s.events w.id (serial catalog bodies d0).1)
   pub images : AreImages catalog [] (shelves_of s.held) (serial catalog bodies d0).1

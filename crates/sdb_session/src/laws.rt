@@ -36,7 +36,8 @@ pub fn one_client_on_any_stores()
 
 /// The same from any contents: records may stand there in any state, and of any transactions but the client's own. Where each
 /// account that a statement names has a committed record or none, the answers are those of the transactions, run whole
-/// on the rows whose images stood there, and what they leave are the images of what stands in the end.
+/// on the rows whose images stood there, those inside of an open transaction too, and what the transactions leave are the
+/// images of what stands in the end.
 pub fn one_client_from_any_contents()
     ensures told { (catalog : List Table) (c : ScriptClient) (opening : Contents) (d0 : Tables) (ss : List AccountStatement) → IsOpening catalog opening → AreResolved opening ss → AreImages catalog [] (shelves_of opening) d0 → AreAccountRows d0
         → c.statements ≡ map account_text ss → length c.statements < 2 ^ 64 → are_taken false ss ≡ true → list_all (is_built catalog) ss ≡ true → IsTakenFrom catalog opening d0 (taken_all (start opening) ss) }
