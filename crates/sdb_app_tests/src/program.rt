@@ -168,8 +168,8 @@ fn another_script_is_not_built(rt: HostRuntime) -> Result<(), Fail> {
         &[],
         &[],
     )?;
-    assert_eq!(rt; status, Status::NotBuilt(1));
-    assert_eq!(rt; status.line(rt.alloc())?.as_str(), "not built at 1");
+    assert_eq!(rt; status, Status::NotBuilt(2));
+    assert_eq!(rt; status.line(rt.alloc())?.as_str(), "not built at 2");
     assert_eq!(rt; status.code(), 13);
     Ok(())
 }
@@ -255,6 +255,41 @@ fn a_placed_namespace_has_its_calls_there(rt: HostRuntime) -> Result<(), Fail> {
     assert_eq!(rt;
         output.written().as_slice(),
         b"scalardb report 1\nevents 7\n1 take 1 done : BEGIN\n2 take 1 - : INSERT INTO bank.account (id, balance) VALUES (1, 100)\n3 call 1 hashed get bank.account(1) seen found none count 1\n4 take 1 - : COMMIT\n5 call 1 hashed put bank.account(1){balance=100,tx_id='00000000-0000-0001-0000-000000000001',tx_prepared_at=0L,tx_state=1,tx_version=1} if absent seen applied -\n6 call 1 ordered put coordinator.state('00000000-0000-0001-0000-000000000001'){tx_created_at=0L,tx_state=3} if absent seen applied -\n7 call 1 hashed put bank.account(1){balance=100,tx_committed_at=0L,tx_id='00000000-0000-0001-0000-000000000001',tx_prepared_at=0L,tx_state=3,tx_version=1} if 00000000-0000-0001-0000-000000000001 1 seen applied committed\norder 1\n00000000-0000-0001-0000-000000000001 5\ntables 1\ntable bank.account 1\n(100,1)\nend\n".as_slice()
+    );
+    Ok(())
+}
+
+// Further columns are NULL, and further tables stay empty; all are shown, in the order of their names.
+#[test]
+fn further_columns_and_tables_are_shown(rt: HostRuntime) -> Result<(), Fail> {
+    let (status, output) = ended(
+        rt.alloc(),
+        &["replay"],
+        b"schema {\"shop.orders\":{\"partition-key\":[\"customer\"],\"clustering-key\":[\"n DESC\"],\"columns\":{\"customer\":\"TEXT\",\"n\":\"BIGINT\",\"total\":\"INT\"}},\"bank.account\":{\"partition-key\":[\"id\"],\"columns\":{\"id\":\"INT\",\"note\":\"TEXT\",\"active\":\"BOOLEAN\",\"balance\":\"INT\"}},\"aa.log\":{\"partition-key\":[\"n\"],\"columns\":{\"n\":\"BLOB\"}}}\nclient a\n  BEGIN\n  INSERT INTO bank.account (id, balance) VALUES (1, 100)\n  COMMIT\nrun\nrest\n".as_slice(),
+        &[],
+        &[],
+    )?;
+    assert_eq!(rt; status, Status::Done);
+    assert_eq!(rt;
+        output.written().as_slice(),
+        b"scalardb report 1\nevents 7\n1 take 1 done : BEGIN\n2 take 1 - : INSERT INTO bank.account (id, balance) VALUES (1, 100)\n3 call 1 ordered get bank.account(1) seen found none count 1\n4 take 1 - : COMMIT\n5 call 1 ordered put bank.account(1){balance=100,tx_id='00000000-0000-0001-0000-000000000001',tx_prepared_at=0L,tx_state=1,tx_version=1} if absent seen applied -\n6 call 1 ordered put coordinator.state('00000000-0000-0001-0000-000000000001'){tx_created_at=0L,tx_state=3} if absent seen applied -\n7 call 1 ordered put bank.account(1){balance=100,tx_committed_at=0L,tx_id='00000000-0000-0001-0000-000000000001',tx_prepared_at=0L,tx_state=3,tx_version=1} if 00000000-0000-0001-0000-000000000001 1 seen applied committed\norder 1\n00000000-0000-0001-0000-000000000001 5\ntables 3\ntable aa.log 0\ntable bank.account 1\n(NULL,100,1,NULL)\ntable shop.orders 0\nend\n".as_slice()
+    );
+    Ok(())
+}
+
+#[test]
+fn a_client_without_statements_needs_no_accounts(rt: HostRuntime) -> Result<(), Fail> {
+    let (status, output) = ended(
+        rt.alloc(),
+        &["replay"],
+        b"schema {\"aa.log\":{\"partition-key\":[\"n\"],\"columns\":{\"n\":\"BLOB\"}}}\nclient a\nrun\nrest\n".as_slice(),
+        &[],
+        &[],
+    )?;
+    assert_eq!(rt; status, Status::Done);
+    assert_eq!(rt;
+        output.written().as_slice(),
+        b"scalardb report 1\nevents 0\norder 0\ntables 1\ntable aa.log 0\nend\n".as_slice()
     );
     Ok(())
 }
