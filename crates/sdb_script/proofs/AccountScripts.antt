@@ -1,24 +1,25 @@
 -- A text that is read is a script, and one that isn't has a first bad line.
-use Rattle.std.proofs.Common.{◌≡◌, inl, inr, ltb, ℕ, ◌+◌, ◌<◌, ◌≤◌, true, false, ◌++◌, List, [], ◌∷◌, length, Option, Some, None, Ok, Err, refl, sym, ap, subst, ◌∙◌, append_assoc, arith}
-use Rattle.std.specs.Prelude.{codes, map, IsSome, is_some}
+use Rattle.std.proofs.Common.{◌≡◌, inl, inr, ltb, ℕ, ◌+◌, ◌<◌, ◌≤◌, Bool, true, false, ◌++◌, List, [], ◌∷◌, length, Option, Some, None, Ok, Err, refl, sym, ap, subst, ◌∙◌, append_assoc, arith}
+use Rattle.std.specs.Prelude.{◌≢◌, codes, map, IsSome, is_some}
 use Rattle.std.specs.List.{list_all}
 use Rattle.std.proofs.lemmas.Bool.Decides.{nat_tests}
 use Rattle.std.proofs.lemmas.List.{append-nil, length-append}
+use Rattle.sdb_schema.specs.declared.table.Table.{Table}
 use Rattle.sdb_model.specs.declared.statement.Statement.{Statement}
 use Rattle.sdb_model.specs.declared.script.Place.{Place}
 use Rattle.sdb_model.specs.declared.script.Script.{Script}
 use Rattle.sdb_model.specs.Reading.{statement_text_of}
-use Rattle.sdb_model.specs.Form.{schema_line, client_line, statement_line, form_lines, client_script, placed_script, lines_of}
+use Rattle.sdb_model.specs.Form.{client_line, statement_line, lines_of}
 use Rattle.sdb_script.specs.declared.account.AccountStatement.{AccountStatement}
 use Rattle.sdb_script.specs.declared.drawing.Section.{Section}
 use Rattle.sdb_script.specs.declared.drawing.Section.TheVariants as section
 use Rattle.sdb_script.specs.declared.drawing.AccountForm.{AccountForm}
-use Rattle.sdb_script.specs.Accounts.{statement_of, account_text, fits_account, place_line, ArePlaces, AreTransactions, IsAccountForm, IsAccountScript, BeginsAccountForm, IsBadNextLine, IsFirstBadLine, IsNotPlayed, IsFormOf}
-use Rattle.sdb_script.specs.Drawn.{Drawn, nothing_drawn, account_line, drawn, drawn_next, drawn_from}
+use Rattle.sdb_script.specs.Accounts.{statement_of, account_text, fits_account, has_accounts, is_built, place_line, schema_line, form_lines, script_of_client, ArePlaces, AreTransactions, IsAccountForm, IsAccountScript, BeginsAccountForm, IsBadNextLine, IsFirstBadLine, IsNotPlayed, IsFormOf}
+use Rattle.sdb_script.specs.Drawn.{Drawn, IsWhole, nothing_drawn, account_line, drawn, drawn_next, drawn_from}
 use Rattle.sdb_script.proofs.PieceLaws.{by_test, some_is}
 use Rattle.sdb_script.proofs.PlaceLines.{not_schema}
 use Rattle.sdb_script.proofs.Placed.{same_behind}
-use Rattle.sdb_script.proofs.AccountForms.{AllFit, Accounts, accounts_of, transactions_of, statement_lines, Stands, stands_first, stands_begin, stands_more, dead, not_run}
+use Rattle.sdb_script.proofs.AccountForms.{AllFit, Accounts, accounts_of, transactions_of, statement_lines, both, not_empty, Stands, stands_first, stands_begin, stands_more, dead, not_run}
 
 ---- the whole text
 
@@ -46,52 +47,62 @@ all_lines stores front (l ∷ ls) d e number st h =
       | None ↦ λ is goes. absurd cc
     ] refl h
 
-all_fit : (acts : List AccountStatement) → AllFit acts → list_all fits_account acts ≡ true
-all_fit [] f = refl
-all_fit (a ∷ acts) f = rw (f.0, all_fit acts f.1) refl
+all_built : (catalog : List Table) (acts : List AccountStatement) → AllFit acts → (acts ≢ [] → has_accounts catalog ≡ true) → list_all (is_built catalog) acts ≡ true
+all_built catalog [] f can = refl
+all_built catalog (a ∷ acts) f can =
+    let has : has_accounts catalog ≡ true = can (not_empty a acts) in
+    both (is_built catalog a) (list_all (is_built catalog) acts) (both (has_accounts catalog) (fits_account a) has f.0) (all_built catalog acts f.1 (λ some. has))
 
 text_lines : (acts : List AccountStatement) → map account_text acts ≡ map statement_text_of (map statement_of acts)
 text_lines [] = refl
 text_lines (a ∷ acts) = ap (λ (x : List (List ℕ)). account_text a ∷ x) (text_lines acts)
 
--- What was read to the end is a script, which is the client's, with the places.
-whole_at : (stores : List (List ℕ)) (lines : List (List ℕ)) (s : Section) (ps : List Place) (o : Option (List ℕ)) (ts : List (List ℕ)) (acts : List AccountStatement) (form : AccountForm)
-    → Stands stores lines (record { section = s; places = ps; name = o; texts = ts; statements = acts }) → s ≡ section.End → o ≡ Some form.client.name → form.places ≡ ps → form.client.statements ≡ ts → form.statements ≡ acts
-    → IsAccountForm stores lines (placed_script (client_script form.client) form.places) × IsFormOf stores form
-whole_at stores lines section.End ps o ts acts form whole end named kept said listed =
+-- What was read to the end is a script: the client's, with the places, over the catalog.
+whole_at : (stores : List (List ℕ)) (lines : List (List ℕ)) (s : Section) (ps : List Place) (cat : Option (List Table)) (has : Bool) (o : Option (List ℕ)) (ts : List (List ℕ)) (acts : List AccountStatement) (form : AccountForm)
+    → Stands stores lines (record { section = s; places = ps; catalog = cat; accounts = has; name = o; texts = ts; statements = acts })
+    → IsWhole (record { section = s; places = ps; catalog = cat; accounts = has; name = o; texts = ts; statements = acts }) form → s ≡ section.End
+    → IsAccountForm stores lines (script_of_client form.places form.catalog form.client) × IsFormOf stores form
+whole_at stores lines section.End ps cat has o ts acts form whole w end =
     let st = whole.follows in
-    let same : st.name ≡ form.client.name = some_is _ _ (sym st.said ∙ named) in
-    let texts : form.client.statements ≡ map account_text acts = said ∙ st.texts in
-    let built = transactions_of acts false st.inside st.fit st.behind in (
+    let same : st.name ≡ form.client.name = some_is _ _ (sym st.said ∙ w.named) in
+    let over : st.catalog ≡ form.catalog = some_is _ _ (sym st.shown ∙ w.described) in
+    let texts : form.client.statements ≡ map account_text acts = w.texts ∙ st.texts in
+    let built = transactions_of acts false st.inside st.fit st.behind in
+    let fit : list_all (is_built st.catalog) acts ≡ true = all_built st.catalog acts st.fit st.accounts in (
       record {
         places = ps;
+        json = st.json;
+        catalog = st.catalog;
         name = st.name;
         statements = map statement_of acts;
         placed = whole.placed;
+        described = st.is_described;
         named = st.is_named;
         built = built;
+        accounts = λ some. st.accounts (λ none. some (ap (map statement_of) none));
         lined =
             whole.split ∙ ap (λ (x : List (List ℕ)). map place_line ps ++ x) st.lines
-            ∙ ap (λ (x : List (List ℕ)). map place_line ps ++ schema_line ∷ client_line st.name ∷ (x ++ codes "run" ∷ codes "rest" ∷ [])) (statement_lines acts);
-        said = λ i. placed_script (client_script (record { name = sym same i; statements = (texts ∙ text_lines acts) i })) (kept i);
+            ∙ ap (λ (x : List (List ℕ)). map place_line ps ++ schema_line st.json ∷ client_line st.name ∷ (x ++ codes "run" ∷ codes "rest" ∷ [])) (statement_lines acts);
+        said = λ i. script_of_client (w.placed i) (sym over i) (record { name = sym same i; statements = (texts ∙ text_lines acts) i });
       },
       record {
-        placed = subst (ArePlaces stores) (sym kept) whole.placed;
-        fit = subst (λ (x : List AccountStatement). list_all fits_account x ≡ true) (sym listed) (all_fit acts st.fit);
-        texts = texts ∙ ap (map account_text) (sym listed);
-        built = subst (λ (x : List AccountStatement). AreTransactions false (map statement_of x)) (sym listed) built;
+        placed = subst (ArePlaces stores) (sym w.placed) whole.placed;
+        catalog = w.catalog;
+        fit = subst (λ (x : List AccountStatement). list_all (is_built form.catalog) x ≡ true) (sym w.statements) (subst (λ (x : List Table). list_all (is_built x) acts ≡ true) over fit);
+        texts = texts ∙ ap (map account_text) (sym w.statements);
+        built = subst (λ (x : List AccountStatement). AreTransactions false (map statement_of x)) (sym w.statements) built;
       },
     )
-whole_at stores lines section.Schema ps o ts acts form st end named kept said listed = absurd cc
-whole_at stores lines section.Client ps o ts acts form st end named kept said listed = absurd cc
-whole_at stores lines section.Outside ps o ts acts form st end named kept said listed = absurd cc
-whole_at stores lines section.Inside ps o ts acts form st end named kept said listed = absurd cc
-whole_at stores lines section.Rest ps o ts acts form st end named kept said listed = absurd cc
+whole_at stores lines section.Schema ps cat has o ts acts form st w end = absurd cc
+whole_at stores lines section.Client ps cat has o ts acts form st w end = absurd cc
+whole_at stores lines section.Outside ps cat has o ts acts form st w end = absurd cc
+whole_at stores lines section.Inside ps cat has o ts acts form st w end = absurd cc
+whole_at stores lines section.Rest ps cat has o ts acts form st w end = absurd cc
 
-pub whole : (stores : List (List ℕ)) (lines : List (List ℕ)) (d : Drawn) (form : AccountForm) → drawn_from stores 1 nothing_drawn lines ≡ Ok d → d.section ≡ section.End → d.name ≡ Some form.client.name → form.places ≡ d.places → form.client.statements ≡ d.texts
-    → form.statements ≡ d.statements → IsAccountForm stores lines (placed_script (client_script form.client) form.places) × IsFormOf stores form
-whole stores lines d form h end named kept said listed =
-    whole_at stores lines d.section d.places d.name d.texts d.statements form (all_lines stores [] lines nothing_drawn d 1 (stands_first stores) h) end named kept said listed
+pub whole : (stores : List (List ℕ)) (lines : List (List ℕ)) (d : Drawn) (form : AccountForm) → drawn_from stores 1 nothing_drawn lines ≡ Ok d → IsWhole d form
+    → IsAccountForm stores lines (script_of_client form.places form.catalog form.client) × IsFormOf stores form
+whole stores lines d form h w =
+    whole_at stores lines d.section d.places d.catalog d.accounts d.name d.texts d.statements form (all_lines stores [] lines nothing_drawn d 1 (stands_first stores) h) w w.ended
 
 ---- lines that end too early
 
@@ -119,49 +130,51 @@ account_lines : (ss : List Statement) (k : Accounts false ss) → map statement_
 account_lines ss k = ap (map statement_line) k.same ∙ sym (statement_lines k.statements)
 
 -- the lines of a form behind its places, where the schema was taken
-form_behind : (ps qs : List Place) (lines rest taken : List (List ℕ)) (name : List ℕ) (ss : List Statement) → lines ≡ map place_line ps ++ rest → rest ≡ schema_line ∷ taken → lines ≡ map place_line qs ++ form_lines name ss → rest ≡ form_lines name ss
-form_behind ps qs lines rest taken name ss split is lined =
-    is ∙ same_behind ps qs taken (client_line name ∷ map statement_line ss ++ codes "run" ∷ codes "rest" ∷ []) (ap (λ (x : List (List ℕ)). map place_line ps ++ x) (sym is) ∙ sym split ∙ lined)
+form_behind : (ps qs : List Place) (lines rest taken : List (List ℕ)) (json known name : List ℕ) (ss : List Statement) → lines ≡ map place_line ps ++ rest → rest ≡ schema_line known ∷ taken → lines ≡ map place_line qs ++ form_lines json name ss → rest ≡ form_lines json name ss
+form_behind ps qs lines rest taken json known name ss split is lined =
+    is ∙ same_behind ps qs known json taken (client_line name ∷ map statement_line ss ++ codes "run" ∷ codes "rest" ∷ []) (ap (λ (x : List (List ℕ)). map place_line ps ++ x) (sym is) ∙ sym split ∙ lined)
 
 -- what stands behind the client's line, of a script that begins with lines that were taken
-statements_behind : (front rest : List (List ℕ)) (name other : List ℕ) (ss : List Statement) (k : Accounts false ss) → front ≡ schema_line ∷ client_line other ∷ rest → front ≡ form_lines name ss → rest ≡ map account_line k.statements ++ codes "run" ∷ codes "rest" ∷ []
+statements_behind : (front rest : List (List ℕ)) (json known name other : List ℕ) (ss : List Statement) (k : Accounts false ss) → front ≡ schema_line known ∷ client_line other ∷ rest → front ≡ form_lines json name ss
+    → rest ≡ map account_line k.statements ++ codes "run" ∷ codes "rest" ∷ []
 unfolding lines_behind
-statements_behind front rest name other ss k is e = ap lines_behind (sym is ∙ e) ∙ ap (λ (x : List (List ℕ)). x ++ codes "run" ∷ codes "rest" ∷ []) (account_lines ss k)
+statements_behind front rest json known name other ss k is e = ap lines_behind (sym is ∙ e) ∙ ap (λ (x : List (List ℕ)). x ++ codes "run" ∷ codes "rest" ∷ []) (account_lines ss k)
 
 -- Places alone are no whole script.
-not_places : (ps qs : List Place) (rest : List (List ℕ)) → map place_line ps ≡ map place_line qs ++ schema_line ∷ rest → ⊥
-not_places [] [] rest e = absurd cc
-not_places [] (q ∷ qs) rest e = absurd cc
-not_places (p ∷ ps) [] rest e = let is : place_line p ≡ schema_line = cc in not_schema p is
-not_places (p ∷ ps) (q ∷ qs) rest e = let tails : map place_line ps ≡ map place_line qs ++ schema_line ∷ rest = cc in not_places ps qs rest tails
+not_places : (ps qs : List Place) (json : List ℕ) (rest : List (List ℕ)) → map place_line ps ≡ map place_line qs ++ schema_line json ∷ rest → ⊥
+not_places [] [] json rest e = absurd cc
+not_places [] (q ∷ qs) json rest e = absurd cc
+not_places (p ∷ ps) [] json rest e = let is : place_line p ≡ schema_line json = cc in not_schema p json is
+not_places (p ∷ ps) (q ∷ qs) json rest e = let tails : map place_line ps ≡ map place_line qs ++ schema_line json ∷ rest = cc in not_places ps qs json rest tails
 
-not_form_at : (stores : List (List ℕ)) (lines : List (List ℕ)) (s : Section) (ps : List Place) (o : Option (List ℕ)) (ts : List (List ℕ)) (acts : List AccountStatement) (script : Script)
-    → Stands stores lines (record { section = s; places = ps; name = o; texts = ts; statements = acts }) → (s ≡ section.End → ¬ IsSome o) → ¬ IsAccountForm stores lines script
-not_form_at stores lines section.Schema ps o ts acts script st none = λ f.
+not_form_at : (stores : List (List ℕ)) (lines : List (List ℕ)) (s : Section) (ps : List Place) (cat : Option (List Table)) (has : Bool) (o : Option (List ℕ)) (ts : List (List ℕ)) (acts : List AccountStatement) (script : Script)
+    → Stands stores lines (record { section = s; places = ps; catalog = cat; accounts = has; name = o; texts = ts; statements = acts }) → (s ≡ section.End → ¬ (IsSome cat × IsSome o)) → ¬ IsAccountForm stores lines script
+not_form_at stores lines section.Schema ps cat has o ts acts script st none = λ f.
     let lines_are : lines ≡ map place_line ps = st.split ∙ ap (λ (x : List (List ℕ)). map place_line ps ++ x) st.follows.lines ∙ append-nil (map place_line ps) in
-    not_places ps f.places (client_line f.name ∷ map statement_line f.statements ++ codes "run" ∷ codes "rest" ∷ []) (sym lines_are ∙ f.lined)
-not_form_at stores lines section.Client ps o ts acts script st none = λ f.
-    let e : schema_line ∷ [] ≡ form_lines f.name f.statements = sym st.follows.lines ∙ form_behind ps f.places lines st.rest [] f.name f.statements st.split st.follows.lines f.lined in
+    not_places ps f.places f.json (client_line f.name ∷ map statement_line f.statements ++ codes "run" ∷ codes "rest" ∷ []) (sym lines_are ∙ f.lined)
+not_form_at stores lines section.Client ps cat has o ts acts script st none = λ f.
+    let w = st.follows in
+    let e : schema_line w.json ∷ [] ≡ form_lines f.json f.name f.statements = sym w.lines ∙ form_behind ps f.places lines st.rest [] f.json w.json f.name f.statements st.split w.lines f.lined in
     absurd cc
-not_form_at stores lines section.Outside ps o ts acts script st none = λ f.
+not_form_at stores lines section.Outside ps cat has o ts acts script st none = λ f.
     let w = st.follows in
     let k = accounts_of f.statements false f.built in
-    let b = form_behind ps f.places lines st.rest (client_line w.name ∷ map account_line acts) f.name f.statements st.split w.lines f.lined in
-    unended acts k.statements w.fit k.fit (statements_behind st.rest (map account_line acts) f.name w.name f.statements k w.lines b)
-not_form_at stores lines section.Inside ps o ts acts script st none = λ f.
+    let b = form_behind ps f.places lines st.rest (client_line w.name ∷ map account_line acts) f.json w.json f.name f.statements st.split w.lines f.lined in
+    unended acts k.statements w.fit k.fit (statements_behind st.rest (map account_line acts) f.json w.json f.name w.name f.statements k w.lines b)
+not_form_at stores lines section.Inside ps cat has o ts acts script st none = λ f.
     let w = st.follows in
     let k = accounts_of f.statements false f.built in
-    let b = form_behind ps f.places lines st.rest (client_line w.name ∷ map account_line acts) f.name f.statements st.split w.lines f.lined in
-    unended acts k.statements w.fit k.fit (statements_behind st.rest (map account_line acts) f.name w.name f.statements k w.lines b)
-not_form_at stores lines section.Rest ps o ts acts script st none = λ f.
+    let b = form_behind ps f.places lines st.rest (client_line w.name ∷ map account_line acts) f.json w.json f.name f.statements st.split w.lines f.lined in
+    unended acts k.statements w.fit k.fit (statements_behind st.rest (map account_line acts) f.json w.json f.name w.name f.statements k w.lines b)
+not_form_at stores lines section.Rest ps cat has o ts acts script st none = λ f.
     let w = st.follows in
     let k = accounts_of f.statements false f.built in
-    let b = form_behind ps f.places lines st.rest (client_line w.name ∷ (map account_line acts ++ codes "run" ∷ [])) f.name f.statements st.split w.lines f.lined in
-    unrested acts k.statements w.fit k.fit (statements_behind st.rest (map account_line acts ++ codes "run" ∷ []) f.name w.name f.statements k w.lines b)
-not_form_at stores lines section.End ps o ts acts script st none = λ f. none refl (ap is_some st.follows.said)
+    let b = form_behind ps f.places lines st.rest (client_line w.name ∷ (map account_line acts ++ codes "run" ∷ [])) f.json w.json f.name f.statements st.split w.lines f.lined in
+    unrested acts k.statements w.fit k.fit (statements_behind st.rest (map account_line acts ++ codes "run" ∷ []) f.json w.json f.name w.name f.statements k w.lines b)
+not_form_at stores lines section.End ps cat has o ts acts script st none = λ f. none refl (ap is_some st.follows.shown, ap is_some st.follows.said)
 
 -- Lines that don't end a script are bad behind the last.
-pub ends_early : (stores : List (List ℕ)) (lines : List (List ℕ)) (d : Drawn) (n : ℕ) → drawn_from stores 1 nothing_drawn lines ≡ Ok d → (d.section ≡ section.End → ¬ IsSome d.name) → n ≡ length lines + 1 → IsFirstBadLine stores lines n
+pub ends_early : (stores : List (List ℕ)) (lines : List (List ℕ)) (d : Drawn) (n : ℕ) → drawn_from stores 1 nothing_drawn lines ≡ Ok d → (d.section ≡ section.End → ¬ (IsSome d.catalog × IsSome d.name)) → n ≡ length lines + 1 → IsFirstBadLine stores lines n
 ends_early stores lines d n h none counted =
     let st = all_lines stores [] lines nothing_drawn d 1 (stands_first stores) h in
     record {
@@ -170,7 +183,7 @@ ends_early stores lines d n h none counted =
       split = sym (append-nil lines);
       before = stands_begin stores lines d st;
       number = counted;
-      here = λ script. not_form_at stores lines d.section d.places d.name d.texts d.statements script st none;
+      here = λ script. not_form_at stores lines d.section d.places d.catalog d.accounts d.name d.texts d.statements script st none;
     }
 
 pub first_bad : (stores : List (List ℕ)) (lines : List (List ℕ)) (n : ℕ) → drawn_from stores 1 nothing_drawn lines ≡ Err n → IsFirstBadLine stores lines n

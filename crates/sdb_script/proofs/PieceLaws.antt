@@ -62,7 +62,7 @@ client_is line name h =
     (λ t. let same : a.0 ≡ name = some_is a.0 name (rw t at a.2) in (after_is (codes "client ") line a.0 a.1 ∙ ap client_line same, ap is_client_name (sym same) ∙ t))
     (λ t. no_some name (rw t at a.2))
 
-after_again : (word rest : List ℕ) → after word (word ++ rest) ≡ Some rest
+pub after_again : (word rest : List ℕ) → after word (word ++ rest) ≡ Some rest
 after_again [] rest = refl
 after_again (w ∷ ws) rest = let t : (w == w) ≡ true = grind (arith, nat_tests) in rw t (after_again ws rest)
 

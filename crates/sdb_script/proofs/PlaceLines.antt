@@ -9,8 +9,7 @@ use Rattle.std.proofs.Math.Seq.{take-append_seam, drop-append-add}
 use Rattle.sdb_types.specs.Identifier.{is_start, is_part, is_identifier}
 use Rattle.sdb_types.proofs.Bools.{and_first, and_second}
 use Rattle.sdb_model.specs.declared.script.Place.{Place}
-use Rattle.sdb_model.specs.Form.{schema_line}
-use Rattle.sdb_script.specs.Accounts.{place_line, is_namespace}
+use Rattle.sdb_script.specs.Accounts.{place_line, schema_line, is_namespace}
 use Rattle.sdb_script.specs.Scan.{after}
 use Rattle.sdb_script.specs.Pieces.{around, words_in, is_attached, may_place, if_place, place_in}
 use Rattle.sdb_script.proofs.PieceLaws.{by_test, some_is, no_some, bind_is, after_is}
@@ -104,7 +103,7 @@ head_of : List ℕ → ℕ
 head_of [] = 0
 head_of (b ∷ bs) = b
 
--- a place's line isn't the schema's
-pub not_schema : (p : Place) {G : Type 0} → place_line p ≡ schema_line → G
+-- a place's line isn't a schema's
+pub not_schema : (p : Place) (json : List ℕ) {G : Type 0} → place_line p ≡ schema_line json → G
 unfolding head_of
-not_schema p e = let k : 112 ≡ 115 = ap head_of e in absurd (omega (arith, k))
+not_schema p json e = let k : 112 ≡ 115 = ap head_of e in absurd (omega (arith, k))

@@ -8,8 +8,7 @@ use Rattle.std.proofs.lemmas.List.Quantifiers.{all_pairs_push}
 use Rattle.std.proofs.lemmas.Map.Views.{Contains-from_any}
 use Rattle.sdb_types.proofs.Bools.{and_first}
 use Rattle.sdb_model.specs.declared.script.Place.{Place}
-use Rattle.sdb_model.specs.Form.{schema_line}
-use Rattle.sdb_script.specs.Accounts.{place_line, is_namespace, ArePlaces}
+use Rattle.sdb_script.specs.Accounts.{place_line, schema_line, is_namespace, ArePlaces}
 use Rattle.sdb_script.specs.Pieces.{is_attached, may_place}
 use Rattle.sdb_script.specs.Drawn.{is_placed}
 use Rattle.sdb_script.proofs.PieceLaws.{by_test, same_bytes, itself}
@@ -97,23 +96,23 @@ new_again (p ∷ ps) rest q h =
 ---- lines that say places
 
 -- Behind the lines of places comes the schema, or one more place.
-pub place_or_schema : (stores : List (List ℕ)) (ps qs : List Place) (line : List ℕ) (more rest : List (List ℕ)) → AreSound stores ps → AreSound stores qs → map place_line ps ++ line ∷ more ≡ map place_line qs ++ schema_line ∷ rest
-    → (line ≡ schema_line) ⊎ ((q : Place) × (behind : List Place) × (qs ≡ ps ++ q ∷ behind) × (line ≡ place_line q))
-place_or_schema stores [] [] line more rest f g e = inl cc
-place_or_schema stores [] (q ∷ qs) line more rest f g e = inr (q, qs, refl, cc)
-place_or_schema stores (p ∷ ps) [] line more rest f g e = let is : place_line p ≡ schema_line = cc in not_schema p is
-place_or_schema stores (p ∷ ps) (q ∷ qs) line more rest f g e =
+pub place_or_schema : (stores : List (List ℕ)) (ps qs : List Place) (line json : List ℕ) (more rest : List (List ℕ)) → AreSound stores ps → AreSound stores qs → map place_line ps ++ line ∷ more ≡ map place_line qs ++ schema_line json ∷ rest
+    → (line ≡ schema_line json) ⊎ ((q : Place) × (behind : List Place) × (qs ≡ ps ++ q ∷ behind) × (line ≡ place_line q))
+place_or_schema stores [] [] line json more rest f g e = inl cc
+place_or_schema stores [] (q ∷ qs) line json more rest f g e = inr (q, qs, refl, cc)
+place_or_schema stores (p ∷ ps) [] line json more rest f g e = let is : place_line p ≡ schema_line json = cc in not_schema p json is
+place_or_schema stores (p ∷ ps) (q ∷ qs) line json more rest f g e =
     let is : place_line p ≡ place_line q = cc in
     let same : p ≡ q = one_place stores p q f.0 g.0 is in
-    let tails : map place_line ps ++ line ∷ more ≡ map place_line qs ++ schema_line ∷ rest = cc in
-    elim (place_or_schema stores ps qs line more rest f.1 g.1 tails) [
+    let tails : map place_line ps ++ line ∷ more ≡ map place_line qs ++ schema_line json ∷ rest = cc in
+    elim (place_or_schema stores ps qs line json more rest f.1 g.1 tails) [
       | inl is_schema ↦ inl is_schema
       | inr more_of ↦ inr (more_of.0, more_of.1, (λ i. sym same i ∷ more_of.2 i), more_of.3)
     ]
 
 -- The lines from the schema on are the same, whatever the places.
-pub same_behind : (ps qs : List Place) (xs ys : List (List ℕ)) → map place_line ps ++ schema_line ∷ xs ≡ map place_line qs ++ schema_line ∷ ys → schema_line ∷ xs ≡ schema_line ∷ ys
-same_behind [] [] xs ys e = e
-same_behind [] (q ∷ qs) xs ys e = let is : place_line q ≡ schema_line = cc in not_schema q is
-same_behind (p ∷ ps) [] xs ys e = let is : place_line p ≡ schema_line = cc in not_schema p is
-same_behind (p ∷ ps) (q ∷ qs) xs ys e = let tails : map place_line ps ++ schema_line ∷ xs ≡ map place_line qs ++ schema_line ∷ ys = cc in same_behind ps qs xs ys tails
+pub same_behind : (ps qs : List Place) (json other : List ℕ) (xs ys : List (List ℕ)) → map place_line ps ++ schema_line json ∷ xs ≡ map place_line qs ++ schema_line other ∷ ys → schema_line json ∷ xs ≡ schema_line other ∷ ys
+same_behind [] [] json other xs ys e = e
+same_behind [] (q ∷ qs) json other xs ys e = let is : place_line q ≡ schema_line json = cc in not_schema q json is
+same_behind (p ∷ ps) [] json other xs ys e = let is : place_line p ≡ schema_line other = cc in not_schema p other is
+same_behind (p ∷ ps) (q ∷ qs) json other xs ys e = let tails : map place_line ps ++ schema_line json ∷ xs ≡ map place_line qs ++ schema_line other ∷ ys = cc in same_behind ps qs json other xs ys tails

@@ -1,13 +1,15 @@
--- The form of the scripts that can be played so far, as a grammar over the whole text: places of namespaces, and one client,
--- whose transactions insert and select single accounts.
-use Rattle.std.specs.Prelude.{◌≡◌, ◌≢◌, ◌⊎◌, ℕ, ◌+◌, ◌≤◌, ◌<◌, ◌==◌, nat_le, ℤ, Bool, true, false, ◌&&◌, List, [], ◌∷◌, ◌++◌, map, codes, Some, None, length, take, count_by, All, AllPairs, Contains}
+-- The form of the scripts that can be played so far, as a grammar over the whole text: places of namespaces, a schema, and one
+-- client, whose transactions insert and select single accounts.
+use Rattle.std.specs.Prelude.{◌≡◌, ◌≢◌, ◌⊎◌, ℕ, ◌+◌, ◌≤◌, ◌<◌, ◌==◌, nat_le, ℤ, Bool, true, false, ◌&&◌, List, [], ◌∷◌, ◌++◌, map, find, codes, Some, None, Ok, length, take, count_by, All, AllPairs, Contains}
+use Rattle.std.specs.List.{list_all}
+use Rattle.std.specs.Option.{option_map_or}
 use Rattle.sdb_types.specs.Identifier.{is_identifier}
 use Rattle.sdb_types.specs.declared.value.Value.TheVariants as value
-use Rattle.std.specs.Prelude.{find}
-use Rattle.std.specs.Option.{option_map_or}
 use Rattle.sdb_schema.specs.declared.table.Kind.{Kind}
 use Rattle.sdb_schema.specs.declared.table.Kind.TheVariants as kind
 use Rattle.sdb_schema.specs.declared.table.Table.{Table}
+use Rattle.sdb_schema.specs.Catalog.{is_catalog}
+use Rattle.sdb_loader.specs.Described.{catalog_in}
 use Rattle.sdb_model.specs.declared.script.Move.TheVariants as move
 use Rattle.sdb_model.specs.declared.script.Place.{Place}
 use Rattle.sdb_model.specs.declared.script.ScriptClient.{ScriptClient}
@@ -19,11 +21,10 @@ use Rattle.sdb_model.specs.declared.statement.Statement.TheVariants as statement
 use Rattle.sdb_model.specs.Reading.{statement_text_of}
 use Rattle.sdb_model.specs.Exec.{find_table}
 use Rattle.sdb_model.specs.Rows.{fits_int, same_name}
-use Rattle.sdb_model.specs.Form.{lines_of, account_name, insert_of, form_lines, form_script, placed_script, is_client_name}
-use Rattle.std.specs.List.{list_all}
+use Rattle.sdb_model.specs.Form.{lines_of, account_name, insert_of, client_line, statement_line, is_client_name}
 use Rattle.sdb_script.specs.declared.account.AccountStatement.{AccountStatement}
-use Rattle.sdb_script.specs.declared.drawing.AccountForm.{AccountForm}
 use Rattle.sdb_script.specs.declared.account.AccountStatement.TheVariants as account
+use Rattle.sdb_script.specs.declared.drawing.AccountForm.{AccountForm}
 
 ---- statements
 
@@ -75,10 +76,6 @@ has_accounts catalog = option_map_or is_account_table (find_table catalog accoun
 abbrev pub is_built : List Table → AccountStatement → Bool
 is_built catalog a = has_accounts catalog && fits_account a
 
--- a script of one client over the tables of a catalog, whose one move is `rest`
-abbrev pub script_of_client : List Place → List Table → ScriptClient → Script
-script_of_client places catalog client = record { places = places; catalog = catalog; clients = client ∷ []; moves = move.Rest ∷ [] }
-
 -- what stands between BEGIN and COMMIT: an INSERT or a SELECT of an account, with numbers in the range of INT
 abbrev pub IsInside : Statement → Type 0
 IsInside s =
@@ -115,17 +112,34 @@ pub record ArePlaces (stores : List (List ℕ)) (places : List Place) : Type 0 w
 
 ---- the form
 
--- lines of this form over the attached stores, with the script that they say: places, the schema of `bank.account`, one
--- client with its statements, `run`, and the one move `rest`
+-- `schema JSON`
+abbrev pub schema_line : List ℕ → List ℕ
+schema_line json = codes "schema " ++ json
+
+-- the lines of a script behind its places: the schema, one client with its statements, `run`, and the one move `rest`
+abbrev pub form_lines : List ℕ → List ℕ → List Statement → List (List ℕ)
+form_lines json name ss = schema_line json ∷ client_line name ∷ map statement_line ss ++ codes "run" ∷ codes "rest" ∷ []
+
+-- a script of one client over the tables of a catalog, whose one move is `rest`
+abbrev pub script_of_client : List Place → List Table → ScriptClient → Script
+script_of_client places catalog client = record { places = places; catalog = catalog; clients = client ∷ []; moves = move.Rest ∷ [] }
+
+-- Lines of this form over the attached stores, with the script that they say: places, a schema whose JSON describes the catalog,
+-- one client with its statements, `run`, and the one move `rest`. Where there are statements, the catalog has accounts as they
+-- need them.
 pub record IsAccountForm (stores : List (List ℕ)) (lines : List (List ℕ)) (script : Script) : Type 0 where
   pub places : List Place
+  pub json : List ℕ
+  pub catalog : List Table
   pub name : List ℕ
   pub statements : List Statement
   pub placed : ArePlaces stores places
+  pub described : catalog_in json ≡ Ok catalog
   pub named : is_client_name name ≡ true
   pub built : AreTransactions false statements
-  pub lined : lines ≡ map place_line places ++ form_lines name statements
-  pub said : script ≡ placed_script (form_script name statements) places
+  pub accounts : statements ≢ [] → has_accounts catalog ≡ true
+  pub lined : lines ≡ map place_line places ++ form_lines json name statements
+  pub said : script ≡ script_of_client places catalog (record { name = name; statements = map statement_text_of statements })
 
 -- the number of bytes of a script that are read
 abbrev pub most_script_bytes : ℕ
@@ -167,10 +181,11 @@ IsNotPlayed stores text n =
 
 ---- what is read
 
--- What is known of the places, and of the client's statements and their texts: each has numbers in the range of INT, and they
--- are transactions.
+-- What is known of the places, of the catalog, and of the client's statements and their texts: each can be built over the catalog,
+-- and they are transactions.
 pub record IsFormOf (stores : List (List ℕ)) (form : AccountForm) : Type 0 where
   pub placed : ArePlaces stores form.places
-  pub fit : list_all fits_account form.statements ≡ true
+  pub catalog : is_catalog form.catalog ≡ true
+  pub fit : list_all (is_built form.catalog) form.statements ≡ true
   pub texts : form.client.statements ≡ map account_text form.statements
   pub built : AreTransactions false (map statement_of form.statements)

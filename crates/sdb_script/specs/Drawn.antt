@@ -1,28 +1,33 @@
 -- A script of account transactions that is being read, line by line.
-use Rattle.std.specs.Prelude.{ℕ, ◌+◌, ℤ, Bool, true, false, ◌&&◌, if◌then◌else◌, List, [], ◌∷◌, ◌++◌, codes, Option, Some, None, Result, Ok, Err}
+use Rattle.std.specs.Prelude.{◌≡◌, ℕ, ◌+◌, ℤ, Bool, true, false, ◌&&◌, if◌then◌else◌, List, [], ◌∷◌, ◌++◌, codes, Option, Some, None, Result, Ok, Err}
 use Rattle.std.specs.List.{list_any}
-use Rattle.std.specs.Option.{option_map, option_and_then}
+use Rattle.std.specs.Option.{option_map, option_map_or, option_and_then}
 use Rattle.std.specs.Str.{bytes_eq}
+use Rattle.sdb_schema.specs.declared.table.Table.{Table}
+use Rattle.sdb_schema.specs.Catalog.{is_catalog}
 use Rattle.sdb_model.specs.declared.script.Place.{Place}
-use Rattle.sdb_model.specs.Form.{schema_line}
 use Rattle.sdb_script.specs.declared.account.AccountStatement.{AccountStatement}
 use Rattle.sdb_script.specs.declared.account.AccountStatement.TheVariants as account
+use Rattle.sdb_script.specs.declared.drawing.AccountForm.{AccountForm}
 use Rattle.sdb_script.specs.declared.drawing.Section.{Section}
 use Rattle.sdb_script.specs.declared.drawing.Section.TheVariants as section
 use Rattle.sdb_script.specs.Scan.{after, number_at}
-use Rattle.sdb_script.specs.Pieces.{client_in, place_in, numbers_in}
-use Rattle.sdb_script.specs.Accounts.{fits_account, account_text}
+use Rattle.sdb_script.specs.Pieces.{client_in, described, place_in, numbers_in}
+use Rattle.sdb_script.specs.Accounts.{fits_account, has_accounts, account_text}
 
--- What was read so far: what may come next, the places, the client's name, and its statements with their texts.
+-- What was read so far: what may come next, the places, the catalog and whether it has accounts, the client's name, and its
+-- statements with their texts.
 pub record Drawn : Type 0 where
   pub section : Section
   pub places : List Place
+  pub catalog : Option (List Table)
+  pub accounts : Bool
   pub name : Option (List ℕ)
   pub texts : List (List ℕ)
   pub statements : List AccountStatement
 
 abbrev pub nothing_drawn : Drawn
-nothing_drawn = record { section = section.Schema; places = []; name = None; texts = []; statements = [] }
+nothing_drawn = record { section = section.Schema; places = []; catalog = None; accounts = false; name = None; texts = []; statements = [] }
 
 ---- the statement of a line
 
@@ -78,16 +83,18 @@ abbrev pub to_section : Drawn → Section → Drawn
 to_section d s = record d { section = s }
 
 abbrev pub named : Drawn → List ℕ → Drawn
-named d name = record { section = section.Outside; places = d.places; name = Some name; texts = d.texts; statements = d.statements }
+named d name = record d { section = section.Outside; name = Some name }
 
 abbrev pub with_statement : Drawn → AccountStatement → Bool → Drawn
-with_statement d a inside = record { section = section_of inside; places = d.places; name = d.name; texts = d.texts ++ account_text a ∷ []; statements = d.statements ++ a ∷ [] }
+with_statement d a inside = record d { section = section_of inside; texts = d.texts ++ account_text a ∷ []; statements = d.statements ++ a ∷ [] }
 
 abbrev pub if_wanted : List ℕ → List ℕ → Drawn → Option Drawn
 if_wanted line wanted d = if bytes_eq line wanted then Some d else None
 
+-- a statement, where the catalog has accounts
 abbrev pub told_by : Bool → Drawn → List ℕ → Option Drawn
-told_by inside d line = option_and_then (λ a. option_map (with_statement d a) (inside_after inside a)) (account_in line)
+told_by inside d line =
+    if d.accounts then option_and_then (λ a. option_map (with_statement d a) (inside_after inside a)) (account_in line) else None
 
 abbrev pub drawn_among : Bool → Drawn → List ℕ → Option Drawn
 drawn_among inside d line = if bytes_eq line (codes "run") then Some (to_section d section.Rest) else told_by inside d line
@@ -99,9 +106,18 @@ is_placed places ns = list_any (λ p. bytes_eq p.ns ns) places
 abbrev pub with_place : Drawn → Place → Option Drawn
 with_place d p = if is_placed d.places p.ns then None else Some (record d { places = d.places ++ p ∷ [] })
 
+abbrev pub drawn_place : List (List ℕ) → Drawn → List ℕ → Option Drawn
+drawn_place stores d line = option_and_then (with_place d) (place_in stores line)
+
+abbrev pub with_catalog : Drawn → List Table → Drawn
+with_catalog d catalog = record d { section = section.Client; catalog = Some catalog; accounts = has_accounts catalog }
+
+abbrev pub drawn_schema : Drawn → List ℕ → Option Drawn
+drawn_schema d json = option_map (with_catalog d) (described json)
+
 -- the schema, or a place
 abbrev pub drawn_first : List (List ℕ) → Drawn → List ℕ → Option Drawn
-drawn_first stores d line = if bytes_eq line schema_line then Some (to_section d section.Client) else option_and_then (with_place d) (place_in stores line)
+drawn_first stores d line = option_map_or (drawn_schema d) (after (codes "schema ") line) (drawn_place stores d line)
 
 abbrev pub drawn_at : List (List ℕ) → Section → Drawn → List ℕ → Option Drawn
 drawn_at stores section.Schema d line = drawn_first stores d line
@@ -123,3 +139,15 @@ drawn_next number None goes = Err number
 abbrev pub drawn_from : List (List ℕ) → ℕ → Drawn → List (List ℕ) → Result Drawn ℕ
 drawn_from stores number d [] = Ok d
 drawn_from stores number d (l ∷ ls) = drawn_next number (drawn stores d l) (λ e. drawn_from stores (number + 1) e ls)
+
+---- the end
+
+-- What was read is a whole script, of this form.
+pub record IsWhole (d : Drawn) (form : AccountForm) : Type 0 where
+  pub ended : d.section ≡ section.End
+  pub placed : form.places ≡ d.places
+  pub described : d.catalog ≡ Some form.catalog
+  pub catalog : is_catalog form.catalog ≡ true
+  pub named : d.name ≡ Some form.client.name
+  pub texts : form.client.statements ≡ d.texts
+  pub statements : form.statements ≡ d.statements

@@ -2,11 +2,18 @@
 use Rattle.std.specs.Prelude.{ℕ, ◌+◌, ◌==◌, ℤ, Bool, ◌&&◌, not, if◌then◌else◌, List, codes, take, drop, position, Option, Some, None}
 use Rattle.std.specs.List.{list_any}
 use Rattle.std.specs.Option.{option_map, option_and_then}
+use Rattle.std.specs.Result.{result_ok}
 use Rattle.std.specs.Str.{bytes_eq}
+use Rattle.sdb_schema.specs.declared.table.Table.{Table}
+use Rattle.sdb_loader.specs.Described.{catalog_in}
+use Rattle.sdb_loader.specs.declared.fault.SchemaFault.{SchemaFault}
+use Rattle.sdb_loader.specs.declared.fault.SchemaFault.TheVariants as fault
 use Rattle.sdb_model.specs.declared.script.Place.{Place}
 use Rattle.sdb_model.specs.Form.{is_client_name}
 use Rattle.sdb_script.specs.Accounts.{is_namespace}
 use Rattle.sdb_script.specs.Scan.{after, number_at}
+use Rattle.sdb_script.specs.declared.line.LineRefused.{LineRefused}
+use Rattle.sdb_script.specs.declared.line.LineRefused.TheVariants as refused
 
 abbrev pub if_named : List ℕ → Option (List ℕ)
 if_named name = if is_client_name name then Some name else None
@@ -37,6 +44,15 @@ if_place stores w = if may_place w.0 && is_attached stores w.1 then Some (record
 -- the place that a line has
 abbrev pub place_in : List (List ℕ) → List ℕ → Option Place
 place_in stores line = option_and_then (λ rest. option_and_then (if_place stores) (words_in rest)) (after (codes "place ") line)
+
+-- the catalog that the JSON of a schema describes
+abbrev pub described : List ℕ → Option (List Table)
+described json = result_ok (catalog_in json)
+
+-- how the line of a schema with a fault is refused
+abbrev pub refused_for : SchemaFault → LineRefused
+refused_for fault.NoMemory = refused.NoMemory
+refused_for f = refused.Bad
 
 -- the front of a line that inserts an account
 abbrev pub insert_front : List ℕ

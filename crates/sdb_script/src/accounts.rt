@@ -1,8 +1,8 @@
 //! Reading scripts of account transactions, the form that can be played so far.
 ghost use Rattle.std.specs.Prelude.{◌≡◌, ◌+◌, ◌<◌, ◌==◌, take, count_by, ℕ, List, Ok, Err, IfOk, IsErrOf, length};
-ghost use Rattle.sdb_model.specs.Form.{lines_of, client_script, placed_script};
+ghost use Rattle.sdb_model.specs.Form.{lines_of};
 ghost use Rattle.sdb_model.specs.declared.script.Script.{Script};
-ghost use Rattle.sdb_script.specs.Accounts.{IsAccountScript, IsNotPlayed, IsFormOf, most_script_bytes};
+ghost use Rattle.sdb_script.specs.Accounts.{IsAccountScript, IsNotPlayed, IsFormOf, most_script_bytes, script_of_client};
 ghost use Rattle.sdb_script.specs.Drawn.{nothing_drawn, drawn_from};
 ghost use Rattle.sdb_script.specs.declared.accounts.FormRefused.TheVariants.{NoMemory as OutOfMemory};
 
@@ -55,18 +55,20 @@ fn read_lines(alloc: Global, bytes: &[u8], stores: &Names) -> Result<(Drawing, u
 /// The script that a text says, where it is of the form that can be played so far over the attached stores, of which the
 /// names are given.
 ///
-/// The text has at most 67,108,864 bytes. Its lines are any number of `place` lines, the schema of `bank.account`, one
-/// `client` line, the client's statements, `run` and `rest`. A `place` line names a namespace, which isn't `scalardb` and
-/// was not placed before, and an attached store. The statements are transactions: BEGIN, any number of INSERTs and SELECTs
-/// of single accounts whose numbers fit an INT, and COMMIT, which may be missing in the last. Takes memory linear in the
-/// text's length, and time linear in it but for the places, of which each is compared with those before it and with the
-/// stores.
+/// The text has at most 67,108,864 bytes. Its lines are any number of `place` lines, one `schema` line, one `client` line,
+/// the client's statements, `run` and `rest`. A `place` line names a namespace, which isn't `scalardb` and was not placed
+/// before, and an attached store. What stands behind `schema ` is JSON that describes a catalog, as `catalog_of` of
+/// `sdb_loader` takes it. The statements are transactions: BEGIN, any number of INSERTs and SELECTs of single accounts whose
+/// numbers fit an INT, and COMMIT, which may be missing in the last. A client may have none over any catalog; where it has
+/// one, the catalog has a table `bank.account` with the key `id` alone and a column `balance`, both INT, and maybe others.
+/// Takes memory linear in the text's length, and time linear in it but for the schema, whose JSON `catalog_of` reads, and the
+/// places, of which each is compared with those before it and with the stores.
 pub fn read_account_script(
     alloc: Global,
     bytes: &[u8],
     stores: &Names,
 ) -> Result<AccountForm, FormRefused>
-    ensures ok { IfOk result (λ form. IsAccountScript stores.now bytes.now (placed_script (client_script form.client) form.places)) }
+    ensures ok { IfOk result (λ form. IsAccountScript stores.now bytes.now (script_of_client form.places form.catalog form.client)) }
     ensures statements { IfOk result (IsFormOf stores.now) }
     ensures not_built { (n : ℕ) → IsErrOf result (FormRefused.NotBuilt n) → IsNotPlayed stores.now bytes.now n }
 {

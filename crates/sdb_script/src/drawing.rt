@@ -2,14 +2,16 @@
 ghost use Rattle.std.specs.Prelude.{◌≡◌, ◌++◌, ◌∷◌, [], Some, None, IfSome, IfNone, IsSome, true, false, OnOk, IfOk, IsErrOf, codes};
 ghost use Rattle.std.specs.Option.{option_and_then, option_map};
 ghost use Rattle.std.specs.Str.{bytes_eq};
-ghost use Rattle.sdb_model.specs.declared.script.ScriptClient.{ScriptClient};
-ghost use Rattle.sdb_script.specs.Pieces.{client_in, place_in};
-ghost use Rattle.sdb_script.specs.Drawn.{Drawn, nothing_drawn, drawn, drawn_first, drawn_among, told_by, if_wanted, named, to_section, with_place, with_statement, inside_after as inside_after_lem, section_of as section_of_lem};
+ghost use Rattle.sdb_script.specs.Pieces.{client_in, described};
+ghost use Rattle.sdb_script.specs.Drawn.{Drawn, IsWhole, nothing_drawn, drawn, drawn_first, drawn_place, drawn_schema, drawn_among, told_by, if_wanted, named, to_section, with_statement, inside_after as inside_after_lem, section_of as section_of_lem};
 
 use crate::account::{AccountStatement, AccountStatements, account_in, account_text};
 use crate::line::{LineRefused, client_in, is_line};
 use crate::places::{is_placed, place_in};
+use crate::scan::after;
+use crate::schema::{catalog_in, has_accounts};
 use sdb_model::{Places, ScriptClient, Texts};
+use sdb_schema::Catalog;
 use sdb_types::{Name, Names, NoMemory};
 use std::alloc::Global;
 use std::marker::Model;
@@ -33,6 +35,8 @@ pub enum Section {
 pub struct AccountForm {
     /// Where namespaces are kept, in the order of their lines.
     pub places: Places,
+    /// The tables that the schema describes.
+    pub catalog: Catalog,
     /// The client, with the texts of its statements.
     pub client: ScriptClient,
     /// Its statements.
@@ -44,6 +48,9 @@ pub struct AccountForm {
 pub struct Drawing {
     section: Section,
     places: Places,
+    catalog: Option<Catalog>,
+    // Whether the catalog has accounts as statements need them.
+    accounts: bool,
     name: Option<Name>,
     texts: Texts,
     statements: AccountStatements,
@@ -54,7 +61,7 @@ impl Model for Drawing {
 
     ghost Value = { Drawn };
 
-    ghost view = { λ d. record { section = d.section; places = d.places; name = d.name; texts = d.texts; statements = d.statements } };
+    ghost view = { λ d. record { section = d.section; places = d.places; catalog = d.catalog; accounts = d.accounts; name = d.name; texts = d.texts; statements = d.statements } };
 }
 
 // Whether one is inside of a transaction behind a statement, where it may come there.
@@ -88,6 +95,8 @@ impl Drawing {
         Drawing {
             section: Section::Schema,
             places: Places::new(alloc),
+            catalog: None,
+            accounts: false,
             name: None,
             texts: Texts::new(alloc),
             statements: AccountStatements::new(alloc),
@@ -108,8 +117,8 @@ impl Drawing {
 
     // Takes a place.
     fn take_place(&mut self, alloc: Global, line: &[u8], stores: &Names) -> Result<(), LineRefused>
-        ensures ok { OnOk result (option_and_then (with_place self.old) (place_in stores.now line.now) ≡ Some self.new) }
-        ensures bad { IsErrOf result LineRefused.Bad → option_and_then (with_place self.old) (place_in stores.now line.now) ≡ None }
+        ensures ok { OnOk result (drawn_place stores.now self.old line.now ≡ Some self.new) }
+        ensures bad { IsErrOf result LineRefused.Bad → drawn_place stores.now self.old line.now ≡ None }
     {
         let place = place_in(alloc, line, stores)?;
         if is_placed(&self.places, &place.ns) {
@@ -119,19 +128,27 @@ impl Drawing {
         Ok(())
     }
 
+    // Takes the schema of this JSON.
+    fn take_schema(&mut self, alloc: Global, json: &[u8]) -> Result<(), LineRefused>
+        ensures ok { OnOk result (drawn_schema self.old json.now ≡ Some self.new) }
+        ensures bad { IsErrOf result LineRefused.Bad → described json.now ≡ None }
+    {
+        let catalog = catalog_in(alloc, json)?;
+        self.accounts = has_accounts(alloc, &catalog)?;
+        self.catalog = Some(catalog);
+        self.section = Section::Client;
+        Ok(())
+    }
+
     // Takes the schema or a place.
     fn take_first(&mut self, alloc: Global, line: &[u8], stores: &Names) -> Result<(), LineRefused>
         ensures ok { OnOk result (drawn_first stores.now self.old line.now ≡ Some self.new) }
         ensures bad { IsErrOf result LineRefused.Bad → drawn_first stores.now self.old line.now ≡ None }
     {
-        if is_line(
-            line,
-            "schema {\"bank.account\":{\"partition-key\":[\"id\"],\"columns\":{\"id\":\"INT\",\"balance\":\"INT\"}}}",
-        ) {
-            self.section = Section::Client;
-            return Ok(());
+        match after(b"schema ", line) {
+            Some(json) => self.take_schema(alloc, json),
+            None => self.take_place(alloc, line, stores),
         }
-        self.take_place(alloc, line, stores)
     }
 
     // Takes the client's name.
@@ -160,7 +177,7 @@ impl Drawing {
         Ok(())
     }
 
-    // Takes a statement, inside of a transaction or outside.
+    // Takes a statement, inside of a transaction or outside, where the catalog has accounts.
     fn take_statement(
         &mut self,
         alloc: Global,
@@ -170,6 +187,9 @@ impl Drawing {
         ensures ok { OnOk result (told_by inside self.old line.now ≡ Some self.new) }
         ensures bad { IsErrOf result LineRefused.Bad → told_by inside self.old line.now ≡ None }
     {
+        if !self.accounts {
+            return Err(LineRefused::Bad);
+        }
         let Some(statement) = account_in(alloc, line)? else {
             return Err(LineRefused::Bad);
         };
@@ -209,18 +229,22 @@ impl Drawing {
 
     /// The script, where the last line was taken.
     pub fn finish(self) -> Option<AccountForm>
-        ensures some { IfSome result (λ form. (self.section ≡ Section.End) × (self.name ≡ Some form.client.name) × (form.places ≡ self.places) × (form.client.statements ≡ self.texts) × (form.statements ≡ self.statements)) }
-        ensures none { IfNone result (self.section ≡ Section.End → ¬ IsSome self.name) }
+        ensures some { IfSome result (IsWhole self) }
+        ensures none { IfNone result (self.section ≡ Section.End → ¬ (IsSome self.catalog × IsSome self.name)) }
     {
-        match (self.section, self.name) {
-            (Section::End, Some(name)) => Some(AccountForm {
-                places: self.places,
-                client: ScriptClient {
-                    name,
-                    statements: self.texts,
-                },
-                statements: self.statements,
-            }),
+        match (self.section, self.catalog, self.name) {
+            (Section::End, Some(catalog), Some(name)) => {
+                let _tables = catalog.len();
+                Some(AccountForm {
+                    places: self.places,
+                    catalog,
+                    client: ScriptClient {
+                        name,
+                        statements: self.texts,
+                    },
+                    statements: self.statements,
+                })
+            }
             _ => None,
         }
     }

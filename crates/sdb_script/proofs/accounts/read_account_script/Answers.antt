@@ -11,13 +11,13 @@ returns-in-Some-clause-ok c =
     let read = c.in-Ok.ensures in
     let ended = c.in-Some.ensures in
     let small : length c.args.bytes.now ≤ most_script_bytes = omega arith in
-    (small, (whole c.args.stores.now (lines_of c.args.bytes.now) c.in-Ok.drawing c.in-Some.form read.ok.0 ended.some.0 ended.some.1 ended.some.2 ended.some.3 ended.some.4).0)
+    (small, (whole c.args.stores.now (lines_of c.args.bytes.now) c.in-Ok.drawing c.in-Some.form read.ok.0 ended.some).0)
 
 pub returns-in-Some-clause-statements : goal.returns-in-Some-clause-statements
 returns-in-Some-clause-statements c =
     let read = c.in-Ok.ensures in
     let ended = c.in-Some.ensures in
-    (whole c.args.stores.now (lines_of c.args.bytes.now) c.in-Ok.drawing c.in-Some.form read.ok.0 ended.some.0 ended.some.1 ended.some.2 ended.some.3 ended.some.4).1
+    (whole c.args.stores.now (lines_of c.args.bytes.now) c.in-Ok.drawing c.in-Some.form read.ok.0 ended.some).1
 
 pub returns-in-None-clause-not_built : goal.returns-in-None-clause-not_built
 returns-in-None-clause-not_built c = λ n is.
