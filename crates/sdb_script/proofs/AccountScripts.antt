@@ -18,6 +18,9 @@ use Rattle.sdb_script.specs.Accounts.{statement_of, account_text, fits_account, 
 use Rattle.sdb_script.specs.Drawn.{Drawn, IsWhole, nothing_drawn, account_line, drawn, drawn_next, drawn_from}
 use Rattle.sdb_script.proofs.PieceLaws.{by_test, some_is}
 use Rattle.sdb_script.proofs.PlaceLines.{not_schema}
+use Rattle.sdb_script.proofs.SchemaTables.{schema_apart}
+use Rattle.sdb_record.specs.Coordinator.{coordinator_table}
+use Rattle.sdb_model.specs.Exec.{find_table}
 use Rattle.sdb_script.proofs.Placed.{same_behind}
 use Rattle.sdb_script.proofs.AccountForms.{AllFit, Accounts, accounts_of, transactions_of, statement_lines, both, not_empty, Stands, stands_first, stands_begin, stands_more, dead, not_run}
 
@@ -87,6 +90,7 @@ whole_at stores lines section.End ps cat has o ts acts form whole w end =
       },
       record {
         placed = subst (ArePlaces stores) (sym w.placed) whole.placed;
+        apart = ap (λ (ts : List Table). find_table ts coordinator_table) (sym over) ∙ schema_apart st.json st.catalog st.is_described;
         catalog = w.catalog;
         fit = subst (λ (x : List AccountStatement). list_all (is_built form.catalog) x ≡ true) (sym w.statements) (subst (λ (x : List Table). list_all (is_built x) acts ≡ true) over fit);
         texts = texts ∙ ap (map account_text) (sym w.statements);

@@ -5,6 +5,7 @@ use Rattle.std.specs.List.{list_all}
 use Rattle.std.specs.Option.{option_map_or}
 use Rattle.sdb_types.specs.Identifier.{is_identifier}
 use Rattle.sdb_types.specs.declared.value.Value.TheVariants as value
+use Rattle.sdb_record.specs.Coordinator.{coordinator_table}
 use Rattle.sdb_schema.specs.declared.table.Kind.{Kind}
 use Rattle.sdb_schema.specs.declared.table.Kind.TheVariants as kind
 use Rattle.sdb_schema.specs.declared.table.Table.{Table}
@@ -181,11 +182,12 @@ IsNotPlayed stores text n =
 
 ---- what is read
 
--- What is known of the places, of the catalog, and of the client's statements and their texts: each can be built over the catalog,
--- and they are transactions.
+-- What is known of the places, of the catalog, of which the coordinator's table is none, and of the client's statements and their
+-- texts: each can be built over the catalog, and they are transactions.
 pub record IsFormOf (stores : List (List ℕ)) (form : AccountForm) : Type 0 where
   pub placed : ArePlaces stores form.places
   pub catalog : is_catalog form.catalog ≡ true
+  pub apart : find_table form.catalog coordinator_table ≡ None
   pub fit : list_all (is_built form.catalog) form.statements ≡ true
   pub texts : form.client.statements ≡ map account_text form.statements
   pub built : AreTransactions false (map statement_of form.statements)
