@@ -82,3 +82,88 @@ fn places_come_first(rt: HostRuntime) -> Result<(), Fail> {
     );
     Ok(())
 }
+
+// A script of one client over the catalog of a schema.
+fn script_over(alloc: Global, json: &str, statements: &str) -> Result<String, AllocError> {
+    format!(in alloc; "schema {json}\nclient a\n{statements}run\nrest\n")
+}
+
+// Schemas with a client's statements, and how many tables they describe.
+const TAKEN: [(&str, &str, usize); 5] = [
+    (
+        "{\"bank.account\":{\"partition-key\":[\"id\"],\"columns\":{\"id\":\"INT\",\"balance\":\"INT\",\"owner\":\"TEXT\"},\"secondary-index\":[\"owner\"]},\"shop.orders\":{\"partition-key\":[\"customer\"],\"clustering-key\":[\"placed DESC\"],\"columns\":{\"customer\":\"INT\",\"placed\":\"BIGINT\"}}}",
+        "  BEGIN\n",
+        2,
+    ),
+    (
+        " { \"bank.account\" : {\"columns\":{\"balance\":\"int\",\"id\":\"Int\"},\"partition-key\":[\"id\"],\"note\":1} } ",
+        "  BEGIN\n  COMMIT\n",
+        1,
+    ),
+    (
+        "{\"bank.account\":{\"partition-key\":[\"id\"],\"columns\":{\"id\":\"TEXT\"}}}",
+        "",
+        1,
+    ),
+    (
+        "{\"shop.orders\":{\"partition-key\":[\"id\"],\"columns\":{\"id\":\"TEXT\"}}}",
+        "",
+        1,
+    ),
+    ("{}", "", 0),
+];
+
+#[test]
+fn schemas_are_taken(rt: HostRuntime) -> Result<(), Fail> {
+    let alloc = rt.alloc();
+    let stores = attached(alloc)?;
+    for (json, statements, tables) in TAKEN {
+        let text = script_over(alloc, json, statements)?;
+        let form = read_account_script(alloc, text.as_bytes(), &stores)?;
+        assert_eq!(rt; form.catalog.len(), tables, "at {json}");
+    }
+    Ok(())
+}
+
+// Schemas with a fault.
+const FAULTS: [&str; 5] = [
+    "{\"bank.account\":{\"partition-key\":[\"id\"],\"columns\":{\"id\":\"INT\",\"balance\":\"INT\",\"rate\":\"FLOAT\"}}}",
+    "{\"bank.account\":{\"partition-key\":[\"id\"],\"columns\":{\"id\":\"INT\",\"balance\":\"INT\"}}",
+    "{\"scalardb.x\":{\"partition-key\":[\"id\"],\"columns\":{\"id\":\"INT\"}}}",
+    "[]",
+    "",
+];
+
+#[test]
+fn faults_of_schemas_are_refused(rt: HostRuntime) -> Result<(), Fail> {
+    let alloc = rt.alloc();
+    let stores = attached(alloc)?;
+    for json in FAULTS {
+        let text = script_over(alloc, json, "")?;
+        refuses(&rt, alloc, &stores, text.as_str(), 1);
+    }
+    refuses(&rt, alloc, &stores, "schema{}\n", 1);
+    refuses(&rt, alloc, &stores, "schema {}\nschema {}\n", 2);
+    Ok(())
+}
+
+// Schemas over which no statement on accounts can be built.
+const WITHOUT_ACCOUNTS: [&str; 6] = [
+    "{\"bank.account\":{\"partition-key\":[\"id\"],\"columns\":{\"id\":\"TEXT\",\"balance\":\"INT\"}}}",
+    "{\"bank.account\":{\"partition-key\":[\"id\"],\"columns\":{\"id\":\"INT\",\"balance\":\"BIGINT\"}}}",
+    "{\"bank.account\":{\"partition-key\":[\"id\"],\"columns\":{\"id\":\"INT\"}}}",
+    "{\"bank.account\":{\"partition-key\":[\"id\"],\"clustering-key\":[\"n\"],\"columns\":{\"id\":\"INT\",\"balance\":\"INT\",\"n\":\"INT\"}}}",
+    "{\"bank.account\":{\"partition-key\":[\"id\",\"n\"],\"columns\":{\"id\":\"INT\",\"balance\":\"INT\",\"n\":\"INT\"}}}",
+    "{\"bank.accounts\":{\"partition-key\":[\"id\"],\"columns\":{\"id\":\"INT\",\"balance\":\"INT\"}}}",
+];
+
+#[test]
+fn statements_need_accounts(rt: HostRuntime) -> Result<(), Fail> {
+    let alloc = rt.alloc();
+    let stores = attached(alloc)?;
+    for json in WITHOUT_ACCOUNTS {
+        let text = script_over(alloc, json, "  BEGIN\n")?;
+        refuses(&rt, alloc, &stores, text.as_str(), 3);
+    }
+    Ok(())
+}
