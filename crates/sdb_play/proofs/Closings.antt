@@ -1,21 +1,31 @@
 -- What a run has come to, on several stores.
 use Rattle.std.proofs.Common.{◌≡◌, ◌∙◌, ℕ, ◌+◌, ◌<◌, ◌≤◌, List, [], ◌∷◌, ◌++◌, length, map, take, drop, Option, Some, None, refl, sym, ap, subst}
+use Rattle.std.specs.FinMap.{empty}
 use Rattle.std.specs.Prelude.{slice_get}
 use Rattle.std.proofs.lemmas.List.{map-append}
 use Rattle.sdb_types.specs.declared.key.TableName.{TableName}
 use Rattle.sdb_types.specs.declared.record.Request.{Request}
 use Rattle.sdb_types.specs.declared.record.Reply.{Reply}
+use Rattle.sdb_types.specs.Contents.{Contents}
+use Rattle.sdb_schema.specs.declared.table.Table.{Table}
 use Rattle.sdb_stores.specs.Shelf.{Shelf as Counted, home, names_of, table_of}
 use Rattle.sdb_stores.specs.declared.place.Place.{Place as Placed}
 use Rattle.sdb_model.specs.declared.answer.Answer.{Answer}
 use Rattle.sdb_model.specs.declared.event.Event.{Event}
 use Rattle.sdb_model.specs.declared.event.Event.TheVariants as event
 use Rattle.sdb_model.specs.declared.event.How.TheVariants.{Seen}
+use Rattle.sdb_model.specs.declared.event.Outcome.{Outcome}
+use Rattle.sdb_model.specs.declared.event.Point.{Point}
+use Rattle.sdb_model.specs.declared.event.TableDump.{TableDump}
+use Rattle.sdb_model.specs.declared.script.Place.{Place}
 use Rattle.sdb_model.specs.Rows.{Name}
-use Rattle.sdb_model.specs.Events.{store_of, table_asked}
-use Rattle.sdb_spread.specs.Spread.{moved_event, moved_events}
+use Rattle.sdb_model.specs.Events.{Shelf, store_of, table_asked}
+use Rattle.sdb_script.specs.declared.account.AccountStatement.{AccountStatement}
+use Rattle.sdb_session.specs.Session.{dump_held, outcome_of, start, taken_all}
+use Rattle.sdb_spread.specs.Spread.{HoldAs, moved_event, moved_events, moved_outcome}
 use Rattle.sdb_play.specs.Board.{AreFit, placed, shown}
 use Rattle.sdb_play.specs.Deeds.{deed_event}
+use Rattle.sdb_play.specs.Played.{IsPlayedOn}
 use Rattle.sdb_play.specs.declared.story.Deed.{Deed}
 use Rattle.sdb_play.specs.declared.story.Deed.TheVariants as deed
 use Rattle.sdb_play.proofs.Heard.{asked}
@@ -24,11 +34,14 @@ use Rattle.sdb_play.proofs.Shelves.{named_home}
 some_is : {A : Type 0} (x y : A) → Some x ≡ Some y → x ≡ y
 some_is x y e = cc
 
+abbrev outcome_with : List Event → List Point → List TableDump → Outcome
+outcome_with events order tables = record { events = events; order = order; tables = tables }
+
 -- a call with the name of its store
-pub event_named : {tells : ℕ → Type 0} (places : List Placed) (shelves : List Counted) (q : Request) (r : Reply) (given : Option Answer) (d : Deed) (store name : Name) (table : TableName) → AreFit places shelves tells → d ≡ deed.Call q r given → table ≡ table_of q
+pub event_named : {tells : ℕ → Type 0} (catalog : List Table) (places : List Placed) (shelves : List Counted) (q : Request) (r : Reply) (given : Option Answer) (d : Deed) (store name : Name) (table : TableName) → AreFit catalog places shelves tells → d ≡ deed.Call q r given → table ≡ table_of q
     → slice_get (names_of shelves) (home table.ns places (names_of shelves)) ≡ Some name → store ≡ name
     → event.Call 1 store q Seen r given ≡ moved_event (store_of (placed places) (shown shelves)) (deed_event d)
-event_named places shelves q r given d store name table fit is about there same =
+event_named catalog places shelves q r given d store name table fit is about there same =
     let named : name ≡ store_of (placed places) (shown shelves) table.ns = some_is _ _ (sym there ∙ named_home places shelves table.ns fit.some (fit.homed table.ns)) in
     let whole : store ≡ store_of (placed places) (shown shelves) (table_asked q).ns = same ∙ named ∙ ap (λ (t : TableName). store_of (placed places) (shown shelves) t.ns) (about ∙ asked q) in
     ap (λ (n : Name). event.Call 1 n q Seen r given) whole ∙ ap (λ (x : Deed). moved_event (store_of (placed places) (shown shelves)) (deed_event x)) (sym is)
@@ -38,3 +51,13 @@ pub events_more : (at : Name → Name) (deeds : List Deed) (d : Deed) (events : 
 events_more at deeds d events e so is =
     ap (λ (es : List Event). es ++ e ∷ []) so ∙ ap (λ (x : Event). moved_events at (map deed_event deeds) ++ x ∷ []) is
     ∙ sym (ap (moved_events at) (map-append deed_event deeds (d ∷ [])) ∙ map-append (moved_event at) (map deed_event deeds) (deed_event d ∷ []))
+
+-- what a run has come to, with the rows of its tables
+pub outcome_is : (catalog : List Table) (places : List Place) (opening now : List Shelf) (statements : List AccountStatement) (story events : List Event) (order : List Point) (tables : List TableDump) → IsPlayedOn catalog places opening now statements story order → events ≡ moved_events (store_of places now) story
+    → ((held : Contents) → HoldAs catalog places now held → tables ≡ map (dump_held held) catalog)
+    → outcome_with events order tables ≡ moved_outcome (store_of places opening) (outcome_of catalog (taken_all (start empty) statements).events (taken_all (start empty) statements).order (taken_all (start empty) statements).held)
+outcome_is catalog places opening now statements story events order tables played made shows =
+    let at : store_of places now ≡ store_of places opening = λ i ns. played.on.same ns i in
+    let there : events ≡ moved_events (store_of places opening) (taken_all (start empty) statements).events = made ∙ ap (λ (f : Name → Name). moved_events f story) at ∙ ap (moved_events (store_of places opening)) played.events in
+    let rows : tables ≡ map (dump_held (taken_all (start empty) statements).held) catalog = shows (taken_all (start empty) statements).held played.on.holds in
+    λ i. outcome_with (there i) (played.order i) (rows i)

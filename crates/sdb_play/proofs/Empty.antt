@@ -1,10 +1,14 @@
 -- Stores whose tables hold no record.
-use Rattle.std.proofs.Common.{◌≡◌, ◌∙◌, ◌⊎◌, inl, inr, Bool, true, false, cond, List, [], ◌∷◌, ◌++◌, Option, Some, None, refl, sym, ap, subst}
-use Rattle.std.specs.Prelude.{◌||◌, ◌&&◌, is_some}
+use Rattle.std.proofs.Common.{◌≡◌, ◌∙◌, ◌⊎◌, inl, inr, ℕ, zero, suc, ◌+◌, ◌<◌, ◌≤◌, Bool, true, List, [], ◌∷◌, ◌++◌, length, take, get_or, Option, Some, None, refl, sym, ap, subst}
+use Rattle.std.specs.Prelude.{◌&&◌, slice_get}
 use Rattle.std.specs.FinMap.{empty, get-empty}
+use Rattle.std.specs.List.{AllByRecursion, flat_map}
 use Rattle.std.specs.Option.{option_map, option_map_or}
 use Rattle.std.specs.Ordering.{is_eq}
 use Rattle.std.specs.Cmp.{tied_itself}
+use Rattle.std.proofs.Math.Numerals.{add-one}
+use Rattle.std.proofs.lemmas.List.{append-nil}
+use Rattle.std.proofs.lemmas.Option.{slice_get-get_or}
 use Rattle.sdb_types.specs.declared.key.Key.{Key}
 use Rattle.sdb_types.specs.declared.key.TableName.{TableName}
 use Rattle.sdb_types.specs.declared.record.Record.{Record}
@@ -12,22 +16,23 @@ use Rattle.sdb_types.specs.declared.record.Request.TheVariants as ask
 use Rattle.sdb_types.specs.declared.record.Reply.{Reply}
 use Rattle.sdb_types.specs.declared.record.Reply.TheVariants as reply
 use Rattle.sdb_types.specs.Contents.{Contents, record_at, record_of, rows_in, in_span, apply}
-use Rattle.sdb_types.specs.Exact.{equal_of}
-use Rattle.sdb_types.specs.Order.{key_cmp, table_cmp}
-use Rattle.sdb_types.proofs.Bools.{and_first, and_second}
-use Rattle.sdb_types.proofs.KeyOrder.{table_exact, table_total}
-use Rattle.sdb_record.specs.Coordinator.{coordinator_table, is_coordinator_table}
-use Rattle.sdb_record.proofs.NameLemmas.{same_name-true}
+use Rattle.sdb_types.specs.Order.{key_cmp}
+use Rattle.sdb_types.proofs.KeyOrder.{table_total}
 use Rattle.sdb_laws.specs.Lawful.{row_among}
 use Rattle.sdb_laws.proofs.Shown.{row_there}
+use Rattle.sdb_schema.specs.declared.table.Table.{Table}
+use Rattle.sdb_stores.specs.Shelf.{Shelf as Counted}
+use Rattle.sdb_stores.specs.declared.place.Place.{Place as Placed}
 use Rattle.sdb_model.specs.declared.script.Place.{Place}
 use Rattle.sdb_model.specs.Events.{Shelf, held_by, store_of, standing}
-use Rattle.sdb_model.specs.Form.{account_name, account_table}
-use Rattle.sdb_model.specs.Exec.{find_table}
+use Rattle.sdb_session.specs.Session.{whole}
 use Rattle.sdb_spread.specs.Spread.{HoldAs, is_played}
 use Rattle.sdb_spread.proofs.Calls.{called}
-use Rattle.sdb_play.specs.Board.{IsHeard, catalog}
-use Rattle.sdb_play.specs.Opening.{whole, records_of, opening_records, first_key}
+use Rattle.sdb_txn.proofs.Keys.{all_at}
+use Rattle.sdb_play.specs.Board.{AreFit, GoOn, IsHeard, placed, shown}
+use Rattle.sdb_play.specs.Opening.{records_of, run_tables, opening_records, first_key}
+use Rattle.sdb_play.proofs.Plays.{taken_up}
+use Rattle.sdb_play.proofs.RunTables.{names_played, of_played}
 
 nothing_at : (key : Key) → record_at empty key ≡ None
 nothing_at key = ap (option_map (λ columns. record_of (key, columns))) (get-empty key_cmp key)
@@ -43,83 +48,125 @@ none_there : (o : Option Contents) (key : Key) → option_map_or (rows_in (whole
 none_there None key e = refl
 none_there (Some m) key e = none_of_table m key e
 
-or_cases : (a b : Bool) → (a || b) ≡ true → (a ≡ true) ⊎ (b ≡ true)
-or_cases true b e = inl refl
-or_cases false b e = inr e
-
--- the tables of a run are the accounts' and the coordinator's
-played_tables : (table : TableName) → is_played catalog table ≡ true → (table ≡ account_name) ⊎ (table ≡ coordinator_table)
-played_tables table e = elim (or_cases (is_some (find_table catalog table)) (is_coordinator_table table) e) [
-  | inl a ↦ inl (by_account (is_eq (table_cmp account_name table)) refl a)
-  | inr c ↦ inr (λ i. record { ns = same_name-true table.ns coordinator_table.ns (and_first _ _ c) i; table = same_name-true table.table coordinator_table.table (and_second _ _ c) i })
-]
-  where
-    by_account : (b : Bool) → is_eq (table_cmp account_name table) ≡ b → is_some (find_table catalog table) ≡ true → table ≡ account_name
-    by_account true t h = sym (table_exact account_name table (equal_of (table_cmp account_name table) t))
-    by_account false t h = absurd (let f : false ≡ true = sym (ap (λ (b : Bool). is_some (cond b (Some account_table) None)) t) ∙ h in cc)
-
 pub none_first : (rows : List Record) → first_key rows ≡ None → rows ≡ []
 none_first [] e = refl
 none_first (r ∷ rs) e = absurd (cc)
 
+no_append : {A : Type 0} (xs ys : List A) → xs ++ ys ≡ [] → (xs ≡ []) × (ys ≡ [])
+no_append [] ys e = (refl, e)
+no_append (x ∷ xs) ys e = absurd (cc)
+
+-- where tables together hold no record, each holds none
+none_each : (f : TableName → List Record) (ts : List TableName) → flat_map f ts ≡ [] → AllByRecursion (λ (t : TableName). f t ≡ []) ts
+none_each f [] e = tt
+none_each f (t ∷ ts) e = let both = no_append (f t) (flat_map f ts) e in (both.0, none_each f ts both.1)
+
 -- where there is no first record, there is none
-pub no_record : (places : List Place) (shelves : List Shelf) → first_key (opening_records places shelves) ≡ None → HoldAs catalog places shelves empty
-no_record places shelves e =
-    let both = no_append (records_of places shelves account_name) (records_of places shelves coordinator_table) (none_first (opening_records places shelves) e) in
+pub no_record : (catalog : List Table) (places : List Place) (shelves : List Shelf) → first_key (opening_records catalog places shelves) ≡ None → HoldAs catalog places shelves empty
+no_record catalog places shelves e =
+    let each = none_each (records_of places shelves) (run_tables catalog) (none_first (opening_records catalog places shelves) e) in
     record {
-      at = λ key t. elim (played_tables key.table t) [
-        | inl a ↦ none_there (held_by shelves (store_of places shelves key.table.ns)) key (ap (records_of places shelves) a ∙ both.0) ∙ sym (nothing_at key)
-        | inr c ↦ none_there (held_by shelves (store_of places shelves key.table.ns)) key (ap (records_of places shelves) c ∙ both.1) ∙ sym (nothing_at key)
-      ];
+      at = λ key about.
+          none_there (held_by shelves (store_of places shelves key.table.ns)) key (of_played (λ (t : TableName). records_of places shelves t ≡ []) catalog key.table each about) ∙ sym (nothing_at key);
     }
-  where
-    no_append : (xs ys : List Record) → xs ++ ys ≡ [] → (xs ≡ []) × (ys ≡ [])
-    no_append [] ys e = (refl, e)
-    no_append (x ∷ xs) ys e = absurd (cc)
 
 -- the rows that a scan found are those of its table
-pub scanned : (places : List Place) (table : TableName) (rows : List Record) (before now : List Shelf) → IsHeard places (ask.Scan (whole table)) (reply.Rows rows) before now → rows ≡ records_of places before table
-scanned places table rows before now h = elim h.call.performed [
-  | inl e ↦ rows_is rows (rows_in (whole table) h.call.held) (sym (ap (λ (x : Reply × Contents). x.0) e)) ∙ sym (ap (λ (o : Option Contents). option_map_or (rows_in (whole table)) o []) h.call.found)
+pub scanned : (places : List Place) (name table : TableName) (rows : List Record) (r : Reply) (before now : List Shelf) → name ≡ table → r ≡ reply.Rows rows → IsHeard places (ask.Scan (whole name)) r before now → rows ≡ records_of places before table
+scanned places name table rows r before now named is h = elim h.call.performed [
+  | inl e ↦ rows_is rows (rows_in (whole name) h.call.held) (sym is ∙ sym (ap (λ (x : Reply × Contents). x.0) e)) ∙ sym (ap (λ (o : Option Contents). option_map_or (rows_in (whole name)) o []) h.call.found)
+      ∙ ap (records_of places before) named
   | inr w ↦ absurd (h.memory w.0)
 ]
   where
     rows_is : (xs ys : List Record) → reply.Rows xs ≡ reply.Rows ys → xs ≡ ys
     rows_is xs ys e = cc
 
--- behind a table without records comes the next
-pub first_next : (xs ys : List Record) → first_key xs ≡ None → first_key (xs ++ ys) ≡ first_key ys
-first_next [] ys e = refl
-first_next (x ∷ xs) ys e = absurd (cc)
-
-pub first_stays : (xs ys : List Record) (key : Key) → first_key xs ≡ Some key → first_key (xs ++ ys) ≡ Some key
-first_stays [] ys key e = absurd (cc)
-first_stays (x ∷ xs) ys key e = e
-
 -- a scan of a table finds the rows that one store would have
-pub scanned_held : (places : List Place) (table : TableName) (rows : List Record) (r : Reply) (before now : List Shelf) (held : Contents) → r ≡ reply.Rows rows → IsHeard places (ask.Scan (whole table)) r before now → HoldAs catalog places before held → is_played catalog table ≡ true
+pub scanned_held : (catalog : List Table) (places : List Place) (name table : TableName) (rows : List Record) (r : Reply) (before now : List Shelf) (held : Contents) → name ≡ table → r ≡ reply.Rows rows → IsHeard places (ask.Scan (whole name)) r before now → HoldAs catalog places before held → is_played catalog name ≡ true
     → rows ≡ rows_in (whole table) held
-scanned_held places table rows r before now held is h holds about =
-    rows_same rows (rows_in (whole table) held) (sym is ∙ (called catalog places (store_of places before table.ns) (ask.Scan (whole table)) r before now held h.call h.memory about holds).0)
+scanned_held catalog places name table rows r before now held named is h holds about =
+    rows_same rows (rows_in (whole name) held) (sym is ∙ (called catalog places (store_of places before name.ns) (ask.Scan (whole name)) r before now held h.call h.memory about holds).0)
+    ∙ ap (λ (t : TableName). rows_in (whole t) held) named
   where
     rows_same : (xs ys : List Record) → reply.Rows xs ≡ reply.Rows ys → xs ≡ ys
     rows_same xs ys e = cc
 
 ---- the first record
 
-pub first_accounts : (places : List Place) (shelves : List Shelf) (table : TableName) (accounts : List Record) (first : Option Key) (key : Key) → table ≡ account_name → accounts ≡ records_of places shelves table → first ≡ first_key accounts → first ≡ Some key → Some key ≡ first_key (opening_records places shelves)
-first_accounts places shelves table accounts first key name are is some =
-    sym (first_stays (records_of places shelves account_name) (records_of places shelves coordinator_table) key (sym (ap first_key (are ∙ ap (records_of places shelves) name)) ∙ sym is ∙ some))
+first_stays : (xs ys : List Record) (key : Key) → first_key xs ≡ Some key → first_key (xs ++ ys) ≡ Some key
+first_stays [] ys key e = absurd (cc)
+first_stays (x ∷ xs) ys key e = e
 
-pub first_rows : (places : List Place) (shelves : List Shelf) (table second : TableName) (accounts rows : List Record) (first last : Option Key) → table ≡ account_name → accounts ≡ records_of places shelves table → first ≡ first_key accounts → first ≡ None
-    → second ≡ coordinator_table → rows ≡ records_of places shelves second → last ≡ first_key rows → last ≡ first_key (opening_records places shelves)
-first_rows places shelves table second accounts rows first last name are is none other rest end =
-    end ∙ ap first_key (rest ∙ ap (records_of places shelves) other)
-    ∙ sym (first_next (records_of places shelves account_name) (records_of places shelves coordinator_table) (sym (ap first_key (are ∙ ap (records_of places shelves) name)) ∙ sym is ∙ none))
+some_is : {A : Type 0} (x y : A) → Some x ≡ Some y → x ≡ y
+some_is x y e = cc
 
--- the tables of a run
-pub account_played : (table : TableName) → table ≡ account_name → is_played catalog table ≡ true
-account_played table e = ap (is_played catalog) e
+none_some : {A : Type 0} (x : A) → ◌≡◌ {A = Option A} None (Some x) → ⊥
+none_some x e = cc
 
-pub row_played : (table : TableName) → table ≡ coordinator_table → is_played catalog table ≡ true
-row_played table e = ap (is_played catalog) e
+-- where the tables before hold none, the first of the next is the first of all
+first_behind : (f : TableName → List Record) (ts : List TableName) (i : ℕ) (t : TableName) (key : Key) → slice_get ts i ≡ Some t → flat_map f (take i ts) ≡ [] → first_key (f t) ≡ Some key → first_key (flat_map f ts) ≡ Some key
+first_behind f [] i t key here none first = absurd (none_some t here)
+first_behind f (x ∷ ts) zero t key here none first = first_stays (f x) (flat_map f ts) key (ap (λ (y : TableName). first_key (f y)) (some_is x t here) ∙ first)
+first_behind f (x ∷ ts) (suc i) t key here none first =
+    let both = no_append (f x) (flat_map f (take i ts)) none in
+    ap (λ (rows : List Record). first_key (rows ++ flat_map f ts)) both.0 ∙ first_behind f ts i t key here both.1 first
+
+-- one table more that holds none
+none_behind : (f : TableName → List Record) (ts : List TableName) (i : ℕ) (t : TableName) → slice_get ts i ≡ Some t → flat_map f (take i ts) ≡ [] → f t ≡ [] → flat_map f (take (suc i) ts) ≡ []
+none_behind f [] i t here none empty = absurd (none_some t here)
+none_behind f (x ∷ ts) zero t here none empty = append-nil (f x) ∙ ap f (some_is x t here) ∙ empty
+none_behind f (x ∷ ts) (suc i) t here none empty =
+    let both = no_append (f x) (flat_map f (take i ts)) none in
+    ap (λ (rows : List Record). rows ++ flat_map f (take (suc i) ts)) both.0 ∙ none_behind f ts i t here both.1 empty
+
+-- the table that is looked at
+pub looked_at : (ts : List TableName) (i : ℕ) (t : TableName) → i < length ts → t ≡ get_or ts i t → slice_get ts i ≡ Some t
+looked_at ts i t within is = slice_get-get_or ts i t within ∙ ap Some (sym is)
+
+---- table by table
+
+-- a table that is scanned behind others holds what it held at first
+pub scanned_behind : {t u : ℕ → Type 0} (catalog : List Table) (p q : List Placed) (old mid : List Counted) (table : TableName) (rows : List Record) → GoOn p q old mid t u → (AreFit catalog p old t → shown mid ≡ shown old)
+    → ((c : List Table) → AreFit c q mid u → is_played c table ≡ true → rows ≡ records_of (placed q) (shown mid) table) → is_played catalog table ≡ true → AreFit catalog p old t → rows ≡ records_of (placed p) (shown old) table
+scanned_behind catalog p q old mid table rows goes still found about fit =
+    found catalog (goes.fit catalog fit) about ∙ ap (λ (ps : List Placed). records_of (placed ps) (shown mid) table) goes.places ∙ ap (λ (ss : List Shelf). records_of (placed p) ss table) (still fit)
+
+-- nothing became of the stores by a scan more
+pub still_behind : {t u : ℕ → Type 0} (catalog : List Table) (p q : List Placed) (old mid new : List Counted) (table : TableName) → GoOn p q old mid t u → (AreFit catalog p old t → shown mid ≡ shown old)
+    → ((c : List Table) → AreFit c q mid u → is_played c table ≡ true → shown new ≡ shown mid) → is_played catalog table ≡ true → AreFit catalog p old t → shown new ≡ shown old
+still_behind catalog p q old mid new table goes before after about fit = after catalog (goes.fit catalog fit) about ∙ before fit
+
+-- so they hold what one store holds
+pub holds_behind : {t u : ℕ → Type 0} (catalog : List Table) (p q : List Placed) (old mid : List Counted) (held : Contents) → GoOn p q old mid t u → (AreFit catalog p old t → shown mid ≡ shown old) → AreFit catalog p old t → HoldAs catalog (placed p) (shown old) held → HoldAs catalog (placed q) (shown mid) held
+holds_behind catalog p q old mid held goes still fit holds =
+    subst (λ (ps : List Placed). HoldAs catalog (placed ps) (shown mid) held) (sym goes.places) (subst (λ (ss : List Shelf). HoldAs catalog (placed p) ss held) (sym (still fit)) holds)
+
+-- each table that is looked at is one of the run's
+pub looked_about : (catalog : List Table) (ts : List TableName) (i : ℕ) (table : TableName) → ts ≡ run_tables catalog → slice_get ts i ≡ Some table → is_played catalog table ≡ true
+looked_about catalog ts i table all here =
+    all_at (λ (n : TableName). is_played catalog n ≡ true) ts i table (subst (AllByRecursion (λ (n : TableName). is_played catalog n ≡ true)) (sym all) (names_played catalog)) here
+
+-- what the tables so far hold
+abbrev pub looked : List Placed → List Counted → List TableName → ℕ → List Record
+looked places shelves ts i = flat_map (records_of (placed places) (shown shelves)) (take i ts)
+
+-- a table that holds no record
+pub look_on : {t u : ℕ → Type 0} (catalog : List Table) (p q : List Placed) (old mid : List Counted) (ts : List TableName) (i : ℕ) (table : TableName) (rows : List Record) (first : Option Key) → ts ≡ run_tables catalog → slice_get ts i ≡ Some table → GoOn p q old mid t u → (AreFit catalog p old t → shown mid ≡ shown old)
+    → (AreFit catalog p old t → looked p old ts i ≡ []) → ((c : List Table) → AreFit c q mid u → is_played c table ≡ true → rows ≡ records_of (placed q) (shown mid) table) → first ≡ first_key rows → first ≡ None
+    → AreFit catalog p old t → looked p old ts (i + 1) ≡ []
+look_on catalog p q old mid ts i table rows first all here goes still before found is none fit =
+    let rows_are = scanned_behind catalog p q old mid table rows goes still found (looked_about catalog ts i table all here) fit in
+    ap (looked p old ts) (add-one i) ∙ none_behind (records_of (placed p) (shown old)) ts i table here (before fit) (sym rows_are ∙ none_first rows (sym is ∙ none))
+
+-- a table that holds one
+pub look_found : {t u : ℕ → Type 0} (catalog : List Table) (p q : List Placed) (old mid : List Counted) (ts : List TableName) (i : ℕ) (table : TableName) (rows : List Record) (first : Option Key) (key : Key) → ts ≡ run_tables catalog → slice_get ts i ≡ Some table → GoOn p q old mid t u → (AreFit catalog p old t → shown mid ≡ shown old)
+    → (AreFit catalog p old t → looked p old ts i ≡ []) → ((c : List Table) → AreFit c q mid u → is_played c table ≡ true → rows ≡ records_of (placed q) (shown mid) table) → first ≡ first_key rows → first ≡ Some key
+    → AreFit catalog p old t → Some key ≡ first_key (opening_records catalog (placed p) (shown old))
+look_found catalog p q old mid ts i table rows first key all here goes still before found is some fit =
+    let rows_are = scanned_behind catalog p q old mid table rows goes still found (looked_about catalog ts i table all here) fit in
+    sym (ap (λ (xs : List TableName). first_key (flat_map (records_of (placed p) (shown old)) xs)) (sym all) ∙ first_behind (records_of (placed p) (shown old)) ts i table key here (before fit) (ap first_key (sym rows_are) ∙ sym is ∙ some))
+
+-- all hold none
+pub look_done : {t : ℕ → Type 0} (catalog : List Table) (p : List Placed) (old : List Counted) (ts : List TableName) (i : ℕ) → ts ≡ run_tables catalog → length ts ≤ i → (AreFit catalog p old t → looked p old ts i ≡ []) → AreFit catalog p old t → None ≡ first_key (opening_records catalog (placed p) (shown old))
+look_done catalog p old ts i all up before fit =
+    sym (ap first_key (ap (flat_map (records_of (placed p) (shown old))) (sym all ∙ sym (taken_up ts i up)) ∙ before fit))

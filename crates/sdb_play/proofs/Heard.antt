@@ -10,6 +10,7 @@ use Rattle.sdb_types.specs.declared.record.Request.TheVariants as ask
 use Rattle.sdb_types.specs.declared.record.Reply.{Reply}
 use Rattle.sdb_types.specs.declared.record.Reply.TheVariants as reply
 use Rattle.sdb_types.specs.Contents.{Contents, reply_to, after}
+use Rattle.sdb_schema.specs.declared.table.Table.{Table}
 use Rattle.sdb_store.specs.Store.{Performs, Answers}
 use Rattle.sdb_stores.specs.Shelf.{Shelf as Counted, AreDistinct, IsCallAt, names_of, home, place_of, placed_on, table_of}
 use Rattle.sdb_stores.specs.declared.place.Place.{Place as Placed}
@@ -26,7 +27,7 @@ use Rattle.sdb_session.specs.Session.{call_event, take_event}
 use Rattle.sdb_spread.specs.Spread.{is_played, HoldAs, moved_event, moved_events}
 use Rattle.sdb_spread.proofs.Calls.{called}
 use Rattle.sdb_spread.proofs.Moved.{moved_more}
-use Rattle.sdb_play.specs.Board.{AreFit, GoOn, IsHeard, IsOn, catalog, is_read, shown, placed}
+use Rattle.sdb_play.specs.Board.{AreFit, GoOn, IsHeard, IsOn, is_read, shown, placed}
 use Rattle.sdb_play.proofs.Shelves.{held_at, set_there, set_still, named_home}
 
 some_is : {A : Type 0} (x y : A) → Some x ≡ Some y → x ≡ y
@@ -53,9 +54,9 @@ stays (ask.PutIf r condition) m e = absurd (let f : false ≡ true = e in cc)
 stays (ask.DeleteIf key condition) m e = absurd (let f : false ≡ true = e in cc)
 
 -- A call on the store at the home of its table is one on the store of its table's namespace.
-pub heard : {told tells : ℕ → Type 0} (places : List Placed) (old new : List Counted) (q : Request) (r : Reply) → IsCallAt (home (table_of q).ns places (names_of old)) q r old new told tells → r ≢ reply.Fault → r ≢ reply.NoMemory → AreFit places old told → is_played catalog (table_asked q) ≡ true
+pub heard : {told tells : ℕ → Type 0} (catalog : List Table) (places : List Placed) (old new : List Counted) (q : Request) (r : Reply) → IsCallAt (home (table_of q).ns places (names_of old)) q r old new told tells → r ≢ reply.Fault → r ≢ reply.NoMemory → AreFit catalog places old told → is_played catalog (table_asked q) ≡ true
     → IsHeard (placed places) q r (shown old) (shown new)
-heard places old new q r call fault memory fit about =
+heard catalog places old new q r call fault memory fit about =
     let at : ℕ = home (table_of q).ns places (names_of old) in
     let name : slice_get (names_of old) at ≡ Some call.before.name = slice_get-map (λ (s : Counted). s.name) old at ∙ ap (option_map (λ (s : Counted). s.name)) call.stood in
     let store : call.before.name ≡ store_of (placed places) (shown old) (table_of q).ns = some_is _ _ (sym name ∙ named_home places old (table_of q).ns fit.some (fit.homed (table_of q).ns)) in
@@ -77,14 +78,14 @@ heard places old new q r call fault memory fit about =
 ---- what goes on
 
 pub goes_none : {told : ℕ → Type 0} (places : List Placed) (old : List Counted) → GoOn places places old old told told
-goes_none places old = record { places = refl; names = refl; counted = omega arith; fit = λ f. f }
+goes_none places old = record { places = refl; names = refl; counted = omega arith; fit = λ catalog f. f }
 
 pub goes_more : {t u v : ℕ → Type 0} (p q r : List Placed) (a b c : List Counted) → GoOn p q a b t u → GoOn q r b c u v → GoOn p r a c t v
 goes_more p q r a b c g h = record {
   places = h.places ∙ g.places;
   names = h.names ∙ g.names;
   counted = omega (arith, g.counted, h.counted);
-  fit = λ f. h.fit (g.fit f);
+  fit = λ catalog f. h.fit catalog (g.fit catalog f);
 }
 
 same_length : (old new : List Counted) → names_of new ≡ names_of old → length new ≡ length old
@@ -97,7 +98,7 @@ goes_call {told} at places old new q r call =
       places = refl;
       names = names;
       counted = grown at q r old new call;
-      fit = λ f. record {
+      fit = λ catalog f. record {
         some = subst (λ (n : ℕ). 0 < n) (sym (same_length old new names)) f.some;
         distinct = subst AreDistinct (sym names) f.distinct;
         homed = λ ns. subst (λ (xs : List Name). IfSome (placed_on ns places) (λ store. IsSome (place_of store xs))) (sym names) (f.homed ns);
@@ -117,8 +118,8 @@ traced_more places (x ∷ xs) e opening before now [] h f = absurd h
 traced_more places (x ∷ xs) e opening before now (m ∷ ms) h f = (h.0, traced_more places xs e m before now ms h.1 f)
 
 -- a statement is taken
-pub taken_on : (places : List Place) (opening now : List Shelf) (es : List Event) (held : Contents) (text : List ℕ) (given : Option Answer) → IsOn places opening now es held → IsOn places opening now (es ++ take_event text given ∷ []) held
-taken_on places opening now es held text given on = record {
+pub taken_on : (catalog : List Table) (places : List Place) (opening now : List Shelf) (es : List Event) (held : Contents) (text : List ℕ) (given : Option Answer) → IsOn catalog places opening now es held → IsOn catalog places opening now (es ++ take_event text given ∷ []) held
+taken_on catalog places opening now es held text given on = record {
   same = on.same;
   holds = on.holds;
   moments = on.moments ++ now ∷ [];
@@ -127,9 +128,9 @@ taken_on places opening now es held text given on = record {
 }
 
 -- A call is answered as by the one store, and goes on.
-pub called_on : (places : List Place) (opening before now : List Shelf) (es : List Event) (held : Contents) (q : Request) (r : Reply) (given : Option Answer) → IsOn places opening before es held → IsHeard places q r before now → is_played catalog (table_asked q) ≡ true
-    → (r ≡ reply_to q held) × IsOn places opening now (es ++ call_event q r given ∷ []) (after q held)
-called_on places opening before now es held q r given on h about =
+pub called_on : (catalog : List Table) (places : List Place) (opening before now : List Shelf) (es : List Event) (held : Contents) (q : Request) (r : Reply) (given : Option Answer) → IsOn catalog places opening before es held → IsHeard places q r before now → is_played catalog (table_asked q) ≡ true
+    → (r ≡ reply_to q held) × IsOn catalog places opening now (es ++ call_event q r given ∷ []) (after q held)
+called_on catalog places opening before now es held q r given on h about =
     let both = called catalog places (store_of places before (table_asked q).ns) q r before now held h.call h.memory about on.holds in
     let here : store_of places before (table_asked q).ns ≡ store_of places opening (table_asked q).ns = on.same (table_asked q).ns in
     let effect : IsCall places (store_of places opening (table_asked q).ns) q Seen r before now = subst (λ (n : Name). IsCall places n q Seen r before now) here h.call in (
@@ -144,5 +145,5 @@ called_on places opening before now es held q r given on h about =
     )
 
 -- a call is answered as by the one store
-pub answered_as : (places : List Place) (before now : List Shelf) (held : Contents) (q : Request) (r : Reply) → HoldAs catalog places before held → IsHeard places q r before now → is_played catalog (table_asked q) ≡ true → r ≡ reply_to q held
-answered_as places before now held q r holds h about = (called catalog places (store_of places before (table_asked q).ns) q r before now held h.call h.memory about holds).0
+pub answered_as : (catalog : List Table) (places : List Place) (before now : List Shelf) (held : Contents) (q : Request) (r : Reply) → HoldAs catalog places before held → IsHeard places q r before now → is_played catalog (table_asked q) ≡ true → r ≡ reply_to q held
+answered_as catalog places before now held q r holds h about = (called catalog places (store_of places before (table_asked q).ns) q r before now held h.call h.memory about holds).0

@@ -7,6 +7,7 @@ pub mod Looks
 pub mod Ends
 pub mod Takes
 pub mod Plays
+pub mod RunTables
 pub mod Empty
 pub mod Rows
 pub mod Closings

@@ -1,8 +1,8 @@
 -- A statement that looks at an account.
 use Rattle.std.proofs.Common.{◌≡◌, ◌∙◌, ℕ, Bool, true, false, cond, List, [], ◌∷◌, ◌++◌, length, Option, Some, None, refl, sym, ap, subst, arith, append_assoc, ℤ}
-use Rattle.std.specs.Prelude.{map, is_some, ◌==◌}
+use Rattle.std.specs.Prelude.{map, is_some, ◌==◌, ◌||◌, IfSome}
 use Rattle.std.specs.FinMap.{find}
-use Rattle.std.specs.Option.{option_and_then}
+use Rattle.std.specs.Option.{option_and_then, option_map_or}
 use Rattle.std.specs.Ordering.{eq_by_cmp, is_eq}
 use Rattle.std.specs.Cmp.{tied_itself}
 use Rattle.std.proofs.lemmas.Bool.Decides.{nat_tests}
@@ -13,16 +13,19 @@ use Rattle.sdb_types.specs.declared.record.Request.TheVariants as ask
 use Rattle.sdb_types.specs.declared.record.Reply.TheVariants as reply
 use Rattle.sdb_types.specs.Order.{key_cmp}
 use Rattle.sdb_types.specs.Contents.{Contents, record_at, reply_to}
+use Rattle.sdb_types.proofs.Bools.{and_first}
 use Rattle.sdb_types.proofs.KeyOrder.{key_total}
 use Rattle.sdb_record.specs.declared.access.Image.{Image}
 use Rattle.sdb_record.specs.declared.write.Write.{Write}
 use Rattle.sdb_record.specs.declared.write.Change.TheVariants as change
+use Rattle.sdb_record.specs.Coordinator.{is_coordinator_table}
 use Rattle.sdb_record.specs.Names.{is_meta, base_name}
-use Rattle.sdb_record.specs.Rolls.{is_change, row_of_change}
+use Rattle.sdb_record.specs.Rolls.{IsBaseOf, is_change, row_of_change}
 use Rattle.sdb_model.specs.declared.event.Event.{Event}
 use Rattle.sdb_model.specs.declared.event.Point.{Point}
 use Rattle.sdb_script.specs.declared.account.AccountStatement.{AccountStatement}
-use Rattle.sdb_script.specs.Accounts.{account_text}
+use Rattle.sdb_schema.specs.declared.table.Table.{Table}
+use Rattle.sdb_script.specs.Accounts.{account_text, fits_account, has_accounts, is_account_table, is_built}
 use Rattle.sdb_txn.specs.Commit.{Noted, write_at}
 use Rattle.sdb_types.specs.declared.record.Request.{Request}
 use Rattle.sdb_txn.specs.declared.txn.Stage.{Stage}
@@ -34,9 +37,11 @@ use Rattle.sdb_stores.specs.Shelf.{Shelf as Counted}
 use Rattle.sdb_stores.specs.declared.place.Place.{Place as Placed}
 use Rattle.sdb_model.specs.declared.script.Place.{Place}
 use Rattle.sdb_model.specs.Events.{Shelf}
+use Rattle.sdb_model.specs.Exec.{find_table}
+use Rattle.sdb_model.specs.Form.{account_name}
 use Rattle.sdb_txn.specs.declared.txn.Stage.TheVariants as stage
 use Rattle.sdb_spread.specs.Spread.{is_played}
-use Rattle.sdb_play.specs.Board.{AreFit, IsOn, catalog, placed, shown}
+use Rattle.sdb_play.specs.Board.{AreFit, IsOn, placed, shown}
 use Rattle.sdb_play.specs.Played.{IsFine, IsForeignCall, IsForeignRead, IsLook}
 use Rattle.sdb_play.proofs.Heard.{taken_on, called_on}
 use Rattle.sdb_session.specs.Session.{session_of, looked, reading, answer_to, changed_by, key_read, account_columns, balance_of, rows_shown, ArePuts, look_events, take_event, call_event}
@@ -160,19 +165,29 @@ look_fine a row w left is waits none puts = subst (λ (x : Working). IsFine (Som
 
 ---- on the stores
 
--- accounts are about the one table
-pub key_about : (a : AccountStatement) → is_played catalog (key_read a).table ≡ true
-key_about account.Begin = refl
-key_about (account.Insert n m) = refl
-key_about (account.Select n) = refl
-key_about account.Commit = refl
+some_table : (o : Option Table) → option_map_or is_account_table o false ≡ true → is_some o ≡ true
+some_table None h = absurd (let f : false ≡ true = h in cc)
+some_table (Some t) h = refl
+
+account_played : (catalog : List Table) → has_accounts catalog ≡ true → is_played catalog account_name ≡ true
+account_played catalog h = ap (λ (b : Bool). b || is_coordinator_table account_name) (some_table (find_table catalog account_name) h)
+
+pub built_played : (catalog : List Table) (a : AccountStatement) → is_built catalog a ≡ true → is_played catalog account_name ≡ true
+built_played catalog a h = account_played catalog (and_first (has_accounts catalog) (fits_account a) h)
+
+-- a statement reads a key of the run's tables
+pub key_about : (catalog : List Table) (a : AccountStatement) → is_built catalog a ≡ true → is_played catalog (key_read a).table ≡ true
+key_about catalog account.Begin h = built_played catalog account.Begin h
+key_about catalog (account.Insert n m) h = built_played catalog (account.Insert n m) h
+key_about catalog (account.Select n) h = built_played catalog (account.Select n) h
+key_about catalog account.Commit h = built_played catalog account.Commit h
 
 -- a statement that is answered at once
-pub known_on : (places : List Place) (opening now : List Shelf) (events later : List Event) (order order' : List Point) (held : Contents) (w w' : Working) (a : AccountStatement) (text : List ℕ) → is_known w (key_read a) ≡ true → text ≡ account_text a
-    → later ≡ events ++ take_event text (Some (answer_to a (row_seen w (key_read a)))) ∷ [] → order' ≡ order → w' ≡ changed_by a (row_seen w (key_read a)) w → IsOn places opening now events held
-    → IsOn places opening now later held × (session_of later order' held (Some w') ≡ looked (session_of events order held (Some w)) w a)
-known_on places opening now events later order order' held w w' a text known is heard ordered moved on = (
-  subst (λ (es : List Event). IsOn places opening now es held) (sym heard) (taken_on places opening now events held text (Some (answer_to a (row_seen w (key_read a)))) on),
+pub known_on : (catalog : List Table) (places : List Place) (opening now : List Shelf) (events later : List Event) (order order' : List Point) (held : Contents) (w w' : Working) (a : AccountStatement) (text : List ℕ) → is_known w (key_read a) ≡ true → text ≡ account_text a
+    → later ≡ events ++ take_event text (Some (answer_to a (row_seen w (key_read a)))) ∷ [] → order' ≡ order → w' ≡ changed_by a (row_seen w (key_read a)) w → IsOn catalog places opening now events held
+    → IsOn catalog places opening now later held × (session_of later order' held (Some w') ≡ looked (session_of events order held (Some w)) w a)
+known_on catalog places opening now events later order order' held w w' a text known is heard ordered moved on = (
+  subst (λ (es : List Event). IsOn catalog places opening now es held) (sym heard) (taken_on catalog places opening now events held text (Some (answer_to a (row_seen w (key_read a)))) on),
   look_known events later order order' held held w w' a text known is heard ordered refl moved,
 )
 
@@ -180,26 +195,32 @@ found_is : (x y : Option Record) → reply.Found x ≡ reply.Found y → x ≡ y
 found_is x y e = cc
 
 -- a statement that is answered by a call
-pub unknown_on : {told : ℕ → Type 0} (places : List Placed) (before now : List Counted) (opening : List Shelf) (events later : List Event) (order order' : List Point) (held : Contents) (w w' : Working) (a : AccountStatement) (text : List ℕ) → is_known w (key_read a) ≡ false → text ≡ account_text a
-    → IsLook places before now told text a events later w w' → order' ≡ order → AreFit places before told → IsOn (placed places) opening (shown before) events held
-    → IsOn (placed places) opening (shown now) later held × (session_of later order' held (Some w') ≡ looked (session_of events order held (Some w)) w a)
-unknown_on places before now opening events later order order' held w w' a text unknown is look ordered fit on =
+pub unknown_on : {told : ℕ → Type 0} (catalog : List Table) (places : List Placed) (before now : List Counted) (opening : List Shelf) (events later : List Event) (order order' : List Point) (held : Contents) (w w' : Working) (a : AccountStatement) (text : List ℕ) → is_known w (key_read a) ≡ false → text ≡ account_text a
+    → is_built catalog a ≡ true → IsLook places before now told text a events later w w' → order' ≡ order → AreFit catalog places before told → IsOn catalog (placed places) opening (shown before) events held
+    → IsOn catalog (placed places) opening (shown now) later held × (session_of later order' held (Some w') ≡ looked (session_of events order held (Some w)) w a)
+unknown_on catalog places before now opening events later order order' held w w' a text unknown is built look ordered fit on =
+    let about = key_about catalog a built in
     let given = answer_to a (row_seen (noted w (key_read a) look.found) (key_read a)) in
-    let taken = taken_on (placed places) opening (shown before) events held text None on in
-    let both = called_on (placed places) opening (shown before) (shown now) (events ++ take_event text None ∷ []) held (ask.Get (key_read a)) (reply.Found look.found) (Some given) taken (look.heard fit (key_about a)) (key_about a) in
+    let taken = taken_on catalog (placed places) opening (shown before) events held text None on in
+    let both = called_on catalog (placed places) opening (shown before) (shown now) (events ++ take_event text None ∷ []) held (ask.Get (key_read a)) (reply.Found look.found) (Some given) taken (look.heard catalog fit about) about in
     let found : look.found ≡ record_at held (key_read a) = found_is look.found (record_at held (key_read a)) both.0 in
     let heard : later ≡ (events ++ take_event text None ∷ []) ++ call_event (ask.Get (key_read a)) (reply.Found (record_at held (key_read a))) (Some (answer_to a (row_seen (noted w (key_read a) (record_at held (key_read a))) (key_read a)))) ∷ [] =
     look.events ∙ ap (λ (f : Option Record). (events ++ take_event text None ∷ []) ++ call_event (ask.Get (key_read a)) (reply.Found f) (Some (answer_to a (row_seen (noted w (key_read a) f) (key_read a)))) ∷ []) found in
     let moved : w' ≡ changed_by a (row_seen (noted w (key_read a) (record_at held (key_read a))) (key_read a)) (noted w (key_read a) (record_at held (key_read a))) =
     look.left ∙ ap (λ (f : Option Record). changed_by a (row_seen (noted w (key_read a) f) (key_read a)) (noted w (key_read a) f)) found in
-    (subst (λ (es : List Event). IsOn (placed places) opening (shown now) es held) (sym look.events) both.1, look_unknown events later order order' held held w w' a text unknown is heard ordered refl moved)
+    (subst (λ (es : List Event). IsOn catalog (placed places) opening (shown now) es held) (sym look.events) both.1, look_unknown events later order order' held held w w' a text unknown is heard ordered refl moved)
 
 -- a read that is answered otherwise
 pub foreign_read : {tells : ℕ → Type 0} (places : List Placed) (shelves : List Counted) (w : Working) (key : Key) → w.left ≡ ask.Get key ∷ [] → w.stage ≡ stage.Reading → is_known w key ≡ false → IsForeignCall places shelves tells w (ask.Get key) → IsForeignRead places shelves tells key
-foreign_read places shelves w key left at unread foreign held fit holds about base =
-    foreign held fit holds about
+foreign_read places shelves w key left at unread foreign catalog held fit holds about base =
+    foreign catalog held fit holds about
     (subst (λ (s : Stage). IsWishedOf s w.reads w.left (reply_to (ask.Get key) held)) (sym at)
     (subst (λ (qs : List Request). IsWishedOf stage.Reading w.reads qs (reply_to (ask.Get key) held)) (sym left) (unread, base)))
+
+-- the same of a statement's read
+pub never_read : {tells : ℕ → Type 0} (places : List Placed) (shelves : List Counted) (story : List Event) (a : AccountStatement) → IsForeignRead places shelves tells (key_read a)
+    → (catalog : List Table) (opening : List Shelf) (held : Contents) → is_built catalog a ≡ true → AreFit catalog places shelves tells → IsOn catalog (placed places) opening (shown shelves) story held → IfSome (record_at held (key_read a)) (IsBaseOf (key_read a)) → ⊥
+never_read places shelves story a foreign catalog opening held built fit on base = foreign catalog held fit on.holds (key_about catalog a built) base
 
 ---- what a get gives
 
@@ -218,13 +239,13 @@ more_unknown w key e = by (is_known w key) refl
     by true t = absurd (let f : progress.More ≡ progress.Rows (images_seen w key) = e ∙ ap (λ (b : Bool). got_of (cond b (Some (images_seen w key)) None)) t in cc)
 
 -- behind a get that is answered at once
-pub known_at : (places : List Place) (opening now : List Shelf) (events later : List Event) (order order' : List Point) (held : Contents) (w x w' : Working) (a : AccountStatement) (text : List ℕ) (key : Key) (images : List Image) → key ≡ key_read a → text ≡ account_text a
-    → progress.Rows images ≡ got w key → x ≡ got_after w key → later ≡ events ++ take_event text (Some (answer_to a (row_seen x (key_read a)))) ∷ [] → order' ≡ order → w' ≡ changed_by a (row_seen x (key_read a)) x → IsOn places opening now events held
-    → IsOn places opening now later held × (session_of later order' held (Some w') ≡ looked (session_of events order held (Some w)) w a)
-known_at places opening now events later order order' held w x w' a text key images at is rows moved heard ordered changed on =
+pub known_at : (catalog : List Table) (places : List Place) (opening now : List Shelf) (events later : List Event) (order order' : List Point) (held : Contents) (w x w' : Working) (a : AccountStatement) (text : List ℕ) (key : Key) (images : List Image) → key ≡ key_read a → text ≡ account_text a
+    → progress.Rows images ≡ got w key → x ≡ got_after w key → later ≡ events ++ take_event text (Some (answer_to a (row_seen x (key_read a)))) ∷ [] → order' ≡ order → w' ≡ changed_by a (row_seen x (key_read a)) x → IsOn catalog places opening now events held
+    → IsOn catalog places opening now later held × (session_of later order' held (Some w') ≡ looked (session_of events order held (Some w)) w a)
+known_at catalog places opening now events later order order' held w x w' a text key images at is rows moved heard ordered changed on =
     let known : is_known w key ≡ true = rows_known w key images rows in
     let same : x ≡ w = moved ∙ ap (λ (b : Bool). cond b w (asking w key)) known in
-    known_on places opening now events later order order' held w w' a text (ap (is_known w) (sym at) ∙ known) is
+    known_on catalog places opening now events later order order' held w w' a text (ap (is_known w) (sym at) ∙ known) is
     (heard ∙ ap (λ (y : Working). events ++ take_event text (Some (answer_to a (row_seen y (key_read a)))) ∷ []) same) ordered (changed ∙ ap (λ (y : Working). changed_by a (row_seen y (key_read a)) y) same) on
 
 -- a look of a transaction that asks is one of the transaction before
@@ -236,12 +257,12 @@ look_of_asking {told} places before now text a old new w x after key same look =
 asks : (w x : Working) (key : Key) → progress.More ≡ got w key → x ≡ got_after w key → x ≡ asking w key
 asks w x key more moved = moved ∙ ap (λ (b : Bool). cond b w (asking w key)) (more_unknown w key more)
 
-pub unknown_at : {told : ℕ → Type 0} (places : List Placed) (before now : List Counted) (opening : List Shelf) (events later : List Event) (order order' : List Point) (held : Contents) (w x w' : Working) (a : AccountStatement) (text : List ℕ) (key : Key) → key ≡ key_read a → text ≡ account_text a
-    → progress.More ≡ got w key → x ≡ got_after w key → IsLook places before now told text a events later x w' → order' ≡ order → AreFit places before told → IsOn (placed places) opening (shown before) events held
-    → IsOn (placed places) opening (shown now) later held × (session_of later order' held (Some w') ≡ looked (session_of events order held (Some w)) w a)
-unknown_at places before now opening events later order order' held w x w' a text key at is more moved look ordered fit on =
-    unknown_on places before now opening events later order order' held w w' a text (ap (is_known w) (sym at) ∙ more_unknown w key more) is
-    (look_of_asking places before now text a events later w x w' key (asks w x key more moved) look) ordered fit on
+pub unknown_at : {told : ℕ → Type 0} (catalog : List Table) (places : List Placed) (before now : List Counted) (opening : List Shelf) (events later : List Event) (order order' : List Point) (held : Contents) (w x w' : Working) (a : AccountStatement) (text : List ℕ) (key : Key) → key ≡ key_read a → text ≡ account_text a
+    → progress.More ≡ got w key → x ≡ got_after w key → is_built catalog a ≡ true → IsLook places before now told text a events later x w' → order' ≡ order → AreFit catalog places before told → IsOn catalog (placed places) opening (shown before) events held
+    → IsOn catalog (placed places) opening (shown now) later held × (session_of later order' held (Some w') ≡ looked (session_of events order held (Some w)) w a)
+unknown_at catalog places before now opening events later order order' held w x w' a text key at is more moved built look ordered fit on =
+    unknown_on catalog places before now opening events later order order' held w w' a text (ap (is_known w) (sym at) ∙ more_unknown w key more) is
+    built (look_of_asking places before now text a events later w x w' key (asks w x key more moved) look) ordered fit on
 
 pub unknown_fine : {told : ℕ → Type 0} (places : List Placed) (before now : List Counted) (events later : List Event) (w x w' : Working) (a : AccountStatement) (text : List ℕ) (key : Key) → progress.More ≡ got w key → x ≡ got_after w key → IsLook places before now told text a events later x w' → ArePuts w.writes → IsFine (Some w')
 unknown_fine places before now events later w x w' a text key more moved look puts =

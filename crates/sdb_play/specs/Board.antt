@@ -12,16 +12,11 @@ use Rattle.sdb_stores.specs.declared.place.Place.{Place as Placed}
 use Rattle.sdb_model.specs.declared.event.Event.{Event}
 use Rattle.sdb_model.specs.declared.event.How.TheVariants.{Seen}
 use Rattle.sdb_model.specs.declared.script.Place.{Place}
-use Rattle.sdb_model.specs.Form.{account_table}
 use Rattle.sdb_model.specs.Rows.{Name}
 use Rattle.sdb_model.specs.Events.{Shelf, IsCall, IsTrace, store_of, table_asked}
 use Rattle.sdb_spread.specs.Spread.{HoldAs, is_played, moved_events}
 use Rattle.sdb_play.specs.declared.refused.PlayRefused.{PlayRefused}
 use Rattle.sdb_play.specs.declared.refused.PlayRefused.TheVariants as refused
-
--- the one table of a run
-abbrev pub catalog : List Table
-catalog = account_table ∷ []
 
 -- the stores as events see them: without their counts of faults
 abbrev pub shown : List Counted → List Shelf
@@ -31,24 +26,24 @@ shown shelves = map (λ s. record { name = s.name; contents = s.contents }) shel
 abbrev pub placed : List Placed → List Place
 placed places = map (λ p. record { ns = p.ns; store = p.store }) places
 
--- The store of each table of a run tells what it holds.
-abbrev pub AreTold : List Placed → List Counted → (ℕ → Type 0) → Type 0
-AreTold places shelves tells = (table : TableName) → is_played catalog table ≡ true → tells (home table.ns places (names_of shelves))
+-- The store of each table of a run over a catalog tells what it holds.
+abbrev pub AreTold : List Table → List Placed → List Counted → (ℕ → Type 0) → Type 0
+AreTold catalog places shelves tells = (table : TableName) → is_played catalog table ≡ true → tells (home table.ns places (names_of shelves))
 
--- Stores are fit for a run: there is one, no two have one name, each place names one of them, and those of the run's tables tell
--- what they hold.
-pub record AreFit (places : List Placed) (shelves : List Counted) (tells : ℕ → Type 0) : Type 0 where
+-- Stores are fit for a run over a catalog: there is one, no two have one name, each place names one of them, and those of the
+-- run's tables tell what they hold.
+pub record AreFit (catalog : List Table) (places : List Placed) (shelves : List Counted) (tells : ℕ → Type 0) : Type 0 where
   pub some : 0 < length shelves
   pub distinct : AreDistinct (names_of shelves)
   pub homed : (ns : List ℕ) → IfSome (placed_on ns places) (λ store. IsSome (place_of store (names_of shelves)))
-  pub telling : AreTold places shelves tells
+  pub telling : AreTold catalog places shelves tells
 
--- Calls change no name and no place, faults add up, and stores that are fit stay so.
+-- Calls change no name and no place, faults add up, and stores that are fit for a run stay so.
 pub record GoOn (before after : List Placed) (old new : List Counted) (told tells : ℕ → Type 0) : Type 0 where
   pub places : after ≡ before
   pub names : names_of new ≡ names_of old
   pub counted : total_faults old ≤ total_faults new
-  pub fit : AreFit before old told → AreFit after new tells
+  pub fit : (catalog : List Table) → AreFit catalog before old told → AreFit catalog after new tells
 
 -- a request that changes nothing
 abbrev pub is_read : Request → Bool
@@ -69,9 +64,9 @@ Refuses foreign old new refused.StoreFault = HaveRisen old new
 Refuses foreign old new (refused.BadStore key) = foreign
 Refuses foreign old new refused.NoMemory = Unit {0}
 
--- What a client's events have come to on these stores: at the keys of its tables they hold what one store would, and a trace
--- agrees with the events.
-pub record IsOn (places : List Place) (opening now : List Shelf) (events : List Event) (held : Contents) : Type 0 where
+-- What a client's events have come to on these stores: at the keys of the run's tables they hold what one store would, and a
+-- trace agrees with the events.
+pub record IsOn (catalog : List Table) (places : List Place) (opening now : List Shelf) (events : List Event) (held : Contents) : Type 0 where
   pub same : (ns : Name) → store_of places now ns ≡ store_of places opening ns
   pub holds : HoldAs catalog places now held
   pub moments : List (List Shelf)

@@ -4,14 +4,15 @@ ghost use Rattle.std.specs.List.{slice_get, list_all};
 ghost use Rattle.std.specs.FinMap as finite;
 ghost use Rattle.sdb_types.specs.Contents.{Contents, after, record_at, reply_to};
 ghost use Rattle.sdb_record.specs.Rolls.{IsBaseOf};
+ghost use Rattle.sdb_schema.specs.declared.table.Table.{Table};
 ghost use Rattle.sdb_txn.specs.Commit.{write_at};
 ghost use Rattle.sdb_txn.specs.Txn.{begun, is_calling, found_in, IsWished, progress_of, advanced, is_known, images_with, row_seen, row_with, noted};
 ghost use Rattle.sdb_model.specs.Events.{Shelf, table_asked};
 ghost use Rattle.sdb_model.specs.Transactions.{id_of};
-ghost use Rattle.sdb_script.specs.Accounts.{account_text, fits_account};
+ghost use Rattle.sdb_script.specs.Accounts.{account_text, is_built};
 ghost use Rattle.sdb_session.specs.Session.{Session, take_event, commit_events, after_all, answer_to, changed_by, key_read as key_read_lem, AreWished, ArePuts, asked_at_commit, session_of, looked, committed_session, taken_at, IsReadyAt, IsIdle, may_take, is_open, opens, are_taken};
 ghost use Rattle.sdb_spread.specs.Spread.{AreAbout, HoldAs, is_played};
-ghost use Rattle.sdb_play.specs.Board.{AreFit, GoOn, IsHeard, IsOn, Refuses, catalog, placed, shown as shown_lem};
+ghost use Rattle.sdb_play.specs.Board.{AreFit, GoOn, IsHeard, IsOn, Refuses, placed, shown as shown_lem};
 ghost use Rattle.sdb_play.specs.Played.{IsAt, IsFine, IsForeignCall, IsForeignRead, IsLook, IsPlayedOn, answer_of_progress};
 
 use crate::call::{call, key_of};
@@ -83,7 +84,7 @@ fn step<R: Registry>(
     ensures wished { IfOk result (λ s. IsWished txn.old s.0) }
     ensures progress { IfOk result (λ s. s.1 ≡ progress_of txn.old s.0) }
     ensures txn { IfOk result (λ s. txn.new ≡ advanced txn.old s.0) }
-    ensures heard { IfOk result (λ s. AreFit (R.places stores.old) (R.shelves stores.old) (R.tells stores.old) → is_played catalog (table_asked request.now) ≡ true → IsHeard (placed (R.places stores.old)) request.now s.0 (shown_lem (R.shelves stores.old)) (shown_lem (R.shelves stores.new))) }
+    ensures heard { IfOk result (λ s. (catalog : List Table) → AreFit catalog (R.places stores.old) (R.shelves stores.old) (R.tells stores.old) → is_played catalog (table_asked request.now) ≡ true → IsHeard (placed (R.places stores.old)) request.now s.0 (shown_lem (R.shelves stores.old)) (shown_lem (R.shelves stores.new))) }
     ensures goes { GoOn (R.places stores.old) (R.places stores.new) (R.shelves stores.old) (R.shelves stores.new) (R.tells stores.old) (R.tells stores.new) }
     ensures err { IfErr result (Refuses (IsForeignCall (R.places stores.old) (R.shelves stores.old) (R.tells stores.old) txn.old request.now) (R.shelves stores.old) (R.shelves stores.new)) }
 {
@@ -104,10 +105,10 @@ fn make_calls<R: Registry>(
 ) -> Result<(), PlayRefused>
     requires stage { txn.old.stage ≡ Stage.Committing }
     requires some { 0 < length (R.shelves stores.old) }
-    ensures calls { OnOk result ((opening : List Shelf) (held : Contents) → AreFit (R.places stores.old) (R.shelves stores.old) (R.tells stores.old) → IsOn (placed (R.places stores.old)) opening (shown_lem (R.shelves stores.old)) story.old held → AreWished txn.old.reads txn.old.left held → AreAbout catalog (commit_events txn.old.left held)
-        → (story.new ≡ story.old ++ commit_events txn.old.left held) × IsOn (placed (R.places stores.old)) opening (shown_lem (R.shelves stores.new)) story.new (after_all txn.old.left held)) }
+    ensures calls { OnOk result ((catalog : List Table) (opening : List Shelf) (held : Contents) → AreFit catalog (R.places stores.old) (R.shelves stores.old) (R.tells stores.old) → IsOn catalog (placed (R.places stores.old)) opening (shown_lem (R.shelves stores.old)) story.old held → AreWished txn.old.reads txn.old.left held → AreAbout catalog (commit_events txn.old.left held)
+        → (story.new ≡ story.old ++ commit_events txn.old.left held) × IsOn catalog (placed (R.places stores.old)) opening (shown_lem (R.shelves stores.new)) story.new (after_all txn.old.left held)) }
     ensures goes { GoOn (R.places stores.old) (R.places stores.new) (R.shelves stores.old) (R.shelves stores.new) (R.tells stores.old) (R.tells stores.new) }
-    ensures err { IfErr result (Refuses ((opening : List Shelf) (held : Contents) → AreFit (R.places stores.old) (R.shelves stores.old) (R.tells stores.old) → IsOn (placed (R.places stores.old)) opening (shown_lem (R.shelves stores.old)) story.old held → AreWished txn.old.reads txn.old.left held → AreAbout catalog (commit_events txn.old.left held) → ⊥) (R.shelves stores.old) (R.shelves stores.new)) }
+    ensures err { IfErr result (Refuses ((catalog : List Table) (opening : List Shelf) (held : Contents) → AreFit catalog (R.places stores.old) (R.shelves stores.old) (R.tells stores.old) → IsOn catalog (placed (R.places stores.old)) opening (shown_lem (R.shelves stores.old)) story.old held → AreWished txn.old.reads txn.old.left held → AreAbout catalog (commit_events txn.old.left held) → ⊥) (R.shelves stores.old) (R.shelves stores.new)) }
 {
     while let Some(request) = next_request(txn)? {
         let (reply, progress) = step(alloc, txn, stores, &request)?;
@@ -139,7 +140,7 @@ fn read<R: Registry>(
     ensures reply { IfOk result (λ f. f.reply ≡ Reply.Found (found_in f.reply)) }
     ensures images { IfOk result (λ f. f.images ≡ images_with key (row_with (write_at txn.old.writes key) (found_in f.reply))) }
     ensures txn { IfOk result (λ f. txn.new ≡ noted txn.old key (found_in f.reply)) }
-    ensures heard { IfOk result (λ f. AreFit (R.places stores.old) (R.shelves stores.old) (R.tells stores.old) → is_played catalog key.table ≡ true → IsHeard (placed (R.places stores.old)) (Request.Get key) f.reply (shown_lem (R.shelves stores.old)) (shown_lem (R.shelves stores.new))) }
+    ensures heard { IfOk result (λ f. (catalog : List Table) → AreFit catalog (R.places stores.old) (R.shelves stores.old) (R.tells stores.old) → is_played catalog key.table ≡ true → IsHeard (placed (R.places stores.old)) (Request.Get key) f.reply (shown_lem (R.shelves stores.old)) (shown_lem (R.shelves stores.new))) }
     ensures goes { GoOn (R.places stores.old) (R.places stores.new) (R.shelves stores.old) (R.shelves stores.new) (R.tells stores.old) (R.tells stores.new) }
     ensures err { IfErr result (Refuses (IsForeignRead (R.places stores.old) (R.shelves stores.old) (R.tells stores.old) key) (R.shelves stores.old) (R.shelves stores.new)) }
 {
@@ -214,11 +215,11 @@ fn look<R: Registry>(
     requires fine { IsFine (Some txn.old) }
     requires text { text.now ≡ account_text statement }
     requires some { 0 < length (R.shelves stores.old) }
-    ensures session { OnOk result ((opening : List Shelf) (held : Contents) → AreFit (R.places stores.old) (R.shelves stores.old) (R.tells stores.old) → IsOn (placed (R.places stores.old)) opening (shown_lem (R.shelves stores.old)) log.old.story held
-        → IsOn (placed (R.places stores.old)) opening (shown_lem (R.shelves stores.new)) log.new.story held × (session_of log.new.story log.new.order held (Some txn.new) ≡ looked (session_of log.old.story log.old.order held (Some txn.old)) txn.old statement)) }
+    ensures session { OnOk result ((catalog : List Table) (opening : List Shelf) (held : Contents) → is_built catalog statement ≡ true → AreFit catalog (R.places stores.old) (R.shelves stores.old) (R.tells stores.old) → IsOn catalog (placed (R.places stores.old)) opening (shown_lem (R.shelves stores.old)) log.old.story held
+        → IsOn catalog (placed (R.places stores.old)) opening (shown_lem (R.shelves stores.new)) log.new.story held × (session_of log.new.story log.new.order held (Some txn.new) ≡ looked (session_of log.old.story log.old.order held (Some txn.old)) txn.old statement)) }
     ensures fine { OnOk result (IsFine (Some txn.new)) }
     ensures goes { GoOn (R.places stores.old) (R.places stores.new) (R.shelves stores.old) (R.shelves stores.new) (R.tells stores.old) (R.tells stores.new) }
-    ensures err { IfErr result (Refuses ((opening : List Shelf) (held : Contents) → AreFit (R.places stores.old) (R.shelves stores.old) (R.tells stores.old) → IsOn (placed (R.places stores.old)) opening (shown_lem (R.shelves stores.old)) log.old.story held → IfSome (record_at held (key_read_lem statement)) (IsBaseOf (key_read_lem statement)) → ⊥) (R.shelves stores.old) (R.shelves stores.new)) }
+    ensures err { IfErr result (Refuses ((catalog : List Table) (opening : List Shelf) (held : Contents) → is_built catalog statement ≡ true → AreFit catalog (R.places stores.old) (R.shelves stores.old) (R.tells stores.old) → IsOn catalog (placed (R.places stores.old)) opening (shown_lem (R.shelves stores.old)) log.old.story held → IfSome (record_at held (key_read_lem statement)) (IsBaseOf (key_read_lem statement)) → ⊥) (R.shelves stores.old) (R.shelves stores.new)) }
 {
     let key = key_read(alloc, statement)?;
     match txn.get(alloc, key) {
@@ -269,10 +270,10 @@ fn commit<R: Registry>(
     requires open { txn.stage ≡ Stage.Open }
     requires text { text.now ≡ account_text AccountStatement.Commit }
     requires some { 0 < length (R.shelves stores.old) }
-    ensures session { OnOk result ((opening : List Shelf) (held : Contents) → AreFit (R.places stores.old) (R.shelves stores.old) (R.tells stores.old) → IsOn (placed (R.places stores.old)) opening (shown_lem (R.shelves stores.old)) log.old.story held → AreWished txn.reads (asked_at_commit txn) held → AreAbout catalog (commit_events (asked_at_commit txn) held)
-        → IsOn (placed (R.places stores.old)) opening (shown_lem (R.shelves stores.new)) log.new.story (after_all (asked_at_commit txn) held) × (session_of log.new.story log.new.order (after_all (asked_at_commit txn) held) None ≡ committed_session (session_of log.old.story log.old.order held (Some txn)) txn)) }
+    ensures session { OnOk result ((catalog : List Table) (opening : List Shelf) (held : Contents) → AreFit catalog (R.places stores.old) (R.shelves stores.old) (R.tells stores.old) → IsOn catalog (placed (R.places stores.old)) opening (shown_lem (R.shelves stores.old)) log.old.story held → AreWished txn.reads (asked_at_commit txn) held → AreAbout catalog (commit_events (asked_at_commit txn) held)
+        → IsOn catalog (placed (R.places stores.old)) opening (shown_lem (R.shelves stores.new)) log.new.story (after_all (asked_at_commit txn) held) × (session_of log.new.story log.new.order (after_all (asked_at_commit txn) held) None ≡ committed_session (session_of log.old.story log.old.order held (Some txn)) txn)) }
     ensures goes { GoOn (R.places stores.old) (R.places stores.new) (R.shelves stores.old) (R.shelves stores.new) (R.tells stores.old) (R.tells stores.new) }
-    ensures err { IfErr result (Refuses ((opening : List Shelf) (held : Contents) → AreFit (R.places stores.old) (R.shelves stores.old) (R.tells stores.old) → IsOn (placed (R.places stores.old)) opening (shown_lem (R.shelves stores.old)) log.old.story held → AreWished txn.reads (asked_at_commit txn) held → AreAbout catalog (commit_events (asked_at_commit txn) held) → ⊥) (R.shelves stores.old) (R.shelves stores.new)) }
+    ensures err { IfErr result (Refuses ((catalog : List Table) (opening : List Shelf) (held : Contents) → AreFit catalog (R.places stores.old) (R.shelves stores.old) (R.tells stores.old) → IsOn catalog (placed (R.places stores.old)) opening (shown_lem (R.shelves stores.old)) log.old.story held → AreWished txn.reads (asked_at_commit txn) held → AreAbout catalog (commit_events (asked_at_commit txn) held) → ⊥) (R.shelves stores.old) (R.shelves stores.new)) }
 {
     log.story.take(text, None)?;
     let point = point_of(log, &txn)?;
@@ -306,12 +307,12 @@ fn take<R: Registry>(
     requires may { may_take (is_open current) statement ≡ true }
     requires fine { IsFine current }
     requires some { 0 < length (R.shelves stores.old) }
-    ensures session { IfOk result (λ o. (opening : List Shelf) (s : Session) → AreFit (R.places stores.old) (R.shelves stores.old) (R.tells stores.old) → IsAt (placed (R.places stores.old)) opening (shown_lem (R.shelves stores.old)) log.old.story log.old.order current s → IsReadyAt current s statement → AreAbout catalog (taken_at current s statement).events
-        → IsAt (placed (R.places stores.old)) opening (shown_lem (R.shelves stores.new)) log.new.story log.new.order o (taken_at current s statement)) }
+    ensures session { IfOk result (λ o. (catalog : List Table) (opening : List Shelf) (s : Session) → is_built catalog statement ≡ true → AreFit catalog (R.places stores.old) (R.shelves stores.old) (R.tells stores.old) → IsAt catalog (placed (R.places stores.old)) opening (shown_lem (R.shelves stores.old)) log.old.story log.old.order current s → IsReadyAt current s statement → AreAbout catalog (taken_at current s statement).events
+        → IsAt catalog (placed (R.places stores.old)) opening (shown_lem (R.shelves stores.new)) log.new.story log.new.order o (taken_at current s statement)) }
     ensures open { IfOk result (λ o. is_open o ≡ opens statement) }
     ensures fine { IfOk result IsFine }
     ensures goes { GoOn (R.places stores.old) (R.places stores.new) (R.shelves stores.old) (R.shelves stores.new) (R.tells stores.old) (R.tells stores.new) }
-    ensures err { IfErr result (Refuses ((opening : List Shelf) (s : Session) → AreFit (R.places stores.old) (R.shelves stores.old) (R.tells stores.old) → IsAt (placed (R.places stores.old)) opening (shown_lem (R.shelves stores.old)) log.old.story log.old.order current s → IsReadyAt current s statement → AreAbout catalog (taken_at current s statement).events → ⊥) (R.shelves stores.old) (R.shelves stores.new)) }
+    ensures err { IfErr result (Refuses ((catalog : List Table) (opening : List Shelf) (s : Session) → is_built catalog statement ≡ true → AreFit catalog (R.places stores.old) (R.shelves stores.old) (R.tells stores.old) → IsAt catalog (placed (R.places stores.old)) opening (shown_lem (R.shelves stores.old)) log.old.story log.old.order current s → IsReadyAt current s statement → AreAbout catalog (taken_at current s statement).events → ⊥) (R.shelves stores.old) (R.shelves stores.new)) }
 {
     match (current, statement) {
         (None, AccountStatement::Begin) => Ok(Some(begin(alloc, log, text)?)),
@@ -353,7 +354,8 @@ fn statement_at(statements: &AccountStatements, i: usize) -> AccountStatement
     }
 }
 
-/// Plays the statements of one client on stores whose tables of the run are empty.
+/// Plays the statements of one client on stores. What is said of a run is so over each catalog over which the statements can be
+/// built, where the stores are fit for it and its tables are empty.
 ///
 /// A reply that doesn't let the client go on stops the run, as a fault does.
 pub fn play<R: Registry>(
@@ -364,12 +366,11 @@ pub fn play<R: Registry>(
 ) -> Result<Log, PlayRefused>
     requires texts { texts.now ≡ map account_text statements.now }
     requires built { are_taken false statements.now ≡ true }
-    requires fit { list_all fits_account statements.now ≡ true }
     requires some { 0 < length (R.shelves stores.old) }
-    ensures played { IfOk result (λ log. AreFit (R.places stores.old) (R.shelves stores.old) (R.tells stores.old) → HoldAs catalog (placed (R.places stores.old)) (shown_lem (R.shelves stores.old)) finite.empty → IsPlayedOn (placed (R.places stores.old)) (shown_lem (R.shelves stores.old)) (shown_lem (R.shelves stores.new)) statements.now log.story log.order) }
+    ensures played { IfOk result (λ log. (catalog : List Table) → list_all (is_built catalog) statements.now ≡ true → AreFit catalog (R.places stores.old) (R.shelves stores.old) (R.tells stores.old) → HoldAs catalog (placed (R.places stores.old)) (shown_lem (R.shelves stores.old)) finite.empty → IsPlayedOn catalog (placed (R.places stores.old)) (shown_lem (R.shelves stores.old)) (shown_lem (R.shelves stores.new)) statements.now log.story log.order) }
     ensures countable { OnOk result (length texts.now < 2 ^ 64) }
     ensures goes { GoOn (R.places stores.old) (R.places stores.new) (R.shelves stores.old) (R.shelves stores.new) (R.tells stores.old) (R.tells stores.new) }
-    ensures err { IfErr result (Refuses (AreFit (R.places stores.old) (R.shelves stores.old) (R.tells stores.old) → HoldAs catalog (placed (R.places stores.old)) (shown_lem (R.shelves stores.old)) finite.empty → ⊥) (R.shelves stores.old) (R.shelves stores.new)) }
+    ensures err { IfErr result (Refuses ((catalog : List Table) → list_all (is_built catalog) statements.now ≡ true → AreFit catalog (R.places stores.old) (R.shelves stores.old) (R.tells stores.old) → HoldAs catalog (placed (R.places stores.old)) (shown_lem (R.shelves stores.old)) finite.empty → ⊥) (R.shelves stores.old) (R.shelves stores.new)) }
 {
     let mut log = Log {
         story: Story::new(alloc),

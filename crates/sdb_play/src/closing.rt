@@ -1,16 +1,17 @@
 //! What a run has come to: its events, its order, and the final rows.
-ghost use Rattle.std.specs.Prelude.{◌≡◌, ◌<◌, ◌++◌, ◌∷◌, [], List, length, true, IfOk, IfErr, OnOk};
+ghost use Rattle.std.specs.Prelude.{◌≡◌, ◌<◌, ◌++◌, ◌∷◌, [], List, length, map, true, IfOk, IfErr, OnOk};
 ghost use Rattle.std.specs.FinMap as finite;
 ghost use Rattle.std.specs.List.{filter_map, cons_option};
 ghost use Rattle.std.specs.Option.{option_copied};
 ghost use Rattle.sdb_types.specs.Contents.{Contents, rows_in};
+ghost use Rattle.sdb_schema.specs.declared.table.Table.{Table as Tabled};
 ghost use Rattle.sdb_model.specs.Events.{Shelf, store_of};
-ghost use Rattle.sdb_model.specs.Form.{account_name};
+ghost use Rattle.sdb_model.specs.Rows.{column_names};
 ghost use Rattle.sdb_script.specs.declared.account.AccountStatement.{AccountStatement as Statement};
-ghost use Rattle.sdb_session.specs.Session.{account_span, row_shown as row_shown_lem, account_rows, outcome_of, first_value as first_value_lem, start, taken_all};
-ghost use Rattle.sdb_spread.specs.Spread.{HoldAs, moved_event, moved_events, moved_outcome};
-ghost use Rattle.sdb_play.specs.Board.{AreFit, GoOn, Refuses, catalog, placed, shown};
-ghost use Rattle.sdb_play.specs.Closing.{AreSettled, first_unsettled as first_unsettled_lem};
+ghost use Rattle.sdb_session.specs.Session.{dump_held, outcome_of, shown_row, start, taken_all, whole};
+ghost use Rattle.sdb_spread.specs.Spread.{HoldAs, is_played, moved_event, moved_events, moved_outcome};
+ghost use Rattle.sdb_play.specs.Board.{AreFit, GoOn, Refuses, placed, shown as shown_lem};
+ghost use Rattle.sdb_play.specs.Closing.{AreCommitted, AreSettled, first_unsettled as first_unsettled_lem};
 ghost use Rattle.sdb_play.specs.Deeds.{deed_event};
 ghost use Rattle.sdb_play.specs.Played.{IsPlayedOn};
 
@@ -18,54 +19,64 @@ use crate::client::Log;
 use crate::opening::scan;
 use crate::refused::PlayRefused;
 use crate::story::{Deed, Story};
-use crate::values::{account_table, balance};
+use crate::tables::table_at;
 use sdb_model::{Event, Events, How, Outcome, Rows, TableDump, TableRows};
+use sdb_record::Image;
+use sdb_rows::{shown, shown_names};
+use sdb_schema::{Catalog, Table};
 use sdb_stores::{Registry, table_of};
 use sdb_txn::{is_committed, row_of};
-use sdb_types::{Duplicate, NoMemory, Record, Value, Values};
+use sdb_types::{Duplicate, Name, NoMemory, Record, Values};
 use std::alloc::Global;
 
-fn first_value(values: &Values) -> Result<Value, NoMemory>
-    ensures { IfOk result (λ v. v ≡ first_value_lem values.now) }
-{
-    match values.as_slice() {
-        [value, ..] => value.copy(),
-        [] => Ok(Value::Null),
-    }
-}
-
-// The row of an account's record: its balance and its id; a tombstone has none.
-fn row_shown(alloc: Global, rec: &Record) -> Result<Option<Values>, NoMemory>
-    ensures { IfOk result (λ row. row ≡ row_shown_lem rec.now) }
+// The row of a record, what it gives the columns of these names; a tombstone has none.
+fn row_shown(
+    alloc: Global,
+    table: &Table,
+    names: &[Name],
+    rec: &Record,
+) -> Result<Option<Values>, NoMemory>
+    requires { names.now ≡ column_names table.now }
+    ensures { IfOk result (λ row. row ≡ shown_row table.now rec.now) }
 {
     match row_of(alloc, rec)? {
         Some(columns) => {
-            let mut row = Values::new(alloc);
-            row.push(balance(alloc, &columns)?)?;
-            row.push(first_value(&rec.key.partition)?)?;
-            Ok(Some(row))
+            let image = Image {
+                key: rec.key.copy()?,
+                columns,
+            };
+            Ok(Some(shown(alloc, table, names, &image)?))
         }
         None => Ok(None),
     }
 }
 
 // Adds the row of a record, where it has one.
-fn push_row(alloc: Global, rows: &mut Rows, rec: &Record) -> Result<(), NoMemory>
-    ensures { OnOk result (rows.new ≡ rows.old ++ cons_option (row_shown_lem rec.now) []) }
+fn push_row(
+    alloc: Global,
+    rows: &mut Rows,
+    table: &Table,
+    names: &[Name],
+    rec: &Record,
+) -> Result<(), NoMemory>
+    requires { names.now ≡ column_names table.now }
+    ensures { OnOk result (rows.new ≡ rows.old ++ cons_option (shown_row table.now rec.now) []) }
 {
-    match row_shown(alloc, rec)? {
+    match row_shown(alloc, table, names, rec)? {
         Some(row) => rows.push(row)?,
         None => {}
     }
     Ok(())
 }
 
-fn rows_of(alloc: Global, records: &[Record]) -> Result<Rows, NoMemory>
-    ensures { IfOk result (λ rows. rows ≡ filter_map row_shown_lem records.now) }
+// The rows of a table's records, each with all its columns in the order of their names.
+fn rows_of(alloc: Global, table: &Table, records: &[Record]) -> Result<Rows, NoMemory>
+    ensures { IfOk result (λ rows. rows ≡ filter_map (shown_row table.now) records.now) }
 {
+    let names = shown_names(alloc, table, &None)?;
     let mut rows = Rows::new(alloc);
     for rec in records {
-        push_row(alloc, &mut rows, rec)?;
+        push_row(alloc, &mut rows, table, names.as_slice(), rec)?;
     }
     Ok(rows)
 }
@@ -77,25 +88,49 @@ fn first_unsettled(alloc: Global, records: &[Record]) -> Option<&Record>
     records.iter().find(|rec| !is_committed(alloc, rec))
 }
 
-// The rows of the accounts that the stores hold.
-fn dump<R: Registry>(alloc: Global, stores: &mut R) -> Result<Rows, PlayRefused>
+// The rows that the stores hold of a table: each of its records has to be a committed one.
+fn dump<R: Registry>(alloc: Global, stores: &mut R, table: &Table) -> Result<TableDump, PlayRefused>
     requires some { 0 < length (R.shelves stores.old) }
-    ensures rows { IfOk result (λ rows. (held : Contents) → AreFit (R.places stores.old) (R.shelves stores.old) (R.tells stores.old) → HoldAs catalog (placed (R.places stores.old)) (shown (R.shelves stores.old)) held → rows ≡ account_rows held) }
-    ensures still { OnOk result (AreFit (R.places stores.old) (R.shelves stores.old) (R.tells stores.old) → shown (R.shelves stores.new) ≡ shown (R.shelves stores.old)) }
+    ensures dump { IfOk result (λ dump. (catalog : List Tabled) (held : Contents) → AreFit catalog (R.places stores.old) (R.shelves stores.old) (R.tells stores.old) → HoldAs catalog (placed (R.places stores.old)) (shown_lem (R.shelves stores.old)) held → is_played catalog table.now.name ≡ true → dump ≡ dump_held held table.now) }
+    ensures still { OnOk result ((catalog : List Tabled) → AreFit catalog (R.places stores.old) (R.shelves stores.old) (R.tells stores.old) → is_played catalog table.now.name ≡ true → shown_lem (R.shelves stores.new) ≡ shown_lem (R.shelves stores.old)) }
     ensures goes { GoOn (R.places stores.old) (R.places stores.new) (R.shelves stores.old) (R.shelves stores.new) (R.tells stores.old) (R.tells stores.new) }
-    ensures err { IfErr result (Refuses ((held : Contents) → AreFit (R.places stores.old) (R.shelves stores.old) (R.tells stores.old) → HoldAs catalog (placed (R.places stores.old)) (shown (R.shelves stores.old)) held → AreSettled (rows_in account_span held) → ⊥) (R.shelves stores.old) (R.shelves stores.new)) }
+    ensures err { IfErr result (Refuses ((catalog : List Tabled) (held : Contents) → AreFit catalog (R.places stores.old) (R.shelves stores.old) (R.tells stores.old) → HoldAs catalog (placed (R.places stores.old)) (shown_lem (R.shelves stores.old)) held → is_played catalog table.now.name ≡ true → AreSettled (rows_in (whole table.now.name) held) → ⊥) (R.shelves stores.old) (R.shelves stores.new)) }
 {
-    let records = scan(stores, account_table(alloc)?)?;
+    let records = scan(stores, &table.name)?;
     match first_unsettled(alloc, records.as_slice()) {
         Some(rec) => Err(PlayRefused::BadStore(rec.key.copy()?)),
-        None => Ok(rows_of(alloc, records.as_slice())?),
+        None => Ok(TableDump {
+            name: table.name.copy()?,
+            rows: rows_of(alloc, table, records.as_slice())?,
+        }),
     }
+}
+
+// The rows that the stores hold of each table of a catalog, in the order of the tables' names.
+fn dumps<R: Registry>(
+    alloc: Global,
+    stores: &mut R,
+    catalog: &Catalog,
+) -> Result<TableRows, PlayRefused>
+    requires some { 0 < length (R.shelves stores.old) }
+    ensures tables { IfOk result (λ tables. (held : Contents) → AreFit catalog.now (R.places stores.old) (R.shelves stores.old) (R.tells stores.old) → HoldAs catalog.now (placed (R.places stores.old)) (shown_lem (R.shelves stores.old)) held → tables ≡ map (dump_held held) catalog.now) }
+    ensures still { OnOk result (AreFit catalog.now (R.places stores.old) (R.shelves stores.old) (R.tells stores.old) → shown_lem (R.shelves stores.new) ≡ shown_lem (R.shelves stores.old)) }
+    ensures goes { GoOn (R.places stores.old) (R.places stores.new) (R.shelves stores.old) (R.shelves stores.new) (R.tells stores.old) (R.tells stores.new) }
+    ensures err { IfErr result (Refuses ((held : Contents) → AreFit catalog.now (R.places stores.old) (R.shelves stores.old) (R.tells stores.old) → HoldAs catalog.now (placed (R.places stores.old)) (shown_lem (R.shelves stores.old)) held → AreCommitted catalog.now held → ⊥) (R.shelves stores.old) (R.shelves stores.new)) }
+{
+    let mut tables = TableRows::new(alloc);
+    for i in 0..catalog.len() {
+        let table = table_at(catalog, i);
+        let rows = dump(alloc, stores, table)?;
+        tables.push(rows)?;
+    }
+    Ok(tables)
 }
 
 // An event, with the store of its call.
 fn event_of<R: Registry>(stores: &R, deed: Deed) -> Result<Event, NoMemory>
     requires some { 0 < length (R.shelves stores.now) }
-    ensures { IfOk result (λ event. AreFit (R.places stores.now) (R.shelves stores.now) (R.tells stores.now) → event ≡ moved_event (store_of (placed (R.places stores.now)) (shown (R.shelves stores.now))) (deed_event deed)) }
+    ensures { IfOk result (λ event. (catalog : List Tabled) → AreFit catalog (R.places stores.now) (R.shelves stores.now) (R.tells stores.now) → event ≡ moved_event (store_of (placed (R.places stores.now)) (shown_lem (R.shelves stores.now))) (deed_event deed)) }
 {
     match deed {
         Deed::Take(text, answer) => Ok(Event::Take(1, text, answer)),
@@ -109,7 +144,7 @@ fn event_of<R: Registry>(stores: &R, deed: Deed) -> Result<Event, NoMemory>
 // The events of a story.
 fn events_of<R: Registry>(alloc: Global, stores: &R, story: Story) -> Result<Events, NoMemory>
     requires some { 0 < length (R.shelves stores.now) }
-    ensures { IfOk result (λ events. AreFit (R.places stores.now) (R.shelves stores.now) (R.tells stores.now) → events ≡ moved_events (store_of (placed (R.places stores.now)) (shown (R.shelves stores.now))) story) }
+    ensures { IfOk result (λ events. (catalog : List Tabled) → AreFit catalog (R.places stores.now) (R.shelves stores.now) (R.tells stores.now) → events ≡ moved_events (store_of (placed (R.places stores.now)) (shown_lem (R.shelves stores.now))) story) }
 {
     let mut events = Events::new(alloc);
     for deed in story.into_deeds() {
@@ -118,30 +153,26 @@ fn events_of<R: Registry>(alloc: Global, stores: &R, story: Story) -> Result<Eve
     Ok(events)
 }
 
-// The one table with its rows.
-fn tables_of(alloc: Global, rows: Rows) -> Result<TableRows, NoMemory>
-    ensures { IfOk result (λ tables. tables ≡ record { name = account_name; rows = rows } ∷ []) }
-{
-    let mut tables = TableRows::new(alloc);
-    let name = account_table(alloc)?;
-    tables.push(TableDump { name, rows })?;
-    Ok(tables)
-}
-
-/// The outcome of a run, with the rows that the stores hold: each record of an account has to be a committed one.
-pub fn outcome<R: Registry>(alloc: Global, stores: &mut R, log: Log) -> Result<Outcome, PlayRefused>
+/// The outcome of a run, with the rows that the stores hold of each table of the catalog: each of their records has to be a
+/// committed one.
+pub fn outcome<R: Registry>(
+    alloc: Global,
+    stores: &mut R,
+    catalog: &Catalog,
+    log: Log,
+) -> Result<Outcome, PlayRefused>
     requires some { 0 < length (R.shelves stores.old) }
-    ensures outcome { IfOk result (λ outcome. (opening : List Shelf) (statements : List Statement) → AreFit (R.places stores.old) (R.shelves stores.old) (R.tells stores.old) → IsPlayedOn (placed (R.places stores.old)) opening (shown (R.shelves stores.old)) statements log.story log.order
-        → outcome ≡ moved_outcome (store_of (placed (R.places stores.old)) opening) (outcome_of (taken_all (start finite.empty) statements).events (taken_all (start finite.empty) statements).order (taken_all (start finite.empty) statements).held)) }
-    ensures still { OnOk result (AreFit (R.places stores.old) (R.shelves stores.old) (R.tells stores.old) → shown (R.shelves stores.new) ≡ shown (R.shelves stores.old)) }
+    ensures outcome { IfOk result (λ outcome. (opening : List Shelf) (statements : List Statement) → AreFit catalog.now (R.places stores.old) (R.shelves stores.old) (R.tells stores.old) → IsPlayedOn catalog.now (placed (R.places stores.old)) opening (shown_lem (R.shelves stores.old)) statements log.story log.order
+        → outcome ≡ moved_outcome (store_of (placed (R.places stores.old)) opening) (outcome_of catalog.now (taken_all (start finite.empty) statements).events (taken_all (start finite.empty) statements).order (taken_all (start finite.empty) statements).held)) }
+    ensures still { OnOk result (AreFit catalog.now (R.places stores.old) (R.shelves stores.old) (R.tells stores.old) → shown_lem (R.shelves stores.new) ≡ shown_lem (R.shelves stores.old)) }
     ensures goes { GoOn (R.places stores.old) (R.places stores.new) (R.shelves stores.old) (R.shelves stores.new) (R.tells stores.old) (R.tells stores.new) }
-    ensures err { IfErr result (Refuses ((held : Contents) → AreFit (R.places stores.old) (R.shelves stores.old) (R.tells stores.old) → HoldAs catalog (placed (R.places stores.old)) (shown (R.shelves stores.old)) held → AreSettled (rows_in account_span held) → ⊥) (R.shelves stores.old) (R.shelves stores.new)) }
+    ensures err { IfErr result (Refuses ((held : Contents) → AreFit catalog.now (R.places stores.old) (R.shelves stores.old) (R.tells stores.old) → HoldAs catalog.now (placed (R.places stores.old)) (shown_lem (R.shelves stores.old)) held → AreCommitted catalog.now held → ⊥) (R.shelves stores.old) (R.shelves stores.new)) }
 {
     let events = events_of(alloc, stores, log.story)?;
-    let rows = dump(alloc, stores)?;
+    let tables = dumps(alloc, stores, catalog)?;
     Ok(Outcome {
         events,
         order: log.order,
-        tables: tables_of(alloc, rows)?,
+        tables,
     })
 }

@@ -8,6 +8,7 @@ mod digest;
 mod opening;
 mod refused;
 mod story;
+mod tables;
 mod values;
 
 pub use client::{Log, play};

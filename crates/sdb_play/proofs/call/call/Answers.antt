@@ -10,7 +10,7 @@ returns-in_default g c =
     let old = g.R.Registry.shelves c.args.stores.now in
     let new = g.R.Registry.shelves c.perform.new.self in
     record {
-      heard = λ fit about. heard places old new c.args.request.now c.perform.result c.perform.ensures.called c.in_default.not-Fault c.in_default.not-NoMemory fit about;
+      heard = λ catalog fit about. heard catalog places old new c.args.request.now c.perform.result c.perform.ensures.called c.in_default.not-Fault c.in_default.not-NoMemory fit about;
       lawful = c.perform.ensures.called.lawful;
       answered = (c.in_default.not-Fault, c.in_default.not-NoMemory);
       goes = subst (λ (ps : List Place). GoOn places ps old new (g.R.Registry.tells c.args.stores.now) (g.R.Registry.tells c.perform.new.self)) (sym c.perform.ensures.places) (goes_call _ places old new c.args.request.now c.perform.result c.perform.ensures.called);

@@ -38,3 +38,9 @@ returns-clause-calls g c =
     let before = c.loop-request.invariant in
     let none : c.loop-request.txn.left ≡ [] = none_left _ (sym c.in_ok-request.ensures ∙ c.in_default.is) in
     carried_all (g.R.Registry.places c.args.stores.now) (g.R.Registry.shelves c.args.stores.now) (g.R.Registry.shelves c.loop-request.stores) c.args.story.now c.loop-request.story c.args.txn.now c.loop-request.txn none before.carries
+
+pub returns-in_err-reply-clause-goes : goal.returns-in_err-reply-clause-goes
+returns-in_err-reply-clause-goes g c = goes_more _ _ _ _ _ _ c.loop-request.invariant.goes c.in_err-reply.ensures.goes
+
+pub returns-in_err-call-clause-goes : goal.returns-in_err-call-clause-goes
+returns-in_err-call-clause-goes g c = goes_more _ _ _ _ _ _ c.loop-request.invariant.goes c.in_ok-reply.ensures.goes

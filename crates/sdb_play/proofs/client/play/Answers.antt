@@ -21,11 +21,11 @@ returns-in_err-current-clause-err g c =
     let now = shown (g.R.Registry.shelves c.loop-i.stores) in
     passed _ c.from_residual.result c.in_err-current.field-0.0 c.from_residual.ensures.1
     (refused_after p q (g.R.Registry.shelves c.args.stores.now) (g.R.Registry.shelves c.loop-i.stores) (g.R.Registry.shelves c.take.new.stores) _ _ c.in_err-current.field-0.0 before.goes
-    (λ never fit holds.
-    let at = before.at fit holds in
-    let m = meets (placed p) opening now c.loop-i.log.story c.loop-i.log.order c.loop-i.current c.args.statements.now c.loop-i.i c.statement_at-statement.result c.statement_at-statement.ensures bound c.requires.built c.requires.fit at in
-    let there = subst (λ (x : List Place). IsAt (placed x) opening now c.loop-i.log.story c.loop-i.log.order c.loop-i.current (behind c.args.statements.now c.loop-i.i)) (sym before.goes.places) at in
-    never opening (behind c.args.statements.now c.loop-i.i) (before.goes.fit fit) there m.ready m.about)
+    (λ never catalog built fit holds.
+    let at = before.at catalog built fit holds in
+    let m = meets catalog (placed p) opening now c.loop-i.log.story c.loop-i.log.order c.loop-i.current c.args.statements.now c.loop-i.i c.statement_at-statement.result c.statement_at-statement.ensures bound c.requires.built built at in
+    let there = subst (λ (x : List Place). IsAt catalog (placed x) opening now c.loop-i.log.story c.loop-i.log.order c.loop-i.current (behind c.args.statements.now c.loop-i.i)) (sym before.goes.places) at in
+    never catalog opening (behind c.args.statements.now c.loop-i.i) m.built (before.goes.fit catalog fit) there m.ready m.about)
     c.in_err-current.ensures.err)
 
 pub loop-i-preserved : goal.loop-i-preserved
@@ -43,11 +43,14 @@ loop-i-preserved g c =
       goes = goes_more _ _ _ _ _ _ before.goes done.goes;
       later = ap (λ (b : Bool). are_taken b (drop (c.loop-i.i + 1) c.args.statements.now)) done.open ∙ next.1;
       fine = done.fine;
-      at = λ fit holds.
-          let at = before.at fit holds in
-          let m = meets (placed p) opening now c.loop-i.log.story c.loop-i.log.order c.loop-i.current c.args.statements.now c.loop-i.i c.statement_at-statement.result c.statement_at-statement.ensures bound c.requires.built c.requires.fit at in
-          let there = subst (λ (x : List Place). IsAt (placed x) opening now c.loop-i.log.story c.loop-i.log.order c.loop-i.current (behind c.args.statements.now c.loop-i.i)) (sym before.goes.places) at in
-          let r = done.session opening (behind c.args.statements.now c.loop-i.i) (before.goes.fit fit) there m.ready m.about in
-          subst (λ (s : Session). IsAt (placed p) opening then c.take.new.log.story c.take.new.log.order c.in_ok-current.current s) m.next
-          (subst (λ (x : List Place). IsAt (placed x) opening then c.take.new.log.story c.take.new.log.order c.in_ok-current.current (taken_at c.loop-i.current (behind c.args.statements.now c.loop-i.i) c.statement_at-statement.result)) before.goes.places r);
+      at = λ catalog built fit holds.
+          let at = before.at catalog built fit holds in
+          let m = meets catalog (placed p) opening now c.loop-i.log.story c.loop-i.log.order c.loop-i.current c.args.statements.now c.loop-i.i c.statement_at-statement.result c.statement_at-statement.ensures bound c.requires.built built at in
+          let there = subst (λ (x : List Place). IsAt catalog (placed x) opening now c.loop-i.log.story c.loop-i.log.order c.loop-i.current (behind c.args.statements.now c.loop-i.i)) (sym before.goes.places) at in
+          let r = done.session catalog opening (behind c.args.statements.now c.loop-i.i) m.built (before.goes.fit catalog fit) there m.ready m.about in
+          subst (λ (s : Session). IsAt catalog (placed p) opening then c.take.new.log.story c.take.new.log.order c.in_ok-current.current s) m.next
+          (subst (λ (x : List Place). IsAt catalog (placed x) opening then c.take.new.log.story c.take.new.log.order c.in_ok-current.current (taken_at c.loop-i.current (behind c.args.statements.now c.loop-i.i) c.statement_at-statement.result)) before.goes.places r);
     }
+
+pub returns-in_err-current-clause-goes : goal.returns-in_err-current-clause-goes
+returns-in_err-current-clause-goes g c = goes_more _ _ _ _ _ _ c.loop-i.invariant.goes c.in_err-current.ensures.goes

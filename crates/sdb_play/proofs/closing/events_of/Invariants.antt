@@ -1,4 +1,5 @@
-use Rattle.std.proofs.Common.{◌≡◌, map}
+use Rattle.std.proofs.Common.{◌≡◌, List, map}
+use Rattle.sdb_schema.specs.declared.table.Table.{Table}
 use Rattle.sdb_model.specs.Events.{store_of}
 use Rattle.sdb_spread.specs.Spread.{moved_events}
 use Rattle.sdb_play.specs.Board.{AreFit, placed, shown}
@@ -7,4 +8,4 @@ use Rattle.sdb_play.proofs.closing.events_of.Given as goal
 
 abbrev pub invariant-loop-deed : goal.invariant-loop-deed
 invariant-loop-deed g l =
-    AreFit (g.R.Registry.places l.stores) (g.R.Registry.shelves l.stores) (g.R.Registry.tells l.stores) → l.events ≡ moved_events (store_of (placed (g.R.Registry.places l.stores)) (shown (g.R.Registry.shelves l.stores))) (map deed_event l.yielded)
+    (catalog : List Table) → AreFit catalog (g.R.Registry.places l.stores) (g.R.Registry.shelves l.stores) (g.R.Registry.tells l.stores) → l.events ≡ moved_events (store_of (placed (g.R.Registry.places l.stores)) (shown (g.R.Registry.shelves l.stores))) (map deed_event l.yielded)
