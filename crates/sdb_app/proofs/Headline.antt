@@ -1,11 +1,16 @@
 -- A script that was read and played is a run of the headline.
-use Rattle.std.proofs.Common.{◌≡◌, ◌∙◌, Result, Ok, Err, IfErr, ℕ, ◌≤◌, ◌<◌, ◌^◌, Bool, true, false, inl, inr, List, [], ◌∷◌, Option, Some, None, length, take, refl, sym, ap, subst}
+use Rattle.std.proofs.Common.{◌≡◌, ◌∙◌, Result, Ok, Err, IfErr, IfSome, ℕ, ◌≤◌, ◌<◌, ◌^◌, Bool, true, false, inl, inr, List, [], ◌∷◌, Option, Some, None, length, take, refl, sym, ap, subst}
 use Rattle.std.specs.FinMap.{empty}
-use Rattle.std.specs.Prelude.{map, slice_get, IsErrAnd}
+use Rattle.std.specs.Prelude.{map, is_some, slice_get, IsErrAnd}
+use Rattle.std.specs.List.{list_all}
 use Rattle.std.proofs.lemmas.List.{length-map}
 use Rattle.sdb_types.specs.declared.key.Key.{Key}
-use Rattle.sdb_types.specs.Contents.{Contents, rows_in}
+use Rattle.sdb_types.specs.declared.record.Record.{Record}
+use Rattle.sdb_types.specs.Contents.{Contents, record_at}
 use Rattle.sdb_types.specs.Bytes.{Appends}
+use Rattle.sdb_record.specs.Coordinator.{coordinator_table}
+use Rattle.sdb_record.specs.Rolls.{IsBaseOf}
+use Rattle.sdb_schema.specs.declared.table.Table.{Table}
 use Rattle.sdb_stores.specs.Shelf.{Shelf as Counted, AreDistinct, names_of, total_faults}
 use Rattle.sdb_stores.specs.declared.place.Place.{Place as Placed}
 use Rattle.sdb_model.specs.declared.event.Event.{Event}
@@ -14,27 +19,29 @@ use Rattle.sdb_model.specs.declared.event.Point.{Point}
 use Rattle.sdb_model.specs.declared.script.Place.{Place}
 use Rattle.sdb_model.specs.declared.script.Script.{Script}
 use Rattle.sdb_model.specs.Events.{Shelf, store_of}
-use Rattle.sdb_model.specs.Form.{client_script}
+use Rattle.sdb_model.specs.Exec.{find_table}
 use Rattle.sdb_model.specs.Report.{report_text_of}
 use Rattle.sdb_model.specs.Rows.{Name}
 use Rattle.sdb_model.specs.Told.{IsRun}
-use Rattle.sdb_script.specs.Accounts.{ArePlaces, AreTransactions, IsFormOf, account_text, statement_of}
+use Rattle.sdb_script.specs.Accounts.{ArePlaces, AreTransactions, IsFormOf, account_text, is_built, script_of_client, statement_of}
 use Rattle.sdb_script.specs.declared.account.AccountStatement.{AccountStatement}
 use Rattle.sdb_script.specs.declared.account.AccountStatement.TheVariants as account
 use Rattle.sdb_script.specs.declared.drawing.AccountForm.{AccountForm}
-use Rattle.sdb_session.specs.Session.{Session, account_span, outcome_of, store_name, taken_all, start, are_taken}
-use Rattle.sdb_session.proofs.AllStatements.{run_from_empty, settled_from_empty}
+use Rattle.sdb_session.specs.Session.{Session, outcome_of, store_name, taken_all, start, are_taken}
+use Rattle.sdb_session.proofs.AllStatements.{kept_from_empty, run_from_empty}
+use Rattle.sdb_session.proofs.Finals.{nothing_at}
+use Rattle.sdb_session.proofs.Images.{Kept, kept_at, not_coordinator}
 use Rattle.sdb_spread.specs.Spread.{HoldAs, moved_outcome}
 use Rattle.sdb_spread.proofs.Told.{run_moved}
-use Rattle.sdb_play.specs.Board.{AreFit, GoOn, Refuses, catalog, placed, shown}
-use Rattle.sdb_play.specs.Closing.{AreSettled}
+use Rattle.sdb_play.specs.Board.{AreFit, GoOn, Refuses, placed, shown}
+use Rattle.sdb_play.specs.Closing.{AreCommitted}
 use Rattle.sdb_play.specs.Opening.{first_key, opening_records}
 use Rattle.sdb_play.specs.Played.{IsPlayedOn}
 use Rattle.sdb_play.specs.declared.refused.PlayRefused.{PlayRefused}
 use Rattle.sdb_play.specs.declared.refused.PlayRefused.TheVariants as refused
 use Rattle.sdb_play.proofs.Empty.{no_record}
 use Rattle.sdb_play.proofs.Refusals.{refused_after}
-use Rattle.sdb_play.proofs.Rows.{settled_rows}
+use Rattle.sdb_play.proofs.Rows.{committed_rows}
 use Rattle.sdb_app.specs.declared.status.Status.{Status}
 use Rattle.sdb_app.specs.declared.status.Status.TheVariants as status
 use Rattle.sdb_app.specs.Run.{TellOf, IsFormRead, IsFront, IsReadAnd, IsReported, IsScriptRead, IsTold, IsWritten, Stops, placed_form, script_of, status_of}
@@ -61,44 +68,57 @@ abbrev pub played : AccountForm → Session
 played form = taken_all (start empty) form.statements
 
 abbrev pub played_outcome : AccountForm → Outcome
-played_outcome form = outcome_of (played form).events (played form).order (played form).held
+played_outcome form = outcome_of form.catalog (played form).events (played form).order (played form).held
 
 -- what was played on stores is a run on them
-pub told_run : (names : List Name) (form : AccountForm) (places : List Place) (opening now : List Shelf) (story : List Event) (points : List Point) (o : Outcome) → IsFormOf names form → length form.client.statements < 2 ^ 64 → IsPlayedOn places opening now form.statements story points
+pub told_run : (names : List Name) (form : AccountForm) (places : List Place) (opening now : List Shelf) (story : List Event) (points : List Point) (o : Outcome) → IsFormOf names form → length form.client.statements < 2 ^ 64 → IsPlayedOn form.catalog places opening now form.statements story points
     → o ≡ moved_outcome (store_of places opening) (played_outcome form) → IsRun (placed_form form places) opening now o
 told_run names form places opening now story points o f bound p is =
-    let run = run_from_empty form.client form.statements f.texts bound (built_taken false form.statements f.built) f.fit in
+    let run = run_from_empty form.catalog form.client form.statements f.catalog f.apart f.texts bound (built_taken false form.statements f.built) f.fit in
     subst (λ (x : Outcome). IsRun (placed_form form places) opening now x) (sym is)
-    (run_moved (client_script form.client) store_name empty (played form).held (played_outcome form) places (store_of places opening) opening now p.on.moments refl run p.on.trace p.on.holds)
+    (run_moved (script_of_client [] form.catalog form.client) store_name empty (played form).held (played_outcome form) places (store_of places opening) opening now p.on.moments refl run p.on.trace p.on.holds)
 
 -- what an outcome is of
-abbrev pub IsOutcomeOf : List Placed → List Counted → (ℕ → Type 0) → List Event → List Point → Outcome → Type 0
-IsOutcomeOf places now tells story points o =
-    (opening : List Shelf) (statements : List AccountStatement) → AreFit places now tells → IsPlayedOn (placed places) opening (shown now) statements story points
-    → o ≡ moved_outcome (store_of (placed places) opening) (outcome_of (taken_all (start empty) statements).events (taken_all (start empty) statements).order (taken_all (start empty) statements).held)
+abbrev pub IsOutcomeOf : List Table → List Placed → List Counted → (ℕ → Type 0) → List Event → List Point → Outcome → Type 0
+IsOutcomeOf catalog places now tells story points o =
+    (opening : List Shelf) (statements : List AccountStatement) → AreFit catalog places now tells → IsPlayedOn catalog (placed places) opening (shown now) statements story points
+    → o ≡ moved_outcome (store_of (placed places) opening) (outcome_of catalog (taken_all (start empty) statements).events (taken_all (start empty) statements).order (taken_all (start empty) statements).held)
+
+-- what a play of a form comes to, over any catalog over which its statements can be built
+abbrev pub IsPlay : AccountForm → List Placed → List Counted → List Counted → (ℕ → Type 0) → List Event → List Point → Type 0
+IsPlay form p old mid t story points =
+    (catalog : List Table) → list_all (is_built catalog) form.statements ≡ true → AreFit catalog p old t → HoldAs catalog (placed p) (shown old) empty → IsPlayedOn catalog (placed p) (shown old) (shown mid) form.statements story points
 
 pub told_by : {t u : ℕ → Type 0} (names : List Name) (form : AccountForm) (p q : List Placed) (old mid new : List Counted) (story : List Event) (points : List Point) (o : Outcome) (text : List ℕ) → IsFormOf names form → length form.client.statements < 2 ^ 64 → GoOn p q old mid t u
-    → (AreFit p old t → HoldAs catalog (placed p) (shown old) empty → IsPlayedOn (placed p) (shown old) (shown mid) form.statements story points) → IsOutcomeOf q mid u story points o → (AreFit q mid u → shown new ≡ shown mid) → text ≡ report_text_of o
-    → AreFit p old t → HoldAs catalog (placed p) (shown old) empty → IsTold (placed_form form (placed p)) (shown old) (shown new) text
+    → IsPlay form p old mid t story points → IsOutcomeOf form.catalog q mid u story points o → (AreFit form.catalog q mid u → shown new ≡ shown mid) → text ≡ report_text_of o
+    → AreFit form.catalog p old t → HoldAs form.catalog (placed p) (shown old) empty → IsTold (placed_form form (placed p)) (shown old) (shown new) text
 told_by names form p q old mid new story points o text f bound goes plays made still written fit holds =
-    let at = plays fit holds in
-    let there = subst (λ (x : List Placed). IsPlayedOn (placed x) (shown old) (shown mid) form.statements story points) (sym goes.places) at in
-    let is : o ≡ moved_outcome (store_of (placed p) (shown old)) (played_outcome form) = made (shown old) form.statements (goes.fit fit) there ∙ ap (λ (x : List Placed). moved_outcome (store_of (placed x) (shown old)) (played_outcome form)) goes.places in
+    let at = plays form.catalog f.fit fit holds in
+    let later = goes.fit form.catalog fit in
+    let there = subst (λ (x : List Placed). IsPlayedOn form.catalog (placed x) (shown old) (shown mid) form.statements story points) (sym goes.places) at in
+    let is : o ≡ moved_outcome (store_of (placed p) (shown old)) (played_outcome form) = made (shown old) form.statements later there ∙ ap (λ (x : List Placed). moved_outcome (store_of (placed x) (shown old)) (played_outcome form)) goes.places in
     record {
       outcome = o;
-      run = subst (λ (s : List Shelf). IsRun (placed_form form (placed p)) (shown old) s o) (sym (still (goes.fit fit))) (told_run names form (placed p) (shown old) (shown mid) story points o f bound at is);
+      run = subst (λ (s : List Shelf). IsRun (placed_form form (placed p)) (shown old) s o) (sym (still later)) (told_run names form (placed p) (shown old) (shown mid) story points o f bound at is);
       text = written;
     }
 
+-- each record that a run leaves in its catalog's tables is a committed one
+base_left : (catalog : List Table) (held : Contents) → find_table catalog coordinator_table ≡ None → Kept empty held → (key : Key) → is_some (find_table catalog key.table) ≡ true → IfSome (record_at held key) (IsBaseOf key)
+base_left catalog held apart kept key known = elim (kept_at empty held key (not_coordinator catalog key apart known) kept) [
+  | inl now ↦ now
+  | inr was ↦ subst (λ (found : Option Record). IfSome found (IsBaseOf key)) (sym (was ∙ nothing_at key)) tt
+]
+
 -- the final rows are those of committed records
-pub no_foreign : {t u : ℕ → Type 0} (names : List Name) (form : AccountForm) (p q : List Placed) (old mid : List Counted) (story : List Event) (points : List Point) → IsFormOf names form → length form.client.statements < 2 ^ 64 → GoOn p q old mid t u
-    → (AreFit p old t → HoldAs catalog (placed p) (shown old) empty → IsPlayedOn (placed p) (shown old) (shown mid) form.statements story points)
-    → ((held : Contents) → AreFit q mid u → HoldAs catalog (placed q) (shown mid) held → AreSettled (rows_in account_span held) → ⊥) → AreFit p old t → HoldAs catalog (placed p) (shown old) empty → ⊥
+pub no_foreign : {t u : ℕ → Type 0} (names : List Name) (form : AccountForm) (p q : List Placed) (old mid : List Counted) (story : List Event) (points : List Point) → IsFormOf names form → length form.client.statements < 2 ^ 64 → GoOn p q old mid t u → IsPlay form p old mid t story points
+    → ((held : Contents) → AreFit form.catalog q mid u → HoldAs form.catalog (placed q) (shown mid) held → AreCommitted form.catalog held → ⊥) → AreFit form.catalog p old t → HoldAs form.catalog (placed p) (shown old) empty → ⊥
 no_foreign names form p q old mid story points f bound goes plays never fit holds =
-    let at = plays fit holds in
+    let at = plays form.catalog f.fit fit holds in
     let size : length form.client.statements ≡ length form.statements = ap length f.texts ∙ length-map form.statements account_text in
-    never (played form).held (goes.fit fit) (subst (λ (x : List Placed). HoldAs catalog (placed x) (shown mid) (played form).held) (sym goes.places) at.on.holds)
-    (settled_rows (played form).held (settled_from_empty form.statements (subst (λ (n : ℕ). n < 2 ^ 64) size bound) (built_taken false form.statements f.built) f.fit))
+    let kept = kept_from_empty form.catalog form.statements f.apart (subst (λ (n : ℕ). n < 2 ^ 64) size bound) (built_taken false form.statements f.built) f.fit in
+    never (played form).held (goes.fit form.catalog fit) (subst (λ (x : List Placed). HoldAs form.catalog (placed x) (shown mid) (played form).held) (sym goes.places) at.on.holds)
+    (committed_rows form.catalog (played form).held (base_left form.catalog (played form).held f.apart kept))
 
 ---- the whole
 
@@ -141,36 +161,36 @@ tell_on script before mid same telling all at store table here about named =
     telling at (all at store table (ap (λ (ss : List Counted). slice_get ss at) (sym same) ∙ here) about (ap (λ (ss : List Counted). store_of script.places (shown ss) table.ns) (sym same) ∙ named))
 
 -- The stores of a form's tables tell, and it has its places.
-pub fit_form : {t u : ℕ → Type 0} (form : AccountForm) (ps : List Placed) (old mid : List Counted) → placed ps ≡ form.places → mid ≡ old → IsFormOf (names_of old) form → 0 < length old → AreDistinct (names_of old) → ((i : ℕ) → t i → u i) → TellOf (script_of form) old t → AreFit ps mid u
+pub fit_form : {t u : ℕ → Type 0} (form : AccountForm) (ps : List Placed) (old mid : List Counted) → placed ps ≡ form.places → mid ≡ old → IsFormOf (names_of old) form → 0 < length old → AreDistinct (names_of old) → ((i : ℕ) → t i → u i) → TellOf (script_of form) old t → AreFit form.catalog ps mid u
 fit_form form ps old mid same still f some distinct telling all =
-    fit_for ps form.places mid same (subst (λ (ss : List Counted). ArePlaces (names_of ss) form.places) (sym still) f.placed) (subst (λ (ss : List Counted). 0 < length ss) (sym still) some) (subst (λ (ss : List Counted). AreDistinct (names_of ss)) (sym still) distinct)
+    fit_for form.catalog ps form.places mid same (subst (λ (ss : List Counted). ArePlaces (names_of ss) form.places) (sym still) f.placed) (subst (λ (ss : List Counted). 0 < length ss) (sym still) some) (subst (λ (ss : List Counted). AreDistinct (names_of ss)) (sym still) distinct)
     (tell_on (script_of form) old mid still telling all)
 
 -- the whole is told: ps and mid are behind the placing, qs and then behind the look for records
-pub reported : {u v : ℕ → Type 0} (form : AccountForm) (ps qs : List Placed) (old mid then : List Counted) (new : List Shelf) (text : List ℕ) → placed ps ≡ form.places → mid ≡ old → GoOn ps qs mid then u v → AreFit ps mid u
-    → first_key (opening_records (placed ps) (shown mid)) ≡ None → shown then ≡ shown mid
-    → (AreFit qs then v → HoldAs catalog (placed qs) (shown then) empty → IsTold (placed_form form (placed qs)) (shown then) new text) → IsReported (script_of form) (shown old) new text
+pub reported : {u v : ℕ → Type 0} (form : AccountForm) (ps qs : List Placed) (old mid then : List Counted) (new : List Shelf) (text : List ℕ) → placed ps ≡ form.places → mid ≡ old → GoOn ps qs mid then u v → AreFit form.catalog ps mid u
+    → first_key (opening_records form.catalog (placed ps) (shown mid)) ≡ None → shown then ≡ shown mid
+    → (AreFit form.catalog qs then v → HoldAs form.catalog (placed qs) (shown then) empty → IsTold (placed_form form (placed qs)) (shown then) new text) → IsReported (script_of form) (shown old) new text
 reported form ps qs old mid then new text same still goes fit none quiet tells =
     let places : placed qs ≡ form.places = ap placed goes.places ∙ same in
     let stores : shown then ≡ shown old = quiet ∙ ap shown still in
-    let holds : HoldAs catalog (placed qs) (shown then) empty =
-    subst (λ (ss : List Shelf). HoldAs catalog (placed qs) ss empty) (sym quiet) (subst (λ (xs : List Placed). HoldAs catalog (placed xs) (shown mid) empty) (sym goes.places) (no_record (placed ps) (shown mid) none)) in
-    let told = tells (goes.fit fit) holds in
+    let holds : HoldAs form.catalog (placed qs) (shown then) empty =
+    subst (λ (ss : List Shelf). HoldAs form.catalog (placed qs) ss empty) (sym quiet) (subst (λ (xs : List Placed). HoldAs form.catalog (placed xs) (shown mid) empty) (sym goes.places) (no_record form.catalog (placed ps) (shown mid) none)) in
+    let told = tells (goes.fit form.catalog fit) holds in
     record {
-      empty = sym (ap (λ (ss : List Shelf). first_key (opening_records form.places ss)) (ap shown still)) ∙ sym (ap (λ (xs : List Place). first_key (opening_records xs (shown mid))) same) ∙ none;
+      empty = sym (ap (λ (ss : List Shelf). first_key (opening_records form.catalog form.places ss)) (ap shown still)) ∙ sym (ap (λ (xs : List Place). first_key (opening_records form.catalog xs (shown mid))) same) ∙ none;
       told = subst (λ (xs : List Place). IsTold (placed_form form xs) (shown old) new text) places (subst (λ (ss : List Shelf). IsTold (placed_form form (placed qs)) ss new text) stores told);
     }
 
 -- stores that all tell stop nothing
-pub never_foreign : {u v : ℕ → Type 0} (ps qs : List Placed) (mid then : List Counted) → GoOn ps qs mid then u v → AreFit ps mid u → first_key (opening_records (placed ps) (shown mid)) ≡ None → shown then ≡ shown mid → (AreFit qs then v → HoldAs catalog (placed qs) (shown then) empty → ⊥) → ⊥
-never_foreign ps qs mid then goes fit none quiet never =
-    never (goes.fit fit)
-    (subst (λ (ss : List Shelf). HoldAs catalog (placed qs) ss empty) (sym quiet) (subst (λ (xs : List Placed). HoldAs catalog (placed xs) (shown mid) empty) (sym goes.places) (no_record (placed ps) (shown mid) none)))
+pub never_foreign : {u v : ℕ → Type 0} (catalog : List Table) (ps qs : List Placed) (mid then : List Counted) → GoOn ps qs mid then u v → AreFit catalog ps mid u → first_key (opening_records catalog (placed ps) (shown mid)) ≡ None → shown then ≡ shown mid → (AreFit catalog qs then v → HoldAs catalog (placed qs) (shown then) empty → ⊥) → ⊥
+never_foreign catalog ps qs mid then goes fit none quiet never =
+    never (goes.fit catalog fit)
+    (subst (λ (ss : List Shelf). HoldAs catalog (placed qs) ss empty) (sym quiet) (subst (λ (xs : List Placed). HoldAs catalog (placed xs) (shown mid) empty) (sym goes.places) (no_record catalog (placed ps) (shown mid) none)))
 
 -- the first record is that of the form's tables
-pub found_first : (form : AccountForm) (ps : List Placed) (old mid : List Counted) (key : Key) → placed ps ≡ form.places → mid ≡ old → first_key (opening_records (placed ps) (shown mid)) ≡ Some key → first_key (opening_records form.places (shown old)) ≡ Some key
+pub found_first : (form : AccountForm) (ps : List Placed) (old mid : List Counted) (key : Key) → placed ps ≡ form.places → mid ≡ old → first_key (opening_records form.catalog (placed ps) (shown mid)) ≡ Some key → first_key (opening_records form.catalog form.places (shown old)) ≡ Some key
 found_first form ps old mid key same still found =
-    sym (ap (λ (ss : List Shelf). first_key (opening_records form.places ss)) (ap shown still)) ∙ sym (ap (λ (xs : List Place). first_key (opening_records xs (shown mid))) same) ∙ found
+    sym (ap (λ (ss : List Shelf). first_key (opening_records form.catalog form.places ss)) (ap shown still)) ∙ sym (ap (λ (xs : List Place). first_key (opening_records form.catalog xs (shown mid))) same) ∙ found
 
 -- a script that was read, and what is so of it where the stores of its tables tell
 pub read_and : {t u : ℕ → Type 0} (P Q : Script → Type 0) (form : AccountForm) (old new : Option (List ℕ)) (names : List Name) (before mid : List Counted) → names ≡ names_of mid → mid ≡ before → ((i : ℕ) → t i → u i) → IsFormRead names old new form → (TellOf (script_of form) mid u → P (script_of form)) → (P (script_of form) → Q (script_of form))
@@ -198,8 +218,8 @@ front_of script before mid closing text bytes old new same is w told =
     }
 
 -- what stopped a script that was read
-pub found_of : (script : Script) (before mid : List Counted) (key : Key) → mid ≡ before → first_key (opening_records script.places (shown mid)) ≡ Some key → first_key (opening_records script.places (shown before)) ≡ Some key
-found_of script before mid key same found = sym (ap (λ (ss : List Counted). first_key (opening_records script.places (shown ss))) same) ∙ found
+pub found_of : (script : Script) (before mid : List Counted) (key : Key) → mid ≡ before → first_key (opening_records script.catalog script.places (shown mid)) ≡ Some key → first_key (opening_records script.catalog script.places (shown before)) ≡ Some key
+found_of script before mid key same found = sym (ap (λ (ss : List Counted). first_key (opening_records script.catalog script.places (shown ss))) same) ∙ found
 
 pub stops_found : (old new : List Counted) (foreign : Type 0) (found : Key → Type 0) (s : Status) (key : Key) → Stops old new foreign found s → s ≡ status.NotEmpty key → found key
 stops_found old new foreign found s key h is = subst (Stops old new foreign found) is h

@@ -15,10 +15,9 @@ use Rattle.sdb_model.specs.declared.script.Place.{Place}
 use Rattle.sdb_model.specs.declared.event.Outcome.{Outcome}
 use Rattle.sdb_model.specs.declared.script.Script.{Script}
 use Rattle.sdb_model.specs.Events.{Shelf}
-use Rattle.sdb_model.specs.Form.{client_script, placed_script}
 use Rattle.sdb_model.specs.Rows.{Name}
 use Rattle.sdb_script.specs.declared.drawing.AccountForm.{AccountForm}
-use Rattle.sdb_script.specs.Accounts.{IsAccountScript, IsNotPlayed, IsFormOf, most_script_bytes}
+use Rattle.sdb_script.specs.Accounts.{IsAccountScript, IsNotPlayed, IsFormOf, most_script_bytes, script_of_client}
 use Rattle.sdb_app.specs.declared.status.Status.{Status}
 use Rattle.sdb_app.specs.declared.status.Status.TheVariants as status
 use Rattle.sdb_model.specs.Report.{report_text_of}
@@ -45,7 +44,7 @@ TellOf script shelves tells =
 -- The tables of a script were empty, and one outcome is that of a run that follows it, from what the stores held at the entry
 -- to what they hold at the exit.
 pub record IsPlayed (script : Script) (opening closing : List Shelf) (outcome : Outcome) : Type 0 where
-  pub empty : first_key (opening_records script.places opening) ≡ None
+  pub empty : first_key (opening_records script.catalog script.places opening) ≡ None
   pub run : IsRun script opening closing outcome
 
 -- A script was played, and its report was written, whole and nothing else.
@@ -77,7 +76,7 @@ IsFrontWritten old tells new old_input new_input old_output new_output = IsReadA
 
 -- The key is that of the first record in the tables of the script.
 abbrev pub IsNotEmpty : List Counted → (ℕ → Type 0) → Option (List ℕ) → Option (List ℕ) → Key → Type 0
-IsNotEmpty old tells old_input new_input key = IsReadAnd old tells old_input new_input (λ script. first_key (opening_records script.places (shown old)) ≡ Some key)
+IsNotEmpty old tells old_input new_input key = IsReadAnd old tells old_input new_input (λ script. first_key (opening_records script.catalog script.places (shown old)) ≡ Some key)
 
 -- Some store of the script's tables does not tell what it holds.
 abbrev pub IsUntold : List Counted → (ℕ → Type 0) → Option (List ℕ) → Option (List ℕ) → Type 0
@@ -93,7 +92,7 @@ pub record IsRefused (stores : List Name) (old_input new_input : Option (List �
 
 -- The script of a form.
 abbrev pub script_of : AccountForm → Script
-script_of form = placed_script (client_script form.client) form.places
+script_of form = script_of_client form.places form.catalog form.client
 
 -- The input was read to its end and is this script.
 pub record IsFormRead (stores : List Name) (old_input new_input : Option (List ℕ)) (form : AccountForm) : Type 0 where
@@ -108,7 +107,7 @@ status_of refused.NoMemory = status.NoMemory
 
 -- the script of a form, with these places
 abbrev pub placed_form : AccountForm → List Place → Script
-placed_form form places = placed_script (client_script form.client) places
+placed_form form places = script_of_client places form.catalog form.client
 
 -- The text is the report of a run that follows the script.
 pub record IsTold (script : Script) (opening closing : List Shelf) (report : List ℕ) : Type 0 where
@@ -118,7 +117,7 @@ pub record IsTold (script : Script) (opening closing : List Shelf) (report : Lis
 
 -- The tables of the script were empty, and the text is its report.
 pub record IsReported (script : Script) (opening closing : List Shelf) (report : List ℕ) : Type 0 where
-  pub empty : first_key (opening_records script.places opening) ≡ None
+  pub empty : first_key (opening_records script.catalog script.places opening) ≡ None
   pub told : IsTold script opening closing report
 
 -- Why a script was not played to its end.

@@ -4,13 +4,14 @@ ghost use Rattle.std.specs.FinMap as finite;
 ghost use Rattle.sdb_stores.specs.Shelf.{AreDistinct, names_of, total_faults};
 ghost use Rattle.sdb_script.specs.Accounts.{IsFormOf};
 ghost use Rattle.sdb_spread.specs.Spread.{HoldAs};
-ghost use Rattle.sdb_play.specs.Board.{AreFit, GoOn, Refuses, catalog, placed, shown};
+ghost use Rattle.sdb_play.specs.Board.{AreFit, GoOn, Refuses, placed, shown};
 ghost use Rattle.sdb_play.specs.Opening.{first_key, opening_records};
 ghost use Rattle.sdb_app.specs.Run.{TellOf, IsReported, IsTold, Stops, placed_form, script_of};
 
 use crate::places::place_all;
 use crate::status::Status;
 use sdb_play::{PlayRefused, first_record, outcome, play};
+use sdb_schema::Catalog;
 use sdb_script::{AccountForm, report_text};
 use sdb_stores::Registry;
 use sdb_types::{NoMemory, Txt};
@@ -43,14 +44,14 @@ impl From<PlayRefused> for Status {
 }
 
 // Sees to it that the tables of a script are empty.
-fn be_empty<R: Registry>(alloc: Global, stores: &mut R) -> Result<(), Status>
+fn be_empty<R: Registry>(alloc: Global, stores: &mut R, catalog: &Catalog) -> Result<(), Status>
     requires some { 0 < length (R.shelves stores.old) }
-    ensures empty { OnOk result (AreFit (R.places stores.old) (R.shelves stores.old) (R.tells stores.old) → first_key (opening_records (placed (R.places stores.old)) (shown (R.shelves stores.old))) ≡ None) }
-    ensures still { OnOk result (AreFit (R.places stores.old) (R.shelves stores.old) (R.tells stores.old) → shown (R.shelves stores.new) ≡ shown (R.shelves stores.old)) }
+    ensures empty { OnOk result (AreFit catalog.now (R.places stores.old) (R.shelves stores.old) (R.tells stores.old) → first_key (opening_records catalog.now (placed (R.places stores.old)) (shown (R.shelves stores.old))) ≡ None) }
+    ensures still { OnOk result (AreFit catalog.now (R.places stores.old) (R.shelves stores.old) (R.tells stores.old) → shown (R.shelves stores.new) ≡ shown (R.shelves stores.old)) }
     ensures goes { GoOn (R.places stores.old) (R.places stores.new) (R.shelves stores.old) (R.shelves stores.new) (R.tells stores.old) (R.tells stores.new) }
-    ensures err { IfErr result (Stops (R.shelves stores.old) (R.shelves stores.new) ⊥ (λ key. AreFit (R.places stores.old) (R.shelves stores.old) (R.tells stores.old) → first_key (opening_records (placed (R.places stores.old)) (shown (R.shelves stores.old))) ≡ Some key)) }
+    ensures err { IfErr result (Stops (R.shelves stores.old) (R.shelves stores.new) ⊥ (λ key. AreFit catalog.now (R.places stores.old) (R.shelves stores.old) (R.tells stores.old) → first_key (opening_records catalog.now (placed (R.places stores.old)) (shown (R.shelves stores.old))) ≡ Some key)) }
 {
-    match first_record(alloc, stores)? {
+    match first_record(alloc, stores, catalog)? {
         None => Ok(()),
         Some(key) => Err(Status::NotEmpty(key)),
     }
@@ -60,12 +61,12 @@ fn be_empty<R: Registry>(alloc: Global, stores: &mut R) -> Result<(), Status>
 fn tell<R: Registry>(alloc: Global, stores: &mut R, form: &AccountForm) -> Result<Txt, PlayRefused>
     requires some { 0 < length (R.shelves stores.old) }
     requires form { IsFormOf (names_of (R.shelves stores.old)) form.now }
-    ensures told { IfOk result (λ text. AreFit (R.places stores.old) (R.shelves stores.old) (R.tells stores.old) → HoldAs catalog (placed (R.places stores.old)) (shown (R.shelves stores.old)) finite.empty → IsTold (placed_form form.now (placed (R.places stores.old))) (shown (R.shelves stores.old)) (shown (R.shelves stores.new)) text) }
+    ensures told { IfOk result (λ text. AreFit form.now.catalog (R.places stores.old) (R.shelves stores.old) (R.tells stores.old) → HoldAs form.now.catalog (placed (R.places stores.old)) (shown (R.shelves stores.old)) finite.empty → IsTold (placed_form form.now (placed (R.places stores.old))) (shown (R.shelves stores.old)) (shown (R.shelves stores.new)) text) }
     ensures goes { GoOn (R.places stores.old) (R.places stores.new) (R.shelves stores.old) (R.shelves stores.new) (R.tells stores.old) (R.tells stores.new) }
-    ensures err { IfErr result (Refuses (AreFit (R.places stores.old) (R.shelves stores.old) (R.tells stores.old) → HoldAs catalog (placed (R.places stores.old)) (shown (R.shelves stores.old)) finite.empty → ⊥) (R.shelves stores.old) (R.shelves stores.new)) }
+    ensures err { IfErr result (Refuses (AreFit form.now.catalog (R.places stores.old) (R.shelves stores.old) (R.tells stores.old) → HoldAs form.now.catalog (placed (R.places stores.old)) (shown (R.shelves stores.old)) finite.empty → ⊥) (R.shelves stores.old) (R.shelves stores.new)) }
 {
     let log = play(alloc, stores, &form.client.statements, &form.statements)?;
-    let outcome = outcome(alloc, stores, log)?;
+    let outcome = outcome(alloc, stores, &form.catalog, log)?;
     Ok(report_text(alloc, &outcome)?)
 }
 
@@ -78,9 +79,9 @@ pub fn replay<R: Registry>(alloc: Global, stores: &mut R, form: &AccountForm) ->
     ensures report { IfOk result (λ text. TellOf (script_of form.now) (R.shelves stores.old) (R.tells stores.old) → IsReported (script_of form.now) (shown (R.shelves stores.old)) (shown (R.shelves stores.new)) text) }
     ensures names { names_of (R.shelves stores.new) ≡ names_of (R.shelves stores.old) }
     ensures counted { total_faults (R.shelves stores.old) ≤ total_faults (R.shelves stores.new) }
-    ensures err { IfErr result (Stops (R.shelves stores.old) (R.shelves stores.new) (TellOf (script_of form.now) (R.shelves stores.old) (R.tells stores.old) → ⊥) (λ key. TellOf (script_of form.now) (R.shelves stores.old) (R.tells stores.old) → first_key (opening_records form.now.places (shown (R.shelves stores.old))) ≡ Some key)) }
+    ensures err { IfErr result (Stops (R.shelves stores.old) (R.shelves stores.new) (TellOf (script_of form.now) (R.shelves stores.old) (R.tells stores.old) → ⊥) (λ key. TellOf (script_of form.now) (R.shelves stores.old) (R.tells stores.old) → first_key (opening_records form.now.catalog form.now.places (shown (R.shelves stores.old))) ≡ Some key)) }
 {
     place_all(stores, &form.places)?;
-    be_empty(alloc, stores)?;
+    be_empty(alloc, stores, &form.catalog)?;
     Ok(tell(alloc, stores, form)?)
 }

@@ -11,7 +11,7 @@ returns-in-Err-replay-clause-not_empty g c = λ key is.
     let before = g.S.Registry.shelves c.args.stores.now in
     let mid = g.S.Registry.shelves c.clear_places.new.self in
     let form = c.in-Ok-read_script.form in
-    read_and (λ (s : Script). first_key (opening_records s.places (shown mid)) ≡ Some key) (λ (s : Script). first_key (opening_records s.places (shown before)) ≡ Some key) form _ _ c.in-Ok.names before mid c.in-Ok.ensures.names c.clear_places.ensures.stores c.clear_places.ensures.telling c.in-Ok-read_script.ensures.read
+    read_and (λ (s : Script). first_key (opening_records s.catalog s.places (shown mid)) ≡ Some key) (λ (s : Script). first_key (opening_records s.catalog s.places (shown before)) ≡ Some key) form _ _ c.in-Ok.names before mid c.in-Ok.ensures.names c.clear_places.ensures.stores c.clear_places.ensures.telling c.in-Ok-read_script.ensures.read
     (stops_found mid (g.S.Registry.shelves c.replay.new.stores) _ _ c.in-Err-replay.status key c.in-Err-replay.ensures.err is) (found_of (script_of form) before mid key c.clear_places.ensures.stores)
 
 pub returns-in-Err-replay-clause-bad_store : goal.returns-in-Err-replay-clause-bad_store

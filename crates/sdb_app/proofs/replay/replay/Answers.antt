@@ -27,11 +27,11 @@ returns-in_err-tell-clause-err g c =
     let then = g.R.Registry.shelves c.be_empty.new.stores in
     let new = g.R.Registry.shelves c.tell.new.stores in
     let empty = c.in_ok-be_empty.ensures in
-    let found = λ (key : Key). TellOf (script_of c.args.form.now) old (g.R.Registry.tells c.args.stores.now) → first_key (opening_records c.args.form.now.places (shown old)) ≡ Some key in
+    let found = λ (key : Key). TellOf (script_of c.args.form.now) old (g.R.Registry.tells c.args.stores.now) → first_key (opening_records c.args.form.now.catalog c.args.form.now.places (shown old)) ≡ Some key in
     let stopped = refused_after ps qs mid then new _ (TellOf (script_of c.args.form.now) old (g.R.Registry.tells c.args.stores.now) → ⊥) c.in_err-tell.field-0.0 empty.goes
     (λ never all.
     let fit = fit_form c.args.form.now ps old mid c.in_ok-place_all.ensures.places c.place_all.ensures.stores c.requires.form c.requires.some c.requires.distinct c.place_all.ensures.telling all in
-    never_foreign ps qs mid then empty.goes fit (empty.empty fit) (empty.still fit) never)
+    never_foreign c.args.form.now.catalog ps qs mid then empty.goes fit (empty.empty fit) (empty.still fit) never)
     c.in_err-tell.ensures.err in
     subst (λ (ss : List Shelf). IfErr c.from_residual-in_err-tell.result (Stops ss new (TellOf (script_of c.args.form.now) old (g.R.Registry.tells c.args.stores.now) → ⊥) found)) c.place_all.ensures.stores
     (stopped_on mid new _ _ found c.from_residual-in_err-tell.result c.in_err-tell.field-0.0 c.from_residual-in_err-tell.ensures.1 (λ x. x) stopped)

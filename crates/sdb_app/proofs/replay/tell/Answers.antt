@@ -1,11 +1,16 @@
 use Rattle.std.proofs.Common.{false}
 use Rattle.sdb_stores.specs.Shelf.{names_of}
-use Rattle.sdb_play.proofs.Refusals.{passed, refused_after}
+use Rattle.sdb_play.proofs.Refusals.{passed, refused_after, refused_as}
 use Rattle.sdb_app.proofs.Headline.{built_taken, told_by, no_foreign}
 use Rattle.sdb_app.proofs.replay.tell.Goals as goal
 
 pub play-requires-clause-built : goal.play-requires-clause-built
 play-requires-clause-built g c = built_taken false c.args.form.now.statements c.requires.form.built
+
+pub returns-in_err-log-clause-err : goal.returns-in_err-log-clause-err
+returns-in_err-log-clause-err g c =
+    passed _ c.from_residual-in_err-log.result c.in_err-log.field-0.0 c.from_residual-in_err-log.ensures.1
+    (refused_as (g.R.Registry.shelves c.args.stores.now) (g.R.Registry.shelves c.play.new.stores) _ _ c.in_err-log.field-0.0 (λ never fit holds. never c.args.form.now.catalog c.requires.form.fit fit holds) c.in_err-log.ensures.err)
 
 pub returns-in_err-outcome-clause-err : goal.returns-in_err-outcome-clause-err
 returns-in_err-outcome-clause-err g c =
