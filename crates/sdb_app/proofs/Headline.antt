@@ -11,7 +11,7 @@ use Rattle.sdb_types.specs.Bytes.{Appends}
 use Rattle.sdb_record.specs.Coordinator.{coordinator_table}
 use Rattle.sdb_record.specs.Rolls.{IsBaseOf}
 use Rattle.sdb_schema.specs.declared.table.Table.{Table}
-use Rattle.sdb_stores.specs.Shelf.{Shelf as Counted, AreDistinct, names_of, total_faults}
+use Rattle.sdb_stores.specs.Shelf.{Shelf as Counted, AreDistinct, names_of}
 use Rattle.sdb_stores.specs.declared.place.Place.{Place as Placed}
 use Rattle.sdb_model.specs.declared.event.Event.{Event}
 use Rattle.sdb_model.specs.declared.event.Outcome.{Outcome}
@@ -40,7 +40,6 @@ use Rattle.sdb_play.specs.Played.{IsPlayedOn}
 use Rattle.sdb_play.specs.declared.refused.PlayRefused.{PlayRefused}
 use Rattle.sdb_play.specs.declared.refused.PlayRefused.TheVariants as refused
 use Rattle.sdb_play.proofs.Empty.{no_record}
-use Rattle.sdb_play.proofs.Refusals.{refused_after}
 use Rattle.sdb_play.proofs.Rows.{committed_rows}
 use Rattle.sdb_app.specs.declared.status.Status.{Status}
 use Rattle.sdb_app.specs.declared.status.Status.TheVariants as status

@@ -99,6 +99,22 @@ pub record IsFormRead (stores : List Name) (old_input new_input : Option (List �
   pub read : IsScriptRead stores old_input new_input (script_of form)
   pub statements : IsFormOf stores form
 
+-- Bytes that were read of the input: all of it, or more than are read of a script.
+abbrev pub IsTextRead : List ℕ → Option (List ℕ) → Option (List ℕ) → Type 0
+IsTextRead text old_input new_input = Takes text old_input new_input × (IsAtEnd new_input ⊎ (most_script_bytes < length text))
+
+-- the endings while reading
+abbrev pub stops_reading : Status → Bool
+stops_reading status.ReadFault = true
+stops_reading status.NoMemory = true
+stops_reading _ = false
+
+-- the endings while building
+abbrev pub stops_building : Status → Bool
+stops_building (status.NotBuilt n) = true
+stops_building status.NoMemory = true
+stops_building _ = false
+
 -- how the program ends where playing was refused
 abbrev pub status_of : PlayRefused → Status
 status_of refused.StoreFault = status.StoreFault

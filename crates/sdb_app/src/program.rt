@@ -3,7 +3,8 @@ ghost use Rattle.std.specs.Prelude.{◌≡◌, ◌↔◌, ◌<◌, ◌≤◌, �
 ghost use Rattle.sdb_types.specs.declared.key.Key.{Key};
 ghost use Rattle.sdb_types.specs.Bytes.{HasRisen};
 ghost use Rattle.sdb_stores.specs.Shelf.{HaveRisen, names_of, total_faults};
-ghost use Rattle.sdb_app.specs.Run.{is_replay as is_replay_lem, IsReplayed, IsFrontWritten, IsNotEmpty, IsUntold, IsRefused, IsFormRead, refuses_input, writes_nothing};
+ghost use Rattle.sdb_app.specs.Run.{is_replay as is_replay_lem, IsReplayed, IsFrontWritten, IsNotEmpty, IsUntold, IsRefused, IsFormRead, IsTextRead, refuses_input, script_of, stops_building, stops_reading, writes_nothing};
+ghost use Rattle.sdb_script.specs.Accounts.{IsAccountScript, IsFormOf, IsNotPlayed};
 
 use crate::replay::replay;
 use crate::status::Status;
@@ -22,6 +23,35 @@ fn is_replay(words: &[String]) -> bool
     }
 }
 
+// The bytes of the input: all, or more than are read of a script.
+fn read_bytes<R: Source>(alloc: Global, input: &mut R) -> Result<Vec<u8>, Status>
+    ensures read { IfOk result (λ bytes. IsTextRead bytes.items (R.remaining input.old) (R.remaining input.new)) }
+    ensures read_fault { IsErrOf result Status.ReadFault → HasRisen (R.faults input.old) (R.faults input.new) }
+    ensures kinds { IfErr result (λ status. stops_reading status ≡ true) }
+    ensures counted { R.faults input.old ≤ R.faults input.new }
+{
+    match read_input(alloc, input, MOST_SCRIPT_BYTES) {
+        Ok(Input::Whole(bytes)) => Ok(bytes),
+        Ok(Input::Longer(bytes)) => Ok(bytes),
+        Err(ReadRefused::Failed) => Err(Status::ReadFault),
+        Err(ReadRefused::NoMemory) => Err(Status::NoMemory),
+    }
+}
+
+// The script over stores of these names that bytes are, or how the program ends without one.
+fn form_of(alloc: Global, bytes: &[u8], stores: &Names) -> Result<AccountForm, Status>
+    ensures form { IfOk result (λ form. IsAccountScript stores.now bytes.now (script_of form)) }
+    ensures statements { IfOk result (IsFormOf stores.now) }
+    ensures not_built { (n : ℕ) → IsErrOf result (Status.NotBuilt n) → IsNotPlayed stores.now bytes.now n }
+    ensures kinds { IfErr result (λ status. stops_building status ≡ true) }
+{
+    match read_account_script(alloc, bytes, stores) {
+        Ok(form) => Ok(form),
+        Err(FormRefused::NotBuilt(n)) => Err(Status::NotBuilt(n)),
+        Err(FormRefused::NoMemory) => Err(Status::NoMemory),
+    }
+}
+
 // Reads a script over stores of these names, or says how the program ends without one.
 fn read_script<R: Source>(
     alloc: Global,
@@ -34,17 +64,8 @@ fn read_script<R: Source>(
     ensures kinds { IfErr result (λ status. refuses_input status ≡ true) }
     ensures counted { R.faults input.old ≤ R.faults input.new }
 {
-    let bytes = match read_input(alloc, input, MOST_SCRIPT_BYTES) {
-        Ok(Input::Whole(bytes)) => bytes,
-        Ok(Input::Longer(bytes)) => bytes,
-        Err(ReadRefused::Failed) => return Err(Status::ReadFault),
-        Err(ReadRefused::NoMemory) => return Err(Status::NoMemory),
-    };
-    match read_account_script(alloc, &bytes, stores) {
-        Ok(form) => Ok(form),
-        Err(FormRefused::NotBuilt(n)) => Err(Status::NotBuilt(n)),
-        Err(FormRefused::NoMemory) => Err(Status::NoMemory),
-    }
+    let bytes = read_bytes(alloc, input)?;
+    form_of(alloc, &bytes, stores)
 }
 
 /// Runs the program on its words, those after its name, and on the stores of a registry, at least one.

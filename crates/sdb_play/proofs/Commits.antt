@@ -1,10 +1,10 @@
 -- The calls of a COMMIT, one after the other.
-use Rattle.std.proofs.Common.{◌≡◌, ◌∙◌, ℕ, ◌<◌, true, List, [], ◌∷◌, ◌++◌, length, drop, Option, Some, None, refl, sym, ap, subst}
+use Rattle.std.proofs.Common.{◌≡◌, ◌∙◌, ℕ, ◌<◌, true, List, [], ◌∷◌, ◌++◌, length, drop, Option, Some, refl, sym, ap, subst}
 use Rattle.std.specs.List.{slice_get}
 use Rattle.std.proofs.lemmas.List.{append-nil}
 use Rattle.sdb_types.specs.declared.record.Request.{Request}
 use Rattle.sdb_types.specs.declared.record.Reply.{Reply}
-use Rattle.sdb_types.specs.Contents.{Contents, reply_to, after}
+use Rattle.sdb_types.specs.Contents.{Contents, after}
 use Rattle.sdb_schema.specs.declared.table.Table.{Table}
 use Rattle.sdb_stores.specs.Shelf.{Shelf as Counted}
 use Rattle.sdb_stores.specs.declared.place.Place.{Place as Placed}
@@ -14,12 +14,12 @@ use Rattle.sdb_model.specs.declared.script.Place.{Place}
 use Rattle.sdb_model.specs.Events.{Shelf, table_asked}
 use Rattle.sdb_txn.specs.declared.txn.Progress.{Progress}
 use Rattle.sdb_txn.specs.declared.txn.Stage.TheVariants as stage
-use Rattle.sdb_txn.specs.Txn.{Working, IsWished, progress_of, advanced, gone_on}
+use Rattle.sdb_txn.specs.Txn.{Working, progress_of, advanced, gone_on}
 use Rattle.sdb_session.specs.Session.{call_event, after_all, commit_events, AreWished}
 use Rattle.sdb_spread.specs.Spread.{AreAbout, HoldAs, is_played}
 use Rattle.sdb_play.specs.Board.{AreFit, GoOn, IsHeard, IsOn, placed, shown}
 use Rattle.sdb_play.specs.Played.{IsForeignCall, answer_of_progress}
-use Rattle.sdb_play.proofs.CallSteps.{Keeps, kept, first_left, some_left, none_left, wished, moved_on, goes_on}
+use Rattle.sdb_play.proofs.CallSteps.{Keeps, kept, first_left, wished, moved_on, goes_on}
 use Rattle.sdb_play.proofs.Heard.{called_on}
 
 -- Where the calls stand behind some of them.

@@ -1,5 +1,5 @@
 -- Stores whose tables hold no record.
-use Rattle.std.proofs.Common.{◌≡◌, ◌∙◌, ◌⊎◌, inl, inr, ℕ, zero, suc, ◌+◌, ◌<◌, ◌≤◌, Bool, true, List, [], ◌∷◌, ◌++◌, length, take, get_or, Option, Some, None, refl, sym, ap, subst}
+use Rattle.std.proofs.Common.{◌≡◌, ◌∙◌, inl, inr, ℕ, zero, suc, ◌+◌, ◌<◌, ◌≤◌, Bool, true, List, [], ◌∷◌, ◌++◌, length, take, get_or, Option, Some, None, refl, sym, ap, subst}
 use Rattle.std.specs.Prelude.{◌&&◌, slice_get}
 use Rattle.std.specs.FinMap.{empty, get-empty}
 use Rattle.std.specs.List.{AllByRecursion, flat_map}
@@ -15,7 +15,7 @@ use Rattle.sdb_types.specs.declared.record.Record.{Record}
 use Rattle.sdb_types.specs.declared.record.Request.TheVariants as ask
 use Rattle.sdb_types.specs.declared.record.Reply.{Reply}
 use Rattle.sdb_types.specs.declared.record.Reply.TheVariants as reply
-use Rattle.sdb_types.specs.Contents.{Contents, record_at, record_of, rows_in, in_span, apply}
+use Rattle.sdb_types.specs.Contents.{Contents, record_at, record_of, rows_in, in_span}
 use Rattle.sdb_types.specs.Order.{key_cmp}
 use Rattle.sdb_types.proofs.KeyOrder.{table_total}
 use Rattle.sdb_laws.specs.Lawful.{row_among}
@@ -24,7 +24,7 @@ use Rattle.sdb_schema.specs.declared.table.Table.{Table}
 use Rattle.sdb_stores.specs.Shelf.{Shelf as Counted}
 use Rattle.sdb_stores.specs.declared.place.Place.{Place as Placed}
 use Rattle.sdb_model.specs.declared.script.Place.{Place}
-use Rattle.sdb_model.specs.Events.{Shelf, held_by, store_of, standing}
+use Rattle.sdb_model.specs.Events.{Shelf, held_by, store_of}
 use Rattle.sdb_session.specs.Session.{whole}
 use Rattle.sdb_spread.specs.Spread.{HoldAs, is_played}
 use Rattle.sdb_spread.proofs.Calls.{called}

@@ -29,7 +29,6 @@ use Rattle.sdb_script.specs.Accounts.{account_text, fits_account, has_accounts, 
 use Rattle.sdb_txn.specs.Commit.{Noted, write_at}
 use Rattle.sdb_types.specs.declared.record.Request.{Request}
 use Rattle.sdb_txn.specs.declared.txn.Stage.{Stage}
-use Rattle.sdb_txn.specs.declared.txn.Progress.{Progress}
 use Rattle.sdb_txn.specs.declared.txn.Progress.TheVariants as progress
 use Rattle.sdb_txn.specs.Txn.{IsWishedOf, Working, got, got_of, got_after, asking, images_seen, is_known, found_at, base_at, row_with, row_seen, images_with, noted}
 use Rattle.sdb_script.specs.declared.account.AccountStatement.TheVariants as account

@@ -1,7 +1,7 @@
 -- Why a run stopped, as the calls around the one that stopped it have it.
-use Rattle.std.proofs.Common.{◌≡◌, ◌⊎◌, Result, Ok, Err, IfErr, sym, subst, ℕ, ◌+◌, ◌^◌, ◌<◌, ◌≤◌, List, inl, inr, arith}
+use Rattle.std.proofs.Common.{◌≡◌, Result, Ok, Err, IfErr, sym, subst, ℕ, List, inl, inr, arith}
 use Rattle.std.specs.Prelude.{OnOk, IsErrAnd}
-use Rattle.sdb_stores.specs.Shelf.{Shelf as Counted, HaveRisen, total_faults}
+use Rattle.sdb_stores.specs.Shelf.{Shelf as Counted, HaveRisen}
 use Rattle.sdb_stores.specs.declared.place.Place.{Place as Placed}
 use Rattle.sdb_play.specs.Board.{GoOn, Refuses}
 use Rattle.sdb_play.specs.declared.refused.PlayRefused.{PlayRefused}

@@ -1,10 +1,9 @@
 -- The stores of a registry, as the stores of events.
-use Rattle.std.proofs.Common.{◌≡◌, ◌≢◌, ℕ, zero, suc, ◌+◌, ◌<◌, ◌≤◌, Bool, true, false, cond, List, [], ◌∷◌, length, map, Option, Some, None, inl, inr, refl, sym, ap, subst, ◌∙◌, arith, slice_set, get_or}
-use Rattle.std.specs.Prelude.{slice_get, find, is_some, IsSome, IfSome, if◌then◌else◌}
-use Rattle.std.specs.List.{position}
+use Rattle.std.proofs.Common.{◌≡◌, ◌≢◌, ℕ, zero, suc, ◌<◌, Bool, true, false, List, [], ◌∷◌, length, Option, Some, None, refl, sym, ap, ◌∙◌, arith, slice_set, get_or}
+use Rattle.std.specs.Prelude.{slice_get, find, IsSome, IfSome}
 use Rattle.std.specs.Option.{option_map, option_map_or}
 use Rattle.std.specs.Str.{bytes_eq}
-use Rattle.std.proofs.lemmas.List.{length-map, map-set}
+use Rattle.std.proofs.lemmas.List.{length-map}
 use Rattle.std.proofs.lemmas.List.Quantifiers.{position-Some}
 use Rattle.std.proofs.lemmas.Option.{slice_get-map, slice_get_within, slice_get-get_or, get_or_from_slice_get}
 use Rattle.std.proofs.lemmas.Slice.Eq.{bytes_eq-Decides}
@@ -12,10 +11,9 @@ use Rattle.sdb_types.specs.Contents.{Contents}
 use Rattle.sdb_record.proofs.NameLemmas.{same_name-itself, same_name-true}
 use Rattle.sdb_stores.specs.Shelf.{Shelf as Counted, AreDistinct, names_of, place_of, placed_on, home, home_of}
 use Rattle.sdb_stores.specs.declared.place.Place.{Place as Placed}
-use Rattle.sdb_stores.proofs.Called.{set_same}
 use Rattle.sdb_model.specs.declared.script.Place.{Place}
 use Rattle.sdb_model.specs.Rows.{Name, same_name}
-use Rattle.sdb_model.specs.Events.{Shelf, held_by, with_contents, first_name, store_of}
+use Rattle.sdb_model.specs.Events.{held_by, with_contents, first_name, store_of}
 use Rattle.sdb_play.specs.Board.{shown, placed}
 
 some_is : {A : Type 0} (x y : A) → Some x ≡ Some y → x ≡ y

@@ -1,5 +1,5 @@
 -- One statement more, on the stores.
-use Rattle.std.proofs.Common.{◌≡◌, ◌∙◌, ℕ, ℤ, ◌+◌, true, false, List, [], ◌∷◌, ◌++◌, length, Option, Some, None, refl, sym, ap, subst}
+use Rattle.std.proofs.Common.{◌≡◌, ◌∙◌, ℕ, ℤ, ◌+◌, List, [], ◌∷◌, ◌++◌, length, Option, Some, None, refl, sym, ap, subst}
 use Rattle.std.specs.List.{AllByRecursion}
 use Rattle.std.specs.Prelude.{IfSome}
 use Rattle.sdb_types.specs.declared.key.Key.{Key}
@@ -16,7 +16,7 @@ use Rattle.sdb_script.specs.Accounts.{account_text}
 use Rattle.sdb_script.specs.declared.account.AccountStatement.{AccountStatement}
 use Rattle.sdb_script.specs.declared.account.AccountStatement.TheVariants as account
 use Rattle.sdb_txn.specs.Txn.{Working, begun}
-use Rattle.sdb_session.specs.Session.{Session, session_of, take_event, commit_events, after_all, looked, committed_session, begun_session, taken_inside, taken_at, asked_at_commit, key_read, AreWished, IsReadyAt, IsReadyInside}
+use Rattle.sdb_session.specs.Session.{Session, session_of, take_event, commit_events, after_all, looked, committed_session, begun_session, taken_at, asked_at_commit, key_read, AreWished, IsReadyAt}
 use Rattle.sdb_spread.specs.Spread.{AreAbout, IsAbout}
 use Rattle.sdb_play.specs.Board.{IsOn}
 use Rattle.sdb_play.specs.Played.{IsAt}

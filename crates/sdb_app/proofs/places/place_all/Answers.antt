@@ -1,4 +1,4 @@
-use Rattle.std.proofs.Common.{◌≡◌, ◌∙◌, List, sym, ap, subst}
+use Rattle.std.proofs.Common.{◌∙◌, List, sym, subst}
 use Rattle.std.specs.Prelude.{IsSome}
 use Rattle.sdb_stores.specs.Shelf.{Shelf, names_of, place_of}
 use Rattle.sdb_app.proofs.Placing.{attached_at, free_at, placed_more}

@@ -1,4 +1,4 @@
-use Rattle.std.proofs.Common.{◌≡◌, ◌≢◌}
+use Rattle.std.proofs.Common.{◌≢◌}
 use Rattle.sdb_txn.specs.declared.txn.Progress.TheVariants as progress
 use Rattle.sdb_play.specs.Board.{placed, shown}
 use Rattle.sdb_play.proofs.Looks.{known_at, never_read, unknown_at, unknown_fine}

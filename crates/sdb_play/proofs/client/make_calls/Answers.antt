@@ -1,6 +1,5 @@
 use Rattle.std.proofs.Common.{◌≡◌, ◌∙◌, [], Some, sym}
 use Rattle.std.specs.List.{slice_get}
-use Rattle.sdb_play.specs.Board.{Refuses}
 use Rattle.sdb_play.proofs.CallSteps.{some_left, none_left}
 use Rattle.sdb_play.proofs.Commits.{carries_more, carried_all, foreign_call, stage_next}
 use Rattle.sdb_play.proofs.Heard.{goes_more, some_more}

@@ -1,6 +1,6 @@
-use Rattle.std.proofs.Common.{◌≡◌, ◌∙◌, ◌+◌, ◌<◌, ◌^◌, length, drop, List, Bool, true, sym, ap, subst, arith}
+use Rattle.std.proofs.Common.{◌∙◌, ◌+◌, ◌<◌, ◌^◌, length, drop, List, Bool, sym, ap, subst, arith}
 use Rattle.sdb_stores.specs.declared.place.Place.{Place}
-use Rattle.sdb_session.specs.Session.{Session, are_taken, is_open, opens, taken_at}
+use Rattle.sdb_session.specs.Session.{Session, are_taken, is_open, taken_at}
 use Rattle.sdb_play.specs.Board.{placed, shown}
 use Rattle.sdb_play.specs.Played.{IsAt}
 use Rattle.sdb_play.proofs.Heard.{goes_more, some_more}

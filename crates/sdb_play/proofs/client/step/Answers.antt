@@ -1,4 +1,4 @@
-use Rattle.std.proofs.Common.{◌≡◌, ◌∙◌, sym, ap, subst, Bool, true, false, not}
+use Rattle.std.proofs.Common.{◌≡◌, ◌∙◌, sym, subst, true, false}
 use Rattle.sdb_types.specs.declared.record.Reply.{Reply}
 use Rattle.sdb_txn.specs.Txn.{IsWished}
 use Rattle.sdb_play.specs.Board.{placed, shown}

@@ -1,4 +1,4 @@
-use Rattle.std.proofs.Common.{◌≡◌, ◌∙◌, Some, sym, ap}
+use Rattle.std.proofs.Common.{◌∙◌, ap}
 use Rattle.sdb_types.specs.Contents.{rows_in}
 use Rattle.sdb_session.specs.Session.{whole}
 use Rattle.sdb_play.specs.Closing.{first_unsettled}

@@ -1,5 +1,3 @@
-use Rattle.std.proofs.Common.{◌≡◌, ◌∙◌, sym, ap}
-use Rattle.sdb_play.specs.Deeds.{deed_event}
 use Rattle.sdb_play.proofs.Closings.{event_named}
 use Rattle.sdb_play.proofs.closing.event_of.Goals as goal
 
