@@ -1,8 +1,8 @@
-ghost use Rattle.std.specs.Prelude.{◌≡◌, true, IfOk};
-ghost use Rattle.sdb_schema.specs.Table.{is_table};
+ghost use Rattle.std.specs.Prelude.{◌≡◌, ◌≤◌, true, length, nat_le, IfOk};
+ghost use Rattle.sdb_schema.specs.Table.{are_short, is_table};
 
-use sdb_schema::{AddRefused, Catalog, Column, Kind, RowRefused, Table, TableRefused};
-use sdb_types::{Columns, Name, Seq, TableName, Txt, Value};
+use sdb_schema::{AddRefused, Catalog, Column, ColumnList, Kind, RowRefused, Table, TableRefused};
+use sdb_types::{Columns, Name, Names, Seq, TableName, Txt, Value};
 use std::alloc::{AllocError, Global};
 use std::test::Fail;
 
@@ -45,7 +45,31 @@ fn wants_listed_columns(rt: HostRuntime) -> Result<(), Fail> {
     Ok(())
 }
 
-// A table of this name with the key `k`, a TEXT, and `n`, a BIGINT.
+fn column(alloc: Global, name: &str, kind: Kind) -> Result<Column, Fail>
+    requires { length name.now ≤ 64 }
+    ensures { IfOk result (λ c. nat_le (length c.name) 64 ≡ true) }
+{
+    let name = Name::new(alloc, name)?;
+    Ok(Column { name, kind })
+}
+
+// `k`, a TEXT, and `n`, a BIGINT.
+fn columns(alloc: Global) -> Result<ColumnList, Fail>
+    ensures { IfOk result (λ cs. are_short cs ≡ true) }
+{
+    let mut columns = ColumnList::new(alloc);
+    columns.push(column(alloc, "k", Kind::Text)?)?;
+    columns.push(column(alloc, "n", Kind::BigInt)?)?;
+    Ok(columns)
+}
+
+fn names(alloc: Global, name: &str) -> Result<Names, Fail> {
+    let mut names = Names::new(alloc);
+    names.push(Name::new(alloc, name)?)?;
+    Ok(names)
+}
+
+// A table of this name with the key `k`.
 fn keyed(alloc: Global, name: &str) -> Result<Table, Fail>
     ensures { IfOk result (λ t. is_table t ≡ true) }
 {
@@ -53,21 +77,9 @@ fn keyed(alloc: Global, name: &str) -> Result<Table, Fail>
         ns: Name::new(alloc, "shop")?,
         table: Name::new(alloc, name)?,
     };
-    let mut columns = Seq::new(alloc);
-    for (column, kind) in [("k", Kind::Text), ("n", Kind::BigInt)] {
-        let name = Name::new(alloc, column)?;
-        columns.push(Column { name, kind })?;
-    }
-    let mut partition = Seq::new(alloc);
-    partition.push(Name::new(alloc, "k")?)?;
-    let table = Table::new(
-        alloc,
-        name,
-        columns,
-        partition,
-        Seq::new(alloc),
-        Seq::new(alloc),
-    )?;
+    let columns = columns(alloc)?;
+    let key = names(alloc, "k")?;
+    let table = Table::new(alloc, name, columns, key, Seq::new(alloc), Seq::new(alloc))?;
     Ok(table)
 }
 
