@@ -54,7 +54,7 @@ fn follow(alloc: Global, id: TxId, row: Record, aborted: DecideStep) -> DecideSt
                 ..
             },
         ) => aborted,
-        Err(_) => DecideStep::BadRecord(row.key),
+        Err(_) => DecideStep::BadRecord(row.into_key()),
     }
 }
 

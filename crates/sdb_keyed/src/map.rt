@@ -14,9 +14,14 @@ use std::marker::Model;
 ///
 /// `get` and `put` hash the key: they take constant time but for the key's length, as far as keys don't collide. The hasher
 /// has a fixed seed, so whoever chooses keys can make them collide.
-#[derive(Drop)]
 pub struct KeyMap<V> {
     entries: IndexMap<Key, V>,
+}
+
+impl<V: Drop> Drop for KeyMap<V> {
+    fn drop(self) {
+        let KeyMap { entries: _ } = self;
+    }
 }
 
 impl<V> Model for KeyMap<V> {

@@ -26,33 +26,74 @@ pub type Tests = Seq<Test>;
 /// The columns that UPDATE sets, each to a literal or to Null.
 pub type Sets = Seq<Pair>;
 
-#[derive(Debug, Drop, PartialEq, Eq)]
+#[derive(Debug, PartialEq, Eq)]
 pub struct Insert {
     pub table: TableName,
     pub columns: Names,
     pub values: Values,
 }
 
-#[derive(Debug, Drop, PartialEq, Eq)]
+// By hand: each drop is then one call, where a derived one stands at each place with a call for each field.
+impl Drop for Insert {
+    fn drop(self) {
+        let Insert {
+            table: _,
+            columns: _,
+            values: _,
+        } = self;
+    }
+}
+
+#[derive(Debug, PartialEq, Eq)]
 pub struct Update {
     pub table: TableName,
     pub sets: Sets,
     pub tests: Tests,
 }
 
-#[derive(Debug, Drop, PartialEq, Eq)]
+// By hand: each drop is then one call, where a derived one stands at each place with a call for each field.
+impl Drop for Update {
+    fn drop(self) {
+        let Update {
+            table: _,
+            sets: _,
+            tests: _,
+        } = self;
+    }
+}
+
+#[derive(Debug, PartialEq, Eq)]
 pub struct Delete {
     pub table: TableName,
     pub tests: Tests,
 }
 
+// By hand: each drop is then one call, where a derived one stands at each place with a call for each field.
+impl Drop for Delete {
+    fn drop(self) {
+        let Delete { table: _, tests: _ } = self;
+    }
+}
+
 /// The columns are none for `*`.
-#[derive(Debug, Drop, PartialEq, Eq)]
+#[derive(Debug, PartialEq, Eq)]
 pub struct Select {
     pub table: TableName,
     pub columns: Option<Names>,
     pub tests: Tests,
     pub limit: Option<i64>,
+}
+
+// By hand: each drop is then one call, where a derived one stands at each place with a call for each field.
+impl Drop for Select {
+    fn drop(self) {
+        let Select {
+            table: _,
+            columns: _,
+            tests: _,
+            limit: _,
+        } = self;
+    }
 }
 
 #[derive(Debug, Drop, PartialEq, Eq)]

@@ -103,7 +103,8 @@ impl Rows for Tree {
     }
 
     fn insert(&mut self, rec: Record) -> Result<(), NoMemory> {
-        let Record { key, columns } = rec;
+        let columns = rec.columns.copy()?;
+        let key = rec.into_key();
         self.rows.insert(key, columns)?;
         Ok(())
     }

@@ -111,7 +111,7 @@ fn starve(decide: &mut Decide) -> Told {
 
 // The row of a decision stands there.
 fn stand(alloc: Global, decide: &mut Decide, decision: Decision) -> Result<Told, NoMemory> {
-    meet(decide, coordinator_row(alloc, OWN, decision, 3)?.columns)
+    meet(decide, coordinator_row(alloc, OWN, decision, 3)?.columns.copy()?)
 }
 
 fn give(alloc: Global, decide: &mut Decide, answer: Answer) -> Result<Told, NoMemory> {

@@ -205,7 +205,7 @@ fn starve(run: &mut Run) -> Told {
 
 // The row of a decision stands there.
 fn stand(alloc: Global, run: &mut Run, decision: Decision) -> Result<Told, NoMemory> {
-    meet(run, coordinator_row(alloc, OTHER, decision, 1_020)?.columns)
+    meet(run, coordinator_row(alloc, OTHER, decision, 1_020)?.columns.copy()?)
 }
 
 fn give(alloc: Global, run: &mut Run, answer: Answer) -> Result<Told, NoMemory> {

@@ -53,7 +53,7 @@ fn conflict(asks: Requests, at: usize, found: Option<Record>) -> PrepareStep
     ensures { result ≡ refused (slice_get asks at) found }
 {
     match asks.into_vec().swap_remove(at) {
-        Request::PutIf(rec, _) => PrepareStep::Conflict(rec.key, found),
+        Request::PutIf(rec, _) => PrepareStep::Conflict(rec.into_key(), found),
         _ => PrepareStep::NoMemory,
     }
 }

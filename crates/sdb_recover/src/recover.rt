@@ -133,7 +133,7 @@ fn follow(alloc: Global, rec: &Record, meta: &Meta, row: Record) -> Next
                 ..
             },
         ) => goes_on(RecoverPhase::Back),
-        Err(_) => ends(RecoverStep::BadRecord(row.key)),
+        Err(_) => ends(RecoverStep::BadRecord(row.into_key())),
     }
 }
 

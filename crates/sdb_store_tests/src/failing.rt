@@ -43,8 +43,8 @@ fn fails_before_and_after_the_effect(rt: HostRuntime) -> Result<(), Failure> {
     let mut store = Ordered::new(alloc, failing_calls(alloc)?);
     let put_one = Request::PutIf(record_of(alloc, 1)?, Condition::Absent);
     let put_two = Request::PutIf(record_of(alloc, 2)?, Condition::Absent);
-    let get_one = Request::Get(record_of(alloc, 1)?.key);
-    let get_two = Request::Get(record_of(alloc, 2)?.key);
+    let get_one = Request::Get(record_of(alloc, 1)?.into_key());
+    let get_two = Request::Get(record_of(alloc, 2)?.into_key());
     expect(&rt, &mut store, &put_one, &Reply::Fault);
     expect(
         &rt,

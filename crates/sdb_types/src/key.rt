@@ -8,10 +8,17 @@ use crate::value::Values;
 use std::cmp::Ordering;
 
 /// A table's name: its namespace, and its own name.
-#[derive(Debug, Drop, PartialEq, Eq, PartialOrd, Ord, Hash)]
+#[derive(Debug, PartialEq, Eq, PartialOrd, Ord, Hash)]
 pub struct TableName {
     pub ns: Name,
     pub table: Name,
+}
+
+// By hand: each drop is then one call, where a derived one stands at each place with a call for each field.
+impl Drop for TableName {
+    fn drop(self) {
+        let TableName { ns: _, table: _ } = self;
+    }
 }
 
 impl Duplicate for TableName {
@@ -24,11 +31,22 @@ impl Duplicate for TableName {
 }
 
 /// A record's primary key: the values of its partition columns, and of its clustering columns.
-#[derive(Debug, Drop, PartialEq, Eq, PartialOrd, Ord, Hash)]
+#[derive(Debug, PartialEq, Eq, PartialOrd, Ord, Hash)]
 pub struct Key {
     pub table: TableName,
     pub partition: Values,
     pub clustering: Values,
+}
+
+// By hand: each drop is then one call, where a derived one stands at each place with a call for each field.
+impl Drop for Key {
+    fn drop(self) {
+        let Key {
+            table: _,
+            partition: _,
+            clustering: _,
+        } = self;
+    }
 }
 
 impl Duplicate for Key {

@@ -9,10 +9,17 @@ use crate::txid::TxId;
 use crate::value::Values;
 
 /// A record of a store. Its key columns stand in its key alone.
-#[derive(Debug, Drop, PartialEq, Eq)]
+#[derive(Debug, PartialEq, Eq)]
 pub struct Record {
     pub key: Key,
     pub columns: Columns,
+}
+
+// By hand: each drop is then one call, where a derived one stands at each place with a call for each field.
+impl Drop for Record {
+    fn drop(self) {
+        let Record { key: _, columns: _ } = self;
+    }
 }
 
 impl Duplicate for Record {
@@ -24,13 +31,33 @@ impl Duplicate for Record {
     }
 }
 
+impl Record {
+    /// The key alone.
+    pub fn into_key(self) -> Key
+        ensures { result ≡ self.key }
+    {
+        let Record { key, columns: _ } = self;
+        key
+    }
+}
+
 pub type Records = Seq<Record>;
 
 /// One partition of a table, or the whole table where no partition is named.
-#[derive(Debug, Drop, PartialEq, Eq)]
+#[derive(Debug, PartialEq, Eq)]
 pub struct Span {
     pub table: TableName,
     pub partition: Option<Values>,
+}
+
+// By hand: each drop is then one call, where a derived one stands at each place with a call for each field.
+impl Drop for Span {
+    fn drop(self) {
+        let Span {
+            table: _,
+            partition: _,
+        } = self;
+    }
 }
 
 impl Duplicate for Span {
