@@ -6,7 +6,7 @@ ghost use Rattle.sdb_codec.specs.Reading.{Gives, is_above as is_above_lem, colum
 
 use crate::fields::{name_of, sized_at, u16_at, value_at};
 use crate::refused::Stopped;
-use sdb_types::{Columns, Name, Pair, Seq, Value};
+use sdb_types::{Columns, Name, Pair, SharedSeq, Value};
 use std::alloc::Global;
 
 /// The name stands above the one before, if there is one.
@@ -39,9 +39,10 @@ fn column_name_at<'a>(
 fn column_value_at(alloc: Global, bytes: &[u8]) -> Result<(Value, &[u8]), Stopped>
     ensures { Gives (λ x. (x.0, x.1.now)) result (column_value_at_lem bytes.now) }
 {
-    match value_at(alloc, bytes)? {
-        (Value::Null, _) => Err(Stopped::Wrong(bytes.len())),
-        (value, rest) => Ok((value, rest)),
+    let (value, rest) = value_at(alloc, bytes)?;
+    match &value {
+        Value::Null => Err(Stopped::Wrong(bytes.len())),
+        _ => Ok((value, rest)),
     }
 }
 
@@ -58,10 +59,10 @@ fn pair_at<'a>(
     Ok((Pair { name, value }, rest))
 }
 
-fn pairs_after(alloc: Global, count: u16, bytes: &[u8]) -> Result<(Seq<Pair>, &[u8]), Stopped>
+fn pairs_after(alloc: Global, count: u16, bytes: &[u8]) -> Result<(SharedSeq<Pair>, &[u8]), Stopped>
     ensures { Gives (λ x. (x.0, x.1.now)) result (items_at pair_at_lem None count bytes.now) }
 {
-    let mut pairs = Seq::new(alloc);
+    let mut pairs = SharedSeq::new(alloc);
     let mut rest = bytes;
     for _ in 0..count {
         let (pair, after) = pair_at(alloc, pairs.last(), rest)?;

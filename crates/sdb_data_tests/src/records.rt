@@ -2,14 +2,14 @@ use sdb_record::{
     Change, Decision, MetaRefused, Write, committed_image, coordinator_key, coordinator_row,
     decision_of, expired, meta_of, prepared, rolled_back, rolled_forward,
 };
-use sdb_types::{Columns, Key, Name, Record, Seq, TableName, TxId, Txt, Value};
+use sdb_types::{Columns, Key, Name, Record, TableName, TxId, Txt, Value, Values};
 use std::alloc::Global;
 use std::test::Fail;
 
 const FIRST: TxId = TxId(0x1_0000_0000_0000_0001);
 
 fn key_of(alloc: Global) -> Result<Key, Fail> {
-    let mut partition = Seq::new(alloc);
+    let mut partition = Values::new(alloc);
     partition.push(Value::Int(1))?;
     Ok(Key {
         table: TableName {
@@ -17,7 +17,7 @@ fn key_of(alloc: Global) -> Result<Key, Fail> {
             table: Name::new(alloc, "account")?,
         },
         partition,
-        clustering: Seq::new(alloc),
+        clustering: Values::new(alloc),
     })
 }
 

@@ -1,7 +1,7 @@
 //! The writes of two clients to one account, and the records that they leave there.
 use sdb_lawful::prepared_if_sound;
 use sdb_record::{Change, Write, rolled_forward};
-use sdb_types::{Columns, Key, Name, Record, Seq, TableName, TxId, Value, Values};
+use sdb_types::{Columns, Key, Name, Record, TableName, TxId, Value, Values};
 use std::alloc::Global;
 use std::test::Fail;
 
@@ -26,7 +26,7 @@ pub fn table(alloc: Global) -> Result<TableName, Fail> {
 }
 
 fn numbers(alloc: Global, number: i32) -> Result<Values, Fail> {
-    let mut values = Seq::new(alloc);
+    let mut values = Values::new(alloc);
     values.push(Value::Int(number))?;
     Ok(values)
 }
@@ -37,7 +37,7 @@ pub fn account(alloc: Global) -> Result<Key, Fail> {
     Ok(Key {
         table,
         partition: numbers(alloc, 1)?,
-        clustering: Seq::new(alloc),
+        clustering: Values::new(alloc),
     })
 }
 

@@ -3,8 +3,8 @@ use sdb_model::{
     Answer, Refusal, Rows, answer_text, key_text, put_id, put_record, put_row, put_span, put_value,
 };
 use sdb_types::{
-    Columns, Key, Name, NameRefused, NoMemory, Octets, Record, Span, TableName, TxId, Txt, Value,
-    Values,
+    Columns, Duplicate, Key, Name, NameRefused, NoMemory, Octets, Record, Span, TableName, TxId,
+    Txt, Value, Values,
 };
 use std::alloc::Global;
 use std::process::Abort;
@@ -84,7 +84,7 @@ fn keys_and_spans_show(rt: HostRuntime) -> Result<(), Fail> {
     let shown = key_text(alloc, &key(alloc)?)?;
     assert_eq!(rt; shown.as_str(), "bank.item(1;2,'a')");
     let mut out = String::new(alloc);
-    let partition = Some(key(alloc)?.partition);
+    let partition = Some(key(alloc)?.partition.copy()?);
     put_span(
         &mut out,
         &Span {
@@ -123,8 +123,8 @@ fn rows_show(rt: HostRuntime) -> Result<(), Fail> {
     let alloc = rt.alloc();
     answer_shows(&rt, alloc, Answer::Rows(Rows::new(alloc)), "rows 0")?;
     let mut rows = Rows::new(alloc);
-    rows.push(key(alloc)?.partition)?;
-    rows.push(key(alloc)?.clustering)?;
+    rows.push(key(alloc)?.partition.copy()?)?;
+    rows.push(key(alloc)?.clustering.copy()?)?;
     answer_shows(&rt, alloc, Answer::Rows(rows), "rows 2 (1) (2,'a')")
 }
 

@@ -7,7 +7,7 @@ ghost use Rattle.sdb_ordered.specs.Start.{span_start};
 ghost use Rattle.sdb_types.specs.Contents.{record_at, in_span, rows_in, rows_among};
 
 use sdb_store::Rows;
-use sdb_types::{Columns, Duplicate, Key, NoMemory, Record, Records, Seq, Span};
+use sdb_types::{Columns, Duplicate, Key, NoMemory, Record, Records, Seq, Span, Values};
 use std::alloc::Global;
 use std::collections::BTreeMap;
 use std::marker::Model;
@@ -50,12 +50,12 @@ fn start_of(alloc: Global, span: &Span) -> Result<Key, NoMemory>
 {
     let partition = match &span.partition {
         Some(partition) => partition.copy()?,
-        None => Seq::new(alloc),
+        None => Values::new(alloc),
     };
     Ok(Key {
         table: span.table.copy()?,
         partition,
-        clustering: Seq::new(alloc),
+        clustering: Values::new(alloc),
     })
 }
 

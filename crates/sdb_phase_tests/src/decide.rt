@@ -5,8 +5,8 @@ ghost use Rattle.sdb_record.specs.Rolls.{IsWrite};
 use sdb_decide::{Abort, Commit, Decide, DecideStep};
 use sdb_record::{Change, Decision, Write, Writes, coordinator_row};
 use sdb_types::{
-    Columns, Condition, Duplicate, Key, Name, NoMemory, Record, Reply, Request, Seq, TableName,
-    TxId, Value,
+    Columns, Condition, Duplicate, Key, Name, NoMemory, Record, Reply, Request, TableName, TxId,
+    Value, Values,
 };
 use std::alloc::Global;
 use std::test::Fail;
@@ -111,7 +111,10 @@ fn starve(decide: &mut Decide) -> Told {
 
 // The row of a decision stands there.
 fn stand(alloc: Global, decide: &mut Decide, decision: Decision) -> Result<Told, NoMemory> {
-    meet(decide, coordinator_row(alloc, OWN, decision, 3)?.columns.copy()?)
+    meet(
+        decide,
+        coordinator_row(alloc, OWN, decision, 3)?.columns.copy()?,
+    )
 }
 
 fn give(alloc: Global, decide: &mut Decide, answer: Answer) -> Result<Told, NoMemory> {
@@ -247,7 +250,7 @@ fn row_is_looked_for_a_second_time(rt: HostRuntime) -> Result<(), NoMemory> {
 }
 
 fn key_of(alloc: Global, n: i32) -> Result<Key, Fail> {
-    let mut partition = Seq::new(alloc);
+    let mut partition = Values::new(alloc);
     partition.push(Value::Int(n))?;
     Ok(Key {
         table: TableName {
@@ -255,7 +258,7 @@ fn key_of(alloc: Global, n: i32) -> Result<Key, Fail> {
             table: Name::new(alloc, "account")?,
         },
         partition,
-        clustering: Seq::new(alloc),
+        clustering: Values::new(alloc),
     })
 }
 

@@ -5,7 +5,8 @@ ghost use Rattle.sdb_record.specs.Rolls.{IsWrite};
 use sdb_prepare::{Prepare, PrepareStep};
 use sdb_record::{Change, Write, Writes};
 use sdb_types::{
-    Columns, Condition, Duplicate, Key, Name, Record, Reply, Request, Seq, TableName, TxId, Value,
+    Columns, Condition, Duplicate, Key, Name, Record, Reply, Request, TableName, TxId, Value,
+    Values,
 };
 use std::alloc::Global;
 use std::test::Fail;
@@ -13,7 +14,7 @@ use std::test::Fail;
 const OWN: TxId = TxId(0x1_0000_0000_0000_0001);
 
 fn key_of(alloc: Global, n: i32) -> Result<Key, Fail> {
-    let mut partition = Seq::new(alloc);
+    let mut partition = Values::new(alloc);
     partition.push(Value::Int(n))?;
     Ok(Key {
         table: TableName {
@@ -21,7 +22,7 @@ fn key_of(alloc: Global, n: i32) -> Result<Key, Fail> {
             table: Name::new(alloc, "account")?,
         },
         partition,
-        clustering: Seq::new(alloc),
+        clustering: Values::new(alloc),
     })
 }
 

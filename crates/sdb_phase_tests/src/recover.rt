@@ -2,8 +2,8 @@
 use sdb_record::{Decision, coordinator_row, meta_of};
 use sdb_recover::{Recover, RecoverStep};
 use sdb_types::{
-    Columns, Condition, Duplicate, Key, Name, NoMemory, Record, Reply, Request, Seq, TableName,
-    TxId, Txt, Value,
+    Columns, Condition, Duplicate, Key, Name, NoMemory, Record, Reply, Request, TableName, TxId,
+    Txt, Value, Values,
 };
 use std::alloc::Global;
 use std::test::Fail;
@@ -45,7 +45,7 @@ enum Told {
 }
 
 fn key_of(alloc: Global) -> Result<Key, Fail> {
-    let mut partition = Seq::new(alloc);
+    let mut partition = Values::new(alloc);
     partition.push(Value::Int(1))?;
     Ok(Key {
         table: TableName {
@@ -53,7 +53,7 @@ fn key_of(alloc: Global) -> Result<Key, Fail> {
             table: Name::new(alloc, "account")?,
         },
         partition,
-        clustering: Seq::new(alloc),
+        clustering: Values::new(alloc),
     })
 }
 
@@ -205,7 +205,12 @@ fn starve(run: &mut Run) -> Told {
 
 // The row of a decision stands there.
 fn stand(alloc: Global, run: &mut Run, decision: Decision) -> Result<Told, NoMemory> {
-    meet(run, coordinator_row(alloc, OTHER, decision, 1_020)?.columns.copy()?)
+    meet(
+        run,
+        coordinator_row(alloc, OTHER, decision, 1_020)?
+            .columns
+            .copy()?,
+    )
 }
 
 fn give(alloc: Global, run: &mut Run, answer: Answer) -> Result<Told, NoMemory> {

@@ -2,6 +2,7 @@
 use sdb_record::{Change, Read, Reads, Scan, Scans, Write, Writes, version_of};
 use sdb_types::{
     Columns, Duplicate, Key, Name, Record, Reply, Request, Seq, Span, TableName, TxId, Value,
+    Values,
 };
 use sdb_validate::{Validate, ValidateStep, lies_in};
 use std::alloc::Global;
@@ -22,12 +23,12 @@ fn table_of(alloc: Global) -> Result<TableName, Fail> {
 }
 
 fn key_of(alloc: Global, n: i32) -> Result<Key, Fail> {
-    let mut partition = Seq::new(alloc);
+    let mut partition = Values::new(alloc);
     partition.push(Value::Int(n))?;
     Ok(Key {
         table: table_of(alloc)?,
         partition,
-        clustering: Seq::new(alloc),
+        clustering: Values::new(alloc),
     })
 }
 

@@ -7,7 +7,7 @@ ghost use Rattle.sdb_record.specs.Coordinator.{coordinator_table, coordinator_ke
 use crate::coordinator::{Decided, Decision};
 use crate::meta::{MetaRefused, moment_of, read_id, refused};
 use crate::part::{find_text, is_text, known_name};
-use sdb_types::{Columns, Key, NoMemory, Record, Seq, TableName, TxId, Value};
+use sdb_types::{Columns, Key, NoMemory, Record, TableName, TxId, Value, Values};
 use std::alloc::Global;
 
 fn decision_value(decision: Decision) -> i32
@@ -28,12 +28,12 @@ pub fn coordinator_key(alloc: Global, id: TxId) -> Result<Key, NoMemory>
         ns: known_name(alloc, "coordinator")?,
         table: known_name(alloc, "state")?,
     };
-    let mut partition = Seq::new(alloc);
+    let mut partition = Values::new(alloc);
     partition.push(Value::Text(id.text(alloc)?))?;
     Ok(Key {
         table,
         partition,
-        clustering: Seq::new(alloc),
+        clustering: Values::new(alloc),
     })
 }
 

@@ -29,7 +29,7 @@ fn account(alloc: Global, id: i32) -> Result<Key, Fail> {
 // The span of all accounts.
 fn accounts(alloc: Global) -> Result<Span, Fail> {
     Ok(Span {
-        table: account(alloc, 0)?.table,
+        table: account(alloc, 0)?.table.copy()?,
         partition: None,
     })
 }

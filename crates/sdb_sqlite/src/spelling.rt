@@ -7,7 +7,7 @@ ghost use Rattle.sdb_sqlite.specs.Spans.{partition_key as partition_key_lem};
 
 use crate::refused::Stopped;
 use sdb_codec::{key_has_spelling, write_key};
-use sdb_types::{Duplicate, Key, NoMemory, Octets, Seq, TableName, Values};
+use sdb_types::{Duplicate, Key, NoMemory, Octets, TableName, Values};
 use std::alloc::Global;
 
 /// A table's name as `ns.table`.
@@ -26,7 +26,7 @@ fn partition_key(alloc: Global, table: &TableName, partition: &Values) -> Result
     Ok(Key {
         table: table.copy()?,
         partition: partition.copy()?,
-        clustering: Seq::new(alloc),
+        clustering: Values::new(alloc),
     })
 }
 

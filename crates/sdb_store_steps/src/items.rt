@@ -1,7 +1,5 @@
 //! The records of the table.
-use sdb_types::{
-    Columns, Key, Name, NameRefused, Record, Seq, Span, TableName, TxId, Value, Values,
-};
+use sdb_types::{Columns, Key, Name, NameRefused, Record, Span, TableName, TxId, Value, Values};
 use std::alloc::Global;
 
 /// The transaction that each record is of.
@@ -16,7 +14,7 @@ pub struct Item {
 }
 
 fn values_of(alloc: Global, number: i32) -> Result<Values, NameRefused> {
-    let mut values = Seq::new(alloc);
+    let mut values = Values::new(alloc);
     values.push(Value::Int(number))?;
     Ok(values)
 }

@@ -1,13 +1,13 @@
 //! Calls that are told to fail.
 use sdb_ordered::Ordered;
 use sdb_store::{Fail, Fails, Store, call};
-use sdb_types::{Columns, Condition, Key, Name, Record, Reply, Request, Seq, TableName, Value};
+use sdb_types::{Columns, Condition, Key, Name, Record, Reply, Request, TableName, Value, Values};
 use std::alloc::Global;
 use std::process::Abort;
 use std::test::Fail as Failure;
 
 fn record_of(alloc: Global, number: i32) -> Result<Record, Failure> {
-    let mut partition = Seq::new(alloc);
+    let mut partition = Values::new(alloc);
     partition.push(Value::Int(number))?;
     let mut columns = Columns::new(alloc);
     columns.set(Name::new(alloc, "qty")?, Value::Int(number))?;
@@ -18,7 +18,7 @@ fn record_of(alloc: Global, number: i32) -> Result<Record, Failure> {
                 table: Name::new(alloc, "item")?,
             },
             partition,
-            clustering: Seq::new(alloc),
+            clustering: Values::new(alloc),
         },
         columns,
     })

@@ -6,7 +6,7 @@ ghost use Rattle.sdb_store.specs.Store.{HasCause};
 
 use sdb_store::{Store, call};
 use sdb_stores::{AttachRefused, PlaceRefused, Registry, Stores};
-use sdb_types::{Condition, Key, Name, Record, Reply, Request, Seq, Span, TableName};
+use sdb_types::{Condition, Key, Name, Record, Reply, Request, Span, TableName, Values};
 use std::alloc::Global;
 use std::test::Fail;
 
@@ -85,8 +85,8 @@ fn request_of(alloc: Global, ns: &str) -> Result<Request, Fail> {
             ns: Name::new(alloc, ns)?,
             table: Name::new(alloc, "item")?,
         },
-        partition: Seq::new(alloc),
-        clustering: Seq::new(alloc),
+        partition: Values::new(alloc),
+        clustering: Values::new(alloc),
     }))
 }
 

@@ -3,21 +3,19 @@ ghost use Rattle.std.specs.Prelude.{◌≡◌, [], length, true, IfOk, OnOk, OnE
 ghost use Rattle.std.specs.Option.{option_copied};
 ghost use Rattle.std.specs.Slice.{IsItemAt};
 ghost use Rattle.sdb_types.specs.Columns.{are_columns, column, with_column, is_below, is_null, stands_first};
-ghost use Rattle.sdb_types.specs.Fits.{columns_fit};
 
-use crate::known::Known;
 use crate::memory::{Duplicate, NoMemory};
 use crate::name::Name;
 use crate::pair::Pair;
-use crate::seq::Seq;
+use crate::shared::SharedSeq;
 use crate::value::Value;
 use std::alloc::Global;
 use std::marker::Model;
 
 /// Columns in ascending order of their names, each name once and none with Null.
-#[derive(Debug, Drop)]
+#[derive(Debug)]
 pub struct Columns {
-    pairs: Seq<Pair>,
+    pairs: SharedSeq<Pair>,
 }
 
 impl Model for Columns {
@@ -30,6 +28,13 @@ impl Model for Columns {
     ghost view = { λ c. c.pairs };
 
     ghost invariant = { λ c. are_columns c.pairs ≡ true };
+}
+
+// By hand: each drop is then one call, where a derived one stands at each place with a call for each field.
+impl Drop for Columns {
+    fn drop(self) {
+        let Columns { pairs: _ } = self;
+    }
 }
 
 fn is_null_value(value: &Value) -> bool
@@ -69,7 +74,7 @@ fn find_value<'a>(pairs: &'a [Pair], name: &Name) -> Option<&'a Value>
         .map(|pair| &pair.value)
 }
 
-fn put(pairs: &mut Seq<Pair>, pair: Pair) -> Result<(), NoMemory>
+fn put(pairs: &mut SharedSeq<Pair>, pair: Pair) -> Result<(), NoMemory>
     ensures ok { OnOk result (pairs.new ≡ with_column pair pairs.old) }
     ensures err { OnErr result (pairs.new ≡ pairs.old) }
 {
@@ -77,13 +82,12 @@ fn put(pairs: &mut Seq<Pair>, pair: Pair) -> Result<(), NoMemory>
     let known = is_at(pairs.as_slice(), place, &pair.name);
     if is_null_value(&pair.value) {
         if known {
-            pairs.remove(place);
+            return pairs.remove(place);
         }
         return Ok(());
     }
     if known {
-        pairs.replace(place, pair);
-        return Ok(());
+        return pairs.replace(place, pair);
     }
     pairs.insert(place, pair)
 }
@@ -93,12 +97,12 @@ impl Columns {
         ensures { result ≡ [] }
     {
         Columns {
-            pairs: Seq::new(alloc),
+            pairs: SharedSeq::new(alloc),
         }
     }
 
     /// The columns that these pairs are, in the order of their names.
-    pub fn from_pairs(pairs: Seq<Pair>) -> Columns
+    pub fn from_pairs(pairs: SharedSeq<Pair>) -> Columns
         requires { are_columns pairs ≡ true }
         ensures { result ≡ pairs }
     {
@@ -143,13 +147,5 @@ impl Duplicate for Columns {
         Ok(Columns {
             pairs: self.pairs.copy()?,
         })
-    }
-}
-
-impl Known for Columns {
-    ghost fits = { columns_fit };
-
-    fn known(&self) {
-        self.pairs.known();
     }
 }

@@ -10,6 +10,7 @@ use crate::name::Name;
 use crate::pair::Pair;
 use crate::record::{Condition, Record, Reply, Request, Span, State};
 use crate::seq::Seq;
+use crate::shared::SharedSeq;
 use crate::text::Txt;
 use crate::txid::TxId;
 use crate::value::Value;
@@ -67,6 +68,10 @@ impl<T: Exact> Exact for Option<T> {
 }
 
 impl<T: Exact> Exact for Seq<T> {
+    ghost decides = { pointwise_decides T.decides };
+}
+
+impl<T: Exact> Exact for SharedSeq<T> {
     ghost decides = { pointwise_decides T.decides };
 }
 

@@ -10,6 +10,7 @@ ghost use Rattle.sdb_types.specs.HashInput.{value_input};
 
 use crate::name::Name;
 use crate::seq::Seq;
+use crate::shared::SharedSeq;
 use crate::text::Txt;
 use crate::value::Value;
 use std::hash::{Hash, Hasher};
@@ -35,6 +36,16 @@ impl Hash for Txt {
 }
 
 impl<T: Hash> Hash for Seq<T> {
+    ghost hash_input = { fed.slice T.hash_input };
+
+    ghost respects_eq = { (items_Alike (record { fed = T.respects_eq })).fed };
+
+    fn hash<H: Hasher>(&self, state: &mut H) {
+        self.as_slice().hash(state);
+    }
+}
+
+impl<T: Hash> Hash for SharedSeq<T> {
     ghost hash_input = { fed.slice T.hash_input };
 
     ghost respects_eq = { (items_Alike (record { fed = T.respects_eq })).fed };

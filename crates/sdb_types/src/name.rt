@@ -12,6 +12,7 @@ use crate::memory::{Duplicate, NoMemory};
 use std::alloc::{AllocError, Global};
 use std::cmp::Ordering;
 use std::marker::Model;
+use std::rc::RcStr;
 use thiserror::Error;
 
 #[derive(Clone, Copy, Debug, PartialEq, Eq, Error)]
@@ -41,19 +42,19 @@ impl From<AllocError> for NameRefused {
 /// A name, seen as its bytes.
 #[derive(Debug, Drop)]
 pub struct Name {
-    text: String,
+    text: RcStr,
 }
 
 impl Model for Name {
     ghost use Rattle.std.specs.Prelude.{List, ℕ, ◌≡◌, true};
-    ghost use Rattle.std.specs.String.{string_bytes};
+    ghost use Rattle.std.specs.Rc.{rc_str_bytes};
     ghost use Rattle.sdb_types.specs.Identifier.{is_name};
 
     ghost Value = { List ℕ };
 
-    ghost view = { λ t. string_bytes t.text };
+    ghost view = { λ t. rc_str_bytes t.text };
 
-    ghost invariant = { λ t. is_name (string_bytes t.text) ≡ true };
+    ghost invariant = { λ t. is_name (rc_str_bytes t.text) ≡ true };
 }
 
 fn starts(b: u8) -> bool
@@ -94,7 +95,7 @@ impl Name {
             return Err(NameRefused::BadName);
         }
         Ok(Name {
-            text: String::from_str(alloc, text)?,
+            text: RcStr::from_str(alloc, text)?,
         })
     }
 

@@ -6,10 +6,17 @@ use crate::name::Name;
 use crate::value::Value;
 
 /// A column of a record, or a column that a statement sets.
-#[derive(Debug, Drop, PartialEq, Eq)]
+#[derive(Debug, PartialEq, Eq)]
 pub struct Pair {
     pub name: Name,
     pub value: Value,
+}
+
+// By hand: each drop is then one call, where a derived one stands at each place with a call for each field.
+impl Drop for Pair {
+    fn drop(self) {
+        let Pair { name: _, value: _ } = self;
+    }
 }
 
 impl Duplicate for Pair {

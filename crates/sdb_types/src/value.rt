@@ -4,6 +4,7 @@ ghost use Rattle.std.specs.Prelude.{◌≡◌, IfOk};
 use crate::memory::{Duplicate, NoMemory};
 use crate::name::Name;
 use crate::seq::Seq;
+use crate::shared::SharedSeq;
 use crate::text::Txt;
 
 /// Bytes.
@@ -16,7 +17,7 @@ impl Duplicate for u8 {
 }
 
 /// The value of a column, of a key or of a literal.
-#[derive(Debug, Drop)]
+#[derive(Debug)]
 pub enum Value {
     Null,
     Bool(bool),
@@ -24,6 +25,20 @@ pub enum Value {
     BigInt(i64),
     Text(Txt),
     Blob(Octets),
+}
+
+// By hand: each drop is then one call, where a derived one stands at each place with a call for each field.
+impl Drop for Value {
+    fn drop(self) {
+        match self {
+            Value::Null => {}
+            Value::Bool(_) => {}
+            Value::Int(_) => {}
+            Value::BigInt(_) => {}
+            Value::Text(_) => {}
+            Value::Blob(_) => {}
+        }
+    }
 }
 
 impl Duplicate for Value {
@@ -39,6 +54,6 @@ impl Duplicate for Value {
     }
 }
 
-pub type Values = Seq<Value>;
+pub type Values = SharedSeq<Value>;
 
 pub type Names = Seq<Name>;
