@@ -1,5 +1,6 @@
 #!/bin/bash
-# Plays scripts of 250, 1,000 and 4,000 transactions of one client, and prints the time and the peak memory of each.
+# Plays scripts of 250, 1,000 and 3,300 transactions of one client, and prints the time and the peak memory of each, and where
+# valgrind is there the instructions too. A client has six statements a transaction, and 20,000 at most.
 #
 # Needs GNU time. Build the program first: cd crates/scalardb && rt run -- replay < ../../examples/first.script
 # Another program may be given as the first word.
@@ -25,11 +26,26 @@ script() {
     echo rest
 }
 
-printf '%12s %10s %10s %12s %12s\n' transactions events seconds 'peak KiB' 'us per event'
-for n in 250 1000 4000; do
+# The instructions that the program takes for a script, and a dash without valgrind.
+instructions() {
+    if command -v valgrind >/dev/null; then
+        valgrind --tool=callgrind --callgrind-out-file=/dev/null "$program" replay <"$1" 2>&1 >/dev/null | awk '/Collected/ { print $NF }'
+    else
+        echo -
+    fi
+}
+
+# A sum over the events.
+each() {
+    if [ "$1" = - ]; then echo -; else awk "BEGIN { printf \"%.$3f\", $1 / $2 }"; fi
+}
+
+printf '%12s %8s %8s %9s %13s %14s %18s\n' transactions events seconds 'peak KiB' 'us per event' instructions 'instr. per event'
+for n in 250 1000 3300; do
     script "$n" >"$room/script"
     /usr/bin/time -o "$room/cost" -f '%e %M' "$program" replay <"$room/script" >"$room/report"
     read -r seconds most <"$room/cost"
     events=$(awk 'NR == 2 { print $2 }' "$room/report")
-    printf '%12d %10d %10s %12d %12s\n' "$n" "$events" "$seconds" "$most" "$(awk "BEGIN { printf \"%.1f\", $seconds * 1e6 / $events }")"
+    count=$(instructions "$room/script")
+    printf '%12d %8d %8s %9d %13s %14s %18s\n' "$n" "$events" "$seconds" "$most" "$(each "${seconds}e6" "$events" 1)" "$count" "$(each "$count" "$events" 0)"
 done

@@ -2,18 +2,18 @@
 # Plans a SELECT and an UPDATE over 100, 1,000 and 10,000 rows of one partition, and prints what one plan takes, the copy of
 # its rows included.
 #
-# Needs GNU time. Build the program first: cd crates/sdb_exec_bench && rt run -- 'SELECT n FROM shop.item' 5 2
+# Needs GNU time. Build the program first: cd crates/bench_parts && rt run -- plans 'SELECT n FROM shop.item' 5 2
 # Another program may be given as the first word.
 set -eu
 root=$(cd "$(dirname "$0")/.." && pwd)
-program=${1:-$root/crates/sdb_exec_bench/out/sdb_exec_bench}
+program=${1:-$root/crates/bench_parts/out/bench_parts}
 room=$(mktemp -d)
 trap 'rm -rf "$room"' EXIT
 
 # The least processor time of three runs, in seconds.
 timed() {
     for _ in 1 2 3; do
-        /usr/bin/time -o "$room/cost" -f '%U' "$program" "$@" >/dev/null
+        /usr/bin/time -o "$room/cost" -f '%U' "$program" plans "$@" >/dev/null
         cat "$room/cost"
     done | sort -n | head -n 1
 }

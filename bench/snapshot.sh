@@ -1,19 +1,20 @@
 #!/bin/bash
 # Notes rows in a snapshot and times one call of it: with as many rows in the partition that it reads and more and more
-# rows beside it, and with more rows in the partition and as many in all.
+# rows beside it, and with more rows in the partition and as many in all. A scan finds no row and is noted once for each
+# partition: as often as there are partitions, and so beside more and more scans.
 #
-# Needs GNU time. Build the program first: cd crates/sdb_snapshot_bench && rt run -- overlay 3 4 5
+# Needs GNU time. Build the program first: cd crates/bench_parts && rt run -- snapshot overlay 3 4 5
 # Another program may be given as the first word.
 set -eu
 root=$(cd "$(dirname "$0")/.." && pwd)
-program=${1:-$root/crates/sdb_snapshot_bench/out/sdb_snapshot_bench}
+program=${1:-$root/crates/bench_parts/out/bench_parts}
 room=$(mktemp -d)
 trap 'rm -rf "$room"' EXIT
 
 # The least processor time of three runs, in seconds.
 timed() {
     for _ in 1 2 3; do
-        /usr/bin/time -o "$room/cost" -f '%U' "$program" "$@" >/dev/null
+        /usr/bin/time -o "$room/cost" -f '%U' "$program" snapshot "$@" >/dev/null
         cat "$room/cost"
     done | sort -n | head -n 1
 }
@@ -37,4 +38,7 @@ lookup 10000 10 200000
 write 40 10 200000
 write 400 10 200000
 write 4000 10 200000
+scan 100 0 100
+scan 1000 0 1000
+scan 4000 0 4000
 END

@@ -1,11 +1,11 @@
 #!/bin/bash
 # Reads and prints statements of 1 KB and of 64 KB, as many bytes in all, and prints the time of each.
 #
-# Needs GNU time. Build the program first: cd crates/sdb_bench && rt run < stdin
+# Needs GNU time. Build the program first: cd crates/bench_parts && rt run -- statements 2 < stdin
 # Another program may be given as the first word.
 set -eu
 root=$(cd "$(dirname "$0")/.." && pwd)
-program=${1:-$root/crates/sdb_bench/out/sdb_bench}
+program=${1:-$root/crates/bench_parts/out/bench_parts}
 room=$(mktemp -d)
 trap 'rm -rf "$room"' EXIT
 
@@ -30,7 +30,7 @@ update_text() {
 }
 
 timed() {
-    /usr/bin/time -o "$room/cost" -f '%e' "$program" "$2" <"$1" >/dev/null
+    /usr/bin/time -o "$room/cost" -f '%e' "$program" statements "$2" <"$1" >/dev/null
     cat "$room/cost"
 }
 

@@ -2,18 +2,18 @@
 # Fills each store with 1,000, 10,000 and 100,000 records in partitions of ten, and prints what one call takes: a get of a
 # record, a put over one, and a scan of a partition.
 #
-# Needs GNU time. Build the program first: cd crates/sdb_store_bench && rt run -- ordered get 40 6
+# Needs GNU time. Build the program first: cd crates/bench_parts && rt run -- stores ordered get 40 6
 # Another program may be given as the first word.
 set -eu
 root=$(cd "$(dirname "$0")/.." && pwd)
-program=${1:-$root/crates/sdb_store_bench/out/sdb_store_bench}
+program=${1:-$root/crates/bench_parts/out/bench_parts}
 room=$(mktemp -d)
 trap 'rm -rf "$room"' EXIT
 
 # The least processor time of five runs, in seconds.
 timed() {
     for _ in 1 2 3 4 5; do
-        /usr/bin/time -o "$room/cost" -f '%U' "$program" "$@" >/dev/null
+        /usr/bin/time -o "$room/cost" -f '%U' "$program" stores "$@" >/dev/null
         cat "$room/cost"
     done | sort -n | head -n 1
 }

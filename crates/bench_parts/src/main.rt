@@ -1,0 +1,60 @@
+//! Plays benches of parts of the program, one after another as its words ask, and prints a number for each, so that a script can
+//! time it. The word of a bench comes first, and then the bench's own words.
+#![tactic(auto)]
+
+mod plans;
+mod records;
+mod snapshot;
+mod statements;
+mod stores;
+mod words;
+
+use std::env;
+use std::env::Args;
+use std::io::Read;
+use std::rt::HostRuntime;
+
+// How many benches are played at most.
+const MOST_BENCHES: u32 = 64;
+
+// All of standard input.
+fn input(rt: &HostRuntime) -> Option<Vec<u8>> {
+    let mut bytes = Vec::new(rt.alloc());
+    rt.stdin().read_to_end(&mut bytes).ok()?;
+    Some(bytes)
+}
+
+fn play(rt: &HostRuntime, bench: &str, words: &mut Args) -> Option<usize> {
+    let alloc = rt.alloc();
+    match bench {
+        "statements" => statements::play(alloc, &input(rt)?, words),
+        "snapshot" => snapshot::play(alloc, words),
+        "plans" => plans::play(alloc, words),
+        "stores" => stores::play(alloc, words),
+        _ => None,
+    }
+}
+
+// Prints the number of a bench, and returns whether there is one.
+fn print_number(rt: &HostRuntime, number: Option<usize>) -> bool {
+    let _ = match number {
+        Some(number) => println!(rt; "{number}"),
+        None => println!(rt; "none"),
+    };
+    number.is_some()
+}
+
+fn main(rt: HostRuntime) {
+    let Ok(mut words) = env::args(&rt) else {
+        return;
+    };
+    let _program = words.next();
+    for _ in 0..MOST_BENCHES {
+        let Some(bench) = words.next() else {
+            return;
+        };
+        if !print_number(&rt, play(&rt, bench.as_str(), &mut words)) {
+            return;
+        }
+    }
+}
