@@ -34,6 +34,16 @@ impl Drop for Keyed {
     }
 }
 
+impl Keyed {
+    /// The key, and what becomes of it.
+    pub fn into_parts(self) -> (Key, Change)
+        ensures { result ≡ (self.key, self.change) }
+    {
+        let Keyed { key, change } = self;
+        (key, change)
+    }
+}
+
 pub type Changes = Seq<Keyed>;
 
 /// A change of a key, with its base: the committed record that was read there, or none.
