@@ -14,7 +14,7 @@ pub struct Refusal {
 }
 
 /// The answer to a statement.
-#[derive(Debug, Drop, PartialEq, Eq)]
+#[derive(Debug, PartialEq, Eq)]
 pub enum Answer {
     /// A SELECT was read.
     Rows(Rows),
@@ -43,6 +43,29 @@ pub enum Answer {
     /// VACUUM while a transaction is open.
     OpenTransactions,
     NoMemory,
+}
+
+// By hand: each drop is then one call, where a derived one stands at each place with a call for each field.
+impl Drop for Answer {
+    fn drop(self) {
+        match self {
+            Answer::Rows(_) => {}
+            Answer::Count(_) => {}
+            Answer::Done => {}
+            Answer::Committed => {}
+            Answer::Duplicate(_) => {}
+            Answer::Busy(_, _, _) => {}
+            Answer::Conflict(_, _) => {}
+            Answer::Expired(_) => {}
+            Answer::Faulted => {}
+            Answer::Unknown(_) => {}
+            Answer::BadRecord(_) => {}
+            Answer::Refused(_) => {}
+            Answer::Vacuuming => {}
+            Answer::OpenTransactions => {}
+            Answer::NoMemory => {}
+        }
+    }
 }
 
 impl Duplicate for Answer {

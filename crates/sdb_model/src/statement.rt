@@ -14,11 +14,22 @@ pub enum Comparison {
 }
 
 /// A test of a column in WHERE.
-#[derive(Debug, Drop, PartialEq, Eq)]
+#[derive(Debug, PartialEq, Eq)]
 pub enum Test {
     Compare(Name, Comparison, Value),
     IsNull(Name),
     NotNull(Name),
+}
+
+// By hand: each drop is then one call, where a derived one stands at each place with a call for each field.
+impl Drop for Test {
+    fn drop(self) {
+        match self {
+            Test::Compare(_, _, _) => {}
+            Test::IsNull(_) => {}
+            Test::NotNull(_) => {}
+        }
+    }
 }
 
 pub type Tests = Seq<Test>;
@@ -96,7 +107,7 @@ impl Drop for Select {
     }
 }
 
-#[derive(Debug, Drop, PartialEq, Eq)]
+#[derive(Debug, PartialEq, Eq)]
 pub enum Statement {
     Begin,
     Commit,
@@ -107,6 +118,23 @@ pub enum Statement {
     Update(Update),
     Delete(Delete),
     Select(Select),
+}
+
+// By hand: each drop is then one call, where a derived one stands at each place with a call for each field.
+impl Drop for Statement {
+    fn drop(self) {
+        match self {
+            Statement::Begin => {}
+            Statement::Commit => {}
+            Statement::Rollback => {}
+            Statement::Vacuum => {}
+            Statement::Insert(_) => {}
+            Statement::Upsert(_) => {}
+            Statement::Update(_) => {}
+            Statement::Delete(_) => {}
+            Statement::Select(_) => {}
+        }
+    }
 }
 
 impl Duplicate for Test {

@@ -16,10 +16,20 @@ use sdb_types::{Columns, Duplicate, Key, Name, NoMemory, Pair, Record, State, Tx
 use std::alloc::Global;
 
 /// What undoes an unresolved record: putting the record that stood before, or removing it.
-#[derive(Debug, Drop, PartialEq, Eq)]
+#[derive(Debug, PartialEq, Eq)]
 pub enum Back {
     Put(Record),
     Remove(Key),
+}
+
+// By hand: each drop is then one call, where a derived one stands at each place with a call for each field.
+impl Drop for Back {
+    fn drop(self) {
+        match self {
+            Back::Put(_) => {}
+            Back::Remove(_) => {}
+        }
+    }
 }
 
 // Sets a copy of each column, in order.

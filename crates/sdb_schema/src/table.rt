@@ -20,17 +20,34 @@ pub enum Direction {
     Desc,
 }
 
-#[derive(Debug, Drop, PartialEq, Eq)]
+#[derive(Debug, PartialEq, Eq)]
 pub struct Column {
     pub name: Name,
     pub kind: Kind,
 }
 
+// By hand: each drop is then one call, where a derived one stands at each place with a call for each field.
+impl Drop for Column {
+    fn drop(self) {
+        let Column { name: _, kind: _ } = self;
+    }
+}
+
 /// A clustering column.
-#[derive(Debug, Drop, PartialEq, Eq)]
+#[derive(Debug, PartialEq, Eq)]
 pub struct Order {
     pub name: Name,
     pub direction: Direction,
+}
+
+// By hand: each drop is then one call, where a derived one stands at each place with a call for each field.
+impl Drop for Order {
+    fn drop(self) {
+        let Order {
+            name: _,
+            direction: _,
+        } = self;
+    }
 }
 
 pub type ColumnList = Seq<Column>;
@@ -39,13 +56,26 @@ pub type Orders = Seq<Order>;
 
 /// A table: its columns in the order of their names, its primary key (the partition columns, then the clustering
 /// columns), and the columns that are indexed.
-#[derive(Debug, Drop, PartialEq, Eq)]
+#[derive(Debug, PartialEq, Eq)]
 pub struct Table {
     pub name: TableName,
     pub columns: ColumnList,
     pub partition: Names,
     pub clustering: Orders,
     pub indexed: Names,
+}
+
+// By hand: each drop is then one call, where a derived one stands at each place with a call for each field.
+impl Drop for Table {
+    fn drop(self) {
+        let Table {
+            name: _,
+            columns: _,
+            partition: _,
+            clustering: _,
+            indexed: _,
+        } = self;
+    }
 }
 
 impl Duplicate for Column {
