@@ -17,7 +17,7 @@ use Rattle.sdb_said.specs.declared.played.Played.{Played}
 use Rattle.sdb_said.specs.Values.{all_played, role_of, plan_in, writes_in, moment_in, write_in}
 use Rattle.sdb_said.specs.Said.{is_take_of, is_prepare_of, taken_in, asked_in, risked_in, won_in, dead_in, met_in}
 use Rattle.sdb_said.specs.Shown.{shown, moments, shows_commit, shows_abort}
-use Rattle.sdb_lawful.specs.Rules.{is_sound, is_known_committed, is_known_aborted, prepared_by, own, with_own, known_moments}
+use Rattle.sdb_lawful.specs.Rules.{is_sound, is_known_committed, is_known_aborted, prepared_by, own, with_own, has_own_moment, known_moments}
 use Rattle.sdb_said.proofs.Lists.{clash, none_some, some_is, left, right, both, either, or_left, or_right, not_true, true_not, decide, not_both, In}
 use Rattle.sdb_said.proofs.SaidLaws.{taken_is, asked_is, won_is, dead_is, met_is, risked_is}
 use Rattle.sdb_said.proofs.ShownLaws.{in_more, more_in, last_in, number_is, key_is, commit_shown, shows_commit_of, abort_shown, shows_abort_of, moment_shown, shown_moment}
@@ -27,30 +27,44 @@ use Rattle.sdb_lawful.proofs.PlanLaws.{sound_is, is_sound_of, write_is}
 
 pub known_is : (past : List Played) (plans : List Plan) (t : ℕ) → is_known_committed (shown past) past t ≡ true → (m : ℤ) × IsKnownCommitted (plan_in plans) (all_played past) t m
 known_is past plans t h = elim (either (won_in past t) (shows_commit (shown past) (coordinator_key_of (id t))) h) [
-  | inl w ↦ (moment_in plans t, inr (won_is past t ∙ w, refl))
+  | inl w ↦ (moment_in plans t, inr (inl (won_is past t ∙ w, refl)))
   | inr s ↦ let r = commit_shown past t s in (r.0, inl r.1)
 ]
 
 pub is_known : (past : List Played) (plans : List Plan) (t : ℕ) (m : ℤ) → IsKnownCommitted (plan_in plans) (all_played past) t m → is_known_committed (shown past) past t ≡ true
 is_known past plans t m (inl r) = or_right (won_in past t) (shows_commit (shown past) (coordinator_key_of (id t))) (shows_commit_of past t m r)
-is_known past plans t m (inr w) = or_left (won_in past t) (shows_commit (shown past) (coordinator_key_of (id t))) (sym (won_is past t) ∙ w.0)
+is_known past plans t m (inr (inl w)) = or_left (won_in past t) (shows_commit (shown past) (coordinator_key_of (id t))) (sym (won_is past t) ∙ w.0)
+is_known past plans t m (inr (inr o)) = or_right (won_in past t) (shows_commit (shown past) (coordinator_key_of (id t))) (shows_commit_of past t o.1.0 o.1.1)
 
 pub moment_known : (past : List Played) (plans : List Plan) (t : ℕ) (m : ℤ) → In (known_moments (shown past) past plans t) m → IsKnownCommitted (plan_in plans) (all_played past) t m
-moment_known past plans t m i = by (won_in past t) refl i
+unfolding has_own_moment
+moment_known past plans t m i = by (has_own_moment (shown past) past t) refl i
   where
-    by : (b : Bool) → won_in past t ≡ b → In (with_own b (moment_in plans t) (moments (shown past) (coordinator_key_of (id t)))) m → IsKnownCommitted (plan_in plans) (all_played past) t m
-    by true e i = elim (in_more (moments (shown past) (coordinator_key_of (id t))) (moment_in plans t) m i) [ inl r ↦ inl (moment_shown past t m r) | inr same ↦ inr (won_is past t ∙ e, same) ]
+    own : has_own_moment (shown past) past t ≡ true → m ≡ moment_in plans t → IsKnownCommitted (plan_in plans) (all_played past) t m
+    own e same = elim (either (won_in past t) (taken_in past t && shows_commit (shown past) (coordinator_key_of (id t))) e) [
+      | inl w ↦ inr (inl (won_is past t ∙ w, same))
+      | inr s ↦ inr (inr (taken_is past t ∙ left (taken_in past t) (shows_commit (shown past) (coordinator_key_of (id t))) s, commit_shown past t (right (taken_in past t) (shows_commit (shown past) (coordinator_key_of (id t))) s), same))
+    ]
+
+    by : (b : Bool) → has_own_moment (shown past) past t ≡ b → In (with_own b (moment_in plans t) (moments (shown past) (coordinator_key_of (id t)))) m → IsKnownCommitted (plan_in plans) (all_played past) t m
+    by true e i = elim (in_more (moments (shown past) (coordinator_key_of (id t))) (moment_in plans t) m i) [ inl r ↦ inl (moment_shown past t m r) | inr same ↦ own e same ]
     by false e i = inl (moment_shown past t m i)
 
+own_in : (past : List Played) (plans : List Plan) (t : ℕ) (m : ℤ) → has_own_moment (shown past) past t ≡ true → m ≡ moment_in plans t → In (known_moments (shown past) past plans t) m
+own_in past plans t m has same =
+    subst (λ b. In (with_own b (moment_in plans t) (moments (shown past) (coordinator_key_of (id t)))) m) (sym has)
+    (subst (λ x. In (moments (shown past) (coordinator_key_of (id t)) ++ moment_in plans t ∷ []) x) (sym same) (last_in (moments (shown past) (coordinator_key_of (id t))) (moment_in plans t)))
+
 pub known_moment : (past : List Played) (plans : List Plan) (t : ℕ) (m : ℤ) → IsKnownCommitted (plan_in plans) (all_played past) t m → In (known_moments (shown past) past plans t) m
-known_moment past plans t m (inl r) = by (won_in past t) (shown_moment past t m r)
+unfolding has_own_moment
+known_moment past plans t m (inl r) = by (has_own_moment (shown past) past t) (shown_moment past t m r)
   where
     by : (b : Bool) → In (moments (shown past) (coordinator_key_of (id t))) m → In (with_own b (moment_in plans t) (moments (shown past) (coordinator_key_of (id t)))) m
     by true i = more_in (moments (shown past) (coordinator_key_of (id t))) (moment_in plans t) m i
     by false i = i
-known_moment past plans t m (inr w) =
-    subst (λ b. In (with_own b (moment_in plans t) (moments (shown past) (coordinator_key_of (id t)))) m) (sym (sym (won_is past t) ∙ w.0))
-    (subst (λ x. In (moments (shown past) (coordinator_key_of (id t)) ++ moment_in plans t ∷ []) x) (sym w.1) (last_in (moments (shown past) (coordinator_key_of (id t))) (moment_in plans t)))
+known_moment past plans t m (inr (inl w)) = own_in past plans t m (or_left (won_in past t) (taken_in past t && shows_commit (shown past) (coordinator_key_of (id t))) (sym (won_is past t) ∙ w.0)) w.1
+known_moment past plans t m (inr (inr o)) =
+    own_in past plans t m (or_right (won_in past t) (taken_in past t && shows_commit (shown past) (coordinator_key_of (id t))) (both (taken_in past t) (shows_commit (shown past) (coordinator_key_of (id t))) (sym (taken_is past t) ∙ o.0) (shows_commit_of past t o.1.0 o.1.1))) o.2
 
 pub aborted_is : (past : List Played) (t : ℕ) → is_known_aborted (shown past) past t ≡ true → IsKnownAborted (all_played past) t
 aborted_is past t h =

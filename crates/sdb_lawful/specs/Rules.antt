@@ -176,9 +176,13 @@ abbrev pub with_own : Bool → ℤ → List ℤ → List ℤ
 with_own true moment ms = ms ++ moment ∷ []
 with_own false moment ms = ms
 
+-- its own moment is one of them: it won, or its COMMIT was taken and its row was shown
+unfoldable pub has_own_moment : List Record → List Played → ℕ → Bool
+has_own_moment rs past t = won_in past t || (taken_in past t && shows_commit rs (coordinator_key_of (id t)))
+
 -- the moments at which it is known to be committed
 abbrev pub known_moments : List Record → List Played → List Plan → ℕ → List ℤ
-known_moments rs past plans t = with_own (won_in past t) (moment_in plans t) (moments rs (coordinator_key_of (id t)))
+known_moments rs past plans t = with_own (has_own_moment rs past t) (moment_in plans t) (moments rs (coordinator_key_of (id t)))
 
 abbrev pub any_held_forward : List Record → List ℤ → ℕ → Key → Record → Bool
 any_held_forward rs ms t k target = list_any (λ r. is_held_by t k r && is_forward r ms target) rs

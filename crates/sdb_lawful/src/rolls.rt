@@ -5,7 +5,7 @@ ghost use Rattle.std.specs.List.{list_any};
 ghost use Rattle.sdb_record.specs.Meta.{is_committed as is_committed_lem};
 ghost use Rattle.sdb_laws.specs.Lawful.{answer_of as answer_of_lem, is_denial as is_denial_lem};
 ghost use Rattle.sdb_said.specs.Shown.{is_kept_in as is_kept_in_lem, keeps_none as keeps_none_lem, is_held_by as is_held_by_lem, is_forward as is_forward_lem};
-ghost use Rattle.sdb_lawful.specs.Rules.{is_known_committed as is_known_committed_lem, is_known_aborted as is_known_aborted_lem, own as own_lem, with_own, known_moments as known_moments_lem, any_held_forward as any_held_forward_lem, is_rolled_forward as is_rolled_forward_lem, rolls_open as rolls_open_lem, rolls_forward, is_put_back as is_put_back_lem, is_taken_back as is_taken_back_lem, undoes as undoes_lem, rolls_back, rolls_well, removes_version as removes_version_lem, removes_well, is_committed_answer as is_committed_answer_lem, denies as denies_lem, may_tell as may_tell_lem, may_deny as may_deny_lem, answers_well};
+ghost use Rattle.sdb_lawful.specs.Rules.{is_known_committed as is_known_committed_lem, is_known_aborted as is_known_aborted_lem, own as own_lem, with_own, has_own_moment as has_own_moment_lem, known_moments as known_moments_lem, any_held_forward as any_held_forward_lem, is_rolled_forward as is_rolled_forward_lem, rolls_open as rolls_open_lem, rolls_forward, is_put_back as is_put_back_lem, is_taken_back as is_taken_back_lem, undoes as undoes_lem, rolls_back, rolls_well, removes_version as removes_version_lem, removes_well, is_committed_answer as is_committed_answer_lem, denies as denies_lem, may_tell as may_tell_lem, may_deny as may_deny_lem, answers_well};
 
 use crate::commit::{is_data, prepared_by};
 use crate::rules::are_shut;
@@ -75,6 +75,26 @@ fn add_own(found: &mut Seq<i64>, won: bool, moment: i64) -> Result<(), NoMemory>
     if won { found.push(moment) } else { Ok(()) }
 }
 
+// Whether a transaction's own moment is one at which it is known to be committed.
+#[tactic(auto, unfolding(crate::specs::Rules::has_own_moment))]
+fn has_own_moment(
+    alloc: Global,
+    shown: &[Record],
+    past: &[Played],
+    id: TxId,
+) -> Result<bool, NoMemory>
+    ensures { IfOk result (λ own. own ≡ has_own_moment_lem shown.now past.now id.0) }
+{
+    if is_won(past, id) {
+        return Ok(true);
+    }
+    if !is_taken(past, id) {
+        return Ok(false);
+    }
+    let row = coordinator_key(alloc, id)?;
+    Ok(shows_commit(alloc, shown, &row))
+}
+
 fn known_moments(
     alloc: Global,
     shown: &[Record],
@@ -86,7 +106,8 @@ fn known_moments(
 {
     let row = coordinator_key(alloc, id)?;
     let mut found = moments(alloc, shown, &row)?;
-    add_own(&mut found, is_won(past, id), moment_of(plans, id))?;
+    let own = has_own_moment(alloc, shown, past, id)?;
+    add_own(&mut found, own, moment_of(plans, id))?;
     Ok(found)
 }
 

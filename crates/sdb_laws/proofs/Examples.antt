@@ -181,10 +181,10 @@ first_lawful w = (
   record {
     roll = record { client = 1; rolled = prepared inserts one; s = state.Prepared; r = _; is_open = refl; outside = refl; prepared = inr (refl, refl) };
     moment = pos 0;
-    known = inr (refl, refl);
+    known = inr (inl (refl, refl));
     call = record { store = _; how = _; answer = _; call = refl };
   },
-  λ e. record { t = one; ends = refl; taken = refl; moment = pos 0; known = inr (refl, refl) },
+  λ e. record { t = one; ends = refl; taken = refl; moment = pos 0; known = inr (inl (refl, refl)) },
   λ a e d. absurd (no_denial a e d),
 )
   where
@@ -404,7 +404,7 @@ recovery_lawful = (
     checked = λ i k v n free. rw (only_note (plan_with updates three) _ i k v refl n).0 refl;
     agrees = λ i k v b n h. absurd (some (sym (unwritten k) ∙ h));
   },
-  λ e. record { t = three; ends = refl; taken = refl; moment = pos 0; known = inr (refl, refl) },
+  λ e. record { t = three; ends = refl; taken = refl; moment = pos 0; known = inr (inl (refl, refl)) },
   λ a e d. absurd (no_denial a e d),
 )
   where
@@ -460,10 +460,10 @@ vacuumed_lawful = (
         record {
           roll = record { client = 2; rolled = prepared deletes_it two; s = state.Deleted; r = _; is_open = refl; outside = refl; prepared = inr (refl, refl) };
           moment = pos 0;
-          known = inr (refl, refl);
+          known = inr (inl (refl, refl));
           call = record { store = _; how = _; answer = _; call = refl };
         },
-        λ e. record { t = two; ends = refl; taken = refl; moment = pos 0; known = inr (refl, refl) },
+        λ e. record { t = two; ends = refl; taken = refl; moment = pos 0; known = inr (inl (refl, refl)) },
         λ a e d. absurd (no_denial a e d),
       ),
       refl,
@@ -521,7 +521,10 @@ pub rolled_blindly_refused : IsLawful (plan_with updates) rolled_blindly → ⊥
 unfolding coordinator_key_of
 rolled_blindly_refused l = elim l.1.known [
   | inl row ↦ clash (ap is_data (sym (ap (λ (x : Record). x.key) (only row.row row.shown) ∙ forward_key inserts one) ∙ row.key))
-  | inr won ↦ clash (sym won.0)
+  | inr other ↦ elim other [
+    | inl won ↦ clash (sym won.0)
+    | inr own ↦ clash (ap is_data (sym (ap (λ (x : Record). x.key) (only own.1.1.row own.1.1.shown) ∙ forward_key inserts one) ∙ own.1.1.key))
+  ]
 ]
   where
     only : (x : Record) → IsShown (rest_of rolled_blindly) x → x ≡ forward inserts one

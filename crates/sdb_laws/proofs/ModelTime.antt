@@ -273,13 +273,19 @@ answers_true plan places opening played ss r faithful = record {
     i : Whole plan places (history plan places opening (newest_first played) ss) (newest_first played) (closing opening ss)
     i = whole_of plan places opening (newest_first played) ss r
 
+    taken : (t : ℕ) → (history plan places opening (newest_first played) ss).row t ≡ Some Committed → (talk (newest_first played)).taken t ≡ true
+    taken t h = subst (λ (x : Talk). x.taken t ≡ true) (sym i.knows.talks) (here h)
+      where
+        here : (history plan places opening (newest_first played) ss).row t ≡ Some Committed → (history plan places opening (newest_first played) ss).talk.taken t ≡ true
+        here h = grind (arith, i.all.one.taken t any_key 0)
+
     committed : (t : TxId) → t.0 < 2 ^ 128 → (o : Option Said) → commit_of (events_of played) t ≡ o → option_and_then (λ (x : Said). x.answer) o ≡ Some answer.Committed → Recorded places (closing opening ss) t
     committed t fits None e f = absurd (cc)
     committed t fits (Some x) e f = row_recorded plan places (history plan places opening (newest_first played) ss) (newest_first played) (closing opening ss) t.0 i fits (told_decided plan places opening (newest_first played) ss t.0 x.answered r (faithful.told t.0 x fits e f)).0
 
     answered : (t : TxId) → t.0 < 2 ^ 128 → (history plan places opening (newest_first played) ss).row t.0 ≡ Some Committed → (x : Said) → commit_of (events_of played) t ≡ Some x → (a : Option Answer) → x.answer ≡ a → (d : Bool) → option_map_or is_denial a false ≡ d → (a ≡ Some answer.Committed) ⊎ (a ≡ Some (answer.Unknown t)) ⊎ (a ≡ None)
     answered t fits row x e None f d g = inr (inr refl)
-    answered t fits row x e (Some a) f true g = absurd (denied_never_recorded plan places opening (newest_first played) ss t.0 r (faithful.denied t.0 x a fits e f g) row)
+    answered t fits row x e (Some a) f true g = absurd (denied_never_recorded plan places opening (newest_first played) ss t.0 r (faithful.denied t.0 x a fits e f g (taken t.0 row)) row)
     answered t fits row x e (Some a) f false g = elim (no_denial a g) [
       | inl c ↦ inl (ap (λ y. Some y) c)
       | inr u ↦ inr (inl (ap (λ y. Some y) u.1 ∙ ap (λ y. Some (answer.Unknown y)) (faithful.unknown t.0 x u.0 e (f ∙ ap (λ y. Some y) u.1))))

@@ -107,7 +107,8 @@ prepared_there plan w past t k r knows outside (inr h) =
 
 pub committed_of : (plan : ℕ → Plan) (w : History) (past : List Played) (t : ℕ) (m : ℤ) → Knows plan w past → t < 2 ^ 128 → IsKnownCommitted plan past t m → (w.row t ≡ Some Committed) × (m ≡ (plan t).now)
 committed_of plan w past t m knows fits (inl row) = let x = row_known plan w past t Committed m knows.shown (knows.moments t) fits row in (x.0, x.1 ∙ (knows.moments t).committed x.0)
-committed_of plan w past t m knows fits (inr won) = ((knows.inv.heard t).0 (subst (λ (x : Talk). x.won t ≡ true) knows.talks won.0), won.1)
+committed_of plan w past t m knows fits (inr (inl won)) = ((knows.inv.heard t).0 (subst (λ (x : Talk). x.won t ≡ true) knows.talks won.0), won.1)
+committed_of plan w past t m knows fits (inr (inr own)) = ((row_known plan w past t Committed own.1.0 knows.shown (knows.moments t) fits own.1.1).0, own.2)
 
 pub aborted_of : (plan : ℕ → Plan) (w : History) (past : List Played) (t : ℕ) → Knows plan w past → t < 2 ^ 128 → IsKnownAborted past t → w.row t ≡ Some Aborted
 aborted_of plan w past t knows fits (inl row) = (row_known plan w past t Aborted row.0 knows.shown (knows.moments t) fits row.1).0

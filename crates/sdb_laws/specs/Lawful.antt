@@ -83,9 +83,13 @@ pub record IsRowShown (past : List Played) (t : ℕ) (d : Decision) (moment : �
   pub key : row.key ≡ coordinator_key_of (id t)
   pub says : decision_in row ≡ Ok (record { decision = d; created_at = moment })
 
--- It is known that a transaction is committed, at this moment: its row was shown, or the put of it was seen and applied.
+-- It is known that a transaction is committed, at this moment: its row was shown, or the put of it was seen and applied. Its own
+-- client rolls forward to the moment at which it took the COMMIT, whatever moment the row has that it was shown.
 abbrev pub IsKnownCommitted : (ℕ → Plan) → List Played → ℕ → ℤ → Type 0
-IsKnownCommitted plan past t moment = IsRowShown past t decision.Committed moment ⊎ (((talk past).won t ≡ true) × (moment ≡ (plan t).now))
+IsKnownCommitted plan past t moment =
+    IsRowShown past t decision.Committed moment
+    ⊎ (((talk past).won t ≡ true) × (moment ≡ (plan t).now))
+    ⊎ (((talk past).taken t ≡ true) × ((m : ℤ) × IsRowShown past t decision.Committed m) × (moment ≡ (plan t).now))
 
 -- It is known that a transaction is aborted: its row was shown, or a put of that row was seen and applied; or a put of its row
 -- was seen, applied or not met, while it has asked for no put of COMMITTED, or only for one that memory was wanting for.

@@ -3,3 +3,4 @@ pub mod Followed
 pub mod Told
 pub mod Calls
 pub mod Traces
+pub mod Single

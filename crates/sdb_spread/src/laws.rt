@@ -34,6 +34,15 @@ pub fn traces_on_many_stores()
         → (moments : List (List Shelf)) × (closing : List Shelf) × IsTrace places (moved_events (store_of places opening) events) opening moments closing × HoldAs catalog places closing m1 }
 {}
 
+/// Each list of events that agrees with several stores agrees, with its calls moved there, with one that holds the same to begin
+/// with of the tables that are played, whatever else the several hold; and what they hold of these tables in the end is what it
+/// holds.
+pub fn traces_on_one_store()
+    ensures traced { (catalog : List Table) (name : Name) (places : List Place) (events : List Event) (opening : List Shelf) (moments : List (List Shelf)) (closing : List Shelf) (m0 : Contents)
+        → IsTrace places events opening moments closing → AreAbout catalog events → HoldAs catalog places opening m0
+        → (singles : List (List Shelf)) × (m1 : Contents) × IsTrace [] (moved_events (λ ns. name) events) (one_shelf name m0) singles (one_shelf name m1) × HoldAs catalog places closing m1 }
+{}
+
 /// A call that was seen, and found memory, is answered as by the one store, and leaves the same.
 pub fn calls_on_many_stores()
     ensures called { (catalog : List Table) (places : List Place) (store : Name) (q : Request) (r : Reply) (before now : List Shelf) (held : Contents)
