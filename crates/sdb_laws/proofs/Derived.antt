@@ -99,7 +99,7 @@ committed_is_canon plan places w past shelves i k r outside at firm = by (w.rows
         let same = sym (some_is (firm_record plan t k) r h) in
         record { t = t; writer = ap (λ (x : Record). id_in x.columns) same ∙ firm_writer plan t k fits; recorded = row_recorded plan places w past shelves t i fits writes.0; writes = writes; same = same }
 
-took_data : (plan : ℕ → Plan) (w : History) (past : List Played) (t : ℕ) (k : Key) → Knows plan w past → w.took t k ≡ true → is_data k ≡ true
+pub took_data : (plan : ℕ → Plan) (w : History) (past : List Played) (t : ℕ) (k : Key) → Knows plan w past → w.took t k ≡ true → is_data k ≡ true
 took_data plan w past t k knows took =
     let taken = took_is_taken w t k knows.inv.taken took in
     ((knows.planned t taken).write k (Rattle.sdb_laws.specs.Records.write_there (plan t) k) (Rattle.sdb_laws.proofs.Known.writes_it (plan t) k (knows.inv.asked t k ((knows.inv.took t k).0 took).0))).1

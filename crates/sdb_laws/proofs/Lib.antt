@@ -22,3 +22,4 @@ pub mod Points
 pub mod Order
 pub mod ModelTime
 pub mod FirstTrace
+pub mod Moments

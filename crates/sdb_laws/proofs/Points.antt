@@ -69,7 +69,7 @@ no_call : (t : TxId) (e : Event) (client : ℕ) (q : Request) (r : Reply) → Is
 no_call t e client q r c h = ap (is_prepared_by t) c.call ∙ no_prepare t client c.store q c.how r c.answer h
 
 -- a committed record is no prepare
-firm_no : (t : TxId) (r : Record) (c : Condition) → is_in state.Committed r.columns ≡ true → prepares t (ask.PutIf r c) ≡ false
+pub firm_no : (t : TxId) (r : Record) (c : Condition) → is_in state.Committed r.columns ≡ true → prepares t (ask.PutIf r c) ≡ false
 firm_no t r c h = ap (λ b. b || is_version t state.Deleted r) (not_open_version t state.Prepared r refl h) ∙ not_open_version t state.Deleted r refl h
 
 row_no : (t : TxId) (u : ℕ) (d : Decision) (m : ℤ) (c : Condition) → prepares t (ask.PutIf (coordinator_row_of (id u) d m) c) ≡ false
@@ -89,7 +89,7 @@ held_version : (plan : ℕ → Plan) (u : ℕ) (k : Key) → is_version (id u) (
 unfolding held_record
 held_version plan u k = prepared-version (write_there (plan u) k) (id u) (plan u).now
 
-held_prepares : (plan : ℕ → Plan) (t u : ℕ) (k : Key) (c : Condition) → t < 2 ^ 128 → u < 2 ^ 128 → prepares (id t) (ask.PutIf (held_record plan u k) c) ≡ (t == u)
+pub held_prepares : (plan : ℕ → Plan) (t u : ℕ) (k : Key) (c : Condition) → t < 2 ^ 128 → u < 2 ^ 128 → prepares (id t) (ask.PutIf (held_record plan u k) c) ≡ (t == u)
 held_prepares plan t u k c a b = by (t == u) refl
   where
     same : (t == u) ≡ true → t ≡ u

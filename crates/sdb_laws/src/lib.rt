@@ -4,6 +4,7 @@
 //! law is the contract of a function with an empty body.
 #![tactic(auto)]
 
+pub mod explained;
 pub mod images;
 pub mod reads;
 pub mod real_time;

@@ -8,6 +8,7 @@ pub mod Reading
 pub mod Images
 pub mod Transactions
 pub mod Told
+pub mod Explained
 pub mod Form
 pub mod SqlTokens
 pub mod Sql

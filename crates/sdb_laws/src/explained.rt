@@ -1,0 +1,36 @@
+//! The invariant of every moment, in the words of the model: which records stand at the stores, and which event put them.
+ghost use Rattle.std.specs.Prelude.{◌≡◌, ◌≤◌, ℕ, List, None, length};
+ghost use Rattle.sdb_schema.specs.declared.table.Table.{Table};
+ghost use Rattle.sdb_record.specs.Coordinator.{coordinator_table};
+ghost use Rattle.sdb_model.specs.declared.script.Place.{Place};
+ghost use Rattle.sdb_model.specs.Exec.{find_table};
+ghost use Rattle.sdb_model.specs.Events.{Shelf, moment};
+ghost use Rattle.sdb_model.specs.Explained.{AbortedGone, CommittedRecorded, PreparedStands, RowsFinal, UnresolvedPrepared};
+ghost use Rattle.sdb_laws.specs.Plan.{Plan};
+ghost use Rattle.sdb_laws.specs.Lawful.{Played};
+ghost use Rattle.sdb_laws.specs.Explained.{IsRunOf, newest_first, events_of};
+
+/// At each moment a record in state COMMITTED names a transaction that is recorded by then.
+pub fn committed_recorded()
+    ensures { (plan : ℕ → Plan) (places : List Place) (opening : List Shelf) (played : List Played) (moments : List (List Shelf)) (catalog : List Table) (n : ℕ) → IsRunOf plan places opening (newest_first played) (newest_first moments) → find_table catalog coordinator_table ≡ None → n ≤ length moments → CommittedRecorded catalog places (moment opening moments n) }
+{}
+
+/// At each moment there is nothing of a transaction whose row is ABORTED but what it prepared.
+pub fn aborted_is_gone()
+    ensures { (plan : ℕ → Plan) (places : List Place) (opening : List Shelf) (played : List Played) (moments : List (List Shelf)) (catalog : List Table) (n : ℕ) → IsRunOf plan places opening (newest_first played) (newest_first moments) → find_table catalog coordinator_table ≡ None → n ≤ length moments → AbortedGone catalog places (moment opening moments n) }
+{}
+
+/// A row of the coordinator's table that there is at a moment is there at each later one.
+pub fn rows_stay()
+    ensures { (plan : ℕ → Plan) (places : List Place) (opening : List Shelf) (played : List Played) (moments : List (List Shelf)) (early late : ℕ) → IsRunOf plan places opening (newest_first played) (newest_first moments) → early ≤ late → late ≤ length moments → RowsFinal places (moment opening moments early) (moment opening moments late) }
+{}
+
+/// At each moment an unresolved record was put by a prepare of the transaction that it names, over what it is rolled back to.
+pub fn unresolved_is_prepared()
+    ensures { (plan : ℕ → Plan) (places : List Place) (opening : List Shelf) (played : List Played) (moments : List (List Shelf)) (catalog : List Table) (n : ℕ) → IsRunOf plan places opening (newest_first played) (newest_first moments) → find_table catalog coordinator_table ≡ None → n ≤ length moments → UnresolvedPrepared catalog places (events_of played) opening moments n }
+{}
+
+/// At each moment what a transaction without a row has prepared stands.
+pub fn prepared_record_stands()
+    ensures { (plan : ℕ → Plan) (places : List Place) (opening : List Shelf) (played : List Played) (moments : List (List Shelf)) (catalog : List Table) (n : ℕ) → IsRunOf plan places opening (newest_first played) (newest_first moments) → find_table catalog coordinator_table ≡ None → n ≤ length moments → PreparedStands catalog places (events_of played) opening moments n }
+{}

@@ -1,0 +1,81 @@
+-- What is so at every moment of a run of the protocol, in the words of events and of what the stores hold.
+use Rattle.std.specs.Prelude.{◌≡◌, ◌≢◌, ℕ, suc, ◌≤◌, ◌<◌, ◌^◌, true, false, List, ◌∷◌, ◌++◌, length, Option, Some, None, is_some, IsSomeAnd}
+use Rattle.sdb_types.specs.declared.txid.TxId.{TxId}
+use Rattle.sdb_types.specs.declared.key.Key.{Key}
+use Rattle.sdb_types.specs.declared.record.Record.{Record}
+use Rattle.sdb_types.specs.declared.record.Condition.{Condition}
+use Rattle.sdb_types.specs.declared.record.Request.TheVariants as ask
+use Rattle.sdb_types.specs.declared.record.Reply.{Reply}
+use Rattle.sdb_types.specs.declared.record.State.TheVariants as state
+use Rattle.sdb_schema.specs.declared.table.Table.{Table}
+use Rattle.sdb_record.specs.declared.coordinator.Decision.TheVariants as decision
+use Rattle.sdb_record.specs.Coordinator.{coordinator_key_of}
+use Rattle.sdb_record.specs.Meta.{id_in, is_in}
+use Rattle.sdb_record.specs.Parts.{before_record}
+use Rattle.sdb_model.specs.declared.answer.Answer.{Answer}
+use Rattle.sdb_model.specs.declared.event.Event.{Event}
+use Rattle.sdb_model.specs.declared.event.Event.TheVariants as event
+use Rattle.sdb_model.specs.declared.event.How.{How}
+use Rattle.sdb_model.specs.declared.script.Place.{Place}
+use Rattle.sdb_model.specs.Rows.{Name}
+use Rattle.sdb_model.specs.Exec.{find_table}
+use Rattle.sdb_model.specs.Events.{Shelf, standing, moment}
+use Rattle.sdb_model.specs.Images.{decision_at}
+use Rattle.sdb_model.specs.Transactions.{Recorded, prepares}
+
+-- a key of a table of the catalog: the coordinator's rows are no records of transactions
+abbrev pub IsTableKey : List Table → Key → Type 0
+IsTableKey catalog key = is_some (find_table catalog key.table) ≡ true
+
+---- at one moment
+
+-- A record in state COMMITTED names a transaction that is recorded then.
+abbrev pub CommittedRecorded : List Table → List Place → List Shelf → Type 0
+CommittedRecorded catalog places now = (key : Key) (r : Record) → IsTableKey catalog key → standing places now key ≡ Some r → is_in state.Committed r.columns ≡ true
+    → (id : TxId) × (id_in r.columns ≡ Some id) × Recorded places now id
+
+-- the coordinator's table holds a transaction's row, well formed, with the decision that it is aborted
+abbrev pub IsAborted : List Place → List Shelf → TxId → Type 0
+IsAborted places now id = IsSomeAnd (decision_at places now id) (λ d. d.decision ≡ decision.Aborted)
+
+-- Of a transaction whose row is ABORTED there is no record in state COMMITTED, and no unresolved record has one of it as its row
+-- before.
+pub record IsGone (id : TxId) (r : Record) : Type 0 where
+  pub committed : is_in state.Committed r.columns ≡ true → id_in r.columns ≢ Some id
+  pub before : (b : Record) → is_in state.Committed r.columns ≡ false → before_record r ≡ Some b → id_in b.columns ≢ Some id
+
+abbrev pub AbortedGone : List Table → List Place → List Shelf → Type 0
+AbortedGone catalog places now = (id : TxId) (key : Key) (r : Record) → id.0 < 2 ^ 128 → IsAborted places now id → IsTableKey catalog key → standing places now key ≡ Some r → IsGone id r
+
+---- from one moment to a later one
+
+-- A row of the coordinator's table never changes, nor goes.
+abbrev pub RowsFinal : List Place → List Shelf → List Shelf → Type 0
+RowsFinal places early late = (id : TxId) (row : Record) → id.0 < 2 ^ 128 → standing places early (coordinator_key_of id) ≡ Some row → standing places late (coordinator_key_of id) ≡ Some row
+
+---- after so many events
+
+-- A prepare of a transaction put a record, by the event after `front`: just before it there stood what the record is rolled back
+-- to, and just after it the record.
+pub record IsPreparedAfter (places : List Place) (events : List Event) (opening : List Shelf) (moments : List (List Shelf)) (id : TxId) (r : Record) (front : List Event) : Type 0 where
+  pub client : ℕ
+  pub store : Name
+  pub condition : Condition
+  pub how : How
+  pub reply : Reply
+  pub answer : Option Answer
+  pub back : List Event
+  pub at : events ≡ front ++ event.Call client store (ask.PutIf r condition) how reply answer ∷ back
+  pub prepare : prepares id (ask.PutIf r condition) ≡ true
+  pub before : standing places (moment opening moments (length front)) r.key ≡ before_record r
+  pub after : standing places (moment opening moments (suc (length front))) r.key ≡ Some r
+
+-- An unresolved record was put there by a prepare of the transaction that it names, by one of the events so far.
+abbrev pub UnresolvedPrepared : List Table → List Place → List Event → List Shelf → List (List Shelf) → ℕ → Type 0
+UnresolvedPrepared catalog places events opening moments n = (key : Key) (r : Record) → IsTableKey catalog key → standing places (moment opening moments n) key ≡ Some r → is_in state.Committed r.columns ≡ false
+    → (id : TxId) × (front : List Event) × (id_in r.columns ≡ Some id) × (length front < n) × IsPreparedAfter places events opening moments id r front
+
+-- A record whose prepare was put by one of the events so far stands as long as its transaction has no row.
+abbrev pub PreparedStands : List Table → List Place → List Event → List Shelf → List (List Shelf) → ℕ → Type 0
+PreparedStands catalog places events opening moments n = (id : TxId) (r : Record) (front : List Event) → id.0 < 2 ^ 128 → IsTableKey catalog r.key → length front < n → IsPreparedAfter places events opening moments id r front
+    → standing places (moment opening moments n) (coordinator_key_of id) ≡ None → standing places (moment opening moments n) r.key ≡ Some r
