@@ -23,3 +23,4 @@ pub mod Order
 pub mod ModelTime
 pub mod FirstTrace
 pub mod Moments
+pub mod Forged

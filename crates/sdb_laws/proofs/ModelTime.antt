@@ -9,7 +9,7 @@ use Rattle.sdb_model.specs.declared.event.Point.{Point}
 use Rattle.sdb_model.specs.declared.script.Place.{Place}
 use Rattle.sdb_model.specs.Events.{Shelf}
 use Rattle.sdb_model.specs.Transactions.{Said, commit_of, point, last_prepare, Recorded, IsOrder}
-use Rattle.sdb_model.specs.Told.{StandsBefore, KeepsRealTime}
+use Rattle.sdb_model.specs.Told.{StandsBefore, TransactionsInRealTime}
 use Rattle.sdb_laws.specs.Plan.{Plan}
 use Rattle.sdb_laws.specs.History.{Talk, History, happens, Role}
 use Rattle.sdb_laws.specs.Lawful.{Played, id, is_denial, talk}
@@ -137,7 +137,7 @@ point_of : (plan : ℕ → Plan) (places : List Place) (opening : List Shelf) (p
 point_of plan places opening played ss t r faithful fits taken =
     ap (unwrap_or (last_prepare (events_of played) (id t))) (faithful.taken t taken) ∙ sym (point_is_last plan places opening played ss t r fits taken)
 
-pub keeps_real_time : (plan : ℕ → Plan) (places : List Place) (opening : List Shelf) (played : List Played) (ss : List (List Shelf)) (order : List Point) → IsRunOf plan places opening (newest_first played) ss → IsFaithful (events_of played) (newest_first played) → IsOrder places (events_of played) (closing opening ss) order → KeepsRealTime places (events_of played) (closing opening ss) order
+pub keeps_real_time : (plan : ℕ → Plan) (places : List Place) (opening : List Shelf) (played : List Played) (ss : List (List Shelf)) (order : List Point) → IsRunOf plan places opening (newest_first played) ss → IsFaithful (events_of played) (newest_first played) → IsOrder places (events_of played) (closing opening ss) order → TransactionsInRealTime places (events_of played) (closing opening ss) order
 keeps_real_time plan places opening played ss order r faithful o early late fits_early fits_late s commit told recorded n begun lt =
     stands (point (events_of played)) order early late (are_at (point (events_of played)) order o.points) (rises order o.rising)
     (among early fits_early (row_recorded plan places w past end early.0 i fits_early decided.0)) (among late fits_late recorded)
@@ -267,6 +267,9 @@ no_denial _ h = absurd (cc)
 pub answers_true : (plan : ℕ → Plan) (places : List Place) (opening : List Shelf) (played : List Played) (ss : List (List Shelf)) → IsRunOf plan places opening (newest_first played) ss → IsFaithful (events_of played) (newest_first played) → AnswersAreTrue places (events_of played) (closing opening ss)
 answers_true plan places opening played ss r faithful = record {
   committed = λ t fits e. committed t fits (commit_of (events_of played) t) refl e;
+  owned = λ client s among told.
+      let o = faithful.owned client s among told in
+      record { id = id o.t; fits = o.fits; owner = o.owner; commit = o.commit; recorded = committed (id o.t) o.fits (commit_of (events_of played) (id o.t)) refl (ap (option_and_then (λ (x : Said). x.answer)) o.commit ∙ told) };
   known = λ t fits rec. known t fits (recorded_row plan places (history plan places opening (newest_first played) ss) (newest_first played) (closing opening ss) t.0 i fits rec) (commit_of (events_of played) t) refl;
 }
   where

@@ -5,5 +5,6 @@ pub mod Trace
 pub mod Records
 pub mod Explained
 pub mod Worked
+pub mod Forged
 pub mod Serial
 pub mod Faithful

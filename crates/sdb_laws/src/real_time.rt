@@ -5,7 +5,7 @@ ghost use Rattle.sdb_model.specs.declared.event.Point.{Point};
 ghost use Rattle.sdb_model.specs.declared.script.Place.{Place};
 ghost use Rattle.sdb_model.specs.Events.{Shelf};
 ghost use Rattle.sdb_model.specs.Transactions.{IsOrder};
-ghost use Rattle.sdb_model.specs.Told.{KeepsRealTime};
+ghost use Rattle.sdb_model.specs.Told.{TransactionsInRealTime};
 ghost use Rattle.sdb_laws.specs.Plan.{Plan};
 ghost use Rattle.sdb_laws.specs.Lawful.{Played};
 ghost use Rattle.sdb_laws.specs.Trace.{closing, history};
@@ -20,7 +20,7 @@ pub fn told_was_decided()
 
 /// The order of the recorded transactions keeps real time.
 pub fn keeps_real_time()
-    ensures { (plan : ℕ → Plan) (places : List Place) (opening : List Shelf) (played : List Played) (ss : List (List Shelf)) (order : List Point) → IsRunOf plan places opening (newest_first played) ss → IsFaithful (events_of played) (newest_first played) → IsOrder places (events_of played) (closing opening ss) order → KeepsRealTime places (events_of played) (closing opening ss) order }
+    ensures { (plan : ℕ → Plan) (places : List Place) (opening : List Shelf) (played : List Played) (ss : List (List Shelf)) (order : List Point) → IsRunOf plan places opening (newest_first played) ss → IsFaithful (events_of played) (newest_first played) → IsOrder places (events_of played) (closing opening ss) order → TransactionsInRealTime places (events_of played) (closing opening ss) order }
 {}
 
 /// The order of the model is the order that the laws of the order speak of.

@@ -3,6 +3,12 @@ ghost use Rattle.std.specs.Prelude.{◌≡◌, List, [], Some};
 ghost use Rattle.std.specs.FinMap.{empty};
 ghost use Rattle.sdb_record.specs.declared.coordinator.Decision.TheVariants.{Committed};
 ghost use Rattle.sdb_record.specs.declared.write.Write.{Write};
+ghost use Rattle.sdb_model.specs.declared.event.Point.{Point};
+ghost use Rattle.sdb_model.specs.declared.event.TableDump.{TableDump};
+ghost use Rattle.sdb_model.specs.declared.script.Script.{Script};
+ghost use Rattle.sdb_model.specs.Events.{Shelf};
+ghost use Rattle.sdb_model.specs.Told.{IsRun};
+ghost use Rattle.sdb_laws.specs.Forged.{liar, twice};
 ghost use Rattle.sdb_laws.specs.Lawful.{Played, IsLawful};
 ghost use Rattle.sdb_laws.specs.Trace.{history};
 ghost use Rattle.sdb_laws.specs.Explained.{IsRunOf};
@@ -30,4 +36,11 @@ pub fn other_runs_are_refused()
     ensures rolled_blindly { IsLawful (plan_with updates) rolled_blindly → ⊥ }
     ensures checked_moved { (past : List Played) → IsLawful (plan_with updates) (checked_moved past) → ⊥ }
     ensures removed_while_open { IsLawful (plan_with deletes_it) removed_while_open → ⊥ }
+{}
+
+/// A report in which Committed is answered to a COMMIT of no transaction is the report of no run, whatever its script, stores, order
+/// and rows.
+pub fn forged_reports_are_no_runs()
+    ensures liar { (script : Script) (opening closing : List Shelf) (order : List Point) (tables : List TableDump) → IsRun script opening closing (record { events = liar; order = order; tables = tables }) → ⊥ }
+    ensures twice { (script : Script) (opening closing : List Shelf) (order : List Point) (tables : List TableDump) → IsRun script opening closing (record { events = twice; order = order; tables = tables }) → ⊥ }
 {}

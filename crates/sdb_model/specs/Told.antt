@@ -1,6 +1,6 @@
 -- What a run owes its clients: whole transactions, run one after the other on plain tables in the order of their points,
 -- give the answers that were told and the final rows.
-use Rattle.std.specs.Prelude.{◌≡◌, ◌⊎◌, ℕ, ◌<◌, ◌^◌, Bool, true, false, if◌then◌else◌, List, [], ◌∷◌, ◌++◌, map, filter, Option, Some, None, is_some}
+use Rattle.std.specs.Prelude.{◌≡◌, ◌⊎◌, ℕ, ◌<◌, ◌^◌, Bool, true, false, if◌then◌else◌, List, [], ◌∷◌, ◌++◌, map, filter, Option, Some, None, is_some, Contains}
 use Rattle.std.specs.Option.{option_and_then}
 use Rattle.std.specs.FinMap.{get, empty}
 use Rattle.sdb_types.specs.declared.txid.TxId.{TxId}
@@ -21,7 +21,7 @@ use Rattle.sdb_model.specs.Exec.{Tables, exec, find_table, all_rows, is_row_of, 
 use Rattle.sdb_model.specs.Events.{Shelf, IsTrace}
 use Rattle.sdb_model.specs.Images.{row_at}
 use Rattle.sdb_model.specs.Follows.{Follows}
-use Rattle.sdb_model.specs.Transactions.{Said, begun, commit_of, body, Recorded, IsOrder}
+use Rattle.sdb_model.specs.Transactions.{Said, said, begun, client_of, commit_of, body, Recorded, IsOrder}
 
 ---- serial runs
 
@@ -74,9 +74,21 @@ answers_told events p = map (λ s. s.answer) (body events p.id)
 abbrev pub commit_answer : List Event → TxId → Option Answer
 commit_answer events id = option_and_then (λ s. s.answer) (commit_of events id)
 
+-- A statement is the COMMIT of a transaction of its client, and that transaction is recorded.
+pub record IsRecordedCommit (places : List Place) (events : List Event) (closing : List Shelf) (client : ℕ) (s : Said) : Type 0 where
+  pub id : TxId
+  pub fits : id.0 < 2 ^ 128
+  pub owner : client_of id ≡ client
+  pub commit : commit_of events id ≡ Some s
+  pub recorded : Recorded places closing id
+
+-- Nothing but the COMMIT of a recorded transaction is answered Committed, whoever asks.
+abbrev pub CommittedIsOwned : List Place → List Event → List Shelf → Type 0
+CommittedIsOwned places events closing = (client : ℕ) (s : Said) → Contains (said client events) s → s.answer ≡ Some answer.Committed → IsRecordedCommit places events closing client s
+
 -- The answers and rows of a run are those of its recorded transactions, run whole in the order of their points from empty
--- tables; the rows are the committed images of what the stores hold in the end; and a COMMIT is answered Committed of
--- recorded transactions alone, of which each is answered Committed, Unknown or not at all.
+-- tables; the rows are the committed images of what the stores hold in the end; each statement that is answered Committed is the
+-- COMMIT of a recorded transaction; and the COMMIT of each of these is answered Committed, Unknown or not at all.
 pub record IsTold (catalog : List Table) (places : List Place) (events : List Event) (closing : List Shelf) (order : List Point) (tables : List TableDump) : Type 0 where
   pub bodies : List (List Statement)
   pub read : AreBodies events order bodies
@@ -84,6 +96,7 @@ pub record IsTold (catalog : List Table) (places : List Place) (events : List Ev
   pub printed : tables ≡ dumps_of catalog (serial catalog bodies empty).1
   pub images : AreImages catalog places closing (serial catalog bodies empty).1
   pub committed : (id : TxId) → id.0 < 2 ^ 128 → commit_answer events id ≡ Some answer.Committed → Recorded places closing id
+  pub owned : CommittedIsOwned places events closing
   pub known : (id : TxId) → id.0 < 2 ^ 128 → Recorded places closing id → (commit_answer events id ≡ Some answer.Committed) ⊎ (commit_answer events id ≡ Some (answer.Unknown id)) ⊎ (commit_answer events id ≡ None)
 
 ---- real time
@@ -97,13 +110,21 @@ pub record StandsBefore (order : List Point) (early late : TxId) : Type 0 where
   pub later_at : ℕ
   pub same : order ≡ front ++ record { id = early; event = at } ∷ middle ++ record { id = late; event = later_at } ∷ back
 
--- A recorded transaction that began after another was told Committed stands behind it in the order.
-abbrev pub KeepsRealTime : List Place → List Event → List Shelf → List Point → Type 0
-KeepsRealTime places events closing order =
+-- A recorded transaction that began after the COMMIT of another was answered Committed comes after it in the order.
+abbrev pub TransactionsInRealTime : List Place → List Event → List Shelf → List Point → Type 0
+TransactionsInRealTime places events closing order =
     (early late : TxId) → early.0 < 2 ^ 128 → late.0 < 2 ^ 128
     → (s : Said) → commit_of events early ≡ Some s → s.answer ≡ Some answer.Committed
     → Recorded places closing late → (n : ℕ) → begun events late ≡ Some n → s.answered < n
     → StandsBefore order early late
+
+-- The same of what clients see: whatever statement was answered Committed, a recorded transaction that began after that answer
+-- comes after the transaction of that statement in the order.
+abbrev pub KeepsRealTime : List Place → List Event → List Shelf → List Point → Type 0
+KeepsRealTime places events closing order =
+    (client : ℕ) (s : Said) → Contains (said client events) s → s.answer ≡ Some answer.Committed
+    → (late : TxId) → late.0 < 2 ^ 128 → Recorded places closing late → (n : ℕ) → begun events late ≡ Some n → s.answered < n
+    → (early : TxId) × (commit_of events early ≡ Some s) × StandsBefore order early late
 
 ---- the headline
 

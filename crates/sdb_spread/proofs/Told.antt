@@ -32,7 +32,7 @@ use Rattle.sdb_model.specs.Transactions.{Said, IsOrder}
 use Rattle.sdb_model.specs.Told.{AreBodies, AreRead, answers_told, commit_answer, IsTold, KeepsRealTime, IsRun}
 use Rattle.sdb_model.specs.Form.{placed_script}
 use Rattle.sdb_spread.specs.Spread.{one_shelf, moved_events, moved_outcome, is_played, HoldAs}
-use Rattle.sdb_spread.proofs.Moved.{begun_moved, body_moved, commit_moved, point_moved}
+use Rattle.sdb_spread.proofs.Moved.{begun_moved, body_moved, commit_moved, point_moved, said_moved}
 use Rattle.sdb_spread.proofs.Followed.{follows_moved}
 
 ---- what stands
@@ -119,6 +119,9 @@ told_moved at catalog places closing name m events order tables a t = record {
   printed = t.printed;
   images = λ key. t.images key ∙ sym (if_same (is_some (find_table catalog key.table)) (row_at places closing key) (row_at [] (one_shelf name m) key) (λ e. row_same catalog places closing name m a key (or_first _ _ e)));
   committed = λ id small e. subst Says (sym (a.decides id)) (t.committed id small (sym (answer_moved at events id) ∙ e));
+  owned = λ client s among told.
+      let o = t.owned client s (subst (λ (ss : List Said). Contains ss s) (said_moved at client events) among) told in
+      record { id = o.id; fits = o.fits; owner = o.owner; commit = commit_moved at events o.id ∙ o.commit; recorded = subst Says (sym (a.decides o.id)) o.recorded };
   known = λ id small r. subst (Fates id) (sym (answer_moved at events id)) (t.known id small (subst Says (a.decides id) r));
 }
 
@@ -126,8 +129,9 @@ told_moved at catalog places closing name m events order tables a t = record {
 
 time_moved : (at : Name → Name) (catalog : List Table) (places : List Place) (closing : List Shelf) (name : Name) (m : Contents) (events : List Event) (order : List Point) → Alike catalog places closing name m
     → KeepsRealTime [] events (one_shelf name m) order → KeepsRealTime places (moved_events at events) closing order
-time_moved at catalog places closing name m events order a k early late small large s committed told recorded n began behind =
-    k early late small large s (sym (commit_moved at events early) ∙ committed) told (subst Says (a.decides late) recorded) n (sym (begun_moved at events late) ∙ began) behind
+time_moved at catalog places closing name m events order a k client s among told late large recorded n began behind =
+    let e = k client s (subst (λ (ss : List Said). Contains ss s) (said_moved at client events) among) told late large (subst Says (a.decides late) recorded) n (sym (begun_moved at events late) ∙ began) behind in
+    (e.0, commit_moved at events e.0 ∙ e.1, e.2)
 
 ---- the whole
 

@@ -1,0 +1,45 @@
+-- A COMMIT that is nobody's is answered Committed in no run.
+use Rattle.std.proofs.Common.{◌≡◌, ℕ, zero, suc, ◌<◌, ◌^◌, true, false, List, [], ◌∷◌, Option, Some, None, refl, sym, ap, subst, ◌∙◌, arith}
+use Rattle.std.specs.Prelude.{◌==◌, find, Contains, if◌then◌else◌}
+use Rattle.std.proofs.lemmas.Bool.Decides.{nat_tests}
+use Rattle.std.specs.Option.{option_and_then}
+use Rattle.sdb_types.specs.declared.txid.TxId.{TxId}
+use Rattle.sdb_model.specs.declared.answer.Answer.TheVariants as answer
+use Rattle.sdb_model.specs.declared.event.Event.{Event}
+use Rattle.sdb_model.specs.declared.event.Point.{Point}
+use Rattle.sdb_model.specs.declared.event.TableDump.{TableDump}
+use Rattle.sdb_model.specs.declared.script.Script.{Script}
+use Rattle.sdb_model.specs.Reading.{reads_commit}
+use Rattle.sdb_model.specs.Events.{Shelf}
+use Rattle.sdb_model.specs.Transactions.{Said, said, begins, ends, from_begin, rest_of, client_of, ordinal_of, commit_of}
+use Rattle.sdb_model.specs.Told.{IsRun}
+use Rattle.sdb_laws.specs.Forged.{liar, twice}
+
+-- the COMMIT of the n-th transaction among what a client said
+abbrev commit_among : ℕ → List Said → Option Said
+commit_among n ss = option_and_then (λ (s : Said). if reads_commit s.text then Some s else None) (find ends (rest_of (from_begin n ss)))
+
+no_some : (s : Said) → None ≡ Some s → ⊥
+no_some s e = absurd (cc)
+
+liar_none : (n : ℕ) → commit_among n (said 1 liar) ≡ None
+liar_none zero = refl
+liar_none (suc n) = refl
+
+pub liar_is_no_run : (script : Script) (opening closing : List Shelf) (order : List Point) (tables : List TableDump) → IsRun script opening closing (record { events = liar; order = order; tables = tables }) → ⊥
+liar_is_no_run script opening closing order tables run =
+    let o = run.told.owned 1 (record { taken = 3; text = Rattle.std.specs.Prelude.codes "COMMIT"; answer = Some answer.Committed; answered = 3 }) (2, omega arith, refl) refl in
+    no_some _ (sym (ap (λ c. commit_among (ordinal_of o.id) (said c liar)) o.owner ∙ liar_none (ordinal_of o.id)) ∙ o.commit)
+
+twice_none : (n : ℕ) → commit_among n (said 1 twice) ≡ None
+twice_none zero = refl
+twice_none (suc zero) = refl
+twice_none (suc (suc n)) = rw (apart n) refl
+  where
+    apart : (n : ℕ) → (suc n == 0) ≡ false
+    apart n = grind (arith, nat_tests)
+
+pub twice_is_no_run : (script : Script) (opening closing : List Shelf) (order : List Point) (tables : List TableDump) → IsRun script opening closing (record { events = twice; order = order; tables = tables }) → ⊥
+twice_is_no_run script opening closing order tables run =
+    let o = run.told.owned 1 (record { taken = 3; text = Rattle.std.specs.Prelude.codes "COMMIT"; answer = Some answer.Committed; answered = 3 }) (2, omega arith, refl) refl in
+    no_some _ (sym (ap (λ c. commit_among (ordinal_of o.id) (said c twice)) o.owner ∙ twice_none (ordinal_of o.id)) ∙ o.commit)
