@@ -13,10 +13,16 @@ use std::collections::BTreeMap;
 use std::marker::Model;
 
 /// A tree from key to columns, seen as what it holds.
-#[derive(Drop)]
 pub struct Tree {
     alloc: Global,
     rows: BTreeMap<Key, Columns>,
+}
+
+// By hand: each drop is then one call, where a derived one stands at each place with a call for each field.
+impl Drop for Tree {
+    fn drop(self) {
+        let Tree { alloc: _, rows: _ } = self;
+    }
 }
 
 impl Model for Tree {
