@@ -65,6 +65,16 @@ fn start_of(alloc: Global, span: &Span) -> Result<Key, NoMemory>
     })
 }
 
+// The record of an entry of a tree.
+fn copied(key: &Key, columns: &Columns) -> Result<Record, NoMemory>
+    ensures { IfOk result (λ rec. rec ≡ record { key = key.now; columns = columns.now }) }
+{
+    Ok(Record {
+        key: key.copy()?,
+        columns: columns.copy()?,
+    })
+}
+
 // The records of a span among the entries of a tree: they stand together, from the span's least key on.
 fn rows_of(alloc: Global, rows: &BTreeMap<Key, Columns>, span: &Span) -> Result<Records, NoMemory>
     ensures rows { IfOk result (λ found. found ≡ rows_among span.now rows.now.entries) }
@@ -76,10 +86,7 @@ fn rows_of(alloc: Global, rows: &BTreeMap<Key, Columns>, span: &Span) -> Result<
         if !lies_in(span, key) {
             break;
         }
-        found.push(Record {
-            key: key.copy()?,
-            columns: columns.copy()?,
-        })?;
+        found.push(copied(key, columns)?)?;
     }
     Ok(found)
 }
@@ -96,10 +103,7 @@ impl Rows for Tree {
 
     fn find(&self, key: &Key) -> Result<Option<Record>, NoMemory> {
         match self.rows.get(key) {
-            Some(columns) => Ok(Some(Record {
-                key: key.copy()?,
-                columns: columns.copy()?,
-            })),
+            Some(columns) => Ok(Some(copied(key, columns)?)),
             None => Ok(None),
         }
     }
