@@ -13,13 +13,25 @@ use std::marker::Model;
 
 /// The put of the row ABORTED, and the roll back of each write that may have taken effect, in order. What the roll backs are
 /// answered has no effect.
-#[derive(Drop)]
 pub struct Abort {
     row: Request,
     asks: Seq<Request>,
     phase: AbortPhase,
     at: usize,
     upto: usize,
+}
+
+// By hand: each drop is then one call, where a derived one stands at each place with a call for each field.
+impl Drop for Abort {
+    fn drop(self) {
+        let Abort {
+            row: _,
+            asks: _,
+            phase: _,
+            at: _,
+            upto: _,
+        } = self;
+    }
 }
 
 impl Model for Abort {

@@ -13,7 +13,6 @@ use std::alloc::Global;
 use std::marker::Model;
 
 /// The decision on a transaction.
-#[derive(Drop)]
 pub struct Decide {
     alloc: Global,
     id: TxId,
@@ -22,6 +21,21 @@ pub struct Decide {
     put: Request,
     look: Request,
     abort: Request,
+}
+
+// By hand: each drop is then one call, where a derived one stands at each place with a call for each field.
+impl Drop for Decide {
+    fn drop(self) {
+        let Decide {
+            alloc: _,
+            id: _,
+            moment: _,
+            phase: _,
+            put: _,
+            look: _,
+            abort: _,
+        } = self;
+    }
 }
 
 impl Model for Decide {

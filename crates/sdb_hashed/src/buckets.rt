@@ -19,10 +19,16 @@ use std::collections::HashMap;
 use std::marker::Model;
 
 /// A hash map from partition to the records there, in the order of their keys, seen as what it holds.
-#[derive(Drop)]
 pub struct Buckets {
     alloc: Global,
     trees: HashMap<Section, Tree>,
+}
+
+// By hand: each drop is then one call, where a derived one stands at each place with a call for each field.
+impl Drop for Buckets {
+    fn drop(self) {
+        let Buckets { alloc: _, trees: _ } = self;
+    }
 }
 
 impl Model for Buckets {

@@ -13,10 +13,16 @@ use std::collections::BTreeMap;
 use std::marker::Model;
 
 /// A tree from key to columns, seen as what it holds.
-#[derive(Drop)]
 pub struct Tree {
     alloc: Global,
     rows: BTreeMap<Key, Columns>,
+}
+
+// By hand: each drop is then one call, where a derived one stands at each place with a call for each field.
+impl Drop for Tree {
+    fn drop(self) {
+        let Tree { alloc: _, rows: _ } = self;
+    }
 }
 
 impl Model for Tree {
@@ -59,6 +65,16 @@ fn start_of(alloc: Global, span: &Span) -> Result<Key, NoMemory>
     })
 }
 
+// The record of an entry of a tree.
+fn copied(key: &Key, columns: &Columns) -> Result<Record, NoMemory>
+    ensures { IfOk result (λ rec. rec ≡ record { key = key.now; columns = columns.now }) }
+{
+    Ok(Record {
+        key: key.copy()?,
+        columns: columns.copy()?,
+    })
+}
+
 // The records of a span among the entries of a tree: they stand together, from the span's least key on.
 fn rows_of(alloc: Global, rows: &BTreeMap<Key, Columns>, span: &Span) -> Result<Records, NoMemory>
     ensures rows { IfOk result (λ found. found ≡ rows_among span.now rows.now.entries) }
@@ -70,10 +86,7 @@ fn rows_of(alloc: Global, rows: &BTreeMap<Key, Columns>, span: &Span) -> Result<
         if !lies_in(span, key) {
             break;
         }
-        found.push(Record {
-            key: key.copy()?,
-            columns: columns.copy()?,
-        })?;
+        found.push(copied(key, columns)?)?;
     }
     Ok(found)
 }
@@ -90,10 +103,7 @@ impl Rows for Tree {
 
     fn find(&self, key: &Key) -> Result<Option<Record>, NoMemory> {
         match self.rows.get(key) {
-            Some(columns) => Ok(Some(Record {
-                key: key.copy()?,
-                columns: columns.copy()?,
-            })),
+            Some(columns) => Ok(Some(copied(key, columns)?)),
             None => Ok(None),
         }
     }

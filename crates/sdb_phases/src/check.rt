@@ -11,16 +11,23 @@ pub enum Wish {
 }
 
 /// A key, with what a rescan is to find there.
-#[derive(Debug, Drop, PartialEq, Eq)]
+#[derive(Debug, PartialEq, Eq)]
 pub struct Wanted {
     pub key: Key,
     pub wish: Wish,
 }
 
+// By hand: each drop is then one call, where a derived one stands at each place with a call for each field.
+impl Drop for Wanted {
+    fn drop(self) {
+        let Wanted { key: _, wish: _ } = self;
+    }
+}
+
 pub type Wants = Seq<Wanted>;
 
 /// What an extra read is to find.
-#[derive(Debug, Drop, PartialEq, Eq)]
+#[derive(Debug, PartialEq, Eq)]
 pub enum Target {
     /// The version that a get found, or no record.
     Version(Option<TxId>),
@@ -28,11 +35,31 @@ pub enum Target {
     Rows(Wants),
 }
 
+// By hand: each drop is then one call, where a derived one stands at each place with a call for each field.
+impl Drop for Target {
+    fn drop(self) {
+        match self {
+            Target::Version(_) => {}
+            Target::Rows(_) => {}
+        }
+    }
+}
+
 /// An extra read, with what it is to find.
-#[derive(Debug, Drop, PartialEq, Eq)]
+#[derive(Debug, PartialEq, Eq)]
 pub struct Check {
     pub request: Request,
     pub target: Target,
+}
+
+// By hand: each drop is then one call, where a derived one stands at each place with a call for each field.
+impl Drop for Check {
+    fn drop(self) {
+        let Check {
+            request: _,
+            target: _,
+        } = self;
+    }
 }
 
 pub type Checks = Seq<Check>;

@@ -15,12 +15,23 @@ use std::mem;
 type Requests = Seq<Request>;
 
 /// The prepares of a COMMIT, one after another, each asked for once the one before it was applied.
-#[derive(Drop)]
 pub struct Prepare {
     alloc: Global,
     asks: Requests,
     at: usize,
     touched: usize,
+}
+
+// By hand: each drop is then one call, where a derived one stands at each place with a call for each field.
+impl Drop for Prepare {
+    fn drop(self) {
+        let Prepare {
+            alloc: _,
+            asks: _,
+            at: _,
+            touched: _,
+        } = self;
+    }
 }
 
 impl Model for Prepare {

@@ -21,7 +21,6 @@ use std::alloc::Global;
 use std::marker::Model;
 
 /// The recovery of one unresolved record, which a read has found.
-#[derive(Drop)]
 pub struct Recover {
     alloc: Global,
     rec: Record,
@@ -31,6 +30,22 @@ pub struct Recover {
     back: Request,
     base: Option<Record>,
     made: Option<Request>,
+}
+
+// By hand: each drop is then one call, where a derived one stands at each place with a call for each field.
+impl Drop for Recover {
+    fn drop(self) {
+        let Recover {
+            alloc: _,
+            rec: _,
+            meta: _,
+            phase: _,
+            look: _,
+            back: _,
+            base: _,
+            made: _,
+        } = self;
+    }
 }
 
 impl Model for Recover {

@@ -8,20 +8,42 @@ use sdb_record::{Read, Scan, Write, Writes};
 use sdb_types::{Key, Seq, TxId};
 
 /// One noted read: a key with the version found there, or a span with the versions found in it.
-#[derive(Debug, Drop)]
+#[derive(Debug)]
 pub enum Note {
     Got(Read),
     Scanned(Scan),
 }
 
+// By hand: each drop is then one call, where a derived one stands at each place with a call for each field.
+impl Drop for Note {
+    fn drop(self) {
+        match self {
+            Note::Got(_) => {}
+            Note::Scanned(_) => {}
+        }
+    }
+}
+
 /// What a transaction goes into its COMMIT with: its writes, its noted reads in the order in which they are checked, and the
 /// moment of the COMMIT in milliseconds.
-#[derive(Debug, Drop)]
+#[derive(Debug)]
 pub struct Plan {
     pub id: TxId,
     pub writes: Writes,
     pub notes: Seq<Note>,
     pub now: i64,
+}
+
+// By hand: each drop is then one call, where a derived one stands at each place with a call for each field.
+impl Drop for Plan {
+    fn drop(self) {
+        let Plan {
+            id: _,
+            writes: _,
+            notes: _,
+            now: _,
+        } = self;
+    }
 }
 
 fn plan_of(plans: &[Plan], id: TxId) -> Option<&Plan>

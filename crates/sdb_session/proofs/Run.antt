@@ -1,10 +1,12 @@
 -- What holds after all statements is a run of the headline.
-use Rattle.std.proofs.Common.{◌≡◌, ℕ, zero, suc, ◌+◌, ◌-◌, ◌<◌, ◌≤◌, ◌^◌, Bool, true, false, cond, List, [], ◌∷◌, length, Option, Some, None, IfSome, refl, sym, ap, subst, ◌∙◌, arith, pos, inl, ◌⊎◌}
+use Rattle.std.proofs.Common.{◌≡◌, ℕ, zero, suc, ◌+◌, ◌-◌, ◌<◌, ◌≤◌, ◌^◌, Bool, true, false, cond, List, [], ◌∷◌, length, Option, Some, None, IfSome, refl, sym, ap, subst, ◌∙◌, arith, pos, inl, inr, ◌⊎◌, ◌*◌, ◌++◌}
 use Rattle.std.specs.Prelude.{map, nat_lt, ◌==◌, unwrap_or, is_some, IsSome, IsSomeAnd, Contains}
 use Rattle.std.specs.FinMap.{empty}
 use Rattle.std.specs.Option.{option_and_then, option_map_or}
 use Rattle.std.specs.Result.{result_ok}
 use Rattle.std.proofs.lemmas.Bool.Decides.{nat_tests}
+use Rattle.std.proofs.lemmas.List.Elements.{Contains-append_cases}
+use Rattle.sdb_model.proofs.RealTime.{statements_in_time}
 use Rattle.sdb_types.specs.declared.txid.TxId.{TxId}
 use Rattle.sdb_types.specs.declared.record.Record.{Record}
 use Rattle.sdb_types.specs.Contents.{Contents, record_at}
@@ -22,14 +24,14 @@ use Rattle.sdb_model.specs.Exec.{Tables, find_table}
 use Rattle.sdb_model.specs.Images.{decision_at}
 use Rattle.sdb_script.specs.Accounts.{has_accounts, script_of_client}
 use Rattle.sdb_txn.specs.Txn.{Working}
-use Rattle.sdb_model.specs.Transactions.{Said, id_of, body, client_of, ordinal_of, point, last_prepare, commit_of, Recorded, IsOrder}
-use Rattle.sdb_model.specs.Told.{dumps_of, serial, AreImages, AreBodies, AreRead, answers_told, IsTold, KeepsRealTime, StandsBefore, IsRun, commit_answer}
+use Rattle.sdb_model.specs.Transactions.{Said, said, id_of, body, client_of, ordinal_of, point, last_prepare, commit_of, Recorded, IsOrder}
+use Rattle.sdb_model.specs.Told.{dumps_of, serial, AreImages, AreBodies, AreRead, answers_told, IsTold, IsRecordedCommit, CommittedIsOwned, KeepsRealTime, TransactionsInRealTime, StandsBefore, IsRun, commit_answer}
 use Rattle.sdb_session.specs.Session.{Session, shelves_of, dump_held, outcome_of}
 use Rattle.sdb_session.specs.Opening.{IsTakenFrom, IsToldInside}
 use Rattle.sdb_session.proofs.Basics.{by_test, some_is, not_none}
 use Rattle.sdb_session.proofs.Ids.{is_own, own_says, own_is, own_client, own_ordinal, id_parts}
 use Rattle.sdb_session.proofs.Works.{works_all}
-use Rattle.sdb_session.proofs.Saids.{Finished, IsFinished, AreFinished, finished_at, Parts, parts, no_commit, other_client, NoEnd, nothing_ends, open_ends, open_body}
+use Rattle.sdb_session.proofs.Saids.{Finished, IsFinished, AreFinished, finished_at, Parts, parts, no_commit, other_client, NoEnd, nothing_ends, open_ends, open_body, saids_of, told_commit, NotTold, nothing_told, open_not_told}
 use Rattle.sdb_session.proofs.Orders.{order_of, AllFrom, all_turned, all_placed, Placed, finished_of, some_at, all_points, contained, contains_own, chain_finished, chain_rises, chain_in_order, stands_before, are_bodies, are_answers}
 use Rattle.sdb_session.proofs.Finals.{final_dumps, nothing_at}
 use Rattle.sdb_session.proofs.Stands.{Past, Opened, StandsAt, row_of}
@@ -177,7 +179,37 @@ module _ (catalog : List Table) (c : ScriptClient) (d0 : Tables) (k : ℕ) (s : 
       let f = finished_of IsFinished fs (ordinal_of id) x.finished (all_finished catalog c empty d0 k s fs rest d p bound) x.at in
       ap (option_and_then (λ (y : Said). y.answer)) (parts_of catalog c empty d0 k s fs rest d p bound id x).commit ∙ f.told
 
-  real_time_is : KeepsRealTime [] s.events (shelves_of s.held) (order_of 1 fs)
+  -- nothing that is said since the finished transactions was answered Committed
+  owned_is : NotTold rest → CommittedIsOwned [] s.events (shelves_of s.held)
+  owned_is silent client x among told =
+      by_test (1 == client)
+      (λ t. let one : client ≡ 1 = grind (arith, nat_tests) in own one (subst (λ ss. Contains ss x) (ap (λ (n : ℕ). said n s.events) one ∙ p.heard.spoken) among))
+      (λ t. absurd (nowhere (subst (λ ss. Contains ss x) (p.heard.others client t) among)))
+    where
+      nowhere : Contains [] x → ⊥
+      nowhere (k, less, same) = absurd (omega arith)
+
+      own : client ≡ 1 → Contains (saids_of fs ++ rest) x → IsRecordedCommit [] s.events (shelves_of s.held) client x
+      own one h = elim (Contains-append_cases (saids_of fs) rest x h) [
+        | inl done ↦
+            let r = told_commit fs x (all_finished catalog c empty d0 k s fs rest d p bound) done told in
+            let w = within (suc r.k) fs r.finished r.at in
+            let high = w.high in
+            let a = few catalog c empty d0 k s fs rest d p bound in
+            let small : suc r.k < 2 ^ 64 = omega arith in
+            let e : Done_as (id_of 1 (suc r.k)) fs = record { finished = r.finished; at = ap (λ (i : ℕ). finished_at i fs) (own_ordinal (suc r.k) small) ∙ r.at; client = own_client (suc r.k) small } in
+            let fits : 1 * 2 ^ 64 + suc r.k < 2 ^ 128 = omega arith in
+            record {
+              id = id_of 1 (suc r.k);
+              fits = fits;
+              owner = own_client (suc r.k) small ∙ sym one;
+              commit = (parts_of catalog c empty d0 k s fs rest d p bound (id_of 1 (suc r.k)) e).commit ∙ ap (λ y. Some y) r.same;
+              recorded = own_recorded (id_of 1 (suc r.k)) fits (done_own (id_of 1 (suc r.k)) fs e a);
+            }
+        | inr later ↦ absurd (silent x later told)
+      ]
+
+  real_time_is : TransactionsInRealTime [] s.events (shelves_of s.held) (order_of 1 fs)
   real_time_is early late small_early small_late x commits told recorded n began behind =
       let e = answered_done early x commits in
       let l = own_done late fs (recorded_own late small_late recorded) in
@@ -205,34 +237,36 @@ module _ (catalog : List Table) (c : ScriptClient) (d0 : Tables) (k : ℕ) (s : 
       less_or a b f g = by_test (nat_lt a b) (λ t. f (grind (arith, nat_tests))) (λ t. g (grind (arith, nat_tests)))
 
 -- with the tables run from empty ones
-told_is : (catalog : List Table) (c : ScriptClient) (k : ℕ) (s : Session) (fs : List Finished) (rest : List Said) (d : Tables) → Past catalog c empty empty k s fs rest d → k < 2 ^ 64 → NoEnd rest → IsPrintable catalog s.held
+told_is : (catalog : List Table) (c : ScriptClient) (k : ℕ) (s : Session) (fs : List Finished) (rest : List Said) (d : Tables) → Past catalog c empty empty k s fs rest d → k < 2 ^ 64 → NoEnd rest → NotTold rest → IsPrintable catalog s.held
     → IsTold catalog [] s.events (shelves_of s.held) (order_of 1 fs) (map (dump_held s.held) catalog)
-told_is catalog c k s fs rest d p bound no_end print = record {
+told_is catalog c k s fs rest d p bound no_end silent print = record {
   bodies = map (λ (f : Finished). f.statements) fs;
   read = are_bodies s.events 1 fs (all_parts catalog c empty empty k s fs rest d p bound) (all_finished catalog c empty empty k s fs rest d p bound);
   answers = are_answers s.events 1 fs (all_parts catalog c empty empty k s fs rest d p bound) (all_finished catalog c empty empty k s fs rest d p bound) ∙ sym (ap (λ (r : List (List Answer) × Tables). map (map Some) r.0) p.serial);
   printed = final_dumps catalog s.held d print.fine print.apart p.kept p.images print.has ∙ sym (ap (λ (r : List (List Answer) × Tables). dumps_of catalog r.1) p.serial);
   images = subst (AreImages catalog [] (shelves_of s.held)) (sym (ap (λ (r : List (List Answer) × Tables). r.1) p.serial)) p.images;
   committed = λ id small told. own_recorded catalog c empty k s fs rest d p bound no_end id small (done_own id fs (told_done catalog c empty k s fs rest d p bound no_end id answer.Committed told) (few catalog c empty empty k s fs rest d p bound));
+  owned = owned_is catalog c empty k s fs rest d p bound no_end silent;
   known = λ id small recorded. inl (finished_told catalog c empty k s fs rest d p bound no_end id (own_done id fs (recorded_own catalog c empty k s fs rest d p bound no_end id small recorded)));
 }
 
-past_run : (catalog : List Table) (c : ScriptClient) (s : Session) (fs : List Finished) (rest : List Said) (d : Tables) → Past catalog c empty empty (length c.statements) s fs rest d → length c.statements < 2 ^ 64 → NoEnd rest → IsPrintable catalog s.held
+past_run : (catalog : List Table) (c : ScriptClient) (s : Session) (fs : List Finished) (rest : List Said) (d : Tables) → Past catalog c empty empty (length c.statements) s fs rest d → length c.statements < 2 ^ 64 → NoEnd rest → NotTold rest → IsPrintable catalog s.held
     → IsRun (script_of_client [] catalog c) (shelves_of empty) (shelves_of s.held) (outcome_of catalog s.events s.order s.held)
-past_run catalog c s fs rest d p bound no_end print =
+past_run catalog c s fs rest d p bound no_end silent print =
     record {
       moments = p.heard.traced.moments;
       follows = works_all c s.events p.heard.works;
       consistent = p.heard.traced.trace;
       order = subst (IsOrder [] s.events (shelves_of s.held)) (sym p.ordered) (order_is catalog c empty (length c.statements) s fs rest d p bound no_end);
-      told = subst (λ (ps : List Point). IsTold catalog [] s.events (shelves_of s.held) ps (map (dump_held s.held) catalog)) (sym p.ordered) (told_is catalog c (length c.statements) s fs rest d p bound no_end print);
-      real_time = subst (KeepsRealTime [] s.events (shelves_of s.held)) (sym p.ordered) (real_time_is catalog c empty (length c.statements) s fs rest d p bound no_end);
+      told = subst (λ (ps : List Point). IsTold catalog [] s.events (shelves_of s.held) ps (map (dump_held s.held) catalog)) (sym p.ordered) (told_is catalog c (length c.statements) s fs rest d p bound no_end silent print);
+      real_time = subst (KeepsRealTime [] s.events (shelves_of s.held)) (sym p.ordered)
+          (statements_in_time [] s.events (shelves_of s.held) (order_of 1 fs) (owned_is catalog c empty (length c.statements) s fs rest d p bound no_end silent) (real_time_is catalog c empty (length c.statements) s fs rest d p bound no_end));
     }
 
 pub stands_run : (catalog : List Table) (c : ScriptClient) (s : Session) (o : Option Working) → StandsAt catalog c empty empty (length c.statements) o s → length c.statements < 2 ^ 64 → IsPrintable catalog s.held
     → IsRun (script_of_client [] catalog c) (shelves_of empty) (shelves_of s.held) (outcome_of catalog s.events s.order s.held)
-stands_run catalog c s None h bound print = past_run catalog c s h.fs [] h.d h.past bound nothing_ends print
-stands_run catalog c s (Some w) h bound print = past_run catalog c s h.fs (h.begin ∷ h.body) h.d h.past bound (open_ends h.begin h.body h.begins h.plain) print
+stands_run catalog c s None h bound print = past_run catalog c s h.fs [] h.d h.past bound nothing_ends nothing_told print
+stands_run catalog c s (Some w) h bound print = past_run catalog c s h.fs (h.begin ∷ h.body) h.d h.past bound (open_ends h.begin h.body h.begins h.plain) (λ x among told. open_not_told h.begin h.body x h.begins h.plain among told) print
 
 ---- from any contents
 

@@ -1,26 +1,32 @@
 -- The transactions of one client among what it said.
-use Rattle.std.proofs.Common.{◌≡◌, ℕ, zero, suc, ◌+◌, ◌<◌, ◌≤◌, Bool, true, false, cond, List, [], ◌∷◌, ◌++◌, length, take, Option, Some, None, refl, sym, ap, subst, ◌∙◌, arith, append_assoc}
-use Rattle.std.specs.Prelude.{◌==◌, map, filter, find, not, take_while}
+use Rattle.std.proofs.Common.{◌≡◌, ℕ, zero, suc, ◌+◌, ◌<◌, ◌≤◌, Bool, true, false, cond, List, [], ◌∷◌, ◌++◌, length, take, Option, Some, None, inl, inr, refl, sym, ap, subst, ◌∙◌, arith, append_assoc}
+use Rattle.std.specs.Prelude.{◌==◌, ◌&&◌, map, filter, find, not, take_while, Contains}
 use Rattle.std.specs.List.{AllByRecursion, prefix_len}
 use Rattle.std.specs.Option.{option_and_then, option_map}
 use Rattle.std.proofs.Math.Numerals.{one-add}
 use Rattle.std.proofs.lemmas.List.{append-nil}
+use Rattle.std.proofs.lemmas.List.Elements.{Contains-append_cases}
 use Rattle.sdb_types.specs.declared.txid.TxId.{TxId}
 use Rattle.sdb_model.specs.declared.answer.Answer.{Answer}
 use Rattle.sdb_model.specs.declared.answer.Answer.TheVariants as answer
 use Rattle.sdb_model.specs.declared.event.Event.{Event}
 use Rattle.sdb_model.specs.declared.statement.Statement.{Statement}
-use Rattle.sdb_model.specs.Reading.{reads_commit}
-use Rattle.sdb_model.specs.Transactions.{Said, said, said_since, from_begin, begins, ends, is_effective, first_of, rest_of, begun, commit_of, body, client_of, ordinal_of}
+use Rattle.sdb_model.specs.Reading.{reads_begin, reads_commit}
+use Rattle.sdb_model.specs.Transactions.{Said, said, said_since, from_begin, begins, ends, is_done, is_effective, first_of, rest_of, begun, commit_of, body, client_of, ordinal_of}
 use Rattle.sdb_model.specs.Told.{AreRead}
 use Rattle.std.proofs.lemmas.Bool.Decides.{nat_tests}
 use Rattle.sdb_session.proofs.Basics.{some_is}
+
+abbrev pub is_told_committed : Option Answer → Bool
+is_told_committed (Some answer.Committed) = true
+is_told_committed _ = false
 
 -- a statement between BEGIN and COMMIT
 pub record IsPlain (s : Said) : Type 0 where
   pub begins : begins s ≡ false
   pub ends : ends s ≡ false
   pub effective : is_effective s ≡ true
+  pub uncommitted : is_told_committed s.answer ≡ false
 
 abbrev pub ArePlain : List Said → Type 0
 ArePlain ss = AllByRecursion IsPlain ss
@@ -202,3 +208,60 @@ pub other_client : (events : List Event) (id : TxId) → said (client_of id) eve
 other_client events id none =
     ap (λ ss. option_and_then (λ (x : Said). cond (reads_commit x.text) (Some x) None) (find ends (rest_of (from_begin (ordinal_of id) ss)))) none
     ∙ ap (λ ss. option_and_then (λ (x : Said). cond (reads_commit x.text) (Some x) None) (find ends (rest_of ss))) (nothing_since (ordinal_of id))
+
+---- who was told Committed
+
+told_is : (a : Option Answer) → a ≡ Some answer.Committed → is_told_committed a ≡ true
+told_is a e = ap is_told_committed e
+
+never : {A : Type 0} → true ≡ false → A
+never e = absurd (cc)
+
+begins_done : (s : Said) → begins s ≡ true → s.answer ≡ Some answer.Committed → ⊥
+begins_done s h e = never (sym (right (reads_begin s.text) (is_done s.answer) h) ∙ ap is_done e)
+  where
+    right : (a b : Bool) → (a && b) ≡ true → b ≡ true
+    right true b e = e
+    right false b e = never (sym e)
+
+plain_not_told : (ss : List Said) (s : Said) → ArePlain ss → Contains ss s → s.answer ≡ Some answer.Committed → ⊥
+plain_not_told [] s h (k, less, same) e = absurd (omega arith)
+plain_not_told (x ∷ xs) s h (zero, less, same) e = never (sym (told_is x.answer (ap (λ (y : Said). y.answer) same ∙ e)) ∙ h.0.uncommitted)
+plain_not_told (x ∷ xs) s h (suc k, less, same) e = plain_not_told xs s h.1 (k, omega arith, same) e
+
+-- the COMMIT that was answered Committed, of the k-th of the finished transactions
+pub record IsCommitAt (fs : List Finished) (s : Said) : Type 0 where
+  pub k : ℕ
+  pub finished : Finished
+  pub at : finished_at (suc k) fs ≡ Some finished
+  pub same : finished.commit ≡ s
+
+is_one : (x s : Said) → Contains (x ∷ []) s → x ≡ s
+is_one x s (zero, less, same) = same
+is_one x s (suc k, less, same) = absurd (omega arith)
+
+pub told_commit : (fs : List Finished) (s : Said) → AreFinished fs → Contains (saids_of fs) s → s.answer ≡ Some answer.Committed → IsCommitAt fs s
+told_commit [] s all (k, less, same) e = absurd (omega arith)
+told_commit (f ∷ fs) s all h e = elim (Contains-append_cases (f.begin ∷ (f.body ++ f.commit ∷ [])) (saids_of fs) s h) [
+  | inl here ↦ elim (Contains-append_cases (f.begin ∷ f.body) (f.commit ∷ []) s here) [
+    | inl front ↦ elim (Contains-append_cases (f.begin ∷ []) f.body s front) [
+      | inl first ↦ absurd (begins_done f.begin all.0.begin (ap (λ (y : Said). y.answer) (is_one f.begin s first) ∙ e))
+      | inr inside ↦ absurd (plain_not_told f.body s all.0.plain inside e)
+    ]
+    | inr last ↦ record { k = 0; finished = f; at = refl; same = is_one f.commit s last }
+  ]
+  | inr later ↦ let r = told_commit fs s all.1 later e in record { k = suc r.k; finished = r.finished; at = r.at; same = r.same }
+]
+
+abbrev pub NotTold : List Said → Type 0
+NotTold ss = (s : Said) → Contains ss s → s.answer ≡ Some answer.Committed → ⊥
+
+pub nothing_told : NotTold []
+nothing_told s (k, less, same) e = absurd (omega arith)
+
+-- nothing that is not finished was told Committed
+pub open_not_told : (b : Said) (ss : List Said) (s : Said) → begins b ≡ true → ArePlain ss → Contains (b ∷ ss) s → s.answer ≡ Some answer.Committed → ⊥
+open_not_told b ss s h plain among e = elim (Contains-append_cases (b ∷ []) ss s among) [
+  | inl first ↦ begins_done b h (ap (λ (y : Said). y.answer) (is_one b s first) ∙ e)
+  | inr inside ↦ plain_not_told ss s plain inside e
+]

@@ -32,7 +32,7 @@ use Rattle.sdb_session.specs.Session.{Session, take_event, account_key, account_
 use Rattle.sdb_session.proofs.Basics.{true_false, length_more}
 use Rattle.sdb_session.proofs.Puts.{AreDistinct, Stand}
 use Rattle.sdb_session.proofs.Exec.{AreAccounts, accounts_insert, exec_insert, exec_select, tables_after}
-use Rattle.sdb_session.proofs.Saids.{Finished, IsPlain, saids_of}
+use Rattle.sdb_session.proofs.Saids.{Finished, IsPlain, saids_of, is_told_committed}
 use Rattle.sdb_session.proofs.Orders.{order_of, all_turned}
 use Rattle.sdb_session.proofs.Accounts.{Accounts}
 use Rattle.sdb_session.proofs.Images.{Kept, in_accounts, AreInserts, IsInsert, with_writes, row_read, still_settled}
@@ -129,15 +129,15 @@ exec_looks catalog (account.Insert n m) d k h f all = exec_insert catalog n m d 
 exec_looks catalog (account.Select n) d k h f all = exec_select catalog n d k f all
 exec_looks catalog account.Commit d k h f all = true_false (sym h)
 
-plain_at : (a : AccountStatement) (given : Answer) (taken answered : ℕ) → IsOther a → is_done (Some given) ≡ false → is_conflict (Some given) ≡ false → changes_nothing given ≡ false → IsPlain (record { taken = taken; text = account_text a; answer = Some given; answered = answered })
-plain_at a given taken answered o done conflict nothing = record { begins = rw o.begins refl; ends = rw (o.commits, conflict, o.rolls) refl; effective = rw nothing refl }
+plain_at : (a : AccountStatement) (given : Answer) (taken answered : ℕ) → IsOther a → is_done (Some given) ≡ false → is_conflict (Some given) ≡ false → changes_nothing given ≡ false → is_told_committed (Some given) ≡ false → IsPlain (record { taken = taken; text = account_text a; answer = Some given; answered = answered })
+plain_at a given taken answered o done conflict nothing committed = record { begins = rw o.begins refl; ends = rw (o.commits, conflict, o.rolls) refl; effective = rw nothing refl; uncommitted = committed }
 
 -- it is no end of the transaction, and has an effect
 plain_of : (a : AccountStatement) (row : Option (List Pair)) (taken answered : ℕ) → looks a ≡ true → IsPlain (record { taken = taken; text = account_text a; answer = Some (answer_to a row); answered = answered })
 plain_of account.Begin row taken answered h = true_false (sym h)
-plain_of (account.Insert n m) None taken answered h = plain_at (account.Insert n m) (answer.Count 1) taken answered (insert_other n m) refl refl refl
-plain_of (account.Insert n m) (Some columns) taken answered h = plain_at (account.Insert n m) (answer.Duplicate (account_key n)) taken answered (insert_other n m) refl refl refl
-plain_of (account.Select n) row taken answered h = plain_at (account.Select n) (answer_to (account.Select n) row) taken answered (select_other n) refl refl refl
+plain_of (account.Insert n m) None taken answered h = plain_at (account.Insert n m) (answer.Count 1) taken answered (insert_other n m) refl refl refl refl
+plain_of (account.Insert n m) (Some columns) taken answered h = plain_at (account.Insert n m) (answer.Duplicate (account_key n)) taken answered (insert_other n m) refl refl refl refl
+plain_of (account.Select n) row taken answered h = plain_at (account.Select n) (answer_to (account.Select n) row) taken answered (select_other n) refl refl refl refl
 plain_of account.Commit row taken answered h = true_false (sym h)
 
 abbrev onto : List Table → Statement → List Answer × Tables → List Answer × Tables

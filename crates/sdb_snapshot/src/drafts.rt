@@ -29,11 +29,21 @@ pub enum WriteRefused {
 }
 
 /// One write for each key, in the order of first writing, and the place of each key.
-#[derive(Drop)]
 pub struct Drafts {
     alloc: Global,
     places: KeyMap<()>,
     writes: Writes,
+}
+
+// By hand: each drop is then one call, where a derived one stands at each place with a call for each field.
+impl Drop for Drafts {
+    fn drop(self) {
+        let Drafts {
+            alloc: _,
+            places: _,
+            writes: _,
+        } = self;
+    }
 }
 
 impl Model for Drafts {
@@ -63,7 +73,7 @@ fn lay(places: &KeyMap<()>, writes: &mut Vec<Write>, keyed: Keyed)
     requires { ArePlaces places.now writes.old.items }
     ensures { writes.new.items ≡ with_laid writes.old.items keyed }
 {
-    let Keyed { key, change } = keyed;
+    let (key, change) = keyed.into_parts();
     match places.place(&key) {
         Some(i) => writes[i].change = change,
         None => {}

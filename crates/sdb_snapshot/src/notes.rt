@@ -16,11 +16,21 @@ use std::marker::Model;
 /// What was found at each key that was read, in the order of first reading. The keys stand in a tree too, in their own
 /// order, so that those of a span are found without the others. The tree may hold keys more: those that were put there
 /// before memory ran out in the middle of a scan.
-#[derive(Drop)]
 pub struct Notes {
     alloc: Global,
     found: KeyMap<Option<Record>>,
     order: Tree,
+}
+
+// By hand: each drop is then one call, where a derived one stands at each place with a call for each field.
+impl Drop for Notes {
+    fn drop(self) {
+        let Notes {
+            alloc: _,
+            found: _,
+            order: _,
+        } = self;
+    }
 }
 
 impl Model for Notes {

@@ -1,25 +1,26 @@
 //! The rows that records show.
 ghost use Rattle.std.specs.Prelude.{◌≡◌, IfOk, OnOk, true};
 ghost use Rattle.std.specs.Option.{option_copied};
+ghost use Rattle.sdb_types.specs.Columns.{column};
 ghost use Rattle.sdb_types.specs.Contents.{has_value};
 ghost use Rattle.sdb_types.specs.declared.value.Value.TheVariants as literal;
-ghost use Rattle.sdb_record.specs.Names.{tx_tombstone};
 ghost use Rattle.sdb_record.specs.Parts.{user_columns as user_columns_lem, with_columns};
 ghost use Rattle.sdb_record.specs.Rolls.{is_tombstone as is_tombstone_lem, row_of_image, row_of_change as row_of_change_lem};
 ghost use Rattle.sdb_snapshot.specs.Rows.{row_found};
 
 use sdb_record::{Change, is_user_name};
-use sdb_types::{Columns, Duplicate, Name, NameRefused, NoMemory, Pair, Record, Value};
+use sdb_types::{Columns, Duplicate, NoMemory, Pair, Record, Value};
 use std::alloc::Global;
 
-fn tombstone_name(alloc: Global) -> Result<Name, NoMemory>
-    ensures { IfOk result (λ name. name ≡ tx_tombstone) }
+// The value of a column.
+fn value_named<'a>(columns: &'a Columns, name: &str) -> Option<&'a Value>
+    ensures { option_copied result ≡ column columns.now name.now }
 {
-    match Name::new(alloc, "tx_tombstone") {
-        Ok(name) => Ok(name),
-        Err(NameRefused::NoMemory) => Err(NoMemory),
-        Err(NameRefused::BadName) => unreachable!(),
-    }
+    columns
+        .pairs()
+        .iter()
+        .find(|pair| pair.name.as_str().cmp(name).is_eq())
+        .map(|pair| &pair.value)
 }
 
 fn is_true(value: Option<&Value>) -> bool
@@ -32,11 +33,10 @@ fn is_true(value: Option<&Value>) -> bool
 }
 
 // Whether a record marks that its row was deleted.
-fn is_tombstone(alloc: Global, rec: &Record) -> Result<bool, NoMemory>
-    ensures { IfOk result (λ tombstone. tombstone ≡ is_tombstone_lem rec.now) }
+fn is_tombstone(rec: &Record) -> bool
+    ensures { result ≡ is_tombstone_lem rec.now }
 {
-    let name = tombstone_name(alloc)?;
-    Ok(is_true(rec.columns.get(&name)))
+    is_true(value_named(&rec.columns, "tx_tombstone"))
 }
 
 // Sets a copy of each user column.
@@ -64,7 +64,7 @@ fn user_columns(alloc: Global, columns: &Columns) -> Result<Columns, NoMemory>
 pub fn row_of(alloc: Global, rec: &Record) -> Result<Option<Columns>, NoMemory>
     ensures { IfOk result (λ row. row ≡ row_of_image rec.now) }
 {
-    if is_tombstone(alloc, rec)? {
+    if is_tombstone(rec) {
         Ok(None)
     } else {
         Ok(Some(user_columns(alloc, &rec.columns)?))

@@ -45,13 +45,25 @@ impl From<NoMemory> for NoteRefused {
 /// Noted records are found by a hash of the key and so are own writes: `lookup` takes constant time, and `write` constant
 /// time for each change, as far as hashes don't collide. The noted keys stand in a tree in their own order too, so that
 /// `overlay_span` looks at the keys of its span alone.
-#[derive(Drop)]
 pub struct Snapshot {
     alloc: Global,
     notes: Notes,
     drafts: Drafts,
     reads: Reads,
     scans: Scans,
+}
+
+// By hand: each drop is then one call, where a derived one stands at each place with a call for each field.
+impl Drop for Snapshot {
+    fn drop(self) {
+        let Snapshot {
+            alloc: _,
+            notes: _,
+            drafts: _,
+            reads: _,
+            scans: _,
+        } = self;
+    }
 }
 
 impl Model for Snapshot {

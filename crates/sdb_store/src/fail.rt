@@ -30,12 +30,22 @@ pub enum Fate {
 }
 
 /// The calls made so far, and which of them fail.
-#[derive(Drop)]
 pub struct Calls {
     pub failing: Fails,
     pub made: u64,
     pub failed: u64,
     ghost fewer: { failed ≤ made },
+}
+
+// By hand: each drop is then one call, where a derived one stands at each place with a call for each field.
+impl Drop for Calls {
+    fn drop(self) {
+        let Calls {
+            failing: _,
+            made: _,
+            failed: _,
+        } = self;
+    }
 }
 
 // The first entry with that number.

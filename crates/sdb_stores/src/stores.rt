@@ -26,11 +26,20 @@ struct Slot {
 }
 
 /// Stores in boxes, by name.
-#[derive(Drop)]
 pub struct Stores {
     slots: Vec<Slot>,
     places: Vec<Place>,
     ghost distinct: { AreDistinct (map (λ slot. slot.name) slots.items) },
+}
+
+// By hand: each drop is then one call, where a derived one stands at each place with a call for each field.
+impl Drop for Stores {
+    fn drop(self) {
+        let Stores {
+            slots: _,
+            places: _,
+        } = self;
+    }
 }
 
 // What a slot shows.

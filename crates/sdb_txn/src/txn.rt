@@ -175,9 +175,9 @@ impl Txn {
         ensures ok { OnOk result (self.new ≡ written self.old change) }
         ensures err { OnErr result (self.new ≡ self.old) }
     {
-        let Keyed { key, change } = change;
-        let base = self.base(&key)?;
-        let place = key.copy()?;
+        let base = self.base(&change.key)?;
+        let place = change.key.copy()?;
+        let (key, change) = change.into_parts();
         self.drafts.put(place, Write { key, base, change })?;
         Ok(())
     }

@@ -13,10 +13,19 @@ use std::collections::BTreeMap;
 use std::marker::Model;
 
 /// What is wished at keys, in key order.
-#[derive(Drop)]
 pub struct WishMap {
     alloc: Global,
     wishes: BTreeMap<Key, Wish>,
+}
+
+// By hand: each drop is then one call, where a derived one stands at each place with a call for each field.
+impl Drop for WishMap {
+    fn drop(self) {
+        let WishMap {
+            alloc: _,
+            wishes: _,
+        } = self;
+    }
 }
 
 impl Model for WishMap {

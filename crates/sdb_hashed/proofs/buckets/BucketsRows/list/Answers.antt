@@ -8,4 +8,4 @@ pub returns-in_ok-gather-in-None : goal.returns-in_ok-gather-in-None
 returns-in_ok-gather-in-None c =
     let span = c.args.span.now in
     let all = c.in_ok-gather-in-None.field-0 in
-    rows_along c.list-in-None.result (rows_in span all) (rows_in span c.args.self.now) (same_rows span all (held c.self.inside.trees.entries) c.in_ok-gather-in-None.ensures ∙ ap (rows_in span) c.self.view_is) c.list-in-None.ensures
+    rows_along c.list.result (rows_in span all) (rows_in span c.args.self.now) (same_rows span all (held c.self.inside.trees.entries) c.in_ok-gather-in-None.ensures ∙ ap (rows_in span) c.self.view_is) c.list.ensures

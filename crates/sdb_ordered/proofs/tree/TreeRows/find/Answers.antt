@@ -8,13 +8,13 @@ use Rattle.sdb_types.proofs.KeyOrder.{key_total}
 use Rattle.sdb_ordered.proofs.TreeLemmas.{get_entries}
 use Rattle.sdb_ordered.proofs.tree.TreeRows.find.Goals as goal
 
-pub returns-in_ok-copy-in-Some-2 : goal.returns-in_ok-copy-in-Some-2
-returns-in_ok-copy-in-Some-2 c =
+pub returns-in_ok-copied-in-Some : goal.returns-in_ok-copied-in-Some
+returns-in_ok-copied-in-Some c =
     let key = c.args.key.now in
     let found : Some c.in-Some.columns.now ≡ get c.args.self.now key =
     c.in-Some.ensures.value ∙ sym (get_entries key_total c.self.inside.rows.entries key) ∙ ap (λ m. get m key) c.self.view_is in
     let whole : List Pair → Record = λ columns. record_of (key, columns) in
-    rw (c.in_ok-copy-in-Some.ensures, c.in_ok-copy-in-Some-2.ensures) (ap (option_map whole) found)
+    rw (c.in_ok-copied-in-Some.ensures) (ap (option_map whole) found)
 
 pub returns-in-None : goal.returns-in-None
 returns-in-None c =
