@@ -52,14 +52,14 @@ fn a_balance_is_written(rt: HostRuntime) -> Result<(), Fail> {
     Ok(())
 }
 
-fn is_bad_record(alloc: Global, bytes: &[u8], at: usize) -> bool {
+fn is_bad_record(alloc: Global, bytes: &[u8], at: u64) -> bool {
     match read_record(alloc, bytes) {
         Err(refused) => refused == ReadRefused::BadBytes(at),
         Ok(_) => false,
     }
 }
 
-fn is_bad_key(alloc: Global, bytes: &[u8], at: usize) -> bool {
+fn is_bad_key(alloc: Global, bytes: &[u8], at: u64) -> bool {
     match read_key(alloc, bytes) {
         Err(refused) => refused == ReadRefused::BadBytes(at),
         Ok(_) => false,
