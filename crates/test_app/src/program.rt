@@ -9,7 +9,7 @@ use sdb_types::Name;
 use sqlite::Connection;
 use std::alloc::Global;
 use std::test::Fail;
-use test_builders::first_wrong;
+use test_builders::{all_hold, hold};
 
 const REPLAY: &[&str] = &["replay"];
 
@@ -26,7 +26,7 @@ struct Play {
     written: &'static [u8],
 }
 
-const PLAYED: [Play; 7] = [
+static PLAYED: [Play; 7] = [
     Play {
         script: SCRIPT,
         written: REPORT,
@@ -64,13 +64,13 @@ const PLAYED: [Play; 7] = [
 ];
 
 // A script of an account that is kept in an SQLite database.
-const KEPT: [Play; 1] = [Play {
+static KEPT: [Play; 1] = [Play {
     script: b"place bank sqlite\nschema {\"bank.account\":{\"partition-key\":[\"id\"],\"columns\":{\"id\":\"INT\",\"balance\":\"INT\"}}}\nclient a\n  BEGIN\n  INSERT INTO bank.account (id, balance) VALUES (1, 100)\n  COMMIT\nrun\nrest\n",
     written: b"scalardb report 1\nevents 7\n1 take 1 done : BEGIN\n2 take 1 - : INSERT INTO bank.account (id, balance) VALUES (1, 100)\n3 call 1 sqlite get bank.account(1) seen found none count 1\n4 take 1 - : COMMIT\n5 call 1 sqlite put bank.account(1){balance=100,tx_id='00000000-0000-0001-0000-000000000001',tx_prepared_at=0L,tx_state=1,tx_version=1} if absent seen applied -\n6 call 1 ordered put coordinator.state('00000000-0000-0001-0000-000000000001'){tx_created_at=0L,tx_state=3} if absent seen applied -\n7 call 1 sqlite put bank.account(1){balance=100,tx_committed_at=0L,tx_id='00000000-0000-0001-0000-000000000001',tx_prepared_at=0L,tx_state=3,tx_version=1} if 00000000-0000-0001-0000-000000000001 1 seen applied committed\norder 1\n00000000-0000-0001-0000-000000000001 5\ntables 1\ntable bank.account 1\n(100,1)\nend\n",
 }];
 
 // Calls that end otherwise.
-const STOPPED: [Case; 5] = [
+static STOPPED: [Case; 5] = [
     // A read that fails writes nothing, and a write that fails leaves a prefix.
     Case {
         words: REPLAY,
@@ -177,27 +177,19 @@ fn played(play: Play) -> Case {
 #[test]
 fn scripts_have_their_reports(rt: HostRuntime) -> Result<(), Fail> {
     let alloc = rt.alloc();
-    let wrong = first_wrong(PLAYED.as_slice(), |play| on_memory(alloc, played(play)))?;
-    assert_eq!(rt; wrong, None);
-    Ok(())
+    all_hold(PLAYED.as_slice(), |play| on_memory(alloc, played(play)))
 }
 
 #[test]
 fn a_namespace_kept_with_sqlite(rt: HostRuntime) -> Result<(), Fail> {
     let alloc = rt.alloc();
-    let wrong = first_wrong(KEPT.as_slice(), |play| on_kept(alloc, played(play)))?;
-    assert_eq!(rt; wrong, None);
-    Ok(())
+    all_hold(KEPT.as_slice(), |play| on_kept(alloc, played(play)))
 }
 
 #[test]
 fn calls_end_otherwise(rt: HostRuntime) -> Result<(), Fail> {
     let alloc = rt.alloc();
-    assert_eq!(rt;
-        first_wrong(STOPPED.as_slice(), |case| on_memory(alloc, case))?,
-        None
-    );
-    Ok(())
+    all_hold(STOPPED.as_slice(), |case| on_memory(alloc, case))
 }
 
 fn stopped(script: &'static [u8], end: End) -> Case {
@@ -229,12 +221,10 @@ fn stops_after(alloc: Global, call: u64, line: &str, code: u8) -> Result<bool, F
 #[test]
 fn a_failed_call_writes_nothing(rt: HostRuntime) -> Result<(), Fail> {
     let alloc = rt.alloc();
-    let wrong = first_wrong(
+    all_hold(
         [1, 4].as_slice(),
         |call| stops_after(alloc, call, "store fault", 6),
-    )?;
-    assert_eq!(rt; wrong, None);
-    Ok(())
+    )
 }
 
 // The first script, with its report.
@@ -256,8 +246,7 @@ fn is_not_empty(alloc: Global) -> Result<bool, Fail> {
 
 #[test]
 fn a_table_with_records_is_not_empty(rt: HostRuntime) -> Result<(), Fail> {
-    assert!(rt; is_not_empty(rt.alloc())?);
-    Ok(())
+    hold(is_not_empty(rt.alloc()))
 }
 
 fn is_not_built(alloc: Global) -> Result<bool, Fail> {
@@ -269,6 +258,5 @@ fn is_not_built(alloc: Global) -> Result<bool, Fail> {
 
 #[test]
 fn another_script_is_not_built(rt: HostRuntime) -> Result<(), Fail> {
-    assert!(rt; is_not_built(rt.alloc())?);
-    Ok(())
+    hold(is_not_built(rt.alloc()))
 }

@@ -6,10 +6,10 @@ use sdb_said::{Plan, Played};
 use sdb_types::{Condition, State};
 use std::alloc::Global;
 use std::test::Fail;
-use test_builders::first_wrong;
+use test_builders::all_hold;
 
 // Client 1 inserts the account; client 2 reads it, and begins its COMMIT.
-const START: [Step; 9] = [
+static START: [Step; 9] = [
     Step::Begins(ONE, 1),
     Step::Reads(1, Found::Nothing),
     Step::Takes(ONE, 1),
@@ -46,21 +46,17 @@ fn is_judged(alloc: Global, plans: &[Plan], second: Second, case: Case) -> Resul
     Ok(is_lawful(alloc, plans, run.as_slice())? == case.lawful)
 }
 
-// The place of the first case that is judged otherwise.
-fn first_judged_wrong(
-    alloc: Global,
-    second: Second,
-    cases: &[Case],
-) -> Result<Option<usize>, Fail> {
+// Whether each case is judged as listed.
+fn all_judged(alloc: Global, second: Second, cases: &[Case]) -> Result<(), Fail> {
     let mut plans = Vec::new(alloc);
     add_plans(alloc, &mut plans, second)?;
-    first_wrong(
+    all_hold(
         cases,
         |case| is_judged(alloc, plans.as_slice(), second, case),
     )
 }
 
-const LOST_DECISIONS: [Case; 4] = [
+static LOST_DECISIONS: [Case; 4] = [
     Case {
         steps: &[
             Step::Prepares(TWO, 2),
@@ -96,12 +92,10 @@ const LOST_DECISIONS: [Case; 4] = [
 // prepare, nor is it denied.
 #[test]
 fn a_lost_decision(rt: HostRuntime) -> Result<(), Fail> {
-    let wrong = first_judged_wrong(rt.alloc(), Second::Updates, LOST_DECISIONS.as_slice())?;
-    assert_eq!(rt; wrong, None);
-    Ok(())
+    all_judged(rt.alloc(), Second::Updates, LOST_DECISIONS.as_slice())
 }
 
-const RECOVERIES: [Case; 5] = [
+static RECOVERIES: [Case; 5] = [
     Case {
         steps: &[
             Step::Prepares(TWO, 2),
@@ -165,12 +159,10 @@ const RECOVERIES: [Case; 5] = [
 // commits. Not without the look at the row, nor the roll, nor the check; nor where the check finds what is undecided.
 #[test]
 fn a_recovery(rt: HostRuntime) -> Result<(), Fail> {
-    let wrong = first_judged_wrong(rt.alloc(), Second::Updates, RECOVERIES.as_slice())?;
-    assert_eq!(rt; wrong, None);
-    Ok(())
+    all_judged(rt.alloc(), Second::Updates, RECOVERIES.as_slice())
 }
 
-const VACUUMS: [Case; 3] = [
+static VACUUMS: [Case; 3] = [
     Case {
         steps: &[
             Step::Prepares(TWO, 2),
@@ -206,12 +198,10 @@ const VACUUMS: [Case; 3] = [
 // VACUUM reads a tombstone and removes it. Not where nothing was read, nor while a transaction is open.
 #[test]
 fn a_vacuum(rt: HostRuntime) -> Result<(), Fail> {
-    let wrong = first_judged_wrong(rt.alloc(), Second::Deletes, VACUUMS.as_slice())?;
-    assert_eq!(rt; wrong, None);
-    Ok(())
+    all_judged(rt.alloc(), Second::Deletes, VACUUMS.as_slice())
 }
 
-const ROLLS_BACK: [Case; 3] = [
+static ROLLS_BACK: [Case; 3] = [
     Case {
         steps: &[
             Step::Prepares(TWO, 2),
@@ -236,12 +226,10 @@ const ROLLS_BACK: [Case; 3] = [
 // What was aborted is rolled back, and what was not isn't; a row ABORTED is put where there is none.
 #[test]
 fn a_roll_back(rt: HostRuntime) -> Result<(), Fail> {
-    let wrong = first_judged_wrong(rt.alloc(), Second::Updates, ROLLS_BACK.as_slice())?;
-    assert_eq!(rt; wrong, None);
-    Ok(())
+    all_judged(rt.alloc(), Second::Updates, ROLLS_BACK.as_slice())
 }
 
-const OTHER_MOVES: [Case; 6] = [
+static OTHER_MOVES: [Case; 6] = [
     Case {
         steps: &[Step::Begins(ONE, 1)],
         lawful: false,
@@ -272,7 +260,5 @@ const OTHER_MOVES: [Case; 6] = [
 // part; Committed is answered where nothing tells it.
 #[test]
 fn other_moves(rt: HostRuntime) -> Result<(), Fail> {
-    let wrong = first_judged_wrong(rt.alloc(), Second::Updates, OTHER_MOVES.as_slice())?;
-    assert_eq!(rt; wrong, None);
-    Ok(())
+    all_judged(rt.alloc(), Second::Updates, OTHER_MOVES.as_slice())
 }

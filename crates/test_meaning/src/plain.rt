@@ -6,7 +6,7 @@ use sdb_sqltext::parse_statement;
 use sdb_types::{Condition, Name, Seq, TxId, Value};
 use std::alloc::Global;
 use std::test::Fail;
-use test_builders::{Ask, Cell, Happening, Place, Row, Said, Told, account, events_of};
+use test_builders::{Ask, Cell, Happening, Place, Row, Said, Told, account, events_of, hold};
 
 const FIRST: TxId = TxId(0x1_0000_0000_0000_0001);
 
@@ -56,8 +56,7 @@ fn is_duplicate(alloc: Global) -> Result<bool, Fail> {
 
 #[test]
 fn an_insert_counts_and_then_is_a_duplicate(rt: HostRuntime) -> Result<(), Fail> {
-    assert!(rt; is_duplicate(rt.alloc())?);
-    Ok(())
+    hold(is_duplicate(rt.alloc()))
 }
 
 // Whether the account has that balance.
@@ -75,8 +74,7 @@ fn has_row(alloc: Global) -> Result<bool, Fail> {
 
 #[test]
 fn the_row_is_there(rt: HostRuntime) -> Result<(), Fail> {
-    assert!(rt; has_row(rt.alloc())?);
-    Ok(())
+    hold(has_row(rt.alloc()))
 }
 
 const ACCOUNT: Place = Place {
@@ -96,7 +94,7 @@ const COMMITTED: Row = Row {
     columns: &[("tx_id", FIRST_TEXT), ("tx_state", Cell::Int(3))],
 };
 
-const EVENTS: [Happening; 6] = [
+static EVENTS: [Happening; 6] = [
     Happening::Take("BEGIN", Some(Said::Done)),
     Happening::Take(INSERT, None),
     Happening::Call(Ask::Get(ACCOUNT), Told::Found(None), Some(Said::Count(1))),
@@ -116,28 +114,30 @@ fn first_point(alloc: Global) -> Result<Option<Point>, Fail> {
     Ok(order.at(0).copied())
 }
 
-#[test]
-fn the_first_transaction_is_at_its_last_prepare(rt: HostRuntime) -> Result<(), Fail> {
+fn is_at_last_prepare(alloc: Global) -> Result<bool, Fail> {
     let point = Point {
         id: FIRST,
         event: 5,
     };
-    assert!(rt; first_point(rt.alloc())? == Some(point));
-    Ok(())
+    Ok(first_point(alloc)? == Some(point))
 }
 
-const WITHOUT_PREPARES: [Happening; 2] = [
+#[test]
+fn the_first_transaction_is_at_its_last_prepare(rt: HostRuntime) -> Result<(), Fail> {
+    hold(is_at_last_prepare(rt.alloc()))
+}
+
+static WITHOUT_PREPARES: [Happening; 2] = [
     Happening::Take("BEGIN", Some(Said::Done)),
     Happening::Take("COMMIT", Some(Said::Committed)),
 ];
 
-fn point_of_commit(alloc: Global) -> Result<u64, Fail> {
+fn is_at_commit(alloc: Global) -> Result<bool, Fail> {
     let events = events_of(alloc, WITHOUT_PREPARES.as_slice())?;
-    Ok(point(alloc, events.as_slice(), FIRST)?)
+    Ok(point(alloc, events.as_slice(), FIRST)? == 2)
 }
 
 #[test]
 fn without_a_prepare_its_commit_counts(rt: HostRuntime) -> Result<(), Fail> {
-    assert_eq!(rt; point_of_commit(rt.alloc())?, 2);
-    Ok(())
+    hold(is_at_commit(rt.alloc()))
 }

@@ -9,7 +9,7 @@ use sdb_sqltext::parse_statement;
 use sdb_types::{Columns, Duplicate, Key, Seq, Span};
 use std::alloc::Global;
 use std::test::Fail;
-use test_builders::{Cell, Place, key_of};
+use test_builders::{Cell, Place, hold, key_of, wrong_at};
 
 fn is_in(span: &Span, key: &Key) -> bool {
     match &span.partition {
@@ -164,7 +164,7 @@ fn after(
     after_statement(alloc, catalog, &statement, case.1, rows)
 }
 
-const STATEMENTS: [(&str, &str); 32] = [
+static STATEMENTS: [(&str, &str); 32] = [
     (
         "INSERT INTO shop.item (cat, n, qty) VALUES (1, 1, 5)",
         "count 1",
@@ -250,27 +250,26 @@ const STATEMENTS: [(&str, &str); 32] = [
     ("SELECT * FROM shop.item", "rows 0"),
 ];
 
-// The first statement that is answered otherwise.
-fn first_wrong(alloc: Global, catalog: &Catalog) -> Result<Option<usize>, Fail> {
+// Whether each statement is answered as listed, on the rows that those before it leave.
+fn all_answered(alloc: Global, catalog: &Catalog) -> Result<(), Fail> {
     let mut rows = Images::new(alloc);
-    for (i, case) in STATEMENTS.iter().enumerate() {
+    for (place, case) in STATEMENTS.iter().enumerate() {
         match after(alloc, catalog, *case, rows.as_slice())? {
             Some(left) => rows = left,
-            None => return Ok(Some(i)),
+            None => return Err(wrong_at(place)),
         }
     }
-    Ok(None)
+    Ok(())
 }
 
 #[test]
 fn plans_answer_as_plain_tables_do(rt: HostRuntime) -> Result<(), Fail> {
     let catalog = shop(rt.alloc())?;
-    assert_eq!(rt; first_wrong(rt.alloc(), &catalog)?, None);
-    Ok(())
+    all_answered(rt.alloc(), &catalog)
 }
 
 // Keys that have no value for the clustering column.
-const UNFIT: [Place; 2] = [
+static UNFIT: [Place; 2] = [
     Place {
         ns: "shop",
         table: "item",
@@ -287,8 +286,8 @@ const UNFIT: [Place; 2] = [
 
 fn unfit(alloc: Global) -> Result<Images, Fail> {
     let mut rows = Images::new(alloc);
-    for place in UNFIT {
-        let key = key_of(alloc, place)?;
+    for place in UNFIT.iter() {
+        let key = key_of(alloc, *place)?;
         let columns = Columns::new(alloc);
         rows.push(Image { key, columns })?;
     }
@@ -305,6 +304,5 @@ fn names_first(alloc: Global, catalog: &Catalog, rows: &[Image]) -> Result<bool,
 fn the_first_row_that_does_not_fit_is_named(rt: HostRuntime) -> Result<(), Fail> {
     let catalog = shop(rt.alloc())?;
     let rows = unfit(rt.alloc())?;
-    assert!(rt; names_first(rt.alloc(), &catalog, rows.as_slice())?);
-    Ok(())
+    hold(names_first(rt.alloc(), &catalog, rows.as_slice()))
 }

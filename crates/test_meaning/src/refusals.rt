@@ -6,7 +6,7 @@ use sdb_schema::Catalog;
 use sdb_sqltext::parse_statement;
 use std::alloc::{AllocError, Global};
 use std::test::Fail;
-use test_builders::first_wrong;
+use test_builders::all_hold;
 
 // What becomes of the plan of a statement.
 #[derive(Clone, Copy, PartialEq, Eq)]
@@ -30,7 +30,7 @@ fn has_fate(alloc: Global, catalog: &Catalog, text: &str, fate: Fate) -> Result<
 }
 
 // The kind and the place of each refusal.
-const REFUSED: [(&str, u8, u32); 24] = [
+static REFUSED: [(&str, u8, u32); 24] = [
     ("SELECT x FROM shop.other", 6, 0),
     ("BEGIN", 6, 0),
     ("SELECT n, x FROM shop.item WHERE y = 1", 7, 2),
@@ -85,11 +85,9 @@ const REFUSED: [(&str, u8, u32); 24] = [
 fn statements_are_refused(rt: HostRuntime) -> Result<(), Fail> {
     let alloc = rt.alloc();
     let catalog = shop(alloc)?;
-    let wrong = first_wrong(REFUSED.as_slice(), |case| {
+    all_hold(REFUSED.as_slice(), |case| {
         has_fate(alloc, &catalog, case.0, Fate::Refused(case.1, case.2))
-    })?;
-    assert_eq!(rt; wrong, None);
-    Ok(())
+    })
 }
 
 // A statement that tests a note against a text of so many bytes.
@@ -103,7 +101,7 @@ fn long_test(alloc: Global, length: usize) -> Result<String, AllocError> {
 }
 
 // The lengths of texts, and what becomes of their statements.
-const LONG: [(usize, Fate); 2] = [(4097, Fate::Refused(13, 3)), (4096, Fate::Planned)];
+static LONG: [(usize, Fate); 2] = [(4097, Fate::Refused(13, 3)), (4096, Fate::Planned)];
 
 fn long_has_fate(
     alloc: Global,
@@ -119,9 +117,7 @@ fn long_has_fate(
 fn long_texts_are_refused(rt: HostRuntime) -> Result<(), Fail> {
     let alloc = rt.alloc();
     let catalog = shop(alloc)?;
-    let wrong = first_wrong(LONG.as_slice(), |case| {
+    all_hold(LONG.as_slice(), |case| {
         long_has_fate(alloc, &catalog, case.0, case.1)
-    })?;
-    assert_eq!(rt; wrong, None);
-    Ok(())
+    })
 }

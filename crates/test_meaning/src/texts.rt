@@ -4,7 +4,8 @@ use sdb_types::TxId;
 use std::alloc::Global;
 use std::test::Fail;
 use test_builders::{
-    Cell, Place, Row, Said, answer_of, first_wrong, key_of, record_of, span_of, value_of, values_of,
+    Cell, Place, Row, Said, all_hold, answer_of, hold, key_of, record_of, span_of, value_of,
+    values_of,
 };
 
 const CLUSTERING: &[Cell] = &[Cell::Int(2), Cell::Text("a")];
@@ -23,7 +24,7 @@ const RECORD: Row = Row {
     columns: &[("b", Cell::Bool(true)), ("a", Cell::Int(-7))],
 };
 
-const VALUES: [(Cell, &str); 6] = [
+static VALUES: [(Cell, &str); 6] = [
     (Cell::Null, "NULL"),
     (Cell::Bool(false), "FALSE"),
     (Cell::Int(-2147483648), "-2147483648"),
@@ -42,11 +43,7 @@ fn value_shows(alloc: Global, cell: Cell, shown: &str) -> Result<bool, Fail> {
 #[test]
 fn values_show(rt: HostRuntime) -> Result<(), Fail> {
     let alloc = rt.alloc();
-    assert_eq!(rt;
-        first_wrong(VALUES.as_slice(), |case| value_shows(alloc, case.0, case.1))?,
-        None
-    );
-    Ok(())
+    all_hold(VALUES.as_slice(), |case| value_shows(alloc, case.0, case.1))
 }
 
 fn key_shows(alloc: Global) -> Result<bool, Fail> {
@@ -55,7 +52,7 @@ fn key_shows(alloc: Global) -> Result<bool, Fail> {
 }
 
 // Partitions, or none, and the spans of the table.
-const SPANS: [(Option<&[Cell]>, &str); 2] = [
+static SPANS: [(Option<&[Cell]>, &str); 2] = [
     (Some(&[Cell::Int(1)]), "bank.item(1)"),
     (None, "bank.item"),
 ];
@@ -74,12 +71,8 @@ fn span_shows(
 #[test]
 fn keys_and_spans_show(rt: HostRuntime) -> Result<(), Fail> {
     let alloc = rt.alloc();
-    assert!(rt; key_shows(alloc)?);
-    assert_eq!(rt;
-        first_wrong(SPANS.as_slice(), |case| span_shows(alloc, case.0, case.1))?,
-        None
-    );
-    Ok(())
+    hold(key_shows(alloc))?;
+    all_hold(SPANS.as_slice(), |case| span_shows(alloc, case.0, case.1))
 }
 
 fn record_shows(alloc: Global) -> Result<bool, Fail> {
@@ -105,11 +98,12 @@ fn id_shows(alloc: Global) -> Result<bool, Fail> {
 #[test]
 fn records_and_rows_show(rt: HostRuntime) -> Result<(), Fail> {
     let alloc = rt.alloc();
-    assert!(rt; record_shows(alloc)? && row_shows(alloc)? && id_shows(alloc)?);
-    Ok(())
+    hold(record_shows(alloc))?;
+    hold(row_shows(alloc))?;
+    hold(id_shows(alloc))
 }
 
-const ANSWERS: [(Said, &str); 17] = [
+static ANSWERS: [(Said, &str); 17] = [
     (Said::Rows(&[]), "rows 0"),
     (
         Said::Rows(&[&[Cell::Int(1)], CLUSTERING]),
@@ -155,10 +149,8 @@ fn answer_shows(alloc: Global, said: Said, shown: &str) -> Result<bool, Fail> {
 #[test]
 fn answers_show(rt: HostRuntime) -> Result<(), Fail> {
     let alloc = rt.alloc();
-    let wrong = first_wrong(
+    all_hold(
         ANSWERS.as_slice(),
         |case| answer_shows(alloc, case.0, case.1),
-    )?;
-    assert_eq!(rt; wrong, None);
-    Ok(())
+    )
 }

@@ -5,7 +5,7 @@ use sdb_decide::{Decide, DecideStep};
 use sdb_types::{NameRefused, TxId};
 use std::alloc::Global;
 use std::test::Fail;
-use test_builders::first_wrong;
+use test_builders::all_hold;
 
 const OWN: TxId = TxId(0x2_0000_0000_0000_0001);
 
@@ -46,16 +46,12 @@ fn tells(alloc: Global, before: &[Answer], answer: Answer, told: Told) -> Result
     Ok(told_after(alloc, decide, before, answer, EXPIRED)? == told)
 }
 
-// Which of these answers after those tells something else.
-fn wrong(
-    alloc: Global,
-    before: &[Answer],
-    answers: &[(Answer, Told)],
-) -> Result<Option<usize>, Fail> {
-    first_wrong(answers, |case| tells(alloc, before, case.0, case.1))
+// Whether each of these answers after those tells what is listed.
+fn all_tell(alloc: Global, before: &[Answer], answers: &[(Answer, Told)]) -> Result<(), Fail> {
+    all_hold(answers, |case| tells(alloc, before, case.0, case.1))
 }
 
-const TO_PUT: [(Answer, Told); 6] = [
+static TO_PUT: [(Answer, Told); 6] = [
     (Answer::Applied, Told::Committed),
     (ABORTED, Told::Expired),
     (COMMITTED, Told::Committed),
@@ -64,7 +60,7 @@ const TO_PUT: [(Answer, Told); 6] = [
     (BAD_ROW, Told::BadRecord),
 ];
 
-const TO_LOOK: [(Answer, Told); 6] = [
+static TO_LOOK: [(Answer, Told); 6] = [
     (COMMITTED, Told::Committed),
     (ABORTED, Told::Expired),
     (Answer::NoRow, Told::More),
@@ -74,7 +70,7 @@ const TO_LOOK: [(Answer, Told); 6] = [
 ];
 
 // COMMITTED is found only where the deciding put takes effect late.
-const TO_ABORT: [(Answer, Told); 6] = [
+static TO_ABORT: [(Answer, Told); 6] = [
     (Answer::Applied, Told::Faulted),
     (COMMITTED, Told::Committed),
     (ABORTED, Told::Expired),
@@ -84,7 +80,7 @@ const TO_ABORT: [(Answer, Told); 6] = [
 ];
 
 // COMMITTED is found only where the deciding put takes effect late.
-const TO_SECOND_LOOK: [(Answer, Told); 6] = [
+static TO_SECOND_LOOK: [(Answer, Told); 6] = [
     (COMMITTED, Told::Committed),
     (ABORTED, Told::Faulted),
     (Answer::NoRow, Told::Unknown),
@@ -94,31 +90,24 @@ const TO_SECOND_LOOK: [(Answer, Told); 6] = [
 ];
 
 // The deciding put faults; then there is no row; then the put of ABORTED faults.
-const FAULTS: [Answer; 3] = [Answer::Fault, Answer::NoRow, Answer::Fault];
+static FAULTS: [Answer; 3] = [Answer::Fault, Answer::NoRow, Answer::Fault];
 
 #[test]
 fn deciding_put_is_answered(rt: HostRuntime) -> Result<(), Fail> {
-    assert_eq!(rt; wrong(rt.alloc(), &[], TO_PUT.as_slice())?, None);
-    Ok(())
+    all_tell(rt.alloc(), &[], TO_PUT.as_slice())
 }
 
 #[test]
 fn row_is_looked_for_after_a_fault(rt: HostRuntime) -> Result<(), Fail> {
-    assert_eq!(rt; wrong(rt.alloc(), &FAULTS[..1], TO_LOOK.as_slice())?, None);
-    Ok(())
+    all_tell(rt.alloc(), &FAULTS[..1], TO_LOOK.as_slice())
 }
 
 #[test]
 fn put_of_aborted_is_answered(rt: HostRuntime) -> Result<(), Fail> {
-    assert_eq!(rt; wrong(rt.alloc(), &FAULTS[..2], TO_ABORT.as_slice())?, None);
-    Ok(())
+    all_tell(rt.alloc(), &FAULTS[..2], TO_ABORT.as_slice())
 }
 
 #[test]
 fn row_is_looked_for_a_second_time(rt: HostRuntime) -> Result<(), Fail> {
-    assert_eq!(rt;
-        wrong(rt.alloc(), &FAULTS, TO_SECOND_LOOK.as_slice())?,
-        None
-    );
-    Ok(())
+    all_tell(rt.alloc(), &FAULTS, TO_SECOND_LOOK.as_slice())
 }

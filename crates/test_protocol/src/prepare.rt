@@ -6,7 +6,7 @@ use sdb_prepare::{Prepare, PrepareStep};
 use sdb_types::{NameRefused, TxId};
 use std::alloc::Global;
 use std::test::Fail;
-use test_builders::first_wrong;
+use test_builders::all_hold;
 
 const OWN: TxId = TxId(0x1_0000_0000_0000_0001);
 
@@ -42,7 +42,7 @@ struct Case {
     touched: usize,
 }
 
-const CASES: [Case; 4] = [
+static CASES: [Case; 4] = [
     // Each write is prepared.
     Case {
         steps: &[(Answer::Applied, Told::More), (Answer::Applied, Told::Done)],
@@ -76,9 +76,5 @@ fn ends(alloc: Global, case: Case) -> Result<bool, Fail> {
 #[test]
 fn prepares_are_answered(rt: HostRuntime) -> Result<(), Fail> {
     let alloc = rt.alloc();
-    assert_eq!(rt;
-        first_wrong(CASES.as_slice(), |case| ends(alloc, case))?,
-        None
-    );
-    Ok(())
+    all_hold(CASES.as_slice(), |case| ends(alloc, case))
 }

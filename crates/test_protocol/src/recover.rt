@@ -6,14 +6,14 @@ use sdb_recover::{Recover, RecoverStep};
 use sdb_types::{NameRefused, NoMemory, Record, TxId};
 use std::alloc::Global;
 use std::test::Fail;
-use test_builders::{Cell, account_with, first_wrong};
+use test_builders::{Cell, account_with, all_hold};
 
 const OTHER: TxId = TxId(0x1_0000_0000_0000_0001);
 
 const OTHER_TEXT: &str = "00000000-0000-0001-0000-000000000001";
 
 // A new row of the other transaction.
-const PREPARED: [(&str, Cell); 5] = [
+static PREPARED: [(&str, Cell); 5] = [
     ("tx_id", Cell::Text(OTHER_TEXT)),
     ("tx_state", Cell::Int(1)),
     ("tx_version", Cell::Int(1)),
@@ -22,7 +22,7 @@ const PREPARED: [(&str, Cell); 5] = [
 ];
 
 // The same, committed at the moment of the coordinator's row.
-const IMAGE: [(&str, Cell); 6] = [
+static IMAGE: [(&str, Cell); 6] = [
     ("tx_id", Cell::Text(OTHER_TEXT)),
     ("tx_state", Cell::Int(3)),
     ("tx_version", Cell::Int(1)),
@@ -108,17 +108,17 @@ fn tells(
     Ok(told_after(alloc, begin(alloc)?, before, answer, now)? == told)
 }
 
-// Which of these answers after those tells something else, at a moment.
-fn wrong(
+// Whether each of these answers after those tells what is listed, at a moment.
+fn all_tell(
     alloc: Global,
     before: &[Answer],
     now: i64,
     answers: &[(Answer, Told)],
-) -> Result<Option<usize>, Fail> {
-    first_wrong(answers, |case| tells(alloc, before, now, case.0, case.1))
+) -> Result<(), Fail> {
+    all_hold(answers, |case| tells(alloc, before, now, case.0, case.1))
 }
 
-const TO_EARLY_LOOK: [(Answer, Told); 6] = [
+static TO_EARLY_LOOK: [(Answer, Told); 6] = [
     (Answer::NoRow, Told::Busy),
     (COMMITTED, Told::More),
     (ABORTED, Told::More),
@@ -127,7 +127,7 @@ const TO_EARLY_LOOK: [(Answer, Told); 6] = [
     (BAD_ROW, Told::BadRecord),
 ];
 
-const TO_LATE_LOOK: [(Answer, Told); 6] = [
+static TO_LATE_LOOK: [(Answer, Told); 6] = [
     (Answer::NoRow, Told::More),
     (COMMITTED, Told::More),
     (ABORTED, Told::More),
@@ -136,7 +136,7 @@ const TO_LATE_LOOK: [(Answer, Told); 6] = [
     (BAD_ROW, Told::BadRecord),
 ];
 
-const TO_ABORT: [(Answer, Told); 6] = [
+static TO_ABORT: [(Answer, Told); 6] = [
     (Answer::Applied, Told::More),
     (COMMITTED, Told::More),
     (ABORTED, Told::More),
@@ -145,7 +145,7 @@ const TO_ABORT: [(Answer, Told); 6] = [
     (BAD_ROW, Told::BadRecord),
 ];
 
-const TO_SECOND_LOOK: [(Answer, Told); 6] = [
+static TO_SECOND_LOOK: [(Answer, Told); 6] = [
     (COMMITTED, Told::More),
     (ABORTED, Told::More),
     (Answer::NoRow, Told::Faulted),
@@ -154,14 +154,14 @@ const TO_SECOND_LOOK: [(Answer, Told); 6] = [
     (BAD_ROW, Told::BadRecord),
 ];
 
-const TO_FORWARD: [(Answer, Told); 4] = [
+static TO_FORWARD: [(Answer, Told); 4] = [
     (Answer::Applied, Told::Forward),
     (Answer::NotMet, Told::Forward),
     (Answer::Fault, Told::Faulted),
     (Answer::Starved, Told::NoMemory),
 ];
 
-const TO_BACK: [(Answer, Told); 4] = [
+static TO_BACK: [(Answer, Told); 4] = [
     (Answer::Applied, Told::Back),
     (Answer::NotMet, Told::Back),
     (Answer::Fault, Told::Faulted),
@@ -175,17 +175,18 @@ fn is_rolled(
     now: i64,
     answers: &[(Answer, Told)],
 ) -> Result<bool, Fail> {
-    Ok(wrong(alloc, before, now, answers)?.is_none())
+    all_tell(alloc, before, now, answers)?;
+    Ok(true)
 }
 
 // What leads to a roll, and the moment of its answer.
-const TO_COMMITTED: [(&[Answer], i64); 3] = [
+static TO_COMMITTED: [(&[Answer], i64); 3] = [
     (&[COMMITTED], EARLIER),
     (&[Answer::NoRow, COMMITTED], EXPIRED),
     (&[Answer::NoRow, Answer::Fault, COMMITTED], EXPIRED),
 ];
 
-const TO_ABORTED: [(&[Answer], i64); 4] = [
+static TO_ABORTED: [(&[Answer], i64); 4] = [
     (&[ABORTED], EARLIER),
     (&[Answer::NoRow, ABORTED], EXPIRED),
     (&[Answer::NoRow, Answer::Fault, ABORTED], EXPIRED),
@@ -194,59 +195,39 @@ const TO_ABORTED: [(&[Answer], i64); 4] = [
 
 #[test]
 fn busy_before_15_seconds_have_passed(rt: HostRuntime) -> Result<(), Fail> {
-    assert_eq!(rt;
-        wrong(rt.alloc(), &[], EARLIER, TO_EARLY_LOOK.as_slice())?,
-        None
-    );
-    Ok(())
+    all_tell(rt.alloc(), &[], EARLIER, TO_EARLY_LOOK.as_slice())
 }
 
 #[test]
 fn puts_aborted_when_15_seconds_have_passed(rt: HostRuntime) -> Result<(), Fail> {
-    assert_eq!(rt;
-        wrong(rt.alloc(), &[], EXPIRED, TO_LATE_LOOK.as_slice())?,
-        None
-    );
-    Ok(())
+    all_tell(rt.alloc(), &[], EXPIRED, TO_LATE_LOOK.as_slice())
 }
 
 #[test]
 fn put_of_aborted_is_answered(rt: HostRuntime) -> Result<(), Fail> {
     let before = [Answer::NoRow];
-    assert_eq!(rt;
-        wrong(rt.alloc(), &before, EXPIRED, TO_ABORT.as_slice())?,
-        None
-    );
-    Ok(())
+    all_tell(rt.alloc(), &before, EXPIRED, TO_ABORT.as_slice())
 }
 
 #[test]
 fn row_is_looked_for_a_second_time(rt: HostRuntime) -> Result<(), Fail> {
     let before = [Answer::NoRow, Answer::Fault];
-    assert_eq!(rt;
-        wrong(rt.alloc(), &before, EXPIRED, TO_SECOND_LOOK.as_slice())?,
-        None
-    );
-    Ok(())
+    all_tell(rt.alloc(), &before, EXPIRED, TO_SECOND_LOOK.as_slice())
 }
 
 #[test]
 fn committed_row_is_followed(rt: HostRuntime) -> Result<(), Fail> {
     let alloc = rt.alloc();
-    let wrong = first_wrong(TO_COMMITTED.as_slice(), |case| {
+    all_hold(TO_COMMITTED.as_slice(), |case| {
         is_rolled(alloc, case.0, case.1, TO_FORWARD.as_slice())
-    })?;
-    assert_eq!(rt; wrong, None);
-    Ok(())
+    })
 }
 
 // The last of these is the recovery's own put of ABORTED.
 #[test]
 fn aborted_row_is_followed(rt: HostRuntime) -> Result<(), Fail> {
     let alloc = rt.alloc();
-    let wrong = first_wrong(TO_ABORTED.as_slice(), |case| {
+    all_hold(TO_ABORTED.as_slice(), |case| {
         is_rolled(alloc, case.0, case.1, TO_BACK.as_slice())
-    })?;
-    assert_eq!(rt; wrong, None);
-    Ok(())
+    })
 }

@@ -6,7 +6,7 @@ use sdb_decide::{Abort, Commit};
 use sdb_types::{Condition, NameRefused, Request, TxId};
 use std::alloc::Global;
 use std::test::Fail;
-use test_builders::{first_wrong, number_of};
+use test_builders::{all_hold, hold, number_of};
 
 const OWN: TxId = TxId(0x2_0000_0000_0000_0001);
 
@@ -81,8 +81,7 @@ fn rolls_forward(alloc: Global) -> Result<bool, Fail> {
 
 #[test]
 fn rolls_every_write_forward(rt: HostRuntime) -> Result<(), Fail> {
-    assert!(rt; rolls_forward(rt.alloc())?);
-    Ok(())
+    hold(rolls_forward(rt.alloc()))
 }
 
 // How many writes may have taken effect, whether the row is put, and the answers with what they tell.
@@ -93,7 +92,7 @@ struct Case {
     steps: &'static [(Answer, Told)],
 }
 
-const BACK: [Case; 3] = [
+static BACK: [Case; 3] = [
     // Each write is rolled back.
     Case {
         touched: 2,
@@ -135,9 +134,5 @@ fn rolls_back(alloc: Global, case: Case) -> Result<bool, Fail> {
 #[test]
 fn rolls_back_what_was_touched(rt: HostRuntime) -> Result<(), Fail> {
     let alloc = rt.alloc();
-    assert_eq!(rt;
-        first_wrong(BACK.as_slice(), |case| rolls_back(alloc, case))?,
-        None
-    );
-    Ok(())
+    all_hold(BACK.as_slice(), |case| rolls_back(alloc, case))
 }

@@ -7,7 +7,7 @@ use sdb_snapshot::{NoteRefused, Snapshot, WriteRefused};
 use sdb_types::{Columns, Duplicate, Key, NameRefused, NoMemory, Record, Records, Span};
 use std::alloc::Global;
 use std::test::Fail;
-use test_builders::{Cell, account, columns_of, span_of};
+use test_builders::{Cell, account, columns_of, hold, span_of};
 
 const FIRST: Cell = Cell::Text("00000000-0000-0001-0000-000000000001");
 
@@ -168,7 +168,7 @@ fn rows_after(alloc: Global, seen: &mut Snapshot, acts: &[Act]) -> Result<usize,
     rows(alloc, seen)
 }
 
-const INSERTS: [Act; 3] = [Act::Scan, Act::Read(1, None), Act::Insert(1)];
+static INSERTS: [Act; 3] = [Act::Scan, Act::Read(1, None), Act::Insert(1)];
 
 fn inserts_and_deletes(alloc: Global, seen: &mut Snapshot) -> Result<bool, Fail> {
     let inserted = rows_after(alloc, seen, INSERTS.as_slice())?;
@@ -181,11 +181,10 @@ fn inserts_and_deletes(alloc: Global, seen: &mut Snapshot) -> Result<bool, Fail>
 #[test]
 fn inserted_and_then_deleted(rt: HostRuntime) -> Result<(), Fail> {
     let mut seen = Snapshot::new(rt.alloc());
-    assert!(rt; inserts_and_deletes(rt.alloc(), &mut seen)?);
-    Ok(())
+    hold(inserts_and_deletes(rt.alloc(), &mut seen))
 }
 
-const READS: [Act; 4] = [
+static READS: [Act; 4] = [
     Act::Scan,
     Act::Read(3, Some(ROW)),
     Act::Read(2, Some(TOMBSTONE)),
@@ -216,8 +215,7 @@ fn reads_and_shows(alloc: Global, seen: &mut Snapshot) -> Result<bool, Fail> {
 #[test]
 fn a_get_shows_in_a_scanned_span(rt: HostRuntime) -> Result<(), Fail> {
     let mut seen = Snapshot::new(rt.alloc());
-    assert!(rt; reads_and_shows(rt.alloc(), &mut seen)?);
-    Ok(())
+    hold(reads_and_shows(rt.alloc(), &mut seen))
 }
 
 fn tells_none_at(refused: Result<(), NoteRefused>, key: &Key) -> bool {
@@ -243,8 +241,7 @@ fn differs(alloc: Global, seen: &mut Snapshot) -> Result<bool, Fail> {
 #[test]
 fn a_scan_that_differs_is_not_noted(rt: HostRuntime) -> Result<(), Fail> {
     let mut seen = Snapshot::new(rt.alloc());
-    assert!(rt; differs(rt.alloc(), &mut seen)?);
-    Ok(())
+    hold(differs(rt.alloc(), &mut seen))
 }
 
 // Reads and deletes so many keys, one after the other.
@@ -280,6 +277,5 @@ fn fills(alloc: Global, seen: &mut Snapshot) -> Result<bool, Fail> {
 #[test]
 fn so_many_keys_may_be_written(rt: HostRuntime) -> Result<(), Fail> {
     let mut seen = Snapshot::new(rt.alloc());
-    assert!(rt; fills(rt.alloc(), &mut seen)?);
-    Ok(())
+    hold(fills(rt.alloc(), &mut seen))
 }

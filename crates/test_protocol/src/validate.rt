@@ -6,7 +6,7 @@ use sdb_types::{NameRefused, Record, Reply, Request, Seq, TxId};
 use sdb_validate::{Validate, ValidateStep, lies_in};
 use std::alloc::Global;
 use std::test::Fail;
-use test_builders::{Cell, account, account_with, first_wrong, span_of};
+use test_builders::{Cell, account, account_with, all_hold, span_of};
 
 const FIRST: TxId = TxId(0x1_0000_0000_0000_0001);
 
@@ -85,7 +85,7 @@ fn rereads(alloc: Global) -> Result<Validate, NameRefused> {
     Ok(Validate::new(alloc, &reads, &scans, &Writes::new(alloc))?)
 }
 
-const REREADS: [&[(Answer, Told)]; 5] = [
+static REREADS: [&[(Answer, Told)]; 5] = [
     // Each key is read again.
     &[
         (Answer::Row(OF_FIRST), Told::More),
@@ -106,11 +106,7 @@ fn reread_as(alloc: Global, steps: &[(Answer, Told)]) -> Result<bool, Fail> {
 #[test]
 fn reads_each_key_again(rt: HostRuntime) -> Result<(), Fail> {
     let alloc = rt.alloc();
-    assert_eq!(rt;
-        first_wrong(REREADS.as_slice(), |steps| reread_as(alloc, steps))?,
-        None
-    );
-    Ok(())
+    all_hold(REREADS.as_slice(), |steps| reread_as(alloc, steps))
 }
 
 fn reads_of(alloc: Global, versions: [Version; 3]) -> Result<Reads, NameRefused> {
@@ -208,7 +204,7 @@ fn finds_one(alloc: Global, case: Case) -> Result<bool, Fail> {
 
 const FOUND_FIRST: Told = Told::Conflict(1, Some(FIRST));
 
-const ONE: [Case; 6] = [
+static ONE: [Case; 6] = [
     // A phantom is a conflict.
     Case {
         found: [Some(FIRST), None, None],
@@ -247,11 +243,7 @@ const ONE: [Case; 6] = [
 #[test]
 fn phantom_is_a_conflict(rt: HostRuntime) -> Result<(), Fail> {
     let alloc = rt.alloc();
-    assert_eq!(rt;
-        first_wrong(ONE.as_slice(), |case| finds_one(alloc, case))?,
-        None
-    );
-    Ok(())
+    all_hold(ONE.as_slice(), |case| finds_one(alloc, case))
 }
 
 // The rescan finds the keys 2 and 3 in the second transaction's versions.
@@ -262,7 +254,7 @@ fn finds_two(alloc: Global, case: Case) -> Result<bool, Fail> {
     Ok(find_two(alloc, &mut validate, second, third)? == case.told)
 }
 
-const TWO: [Case; 3] = [
+static TWO: [Case; 3] = [
     Case {
         found: [Some(FIRST), None, Some(FIRST)],
         base: None,
@@ -283,9 +275,5 @@ const TWO: [Case; 3] = [
 #[test]
 fn conflict_is_the_first_in_key_order(rt: HostRuntime) -> Result<(), Fail> {
     let alloc = rt.alloc();
-    assert_eq!(rt;
-        first_wrong(TWO.as_slice(), |case| finds_two(alloc, case))?,
-        None
-    );
-    Ok(())
+    all_hold(TWO.as_slice(), |case| finds_two(alloc, case))
 }

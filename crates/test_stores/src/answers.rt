@@ -1,5 +1,5 @@
 //! The same calls on each store, and calls that are told to fail.
-use crate::steps::first_wrong_answer;
+use crate::steps::answers_as_told;
 use sdb_hashed::Hashed;
 use sdb_ordered::Ordered;
 use sdb_sqlite::{Kept, KeptRefused};
@@ -8,7 +8,7 @@ use sdb_types::{Condition, State, TxId};
 use sqlite::{Connection, MemStore};
 use std::alloc::Global;
 use std::test::Fail;
-use test_builders::{Ask, Cell, Place, Row, Told};
+use test_builders::{Ask, Cell, Place, Row, Told, hold};
 
 // Items of a shop, each by the number of its partition and its number there.
 const ITEM_1_1: Place = Place {
@@ -107,7 +107,7 @@ const PARTITION: Ask = Ask::Scan("shop", "item", Some(&[Cell::Int(1)]));
 const TABLE: Ask = Ask::Scan("shop", "item", None);
 
 // Calls on a store that begins empty, with their replies.
-const STEPS: [(Ask, Told); 14] = [
+static STEPS: [(Ask, Told); 14] = [
     (Ask::Put(AT_2_1_IS_5, Condition::Absent), Told::Applied),
     (Ask::Put(AT_1_2_IS_5, Condition::Absent), Told::Applied),
     (Ask::Put(AT_1_1_IS_5, Condition::Absent), Told::Applied),
@@ -137,16 +137,14 @@ const STEPS: [(Ask, Told); 14] = [
 fn ordered_answers_as_a_map_does(rt: HostRuntime) -> Result<(), Fail> {
     let alloc = rt.alloc();
     let store = Ordered::new(alloc, Fails::new(alloc));
-    assert_eq!(rt; first_wrong_answer(alloc, store, STEPS.as_slice())?, None);
-    Ok(())
+    answers_as_told(alloc, store, STEPS.as_slice())
 }
 
 #[test]
 fn hashed_answers_as_a_map_does(rt: HostRuntime) -> Result<(), Fail> {
     let alloc = rt.alloc();
     let store: Box<dyn Store> = Box::new(alloc, Hashed::new(alloc, Fails::new(alloc)))?;
-    assert_eq!(rt; first_wrong_answer(alloc, store, STEPS.as_slice())?, None);
-    Ok(())
+    answers_as_told(alloc, store, STEPS.as_slice())
 }
 
 // Over a new database.
@@ -154,8 +152,7 @@ fn hashed_answers_as_a_map_does(rt: HostRuntime) -> Result<(), Fail> {
 fn kept_answers_as_a_map_does(rt: HostRuntime) -> Result<(), Fail> {
     let alloc = rt.alloc();
     let store = Kept::new(alloc, Connection::open_in_memory(alloc)?)?;
-    assert_eq!(rt; first_wrong_answer(alloc, store, STEPS.as_slice())?, None);
-    Ok(())
+    answers_as_told(alloc, store, STEPS.as_slice())
 }
 
 // A database in which an index has the name of the table.
@@ -173,8 +170,7 @@ fn is_refused(alloc: Global) -> Result<bool, Fail> {
 
 #[test]
 fn table_that_is_refused(rt: HostRuntime) -> Result<(), Fail> {
-    assert!(rt; is_refused(rt.alloc())?);
-    Ok(())
+    hold(is_refused(rt.alloc()))
 }
 
 // The third call fails before its effect, though it is listed as failing after it too, and the first after it.
@@ -186,7 +182,7 @@ fn failing_calls(alloc: Global) -> Result<Fails, Fail> {
     Ok(failing)
 }
 
-const FAILING_STEPS: [(Ask, Told); 4] = [
+static FAILING_STEPS: [(Ask, Told); 4] = [
     (Ask::Put(AT_1_1_IS_5, Condition::Absent), Told::Fault),
     (Ask::Get(ITEM_1_1), Told::Found(Some(AT_1_1_IS_5))),
     (Ask::Put(AT_2_1_IS_5, Condition::Absent), Told::Fault),
@@ -197,9 +193,5 @@ const FAILING_STEPS: [(Ask, Told); 4] = [
 fn fails_before_and_after_the_effect(rt: HostRuntime) -> Result<(), Fail> {
     let alloc = rt.alloc();
     let store = Ordered::new(alloc, failing_calls(alloc)?);
-    assert_eq!(rt;
-        first_wrong_answer(alloc, store, FAILING_STEPS.as_slice())?,
-        None
-    );
-    Ok(())
+    answers_as_told(alloc, store, FAILING_STEPS.as_slice())
 }

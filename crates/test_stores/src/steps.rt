@@ -2,7 +2,8 @@
 use sdb_store::{Store, call};
 use sdb_types::{NameRefused, Reply};
 use std::alloc::Global;
-use test_builders::{Ask, Told, reply_of, request_of};
+use std::test::Fail;
+use test_builders::{Ask, Told, reply_of, request_of, wrong_at};
 
 /// Whether this is the reply that is told.
 pub fn is_reply(alloc: Global, reply: &Reply, told: Told) -> Result<bool, NameRefused> {
@@ -24,25 +25,21 @@ fn answers<S: Store>(
     is_reply(alloc, &reply, told)
 }
 
-fn first_wrong_by<S: Store>(
-    alloc: Global,
-    store: &mut S,
-    steps: &[(Ask, Told)],
-) -> Result<Option<usize>, NameRefused> {
-    for (i, step) in steps.iter().enumerate() {
+fn all_answered<S: Store>(alloc: Global, store: &mut S, steps: &[(Ask, Told)]) -> Result<(), Fail> {
+    for (place, step) in steps.iter().enumerate() {
         if !answers(alloc, store, step.0, step.1)? {
-            return Ok(Some(i));
+            return Err(wrong_at(place));
         }
     }
-    Ok(None)
+    Ok(())
 }
 
-/// The place of the first call that a store answers otherwise than is told, if there is one.
-pub fn first_wrong_answer<S: Store>(
+/// Fails at the first call that a store answers otherwise than is told.
+pub fn answers_as_told<S: Store>(
     alloc: Global,
     store: S,
     steps: &[(Ask, Told)],
-) -> Result<Option<usize>, NameRefused> {
+) -> Result<(), Fail> {
     let mut store = store;
-    first_wrong_by(alloc, &mut store, steps)
+    all_answered(alloc, &mut store, steps)
 }

@@ -2,7 +2,7 @@
 use sdb_sqltext::{ParseRefused, parse_statement, print_statement};
 use std::alloc::Global;
 use std::test::Fail;
-use test_builders::first_wrong;
+use test_builders::all_hold;
 
 // Whether a text is read, and printed as another.
 fn shows(alloc: Global, text: &str, printed: &str) -> Result<bool, Fail> {
@@ -17,7 +17,7 @@ fn refuses(alloc: Global, text: &str, refused: ParseRefused) -> Result<bool, Fai
     }
 }
 
-const READ: [(&str, &str); 3] = [
+static READ: [(&str, &str); 3] = [
     (
         "select*from \"SELECT\".\"from\" where a='it''s' and \"is\" is not null limit -0;",
         "SELECT * FROM \"SELECT\".\"from\" WHERE a = 'it''s' AND \"is\" IS NOT NULL LIMIT 0",
@@ -35,15 +35,11 @@ const READ: [(&str, &str); 3] = [
 #[test]
 fn statements_are_read(rt: HostRuntime) -> Result<(), Fail> {
     let alloc = rt.alloc();
-    assert_eq!(rt;
-        first_wrong(READ.as_slice(), |case| shows(alloc, case.0, case.1))?,
-        None
-    );
-    Ok(())
+    all_hold(READ.as_slice(), |case| shows(alloc, case.0, case.1))
 }
 
 // A token that is none or too wide comes first, wherever the statement breaks off. Literals are counted at the end.
-const REFUSED: [(&str, ParseRefused); 10] = [
+static REFUSED: [(&str, ParseRefused); 10] = [
     (
         "SELECT * FROM a.b WHERE x = 'abc",
         ParseRefused::BadToken(28),
@@ -80,9 +76,5 @@ const REFUSED: [(&str, ParseRefused); 10] = [
 #[test]
 fn hostile_texts_are_refused(rt: HostRuntime) -> Result<(), Fail> {
     let alloc = rt.alloc();
-    assert_eq!(rt;
-        first_wrong(REFUSED.as_slice(), |case| refuses(alloc, case.0, case.1))?,
-        None
-    );
-    Ok(())
+    all_hold(REFUSED.as_slice(), |case| refuses(alloc, case.0, case.1))
 }

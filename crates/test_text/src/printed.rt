@@ -4,7 +4,7 @@ use sdb_sqltext::print_statement;
 use sdb_types::{Name, NameRefused, Value};
 use std::alloc::Global;
 use std::test::Fail;
-use test_builders::{Cell, names_of, table_of, values_of};
+use test_builders::{Cell, hold, names_of, table_of, values_of};
 
 // Both names of the table are keywords.
 fn insert(alloc: Global) -> Result<Insert, NameRefused> {
@@ -57,6 +57,6 @@ fn prints_delete(alloc: Global) -> Result<bool, Fail> {
 
 #[test]
 fn statements_are_printed(rt: HostRuntime) -> Result<(), Fail> {
-    assert!(rt; prints_upsert(rt.alloc())? && prints_delete(rt.alloc())?);
-    Ok(())
+    hold(prints_upsert(rt.alloc()))?;
+    hold(prints_delete(rt.alloc()))
 }

@@ -5,7 +5,7 @@ use sdb_types::{Condition, NameRefused, State, TxId};
 use std::alloc::Global;
 use std::test::Fail;
 use test_builders::{
-    Ask, Cell, Happening, Place, Row, Said, Told, events_of, first_wrong, table_of, values_of,
+    Ask, Cell, Happening, Place, Row, Said, Told, all_hold, events_of, hold, table_of, values_of,
 };
 
 const ID: TxId = TxId((1 << 64) + 1);
@@ -55,7 +55,7 @@ const DECISION: Row = Row {
     ],
 };
 
-const RUN: [Happening; 7] = [
+static RUN: [Happening; 7] = [
     Happening::Take("BEGIN", Some(Said::Done)),
     Happening::Take(
         "INSERT INTO bank.account (id, balance) VALUES (1, 100)",
@@ -126,12 +126,11 @@ fn reports_first(alloc: Global) -> Result<bool, Fail> {
 
 #[test]
 fn first_transaction_is_reported(rt: HostRuntime) -> Result<(), Fail> {
-    assert!(rt; reports_first(rt.alloc())?);
-    Ok(())
+    hold(reports_first(rt.alloc()))
 }
 
 // Events alone, and their report.
-const EVENTS: [(&[Happening], &str); 2] = [
+static EVENTS: [(&[Happening], &str); 2] = [
     (&[], "scalardb report 1\nevents 0\norder 0\ntables 0\nend\n"),
     (
         &[
@@ -151,10 +150,8 @@ fn reports_events(alloc: Global, happenings: &[Happening], text: &str) -> Result
 #[test]
 fn events_alone_are_reported(rt: HostRuntime) -> Result<(), Fail> {
     let alloc = rt.alloc();
-    let wrong = first_wrong(
+    all_hold(
         EVENTS.as_slice(),
         |case| reports_events(alloc, case.0, case.1),
-    )?;
-    assert_eq!(rt; wrong, None);
-    Ok(())
+    )
 }

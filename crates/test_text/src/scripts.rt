@@ -3,7 +3,7 @@ use sdb_model::{Place, Places};
 use sdb_script::{AccountForm, FormRefused, read_account_script};
 use std::alloc::{AllocError, Global};
 use std::test::Fail;
-use test_builders::{first_wrong, names_of};
+use test_builders::{all_hold, hold, names_of};
 
 const GOOD: &str =
     "place bank one\nplace coordinator two\nschema {\"bank.account\":{\"partition-key\":[\"id\"],\"columns\":{\"id\":\"INT\",\"balance\":\"INT\"}}}\nclient a\n  BEGIN\n  INSERT INTO bank.account (id, balance) VALUES (1, 100)\n  COMMIT\nrun\nrest\n";
@@ -47,8 +47,7 @@ fn reads_places(alloc: Global) -> Result<bool, Fail> {
 
 #[test]
 fn places_are_read(rt: HostRuntime) -> Result<(), Fail> {
-    assert!(rt; reads_places(rt.alloc())?);
-    Ok(())
+    hold(reads_places(rt.alloc()))
 }
 
 fn refuses(alloc: Global, text: &str, line: u64) -> Result<bool, Fail> {
@@ -60,7 +59,7 @@ fn refuses(alloc: Global, text: &str, line: u64) -> Result<bool, Fail> {
 
 // Scripts, and the line for which each is refused. A place may come before the schema alone, and a script goes on after its
 // places.
-const REFUSED: [(&str, u64); 10] = [
+static REFUSED: [(&str, u64); 10] = [
     ("place bank three\n", 1),
     ("place bank one\nplace bank two\n", 2),
     ("place scalardb one\n", 1),
@@ -76,11 +75,7 @@ const REFUSED: [(&str, u64); 10] = [
 #[test]
 fn bad_lines_are_refused(rt: HostRuntime) -> Result<(), Fail> {
     let alloc = rt.alloc();
-    assert_eq!(rt;
-        first_wrong(REFUSED.as_slice(), |case| refuses(alloc, case.0, case.1))?,
-        None
-    );
-    Ok(())
+    all_hold(REFUSED.as_slice(), |case| refuses(alloc, case.0, case.1))
 }
 
 // A script of one client over the catalog of a schema.
@@ -89,7 +84,7 @@ fn script_over(alloc: Global, json: &str, statements: &str) -> Result<String, Al
 }
 
 // Schemas with a client's statements, and how many tables they describe.
-const TAKEN: [(&str, &str, usize); 5] = [
+static TAKEN: [(&str, &str, usize); 5] = [
     (
         "{\"bank.account\":{\"partition-key\":[\"id\"],\"columns\":{\"id\":\"INT\",\"balance\":\"INT\",\"owner\":\"TEXT\"},\"secondary-index\":[\"owner\"]},\"shop.orders\":{\"partition-key\":[\"customer\"],\"clustering-key\":[\"placed DESC\"],\"columns\":{\"customer\":\"INT\",\"placed\":\"BIGINT\"}}}",
         "  BEGIN\n",
@@ -124,12 +119,10 @@ fn takes(alloc: Global, json: &str, statements: &str, tables: usize) -> Result<b
 #[test]
 fn schemas_are_taken(rt: HostRuntime) -> Result<(), Fail> {
     let alloc = rt.alloc();
-    let wrong = first_wrong(
+    all_hold(
         TAKEN.as_slice(),
         |case| takes(alloc, case.0, case.1, case.2),
-    )?;
-    assert_eq!(rt; wrong, None);
-    Ok(())
+    )
 }
 
 fn refuses_over(alloc: Global, json: &str, statements: &str, line: u64) -> Result<bool, Fail> {
@@ -138,7 +131,7 @@ fn refuses_over(alloc: Global, json: &str, statements: &str, line: u64) -> Resul
 }
 
 // Schemas with a fault.
-const FAULTS: [&str; 5] = [
+static FAULTS: [&str; 5] = [
     "{\"bank.account\":{\"partition-key\":[\"id\"],\"columns\":{\"id\":\"INT\",\"balance\":\"INT\",\"rate\":\"FLOAT\"}}}",
     "{\"bank.account\":{\"partition-key\":[\"id\"],\"columns\":{\"id\":\"INT\",\"balance\":\"INT\"}}",
     "{\"scalardb.x\":{\"partition-key\":[\"id\"],\"columns\":{\"id\":\"INT\"}}}",
@@ -149,15 +142,11 @@ const FAULTS: [&str; 5] = [
 #[test]
 fn faults_of_schemas_are_refused(rt: HostRuntime) -> Result<(), Fail> {
     let alloc = rt.alloc();
-    assert_eq!(rt;
-        first_wrong(FAULTS.as_slice(), |json| refuses_over(alloc, json, "", 1))?,
-        None
-    );
-    Ok(())
+    all_hold(FAULTS.as_slice(), |json| refuses_over(alloc, json, "", 1))
 }
 
 // Schemas over which no statement on accounts can be built.
-const WITHOUT_ACCOUNTS: [&str; 6] = [
+static WITHOUT_ACCOUNTS: [&str; 6] = [
     "{\"bank.account\":{\"partition-key\":[\"id\"],\"columns\":{\"id\":\"TEXT\",\"balance\":\"INT\"}}}",
     "{\"bank.account\":{\"partition-key\":[\"id\"],\"columns\":{\"id\":\"INT\",\"balance\":\"BIGINT\"}}}",
     "{\"bank.account\":{\"partition-key\":[\"id\"],\"columns\":{\"id\":\"INT\"}}}",
@@ -169,9 +158,7 @@ const WITHOUT_ACCOUNTS: [&str; 6] = [
 #[test]
 fn statements_need_accounts(rt: HostRuntime) -> Result<(), Fail> {
     let alloc = rt.alloc();
-    let wrong = first_wrong(WITHOUT_ACCOUNTS.as_slice(), |json| {
+    all_hold(WITHOUT_ACCOUNTS.as_slice(), |json| {
         refuses_over(alloc, json, "  BEGIN\n", 3)
-    })?;
-    assert_eq!(rt; wrong, None);
-    Ok(())
+    })
 }

@@ -4,7 +4,7 @@ use sdb_sqltokens::{LexRefused, lex, put_tokens};
 use sdb_types::NoMemory;
 use std::alloc::Global;
 use std::test::Fail;
-use test_builders::first_wrong;
+use test_builders::all_hold;
 
 fn put_token(out: &mut String, placed: &Placed) -> Result<(), NoMemory> {
     if !out.is_empty() {
@@ -34,7 +34,7 @@ fn refuses(alloc: Global, text: &str, refused: LexRefused) -> Result<bool, Fail>
     }
 }
 
-const READ: [(&str, &str); 4] = [
+static READ: [(&str, &str); 4] = [
     ("select*from a.b", "SELECT|*|FROM|a|.|b"),
     ("a-1\t<>007 <= >=-0", "a|-1|<>|7|<=|>=|0"),
     ("x'0aFF' X'0' \"Null\"", "X'0AFF'|X|'0'|\"Null\""),
@@ -44,14 +44,10 @@ const READ: [(&str, &str); 4] = [
 #[test]
 fn tokens_are_read(rt: HostRuntime) -> Result<(), Fail> {
     let alloc = rt.alloc();
-    assert_eq!(rt;
-        first_wrong(READ.as_slice(), |case| shows(alloc, case.0, case.1))?,
-        None
-    );
-    Ok(())
+    all_hold(READ.as_slice(), |case| shows(alloc, case.0, case.1))
 }
 
-const BAD: [(&str, LexRefused); 4] = [
+static BAD: [(&str, LexRefused); 4] = [
     ("SELECT * FROM a.b WHERE x = 'abc", LexRefused::BadToken(28)),
     (
         "SELECT * FROM a.b LIMIT 9223372036854775808",
@@ -64,9 +60,5 @@ const BAD: [(&str, LexRefused); 4] = [
 #[test]
 fn bad_tokens_are_refused(rt: HostRuntime) -> Result<(), Fail> {
     let alloc = rt.alloc();
-    assert_eq!(rt;
-        first_wrong(BAD.as_slice(), |case| refuses(alloc, case.0, case.1))?,
-        None
-    );
-    Ok(())
+    all_hold(BAD.as_slice(), |case| refuses(alloc, case.0, case.1))
 }

@@ -6,10 +6,10 @@ use sdb_codec::{
 use sdb_types::{Key, Record};
 use std::alloc::Global;
 use std::test::Fail;
-use test_builders::{Cell, account, account_with};
+use test_builders::{Cell, account, account_with, hold};
 
 // bank.account(1){balance=100}
-const BYTES: [u8; 42] = [
+static BYTES: [u8; 42] = [
     0x01, 0x00, 0x00, 0x00, 0x0c, 0x62, 0x61, 0x6e, 0x6b, 0x2e, 0x61, 0x63, 0x63, 0x6f, 0x75, 0x6e,
     0x74, 0x01, 0x02, 0x00, 0x00, 0x00, 0x01, 0x00, 0x00, 0x01, 0x00, 0x00, 0x00, 0x07, 0x62, 0x61,
     0x6c, 0x61, 0x6e, 0x63, 0x65, 0x02, 0x00, 0x00, 0x00, 0x64,
@@ -32,8 +32,8 @@ fn reads_key(alloc: Global) -> Result<bool, Fail> {
 #[test]
 fn a_balance_is_42_bytes(rt: HostRuntime) -> Result<(), Fail> {
     let alloc = rt.alloc();
-    assert!(rt; reads_record(alloc)? && reads_key(alloc)?);
-    Ok(())
+    hold(reads_record(alloc))?;
+    hold(reads_key(alloc))
 }
 
 fn writes_record(alloc: Global, rec: &Record) -> Result<bool, Fail> {
@@ -46,10 +46,9 @@ fn writes_key(alloc: Global, key: &Key) -> Result<bool, Fail> {
 
 #[test]
 fn a_balance_is_written(rt: HostRuntime) -> Result<(), Fail> {
-    let alloc = rt.alloc();
-    assert!(rt; writes_record(alloc, &balance(alloc)?)?);
-    assert!(rt; writes_key(alloc, &account(alloc, 1)?)?);
-    Ok(())
+    let rec = balance(rt.alloc())?;
+    hold(writes_record(rt.alloc(), &rec))?;
+    hold(writes_key(rt.alloc(), &rec.key))
 }
 
 fn is_bad_record(alloc: Global, bytes: &[u8], at: u64) -> bool {
@@ -67,8 +66,8 @@ fn is_bad_key(alloc: Global, bytes: &[u8], at: u64) -> bool {
 }
 
 #[test]
-fn a_cut_record_is_bad_at_its_last_value(rt: HostRuntime) {
-    let alloc = rt.alloc();
-    assert!(rt; is_bad_record(alloc, &BYTES[..41], 37) && is_bad_record(alloc, &BYTES[..0], 0));
-    assert!(rt; is_bad_key(alloc, &BYTES[1..25], 23));
+fn a_cut_record_is_bad_at_its_last_value(rt: HostRuntime) -> Result<(), Fail> {
+    hold(Ok(is_bad_record(rt.alloc(), &BYTES[..41], 37)))?;
+    hold(Ok(is_bad_record(rt.alloc(), &BYTES[..0], 0)))?;
+    hold(Ok(is_bad_key(rt.alloc(), &BYTES[1..25], 23)))
 }

@@ -2,7 +2,7 @@
 use sdb_keyed::KeyMap;
 use std::alloc::Global;
 use std::test::Fail;
-use test_builders::account;
+use test_builders::{account, hold};
 
 fn put(alloc: Global, map: &mut KeyMap<u32>, id: i32, value: u32) -> Result<(), Fail> {
     Ok(map.put(account(alloc, id)?, value)?)
@@ -36,8 +36,7 @@ fn keeps_its_place(alloc: Global) -> Result<bool, Fail> {
 
 #[test]
 fn a_key_keeps_its_place(rt: HostRuntime) -> Result<(), Fail> {
-    assert!(rt; keeps_its_place(rt.alloc())?);
-    Ok(())
+    hold(keeps_its_place(rt.alloc()))
 }
 
 // The places of the keys 1 and 2.
@@ -54,6 +53,5 @@ fn cuts_off(alloc: Global) -> Result<bool, Fail> {
 
 #[test]
 fn later_keys_are_cut_off(rt: HostRuntime) -> Result<(), Fail> {
-    assert!(rt; cuts_off(rt.alloc())?);
-    Ok(())
+    hold(cuts_off(rt.alloc()))
 }

@@ -5,6 +5,7 @@ use sdb_types::{
 };
 use std::alloc::Global;
 use std::test::Fail;
+use test_builders::hold;
 
 // Seven bytes, at most five a call, of which the second fails.
 fn feed(alloc: Global) -> Result<Feed, Fail> {
@@ -29,8 +30,7 @@ fn reads_as_listed(feed: &mut Feed, last: &[u8]) -> bool {
 #[test]
 fn a_feed_fails_at_its_second_call(rt: HostRuntime) -> Result<(), Fail> {
     let mut feed = feed(rt.alloc())?;
-    assert!(rt; reads_as_listed(&mut feed, b" b".as_slice()));
-    Ok(())
+    hold(Ok(reads_as_listed(&mut feed, b" b".as_slice())))
 }
 
 const WRITES: [(&[u8], Result<usize, SinkRefused>); 3] = [
@@ -52,8 +52,7 @@ fn writes_as_listed(tray: &mut Tray) -> bool {
 fn a_tray_takes_at_most_ten_bytes(rt: HostRuntime) -> Result<(), Fail> {
     let failing = Calls::from_slice(rt.alloc(), [3].as_slice())?;
     let mut tray = Tray::new(rt.alloc(), 10, failing);
-    assert!(rt; writes_as_listed(&mut tray));
-    Ok(())
+    hold(Ok(writes_as_listed(&mut tray)))
 }
 
 fn shows_as_listed(clock: &mut Ticks) -> bool {
@@ -69,12 +68,11 @@ fn shows_as_listed(clock: &mut Ticks) -> bool {
 fn a_clock_gives_its_last_moment_again(rt: HostRuntime) -> Result<(), Fail> {
     let moments = Moments::from_slice(rt.alloc(), [7, 9007199254740992].as_slice())?;
     let mut clock = Ticks::new(moments);
-    assert!(rt; shows_as_listed(&mut clock));
-    Ok(())
+    hold(Ok(shows_as_listed(&mut clock)))
 }
 
 #[test]
-fn the_number_after_the_last_is_0(rt: HostRuntime) {
+fn the_number_after_the_last_is_0() -> Result<(), Fail> {
     let mut ids = Numbers::new(u128::MAX);
-    assert!(rt; ids.draw() == u128::MAX && ids.draw() == 0);
+    hold(Ok(ids.draw() == u128::MAX && ids.draw() == 0))
 }

@@ -6,7 +6,7 @@ use sdb_record::{
 use sdb_types::{Record, TxId};
 use std::alloc::Global;
 use std::test::Fail;
-use test_builders::{Cell, account, account_with, first_wrong, set_column};
+use test_builders::{Cell, account, account_with, all_hold, hold, set_column};
 
 const FIRST: TxId = TxId(0x1_0000_0000_0000_0001);
 
@@ -45,7 +45,7 @@ struct Case {
     bad: &'static str,
 }
 
-const REFUSED: [Case; 9] = [
+static REFUSED: [Case; 9] = [
     Case {
         columns: PREPARED,
         set: &[("tx_state", Cell::Int(4))],
@@ -109,11 +109,7 @@ fn is_refused(alloc: Global, case: Case) -> Result<bool, Fail> {
 #[test]
 fn refuses_the_first_bad_column(rt: HostRuntime) -> Result<(), Fail> {
     let alloc = rt.alloc();
-    assert_eq!(rt;
-        first_wrong(REFUSED.as_slice(), |case| is_refused(alloc, case))?,
-        None
-    );
-    Ok(())
+    all_hold(REFUSED.as_slice(), |case| is_refused(alloc, case))
 }
 
 fn committed(alloc: Global) -> Result<Record, Fail> {
@@ -127,8 +123,7 @@ fn reads(alloc: Global) -> Result<bool, Fail> {
 
 #[test]
 fn reads_metadata(rt: HostRuntime) -> Result<(), Fail> {
-    assert!(rt; reads(rt.alloc())?);
-    Ok(())
+    hold(reads(rt.alloc()))
 }
 
 // Whether the row of a decision says so.
@@ -144,9 +139,8 @@ fn reads_row(alloc: Global) -> Result<bool, Fail> {
 
 #[test]
 fn reads_decisions(rt: HostRuntime) -> Result<(), Fail> {
-    assert!(rt; reads_row(rt.alloc())?);
-    assert!(rt; expired(0, 15000) && !expired(0, 14999));
-    Ok(())
+    hold(reads_row(rt.alloc()))?;
+    hold(Ok(expired(0, 15000) && !expired(0, 14999)))
 }
 
 // The record of the first transaction, which deletes an account where none was.
@@ -172,8 +166,7 @@ fn rolls(alloc: Global, rec: &Record) -> Result<bool, Fail> {
 #[test]
 fn prepares_and_rolls(rt: HostRuntime) -> Result<(), Fail> {
     let alloc = rt.alloc();
-    assert!(rt; rolls(alloc, &deleted(alloc)?)?);
-    Ok(())
+    hold(rolls(alloc, &deleted(alloc)?))
 }
 
 fn rolls_to_committed(alloc: Global) -> Result<bool, Fail> {
@@ -184,6 +177,5 @@ fn rolls_to_committed(alloc: Global) -> Result<bool, Fail> {
 
 #[test]
 fn rolls_forward(rt: HostRuntime) -> Result<(), Fail> {
-    assert!(rt; rolls_to_committed(rt.alloc())?);
-    Ok(())
+    hold(rolls_to_committed(rt.alloc()))
 }

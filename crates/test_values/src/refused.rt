@@ -4,7 +4,7 @@ use sdb_schema::TableRefused;
 use sdb_types::TableName;
 use std::alloc::{AllocError, Global};
 use std::test::Fail;
-use test_builders::first_wrong;
+use test_builders::{all_hold, hold};
 
 #[derive(Clone, Copy, PartialEq, Eq)]
 enum Kind {
@@ -112,7 +112,7 @@ fn text_has_fault(alloc: Global, json: &str, fault: Fault) -> Result<bool, Fail>
     Ok(has_fault(alloc, json.as_bytes(), fault))
 }
 
-const FAULTS: [(&str, Fault); 21] = [
+static FAULTS: [(&str, Fault); 21] = [
     (
         "",
         Fault {
@@ -286,12 +286,10 @@ const FAULTS: [(&str, Fault); 21] = [
 #[test]
 fn schemas_have_their_first_fault(rt: HostRuntime) -> Result<(), Fail> {
     let alloc = rt.alloc();
-    let wrong = first_wrong(
+    all_hold(
         FAULTS.as_slice(),
         |case| text_has_fault(alloc, case.0, case.1),
-    )?;
-    assert_eq!(rt; wrong, None);
-    Ok(())
+    )
 }
 
 const NOT_JSON: Fault = Fault {
@@ -301,10 +299,9 @@ const NOT_JSON: Fault = Fault {
 };
 
 #[test]
-fn a_text_is_in_utf_8(rt: HostRuntime) {
-    let alloc = rt.alloc();
-    assert!(rt; has_fault(alloc, b"{\"\xff\":{}}", NOT_JSON));
-    assert!(rt; has_fault(alloc, b"\xef\xbb\xbf{}", NOT_JSON));
+fn a_text_is_in_utf_8(rt: HostRuntime) -> Result<(), Fail> {
+    hold(Ok(has_fault(rt.alloc(), b"{\"\xff\":{}}", NOT_JSON)))?;
+    hold(Ok(has_fault(rt.alloc(), b"\xef\xbb\xbf{}", NOT_JSON)))
 }
 
 // A table `a.b` of the columns k and n, of kind INT, with these members.
@@ -317,7 +314,7 @@ fn members_have_fault(alloc: Global, members: &str, fault: Fault) -> Result<bool
     Ok(has_fault(alloc, json.as_bytes(), fault))
 }
 
-const MEMBERS: [(&str, Fault); 19] = [
+static MEMBERS: [(&str, Fault); 19] = [
     (
         "\"partition-key\":\"k\"",
         Fault {
@@ -475,12 +472,10 @@ const MEMBERS: [(&str, Fault); 19] = [
 #[test]
 fn members_are_of_their_form(rt: HostRuntime) -> Result<(), Fail> {
     let alloc = rt.alloc();
-    let wrong = first_wrong(
+    all_hold(
         MEMBERS.as_slice(),
         |case| members_have_fault(alloc, case.0, case.1),
-    )?;
-    assert_eq!(rt; wrong, None);
-    Ok(())
+    )
 }
 
 fn put_often(text: &mut String, mark: char, count: usize) -> Result<(), AllocError> {
@@ -511,8 +506,8 @@ fn nests(alloc: Global, depth: usize, kind: Kind) -> Result<bool, Fail> {
 #[test]
 fn json_nests_127_deep(rt: HostRuntime) -> Result<(), Fail> {
     let alloc = rt.alloc();
-    assert!(rt; nests(alloc, 127, Kind::NotAnObject)? && nests(alloc, 128, Kind::NotJson)?);
-    Ok(())
+    hold(nests(alloc, 127, Kind::NotAnObject))?;
+    hold(nests(alloc, 128, Kind::NotJson))
 }
 
 fn put_table(alloc: Global, text: &mut String, i: usize) -> Result<(), AllocError> {
@@ -546,8 +541,8 @@ fn holds(alloc: Global, count: usize, kind: Kind) -> Result<bool, Fail> {
 #[test]
 fn a_catalog_has_64_tables(rt: HostRuntime) -> Result<(), Fail> {
     let alloc = rt.alloc();
-    assert!(rt; holds(alloc, 64, Kind::Nothing)? && holds(alloc, 65, Kind::TooManyTables)?);
-    Ok(())
+    hold(holds(alloc, 64, Kind::Nothing))?;
+    hold(holds(alloc, 65, Kind::TooManyTables))
 }
 
 fn put_column(alloc: Global, text: &mut String, i: usize, end: &str) -> Result<(), AllocError> {
@@ -573,7 +568,7 @@ fn wide(alloc: Global, count: usize, keys: usize) -> Result<String, AllocError> 
 }
 
 // How many columns there are, how many of them in the key, and what the table is refused for.
-const WIDE: [(usize, usize, Kind, (&str, &str)); 3] = [
+static WIDE: [(usize, usize, Kind, (&str, &str)); 3] = [
     (64, 8, Kind::Nothing, NONE),
     (65, 1, Kind::TooMany(64), A_B),
     (9, 9, Kind::TooMany(8), A_B),
@@ -598,10 +593,8 @@ fn is_wide(
 #[test]
 fn a_table_has_64_columns_and_8_in_its_key(rt: HostRuntime) -> Result<(), Fail> {
     let alloc = rt.alloc();
-    let wrong = first_wrong(
+    all_hold(
         WIDE.as_slice(),
         |case| is_wide(alloc, case.0, case.1, case.2, case.3),
-    )?;
-    assert_eq!(rt; wrong, None);
-    Ok(())
+    )
 }

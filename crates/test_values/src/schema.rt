@@ -6,7 +6,7 @@ use sdb_schema::{AddRefused, Catalog, Column, ColumnList, Kind, RowRefused, Tabl
 use sdb_types::{Columns, Name, Names, Seq};
 use std::alloc::Global;
 use std::test::Fail;
-use test_builders::{Cell, columns_of, first_wrong, names_of, table_of};
+use test_builders::{Cell, all_hold, columns_of, hold, names_of, table_of};
 
 // How a table without columns, and of this partition key, is refused.
 fn refused_without_columns(alloc: Global, key: Names) -> Result<TableRefused, Fail> {
@@ -31,8 +31,8 @@ fn wants_columns(alloc: Global) -> Result<bool, Fail> {
 
 #[test]
 fn a_table_wants_a_key_of_its_columns(rt: HostRuntime) -> Result<(), Fail> {
-    assert!(rt; wants_a_key(rt.alloc())? && wants_columns(rt.alloc())?);
-    Ok(())
+    hold(wants_a_key(rt.alloc()))?;
+    hold(wants_columns(rt.alloc()))
 }
 
 fn column(alloc: Global, name: &str, kind: Kind) -> Result<Column, Fail>
@@ -115,7 +115,7 @@ fn has_fault(alloc: Global, case: Case) -> Result<bool, Fail> {
 
 const OUTSIDE: i64 = 9_007_199_254_740_993;
 
-const ROWS: [Case; 5] = [
+static ROWS: [Case; 5] = [
     Case {
         key: Cell::Null,
         number: Cell::Int(1),
@@ -152,11 +152,7 @@ const ROWS: [Case; 5] = [
 #[test]
 fn rows_have_their_first_refusal(rt: HostRuntime) -> Result<(), Fail> {
     let alloc = rt.alloc();
-    assert_eq!(rt;
-        first_wrong(ROWS.as_slice(), |case| has_fault(alloc, case))?,
-        None
-    );
-    Ok(())
+    all_hold(ROWS.as_slice(), |case| has_fault(alloc, case))
 }
 
 fn add(alloc: Global, catalog: &mut Catalog, name: &str) -> Result<Option<AddRefused>, Fail> {
@@ -179,21 +175,23 @@ fn added(alloc: Global, count: u32) -> Result<Option<AddRefused>, Fail> {
     add(alloc, &mut catalog, "t0")
 }
 
-#[test]
-fn a_catalog_takes_64_tables(rt: HostRuntime) -> Result<(), Fail> {
-    let alloc = rt.alloc();
-    assert!(rt; added(alloc, 64)? == None && added(alloc, 65)? == Some(AddRefused::TooMany));
-    Ok(())
+fn adds(alloc: Global, count: u32, refused: Option<AddRefused>) -> Result<bool, Fail> {
+    Ok(added(alloc, count)? == refused)
 }
 
-fn added_again(alloc: Global) -> Result<Option<AddRefused>, Fail> {
+#[test]
+fn a_catalog_takes_64_tables(rt: HostRuntime) -> Result<(), Fail> {
+    hold(adds(rt.alloc(), 64, None))?;
+    hold(adds(rt.alloc(), 65, Some(AddRefused::TooMany)))
+}
+
+fn is_known(alloc: Global) -> Result<bool, Fail> {
     let mut catalog = Catalog::new(alloc);
     add(alloc, &mut catalog, "item")?;
-    add(alloc, &mut catalog, "item")
+    Ok(add(alloc, &mut catalog, "item")? == Some(AddRefused::Known))
 }
 
 #[test]
 fn a_catalog_takes_a_name_once(rt: HostRuntime) -> Result<(), Fail> {
-    assert!(rt; added_again(rt.alloc())? == Some(AddRefused::Known));
-    Ok(())
+    hold(is_known(rt.alloc()))
 }

@@ -5,7 +5,7 @@ use sdb_types::{
 use std::alloc::Global;
 use std::test::Fail;
 use test_builders::{
-    Ask, Cell, Place, Row, Told, account, account_with, first_wrong, reply_of, request_of,
+    Ask, Cell, Place, Row, Told, account, account_with, all_hold, hold, reply_of, request_of,
 };
 
 const FIRST: TxId = TxId(18446744073709551617);
@@ -13,7 +13,7 @@ const FIRST: TxId = TxId(18446744073709551617);
 const FIRST_TEXT: &str = "00000000-0000-0001-0000-000000000001";
 
 // Texts, and the ids that they are.
-const IDS: [(&str, Option<TxId>); 5] = [
+static IDS: [(&str, Option<TxId>); 5] = [
     (FIRST_TEXT, Some(FIRST)),
     ("0000000000000001-0000-000000000001", None),
     ("{00000000-0000-0001-0000-000000000001}", None),
@@ -32,12 +32,8 @@ fn first_has_its_text(alloc: Global) -> Result<bool, Fail> {
 #[test]
 fn ids_have_the_hyphenated_form(rt: HostRuntime) -> Result<(), Fail> {
     let alloc = rt.alloc();
-    assert!(rt; first_has_its_text(alloc)?);
-    assert_eq!(rt;
-        first_wrong(IDS.as_slice(), |case| id_is(alloc, case.0, case.1))?,
-        None
-    );
-    Ok(())
+    hold(first_has_its_text(alloc))?;
+    all_hold(IDS.as_slice(), |case| id_is(alloc, case.0, case.1))
 }
 
 const LONGEST: &str = "a23456789012345678901234567890123456789012345678901234567890123456789_1";
@@ -45,7 +41,7 @@ const LONGEST: &str = "a23456789012345678901234567890123456789012345678901234567
 const TOO_LONG: &str = "a23456789012345678901234567890123456789012345678901234567890123456789_12";
 
 // Texts, and whether they are names.
-const NAMES: [(&str, bool); 10] = [
+static NAMES: [(&str, bool); 10] = [
     ("a", true),
     ("_", true),
     ("Z9", true),
@@ -68,16 +64,12 @@ fn is_name(alloc: Global, text: &str, wanted: bool) -> Result<bool, Fail> {
 #[test]
 fn names_are_identifiers_of_1_to_71_bytes(rt: HostRuntime) -> Result<(), Fail> {
     let alloc = rt.alloc();
-    assert_eq!(rt; LONGEST.len(), 71);
-    assert_eq!(rt;
-        first_wrong(NAMES.as_slice(), |case| is_name(alloc, case.0, case.1))?,
-        None
-    );
-    Ok(())
+    hold(Ok(LONGEST.len() == 71))?;
+    all_hold(NAMES.as_slice(), |case| is_name(alloc, case.0, case.1))
 }
 
 // The column owner is set, and then set to Null.
-const BALANCE: [(&str, Cell); 3] = [
+static BALANCE: [(&str, Cell); 3] = [
     ("owner", Cell::Text("it's")),
     ("balance", Cell::Int(100)),
     ("owner", Cell::Null),
@@ -95,8 +87,7 @@ fn keeps_the_balance(alloc: Global) -> Result<bool, Fail> {
 
 #[test]
 fn columns_stand_in_name_order_without_null(rt: HostRuntime) -> Result<(), Fail> {
-    assert!(rt; keeps_the_balance(rt.alloc())?);
-    Ok(())
+    hold(keeps_the_balance(rt.alloc()))
 }
 
 const KEY: Place = Place {
@@ -111,14 +102,14 @@ const RECORD: Row = Row {
     columns: &[("balance", Cell::Int(100))],
 };
 
-const CALLS: [Ask; 4] = [
+static CALLS: [Ask; 4] = [
     Ask::Get(KEY),
     Ask::Scan("bank", "account", Some(&[Cell::Int(2)])),
     Ask::Put(RECORD, Condition::Absent),
     Ask::Delete(KEY, Condition::Version(TxId(1), State::Committed)),
 ];
 
-const REPLIES: [Told; 5] = [
+static REPLIES: [Told; 5] = [
     Told::Found(Some(RECORD)),
     Told::Rows(&[RECORD]),
     Told::Applied,
@@ -130,17 +121,19 @@ fn is_copied<T: Exact + Duplicate>(value: &T) -> Result<bool, Fail> {
     Ok(same(value, &value.copy()?))
 }
 
+fn call_is_copied(alloc: Global, ask: Ask) -> Result<bool, Fail> {
+    is_copied(&request_of(alloc, ask)?)
+}
+
+fn reply_is_copied(alloc: Global, told: Told) -> Result<bool, Fail> {
+    is_copied(&reply_of(alloc, told)?)
+}
+
 #[test]
 fn copies_are_equal(rt: HostRuntime) -> Result<(), Fail> {
     let alloc = rt.alloc();
-    let calls = first_wrong(CALLS.as_slice(), |ask| is_copied(&request_of(alloc, ask)?))?;
-    assert_eq!(rt; calls, None);
-    let replies = first_wrong(
-        REPLIES.as_slice(),
-        |told| is_copied(&reply_of(alloc, told)?),
-    )?;
-    assert_eq!(rt; replies, None);
-    Ok(())
+    all_hold(CALLS.as_slice(), |ask| call_is_copied(alloc, ask))?;
+    all_hold(REPLIES.as_slice(), |told| reply_is_copied(alloc, told))
 }
 
 fn are_in_order(alloc: Global, low: i32, high: i32) -> Result<bool, Fail> {
@@ -151,6 +144,5 @@ fn are_in_order(alloc: Global, low: i32, high: i32) -> Result<bool, Fail> {
 
 #[test]
 fn keys_are_in_the_order_of_their_partitions(rt: HostRuntime) -> Result<(), Fail> {
-    assert!(rt; are_in_order(rt.alloc(), -1, 1)?);
-    Ok(())
+    hold(are_in_order(rt.alloc(), -1, 1))
 }
