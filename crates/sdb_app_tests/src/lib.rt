@@ -1,5 +1,0 @@
-//! What the program answers: tests against inputs and reports from outside.
-#![tactic(auto)]
-
-#[cfg(test)]
-mod program;

@@ -1,9 +1,0 @@
-//! What the stores answer: tests against values from outside.
-#![tactic(auto)]
-
-#[cfg(test)]
-mod both;
-#[cfg(test)]
-mod failing;
-#[cfg(test)]
-mod registry;

@@ -1,0 +1,7 @@
+//! What the program answers: tests against inputs and reports from outside.
+#![tactic(auto)]
+
+#[cfg(test)]
+mod program;
+#[cfg(test)]
+mod run;

@@ -1,0 +1,118 @@
+//! The program's top call on whole inputs, and on sources and sinks that fail.
+ghost use Rattle.std.specs.Prelude.{◌<◌, length};
+
+use sdb_app::{Status, run};
+use sdb_stores::Registry;
+use sdb_types::{Calls, Feed, Moments, NoMemory, Numbers, Octets, Ticks, Tray};
+use std::alloc::Global;
+use std::test::Fail;
+
+/// How the program ends: the statuses that tests name, and whether it is another.
+#[derive(Clone, Copy, PartialEq, Eq)]
+pub enum End {
+    Done,
+    ReadFault,
+    WriteFault,
+    StoreFault,
+    Usage,
+    NotBuilt(u64),
+    NotEmpty,
+    Other,
+}
+
+fn end_of(status: &Status) -> End {
+    match status {
+        Status::Done => End::Done,
+        Status::ReadFault => End::ReadFault,
+        Status::WriteFault => End::WriteFault,
+        Status::StoreFault => End::StoreFault,
+        Status::Usage => End::Usage,
+        Status::NotBuilt(line) => End::NotBuilt(*line),
+        Status::NotEmpty(_) => End::NotEmpty,
+        _ => End::Other,
+    }
+}
+
+/// The words and the script of a call, the reads and the writes that fail, how it ends, and what it writes.
+#[derive(Clone, Copy)]
+pub struct Case {
+    pub words: &'static [&'static str],
+    pub script: &'static [u8],
+    pub reads_fail: &'static [u64],
+    pub writes_fail: &'static [u64],
+    pub end: End,
+    pub written: &'static [u8],
+}
+
+fn words_of(alloc: Global, words: &[&str]) -> Result<Vec<String>, Fail> {
+    let mut given = Vec::new(alloc);
+    for word in words {
+        given.push(String::from_str(alloc, word)?)?;
+    }
+    Ok(given)
+}
+
+fn feed(alloc: Global, script: &[u8], failing: &[u64]) -> Result<Feed, NoMemory> {
+    let bytes = Octets::from_slice(alloc, script)?;
+    let failing = Calls::from_slice(alloc, failing)?;
+    Ok(Feed::new(bytes, 100, failing))
+}
+
+fn tray(alloc: Global, failing: &[u64]) -> Result<Tray, NoMemory> {
+    let failing = Calls::from_slice(alloc, failing)?;
+    Ok(Tray::new(alloc, 10, failing))
+}
+
+// How the program ends on these words and this input.
+fn ran<S: Registry>(
+    alloc: Global,
+    stores: &mut S,
+    words: &[String],
+    input: &mut Feed,
+    output: &mut Tray,
+) -> Status
+    requires { 0 < length (S.shelves stores.old) }
+{
+    let mut clock = Ticks::new(Moments::new(alloc));
+    let mut ids = Numbers::new(1);
+    run(alloc, words, stores, input, output, &mut clock, &mut ids)
+}
+
+// How the program ends on a case, and whether it writes as listed.
+fn status_of<S: Registry>(alloc: Global, stores: &mut S, case: Case) -> Result<(Status, bool), Fail>
+    requires { 0 < length (S.shelves stores.old) }
+{
+    let words = words_of(alloc, case.words)?;
+    let mut input = feed(alloc, case.script, case.reads_fail)?;
+    let mut output = tray(alloc, case.writes_fail)?;
+    let status = ran(alloc, stores, words.as_slice(), &mut input, &mut output);
+    Ok((status, output.written().as_slice() == case.written))
+}
+
+/// Whether the program ends as listed.
+pub fn ends<S: Registry>(alloc: Global, stores: &mut S, case: Case) -> Result<bool, Fail> {
+    if stores.len() == 0 {
+        return Ok(false);
+    }
+    let (status, writes) = status_of(alloc, stores, case)?;
+    Ok(writes && end_of(&status) == case.end)
+}
+
+/// Whether it ends as listed, by that line and that code.
+pub fn ends_by<S: Registry>(
+    alloc: Global,
+    stores: &mut S,
+    case: Case,
+    line: &str,
+    code: u8,
+) -> Result<bool, Fail> {
+    if stores.len() == 0 {
+        return Ok(false);
+    }
+    let (status, writes) = status_of(alloc, stores, case)?;
+    Ok(writes && end_of(&status) == case.end && is_line(alloc, &status, line, code)?)
+}
+
+fn is_line(alloc: Global, status: &Status, line: &str, code: u8) -> Result<bool, Fail> {
+    Ok(status.code() == code && status.line(alloc)?.as_str() == line)
+}

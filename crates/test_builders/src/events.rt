@@ -1,0 +1,54 @@
+//! Events from constants.
+use crate::asked::{Ask, Told, reply_of, request_of};
+use crate::said::{Said, answer_of};
+use sdb_model::{Answer, Event, Events, How};
+use sdb_types::{Name, NameRefused, Txt};
+use std::alloc::Global;
+
+/// An event of the client 1 as a constant. Its calls are made on the store `ordered`, and the client is handed the reply.
+#[derive(Clone, Copy)]
+pub enum Happening {
+    Take(&'static str, Option<Said>),
+    Call(Ask, Told, Option<Said>),
+    Stop(u32),
+    Clock(i64),
+    Idle(u32),
+}
+
+fn said_of(alloc: Global, said: Option<Said>) -> Result<Option<Answer>, NameRefused> {
+    match said {
+        Some(said) => Ok(Some(answer_of(alloc, said)?)),
+        None => Ok(None),
+    }
+}
+
+fn taken(alloc: Global, text: &str, said: Option<Said>) -> Result<Event, NameRefused> {
+    let text = Txt::new(alloc, text)?;
+    Ok(Event::Take(1, text, said_of(alloc, said)?))
+}
+
+fn called(alloc: Global, ask: Ask, told: Told, said: Option<Said>) -> Result<Event, NameRefused> {
+    let store = Name::new(alloc, "ordered")?;
+    let answer = said_of(alloc, said)?;
+    let request = request_of(alloc, ask)?;
+    let reply = reply_of(alloc, told)?;
+    Ok(Event::Call(1, store, request, How::Seen, reply, answer))
+}
+
+pub fn event_of(alloc: Global, happening: Happening) -> Result<Event, NameRefused> {
+    match happening {
+        Happening::Take(text, said) => taken(alloc, text, said),
+        Happening::Call(ask, told, said) => called(alloc, ask, told, said),
+        Happening::Stop(client) => Ok(Event::Stop(client)),
+        Happening::Clock(moment) => Ok(Event::Clock(moment)),
+        Happening::Idle(client) => Ok(Event::Idle(client)),
+    }
+}
+
+pub fn events_of(alloc: Global, happenings: &[Happening]) -> Result<Events, NameRefused> {
+    let mut events = Events::new(alloc);
+    for happening in happenings {
+        events.push(event_of(alloc, *happening)?)?;
+    }
+    Ok(events)
+}

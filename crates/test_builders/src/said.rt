@@ -1,0 +1,68 @@
+//! Answers from constants.
+use crate::cells::{Cell, values_of};
+use crate::keys::{Place, key_of};
+use crate::rows::{Row, found_of};
+use sdb_model::{Answer, Refusal, Rows};
+use sdb_types::{NameRefused, NoMemory, TxId};
+use std::alloc::Global;
+
+/// An answer as a constant.
+#[derive(Clone, Copy)]
+pub enum Said {
+    Rows(&'static [&'static [Cell]]),
+    Count(u64),
+    Done,
+    Committed,
+    Duplicate(Place),
+    Busy(Place, TxId, i64),
+    Conflict(Place, Option<Row>),
+    Expired(TxId),
+    Faulted,
+    Unknown(TxId),
+    BadRecord(Place),
+    Refused(u8, u32),
+    Vacuuming,
+    OpenTransactions,
+    NoMemory,
+}
+
+fn rows_of(alloc: Global, cells: &[&'static [Cell]]) -> Result<Rows, NoMemory> {
+    let mut rows = Rows::new(alloc);
+    for row in cells {
+        rows.push(values_of(alloc, row)?)?;
+    }
+    Ok(rows)
+}
+
+fn conflict(alloc: Global, place: Place, row: Option<Row>) -> Result<Answer, NameRefused> {
+    let key = key_of(alloc, place)?;
+    let found = found_of(alloc, row)?;
+    Ok(Answer::Conflict(key, found))
+}
+
+// An answer that names no key.
+fn plain(said: Said) -> Answer {
+    match said {
+        Said::Count(count) => Answer::Count(count),
+        Said::Done => Answer::Done,
+        Said::Committed => Answer::Committed,
+        Said::Expired(id) => Answer::Expired(id),
+        Said::Faulted => Answer::Faulted,
+        Said::Unknown(id) => Answer::Unknown(id),
+        Said::Refused(kind, place) => Answer::Refused(Refusal { kind, place }),
+        Said::Vacuuming => Answer::Vacuuming,
+        Said::OpenTransactions => Answer::OpenTransactions,
+        _ => Answer::NoMemory,
+    }
+}
+
+pub fn answer_of(alloc: Global, said: Said) -> Result<Answer, NameRefused> {
+    match said {
+        Said::Rows(rows) => Ok(Answer::Rows(rows_of(alloc, rows)?)),
+        Said::Duplicate(place) => Ok(Answer::Duplicate(key_of(alloc, place)?)),
+        Said::Busy(place, id, moment) => Ok(Answer::Busy(key_of(alloc, place)?, id, moment)),
+        Said::Conflict(place, row) => conflict(alloc, place, row),
+        Said::BadRecord(place) => Ok(Answer::BadRecord(key_of(alloc, place)?)),
+        _ => Ok(plain(said)),
+    }
+}

@@ -1,0 +1,116 @@
+//! The driver of the machines.
+use crate::replies::Answer;
+use sdb_types::{Key, NameRefused, Request, TxId, Value};
+use std::alloc::Global;
+use test_builders::number_of;
+
+/// What a step tells. Other is anything else, or a call that the answer isn't for.
+#[derive(Clone, Copy, PartialEq, Eq)]
+pub enum Told {
+    More,
+    Done,
+    Committed,
+    Expired,
+    Unknown,
+    /// The image is the record as it was committed, or none.
+    Forward,
+    Back,
+    Busy,
+    /// The account of that number, and the version that stands there.
+    Conflict(i32, Option<TxId>),
+    /// The roll of the account of that number was pending, and whether another is left.
+    Rolled(i32, bool),
+    /// The put of the coordinator's row was pending, and whether a roll is left.
+    Put(bool),
+    BadRecord,
+    Faulted,
+    NoMemory,
+    Other,
+}
+
+/// What takes replies, one after the other.
+pub trait Machine {
+    /// What an answer to the pending call tells, at a moment.
+    fn give(&mut self, alloc: Global, answer: Answer, now: i64) -> Result<Told, NameRefused>;
+
+    /// Whether no call is pending.
+    fn is_over(&self) -> bool;
+}
+
+/// The moment at which a record that was prepared at the moment 1,000 has expired, and the last before it.
+pub const EXPIRED: i64 = 16_000;
+
+pub const EARLIER: i64 = 15_999;
+
+fn give_all<M: Machine>(
+    alloc: Global,
+    machine: &mut M,
+    answers: &[Answer],
+) -> Result<(), NameRefused> {
+    for answer in answers {
+        machine.give(alloc, *answer, EXPIRED)?;
+    }
+    Ok(())
+}
+
+/// What one more answer tells, at a moment. The others come when the record has expired.
+pub fn told_after<M: Machine + Drop>(
+    alloc: Global,
+    machine: M,
+    before: &[Answer],
+    answer: Answer,
+    now: i64,
+) -> Result<Told, NameRefused> {
+    let mut machine = machine;
+    give_all(alloc, &mut machine, before)?;
+    machine.give(alloc, answer, now)
+}
+
+/// Whether each answer tells what stands beside it, and no call is pending in the end.
+pub fn plays<M: Machine>(
+    alloc: Global,
+    machine: &mut M,
+    steps: &[(Answer, Told)],
+) -> Result<bool, NameRefused> {
+    for (answer, told) in steps {
+        if machine.give(alloc, *answer, EXPIRED)? != *told {
+            return Ok(false);
+        }
+    }
+    Ok(machine.is_over())
+}
+
+/// The same of a machine that is not needed afterwards.
+pub fn plays_out<M: Machine + Drop>(
+    alloc: Global,
+    machine: M,
+    steps: &[(Answer, Told)],
+) -> Result<bool, NameRefused> {
+    let mut machine = machine;
+    plays(alloc, &mut machine, steps)
+}
+
+/// A conflict at an account.
+pub fn conflict_at(key: &Key, version: Option<TxId>) -> Told {
+    match number_of(key) {
+        Some(number) => Told::Conflict(number, version),
+        None => Told::Other,
+    }
+}
+
+/// What is told of the transaction whose id is the key of its row.
+pub fn if_row_of(key: &Key, id: &str, told: Told) -> Told {
+    match key.partition.at(0) {
+        Some(Value::Text(text)) if text.as_str() == id => told,
+        _ => Told::Other,
+    }
+}
+
+/// The key that a call writes, where it writes one.
+pub fn written_key(request: Option<&Request>) -> Option<&Key> {
+    match request {
+        Some(Request::PutIf(rec, _)) => Some(&rec.key),
+        Some(Request::DeleteIf(key, _)) => Some(key),
+        _ => None,
+    }
+}

@@ -1,0 +1,80 @@
+//! The prepares of two deletes.
+use crate::machine::{Machine, Told, conflict_at, plays};
+use crate::replies::{Answer, BAD_ROW, reply_to};
+use crate::writes::two_deletes;
+use sdb_prepare::{Prepare, PrepareStep};
+use sdb_types::{NameRefused, TxId};
+use std::alloc::Global;
+use std::test::Fail;
+use test_builders::all_hold;
+
+const OWN: TxId = TxId(0x1_0000_0000_0000_0001);
+
+// A conflict is with a record that is there.
+fn told_by(step: &PrepareStep) -> Told {
+    match step {
+        PrepareStep::More => Told::More,
+        PrepareStep::Done => Told::Done,
+        PrepareStep::Conflict(key, Some(_)) => conflict_at(key, None),
+        PrepareStep::Conflict(_, None) => Told::Other,
+        PrepareStep::Faulted => Told::Faulted,
+        PrepareStep::NoMemory => Told::NoMemory,
+    }
+}
+
+impl Machine for Prepare {
+    fn give(&mut self, alloc: Global, answer: Answer, _now: i64) -> Result<Told, NameRefused> {
+        match reply_to(alloc, self.request(), answer)? {
+            Some(reply) => Ok(told_by(&self.take(reply))),
+            None => Ok(Told::Other),
+        }
+    }
+
+    fn is_over(&self) -> bool {
+        self.request().is_none()
+    }
+}
+
+// Answers with what they tell, and how many writes may have taken effect in the end.
+#[derive(Clone, Copy)]
+struct Case {
+    steps: &'static [(Answer, Told)],
+    touched: usize,
+}
+
+static CASES: [Case; 4] = [
+    // Each write is prepared.
+    Case {
+        steps: &[(Answer::Applied, Told::More), (Answer::Applied, Told::Done)],
+        touched: 2,
+    },
+    // What stands there is a conflict.
+    Case {
+        steps: &[
+            (Answer::Applied, Told::More),
+            (BAD_ROW, Told::Conflict(2, None)),
+        ],
+        touched: 1,
+    },
+    // A fault may have taken effect.
+    Case {
+        steps: &[(Answer::Fault, Told::Faulted)],
+        touched: 1,
+    },
+    // Out of memory there is no effect.
+    Case {
+        steps: &[(Answer::Starved, Told::NoMemory)],
+        touched: 0,
+    },
+];
+
+fn ends(alloc: Global, case: Case) -> Result<bool, Fail> {
+    let mut prepare = Prepare::new(alloc, &two_deletes(alloc)?, OWN, 7)?;
+    Ok(plays(alloc, &mut prepare, case.steps)? && prepare.touched() == case.touched)
+}
+
+#[test]
+fn prepares_are_answered(rt: HostRuntime) -> Result<(), Fail> {
+    let alloc = rt.alloc();
+    all_hold(CASES.as_slice(), |case| ends(alloc, case))
+}

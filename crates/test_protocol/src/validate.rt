@@ -1,0 +1,279 @@
+//! What extra reads give.
+use crate::machine::{Machine, Told, conflict_at, plays_out};
+use crate::replies::{Answer, reply_to};
+use sdb_record::{Change, Read, Reads, Scan, Scans, Write, Writes, version_of};
+use sdb_types::{NameRefused, Record, Reply, Request, Seq, TxId};
+use sdb_validate::{Validate, ValidateStep, lies_in};
+use std::alloc::Global;
+use std::test::Fail;
+use test_builders::{Cell, account, account_with, all_hold, span_of};
+
+const FIRST: TxId = TxId(0x1_0000_0000_0000_0001);
+
+const SECOND: TxId = TxId(0x2_0000_0000_0000_0001);
+
+// The id of the transaction that wrote a record, or none without a record.
+type Version = Option<TxId>;
+
+// The columns of a committed record that a transaction wrote, and one of the user's.
+const OF_FIRST: &[(&str, Cell)] = &[
+    ("balance", Cell::Int(100)),
+    ("tx_id", Cell::Text("00000000-0000-0001-0000-000000000001")),
+    ("tx_state", Cell::Int(3)),
+];
+
+const OF_SECOND: &[(&str, Cell)] = &[
+    ("balance", Cell::Int(100)),
+    ("tx_id", Cell::Text("00000000-0000-0002-0000-000000000001")),
+    ("tx_state", Cell::Int(3)),
+];
+
+fn record_of(alloc: Global, n: i32, id: TxId) -> Result<Record, NameRefused> {
+    let columns = if id.0 == FIRST.0 { OF_FIRST } else { OF_SECOND };
+    account_with(alloc, n, columns)
+}
+
+fn found_of(alloc: Global, n: i32, version: Version) -> Result<Option<Record>, NameRefused> {
+    match version {
+        Some(id) => Ok(Some(record_of(alloc, n, id)?)),
+        None => Ok(None),
+    }
+}
+
+// A conflict is with what is there.
+fn told_by(step: &ValidateStep) -> Told {
+    match step {
+        ValidateStep::More => Told::More,
+        ValidateStep::Valid => Told::Done,
+        ValidateStep::Conflict(key, found) => conflict_at(key, version_of(found)),
+        ValidateStep::Faulted => Told::Faulted,
+        ValidateStep::NoMemory => Told::NoMemory,
+    }
+}
+
+impl Machine for Validate {
+    fn give(&mut self, alloc: Global, answer: Answer, _now: i64) -> Result<Told, NameRefused> {
+        match reply_to(alloc, self.request(), answer)? {
+            Some(reply) => Ok(told_by(&self.take(reply))),
+            None => Ok(Told::Other),
+        }
+    }
+
+    fn is_over(&self) -> bool {
+        self.request().is_none()
+    }
+}
+
+fn push_read(
+    alloc: Global,
+    reads: &mut Reads,
+    n: i32,
+    version: Version,
+) -> Result<(), NameRefused> {
+    let key = account(alloc, n)?;
+    reads.push(Read { key, version })?;
+    Ok(())
+}
+
+// The checks of a transaction that read the keys 1 and 2 by gets, in the versions of the first transaction and of none, and
+// writes nothing.
+fn rereads(alloc: Global) -> Result<Validate, NameRefused> {
+    let mut reads = Reads::new(alloc);
+    push_read(alloc, &mut reads, 1, Some(FIRST))?;
+    push_read(alloc, &mut reads, 2, None)?;
+    let scans = Scans::new(alloc);
+    Ok(Validate::new(alloc, &reads, &scans, &Writes::new(alloc))?)
+}
+
+static REREADS: [&[(Answer, Told)]; 5] = [
+    // Each key is read again.
+    &[
+        (Answer::Row(OF_FIRST), Told::More),
+        (Answer::NoRow, Told::Done),
+    ],
+    // A key that moved is a conflict.
+    &[(Answer::Row(OF_SECOND), Told::Conflict(1, Some(SECOND)))],
+    &[(Answer::NoRow, Told::Conflict(1, None))],
+    // Failures end it.
+    &[(Answer::Fault, Told::Faulted)],
+    &[(Answer::Starved, Told::NoMemory)],
+];
+
+fn reread_as(alloc: Global, steps: &[(Answer, Told)]) -> Result<bool, Fail> {
+    Ok(plays_out(alloc, rereads(alloc)?, steps)?)
+}
+
+#[test]
+fn reads_each_key_again(rt: HostRuntime) -> Result<(), Fail> {
+    let alloc = rt.alloc();
+    all_hold(REREADS.as_slice(), |steps| reread_as(alloc, steps))
+}
+
+fn reads_of(alloc: Global, versions: [Version; 3]) -> Result<Reads, NameRefused> {
+    let mut reads = Reads::new(alloc);
+    let mut n = 0i32;
+    for version in versions {
+        n = n.wrapping_add(1);
+        if version.is_some() {
+            push_read(alloc, &mut reads, n, version)?;
+        }
+    }
+    Ok(reads)
+}
+
+// A scan of the table that found these versions of the keys 1, 2 and 3.
+fn scan_of(alloc: Global, versions: [Version; 3]) -> Result<Scans, NameRefused> {
+    let span = span_of(alloc, "bank", "account", None)?;
+    let found = reads_of(alloc, versions)?;
+    let mut scans = Scans::new(alloc);
+    scans.push(Scan { span, found })?;
+    Ok(scans)
+}
+
+// The delete of a key over a base of this version.
+fn delete_of(alloc: Global, n: i32, version: Version) -> Result<Write, NameRefused> {
+    let key = account(alloc, n)?;
+    let base = found_of(alloc, n, version)?;
+    Ok(Write {
+        key,
+        base,
+        change: Change::Delete,
+    })
+}
+
+// A delete of the key 1 over a base of this version, or no write.
+fn writes_of(alloc: Global, base: Option<Version>) -> Result<Writes, NameRefused> {
+    let mut own = Writes::new(alloc);
+    if let Some(version) = base {
+        own.push(delete_of(alloc, 1, version)?)?;
+    }
+    Ok(own)
+}
+
+// The pending rescan finds one row.
+fn find_one(alloc: Global, validate: &mut Validate, row: Record) -> Result<Told, NameRefused> {
+    match validate.request() {
+        Some(Request::Scan(span)) if lies_in(span, &row.key) => {}
+        _ => return Ok(Told::Other),
+    }
+    let mut rows = Seq::new(alloc);
+    rows.push(row)?;
+    Ok(told_by(&validate.take(Reply::Rows(rows))))
+}
+
+// The pending rescan finds two rows.
+fn find_two(
+    alloc: Global,
+    validate: &mut Validate,
+    first: Record,
+    second: Record,
+) -> Result<Told, NameRefused> {
+    if !first.key.compare(&second.key).is_lt() {
+        return Ok(Told::Other);
+    }
+    match validate.request() {
+        Some(Request::Scan(span)) if lies_in(span, &first.key) && lies_in(span, &second.key) => {}
+        _ => return Ok(Told::Other),
+    }
+    let mut rows = Seq::new(alloc);
+    rows.push(first)?;
+    rows.push(second)?;
+    Ok(told_by(&validate.take(Reply::Rows(rows))))
+}
+
+// What a scan found of the keys 1, 2 and 3, the base of an own delete of the key 1, and what a rescan tells.
+#[derive(Clone, Copy)]
+struct Case {
+    found: [Version; 3],
+    base: Option<Version>,
+    told: Told,
+}
+
+fn rescan_of(alloc: Global, case: Case) -> Result<Validate, NameRefused> {
+    let scans = scan_of(alloc, case.found)?;
+    let own = writes_of(alloc, case.base)?;
+    Ok(Validate::new(alloc, &Reads::new(alloc), &scans, &own)?)
+}
+
+// The rescan finds the key 1 in the first transaction's version.
+fn finds_one(alloc: Global, case: Case) -> Result<bool, Fail> {
+    let row = record_of(alloc, 1, FIRST)?;
+    let mut validate = rescan_of(alloc, case)?;
+    Ok(find_one(alloc, &mut validate, row)? == case.told)
+}
+
+const FOUND_FIRST: Told = Told::Conflict(1, Some(FIRST));
+
+static ONE: [Case; 6] = [
+    // A phantom is a conflict.
+    Case {
+        found: [Some(FIRST), None, None],
+        base: None,
+        told: Told::Done,
+    },
+    Case {
+        found: [None, None, None],
+        base: None,
+        told: FOUND_FIRST,
+    },
+    // A written key is left out if its base was found.
+    Case {
+        found: [Some(SECOND), None, None],
+        base: Some(Some(SECOND)),
+        told: Told::Done,
+    },
+    Case {
+        found: [None, None, None],
+        base: Some(None),
+        told: Told::Done,
+    },
+    // A written key is a conflict if its base was not found. In the second case the row came between the scan and the write.
+    Case {
+        found: [Some(FIRST), None, None],
+        base: Some(Some(SECOND)),
+        told: FOUND_FIRST,
+    },
+    Case {
+        found: [None, None, None],
+        base: Some(Some(FIRST)),
+        told: FOUND_FIRST,
+    },
+];
+
+#[test]
+fn phantom_is_a_conflict(rt: HostRuntime) -> Result<(), Fail> {
+    let alloc = rt.alloc();
+    all_hold(ONE.as_slice(), |case| finds_one(alloc, case))
+}
+
+// The rescan finds the keys 2 and 3 in the second transaction's versions.
+fn finds_two(alloc: Global, case: Case) -> Result<bool, Fail> {
+    let second = record_of(alloc, 2, SECOND)?;
+    let third = record_of(alloc, 3, SECOND)?;
+    let mut validate = rescan_of(alloc, case)?;
+    Ok(find_two(alloc, &mut validate, second, third)? == case.told)
+}
+
+static TWO: [Case; 3] = [
+    Case {
+        found: [Some(FIRST), None, Some(FIRST)],
+        base: None,
+        told: Told::Conflict(1, None),
+    },
+    Case {
+        found: [None, None, Some(FIRST)],
+        base: None,
+        told: Told::Conflict(2, Some(SECOND)),
+    },
+    Case {
+        found: [None, Some(SECOND), Some(FIRST)],
+        base: None,
+        told: Told::Conflict(3, Some(SECOND)),
+    },
+];
+
+#[test]
+fn conflict_is_the_first_in_key_order(rt: HostRuntime) -> Result<(), Fail> {
+    let alloc = rt.alloc();
+    all_hold(TWO.as_slice(), |case| finds_two(alloc, case))
+}

@@ -1,0 +1,11 @@
+//! What the stores answer: tests against values from outside.
+#![tactic(auto)]
+
+#[cfg(test)]
+mod answers;
+#[cfg(test)]
+mod foreign;
+#[cfg(test)]
+mod registry;
+#[cfg(test)]
+mod steps;
