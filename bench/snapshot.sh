@@ -1,7 +1,7 @@
 #!/bin/bash
 # Notes rows in a snapshot and times one call of it: with as many rows in the partition that it reads and more and more
-# rows beside it, and with more rows in the partition and as many in all. A scan finds no row and is noted once for each
-# partition: as often as there are partitions, and so beside more and more scans.
+# rows beside it, and with more rows in the partition and as many in all. A scan finds no row: the first call at a partition
+# notes it, and each later one looks whether the partition was scanned, among as many scans as there are partitions.
 #
 # Needs GNU time. Build the program first: cd crates/bench_parts && rt run -- snapshot overlay 3 4 5
 # Another program may be given as the first word.
@@ -38,7 +38,7 @@ lookup 10000 10 200000
 write 40 10 200000
 write 400 10 200000
 write 4000 10 200000
-scan 100 0 100
-scan 1000 0 1000
-scan 4000 0 4000
+scan 100 0 200000
+scan 1000 0 20000
+scan 4000 0 8000
 END
