@@ -7,10 +7,20 @@ use sdb_types::{Duplicate, Name, NoMemory, Pair, Seq, Value};
 use std::alloc::Global;
 
 /// A column name in a statement, with its literal where it has one.
-#[derive(Debug, Drop)]
+#[derive(Debug)]
 pub struct Mention {
     pub name: Name,
     pub literal: Option<Value>,
+}
+
+// By hand: each drop is then one call, where a derived one stands at each place with a call for each field.
+impl Drop for Mention {
+    fn drop(self) {
+        let Mention {
+            name: _,
+            literal: _,
+        } = self;
+    }
 }
 
 pub type Mentions = Seq<Mention>;

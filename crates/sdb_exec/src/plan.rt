@@ -49,12 +49,23 @@ pub enum PlanStep {
 }
 
 /// A statement on its table. Its first step asks for rows; the second answers on them.
-#[derive(Drop)]
 pub struct Plan {
     alloc: Global,
     table: Table,
     statement: Statement,
     asked: bool,
+}
+
+// By hand: each drop is then one call, where a derived one stands at each place with a call for each field.
+impl Drop for Plan {
+    fn drop(self) {
+        let Plan {
+            alloc: _,
+            table: _,
+            statement: _,
+            asked: _,
+        } = self;
+    }
 }
 
 impl Model for Plan {

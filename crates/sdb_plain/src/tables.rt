@@ -13,10 +13,16 @@ use std::collections::BTreeMap;
 use std::marker::Model;
 
 /// Plain tables: rows by key, a key naming its table, seen as a finite map from key to user columns.
-#[derive(Drop)]
 pub struct PlainTables {
     alloc: Global,
     rows: BTreeMap<Key, Columns>,
+}
+
+// By hand: each drop is then one call, where a derived one stands at each place with a call for each field.
+impl Drop for PlainTables {
+    fn drop(self) {
+        let PlainTables { alloc: _, rows: _ } = self;
+    }
 }
 
 impl Model for PlainTables {

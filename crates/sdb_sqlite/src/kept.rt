@@ -20,11 +20,21 @@ use std::alloc::Global;
 /// A row has the bytes of a key, the table's name, the bytes of the key's partition, and the bytes of the record. A row
 /// whose body spells no record of its key stands for a record without columns. A call that changes anything changes it in one
 /// statement.
-#[derive(Drop)]
 pub struct Kept<S: Alter + Drop> {
     alloc: Global,
     connection: Connection<S>,
     faults: u64,
+}
+
+// By hand: each drop is then one call, where a derived one stands at each place with a call for each field.
+impl<S: Alter + Drop> Drop for Kept<S> {
+    fn drop(self) {
+        let Kept {
+            alloc: _,
+            connection: _,
+            faults: _,
+        } = self;
+    }
 }
 
 fn refused(error: Error) -> KeptRefused {
