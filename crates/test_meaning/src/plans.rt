@@ -108,7 +108,7 @@ fn run(alloc: Global, plan: &mut Plan, rows: &[Image]) -> Result<Planned, Fail> 
 }
 
 // The answer of a plan on the rows that it reads, and its changes.
-fn planned(
+fn plan_on(
     alloc: Global,
     catalog: &Catalog,
     statement: &Statement,
@@ -144,7 +144,7 @@ fn after_statement(
     text: &str,
     rows: &[Image],
 ) -> Result<Option<Images>, Fail> {
-    let planned = planned(alloc, catalog, statement, rows)?;
+    let planned = plan_on(alloc, catalog, statement, rows)?;
     let left = with_changes(alloc, rows, &planned.changes)?;
     let plain = is_plain(alloc, catalog, statement, rows, &planned, &left)?;
     if plain && shows(alloc, &planned.answer, text)? {
@@ -296,7 +296,7 @@ fn unfit(alloc: Global) -> Result<Images, Fail> {
 
 fn names_first(alloc: Global, catalog: &Catalog, rows: &[Image]) -> Result<bool, Fail> {
     let statement = parse_statement(alloc, "DELETE FROM shop.item WHERE note = 'a'")?;
-    let planned = planned(alloc, catalog, &statement, rows)?;
+    let planned = plan_on(alloc, catalog, &statement, rows)?;
     Ok(planned.changes.len() == 0 && shows(alloc, &planned.answer, "badrecord shop.item(1)")?)
 }
 

@@ -135,7 +135,7 @@ fn delete(alloc: Global, seen: &mut Snapshot, id: i32) -> Result<(), Fail> {
     Ok(write_at(alloc, seen, &key, Change::Delete)?)
 }
 
-fn act(alloc: Global, seen: &mut Snapshot, act: Act) -> Result<(), Fail> {
+fn perform(alloc: Global, seen: &mut Snapshot, act: Act) -> Result<(), Fail> {
     match act {
         Act::Scan => scan_nothing(alloc, seen),
         Act::Read(id, cells) => read(alloc, seen, id, cells),
@@ -144,9 +144,9 @@ fn act(alloc: Global, seen: &mut Snapshot, act: Act) -> Result<(), Fail> {
     }
 }
 
-fn act_all(alloc: Global, seen: &mut Snapshot, acts: &[Act]) -> Result<(), Fail> {
+fn perform_all(alloc: Global, seen: &mut Snapshot, acts: &[Act]) -> Result<(), Fail> {
     for one in acts {
-        act(alloc, seen, *one)?;
+        perform(alloc, seen, *one)?;
     }
     Ok(())
 }
@@ -164,7 +164,7 @@ fn rows(alloc: Global, seen: &Snapshot) -> Result<usize, Fail> {
 
 // How many rows these acts leave.
 fn rows_after(alloc: Global, seen: &mut Snapshot, acts: &[Act]) -> Result<usize, Fail> {
-    act_all(alloc, seen, acts)?;
+    perform_all(alloc, seen, acts)?;
     rows(alloc, seen)
 }
 
@@ -206,7 +206,7 @@ fn shows_two(alloc: Global, seen: &Snapshot) -> Result<bool, Fail> {
 }
 
 fn reads_and_shows(alloc: Global, seen: &mut Snapshot) -> Result<bool, Fail> {
-    act_all(alloc, seen, READS.as_slice())?;
+    perform_all(alloc, seen, READS.as_slice())?;
     shows_two(alloc, seen)
 }
 
@@ -232,7 +232,7 @@ fn differs_at(alloc: Global, seen: &mut Snapshot, id: i32) -> Result<bool, Fail>
 }
 
 fn differs(alloc: Global, seen: &mut Snapshot) -> Result<bool, Fail> {
-    act(alloc, seen, Act::Read(1, Some(TOMBSTONE)))?;
+    perform(alloc, seen, Act::Read(1, Some(TOMBSTONE)))?;
     let differs = differs_at(alloc, seen, 1)?;
     Ok(differs && !seen.scanned(&accounts(alloc)?))
 }
@@ -247,7 +247,7 @@ fn a_scan_that_differs_is_not_noted(rt: HostRuntime) -> Result<(), Fail> {
 // Reads and deletes so many keys, one after the other.
 fn delete_keys(alloc: Global, seen: &mut Snapshot, many: i32) -> Result<(), Fail> {
     for id in 0..many {
-        act_all(
+        perform_all(
             alloc,
             seen,
             [Act::Read(id, None), Act::Delete(id)].as_slice(),

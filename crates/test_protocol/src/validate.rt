@@ -109,20 +109,20 @@ fn reads_each_key_again(rt: HostRuntime) -> Result<(), Fail> {
     all_hold(REREADS.as_slice(), |steps| reread_as(alloc, steps))
 }
 
-fn reads_of(alloc: Global, versions: [Version; 3]) -> Result<Reads, NameRefused> {
+fn reads_of(alloc: Global, versions: &[Version]) -> Result<Reads, NameRefused> {
     let mut reads = Reads::new(alloc);
     let mut n = 0i32;
     for version in versions {
         n = n.wrapping_add(1);
         if version.is_some() {
-            push_read(alloc, &mut reads, n, version)?;
+            push_read(alloc, &mut reads, n, *version)?;
         }
     }
     Ok(reads)
 }
 
 // A scan of the table that found these versions of the keys 1, 2 and 3.
-fn scan_of(alloc: Global, versions: [Version; 3]) -> Result<Scans, NameRefused> {
+fn scan_of(alloc: Global, versions: &[Version]) -> Result<Scans, NameRefused> {
     let span = span_of(alloc, "bank", "account", None)?;
     let found = reads_of(alloc, versions)?;
     let mut scans = Scans::new(alloc);
@@ -184,7 +184,7 @@ fn find_two(
 // What a scan found of the keys 1, 2 and 3, the base of an own delete of the key 1, and what a rescan tells.
 #[derive(Clone, Copy)]
 struct Case {
-    found: [Version; 3],
+    found: &'static [Version],
     base: Option<Version>,
     told: Told,
 }
@@ -207,34 +207,34 @@ const FOUND_FIRST: Told = Told::Conflict(1, Some(FIRST));
 static ONE: [Case; 6] = [
     // A phantom is a conflict.
     Case {
-        found: [Some(FIRST), None, None],
+        found: &[Some(FIRST), None, None],
         base: None,
         told: Told::Done,
     },
     Case {
-        found: [None, None, None],
+        found: &[None, None, None],
         base: None,
         told: FOUND_FIRST,
     },
     // A written key is left out if its base was found.
     Case {
-        found: [Some(SECOND), None, None],
+        found: &[Some(SECOND), None, None],
         base: Some(Some(SECOND)),
         told: Told::Done,
     },
     Case {
-        found: [None, None, None],
+        found: &[None, None, None],
         base: Some(None),
         told: Told::Done,
     },
     // A written key is a conflict if its base was not found. In the second case the row came between the scan and the write.
     Case {
-        found: [Some(FIRST), None, None],
+        found: &[Some(FIRST), None, None],
         base: Some(Some(SECOND)),
         told: FOUND_FIRST,
     },
     Case {
-        found: [None, None, None],
+        found: &[None, None, None],
         base: Some(Some(FIRST)),
         told: FOUND_FIRST,
     },
@@ -256,17 +256,17 @@ fn finds_two(alloc: Global, case: Case) -> Result<bool, Fail> {
 
 static TWO: [Case; 3] = [
     Case {
-        found: [Some(FIRST), None, Some(FIRST)],
+        found: &[Some(FIRST), None, Some(FIRST)],
         base: None,
         told: Told::Conflict(1, None),
     },
     Case {
-        found: [None, None, Some(FIRST)],
+        found: &[None, None, Some(FIRST)],
         base: None,
         told: Told::Conflict(2, Some(SECOND)),
     },
     Case {
-        found: [None, Some(SECOND), Some(FIRST)],
+        found: &[None, Some(SECOND), Some(FIRST)],
         base: None,
         told: Told::Conflict(3, Some(SECOND)),
     },
