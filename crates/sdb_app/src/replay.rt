@@ -1,6 +1,7 @@
 //! Playing a script on stores.
 ghost use Rattle.std.specs.Prelude.{◌≡◌, ◌<◌, ◌≤◌, ◌^◌, [], length, Some, None, IfOk, IfErr, OnOk};
 ghost use Rattle.std.specs.FinMap as finite;
+ghost use Rattle.std.specs.String.{string_bytes};
 ghost use Rattle.sdb_stores.specs.Shelf.{AreDistinct, names_of, total_faults};
 ghost use Rattle.sdb_script.specs.Accounts.{IsFormOf};
 ghost use Rattle.sdb_spread.specs.Spread.{HoldAs};
@@ -14,7 +15,7 @@ use sdb_play::{PlayRefused, first_record, outcome, play};
 use sdb_schema::Catalog;
 use sdb_script::{AccountForm, report_text};
 use sdb_stores::Registry;
-use sdb_types::{NoMemory, Txt};
+use sdb_types::NoMemory;
 use std::alloc::Global;
 
 impl From<NoMemory> for Status {
@@ -58,10 +59,10 @@ fn be_empty<R: Registry>(alloc: Global, stores: &mut R, catalog: &Catalog) -> Re
 }
 
 // Plays the statements of a script, and writes the report's text.
-fn tell<R: Registry>(alloc: Global, stores: &mut R, form: &AccountForm) -> Result<Txt, PlayRefused>
+fn tell<R: Registry>(alloc: Global, stores: &mut R, form: &AccountForm) -> Result<String, PlayRefused>
     requires some { 0 < length (R.shelves stores.old) }
     requires form { IsFormOf (names_of (R.shelves stores.old)) form.now }
-    ensures told { IfOk result (λ text. AreFit form.now.catalog (R.places stores.old) (R.shelves stores.old) (R.tells stores.old) → HoldAs form.now.catalog (placed (R.places stores.old)) (shown (R.shelves stores.old)) finite.empty → IsTold (placed_form form.now (placed (R.places stores.old))) (shown (R.shelves stores.old)) (shown (R.shelves stores.new)) text) }
+    ensures told { IfOk result (λ text. AreFit form.now.catalog (R.places stores.old) (R.shelves stores.old) (R.tells stores.old) → HoldAs form.now.catalog (placed (R.places stores.old)) (shown (R.shelves stores.old)) finite.empty → IsTold (placed_form form.now (placed (R.places stores.old))) (shown (R.shelves stores.old)) (shown (R.shelves stores.new)) (string_bytes text)) }
     ensures goes { GoOn (R.places stores.old) (R.places stores.new) (R.shelves stores.old) (R.shelves stores.new) (R.tells stores.old) (R.tells stores.new) }
     ensures err { IfErr result (Refuses (AreFit form.now.catalog (R.places stores.old) (R.shelves stores.old) (R.tells stores.old) → HoldAs form.now.catalog (placed (R.places stores.old)) (shown (R.shelves stores.old)) finite.empty → ⊥) (R.shelves stores.old) (R.shelves stores.new)) }
 {
@@ -71,12 +72,12 @@ fn tell<R: Registry>(alloc: Global, stores: &mut R, form: &AccountForm) -> Resul
 }
 
 /// Plays a script on stores of which none has a place yet, and gives the text of its report.
-pub fn replay<R: Registry>(alloc: Global, stores: &mut R, form: &AccountForm) -> Result<Txt, Status>
+pub fn replay<R: Registry>(alloc: Global, stores: &mut R, form: &AccountForm) -> Result<String, Status>
     requires some { 0 < length (R.shelves stores.old) }
     requires unplaced { R.places stores.old ≡ [] }
     requires distinct { AreDistinct (names_of (R.shelves stores.old)) }
     requires form { IsFormOf (names_of (R.shelves stores.old)) form.now }
-    ensures report { IfOk result (λ text. TellOf (script_of form.now) (R.shelves stores.old) (R.tells stores.old) → IsReported (script_of form.now) (shown (R.shelves stores.old)) (shown (R.shelves stores.new)) text) }
+    ensures report { IfOk result (λ text. TellOf (script_of form.now) (R.shelves stores.old) (R.tells stores.old) → IsReported (script_of form.now) (shown (R.shelves stores.old)) (shown (R.shelves stores.new)) (string_bytes text)) }
     ensures names { names_of (R.shelves stores.new) ≡ names_of (R.shelves stores.old) }
     ensures counted { total_faults (R.shelves stores.old) ≤ total_faults (R.shelves stores.new) }
     ensures err { IfErr result (Stops (R.shelves stores.old) (R.shelves stores.new) (TellOf (script_of form.now) (R.shelves stores.old) (R.tells stores.old) → ⊥) (λ key. TellOf (script_of form.now) (R.shelves stores.old) (R.tells stores.old) → first_key (opening_records form.now.catalog form.now.places (shown (R.shelves stores.old))) ≡ Some key)) }

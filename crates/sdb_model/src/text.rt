@@ -9,6 +9,7 @@ ghost use Rattle.sdb_types.specs.TxId.{id_text};
 ghost use Rattle.sdb_model.specs.Texts.{doubled, quoted, value_text_of, values_text_of, row_text_of, clustering_text_of, key_text_of, partition_text_of, span_text_of, pair_text_of, columns_text_of, record_text_of, rows_text_of, busy_text_of, conflict_text_of, refusal_text_of, answer_text_of};
 
 use crate::answer::{Answer, Refusal};
+use itoa::Buffer;
 use sdb_types::{Columns, Key, NoMemory, Pair, Record, Span, TableName, TxId, Txt, Value, Values};
 use std::alloc::Global;
 
@@ -16,8 +17,8 @@ use std::alloc::Global;
 pub fn put_number(out: &mut String, n: u64) -> Result<(), NoMemory>
     ensures { OnOk result (string_bytes out.new ≡ string_bytes out.old ++ decimal n) }
 {
-    let text = n.to_string(*out.allocator())?;
-    out.push_str(text.as_str())?;
+    let mut digits = Buffer::new();
+    out.push_str(digits.format(n))?;
     Ok(())
 }
 
@@ -25,8 +26,8 @@ pub fn put_number(out: &mut String, n: u64) -> Result<(), NoMemory>
 pub fn put_signed(out: &mut String, n: i64) -> Result<(), NoMemory>
     ensures { OnOk result (string_bytes out.new ≡ string_bytes out.old ++ signed_decimal n) }
 {
-    let text = n.to_string(*out.allocator())?;
-    out.push_str(text.as_str())?;
+    let mut digits = Buffer::new();
+    out.push_str(digits.format(n))?;
     Ok(())
 }
 

@@ -24,10 +24,7 @@ use Rattle.sdb_script.specs.declared.account.AccountStatement.{AccountStatement}
 use Rattle.sdb_session.specs.Session.{dump_held, outcome_of, start, taken_all}
 use Rattle.sdb_spread.specs.Spread.{HoldAs, moved_event, moved_events, moved_outcome}
 use Rattle.sdb_play.specs.Board.{AreFit, placed, shown}
-use Rattle.sdb_play.specs.Deeds.{deed_event}
 use Rattle.sdb_play.specs.Played.{IsPlayedOn}
-use Rattle.sdb_play.specs.declared.story.Deed.{Deed}
-use Rattle.sdb_play.specs.declared.story.Deed.TheVariants as deed
 use Rattle.sdb_play.proofs.Heard.{asked}
 use Rattle.sdb_play.proofs.Shelves.{named_home}
 
@@ -37,20 +34,13 @@ some_is x y e = cc
 abbrev outcome_with : List Event → List Point → List TableDump → Outcome
 outcome_with events order tables = record { events = events; order = order; tables = tables }
 
--- a call with the name of its store
-pub event_named : {tells : ℕ → Type 0} (catalog : List Table) (places : List Placed) (shelves : List Counted) (q : Request) (r : Reply) (given : Option Answer) (d : Deed) (store name : Name) (table : TableName) → AreFit catalog places shelves tells → d ≡ deed.Call q r given → table ≡ table_of q
+-- the name of the store of a call's table
+pub store_named : {tells : ℕ → Type 0} (catalog : List Table) (places : List Placed) (shelves : List Counted) (q : Request) (store name : Name) (table : TableName) → AreFit catalog places shelves tells → table ≡ table_of q
     → slice_get (names_of shelves) (home table.ns places (names_of shelves)) ≡ Some name → store ≡ name
-    → event.Call 1 store q Seen r given ≡ moved_event (store_of (placed places) (shown shelves)) (deed_event d)
-event_named catalog places shelves q r given d store name table fit is about there same =
+    → store ≡ store_of (placed places) (shown shelves) (table_asked q).ns
+store_named catalog places shelves q store name table fit about there same =
     let named : name ≡ store_of (placed places) (shown shelves) table.ns = some_is _ _ (sym there ∙ named_home places shelves table.ns fit.some (fit.homed table.ns)) in
-    let whole : store ≡ store_of (placed places) (shown shelves) (table_asked q).ns = same ∙ named ∙ ap (λ (t : TableName). store_of (placed places) (shown shelves) t.ns) (about ∙ asked q) in
-    ap (λ (n : Name). event.Call 1 n q Seen r given) whole ∙ ap (λ (x : Deed). moved_event (store_of (placed places) (shown shelves)) (deed_event x)) (sym is)
-
--- one event more
-pub events_more : (at : Name → Name) (deeds : List Deed) (d : Deed) (events : List Event) (e : Event) → events ≡ moved_events at (map deed_event deeds) → e ≡ moved_event at (deed_event d) → events ++ e ∷ [] ≡ moved_events at (map deed_event (deeds ++ d ∷ []))
-events_more at deeds d events e so is =
-    ap (λ (es : List Event). es ++ e ∷ []) so ∙ ap (λ (x : Event). moved_events at (map deed_event deeds) ++ x ∷ []) is
-    ∙ sym (ap (moved_events at) (map-append deed_event deeds (d ∷ [])) ∙ map-append (moved_event at) (map deed_event deeds) (deed_event d ∷ []))
+    same ∙ named ∙ ap (λ (t : TableName). store_of (placed places) (shown shelves) t.ns) (about ∙ asked q)
 
 -- what a run has come to, with the rows of its tables
 pub outcome_is : (catalog : List Table) (places : List Place) (opening now : List Shelf) (statements : List AccountStatement) (story events : List Event) (order : List Point) (tables : List TableDump) → IsPlayedOn catalog places opening now statements story order → events ≡ moved_events (store_of places now) story

@@ -1,5 +1,4 @@
 pub mod Board
 pub mod Played
-pub mod Deeds
 pub mod Opening
 pub mod Closing

@@ -19,7 +19,7 @@ use crate::call::{call, key_of};
 use crate::digest::digest;
 use crate::refused::PlayRefused;
 use crate::story::Story;
-use crate::values::key_read;
+use crate::values::Accounts;
 use sdb_model::{Answer, Point, Points, Texts};
 use sdb_record::Images;
 use sdb_script::{AccountStatement, AccountStatements};
@@ -130,21 +130,21 @@ fn read<R: Registry>(
     alloc: Global,
     txn: &mut Txn,
     stores: &mut R,
-    key: Key,
+    key: &Key,
 ) -> Result<Found, PlayRefused>
-    requires asking { txn.old.left ≡ Request.Get key ∷ [] }
+    requires asking { txn.old.left ≡ Request.Get key.now ∷ [] }
     requires stage { txn.old.stage ≡ Stage.Reading }
-    requires unread { is_known txn.old key ≡ false }
+    requires unread { is_known txn.old key.now ≡ false }
     requires some { 0 < length (R.shelves stores.old) }
-    ensures request { IfOk result (λ f. f.request ≡ Request.Get key) }
+    ensures request { IfOk result (λ f. f.request ≡ Request.Get key.now) }
     ensures reply { IfOk result (λ f. f.reply ≡ Reply.Found (found_in f.reply)) }
-    ensures images { IfOk result (λ f. f.images ≡ images_with key (row_with (write_at txn.old.writes key) (found_in f.reply))) }
-    ensures txn { IfOk result (λ f. txn.new ≡ noted txn.old key (found_in f.reply)) }
-    ensures heard { IfOk result (λ f. (catalog : List Table) → AreFit catalog (R.places stores.old) (R.shelves stores.old) (R.tells stores.old) → is_played catalog key.table ≡ true → IsHeard (placed (R.places stores.old)) (Request.Get key) f.reply (shown_lem (R.shelves stores.old)) (shown_lem (R.shelves stores.new))) }
+    ensures images { IfOk result (λ f. f.images ≡ images_with key.now (row_with (write_at txn.old.writes key.now) (found_in f.reply))) }
+    ensures txn { IfOk result (λ f. txn.new ≡ noted txn.old key.now (found_in f.reply)) }
+    ensures heard { IfOk result (λ f. (catalog : List Table) → AreFit catalog (R.places stores.old) (R.shelves stores.old) (R.tells stores.old) → is_played catalog key.now.table ≡ true → IsHeard (placed (R.places stores.old)) (Request.Get key.now) f.reply (shown_lem (R.shelves stores.old)) (shown_lem (R.shelves stores.new))) }
     ensures goes { GoOn (R.places stores.old) (R.places stores.new) (R.shelves stores.old) (R.shelves stores.new) (R.tells stores.old) (R.tells stores.new) }
-    ensures err { IfErr result (Refuses (IsForeignRead (R.places stores.old) (R.shelves stores.old) (R.tells stores.old) key) (R.shelves stores.old) (R.shelves stores.new)) }
+    ensures err { IfErr result (Refuses (IsForeignRead (R.places stores.old) (R.shelves stores.old) (R.tells stores.old) key.now) (R.shelves stores.old) (R.shelves stores.new)) }
 {
-    let request = Request::Get(key);
+    let request = Request::Get(key.copy()?);
     let (reply, progress) = step(alloc, txn, stores, &request)?;
     match progress {
         Progress::Rows(images) => Ok(Found {
@@ -159,12 +159,15 @@ fn read<R: Registry>(
 // Takes a statement whose key is known, which is answered at once.
 fn answer_at_once(
     alloc: Global,
+    accounts: &Accounts,
     log: &mut Log,
     txn: &mut Txn,
     text: &Txt,
     statement: AccountStatement,
+    key: &Key,
     images: &Images,
 ) -> Result<(), NoMemory>
+    requires key { key.now ≡ key_read_lem statement }
     requires open { txn.old.stage ≡ Stage.Open }
     requires puts { ArePuts txn.old.writes }
     requires seen { images.now ≡ images_with (key_read_lem statement) (row_seen txn.old (key_read_lem statement)) }
@@ -172,19 +175,22 @@ fn answer_at_once(
     ensures order { OnOk result (log.new.order ≡ log.old.order) }
     ensures txn { OnOk result (txn.new ≡ changed_by statement (row_seen txn.old (key_read_lem statement)) txn.old) }
 {
-    let answer = digest(alloc, txn, statement, images)?;
+    let answer = digest(alloc, accounts, txn, key, statement, images)?;
     log.story.take(text, Some(answer))
 }
 
 // Takes a statement whose key has to be read.
 fn answer_by_call<R: Registry>(
     alloc: Global,
+    accounts: &Accounts,
     log: &mut Log,
     stores: &mut R,
     txn: &mut Txn,
     text: &Txt,
     statement: AccountStatement,
+    key: &Key,
 ) -> Result<(), PlayRefused>
+    requires key { key.now ≡ key_read_lem statement }
     requires asking { txn.old.left ≡ Request.Get (key_read_lem statement) ∷ [] }
     requires stage { txn.old.stage ≡ Stage.Reading }
     requires unread { is_known txn.old (key_read_lem statement) ≡ false }
@@ -196,9 +202,8 @@ fn answer_by_call<R: Registry>(
     ensures err { IfErr result (Refuses (IsForeignRead (R.places stores.old) (R.shelves stores.old) (R.tells stores.old) (key_read_lem statement)) (R.shelves stores.old) (R.shelves stores.new)) }
 {
     log.story.take(text, None)?;
-    let key = key_read(alloc, statement)?;
     let found = read(alloc, txn, stores, key)?;
-    let answer = digest(alloc, txn, statement, &found.images)?;
+    let answer = digest(alloc, accounts, txn, key, statement, &found.images)?;
     log.story.call(found.request, found.reply, Some(answer))?;
     Ok(())
 }
@@ -206,6 +211,7 @@ fn answer_by_call<R: Registry>(
 // Takes an INSERT or a SELECT.
 fn look<R: Registry>(
     alloc: Global,
+    accounts: &Accounts,
     log: &mut Log,
     stores: &mut R,
     txn: &mut Txn,
@@ -221,13 +227,16 @@ fn look<R: Registry>(
     ensures goes { GoOn (R.places stores.old) (R.places stores.new) (R.shelves stores.old) (R.shelves stores.new) (R.tells stores.old) (R.tells stores.new) }
     ensures err { IfErr result (Refuses ((catalog : List Table) (opening : List Shelf) (held : Contents) → is_built catalog statement ≡ true → AreFit catalog (R.places stores.old) (R.shelves stores.old) (R.tells stores.old) → IsOn catalog (placed (R.places stores.old)) opening (shown_lem (R.shelves stores.old)) log.old.story held → IfSome (record_at held (key_read_lem statement)) (IsBaseOf (key_read_lem statement)) → ⊥) (R.shelves stores.old) (R.shelves stores.new)) }
 {
-    let key = key_read(alloc, statement)?;
+    let place = accounts.key_read(alloc, statement)?;
+    let key = place.copy()?;
     match txn.get(alloc, key) {
         Progress::Rows(images) => {
-            answer_at_once(alloc, log, txn, text, statement, &images)?;
+            answer_at_once(alloc, accounts, log, txn, text, statement, &place, &images)?;
             Ok(())
         }
-        Progress::More => answer_by_call(alloc, log, stores, txn, text, statement),
+        Progress::More => answer_by_call(
+            alloc, accounts, log, stores, txn, text, statement, &place,
+        ),
         Progress::Committed => unreachable!(),
         Progress::NoMemory => Err(PlayRefused::NoMemory),
     }
@@ -297,6 +306,7 @@ fn begin(alloc: Global, log: &mut Log, text: &Txt) -> Result<Txn, NoMemory>
 // Takes a statement.
 fn take<R: Registry>(
     alloc: Global,
+    accounts: &Accounts,
     log: &mut Log,
     stores: &mut R,
     current: Option<Txn>,
@@ -321,11 +331,11 @@ fn take<R: Registry>(
             Ok(None)
         }
         (Some(mut txn), AccountStatement::Insert(_, _)) => {
-            look(alloc, log, stores, &mut txn, text, statement)?;
+            look(alloc, accounts, log, stores, &mut txn, text, statement)?;
             Ok(Some(txn))
         }
         (Some(mut txn), AccountStatement::Select(_)) => {
-            look(alloc, log, stores, &mut txn, text, statement)?;
+            look(alloc, accounts, log, stores, &mut txn, text, statement)?;
             Ok(Some(txn))
         }
         _ => unreachable!(),
@@ -354,6 +364,16 @@ fn statement_at(statements: &AccountStatements, i: usize) -> AccountStatement
     }
 }
 
+fn nothing_done(alloc: Global) -> Result<Log, NoMemory>
+    ensures story { IfOk result (λ log. log.story ≡ []) }
+    ensures order { IfOk result (λ log. log.order ≡ []) }
+{
+    Ok(Log {
+        story: Story::new(alloc)?,
+        order: Points::new(alloc),
+    })
+}
+
 /// Plays the statements of one client on stores. What is said of a run is so over each catalog over which the statements can be
 /// built, where the stores are fit for it and its tables are empty.
 ///
@@ -372,15 +392,13 @@ pub fn play<R: Registry>(
     ensures goes { GoOn (R.places stores.old) (R.places stores.new) (R.shelves stores.old) (R.shelves stores.new) (R.tells stores.old) (R.tells stores.new) }
     ensures err { IfErr result (Refuses ((catalog : List Table) → list_all (is_built catalog) statements.now ≡ true → AreFit catalog (R.places stores.old) (R.shelves stores.old) (R.tells stores.old) → HoldAs catalog (placed (R.places stores.old)) (shown_lem (R.shelves stores.old)) finite.empty → ⊥) (R.shelves stores.old) (R.shelves stores.new)) }
 {
-    let mut log = Log {
-        story: Story::new(alloc),
-        order: Points::new(alloc),
-    };
+    let accounts = Accounts::new(alloc)?;
+    let mut log = nothing_done(alloc)?;
     let mut current = None;
     for i in 0..statements.len() {
         let text = text_at(texts, i);
         let statement = statement_at(statements, i);
-        current = take(alloc, &mut log, stores, current, text, statement)?;
+        current = take(alloc, &accounts, &mut log, stores, current, text, statement)?;
     }
     Ok(log)
 }

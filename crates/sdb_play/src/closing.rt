@@ -12,15 +12,14 @@ ghost use Rattle.sdb_session.specs.Session.{dump_held, outcome_of, shown_row, st
 ghost use Rattle.sdb_spread.specs.Spread.{HoldAs, is_played, moved_event, moved_events, moved_outcome};
 ghost use Rattle.sdb_play.specs.Board.{AreFit, GoOn, Refuses, placed, shown as shown_lem};
 ghost use Rattle.sdb_play.specs.Closing.{AreCommitted, AreSettled, first_unsettled as first_unsettled_lem};
-ghost use Rattle.sdb_play.specs.Deeds.{deed_event};
 ghost use Rattle.sdb_play.specs.Played.{IsPlayedOn};
 
 use crate::client::Log;
 use crate::opening::scan;
 use crate::refused::PlayRefused;
-use crate::story::{Deed, Story};
+use crate::story::Story;
 use crate::tables::table_at;
-use sdb_model::{Event, Events, How, Outcome, Rows, TableDump, TableRows};
+use sdb_model::{Event, Events, Outcome, Rows, TableDump, TableRows};
 use sdb_record::Image;
 use sdb_rows::{shown, shown_names};
 use sdb_schema::{Catalog, Table};
@@ -127,30 +126,42 @@ fn dumps<R: Registry>(
     Ok(tables)
 }
 
-// An event, with the store of its call.
-fn event_of<R: Registry>(stores: &R, deed: Deed) -> Result<Event, NoMemory>
+// Puts the store of its table into a call.
+fn place_event<R: Registry>(stores: &R, event: &mut Event) -> Result<(), NoMemory>
     requires some { 0 < length (R.shelves stores.now) }
-    ensures { IfOk result (λ event. (catalog : List Tabled) → AreFit catalog (R.places stores.now) (R.shelves stores.now) (R.tells stores.now) → event ≡ moved_event (store_of (placed (R.places stores.now)) (shown_lem (R.shelves stores.now))) (deed_event deed)) }
+    ensures { OnOk result ((catalog : List Tabled) → AreFit catalog (R.places stores.now) (R.shelves stores.now) (R.tells stores.now) → event.new ≡ moved_event (store_of (placed (R.places stores.now)) (shown_lem (R.shelves stores.now))) event.old) }
 {
-    match deed {
-        Deed::Take(text, answer) => Ok(Event::Take(1, text, answer)),
-        Deed::Call(request, reply, answer) => {
-            let store = stores.store_of(table_of(&request)).copy()?;
-            Ok(Event::Call(1, store, request, How::Seen, reply, answer))
+    match event {
+        Event::Call(_, store, request, _, _, _) => {
+            *store = stores.store_of(table_of(request)).copy()?;
+            Ok(())
         }
+        Event::Take(_, _, _) => Ok(()),
+        Event::Stop(_) => Ok(()),
+        Event::Clock(_) => Ok(()),
+        Event::Idle(_) => Ok(()),
     }
 }
 
+// Puts the store of its table into each call.
+fn place_events<R: Registry>(stores: &R, events: &mut [Event]) -> Result<(), NoMemory>
+    requires some { 0 < length (R.shelves stores.now) }
+    ensures { OnOk result ((catalog : List Tabled) → AreFit catalog (R.places stores.now) (R.shelves stores.now) (R.tells stores.now) → events.new ≡ moved_events (store_of (placed (R.places stores.now)) (shown_lem (R.shelves stores.now))) events.old) }
+{
+    for event in events.iter_mut() {
+        place_event(stores, event)?;
+    }
+    Ok(())
+}
+
 // The events of a story.
-fn events_of<R: Registry>(alloc: Global, stores: &R, story: Story) -> Result<Events, NoMemory>
+fn events_of<R: Registry>(stores: &R, story: Story) -> Result<Events, NoMemory>
     requires some { 0 < length (R.shelves stores.now) }
     ensures { IfOk result (λ events. (catalog : List Tabled) → AreFit catalog (R.places stores.now) (R.shelves stores.now) (R.tells stores.now) → events ≡ moved_events (store_of (placed (R.places stores.now)) (shown_lem (R.shelves stores.now))) story) }
 {
-    let mut events = Events::new(alloc);
-    for deed in story.into_deeds() {
-        events.push(event_of(stores, deed)?)?;
-    }
-    Ok(events)
+    let mut events = story.into_events();
+    place_events(stores, events.as_mut_slice())?;
+    Ok(Events::from_vec(events))
 }
 
 /// The outcome of a run, with the rows that the stores hold of each table of the catalog: each of their records has to be a
@@ -168,7 +179,7 @@ pub fn outcome<R: Registry>(
     ensures goes { GoOn (R.places stores.old) (R.places stores.new) (R.shelves stores.old) (R.shelves stores.new) (R.tells stores.old) (R.tells stores.new) }
     ensures err { IfErr result (Refuses ((held : Contents) → AreFit catalog.now (R.places stores.old) (R.shelves stores.old) (R.tells stores.old) → HoldAs catalog.now (placed (R.places stores.old)) (shown_lem (R.shelves stores.old)) held → AreCommitted catalog.now held → ⊥) (R.shelves stores.old) (R.shelves stores.new)) }
 {
-    let events = events_of(alloc, stores, log.story)?;
+    let events = events_of(stores, log.story)?;
     let tables = dumps(alloc, stores, catalog)?;
     Ok(Outcome {
         events,

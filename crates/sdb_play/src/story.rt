@@ -1,66 +1,66 @@
 //! What the one client of a run did: the statements that it took, and the calls that it made.
-ghost use Rattle.std.specs.Prelude.{◌≡◌, ◌++◌, ◌∷◌, [], length, map, OnOk};
+ghost use Rattle.std.specs.Prelude.{◌≡◌, ◌++◌, ◌∷◌, [], length, OnOk, IfOk};
 ghost use Rattle.sdb_session.specs.Session.{call_event, take_event};
-ghost use Rattle.sdb_play.specs.Deeds.{deed_event};
 
-use sdb_model::Answer;
-use sdb_types::{Duplicate, NoMemory, Reply, Request, Txt};
+use crate::values::known_name;
+use sdb_model::{Answer, Event, How};
+use sdb_types::{Duplicate, Name, NoMemory, Reply, Request, Txt};
 use std::alloc::Global;
 use std::marker::Model;
 
-/// A statement that was taken, or a call whose reply was seen, with the answer that the client then had. Which store a call
-/// went to is told by its table.
-#[derive(Drop)]
-pub(crate) enum Deed {
-    Take(Txt, Option<Answer>),
-    Call(Request, Reply, Option<Answer>),
-}
-
-/// The deeds of the one client, in their order. Callers see them as events on one store.
-#[derive(Drop)]
+/// The events of the one client, in their order. Each call is noted as one on the one store of a session, until the run has
+/// ended: then each gets the store of its table.
 pub struct Story {
-    deeds: Vec<Deed>,
+    store: Name,
+    events: Vec<Event>,
 }
 
 impl Model for Story {
-    ghost use Rattle.std.specs.Prelude.{List, map};
+    ghost use Rattle.std.specs.Prelude.{◌≡◌, List};
     ghost use Rattle.sdb_model.specs.declared.event.Event.{Event};
-    ghost use Rattle.sdb_play.specs.Deeds.{deed_event};
+    ghost use Rattle.sdb_session.specs.Session.{store_name};
 
     ghost Value = { List Event };
 
-    ghost view = { λ s. map deed_event s.deeds.items };
+    ghost view = { λ s. s.events.items };
+
+    ghost invariant = { λ s. s.store ≡ store_name };
+}
+
+// By hand: each drop is then one call, where a derived one stands at each place with a call for each field.
+impl Drop for Story {
+    fn drop(self) {
+        let Story {
+            store: _,
+            events: _,
+        } = self;
+    }
 }
 
 impl Story {
     /// Nothing was done yet.
-    pub fn new(alloc: Global) -> Story
-        ensures { result ≡ [] }
+    pub fn new(alloc: Global) -> Result<Story, NoMemory>
+        ensures { IfOk result (λ story. story ≡ []) }
     {
-        Story {
-            deeds: Vec::new(alloc),
-        }
+        Ok(Story {
+            store: known_name(alloc, "ordered")?,
+            events: Vec::new(alloc),
+        })
     }
 
-    /// The number of deeds.
+    /// The number of events.
     pub fn len(&self) -> usize
         ensures { result ≡ length self.now }
     {
-        self.deeds.len()
-    }
-
-    fn push(&mut self, deed: Deed) -> Result<(), NoMemory>
-        ensures { OnOk result (self.new ≡ self.old ++ deed_event deed ∷ []) }
-    {
-        self.deeds.push(deed)?;
-        Ok(())
+        self.events.len()
     }
 
     /// Adds a statement that was taken.
     pub fn take(&mut self, text: &Txt, answer: Option<Answer>) -> Result<(), NoMemory>
         ensures { OnOk result (self.new ≡ self.old ++ take_event text.now answer ∷ []) }
     {
-        self.push(Deed::Take(text.copy()?, answer))
+        self.events.push(Event::Take(1, text.copy()?, answer))?;
+        Ok(())
     }
 
     /// Adds a call whose reply was seen.
@@ -72,13 +72,17 @@ impl Story {
     ) -> Result<(), NoMemory>
         ensures { OnOk result (self.new ≡ self.old ++ call_event request reply answer ∷ []) }
     {
-        self.push(Deed::Call(request, reply, answer))
+        let store = self.store.copy()?;
+        self.events
+            .push(Event::Call(1, store, request, How::Seen, reply, answer))?;
+        Ok(())
     }
 
-    // The deeds, in their order.
-    pub(crate) fn into_deeds(self) -> Vec<Deed>
-        ensures { map deed_event result.items ≡ self }
+    // The events, in their order.
+    pub(crate) fn into_events(self) -> Vec<Event>
+        ensures { result.items ≡ self }
     {
-        self.deeds
+        let Story { store: _, events } = self;
+        events
     }
 }

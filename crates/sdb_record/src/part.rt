@@ -54,10 +54,12 @@ impl MetaColumn {
     }
 }
 
+// The lengths are compared first, so most names differ at once.
+#[tactic(auto, using(crate::proofs::NameLemmas::equal_texts))]
 pub fn is_text(name: &str, text: &str) -> bool
     ensures { result ≡ same_name name.now text.now }
 {
-    name.cmp(text).is_eq()
+    name.as_bytes() == text.as_bytes()
 }
 
 #[tactic(auto, unfolding(crate::specs::Names::is_meta))]

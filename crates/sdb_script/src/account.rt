@@ -8,8 +8,9 @@ ghost use Rattle.sdb_script.specs.Accounts.{account_text as account_text_lem, fi
 ghost use Rattle.sdb_script.specs.Drawn.{account_line, if_account as if_account_lem, insert_at, select_at, word_at, account_in as account_in_lem, number_in as number_in_lem};
 ghost use Rattle.sdb_script.specs.declared.account.AccountStatement.TheVariants as account;
 
-use crate::line::{fits_int, insert_text, is_line, is_statement_line, numbers_in};
+use crate::line::{MOST_TEXT, fits_int, insert_text, is_line, is_statement_line, numbers_in};
 use crate::scan::{after, number_at};
+use itoa::Buffer;
 use sdb_types::{NoMemory, Seq, Txt};
 use std::alloc::Global;
 
@@ -30,31 +31,33 @@ pub type AccountStatements = Seq<AccountStatement>;
 fn select_pieces(alloc: Global, id: i32) -> Result<String, NoMemory>
     ensures { IfOk result (λ text. string_bytes text ≡ codes "SELECT balance FROM bank.account WHERE id = " ++ signed_decimal id) }
 {
-    let mut text = String::new(alloc);
+    let mut digits = Buffer::new();
+    let mut text = String::with_capacity(alloc, MOST_TEXT)?;
     text.push_str("SELECT balance FROM bank.account WHERE id = ")?;
-    text.push_str(id.to_string(alloc)?.as_str())?;
+    text.push_str(digits.format(id))?;
     Ok(text)
 }
 
-fn select_text(alloc: Global, id: i32) -> Result<Txt, NoMemory>
-    ensures { IfOk result (λ text. text ≡ account_text_lem (account.Select id)) }
+// The text of a statement on accounts, in memory that can grow.
+fn account_string(alloc: Global, statement: AccountStatement) -> Result<String, NoMemory>
+    ensures { IfOk result (λ text. string_bytes text ≡ account_text_lem statement) }
 {
-    let text = select_pieces(alloc, id)?;
-    Txt::new(alloc, text.as_str())
+    match statement {
+        AccountStatement::Begin => Ok(String::from_str(alloc, "BEGIN")?),
+        AccountStatement::Insert(id, balance) => {
+            insert_text(alloc, i64::from(id), i64::from(balance))
+        }
+        AccountStatement::Select(id) => select_pieces(alloc, id),
+        AccountStatement::Commit => Ok(String::from_str(alloc, "COMMIT")?),
+    }
 }
 
 /// The text of a statement on accounts.
 pub fn account_text(alloc: Global, statement: AccountStatement) -> Result<Txt, NoMemory>
     ensures { IfOk result (λ text. text ≡ account_text_lem statement) }
 {
-    match statement {
-        AccountStatement::Begin => Txt::new(alloc, "BEGIN"),
-        AccountStatement::Insert(id, balance) => {
-            insert_text(alloc, i64::from(id), i64::from(balance))
-        }
-        AccountStatement::Select(id) => select_text(alloc, id),
-        AccountStatement::Commit => Txt::new(alloc, "COMMIT"),
-    }
+    let text = account_string(alloc, statement)?;
+    Txt::new(alloc, text.as_str())
 }
 
 // The statement, where the line is its line.
@@ -66,7 +69,7 @@ fn if_account(
     requires { fits_account statement ≡ true }
     ensures { IfOk result (λ found. found ≡ if_account_lem line.now statement) }
 {
-    let text = account_text(alloc, statement)?;
+    let text = account_string(alloc, statement)?;
     if is_statement_line(alloc, line, text.as_str())? {
         Ok(Some(statement))
     } else {

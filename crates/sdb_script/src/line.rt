@@ -10,8 +10,12 @@ ghost use Rattle.sdb_script.specs.Pieces.{client_in, numbers_in};
 ghost use Rattle.sdb_script.specs.declared.line.LineRefused.TheVariants.{NoMemory as OutOfMemory};
 
 use crate::scan::{after, number_at};
-use sdb_types::{Name, NameRefused, NoMemory, Txt};
+use itoa::Buffer;
+use sdb_types::{Name, NameRefused, NoMemory};
 use std::alloc::{AllocError, Global};
+
+/// No line of a statement on accounts is longer.
+pub const MOST_TEXT: usize = 80;
 
 /// Why a line isn't taken.
 #[derive(Clone, Copy, Debug, PartialEq, Eq)]
@@ -81,28 +85,29 @@ pub fn name_of(alloc: Global, bytes: &[u8]) -> Result<Name, LineRefused>
 fn insert_pieces(alloc: Global, id: i64, balance: i64) -> Result<String, NoMemory>
     ensures { IfOk result (λ text. string_bytes text ≡ (((codes "INSERT INTO bank.account (id, balance) VALUES (" ++ signed_decimal id) ++ codes ", ") ++ signed_decimal balance) ++ codes ")") }
 {
-    let mut text = String::new(alloc);
+    let mut digits = Buffer::new();
+    let mut text = String::with_capacity(alloc, MOST_TEXT)?;
     text.push_str("INSERT INTO bank.account (id, balance) VALUES (")?;
-    text.push_str(id.to_string(alloc)?.as_str())?;
+    text.push_str(digits.format(id))?;
     text.push_str(", ")?;
-    text.push_str(balance.to_string(alloc)?.as_str())?;
+    text.push_str(digits.format(balance))?;
     text.push_str(")")?;
     Ok(text)
 }
 
 /// The text of the statement that inserts an account.
-pub fn insert_text(alloc: Global, id: i64, balance: i64) -> Result<Txt, NoMemory>
-    ensures { IfOk result (λ text. text ≡ statement_text_of (insert_of id balance)) }
+pub fn insert_text(alloc: Global, id: i64, balance: i64) -> Result<String, NoMemory>
+    ensures { IfOk result (λ text. string_bytes text ≡ statement_text_of (insert_of id balance)) }
 {
     let text = insert_pieces(alloc, id, balance)?;
-    Txt::new(alloc, text.as_str())
+    Ok(text)
 }
 
 // Whether a line is that of a statement with this text.
 pub fn is_statement_line(alloc: Global, line: &[u8], text: &str) -> Result<bool, NoMemory>
     ensures { IfOk result (λ is. is ≡ bytes_eq line.now (codes "  " ++ text.now)) }
 {
-    let mut whole = String::new(alloc);
+    let mut whole = String::with_capacity(alloc, MOST_TEXT)?;
     whole.push_str("  ")?;
     whole.push_str(text)?;
     Ok(is_line(line, whole.as_str()))

@@ -315,10 +315,10 @@ pub fn put_report(out: &mut String, outcome: &Outcome) -> Result<(), NoMemory>
 }
 
 /// The text of an outcome's report.
-pub fn report_text(alloc: Global, outcome: &Outcome) -> Result<Txt, NoMemory>
-    ensures { IfOk result (λ t. t ≡ report_text_of outcome.now) }
+pub fn report_text(alloc: Global, outcome: &Outcome) -> Result<String, NoMemory>
+    ensures { IfOk result (λ text. string_bytes text ≡ report_text_of outcome.now) }
 {
     let mut out = String::new(alloc);
     put_report(&mut out, outcome)?;
-    Txt::new(alloc, out.as_str())
+    Ok(out)
 }

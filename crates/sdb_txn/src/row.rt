@@ -3,24 +3,15 @@ ghost use Rattle.std.specs.Prelude.{◌≡◌, IfOk, OnOk, true};
 ghost use Rattle.std.specs.Option.{option_copied};
 ghost use Rattle.sdb_types.specs.Contents.{has_value};
 ghost use Rattle.sdb_types.specs.declared.value.Value.TheVariants as literal;
-ghost use Rattle.sdb_record.specs.Names.{tx_tombstone};
+ghost use Rattle.sdb_types.specs.Columns.{column};
+ghost use Rattle.sdb_record.specs.Names.{same_name, tx_tombstone};
 ghost use Rattle.sdb_record.specs.Parts.{user_columns as user_columns_lem, with_columns};
 ghost use Rattle.sdb_record.specs.Rolls.{is_tombstone as is_tombstone_lem, row_of_image, row_of_change as row_of_change_lem};
 ghost use Rattle.sdb_txn.specs.Txn.{row_found, images_with as images_with_lem};
 
 use sdb_record::{Change, Image, Images, is_user_name};
-use sdb_types::{Columns, Duplicate, Key, Name, NameRefused, NoMemory, Pair, Record, Value};
+use sdb_types::{Columns, Duplicate, Key, NoMemory, Pair, Record, Value};
 use std::alloc::Global;
-
-fn tombstone_name(alloc: Global) -> Result<Name, NoMemory>
-    ensures { IfOk result (λ name. name ≡ tx_tombstone) }
-{
-    match Name::new(alloc, "tx_tombstone") {
-        Ok(name) => Ok(name),
-        Err(NameRefused::NoMemory) => Err(NoMemory),
-        Err(NameRefused::BadName) => unreachable!(),
-    }
-}
 
 fn is_true(value: Option<&Value>) -> bool
     ensures { result ≡ has_value (option_copied value.entry) (literal.Bool true) }
@@ -31,12 +22,27 @@ fn is_true(value: Option<&Value>) -> bool
     }
 }
 
-// Whether a record marks that its row was deleted.
-fn is_tombstone(alloc: Global, rec: &Record) -> Result<bool, NoMemory>
-    ensures { IfOk result (λ tombstone. tombstone ≡ is_tombstone_lem rec.now) }
+#[tactic(auto, using(sdb_record::proofs::NameLemmas::equal_texts))]
+fn is_text(name: &str, text: &str) -> bool
+    ensures { result ≡ same_name name.now text.now }
 {
-    let name = tombstone_name(alloc)?;
-    Ok(is_true(rec.columns.get(&name)))
+    name.as_bytes() == text.as_bytes()
+}
+
+fn find_text<'a>(pairs: &'a [Pair], name: &str) -> Option<&'a Value>
+    ensures { option_copied result ≡ column pairs.now name.now }
+{
+    pairs
+        .iter()
+        .find(|pair| is_text(pair.name.as_str(), name))
+        .map(|pair| &pair.value)
+}
+
+// Whether a record marks that its row was deleted.
+fn is_tombstone(rec: &Record) -> bool
+    ensures { result ≡ is_tombstone_lem rec.now }
+{
+    is_true(find_text(rec.columns.pairs(), "tx_tombstone"))
 }
 
 // Sets a copy of each user column.
@@ -64,7 +70,7 @@ fn user_columns(alloc: Global, columns: &Columns) -> Result<Columns, NoMemory>
 pub fn row_of(alloc: Global, rec: &Record) -> Result<Option<Columns>, NoMemory>
     ensures { IfOk result (λ row. row ≡ row_of_image rec.now) }
 {
-    if is_tombstone(alloc, rec)? {
+    if is_tombstone(rec) {
         Ok(None)
     } else {
         Ok(Some(user_columns(alloc, &rec.columns)?))

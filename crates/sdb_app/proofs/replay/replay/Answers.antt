@@ -1,4 +1,5 @@
 use Rattle.std.proofs.Common.{◌≡◌, List, Some, IfErr, subst}
+use Rattle.std.specs.String.{string_bytes}
 use Rattle.sdb_types.specs.declared.key.Key.{Key}
 use Rattle.sdb_play.specs.Board.{shown}
 use Rattle.sdb_play.specs.Opening.{first_key, opening_records}
@@ -43,4 +44,4 @@ returns-clause-report g c = λ all.
     let old = g.R.Registry.shelves c.args.stores.now in
     let mid = g.R.Registry.shelves c.place_all.new.stores in
     let fit = fit_form c.args.form.now ps old mid c.in_ok-place_all.ensures.places c.place_all.ensures.stores c.requires.form c.requires.some c.requires.distinct c.place_all.ensures.telling all in
-    reported c.args.form.now ps qs old mid (g.R.Registry.shelves c.be_empty.new.stores) _ c.in_ok-tell.field-0 c.in_ok-place_all.ensures.places c.place_all.ensures.stores c.in_ok-be_empty.ensures.goes fit (c.in_ok-be_empty.ensures.empty fit) (c.in_ok-be_empty.ensures.still fit) c.in_ok-tell.ensures.told
+    reported c.args.form.now ps qs old mid (g.R.Registry.shelves c.be_empty.new.stores) _ (string_bytes c.in_ok-tell.field-0) c.in_ok-place_all.ensures.places c.place_all.ensures.stores c.in_ok-be_empty.ensures.goes fit (c.in_ok-be_empty.ensures.empty fit) (c.in_ok-be_empty.ensures.still fit) c.in_ok-tell.ensures.told

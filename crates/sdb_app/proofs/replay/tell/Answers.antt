@@ -1,4 +1,5 @@
 use Rattle.std.proofs.Common.{false}
+use Rattle.std.specs.String.{string_bytes}
 use Rattle.sdb_stores.specs.Shelf.{names_of}
 use Rattle.sdb_play.proofs.Heard.{goes_more, some_more}
 use Rattle.sdb_play.proofs.Refusals.{passed, refused_after, refused_as}
@@ -31,7 +32,7 @@ returns-clause-told g c = λ fit holds.
     let old = g.R.Registry.shelves c.args.stores.now in
     let mid = g.R.Registry.shelves c.play.new.stores in
     let played = c.in_ok-log.ensures in
-    told_by (names_of old) c.args.form.now p q old mid (g.R.Registry.shelves c.outcome.new.stores) c.in_ok-log.log.story c.in_ok-log.log.order c.in_ok-outcome.outcome c.in_ok-report_text.field-0 c.requires.form played.countable played.goes played.played
+    told_by (names_of old) c.args.form.now p q old mid (g.R.Registry.shelves c.outcome.new.stores) c.in_ok-log.log.story c.in_ok-log.log.order c.in_ok-outcome.outcome (string_bytes c.in_ok-report_text.field-0) c.requires.form played.countable played.goes played.played
     c.in_ok-outcome.ensures.outcome c.in_ok-outcome.ensures.still c.in_ok-report_text.ensures fit holds
 
 pub outcome-requires : goal.outcome-requires

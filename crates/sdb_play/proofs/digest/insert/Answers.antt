@@ -1,4 +1,4 @@
-use Rattle.std.proofs.Common.{◌≡◌, ◌∙◌, sym, ap, None, rules, ℤ, to_z, of_z, w32}
+use Rattle.std.proofs.Common.{◌≡◌, ◌∙◌, sym, ap, None}
 use Rattle.sdb_record.specs.declared.write.Keyed.{Keyed}
 use Rattle.sdb_record.specs.Rolls.{is_change}
 use Rattle.sdb_txn.specs.Commit.{write_at}
@@ -14,5 +14,4 @@ pub write-requires-clause-new : goal.write-requires-clause-new
 write-requires-clause-new c =
     let none : row_seen c.args.txn.now (account_key c.args.id) ≡ None =
     no_row (account_key c.args.id) (row_seen c.args.txn.now (account_key c.args.id)) c.args.images.now c.requires.seen (empty_list c.args.images.now (sym c.is_empty.ensures ∙ c.if-is_empty.true)) in
-    let same : to_z w32 (of_z w32 c.args.id) ≡ c.args.id = search rules in
-    ap (λ (k : Keyed). write_at c.args.txn.now.writes k.key) c.in_ok-change.ensures ∙ ap (λ (n : ℤ). write_at c.args.txn.now.writes (account_key n)) same ∙ no_write c.args.txn.now.writes (account_key c.args.id) (base_at c.args.txn.now.reads (account_key c.args.id)) c.requires.puts none
+    ap (λ (k : Keyed). write_at c.args.txn.now.writes k.key) c.in_ok-change.ensures ∙ ap (write_at c.args.txn.now.writes) c.requires.key ∙ no_write c.args.txn.now.writes (account_key c.args.id) (base_at c.args.txn.now.reads (account_key c.args.id)) c.requires.puts none

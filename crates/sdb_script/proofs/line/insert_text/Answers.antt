@@ -1,13 +1,10 @@
-use Rattle.std.proofs.Common.{◌≡◌, ℕ, List, ◌++◌, IfOk, ◌∙◌, subst, rules, codes}
+use Rattle.std.proofs.Common.{◌≡◌, ◌++◌, ◌∙◌, rules, codes}
 use Rattle.std.specs.Fmt.{signed_decimal}
 use Rattle.std.specs.String.{string_bytes}
-use Rattle.sdb_model.specs.Reading.{statement_text_of}
-use Rattle.sdb_model.specs.Form.{insert_of}
 use Rattle.sdb_script.proofs.Texts.{insert_pieces}
 use Rattle.sdb_script.proofs.line.insert_text.Goals as goal
 
 pub returns : goal.returns
 returns c =
     let pieces : string_bytes c.in_ok-text.text ≡ (((codes "INSERT INTO bank.account (id, balance) VALUES (" ++ signed_decimal c.args.id) ++ codes ", ") ++ signed_decimal c.args.balance) ++ codes ")" = search rules in
-    let made : c.as_str.result.now ≡ statement_text_of (insert_of c.args.id c.args.balance) = c.as_str.ensures.value ∙ (pieces ∙ insert_pieces c.args.id c.args.balance) in
-    subst (λ (x : List ℕ). IfOk c.new.result (λ t. t ≡ x)) made c.new.ensures
+    pieces ∙ insert_pieces c.args.id c.args.balance
