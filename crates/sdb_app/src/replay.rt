@@ -59,7 +59,11 @@ fn be_empty<R: Registry>(alloc: Global, stores: &mut R, catalog: &Catalog) -> Re
 }
 
 // Plays the statements of a script, and writes the report's text.
-fn tell<R: Registry>(alloc: Global, stores: &mut R, form: &AccountForm) -> Result<String, PlayRefused>
+fn tell<R: Registry>(
+    alloc: Global,
+    stores: &mut R,
+    form: &AccountForm,
+) -> Result<String, PlayRefused>
     requires some { 0 < length (R.shelves stores.old) }
     requires form { IsFormOf (names_of (R.shelves stores.old)) form.now }
     ensures told { IfOk result (λ text. AreFit form.now.catalog (R.places stores.old) (R.shelves stores.old) (R.tells stores.old) → HoldAs form.now.catalog (placed (R.places stores.old)) (shown (R.shelves stores.old)) finite.empty → IsTold (placed_form form.now (placed (R.places stores.old))) (shown (R.shelves stores.old)) (shown (R.shelves stores.new)) (string_bytes text)) }
@@ -72,7 +76,11 @@ fn tell<R: Registry>(alloc: Global, stores: &mut R, form: &AccountForm) -> Resul
 }
 
 /// Plays a script on stores of which none has a place yet, and gives the text of its report.
-pub fn replay<R: Registry>(alloc: Global, stores: &mut R, form: &AccountForm) -> Result<String, Status>
+pub fn replay<R: Registry>(
+    alloc: Global,
+    stores: &mut R,
+    form: &AccountForm,
+) -> Result<String, Status>
     requires some { 0 < length (R.shelves stores.old) }
     requires unplaced { R.places stores.old ≡ [] }
     requires distinct { AreDistinct (names_of (R.shelves stores.old)) }

@@ -1,19 +1,14 @@
 -- What a run has come to, on several stores.
-use Rattle.std.proofs.Common.{◌≡◌, ◌∙◌, ℕ, List, [], ◌∷◌, ◌++◌, map, Option, Some, sym, ap}
+use Rattle.std.proofs.Common.{◌≡◌, ◌∙◌, ℕ, List, map, Some, sym, ap}
 use Rattle.std.specs.FinMap.{empty}
 use Rattle.std.specs.Prelude.{slice_get}
-use Rattle.std.proofs.lemmas.List.{map-append}
 use Rattle.sdb_types.specs.declared.key.TableName.{TableName}
 use Rattle.sdb_types.specs.declared.record.Request.{Request}
-use Rattle.sdb_types.specs.declared.record.Reply.{Reply}
 use Rattle.sdb_types.specs.Contents.{Contents}
 use Rattle.sdb_schema.specs.declared.table.Table.{Table}
 use Rattle.sdb_stores.specs.Shelf.{Shelf as Counted, home, names_of, table_of}
 use Rattle.sdb_stores.specs.declared.place.Place.{Place as Placed}
-use Rattle.sdb_model.specs.declared.answer.Answer.{Answer}
 use Rattle.sdb_model.specs.declared.event.Event.{Event}
-use Rattle.sdb_model.specs.declared.event.Event.TheVariants as event
-use Rattle.sdb_model.specs.declared.event.How.TheVariants.{Seen}
 use Rattle.sdb_model.specs.declared.event.Outcome.{Outcome}
 use Rattle.sdb_model.specs.declared.event.Point.{Point}
 use Rattle.sdb_model.specs.declared.event.TableDump.{TableDump}
@@ -22,7 +17,7 @@ use Rattle.sdb_model.specs.Rows.{Name}
 use Rattle.sdb_model.specs.Events.{Shelf, store_of, table_asked}
 use Rattle.sdb_script.specs.declared.account.AccountStatement.{AccountStatement}
 use Rattle.sdb_session.specs.Session.{dump_held, outcome_of, start, taken_all}
-use Rattle.sdb_spread.specs.Spread.{HoldAs, moved_event, moved_events, moved_outcome}
+use Rattle.sdb_spread.specs.Spread.{HoldAs, moved_events, moved_outcome}
 use Rattle.sdb_play.specs.Board.{AreFit, placed, shown}
 use Rattle.sdb_play.specs.Played.{IsPlayedOn}
 use Rattle.sdb_play.proofs.Heard.{asked}

@@ -1,4 +1,5 @@
 use Rattle.std.proofs.Common.{◌≡◌, ◌∙◌, Some}
+use Rattle.std.specs.String.{string_bytes}
 use Rattle.sdb_model.specs.declared.script.Script.{Script}
 use Rattle.sdb_play.specs.Board.{shown}
 use Rattle.sdb_play.specs.Opening.{first_key, opening_records}
@@ -27,9 +28,9 @@ returns-in-Ok-write_all-clause-done g c = λ _.
     let mid = g.S.Registry.shelves c.clear_places.new.self in
     let closing = shown (g.S.Registry.shelves c.replay.new.stores) in
     let form = c.in-Ok-read_script.form in
-    let bytes : c.as_bytes.result.now ≡ c.in-Ok-replay.text = c.as_bytes.ensures.value ∙ c.as_str.ensures in
-    read_and (λ (s : Script). IsReported s (shown mid) closing c.in-Ok-replay.text) (λ (s : Script). IsWritten s (shown before) closing _ _) form _ _ c.in-Ok.names before mid c.in-Ok.ensures.names c.clear_places.ensures.stores c.clear_places.ensures.telling c.in-Ok-read_script.ensures.read
-    c.in-Ok-replay.ensures.report (written_of (script_of form) before mid closing c.in-Ok-replay.text c.as_bytes.result.now _ _ c.clear_places.ensures.stores bytes c.in-Ok-write_all.ensures.all)
+    let bytes : c.as_bytes.result.now ≡ string_bytes c.in-Ok-replay.text = c.as_bytes.ensures.value ∙ c.as_str.ensures.value in
+    read_and (λ (s : Script). IsReported s (shown mid) closing (string_bytes c.in-Ok-replay.text)) (λ (s : Script). IsWritten s (shown before) closing _ _) form _ _ c.in-Ok.names before mid c.in-Ok.ensures.names c.clear_places.ensures.stores c.clear_places.ensures.telling c.in-Ok-read_script.ensures.read
+    c.in-Ok-replay.ensures.report (written_of (script_of form) before mid closing (string_bytes c.in-Ok-replay.text) c.as_bytes.result.now _ _ c.clear_places.ensures.stores bytes c.in-Ok-write_all.ensures.all)
 
 pub returns-in-Err-Failed-clause-front : goal.returns-in-Err-Failed-clause-front
 returns-in-Err-Failed-clause-front g c = λ _.
@@ -37,6 +38,6 @@ returns-in-Err-Failed-clause-front g c = λ _.
     let mid = g.S.Registry.shelves c.clear_places.new.self in
     let closing = shown (g.S.Registry.shelves c.replay.new.stores) in
     let form = c.in-Ok-read_script.form in
-    let bytes : c.as_bytes.result.now ≡ c.in-Ok-replay.text = c.as_bytes.ensures.value ∙ c.as_str.ensures in
-    read_and (λ (s : Script). IsReported s (shown mid) closing c.in-Ok-replay.text) (λ (s : Script). IsFront s (shown before) closing _ _) form _ _ c.in-Ok.names before mid c.in-Ok.ensures.names c.clear_places.ensures.stores c.clear_places.ensures.telling c.in-Ok-read_script.ensures.read
-    c.in-Ok-replay.ensures.report (front_of (script_of form) before mid closing c.in-Ok-replay.text c.as_bytes.result.now _ _ c.clear_places.ensures.stores bytes c.in-Err-Failed.ensures.front)
+    let bytes : c.as_bytes.result.now ≡ string_bytes c.in-Ok-replay.text = c.as_bytes.ensures.value ∙ c.as_str.ensures.value in
+    read_and (λ (s : Script). IsReported s (shown mid) closing (string_bytes c.in-Ok-replay.text)) (λ (s : Script). IsFront s (shown before) closing _ _) form _ _ c.in-Ok.names before mid c.in-Ok.ensures.names c.clear_places.ensures.stores c.clear_places.ensures.telling c.in-Ok-read_script.ensures.read
+    c.in-Ok-replay.ensures.report (front_of (script_of form) before mid closing (string_bytes c.in-Ok-replay.text) c.as_bytes.result.now _ _ c.clear_places.ensures.stores bytes c.in-Err-Failed.ensures.front)
