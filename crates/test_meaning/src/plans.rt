@@ -64,7 +64,7 @@ fn changed(alloc: Global, rows: &[Image], keyed: &Keyed) -> Result<Images, Fail>
 
 // The rows after all changes, in the order of their keys.
 fn with_changes(alloc: Global, rows: &[Image], changes: &Changes) -> Result<Images, Fail> {
-    let mut left = Seq::from_slice(alloc, rows)?;
+    let mut left = PlainTables::of_rows(alloc, rows)?.all()?;
     for keyed in changes {
         left = changed(alloc, left.as_slice(), keyed)?;
     }
