@@ -43,7 +43,7 @@ use Rattle.sdb_play.proofs.Empty.{no_record}
 use Rattle.sdb_play.proofs.Rows.{committed_rows}
 use Rattle.sdb_app.specs.declared.status.Status.{Status}
 use Rattle.sdb_app.specs.declared.status.Status.TheVariants as status
-use Rattle.sdb_app.specs.Run.{TellOf, IsFormRead, IsFront, IsReadAnd, IsReported, IsScriptRead, IsTold, IsWritten, Stops, placed_form, script_of, status_of}
+use Rattle.sdb_app.specs.Run.{TellOf, IsFormRead, IsFront, IsReadAnd, IsReported, IsScriptRead, IsTold, IsWritten, Stops, is_unplayed, placed_form, script_of, status_of}
 use Rattle.sdb_app.proofs.Placing.{fit_for}
 
 ---- statements in their order
@@ -225,3 +225,11 @@ stops_found old new foreign found s key h is = subst (Stops old new foreign foun
 
 pub stops_foreign : (old new : List Counted) (foreign : Type 0) (found : Key → Type 0) (s : Status) (key : Key) → Stops old new foreign found s → s ≡ status.BadStore key → foreign
 stops_foreign old new foreign found s key h is = subst (Stops old new foreign found) is h
+
+-- a play that stopped had read its script
+pub stops_played : {A : Type 0} (old new : List Counted) (foreign : Type 0) (found : Key → Type 0) (s : Status) → Stops old new foreign found s → is_unplayed s ≡ true → A
+stops_played old new foreign found status.StoreFault h is = absurd (cc)
+stops_played old new foreign found status.NoMemory h is = absurd (cc)
+stops_played old new foreign found (status.NotEmpty key) h is = absurd (cc)
+stops_played old new foreign found (status.BadStore key) h is = absurd (cc)
+stops_played old new foreign found _ h is = absurd h

@@ -160,3 +160,10 @@ writes_nothing (status.NotEmpty key) = true
 writes_nothing (status.BadStore key) = true
 writes_nothing (status.NotBuilt n) = true
 writes_nothing _ = false
+
+-- the endings before a script was read
+abbrev pub is_unplayed : Status → Bool
+is_unplayed status.Usage = true
+is_unplayed status.ReadFault = true
+is_unplayed (status.NotBuilt n) = true
+is_unplayed _ = false

@@ -1,9 +1,9 @@
 //! The top call.
-ghost use Rattle.std.specs.Prelude.{◌≡◌, ◌↔◌, ◌<◌, ◌≤◌, ℕ, length, true, false, map, string_bytes, IfOk, IfErr, IsErrOf};
+ghost use Rattle.std.specs.Prelude.{◌≡◌, ◌↔◌, ◌⊎◌, ◌<◌, ◌≤◌, ℕ, length, true, false, map, string_bytes, IfOk, IfErr, IsErrOf};
 ghost use Rattle.sdb_types.specs.declared.key.Key.{Key};
 ghost use Rattle.sdb_types.specs.Bytes.{HasRisen};
 ghost use Rattle.sdb_stores.specs.Shelf.{HaveRisen, names_of, total_faults};
-ghost use Rattle.sdb_app.specs.Run.{is_replay as is_replay_lem, IsReplayed, IsFrontWritten, IsNotEmpty, IsUntold, IsRefused, IsFormRead, IsTextRead, refuses_input, script_of, stops_building, stops_reading, writes_nothing};
+ghost use Rattle.sdb_app.specs.Run.{is_replay as is_replay_lem, IsReplayed, IsFrontWritten, IsNotEmpty, IsUntold, IsRefused, IsFormRead, IsTextRead, is_unplayed, refuses_input, script_of, stops_building, stops_reading, writes_nothing};
 ghost use Rattle.sdb_script.specs.Accounts.{IsAccountScript, IsFormOf, IsNotPlayed};
 
 use crate::replay::replay;
@@ -68,6 +68,59 @@ fn read_script<R: Source>(
     form_of(alloc, &bytes, stores)
 }
 
+// Reads a script, plays it on the stores, and writes the report of the run.
+fn replay_input<S: Registry, R: Source, W: Sink>(
+    alloc: Global,
+    stores: &mut S,
+    input: &mut R,
+    output: &mut W,
+) -> Status
+    requires { 0 < length (S.shelves stores.old) }
+    ensures known { (result ≡ Status.Usage) → ⊥ }
+    ensures read_fault { result ≡ Status.ReadFault → HasRisen (R.faults input.old) (R.faults input.new) }
+    // The text that was read isn't built because of that line.
+    ensures not_built { (n : ℕ) → result ≡ Status.NotBuilt n → IsRefused (names_of (S.shelves stores.old)) (R.remaining input.old) (R.remaining input.new) n }
+    ensures store_fault { result ≡ Status.StoreFault → HaveRisen (S.shelves stores.old) (S.shelves stores.new) }
+    // The record is the first in the tables of the script that was read.
+    ensures not_empty { (key : Key) → result ≡ Status.NotEmpty key → IsNotEmpty (S.shelves stores.old) (S.tells stores.old) (R.remaining input.old) (R.remaining input.new) key }
+    // Some store of the script's tables doesn't tell what it holds.
+    ensures bad_store { (key : Key) → result ≡ Status.BadStore key → IsUntold (S.shelves stores.old) (S.tells stores.old) (R.remaining input.old) (R.remaining input.new) }
+    // A front of the report of a run was written.
+    ensures write_fault { result ≡ Status.WriteFault → HasRisen (W.faults output.old) (W.faults output.new) }
+    ensures front { result ≡ Status.WriteFault → IsFrontWritten (S.shelves stores.old) (S.tells stores.old) (S.shelves stores.new) (R.remaining input.old) (R.remaining input.new) (W.written output.old) (W.written output.new) }
+    // The headline.
+    ensures done { result ≡ Status.Done → IsReplayed (S.shelves stores.old) (S.tells stores.old) (S.shelves stores.new) (R.remaining input.old) (R.remaining input.new) (W.written output.old) (W.written output.new) }
+    // Where memory ran out nothing was written, or a prefix of the report of a run.
+    ensures out_of_memory { result ≡ Status.NoMemory → (W.written output.new ≡ W.written output.old) ⊎ IsFrontWritten (S.shelves stores.old) (S.tells stores.old) (S.shelves stores.new) (R.remaining input.old) (R.remaining input.new) (W.written output.old) (W.written output.new) }
+    // The stores are as they were where no script was read.
+    ensures unplayed { is_unplayed result ≡ true → S.shelves stores.new ≡ S.shelves stores.old }
+    // Nothing is written before the run has ended.
+    ensures unwritten { writes_nothing result ≡ true → W.written output.new ≡ W.written output.old }
+    ensures counted { R.faults input.old ≤ R.faults input.new }
+    ensures counted_output { W.faults output.old ≤ W.faults output.new }
+    // The stores are those that were attached, in their order.
+    ensures names { names_of (S.shelves stores.new) ≡ names_of (S.shelves stores.old) }
+    ensures counted_stores { total_faults (S.shelves stores.old) ≤ total_faults (S.shelves stores.new) }
+{
+    stores.clear_places();
+    let Ok(names) = stores.names() else {
+        return Status::NoMemory;
+    };
+    let form = match read_script(alloc, input, &names) {
+        Ok(form) => form,
+        Err(status) => return status,
+    };
+    let text = match replay(alloc, stores, &form) {
+        Ok(text) => text,
+        Err(status) => return status,
+    };
+    match write_all(output, text.as_str().as_bytes()) {
+        Ok(()) => Status::Done,
+        Err(SinkRefused::Failed) => Status::WriteFault,
+        Err(SinkRefused::NoMemory) => Status::NoMemory,
+    }
+}
+
 /// Runs the program on its words, those after its name, and on the stores of a registry, at least one.
 ///
 /// `replay` takes all places away and reads a script of the form that can be played so far. It places the namespaces as the
@@ -99,6 +152,10 @@ pub fn run<S: Registry, R: Source, W: Sink, C: Clock, I: Ids>(
     ensures front { result ≡ Status.WriteFault → IsFrontWritten (S.shelves stores.old) (S.tells stores.old) (S.shelves stores.new) (R.remaining input.old) (R.remaining input.new) (W.written output.old) (W.written output.new) }
     // The headline.
     ensures done { result ≡ Status.Done → IsReplayed (S.shelves stores.old) (S.tells stores.old) (S.shelves stores.new) (R.remaining input.old) (R.remaining input.new) (W.written output.old) (W.written output.new) }
+    // Where memory ran out nothing was written, or a prefix of the report of a run.
+    ensures out_of_memory { result ≡ Status.NoMemory → (W.written output.new ≡ W.written output.old) ⊎ IsFrontWritten (S.shelves stores.old) (S.tells stores.old) (S.shelves stores.new) (R.remaining input.old) (R.remaining input.new) (W.written output.old) (W.written output.new) }
+    // The stores are as they were where no script was read.
+    ensures unplayed { is_unplayed result ≡ true → S.shelves stores.new ≡ S.shelves stores.old }
     // Nothing is written before the run has ended.
     ensures unwritten { writes_nothing result ≡ true → W.written output.new ≡ W.written output.old }
     ensures counted { R.faults input.old ≤ R.faults input.new }
@@ -110,21 +167,5 @@ pub fn run<S: Registry, R: Source, W: Sink, C: Clock, I: Ids>(
     if !is_replay(words) {
         return Status::Usage;
     }
-    stores.clear_places();
-    let Ok(names) = stores.names() else {
-        return Status::NoMemory;
-    };
-    let form = match read_script(alloc, input, &names) {
-        Ok(form) => form,
-        Err(status) => return status,
-    };
-    let text = match replay(alloc, stores, &form) {
-        Ok(text) => text,
-        Err(status) => return status,
-    };
-    match write_all(output, text.as_str().as_bytes()) {
-        Ok(()) => Status::Done,
-        Err(SinkRefused::Failed) => Status::WriteFault,
-        Err(SinkRefused::NoMemory) => Status::NoMemory,
-    }
+    replay_input(alloc, stores, input, output)
 }

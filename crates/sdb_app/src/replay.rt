@@ -13,8 +13,9 @@ use crate::places::place_all;
 use crate::status::Status;
 use sdb_play::{PlayRefused, first_record, outcome, play};
 use sdb_schema::Catalog;
-use sdb_script::{AccountForm, report_text};
+use sdb_script::AccountForm;
 use sdb_stores::Registry;
+use sdb_texts::report_text;
 use sdb_types::NoMemory;
 use std::alloc::Global;
 

@@ -3,7 +3,7 @@ ghost use Rattle.std.specs.Prelude.{◌≡◌, ◌++◌, IfOk, codes, decimal};
 ghost use Rattle.sdb_model.specs.Texts.{key_text_of};
 ghost use Rattle.sdb_app.specs.Status.{code_of, line_of};
 
-use sdb_model::key_text;
+use sdb_texts::key_text;
 use sdb_types::{Key, NoMemory, Txt};
 use std::alloc::Global;
 

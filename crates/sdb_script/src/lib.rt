@@ -7,11 +7,9 @@ mod drawing;
 mod line;
 mod lines;
 mod places;
-mod report;
 mod scan;
 mod schema;
 
 pub use account::{AccountStatement, AccountStatements, account_text};
 pub use accounts::{FormRefused, MOST_SCRIPT_BYTES, account_script_is_exact, read_account_script};
 pub use drawing::AccountForm;
-pub use report::report_text;

@@ -5,7 +5,8 @@ ghost use Rattle.sdb_model.specs.SqlTokens.{name_text};
 ghost use Rattle.sdb_model.specs.Sql.{token_text, sticks_before, sticks_behind, gap, tokens_text};
 
 use crate::marks::keyword_of;
-use sdb_model::{Sign, Token, put_signed, put_value};
+use sdb_model::{Sign, Token};
+use sdb_texts::{put_signed, put_value};
 use sdb_types::{Duplicate, NoMemory, Value};
 
 // A name, in quotes where it is a keyword.

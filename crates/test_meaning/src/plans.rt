@@ -1,11 +1,12 @@
 //! Statements one after the other: the answer of each plan, and what it leaves, beside those of the slow functions.
 use crate::shop::shop;
 use sdb_exec::{Plan, PlanStep};
-use sdb_model::{Answer, Statement, answer_text};
+use sdb_model::{Answer, Statement};
 use sdb_plain::{PlainTables, exec};
 use sdb_record::{Access, Change, Changes, Image, Images, Keyed};
 use sdb_schema::Catalog;
 use sdb_sqltext::parse_statement;
+use sdb_texts::answer_text;
 use sdb_types::{Columns, Duplicate, Key, Seq, Span};
 use std::alloc::Global;
 use std::test::Fail;
