@@ -5,7 +5,8 @@ use sdb_types::{
 use std::alloc::Global;
 use std::test::Fail;
 use test_builders::{
-    Ask, Cell, Place, Row, Told, account, account_with, all_hold, hold, reply_of, request_of,
+    Ask, Cell, Place, Row, Told, account, account_with, all_hold, columns_of, hold, reply_of,
+    request_of, set_column,
 };
 
 const FIRST: TxId = TxId(18446744073709551617);
@@ -134,6 +135,52 @@ fn copies_are_equal(rt: HostRuntime) -> Result<(), Fail> {
     let alloc = rt.alloc();
     all_hold(CALLS.as_slice(), |ask| call_is_copied(alloc, ask))?;
     all_hold(REPLIES.as_slice(), |told| reply_is_copied(alloc, told))
+}
+
+static SHARED: [(&str, Cell); 2] = [("a", Cell::Int(1)), ("c", Cell::Int(3))];
+
+// A column that is set on columns that a copy shares, and what they are then.
+static CHANGES: [(&str, Cell, &[(&str, Cell)]); 3] = [
+    (
+        "b",
+        Cell::Int(2),
+        &[
+            ("a", Cell::Int(1)),
+            ("b", Cell::Int(2)),
+            ("c", Cell::Int(3)),
+        ],
+    ),
+    (
+        "a",
+        Cell::Int(5),
+        &[("a", Cell::Int(5)), ("c", Cell::Int(3))],
+    ),
+    ("c", Cell::Null, &[("a", Cell::Int(1))]),
+];
+
+// Whether a change of columns that a copy shares is made, and leaves the copy as it was.
+fn leaves_the_copy(
+    alloc: Global,
+    name: &str,
+    cell: Cell,
+    after: &[(&str, Cell)],
+) -> Result<bool, Fail> {
+    let mut columns = columns_of(alloc, SHARED.as_slice())?;
+    let copy = columns.copy()?;
+    set_column(alloc, &mut columns, name, cell)?;
+    Ok(
+        same(&columns, &columns_of(alloc, after)?)
+            && same(&copy, &columns_of(alloc, SHARED.as_slice())?),
+    )
+}
+
+#[test]
+fn changes_leave_the_copies_that_share(rt: HostRuntime) -> Result<(), Fail> {
+    let alloc = rt.alloc();
+    all_hold(
+        CHANGES.as_slice(),
+        |case| leaves_the_copy(alloc, case.0, case.1, case.2),
+    )
 }
 
 fn are_in_order(alloc: Global, low: i32, high: i32) -> Result<bool, Fail> {
