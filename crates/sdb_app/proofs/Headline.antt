@@ -43,7 +43,7 @@ use Rattle.sdb_play.proofs.Empty.{no_record}
 use Rattle.sdb_play.proofs.Rows.{committed_rows}
 use Rattle.sdb_app.specs.declared.status.Status.{Status}
 use Rattle.sdb_app.specs.declared.status.Status.TheVariants as status
-use Rattle.sdb_app.specs.Run.{TellOf, IsFormRead, IsFront, IsReadAnd, IsReported, IsScriptRead, IsTold, IsWritten, Stops, is_unplayed, placed_form, script_of, status_of}
+use Rattle.sdb_app.specs.Run.{AreReady, TellOf, IsFirstFound, IsFormRead, IsFront, IsFrontWritten, IsPlayed, IsReadAnd, IsReplayed, IsReported, IsScriptRead, IsTold, IsWritten, Stops, is_unplayed, placed_form, script_of, status_of}
 use Rattle.sdb_app.proofs.Placing.{fit_for}
 
 ---- statements in their order
@@ -90,17 +90,18 @@ IsPlay form p old mid t story points =
 
 pub told_by : {t u : ℕ → Type 0} (names : List Name) (form : AccountForm) (p q : List Placed) (old mid new : List Counted) (story : List Event) (points : List Point) (o : Outcome) (text : List ℕ) → IsFormOf names form → length form.client.statements < 2 ^ 64 → GoOn p q old mid t u
     → IsPlay form p old mid t story points → IsOutcomeOf form.catalog q mid u story points o → (AreFit form.catalog q mid u → shown new ≡ shown mid) → text ≡ report_text_of o
-    → AreFit form.catalog p old t → HoldAs form.catalog (placed p) (shown old) empty → IsTold (placed_form form (placed p)) (shown old) (shown new) text
-told_by names form p q old mid new story points o text f bound goes plays made still written fit holds =
-    let at = plays form.catalog f.fit fit holds in
-    let later = goes.fit form.catalog fit in
-    let there = subst (λ (x : List Placed). IsPlayedOn form.catalog (placed x) (shown old) (shown mid) form.statements story points) (sym goes.places) at in
-    let is : o ≡ moved_outcome (store_of (placed p) (shown old)) (played_outcome form) = made (shown old) form.statements later there ∙ ap (λ (x : List Placed). moved_outcome (store_of (placed x) (shown old)) (played_outcome form)) goes.places in
-    record {
-      outcome = o;
-      run = subst (λ (s : List Shelf). IsRun (placed_form form (placed p)) (shown old) s o) (sym (still later)) (told_run names form (placed p) (shown old) (shown mid) story points o f bound at is);
-      text = written;
-    }
+    → IsTold (AreReady form.catalog p old t) (placed_form form (placed p)) (shown old) (shown new) text
+told_by names form p q old mid new story points o text f bound goes plays made still written = record {
+  outcome = o;
+  text = written;
+  run = λ ready.
+      let fit = ready.0 in
+      let at = plays form.catalog f.fit fit ready.1 in
+      let later = goes.fit form.catalog fit in
+      let there = subst (λ (x : List Placed). IsPlayedOn form.catalog (placed x) (shown old) (shown mid) form.statements story points) (sym goes.places) at in
+      let is : o ≡ moved_outcome (store_of (placed p) (shown old)) (played_outcome form) = made (shown old) form.statements later there ∙ ap (λ (x : List Placed). moved_outcome (store_of (placed x) (shown old)) (played_outcome form)) goes.places in
+      subst (λ (s : List Shelf). IsRun (placed_form form (placed p)) (shown old) s o) (sym (still later)) (told_run names form (placed p) (shown old) (shown mid) story points o f bound at is);
+}
 
 -- each record that a run leaves in its catalog's tables is a committed one
 base_left : (catalog : List Table) (held : Contents) → find_table catalog coordinator_table ≡ None → Kept empty held → (key : Key) → is_some (find_table catalog key.table) ≡ true → IfSome (record_at held key) (IsBaseOf key)
@@ -166,19 +167,26 @@ fit_form form ps old mid same still f some distinct telling all =
     (tell_on (script_of form) old mid still telling all)
 
 -- the whole is told: ps and mid are behind the placing, qs and then behind the look for records
-pub reported : {u v : ℕ → Type 0} (form : AccountForm) (ps qs : List Placed) (old mid then : List Counted) (new : List Shelf) (text : List ℕ) → placed ps ≡ form.places → mid ≡ old → GoOn ps qs mid then u v → AreFit form.catalog ps mid u
-    → first_key (opening_records form.catalog (placed ps) (shown mid)) ≡ None → shown then ≡ shown mid
-    → (AreFit form.catalog qs then v → HoldAs form.catalog (placed qs) (shown then) empty → IsTold (placed_form form (placed qs)) (shown then) new text) → IsReported (script_of form) (shown old) new text
-reported form ps qs old mid then new text same still goes fit none quiet tells =
+played_on : {u v : ℕ → Type 0} (form : AccountForm) (ps qs : List Placed) (old mid then : List Counted) (new : List Shelf) (o : Outcome) → placed ps ≡ form.places → mid ≡ old → GoOn ps qs mid then u v → AreFit form.catalog ps mid u
+    → first_key (opening_records form.catalog (placed ps) (shown mid)) ≡ None → shown then ≡ shown mid → (AreReady form.catalog qs then v → IsRun (placed_form form (placed qs)) (shown then) new o) → IsPlayed (script_of form) (shown old) new o
+played_on form ps qs old mid then new o same still goes fit none quiet run =
     let places : placed qs ≡ form.places = ap placed goes.places ∙ same in
     let stores : shown then ≡ shown old = quiet ∙ ap shown still in
     let holds : HoldAs form.catalog (placed qs) (shown then) empty =
     subst (λ (ss : List Shelf). HoldAs form.catalog (placed qs) ss empty) (sym quiet) (subst (λ (xs : List Placed). HoldAs form.catalog (placed xs) (shown mid) empty) (sym goes.places) (no_record form.catalog (placed ps) (shown mid) none)) in
-    let told = tells (goes.fit form.catalog fit) holds in
     record {
       empty = sym (ap (λ (ss : List Shelf). first_key (opening_records form.catalog form.places ss)) (ap shown still)) ∙ sym (ap (λ (xs : List Place). first_key (opening_records form.catalog xs (shown mid))) same) ∙ none;
-      told = subst (λ (xs : List Place). IsTold (placed_form form xs) (shown old) new text) places (subst (λ (ss : List Shelf). IsTold (placed_form form (placed qs)) ss new text) stores told);
+      run = subst (λ (xs : List Place). IsRun (placed_form form xs) (shown old) new o) places (subst (λ (ss : List Shelf). IsRun (placed_form form (placed qs)) ss new o) stores (run (goes.fit form.catalog fit, holds)));
     }
+
+pub reported : {t u v : ℕ → Type 0} (form : AccountForm) (ps qs : List Placed) (old mid then : List Counted) (new : List Shelf) (text : List ℕ) → placed ps ≡ form.places → mid ≡ old → GoOn ps qs mid then u v → (TellOf (script_of form) old t → AreFit form.catalog ps mid u)
+    → (AreFit form.catalog ps mid u → first_key (opening_records form.catalog (placed ps) (shown mid)) ≡ None) → (AreFit form.catalog ps mid u → shown then ≡ shown mid)
+    → IsTold (AreReady form.catalog qs then v) (placed_form form (placed qs)) (shown then) new text → IsReported (TellOf (script_of form) old t) (script_of form) (shown old) new text
+reported form ps qs old mid then new text same still goes fit none quiet told = record {
+  outcome = told.outcome;
+  text = told.text;
+  played = λ all. played_on form ps qs old mid then new told.outcome same still goes (fit all) (none (fit all)) (quiet (fit all)) told.run;
+}
 
 -- stores that all tell stop nothing
 pub never_foreign : {u v : ℕ → Type 0} (catalog : List Table) (ps qs : List Placed) (mid then : List Counted) → GoOn ps qs mid then u v → AreFit catalog ps mid u → first_key (opening_records catalog (placed ps) (shown mid)) ≡ None → shown then ≡ shown mid → (AreFit catalog qs then v → HoldAs catalog (placed qs) (shown then) empty → ⊥) → ⊥
@@ -187,9 +195,11 @@ never_foreign catalog ps qs mid then goes fit none quiet never =
     (subst (λ (ss : List Shelf). HoldAs catalog (placed qs) ss empty) (sym quiet) (subst (λ (xs : List Placed). HoldAs catalog (placed xs) (shown mid) empty) (sym goes.places) (no_record catalog (placed ps) (shown mid) none)))
 
 -- the first record is that of the form's tables
-pub found_first : (form : AccountForm) (ps : List Placed) (old mid : List Counted) (key : Key) → placed ps ≡ form.places → mid ≡ old → first_key (opening_records form.catalog (placed ps) (shown mid)) ≡ Some key → first_key (opening_records form.catalog form.places (shown old)) ≡ Some key
-found_first form ps old mid key same still found =
-    sym (ap (λ (ss : List Shelf). first_key (opening_records form.catalog form.places ss)) (ap shown still)) ∙ sym (ap (λ (xs : List Place). first_key (opening_records form.catalog xs (shown mid))) same) ∙ found
+pub found_first : (form : AccountForm) (ps : List Placed) (old mid : List Counted) (new : List Shelf) (key : Key) → placed ps ≡ form.places → mid ≡ old → (first_key (opening_records form.catalog (placed ps) (shown mid)) ≡ Some key) × (new ≡ shown mid) → IsFirstFound (script_of form) (shown old) new key
+found_first form ps old mid new key same still found = record {
+  first = sym (ap (λ (ss : List Shelf). first_key (opening_records form.catalog form.places ss)) (ap shown still)) ∙ sym (ap (λ (xs : List Place). first_key (opening_records form.catalog xs (shown mid))) same) ∙ found.0;
+  left = found.1 ∙ ap shown still;
+}
 
 -- a script that was read, and what is so of it where the stores of its tables tell
 pub read_and : {t u : ℕ → Type 0} (P Q : Script → Type 0) (form : AccountForm) (old new : Option (List ℕ)) (names : List Name) (before mid : List Counted) → names ≡ names_of mid → mid ≡ before → ((i : ℕ) → t i → u i) → IsFormRead names old new form → (TellOf (script_of form) mid u → P (script_of form)) → (P (script_of form) → Q (script_of form))
@@ -200,25 +210,40 @@ read_and P Q form old new names before mid named same telling h so then = record
   so = λ all. then (so (tell_on (script_of form) before mid same telling all));
 }
 
-pub written_of : (script : Script) (before mid : List Counted) (closing : List Shelf) (text bytes : List ℕ) (old new : Option (List ℕ)) → mid ≡ before → bytes ≡ text → Appends bytes old new → IsReported script (shown mid) closing text → IsWritten script (shown before) closing old new
-written_of script before mid closing text bytes old new same is written told =
-    let r = subst (λ (ss : List Counted). IsReported script (shown ss) closing text) same told in
-    record { outcome = r.told.outcome; played = record { empty = r.empty; run = r.told.run }; written = subst (λ (x : List ℕ). Appends x old new) (is ∙ r.told.text) written }
+played_of : {t u : ℕ → Type 0} (script : Script) (before mid : List Counted) (closing : List Shelf) (o : Outcome) → mid ≡ before → ((at : ℕ) → t at → u at) → (TellOf script mid u → IsPlayed script (shown mid) closing o) → TellOf script before t → IsPlayed script (shown before) closing o
+played_of script before mid closing o same telling played all = subst (λ (ss : List Counted). IsPlayed script (shown ss) closing o) same (played (tell_on script before mid same telling all))
 
-pub front_of : (script : Script) (before mid : List Counted) (closing : List Shelf) (text bytes : List ℕ) (old new : Option (List ℕ)) → mid ≡ before → bytes ≡ text → (k : ℕ) × (k ≤ length bytes) × Appends (take k bytes) old new → IsReported script (shown mid) closing text → IsFront script (shown before) closing old new
-front_of script before mid closing text bytes old new same is w told =
-    let r = subst (λ (ss : List Counted). IsReported script (shown ss) closing text) same told in
-    record {
-      outcome = r.told.outcome;
-      size = w.0;
-      within = subst (λ (x : List ℕ). w.0 ≤ length x) (is ∙ r.told.text) w.1;
-      played = record { empty = r.empty; run = r.told.run };
-      written = subst (λ (x : List ℕ). Appends (take w.0 x) old new) (is ∙ r.told.text) w.2;
-    }
+-- the report of a script that was read was written
+pub replayed : {t u : ℕ → Type 0} (form : AccountForm) (names : List Name) (before mid new : List Counted) (old_input new_input old new_output : Option (List ℕ)) (text bytes : List ℕ) → names ≡ names_of mid → mid ≡ before → ((at : ℕ) → t at → u at) → IsFormRead names old_input new_input form
+    → bytes ≡ text → Appends bytes old new_output → IsReported (TellOf (script_of form) mid u) (script_of form) (shown mid) (shown new) text → IsReplayed before t new old_input new_input old new_output
+replayed form names before mid new old_input new_input old new_output text bytes named same telling h is written r = record {
+  script = script_of form;
+  read = subst (λ (ns : List Name). IsScriptRead ns old_input new_input (script_of form)) (named ∙ ap names_of same) h.read;
+  report = record {
+    outcome = r.outcome;
+    written = subst (λ (x : List ℕ). Appends x old new_output) (is ∙ r.text) written;
+    played = played_of (script_of form) before mid (shown new) r.outcome same telling r.played;
+  };
+}
+
+-- a prefix of it
+pub front_replayed : {t u : ℕ → Type 0} (form : AccountForm) (names : List Name) (before mid new : List Counted) (old_input new_input old new_output : Option (List ℕ)) (text bytes : List ℕ) → names ≡ names_of mid → mid ≡ before → ((at : ℕ) → t at → u at) → IsFormRead names old_input new_input form
+    → bytes ≡ text → (k : ℕ) × (k ≤ length bytes) × Appends (take k bytes) old new_output → IsReported (TellOf (script_of form) mid u) (script_of form) (shown mid) (shown new) text → IsFrontWritten before t new old_input new_input old new_output
+front_replayed form names before mid new old_input new_input old new_output text bytes named same telling h is w r = record {
+  script = script_of form;
+  read = subst (λ (ns : List Name). IsScriptRead ns old_input new_input (script_of form)) (named ∙ ap names_of same) h.read;
+  front = record {
+    outcome = r.outcome;
+    size = w.0;
+    within = subst (λ (x : List ℕ). w.0 ≤ length x) (is ∙ r.text) w.1;
+    written = subst (λ (x : List ℕ). Appends (take w.0 x) old new_output) (is ∙ r.text) w.2;
+    played = played_of (script_of form) before mid (shown new) r.outcome same telling r.played;
+  };
+}
 
 -- what stopped a script that was read
-pub found_of : (script : Script) (before mid : List Counted) (key : Key) → mid ≡ before → first_key (opening_records script.catalog script.places (shown mid)) ≡ Some key → first_key (opening_records script.catalog script.places (shown before)) ≡ Some key
-found_of script before mid key same found = sym (ap (λ (ss : List Counted). first_key (opening_records script.catalog script.places (shown ss))) same) ∙ found
+pub found_of : (script : Script) (before mid : List Counted) (new : List Shelf) (key : Key) → mid ≡ before → IsFirstFound script (shown mid) new key → IsFirstFound script (shown before) new key
+found_of script before mid new key same found = subst (λ (ss : List Counted). IsFirstFound script (shown ss) new key) same found
 
 pub stops_found : (old new : List Counted) (foreign : Type 0) (found : Key → Type 0) (s : Status) (key : Key) → Stops old new foreign found s → s ≡ status.NotEmpty key → found key
 stops_found old new foreign found s key h is = subst (Stops old new foreign found) is h

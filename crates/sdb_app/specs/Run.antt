@@ -6,8 +6,11 @@ use Rattle.sdb_types.specs.Bytes.{Takes, Appends, IsAtEnd}
 use Rattle.sdb_stores.specs.Shelf.{Shelf as Counted, HaveRisen, names_of}
 use Rattle.sdb_types.specs.declared.key.TableName.{TableName}
 use Rattle.sdb_model.specs.Events.{store_of}
-use Rattle.sdb_spread.specs.Spread.{is_played}
-use Rattle.sdb_play.specs.Board.{shown}
+use Rattle.sdb_spread.specs.Spread.{HoldAs, is_played}
+use Rattle.sdb_play.specs.Board.{AreFit, placed, shown}
+use Rattle.sdb_stores.specs.declared.place.Place.{Place as Placed}
+use Rattle.sdb_schema.specs.declared.table.Table.{Table}
+use Rattle.std.specs.FinMap.{empty}
 use Rattle.sdb_play.specs.Opening.{first_key, opening_records}
 use Rattle.sdb_play.specs.declared.refused.PlayRefused.{PlayRefused}
 use Rattle.sdb_play.specs.declared.refused.PlayRefused.TheVariants as refused
@@ -47,19 +50,20 @@ pub record IsPlayed (script : Script) (opening closing : List Shelf) (outcome : 
   pub empty : first_key (opening_records script.catalog script.places opening) ≡ None
   pub run : IsRun script opening closing outcome
 
--- A script was played, and its report was written, whole and nothing else.
-pub record IsWritten (script : Script) (opening closing : List Shelf) (old_output new_output : Option (List ℕ)) : Type 0 where
+-- The report of one outcome was written, whole and nothing else; and where the stores tell what they hold, it is that of a run of the
+-- script.
+pub record IsWritten (telling : Type 0) (script : Script) (opening closing : List Shelf) (old_output new_output : Option (List ℕ)) : Type 0 where
   pub outcome : Outcome
-  pub played : IsPlayed script opening closing outcome
   pub written : Appends (report_text_of outcome) old_output new_output
+  pub played : telling → IsPlayed script opening closing outcome
 
--- A script was played, and a front of its report was written.
-pub record IsFront (script : Script) (opening closing : List Shelf) (old_output new_output : Option (List ℕ)) : Type 0 where
+-- The same, but only a prefix of the report was written.
+pub record IsFront (telling : Type 0) (script : Script) (opening closing : List Shelf) (old_output new_output : Option (List ℕ)) : Type 0 where
   pub outcome : Outcome
   pub size : ℕ
   pub within : size ≤ length (report_text_of outcome)
-  pub played : IsPlayed script opening closing outcome
   pub written : Appends (take size (report_text_of outcome)) old_output new_output
+  pub played : telling → IsPlayed script opening closing outcome
 
 -- A script was read over these stores, and this is so of it where the stores of its tables tell what they hold.
 pub record IsReadAnd (stores : List Counted) (tells : ℕ → Type 0) (old_input new_input : Option (List ℕ)) (P : Script → Type 0) : Type 0 where
@@ -68,15 +72,23 @@ pub record IsReadAnd (stores : List Counted) (tells : ℕ → Type 0) (old_input
   pub so : TellOf script stores tells → P script
 
 -- The headline.
-abbrev pub IsReplayed : List Counted → (ℕ → Type 0) → List Counted → Option (List ℕ) → Option (List ℕ) → Option (List ℕ) → Option (List ℕ) → Type 0
-IsReplayed old tells new old_input new_input old_output new_output = IsReadAnd old tells old_input new_input (λ script. IsWritten script (shown old) (shown new) old_output new_output)
+pub record IsReplayed (old : List Counted) (tells : ℕ → Type 0) (new : List Counted) (old_input new_input old_output new_output : Option (List ℕ)) : Type 0 where
+  pub script : Script
+  pub read : IsScriptRead (names_of old) old_input new_input script
+  pub report : IsWritten (TellOf script old tells) script (shown old) (shown new) old_output new_output
 
-abbrev pub IsFrontWritten : List Counted → (ℕ → Type 0) → List Counted → Option (List ℕ) → Option (List ℕ) → Option (List ℕ) → Option (List ℕ) → Type 0
-IsFrontWritten old tells new old_input new_input old_output new_output = IsReadAnd old tells old_input new_input (λ script. IsFront script (shown old) (shown new) old_output new_output)
+pub record IsFrontWritten (old : List Counted) (tells : ℕ → Type 0) (new : List Counted) (old_input new_input old_output new_output : Option (List ℕ)) : Type 0 where
+  pub script : Script
+  pub read : IsScriptRead (names_of old) old_input new_input script
+  pub front : IsFront (TellOf script old tells) script (shown old) (shown new) old_output new_output
 
--- The key is that of the first record in the tables of the script.
-abbrev pub IsNotEmpty : List Counted → (ℕ → Type 0) → Option (List ℕ) → Option (List ℕ) → Key → Type 0
-IsNotEmpty old tells old_input new_input key = IsReadAnd old tells old_input new_input (λ script. first_key (opening_records script.catalog script.places (shown old)) ≡ Some key)
+-- The key is that of the first record in the tables of the script, and the stores hold what they held.
+pub record IsFirstFound (script : Script) (old new : List Shelf) (key : Key) : Type 0 where
+  pub first : first_key (opening_records script.catalog script.places old) ≡ Some key
+  pub left : new ≡ old
+
+abbrev pub IsNotEmpty : List Counted → (ℕ → Type 0) → List Counted → Option (List ℕ) → Option (List ℕ) → Key → Type 0
+IsNotEmpty old tells new old_input new_input key = IsReadAnd old tells old_input new_input (λ script. IsFirstFound script (shown old) (shown new) key)
 
 -- Some store of the script's tables does not tell what it holds.
 abbrev pub IsUntold : List Counted → (ℕ → Type 0) → Option (List ℕ) → Option (List ℕ) → Type 0
@@ -125,16 +137,25 @@ status_of refused.NoMemory = status.NoMemory
 abbrev pub placed_form : AccountForm → List Place → Script
 placed_form form places = script_of_client places form.catalog form.client
 
--- The text is the report of a run that follows the script.
-pub record IsTold (script : Script) (opening closing : List Shelf) (report : List ℕ) : Type 0 where
+-- The text is the report of one outcome; and on these premises it is that of a run that follows the script.
+pub record IsTold (premise : Type 0) (script : Script) (opening closing : List Shelf) (report : List ℕ) : Type 0 where
   pub outcome : Outcome
-  pub run : IsRun script opening closing outcome
   pub text : report ≡ report_text_of outcome
+  pub run : premise → IsRun script opening closing outcome
 
--- The tables of the script were empty, and the text is its report.
-pub record IsReported (script : Script) (opening closing : List Shelf) (report : List ℕ) : Type 0 where
-  pub empty : first_key (opening_records script.catalog script.places opening) ≡ None
-  pub told : IsTold script opening closing report
+-- The same, and then the tables of the script were empty.
+pub record IsReported (telling : Type 0) (script : Script) (opening closing : List Shelf) (report : List ℕ) : Type 0 where
+  pub outcome : Outcome
+  pub text : report ≡ report_text_of outcome
+  pub played : telling → IsPlayed script opening closing outcome
+
+-- The stores of a catalog's tables are fit for a run over them, and hold nothing of them.
+abbrev pub AreReady : List Table → List Placed → List Counted → (ℕ → Type 0) → Type 0
+AreReady catalog places shelves tells = AreFit catalog places shelves tells × HoldAs catalog (placed places) (shown shelves) empty
+
+-- The key is that of the first record of a catalog's tables, and the stores hold what they held, where they are fit for a run.
+abbrev pub IsFoundIn : List Table → List Placed → List Counted → (ℕ → Type 0) → List Counted → Key → Type 0
+IsFoundIn catalog places old tells new key = AreFit catalog places old tells → (first_key (opening_records catalog (placed places) (shown old)) ≡ Some key) × (shown new ≡ shown old)
 
 -- Why a script was not played to its end.
 abbrev pub Stops : List Counted → List Counted → Type 0 → (Key → Type 0) → Status → Type 0

@@ -81,11 +81,11 @@ fn replay_input<S: Registry, R: Source, W: Sink>(
     // The text that was read isn't built because of that line.
     ensures not_built { (n : ℕ) → result ≡ Status.NotBuilt n → IsRefused (names_of (S.shelves stores.old)) (R.remaining input.old) (R.remaining input.new) n }
     ensures store_fault { result ≡ Status.StoreFault → HaveRisen (S.shelves stores.old) (S.shelves stores.new) }
-    // The record is the first in the tables of the script that was read.
-    ensures not_empty { (key : Key) → result ≡ Status.NotEmpty key → IsNotEmpty (S.shelves stores.old) (S.tells stores.old) (R.remaining input.old) (R.remaining input.new) key }
+    // The record is the first in the tables of the script that was read, and the stores hold what they held.
+    ensures not_empty { (key : Key) → result ≡ Status.NotEmpty key → IsNotEmpty (S.shelves stores.old) (S.tells stores.old) (S.shelves stores.new) (R.remaining input.old) (R.remaining input.new) key }
     // Some store of the script's tables doesn't tell what it holds.
     ensures bad_store { (key : Key) → result ≡ Status.BadStore key → IsUntold (S.shelves stores.old) (S.tells stores.old) (R.remaining input.old) (R.remaining input.new) }
-    // A front of the report of a run was written.
+    // A prefix of the report was written.
     ensures write_fault { result ≡ Status.WriteFault → HasRisen (W.faults output.old) (W.faults output.new) }
     ensures front { result ≡ Status.WriteFault → IsFrontWritten (S.shelves stores.old) (S.tells stores.old) (S.shelves stores.new) (R.remaining input.old) (R.remaining input.new) (W.written output.old) (W.written output.new) }
     // The headline.
@@ -101,6 +101,8 @@ fn replay_input<S: Registry, R: Source, W: Sink>(
     // The stores are those that were attached, in their order.
     ensures names { names_of (S.shelves stores.new) ≡ names_of (S.shelves stores.old) }
     ensures counted_stores { total_faults (S.shelves stores.old) ≤ total_faults (S.shelves stores.new) }
+    // Stores that told what they hold go on telling it.
+    ensures telling { (at : ℕ) → S.tells stores.old at → S.tells stores.new at }
 {
     stores.clear_places();
     let Ok(names) = stores.names() else {
@@ -143,11 +145,11 @@ pub fn run<S: Registry, R: Source, W: Sink, C: Clock, I: Ids>(
     // The text that was read isn't built because of that line.
     ensures not_built { (n : ℕ) → result ≡ Status.NotBuilt n → IsRefused (names_of (S.shelves stores.old)) (R.remaining input.old) (R.remaining input.new) n }
     ensures store_fault { result ≡ Status.StoreFault → HaveRisen (S.shelves stores.old) (S.shelves stores.new) }
-    // The record is the first in the tables of the script that was read.
-    ensures not_empty { (key : Key) → result ≡ Status.NotEmpty key → IsNotEmpty (S.shelves stores.old) (S.tells stores.old) (R.remaining input.old) (R.remaining input.new) key }
+    // The record is the first in the tables of the script that was read, and the stores hold what they held.
+    ensures not_empty { (key : Key) → result ≡ Status.NotEmpty key → IsNotEmpty (S.shelves stores.old) (S.tells stores.old) (S.shelves stores.new) (R.remaining input.old) (R.remaining input.new) key }
     // Some store of the script's tables doesn't tell what it holds.
     ensures bad_store { (key : Key) → result ≡ Status.BadStore key → IsUntold (S.shelves stores.old) (S.tells stores.old) (R.remaining input.old) (R.remaining input.new) }
-    // A front of the report of a run was written.
+    // A prefix of the report was written.
     ensures write_fault { result ≡ Status.WriteFault → HasRisen (W.faults output.old) (W.faults output.new) }
     ensures front { result ≡ Status.WriteFault → IsFrontWritten (S.shelves stores.old) (S.tells stores.old) (S.shelves stores.new) (R.remaining input.old) (R.remaining input.new) (W.written output.old) (W.written output.new) }
     // The headline.
@@ -163,6 +165,8 @@ pub fn run<S: Registry, R: Source, W: Sink, C: Clock, I: Ids>(
     // The stores are those that were attached, in their order.
     ensures names { names_of (S.shelves stores.new) ≡ names_of (S.shelves stores.old) }
     ensures counted_stores { total_faults (S.shelves stores.old) ≤ total_faults (S.shelves stores.new) }
+    // Stores that told what they hold go on telling it.
+    ensures telling { (at : ℕ) → S.tells stores.old at → S.tells stores.new at }
 {
     if !is_replay(words) {
         return Status::Usage;

@@ -7,7 +7,7 @@ ghost use Rattle.sdb_script.specs.Accounts.{IsFormOf};
 ghost use Rattle.sdb_spread.specs.Spread.{HoldAs};
 ghost use Rattle.sdb_play.specs.Board.{AreFit, GoOn, Refuses, placed, shown};
 ghost use Rattle.sdb_play.specs.Opening.{first_key, opening_records};
-ghost use Rattle.sdb_app.specs.Run.{TellOf, IsReported, IsTold, Stops, placed_form, script_of};
+ghost use Rattle.sdb_app.specs.Run.{AreReady, IsFirstFound, IsFoundIn, IsReported, IsTold, Stops, TellOf, placed_form, script_of};
 
 use crate::places::place_all;
 use crate::status::Status;
@@ -51,7 +51,7 @@ fn be_empty<R: Registry>(alloc: Global, stores: &mut R, catalog: &Catalog) -> Re
     ensures empty { OnOk result (AreFit catalog.now (R.places stores.old) (R.shelves stores.old) (R.tells stores.old) → first_key (opening_records catalog.now (placed (R.places stores.old)) (shown (R.shelves stores.old))) ≡ None) }
     ensures still { OnOk result (AreFit catalog.now (R.places stores.old) (R.shelves stores.old) (R.tells stores.old) → shown (R.shelves stores.new) ≡ shown (R.shelves stores.old)) }
     ensures goes { GoOn (R.places stores.old) (R.places stores.new) (R.shelves stores.old) (R.shelves stores.new) (R.tells stores.old) (R.tells stores.new) }
-    ensures err { IfErr result (Stops (R.shelves stores.old) (R.shelves stores.new) ⊥ (λ key. AreFit catalog.now (R.places stores.old) (R.shelves stores.old) (R.tells stores.old) → first_key (opening_records catalog.now (placed (R.places stores.old)) (shown (R.shelves stores.old))) ≡ Some key)) }
+    ensures err { IfErr result (Stops (R.shelves stores.old) (R.shelves stores.new) ⊥ (IsFoundIn catalog.now (R.places stores.old) (R.shelves stores.old) (R.tells stores.old) (R.shelves stores.new))) }
 {
     match first_record(alloc, stores, catalog)? {
         None => Ok(()),
@@ -67,7 +67,7 @@ fn tell<R: Registry>(
 ) -> Result<String, PlayRefused>
     requires some { 0 < length (R.shelves stores.old) }
     requires form { IsFormOf (names_of (R.shelves stores.old)) form.now }
-    ensures told { IfOk result (λ text. AreFit form.now.catalog (R.places stores.old) (R.shelves stores.old) (R.tells stores.old) → HoldAs form.now.catalog (placed (R.places stores.old)) (shown (R.shelves stores.old)) finite.empty → IsTold (placed_form form.now (placed (R.places stores.old))) (shown (R.shelves stores.old)) (shown (R.shelves stores.new)) (string_bytes text)) }
+    ensures told { IfOk result (λ text. IsTold (AreReady form.now.catalog (R.places stores.old) (R.shelves stores.old) (R.tells stores.old)) (placed_form form.now (placed (R.places stores.old))) (shown (R.shelves stores.old)) (shown (R.shelves stores.new)) (string_bytes text)) }
     ensures goes { GoOn (R.places stores.old) (R.places stores.new) (R.shelves stores.old) (R.shelves stores.new) (R.tells stores.old) (R.tells stores.new) }
     ensures err { IfErr result (Refuses (AreFit form.now.catalog (R.places stores.old) (R.shelves stores.old) (R.tells stores.old) → HoldAs form.now.catalog (placed (R.places stores.old)) (shown (R.shelves stores.old)) finite.empty → ⊥) (R.shelves stores.old) (R.shelves stores.new)) }
 {
@@ -86,10 +86,11 @@ pub fn replay<R: Registry>(
     requires unplaced { R.places stores.old ≡ [] }
     requires distinct { AreDistinct (names_of (R.shelves stores.old)) }
     requires form { IsFormOf (names_of (R.shelves stores.old)) form.now }
-    ensures report { IfOk result (λ text. TellOf (script_of form.now) (R.shelves stores.old) (R.tells stores.old) → IsReported (script_of form.now) (shown (R.shelves stores.old)) (shown (R.shelves stores.new)) (string_bytes text)) }
+    ensures report { IfOk result (λ text. IsReported (TellOf (script_of form.now) (R.shelves stores.old) (R.tells stores.old)) (script_of form.now) (shown (R.shelves stores.old)) (shown (R.shelves stores.new)) (string_bytes text)) }
     ensures names { names_of (R.shelves stores.new) ≡ names_of (R.shelves stores.old) }
     ensures counted { total_faults (R.shelves stores.old) ≤ total_faults (R.shelves stores.new) }
-    ensures err { IfErr result (Stops (R.shelves stores.old) (R.shelves stores.new) (TellOf (script_of form.now) (R.shelves stores.old) (R.tells stores.old) → ⊥) (λ key. TellOf (script_of form.now) (R.shelves stores.old) (R.tells stores.old) → first_key (opening_records form.now.catalog form.now.places (shown (R.shelves stores.old))) ≡ Some key)) }
+    ensures err { IfErr result (Stops (R.shelves stores.old) (R.shelves stores.new) (TellOf (script_of form.now) (R.shelves stores.old) (R.tells stores.old) → ⊥) (λ key. TellOf (script_of form.now) (R.shelves stores.old) (R.tells stores.old) → IsFirstFound (script_of form.now) (shown (R.shelves stores.old)) (shown (R.shelves stores.new)) key)) }
+    ensures telling { (at : ℕ) → R.tells stores.old at → R.tells stores.new at }
 {
     place_all(stores, &form.places)?;
     be_empty(alloc, stores, &form.catalog)?;

@@ -33,8 +33,8 @@ use Rattle.sdb_model.specs.declared.statement.Statement.{Statement}
 use Rattle.sdb_model.specs.declared.statement.Statement.TheVariants as statement
 use Rattle.sdb_model.specs.declared.answer.Refusal.{Refusal}
 use Rattle.sdb_model.specs.Exec.{with_sets, with_named, passes, key_of}
-use Rattle.sdb_exec.specs.declared.mention.Mention.{Mention}
-use Rattle.sdb_exec.specs.Refused.{suits, is_within, first_place, is_unknown, names_key, is_of_other_kind, is_null_in_key, is_out_of_range, mention_of_set, listed, written, looked_at, mentions, set_by, lacking, missing_place, refusal, or_next, column_refusal, key_refusal, literal_refusal, refusal_on}
+use Rattle.sdb_model.specs.declared.statement.Mention.{Mention}
+use Rattle.sdb_model.specs.Refused.{suits, is_within, first_place, is_unknown, names_key, is_of_other_kind, is_null_in_key, is_out_of_range, mention_of_set, listed, written, looked_at, mentions, set_by, lacking, missing_place, refusal, or_next, column_refusal, key_refusal, literal_refusal, refusal_on}
 use Rattle.sdb_exec.specs.Plans.{columns_at, put_row, changes_on, change_fits, has_all_literals}
 use Rattle.sdb_exec.proofs.Laid.{keyed}
 

@@ -3,8 +3,8 @@ use Rattle.std.proofs.Common.{◌≡◌, List, [], ◌∷◌, ◌++◌, Some, No
 use Rattle.std.proofs.lemmas.List.{append-nil}
 use Rattle.sdb_types.specs.declared.value.Value.{Value}
 use Rattle.sdb_model.specs.Rows.{Name}
-use Rattle.sdb_exec.specs.declared.mention.Mention.{Mention}
-use Rattle.sdb_exec.specs.Refused.{listed, mention_of_name}
+use Rattle.sdb_model.specs.declared.statement.Mention.{Mention}
+use Rattle.sdb_model.specs.Refused.{listed, mention_of_name}
 
 abbrev pub with_literal : Name → Value → Mention
 with_literal n v = record { name = n; literal = Some v }

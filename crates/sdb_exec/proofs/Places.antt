@@ -17,8 +17,8 @@ use Rattle.sdb_types.specs.declared.key.TableName.{TableName}
 use Rattle.sdb_schema.specs.Catalog.{is_catalog, rises as names_rise}
 use Rattle.sdb_model.specs.Exec.{named_table, find_table, table_of}
 use Rattle.std.specs.Option.{option_map_or}
-use Rattle.sdb_exec.specs.declared.mention.Mention.{Mention}
-use Rattle.sdb_exec.specs.Refused.{first_place, repeat_place, is_named_by, refusal, or_next, written, looked_at, mentions, set_by, missing_place, lacking, is_unknown, names_key, is_of_other_kind, is_null_in_key, is_out_of_range, is_too_long, refusal_on}
+use Rattle.sdb_model.specs.declared.statement.Mention.{Mention}
+use Rattle.sdb_model.specs.Refused.{first_place, repeat_place, is_named_by, refusal, or_next, written, looked_at, mentions, set_by, missing_place, lacking, is_unknown, names_key, is_of_other_kind, is_null_in_key, is_out_of_range, is_too_long, refusal_on}
 
 refuse-fine : {A B : Type 0} (o : Option A) (f : A → TableRefused) (next : Result B TableRefused) → is_ok (refuse o f next) ≡ true → (o ≡ None) × (is_ok next ≡ true)
 refuse-fine None f next h = (refl, h)

@@ -17,7 +17,10 @@ use Rattle.sdb_model.specs.declared.statement.Statement.{Statement}
 use Rattle.sdb_model.specs.declared.statement.Statement.TheVariants as statement
 use Rattle.sdb_model.specs.declared.answer.Answer.{Answer}
 use Rattle.sdb_model.specs.declared.answer.Answer.TheVariants as answer
-use Rattle.sdb_model.specs.Exec.{Tables, exec, all_rows, is_row_of, passes, key_of, with_named, with_sets, sorted, cut, shown}
+use Rattle.sdb_model.specs.Exec.{Tables, exec, all_rows, is_row_of, passes, key_of, with_named, with_sets, sorted, cut, shown, not_a_table}
+use Rattle.sdb_model.specs.declared.answer.Refusal.{Refusal}
+use Rattle.sdb_exec.specs.declared.plan.PlanRefused.{PlanRefused}
+use Rattle.sdb_exec.specs.declared.plan.PlanRefused.TheVariants as refused
 use Rattle.sdb_exec.specs.declared.plan.PlanStep.{PlanStep}
 use Rattle.sdb_exec.specs.declared.plan.PlanStep.TheVariants.{Read, Finished}
 use Rattle.sdb_model.specs.Access.{with_changes}
@@ -28,6 +31,13 @@ pub record Planned : Type 0 where
   pub table : Table
   pub statement : Statement
   pub asked : Bool
+
+---- refusals
+
+-- The refusal that comes; want of memory may stand in the place of any outcome.
+abbrev pub IsRefusedAs : Option Refusal → PlanRefused → Type 0
+IsRefusedAs r (refused.Refused refusal) = r ≡ Some refusal
+IsRefusedAs r refused.NoMemory = Unit {0}
 
 ---- rows that don't fit
 
@@ -50,10 +60,10 @@ answer_on t (statement.Upsert s) rows = answer.Count 1
 answer_on t (statement.Update s) rows = answer.Count (length (filter (passes t s.tests) rows))
 answer_on t (statement.Delete s) rows = answer.Count (length (filter (passes t s.tests) rows))
 answer_on t (statement.Select s) rows = answer.Rows (map (shown t s.columns) (cut s.limit (sorted t (filter (passes t s.tests) rows))))
-answer_on t statement.Begin rows = answer.Done
-answer_on t statement.Commit rows = answer.Done
-answer_on t statement.Rollback rows = answer.Done
-answer_on t statement.Vacuum rows = answer.Done
+answer_on t statement.Begin rows = not_a_table
+answer_on t statement.Commit rows = not_a_table
+answer_on t statement.Rollback rows = not_a_table
+answer_on t statement.Vacuum rows = not_a_table
 
 abbrev pub put_row : Key → List Pair → Keyed
 put_row key columns = record { key = key; change = change.Row columns }

@@ -1,14 +1,14 @@
 //! What a statement gives on the rows that it read.
 ghost use Rattle.std.specs.Prelude.{◌≡◌, ◌∷◌, [], IfOk, find, unwrap_or};
 ghost use Rattle.std.specs.Option.{option_copied, option_map};
-ghost use Rattle.sdb_model.specs.Exec.{with_named};
+ghost use Rattle.sdb_model.specs.Exec.{not_a_table as not_a_table_lem, with_named};
 ghost use Rattle.sdb_model.specs.declared.statement.Statement.TheVariants as statement;
 ghost use Rattle.sdb_exec.specs.declared.plan.PlanStep.TheVariants as step;
 ghost use Rattle.sdb_exec.specs.Plans.{is_unfit as is_unfit_lem, first_unfit as first_unfit_lem, columns_at, put_row, answer_on, changes_on, finished};
 
 use crate::plan::PlanStep;
 use crate::select::selected;
-use sdb_model::{Answer, Delete, Insert, Select, Statement, Update};
+use sdb_model::{Answer, Delete, Insert, Refusal, Select, Statement, Update};
 use sdb_record::{Change, Changes, Image, Keyed};
 use sdb_rows::{deletes, inserted_key, named_columns, passing, updates};
 use sdb_schema::Table;
@@ -117,6 +117,13 @@ fn select(alloc: Global, table: &Table, select: &Select, rows: &[Image]) -> Step
     Ok(PlanStep::Finished(Answer::Rows(shown), Seq::new(alloc)))
 }
 
+// What a statement is answered that names no table.
+fn not_a_table() -> Answer
+    ensures { result ≡ not_a_table_lem }
+{
+    Answer::Refused(Refusal { kind: 6, place: 0 })
+}
+
 /// The answer and the changes of a statement on rows; over rows of which some don't fit, BadRecord of the first.
 pub fn finish(alloc: Global, table: &Table, statement: &Statement, rows: &[Image]) -> Step
     ensures { IfOk result (λ s. s ≡ finished table.now statement.now rows.now (first_unfit_lem table.now rows.now)) }
@@ -130,6 +137,6 @@ pub fn finish(alloc: Global, table: &Table, statement: &Statement, rows: &[Image
         Statement::Update(s) => update(alloc, table, s, rows),
         Statement::Delete(s) => delete(alloc, table, s, rows),
         Statement::Select(s) => select(alloc, table, s, rows),
-        _ => Ok(PlanStep::Finished(Answer::Done, Seq::new(alloc))),
+        _ => Ok(PlanStep::Finished(not_a_table(), Seq::new(alloc))),
     }
 }

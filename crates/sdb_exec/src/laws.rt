@@ -11,7 +11,7 @@ ghost use Rattle.sdb_exec.specs.Reads.{access_of};
 ghost use Rattle.sdb_model.specs.declared.statement.Statement.{Statement};
 ghost use Rattle.sdb_record.specs.declared.access.Image.{Image};
 ghost use Rattle.sdb_exec.specs.Plans.{Planned, first_unfit, are_shaped, all_fit, step_of, IsExec, changes_on, keys_rise, row_keys, change_keys, change_fits, has_all_literals};
-ghost use Rattle.sdb_exec.specs.Refused.{refusal_on};
+ghost use Rattle.sdb_model.specs.Refused.{refusal_on};
 ghost use Rattle.sdb_schema.specs.Rows.{fits_table};
 ghost use Rattle.std.specs.List.{list_all};
 

@@ -1,29 +1,10 @@
 //! The columns that a statement mentions.
 ghost use Rattle.std.specs.Prelude.{◌≡◌, ◌++◌, IfOk, OnOk, map, unwrap_or, []};
-ghost use Rattle.sdb_exec.specs.Refused.{mention_of_name, mention_of_set, mention_of_test, listed as listed_lem, written as written_lem, mentions as mentions_lem};
+ghost use Rattle.sdb_model.specs.Refused.{mention_of_name, mention_of_set, mention_of_test, listed as listed_lem, written as written_lem, mentions as mentions_lem};
 
-use sdb_model::{Statement, Test};
-use sdb_types::{Duplicate, Name, NoMemory, Pair, Seq, Value};
+use sdb_model::{Mention, Mentions, Statement, Test};
+use sdb_types::{Duplicate, Name, NoMemory, Pair, Value};
 use std::alloc::Global;
-
-/// A column name in a statement, with its literal where it has one.
-#[derive(Debug)]
-pub struct Mention {
-    pub name: Name,
-    pub literal: Option<Value>,
-}
-
-// By hand: each drop is then one call, where a derived one stands at each place with a call for each field.
-impl Drop for Mention {
-    fn drop(self) {
-        let Mention {
-            name: _,
-            literal: _,
-        } = self;
-    }
-}
-
-pub type Mentions = Seq<Mention>;
 
 fn of_name(name: &Name) -> Result<Mention, NoMemory>
     ensures { IfOk result (λ m. m ≡ mention_of_name name.now) }

@@ -4,7 +4,7 @@ ghost use Rattle.std.specs.Option.{option_copied};
 ghost use Rattle.sdb_schema.specs.Catalog.{is_catalog};
 ghost use Rattle.sdb_model.specs.Exec.{named_table};
 ghost use Rattle.sdb_exec.specs.declared.plan.PlanRefused.TheVariants.{NoMemory as OutOfMemory};
-ghost use Rattle.sdb_exec.specs.Refused.{refusal_of, IsRefusedAs};
+ghost use Rattle.sdb_model.specs.Refused.{refusal_of};
 ghost use Rattle.sdb_exec.specs.Plans.{step_of};
 
 use crate::access::access;

@@ -5,10 +5,10 @@ ghost use Rattle.std.specs.List.{list_any};
 ghost use Rattle.sdb_types.specs.Columns.{is_null as is_null_lem};
 ghost use Rattle.sdb_schema.specs.Table.{is_table, has_column as has_column_lem, key_names as key_names_lem};
 ghost use Rattle.sdb_model.specs.Rows.{same_name};
-ghost use Rattle.sdb_exec.specs.Refused.{suits as suits_lem, is_within as is_within_lem, is_unknown as is_unknown_lem, names_key as names_key_lem, is_of_other_kind as is_of_other_kind_lem, is_null_in_key as is_null_in_key_lem, is_out_of_range as is_out_of_range_lem, is_too_long as is_too_long_lem, is_named_by, or_next, repeat_place, refusal, first_place, written as written_lem, mentions as mentions_lem, key_refusal, literal_refusal, missing_refusal, refusal_on};
+ghost use Rattle.sdb_model.specs.Refused.{suits as suits_lem, is_within as is_within_lem, is_unknown as is_unknown_lem, names_key as names_key_lem, is_of_other_kind as is_of_other_kind_lem, is_null_in_key as is_null_in_key_lem, is_out_of_range as is_out_of_range_lem, is_too_long as is_too_long_lem, is_named_by, or_next, repeat_place, refusal, first_place, written as written_lem, mentions as mentions_lem, key_refusal, literal_refusal, missing_refusal, refusal_on};
 
-use crate::mention::{Mention, mentions_of, written_in};
-use sdb_model::{Insert, Refusal, Statement};
+use crate::mention::{mentions_of, written_in};
+use sdb_model::{Insert, Mention, Refusal, Statement};
 use sdb_rows::{is_key_name, kind_of};
 use sdb_schema::{Column, Kind, Table};
 use sdb_types::{Duplicate, Name, Names, NoMemory, Seq, Value};

@@ -29,7 +29,8 @@ use Rattle.sdb_record.specs.Rolls.{IsWrite, prepared_record}
 use Rattle.sdb_model.specs.declared.event.Event.{Event}
 use Rattle.sdb_model.specs.declared.event.Event.TheVariants as event
 use Rattle.sdb_laws.specs.Plan as law
-use Rattle.sdb_laws.specs.Plan.{same_key, write_at, written, noted, number_of, version_among, version_noted}
+use Rattle.sdb_laws.specs.Plan.{write_at, written, noted, number_of}
+use Rattle.sdb_model.specs.Noted.{same_key, version_among, version_noted}
 use Rattle.sdb_laws.specs.History.{Talk, Stage, Preparing, Checking, Deciding, IsPrepared}
 use Rattle.sdb_laws.specs.History as part
 use Rattle.sdb_laws.specs.Lawful.{id, talk, row_among, word_of as reply_word, IsCallOf, InCommit, IsUnchanged, MayPrepare, MayCheck, MayDecide, MayAbort}

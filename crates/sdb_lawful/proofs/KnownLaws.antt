@@ -8,7 +8,8 @@ use Rattle.sdb_record.specs.declared.coordinator.Decision.TheVariants as decisio
 use Rattle.sdb_record.specs.declared.write.Write.{Write}
 use Rattle.sdb_record.specs.Coordinator.{coordinator_key_of}
 use Rattle.sdb_record.specs.Rolls.{IsWrite, prepared_record}
-use Rattle.sdb_laws.specs.Plan.{write_at, same_key}
+use Rattle.sdb_laws.specs.Plan.{write_at}
+use Rattle.sdb_model.specs.Noted.{same_key}
 use Rattle.sdb_laws.specs.Lawful.{id, talk, IsRowShown, IsKnownCommitted, IsKnownAborted, prepared_at, IsLawful, MayPlay}
 use Rattle.sdb_said.specs.declared.plan.Plan.{Plan}
 use Rattle.sdb_said.specs.declared.played.Role.{Role}

@@ -14,7 +14,8 @@ use Rattle.sdb_record.specs.declared.write.Write.{Write}
 use Rattle.sdb_record.specs.Meta.{is_in, is_taken}
 use Rattle.sdb_record.specs.Moved.{version_of}
 use Rattle.sdb_record.specs.Rolls.{IsWrite, IsBaseOf, is_change}
-use Rattle.sdb_laws.specs.Plan.{same_key, write_at, written, noted, number_of, version_noted, version_among}
+use Rattle.sdb_laws.specs.Plan.{write_at, written, noted, number_of}
+use Rattle.sdb_model.specs.Noted.{same_key, version_noted, version_among}
 use Rattle.sdb_laws.specs.Plan as law
 use Rattle.sdb_said.specs.declared.plan.Plan.{Plan}
 use Rattle.sdb_said.specs.declared.plan.Note.{Note}
@@ -68,7 +69,7 @@ pub record Says (ns : List Note) (i : ℕ) (k : Key) (v : Option ℕ) : Type 0 w
   pub noted : version_noted (note_of n) k ≡ Some version
   pub number : number_of version ≡ v
 
-says_by : (ns : List Note) (i : ℕ) (k : Key) (v : Option ℕ) (o : Option Note) → slice_get ns i ≡ o → option_map number_of (option_and_then (λ (n : law.Note). version_noted n k) (option_map note_of o)) ≡ Some v → Says ns i k v
+says_by : (ns : List Note) (i : ℕ) (k : Key) (v : Option ℕ) (o : Option Note) → slice_get ns i ≡ o → option_map number_of (option_and_then (λ (n : Rattle.sdb_model.specs.Noted.Note). version_noted n k) (option_map note_of o)) ≡ Some v → Says ns i k v
 says_by ns i k v None e h = none_some h
 says_by ns i k v (Some n) e h = by (version_noted (note_of n) k) refl h
   where
@@ -79,12 +80,12 @@ says_by ns i k v (Some n) e h = by (version_noted (note_of n) k) refl h
 pub noted_says : (plans : List Plan) (t i : ℕ) (k : Key) (v : Option ℕ) → noted (plan_in plans t) i k ≡ Some v → Says (notes_in plans t) i k v
 unfolding noted
 noted_says plans t i k v h =
-    says_by (notes_in plans t) i k v (slice_get (notes_in plans t) i) refl (ap (λ o. option_map number_of (option_and_then (λ (n : law.Note). version_noted n k) o)) (sym (got_map note_of (notes_in plans t) i)) ∙ h)
+    says_by (notes_in plans t) i k v (slice_get (notes_in plans t) i) refl (ap (λ o. option_map number_of (option_and_then (λ (n : Rattle.sdb_model.specs.Noted.Note). version_noted n k) o)) (sym (got_map note_of (notes_in plans t) i)) ∙ h)
 
 pub says_noted : (plans : List Plan) (t i : ℕ) (k : Key) (n : Note) (version : Option TxId) → slice_get (notes_in plans t) i ≡ Some n → version_noted (note_of n) k ≡ Some version → noted (plan_in plans t) i k ≡ Some (number_of version)
 unfolding noted
 says_noted plans t i k n version at says =
-    ap (λ o. option_map number_of (option_and_then (λ (n : law.Note). version_noted n k) o)) (got_map note_of (notes_in plans t) i ∙ ap (option_map note_of) at) ∙ ap (option_map number_of) says
+    ap (λ o. option_map number_of (option_and_then (λ (n : Rattle.sdb_model.specs.Noted.Note). version_noted n k) o)) (got_map note_of (notes_in plans t) i ∙ ap (option_map note_of) at) ∙ ap (option_map number_of) says
 
 pub got_says : (read : Read) (k : Key) (version : Option TxId) → version_noted (note_of (note.Got read)) k ≡ Some version → (read.key ≡ k) × (version ≡ read.version)
 got_says read k version h = by (same_key read.key k) refl h

@@ -135,10 +135,10 @@ undo_is past plans client store (ask.PutIf base c) how r answered t k outside kn
     }
 undo_is past plans client store (ask.DeleteIf key c) how r answered t k outside known h =
     let back = is_taken_back (shown past) (own past plans t k) t k in
-    let rest = right (rolls_open c t) ((Rattle.sdb_laws.specs.Plan.same_key key k) && back) h in
-    let o = opens_is c t (left (rolls_open c t) ((Rattle.sdb_laws.specs.Plan.same_key key k) && back) h) in
-    let at = key_is key k (left (Rattle.sdb_laws.specs.Plan.same_key key k) back rest) in
-    let x = rolled_is past plans t k keeps_none (right (Rattle.sdb_laws.specs.Plan.same_key key k) back rest) in
+    let rest = right (rolls_open c t) ((Rattle.sdb_model.specs.Noted.same_key key k) && back) h in
+    let o = opens_is c t (left (rolls_open c t) ((Rattle.sdb_model.specs.Noted.same_key key k) && back) h) in
+    let at = key_is key k (left (Rattle.sdb_model.specs.Noted.same_key key k) back rest) in
+    let x = rolled_is past plans t k keeps_none (right (Rattle.sdb_model.specs.Noted.same_key key k) back rest) in
     record {
       roll = record { client = client; rolled = x.r; s = o.s; r = r; is_open = o.is_open; outside = outside; prepared = x.there };
       known = aborted_is past t known;
@@ -160,8 +160,8 @@ roll_back_is past plans (event.Idle client) t k h = clash (sym h)
 is_undo : (past : List Played) (plans : List Plan) (t : ℕ) (k : Key) (s : State) (r : Record) (b : Option Record) → Sound past plans t k → is_committed s ≡ false → IsPreparedThere (plan_in plans) (all_played past) t k r → before_record r ≡ b
     → undoes (shown past) (own past plans t k) (back_request k (id t) s b) t k ≡ true
 is_undo past plans t k s r None sound open_state there e =
-    both (rolls_open (condition.Version (id t) s) t) (Rattle.sdb_laws.specs.Plan.same_key k k && is_taken_back (shown past) (own past plans t k) t k) (is_opens t s open_state)
-    (both (Rattle.sdb_laws.specs.Plan.same_key k k) (is_taken_back (shown past) (own past plans t k) t k) (is_key k k refl) (is_rolled past plans t k keeps_none r sound there (is_keeps_none r e)))
+    both (rolls_open (condition.Version (id t) s) t) (Rattle.sdb_model.specs.Noted.same_key k k && is_taken_back (shown past) (own past plans t k) t k) (is_opens t s open_state)
+    (both (Rattle.sdb_model.specs.Noted.same_key k k) (is_taken_back (shown past) (own past plans t k) t k) (is_key k k refl) (is_rolled past plans t k keeps_none r sound there (is_keeps_none r e)))
 is_undo past plans t k s r (Some base) sound open_state there e =
     both (rolls_open (condition.Version (id t) s) t) (is_put_back (shown past) (own past plans t k) t k base) (is_opens t s open_state) (is_rolled past plans t k (λ y. is_kept_in y base) r sound there (is_kept_of r base e))
 
@@ -227,7 +227,7 @@ removes_is (condition.Version i s) t h =
 remove_call : (past : List Played) (plans : List Plan) (client : ℕ) (store : Name) (key : Key) (c : Condition) (how : How) (r : Reply) (answered : Option Answer) (k : Key) (t : ℕ)
     → removes_well (shown past) past (event.Call client store (ask.DeleteIf key c) how r answered) k t ≡ true → MayRemove (all_played past) (event.Call client store (ask.DeleteIf key c) how r answered) k t
 remove_call past plans client store key c how r answered k t h =
-    let at = Rattle.sdb_laws.specs.Plan.same_key key k in
+    let at = Rattle.sdb_model.specs.Noted.same_key key k in
     let gone = settles_gone (shown past) k t in
     let one = right at (removes_version c t && (is_data k && (are_shut past && gone))) h in
     let two = right (removes_version c t) (is_data k && (are_shut past && gone)) one in
@@ -260,7 +260,7 @@ remove_is past plans (event.Idle client) k t h = clash (sym h)
 
 pub is_remove : (past : List Played) (e : Event) (k : Key) (t : ℕ) → MayRemove (all_played past) e k t → removes_well (shown past) past e k t ≡ true
 is_remove past e k t m =
-    let at = Rattle.sdb_laws.specs.Plan.same_key k k in
+    let at = Rattle.sdb_model.specs.Noted.same_key k k in
     let version = removes_version (condition.Version (id t) state.Committed) t in
     let gone = settles_gone (shown past) k t in
     ap (λ x. removes_well (shown past) past x k t) m.call.call

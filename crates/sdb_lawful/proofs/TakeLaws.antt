@@ -28,8 +28,9 @@ use Rattle.sdb_model.specs.declared.answer.Answer.{Answer}
 use Rattle.sdb_model.specs.declared.answer.Answer.TheVariants as answer
 use Rattle.sdb_model.specs.declared.event.Event.{Event}
 use Rattle.sdb_model.specs.declared.event.Event.TheVariants as event
-use Rattle.sdb_model.specs.Reading.{reads_begin, reads_commit}
-use Rattle.sdb_laws.specs.Plan.{write_at, noted, number_of, version_among, version_noted}
+use Rattle.sdb_model.specs.Sql.{reads_begin, reads_commit}
+use Rattle.sdb_laws.specs.Plan.{write_at, noted, number_of}
+use Rattle.sdb_model.specs.Noted.{version_among, version_noted}
 use Rattle.sdb_laws.specs.History.{Talk}
 use Rattle.sdb_laws.specs.Lawful.{id, is_data, talk, IsSettled, MayBegin, MayTake}
 use Rattle.sdb_said.specs.declared.plan.Plan.{Plan}

@@ -26,8 +26,8 @@ use Rattle.sdb_model.specs.declared.answer.Answer.{Answer}
 use Rattle.sdb_model.specs.declared.answer.Answer.TheVariants as answer
 use Rattle.sdb_model.specs.declared.event.Event.{Event}
 use Rattle.sdb_model.specs.declared.event.Event.TheVariants as event
-use Rattle.sdb_model.specs.Reading.{reads_begin, reads_commit}
-use Rattle.sdb_laws.specs.Plan.{same_key, version_among, version_noted}
+use Rattle.sdb_model.specs.Sql.{reads_begin, reads_commit}
+use Rattle.sdb_model.specs.Noted.{same_key, version_among, version_noted}
 use Rattle.sdb_laws.specs.Lawful.{id, is_data, is_quiet, is_denial, answer_of, row_among}
 use Rattle.sdb_said.specs.declared.plan.Note.{Note}
 use Rattle.sdb_said.specs.declared.plan.Note.TheVariants as note

@@ -26,7 +26,7 @@ fn may_play(
 {
     match role {
         Role::Other => Ok(is_quiet(event)),
-        Role::Begins(id, client) => Ok(may_begin(past, event, *id, *client)),
+        Role::Begins(id, client) => may_begin(alloc, past, event, *id, *client),
         Role::Takes(id) => may_take(alloc, shown, past, plans, event, *id),
         Role::Prepares(id, key, word) => { may_prepare(alloc, past, plans, event, *id, key, *word) }
         Role::Checks(id, i) => Ok(may_check(past, plans, event, *id, *i)),

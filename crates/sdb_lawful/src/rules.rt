@@ -7,15 +7,15 @@ ghost use Rattle.sdb_types.specs.declared.record.Request.TheVariants as ask;
 ghost use Rattle.sdb_record.specs.Coordinator.{coordinator_row_of};
 ghost use Rattle.sdb_record.specs.Meta.{is_moment as is_moment_lem};
 ghost use Rattle.sdb_record.specs.Moved.{is_unchanged as is_unchanged_lem, same_version as same_version_lem};
-ghost use Rattle.sdb_model.specs.Reading.{reads_begin as reads_begin_lem, reads_commit as reads_commit_lem};
+ghost use Rattle.sdb_model.specs.Sql.{reads_word as reads_word_lem};
 ghost use Rattle.sdb_laws.specs.Lawful.{is_quiet as is_quiet_lem};
-ghost use Rattle.sdb_laws.specs.Plan.{version_noted as version_noted_lem};
+ghost use Rattle.sdb_model.specs.Noted.{version_noted as version_noted_lem};
 ghost use Rattle.sdb_said.specs.Values.{note_of, same_request};
 ghost use Rattle.sdb_said.specs.Said.{told_in, open_in, stopped_in, owner_of};
 ghost use Rattle.sdb_lawful.specs.Rules.{fits_reply as fits_reply_lem, in_commit as in_commit_lem, is_done as is_done_lem, begins_well, commits_well as commits_well_lem, takes_well, is_put as is_put_lem, puts_write as puts_write_lem, prepares_well, is_as_noted as is_as_noted_lem, are_as_noted as are_as_noted_lem, finds_noted as finds_noted_lem, checks_well, same_noted as same_noted_lem, agrees_at as agrees_at_lem, agrees as agrees_lem, is_note_checked as is_note_checked_lem, is_ready as is_ready_lem, decides_well, aborts_well, stops_well, are_shut as are_shut_lem, is_shut as is_shut_lem, is_left as is_left_lem};
 
 use crate::commit::{are_fine_notes, are_fine_writes, is_in_span, prepared_by, version_among};
-use sdb_model::{Answer, Event};
+use sdb_model::{Answer, Event, Keyword};
 use sdb_record::{
     Decision, Read, Scan, Write, condition_of, coordinator_row, has_version, version_of,
 };
@@ -24,6 +24,7 @@ use sdb_said::{
     is_past_prepares, is_same_key, is_same_request, is_same_span, is_stopped, is_taken, is_told,
     moment_of, notes_of, owner, row_of, write_of, writes_of,
 };
+use sdb_sqltokens::reads_word;
 use sdb_types::{Condition, Key, NoMemory, Record, Reply, Request, State, TxId, Txt};
 use std::alloc::Global;
 
@@ -35,16 +36,10 @@ fn is_moment(moment: i64) -> bool
     moment >= 0 && moment <= LAST_MOMENT
 }
 
-fn reads_begin(text: &Txt) -> bool
-    ensures { result ≡ reads_begin_lem text.now }
+fn reads(alloc: Global, text: &Txt, word: Keyword) -> Result<bool, NoMemory>
+    ensures { IfOk result (λ reads. reads ≡ reads_word_lem word text.now) }
 {
-    text.as_str().as_bytes() == b"BEGIN".as_slice()
-}
-
-fn reads_commit(text: &Txt) -> bool
-    ensures { result ≡ reads_commit_lem text.now }
-{
-    text.as_str().as_bytes() == b"COMMIT".as_slice()
+    reads_word(alloc, text.as_str().as_bytes(), word)
 }
 
 fn is_done(answer: &Option<Answer>) -> bool
@@ -83,15 +78,22 @@ fn in_commit(past: &[Played], client: u32, id: TxId) -> bool
 }
 
 /// BEGIN: it is answered, and the id is new.
-pub fn may_begin(past: &[Played], event: &Event, id: TxId, client: u32) -> bool
-    ensures { result ≡ begins_well past.now event.now id.0 client }
+pub fn may_begin(
+    alloc: Global,
+    past: &[Played],
+    event: &Event,
+    id: TxId,
+    client: u32,
+) -> Result<bool, NoMemory>
+    ensures { IfOk result (λ well. well ≡ begins_well past.now event.now id.0 client) }
 {
     match event {
         Event::Take(by, text, answer) => {
-            *by == client
-                && (reads_begin(text) && (is_done(answer) && (!is_begun(past, id) && fits(id))))
+            let begins = reads(alloc, text, Keyword::Begin)?;
+            let open = is_done(answer) && (!is_begun(past, id) && fits(id));
+            Ok(*by == client && (begins && open))
         }
-        _ => false,
+        _ => Ok(false),
     }
 }
 
@@ -126,7 +128,7 @@ pub fn may_take(
 {
     match event {
         Event::Take(by, text, _) => {
-            if !reads_commit(text) {
+            if !reads(alloc, text, Keyword::Commit)? {
                 return Ok(false);
             }
             if !(owner(past, id) == *by && (is_open(past, id) && !is_stopped(past, *by))) {

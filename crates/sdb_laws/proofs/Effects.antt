@@ -18,7 +18,7 @@ use Rattle.sdb_model.specs.declared.event.How.TheVariants.{Seen, Lost, Discarded
 use Rattle.sdb_model.specs.declared.script.Place.{Place}
 use Rattle.sdb_model.specs.Rows.{Name, same_name}
 use Rattle.sdb_model.specs.Events.{Shelf, held_by, with_contents, store_of, first_name, standing, table_asked, IsPerformed, IsCall}
-use Rattle.sdb_laws.specs.Plan.{same_key}
+use Rattle.sdb_model.specs.Noted.{same_key}
 use Rattle.sdb_laws.proofs.Keys.{same_key_tells}
 
 ---- contents

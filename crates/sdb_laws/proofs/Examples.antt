@@ -23,12 +23,14 @@ use Rattle.sdb_model.specs.declared.answer.Answer.{Answer}
 use Rattle.sdb_model.specs.declared.event.Event.TheVariants as event
 use Rattle.sdb_model.specs.declared.event.How.{How}
 use Rattle.sdb_model.specs.Transactions.{rest_of}
-use Rattle.sdb_laws.specs.Plan.{Plan, Note, Got, same_key, write_at, written, noted, number_of}
+use Rattle.sdb_laws.specs.Plan.{Plan, write_at, written, noted, number_of}
+use Rattle.sdb_model.specs.Noted.{Note, Got, same_key}
 use Rattle.sdb_laws.specs.Lawful.{Played, id, is_data, IsLawful, IsShown, IsRowShown, IsHeldShown, IsSettled, Itself, Forward, InReply, IsUnchanged, is_denial, talk}
 use Rattle.sdb_laws.specs.Worked.{account, one, two, three, inserts, updates, deletes_it, prepared, forward, read_at, plan_with, first_run, second_run, lost_decision, recovery, vacuumed, decided_early, prepared_twice, rolled_blindly, checked_moved, removed_while_open, update_text, delete_text, row}
 use Rattle.sdb_laws.proofs.Keys.{same_key_tells, same_key_self}
 use Rattle.sdb_laws.proofs.Canon.{version_state, not_firm_version}
 use Rattle.sdb_laws.proofs.Reading.{noted_got}
+use Rattle.sdb_laws.proofs.Texts.{begin_begins, commit_commits}
 
 clash : {A : Type 0} → true ≡ false → A
 clash e = absurd (cc)
@@ -60,7 +62,7 @@ only_written plan x k e h = by (write_at plan k) refl
 only_note : (plan : Plan) (read : Read) (i : ℕ) (k : Key) (v : Option ℕ) → plan.notes ≡ Got read ∷ [] → noted plan i k ≡ Some v → (i ≡ 0) × (read.key ≡ k) × (v ≡ number_of read.version)
 unfolding noted
 only_note plan read zero k v e h = let x = noted_got plan 0 read k v (ap (λ ns. slice_get ns 0) e) h in (refl, x.0, x.1)
-only_note plan read (suc i) k v e h = absurd (none (sym (ap (λ ns. option_map number_of (Rattle.std.specs.Option.option_and_then (λ n. Rattle.sdb_laws.specs.Plan.version_noted n k) (slice_get ns (suc i)))) e) ∙ h))
+only_note plan read (suc i) k v e h = absurd (none (sym (ap (λ ns. option_map number_of (Rattle.std.specs.Option.option_and_then (λ n. Rattle.sdb_model.specs.Noted.version_noted n k) (slice_get ns (suc i)))) e) ∙ h))
   where
     none : ◌≡◌ {A = Option (Option ℕ)} None (Some v) → ⊥
     none x = cc
@@ -120,7 +122,7 @@ first_lawful w = (
           (
             (
               tt,
-              record { text = codes "BEGIN"; begin = refl; take = refl; fresh = refl; fits = omega arith },
+              record { text = codes "BEGIN"; begin = begin_begins; take = refl; fresh = refl; fits = omega arith },
               λ e. absurd (cc),
               λ a e d t f. absurd (cc),
             ),
@@ -136,7 +138,7 @@ first_lawful w = (
           client = 1;
           text = codes "COMMIT";
           answered = None;
-          commit = refl;
+          commit = commit_commits;
           take = refl;
           owner = refl;
           is_open = refl;
@@ -206,7 +208,7 @@ second_lawful w text is key base = (
       (
         (
           first_lawful w,
-          record { text = codes "BEGIN"; begin = refl; take = refl; fresh = refl; fits = omega arith },
+          record { text = codes "BEGIN"; begin = begin_begins; take = refl; fresh = refl; fits = omega arith },
           λ e. absurd (cc),
           λ a e d t f. absurd (cc),
         ),
@@ -222,7 +224,7 @@ second_lawful w text is key base = (
       client = 2;
       text = codes "COMMIT";
       answered = None;
-      commit = refl;
+      commit = commit_commits;
       take = refl;
       owner = refl;
       is_open = refl;
@@ -335,7 +337,7 @@ recovery_lawful = (
                   λ e. absurd (cc),
                   λ a e d t f. absurd (cc),
                 ),
-                record { text = codes "BEGIN"; begin = refl; take = refl; fresh = refl; fits = omega arith },
+                record { text = codes "BEGIN"; begin = begin_begins; take = refl; fresh = refl; fits = omega arith },
                 λ e. absurd (cc),
                 λ a e d t f. absurd (cc),
               ),
@@ -364,7 +366,7 @@ recovery_lawful = (
         client = 3;
         text = codes "COMMIT";
         answered = None;
-        commit = refl;
+        commit = commit_commits;
         take = refl;
         owner = refl;
         is_open = refl;

@@ -21,7 +21,7 @@ use Rattle.sdb_record.proofs.RollLaws.{forward-key}
 use Rattle.sdb_record.proofs.TakenLaws.{prepared-key}
 use Rattle.sdb_model.specs.declared.event.How.TheVariants.{Seen}
 use Rattle.sdb_model.specs.Events.{IsCall}
-use Rattle.sdb_laws.specs.Plan.{same_key}
+use Rattle.sdb_model.specs.Noted.{same_key}
 use Rattle.sdb_laws.specs.Lawful.{id}
 use Rattle.sdb_laws.specs.Trace.{IsTraced, StartsEmpty, history}
 use Rattle.sdb_laws.proofs.Times.{told_recorded}

@@ -8,7 +8,7 @@ use Rattle.sdb_types.specs.declared.key.Key.{Key}
 use Rattle.sdb_types.specs.Order.{key_cmp}
 use Rattle.std.specs.Cmp.{tied_itself}
 use Rattle.sdb_types.proofs.KeyOrder.{key_total, key_exact}
-use Rattle.sdb_laws.specs.Plan.{same_key}
+use Rattle.sdb_model.specs.Noted.{same_key}
 
 equal_tells : (o : Ordering) → ((is_eq o ≡ true) × (o ≡ Equal)) ⊎ (is_eq o ≡ false)
 equal_tells Less = inr refl

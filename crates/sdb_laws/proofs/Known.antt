@@ -18,7 +18,8 @@ use Rattle.sdb_record.proofs.TakenLaws.{prepared-base, prepared-key}
 use Rattle.sdb_record.proofs.RollLaws.{forward-key}
 use Rattle.sdb_model.specs.declared.script.Place.{Place}
 use Rattle.sdb_model.specs.Events.{Shelf, standing}
-use Rattle.sdb_laws.specs.Plan.{Plan, same_key, write_at, written, number_of, noted}
+use Rattle.sdb_laws.specs.Plan.{Plan, write_at, written, number_of, noted}
+use Rattle.sdb_model.specs.Noted.{same_key}
 use Rattle.sdb_laws.specs.History.{Role, History, Standing, Firm, Held, base_of, happens, IsWriter}
 use Rattle.sdb_laws.specs.Lawful.{Played, id, is_data, IsShown, IsRowShown}
 use Rattle.sdb_laws.specs.Records.{write_there, held_record, firm_record, record_for, row_for, IsHeld}

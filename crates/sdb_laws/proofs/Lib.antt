@@ -1,3 +1,4 @@
+pub mod Texts
 pub mod Keys
 pub mod Allowed
 pub mod Small
@@ -24,3 +25,5 @@ pub mod ModelTime
 pub mod FirstTrace
 pub mod Moments
 pub mod Forged
+pub mod Uncaused
+pub mod Unchecked

@@ -15,7 +15,8 @@ use Rattle.sdb_record.proofs.ImageLaws.{key-of-id}
 use Rattle.sdb_model.specs.declared.event.Event.{Event}
 use Rattle.sdb_model.specs.declared.script.Place.{Place}
 use Rattle.sdb_model.specs.Events.{Shelf, Effect, standing, IsCall}
-use Rattle.sdb_laws.specs.Plan.{Plan, same_key}
+use Rattle.sdb_laws.specs.Plan.{Plan}
+use Rattle.sdb_model.specs.Noted.{same_key}
 use Rattle.sdb_laws.specs.History.{History, Standing}
 use Rattle.sdb_laws.specs.Lawful.{id, is_data, IsCallOf}
 use Rattle.sdb_laws.specs.Records.{record_for, row_for, IsHeld}

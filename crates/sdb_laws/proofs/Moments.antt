@@ -32,7 +32,8 @@ use Rattle.sdb_model.specs.Exec.{find_table}
 use Rattle.sdb_model.specs.Events.{Shelf, standing, moment}
 use Rattle.sdb_model.specs.Transactions.{prepares}
 use Rattle.sdb_model.specs.Explained.{IsTableKey, CommittedRecorded, AbortedGone, IsAborted, RowsFinal, UnresolvedPrepared, PreparedStands, IsPreparedAfter}
-use Rattle.sdb_laws.specs.Plan.{Plan, same_key}
+use Rattle.sdb_laws.specs.Plan.{Plan}
+use Rattle.sdb_model.specs.Noted.{same_key}
 use Rattle.sdb_laws.specs.History.{Role, Other, Begins, Takes, Prepares, Checks, Decides, Aborts, Rolls, Removes, Ends, Stops, Word, History, Held, happens}
 use Rattle.sdb_laws.specs.Lawful.{Played, MayPlay, MayPrepare, id, is_data}
 use Rattle.sdb_laws.specs.Trace.{closing, history, has_effect, after_end, IsTraced}

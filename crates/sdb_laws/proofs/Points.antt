@@ -35,7 +35,8 @@ use Rattle.sdb_model.specs.declared.event.How.TheVariants.{Seen, Lost, Discarded
 use Rattle.sdb_model.specs.declared.script.Place.{Place}
 use Rattle.sdb_model.specs.Events.{Shelf, Effect, IsPerformed, IsCall}
 use Rattle.sdb_model.specs.Transactions.{prepares, is_prepared_by, last_prepare}
-use Rattle.sdb_laws.specs.Plan.{Plan, Got, Scanned, Note, written}
+use Rattle.sdb_laws.specs.Plan.{Plan, written}
+use Rattle.sdb_model.specs.Noted.{Got, Scanned, Note}
 use Rattle.sdb_laws.specs.History.{Role, Other, Begins, Takes, Prepares, Checks, Decides, Aborts, Rolls, Removes, Ends, Stops, is_yes, Talk, History, heard, base_of}
 use Rattle.sdb_laws.specs.Lawful.{Played, talk, ended, id, word_of, back_request, is_quiet, IsCallOf, IsUnchanged, MayPlay, MayRollBack}
 use Rattle.sdb_laws.specs.Records.{write_there, held_record, firm_record}

@@ -18,7 +18,8 @@ use Rattle.sdb_model.specs.declared.event.Event.{Event}
 use Rattle.sdb_model.specs.declared.event.Event.TheVariants as event
 use Rattle.sdb_model.specs.declared.script.Place.{Place}
 use Rattle.sdb_model.specs.Events.{Shelf, Effect, standing, IsCall}
-use Rattle.sdb_laws.specs.Plan.{Plan, Note, Got, Scanned, same_key, write_at, written, noted, number_of, version_noted, version_among}
+use Rattle.sdb_laws.specs.Plan.{Plan, write_at, written, noted, number_of}
+use Rattle.sdb_model.specs.Noted.{Note, Got, Scanned, same_key, version_noted, version_among}
 use Rattle.sdb_laws.specs.History.{Other, Begins, Takes, Checks, Stops, Talk, History, base_of, happens, IsLive, IsWriter, Deciding}
 use Rattle.sdb_laws.specs.Lawful.{Played, talk, id, is_quiet, IsUnchanged, MayBegin, MayTake, MayCheck}
 use Rattle.sdb_laws.specs.Records.{firm_record, IsHeld}

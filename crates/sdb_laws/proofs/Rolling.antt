@@ -20,7 +20,8 @@ use Rattle.sdb_record.proofs.ImageLaws.{forward-prepared-row}
 use Rattle.sdb_model.specs.declared.event.Event.{Event}
 use Rattle.sdb_model.specs.declared.script.Place.{Place}
 use Rattle.sdb_model.specs.Events.{Shelf, Effect}
-use Rattle.sdb_laws.specs.Plan.{Plan, same_key, written, deletes, is_delete}
+use Rattle.sdb_laws.specs.Plan.{Plan, written, deletes, is_delete}
+use Rattle.sdb_model.specs.Noted.{same_key}
 use Rattle.sdb_laws.specs.History.{Rolls, Removes, Talk, History, Firm, base_of, firm_of, rolled, happens, IsWriter}
 use Rattle.sdb_laws.specs.Lawful.{Played, id, back_request, IsCallOf, MayRollForward, MayRollBack, MayRemove}
 use Rattle.sdb_laws.specs.Records.{write_there, held_record, firm_record, record_for, IsHeld}

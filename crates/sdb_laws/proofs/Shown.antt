@@ -24,7 +24,7 @@ use Rattle.sdb_model.specs.declared.event.Event.{Event}
 use Rattle.sdb_model.specs.declared.event.Event.TheVariants as event
 use Rattle.sdb_model.specs.declared.script.Place.{Place}
 use Rattle.sdb_model.specs.Events.{Shelf, Effect, standing, table_asked}
-use Rattle.sdb_laws.specs.Plan.{same_key}
+use Rattle.sdb_model.specs.Noted.{same_key}
 use Rattle.sdb_laws.specs.Lawful.{row_among, InReply, InEvent}
 use Rattle.sdb_laws.proofs.Keys.{same_key_tells}
 use Rattle.sdb_laws.proofs.Effects.{AtCall, at_call}

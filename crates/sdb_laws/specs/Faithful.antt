@@ -1,12 +1,14 @@
 -- Where the parts that are played are those that the model reads off the texts of the events.
-use Rattle.std.specs.Prelude.{None, ◌≡◌, ◌⊎◌, ℕ, ◌^◌, ◌<◌, true, List, [], ◌∷◌, Some, Contains}
+use Rattle.std.specs.Prelude.{None, ◌≡◌, ◌⊎◌, ◌↔◌, ℕ, ◌^◌, ◌<◌, true, List, [], ◌∷◌, Some, Contains}
 use Rattle.std.specs.Option.{option_map_or}
 use Rattle.sdb_types.specs.declared.txid.TxId.{TxId}
 use Rattle.sdb_model.specs.declared.answer.Answer.{Answer}
 use Rattle.sdb_model.specs.declared.answer.Answer.TheVariants as answer
 use Rattle.sdb_model.specs.declared.script.Place.{Place}
 use Rattle.sdb_model.specs.Events.{Shelf}
+use Rattle.sdb_model.specs.Noted.{Note, noted_in}
 use Rattle.sdb_model.specs.Told.{commit_answer, CommittedIsOwned}
+use Rattle.sdb_laws.specs.Plan.{Plan}
 use Rattle.sdb_laws.specs.Explained.{IsDenied}
 use Rattle.sdb_model.specs.declared.event.Event.{Event}
 use Rattle.sdb_model.specs.Transactions.{Said, said, begun, client_of, commit_of, Recorded}
@@ -24,14 +26,19 @@ pub record IsCommitOf (events : List Event) (client : ℕ) (s : Said) : Type 0 w
   pub owner : client_of (id t) ≡ client
   pub commit : commit_of events (id t) ≡ Some s
 
+-- The notes of each transaction whose COMMIT was taken are what its statements noted: none is left out, and none added.
+abbrev pub AreNoted : (ℕ → Plan) → List Event → List Played → Type 0
+AreNoted plan events past = (t : ℕ) → (talk past).taken t ≡ true → (note : Note) → Contains (plan t).notes note ↔ Contains (noted_in events (id t)) note
+
 -- The parts say of each transaction what the texts say: when it began, when its COMMIT was taken, and when that was answered
 -- Committed, or that it was denied. Nothing but the COMMIT of a transaction is answered Committed. Unknown names the transaction.
-pub record IsFaithful (events : List Event) (past : List Played) : Type 0 where
+pub record IsFaithful (plan : ℕ → Plan) (events : List Event) (past : List Played) : Type 0 where
   pub begun : (t n : ℕ) → t < 2 ^ 128 → begun events (id t) ≡ Some n → (talk past).begun t ≡ n
   pub taken : (t : ℕ) → (talk past).taken t ≡ true → option_map_or (λ s. s.taken) (commit_of events (id t)) 0 ≡ (talk past).taken_at t
   pub told : (t : ℕ) (s : Said) → t < 2 ^ 128 → commit_of events (id t) ≡ Some s → s.answer ≡ Some answer.Committed → IsToldAt past t s.answered
   pub denied : (t : ℕ) (s : Said) (a : Answer) → t < 2 ^ 128 → commit_of events (id t) ≡ Some s → s.answer ≡ Some a → is_denial a ≡ true → (talk past).taken t ≡ true → IsDenied past t
   pub owned : (client : ℕ) (s : Said) → Contains (said client events) s → s.answer ≡ Some answer.Committed → IsCommitOf events client s
+  pub noted : AreNoted plan events past
   pub unknown : (t : ℕ) (s : Said) (u : TxId) → commit_of events (id t) ≡ Some s → s.answer ≡ Some (answer.Unknown u) → u ≡ id t
 
 -- What the COMMIT of a transaction was answered is true: Committed only of a recorded one, and nothing else is answered so; and of

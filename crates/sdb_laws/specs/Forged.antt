@@ -1,8 +1,14 @@
 -- Reports that a program could write without doing its work, as values.
-use Rattle.std.specs.Prelude.{List, [], ◌∷◌, codes, Some}
+use Rattle.std.specs.Prelude.{List, [], ◌∷◌, pos, codes, Some, None}
+use Rattle.sdb_types.specs.declared.value.Value.TheVariants as value
 use Rattle.sdb_model.specs.declared.answer.Answer.TheVariants as answer
 use Rattle.sdb_model.specs.declared.event.Event.{Event}
 use Rattle.sdb_model.specs.declared.event.Event.TheVariants as event
+use Rattle.sdb_types.specs.declared.record.Request.TheVariants as ask
+use Rattle.sdb_types.specs.declared.record.Reply.TheVariants as reply
+use Rattle.sdb_laws.specs.History.{Other, Begins, Takes, Decides, Yes}
+use Rattle.sdb_laws.specs.Lawful.{Played}
+use Rattle.sdb_laws.specs.Worked.{account, call, ending, one, plays, put_row, taken}
 
 -- BEGIN is refused, and what follows is answered as if it were not: no call is made, and nothing is stored.
 abbrev pub liar : List Event
@@ -18,4 +24,36 @@ twice =
     event.Take 1 (codes "BEGIN") (Some answer.Done)
     ∷ event.Take 1 (codes "ROLLBACK") (Some answer.Done)
     ∷ event.Take 1 (codes "COMMIT") (Some answer.Committed)
+    ∷ []
+
+-- A row is shown that no call found.
+abbrev pub oracle : List Event
+oracle =
+    event.Take 1 (codes "BEGIN") (Some answer.Done)
+    ∷ event.Take 1 (codes "SELECT balance FROM bank.account WHERE id = 1") (Some (answer.Rows ((value.Int (pos 42) ∷ []) ∷ [])))
+    ∷ []
+
+-- A COMMIT is answered Conflict, and no call found anything.
+abbrev pub accused : List Event
+accused =
+    event.Take 1 (codes "BEGIN") (Some answer.Done)
+    ∷ event.Take 1 (codes "COMMIT") (Some (answer.Conflict account None))
+    ∷ []
+
+-- A statement is answered that a store failed, and no call was made.
+abbrev pub broken : List Event
+broken = event.Take 1 (codes "BEGIN") (Some answer.Faulted) ∷ []
+
+-- VACUUM counts tombstones, and removed none.
+abbrev pub counting : List Event
+counting = event.Take 1 (codes "VACUUM") (Some (answer.Count 7)) ∷ []
+
+-- A transaction reads an account, and commits without reading it again: newest first, with the parts that the events play.
+abbrev pub unchecked : List Played
+unchecked =
+    ending one (Decides one Yes) (call 1 (put_row one) reply.Applied (Some answer.Committed))
+    ∷ plays (Takes one) (taken 1 (codes "COMMIT") None)
+    ∷ plays Other (call 1 (ask.Get account) (reply.Found None) (Some (answer.Rows [])))
+    ∷ plays Other (taken 1 (codes "SELECT balance FROM bank.account WHERE id = 1") None)
+    ∷ plays (Begins one 1) (taken 1 (codes "BEGIN") (Some answer.Done))
     ∷ []

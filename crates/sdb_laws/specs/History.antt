@@ -3,7 +3,8 @@ use Rattle.std.specs.Prelude.{◌≡◌, ◌≢◌, ◌⊎◌, ℕ, ℤ, pos, �
 use Rattle.sdb_types.specs.declared.key.Key.{Key}
 use Rattle.sdb_record.specs.declared.coordinator.Decision.{Decision}
 use Rattle.sdb_record.specs.declared.coordinator.Decision.TheVariants.{Committed, Aborted}
-use Rattle.sdb_laws.specs.Plan.{Plan, same_key, written}
+use Rattle.sdb_laws.specs.Plan.{Plan, written}
+use Rattle.sdb_model.specs.Noted.{same_key}
 
 ---- parts
 

@@ -27,9 +27,10 @@ use Rattle.sdb_model.specs.declared.answer.Answer.TheVariants as answer
 use Rattle.sdb_model.specs.declared.event.Event.{Event}
 use Rattle.sdb_model.specs.declared.event.Event.TheVariants as event
 use Rattle.sdb_model.specs.declared.event.How.{How}
-use Rattle.sdb_model.specs.Reading.{reads_begin, reads_commit}
+use Rattle.sdb_model.specs.Sql.{reads_begin, reads_commit}
 use Rattle.sdb_model.specs.Rows.{Name}
-use Rattle.sdb_laws.specs.Plan.{Plan, Note, Got, Scanned, same_key, write_at, written, noted, version_among}
+use Rattle.sdb_laws.specs.Plan.{Plan, write_at, written, noted}
+use Rattle.sdb_model.specs.Noted.{Note, Got, Scanned, same_key, version_among}
 use Rattle.sdb_laws.specs.History.{Role, Other, Begins, Takes, Prepares, Checks, Decides, Aborts, Rolls, Removes, Ends, Stops, Word, Yes, No, Silence, Wanting, Talk, Preparing, Deciding, silence, heard, IsPrepared}
 
 -- An event, the part that it plays, and the transaction that its answer ends, if one is ended.

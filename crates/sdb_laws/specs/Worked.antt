@@ -26,7 +26,8 @@ use Rattle.sdb_model.specs.declared.event.How.TheVariants.{Seen, Lost}
 use Rattle.std.specs.FinMap.{empty}
 use Rattle.sdb_types.specs.Contents.{Contents, after}
 use Rattle.sdb_model.specs.Events.{Shelf}
-use Rattle.sdb_laws.specs.Plan.{Plan, Got}
+use Rattle.sdb_laws.specs.Plan.{Plan}
+use Rattle.sdb_model.specs.Noted.{Got}
 use Rattle.sdb_laws.specs.History.{Role, Other, Begins, Takes, Prepares, Checks, Decides, Rolls, Removes, Stops, Yes, Silence}
 use Rattle.sdb_laws.specs.Lawful.{Played, id}
 

@@ -1,5 +1,5 @@
 //! Runs that the rules let through, and runs that they refuse.
-ghost use Rattle.std.specs.Prelude.{◌≡◌, List, [], Some};
+ghost use Rattle.std.specs.Prelude.{◌≡◌, ℕ, List, [], Some};
 ghost use Rattle.std.specs.FinMap.{empty};
 ghost use Rattle.sdb_record.specs.declared.coordinator.Decision.TheVariants.{Committed};
 ghost use Rattle.sdb_record.specs.declared.write.Write.{Write};
@@ -7,11 +7,17 @@ ghost use Rattle.sdb_model.specs.declared.event.Point.{Point};
 ghost use Rattle.sdb_model.specs.declared.event.TableDump.{TableDump};
 ghost use Rattle.sdb_model.specs.declared.script.Script.{Script};
 ghost use Rattle.sdb_model.specs.Events.{Shelf};
+ghost use Rattle.sdb_schema.specs.declared.table.Table.{Table};
+ghost use Rattle.sdb_model.specs.declared.script.Place.{Place};
+ghost use Rattle.sdb_model.specs.Causes.{AreCaused};
+ghost use Rattle.sdb_model.specs.Shown.{AreShown};
 ghost use Rattle.sdb_model.specs.Told.{IsRun};
-ghost use Rattle.sdb_laws.specs.Forged.{liar, twice};
+ghost use Rattle.sdb_laws.specs.Plan.{Plan};
+ghost use Rattle.sdb_laws.specs.Faithful.{AreNoted};
+ghost use Rattle.sdb_laws.specs.Forged.{accused, broken, counting, liar, oracle, twice, unchecked};
 ghost use Rattle.sdb_laws.specs.Lawful.{Played, IsLawful};
 ghost use Rattle.sdb_laws.specs.Trace.{history};
-ghost use Rattle.sdb_laws.specs.Explained.{IsRunOf};
+ghost use Rattle.sdb_laws.specs.Explained.{IsRunOf, events_of, newest_first};
 ghost use Rattle.sdb_laws.specs.Worked.{one, store_with, first_run, first_moments, updates, deletes_it, plan_with, lost_decision, recovery, vacuumed, decided_early, prepared_twice, rolled_blindly, checked_moved, removed_while_open};
 
 /// There are runs: one client inserts a record into an empty store, and its transaction is recorded.
@@ -43,4 +49,18 @@ pub fn other_runs_are_refused()
 pub fn forged_reports_are_no_runs()
     ensures liar { (script : Script) (opening closing : List Shelf) (order : List Point) (tables : List TableDump) → IsRun script opening closing (record { events = liar; order = order; tables = tables }) → ⊥ }
     ensures twice { (script : Script) (opening closing : List Shelf) (order : List Point) (tables : List TableDump) → IsRun script opening closing (record { events = twice; order = order; tables = tables }) → ⊥ }
+{}
+
+/// Answers that no call explains have no cause, whatever the catalog, the places and the stores: a row that was not found, a Conflict
+/// without a read, a fault without a call, and a count of tombstones that were not removed.
+pub fn forged_answers_have_no_cause()
+    ensures oracle { (catalog : List Table) (places : List Place) (opening : List Shelf) (moments : List (List Shelf)) → AreShown catalog places oracle opening moments → ⊥ }
+    ensures accused { (catalog : List Table) → AreCaused catalog accused → ⊥ }
+    ensures broken { (catalog : List Table) → AreCaused catalog broken → ⊥ }
+    ensures counting { (catalog : List Table) → AreCaused catalog counting → ⊥ }
+{}
+
+/// A COMMIT that does not check what its transaction noted is lawful under no plan that has what was noted.
+pub fn unchecked_reads_are_refused()
+    ensures { (plan : ℕ → Plan) → AreNoted plan (newest_first (events_of unchecked)) unchecked → IsLawful plan unchecked → ⊥ }
 {}

@@ -125,19 +125,23 @@ passing t tests d = filter (passes t tests) (all_rows d)
 abbrev pub updated : Table → Update → Image → Image
 updated t s r = if passes t s.tests r then record { key = r.key; columns = with_sets t s.sets r.columns } else r
 
+-- A statement that names no table of the catalog is refused, and stands in no body.
+abbrev pub not_a_table : Answer
+not_a_table = answer.Refused (record { kind = 6; place = 0 })
+
 -- What a statement answers. INSERT answers Duplicate where its key has a row, else 1; UPSERT 1; UPDATE and DELETE the
 -- number of the rows that pass all tests; SELECT the rows that pass, in the order of their table, cut at LIMIT, with the
--- named columns.
+-- named columns. One that names no table is refused.
 abbrev pub answer_of : Table → Statement → Tables → Answer
 answer_of t (statement.Insert s) d = if is_some (get d (key_of t s)) then answer.Duplicate (key_of t s) else answer.Count 1
 answer_of t (statement.Upsert s) d = answer.Count 1
 answer_of t (statement.Update s) d = answer.Count (length (passing t s.tests d))
 answer_of t (statement.Delete s) d = answer.Count (length (passing t s.tests d))
 answer_of t (statement.Select s) d = answer.Rows (map (shown t s.columns) (cut s.limit (sorted t (passing t s.tests d))))
-answer_of t statement.Begin d = answer.Done
-answer_of t statement.Commit d = answer.Done
-answer_of t statement.Rollback d = answer.Done
-answer_of t statement.Vacuum d = answer.Done
+answer_of t statement.Begin d = not_a_table
+answer_of t statement.Commit d = not_a_table
+answer_of t statement.Rollback d = not_a_table
+answer_of t statement.Vacuum d = not_a_table
 
 -- What a statement leaves. INSERT adds the row where its key has none, the columns that it doesn't name being NULL;
 -- UPSERT adds it so, or changes its named columns; UPDATE changes the named columns of the rows that pass; DELETE takes
@@ -170,10 +174,6 @@ find_table catalog name = find (λ t. is_eq (table_cmp t.name name)) catalog
 -- the table that a statement names
 abbrev pub named_table : List Table → Statement → Option Table
 named_table catalog s = option_map_or (find_table catalog) (table_of s) None
-
--- A statement that names no table of the catalog is refused, and stands in no body.
-abbrev pub not_a_table : Answer
-not_a_table = answer.Refused (record { kind = 6; place = 0 })
 
 abbrev pub exec_in : Option Table → Statement → Tables → Answer × Tables
 exec_in None s d = (not_a_table, d)

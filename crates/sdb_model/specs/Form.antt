@@ -3,17 +3,12 @@ use Rattle.std.specs.Prelude.{ℕ, ℤ, Bool, ◌&&◌, ◌==◌, nat_le, if◌t
 use Rattle.sdb_types.specs.Identifier.{is_identifier}
 use Rattle.sdb_types.specs.declared.key.TableName.{TableName}
 use Rattle.sdb_types.specs.declared.value.Value.TheVariants as value
-use Rattle.sdb_schema.specs.declared.table.Kind.TheVariants as kind
-use Rattle.sdb_schema.specs.declared.table.Column.{Column}
-use Rattle.sdb_schema.specs.declared.table.Table.{Table}
-use Rattle.sdb_model.specs.declared.script.Move.TheVariants as move
 use Rattle.sdb_model.specs.declared.script.Place.{Place}
-use Rattle.sdb_model.specs.declared.script.ScriptClient.{ScriptClient}
 use Rattle.sdb_model.specs.declared.script.Script.{Script}
 use Rattle.sdb_model.specs.declared.statement.Insert.{Insert}
 use Rattle.sdb_model.specs.declared.statement.Statement.{Statement}
 use Rattle.sdb_model.specs.declared.statement.Statement.TheVariants as statement
-use Rattle.sdb_model.specs.Reading.{statement_text_of}
+use Rattle.sdb_model.specs.Sql.{statement_text_of}
 
 ---- lines
 
@@ -31,42 +26,17 @@ lines_of (b ∷ bs) = if b == 10 then [] ∷ lines_of bs else onto_first b (line
 abbrev pub account_name : TableName
 account_name = record { ns = codes "bank"; table = codes "account" }
 
--- `bank.account`, with its key `id` and a `balance`
-abbrev pub account_table : Table
-account_table = record {
-  name = account_name;
-  columns = record { name = codes "balance"; kind = kind.Int } ∷ record { name = codes "id"; kind = kind.Int } ∷ [];
-  partition = codes "id" ∷ [];
-  clustering = [];
-  indexed = [];
-}
-
 -- `INSERT INTO bank.account (id, balance) VALUES (N, M)`
 abbrev pub insert_of : ℤ → ℤ → Statement
 insert_of n m = statement.Insert (record { table = account_name; columns = codes "id" ∷ codes "balance" ∷ []; values = value.BigInt n ∷ value.BigInt m ∷ [] })
 
 ---- the form
 
-abbrev pub schema_line : List ℕ
-schema_line = codes "schema {\"bank.account\":{\"partition-key\":[\"id\"],\"columns\":{\"id\":\"INT\",\"balance\":\"INT\"}}}"
-
 abbrev pub client_line : List ℕ → List ℕ
 client_line name = codes "client " ++ name
 
 abbrev pub statement_line : Statement → List ℕ
 statement_line s = codes "  " ++ statement_text_of s
-
--- the lines of a script: the schema, one client with its statements, `run`, and the one move `rest`
-abbrev pub form_lines : List ℕ → List Statement → List (List ℕ)
-form_lines name ss = schema_line ∷ client_line name ∷ map statement_line ss ++ codes "run" ∷ codes "rest" ∷ []
-
--- a script of one client on the one table, whose one move is `rest`
-abbrev pub client_script : ScriptClient → Script
-client_script client = record { places = []; catalog = account_table ∷ []; clients = client ∷ []; moves = move.Rest ∷ [] }
-
--- what these lines say
-abbrev pub form_script : List ℕ → List Statement → Script
-form_script name ss = client_script (record { name = name; statements = map statement_text_of ss })
 
 -- a client's name: an identifier of at most 64 bytes
 abbrev pub is_client_name : List ℕ → Bool

@@ -1,10 +1,11 @@
 -- Which statement a text is: the tokens of each statement, and what a text that is none is refused for.
-use Rattle.std.specs.Prelude.{◌≡◌, ◌⊎◌, ℕ, ℤ, pos, negsuc, Bool, true, false, ◌||◌, nat_le, if◌then◌else◌, List, [], ◌∷◌, ◌++◌, length, map, codes, Option, Some, None, IfSome, Ok, Err, FitsSigned}
+use Rattle.std.specs.Prelude.{◌≡◌, ◌⊎◌, ℕ, ℤ, pos, negsuc, Bool, true, false, ◌&&◌, ◌||◌, nat_le, if◌then◌else◌, List, [], ◌∷◌, ◌++◌, length, map, codes, Option, Some, None, IfSome, Ok, Err, FitsSigned}
 use Rattle.std.specs.List.{flat_map, AllByRecursion}
 use Rattle.std.specs.Int.{w64}
 use Rattle.std.specs.Str.{is_utf8}
 use Rattle.std.specs.Fmt.{signed_decimal}
 use Rattle.hex.specs.Hex.{encode_upper}
+use denote.Enum.Bare.{sameb}
 use Rattle.sdb_types.specs.Fits.{AreBytes}
 use Rattle.sdb_types.specs.Identifier.{is_identifier}
 use Rattle.sdb_types.specs.declared.key.TableName.{TableName}
@@ -12,7 +13,9 @@ use Rattle.sdb_types.specs.declared.pair.Pair.{Pair}
 use Rattle.sdb_types.specs.declared.value.Value.{Value}
 use Rattle.sdb_types.specs.declared.value.Value.TheVariants as value
 use Rattle.sdb_model.specs.Texts.{quoted}
-use Rattle.sdb_model.specs.SqlTokens.{keyword_text, sign_text, name_text, Bad, Wide, lexed}
+use Rattle.sdb_model.specs.contracts.token.Keyword as keyword_type
+use Rattle.sdb_model.specs.contracts.token.Sign as sign_type
+use Rattle.sdb_model.specs.SqlTokens.{keyword_text, sign_text, name_text, Bad, Wide, Lexed, lexed}
 use Rattle.sdb_model.specs.declared.answer.Refusal.{Refusal}
 use Rattle.sdb_model.specs.declared.statement.Comparison.{Comparison}
 use Rattle.sdb_model.specs.declared.statement.Comparison.TheVariants.{Eq, Ne, Lt, Le, Gt, Ge}
@@ -187,6 +190,58 @@ tokens_of = map (λ p. p.token)
 -- A text is read as a statement: it is made of tokens, and they are the statement's.
 abbrev pub Reads : List ℕ → Statement → Type 0
 Reads text st = (ps : List Placed) × (lexed text ≡ Ok ps) × IsWhole st × Spells (tokens_of ps) st
+
+---- statements of one word
+
+-- a token is this keyword
+abbrev pub is_word : Keyword → Token → Bool
+is_word k (Word w) = sameb keyword_type.the_type w k
+is_word k (Name n) = false
+is_word k Overlong = false
+is_word k (Number n) = false
+is_word k (Text t) = false
+is_word k (Blob b) = false
+is_word k (Mark s) = false
+
+-- a token is this sign
+abbrev pub is_sign : Sign → Token → Bool
+is_sign k (Word w) = false
+is_sign k (Name n) = false
+is_sign k Overlong = false
+is_sign k (Number n) = false
+is_sign k (Text t) = false
+is_sign k (Blob b) = false
+is_sign k (Mark s) = sameb sign_type.the_type s k
+
+-- tokens are this keyword alone, or with `;` after it
+abbrev pub are_word : Keyword → Tokens → Bool
+are_word k [] = false
+are_word k (t ∷ []) = is_word k t
+are_word k (t ∷ u ∷ []) = is_word k t && is_sign sign.Semicolon u
+are_word k (t ∷ u ∷ v ∷ ts) = false
+
+-- what a text is made of is this keyword alone, or with `;` after it
+abbrev pub is_lexed_word : Keyword → Lexed → Bool
+is_lexed_word k (Ok ps) = are_word k (tokens_of ps)
+is_lexed_word k (Err f) = false
+
+-- a text is read as the statement of this one word, however it is spelled
+abbrev pub reads_word : Keyword → List ℕ → Bool
+reads_word k text = is_lexed_word k (lexed text)
+
+abbrev pub reads_begin : List ℕ → Bool
+reads_begin = reads_word word.Begin
+
+abbrev pub reads_commit : List ℕ → Bool
+reads_commit = reads_word word.Commit
+
+abbrev pub reads_rollback : List ℕ → Bool
+reads_rollback = reads_word word.Rollback
+
+abbrev pub reads_vacuum : List ℕ → Bool
+reads_vacuum = reads_word word.Vacuum
+
+---- texts that tokens have
 
 -- a token that statements have and that some text spells
 abbrev pub CanSpell : Token → Type 0

@@ -16,7 +16,7 @@ use Rattle.sdb_model.specs.declared.event.Outcome.{Outcome}
 use Rattle.sdb_model.specs.declared.script.Place.{Place}
 use Rattle.sdb_model.specs.declared.script.Script.{Script}
 use Rattle.sdb_model.specs.declared.statement.Statement.{Statement}
-use Rattle.sdb_model.specs.Reading.{Reads}
+use Rattle.sdb_model.specs.Sql.{Reads}
 use Rattle.sdb_model.specs.Exec.{Tables, exec, find_table, all_rows, is_row_of, sorted, shown}
 use Rattle.sdb_model.specs.Events.{Shelf, IsTrace}
 use Rattle.sdb_model.specs.Images.{row_at}

@@ -23,7 +23,7 @@ use Rattle.sdb_model.specs.declared.event.Point.{Point}
 use Rattle.sdb_model.specs.declared.script.Place.{Place}
 use Rattle.sdb_model.specs.Events.{Shelf}
 use Rattle.sdb_model.specs.Images.{decision_at}
-use Rattle.sdb_model.specs.Reading.{reads_begin, reads_commit, reads_rollback}
+use Rattle.sdb_model.specs.Sql.{reads_begin, reads_commit, reads_rollback}
 use Rattle.sdb_record.specs.declared.coordinator.Decision.TheVariants as decision
 
 -- events with their numbers, from 1
@@ -115,6 +115,15 @@ ending events id = find ends (rest_of (said_since events id))
 abbrev pub commit_of : List Event → TxId → Option Said
 commit_of events id = option_and_then (λ s. if reads_commit s.text then Some s else None) (ending events id)
 
+-- statements up to the first that ends the transaction, that one included
+abbrev pub through_end : List Said → List Said
+through_end [] = []
+through_end (s ∷ ss) = if ends s then s ∷ [] else s ∷ through_end ss
+
+-- all statements of a transaction after its BEGIN, with the one that ended it
+abbrev pub statements_of : List Event → TxId → List Said
+statements_of events id = through_end (rest_of (said_since events id))
+
 -- Some answers say that a statement changed nothing of its transaction, and left it open.
 abbrev pub changes_nothing : Answer → Bool
 changes_nothing (answer.Busy key id at) = true
@@ -124,6 +133,13 @@ changes_nothing (answer.Refused refusal) = true
 changes_nothing answer.OpenTransactions = true
 changes_nothing answer.NoMemory = true
 changes_nothing _ = false
+
+-- Some answers tell what rows a statement saw.
+abbrev pub is_answered_from_rows : Answer → Bool
+is_answered_from_rows (answer.Rows rows) = true
+is_answered_from_rows (answer.Count n) = true
+is_answered_from_rows (answer.Duplicate key) = true
+is_answered_from_rows _ = false
 
 abbrev pub is_effective : Said → Bool
 is_effective s = not (option_map_or changes_nothing s.answer false)

@@ -34,6 +34,25 @@ impl Drop for Test {
 
 pub type Tests = Seq<Test>;
 
+/// A column name in a statement, with its literal where it has one.
+#[derive(Debug)]
+pub struct Mention {
+    pub name: Name,
+    pub literal: Option<Value>,
+}
+
+// By hand: each drop is then one call, where a derived one stands at each place with a call for each field.
+impl Drop for Mention {
+    fn drop(self) {
+        let Mention {
+            name: _,
+            literal: _,
+        } = self;
+    }
+}
+
+pub type Mentions = Seq<Mention>;
+
 /// The columns that UPDATE sets, each to a literal or to Null.
 pub type Sets = Seq<Pair>;
 

@@ -4,7 +4,7 @@ use Rattle.sdb_types.specs.declared.txid.TxId.{TxId}
 use Rattle.sdb_model.specs.declared.event.Event.{Event}
 use Rattle.sdb_model.specs.declared.event.Point.{Point}
 use Rattle.std.specs.Option.{option_and_then}
-use Rattle.sdb_model.specs.Reading.{reads_commit}
+use Rattle.sdb_model.specs.Sql.{reads_commit}
 use Rattle.sdb_model.specs.Transactions.{Said as SaidOf, ends, rest_of, point}
 use Rattle.sdb_plain.specs.declared.points.Said.{Said}
 

@@ -1,11 +1,12 @@
 //! Transactions among the events of a run, and their order.
 ghost use Rattle.std.specs.Prelude.{◌≡◌, ◌++◌, ◌∷◌, ◌<◌, [], ℕ, IfOk, OnOk, Some, None, map, fold, length, option_copied, option_map, find, take_while, nat_le};
-ghost use Rattle.sdb_model.specs.Reading.{reads_begin as reads_begin_lem, reads_commit as reads_commit_lem, reads_rollback as reads_rollback_lem};
+ghost use Rattle.sdb_model.specs.Sql.{reads_word as reads_word_lem};
 ghost use Rattle.sdb_model.specs.Transactions.{said as said_lem, said_since as said_since_lem, with_answer, said_after, from_begin as from_begin_lem, begins as begins_lem, ends as ends_lem, is_done as is_done_lem, is_conflict as is_conflict_lem, prepares as prepares_lem, is_prepared_by, last_prepare as last_prepare_lem, commit_of, point as point_lem, client_of, ordinal_of, rest_of as rest_of_lem};
 ghost use Rattle.sdb_plain.specs.Points.{said_of, all_said, commit_among, placed_point, point_at, order_of as order_of_lem};
 
-use sdb_model::{Answer, Event, Events, How, Point, Points};
+use sdb_model::{Answer, Event, Events, How, Keyword, Point, Points};
 use sdb_record::has_version;
+use sdb_sqltokens::reads_word;
 use sdb_types::{Duplicate, NoMemory, Reply, Request, Seq, State, TxId, Txt};
 use std::alloc::Global;
 
@@ -142,84 +143,74 @@ fn is_conflict(answer: &Option<Answer>) -> bool
     matches!(answer, Some(Answer::Conflict(_, _)))
 }
 
-fn reads_begin(text: &Txt) -> bool
-    ensures { result ≡ reads_begin_lem text.now }
+// Whether a statement is read as one of this word.
+fn is_word(alloc: Global, said: &Said, word: Keyword) -> Result<bool, NoMemory>
+    ensures { IfOk result (λ reads. reads ≡ reads_word_lem word said.now.text) }
 {
-    text.as_str().as_bytes() == b"BEGIN".as_slice()
+    reads_word(alloc, said.text.as_str().as_bytes(), word)
 }
 
-fn reads_commit(text: &Txt) -> bool
-    ensures { result ≡ reads_commit_lem text.now }
+fn begins(alloc: Global, said: &Said) -> Result<bool, NoMemory>
+    ensures { IfOk result (λ begins. begins ≡ begins_lem (said_of said.now)) }
 {
-    text.as_str().as_bytes() == b"COMMIT".as_slice()
+    Ok(is_word(alloc, said, Keyword::Begin)? && is_done(&said.answer))
 }
 
-fn reads_rollback(text: &Txt) -> bool
-    ensures { result ≡ reads_rollback_lem text.now }
+fn ends(alloc: Global, said: &Said) -> Result<bool, NoMemory>
+    ensures { IfOk result (λ ends. ends ≡ ends_lem (said_of said.now)) }
 {
-    text.as_str().as_bytes() == b"ROLLBACK".as_slice()
-}
-
-fn begins(said: &Said) -> bool
-    ensures { result ≡ begins_lem (said_of said.now) }
-{
-    reads_begin(&said.text) && is_done(&said.answer)
-}
-
-fn ends(said: &Said) -> bool
-    ensures { result ≡ ends_lem (said_of said.now) }
-{
-    reads_commit(&said.text)
-        || is_conflict(&said.answer)
-        || (reads_rollback(&said.text) && is_done(&said.answer))
+    if is_word(alloc, said, Keyword::Commit)? || is_conflict(&said.answer) {
+        return Ok(true);
+    }
+    Ok(is_word(alloc, said, Keyword::Rollback)? && is_done(&said.answer))
 }
 
 // The BEGIN of the k-th transaction, k from 1, and the statements after it.
-fn from_begin(k: u64, said: &[Said]) -> &[Said]
-    ensures { all_said result.now ≡ from_begin_lem k (all_said said.now) }
+fn from_begin(alloc: Global, k: u64, said: &[Said]) -> Result<&[Said], NoMemory>
+    ensures { IfOk result (λ since. all_said since.now ≡ from_begin_lem k (all_said said.now)) }
 {
     if k == 0 {
-        return &[];
+        return Ok(&[]);
     }
-    match said.split_first() {
-        None => said,
-        Some((first, rest)) => {
-            if !begins(first) {
-                from_begin(k, rest)
-            } else if k == 1 {
-                said
-            } else {
-                from_begin(k - 1, rest)
-            }
-        }
+    let Some((first, rest)) = said.split_first() else {
+        return Ok(said);
+    };
+    if !begins(alloc, first)? {
+        from_begin(alloc, k, rest)
+    } else if k == 1 {
+        Ok(said)
+    } else {
+        from_begin(alloc, k - 1, rest)
     }
 }
 
-fn first_ending(said: &[Said]) -> Option<&Said>
-    ensures { option_map (λ s. said_of s.now) result ≡ find ends_lem (all_said said.now) }
+fn first_ending(alloc: Global, said: &[Said]) -> Result<Option<&Said>, NoMemory>
+    ensures { IfOk result (λ found. option_map (λ s. said_of s.now) found ≡ find ends_lem (all_said said.now)) }
 {
-    match said.split_first() {
-        None => None,
-        Some((first, rest)) => {
-            if ends(first) {
-                Some(first)
-            } else {
-                first_ending(rest)
-            }
-        }
+    let Some((first, rest)) = said.split_first() else {
+        return Ok(None);
+    };
+    if ends(alloc, first)? {
+        Ok(Some(first))
+    } else {
+        first_ending(alloc, rest)
     }
 }
 
 // The number of the event at which a transaction's COMMIT was taken, where it ends by one.
-fn commit_taken(said: &[Said]) -> Option<u64>
-    ensures { result ≡ option_map (λ s. s.taken) (commit_among (all_said said.now)) }
+fn commit_taken(alloc: Global, said: &[Said]) -> Result<Option<u64>, NoMemory>
+    ensures { IfOk result (λ taken. taken ≡ option_map (λ s. s.taken) (commit_among (all_said said.now))) }
 {
-    let (_, rest) = said.split_first()?;
-    let last = first_ending(rest)?;
-    if reads_commit(&last.text) {
-        Some(last.taken)
+    let Some((_, rest)) = said.split_first() else {
+        return Ok(None);
+    };
+    let Some(last) = first_ending(alloc, rest)? else {
+        return Ok(None);
+    };
+    if is_word(alloc, last, Keyword::Commit)? {
+        Ok(Some(last.taken))
     } else {
-        None
+        Ok(None)
     }
 }
 
@@ -233,8 +224,8 @@ pub fn point(alloc: Global, events: &[Event], id: TxId) -> Result<u64, NoMemory>
     }
     let client = (id.0 >> 64) as u64;
     let all = statements_said(alloc, client, events)?;
-    let since = from_begin((id.0 & 0xffff_ffff_ffff_ffff) as u64, all.as_slice());
-    match commit_taken(since) {
+    let since = from_begin(alloc, (id.0 & 0xffff_ffff_ffff_ffff) as u64, all.as_slice())?;
+    match commit_taken(alloc, since)? {
         Some(number) => Ok(number),
         None => Ok(0),
     }

@@ -218,7 +218,7 @@ fn on_table(
         Statement::Update(s) => update(alloc, table, s, tables),
         Statement::Delete(s) => delete(alloc, table, s, tables),
         Statement::Select(s) => select(alloc, table, s, tables),
-        _ => Ok((Answer::Done, tables)),
+        _ => Ok((not_a_table(), tables)),
     }
 }
 

@@ -77,7 +77,7 @@ heard catalog places old new q r call fault memory fit about =
 ---- what goes on
 
 pub goes_none : {told : ℕ → Type 0} (places : List Placed) (old : List Counted) → GoOn places places old old told told
-goes_none places old = record { places = refl; names = refl; counted = omega arith; fit = λ catalog f. f }
+goes_none places old = record { places = refl; names = refl; counted = omega arith; fit = λ catalog f. f; telling = λ at h. h }
 
 pub goes_more : {t u v : ℕ → Type 0} (p q r : List Placed) (a b c : List Counted) → GoOn p q a b t u → GoOn q r b c u v → GoOn p r a c t v
 goes_more p q r a b c g h = record {
@@ -85,6 +85,7 @@ goes_more p q r a b c g h = record {
   names = h.names ∙ g.names;
   counted = omega (arith, g.counted, h.counted);
   fit = λ catalog f. h.fit catalog (g.fit catalog f);
+  telling = λ at t. h.telling at (g.telling at t);
 }
 
 same_length : (old new : List Counted) → names_of new ≡ names_of old → length new ≡ length old
@@ -103,6 +104,7 @@ goes_call {told} at places old new q r call =
         homed = λ ns. subst (λ (xs : List Name). IfSome (placed_on ns places) (λ store. IsSome (place_of store xs))) (sym names) (f.homed ns);
         telling = λ table about. call.telling (home table.ns places (names_of new)) (subst (λ (ns : List Name). told (home table.ns places ns)) (sym names) (f.telling table about));
       };
+      telling = call.telling;
     }
 
 pub some_more : (old new : List Counted) → names_of new ≡ names_of old → 0 < length old → 0 < length new

@@ -38,12 +38,14 @@ pub record AreFit (catalog : List Table) (places : List Placed) (shelves : List 
   pub homed : (ns : List ℕ) → IfSome (placed_on ns places) (λ store. IsSome (place_of store (names_of shelves)))
   pub telling : AreTold catalog places shelves tells
 
--- Calls change no name and no place, faults add up, and stores that are fit for a run stay so.
+-- Calls change no name and no place, faults add up, stores that are fit for a run stay so, and those that told what they hold go on
+-- telling it.
 pub record GoOn (before after : List Placed) (old new : List Counted) (told tells : ℕ → Type 0) : Type 0 where
   pub places : after ≡ before
   pub names : names_of new ≡ names_of old
   pub counted : total_faults old ≤ total_faults new
   pub fit : (catalog : List Table) → AreFit catalog before old told → AreFit catalog after new tells
+  pub telling : (at : ℕ) → told at → tells at
 
 -- a request that changes nothing
 abbrev pub is_read : Request → Bool

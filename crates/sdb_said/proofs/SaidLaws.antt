@@ -5,7 +5,7 @@ use Rattle.std.specs.Option.{option_map_or, option_map}
 use Rattle.std.specs.List.{list_any}
 use Rattle.sdb_types.specs.declared.key.Key.{Key}
 use Rattle.sdb_types.specs.declared.txid.TxId.{TxId}
-use Rattle.sdb_laws.specs.Plan.{same_key}
+use Rattle.sdb_model.specs.Noted.{same_key}
 use Rattle.sdb_laws.specs.History.{Talk, heard, Stage, Preparing, Checking, Deciding, is_yes, is_met, is_wanting}
 use Rattle.sdb_laws.specs.Lawful.{talk, ended}
 use Rattle.sdb_said.specs.declared.played.Role.{Role}

@@ -20,7 +20,7 @@ use Rattle.sdb_record.specs.Meta.{id_in, is_in}
 use Rattle.sdb_record.specs.Rolls.{forward_record, is_tombstone}
 use Rattle.sdb_record.proofs.RollLaws.{forward-writer, forward-tombstone, mark_value}
 use Rattle.sdb_record.proofs.Within.{column-before_part}
-use Rattle.sdb_laws.specs.Plan.{same_key}
+use Rattle.sdb_model.specs.Noted.{same_key}
 use Rattle.sdb_laws.specs.Lawful.{id, IsShown, IsRowShown, IsHeldShown, IsSettled, Itself, Forward, Back}
 use Rattle.sdb_said.specs.declared.played.Played.{Played}
 use Rattle.sdb_said.specs.Values.{all_played, same_record}

@@ -30,7 +30,7 @@ use Rattle.sdb_record.proofs.Within.{column-before_part}
 use Rattle.sdb_record.proofs.RollLaws.{before_part-any}
 use Rattle.sdb_model.specs.declared.event.Event.{Event}
 use Rattle.sdb_model.specs.declared.event.Event.TheVariants as event
-use Rattle.sdb_laws.specs.Plan.{same_key}
+use Rattle.sdb_model.specs.Noted.{same_key}
 use Rattle.sdb_laws.specs.Lawful.{row_among, id, InReply, InEvent, IsShown, IsRowShown, IsBadRow}
 use Rattle.sdb_laws.proofs.Keys.{same_key_self, same_key_tells}
 use Rattle.sdb_said.specs.declared.played.Played.{Played}

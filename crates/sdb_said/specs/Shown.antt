@@ -26,7 +26,7 @@ use Rattle.sdb_record.specs.Parts.{is_before_pair}
 use Rattle.sdb_record.specs.Rolls.{forward_record, is_tombstone}
 use Rattle.sdb_model.specs.declared.event.Event.{Event}
 use Rattle.sdb_model.specs.declared.event.Event.TheVariants as event
-use Rattle.sdb_laws.specs.Plan.{same_key}
+use Rattle.sdb_model.specs.Noted.{same_key}
 use Rattle.sdb_laws.specs.Lawful.{row_among, id}
 use Rattle.sdb_said.specs.Values.{same_record}
 use Rattle.sdb_said.specs.declared.played.Played.{Played}

@@ -10,7 +10,7 @@ use Rattle.sdb_types.specs.contracts.record.SpanPartialEq.TheImpl as span_eq
 use Rattle.sdb_types.specs.contracts.record.RequestPartialEq.TheImpl as request_eq
 use Rattle.sdb_record.specs.declared.write.Write.{Write}
 use Rattle.sdb_laws.specs.Plan as law
-use Rattle.sdb_laws.specs.Plan.{same_key}
+use Rattle.sdb_model.specs.Noted.{same_key}
 use Rattle.sdb_laws.specs.History as part
 use Rattle.sdb_laws.specs.Lawful as lawful
 use Rattle.sdb_said.specs.declared.plan.Note.{Note}

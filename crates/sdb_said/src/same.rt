@@ -1,6 +1,6 @@
 //! Equality of keys, records and requests.
 ghost use Rattle.std.specs.Prelude.{◌≡◌};
-ghost use Rattle.sdb_laws.specs.Plan.{same_key};
+ghost use Rattle.sdb_model.specs.Noted.{same_key};
 ghost use Rattle.sdb_said.specs.Values.{same_record, same_request, same_span};
 
 use sdb_types::{Key, Record, Request, Span};

@@ -9,7 +9,7 @@ use Rattle.sdb_schema.specs.declared.table.Table.{Table}
 use Rattle.sdb_loader.specs.Described.{catalog_in}
 use Rattle.sdb_model.specs.declared.script.Place.{Place}
 use Rattle.sdb_model.specs.declared.statement.Statement.{Statement}
-use Rattle.sdb_model.specs.Reading.{statement_text_of}
+use Rattle.sdb_model.specs.Sql.{statement_text_of}
 use Rattle.sdb_model.specs.Rows.{fits_int}
 use Rattle.sdb_model.specs.Form.{client_line, statement_line, is_client_name}
 use Rattle.sdb_script.specs.declared.account.AccountStatement.{AccountStatement}

@@ -7,6 +7,7 @@ use Rattle.std.specs.Str.{bytes_eq}
 use Rattle.std.proofs.lemmas.List.{append-nil}
 use Rattle.sdb_types.proofs.Bools.{and_first, and_second}
 use Rattle.sdb_model.specs.Rows.{fits_int}
+use Rattle.sdb_model.specs.SqlTokens.{keyword_of}
 use Rattle.sdb_script.specs.declared.account.AccountStatement.{AccountStatement}
 use Rattle.sdb_script.specs.declared.account.AccountStatement.TheVariants as account
 use Rattle.sdb_script.specs.Scan.{after, number_at}
@@ -57,7 +58,8 @@ account_is line a h =
 ---- a statement's line is read as it
 
 pub select_pieces : (n : ℤ) → codes "SELECT balance FROM bank.account WHERE id = " ++ signed_decimal n ≡ account_text (account.Select n)
-select_pieces n = ap (λ (t : List ℕ). codes "SELECT balance FROM bank.account WHERE id = " ++ t) (sym (append-nil (signed_decimal n ++ []) ∙ append-nil (signed_decimal n)))
+unfolding keyword_of
+select_pieces n = ap (λ (t : List ℕ). codes "SELECT balance FROM bank.account WHERE id = " ++ t) (sym (append-nil (signed_decimal n)))
 
 number_is_again : (n : ℤ) → fits_int n ≡ true → number_in (account_line (account.Select n)) ≡ Some n
 unfolding number_in
@@ -72,7 +74,7 @@ no_insert : (line : List ℕ) → numbers_in line ≡ None → insert_at line �
 no_insert line h = rw h refl
 
 no_numbers_select : (n : ℤ) → numbers_in (account_line (account.Select n)) ≡ None
-unfolding numbers_in
+unfolding numbers_in keyword_of
 no_numbers_select n = refl
 
 no_numbers_begin : numbers_in (account_line account.Begin) ≡ None

@@ -8,7 +8,7 @@ use Rattle.sdb_schema.specs.declared.table.Table.{Table}
 use Rattle.sdb_model.specs.declared.statement.Statement.{Statement}
 use Rattle.sdb_model.specs.declared.script.Place.{Place}
 use Rattle.sdb_model.specs.declared.script.Script.{Script}
-use Rattle.sdb_model.specs.Reading.{statement_text_of}
+use Rattle.sdb_model.specs.Sql.{statement_text_of}
 use Rattle.sdb_model.specs.Form.{client_line, statement_line, lines_of}
 use Rattle.sdb_script.specs.declared.account.AccountStatement.{AccountStatement}
 use Rattle.sdb_script.specs.declared.drawing.Section.{Section}

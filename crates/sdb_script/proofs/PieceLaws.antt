@@ -13,6 +13,7 @@ use Rattle.sdb_model.specs.Form.{client_line, statement_line, insert_of, is_clie
 use Rattle.sdb_script.specs.Scan.{after}
 use Rattle.sdb_script.specs.Pieces.{if_named, client_in, numbers_in}
 use Rattle.sdb_script.proofs.Again.{IsWithin, number_again}
+use Rattle.sdb_script.proofs.Texts.{insert_text_is}
 
 pub by_test : {G : Type 0} (t : Bool) → (t ≡ true → G) → (t ≡ false → G) → G
 by_test true a b = a refl
@@ -31,7 +32,7 @@ fits_long (negsuc n) h = let k = and_first (int_le (negsuc 2147483647) (negsuc n
 pub numbers_again : (n m : ℤ) → fits_int n ≡ true → fits_int m ≡ true → numbers_in (statement_line (insert_of n m)) ≡ Some (n, m)
 unfolding numbers_in
 numbers_again n m f g =
-    rw (append_assoc, number_again n (44 ∷ 32 ∷ ((signed_decimal m ++ []) ++ 41 ∷ [])) (fits_long n f) refl, append-nil, number_again m (41 ∷ []) (fits_long m g) refl) refl
+    rw (insert_text_is n m, number_again n (44 ∷ 32 ∷ (signed_decimal m ++ 41 ∷ [])) (fits_long n f) refl, number_again m (41 ∷ []) (fits_long m g) refl) refl
 
 pub some_is : {A : Type 0} (x y : A) → Some x ≡ Some y → x ≡ y
 some_is x y e = cc

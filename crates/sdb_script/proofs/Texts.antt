@@ -10,7 +10,8 @@ use Rattle.std.proofs.lemmas.Str.{IsUtf8-from_ascii}
 use Rattle.sdb_types.specs.Identifier.{is_start, is_part, is_identifier}
 use Rattle.sdb_types.proofs.Bools.{and_first, and_second}
 use Rattle.sdb_model.specs.Form.{is_client_name, insert_of}
-use Rattle.sdb_model.specs.Reading.{statement_text_of}
+use Rattle.sdb_model.specs.SqlTokens.{keyword_of}
+use Rattle.sdb_model.specs.Sql.{statement_text_of}
 
 part_ascii : (c : ℕ) → is_part c ≡ true → c < 128
 part_ascii c h = grind (arith, nat_tests)
@@ -36,9 +37,14 @@ no_client cs no_text =
       | false ↦ λ e. refl
     ] refl
 
-numbers_text : (n m : List ℕ) → ((n ++ codes ", ") ++ m) ++ codes ")" ≡ (n ++ (codes ", " ++ (m ++ []))) ++ codes ")"
-numbers_text n m = ap (λ (t : List ℕ). t ++ codes ")") (append_assoc n (codes ", ") m ∙ ap (λ (t : List ℕ). n ++ (codes ", " ++ t)) (sym (append-nil m)))
+numbers_text : (n m : List ℕ) → ((n ++ codes ", ") ++ m) ++ codes ")" ≡ n ++ (codes ", " ++ (m ++ codes ")"))
+numbers_text n m = append_assoc (n ++ codes ", ") m (codes ")") ∙ append_assoc n (codes ", ") (m ++ codes ")")
+
+-- the text of an insert
+pub insert_text_is : (n m : ℤ) → statement_text_of (insert_of n m) ≡ codes "INSERT INTO bank.account (id, balance) VALUES (" ++ (signed_decimal n ++ (codes ", " ++ (signed_decimal m ++ codes ")")))
+unfolding keyword_of
+insert_text_is n m = refl
 
 -- the text of an insert, in the pieces of which it is made
 pub insert_pieces : (n m : ℤ) → (((codes "INSERT INTO bank.account (id, balance) VALUES (" ++ signed_decimal n) ++ codes ", ") ++ signed_decimal m) ++ codes ")" ≡ statement_text_of (insert_of n m)
-insert_pieces n m = ap (λ (t : List ℕ). codes "INSERT INTO bank.account (id, balance) VALUES (" ++ t) (numbers_text (signed_decimal n) (signed_decimal m))
+insert_pieces n m = ap (λ (t : List ℕ). codes "INSERT INTO bank.account (id, balance) VALUES (" ++ t) (numbers_text (signed_decimal n) (signed_decimal m)) ∙ sym (insert_text_is n m)

@@ -19,7 +19,7 @@ use Rattle.sdb_model.specs.declared.statement.Comparison.TheVariants.{Eq}
 use Rattle.sdb_model.specs.declared.statement.Test.TheVariants.{Compare}
 use Rattle.sdb_model.specs.declared.statement.Statement.{Statement}
 use Rattle.sdb_model.specs.declared.statement.Statement.TheVariants as statement
-use Rattle.sdb_model.specs.Reading.{statement_text_of}
+use Rattle.sdb_model.specs.Sql.{statement_text_of}
 use Rattle.sdb_model.specs.Exec.{find_table}
 use Rattle.sdb_model.specs.Rows.{fits_int, same_name}
 use Rattle.sdb_model.specs.Form.{lines_of, account_name, insert_of, client_line, statement_line, is_client_name}

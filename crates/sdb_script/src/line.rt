@@ -5,7 +5,7 @@ ghost use Rattle.std.specs.Fmt.{signed_decimal};
 ghost use Rattle.std.specs.String.{string_bytes};
 ghost use Rattle.sdb_model.specs.Rows.{fits_int as fits_int_lem};
 ghost use Rattle.sdb_model.specs.Form.{insert_of, is_client_name as is_client_name_lem};
-ghost use Rattle.sdb_model.specs.Reading.{statement_text_of};
+ghost use Rattle.sdb_model.specs.Sql.{statement_text_of};
 ghost use Rattle.sdb_script.specs.Pieces.{client_in, numbers_in};
 ghost use Rattle.sdb_script.specs.declared.line.LineRefused.TheVariants.{NoMemory as OutOfMemory};
 

@@ -1,9 +1,10 @@
 -- What holds before the first statement holds behind each.
 use Rattle.std.proofs.Common.{◌≡◌, ℕ, ◌+◌, ◌<◌, ◌^◌, Bool, true, false, cond, List, [], ◌∷◌, ◌++◌, length, Option, Some, None, IfSome, inl, inr, ◌⊎◌, ℤ, refl, sym, ap, subst, ◌∙◌, arith, append_assoc, pos, length-append}
-use Rattle.std.specs.Prelude.{map, is_some}
+use Rattle.std.specs.Prelude.{map, is_some, codes}
 use Rattle.std.specs.FinMap.{empty, get-empty, entries, len-entries, len-empty}
 use Rattle.std.specs.List.{slice_get, AllByRecursion, list_all}
 use Rattle.std.specs.Option.{option_and_then}
+use Rattle.sdb_schema.specs.declared.table.Kind.TheVariants as kind
 use Rattle.sdb_schema.specs.declared.table.Table.{Table}
 use Rattle.sdb_schema.specs.Catalog.{is_catalog}
 use Rattle.sdb_types.specs.declared.key.Key.{Key}
@@ -19,7 +20,7 @@ use Rattle.sdb_record.specs.declared.write.Change.{Change}
 use Rattle.sdb_record.specs.Rolls.{IsBaseOf, image_of, row_of_change, row_of_image}
 use Rattle.sdb_model.specs.declared.script.ScriptClient.{ScriptClient}
 use Rattle.sdb_model.specs.Exec.{Tables, find_table}
-use Rattle.sdb_model.specs.Form.{account_table}
+use Rattle.sdb_model.specs.Form.{account_name}
 use Rattle.sdb_model.specs.Images.{decision_on, row_at}
 use Rattle.sdb_model.specs.Told.{IsRun, AreImages}
 use Rattle.sdb_script.specs.Accounts.{account_text, fits_account, has_accounts, is_built, script_of_client}
@@ -243,7 +244,15 @@ pub record Next (ss : List AccountStatement) (a : AccountStatement) : Type 0 whe
 
 -- a catalog that has accounts, and nothing else
 abbrev accounts_alone : List Table
-accounts_alone = account_table ∷ []
+accounts_alone =
+    record {
+      name = account_name;
+      columns = record { name = codes "balance"; kind = kind.Int } ∷ record { name = codes "id"; kind = kind.Int } ∷ [];
+      partition = codes "id" ∷ [];
+      clustering = [];
+      indexed = [];
+    }
+    ∷ []
 
 built_alone : (ss : List AccountStatement) → list_all fits_account ss ≡ true → list_all (is_built accounts_alone) ss ≡ true
 built_alone [] h = refl

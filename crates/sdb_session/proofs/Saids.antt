@@ -11,7 +11,7 @@ use Rattle.sdb_model.specs.declared.answer.Answer.{Answer}
 use Rattle.sdb_model.specs.declared.answer.Answer.TheVariants as answer
 use Rattle.sdb_model.specs.declared.event.Event.{Event}
 use Rattle.sdb_model.specs.declared.statement.Statement.{Statement}
-use Rattle.sdb_model.specs.Reading.{reads_begin, reads_commit}
+use Rattle.sdb_model.specs.Sql.{reads_begin, reads_commit}
 use Rattle.sdb_model.specs.Transactions.{Said, said, said_since, from_begin, begins, ends, is_done, is_effective, first_of, rest_of, begun, commit_of, body, client_of, ordinal_of}
 use Rattle.sdb_model.specs.Told.{AreRead}
 use Rattle.std.proofs.lemmas.Bool.Decides.{nat_tests}

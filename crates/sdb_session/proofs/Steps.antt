@@ -17,7 +17,7 @@ use Rattle.sdb_model.specs.declared.answer.Answer.TheVariants as answer
 use Rattle.sdb_model.specs.declared.script.ScriptClient.{ScriptClient}
 use Rattle.sdb_model.specs.declared.statement.Statement.{Statement}
 use Rattle.sdb_model.specs.Exec.{Tables, exec}
-use Rattle.sdb_model.specs.Reading.{Reads}
+use Rattle.sdb_model.specs.Sql.{Reads}
 use Rattle.sdb_model.specs.Rows.{fits_int}
 use Rattle.sdb_schema.specs.declared.table.Table.{Table}
 use Rattle.sdb_model.specs.Transactions.{Said, is_done, is_conflict, changes_nothing, id_of, last_prepare}
@@ -115,12 +115,6 @@ key_in (account.Insert n m) = refl
 key_in (account.Select n) = refl
 key_in account.Commit = refl
 
-other_of : (a : AccountStatement) → looks a ≡ true → IsOther a
-other_of account.Begin h = true_false (sym h)
-other_of (account.Insert n m) h = insert_other n m
-other_of (account.Select n) h = select_other n
-other_of account.Commit h = true_false (sym h)
-
 -- its answer is that of plain tables
 exec_looks : (catalog : List Table) (a : AccountStatement) (d : Tables) → Accounts catalog → looks a ≡ true → fits_account a ≡ true → AreAccounts d
     → exec catalog (statement_of a) d ≡ (answer_to a (get d (key_read a)), tables_after a (get d (key_read a)) d)
@@ -133,12 +127,12 @@ plain_at : (a : AccountStatement) (given : Answer) (taken answered : ℕ) → Is
 plain_at a given taken answered o done conflict nothing committed = record { begins = rw o.begins refl; ends = rw (o.commits, conflict, o.rolls) refl; effective = rw nothing refl; uncommitted = committed }
 
 -- it is no end of the transaction, and has an effect
-plain_of : (a : AccountStatement) (row : Option (List Pair)) (taken answered : ℕ) → looks a ≡ true → IsPlain (record { taken = taken; text = account_text a; answer = Some (answer_to a row); answered = answered })
-plain_of account.Begin row taken answered h = true_false (sym h)
-plain_of (account.Insert n m) None taken answered h = plain_at (account.Insert n m) (answer.Count 1) taken answered (insert_other n m) refl refl refl refl
-plain_of (account.Insert n m) (Some columns) taken answered h = plain_at (account.Insert n m) (answer.Duplicate (account_key n)) taken answered (insert_other n m) refl refl refl refl
-plain_of (account.Select n) row taken answered h = plain_at (account.Select n) (answer_to (account.Select n) row) taken answered (select_other n) refl refl refl refl
-plain_of account.Commit row taken answered h = true_false (sym h)
+plain_of : (a : AccountStatement) (row : Option (List Pair)) (taken answered : ℕ) → looks a ≡ true → fits_account a ≡ true → IsPlain (record { taken = taken; text = account_text a; answer = Some (answer_to a row); answered = answered })
+plain_of account.Begin row taken answered h f = true_false (sym h)
+plain_of (account.Insert n m) None taken answered h f = plain_at (account.Insert n m) (answer.Count 1) taken answered (insert_other n m f) refl refl refl refl
+plain_of (account.Insert n m) (Some columns) taken answered h f = plain_at (account.Insert n m) (answer.Duplicate (account_key n)) taken answered (insert_other n m f) refl refl refl refl
+plain_of (account.Select n) row taken answered h f = plain_at (account.Select n) (answer_to (account.Select n) row) taken answered (select_other n f) refl refl refl refl
+plain_of account.Commit row taken answered h f = true_false (sym h)
 
 abbrev onto : List Table → Statement → List Answer × Tables → List Answer × Tables
 onto cat s r = (r.0 ++ (exec cat s r.1).0 ∷ [], (exec cat s r.1).1)
@@ -302,10 +296,10 @@ step_look catalog c opening d0 k s w a known resolved h is fits next =
       begins = h.begins;
       low = h.low;
       high = omega arith;
-      plain = all_append IsPlain h.body (said_as s w a heard.answered) h.plain (plain_of a (row_seen (reading s w a) (key_read a)) (1 + length s.events) heard.answered is);
+      plain = all_append IsPlain h.body (said_as s w a heard.answered) h.plain (plain_of a (row_seen (reading s w a) (key_read a)) (1 + length s.events) heard.answered is fits);
       statements = h.statements ++ statement_of a ∷ [];
       answers = h.answers ++ answer_to a (row_seen (reading s w a) (key_read a)) ∷ [];
-      read = read_more h.body (said_as s w a heard.answered) h.statements (statement_of a) h.read (reads_itself a);
+      read = read_more h.body (said_as s w a heard.answered) h.statements (statement_of a) h.read (reads_itself a fits);
       answered = answers_more h.body (said_as s w a heard.answered) h.answers (answer_to a (row_seen (reading s w a) (key_read a))) h.answered refl;
       run = run_more catalog h.statements (statement_of a) h.d (with_writes w.writes h.d) h.answers (answer_to a (row_seen (reading s w a) (key_read a)), tables_after a (row_seen (reading s w a) (key_read a)) (with_writes w.writes h.d)) h.run ran
           ∙ ap (with_answers (h.answers ++ answer_to a (row_seen (reading s w a) (key_read a)) ∷ [])) tables;

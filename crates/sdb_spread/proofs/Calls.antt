@@ -22,7 +22,7 @@ use Rattle.sdb_model.specs.declared.event.How.TheVariants.{Seen}
 use Rattle.sdb_model.specs.declared.script.Place.{Place}
 use Rattle.sdb_model.specs.Rows.{Name}
 use Rattle.sdb_model.specs.Events.{Shelf, store_of, table_asked, IsCall}
-use Rattle.sdb_laws.specs.Plan.{same_key}
+use Rattle.sdb_model.specs.Noted.{same_key}
 use Rattle.sdb_laws.proofs.Keys.{same_key_tells}
 use Rattle.sdb_laws.proofs.Effects.{after_put, after_delete, stands_in_store, stands_anywhere}
 use Rattle.sdb_spread.specs.Spread.{is_played, HoldAs}

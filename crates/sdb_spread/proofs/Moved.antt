@@ -9,7 +9,7 @@ use Rattle.sdb_model.specs.declared.event.Event.{Event}
 use Rattle.sdb_model.specs.declared.event.Event.TheVariants as event
 use Rattle.sdb_model.specs.declared.event.How.TheVariants.{Seen, Lost, Discarded, Broken}
 use Rattle.sdb_model.specs.declared.script.ScriptClient.{ScriptClient}
-use Rattle.sdb_model.specs.Reading.{reads_commit}
+use Rattle.sdb_model.specs.Sql.{reads_commit}
 use Rattle.sdb_model.specs.Rows.{Name}
 use Rattle.sdb_model.specs.Follows.{takes_by, stops, pends_after, taken_by, has_stopped, is_pending, has_work, texts_of}
 use Rattle.sdb_model.specs.Transactions.{Said, said, said_after, from_begin, begun, commit_of, ends, body, is_effective, first_of, rest_of, ordinal_of, client_of, is_prepared_by, last_prepare, point}

@@ -9,3 +9,4 @@ pub mod Answered
 pub mod Turns
 pub mod Linked
 pub mod Follow
+pub mod OneWord

@@ -22,7 +22,7 @@ use Rattle.sdb_model.specs.declared.token.Sign.{Sign}
 use Rattle.sdb_model.specs.declared.token.Sign.TheVariants as sign
 use Rattle.sdb_model.specs.declared.token.Token.{Token}
 use Rattle.sdb_model.specs.declared.token.Token.TheVariants.{Word, Name, Overlong, Number, Text, Blob, Sign as Mark}
-use Rattle.sdb_model.specs.Sql.{Tokens, separated, name_tokens, names_tokens, literal_token, literal_tokens, literals_tokens, comparison_sign, test_tokens, columns_tokens, set_tokens, insert_word, insert_tokens, statement_tokens, HasItems, IsLiteral, IsValue, IsTest, IsSet, IsFromZero, IsWhole}
+use Rattle.sdb_model.specs.Sql.{is_word, is_sign, Tokens, separated, name_tokens, names_tokens, literal_token, literal_tokens, literals_tokens, comparison_sign, test_tokens, columns_tokens, set_tokens, insert_word, insert_tokens, statement_tokens, HasItems, IsLiteral, IsValue, IsTest, IsSet, IsFromZero, IsWhole}
 use Rattle.sdb_sqltext.specs.Verbs.{Verb}
 use Rattle.sdb_sqltext.specs.Verbs as verb
 use Rattle.sdb_sqltext.specs.States.{Draft}
@@ -31,7 +31,7 @@ use Rattle.sdb_sqltext.specs.Heads as head
 use Rattle.sdb_sqltext.specs.States.{Filter}
 use Rattle.sdb_sqltext.specs.States.{State}
 use Rattle.sdb_sqltext.specs.States as state
-use Rattle.sdb_sqltext.specs.Machine.{◌>>=◌, is_word, is_sign, on_sign, name_of, word_value, value_of, literal_of, limit_of, sign_comparison, comparison_of, with_name, with_literal, with_test, inserted, filtered, filtered_by, is_select, begun, ending, more_sets, untested, with_set, step}
+use Rattle.sdb_sqltext.specs.Machine.{◌>>=◌, on_sign, name_of, word_value, value_of, literal_of, limit_of, sign_comparison, comparison_of, with_name, with_literal, with_test, inserted, filtered, filtered_by, is_select, begun, ending, more_sets, untested, with_set, step}
 
 -- ---- the tokens so far
 

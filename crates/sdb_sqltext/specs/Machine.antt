@@ -1,12 +1,9 @@
 -- What each token makes of what was read before it.
 use Rattle.std.specs.Prelude.{ℕ, ℤ, pos, negsuc, Bool, true, false, ◌&&◌, if◌then◌else◌, ◌==◌, List, [], ◌∷◌, ◌++◌, length, Option, Some, None}
-use denote.Enum.Bare.{sameb}
 use Rattle.sdb_types.specs.declared.key.TableName.{TableName}
 use Rattle.sdb_types.specs.declared.pair.Pair.{Pair}
 use Rattle.sdb_types.specs.declared.value.Value.{Value}
 use Rattle.sdb_types.specs.declared.value.Value.TheVariants as value
-use Rattle.sdb_model.specs.contracts.token.Keyword as keyword_type
-use Rattle.sdb_model.specs.contracts.token.Sign as sign_type
 use Rattle.sdb_model.specs.declared.statement.Comparison.{Comparison}
 use Rattle.sdb_model.specs.declared.statement.Comparison.TheVariants.{Eq, Ne, Lt, Le, Gt, Ge}
 use Rattle.sdb_model.specs.declared.statement.Insert.{Insert}
@@ -20,6 +17,7 @@ use Rattle.sdb_model.specs.declared.token.Sign.{Sign}
 use Rattle.sdb_model.specs.declared.token.Sign.TheVariants as sign
 use Rattle.sdb_model.specs.declared.token.Token.{Token}
 use Rattle.sdb_model.specs.declared.token.Token.TheVariants.{Word, Name, Overlong, Number, Text, Blob, Sign as Mark}
+use Rattle.sdb_model.specs.Sql.{is_word, is_sign}
 use Rattle.sdb_sqltext.specs.Verbs.{Verb}
 use Rattle.sdb_sqltext.specs.Verbs as verb
 use Rattle.sdb_sqltext.specs.States.{Draft}
@@ -33,24 +31,6 @@ infixl 10 ◌>>=◌
 abbrev pub ◌>>=◌ : {A B : Type 0} → Option A → (A → Option B) → Option B
 (Some x) >>= f = f x
 None >>= f = None
-
-abbrev pub is_word : Keyword → Token → Bool
-is_word k (Word w) = sameb keyword_type.the_type w k
-is_word k (Name n) = false
-is_word k Overlong = false
-is_word k (Number n) = false
-is_word k (Text t) = false
-is_word k (Blob b) = false
-is_word k (Mark s) = false
-
-abbrev pub is_sign : Sign → Token → Bool
-is_sign k (Word w) = false
-is_sign k (Name n) = false
-is_sign k Overlong = false
-is_sign k (Number n) = false
-is_sign k (Text t) = false
-is_sign k (Blob b) = false
-is_sign k (Mark s) = sameb sign_type.the_type s k
 
 abbrev pub on_word : Keyword → State → Token → Option State
 on_word k next t = if is_word k t then Some next else None

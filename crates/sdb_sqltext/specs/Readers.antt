@@ -15,7 +15,8 @@ use Rattle.sdb_model.specs.declared.token.Placed.{Placed}
 use Rattle.sdb_model.specs.declared.token.Sign.{Sign}
 use Rattle.sdb_model.specs.declared.token.Sign.TheVariants as sign
 use Rattle.sdb_model.specs.declared.token.Token.{Token}
-use Rattle.sdb_sqltext.specs.Machine.{is_word, is_sign, name_of, value_of, literal_of, comparison_of, limit_of}
+use Rattle.sdb_model.specs.Sql.{is_word, is_sign}
+use Rattle.sdb_sqltext.specs.Machine.{name_of, value_of, literal_of, comparison_of, limit_of}
 use Rattle.sdb_sqltext.specs.Parsing.{or_at, then as and_then, of_tokens, of_fault}
 use Rattle.sdb_model.specs.SqlTokens.{Lexed}
 use Rattle.sdb_model.specs.declared.answer.Refusal.{Refusal}

@@ -7,28 +7,11 @@ ghost use Rattle.sdb_sqltext.specs.Steps.{Steps};
 
 use crate::fault::StepError;
 use sdb_model::{Comparison, Keyword, Placed, Sign, Token};
+use sdb_sqltokens::{is_sign, is_word};
 use sdb_types::{Duplicate, Name, NoMemory, Value};
 
 /// A part, and the tokens behind it.
 pub type Parsed<'a, T> = Result<(T, &'a [Placed]), StepError>;
-
-pub fn is_word(token: &Token, word: Keyword) -> bool
-    ensures { result ≡ machine.is_word word token.now }
-{
-    match token {
-        Token::Word(found) => *found == word,
-        _ => false,
-    }
-}
-
-fn is_sign(token: &Token, sign: Sign) -> bool
-    ensures { result ≡ machine.is_sign sign token.now }
-{
-    match token {
-        Token::Sign(found) => *found == sign,
-        _ => false,
-    }
-}
 
 /// Where the next token stands, or the text's end.
 pub fn place(tokens: &[Placed], end: usize) -> usize

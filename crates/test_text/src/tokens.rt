@@ -1,6 +1,6 @@
 //! Tokens of texts.
-use sdb_model::Placed;
-use sdb_sqltokens::{LexRefused, lex, put_tokens};
+use sdb_model::{Keyword, Placed};
+use sdb_sqltokens::{LexRefused, lex, put_tokens, reads_word};
 use sdb_types::NoMemory;
 use std::alloc::Global;
 use std::test::Fail;
@@ -61,4 +61,26 @@ static BAD: [(&str, LexRefused); 4] = [
 fn bad_tokens_are_refused(rt: HostRuntime) -> Result<(), Fail> {
     let alloc = rt.alloc();
     all_hold(BAD.as_slice(), |case| refuses(alloc, case.0, case.1))
+}
+
+fn is_word(alloc: Global, text: &str, word: Keyword, wanted: bool) -> Result<bool, Fail> {
+    Ok(reads_word(alloc, text.as_bytes(), word)? == wanted)
+}
+
+static WORDS: [(&str, Keyword, bool); 9] = [
+    ("COMMIT", Keyword::Commit, true),
+    (" \tcommit ;", Keyword::Commit, true),
+    ("Begin;", Keyword::Begin, true),
+    ("ROLLBACK", Keyword::Commit, false),
+    ("COMMIT;;", Keyword::Commit, false),
+    ("COMMIT 1", Keyword::Commit, false),
+    ("\"COMMIT\"", Keyword::Commit, false),
+    ("COMMIT'", Keyword::Commit, false),
+    ("", Keyword::Vacuum, false),
+];
+
+#[test]
+fn texts_of_one_word_are_told_apart(rt: HostRuntime) -> Result<(), Fail> {
+    let alloc = rt.alloc();
+    all_hold(WORDS.as_slice(), |case| is_word(alloc, case.0, case.1, case.2))
 }

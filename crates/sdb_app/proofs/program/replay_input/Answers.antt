@@ -2,18 +2,18 @@ use Rattle.std.proofs.Common.{◌≡◌, ◌∙◌, Some, inr}
 use Rattle.std.specs.String.{string_bytes}
 use Rattle.sdb_model.specs.declared.script.Script.{Script}
 use Rattle.sdb_play.specs.Board.{shown}
-use Rattle.sdb_play.specs.Opening.{first_key, opening_records}
-use Rattle.sdb_app.specs.Run.{IsFront, IsReported, IsWritten, script_of}
-use Rattle.sdb_app.proofs.Headline.{found_of, front_of, read_and, stops_foreign, stops_found, stops_played, written_of}
+use Rattle.sdb_app.specs.Run.{IsFirstFound, script_of}
+use Rattle.sdb_app.proofs.Headline.{found_of, front_replayed, read_and, replayed, stops_foreign, stops_found, stops_played}
 use Rattle.sdb_app.proofs.program.replay_input.Goals as goal
 
 pub returns-in-Err-replay-clause-not_empty : goal.returns-in-Err-replay-clause-not_empty
 returns-in-Err-replay-clause-not_empty g c = λ key is.
     let before = g.S.Registry.shelves c.args.stores.now in
     let mid = g.S.Registry.shelves c.clear_places.new.self in
+    let new = g.S.Registry.shelves c.replay.new.stores in
     let form = c.in-Ok-read_script.form in
-    read_and (λ (s : Script). first_key (opening_records s.catalog s.places (shown mid)) ≡ Some key) (λ (s : Script). first_key (opening_records s.catalog s.places (shown before)) ≡ Some key) form _ _ c.in-Ok.names before mid c.in-Ok.ensures.names c.clear_places.ensures.stores c.clear_places.ensures.telling c.in-Ok-read_script.ensures.read
-    (stops_found mid (g.S.Registry.shelves c.replay.new.stores) _ _ c.in-Err-replay.status key c.in-Err-replay.ensures.err is) (found_of (script_of form) before mid key c.clear_places.ensures.stores)
+    read_and (λ (s : Script). IsFirstFound s (shown mid) (shown new) key) (λ (s : Script). IsFirstFound s (shown before) (shown new) key) form _ _ c.in-Ok.names before mid c.in-Ok.ensures.names c.clear_places.ensures.stores c.clear_places.ensures.telling c.in-Ok-read_script.ensures.read
+    (stops_found mid new _ _ c.in-Err-replay.status key c.in-Err-replay.ensures.err is) (found_of (script_of form) before mid (shown new) key c.clear_places.ensures.stores)
 
 pub returns-in-Err-replay-clause-bad_store : goal.returns-in-Err-replay-clause-bad_store
 returns-in-Err-replay-clause-bad_store g c = λ key is.
@@ -26,21 +26,15 @@ pub returns-in-Ok-write_all-clause-done : goal.returns-in-Ok-write_all-clause-do
 returns-in-Ok-write_all-clause-done g c = λ _.
     let before = g.S.Registry.shelves c.args.stores.now in
     let mid = g.S.Registry.shelves c.clear_places.new.self in
-    let closing = shown (g.S.Registry.shelves c.replay.new.stores) in
-    let form = c.in-Ok-read_script.form in
     let bytes : c.as_bytes.result.now ≡ string_bytes c.in-Ok-replay.text = c.as_bytes.ensures.value ∙ c.as_str.ensures.value in
-    read_and (λ (s : Script). IsReported s (shown mid) closing (string_bytes c.in-Ok-replay.text)) (λ (s : Script). IsWritten s (shown before) closing _ _) form _ _ c.in-Ok.names before mid c.in-Ok.ensures.names c.clear_places.ensures.stores c.clear_places.ensures.telling c.in-Ok-read_script.ensures.read
-    c.in-Ok-replay.ensures.report (written_of (script_of form) before mid closing (string_bytes c.in-Ok-replay.text) c.as_bytes.result.now _ _ c.clear_places.ensures.stores bytes c.in-Ok-write_all.ensures.all)
+    replayed c.in-Ok-read_script.form c.in-Ok.names before mid (g.S.Registry.shelves c.replay.new.stores) _ _ _ _ (string_bytes c.in-Ok-replay.text) c.as_bytes.result.now c.in-Ok.ensures.names c.clear_places.ensures.stores c.clear_places.ensures.telling c.in-Ok-read_script.ensures.read bytes c.in-Ok-write_all.ensures.all c.in-Ok-replay.ensures.report
 
 pub returns-in-Err-Failed-clause-front : goal.returns-in-Err-Failed-clause-front
 returns-in-Err-Failed-clause-front g c = λ _.
     let before = g.S.Registry.shelves c.args.stores.now in
     let mid = g.S.Registry.shelves c.clear_places.new.self in
-    let closing = shown (g.S.Registry.shelves c.replay.new.stores) in
-    let form = c.in-Ok-read_script.form in
     let bytes : c.as_bytes.result.now ≡ string_bytes c.in-Ok-replay.text = c.as_bytes.ensures.value ∙ c.as_str.ensures.value in
-    read_and (λ (s : Script). IsReported s (shown mid) closing (string_bytes c.in-Ok-replay.text)) (λ (s : Script). IsFront s (shown before) closing _ _) form _ _ c.in-Ok.names before mid c.in-Ok.ensures.names c.clear_places.ensures.stores c.clear_places.ensures.telling c.in-Ok-read_script.ensures.read
-    c.in-Ok-replay.ensures.report (front_of (script_of form) before mid closing (string_bytes c.in-Ok-replay.text) c.as_bytes.result.now _ _ c.clear_places.ensures.stores bytes c.in-Err-Failed.ensures.front)
+    front_replayed c.in-Ok-read_script.form c.in-Ok.names before mid (g.S.Registry.shelves c.replay.new.stores) _ _ _ _ (string_bytes c.in-Ok-replay.text) c.as_bytes.result.now c.in-Ok.ensures.names c.clear_places.ensures.stores c.clear_places.ensures.telling c.in-Ok-read_script.ensures.read bytes c.in-Err-Failed.ensures.front c.in-Ok-replay.ensures.report
 
 pub returns-in-Err-replay-clause-unplayed : goal.returns-in-Err-replay-clause-unplayed
 returns-in-Err-replay-clause-unplayed g c = λ is.
@@ -50,8 +44,5 @@ pub returns-clause-out_of_memory : goal.returns-clause-out_of_memory
 returns-clause-out_of_memory g c = λ _.
     let before = g.S.Registry.shelves c.args.stores.now in
     let mid = g.S.Registry.shelves c.clear_places.new.self in
-    let closing = shown (g.S.Registry.shelves c.replay.new.stores) in
-    let form = c.in-Ok-read_script.form in
     let bytes : c.as_bytes.result.now ≡ string_bytes c.in-Ok-replay.text = c.as_bytes.ensures.value ∙ c.as_str.ensures.value in
-    inr (read_and (λ (s : Script). IsReported s (shown mid) closing (string_bytes c.in-Ok-replay.text)) (λ (s : Script). IsFront s (shown before) closing _ _) form _ _ c.in-Ok.names before mid c.in-Ok.ensures.names c.clear_places.ensures.stores c.clear_places.ensures.telling c.in-Ok-read_script.ensures.read
-    c.in-Ok-replay.ensures.report (front_of (script_of form) before mid closing (string_bytes c.in-Ok-replay.text) c.as_bytes.result.now _ _ c.clear_places.ensures.stores bytes c.in-Err-NoMemory.ensures.front))
+    inr (front_replayed c.in-Ok-read_script.form c.in-Ok.names before mid (g.S.Registry.shelves c.replay.new.stores) _ _ _ _ (string_bytes c.in-Ok-replay.text) c.as_bytes.result.now c.in-Ok.ensures.names c.clear_places.ensures.stores c.clear_places.ensures.telling c.in-Ok-read_script.ensures.read bytes c.in-Err-NoMemory.ensures.front c.in-Ok-replay.ensures.report)

@@ -26,14 +26,14 @@ returns-in_err-outcome-clause-err g c =
     (no_foreign (names_of old) c.args.form.now p q old mid c.in_ok-log.log.story c.in_ok-log.log.order c.requires.form played.countable played.goes played.played) c.in_err-outcome.ensures.err)
 
 pub returns-clause-told : goal.returns-clause-told
-returns-clause-told g c = λ fit holds.
+returns-clause-told g c =
     let p = g.R.Registry.places c.args.stores.now in
     let q = g.R.Registry.places c.play.new.stores in
     let old = g.R.Registry.shelves c.args.stores.now in
     let mid = g.R.Registry.shelves c.play.new.stores in
     let played = c.in_ok-log.ensures in
     told_by (names_of old) c.args.form.now p q old mid (g.R.Registry.shelves c.outcome.new.stores) c.in_ok-log.log.story c.in_ok-log.log.order c.in_ok-outcome.outcome (string_bytes c.in_ok-report_text.field-0) c.requires.form played.countable played.goes played.played
-    c.in_ok-outcome.ensures.outcome c.in_ok-outcome.ensures.still c.in_ok-report_text.ensures fit holds
+    c.in_ok-outcome.ensures.outcome c.in_ok-outcome.ensures.still c.in_ok-report_text.ensures
 
 pub outcome-requires : goal.outcome-requires
 outcome-requires g c = record { some = some_more (g.R.Registry.shelves c.args.stores.now) (g.R.Registry.shelves c.play.new.stores) c.in_ok-log.ensures.goes.names c.requires.some }

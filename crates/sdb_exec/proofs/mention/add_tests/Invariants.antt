@@ -1,5 +1,5 @@
 use Rattle.std.proofs.Common.{◌≡◌, ◌++◌, take, map}
-use Rattle.sdb_exec.specs.Refused.{mention_of_test}
+use Rattle.sdb_model.specs.Refused.{mention_of_test}
 use Rattle.sdb_exec.proofs.mention.add_tests.Given as goal
 
 abbrev pub invariant-loop-test : goal.invariant-loop-test

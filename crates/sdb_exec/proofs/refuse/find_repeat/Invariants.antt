@@ -1,5 +1,5 @@
 use Rattle.std.proofs.Common.{◌≡◌, ◌≤◌, ◌-◌, length, take, drop, []}
-use Rattle.sdb_exec.specs.Refused.{repeat_place}
+use Rattle.sdb_model.specs.Refused.{repeat_place}
 use Rattle.sdb_exec.proofs.refuse.find_repeat.Given as goal
 
 abbrev pub invariant-loop-i : goal.invariant-loop-i

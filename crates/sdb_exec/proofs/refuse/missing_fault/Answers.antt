@@ -1,7 +1,7 @@
 use Rattle.std.proofs.Common.{◌∙◌, ap, sym, not}
 use Rattle.std.specs.List.{list_any}
 use Rattle.sdb_model.specs.Rows.{same_name}
-use Rattle.sdb_exec.specs.Refused.{refusal, first_place, missing_refusal}
+use Rattle.sdb_model.specs.Refused.{refusal, first_place, missing_refusal}
 use Rattle.sdb_exec.proofs.refuse.missing_fault.Goals as goal
 
 pub returns-in-Insert : goal.returns-in-Insert

@@ -1,6 +1,6 @@
 use Rattle.std.proofs.Common.{◌≡◌, ◌∙◌, ◌<◌, ◌^◌, ◌+◌, ap, sym, rules, arith, length, subst}
 use Rattle.std.specs.Option.{option_map}
-use Rattle.sdb_exec.specs.Refused.{mentions}
+use Rattle.sdb_model.specs.Refused.{mentions}
 use Rattle.sdb_exec.proofs.Places.{place_small}
 use Rattle.sdb_exec.proofs.refuse.refusal_on_table.Goals as goal
 

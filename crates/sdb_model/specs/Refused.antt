@@ -19,9 +19,7 @@ use Rattle.sdb_model.specs.declared.statement.Statement.TheVariants as statement
 use Rattle.sdb_model.specs.declared.answer.Refusal.{Refusal}
 use Rattle.sdb_model.specs.Rows.{Name, same_name, is_key_column, kind_of_column, fits_int}
 use Rattle.sdb_model.specs.Exec.{named_table}
-use Rattle.sdb_exec.specs.declared.mention.Mention.{Mention}
-use Rattle.sdb_exec.specs.declared.plan.PlanRefused.{PlanRefused}
-use Rattle.sdb_exec.specs.declared.plan.PlanRefused.TheVariants as refused
+use Rattle.sdb_model.specs.declared.statement.Mention.{Mention}
 
 ---- mentions: the column names in a statement, in the order in which they appear, each with its literal
 
@@ -194,8 +192,3 @@ refusal_by (Some t) s = refusal_on t s
 -- The refusal of a statement: 6 where it names no table of the catalog, else that on its table.
 abbrev pub refusal_of : List Table → Statement → Option Refusal
 refusal_of catalog s = refusal_by (named_table catalog s) s
-
--- The refusal that comes; want of memory may stand in the place of any outcome.
-abbrev pub IsRefusedAs : Option Refusal → PlanRefused → Type 0
-IsRefusedAs r (refused.Refused refusal) = r ≡ Some refusal
-IsRefusedAs r refused.NoMemory = Unit {0}

@@ -1,0 +1,149 @@
+-- What a client did for one statement: the calls that it made, what they asked, and what their replies showed.
+use Rattle.std.specs.Prelude.{ℕ, ℤ, pos, Bool, true, false, ◌&&◌, ◌==◌, nat_le, nat_lt, if◌then◌else◌, List, [], ◌∷◌, filter, fold, find, length, take, Option, Some, None, is_none, is_some}
+use Rattle.std.specs.Option.{option_and_then, option_map_or}
+use Rattle.std.specs.List.{filter_map}
+use Rattle.std.specs.Result.{result_ok}
+use Rattle.std.specs.Ordering.{is_eq}
+use Rattle.sdb_types.specs.declared.txid.TxId.{TxId}
+use Rattle.sdb_types.specs.declared.key.Key.{Key}
+use Rattle.sdb_types.specs.declared.record.Condition.TheVariants as condition
+use Rattle.sdb_types.specs.declared.record.Record.{Record}
+use Rattle.sdb_types.specs.declared.record.State.TheVariants as state
+use Rattle.sdb_types.specs.declared.record.Request.{Request}
+use Rattle.sdb_types.specs.declared.record.Request.TheVariants as ask
+use Rattle.sdb_types.specs.declared.record.Reply.{Reply}
+use Rattle.sdb_types.specs.declared.record.Reply.TheVariants as reply
+use Rattle.sdb_types.specs.Order.{key_cmp}
+use Rattle.sdb_record.specs.declared.coordinator.Decided.{Decided}
+use Rattle.sdb_record.specs.Coordinator.{coordinator_key_of, decision_in}
+use Rattle.sdb_model.specs.declared.event.Event.{Event}
+use Rattle.sdb_model.specs.declared.event.Event.TheVariants as event
+use Rattle.sdb_model.specs.declared.event.How.{How}
+use Rattle.sdb_model.specs.Rows.{Name}
+use Rattle.sdb_model.specs.Transactions.{Said, numbered}
+
+---- calls
+
+-- A call that a client made, with the number of its event.
+pub record Made : Type 0 where
+  pub at : ℕ
+  pub store : Name
+  pub request : Request
+  pub how : How
+  pub reply : Reply
+
+abbrev pub made_by : ℕ → ℕ × Event → Option Made
+made_by client (n, event.Call c store q how r answer) = if c == client then Some (record { at = n; store = store; request = q; how = how; reply = r }) else None
+made_by client (n, e) = None
+
+-- the calls of a client, in order
+abbrev pub calls_by : List Event → ℕ → List Made
+calls_by events client = filter_map (made_by client) (numbered events)
+
+-- the number of the event that answered a statement, or of the last event where none did
+abbrev pub end_of : List Event → Said → ℕ
+end_of events s = if is_some s.answer then s.answered else length events
+
+-- A statement's calls: its client's after its Take, up to its answer, or to the end where it has none.
+abbrev pub calls_of : List Event → ℕ → Said → List Made
+calls_of events client s = filter (λ m. nat_lt s.taken m.at && nat_le m.at (end_of events s)) (calls_by events client)
+
+-- the calls after one of them, or before it
+abbrev pub calls_after : ℕ → List Made → List Made
+calls_after n calls = filter (λ m. nat_lt n m.at) calls
+
+abbrev pub calls_before : ℕ → List Made → List Made
+calls_before n calls = filter (λ m. nat_lt m.at n) calls
+
+---- the clock
+
+abbrev pub clock_after : ℤ → Event → ℤ
+clock_after now (event.Clock moment) = moment
+clock_after now e = now
+
+-- what the clock shows after the first n events: what it was last moved to, or 0
+abbrev pub clock_at : List Event → ℕ → ℤ
+clock_at events n = fold clock_after (pos 0) (take n events)
+
+---- what a call asks
+
+abbrev pub key_asked : Request → Option Key
+key_asked (ask.Get key) = Some key
+key_asked (ask.Scan span) = None
+key_asked (ask.PutIf rec condition) = Some rec.key
+key_asked (ask.DeleteIf key condition) = Some key
+
+abbrev pub is_read : Request → Bool
+is_read (ask.Get key) = true
+is_read (ask.Scan span) = true
+is_read (ask.PutIf rec condition) = false
+is_read (ask.DeleteIf key condition) = false
+
+-- a delete of a committed record
+abbrev pub is_removal : Request → Bool
+is_removal (ask.DeleteIf key (condition.Version id state.Committed)) = true
+is_removal q = false
+
+-- a call that asks for the coordinator's row of a transaction, or puts it
+abbrev pub is_of_row : TxId → Request → Bool
+is_of_row id q = option_map_or (λ k. is_eq (key_cmp k (coordinator_key_of id))) (key_asked q) false
+
+-- the record that a call puts
+abbrev pub put_by : Request → Option Record
+put_by (ask.PutIf rec condition) = Some rec
+put_by q = None
+
+---- what a reply shows
+
+-- the records that a read was answered
+abbrev pub records_read : Reply → List Record
+records_read (reply.Found (Some r)) = r ∷ []
+records_read (reply.Found None) = []
+records_read (reply.Rows rows) = rows
+records_read r = []
+
+-- all records that a reply shows
+abbrev pub records_shown : Reply → List Record
+records_shown (reply.NotMet (Some r)) = r ∷ []
+records_shown r = records_read r
+
+-- the record of a key among some
+abbrev pub record_among : List Record → Key → Option Record
+record_among rows key = find (λ r. is_eq (key_cmp r.key key)) rows
+
+-- what a reply says to stand at the one key that was asked
+abbrev pub standing_said : Reply → Option (Option Record)
+standing_said (reply.Found found) = Some found
+standing_said (reply.NotMet found) = Some found
+standing_said r = None
+
+-- the decision that a call on a transaction's row showed: that of the row found, or of the row that was put
+abbrev pub decision_said : Request → Reply → Option Decided
+decision_said q (reply.Found (Some row)) = result_ok (decision_in row)
+decision_said q (reply.NotMet (Some row)) = result_ok (decision_in row)
+decision_said (ask.PutIf row condition) reply.Applied = result_ok (decision_in row)
+decision_said q r = None
+
+abbrev pub decision_shown : TxId → Made → Option Decided
+decision_shown id m = if is_of_row id m.request then decision_said m.request m.reply else None
+
+-- the decision in the row that a call found, and did not put
+abbrev pub decision_found : TxId → Made → Option Decided
+decision_found id m = if is_of_row id m.request then option_and_then (λ found. option_and_then (λ row. result_ok (decision_in row)) found) (standing_said m.reply) else None
+
+-- the decision on a transaction that calls showed first
+abbrev pub decision_learned : List Made → TxId → Option Decided
+decision_learned [] id = None
+decision_learned (m ∷ ms) id = if is_some (decision_shown id m) then decision_shown id m else decision_learned ms id
+
+abbrev pub is_fault : Reply → Bool
+is_fault reply.Fault = true
+is_fault r = false
+
+abbrev pub is_out_of_memory : Reply → Bool
+is_out_of_memory reply.NoMemory = true
+is_out_of_memory r = false
+
+abbrev pub is_applied : Reply → Bool
+is_applied reply.Applied = true
+is_applied r = false

@@ -1,0 +1,147 @@
+-- How many calls statements make, how unresolved records are rolled, and how many calls stores may fail.
+use Rattle.std.specs.Prelude.{◌≡◌, ◌⊎◌, ◌≤◌, ℕ, ℤ, ◌+◌, ◌*◌, Bool, true, false, not, ◌&&◌, if◌then◌else◌, List, [], ◌∷◌, filter, length, Option, Some, None, Contains, All}
+use Rattle.std.specs.Option.{option_map_or}
+use Rattle.std.specs.List.{count_by, flat_map, list_any}
+use Rattle.std.specs.Ordering.{is_eq}
+use Rattle.sdb_types.specs.declared.txid.TxId.{TxId}
+use Rattle.sdb_types.specs.declared.key.Key.{Key}
+use Rattle.sdb_types.specs.declared.record.Condition.{Condition}
+use Rattle.sdb_types.specs.declared.record.Condition.TheVariants as condition
+use Rattle.sdb_types.specs.declared.record.Record.{Record}
+use Rattle.sdb_types.specs.declared.record.Request.{Request}
+use Rattle.sdb_types.specs.declared.record.Request.TheVariants as ask
+use Rattle.sdb_types.specs.declared.record.Reply.{Reply}
+use Rattle.sdb_types.specs.declared.record.Reply.TheVariants as reply
+use Rattle.sdb_types.specs.declared.record.State.{State}
+use Rattle.sdb_types.specs.declared.record.Span.{Span}
+use Rattle.sdb_types.specs.Order.{key_cmp}
+use Rattle.sdb_schema.specs.declared.table.Table.{Table}
+use Rattle.sdb_record.specs.declared.access.Read.{Read}
+use Rattle.sdb_record.specs.declared.coordinator.Decided.{Decided}
+use Rattle.sdb_record.specs.declared.coordinator.Decision.{Decision}
+use Rattle.sdb_record.specs.declared.coordinator.Decision.TheVariants as decision
+use Rattle.sdb_record.specs.declared.roll.Back.{Back}
+use Rattle.sdb_record.specs.declared.roll.Back.TheVariants as back
+use Rattle.sdb_record.specs.Meta.{id_in, is_unresolved, state_in}
+use Rattle.sdb_record.specs.Rolls.{back_of, forward_record}
+use Rattle.sdb_model.specs.declared.answer.Answer.{Answer}
+use Rattle.sdb_model.specs.declared.answer.Answer.TheVariants as answer
+use Rattle.sdb_model.specs.declared.event.Event.{Event}
+use Rattle.sdb_model.specs.declared.event.Event.TheVariants as event
+use Rattle.sdb_model.specs.declared.event.How.{How}
+use Rattle.sdb_model.specs.declared.event.How.TheVariants.{Seen, Lost, Discarded, Broken}
+use Rattle.sdb_model.specs.Sql.{reads_commit, reads_vacuum}
+use Rattle.sdb_model.specs.Transactions.{Said, said, client_of, commit_of, is_answered_from_rows, prepares}
+use Rattle.sdb_model.specs.Calls.{Made, calls_of, calls_after, decision_shown, is_applied, is_removal, key_asked, records_read}
+use Rattle.sdb_model.specs.Noted.{Note, Got, Scanned, noted_in, reads_rows}
+use Rattle.sdb_model.specs.Causes.{IsEarly}
+
+---- the calls of a COMMIT
+
+abbrev pub is_seen : How → Bool
+is_seen Seen = true
+is_seen Lost = false
+is_seen Discarded = false
+is_seen Broken = false
+
+-- its prepares
+abbrev pub prepares_in : TxId → List Made → List Made
+prepares_in id calls = filter (λ m. prepares id m.request) calls
+
+abbrev pub is_key_of : Key → Made → Bool
+is_key_of key m = option_map_or (λ k. is_eq (key_cmp k key)) (key_asked m.request) false
+
+-- a noted get of a key that isn't prepared
+abbrev pub is_checked_get : List Made → Note → Bool
+is_checked_get prepared (Got read) = not (list_any (is_key_of read.key) prepared)
+is_checked_get prepared (Scanned scan) = false
+
+abbrev pub is_scan : Note → Bool
+is_scan (Got read) = false
+is_scan (Scanned scan) = true
+
+-- Two for each key that was prepared, one for each noted get of another key, and one for each noted scan.
+abbrev pub calls_wanted : List Event → TxId → List Made → ℕ
+calls_wanted events id calls = 2 * length (prepares_in id calls) + (count_by (is_checked_get (prepares_in id calls)) (noted_in events id) + count_by is_scan (noted_in events id))
+
+-- A COMMIT that was answered Committed, all of whose replies were seen, made one call more than that; any other made at most four
+-- more.
+pub record IsCommitCounted (events : List Event) (id : TxId) (s : Said) (calls : List Made) : Type 0 where
+  pub exact : s.answer ≡ Some answer.Committed → All (λ m. is_seen m.how ≡ true) calls → length calls ≡ calls_wanted events id calls + 1
+  pub most : length calls ≤ calls_wanted events id calls + 4
+
+---- the calls of other statements
+
+abbrev pub unresolved_in : List Made → List Record
+unresolved_in calls = filter is_unresolved (flat_map (λ m. records_read m.reply) (filter reads_rows calls))
+
+-- A statement makes one read at most, and four calls more for each unresolved record that it found.
+abbrev pub IsReadCounted : List Made → Type 0
+IsReadCounted calls = length calls ≤ 1 + 4 * length (unresolved_in calls)
+
+abbrev pub removals_in : List Made → ℕ
+removals_in calls = count_by (λ m. is_removal m.request) calls
+
+-- VACUUM makes one scan at most for each table of the catalog, one delete for each tombstone, and five calls at most for each unresolved
+-- record.
+abbrev pub IsVacuumCounted : List Table → List Made → Type 0
+IsVacuumCounted catalog calls = length calls ≤ length catalog + (removals_in calls + 5 * length (unresolved_in calls))
+
+-- The calls of all statements are counted.
+pub record AreCounted (catalog : List Table) (events : List Event) : Type 0 where
+  pub commits : (id : TxId) (s : Said) → commit_of events id ≡ Some s → IsCommitCounted events id s (calls_of events (client_of id) s)
+  pub reads : (client : ℕ) (s : Said) → Contains (said client events) s → reads_commit s.text ≡ false → reads_vacuum s.text ≡ false → IsReadCounted (calls_of events client s)
+  pub vacuums : (client : ℕ) (s : Said) → Contains (said client events) s → reads_vacuum s.text ≡ true → IsVacuumCounted catalog (calls_of events client s)
+
+---- rolls
+
+abbrev pub is_committed : Decision → Bool
+is_committed decision.Committed = true
+is_committed decision.Aborted = false
+
+-- the put or the delete that undoes a record, on this condition
+abbrev pub request_of_back : Back → Condition → Request
+request_of_back (back.Put r) found = ask.PutIf r found
+request_of_back (back.Remove key) found = ask.DeleteIf key found
+
+-- what rolls a record by the decision on its transaction, on condition of what was found
+abbrev pub roll_by : Record → Condition → Decided → Request
+roll_by r found d = if is_committed d.decision then ask.PutIf (forward_record r d.created_at) found else request_of_back (back_of r) found
+
+-- the store said that the roll took effect, or that the record was rolled before
+abbrev pub is_answered : Reply → Bool
+is_answered reply.Applied = true
+is_answered (reply.NotMet found) = true
+is_answered r = false
+
+-- A read that was answered from an unresolved record had it rolled: a call showed the decision on its transaction, and a later one
+-- put what that decision makes of the record, on condition of what was found, and was seen and answered.
+pub record IsResolved (calls : List Made) (read : Made) (r : Record) : Type 0 where
+  pub id : TxId
+  pub state : State
+  pub decided : Decided
+  pub look : Made
+  pub roll : Made
+  pub writer : (id_in r.columns ≡ Some id) × (state_in r.columns ≡ Some state)
+  pub looks : Contains (calls_after read.at calls) look × (decision_shown id look ≡ Some decided)
+  pub rolls : Contains (calls_after look.at calls) roll × (roll.request ≡ roll_by r (condition.Version id state) decided)
+  pub answered : (roll.how ≡ Seen) × (is_answered roll.reply ≡ true)
+
+-- VACUUM passes over a record that may not be given up yet.
+abbrev pub IsPassedOver : List Event → Said → List Made → Made → Record → Type 0
+IsPassedOver events s calls read r = (id : TxId) × (at : ℤ) × (reads_vacuum s.text ≡ true) × IsEarly events calls read r id at
+
+-- Whoever was answered from rows had each unresolved record that was found rolled first.
+abbrev pub AreResolved : List Event → Type 0
+AreResolved events = (client : ℕ) (s : Said) (a : Answer) (m : Made) (r : Record) → Contains (said client events) s → s.answer ≡ Some a → is_answered_from_rows a ≡ true
+    → Contains (calls_of events client s) m → reads_rows m ≡ true → Contains (records_read m.reply) r → is_unresolved r ≡ true → IsResolved (calls_of events client s) m r ⊎ IsPassedOver events s (calls_of events client s) m r
+
+---- stores that fail
+
+abbrev pub is_broken : Event → Bool
+is_broken (event.Call client store q Broken r answer) = true
+is_broken e = false
+
+-- how many calls the stores themselves failed
+abbrev pub broken_in : List Event → ℕ
+broken_in events = count_by is_broken events
