@@ -9,7 +9,7 @@ ghost use Rattle.sdb_sqlite.specs.Written.{written_reply};
 
 use crate::calls::{Written, delete, find, list, put};
 use crate::refused::{KeptRefused, stop};
-use crate::statements::make_table;
+use crate::statements::{make_index, make_table};
 use sdb_store::Store;
 use sdb_types::{Condition, Key, Record, Reply, Span};
 use sqlite::{Alter, Connection, Error, ErrorCode};
@@ -18,8 +18,8 @@ use std::alloc::Global;
 /// Records in the table `records` of a database.
 ///
 /// A row has the bytes of a key, the table's name, the bytes of the key's partition, and the bytes of the record. A row
-/// whose body spells no record of its key stands for a record without columns. A call that changes anything changes it in one
-/// statement.
+/// whose body spells no record of its key stands for a record without columns. An index by the table's name and the partition
+/// finds the rows of a scan. A call that changes anything changes it in one statement.
 pub struct Kept<S: Alter + Drop> {
     alloc: Global,
     connection: Connection<S>,
@@ -44,17 +44,28 @@ fn refused(error: Error) -> KeptRefused {
     }
 }
 
+// Makes the table and its index, where they aren't there.
+fn make<S: Alter>(connection: &mut Connection<S>) -> Result<(), KeptRefused> {
+    if let Err(error) = make_table(connection) {
+        return Err(refused(error));
+    }
+    match make_index(connection) {
+        Ok(_) => Ok(()),
+        Err(error) => Err(refused(error)),
+    }
+}
+
 impl<S: Alter + Drop> Kept<S> {
-    /// A store over a connection. The table is made where there is none of its name. The connection is dropped where
-    /// that is refused.
+    /// A store over a connection. The table is made where there is none of its name, and so is its index by table and
+    /// partition. The connection is dropped where that is refused.
     pub fn new(alloc: Global, mut connection: Connection<S>) -> Result<Kept<S>, KeptRefused> {
-        match make_table(&mut connection) {
-            Ok(_) => Ok(Kept {
+        match make(&mut connection) {
+            Ok(()) => Ok(Kept {
                 alloc,
                 connection,
                 faults: 0,
             }),
-            Err(error) => Err(refused(error)),
+            Err(refused) => Err(refused),
         }
     }
 }

@@ -9,6 +9,14 @@ pub fn make_table<S: Alter>(connection: &mut Connection<S>) -> Result<usize, Err
     )
 }
 
+/// Makes the table's index by table and partition, where there is none of that name.
+pub fn make_index<S: Alter>(connection: &mut Connection<S>) -> Result<usize, Error> {
+    connection.execute(
+        "CREATE INDEX IF NOT EXISTS records_by_partition ON records(t, p)",
+        &[],
+    )
+}
+
 /// The body of the row with a key.
 pub fn body_at<S: Alter>(connection: &mut Connection<S>, key: &[u8]) -> Result<Vec<Row>, Error> {
     connection.query_all("SELECT r FROM records WHERE k = ?1", params![key])
