@@ -103,6 +103,8 @@ pub fn read_record(alloc: Global, bytes: &[u8]) -> Result<Record, ReadRefused>
     ensures only { (r : Record) → record_fits r → RecordFitsFields r → bytes.now ≡ record_bytes r → Reads result (Ok r) }
     // The bad place is where the first field begins that is cut off or isn't of its form, or where bytes follow the whole.
     ensures place { IfErr result (IsRefusedAt record_due bytes.now) }
+    // It is what reading from left to right gives.
+    ensures read { Reads result (record_in bytes.now) }
 {
     record_of(alloc, bytes)
 }
@@ -115,6 +117,8 @@ pub fn read_key(alloc: Global, bytes: &[u8]) -> Result<Key, ReadRefused>
     ensures only { (k : Key) → key_fits k → KeyFitsFields k → bytes.now ≡ key_bytes k → Reads result (Ok k) }
     // The bad place is where the first field begins that is cut off or isn't of its form, or where bytes follow the whole.
     ensures place { IfErr result (IsRefusedAt key_due bytes.now) }
+    // It is what reading from left to right gives.
+    ensures read { Reads result (key_in bytes.now) }
 {
     key_of(alloc, bytes)
 }

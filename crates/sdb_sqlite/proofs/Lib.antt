@@ -1,1 +1,4 @@
 pub mod Sorting
+pub mod Columns
+pub mod Lawful
+pub mod Listing

@@ -1,4 +1,7 @@
+pub mod Spans
 pub mod Stopping
 pub mod Bodies
-pub mod Spans
-pub mod Written
+pub mod Statements
+pub mod Rows
+pub mod Asked
+pub mod Making

@@ -1,5 +1,5 @@
 -- What a call answers that stops before it has an answer.
-use Rattle.std.specs.Prelude.{ℕ}
+use Rattle.std.specs.Prelude.{ℕ, Bool, true, false, if◌then◌else◌}
 use Rattle.sqlite.specs.declared.error.Error.{Error}
 use Rattle.sqlite.specs.declared.error.Error.TheVariants.{SqliteFailure}
 use Rattle.sqlite.specs.declared.error.ErrorCode.TheVariants.{OutOfMemory}
@@ -9,10 +9,13 @@ use Rattle.sdb_store.specs.Fate.{next_number}
 use Rattle.sdb_sqlite.specs.declared.refused.Stopped.{Stopped}
 use Rattle.sdb_sqlite.specs.declared.refused.Stopped.TheVariants as stopped
 
+abbrev pub wants_memory : Error → Bool
+wants_memory (SqliteFailure OutOfMemory) = true
+wants_memory _ = false
+
 -- what a refused statement stops a call for
 abbrev pub stopped_by : Error → Stopped
-stopped_by (SqliteFailure OutOfMemory) = stopped.NoMemory
-stopped_by _ = stopped.Refused
+stopped_by e = if wants_memory e then stopped.NoMemory else stopped.Refused
 
 -- Want of memory is answered as such, and everything else is a fault.
 abbrev pub stop_reply : Stopped → Reply

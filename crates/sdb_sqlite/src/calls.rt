@@ -1,18 +1,21 @@
 //! The calls on the table.
-ghost use Rattle.std.specs.Prelude.{◌≡◌, true, IfOk, IfSome};
-ghost use Rattle.sdb_types.specs.Contents.{are_rows_of};
-ghost use Rattle.sdb_sqlite.specs.Written.{IsWritten};
-ghost use Rattle.sdb_codec.specs.Spelling.{KeyFitsFields, RecordFitsFields};
+ghost use Rattle.std.specs.Prelude.{◌≡◌, ◌∷◌, [], Some, None};
+ghost use Rattle.sqlite.specs.declared.types.Value.TheVariants.{Blob};
+ghost use Rattle.sdb_types.specs.declared.record.Request.TheVariants.{Get, Scan, PutIf, DeleteIf};
+ghost use Rattle.sdb_types.specs.Contents.{CanAnswer};
+ghost use Rattle.sdb_codec.specs.Spelling.{key_bytes, record_bytes, RecordFitsFields};
+ghost use Rattle.sdb_sqlite.specs.Asked.{IsDue, found_in, found_by, IsGot, Gets, IsListed, Scans, Writes, PutsOver, RemovesOver, IsPut, IsRemoved, Puts, Removes, put_params, put_text, got_reply, rows_reply, write_reply, rows_of, written_by};
+ghost use Rattle.sdb_sqlite.specs.Statements.{add_row as add_text, change_row as change_text};
 
-use crate::body::record_at;
+use crate::body::{blob_at, record_at};
 use crate::refused::Stopped;
 use crate::rows::records_of;
 use crate::spelling::{key_spelling, partition_spelling, table_text};
 use crate::statements::{add_row, body_at, change_row, partition_rows, remove_row, table_rows};
 use sdb_codec::{record_has_spelling, write_record};
 use sdb_store::holds;
-use sdb_types::{Condition, Duplicate, Key, Record, Records, Span};
-use sqlite::{Alter, Connection, Row};
+use sdb_types::{Condition, Duplicate, Key, Record, Records, Span, Values};
+use sqlite::{Alter, Connection, Error, Row};
 use std::alloc::Global;
 
 /// What became of a write.
@@ -23,6 +26,32 @@ pub enum Written {
     NotMet(Option<Record>),
 }
 
+// The record of a key that the rows of a get's answer show.
+fn shown(alloc: Global, key: &Key, rows: &[Row]) -> Result<Option<Record>, Stopped>
+    ensures { IsDue (found_in key.now rows.now) result }
+{
+    match rows {
+        [] => Ok(None),
+        [row, ..] => {
+            let body = blob_at(row, 0)?;
+            Ok(Some(record_at(alloc, key.copy()?, &body)?))
+        }
+    }
+}
+
+fn found(
+    alloc: Global,
+    key: &Key,
+    answer: Result<Vec<Row>, Error>,
+) -> Result<Option<Record>, Stopped>
+    ensures { IsDue (found_by key.now (rows_of answer)) result }
+{
+    match answer {
+        Ok(rows) => shown(alloc, key, &rows),
+        Err(error) => Err(Stopped::from(error)),
+    }
+}
+
 // The record at a key, whose bytes are these.
 fn find_at<S: Alter>(
     alloc: Global,
@@ -30,16 +59,22 @@ fn find_at<S: Alter>(
     key: &Key,
     spelled: &[u8],
 ) -> Result<Option<Record>, Stopped>
-    ensures { IfOk result (λ found. IfSome found (λ r. r.key ≡ key.now)) }
+    requires { spelled.now ≡ key_bytes key.now }
+    ensures { IsGot S.Store key.now connection.old connection.new result }
 {
-    let rows = body_at(connection, spelled)?;
-    match rows.as_slice().first() {
-        None => Ok(None),
-        Some(row) => {
-            let body: Vec<u8> = row.get(0)?;
-            Ok(Some(record_at(alloc, key.copy()?, &body)?))
-        }
-    }
+    let answer = body_at(connection, spelled);
+    found(alloc, key, answer)
+}
+
+fn find_key<S: Alter>(
+    alloc: Global,
+    connection: &mut Connection<S>,
+    key: &Key,
+) -> Result<Option<Record>, Stopped>
+    ensures { Gets S.Store key.now connection.old connection.new result }
+{
+    let spelled = key_spelling(alloc, key)?;
+    find_at(alloc, connection, key, spelled.as_slice())
 }
 
 /// The record at a key.
@@ -48,25 +83,62 @@ pub fn find<S: Alter>(
     connection: &mut Connection<S>,
     key: &Key,
 ) -> Result<Option<Record>, Stopped>
-    ensures own { IfOk result (λ found. IfSome found (λ r. r.key ≡ key.now)) }
-    ensures unfit { ¬ KeyFitsFields key.now → (result ≡ Err Stopped.Unfit) × (connection.new ≡ connection.old) }
+    ensures asked { Gets S.Store key.now connection.old connection.new result }
+    ensures lawful { CanAnswer (Get key.now) (got_reply result) }
 {
-    let spelled = key_spelling(alloc, key)?;
-    find_at(alloc, connection, key, spelled.as_slice())
+    find_key(alloc, connection, key)
 }
 
-fn span_rows<S: Alter>(
+// The records that the rows of an answer stand for.
+fn listed(alloc: Global, span: &Span, answer: Result<Vec<Row>, Error>) -> Result<Records, Stopped>
+    ensures { IsListed span.now (rows_of answer) result }
+{
+    match answer {
+        Ok(rows) => records_of(alloc, span, &rows),
+        Err(error) => Err(Stopped::from(error)),
+    }
+}
+
+// The records of a whole table.
+fn list_table<S: Alter>(
     alloc: Global,
     connection: &mut Connection<S>,
     span: &Span,
-) -> Result<Vec<Row>, Stopped> {
+) -> Result<Records, Stopped>
+    requires { span.now.partition ≡ None }
+    ensures { Scans S.Store span.now connection.old connection.new result }
+{
     let table = table_text(alloc, &span.table)?;
+    let answer = table_rows(connection, &table);
+    listed(alloc, span, answer)
+}
+
+// The records of a partition.
+fn list_partition<S: Alter>(
+    alloc: Global,
+    connection: &mut Connection<S>,
+    span: &Span,
+    partition: &Values,
+) -> Result<Records, Stopped>
+    requires { span.now.partition ≡ Some partition.now }
+    ensures { Scans S.Store span.now connection.old connection.new result }
+{
+    let spelled = partition_spelling(alloc, &span.table, partition)?;
+    let table = table_text(alloc, &span.table)?;
+    let answer = partition_rows(connection, &table, spelled.as_slice());
+    listed(alloc, span, answer)
+}
+
+fn list_span<S: Alter>(
+    alloc: Global,
+    connection: &mut Connection<S>,
+    span: &Span,
+) -> Result<Records, Stopped>
+    ensures { Scans S.Store span.now connection.old connection.new result }
+{
     match &span.partition {
-        Some(partition) => {
-            let partition = partition_spelling(alloc, &span.table, partition)?;
-            Ok(partition_rows(connection, &table, partition.as_slice())?)
-        }
-        None => Ok(table_rows(connection, &table)?),
+        Some(partition) => list_partition(alloc, connection, span, partition),
+        None => list_table(alloc, connection, span),
     }
 }
 
@@ -76,37 +148,128 @@ pub fn list<S: Alter>(
     connection: &mut Connection<S>,
     span: &Span,
 ) -> Result<Records, Stopped>
-    ensures { IfOk result (λ rows. are_rows_of span.now rows ≡ true) }
+    ensures asked { Scans S.Store span.now connection.old connection.new result }
+    ensures lawful { CanAnswer (Scan span.now) (rows_reply result) }
 {
-    let rows = span_rows(alloc, connection, span)?;
-    records_of(alloc, span, &rows)
+    list_span(alloc, connection, span)
 }
 
-// Writes the body at a key, in one statement.
-fn write<S: Alter>(
+fn written_as(answer: Result<usize, Error>) -> Result<Written, Stopped>
+    ensures { result ≡ written_by answer }
+{
+    match answer {
+        Ok(_) => Ok(Written::Applied),
+        Err(error) => Err(Stopped::from(error)),
+    }
+}
+
+// Adds the row of a record.
+fn add<S: Alter>(
     alloc: Global,
     connection: &mut Connection<S>,
     rec: &Record,
     spelled: &[u8],
-    stands: bool,
-) -> Result<(), Stopped>
-    requires { RecordFitsFields rec.now }
+) -> Result<Written, Stopped>
+    requires fits { RecordFitsFields rec.now }
+    requires spelled { spelled.now ≡ key_bytes rec.now.key }
+    ensures { Writes S.Store add_text (put_params rec.now None) connection.old connection.new result }
 {
     let body = write_record(alloc, rec)?;
-    if stands {
-        change_row(connection, spelled, body.as_slice())?;
-        return Ok(());
-    }
     let table = table_text(alloc, &rec.key.table)?;
     let partition = partition_spelling(alloc, &rec.key.table, &rec.key.partition)?;
-    add_row(
+    let answer = add_row(
         connection,
         spelled,
         &table,
         partition.as_slice(),
         body.as_slice(),
-    )?;
-    Ok(())
+    );
+    written_as(answer)
+}
+
+// Changes the row of a record's key.
+fn change<S: Alter>(
+    alloc: Global,
+    connection: &mut Connection<S>,
+    rec: &Record,
+    spelled: &[u8],
+) -> Result<Written, Stopped>
+    requires fits { RecordFitsFields rec.now }
+    requires spelled { spelled.now ≡ key_bytes rec.now.key }
+    ensures { Writes S.Store change_text (Blob (key_bytes rec.now.key) ∷ Blob (record_bytes rec.now) ∷ []) connection.old connection.new result }
+{
+    let body = write_record(alloc, rec)?;
+    let answer = change_row(connection, spelled, body.as_slice());
+    written_as(answer)
+}
+
+// Writes a record over what was found at its key.
+fn write_over<S: Alter>(
+    alloc: Global,
+    connection: &mut Connection<S>,
+    rec: &Record,
+    spelled: &[u8],
+    found: Option<Record>,
+) -> Result<Written, Stopped>
+    requires fits { RecordFitsFields rec.now }
+    requires spelled { spelled.now ≡ key_bytes rec.now.key }
+    ensures { Writes S.Store (put_text found) (put_params rec.now found) connection.old connection.new result }
+{
+    match found {
+        None => add(alloc, connection, rec, spelled),
+        Some(_) => change(alloc, connection, rec, spelled),
+    }
+}
+
+// Puts a record over what was found at its key, where the condition holds of that.
+fn put_over<S: Alter>(
+    alloc: Global,
+    connection: &mut Connection<S>,
+    rec: &Record,
+    spelled: &[u8],
+    condition: &Condition,
+    found: Option<Record>,
+) -> Result<Written, Stopped>
+    requires fits { RecordFitsFields rec.now }
+    requires spelled { spelled.now ≡ key_bytes rec.now.key }
+    ensures { PutsOver S.Store rec.now condition.now connection.old connection.new result found }
+{
+    if !holds(condition, found.as_ref()) {
+        return Ok(Written::NotMet(found));
+    }
+    write_over(alloc, connection, rec, spelled, found)
+}
+
+fn put_at<S: Alter>(
+    alloc: Global,
+    connection: &mut Connection<S>,
+    rec: &Record,
+    spelled: &[u8],
+    condition: &Condition,
+) -> Result<Written, Stopped>
+    requires fits { RecordFitsFields rec.now }
+    requires spelled { spelled.now ≡ key_bytes rec.now.key }
+    ensures { IsPut S.Store rec.now condition.now connection.old connection.new result }
+{
+    match find_at(alloc, connection, &rec.key, spelled) {
+        Ok(found) => put_over(alloc, connection, rec, spelled, condition, found),
+        Err(stopped) => Err(stopped),
+    }
+}
+
+fn put_record<S: Alter>(
+    alloc: Global,
+    connection: &mut Connection<S>,
+    rec: &Record,
+    condition: &Condition,
+) -> Result<Written, Stopped>
+    ensures { Puts S.Store rec.now condition.now connection.old connection.new result }
+{
+    if !record_has_spelling(rec) {
+        return Err(Stopped::Unfit);
+    }
+    let spelled = key_spelling(alloc, &rec.key)?;
+    put_at(alloc, connection, rec, spelled.as_slice(), condition)
 }
 
 /// Puts a record at its key, where the condition holds of what stands there.
@@ -116,19 +279,61 @@ pub fn put<S: Alter>(
     rec: &Record,
     condition: &Condition,
 ) -> Result<Written, Stopped>
-    ensures lawful { IfOk result (IsWritten condition.now rec.now.key) }
-    ensures unfit { ¬ RecordFitsFields rec.now → (result ≡ Err Stopped.Unfit) × (connection.new ≡ connection.old) }
+    ensures asked { Puts S.Store rec.now condition.now connection.old connection.new result }
+    ensures lawful { CanAnswer (PutIf rec.now condition.now) (write_reply result) }
 {
-    if !record_has_spelling(rec) {
-        return Err(Stopped::Unfit);
-    }
-    let spelled = key_spelling(alloc, &rec.key)?;
-    let found = find_at(alloc, connection, &rec.key, spelled.as_slice())?;
+    put_record(alloc, connection, rec, condition)
+}
+
+// Takes what was found at a key out, where the condition holds of it.
+fn remove_over<S: Alter>(
+    connection: &mut Connection<S>,
+    key: &Key,
+    spelled: &[u8],
+    condition: &Condition,
+    found: Option<Record>,
+) -> Result<Written, Stopped>
+    requires { spelled.now ≡ key_bytes key.now }
+    ensures { RemovesOver S.Store key.now condition.now connection.old connection.new result found }
+{
     if !holds(condition, found.as_ref()) {
         return Ok(Written::NotMet(found));
     }
-    write(alloc, connection, rec, spelled.as_slice(), found.is_some())?;
-    Ok(Written::Applied)
+    match found {
+        None => Ok(Written::Applied),
+        Some(_) => {
+            let answer = remove_row(connection, spelled);
+            written_as(answer)
+        }
+    }
+}
+
+fn remove_at<S: Alter>(
+    alloc: Global,
+    connection: &mut Connection<S>,
+    key: &Key,
+    spelled: &[u8],
+    condition: &Condition,
+) -> Result<Written, Stopped>
+    requires { spelled.now ≡ key_bytes key.now }
+    ensures { IsRemoved S.Store key.now condition.now connection.old connection.new result }
+{
+    match find_at(alloc, connection, key, spelled) {
+        Ok(found) => remove_over(connection, key, spelled, condition, found),
+        Err(stopped) => Err(stopped),
+    }
+}
+
+fn remove_key<S: Alter>(
+    alloc: Global,
+    connection: &mut Connection<S>,
+    key: &Key,
+    condition: &Condition,
+) -> Result<Written, Stopped>
+    ensures { Removes S.Store key.now condition.now connection.old connection.new result }
+{
+    let spelled = key_spelling(alloc, key)?;
+    remove_at(alloc, connection, key, spelled.as_slice(), condition)
 }
 
 /// Takes the record at a key out, where the condition holds of what stands there.
@@ -138,14 +343,8 @@ pub fn delete<S: Alter>(
     key: &Key,
     condition: &Condition,
 ) -> Result<Written, Stopped>
-    ensures lawful { IfOk result (IsWritten condition.now key.now) }
-    ensures unfit { ¬ KeyFitsFields key.now → (result ≡ Err Stopped.Unfit) × (connection.new ≡ connection.old) }
+    ensures asked { Removes S.Store key.now condition.now connection.old connection.new result }
+    ensures lawful { CanAnswer (DeleteIf key.now condition.now) (write_reply result) }
 {
-    let spelled = key_spelling(alloc, key)?;
-    let found = find_at(alloc, connection, key, spelled.as_slice())?;
-    if !holds(condition, found.as_ref()) {
-        return Ok(Written::NotMet(found));
-    }
-    remove_row(connection, spelled.as_slice())?;
-    Ok(Written::Applied)
+    remove_key(alloc, connection, key, condition)
 }

@@ -1,15 +1,18 @@
 //! The store.
-ghost use Rattle.std.specs.Prelude.{◌≡◌, ◌≤◌};
+ghost use Rattle.std.specs.Prelude.{◌≡◌, ◌≤◌, ◌⊎◌, Ok, IfOk, IfErr};
 ghost use Rattle.std.specs.FinMap as map;
 ghost use Rattle.sdb_types.specs.declared.record.Request.TheVariants.{Get, Scan, PutIf, DeleteIf};
 ghost use Rattle.sdb_types.specs.Contents.{CanAnswer};
 ghost use Rattle.sdb_codec.specs.Spelling.{KeyFitsFields, RecordFitsFields};
 ghost use Rattle.sdb_store.specs.Store.{Performs, HasCause};
-ghost use Rattle.sdb_sqlite.specs.Written.{written_reply};
+ghost use Rattle.sdb_sqlite.specs.Spans.{SpanFitsFields};
+ghost use Rattle.sdb_sqlite.specs.Making.{IsMade, IsNotMade, Makes, refused_by};
+ghost use Rattle.sdb_sqlite.specs.Asked.{Gets, Scans, Puts, Removes, IsAnswered, got_reply, rows_reply, write_reply};
+ghost use Rattle.sdb_sqlite.specs.Stopping.{stopped_by};
 
 use crate::calls::{Written, delete, find, list, put};
 use crate::refused::{KeptRefused, stop};
-use crate::statements::make_table;
+use crate::statements::{make_index, make_table};
 use sdb_store::Store;
 use sdb_types::{Condition, Key, Record, Reply, Span};
 use sqlite::{Alter, Connection, Error, ErrorCode};
@@ -18,8 +21,8 @@ use std::alloc::Global;
 /// Records in the table `records` of a database.
 ///
 /// A row has the bytes of a key, the table's name, the bytes of the key's partition, and the bytes of the record. A row
-/// whose body spells no record of its key stands for a record without columns. A call that changes anything changes it in one
-/// statement.
+/// whose body spells no record of its key stands for a record without columns. An index by the table's name and the partition
+/// finds the rows of a scan. A call that changes anything changes it in one statement.
 pub struct Kept<S: Alter + Drop> {
     alloc: Global,
     connection: Connection<S>,
@@ -37,18 +40,34 @@ impl<S: Alter + Drop> Drop for Kept<S> {
     }
 }
 
-fn refused(error: Error) -> KeptRefused {
+fn refused(error: Error) -> KeptRefused
+    ensures { result ≡ refused_by (stopped_by error) }
+{
     match error {
         Error::SqliteFailure(ErrorCode::OutOfMemory) => KeptRefused::NoMemory,
         _ => KeptRefused::Database,
     }
 }
 
+// Makes the table and its index, where they aren't there.
+fn make<S: Alter>(connection: &mut Connection<S>) -> Result<usize, Error>
+    ensures { Makes S.Store connection.old connection.new result }
+{
+    match make_table(connection) {
+        Ok(_) => make_index(connection),
+        Err(error) => Err(error),
+    }
+}
+
 impl<S: Alter + Drop> Kept<S> {
-    /// A store over a connection. The table is made where there is none of its name. The connection is dropped where
-    /// that is refused.
-    pub fn new(alloc: Global, mut connection: Connection<S>) -> Result<Kept<S>, KeptRefused> {
-        match make_table(&mut connection) {
+    /// A store over a connection. The table is made where there is none of its name, and so is its index by table and
+    /// partition. The connection is dropped where that is refused: `Database` comes only for another cause than memory.
+    pub fn new(alloc: Global, mut connection: Connection<S>) -> Result<Kept<S>, KeptRefused>
+        ensures made { IfOk result (λ kept. IsMade S.Store connection kept.connection) }
+        ensures count { IfOk result (λ kept. kept.faults ≡ 0) }
+        ensures refused { IfErr result (IsNotMade S.Store connection) }
+    {
+        match make(&mut connection) {
             Ok(_) => Ok(Kept {
                 alloc,
                 connection,
@@ -60,7 +79,7 @@ impl<S: Alter + Drop> Kept<S> {
 }
 
 fn reply_of(written: Written) -> Reply
-    ensures { result ≡ written_reply written }
+    ensures { result ≡ write_reply (Ok written) }
 {
     match written {
         Written::Applied => Reply::Applied,
@@ -82,7 +101,8 @@ impl<S: Alter + Drop> Store for Kept<S> {
         ensures lawful { CanAnswer (Get key.now) result }
         ensures counted { self.old.faults ≤ self.new.faults }
         ensures cause { HasCause result self.old.faults self.new.faults }
-        ensures unfit { ¬ KeyFitsFields key.now → result ≡ Reply.Fault }
+        ensures asked { IsAnswered got_reply (Gets S.Store key.now self.old.connection self.new.connection) result }
+        ensures unfit { ¬ KeyFitsFields key.now → (result ≡ Reply.Fault) × (self.new.connection ≡ self.old.connection) }
     {
         match find(self.alloc, &mut self.connection, key) {
             Ok(found) => Reply::Found(found),
@@ -90,7 +110,15 @@ impl<S: Alter + Drop> Store for Kept<S> {
         }
     }
 
-    fn scan(&mut self, span: &Span) -> Reply {
+    fn scan(&mut self, span: &Span) -> Reply
+        ensures told { ⊥ → ⊥ }
+        ensures performed { ⊥ → Performs (Scan span.now) result map.empty map.empty }
+        ensures lawful { CanAnswer (Scan span.now) result }
+        ensures counted { self.old.faults ≤ self.new.faults }
+        ensures cause { HasCause result self.old.faults self.new.faults }
+        ensures asked { IsAnswered rows_reply (Scans S.Store span.now self.old.connection self.new.connection) result }
+        ensures unfit { ¬ SpanFitsFields span.now → ((result ≡ Reply.Fault) ⊎ (result ≡ Reply.NoMemory)) × (self.new.connection ≡ self.old.connection) }
+    {
         match list(self.alloc, &mut self.connection, span) {
             Ok(rows) => Reply::Rows(rows),
             Err(stopped) => stop(&mut self.faults, stopped),
@@ -103,7 +131,8 @@ impl<S: Alter + Drop> Store for Kept<S> {
         ensures lawful { CanAnswer (PutIf rec.now condition.now) result }
         ensures counted { self.old.faults ≤ self.new.faults }
         ensures cause { HasCause result self.old.faults self.new.faults }
-        ensures unfit { ¬ RecordFitsFields rec.now → result ≡ Reply.Fault }
+        ensures asked { IsAnswered write_reply (Puts S.Store rec.now condition.now self.old.connection self.new.connection) result }
+        ensures unfit { ¬ RecordFitsFields rec.now → (result ≡ Reply.Fault) × (self.new.connection ≡ self.old.connection) }
     {
         match put(self.alloc, &mut self.connection, rec, condition) {
             Ok(written) => reply_of(written),
@@ -117,7 +146,8 @@ impl<S: Alter + Drop> Store for Kept<S> {
         ensures lawful { CanAnswer (DeleteIf key.now condition.now) result }
         ensures counted { self.old.faults ≤ self.new.faults }
         ensures cause { HasCause result self.old.faults self.new.faults }
-        ensures unfit { ¬ KeyFitsFields key.now → result ≡ Reply.Fault }
+        ensures asked { IsAnswered write_reply (Removes S.Store key.now condition.now self.old.connection self.new.connection) result }
+        ensures unfit { ¬ KeyFitsFields key.now → (result ≡ Reply.Fault) × (self.new.connection ≡ self.old.connection) }
     {
         match delete(self.alloc, &mut self.connection, key, condition) {
             Ok(written) => reply_of(written),

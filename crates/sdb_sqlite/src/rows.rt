@@ -1,10 +1,14 @@
 //! The rows of a scan.
-ghost use Rattle.std.specs.Prelude.{◌≡◌, true, All, IfOk, OnOk};
+ghost use Rattle.std.specs.Prelude.{◌≡◌, OnOk};
 ghost use Rattle.std.specs.List.Sorted.{IsPermutation, IsSortedByKey};
 ghost use Rattle.sdb_types.specs.Order.{key_cmp};
-ghost use Rattle.sdb_types.specs.Contents.{in_span as in_span_lem, starts_after as starts_after_lem, rise, are_rows_of};
+ghost use Rattle.sdb_types.specs.Contents.{in_span as in_span_lem, starts_after as starts_after_lem, rise};
+ghost use Rattle.sdb_codec.specs.Reading.{key_in};
+ghost use Rattle.sdb_sqlite.specs.Asked.{IsDue, IsInOrder, IsListedIn, row_record, row_keyed, rows_records};
+ghost use Rattle.sdb_sqlite.specs.Rows.{blob_of};
+ghost use Rattle.sqlite.specs.Order.{column};
 
-use crate::body::record_at;
+use crate::body::{blob_at, record_at};
 use crate::refused::Stopped;
 use sdb_codec::{ReadRefused, read_key};
 use sdb_types::{Key, NoMemory, Record, Records, Seq, Span};
@@ -24,28 +28,31 @@ fn lies_in(span: &Span, key: &Key) -> bool
     }
 }
 
-fn key_of(alloc: Global, bytes: &[u8]) -> Result<Key, Stopped> {
-    match read_key(alloc, bytes) {
-        Ok(key) => Ok(key),
-        Err(ReadRefused::BadBytes(_)) => Err(Stopped::Foreign),
-        Err(ReadRefused::NoMemory) => Err(Stopped::NoMemory),
-    }
-}
-
-fn record_of_row(alloc: Global, span: &Span, row: &Row) -> Result<Record, Stopped>
-    ensures { IfOk result (λ r. in_span_lem span.now r.key ≡ true) }
+// The record of a row with that key.
+fn record_of_key(alloc: Global, span: &Span, bytes: &[u8], row: &Row) -> Result<Record, Stopped>
+    ensures { IsDue (row_keyed span.now (key_in bytes.now) (blob_of (column row.now 1))) result }
 {
-    let key: Vec<u8> = row.get(0)?;
-    let key = key_of(alloc, &key)?;
+    let key = match read_key(alloc, bytes) {
+        Ok(key) => key,
+        Err(ReadRefused::BadBytes(_)) => return Err(Stopped::Foreign),
+        Err(ReadRefused::NoMemory) => return Err(Stopped::NoMemory),
+    };
     if !lies_in(span, &key) {
         return Err(Stopped::Foreign);
     }
-    let body: Vec<u8> = row.get(1)?;
+    let body = blob_at(row, 1)?;
     Ok(record_at(alloc, key, &body)?)
 }
 
+fn record_of_row(alloc: Global, span: &Span, row: &Row) -> Result<Record, Stopped>
+    ensures { IsDue (row_record span.now row.now) result }
+{
+    let key = blob_at(row, 0)?;
+    record_of_key(alloc, span, &key, row)
+}
+
 fn records_of_rows(alloc: Global, span: &Span, rows: &[Row]) -> Result<Records, Stopped>
-    ensures { IfOk result (λ records. All (λ r. in_span_lem span.now r.key ≡ true) records) }
+    ensures { IsDue (rows_records span.now rows.now) result }
 {
     let mut records = Seq::new(alloc);
     for row in rows {
@@ -85,14 +92,21 @@ fn rises(records: &[Record]) -> bool
     true
 }
 
-/// The records of a span that its rows stand for, in the order of their keys.
-pub fn records_of(alloc: Global, span: &Span, rows: &[Row]) -> Result<Records, Stopped>
-    ensures { IfOk result (λ records. are_rows_of span.now records ≡ true) }
+fn in_order(records: Records) -> Result<Records, Stopped>
+    ensures { IsInOrder records result }
 {
-    let mut records = records_of_rows(alloc, span, rows)?.into_vec();
+    let mut records = records.into_vec();
     put_in_order(&mut records)?;
     if !rises(&records) {
         return Err(Stopped::Tied);
     }
     Ok(Seq::from_vec(records))
+}
+
+/// The records of a span that its rows stand for, in the order of their keys.
+pub fn records_of(alloc: Global, span: &Span, rows: &[Row]) -> Result<Records, Stopped>
+    ensures { IsListedIn span.now rows.now result }
+{
+    let records = records_of_rows(alloc, span, rows)?;
+    in_order(records)
 }

@@ -1,24 +1,43 @@
 //! The statements, one a function.
+ghost use Rattle.std.specs.Prelude.{◌≡◌, [], ◌∷◌};
+ghost use Rattle.sqlite.specs.declared.types.Value.TheVariants.{Text, Blob};
+ghost use Rattle.std.specs.String.{string_bytes};
+ghost use Rattle.sdb_sqlite.specs.Asked.{Asked, Ran, rows_of};
+ghost use Rattle.sdb_sqlite.specs.Statements as text;
+
 use sqlite::{Alter, Connection, Error, Row, params};
 
 /// Makes the table, where there is none of that name.
-pub fn make_table<S: Alter>(connection: &mut Connection<S>) -> Result<usize, Error> {
+pub fn make_table<S: Alter>(connection: &mut Connection<S>) -> Result<usize, Error>
+    ensures { Ran S.Store text.make_table [] connection.old connection.new result }
+{
     connection.execute(
         "CREATE TABLE IF NOT EXISTS records(k BLOB NOT NULL PRIMARY KEY, t TEXT NOT NULL, p BLOB NOT NULL, r BLOB NOT NULL) STRICT",
         &[],
     )
 }
 
+/// Makes the table's index by table and partition, where there is none of that name.
+pub fn make_index<S: Alter>(connection: &mut Connection<S>) -> Result<usize, Error>
+    ensures { Ran S.Store text.make_index [] connection.old connection.new result }
+{
+    connection.execute(
+        "CREATE INDEX IF NOT EXISTS records_by_partition ON records(t, p)",
+        &[],
+    )
+}
+
 /// The body of the row with a key.
-pub fn body_at<S: Alter>(connection: &mut Connection<S>, key: &[u8]) -> Result<Vec<Row>, Error> {
+pub fn body_at<S: Alter>(connection: &mut Connection<S>, key: &[u8]) -> Result<Vec<Row>, Error>
+    ensures { Asked S.Store text.get_body (Blob key.now ∷ []) connection.old connection.new (rows_of result) }
+{
     connection.query_all("SELECT r FROM records WHERE k = ?1", params![key])
 }
 
 /// The keys and bodies of a table's rows.
-pub fn table_rows<S: Alter>(
-    connection: &mut Connection<S>,
-    table: &str,
-) -> Result<Vec<Row>, Error> {
+pub fn table_rows<S: Alter>(connection: &mut Connection<S>, table: &str) -> Result<Vec<Row>, Error>
+    ensures { Asked S.Store text.scan_table (Text table.now ∷ []) connection.old connection.new (rows_of result) }
+{
     connection.query_all("SELECT k, r FROM records WHERE t = ?1", params![table])
 }
 
@@ -27,7 +46,9 @@ pub fn partition_rows<S: Alter>(
     connection: &mut Connection<S>,
     table: &str,
     partition: &[u8],
-) -> Result<Vec<Row>, Error> {
+) -> Result<Vec<Row>, Error>
+    ensures { Asked S.Store text.scan_partition (Text table.now ∷ Blob partition.now ∷ []) connection.old connection.new (rows_of result) }
+{
     connection.query_all(
         "SELECT k, r FROM records WHERE t = ?1 AND p = ?2",
         params![table, partition],
@@ -41,7 +62,9 @@ pub fn add_row<S: Alter>(
     table: &str,
     partition: &[u8],
     body: &[u8],
-) -> Result<usize, Error> {
+) -> Result<usize, Error>
+    ensures { Ran S.Store text.add_row (Blob key.now ∷ Text table.now ∷ Blob partition.now ∷ Blob body.now ∷ []) connection.old connection.new result }
+{
     connection.execute(
         "INSERT INTO records (k, t, p, r) VALUES (?1, ?2, ?3, ?4)",
         params![key, table, partition, body],
@@ -53,11 +76,15 @@ pub fn change_row<S: Alter>(
     connection: &mut Connection<S>,
     key: &[u8],
     body: &[u8],
-) -> Result<usize, Error> {
+) -> Result<usize, Error>
+    ensures { Ran S.Store text.change_row (Blob key.now ∷ Blob body.now ∷ []) connection.old connection.new result }
+{
     connection.execute("UPDATE records SET r = ?2 WHERE k = ?1", params![key, body])
 }
 
 /// Takes the row with a key out.
-pub fn remove_row<S: Alter>(connection: &mut Connection<S>, key: &[u8]) -> Result<usize, Error> {
+pub fn remove_row<S: Alter>(connection: &mut Connection<S>, key: &[u8]) -> Result<usize, Error>
+    ensures { Ran S.Store text.remove_row (Blob key.now ∷ []) connection.old connection.new result }
+{
     connection.execute("DELETE FROM records WHERE k = ?1", params![key])
 }

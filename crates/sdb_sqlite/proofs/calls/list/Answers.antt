@@ -1,0 +1,5 @@
+use Rattle.sdb_sqlite.proofs.Lawful.{scan_lawful}
+use Rattle.sdb_sqlite.proofs.calls.list.Goals as goal
+
+pub returns-clause-lawful : goal.returns-clause-lawful
+returns-clause-lawful g c = scan_lawful g.S.Store c.args.span.now c.args.connection.now c.list_span.new.connection c.list_span.result c.list_span.ensures

@@ -1,0 +1,4 @@
+use Rattle.sdb_sqlite.proofs.statements.add_row.Goals as goal
+
+pub returns : goal.returns
+returns g c = record { runs = λ clean. rw (c.params-to_sql.ensures, c.params-to_sql-2.ensures, c.params-to_sql-3.ensures, c.params-to_sql-4.ensures) at (c.execute.ensures.runs clean); limit = c.execute.ensures.survives.limit }
