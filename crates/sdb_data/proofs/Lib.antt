@@ -1,0 +1,9 @@
+pub mod AllRead
+pub mod Lists
+pub mod Lenient
+pub mod Numbers
+pub mod FieldsAgain
+pub mod NamesAgain
+pub mod RowsAgain
+pub mod TextAgain
+pub mod Texts
