@@ -14,6 +14,7 @@ use sdb_types::Name;
 use sqlite::{Connection, MemStore};
 use std::alloc::Global;
 use std::env;
+use std::io::ErrorKind;
 use std::process::ExitCode;
 use std::rt::HostRuntime;
 
@@ -28,15 +29,19 @@ fn ended(rt: &HostRuntime, line: &str, code: u8) -> ExitCode {
     ExitCode::from(code)
 }
 
-// The words behind the program's name. Those that aren't text can't be known words.
-fn words(alloc: Global, rt: &HostRuntime) -> Option<Vec<String>> {
-    let mut given = env::args(rt).ok()?;
+// The words behind the program's name. Words that aren't all text are those of no command.
+fn words(alloc: Global, rt: &HostRuntime) -> Result<Vec<String>, Status> {
+    let mut given = match env::args(rt) {
+        Ok(given) => given,
+        Err(error) if error.kind() == ErrorKind::InvalidData => return Err(Status::Usage),
+        Err(_) => return Err(Status::NoMemory),
+    };
     let _program = given.next();
     let mut words = Vec::new(alloc);
     for word in given {
-        words.push(word).ok()?;
+        words.push(word).map_err(|_| Status::NoMemory)?;
     }
-    Some(words)
+    Ok(words)
 }
 
 // Records in an SQLite database in memory.
@@ -88,8 +93,9 @@ fn play(rt: HostRuntime, words: &[String], mut ids: RandomIds, kept: Kept<MemSto
 
 fn main(rt: HostRuntime) -> ExitCode {
     let alloc = rt.alloc();
-    let Some(words) = words(alloc, &rt) else {
-        return ended(&rt, "out of memory", NO_MEMORY);
+    let words = match words(alloc, &rt) {
+        Ok(words) => words,
+        Err(status) => return status_end(alloc, &rt, status),
     };
     let Some(ids) = RandomIds::new(&rt) else {
         return ended(&rt, "no seed", NO_SEED);

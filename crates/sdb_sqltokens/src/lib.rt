@@ -5,10 +5,10 @@ mod fault;
 pub mod laws;
 mod lexer;
 mod marks;
-mod printer;
 mod one_word;
+mod printer;
 
 pub use fault::LexRefused;
 pub use lexer::lex;
-pub use printer::put_tokens;
 pub use one_word::{is_sign, is_word, reads_word};
+pub use printer::put_tokens;

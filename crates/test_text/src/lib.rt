@@ -11,3 +11,5 @@ mod reports;
 mod scripts;
 #[cfg(test)]
 mod tokens;
+#[cfg(test)]
+mod words;

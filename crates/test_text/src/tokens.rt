@@ -82,5 +82,8 @@ static WORDS: [(&str, Keyword, bool); 9] = [
 #[test]
 fn texts_of_one_word_are_told_apart(rt: HostRuntime) -> Result<(), Fail> {
     let alloc = rt.alloc();
-    all_hold(WORDS.as_slice(), |case| is_word(alloc, case.0, case.1, case.2))
+    all_hold(
+        WORDS.as_slice(),
+        |case| is_word(alloc, case.0, case.1, case.2),
+    )
 }

@@ -4,6 +4,8 @@
 #[cfg(test)]
 mod codec;
 #[cfg(test)]
+mod data;
+#[cfg(test)]
 mod keyed;
 #[cfg(test)]
 mod outside;
