@@ -40,3 +40,11 @@ tail_is a b xs ys h = cc
 
 pub head_is : (a b : List ℕ) (xs ys : Words) → a ∷ xs ≡ b ∷ ys → a ≡ b
 head_is a b xs ys h = cc
+
+-- words of no command are not `replay` alone
+pub none_plays : (words : Words) → ((c : Command) → AreWordsOf c words → ⊥) → is_alone (codes "replay") words ≡ false
+none_plays words none =
+    elim (is_alone (codes "replay") words) as (λ b. is_alone (codes "replay") words ≡ b → b ≡ false) [
+      | true ↦ λ e. absurd (none command.Replay (alone_is (codes "replay") words e))
+      | false ↦ λ e. refl
+    ] refl

@@ -140,3 +140,10 @@ pub fn command_of(words: &[String]) -> Option<Command<'_>>
         Some(Command::Export(export_in(words)?))
     }
 }
+
+/// Whether these words ask for a script to be played. Takes no memory.
+pub fn replays(words: &[String]) -> bool
+    ensures { result ≡ is_alone_lem (codes "replay") (map string_bytes words.now) }
+{
+    matches!(command_of(words), Some(Command::Replay))
+}

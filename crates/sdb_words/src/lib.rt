@@ -6,5 +6,5 @@ mod names;
 mod numbers;
 mod places;
 
-pub use command::{Command, Mode, command_of};
+pub use command::{Command, Mode, command_of, replays};
 pub use names::TableWord;
