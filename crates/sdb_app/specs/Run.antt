@@ -1,6 +1,6 @@
 -- What the program promises of one of its runs.
 use Rattle.std.specs.Prelude.{◌≡◌, ◌⊎◌, ℕ, ◌≤◌, ◌<◌, Bool, true, false, List, [], ◌∷◌, length, slice_get, take, Option, Some, None, codes}
-use Rattle.std.specs.Str.{bytes_eq}
+use Rattle.sdb_words.specs.Commands.{is_alone}
 use Rattle.sdb_types.specs.declared.key.Key.{Key}
 use Rattle.sdb_types.specs.Bytes.{Takes, Appends, IsAtEnd}
 use Rattle.sdb_stores.specs.Shelf.{Shelf as Counted, HaveRisen, names_of}
@@ -26,11 +26,9 @@ use Rattle.sdb_app.specs.declared.status.Status.TheVariants as status
 use Rattle.sdb_model.specs.Report.{report_text_of}
 use Rattle.sdb_model.specs.Told.{IsRun}
 
--- the words that ask for a script to be played
+-- the words of the command that plays a script, the only one that is there so far
 abbrev pub is_replay : List (List ℕ) → Bool
-is_replay [] = false
-is_replay (word ∷ []) = bytes_eq word (codes "replay")
-is_replay (word ∷ other ∷ words) = false
+is_replay = is_alone (codes "replay")
 
 -- The input was read to its end and is the text of a script over these stores.
 pub record IsScriptRead (stores : List Name) (old_input new_input : Option (List ℕ)) (script : Script) : Type 0 where

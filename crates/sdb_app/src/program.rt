@@ -12,16 +12,8 @@ use crate::streams::{Input, ReadRefused, read_input, write_all};
 use sdb_script::{AccountForm, FormRefused, MOST_SCRIPT_BYTES, read_account_script};
 use sdb_stores::Registry;
 use sdb_types::{Clock, Ids, Names, NoMemory, Sink, SinkRefused, Source};
+use sdb_words::replays;
 use std::alloc::Global;
-
-fn is_replay(words: &[String]) -> bool
-    ensures { result ≡ is_replay_lem (map string_bytes words.now) }
-{
-    match words {
-        [word] => word.as_bytes() == b"replay".as_slice(),
-        _ => false,
-    }
-}
 
 // The bytes of the input: all, or more than are read of a script.
 fn read_bytes<R: Source>(alloc: Global, input: &mut R) -> Result<Vec<u8>, Status>
@@ -139,7 +131,7 @@ pub fn run<S: Registry, R: Source, W: Sink, C: Clock, I: Ids>(
     _ids: &mut I,
 ) -> Status
     requires { 0 < length (S.shelves stores.old) }
-    // The words are none that the program knows.
+    // The words are not those of a command that is there so far.
     ensures usage { (result ≡ Status.Usage) ↔ (is_replay_lem (map string_bytes words.now) ≡ false) }
     ensures read_fault { result ≡ Status.ReadFault → HasRisen (R.faults input.old) (R.faults input.new) }
     // The text that was read isn't built because of that line.
@@ -168,7 +160,7 @@ pub fn run<S: Registry, R: Source, W: Sink, C: Clock, I: Ids>(
     // Stores that told what they hold go on telling it.
     ensures telling { (at : ℕ) → S.tells stores.old at → S.tells stores.new at }
 {
-    if !is_replay(words) {
+    if !replays(words) {
         return Status::Usage;
     }
     replay_input(alloc, stores, input, output)
