@@ -1,5 +1,5 @@
 -- What is read of a line that was made of a client or of an insert.
-use Rattle.std.proofs.Common.{◌≡◌, ℕ, ◌^◌, Bool, true, false, ◌==◌, ◌++◌, List, [], ◌∷◌, Option, Some, None, refl, sym, ap, ◌∙◌, append_assoc, arith, ℤ, pos, negsuc}
+use Rattle.std.proofs.Common.{◌≡◌, ℕ, ◌^◌, Bool, true, false, ◌==◌, ◌++◌, List, [], ◌∷◌, Option, Some, None, refl, sym, ap, subst, ◌∙◌, append_assoc, arith, ℤ, pos, negsuc}
 use Rattle.std.specs.Prelude.{codes, int_le}
 use Rattle.std.specs.Option.{option_map, option_and_then}
 use Rattle.std.specs.Fmt.{signed_decimal}
@@ -32,7 +32,8 @@ fits_long (negsuc n) h = let k = and_first (int_le (negsuc 2147483647) (negsuc n
 pub numbers_again : (n m : ℤ) → fits_int n ≡ true → fits_int m ≡ true → numbers_in (statement_line (insert_of n m)) ≡ Some (n, m)
 unfolding numbers_in
 numbers_again n m f g =
-    rw (insert_text_is n m, number_again n (44 ∷ 32 ∷ (signed_decimal m ++ 41 ∷ [])) (fits_long n f) refl, number_again m (41 ∷ []) (fits_long m g) refl) refl
+    subst (λ (t : List ℕ). numbers_in (codes "  " ++ t) ≡ Some (n, m)) (sym (insert_text_is n m))
+    (rw (number_again n (44 ∷ 32 ∷ (signed_decimal m ++ 41 ∷ [])) (fits_long n f) refl, number_again m (41 ∷ []) (fits_long m g) refl) refl)
 
 pub some_is : {A : Type 0} (x y : A) → Some x ≡ Some y → x ≡ y
 some_is x y e = cc
