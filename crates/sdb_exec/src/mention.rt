@@ -3,7 +3,7 @@ ghost use Rattle.std.specs.Prelude.{◌≡◌, ◌++◌, IfOk, OnOk, map, unwrap
 ghost use Rattle.sdb_model.specs.Refused.{mention_of_name, mention_of_set, mention_of_test, listed as listed_lem, written as written_lem, mentions as mentions_lem};
 
 use sdb_model::{Mention, Mentions, Statement, Test};
-use sdb_types::{Duplicate, Name, NoMemory, Pair, Value};
+use sdb_types::{Duplicate, Name, NoMemory, Pair, Seq, Value};
 use std::alloc::Global;
 
 fn of_name(name: &Name) -> Result<Mention, NoMemory>

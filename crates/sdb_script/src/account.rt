@@ -38,6 +38,14 @@ fn select_pieces(alloc: Global, id: i32) -> Result<String, NoMemory>
     Ok(text)
 }
 
+// The text of the statement that selects an account.
+fn select_text(alloc: Global, id: i32) -> Result<String, NoMemory>
+    ensures { IfOk result (λ text. string_bytes text ≡ account_text_lem (AccountStatement.Select id)) }
+{
+    let text = select_pieces(alloc, id)?;
+    Ok(text)
+}
+
 // The text of a statement on accounts, in memory that can grow.
 fn account_string(alloc: Global, statement: AccountStatement) -> Result<String, NoMemory>
     ensures { IfOk result (λ text. string_bytes text ≡ account_text_lem statement) }
@@ -47,7 +55,7 @@ fn account_string(alloc: Global, statement: AccountStatement) -> Result<String, 
         AccountStatement::Insert(id, balance) => {
             insert_text(alloc, i64::from(id), i64::from(balance))
         }
-        AccountStatement::Select(id) => select_pieces(alloc, id),
+        AccountStatement::Select(id) => select_text(alloc, id),
         AccountStatement::Commit => Ok(String::from_str(alloc, "COMMIT")?),
     }
 }
