@@ -175,12 +175,15 @@ fn from_begin(alloc: Global, k: u64, said: &[Said]) -> Result<&[Said], NoMemory>
     let Some((first, rest)) = said.split_first() else {
         return Ok(said);
     };
-    if !begins(alloc, first)? {
-        from_begin(alloc, k, rest)
+    let begins = begins(alloc, first)?;
+    if !begins {
+        let since = from_begin(alloc, k, rest)?;
+        Ok(since)
     } else if k == 1 {
         Ok(said)
     } else {
-        from_begin(alloc, k - 1, rest)
+        let since = from_begin(alloc, k - 1, rest)?;
+        Ok(since)
     }
 }
 

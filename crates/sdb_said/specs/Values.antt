@@ -9,6 +9,7 @@ use Rattle.sdb_types.specs.contracts.record.RecordPartialEq.TheImpl as record_eq
 use Rattle.sdb_types.specs.contracts.record.SpanPartialEq.TheImpl as span_eq
 use Rattle.sdb_types.specs.contracts.record.RequestPartialEq.TheImpl as request_eq
 use Rattle.sdb_record.specs.declared.write.Write.{Write}
+use Rattle.sdb_model.specs.Noted as noted
 use Rattle.sdb_laws.specs.Plan as law
 use Rattle.sdb_model.specs.Noted.{same_key}
 use Rattle.sdb_laws.specs.History as part
@@ -48,9 +49,9 @@ played_of p = record { event = p.event; role = role_of p.role; ends = option_map
 abbrev pub all_played : List Played → List lawful.Played
 all_played ps = map played_of ps
 
-abbrev pub note_of : Note → law.Note
-note_of (note.Got read) = law.Got read
-note_of (note.Scanned scan) = law.Scanned scan
+abbrev pub note_of : Note → noted.Note
+note_of (note.Got read) = noted.Got read
+note_of (note.Scanned scan) = noted.Scanned scan
 
 -- the plan of a transaction among plans: the first with its id
 abbrev pub planned : List Plan → ℕ → Option Plan
