@@ -5,7 +5,7 @@ ghost use Rattle.sdb_schema.specs.Catalog.{is_catalog};
 ghost use Rattle.sdb_model.specs.Exec.{named_table};
 ghost use Rattle.sdb_exec.specs.declared.plan.PlanRefused.TheVariants.{NoMemory as OutOfMemory};
 ghost use Rattle.sdb_model.specs.Refused.{refusal_of};
-ghost use Rattle.sdb_exec.specs.Plans.{step_of};
+ghost use Rattle.sdb_exec.specs.Plans.{IsRefusedAs, step_of};
 
 use crate::access::access;
 use crate::finish::finish;

@@ -21,7 +21,7 @@ fits_64 (negsuc n) h = let k = and_first (int_le (negsuc 2147483647) (negsuc n))
 
 whole : (a : AccountStatement) → IsWhole (statement_of a)
 whole account.Begin = tt
-whole (account.Insert n m) = (tt, refl, tt, tt, tt)
+whole (account.Insert n m) = (tt, refl, (tt, (tt, tt)))
 whole (account.Select n) = (tt, (tt, tt), tt)
 whole account.Commit = tt
 
@@ -30,8 +30,8 @@ spelled account.Begin f = (tt, tt)
 spelled (account.Insert n m) f =
     let one = fits_64 n (and_first (fits_int n) (fits_int m) f) in
     let two = fits_64 m (and_second (fits_int n) (fits_int m) f) in
-    (tt, tt, (refl, refl), tt, (refl, refl), tt, (refl, refl), tt, (refl, refl), tt, tt, tt, one, tt, two, tt, tt)
-spelled (account.Select n) f = (tt, (refl, refl), tt, (refl, refl), tt, (refl, refl), tt, (refl, refl), tt, fits_64 n f, tt)
+    (tt, (tt, ((refl, refl), (tt, ((refl, refl), (tt, ((refl, refl), (tt, ((refl, refl), (tt, (tt, (tt, (one, (tt, (two, (tt, tt))))))))))))))))
+spelled (account.Select n) f = (tt, ((refl, refl), (tt, ((refl, refl), (tt, ((refl, refl), (tt, ((refl, refl), (tt, (fits_64 n f, tt))))))))))
 spelled account.Commit f = (tt, tt)
 
 pub reads_itself : (a : AccountStatement) → fits_account a ≡ true → Reads (account_text a) (statement_of a)
