@@ -3,26 +3,15 @@ ghost use Rattle.std.specs.Prelude.{◌≡◌, ◌<◌, length, map, take_while,
 ghost use Rattle.std.specs.List.{slice_get};
 ghost use Rattle.std.specs.Ordering.{is_lt};
 ghost use Rattle.sdb_types.specs.Order.{table_cmp};
-ghost use Rattle.sdb_record.specs.Coordinator.{coordinator_table as coordinator_table_lem};
 ghost use Rattle.sdb_play.specs.Opening.{run_tables as run_tables_lem, table_names as table_names_lem};
 
-use crate::values::known_name;
+use sdb_record::coordinator_table;
 use sdb_schema::{Catalog, Table};
 use sdb_types::{Duplicate, NoMemory, Seq, TableName};
 use std::alloc::Global;
 
 /// The names of tables.
 pub type TableNames = Seq<TableName>;
-
-/// The table of the coordinator's rows.
-pub fn coordinator_table(alloc: Global) -> Result<TableName, NoMemory>
-    ensures { IfOk result (λ table. table ≡ coordinator_table_lem) }
-{
-    Ok(TableName {
-        ns: known_name(alloc, "coordinator")?,
-        table: known_name(alloc, "state")?,
-    })
-}
 
 /// The i-th table of a catalog.
 pub fn table_at(catalog: &Catalog, i: usize) -> &Table
@@ -61,7 +50,7 @@ pub fn run_tables(alloc: Global, catalog: &Catalog) -> Result<TableNames, NoMemo
     ensures { IfOk result (λ names. names ≡ run_tables_lem catalog.now) }
 {
     let mut names = table_names(alloc, catalog)?;
-    let coordinator = coordinator_table(alloc)?;
+    let coordinator = coordinator_table();
     let place = count_below(names.as_slice(), &coordinator);
     names.insert(place, coordinator)?;
     Ok(names)

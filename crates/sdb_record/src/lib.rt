@@ -17,5 +17,7 @@ pub use meta::{Meta, MetaRefused, meta_of};
 pub use moved::{condition_of, has_version, is_unchanged, version_of};
 pub use part::is_user_name;
 pub use roll::{Back, committed_image, prepared, rolled_back, rolled_forward};
-pub use row::{coordinator_key, coordinator_row, decision_of, expired, id_of_row};
+pub use row::{
+    coordinator_key, coordinator_row, coordinator_table, decision_of, expired, id_of_row,
+};
 pub use write::{Change, Changes, Keyed, Write, Writes};

@@ -1,13 +1,12 @@
 //! Names of columns, and the parts of a record that they stand in.
-ghost use Rattle.std.specs.Prelude.{◌≡◌, true, IfOk};
+ghost use Rattle.std.specs.Prelude.{◌≡◌, true, IfSome};
 ghost use Rattle.std.specs.Option.{option_copied};
 ghost use Rattle.sdb_types.specs.Columns.{column};
 ghost use Rattle.sdb_types.specs.Identifier.{is_name};
 ghost use Rattle.sdb_record.specs.Names.{is_meta, is_before, is_user, base_name, same_name};
 ghost use Rattle.sdb_record.specs.Inside.{meta_name, name_from, name_within, columns_of};
 
-use sdb_types::{Columns, Name, NameRefused, NoMemory, Pair, Value};
-use std::alloc::Global;
+use sdb_types::{Columns, Pair, Value};
 
 /// A part of a record that holds metadata: its own columns, or the before image that it keeps.
 #[derive(Clone, Copy, Debug, PartialEq, Eq)]
@@ -27,30 +26,47 @@ pub enum MetaColumn {
     Tombstone,
 }
 
+const META_COLUMNS: [MetaColumn; 6] = [
+    MetaColumn::Id,
+    MetaColumn::State,
+    MetaColumn::Version,
+    MetaColumn::PreparedAt,
+    MetaColumn::CommittedAt,
+    MetaColumn::Tombstone,
+];
+
 impl MetaColumn {
     ghost use Rattle.std.specs.Prelude.{◌≡◌, true};
     ghost use Rattle.sdb_types.specs.Identifier.{is_name};
     ghost use Rattle.sdb_record.specs.Inside.{meta_name, name_from};
 
-    /// The name that a record has for the column.
+    // The name that a record has for the column.
+    pub(crate) fn word(self, part: Part) -> &'static &'static str
+        ensures text { result.now.now ≡ name_from part (meta_name self) }
+        ensures named { is_name result.now.now ≡ true }
+    {
+        match (part, self) {
+            (Part::Own, MetaColumn::Id) => &"tx_id",
+            (Part::Own, MetaColumn::State) => &"tx_state",
+            (Part::Own, MetaColumn::Version) => &"tx_version",
+            (Part::Own, MetaColumn::PreparedAt) => &"tx_prepared_at",
+            (Part::Own, MetaColumn::CommittedAt) => &"tx_committed_at",
+            (Part::Own, MetaColumn::Tombstone) => &"tx_tombstone",
+            (Part::Before, MetaColumn::Id) => &"before_tx_id",
+            (Part::Before, MetaColumn::State) => &"before_tx_state",
+            (Part::Before, MetaColumn::Version) => &"before_tx_version",
+            (Part::Before, MetaColumn::PreparedAt) => &"before_tx_prepared_at",
+            (Part::Before, MetaColumn::CommittedAt) => &"before_tx_committed_at",
+            (Part::Before, MetaColumn::Tombstone) => &"before_tx_tombstone",
+        }
+    }
+
+    /// The text of this name.
     pub fn text(self, part: Part) -> &'static str
         ensures text { result.now ≡ name_from part (meta_name self) }
         ensures named { is_name result.now ≡ true }
     {
-        match (part, self) {
-            (Part::Own, MetaColumn::Id) => "tx_id",
-            (Part::Own, MetaColumn::State) => "tx_state",
-            (Part::Own, MetaColumn::Version) => "tx_version",
-            (Part::Own, MetaColumn::PreparedAt) => "tx_prepared_at",
-            (Part::Own, MetaColumn::CommittedAt) => "tx_committed_at",
-            (Part::Own, MetaColumn::Tombstone) => "tx_tombstone",
-            (Part::Before, MetaColumn::Id) => "before_tx_id",
-            (Part::Before, MetaColumn::State) => "before_tx_state",
-            (Part::Before, MetaColumn::Version) => "before_tx_version",
-            (Part::Before, MetaColumn::PreparedAt) => "before_tx_prepared_at",
-            (Part::Before, MetaColumn::CommittedAt) => "before_tx_committed_at",
-            (Part::Before, MetaColumn::Tombstone) => "before_tx_tombstone",
-        }
+        *self.word(part)
     }
 }
 
@@ -118,16 +134,16 @@ pub fn find_text<'a>(pairs: &'a [Pair], name: &str) -> Option<&'a Value>
         .map(|pair| &pair.value)
 }
 
-/// The name with this text.
-pub fn known_name(alloc: Global, text: &str) -> Result<Name, NoMemory>
-    requires { is_name text.now ≡ true }
-    ensures { IfOk result (λ name. name ≡ text.now) }
+/// The metadata column of this name.
+pub fn meta_column(name: &str) -> Option<MetaColumn>
+    ensures { IfSome result (λ column. name.now ≡ meta_name column) }
 {
-    match Name::new(alloc, text) {
-        Ok(name) => Ok(name),
-        Err(NameRefused::NoMemory) => Err(NoMemory),
-        Err(NameRefused::BadName) => unreachable!(),
+    for column in META_COLUMNS {
+        if is_text(name, column.text(Part::Own)) {
+            return Some(column);
+        }
     }
+    None
 }
 
 /// The value of a metadata column of a part.

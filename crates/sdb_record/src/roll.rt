@@ -1,7 +1,7 @@
 //! What a write leaves unresolved, and what that is rolled to.
-ghost use Rattle.std.specs.Prelude.{◌≡◌, ◌≤◌, ◌++◌, [], ◌∷◌, map, length, true, IfOk, OnOk};
+ghost use Rattle.std.specs.Prelude.{◌≡◌, ◌≤◌, ◌++◌, [], ◌∷◌, map, length, true, IfOk, OnOk, string_bytes};
 ghost use Rattle.std.specs.Option.{option_copied};
-ghost use Rattle.sdb_types.specs.Columns.{are_columns, with_column};
+ghost use Rattle.sdb_types.specs.Columns.{are_columns};
 ghost use Rattle.sdb_types.specs.Contents.{state_number};
 ghost use Rattle.sdb_record.specs.Names.{before_name};
 ghost use Rattle.sdb_record.specs.Meta.{keep_identifiers, is_in, is_unresolved, is_taken};
@@ -10,7 +10,7 @@ ghost use Rattle.sdb_record.specs.Rolls.{prepared_record, forward_record, forwar
 ghost use Rattle.sdb_types.specs.Identifier.{is_name};
 
 use crate::coordinator::{Decided, Decision};
-use crate::part::{find_text, is_before_name, kept_name, known_name};
+use crate::part::{Part, find_text, is_before_name, kept_name, meta_column};
 use crate::write::{Change, Write};
 use sdb_types::{Columns, Duplicate, Key, Name, NoMemory, Pair, Record, State, TxId, Value};
 use std::alloc::Global;
@@ -54,6 +54,17 @@ fn lay_own(columns: &mut Columns, pairs: &[Pair]) -> Result<(), NoMemory>
     Ok(())
 }
 
+// The name of a column of the base, of which this is the text.
+fn unkept(alloc: Global, text: &str) -> Result<Name, NoMemory>
+    requires { is_name text.now ≡ true }
+    ensures { IfOk result (λ name. name ≡ text.now) }
+{
+    match meta_column(text) {
+        Some(column) => Ok(Name::known(column.word(Part::Own))),
+        None => Name::from_string(String::from_str(alloc, text)?),
+    }
+}
+
 // Sets each column of the base that is kept.
 fn lay_base(alloc: Global, columns: &mut Columns, pairs: &[Pair]) -> Result<(), NoMemory>
     requires { keep_identifiers pairs.now ≡ true }
@@ -61,7 +72,7 @@ fn lay_base(alloc: Global, columns: &mut Columns, pairs: &[Pair]) -> Result<(), 
 {
     for pair in pairs {
         if let Some(name) = kept_name(pair.name.as_str()) {
-            columns.set(known_name(alloc, name)?, pair.value.copy()?)?;
+            columns.set(unkept(alloc, name)?, pair.value.copy()?)?;
         }
     }
     Ok(())
@@ -108,14 +119,26 @@ pub fn has_state(columns: &Columns, state: State) -> bool
     }
 }
 
+// The text under which a column of the base is kept.
+fn kept_text(alloc: Global, name: &str) -> Result<String, NoMemory>
+    requires { length name.now ≤ 64 }
+    ensures { IfOk result (λ text. string_bytes text ≡ before_name name.now) }
+{
+    let mut text = String::with_capacity(alloc, name.len() + 7)?;
+    text.push_str("before_")?;
+    text.push_str(name)?;
+    Ok(text)
+}
+
 // The name under which a column of the base is kept.
 fn kept_as(alloc: Global, name: &Name) -> Result<Name, NoMemory>
     requires { length name.now ≤ 64 }
     ensures { IfOk result (λ kept. kept ≡ before_name name.now) }
 {
-    let mut text = String::from_str(alloc, "before_")?;
-    text.push_str(name.as_str())?;
-    known_name(alloc, text.as_str())
+    match meta_column(name.as_str()) {
+        Some(column) => Ok(Name::known(column.word(Part::Before))),
+        None => Name::from_string(kept_text(alloc, name.as_str())?),
+    }
 }
 
 // Sets each column of the base, as it is kept.
@@ -199,28 +222,20 @@ fn state_left(change: &Change) -> State
     }
 }
 
-fn set_known(alloc: Global, columns: &mut Columns, name: &str, value: Value) -> Result<(), NoMemory>
-    requires { is_name name.now ≡ true }
-    ensures { OnOk result (columns.new ≡ with_column (record { name = name.now; value = value }) columns.old) }
-{
-    columns.set(known_name(alloc, name)?, value)
-}
-
 // Says who wrote a record, and in which state it is.
 fn set_writer(alloc: Global, columns: &mut Columns, id: TxId, state: State) -> Result<(), NoMemory>
     ensures { OnOk result (columns.new ≡ with_columns (writer_columns id state) columns.old) }
 {
-    set_known(alloc, columns, "tx_id", Value::Text(id.text(alloc)?))?;
-    set_known(alloc, columns, "tx_state", Value::Int(state_value(state)))?;
-    Ok(())
+    let text = id.text(alloc)?;
+    columns.set(Name::known(&"tx_id"), Value::Text(text))?;
+    columns.set(Name::known(&"tx_state"), Value::Int(state_value(state)))
 }
 
-fn set_age(alloc: Global, columns: &mut Columns, version: i32, now: i64) -> Result<(), NoMemory>
+fn set_age(columns: &mut Columns, version: i32, now: i64) -> Result<(), NoMemory>
     ensures { OnOk result (columns.new ≡ with_columns (age_columns version now) columns.old) }
 {
-    set_known(alloc, columns, "tx_version", Value::Int(version))?;
-    set_known(alloc, columns, "tx_prepared_at", Value::BigInt(now))?;
-    Ok(())
+    columns.set(Name::known(&"tx_version"), Value::Int(version))?;
+    columns.set(Name::known(&"tx_prepared_at"), Value::BigInt(now))
 }
 
 /// The record that a transaction puts for a write at a moment from 0 to 2^53: the new row, each column of the base as it
@@ -234,7 +249,7 @@ pub fn prepared(alloc: Global, write: &Write, id: TxId, now: i64) -> Result<Reco
     let version = version_above(find_text(base, "tx_version"));
     let mut columns = row_with_base(alloc, row_pairs(&write.change), base)?;
     set_writer(alloc, &mut columns, id, state_left(&write.change))?;
-    set_age(alloc, &mut columns, version, now)?;
+    set_age(&mut columns, version, now)?;
     Ok(Record {
         key: write.key.copy()?,
         columns,
@@ -246,15 +261,10 @@ fn forward_part(alloc: Global, columns: &Columns, created_at: i64) -> Result<Col
     ensures { IfOk result (λ forward. forward ≡ forward_columns columns.now created_at) }
 {
     let mut forward = own_part(alloc, columns)?;
-    set_known(alloc, &mut forward, "tx_state", Value::Int(3))?;
-    set_known(
-        alloc,
-        &mut forward,
-        "tx_committed_at",
-        Value::BigInt(created_at),
-    )?;
+    forward.set(Name::known(&"tx_state"), Value::Int(3))?;
+    forward.set(Name::known(&"tx_committed_at"), Value::BigInt(created_at))?;
     if has_state(columns, State::Deleted) {
-        set_known(alloc, &mut forward, "tx_tombstone", Value::Bool(true))?;
+        forward.set(Name::known(&"tx_tombstone"), Value::Bool(true))?;
     }
     Ok(forward)
 }

@@ -2,12 +2,12 @@
 ghost use Rattle.std.specs.Prelude.{◌≡◌, Ok, IfOk, IfErr};
 ghost use Rattle.std.specs.Option.{option_copied};
 ghost use Rattle.sdb_record.specs.Refused.{Refuses};
-ghost use Rattle.sdb_record.specs.Coordinator.{coordinator_table, coordinator_key_of, coordinator_row_of, decision_number, is_coordinator_table, id_in_values, id_of_key, decision_in_value, decision_in, is_expired};
+ghost use Rattle.sdb_record.specs.Coordinator.{coordinator_table as coordinator_table_lem, coordinator_key_of, coordinator_row_of, decision_number, is_coordinator_table, id_in_values, id_of_key, decision_in_value, decision_in, is_expired};
 
 use crate::coordinator::{Decided, Decision};
 use crate::meta::{MetaRefused, moment_of, read_id, refused};
-use crate::part::{find_text, is_text, known_name};
-use sdb_types::{Columns, Key, NoMemory, Record, TableName, TxId, Value, Values};
+use crate::part::{find_text, is_text};
+use sdb_types::{Columns, Key, Name, NoMemory, Record, TableName, TxId, Value, Values};
 use std::alloc::Global;
 
 fn decision_value(decision: Decision) -> i32
@@ -19,19 +19,25 @@ fn decision_value(decision: Decision) -> i32
     }
 }
 
+/// The coordinator's table.
+pub fn coordinator_table() -> TableName
+    ensures { result ≡ coordinator_table_lem }
+{
+    TableName {
+        ns: Name::known(&"coordinator"),
+        table: Name::known(&"state"),
+    }
+}
+
 /// The key of a transaction's row.
 #[tactic(auto, unfolding(crate::specs::Coordinator::coordinator_key_of))]
 pub fn coordinator_key(alloc: Global, id: TxId) -> Result<Key, NoMemory>
     ensures { IfOk result (λ key. key ≡ coordinator_key_of id) }
 {
-    let table = TableName {
-        ns: known_name(alloc, "coordinator")?,
-        table: known_name(alloc, "state")?,
-    };
     let mut partition = Values::new(alloc);
     partition.push(Value::Text(id.text(alloc)?))?;
     Ok(Key {
-        table,
+        table: coordinator_table(),
         partition,
         clustering: Values::new(alloc),
     })
@@ -48,9 +54,9 @@ pub fn coordinator_row(
     ensures { IfOk result (λ row. row ≡ coordinator_row_of id decision now) }
 {
     let mut columns = Columns::new(alloc);
-    columns.set(known_name(alloc, "tx_created_at")?, Value::BigInt(now))?;
+    columns.set(Name::known(&"tx_created_at"), Value::BigInt(now))?;
     columns.set(
-        known_name(alloc, "tx_state")?,
+        Name::known(&"tx_state"),
         Value::Int(decision_value(decision)),
     )?;
     Ok(Record {

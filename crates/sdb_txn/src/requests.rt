@@ -30,13 +30,17 @@ fn state_left(change: &Change) -> State
     }
 }
 
-fn prepare(alloc: Global, write: &Write, id: TxId, now: i64) -> Result<Request, NoMemory>
+// The call that prepares a write, and the one that rolls it forward.
+fn puts_of(alloc: Global, write: &Write, id: TxId, now: i64) -> Result<(Request, Request), NoMemory>
     requires { IsWrite write.now }
-    ensures { IfOk result (λ request. request ≡ prepare_of id now write.now) }
+    ensures prepare { IfOk result (λ puts. puts.0 ≡ prepare_of id now write.now) }
+    ensures forward { IfOk result (λ puts. puts.1 ≡ forward_of id now write.now) }
 {
-    Ok(Request::PutIf(
-        prepared(alloc, write, id, now)?,
-        condition_of(version_of(&write.base)),
+    let rec = prepared(alloc, write, id, now)?;
+    let forward = rolled_forward(alloc, &rec, now)?;
+    Ok((
+        Request::PutIf(rec, condition_of(version_of(&write.base))),
+        Request::PutIf(forward, Condition::Version(id, state_left(&write.change))),
     ))
 }
 
@@ -46,17 +50,6 @@ fn decide(alloc: Global, id: TxId, now: i64) -> Result<Request, NoMemory>
     Ok(Request::PutIf(
         coordinator_row(alloc, id, Decision::Committed, now)?,
         Condition::Absent,
-    ))
-}
-
-fn forward(alloc: Global, write: &Write, id: TxId, now: i64) -> Result<Request, NoMemory>
-    requires { IsWrite write.now }
-    ensures { IfOk result (λ request. request ≡ forward_of id now write.now) }
-{
-    let rec = prepared(alloc, write, id, now)?;
-    Ok(Request::PutIf(
-        rolled_forward(alloc, &rec, now)?,
-        Condition::Version(id, state_left(&write.change)),
     ))
 }
 
@@ -82,36 +75,23 @@ fn note_at(notes: &Notes, i: usize) -> &Key
     }
 }
 
-fn put_prepares(
-    asks: &mut Requests,
+// The calls that prepare the writes, and those that roll them forward, each in order. One record is made for both.
+fn put_writes(
+    prepares: &mut Requests,
+    forwards: &mut Requests,
     alloc: Global,
     drafts: &Drafts,
     id: TxId,
     now: i64,
 ) -> Result<(), NoMemory>
     requires { AreWrites (writes_in drafts.now) }
-    ensures { OnOk result (asks.new ≡ asks.old ++ map (prepare_of id now) (writes_in drafts.now)) }
+    ensures prepares { OnOk result (prepares.new ≡ prepares.old ++ map (prepare_of id now) (writes_in drafts.now)) }
+    ensures forwards { OnOk result (forwards.new ≡ forwards.old ++ map (forward_of id now) (writes_in drafts.now)) }
 {
     for i in 0..drafts.len() {
-        let request = prepare(alloc, draft_at(drafts, i), id, now)?;
-        asks.push(request)?;
-    }
-    Ok(())
-}
-
-fn put_forwards(
-    asks: &mut Requests,
-    alloc: Global,
-    drafts: &Drafts,
-    id: TxId,
-    now: i64,
-) -> Result<(), NoMemory>
-    requires { AreWrites (writes_in drafts.now) }
-    ensures { OnOk result (asks.new ≡ asks.old ++ map (forward_of id now) (writes_in drafts.now)) }
-{
-    for i in 0..drafts.len() {
-        let request = forward(alloc, draft_at(drafts, i), id, now)?;
-        asks.push(request)?;
+        let (prepare, forward) = puts_of(alloc, draft_at(drafts, i), id, now)?;
+        prepares.push(prepare)?;
+        forwards.push(forward)?;
     }
     Ok(())
 }
@@ -152,9 +132,10 @@ pub fn commit_asks(
     ensures { IfOk result (λ asks. asks ≡ commit_requests id now notes.now (writes_in drafts.now)) }
 {
     let mut asks = Requests::new(alloc);
-    put_prepares(&mut asks, alloc, drafts, id, now)?;
+    let mut forwards = Requests::new(alloc);
+    put_writes(&mut asks, &mut forwards, alloc, drafts, id, now)?;
     put_reads(&mut asks, notes, drafts)?;
     asks.push(decide(alloc, id, now)?)?;
-    put_forwards(&mut asks, alloc, drafts, id, now)?;
+    asks.append(forwards)?;
     Ok(asks)
 }

@@ -1,6 +1,7 @@
 -- A column set at its place, and columns stay columns.
-use Rattle.std.proofs.Common.{◌≡◌, ℕ, suc, ◌+◌, ◌≤◌, List, [], ◌∷◌, true, false, not, refl, ap, ◌∙◌, subst, arith, length, drop}
-use Rattle.std.specs.Prelude.{insert, remove, slice_set, take_while, if◌then◌else◌}
+use Rattle.std.proofs.Common.{◌≡◌, ℕ, zero, suc, ◌<◌, ◌≤◌, List, [], ◌∷◌, true, false, not, refl, ap, ◌∙◌, subst, arith, length, drop, get_or}
+use Rattle.std.specs.Prelude.{insert, remove, slice_set, if◌then◌else◌}
+use Rattle.std.specs.List.Sorted.{IsPartitionPoint}
 use Rattle.std.specs.declared.cmp.Ordering.{Ordering}
 use Rattle.std.specs.declared.cmp.Ordering.TheVariants.{Less, Equal, Greater}
 use Rattle.std.specs.Ordering.{is_lt, ordering_reverse}
@@ -16,17 +17,6 @@ pub by_order : {G : Type 0} (r : Ordering) → (r ≡ Less → G) → (r ≡ Equ
 by_order Less f g h = f refl
 by_order Equal f g h = g refl
 by_order Greater f g h = h refl
-
-one_more : (n : ℕ) → 1 + n ≡ suc n
-one_more n = omega arith
-
-pub place-take_while : (name : List ℕ) (es : List Pair) → length (take_while (is_below name) es) ≡ place_in name es
-place-take_while name [] = refl
-place-take_while name (e ∷ es) =
-    by_order (name_cmp e.name name)
-    (λ q. simp (q, one_more) (ap suc (place-take_while name es)))
-    (λ q. simp q refl)
-    (λ q. simp q refl)
 
 pub put_before : (p : Pair) (es : List Pair) → stands_first p.name (drop (place_in p.name es) es) ≡ false → insert es (place_in p.name es) p ≡ put_pair p es
 put_before p [] h = refl
@@ -123,11 +113,42 @@ place_within name (e ∷ es) =
     (λ q. simp q (omega arith))
     (λ q. simp q (omega arith))
 
--- the same at a place that a count has given
-module _ (p : Pair) (es : List Pair) (n : ℕ) (counted : n ≡ length (take_while (is_below p.name) es)) where
-  abbrev at : n ≡ place_in p.name es
-  at = counted ∙ place-take_while p.name es
+---- where a search among columns ends
 
+-- what stands behind columns that are above a name is above it
+all_above : (name : List ℕ) (es : List Pair) (j : ℕ) (d : Pair) → are_columns es ≡ true → starts_above name es ≡ true → j < length es → name_cmp name (get_or es j d).name ≡ Less
+all_above name [] j d c k l = absurd (omega (arith, l))
+all_above name (e ∷ es) zero d c k l = less_of _ k
+all_above name (e ∷ es) (suc j) d c k l =
+    let rest = and_second _ _ c in
+    name_total.trans name e.name (get_or es j d).name (less_of _ k) (all_above e.name es j d (and_second _ _ rest) (and_first _ _ rest) (omega (arith, l)))
+
+-- before a column that is below a name, each is
+pub columns_parted : (name : List ℕ) (es : List Pair) → are_columns es ≡ true → (i j : ℕ) (d : Pair) → i ≤ j → j < length es → is_below name (get_or es j d) ≡ true → is_below name (get_or es i d) ≡ true
+columns_parted name [] c i j d h l b = absurd (omega (arith, l))
+columns_parted name (e ∷ es) c zero zero d h l b = b
+columns_parted name (e ∷ es) c zero (suc j) d h l b =
+    let rest = and_second _ _ c in
+    ap is_lt (name_total.trans e.name (get_or es j d).name name (all_above e.name es j d (and_second _ _ rest) (and_first _ _ rest) (omega (arith, l))) (less_of _ b))
+columns_parted name (e ∷ es) c (suc i) zero d h l b = absurd (omega (arith, h))
+columns_parted name (e ∷ es) c (suc i) (suc j) d h l b =
+    columns_parted name es (and_second _ _ (and_second _ _ c)) i j d (omega (arith, h)) (omega (arith, l)) b
+
+pub parted-place : (name : List ℕ) (es : List Pair) (n : ℕ) → n ≤ length es → IsPartitionPoint (λ e. is_below name e ≡ true) (λ e. is_below name e ≡ false) es n → n ≡ place_in name es
+parted-place name [] n h parted = omega (arith, h)
+parted-place name (e ∷ es) zero h parted =
+    let first : is_below name e ≡ false = parted.1 0 e (omega arith) (omega arith) in
+    by_order (name_cmp e.name name)
+    (λ q. let t = simp q at first in cc)
+    (λ q. simp q refl)
+    (λ q. simp q refl)
+parted-place name (e ∷ es) (suc n) h parted =
+    let q : name_cmp e.name name ≡ Less = less_of _ (parted.0 0 e (omega arith) (omega arith)) in
+    let rest : IsPartitionPoint (λ e. is_below name e ≡ true) (λ e. is_below name e ≡ false) es n = (λ k d l u. parted.0 (suc k) d (omega arith) (omega (arith, u)), λ k d l u. parted.1 (suc k) d (omega (arith, l)) (omega (arith, u))) in
+    simp q (ap suc (parted-place name es n (omega (arith, h)) rest))
+
+-- the same at a place that a search has given
+module _ (p : Pair) (es : List Pair) (n : ℕ) (at : n ≡ place_in p.name es) where
   pub with_column-over : stands_first p.name (drop n es) ≡ true → is_null p.value ≡ false → slice_set es n p ≡ with_column p es
   with_column-over h k = let t = rw at at h in rw (at, k) (put_over p es t)
 

@@ -1,21 +1,12 @@
 -- What is known of every value of a type: the ranges of its numbers, and that names, texts and columns are such.
-use Rattle.std.specs.Prelude.{◌≡◌, true, ℕ, ◌<◌, ◌^◌, All, List, IfSome, FitsSigned}
+use Rattle.std.specs.Prelude.{◌≡◌, true, ℕ, ◌<◌, All, List, FitsSigned}
 use Rattle.std.specs.Int.{w32, w64}
 use Rattle.std.specs.Str.{IsUtf8}
 use Rattle.sdb_types.specs.Identifier.{is_name}
 use Rattle.sdb_types.specs.Columns.{are_columns}
 use Rattle.sdb_types.specs.declared.pair.Pair.{Pair}
-use Rattle.sdb_types.specs.declared.key.TableName.{TableName}
 use Rattle.sdb_types.specs.declared.key.Key.{Key}
-use Rattle.sdb_types.specs.declared.txid.TxId.{TxId}
 use Rattle.sdb_types.specs.declared.record.Record.{Record}
-use Rattle.sdb_types.specs.declared.record.Span.{Span}
-use Rattle.sdb_types.specs.declared.record.Condition.{Condition}
-use Rattle.sdb_types.specs.declared.record.Condition.TheVariants.{Absent, Version}
-use Rattle.sdb_types.specs.declared.record.Request.{Request}
-use Rattle.sdb_types.specs.declared.record.Request.TheVariants as ask
-use Rattle.sdb_types.specs.declared.record.Reply.{Reply}
-use Rattle.sdb_types.specs.declared.record.Reply.TheVariants as reply
 use Rattle.sdb_types.specs.declared.value.Value.{Value}
 use Rattle.sdb_types.specs.declared.value.Value.TheVariants as value
 
@@ -37,9 +28,6 @@ value_fits (value.Blob bytes) = AreBytes bytes
 abbrev pub pair_fits : Pair → Type 0
 pair_fits p = (is_name p.name ≡ true) × value_fits p.value
 
-abbrev pub table_fits : TableName → Type 0
-table_fits t = (is_name t.ns ≡ true) × (is_name t.table ≡ true)
-
 pub record key_fits (k : Key) : Type 0 where
   pub ns : is_name k.table.ns ≡ true
   pub table : is_name k.table.table ≡ true
@@ -53,28 +41,3 @@ pub record columns_fit (columns : List Pair) : Type 0 where
 pub record record_fits (r : Record) : Type 0 where
   pub key : key_fits r.key
   pub columns : columns_fit r.columns
-
-pub record span_fits (s : Span) : Type 0 where
-  pub table : table_fits s.table
-  pub partition : IfSome s.partition (All value_fits)
-
-abbrev pub id_fits : TxId → Type 0
-id_fits id = id.0 < 2 ^ 128
-
-abbrev pub condition_fits : Condition → Type 0
-condition_fits Absent = Unit {0}
-condition_fits (Version id state) = id_fits id
-
-abbrev pub request_fits : Request → Type 0
-request_fits (ask.Get key) = key_fits key
-request_fits (ask.Scan span) = span_fits span
-request_fits (ask.PutIf r condition) = record_fits r × condition_fits condition
-request_fits (ask.DeleteIf key condition) = key_fits key × condition_fits condition
-
-abbrev pub reply_fits : Reply → Type 0
-reply_fits (reply.Found found) = IfSome found record_fits
-reply_fits (reply.Rows rows) = All record_fits rows
-reply_fits reply.Applied = Unit {0}
-reply_fits (reply.NotMet found) = IfSome found record_fits
-reply_fits reply.Fault = Unit {0}
-reply_fits reply.NoMemory = Unit {0}

@@ -1,4 +1,5 @@
 pub mod Identifier
+pub mod NameText
 pub mod Order
 pub mod Columns
 pub mod ValueLaws

@@ -1,8 +1,8 @@
 //! The columns of a record.
-ghost use Rattle.std.specs.Prelude.{◌≡◌, [], length, true, IfOk, OnOk, OnErr, drop, take_while};
+ghost use Rattle.std.specs.Prelude.{◌≡◌, [], length, true, IfOk, OnOk, OnErr, drop};
 ghost use Rattle.std.specs.Option.{option_copied};
 ghost use Rattle.std.specs.Slice.{IsItemAt};
-ghost use Rattle.sdb_types.specs.Columns.{are_columns, column, with_column, is_below, is_null, stands_first};
+ghost use Rattle.sdb_types.specs.Columns.{are_columns, column, with_column, place_in, is_null, stands_first};
 
 use crate::memory::{Duplicate, NoMemory};
 use crate::name::Name;
@@ -48,12 +48,10 @@ fn is_null_value(value: &Value) -> bool
 
 // Where the name stands, or would stand.
 fn place_of(pairs: &[Pair], name: &Name) -> usize
-    ensures { result ≡ length (take_while (is_below name.now) pairs.now) }
+    requires { are_columns pairs.now ≡ true }
+    ensures { result ≡ place_in name.now pairs.now }
 {
-    pairs
-        .iter()
-        .take_while(|pair| pair.name.cmp(name).is_lt())
-        .count()
+    pairs.partition_point(|pair| pair.name.cmp(name).is_lt())
 }
 
 fn is_at(pairs: &[Pair], place: usize, name: &Name) -> bool
@@ -75,6 +73,7 @@ fn find_value<'a>(pairs: &'a [Pair], name: &Name) -> Option<&'a Value>
 }
 
 fn put(pairs: &mut SharedSeq<Pair>, pair: Pair) -> Result<(), NoMemory>
+    requires { are_columns pairs.old ≡ true }
     ensures ok { OnOk result (pairs.new ≡ with_column pair pairs.old) }
     ensures err { OnErr result (pairs.new ≡ pairs.old) }
 {

@@ -1,5 +1,5 @@
 //! Names: identifiers of 1 to 71 bytes.
-ghost use Rattle.std.specs.Prelude.{◌≡◌, ◌↔◌, length, true, false, refl, ◌==◌, OnOk, IfOk, Some, IsErrOf};
+ghost use Rattle.std.specs.Prelude.{◌≡◌, ◌↔◌, length, true, false, refl, ◌==◌, OnOk, IfOk, Some, IsErrOf, string_bytes};
 ghost use Rattle.std.specs.List.{list_all};
 ghost use lib.Pointwise.{pointwise};
 ghost use Rattle.std.specs.Cmp as Cmp;
@@ -39,22 +39,37 @@ impl From<AllocError> for NameRefused {
     }
 }
 
-/// A name, seen as its bytes.
-#[derive(Debug, Drop)]
+/// A name, seen as its bytes. A copy takes no memory for them.
+#[derive(Debug)]
 pub struct Name {
-    text: RcStr,
+    text: Text,
+}
+
+// One that stands in the program, or one that was read and that all copies share. Either is a pointer: names stand in each
+// record and each event, so their size counts.
+#[derive(Debug, Drop)]
+enum Text {
+    Known(&'static &'static str),
+    Shared(RcStr),
 }
 
 impl Model for Name {
     ghost use Rattle.std.specs.Prelude.{List, ℕ, ◌≡◌, true};
-    ghost use Rattle.std.specs.Rc.{rc_str_bytes};
     ghost use Rattle.sdb_types.specs.Identifier.{is_name};
+    ghost use Rattle.sdb_types.specs.NameText.{text_bytes};
 
     ghost Value = { List ℕ };
 
-    ghost view = { λ t. rc_str_bytes t.text };
+    ghost view = { λ n. text_bytes n.text };
 
-    ghost invariant = { λ t. is_name (rc_str_bytes t.text) ≡ true };
+    ghost invariant = { λ n. is_name (text_bytes n.text) ≡ true };
+}
+
+// By hand: each drop is then one call, where a derived one stands at each place with one for each form of the text.
+impl Drop for Name {
+    fn drop(self) {
+        let Name { text: _ } = self;
+    }
 }
 
 fn starts(b: u8) -> bool
@@ -85,7 +100,23 @@ pub fn is_identifier_text(bytes: &[u8]) -> bool
     }
 }
 
+fn text_at(text: &'static &'static str) -> &'static str
+    ensures { result.now ≡ text.now.now }
+{
+    *text
+}
+
 impl Name {
+    /// The name that a text of the program is. Takes no memory.
+    pub fn known(text: &'static &'static str) -> Name
+        requires { is_name text.now.now ≡ true }
+        ensures { result ≡ text.now.now }
+    {
+        Name {
+            text: Text::Known(text),
+        }
+    }
+
     pub fn new(alloc: Global, text: &str) -> Result<Name, NameRefused>
         ensures ok { IfOk result (λ n. n ≡ text.now) }
         ensures named { OnOk result (is_name text.now ≡ true) }
@@ -95,7 +126,17 @@ impl Name {
             return Err(NameRefused::BadName);
         }
         Ok(Name {
-            text: RcStr::from_str(alloc, text)?,
+            text: Text::Shared(RcStr::from_str(alloc, text)?),
+        })
+    }
+
+    /// The name that a text is, which it keeps.
+    pub fn from_string(text: String) -> Result<Name, NoMemory>
+        requires { is_name (string_bytes text) ≡ true }
+        ensures { IfOk result (λ n. n ≡ string_bytes text) }
+    {
+        Ok(Name {
+            text: Text::Shared(RcStr::from_string(text)?),
         })
     }
 
@@ -103,15 +144,23 @@ impl Name {
         ensures text { result.now ≡ self.now }
         ensures named { is_name self.now ≡ true }
     {
-        self.text.as_str()
+        match &self.text {
+            Text::Known(text) => text_at(*text),
+            Text::Shared(text) => text.as_str(),
+        }
     }
 }
 
 impl Duplicate for Name {
     fn copy(&self) -> Result<Name, NoMemory> {
-        Ok(Name {
-            text: self.text.clone()?,
-        })
+        match &self.text {
+            Text::Known(text) => Ok(Name {
+                text: Text::Known(*text),
+            }),
+            Text::Shared(text) => Ok(Name {
+                text: Text::Shared(text.clone()?),
+            }),
+        }
     }
 }
 

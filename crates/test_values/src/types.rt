@@ -62,10 +62,17 @@ fn is_name(alloc: Global, text: &str, wanted: bool) -> Result<bool, Fail> {
     }
 }
 
+fn is_known(alloc: Global) -> Result<bool, Fail> {
+    let known = Name::known(&"balance");
+    let read = Name::from_string(String::from_str(alloc, "balance")?)?;
+    Ok(known == read && known.copy()? == read.copy()?)
+}
+
 #[test]
 fn names_are_identifiers_of_1_to_71_bytes(rt: HostRuntime) -> Result<(), Fail> {
     let alloc = rt.alloc();
     hold(Ok(LONGEST.len() == 71))?;
+    hold(is_known(alloc))?;
     all_hold(NAMES.as_slice(), |case| is_name(alloc, case.0, case.1))
 }
 

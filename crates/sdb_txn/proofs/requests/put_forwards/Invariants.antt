@@ -1,8 +1,0 @@
-use Rattle.std.proofs.Common.{◌≡◌, ◌++◌, take}
-use Rattle.std.specs.Prelude.{map}
-use Rattle.sdb_txn.specs.Commit.{forward_of}
-use Rattle.sdb_txn.specs.Held.{writes_in}
-use Rattle.sdb_txn.proofs.requests.put_forwards.Given as goal
-
-abbrev pub invariant-loop-i : goal.invariant-loop-i
-invariant-loop-i l = l.asks ≡ l.initial.asks ++ map (forward_of l.id l.now) (take l.i (writes_in l.drafts))
