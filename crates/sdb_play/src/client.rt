@@ -19,7 +19,7 @@ use crate::call::{call, key_of};
 use crate::digest::digest;
 use crate::refused::PlayRefused;
 use crate::story::Story;
-use crate::values::key_read;
+use crate::values::Accounts;
 use sdb_model::{Answer, Point, Points, Texts};
 use sdb_record::Images;
 use sdb_script::{AccountStatement, AccountStatements};
@@ -159,6 +159,7 @@ fn read<R: Registry>(
 // Takes a statement whose key is known, which is answered at once.
 fn answer_at_once(
     alloc: Global,
+    accounts: &Accounts,
     log: &mut Log,
     txn: &mut Txn,
     text: &Txt,
@@ -174,13 +175,14 @@ fn answer_at_once(
     ensures order { OnOk result (log.new.order ≡ log.old.order) }
     ensures txn { OnOk result (txn.new ≡ changed_by statement (row_seen txn.old (key_read_lem statement)) txn.old) }
 {
-    let answer = digest(alloc, txn, key, statement, images)?;
+    let answer = digest(alloc, accounts, txn, key, statement, images)?;
     log.story.take(text, Some(answer))
 }
 
 // Takes a statement whose key has to be read.
 fn answer_by_call<R: Registry>(
     alloc: Global,
+    accounts: &Accounts,
     log: &mut Log,
     stores: &mut R,
     txn: &mut Txn,
@@ -201,7 +203,7 @@ fn answer_by_call<R: Registry>(
 {
     log.story.take(text, None)?;
     let found = read(alloc, txn, stores, key)?;
-    let answer = digest(alloc, txn, key, statement, &found.images)?;
+    let answer = digest(alloc, accounts, txn, key, statement, &found.images)?;
     log.story.call(found.request, found.reply, Some(answer))?;
     Ok(())
 }
@@ -209,6 +211,7 @@ fn answer_by_call<R: Registry>(
 // Takes an INSERT or a SELECT.
 fn look<R: Registry>(
     alloc: Global,
+    accounts: &Accounts,
     log: &mut Log,
     stores: &mut R,
     txn: &mut Txn,
@@ -224,15 +227,15 @@ fn look<R: Registry>(
     ensures goes { GoOn (R.places stores.old) (R.places stores.new) (R.shelves stores.old) (R.shelves stores.new) (R.tells stores.old) (R.tells stores.new) }
     ensures err { IfErr result (Refuses ((catalog : List Table) (opening : List Shelf) (held : Contents) → is_built catalog statement ≡ true → AreFit catalog (R.places stores.old) (R.shelves stores.old) (R.tells stores.old) → IsOn catalog (placed (R.places stores.old)) opening (shown_lem (R.shelves stores.old)) log.old.story held → IfSome (record_at held (key_read_lem statement)) (IsBaseOf (key_read_lem statement)) → ⊥) (R.shelves stores.old) (R.shelves stores.new)) }
 {
-    let place = key_read(alloc, statement)?;
+    let place = accounts.key_read(alloc, statement)?;
     let key = place.copy()?;
     match txn.get(alloc, key) {
         Progress::Rows(images) => {
-            answer_at_once(alloc, log, txn, text, statement, &place, &images)?;
+            answer_at_once(alloc, accounts, log, txn, text, statement, &place, &images)?;
             Ok(())
         }
         Progress::More => answer_by_call(
-            alloc, log, stores, txn, text, statement, &place,
+            alloc, accounts, log, stores, txn, text, statement, &place,
         ),
         Progress::Committed => unreachable!(),
         Progress::NoMemory => Err(PlayRefused::NoMemory),
@@ -303,6 +306,7 @@ fn begin(alloc: Global, log: &mut Log, text: &Txt) -> Result<Txn, NoMemory>
 // Takes a statement.
 fn take<R: Registry>(
     alloc: Global,
+    accounts: &Accounts,
     log: &mut Log,
     stores: &mut R,
     current: Option<Txn>,
@@ -327,11 +331,11 @@ fn take<R: Registry>(
             Ok(None)
         }
         (Some(mut txn), AccountStatement::Insert(_, _)) => {
-            look(alloc, log, stores, &mut txn, text, statement)?;
+            look(alloc, accounts, log, stores, &mut txn, text, statement)?;
             Ok(Some(txn))
         }
         (Some(mut txn), AccountStatement::Select(_)) => {
-            look(alloc, log, stores, &mut txn, text, statement)?;
+            look(alloc, accounts, log, stores, &mut txn, text, statement)?;
             Ok(Some(txn))
         }
         _ => unreachable!(),
@@ -360,14 +364,14 @@ fn statement_at(statements: &AccountStatements, i: usize) -> AccountStatement
     }
 }
 
-fn nothing_done(alloc: Global) -> Log
-    ensures story { result.story ≡ [] }
-    ensures order { result.order ≡ [] }
+fn nothing_done(alloc: Global) -> Result<Log, NoMemory>
+    ensures story { IfOk result (λ log. log.story ≡ []) }
+    ensures order { IfOk result (λ log. log.order ≡ []) }
 {
-    Log {
-        story: Story::new(alloc),
+    Ok(Log {
+        story: Story::new(alloc)?,
         order: Points::new(alloc),
-    }
+    })
 }
 
 /// Plays the statements of one client on stores. What is said of a run is so over each catalog over which the statements can be
@@ -388,12 +392,13 @@ pub fn play<R: Registry>(
     ensures goes { GoOn (R.places stores.old) (R.places stores.new) (R.shelves stores.old) (R.shelves stores.new) (R.tells stores.old) (R.tells stores.new) }
     ensures err { IfErr result (Refuses ((catalog : List Table) → list_all (is_built catalog) statements.now ≡ true → AreFit catalog (R.places stores.old) (R.shelves stores.old) (R.tells stores.old) → HoldAs catalog (placed (R.places stores.old)) (shown_lem (R.shelves stores.old)) finite.empty → ⊥) (R.shelves stores.old) (R.shelves stores.new)) }
 {
-    let mut log = nothing_done(alloc);
+    let accounts = Accounts::new(alloc)?;
+    let mut log = nothing_done(alloc)?;
     let mut current = None;
     for i in 0..statements.len() {
         let text = text_at(texts, i);
         let statement = statement_at(statements, i);
-        current = take(alloc, &mut log, stores, current, text, statement)?;
+        current = take(alloc, &accounts, &mut log, stores, current, text, statement)?;
     }
     Ok(log)
 }

@@ -3,7 +3,7 @@ ghost use Rattle.std.specs.Prelude.{◌≡◌, IfOk, OnOk};
 ghost use Rattle.sdb_txn.specs.Txn.{images_with, row_seen};
 ghost use Rattle.sdb_session.specs.Session.{ArePuts, account_key as account_key_lem, answer_to, changed_by, key_read as key_read_lem};
 
-use crate::values::{balance_change, shown};
+use crate::values::{Accounts, shown};
 use sdb_model::Answer;
 use sdb_record::Images;
 use sdb_script::AccountStatement;
@@ -14,6 +14,7 @@ use std::alloc::Global;
 // Inserts an account, where no row is seen at its key.
 fn insert(
     alloc: Global,
+    accounts: &Accounts,
     txn: &mut Txn,
     key: &Key,
     id: i32,
@@ -28,7 +29,7 @@ fn insert(
     ensures txn { OnOk result (txn.new ≡ changed_by (AccountStatement.Insert id balance) (row_seen txn.old (account_key_lem id)) txn.old) }
 {
     if images.is_empty() {
-        let change = balance_change(alloc, key, balance)?;
+        let change = accounts.change(alloc, key, balance)?;
         txn.write(change)?;
         Ok(Answer::Count(1))
     } else {
@@ -39,6 +40,7 @@ fn insert(
 // Takes the row that a statement sees: its answer, and what it leaves of the transaction.
 pub fn digest(
     alloc: Global,
+    accounts: &Accounts,
     txn: &mut Txn,
     key: &Key,
     statement: AccountStatement,
@@ -52,8 +54,10 @@ pub fn digest(
     ensures txn { OnOk result (txn.new ≡ changed_by statement (row_seen txn.old (key_read_lem statement)) txn.old) }
 {
     match statement {
-        AccountStatement::Insert(id, balance) => insert(alloc, txn, key, id, balance, images),
-        AccountStatement::Select(_) => Ok(Answer::Rows(shown(alloc, images)?)),
+        AccountStatement::Insert(id, balance) => insert(
+            alloc, accounts, txn, key, id, balance, images,
+        ),
+        AccountStatement::Select(_) => Ok(Answer::Rows(shown(alloc, accounts, images)?)),
         AccountStatement::Begin | AccountStatement::Commit => Ok(Answer::Done),
     }
 }

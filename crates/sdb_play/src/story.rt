@@ -1,7 +1,8 @@
 //! What the one client of a run did: the statements that it took, and the calls that it made.
-ghost use Rattle.std.specs.Prelude.{◌≡◌, ◌++◌, ◌∷◌, [], length, OnOk};
+ghost use Rattle.std.specs.Prelude.{◌≡◌, ◌++◌, ◌∷◌, [], length, OnOk, IfOk};
 ghost use Rattle.sdb_session.specs.Session.{call_event, take_event};
 
+use crate::values::known_name;
 use sdb_model::{Answer, Event, How};
 use sdb_types::{Duplicate, Name, NoMemory, Reply, Request, Txt};
 use std::alloc::Global;
@@ -38,13 +39,13 @@ impl Drop for Story {
 
 impl Story {
     /// Nothing was done yet.
-    pub fn new(alloc: Global) -> Story
-        ensures { result ≡ [] }
+    pub fn new(alloc: Global) -> Result<Story, NoMemory>
+        ensures { IfOk result (λ story. story ≡ []) }
     {
-        Story {
-            store: Name::known(&"ordered"),
+        Ok(Story {
+            store: known_name(alloc, "ordered")?,
             events: Vec::new(alloc),
-        }
+        })
     }
 
     /// The number of events.

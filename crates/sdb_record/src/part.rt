@@ -6,7 +6,7 @@ ghost use Rattle.sdb_types.specs.Identifier.{is_name};
 ghost use Rattle.sdb_record.specs.Names.{is_meta, is_before, is_user, base_name, same_name};
 ghost use Rattle.sdb_record.specs.Inside.{meta_name, name_from, name_within, columns_of};
 
-use sdb_types::{Columns, Pair, Value};
+use sdb_types::{Columns, Known, Pair, Value};
 
 /// A part of a record that holds metadata: its own columns, or the before image that it keeps.
 #[derive(Clone, Copy, Debug, PartialEq, Eq)]
@@ -37,27 +37,27 @@ const META_COLUMNS: [MetaColumn; 6] = [
 
 impl MetaColumn {
     ghost use Rattle.std.specs.Prelude.{◌≡◌, true};
+    ghost use Rattle.sdb_types.specs.NameText.{known_text};
     ghost use Rattle.sdb_types.specs.Identifier.{is_name};
     ghost use Rattle.sdb_record.specs.Inside.{meta_name, name_from};
 
     // The name that a record has for the column.
-    pub(crate) fn word(self, part: Part) -> &'static &'static str
-        ensures text { result.now.now ≡ name_from part (meta_name self) }
-        ensures named { is_name result.now.now ≡ true }
+    pub(crate) fn word(self, part: Part) -> Known
+        ensures { known_text result ≡ name_from part (meta_name self) }
     {
         match (part, self) {
-            (Part::Own, MetaColumn::Id) => &"tx_id",
-            (Part::Own, MetaColumn::State) => &"tx_state",
-            (Part::Own, MetaColumn::Version) => &"tx_version",
-            (Part::Own, MetaColumn::PreparedAt) => &"tx_prepared_at",
-            (Part::Own, MetaColumn::CommittedAt) => &"tx_committed_at",
-            (Part::Own, MetaColumn::Tombstone) => &"tx_tombstone",
-            (Part::Before, MetaColumn::Id) => &"before_tx_id",
-            (Part::Before, MetaColumn::State) => &"before_tx_state",
-            (Part::Before, MetaColumn::Version) => &"before_tx_version",
-            (Part::Before, MetaColumn::PreparedAt) => &"before_tx_prepared_at",
-            (Part::Before, MetaColumn::CommittedAt) => &"before_tx_committed_at",
-            (Part::Before, MetaColumn::Tombstone) => &"before_tx_tombstone",
+            (Part::Own, MetaColumn::Id) => Known::TxId,
+            (Part::Own, MetaColumn::State) => Known::TxState,
+            (Part::Own, MetaColumn::Version) => Known::TxVersion,
+            (Part::Own, MetaColumn::PreparedAt) => Known::TxPreparedAt,
+            (Part::Own, MetaColumn::CommittedAt) => Known::TxCommittedAt,
+            (Part::Own, MetaColumn::Tombstone) => Known::TxTombstone,
+            (Part::Before, MetaColumn::Id) => Known::BeforeTxId,
+            (Part::Before, MetaColumn::State) => Known::BeforeTxState,
+            (Part::Before, MetaColumn::Version) => Known::BeforeTxVersion,
+            (Part::Before, MetaColumn::PreparedAt) => Known::BeforeTxPreparedAt,
+            (Part::Before, MetaColumn::CommittedAt) => Known::BeforeTxCommittedAt,
+            (Part::Before, MetaColumn::Tombstone) => Known::BeforeTxTombstone,
         }
     }
 
@@ -66,7 +66,7 @@ impl MetaColumn {
         ensures text { result.now ≡ name_from part (meta_name self) }
         ensures named { is_name result.now ≡ true }
     {
-        *self.word(part)
+        self.word(part).text()
     }
 }
 

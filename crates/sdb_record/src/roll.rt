@@ -12,7 +12,7 @@ ghost use Rattle.sdb_types.specs.Identifier.{is_name};
 use crate::coordinator::{Decided, Decision};
 use crate::part::{Part, find_text, is_before_name, kept_name, meta_column};
 use crate::write::{Change, Write};
-use sdb_types::{Columns, Duplicate, Key, Name, NoMemory, Pair, Record, State, TxId, Value};
+use sdb_types::{Columns, Duplicate, Key, Known, Name, NoMemory, Pair, Record, State, TxId, Value};
 use std::alloc::Global;
 
 /// What undoes an unresolved record: putting the record that stood before, or removing it.
@@ -227,15 +227,15 @@ fn set_writer(alloc: Global, columns: &mut Columns, id: TxId, state: State) -> R
     ensures { OnOk result (columns.new ≡ with_columns (writer_columns id state) columns.old) }
 {
     let text = id.text(alloc)?;
-    columns.set(Name::known(&"tx_id"), Value::Text(text))?;
-    columns.set(Name::known(&"tx_state"), Value::Int(state_value(state)))
+    columns.set(Name::known(Known::TxId), Value::Text(text))?;
+    columns.set(Name::known(Known::TxState), Value::Int(state_value(state)))
 }
 
 fn set_age(columns: &mut Columns, version: i32, now: i64) -> Result<(), NoMemory>
     ensures { OnOk result (columns.new ≡ with_columns (age_columns version now) columns.old) }
 {
-    columns.set(Name::known(&"tx_version"), Value::Int(version))?;
-    columns.set(Name::known(&"tx_prepared_at"), Value::BigInt(now))
+    columns.set(Name::known(Known::TxVersion), Value::Int(version))?;
+    columns.set(Name::known(Known::TxPreparedAt), Value::BigInt(now))
 }
 
 /// The record that a transaction puts for a write at a moment from 0 to 2^53: the new row, each column of the base as it
@@ -261,10 +261,10 @@ fn forward_part(alloc: Global, columns: &Columns, created_at: i64) -> Result<Col
     ensures { IfOk result (λ forward. forward ≡ forward_columns columns.now created_at) }
 {
     let mut forward = own_part(alloc, columns)?;
-    forward.set(Name::known(&"tx_state"), Value::Int(3))?;
-    forward.set(Name::known(&"tx_committed_at"), Value::BigInt(created_at))?;
+    forward.set(Name::known(Known::TxState), Value::Int(3))?;
+    forward.set(Name::known(Known::TxCommittedAt), Value::BigInt(created_at))?;
     if has_state(columns, State::Deleted) {
-        forward.set(Name::known(&"tx_tombstone"), Value::Bool(true))?;
+        forward.set(Name::known(Known::TxTombstone), Value::Bool(true))?;
     }
     Ok(forward)
 }

@@ -7,7 +7,7 @@ ghost use Rattle.sdb_record.specs.Coordinator.{coordinator_table as coordinator_
 use crate::coordinator::{Decided, Decision};
 use crate::meta::{MetaRefused, moment_of, read_id, refused};
 use crate::part::{find_text, is_text};
-use sdb_types::{Columns, Key, Name, NoMemory, Record, TableName, TxId, Value, Values};
+use sdb_types::{Columns, Key, Known, Name, NoMemory, Record, TableName, TxId, Value, Values};
 use std::alloc::Global;
 
 fn decision_value(decision: Decision) -> i32
@@ -24,8 +24,8 @@ pub fn coordinator_table() -> TableName
     ensures { result ≡ coordinator_table_lem }
 {
     TableName {
-        ns: Name::known(&"coordinator"),
-        table: Name::known(&"state"),
+        ns: Name::known(Known::Coordinator),
+        table: Name::known(Known::State),
     }
 }
 
@@ -54,9 +54,9 @@ pub fn coordinator_row(
     ensures { IfOk result (λ row. row ≡ coordinator_row_of id decision now) }
 {
     let mut columns = Columns::new(alloc);
-    columns.set(Name::known(&"tx_created_at"), Value::BigInt(now))?;
+    columns.set(Name::known(Known::TxCreatedAt), Value::BigInt(now))?;
     columns.set(
-        Name::known(&"tx_state"),
+        Name::known(Known::TxState),
         Value::Int(decision_value(decision)),
     )?;
     Ok(Record {

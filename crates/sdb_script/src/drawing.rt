@@ -134,7 +134,7 @@ impl Drawing {
         ensures bad { IsErrOf result LineRefused.Bad → described json.now ≡ None }
     {
         let catalog = catalog_in(alloc, json)?;
-        self.accounts = has_accounts(&catalog);
+        self.accounts = has_accounts(alloc, &catalog)?;
         self.catalog = Some(catalog);
         self.section = Section::Client;
         Ok(())

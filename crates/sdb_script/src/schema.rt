@@ -1,6 +1,7 @@
 //! The catalog that a script's schema describes, and whether statements on accounts can be built over it.
 ghost use Rattle.std.specs.Prelude.{◌≡◌, Some, None, true, find, IfOk, IsErrOf};
 ghost use Rattle.std.specs.Option.{option_copied};
+ghost use Rattle.sdb_types.specs.Identifier.{is_name};
 ghost use Rattle.sdb_model.specs.Form.{account_name as account_name_lem};
 ghost use Rattle.sdb_model.specs.Rows.{same_name};
 ghost use Rattle.sdb_script.specs.Accounts.{is_int as is_int_lem, has_int as has_int_lem, are_only as are_only_lem, is_account_table as is_account_table_lem, has_accounts as has_accounts_lem};
@@ -9,7 +10,7 @@ ghost use Rattle.sdb_script.specs.Pieces.{described, refused_for};
 use crate::line::LineRefused;
 use sdb_loader::{SchemaFault, catalog_of};
 use sdb_schema::{Catalog, Column, Kind, Table};
-use sdb_types::{Name, TableName};
+use sdb_types::{Name, NameRefused, NoMemory, TableName};
 use std::alloc::Global;
 
 impl From<SchemaFault> for LineRefused {
@@ -31,14 +32,26 @@ pub fn catalog_in(alloc: Global, json: &[u8]) -> Result<Catalog, LineRefused>
     Ok(catalog_of(alloc, json)?)
 }
 
-// The name of the table that statements speak of.
-fn account_name() -> TableName
-    ensures { result ≡ account_name_lem }
+// A name that is known to be one.
+fn known_name(alloc: Global, text: &str) -> Result<Name, NoMemory>
+    requires { is_name text.now ≡ true }
+    ensures { IfOk result (λ name. name ≡ text.now) }
 {
-    TableName {
-        ns: Name::known(&"bank"),
-        table: Name::known(&"account"),
+    match Name::new(alloc, text) {
+        Ok(name) => Ok(name),
+        Err(NameRefused::NoMemory) => Err(NoMemory),
+        Err(NameRefused::BadName) => unreachable!(),
     }
+}
+
+// The name of the table that statements speak of.
+fn account_name(alloc: Global) -> Result<TableName, NoMemory>
+    ensures { IfOk result (λ name. name ≡ account_name_lem) }
+{
+    Ok(TableName {
+        ns: known_name(alloc, "bank")?,
+        table: known_name(alloc, "account")?,
+    })
 }
 
 fn is_text(name: &Name, text: &str) -> bool
@@ -94,12 +107,12 @@ fn is_account_table(table: &Table) -> bool
 }
 
 /// Whether `bank.account` stands in the catalog, and is as statements need it.
-pub fn has_accounts(catalog: &Catalog) -> bool
-    ensures { result ≡ has_accounts_lem catalog.now }
+pub fn has_accounts(alloc: Global, catalog: &Catalog) -> Result<bool, NoMemory>
+    ensures { IfOk result (λ has. has ≡ has_accounts_lem catalog.now) }
 {
-    let name = account_name();
+    let name = account_name(alloc)?;
     match catalog.find(&name) {
-        Some(table) => is_account_table(table),
-        None => false,
+        Some(table) => Ok(is_account_table(table)),
+        None => Ok(false),
     }
 }

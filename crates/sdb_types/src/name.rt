@@ -6,8 +6,10 @@ ghost use Rattle.std.specs.Cmp as Cmp;
 ghost use Rattle.std.specs.Cmp.Lexicographic.{slice_cmp, nat_list_cmp_total, nat_list_eq_equiv, texts_ties, texts_po};
 ghost use Rattle.std.specs.Ordering.{nat_cmp};
 ghost use Rattle.sdb_types.specs.Identifier.{is_start, is_part, is_identifier, is_name};
+ghost use Rattle.sdb_types.specs.NameText.{known_text};
 ghost use Rattle.sdb_types.specs.declared.name.NameRefused.TheVariants.{NoMemory as RefusedNoMemory};
 
+use crate::known::Known;
 use crate::memory::{Duplicate, NoMemory};
 use std::alloc::{AllocError, Global};
 use std::cmp::Ordering;
@@ -45,11 +47,10 @@ pub struct Name {
     text: Text,
 }
 
-// One that stands in the program, or one that was read and that all copies share. Either is a pointer: names stand in each
-// record and each event, so their size counts.
+// One that the program has of its own, or one that was read and that all copies share.
 #[derive(Debug, Drop)]
 enum Text {
-    Known(&'static &'static str),
+    Known(Known),
     Shared(RcStr),
 }
 
@@ -100,20 +101,13 @@ pub fn is_identifier_text(bytes: &[u8]) -> bool
     }
 }
 
-fn text_at(text: &'static &'static str) -> &'static str
-    ensures { result.now ≡ text.now.now }
-{
-    *text
-}
-
 impl Name {
-    /// The name that a text of the program is. Takes no memory.
-    pub fn known(text: &'static &'static str) -> Name
-        requires { is_name text.now.now ≡ true }
-        ensures { result ≡ text.now.now }
+    /// A name that the program has of its own. Takes no memory.
+    pub fn known(name: Known) -> Name
+        ensures { result ≡ known_text name }
     {
         Name {
-            text: Text::Known(text),
+            text: Text::Known(name),
         }
     }
 
@@ -145,7 +139,7 @@ impl Name {
         ensures named { is_name self.now ≡ true }
     {
         match &self.text {
-            Text::Known(text) => text_at(*text),
+            Text::Known(name) => name.text(),
             Text::Shared(text) => text.as_str(),
         }
     }
@@ -154,9 +148,7 @@ impl Name {
 impl Duplicate for Name {
     fn copy(&self) -> Result<Name, NoMemory> {
         match &self.text {
-            Text::Known(text) => Ok(Name {
-                text: Text::Known(*text),
-            }),
+            Text::Known(name) => Ok(Name::known(*name)),
             Text::Shared(text) => Ok(Name {
                 text: Text::Shared(text.clone()?),
             }),

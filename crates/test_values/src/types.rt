@@ -1,6 +1,6 @@
 //! Ids, names, columns, copies and the order of keys.
 use sdb_types::{
-    Columns, Condition, Duplicate, Exact, Name, NameRefused, State, TxId, Txt, Value, same,
+    Columns, Condition, Duplicate, Exact, Known, Name, NameRefused, State, TxId, Txt, Value, same,
 };
 use std::alloc::Global;
 use std::test::Fail;
@@ -63,8 +63,8 @@ fn is_name(alloc: Global, text: &str, wanted: bool) -> Result<bool, Fail> {
 }
 
 fn is_known(alloc: Global) -> Result<bool, Fail> {
-    let known = Name::known(&"balance");
-    let read = Name::from_string(String::from_str(alloc, "balance")?)?;
+    let known = Name::known(Known::TxId);
+    let read = Name::from_string(String::from_str(alloc, "tx_id")?)?;
     Ok(known == read && known.copy()? == read.copy()?)
 }
 
