@@ -16,7 +16,7 @@ use sdb_phases::{RecoverPhase, RecoverStep, abort_row, look};
 use sdb_record::{
     Decided, Decision, Meta, committed_image, decision_of, expired, meta_of, rolled_forward,
 };
-use sdb_types::{Condition, Duplicate, NoMemory, Record, Reply, Request};
+use sdb_types::{Condition, Duplicate, Key, NoMemory, Record, Reply, Request};
 use std::alloc::Global;
 use std::marker::Model;
 
@@ -268,6 +268,13 @@ impl Recover {
             RecoverPhase::Back => Some(&self.back),
             RecoverPhase::Ended => None,
         }
+    }
+
+    /// The key of the record.
+    pub fn key(&self) -> &Key
+        ensures { result.now ≡ self.now.rec.key }
+    {
+        &self.rec.key
     }
 
     /// Takes the reply to the pending call, at a moment from 0 to 2^53.
