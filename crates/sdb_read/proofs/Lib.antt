@@ -1,1 +1,4 @@
 pub mod Firm
+pub mod Places
+pub mod Images
+pub mod Keeps
