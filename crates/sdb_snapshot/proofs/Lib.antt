@@ -6,3 +6,4 @@ pub mod Opening
 pub mod Shown
 pub mod Differences
 pub mod Owned
+pub mod Forgotten

@@ -1,5 +1,5 @@
 -- What a transaction has read and written, and the rows that it sees.
-use Rattle.std.specs.Prelude.{◌≡◌, Bool, true, List, [], ◌∷◌, ◌++◌, Option, Some, None}
+use Rattle.std.specs.Prelude.{◌≡◌, Bool, true, List, [], ◌∷◌, ◌++◌, length, take, Option, Some, None}
 use Rattle.std.specs.List.{list_any}
 use Rattle.std.specs.FinMap.{get}
 use Rattle.sdb_types.specs.declared.key.Key.{Key}
@@ -16,6 +16,7 @@ use Rattle.sdb_record.specs.Moved.{version_of}
 use Rattle.sdb_record.specs.Rolls.{row_of_change}
 use Rattle.sdb_model.specs.Exec.{Tables}
 use Rattle.sdb_types.specs.contracts.record.SpanPartialEq.TheImpl as span_eq
+use Rattle.sdb_snapshot.specs.declared.snapshot.Mark.{Mark}
 use Rattle.sdb_snapshot.specs.Noted.{Note, base_at, reads_of, with_images}
 use Rattle.sdb_snapshot.specs.Written.{write_at, with_writes}
 use Rattle.sdb_model.specs.Access.{in_access, rows_at}
@@ -45,6 +46,14 @@ with_scan s span images =
 -- with changes, one after the other
 abbrev pub with_written : Seen → List Keyed → Seen
 with_written s changes = record s { writes = with_writes s.notes s.writes changes }
+
+-- how much is noted
+abbrev pub mark_of : Seen → Mark
+mark_of s = record { notes = length s.notes; reads = length s.reads; scans = length s.scans }
+
+-- without what was noted after a mark
+abbrev pub forgotten : Mark → Seen → Seen
+forgotten m s = record s { notes = take m.notes s.notes; reads = take m.reads s.reads; scans = take m.scans s.scans }
 
 abbrev pub same_span : Span → Span → Bool
 same_span = (span_eq.ghosts).eq

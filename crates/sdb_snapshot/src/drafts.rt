@@ -112,6 +112,18 @@ impl Drafts {
         }
     }
 
+    /// The writes alone.
+    pub fn into_writes(self) -> Writes
+        ensures { result ≡ self }
+    {
+        let Drafts {
+            alloc: _,
+            places: _,
+            writes,
+        } = self;
+        writes
+    }
+
     /// All writes, in the order in which their keys were first written.
     pub fn all(&self) -> &Writes
         ensures { result.now ≡ self.now }

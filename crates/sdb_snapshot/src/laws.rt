@@ -1,5 +1,8 @@
 //! What the rows that a transaction sees mean.
-ghost use Rattle.std.specs.Prelude.{◌≡◌, List};
+ghost use Rattle.std.specs.Prelude.{◌≡◌, List, Option};
+ghost use Rattle.sdb_types.specs.declared.key.Key.{Key};
+ghost use Rattle.sdb_types.specs.declared.record.Record.{Record};
+ghost use Rattle.sdb_types.specs.declared.record.Span.{Span};
 ghost use Rattle.sdb_record.specs.declared.access.Access.{Access};
 ghost use Rattle.sdb_record.specs.declared.write.Keyed.{Keyed};
 ghost use Rattle.sdb_record.specs.declared.write.Write.{Write};
@@ -7,7 +10,7 @@ ghost use Rattle.sdb_model.specs.Exec.{Tables};
 ghost use Rattle.sdb_snapshot.specs.Noted.{Note};
 ghost use Rattle.sdb_model.specs.Access.{rows_at, with_changes};
 ghost use Rattle.sdb_snapshot.specs.Rows.{with_own};
-ghost use Rattle.sdb_snapshot.specs.Seen.{Agrees, Seen, overlay};
+ghost use Rattle.sdb_snapshot.specs.Seen.{Agrees, Seen, forgotten, mark_of, overlay, with_get, with_scan};
 ghost use Rattle.sdb_snapshot.specs.Written.{with_writes};
 
 /// Where the notes have the rows of tables at the keys of an access, the overlay there has the rows of these tables with
@@ -19,4 +22,10 @@ pub fn overlay_is_rows()
 /// Changes that are written leave the tables that a transaction sees as the changes do, one after the other.
 pub fn writes_are_changes()
     ensures { (d : Tables) (notes : List Note) (ws : List Write) (ks : List Keyed) → with_own d (with_writes notes ws ks) ≡ with_changes (with_own d ws) ks }
+{}
+
+/// A read that is forgotten leaves what there was before it.
+pub fn reads_are_forgotten()
+    ensures get { (s : Seen) (key : Key) (image : Option Record) → forgotten (mark_of s) (with_get s key image) ≡ s }
+    ensures scan { (s : Seen) (span : Span) (images : List Record) → forgotten (mark_of s) (with_scan s span images) ≡ s }
 {}

@@ -11,4 +11,4 @@ mod snapshot;
 
 pub use drafts::{MOST_WRITES, WriteRefused};
 pub use sdb_record::{Access, Read, Reads, Scan, Scans};
-pub use snapshot::{NoteRefused, Snapshot};
+pub use snapshot::{Mark, NoteRefused, Snapshot};

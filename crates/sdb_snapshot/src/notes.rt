@@ -123,8 +123,15 @@ impl Notes {
         Ok(())
     }
 
-    // Keeps those that were noted first, so many.
-    fn cut(&mut self, len: usize)
+    /// The number of keys that were read.
+    pub fn len(&self) -> usize
+        ensures { result ≡ length self.now }
+    {
+        self.found.len()
+    }
+
+    /// Keeps those that were noted first, so many.
+    pub fn cut(&mut self, len: usize)
         ensures { self.new ≡ take len self.old }
     {
         self.found.truncate(len);

@@ -1,5 +1,5 @@
 //! What a transaction has read and written.
-ghost use Rattle.std.specs.Prelude.{◌≡◌, ◌≤◌, ◌<◌, ◌++◌, [], ◌∷◌, IfOk, OnOk, OnErr, IfSome, length, true, false, Err, Option};
+ghost use Rattle.std.specs.Prelude.{◌≡◌, ◌≤◌, ◌<◌, ◌++◌, [], ◌∷◌, IfOk, OnOk, OnErr, IfSome, length, take, true, false, Err, Option};
 ghost use Rattle.std.specs.Option.{option_copied, option_map};
 ghost use Rattle.sdb_types.specs.Contents.{are_rows_of};
 ghost use Rattle.sdb_types.specs.declared.key.Key.{Key as KeyValue};
@@ -8,7 +8,8 @@ ghost use Rattle.sdb_record.specs.declared.access.Access.TheVariants as access;
 ghost use Rattle.sdb_record.specs.Rolls.{IsBaseOf};
 ghost use Rattle.sdb_snapshot.specs.Noted.{AreCommitted, IsFirstDifference, IsUnmoved, is_noted, note_at, with_images};
 ghost use Rattle.sdb_snapshot.specs.Written.{AreChanges, AreWrites, HaveBases, HaveKeysOnce, most_writes};
-ghost use Rattle.sdb_snapshot.specs.Seen.{is_scanned, nothing, overlay, with_get, with_scan, with_written};
+ghost use Rattle.sdb_snapshot.specs.Held.{AreKept};
+ghost use Rattle.sdb_snapshot.specs.Seen.{forgotten, is_scanned, mark_of, nothing, overlay, with_get, with_scan, with_written};
 ghost use Rattle.sdb_snapshot.specs.declared.drafts.WriteRefused.TheVariants as refused;
 ghost use Rattle.sdb_snapshot.specs.declared.snapshot.NoteRefused.TheVariants as refused_note;
 
@@ -17,9 +18,10 @@ use crate::drafts::{Drafts, WriteRefused};
 use crate::notes::Notes;
 use crate::overlay::{image_of_key, images_of_keys};
 use sdb_record::{Changes, Images, Read, Reads, Scan, Scans, Writes, version_of};
-use sdb_types::{Duplicate, Key, NoMemory, Record, Records, Span};
+use sdb_types::{Duplicate, Key, NoMemory, Record, Records, Seq, Span};
 use std::alloc::Global;
 use std::marker::Model;
+use std::mem;
 use thiserror::Error;
 
 /// Why a scan was not noted.
@@ -75,6 +77,23 @@ impl Model for Snapshot {
     ghost view = { λ s. record { notes = s.notes; reads = s.reads; scans = s.scans; writes = s.drafts } };
 
     ghost invariant = { λ s. AreKept s.notes s.drafts };
+}
+
+/// How much a transaction had noted at a moment.
+#[derive(Clone, Copy, Debug, PartialEq, Eq)]
+pub struct Mark {
+    pub notes: usize,
+    pub reads: usize,
+    pub scans: usize,
+}
+
+// Keeps the first so many.
+fn cut<T: Drop>(alloc: Global, items: &mut Seq<T>, len: usize)
+    ensures { items.new ≡ take len items.old }
+{
+    let mut kept = mem::replace(items, Seq::new(alloc)).into_vec();
+    kept.truncate(len);
+    *items = Seq::from_vec(kept);
 }
 
 impl Snapshot {
@@ -219,6 +238,45 @@ impl Snapshot {
         ensures err { OnErr result (self.new ≡ self.old) }
     {
         self.drafts.write(&self.notes, changes)
+    }
+
+    /// How much is noted now. Takes no memory.
+    pub fn mark(&self) -> Mark
+        ensures mark { result ≡ mark_of self.now }
+        ensures kept { AreKept self.now.notes self.now.writes }
+    {
+        Mark {
+            notes: self.notes.len(),
+            reads: self.reads.len(),
+            scans: self.scans.len(),
+        }
+    }
+
+    /// Forgets what was noted after a mark, of which nothing was written. Takes no memory.
+    pub fn forget(&mut self, mark: Mark)
+        requires { AreKept (take mark.notes self.old.notes) self.old.writes }
+        ensures { self.new ≡ forgotten mark self.old }
+    {
+        self.notes.cut(mark.notes);
+        cut(self.alloc, &mut self.reads, mark.reads);
+        cut(self.alloc, &mut self.scans, mark.scans);
+    }
+
+    /// The writes, reads and scans, as a COMMIT takes them. Takes no memory.
+    pub fn into_parts(self) -> (Writes, Reads, Scans)
+        ensures writes { result.0 ≡ self.writes }
+        ensures fine { AreWrites self.writes }
+        ensures reads { result.1 ≡ self.reads }
+        ensures scans { result.2 ≡ self.scans }
+    {
+        let Snapshot {
+            alloc: _,
+            notes: _,
+            drafts,
+            reads,
+            scans,
+        } = self;
+        (drafts.into_writes(), reads, scans)
     }
 
     /// The writes: one for each key, with its base, in the order of first writing. Each may be prepared. Takes no memory.
