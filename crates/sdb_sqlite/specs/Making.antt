@@ -3,12 +3,15 @@ use Rattle.std.specs.Prelude.{◌≡◌, ◌⊎◌, ℕ, [], Result, Ok, Err}
 use Rattle.sqlite.specs.declared.error.Error.{Error}
 use Rattle.sqlite.specs.Store.{Ghosts}
 use Rattle.sqlite.specs.Held.{Held as Connected, state}
+use Rattle.sdb_types.specs.Contents.{Contents}
 use Rattle.sdb_sqlite.specs.declared.refused.KeptRefused.{KeptRefused}
 use Rattle.sdb_sqlite.specs.declared.refused.KeptRefused.TheVariants.{Database, NoMemory}
 use Rattle.sdb_sqlite.specs.declared.refused.Stopped.{Stopped}
 use Rattle.sdb_sqlite.specs.declared.refused.Stopped.TheVariants as stopped
 use Rattle.sdb_sqlite.specs.Stopping.{stopped_by}
+use Rattle.sdb_sqlite.specs.Table.{no_schema, table_schema, records_schema}
 use Rattle.sdb_sqlite.specs.Statements.{make_table, make_index}
+use Rattle.sdb_sqlite.specs.Kept.{IsBlank, IsKeptBy, IsKept, held}
 use Rattle.sdb_sqlite.specs.Asked.{Ran}
 
 -- The table and its index were made, or were there.
