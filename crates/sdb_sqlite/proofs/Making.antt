@@ -8,7 +8,9 @@ use Rattle.sqlite.specs.Does.{Tally, Does, lacks_sequence}
 use Rattle.sqlite.specs.Listing.{understood}
 use Rattle.sqlite.specs.Effect.{Database}
 use Rattle.sqlite.specs.Store.{Ghosts}
-use Rattle.sqlite.specs.Held.{Held as Connected, state}
+use Rattle.sqlite.specs.Held.{Held as Connected, IsNew, state}
+use Rattle.sqlite.specs.Steps.{IsEmpty, over_memory}
+use Rattle.sqlite_trees.specs.declared.memory.MemStore.{MemStore}
 use Rattle.sqlite.specs.State.{State, Executes, mode_of}
 use Rattle.sqlite.proofs.Callers.{IsPlain, command_of, statement_of, runs_as}
 use Rattle.sdb_sqlite.specs.Statements.{make_table, make_index}
@@ -98,3 +100,8 @@ module _ {S : Type 0} (g : Ghosts S) (sure : (c : Connected S) → IsSure g c) (
       let first = nothing_keeps make_table made_both made_both_plain (state g old) (state g made.mid) made.rows it made.table.limit (made.table.runs (sure made.mid).1) in
       let second = nothing_keeps make_index index_again index_again_plain (state g made.mid) (state g new) made.more first.0 made.index.limit (made.index.runs (sure new).1) in
       (second.0, ap (λ (d : Database). held_in (d.trees 0)) (second.1 ∙ first.1))
+
+---- a new database in memory
+
+pub new_is_blank : (h : Connected MemStore) → IsEmpty (state over_memory h) → IsNew h → IsBlank (state over_memory h)
+new_is_blank h empty new = record { schema = empty.2; settled = sym empty.0.clean; autocommit = empty.0.autocommit; unlimited = new.unlimited }

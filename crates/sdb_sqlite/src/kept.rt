@@ -2,13 +2,14 @@
 ghost use Rattle.std.specs.Prelude.{◌≡◌, ◌≤◌, ◌⊎◌, IsTrue, Ok, IfOk, IfErr};
 ghost use Rattle.std.specs.FinMap as map;
 ghost use Rattle.sqlite.specs.Held.{state};
+ghost use Rattle.sqlite.specs.Steps.{over_memory};
 ghost use Rattle.sdb_types.specs.declared.record.Request.TheVariants.{Get, Scan, PutIf, DeleteIf};
 ghost use Rattle.sdb_types.specs.Contents.{CanAnswer};
 ghost use Rattle.sdb_codec.specs.Spelling.{KeyFitsFields, RecordFitsFields};
 ghost use Rattle.sdb_store.specs.Store.{Performs, HasCause};
 ghost use Rattle.sdb_sqlite.specs.Spans.{SpanFitsFields};
 ghost use Rattle.sdb_sqlite.specs.Kept.{IsBlank, IsFormed, TellsIn, TellsThat, held};
-ghost use Rattle.sdb_sqlite.specs.Making.{IsMade, IsNotMade, Makes, refused_by};
+ghost use Rattle.sdb_sqlite.specs.Making.{IsMade, IsNotMade, IsRefusedIn, Makes, refused_by};
 ghost use Rattle.sdb_sqlite.specs.Asked.{Gets, Scans, Puts, Removes, IsAnswered, got_reply, rows_reply, write_reply};
 ghost use Rattle.sdb_sqlite.specs.Stopping.{stopped_by};
 
@@ -18,7 +19,7 @@ use crate::refused::{KeptRefused, stop};
 use crate::statements::{make_index, make_table};
 use sdb_store::Store;
 use sdb_types::{Condition, Key, Record, Reply, Span};
-use sqlite::{Connection, Error, ErrorCode};
+use sqlite::{Connection, Error, ErrorCode, MemStore};
 use std::alloc::Global;
 
 /// Records in the table `records` of a database.
@@ -94,6 +95,21 @@ impl<S: Held + Drop> Kept<S> {
             faults: _,
         } = self;
         connection
+    }
+}
+
+impl Kept<MemStore> {
+    /// A store over a new database in memory.
+    pub fn in_memory(alloc: Global) -> Result<Kept<MemStore>, KeptRefused>
+        ensures told { IfOk result (λ kept. ⟦<Kept<MemStore> as Store>⟧.tells kept) }
+        ensures empty { IfOk result (λ kept. ⟦<Kept<MemStore> as Store>⟧.contents kept ≡ map.empty) }
+        ensures count { IfOk result (λ kept. ⟦<Kept<MemStore> as Store>⟧.faults kept ≡ 0) }
+        ensures refused { IfErr result (λ refused. (refused ≡ KeptRefused.NoMemory) ⊎ IsRefusedIn over_memory refused) }
+    {
+        match Connection::open_in_memory(alloc) {
+            Ok(connection) => Kept::new(alloc, connection),
+            Err(_) => Err(KeptRefused::NoMemory),
+        }
     }
 }
 
