@@ -1,17 +1,18 @@
 //! The program: hands its words, standard input and output, the clock and random ids to the top call.
 #![tactic(auto)]
 
+ghost use Rattle.std.specs.Prelude.{◌≡◌};
+ghost use Rattle.std.specs.FinMap as map;
+
 mod outside;
+mod stores;
 
 use crate::outside::{Input, Output, RandomIds, Time};
-use sdb_app::{Status, run};
-use sdb_hashed::Hashed;
-use sdb_ordered::Ordered;
+use crate::stores::play;
+use sdb_app::Status;
 use sdb_sqlite::{Kept, KeptRefused};
-use sdb_store::Fails;
-use sdb_stores::Stores;
-use sdb_types::Name;
-use sqlite::{Connection, MemStore};
+use sdb_store::Store;
+use sqlite::MemStore;
 use std::alloc::Global;
 use std::env;
 use std::io::ErrorKind;
@@ -44,45 +45,25 @@ fn words(alloc: Global, rt: &HostRuntime) -> Result<Vec<String>, Status> {
     Ok(words)
 }
 
-// Records in an SQLite database in memory.
-fn kept(alloc: Global) -> Result<Kept<MemStore>, KeptRefused> {
-    match Connection::open_in_memory(alloc) {
-        Ok(connection) => Kept::new(alloc, connection),
-        Err(_) => Err(KeptRefused::NoMemory),
-    }
-}
-
-// Runs the program on its stores: two in memory that never fail, one in the order of its keys and one hashed, and the database.
-fn play(rt: HostRuntime, words: &[String], mut ids: RandomIds, kept: Kept<MemStore>) -> ExitCode {
+// Runs the program on standard input and output.
+fn play_streams(
+    rt: HostRuntime,
+    words: &[String],
+    mut ids: RandomIds,
+    database: Kept<MemStore>,
+) -> ExitCode
+    requires telling { ⟦<Kept<MemStore> as Store>⟧.tells database }
+    requires empty { ⟦<Kept<MemStore> as Store>⟧.contents database ≡ map.empty }
+    requires sound { ⟦<Kept<MemStore> as Store>⟧.faults database ≡ 0 }
+{
     let alloc = rt.alloc();
-    let mut stores = Stores::new(alloc);
-    let (Ok(ordered), Ok(hashed), Ok(kept)) = (
-        Box::new(alloc, Ordered::new(alloc, Fails::new(alloc))),
-        Box::new(alloc, Hashed::new(alloc, Fails::new(alloc))),
-        Box::new(alloc, kept),
-    ) else {
-        return ended(&rt, "out of memory", NO_MEMORY);
-    };
-    let (Ok(first), Ok(second), Ok(third)) = (
-        Name::new(alloc, "ordered"),
-        Name::new(alloc, "hashed"),
-        Name::new(alloc, "sqlite"),
-    ) else {
-        return ended(&rt, "out of memory", NO_MEMORY);
-    };
-    if stores.attach(first, ordered).is_err()
-        || stores.attach(second, hashed).is_err()
-        || stores.attach(third, kept).is_err()
-    {
-        return ended(&rt, "out of memory", NO_MEMORY);
-    }
     let mut input = Input::new(&rt);
     let mut output = Output::new(&rt);
     let mut clock = Time::new(rt);
-    let status = run(
+    let status = play(
         alloc,
         words,
-        &mut stores,
+        database,
         &mut input,
         &mut output,
         &mut clock,
@@ -100,8 +81,8 @@ fn main(rt: HostRuntime) -> ExitCode {
     let Some(ids) = RandomIds::new(&rt) else {
         return ended(&rt, "no seed", NO_SEED);
     };
-    match kept(alloc) {
-        Ok(kept) => play(rt, &words, ids, kept),
+    match Kept::in_memory(alloc) {
+        Ok(database) => play_streams(rt, &words, ids, database),
         Err(KeptRefused::NoMemory) => ended(&rt, "out of memory", NO_MEMORY),
         Err(KeptRefused::Database) => ended(&rt, "no database", NO_DATABASE),
     }

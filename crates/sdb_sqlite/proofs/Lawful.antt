@@ -64,7 +64,7 @@ get_lawful g q old new found (inr (fits, inr got)) = found_lawful q found (got_o
 
 ---- scans
 
-due_stops : (s : Stopped) (result : Result (List Record) Stopped) (P : List Record → Type 0) → IsDue (Err s) result → IfOk result P
+pub due_stops : (s : Stopped) (result : Result (List Record) Stopped) (P : List Record → Type 0) → IsDue (Err s) result → IfOk result P
 due_stops s result P (inl e) = subst (λ (r : Result (List Record) Stopped). IfOk r P) (sym e) tt
 due_stops s result P (inr e) = subst (λ (r : Result (List Record) Stopped). IfOk r P) (sym e) tt
 

@@ -2,3 +2,13 @@ pub mod Sorting
 pub mod Columns
 pub mod Lawful
 pub mod Listing
+pub mod Texts
+pub mod Keys
+pub mod Lists
+pub mod Queries
+pub mod Gets
+pub mod Scans
+pub mod Edits
+pub mod Writes
+pub mod Puts
+pub mod Making

@@ -2,6 +2,8 @@ pub mod Spans
 pub mod Stopping
 pub mod Bodies
 pub mod Statements
+pub mod Table
 pub mod Rows
+pub mod Kept
 pub mod Asked
 pub mod Making

@@ -9,6 +9,7 @@ use Rattle.sdb_sqlite.specs.declared.refused.Stopped.{Stopped}
 use Rattle.sdb_sqlite.specs.declared.refused.Stopped.TheVariants as stopped
 use Rattle.sdb_sqlite.specs.Stopping.{stopped_by}
 use Rattle.sdb_sqlite.specs.Statements.{make_table, make_index}
+use Rattle.sdb_sqlite.specs.Kept.{IsBlank}
 use Rattle.sdb_sqlite.specs.Asked.{Ran}
 
 -- The table and its index were made, or were there.
@@ -34,6 +35,10 @@ IsRefusedBy {S} g old e =
 
 abbrev pub IsNotMade : {S : Type 0} → Ghosts S → Connected S → KeptRefused → Type 0
 IsNotMade g old refused = (e : Error) × IsRefusedBy g old e × (refused ≡ refused_by (stopped_by e))
+
+-- Over a new database none is made, for that reason.
+abbrev pub IsRefusedIn : {S : Type 0} → Ghosts S → KeptRefused → Type 0
+IsRefusedIn {S} g refused = (new : Connected S) × IsBlank (state g new) × IsNotMade g new refused
 
 abbrev pub Makes : {S : Type 0} → Ghosts S → Connected S → Connected S → Result ℕ Error → Type 0
 Makes g old new (Ok more) = IsMade g old new

@@ -1,9 +1,11 @@
 -- The keys of spans and of partitions.
-use Rattle.std.specs.Prelude.{[], List, Option, Some, None}
+use Rattle.std.specs.Prelude.{◌≡◌, [], All, IfSome, List, Option, Some, None, true}
 use Rattle.sdb_types.specs.declared.key.Key.{Key}
 use Rattle.sdb_types.specs.declared.key.TableName.{TableName}
 use Rattle.sdb_types.specs.declared.value.Value.{Value}
 use Rattle.sdb_types.specs.declared.record.Span.{Span}
+use Rattle.sdb_types.specs.Identifier.{is_name}
+use Rattle.sdb_types.specs.Fits.{value_fits}
 use Rattle.sdb_codec.specs.Spelling.{KeyFitsFields}
 
 -- the key of a partition: one without clustering values
@@ -17,3 +19,12 @@ PartitionFitsFields table (Some partition) = KeyFitsFields (partition_key table 
 
 abbrev pub SpanFitsFields : Span → Type 0
 SpanFitsFields span = PartitionFitsFields span.table span.partition
+
+-- what is known of every name of a table
+abbrev pub table_fits : TableName → Type 0
+table_fits table = (is_name table.ns ≡ true) × (is_name table.table ≡ true)
+
+-- what is known of every span
+pub record span_fits (span : Span) : Type 0 where
+  pub table : table_fits span.table
+  pub partition : IfSome span.partition (All value_fits)

@@ -1,5 +1,7 @@
 //! The calls on the table.
 ghost use Rattle.std.specs.Prelude.{◌≡◌, ◌∷◌, [], Some, None};
+ghost use Rattle.sqlite.specs.Held.{state};
+ghost use Rattle.sdb_sqlite.specs.Kept.{TellsIn, IsToldOf};
 ghost use Rattle.sqlite.specs.declared.types.Value.TheVariants.{Blob};
 ghost use Rattle.sdb_types.specs.declared.record.Request.TheVariants.{Get, Scan, PutIf, DeleteIf};
 ghost use Rattle.sdb_types.specs.Contents.{CanAnswer};
@@ -8,6 +10,8 @@ ghost use Rattle.sdb_sqlite.specs.Asked.{IsDue, found_in, found_by, IsGot, Gets,
 ghost use Rattle.sdb_sqlite.specs.Statements.{add_row as add_text, change_row as change_text};
 
 use crate::body::{blob_at, record_at};
+use crate::facts::{key_facts, record_facts, span_facts};
+use crate::held::Held;
 use crate::refused::Stopped;
 use crate::rows::records_of;
 use crate::spelling::{key_spelling, partition_spelling, table_text};
@@ -15,7 +19,7 @@ use crate::statements::{add_row, body_at, change_row, partition_rows, remove_row
 use sdb_codec::{record_has_spelling, write_record};
 use sdb_store::holds;
 use sdb_types::{Condition, Duplicate, Key, Record, Records, Span, Values};
-use sqlite::{Alter, Connection, Error, Row};
+use sqlite::{Connection, Error, Row};
 use std::alloc::Global;
 
 /// What became of a write.
@@ -53,7 +57,7 @@ fn found(
 }
 
 // The record at a key, whose bytes are these.
-fn find_at<S: Alter>(
+fn find_at<S: Held>(
     alloc: Global,
     connection: &mut Connection<S>,
     key: &Key,
@@ -66,7 +70,7 @@ fn find_at<S: Alter>(
     found(alloc, key, answer)
 }
 
-fn find_key<S: Alter>(
+fn find_key<S: Held>(
     alloc: Global,
     connection: &mut Connection<S>,
     key: &Key,
@@ -78,14 +82,16 @@ fn find_key<S: Alter>(
 }
 
 /// The record at a key.
-pub fn find<S: Alter>(
+pub fn find<S: Held>(
     alloc: Global,
     connection: &mut Connection<S>,
     key: &Key,
 ) -> Result<Option<Record>, Stopped>
     ensures asked { Gets S.Store key.now connection.old connection.new result }
     ensures lawful { CanAnswer (Get key.now) (got_reply result) }
+    ensures told { TellsIn S.Store S.Held.tells connection.old → IsToldOf (Get key.now) (got_reply result) (state S.Store connection.old) (state S.Store connection.new) }
 {
+    key_facts(key);
     find_key(alloc, connection, key)
 }
 
@@ -100,7 +106,7 @@ fn listed(alloc: Global, span: &Span, answer: Result<Vec<Row>, Error>) -> Result
 }
 
 // The records of a whole table.
-fn list_table<S: Alter>(
+fn list_table<S: Held>(
     alloc: Global,
     connection: &mut Connection<S>,
     span: &Span,
@@ -114,7 +120,7 @@ fn list_table<S: Alter>(
 }
 
 // The records of a partition.
-fn list_partition<S: Alter>(
+fn list_partition<S: Held>(
     alloc: Global,
     connection: &mut Connection<S>,
     span: &Span,
@@ -129,7 +135,7 @@ fn list_partition<S: Alter>(
     listed(alloc, span, answer)
 }
 
-fn list_span<S: Alter>(
+fn list_span<S: Held>(
     alloc: Global,
     connection: &mut Connection<S>,
     span: &Span,
@@ -143,14 +149,16 @@ fn list_span<S: Alter>(
 }
 
 /// The records of a span, in the order of their keys.
-pub fn list<S: Alter>(
+pub fn list<S: Held>(
     alloc: Global,
     connection: &mut Connection<S>,
     span: &Span,
 ) -> Result<Records, Stopped>
     ensures asked { Scans S.Store span.now connection.old connection.new result }
     ensures lawful { CanAnswer (Scan span.now) (rows_reply result) }
+    ensures told { TellsIn S.Store S.Held.tells connection.old → IsToldOf (Scan span.now) (rows_reply result) (state S.Store connection.old) (state S.Store connection.new) }
 {
+    span_facts(span);
     list_span(alloc, connection, span)
 }
 
@@ -164,7 +172,7 @@ fn written_as(answer: Result<usize, Error>) -> Result<Written, Stopped>
 }
 
 // Adds the row of a record.
-fn add<S: Alter>(
+fn add<S: Held>(
     alloc: Global,
     connection: &mut Connection<S>,
     rec: &Record,
@@ -188,7 +196,7 @@ fn add<S: Alter>(
 }
 
 // Changes the row of a record's key.
-fn change<S: Alter>(
+fn change<S: Held>(
     alloc: Global,
     connection: &mut Connection<S>,
     rec: &Record,
@@ -204,7 +212,7 @@ fn change<S: Alter>(
 }
 
 // Writes a record over what was found at its key.
-fn write_over<S: Alter>(
+fn write_over<S: Held>(
     alloc: Global,
     connection: &mut Connection<S>,
     rec: &Record,
@@ -222,7 +230,7 @@ fn write_over<S: Alter>(
 }
 
 // Puts a record over what was found at its key, where the condition holds of that.
-fn put_over<S: Alter>(
+fn put_over<S: Held>(
     alloc: Global,
     connection: &mut Connection<S>,
     rec: &Record,
@@ -240,7 +248,7 @@ fn put_over<S: Alter>(
     write_over(alloc, connection, rec, spelled, found)
 }
 
-fn put_at<S: Alter>(
+fn put_at<S: Held>(
     alloc: Global,
     connection: &mut Connection<S>,
     rec: &Record,
@@ -257,7 +265,7 @@ fn put_at<S: Alter>(
     }
 }
 
-fn put_record<S: Alter>(
+fn put_record<S: Held>(
     alloc: Global,
     connection: &mut Connection<S>,
     rec: &Record,
@@ -273,7 +281,7 @@ fn put_record<S: Alter>(
 }
 
 /// Puts a record at its key, where the condition holds of what stands there.
-pub fn put<S: Alter>(
+pub fn put<S: Held>(
     alloc: Global,
     connection: &mut Connection<S>,
     rec: &Record,
@@ -281,12 +289,14 @@ pub fn put<S: Alter>(
 ) -> Result<Written, Stopped>
     ensures asked { Puts S.Store rec.now condition.now connection.old connection.new result }
     ensures lawful { CanAnswer (PutIf rec.now condition.now) (write_reply result) }
+    ensures told { TellsIn S.Store S.Held.tells connection.old → IsToldOf (PutIf rec.now condition.now) (write_reply result) (state S.Store connection.old) (state S.Store connection.new) }
 {
+    record_facts(rec);
     put_record(alloc, connection, rec, condition)
 }
 
 // Takes what was found at a key out, where the condition holds of it.
-fn remove_over<S: Alter>(
+fn remove_over<S: Held>(
     connection: &mut Connection<S>,
     key: &Key,
     spelled: &[u8],
@@ -308,7 +318,7 @@ fn remove_over<S: Alter>(
     }
 }
 
-fn remove_at<S: Alter>(
+fn remove_at<S: Held>(
     alloc: Global,
     connection: &mut Connection<S>,
     key: &Key,
@@ -324,7 +334,7 @@ fn remove_at<S: Alter>(
     }
 }
 
-fn remove_key<S: Alter>(
+fn remove_key<S: Held>(
     alloc: Global,
     connection: &mut Connection<S>,
     key: &Key,
@@ -337,7 +347,7 @@ fn remove_key<S: Alter>(
 }
 
 /// Takes the record at a key out, where the condition holds of what stands there.
-pub fn delete<S: Alter>(
+pub fn delete<S: Held>(
     alloc: Global,
     connection: &mut Connection<S>,
     key: &Key,
@@ -345,6 +355,8 @@ pub fn delete<S: Alter>(
 ) -> Result<Written, Stopped>
     ensures asked { Removes S.Store key.now condition.now connection.old connection.new result }
     ensures lawful { CanAnswer (DeleteIf key.now condition.now) (write_reply result) }
+    ensures told { TellsIn S.Store S.Held.tells connection.old → IsToldOf (DeleteIf key.now condition.now) (write_reply result) (state S.Store connection.old) (state S.Store connection.new) }
 {
+    key_facts(key);
     remove_key(alloc, connection, key, condition)
 }

@@ -1,21 +1,25 @@
 //! The store.
-ghost use Rattle.std.specs.Prelude.{◌≡◌, ◌≤◌, ◌⊎◌, Ok, IfOk, IfErr};
+ghost use Rattle.std.specs.Prelude.{◌≡◌, ◌≤◌, ◌⊎◌, IsTrue, Ok, IfOk, IfErr};
 ghost use Rattle.std.specs.FinMap as map;
+ghost use Rattle.sqlite.specs.Held.{state};
+ghost use Rattle.sqlite.specs.Steps.{over_memory};
 ghost use Rattle.sdb_types.specs.declared.record.Request.TheVariants.{Get, Scan, PutIf, DeleteIf};
 ghost use Rattle.sdb_types.specs.Contents.{CanAnswer};
 ghost use Rattle.sdb_codec.specs.Spelling.{KeyFitsFields, RecordFitsFields};
 ghost use Rattle.sdb_store.specs.Store.{Performs, HasCause};
 ghost use Rattle.sdb_sqlite.specs.Spans.{SpanFitsFields};
-ghost use Rattle.sdb_sqlite.specs.Making.{IsMade, IsNotMade, Makes, refused_by};
+ghost use Rattle.sdb_sqlite.specs.Kept.{IsBlank, IsFormed, TellsIn, TellsThat, held};
+ghost use Rattle.sdb_sqlite.specs.Making.{IsMade, IsNotMade, IsRefusedIn, Makes, refused_by};
 ghost use Rattle.sdb_sqlite.specs.Asked.{Gets, Scans, Puts, Removes, IsAnswered, got_reply, rows_reply, write_reply};
 ghost use Rattle.sdb_sqlite.specs.Stopping.{stopped_by};
 
 use crate::calls::{Written, delete, find, list, put};
+use crate::held::Held;
 use crate::refused::{KeptRefused, stop};
 use crate::statements::{make_index, make_table};
 use sdb_store::Store;
 use sdb_types::{Condition, Key, Record, Reply, Span};
-use sqlite::{Alter, Connection, Error, ErrorCode};
+use sqlite::{Connection, Error, ErrorCode, MemStore};
 use std::alloc::Global;
 
 /// Records in the table `records` of a database.
@@ -23,14 +27,14 @@ use std::alloc::Global;
 /// A row has the bytes of a key, the table's name, the bytes of the key's partition, and the bytes of the record. A row
 /// whose body spells no record of its key stands for a record without columns. An index by the table's name and the partition
 /// finds the rows of a scan. A call that changes anything changes it in one statement.
-pub struct Kept<S: Alter + Drop> {
+pub struct Kept<S: Held + Drop> {
     alloc: Global,
     connection: Connection<S>,
     faults: u64,
 }
 
 // By hand: each drop is then one call, where a derived one stands at each place with a call for each field.
-impl<S: Alter + Drop> Drop for Kept<S> {
+impl<S: Held + Drop> Drop for Kept<S> {
     fn drop(self) {
         let Kept {
             alloc: _,
@@ -50,7 +54,7 @@ fn refused(error: Error) -> KeptRefused
 }
 
 // Makes the table and its index, where they aren't there.
-fn make<S: Alter>(connection: &mut Connection<S>) -> Result<usize, Error>
+fn make<S: Held>(connection: &mut Connection<S>) -> Result<usize, Error>
     ensures { Makes S.Store connection.old connection.new result }
 {
     match make_table(connection) {
@@ -59,13 +63,17 @@ fn make<S: Alter>(connection: &mut Connection<S>) -> Result<usize, Error>
     }
 }
 
-impl<S: Alter + Drop> Kept<S> {
+impl<S: Held + Drop> Kept<S> {
     /// A store over a connection. The table is made where there is none of its name, and so is its index by table and
     /// partition. The connection is dropped where that is refused: `Database` comes only for another cause than memory.
     pub fn new(alloc: Global, mut connection: Connection<S>) -> Result<Kept<S>, KeptRefused>
         ensures made { IfOk result (λ kept. IsMade S.Store connection kept.connection) }
         ensures count { IfOk result (λ kept. kept.faults ≡ 0) }
         ensures refused { IfErr result (IsNotMade S.Store connection) }
+        // Over a new database that tells, it holds nothing.
+        ensures blank { IsTrue S.Held.tells → IsBlank (state S.Store connection) → IfOk result (λ kept. TellsThat S.Store S.Held.tells map.empty kept.connection) }
+        // Over one that has the table, with the index or without, it holds what is there.
+        ensures found { IsTrue S.Held.tells → IsFormed (state S.Store connection) → IfOk result (λ kept. TellsThat S.Store S.Held.tells (held (state S.Store connection)) kept.connection) }
     {
         match make(&mut connection) {
             Ok(_) => Ok(Kept {
@@ -74,6 +82,33 @@ impl<S: Alter + Drop> Kept<S> {
                 faults: 0,
             }),
             Err(error) => Err(refused(error)),
+        }
+    }
+
+    /// The connection, as it stands.
+    pub fn release(self) -> Connection<S>
+        ensures { result ≡ self.connection }
+    {
+        let Kept {
+            alloc: _,
+            connection,
+            faults: _,
+        } = self;
+        connection
+    }
+}
+
+impl Kept<MemStore> {
+    /// A store over a new database in memory.
+    pub fn in_memory(alloc: Global) -> Result<Kept<MemStore>, KeptRefused>
+        ensures told { IfOk result (λ kept. ⟦<Kept<MemStore> as Store>⟧.tells kept) }
+        ensures empty { IfOk result (λ kept. ⟦<Kept<MemStore> as Store>⟧.contents kept ≡ map.empty) }
+        ensures count { IfOk result (λ kept. ⟦<Kept<MemStore> as Store>⟧.faults kept ≡ 0) }
+        ensures refused { IfErr result (λ refused. (refused ≡ KeptRefused.NoMemory) ⊎ IsRefusedIn over_memory refused) }
+    {
+        match Connection::open_in_memory(alloc) {
+            Ok(connection) => Kept::new(alloc, connection),
+            Err(_) => Err(KeptRefused::NoMemory),
         }
     }
 }
@@ -87,17 +122,17 @@ fn reply_of(written: Written) -> Reply
     }
 }
 
-impl<S: Alter + Drop> Store for Kept<S> {
-    // It does not tell what it holds.
-    ghost tells = { λ _. ⊥ };
+impl<S: Held + Drop> Store for Kept<S> {
+    // In memory it tells what it holds, where the database has its table and index and nothing else.
+    ghost tells = { λ kept. TellsIn S.Store S.Held.tells kept.connection };
 
-    ghost contents = { λ _. map.empty };
+    ghost contents = { λ kept. held (state S.Store kept.connection) };
 
     ghost faults = { λ kept. kept.faults };
 
     fn get(&mut self, key: &Key) -> Reply
-        ensures told { ⊥ → ⊥ }
-        ensures performed { ⊥ → Performs (Get key.now) result map.empty map.empty }
+        ensures told { TellsIn S.Store S.Held.tells self.old.connection → TellsIn S.Store S.Held.tells self.new.connection }
+        ensures performed { TellsIn S.Store S.Held.tells self.old.connection → Performs (Get key.now) result (held (state S.Store self.old.connection)) (held (state S.Store self.new.connection)) }
         ensures lawful { CanAnswer (Get key.now) result }
         ensures counted { self.old.faults ≤ self.new.faults }
         ensures cause { HasCause result self.old.faults self.new.faults }
@@ -111,8 +146,8 @@ impl<S: Alter + Drop> Store for Kept<S> {
     }
 
     fn scan(&mut self, span: &Span) -> Reply
-        ensures told { ⊥ → ⊥ }
-        ensures performed { ⊥ → Performs (Scan span.now) result map.empty map.empty }
+        ensures told { TellsIn S.Store S.Held.tells self.old.connection → TellsIn S.Store S.Held.tells self.new.connection }
+        ensures performed { TellsIn S.Store S.Held.tells self.old.connection → Performs (Scan span.now) result (held (state S.Store self.old.connection)) (held (state S.Store self.new.connection)) }
         ensures lawful { CanAnswer (Scan span.now) result }
         ensures counted { self.old.faults ≤ self.new.faults }
         ensures cause { HasCause result self.old.faults self.new.faults }
@@ -126,8 +161,8 @@ impl<S: Alter + Drop> Store for Kept<S> {
     }
 
     fn put_if(&mut self, rec: &Record, condition: &Condition) -> Reply
-        ensures told { ⊥ → ⊥ }
-        ensures performed { ⊥ → Performs (PutIf rec.now condition.now) result map.empty map.empty }
+        ensures told { TellsIn S.Store S.Held.tells self.old.connection → TellsIn S.Store S.Held.tells self.new.connection }
+        ensures performed { TellsIn S.Store S.Held.tells self.old.connection → Performs (PutIf rec.now condition.now) result (held (state S.Store self.old.connection)) (held (state S.Store self.new.connection)) }
         ensures lawful { CanAnswer (PutIf rec.now condition.now) result }
         ensures counted { self.old.faults ≤ self.new.faults }
         ensures cause { HasCause result self.old.faults self.new.faults }
@@ -141,8 +176,8 @@ impl<S: Alter + Drop> Store for Kept<S> {
     }
 
     fn delete_if(&mut self, key: &Key, condition: &Condition) -> Reply
-        ensures told { ⊥ → ⊥ }
-        ensures performed { ⊥ → Performs (DeleteIf key.now condition.now) result map.empty map.empty }
+        ensures told { TellsIn S.Store S.Held.tells self.old.connection → TellsIn S.Store S.Held.tells self.new.connection }
+        ensures performed { TellsIn S.Store S.Held.tells self.old.connection → Performs (DeleteIf key.now condition.now) result (held (state S.Store self.old.connection)) (held (state S.Store self.new.connection)) }
         ensures lawful { CanAnswer (DeleteIf key.now condition.now) result }
         ensures counted { self.old.faults ≤ self.new.faults }
         ensures cause { HasCause result self.old.faults self.new.faults }

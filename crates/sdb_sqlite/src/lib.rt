@@ -3,11 +3,14 @@
 
 mod body;
 mod calls;
+mod facts;
+mod held;
 mod kept;
 mod refused;
 mod rows;
 mod spelling;
 mod statements;
 
+pub use held::Held;
 pub use kept::Kept;
 pub use refused::KeptRefused;

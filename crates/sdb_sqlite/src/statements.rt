@@ -5,10 +5,11 @@ ghost use Rattle.std.specs.String.{string_bytes};
 ghost use Rattle.sdb_sqlite.specs.Asked.{Asked, Ran, rows_of};
 ghost use Rattle.sdb_sqlite.specs.Statements as text;
 
-use sqlite::{Alter, Connection, Error, Row, params};
+use crate::held::Held;
+use sqlite::{Connection, Error, Row, params};
 
 /// Makes the table, where there is none of that name.
-pub fn make_table<S: Alter>(connection: &mut Connection<S>) -> Result<usize, Error>
+pub fn make_table<S: Held>(connection: &mut Connection<S>) -> Result<usize, Error>
     ensures { Ran S.Store text.make_table [] connection.old connection.new result }
 {
     connection.execute(
@@ -18,7 +19,7 @@ pub fn make_table<S: Alter>(connection: &mut Connection<S>) -> Result<usize, Err
 }
 
 /// Makes the table's index by table and partition, where there is none of that name.
-pub fn make_index<S: Alter>(connection: &mut Connection<S>) -> Result<usize, Error>
+pub fn make_index<S: Held>(connection: &mut Connection<S>) -> Result<usize, Error>
     ensures { Ran S.Store text.make_index [] connection.old connection.new result }
 {
     connection.execute(
@@ -28,21 +29,21 @@ pub fn make_index<S: Alter>(connection: &mut Connection<S>) -> Result<usize, Err
 }
 
 /// The body of the row with a key.
-pub fn body_at<S: Alter>(connection: &mut Connection<S>, key: &[u8]) -> Result<Vec<Row>, Error>
+pub fn body_at<S: Held>(connection: &mut Connection<S>, key: &[u8]) -> Result<Vec<Row>, Error>
     ensures { Asked S.Store text.get_body (Blob key.now ∷ []) connection.old connection.new (rows_of result) }
 {
     connection.query_all("SELECT r FROM records WHERE k = ?1", params![key])
 }
 
 /// The keys and bodies of a table's rows.
-pub fn table_rows<S: Alter>(connection: &mut Connection<S>, table: &str) -> Result<Vec<Row>, Error>
+pub fn table_rows<S: Held>(connection: &mut Connection<S>, table: &str) -> Result<Vec<Row>, Error>
     ensures { Asked S.Store text.scan_table (Text table.now ∷ []) connection.old connection.new (rows_of result) }
 {
     connection.query_all("SELECT k, r FROM records WHERE t = ?1", params![table])
 }
 
 /// The keys and bodies of a partition's rows.
-pub fn partition_rows<S: Alter>(
+pub fn partition_rows<S: Held>(
     connection: &mut Connection<S>,
     table: &str,
     partition: &[u8],
@@ -56,7 +57,7 @@ pub fn partition_rows<S: Alter>(
 }
 
 /// Adds a row.
-pub fn add_row<S: Alter>(
+pub fn add_row<S: Held>(
     connection: &mut Connection<S>,
     key: &[u8],
     table: &str,
@@ -72,7 +73,7 @@ pub fn add_row<S: Alter>(
 }
 
 /// Changes the body of the row with a key.
-pub fn change_row<S: Alter>(
+pub fn change_row<S: Held>(
     connection: &mut Connection<S>,
     key: &[u8],
     body: &[u8],
@@ -83,7 +84,7 @@ pub fn change_row<S: Alter>(
 }
 
 /// Takes the row with a key out.
-pub fn remove_row<S: Alter>(connection: &mut Connection<S>, key: &[u8]) -> Result<usize, Error>
+pub fn remove_row<S: Held>(connection: &mut Connection<S>, key: &[u8]) -> Result<usize, Error>
     ensures { Ran S.Store text.remove_row (Blob key.now ∷ []) connection.old connection.new result }
 {
     connection.execute("DELETE FROM records WHERE k = ?1", params![key])

@@ -1,11 +1,15 @@
 //! The same calls on each store, and calls that are told to fail.
-use crate::steps::answers_as_told;
+ghost use Rattle.std.specs.Prelude.{IfOk, IsTrue};
+ghost use Rattle.sqlite_disk.specs.Memory.{memory_is_usable};
+
+use crate::steps::{all_answered, answers_as_told};
 use sdb_hashed::Hashed;
 use sdb_ordered::Ordered;
-use sdb_sqlite::{Kept, KeptRefused};
+use sdb_sqlite::{Held, Kept, KeptRefused};
 use sdb_store::{Fails, Store};
 use sdb_types::{Condition, State, TxId};
-use sqlite::{Connection, MemStore};
+use sqlite::{Connection, FileStore, Files, MemStore, Options};
+use sqlite_disk::Memory;
 use std::alloc::Global;
 use std::test::Fail;
 use test_builders::{Ask, Cell, Place, Row, Told, hold};
@@ -151,8 +155,64 @@ fn hashed_answers_as_a_map_does(rt: HostRuntime) -> Result<(), Fail> {
 #[test]
 fn kept_answers_as_a_map_does(rt: HostRuntime) -> Result<(), Fail> {
     let alloc = rt.alloc();
-    let store = Kept::new(alloc, Connection::open_in_memory(alloc)?)?;
+    let store = Kept::in_memory(alloc)?;
     answers_as_told(alloc, store, STEPS.as_slice())
+}
+
+// Gets and scans of a store after these calls, with their replies.
+static THEN: [(Ask, Told); 4] = [
+    (Ask::Get(ITEM_1_1), Told::Found(Some(AT_1_1_IS_7))),
+    (Ask::Get(ITEM_1_2), Told::Found(None)),
+    (PARTITION, Told::Rows(&[AT_1_1_IS_7])),
+    (TABLE, Told::Rows(&[AT_1_1_IS_7, AT_2_1_IS_5])),
+];
+
+// The connection, after these calls on a store over it.
+fn filled<S: Held + Drop>(alloc: Global, connection: Connection<S>) -> Result<Connection<S>, Fail> {
+    let mut store = Kept::new(alloc, connection)?;
+    all_answered(alloc, &mut store, STEPS.as_slice())?;
+    Ok(store.release())
+}
+
+fn answers_then<S: Held + Drop>(alloc: Global, connection: Connection<S>) -> Result<(), Fail> {
+    let store = Kept::new(alloc, connection)?;
+    answers_as_told(alloc, store, THEN.as_slice())
+}
+
+#[test]
+fn kept_answers_the_same_when_made_again(rt: HostRuntime) -> Result<(), Fail> {
+    let alloc = rt.alloc();
+    answers_then(alloc, filled(alloc, Connection::open_in_memory(alloc)?)?)
+}
+
+fn opened(alloc: Global, log: Memory, db: Memory) -> Result<Connection<FileStore<Memory>>, Fail>
+    requires { IsTrue (memory_is_usable log) × IsTrue (memory_is_usable db) }
+{
+    match Connection::open_files(alloc, Files { log, db }, Options::new(1)) {
+        Ok(connection) => Ok(connection),
+        Err(_) => Err("no database in the files")?,
+    }
+}
+
+fn closed(connection: Connection<FileStore<Memory>>) -> Result<Files<Memory>, Fail>
+    ensures { IfOk result (λ files. IsTrue (memory_is_usable files.log) × IsTrue (memory_is_usable files.db)) }
+{
+    match connection.close_files() {
+        Ok(files) => Ok(files),
+        Err((_, store)) => {
+            drop(store.close());
+            Err("the files are not closed")?
+        }
+    }
+}
+
+// The database is kept in files, which are in memory.
+#[test]
+fn kept_in_files_answers_the_same_when_opened_again(rt: HostRuntime) -> Result<(), Fail> {
+    let alloc = rt.alloc();
+    let connection = opened(alloc, Memory::new(alloc), Memory::new(alloc))?;
+    let files = closed(filled(alloc, connection)?)?;
+    answers_then(alloc, opened(alloc, files.log, files.db)?)
 }
 
 // A database in which an index has the name of the table.

@@ -25,7 +25,12 @@ fn answers<S: Store>(
     is_reply(alloc, &reply, told)
 }
 
-fn all_answered<S: Store>(alloc: Global, store: &mut S, steps: &[(Ask, Told)]) -> Result<(), Fail> {
+/// Fails at the first call that a store answers otherwise than is told. The store stays.
+pub fn all_answered<S: Store>(
+    alloc: Global,
+    store: &mut S,
+    steps: &[(Ask, Told)],
+) -> Result<(), Fail> {
     for (place, step) in steps.iter().enumerate() {
         if !answers(alloc, store, step.0, step.1)? {
             return Err(wrong_at(place));

@@ -1,0 +1,31 @@
+//! Which databases tell what they hold.
+ghost use Rattle.std.specs.Prelude.{◌≡◌, Bool, IsTrue, true, false, refl};
+ghost use Rattle.sqlite.specs.View.{doubt};
+
+use sqlite::{Alter, FileStore, MemStore};
+use sqlite_disk::Disk;
+
+/// What a database is kept in, and whether it tells what it holds: in memory it does, and in a file, which others may change,
+/// it doesn't. The trait has no calls of its own.
+pub trait Held: Alter {
+    ghost tells: { Bool };
+
+    /// One that tells is always open, and returns what was written.
+    ghost told: { IsTrue tells → (s : Self) → IsTrue (Self.Store.view s).is_open × (doubt (Self.Store.view s).is_clean ≡ 0) };
+}
+
+impl Held for MemStore {
+    ghost use Rattle.sqlite_trees.proofs.Doubt.{no_doubt};
+
+    ghost tells = { true };
+
+    ghost told = { λ _ s. (refl, no_doubt true refl) };
+}
+
+impl<D: Disk> Held for FileStore<D> {
+    ghost use Rattle.std.proofs.Common.{true≢false, sym};
+
+    ghost tells = { false };
+
+    ghost told = { λ h s. absurd (true≢false (sym h)) };
+}
