@@ -113,6 +113,7 @@ fn value_in(alloc: Global, name: &TableName, json: &str) -> Result<Value, Schema
 pub fn table_of(alloc: Global, name: TableName, json: &str) -> Result<Table, SchemaFault>
     ensures ok { IfOk result (λ t. described_table name json.now ≡ Ok (t ∷ [])) }
     ensures table { IfOk result (λ t. is_table t ≡ true) }
+    ensures named { IfOk result (λ t. t.name ≡ name) }
     ensures fault { IfErr result (Faults (described_table name json.now)) }
 {
     let value = value_in(alloc, &name, json)?;

@@ -158,6 +158,7 @@ pub fn tables_of(alloc: Global, tables: &[Named<'_>]) -> Result<Seq<Table>, Sche
 pub fn table_in(alloc: Global, name: TableName, value: &Value) -> Result<Table, SchemaFault>
     ensures ok { IfOk result (λ t. described_tables ((name, view value.now) ∷ []) ≡ Ok (t ∷ [])) }
     ensures table { IfOk result (λ t. is_table t ≡ true) }
+    ensures named { IfOk result (λ t. t.name ≡ name) }
     ensures fault { IfErr result (Faults (described_tables ((name, view value.now) ∷ []))) }
 {
     let named = [Named { name, value }];
