@@ -5,3 +5,4 @@ pub mod Calling
 pub mod Opening
 pub mod Catalogs
 pub mod Writes
+pub mod OneReading

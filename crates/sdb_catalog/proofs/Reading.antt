@@ -51,7 +51,7 @@ own_table t h e =
       | inr may ↦ none_some t.name (sym own_none ∙ ap table_named (sym e) ∙ table_named-text t.name may.1)
     ]
 
-own_name : table_text coordinators.name ≡ own_text
+pub own_name : table_text coordinators.name ≡ own_text
 unfolding coordinators
 own_name = refl
 
@@ -128,10 +128,10 @@ own_read u name definition own is = λ t may same _. ap Some (own ∙ sym (own_t
 
 ---- the texts of a row
 
-abbrev said_by : Entry → Texts
+abbrev pub said_by : Entry → Texts
 said_by e = record { name = table_text e.table.name; definition = definition_text e.table; store = e.store; revision = id_text e.revision.0 }
 
-row_texts : (e : Entry) → texts_of (row_of e) ≡ Some (said_by e)
+pub row_texts : (e : Entry) → texts_of (row_of e) ≡ Some (said_by e)
 unfolding row_of metadata_key_of texts_of
 row_texts e = refl
 
