@@ -7,6 +7,7 @@ mod records;
 mod snapshot;
 mod statements;
 mod stores;
+mod tables;
 mod words;
 
 use std::env;
@@ -30,6 +31,7 @@ fn play(rt: &HostRuntime, bench: &str, words: &mut Args) -> Option<usize> {
         "statements" => statements::play(alloc, &input(rt)?, words),
         "snapshot" => snapshot::play(alloc, words),
         "plans" => plans::play(alloc, words),
+        "csv" => tables::play(alloc, words),
         "stores" => stores::play(alloc, words),
         _ => None,
     }

@@ -1,7 +1,6 @@
 //! A statement planned on the rows of one partition again and again.
 
 ghost use Rattle.std.specs.Prelude.{◌≡◌, ◌++◌, ◌∷◌, [], true, IfSome, OnSome};
-ghost use Rattle.sdb_schema.specs.declared.table.Kind.TheVariants.{Int};
 ghost use Rattle.sdb_schema.specs.Table.{are_short, is_table};
 
 use crate::records::table as table_name;
@@ -29,12 +28,11 @@ fn name(alloc: Global, text: &str) -> Option<Name>
     Name::new(alloc, text).ok()
 }
 
-// Adds a column of numbers.
-fn add_column(alloc: Global, columns: &mut ColumnList, text: &str) -> Option<()>
-    ensures { OnSome result (columns.new ≡ columns.old ++ record { name = text.now; kind = Int } ∷ []) }
+/// Adds a column.
+pub fn add_column(alloc: Global, columns: &mut ColumnList, text: &str, kind: Kind) -> Option<()>
+    ensures { OnSome result (columns.new ≡ columns.old ++ record { name = text.now; kind = kind } ∷ []) }
 {
     let name = name(alloc, text)?;
-    let kind = Kind::Int;
     columns.push(Column { name, kind }).ok()
 }
 
@@ -42,9 +40,9 @@ fn add_columns(alloc: Global, columns: &mut ColumnList) -> Option<()>
     requires { columns.old ≡ [] }
     ensures { OnSome result (are_short columns.new ≡ true) }
 {
-    add_column(alloc, columns, "cat")?;
-    add_column(alloc, columns, "n")?;
-    add_column(alloc, columns, "qty")
+    add_column(alloc, columns, "cat", Kind::Int)?;
+    add_column(alloc, columns, "n", Kind::Int)?;
+    add_column(alloc, columns, "qty", Kind::Int)
 }
 
 fn columns(alloc: Global) -> Option<ColumnList>
@@ -55,7 +53,8 @@ fn columns(alloc: Global) -> Option<ColumnList>
     Some(columns)
 }
 
-fn partition_of(alloc: Global) -> Option<Names> {
+/// The partition key `cat`.
+pub fn partition_of(alloc: Global) -> Option<Names> {
     let name = name(alloc, "cat")?;
     let mut partition = Names::new(alloc);
     partition.push(name).ok()?;
@@ -70,7 +69,13 @@ fn clustering_of(alloc: Global) -> Option<Orders> {
     Some(clustering)
 }
 
-fn table_of(alloc: Global, name: TableName, columns: ColumnList, partition: Names) -> Option<Table>
+/// A table of these columns, in which rows stand by `n`.
+pub fn table_of(
+    alloc: Global,
+    name: TableName,
+    columns: ColumnList,
+    partition: Names,
+) -> Option<Table>
     requires { are_short columns ≡ true }
     ensures { IfSome result (λ table. is_table table ≡ true) }
 {

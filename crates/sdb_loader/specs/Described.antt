@@ -103,6 +103,10 @@ json_of text = if is_utf8 text then read text else None
 abbrev pub catalog_in : List ℕ → Result (List Table) SchemaFault
 catalog_in text = option_map_or described (json_of text) (Err fault.NotJson)
 
+-- The table that a text describes under a name, alone, or the first fault.
+abbrev pub described_table : TableName → List ℕ → Result (List Table) SchemaFault
+described_table name text = option_map_or (λ d. described_tables ((name, d) ∷ [])) (read text) (Err fault.NotJson)
+
 -- A fault that comes of an outcome; want of memory may stand in the place of any outcome.
 abbrev pub Faults : {A : Type 0} → Result A SchemaFault → SchemaFault → Type 0
 Faults r fault.NotJson = r ≡ Err fault.NotJson

@@ -10,4 +10,5 @@ mod tables;
 mod words;
 
 pub use fault::SchemaFault;
-pub use load::catalog_of;
+pub use load::{catalog_of, catalog_with, table_of};
+pub use words::{known_name, table_named};

@@ -4,12 +4,13 @@ ghost use Rattle.std.specs.List.{list_all};
 ghost use Rattle.serde_json.specs.View.{view, members_view};
 ghost use Rattle.sdb_schema.specs.Table.{is_table};
 ghost use Rattle.sdb_schema.specs.Catalog.{rises};
-ghost use Rattle.sdb_loader.specs.Described.{Faults, catalog_in, json_of, described_members, within_limit};
+ghost use Rattle.serde_json.specs.Read.{read};
+ghost use Rattle.sdb_loader.specs.Described.{Faults, catalog_in, json_of, described_members, described_table, within_limit};
 
 use crate::fault::SchemaFault;
-use crate::tables::{named_tables, tables_of};
+use crate::tables::{named_tables, table_in, tables_of};
 use sdb_schema::{AddRefused, Catalog, Table};
-use sdb_types::Seq;
+use sdb_types::{Seq, TableName};
 use serde_json::{Map, Value};
 use std::alloc::Global;
 
@@ -46,8 +47,8 @@ fn put(catalog: &mut Catalog, table: Table) -> Result<(), SchemaFault>
     }
 }
 
-// The catalog of tables whose names rise.
-fn catalog_with(alloc: Global, tables: Seq<Table>) -> Result<Catalog, SchemaFault>
+/// The catalog of tables whose names rise, or too many tables.
+pub fn catalog_with(alloc: Global, tables: Seq<Table>) -> Result<Catalog, SchemaFault>
     requires tables { list_all is_table tables ≡ true }
     requires rise { rises tables ≡ true }
     ensures ok { IfOk result (λ c. within_limit tables ≡ Ok c) }
@@ -89,4 +90,32 @@ pub fn catalog_of(alloc: Global, json: &[u8]) -> Result<Catalog, SchemaFault>
         Some(members) => catalog_among(alloc, members),
         None => Err(SchemaFault::NotAnObject),
     }
+}
+
+// The value of a text.
+fn value_in(alloc: Global, name: &TableName, json: &str) -> Result<Value, SchemaFault>
+    ensures ok { IfOk result (λ v. read json.now ≡ Some (view v)) }
+    ensures fault { IfErr result (Faults (described_table name.now json.now)) }
+{
+    match Value::from_str(alloc, json) {
+        Ok(value) => Ok(value),
+        Err(error) => {
+            if error.is_memory() {
+                Err(SchemaFault::NoMemory)
+            } else {
+                Err(SchemaFault::NotJson)
+            }
+        }
+    }
+}
+
+/// The table that the JSON of its definition describes under a name: a table's value in a schema, as `catalog_of` reads it.
+pub fn table_of(alloc: Global, name: TableName, json: &str) -> Result<Table, SchemaFault>
+    ensures ok { IfOk result (λ t. described_table name json.now ≡ Ok (t ∷ [])) }
+    ensures table { IfOk result (λ t. is_table t ≡ true) }
+    ensures named { IfOk result (λ t. t.name ≡ name) }
+    ensures fault { IfErr result (Faults (described_table name json.now)) }
+{
+    let value = value_in(alloc, &name, json)?;
+    table_in(alloc, name, &value)
 }

@@ -1,9 +1,9 @@
 //! The tables that a schema names, and the first fault among them.
-ghost use Rattle.std.specs.Prelude.{◌≡◌, IfOk, IfErr, OnOk, IfSome, map, true, None, Some, Ok, string_cmp};
+ghost use Rattle.std.specs.Prelude.{◌≡◌, ◌∷◌, [], IfOk, IfErr, OnOk, IfSome, map, true, None, Some, Ok, string_cmp};
 ghost use Rattle.std.specs.BTreeMap.{IsOrdered};
 ghost use Rattle.std.specs.Option.{option_map, option_copied};
 ghost use Rattle.std.specs.List.{list_all};
-ghost use Rattle.serde_json.specs.View.{members_view};
+ghost use Rattle.serde_json.specs.View.{view, members_view};
 ghost use Rattle.sdb_record.specs.Parts.{is_column_name};
 ghost use Rattle.sdb_schema.specs.Table.{checked_table, is_table, Refuses};
 ghost use Rattle.sdb_loader.specs.Described.{Faults, bad_name, named, table_of, untransactional, bad_field, unknown_type, bad_table, first_said, described_members, described_tables, within_limit};
@@ -151,4 +151,17 @@ pub fn tables_of(alloc: Global, tables: &[Named<'_>]) -> Result<Seq<Table>, Sche
 {
     fault_before(alloc, tables)?;
     all_made(alloc, tables)
+}
+
+/// The table that a value describes under a name, or its first fault.
+#[tactic(auto, unfolding(crate::specs::Described::described_tables))]
+pub fn table_in(alloc: Global, name: TableName, value: &Value) -> Result<Table, SchemaFault>
+    ensures ok { IfOk result (λ t. described_tables ((name, view value.now) ∷ []) ≡ Ok (t ∷ [])) }
+    ensures table { IfOk result (λ t. is_table t ≡ true) }
+    ensures named { IfOk result (λ t. t.name ≡ name) }
+    ensures fault { IfErr result (Faults (described_tables ((name, view value.now) ∷ []))) }
+{
+    let named = [Named { name, value }];
+    fault_before(alloc, &named)?;
+    table_made(alloc, &named[0])
 }

@@ -1,0 +1,25 @@
+use Rattle.std.proofs.Common.{◌∙◌, ◌+◌, List, ap, take}
+use Rattle.std.specs.Prelude.{string_bytes}
+use Rattle.sdb_catalog.specs.declared.entry.Entry.{Entry}
+use Rattle.sdb_catalog.specs.Written.{entry_for}
+use Rattle.sdb_catalog.proofs.Calling.{goes_more}
+use Rattle.sdb_catalog.proofs.Writes.{item_more, written_one}
+use Rattle.sdb_catalog.proofs.write.write_all.Goals as goal
+
+pub loop-table-preserved : goal.loop-table-preserved
+loop-table-preserved g c =
+    let old = g.R.Registry.shelves c.args.stores.now in
+    let mid = g.R.Registry.shelves c.loop-table.stores in
+    let new = g.R.Registry.shelves c.write_table.new.stores in
+    let ts = c.args.tables.now in
+    let i = c.loop-table.table-index in
+    let t = c.table-item.result in
+    let before = c.loop-table.invariant in
+    let step = c.in_ok-outcome.ensures in
+    record {
+      bare = step.places ∙ before.bare;
+      goes = goes_more old mid new before.goes step.goes;
+      so =
+          written_one c.args.places.now c.args.first.now c.args.known.now c.loop-table.known c.write_table.new.known (take i ts) (take (i + 1) ts) t c.in_ok-outcome.outcome c.in_ok-entry.entry (string_bytes c.loop-table.text) (string_bytes c.put_line.new.text) old mid new
+          before.so before.goes.telling (c.in_ok-entry.ensures ∙ ap (λ (es : List Entry). entry_for es c.args.places.now c.args.first.now t) c.as_slice.ensures) step.written step.known c.in_ok-put_line.ensures (item_more ts i t c.loop-table-test.true c.table-item.is);
+    }

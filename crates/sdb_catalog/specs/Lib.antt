@@ -1,0 +1,6 @@
+pub mod Definition
+pub mod Rows
+pub mod Shown
+pub mod Opened
+pub mod Calls
+pub mod Written

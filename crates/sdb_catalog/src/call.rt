@@ -1,0 +1,50 @@
+//! Calls on the store of the catalog's rows.
+ghost use Rattle.std.specs.Prelude.{◌≡◌, ◌≢◌, ◌<◌, [], length, IfOk, IfErr};
+ghost use Rattle.sdb_types.specs.declared.record.Request.TheVariants.{Scan};
+ghost use Rattle.sdb_types.specs.declared.record.Reply.TheVariants.{Rows};
+ghost use Rattle.sdb_types.specs.Contents.{CanAnswer};
+ghost use Rattle.sdb_catalog.specs.Calls.{Called, GoOn, IsStopped, metadata_span};
+
+use crate::refused::CatalogRefused;
+use crate::rows::metadata_table;
+use sdb_stores::Registry;
+use sdb_types::{Records, Reply, Request, Span};
+use std::alloc::Global;
+
+/// Makes a call on the first store: no namespace is placed.
+#[tactic(auto, using(crate::proofs::Calling::goes_call))]
+pub fn call<R: Registry>(stores: &mut R, request: &Request) -> Result<Reply, CatalogRefused>
+    requires some { 0 < length (R.shelves stores.old) }
+    requires bare { R.places stores.old ≡ [] }
+    ensures called { IfOk result (λ reply. Called (R.tells stores.old) request.now reply (R.shelves stores.old) (R.shelves stores.new)) }
+    ensures lawful { IfOk result (λ reply. CanAnswer request.now reply) }
+    ensures answered { IfOk result (λ reply. (reply ≢ Reply.Fault) × (reply ≢ Reply.NoMemory)) }
+    ensures places { R.places stores.new ≡ R.places stores.old }
+    ensures goes { GoOn (R.shelves stores.old) (R.shelves stores.new) (R.tells stores.old) (R.tells stores.new) }
+    ensures err { IfErr result (IsStopped (R.shelves stores.old) (R.shelves stores.new)) }
+{
+    match stores.perform(request) {
+        Reply::NoMemory => Err(CatalogRefused::NoMemory),
+        Reply::Fault => Err(CatalogRefused::StoreFault),
+        reply => Ok(reply),
+    }
+}
+
+/// The rows of the catalog, in the order of their keys, by one scan.
+pub fn scan<R: Registry>(alloc: Global, stores: &mut R) -> Result<Records, CatalogRefused>
+    requires some { 0 < length (R.shelves stores.old) }
+    requires bare { R.places stores.old ≡ [] }
+    ensures scanned { IfOk result (λ rows. Called (R.tells stores.old) (Scan metadata_span) (Rows rows) (R.shelves stores.old) (R.shelves stores.new)) }
+    ensures places { R.places stores.new ≡ R.places stores.old }
+    ensures goes { GoOn (R.shelves stores.old) (R.shelves stores.new) (R.tells stores.old) (R.tells stores.new) }
+    ensures err { IfErr result (IsStopped (R.shelves stores.old) (R.shelves stores.new)) }
+{
+    let request = Request::Scan(Span {
+        table: metadata_table(alloc)?,
+        partition: None,
+    });
+    match call(stores, &request)? {
+        Reply::Rows(rows) => Ok(rows),
+        _ => unreachable!(),
+    }
+}

@@ -1,0 +1,22 @@
+//! What a row of the catalog says.
+use sdb_schema::Table;
+use sdb_types::{Name, TxId};
+
+/// What a row of the catalog says: a table, the store that keeps it, and the row's revision.
+#[derive(Debug, PartialEq, Eq)]
+pub struct Entry {
+    pub table: Table,
+    pub store: Name,
+    pub revision: TxId,
+}
+
+// By hand: each drop is then one call, where a derived one stands at each place with a call for each field.
+impl Drop for Entry {
+    fn drop(self) {
+        let Entry {
+            table: _,
+            store: _,
+            revision: _,
+        } = self;
+    }
+}

@@ -1,0 +1,22 @@
+//! Laws of the definitions that contracts cite.
+ghost use Rattle.std.specs.Prelude.{◌≡◌, ◌∷◌, [], ℕ, List, map, true, Ok};
+ghost use Rattle.sdb_types.specs.declared.record.Record.{Record};
+ghost use Rattle.sdb_schema.specs.declared.table.Table.{Table};
+ghost use Rattle.sdb_schema.specs.Table.{is_table};
+ghost use Rattle.sdb_loader.specs.Described.{described_table};
+ghost use Rattle.sdb_catalog.specs.declared.entry.Entry.{Entry};
+ghost use Rattle.sdb_catalog.specs.Definition.{definition_text};
+ghost use Rattle.sdb_catalog.specs.Opened.{Follow, Opens};
+ghost use Rattle.sdb_catalog.specs.Rows.{row_of};
+
+/// What a table's definition describes under the table's name is the table.
+pub fn definitions()
+    ensures again { (t : Table) → is_table t ≡ true → described_table t.name (definition_text t) ≡ Ok (t ∷ []) }
+{}
+
+/// The rows of entries that may follow one another open as these entries, and rows open as one list of entries: so the rows of a
+/// catalog are read back as that catalog.
+pub fn rows_are_read_back()
+    ensures opened { (names : List (List ℕ)) (es : List Entry) → Follow names [] es → Opens names (map row_of es) es }
+    ensures one { (names : List (List ℕ)) (rows : List Record) (es fs : List Entry) → Opens names rows es → Opens names rows fs → es ≡ fs }
+{}

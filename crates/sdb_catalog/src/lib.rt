@@ -1,0 +1,20 @@
+//! The rows of the catalog: of each table one, with its definition as JSON and the name of the store that keeps it.
+#![tactic(auto)]
+
+mod call;
+mod definition;
+mod entry;
+pub mod laws;
+mod open;
+mod outcome;
+mod read;
+mod refused;
+mod rows;
+mod write;
+
+pub use definition::definition_text;
+pub use entry::Entry;
+pub use open::open_catalog;
+pub use refused::CatalogRefused;
+pub use rows::{coordinators, metadata_table, row_of};
+pub use write::store_catalog;

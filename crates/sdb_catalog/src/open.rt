@@ -1,0 +1,209 @@
+//! Catalogs opened from their rows.
+ghost use Rattle.std.specs.Prelude.{◌≡◌, ◌<◌, ◌≤◌, ◌∷◌, ℕ, List, [], length, map, filter, not, nat_lt, true, IfOk, IfErr, OnOk, OnErr, IfSome};
+ghost use Rattle.std.specs.List.{list_all};
+ghost use Rattle.std.specs.Option.{option_or};
+ghost use Rattle.sdb_types.specs.declared.record.Record.{Record};
+ghost use Rattle.sdb_schema.specs.Catalog.{rises};
+ghost use Rattle.sdb_schema.specs.Table.{is_table};
+ghost use Rattle.sdb_stores.specs.Shelf.{names_of, placed_on};
+ghost use Rattle.sdb_catalog.specs.declared.entry.Entry.{Entry};
+ghost use Rattle.sdb_catalog.specs.Calls.{GoOn, IsOpened, IsRead, IsUnread};
+ghost use Rattle.sdb_catalog.specs.Opened.{are_attached, is_attached, Follows, IsBadAmong, Opens, agrees as agrees_lem, fits as fits_lem, is_coordinators as is_coordinators_lem, open_count, store_in, tables_of};
+ghost use Rattle.sdb_catalog.specs.Rows.{row_of};
+
+use crate::call::scan;
+use crate::entry::Entry;
+use crate::read::entry_of;
+use crate::refused::CatalogRefused;
+use sdb_loader::{SchemaFault, catalog_with};
+use sdb_schema::{Catalog, Table};
+use sdb_stores::{PlaceRefused, Registry};
+use sdb_types::{Duplicate, Name, NoMemory, Record, Seq};
+use std::alloc::Global;
+
+/// Whether the table is the coordinator's, which is no table of the catalog.
+pub fn is_coordinators(entry: &Entry) -> bool
+    ensures { result ≡ is_coordinators_lem entry.now }
+{
+    entry.table.name.ns.as_str() == "coordinator"
+}
+
+// Two tables of one namespace are in one store.
+fn agrees(entry: &Entry, other: &Entry) -> bool
+    ensures { result ≡ agrees_lem entry.now other.now }
+{
+    other.table.name.ns != entry.table.name.ns || other.store == entry.store
+}
+
+fn all_agree(entry: &Entry, passed: &[Entry]) -> bool
+    ensures { result ≡ list_all (agrees_lem entry.now) passed.now }
+{
+    passed.iter().all(|other| agrees(entry, other))
+}
+
+/// How many tables the catalog has.
+pub fn count_tables(entries: &[Entry]) -> usize
+    ensures { result ≡ open_count entries.now }
+{
+    let mut count = 0;
+    for entry in entries {
+        if !is_coordinators(entry) {
+            count += 1;
+        }
+    }
+    count
+}
+
+fn fits(passed: &[Entry], entry: &Entry) -> bool
+    ensures { result ≡ fits_lem passed.now entry.now }
+{
+    all_agree(entry, passed) && (is_coordinators(entry) || count_tables(passed) < 64)
+}
+
+// The entry of a row that may follow those before it.
+fn next_entry(
+    alloc: Global,
+    names: &[Name],
+    passed: &[Entry],
+    row: &Record,
+) -> Result<Option<Entry>, NoMemory>
+    ensures some { IfOk result (λ found. IfSome found (λ e. (row_of e ≡ row.now) × Follows names.now passed.now e)) }
+    ensures read { IfOk result (λ found. (e : Entry) → row_of e ≡ row.now → Follows names.now passed.now e → found ≡ Some e) }
+{
+    let Some(entry) = entry_of(alloc, names, row)? else {
+        return Ok(None);
+    };
+    if fits(passed, &entry) {
+        Ok(Some(entry))
+    } else {
+        Ok(None)
+    }
+}
+
+// The entries that rows open as, or the first row that no entry may have there.
+fn entries_of(alloc: Global, names: &[Name], rows: &[Record]) -> Result<Seq<Entry>, CatalogRefused>
+    ensures opens { IfOk result (λ es. Opens names.now rows.now es) }
+    ensures err { IfErr result (IsBadAmong names.now rows.now) }
+{
+    let mut entries = Seq::new(alloc);
+    for row in rows {
+        match next_entry(alloc, names, entries.as_slice(), row)? {
+            Some(entry) => entries.push(entry)?,
+            None => return Err(CatalogRefused::BadRow(row.key.copy()?)),
+        }
+    }
+    Ok(entries)
+}
+
+/// What the rows of the catalog say, in the order of their keys.
+pub fn read_entries<R: Registry>(
+    alloc: Global,
+    stores: &mut R,
+) -> Result<Seq<Entry>, CatalogRefused>
+    requires some { 0 < length (R.shelves stores.old) }
+    requires bare { R.places stores.old ≡ [] }
+    ensures read { IfOk result (IsRead (R.tells stores.old) (R.shelves stores.old) (R.shelves stores.new)) }
+    ensures places { R.places stores.new ≡ R.places stores.old }
+    ensures goes { GoOn (R.shelves stores.old) (R.shelves stores.new) (R.tells stores.old) (R.tells stores.new) }
+    ensures err { IfErr result (IsUnread (R.tells stores.old) (R.shelves stores.old) (R.shelves stores.new)) }
+{
+    let rows = scan(alloc, stores)?;
+    let names = stores.names()?;
+    entries_of(alloc, names.as_slice(), rows.as_slice())
+}
+
+// Places a namespace on the store that keeps a table of it, where it has no place.
+fn place_one<R: Registry>(stores: &mut R, entry: &Entry) -> Result<(), NoMemory>
+    requires attached { is_attached (names_of (R.shelves stores.old)) entry.now.store ≡ true }
+    ensures ok { OnOk result ((ns : List ℕ) → placed_on ns (R.places stores.new) ≡ option_or (placed_on ns (R.places stores.old)) (store_in (entry.now ∷ []) ns)) }
+    ensures stores { R.shelves stores.new ≡ R.shelves stores.old }
+    ensures telling { (i : ℕ) → R.tells stores.old i → R.tells stores.new i }
+{
+    match stores.place(entry.table.name.ns.copy()?, &entry.store) {
+        Ok(()) => Ok(()),
+        Err(PlaceRefused::AlreadyPlaced) => Ok(()),
+        Err(PlaceRefused::NoMemory) => Err(NoMemory),
+        Err(PlaceRefused::NoStore) => unreachable!(),
+    }
+}
+
+// Places each namespace on the store that keeps it.
+fn place_all<R: Registry>(stores: &mut R, entries: &[Entry]) -> Result<(), NoMemory>
+    requires attached { are_attached (names_of (R.shelves stores.old)) entries.now ≡ true }
+    requires bare { R.places stores.old ≡ [] }
+    ensures ok { OnOk result ((ns : List ℕ) → placed_on ns (R.places stores.new) ≡ store_in entries.now ns) }
+    ensures stores { R.shelves stores.new ≡ R.shelves stores.old }
+    ensures telling { (i : ℕ) → R.tells stores.old i → R.tells stores.new i }
+{
+    for entry in entries {
+        place_one(stores, entry)?;
+    }
+    Ok(())
+}
+
+// The tables of the catalog.
+fn tables_among(alloc: Global, entries: &[Entry]) -> Result<Seq<Table>, NoMemory>
+    ensures { IfOk result (λ ts. ts ≡ tables_of entries.now) }
+{
+    let mut tables = Seq::new(alloc);
+    for entry in entries {
+        if !is_coordinators(entry) {
+            tables.push(entry.table.copy()?)?;
+        }
+    }
+    Ok(tables)
+}
+
+// The catalog of these tables.
+fn catalog_among(alloc: Global, entries: &[Entry]) -> Result<Catalog, NoMemory>
+    requires tables { list_all is_table (tables_of entries.now) ≡ true }
+    requires rise { rises (tables_of entries.now) ≡ true }
+    requires few { length (tables_of entries.now) ≤ 64 }
+    ensures { IfOk result (λ c. c ≡ tables_of entries.now) }
+{
+    match catalog_with(alloc, tables_among(alloc, entries)?) {
+        Ok(catalog) => Ok(catalog),
+        Err(SchemaFault::NoMemory) => Err(NoMemory),
+        Err(_) => unreachable!(),
+    }
+}
+
+/// The catalog that the rows of `scalardb.metadata` in the first store make, with each of its namespaces, and the coordinator's,
+/// placed on the store that keeps it. No namespace is placed before, and none after a refusal.
+pub fn open_catalog<R: Registry>(alloc: Global, stores: &mut R) -> Result<Catalog, CatalogRefused>
+    requires some { 0 < length (R.shelves stores.old) }
+    requires bare { R.places stores.old ≡ [] }
+    ensures opened { IfOk result (λ c. IsOpened (R.tells stores.old) (R.shelves stores.old) (R.shelves stores.new) (R.places stores.new) c) }
+    ensures unplaced { OnErr result (R.places stores.new ≡ []) }
+    ensures goes { GoOn (R.shelves stores.old) (R.shelves stores.new) (R.tells stores.old) (R.tells stores.new) }
+    ensures err { IfErr result (IsUnread (R.tells stores.old) (R.shelves stores.old) (R.shelves stores.new)) }
+{
+    let entries = read_entries(alloc, stores)?;
+    match placed(alloc, stores, entries.as_slice()) {
+        Ok(catalog) => Ok(catalog),
+        Err(NoMemory) => {
+            stores.clear_places();
+            Err(CatalogRefused::NoMemory)
+        }
+    }
+}
+
+// The catalog of entries, with each namespace placed.
+fn placed<R: Registry>(
+    alloc: Global,
+    stores: &mut R,
+    entries: &[Entry],
+) -> Result<Catalog, NoMemory>
+    requires attached { are_attached (names_of (R.shelves stores.old)) entries.now ≡ true }
+    requires bare { R.places stores.old ≡ [] }
+    requires tables { list_all is_table (tables_of entries.now) ≡ true }
+    requires rise { rises (tables_of entries.now) ≡ true }
+    requires few { length (tables_of entries.now) ≤ 64 }
+    ensures catalog { IfOk result (λ c. c ≡ tables_of entries.now) }
+    ensures placed { OnOk result ((ns : List ℕ) → placed_on ns (R.places stores.new) ≡ store_in entries.now ns) }
+    ensures stores { R.shelves stores.new ≡ R.shelves stores.old }
+    ensures telling { (i : ℕ) → R.tells stores.old i → R.tells stores.new i }
+{
+    place_all(stores, entries)?;
+    catalog_among(alloc, entries)
+}
