@@ -1,0 +1,17 @@
+pub mod Lists
+pub mod Meta
+pub mod Own
+pub mod Kept
+pub mod Reading
+pub mod Foreign
+pub mod Replan
+pub mod Rows
+pub mod Seen
+pub mod Clients
+pub mod Commit
+pub mod Work
+pub mod Take
+pub mod Fresh
+pub mod Quiet
+pub mod Calls
+pub mod Begin
