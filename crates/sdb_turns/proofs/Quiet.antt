@@ -13,7 +13,7 @@ use Rattle.sdb_laws.specs.History.{Other, Stops, Talk, heard}
 use Rattle.sdb_laws.specs.Lawful.{Played, talk}
 use Rattle.sdb_snapshot.specs.Seen.{Seen, with_written}
 use Rattle.sdb_snapshot.specs.Written.{AreChanges}
-use Rattle.sdb_turns.specs.Noted.{OpenOk, SeenOk, with_read, IsUnread}
+use Rattle.sdb_turns.specs.Noted.{OpenOk, SeenOk, with_read, MayNote}
 use Rattle.sdb_turns.specs.ReadAt.{ReadAt, Asking, Done, IsOfData, ReadOk}
 use Rattle.sdb_turns.specs.Sweep.{SweepAt, Scanning}
 use Rattle.sdb_turns.specs.System.{ClientAt, Resting, Open, Reading, Committing, Sweeping, Stopped, ClientOk, Has, has_open, sweeps, Gate, SystemAt, SystemOk, with_client, IsBy, plays, ends_with, StandsAt, IsQuiet, NoneOpen}
@@ -85,7 +85,7 @@ asks plan past sys c id seen a stands tables =
     let here : OpenOk (talk past) c id.0 × SeenOk past seen = subst (ClientOk plan past c) stands.at (stands.ok.each c) in
     moved plan past sys c (Reading id seen a Asking) stands.ok (here.0, here.1, tables, tt) (λ u h. subst (λ x. Has x u) stands.at h) (no_gate (talk past) (Reading id seen a Asking) refl)
 
-pub notes : (plan : ℕ → Plan) (past : List Played) (sys : SystemAt) (c : ℕ) (id : TxId) (seen : Seen) (a : Access) (images : List Record) → StandsAt plan past sys c (Reading id seen a (Done images)) → IsUnread seen a → SystemOk plan past (with_client sys c (Open id (with_read seen a images)))
+pub notes : (plan : ℕ → Plan) (past : List Played) (sys : SystemAt) (c : ℕ) (id : TxId) (seen : Seen) (a : Access) (images : List Record) → StandsAt plan past sys c (Reading id seen a (Done images)) → MayNote seen a images → SystemOk plan past (with_client sys c (Open id (with_read seen a images)))
 notes plan past sys c id seen a images stands free =
     let here : OpenOk (talk past) c id.0 × SeenOk past seen × IsOfData a × ReadOk past a (Done images) = subst (ClientOk plan past c) stands.at (stands.ok.each c) in
     moved plan past sys c (Open id (with_read seen a images)) stands.ok (here.0, read_noted past seen a images here.1 here.2 free here.3.0 here.3.1) (λ u h. subst (λ x. Has x u) stands.at h) (no_gate (talk past) (Open id (with_read seen a images)) refl)

@@ -1,10 +1,11 @@
 -- What a transaction has read and written, and what is so of it: from its first read, and as its COMMIT takes it.
-use Rattle.std.specs.Prelude.{◌≡◌, ◌≢◌, ◌<◌, ◌^◌, ℕ, ℤ, true, false, List, [], ◌∷◌, Option, Some, None, IfSome}
-use Rattle.std.specs.List.{AllByRecursion}
+use Rattle.std.specs.Prelude.{◌≡◌, ◌≢◌, ◌<◌, ◌^◌, ℕ, ℤ, true, false, List, [], ◌∷◌, Option, Some, None, IfSome, Bool, ◌&&◌, ◌||◌}
+use Rattle.std.specs.List.{AllByRecursion, list_any}
 use Rattle.sdb_types.specs.declared.key.Key.{Key}
 use Rattle.sdb_types.specs.declared.txid.TxId.{TxId}
 use Rattle.sdb_types.specs.declared.record.Record.{Record}
 use Rattle.sdb_types.specs.Contents.{in_span}
+use Rattle.sdb_keyed.specs.Entries.{same_key}
 use Rattle.sdb_record.specs.declared.access.Access.{Access}
 use Rattle.sdb_record.specs.declared.access.Access.TheVariants as access
 use Rattle.sdb_record.specs.declared.access.Read.{Read}
@@ -19,7 +20,7 @@ use Rattle.sdb_laws.specs.History.{Talk}
 use Rattle.sdb_laws.specs.Lawful.{Played, is_data, IsSettled}
 use Rattle.sdb_phases.specs.Work.{Work}
 use Rattle.sdb_phases.specs.Checks.{is_written, base_of}
-use Rattle.sdb_snapshot.specs.Noted.{Note, is_noted, base_at}
+use Rattle.sdb_snapshot.specs.Noted.{Note, IsUnmoved, is_noted, base_at}
 use Rattle.sdb_snapshot.specs.Seen.{Seen, with_get, with_scan}
 use Rattle.sdb_snapshot.specs.Held.{AreKept}
 use Rattle.sdb_validate.specs.Rescan.{reads_rise}
@@ -45,9 +46,24 @@ IsNoteOk past e = (is_data e.0 ≡ true) × IfSome e.1 (IsSettled past e.0)
 abbrev pub IsReadOk : List Note → Read → Type 0
 IsReadOk notes r = (is_noted notes r.key ≡ true) × (r.version ≡ version_of (base_at notes r.key))
 
+-- a scan found a record at a key
+abbrev pub is_found : Scan → Key → Bool
+is_found x q = list_any (λ r. same_key q r.key) x.found
+
 -- what a scan found stands in the order of keys, and was read at each key of its span
 abbrev pub IsScanOk : List Played → Scan → Type 0
 IsScanOk past s = (reads_rise s.found ≡ true) × ((k : Key) → in_span s.span k ≡ true → IsReadThere past k (version_among s.found k))
+
+-- at each key at which it found a record, that version is noted
+abbrev pub IsFoundOk : List Note → Scan → Type 0
+IsFoundOk notes x = (q : Key) → is_found x q ≡ true → (is_noted notes q ≡ true) × (version_of (base_at notes q) ≡ version_among x.found q)
+
+-- a key was read by a get, or a scan of a span with it found a record there
+abbrev pub was_read : List Read → Key → Bool
+was_read reads q = list_any (λ r. same_key q r.key) reads
+
+abbrev pub was_found : List Scan → Key → Bool
+was_found scans q = list_any (λ x. in_span x.span q && is_found x q) scans
 
 -- What is so of what a transaction has read and written, after the events so far.
 pub record SeenOk (past : List Played) (s : Seen) : Type 0 where
@@ -55,6 +71,9 @@ pub record SeenOk (past : List Played) (s : Seen) : Type 0 where
   pub notes : AllByRecursion (IsNoteOk past) s.notes
   pub reads : AllByRecursion (IsReadOk s.notes) s.reads
   pub scans : AllByRecursion (IsScanOk past) s.scans
+  pub found : AllByRecursion (IsFoundOk s.notes) s.scans
+  -- each key that is noted was read by a get or found by a scan
+  pub noted : (q : Key) → is_noted s.notes q ≡ true → (was_read s.reads q || was_found s.scans q) ≡ true
 
 -- A client's transaction is open, its COMMIT was not taken, and nothing was said of its calls.
 pub record OpenOk (h : Talk) (c t : ℕ) : Type 0 where
@@ -77,10 +96,10 @@ abbrev pub with_read : Seen → Access → List Record → Seen
 with_read s (access.Get key) images = with_get s key (first_image images)
 with_read s (access.Scan span) images = with_scan s span images
 
--- a get makes a call only of a key that was not read
-abbrev pub IsUnread : Seen → Access → Type 0
-IsUnread s (access.Get key) = is_noted s.notes key ≡ false
-IsUnread s (access.Scan span) = Unit {0}
+-- A read may be noted: a get makes a call only of a key that was not read, and a scan finds no other version at a key that was.
+abbrev pub MayNote : Seen → Access → List Record → Type 0
+MayNote s (access.Get key) images = is_noted s.notes key ≡ false
+MayNote s (access.Scan span) images = IsUnmoved s.notes span images
 
 ---- as its COMMIT takes it
 

@@ -12,7 +12,7 @@ ghost use Rattle.sdb_phases.specs.Work.{Work};
 ghost use Rattle.sdb_phases.specs.Commit.{Stage, starved};
 ghost use Rattle.sdb_snapshot.specs.Seen.{Seen, with_written};
 ghost use Rattle.sdb_snapshot.specs.Written.{AreChanges};
-ghost use Rattle.sdb_turns.specs.Noted.{IsUnread, with_read};
+ghost use Rattle.sdb_turns.specs.Noted.{MayNote, with_read};
 ghost use Rattle.sdb_turns.specs.ReadAt.{ReadAt, Asking, Done, IsOfData};
 ghost use Rattle.sdb_turns.specs.Sweep.{SweepAt, Scanning};
 ghost use Rattle.sdb_turns.specs.System.{Resting, Open, Reading, Committing, Sweeping, SystemAt, SystemOk, StandsAt, NoneOpen, with_client};
@@ -21,7 +21,7 @@ ghost use Rattle.sdb_turns.specs.System.{Resting, Open, Reading, Committing, Swe
 /// is given up.
 pub fn reads()
     ensures asks { (plan : ℕ → Plan) (past : List Played) (sys : SystemAt) (c : ℕ) (id : TxId) (seen : Seen) (a : Access) → StandsAt plan past sys c (Open id seen) → IsOfData a → SystemOk plan past (with_client sys c (Reading id seen a Asking)) }
-    ensures notes { (plan : ℕ → Plan) (past : List Played) (sys : SystemAt) (c : ℕ) (id : TxId) (seen : Seen) (a : Access) (images : List Record) → StandsAt plan past sys c (Reading id seen a (Done images)) → IsUnread seen a → SystemOk plan past (with_client sys c (Open id (with_read seen a images))) }
+    ensures notes { (plan : ℕ → Plan) (past : List Played) (sys : SystemAt) (c : ℕ) (id : TxId) (seen : Seen) (a : Access) (images : List Record) → StandsAt plan past sys c (Reading id seen a (Done images)) → MayNote seen a images → SystemOk plan past (with_client sys c (Open id (with_read seen a images))) }
     ensures gives_up { (plan : ℕ → Plan) (past : List Played) (sys : SystemAt) (c : ℕ) (id : TxId) (seen : Seen) (a : Access) (s : ReadAt) → StandsAt plan past sys c (Reading id seen a s) → SystemOk plan past (with_client sys c (Open id seen)) }
 {}
 
