@@ -56,7 +56,7 @@ unused plan past sys c ok small = by (zero_or ((talk past).begun t))
     by : (((talk past).begun t) ≡ 0) ⊎ ((talk past).begun t ≢ 0) → (talk past).begun t ≡ 0
     by (inl z) = z
     by (inr n) =
-        let l = subst (λ d. t % 2 ^ 64 ≤ sys.begun d) (half c (sys.begun c + 1) small) (ok.ids t n) in
+        let l = subst (λ d. t % 2 ^ 64 ≤ sys.begun d) (half c (sys.begun c + 1) small) (ok.ids t n).1 in
         absurd (more (sys.begun c) (subst (λ m. m ≤ sys.begun c) (rest c (sys.begun c + 1) small) l))
 
 ---- what is said
@@ -158,6 +158,9 @@ begin_turn plan past sys c text stands begin none = record {
         by (inl e) = subst (λ b. sys.begun d ≤ (if b then sys.begun c + 1 else sys.begun d)) (sym e.1) (up (sys.begun d) (sys.begun c) (ap sys.begun e.0))
         by (inr n) = subst (λ b. sys.begun d ≤ (if b then sys.begun c + 1 else sys.begun d)) (sym n.1) (itself (sys.begun d))
 
+    positive : (n : ℕ) → 0 < n + 1
+    positive n = omega arith
+
     within : (m n k : ℕ) → m ≤ n → n ≤ k → m ≤ k
     within m n k a b = omega arith
 
@@ -171,10 +174,21 @@ begin_turn plan past sys c text stands begin none = record {
         by (inl e) = subst (λ b. sys.begun c + 1 ≤ (if b then sys.begun c + 1 else sys.begun c)) (sym e.1) (itself (sys.begun c + 1))
         by (inr n) = absurd (n.0 refl)
 
-    ids : (u : ℕ) → (talk (q ∷ past)).begun u ≢ 0 → (((u ≡ t) × ((u == t) ≡ true)) ⊎ ((u ≢ t) × ((u == t) ≡ false))) → u % 2 ^ 64 ≤ laws.at sys.begun c (sys.begun c + 1) (u / 2 ^ 64)
-    ids u b (inl e) = subst (λ v. v % 2 ^ 64 ≤ laws.at sys.begun c (sys.begun c + 1) (v / 2 ^ 64)) (sym e.0) last
-    ids u b (inr n) = within (u % 2 ^ 64) (sys.begun (u / 2 ^ 64)) (laws.at sys.begun c (sys.begun c + 1) (u / 2 ^ 64)) (ok.ids u (λ e. b (other_begun (talk past) t c u n.0 ∙ e))) (more (u / 2 ^ 64))
+    ids : (u : ℕ) → (talk (q ∷ past)).begun u ≢ 0 → (((u ≡ t) × ((u == t) ≡ true)) ⊎ ((u ≢ t) × ((u == t) ≡ false))) → (0 < u % 2 ^ 64) × (u % 2 ^ 64 ≤ laws.at sys.begun c (sys.begun c + 1) (u / 2 ^ 64))
+    ids u b (inl e) = subst (λ v. (0 < v % 2 ^ 64) × (v % 2 ^ 64 ≤ laws.at sys.begun c (sys.begun c + 1) (v / 2 ^ 64))) (sym e.0) (subst (λ m. 0 < m) (sym (rest c (sys.begun c + 1) begin.ordinal)) (positive (sys.begun c)), last)
+    ids u b (inr n) = let old = ok.ids u (λ e. b (other_begun (talk past) t c u n.0 ∙ e)) in (old.0, within (u % 2 ^ 64) (sys.begun (u / 2 ^ 64)) (laws.at sys.begun c (sys.begun c + 1) (u / 2 ^ 64)) old.1 (more (u / 2 ^ 64)))
 
 -- Before the first event all is so.
 pub begins : (plan : ℕ → Plan) → SystemOk plan [] idle
 begins plan = record { lawful = tt; each = λ c. refl; opened = λ u o. absurd (cc (o)); gate = λ c s. absurd (cc (s)); ids = λ t b. absurd (b refl) }
+
+-- A transaction whose COMMIT was taken has begun.
+pub taken_begun : (plan : ℕ → Plan) (past : List Played) (sys : SystemAt) (t : ℕ) → SystemOk plan past sys → (talk past).taken t ≡ true → 0 < t % 2 ^ 64
+taken_begun plan past sys t ok taken = by (zero_or ((talk past).begun t))
+  where
+    clash : true ≡ false → ⊥
+    clash e = cc
+
+    by : ((talk past).begun t ≡ 0) ⊎ ((talk past).begun t ≢ 0) → 0 < t % 2 ^ 64
+    by (inl z) = absurd (clash (sym taken ∙ (in_turn plan past t ok.lawful).taken z))
+    by (inr n) = (ok.ids t n).0

@@ -86,7 +86,7 @@ pub record SystemOk (plan : ℕ → Plan) (past : List Played) (sys : SystemAt) 
   -- while a client runs VACUUM no transaction is open of a client that goes on
   pub gate : (c : ℕ) → sweeps (sys.clients c) ≡ true → Gate (talk past)
   -- a client's ids are numbered from 1
-  pub ids : (t : ℕ) → (talk past).begun t ≢ 0 → t % 2 ^ 64 ≤ sys.begun (t / 2 ^ 64)
+  pub ids : (t : ℕ) → (talk past).begun t ≢ 0 → (0 < t % 2 ^ 64) × (t % 2 ^ 64 ≤ sys.begun (t / 2 ^ 64))
 
 abbrev pub with_client : SystemAt → ℕ → ClientAt → SystemAt
 with_client sys c x = record sys { clients = laws.at sys.clients c x }

@@ -1,5 +1,5 @@
 //! What clients know: at the start, through other clients' events, and as a COMMIT takes it.
-ghost use Rattle.std.specs.Prelude.{◌≡◌, ◌≢◌, ◌<◌, ◌^◌, ℕ, ℤ, List, ◌∷◌, [], ◌++◌, Option, Some, true};
+ghost use Rattle.std.specs.Prelude.{◌≡◌, ◌≢◌, ◌<◌, ◌%◌, ◌^◌, ℕ, ℤ, List, ◌∷◌, [], ◌++◌, Option, Some, true};
 ghost use Rattle.std.specs.List.{AllByRecursion};
 ghost use Rattle.sdb_types.specs.declared.txid.TxId.{TxId};
 ghost use Rattle.sdb_types.specs.declared.record.Record.{Record};
@@ -57,4 +57,9 @@ pub fn work_is_fit()
 pub fn plans_are_free()
     ensures lawful { (plan other : ℕ → Plan) (past : List Played) → SamePlans plan other past → IsLawful plan past → IsLawful other past }
     ensures system { (plan other : ℕ → Plan) (past : List Played) (sys : SystemAt) → SamePlans plan other past → SystemOk plan past sys → SystemOk other past sys }
+{}
+
+/// A transaction whose COMMIT was taken has begun, and its number tells which of its client's transactions it is, from 1.
+pub fn taken_has_begun()
+    ensures { (plan : ℕ → Plan) (past : List Played) (sys : SystemAt) (t : ℕ) → SystemOk plan past sys → (talk past).taken t ≡ true → 0 < t % 2 ^ 64 }
 {}
