@@ -30,7 +30,7 @@ use Rattle.sdb_laws.specs.Lawful.{Played, is_data, IsSettled}
 use Rattle.sdb_laws.proofs.Keys.{same_key_tells}
 use Rattle.sdb_phases.specs.Checks as phases
 use Rattle.sdb_phases.specs.Checks.{base_of}
-use Rattle.sdb_snapshot.specs.Noted.{Note, AreCommitted, IsUnmoved, has_moved, is_noted, base_at, record_in, with_note, with_images, reads_of}
+use Rattle.sdb_snapshot.specs.Noted.{Note, IsUnmoved, has_moved, is_noted, base_at, record_in, with_note, with_images, reads_of}
 use Rattle.sdb_snapshot.specs.Written as snap
 use Rattle.sdb_snapshot.specs.Written.{AreChanges, HaveBases, HaveKeysOnce}
 use Rattle.sdb_snapshot.specs.Seen.{Seen, nothing, with_get, with_scan, with_written}
@@ -309,7 +309,7 @@ noted_table past notes k all h = by (value_at notes k) refl h
     by None e s = absurd (cc (s))
     by (Some f) e s = (value_says past notes k f all e).0
 
-base_settled : (past : List Played) (notes : List Note) (k : Key) (b : Record) → AllByRecursion (IsNoteOk past) notes → base_at notes k ≡ Some b → IsSettled past k b
+pub base_settled : (past : List Played) (notes : List Note) (k : Key) (b : Record) → AllByRecursion (IsNoteOk past) notes → base_at notes k ≡ Some b → IsSettled past k b
 base_settled past notes k b all h = by (value_at notes k) refl h
   where
     some_is : (x y : Record) → Some x ≡ Some y → x ≡ y
@@ -319,6 +319,14 @@ base_settled past notes k b all h = by (value_at notes k) refl h
     by None e s = absurd (cc (s))
     by (Some None) e s = absurd (cc (s))
     by (Some (Some x)) e s = subst (IsSettled past k) (some_is x b s) (value_says past notes k (Some x) all e).1
+
+-- what was found was found at a key of a table
+pub base_table : (past : List Played) (notes : List Note) (k : Key) (b : Record) → AllByRecursion (IsNoteOk past) notes → base_at notes k ≡ Some b → is_data k ≡ true
+base_table past notes k b all h = by (value_at notes k) refl h
+  where
+    by : (o : Option (Option Record)) → value_at notes k ≡ o → option_and_then (λ x. x) o ≡ Some b → is_data k ≡ true
+    by None e s = absurd (cc (s))
+    by (Some f) e s = (value_says past notes k f all e).0
 
 base_version : (past : List Played) (notes : List Note) (k : Key) → AllByRecursion (IsNoteOk past) notes → VersionSettled past k (version_of (base_at notes k))
 base_version past notes k all = by (base_at notes k) refl

@@ -1,0 +1,5 @@
+pub mod Places
+pub mod Faith
+pub mod Bodies
+pub mod Steps
+pub mod Wholes

@@ -1,0 +1,4 @@
+pub mod Story
+pub mod Filed
+pub mod Body
+pub mod Left
