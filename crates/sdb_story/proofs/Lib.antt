@@ -3,3 +3,4 @@ pub mod Faith
 pub mod Bodies
 pub mod Steps
 pub mod Wholes
+pub mod Ends

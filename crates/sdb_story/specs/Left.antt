@@ -1,11 +1,14 @@
 -- What a transaction noted is what its writers left, and tables that transactions left one after the other.
-use Rattle.std.specs.Prelude.{◌≡◌, ℕ, ℤ, true, map, List, Some, Bool}
-use Rattle.std.specs.FinMap.{get}
+use Rattle.std.specs.Prelude.{◌≡◌, ℕ, ℤ, true, map, List, Some, Bool, false, None, is_some}
+use Rattle.std.specs.FinMap.{get, empty}
 use Rattle.sdb_types.specs.declared.key.Key.{Key}
 use Rattle.sdb_types.specs.declared.record.Record.{Record}
 use Rattle.sdb_record.specs.Moved.{version_of}
 use Rattle.sdb_record.specs.Rolls.{row_of_image}
-use Rattle.sdb_model.specs.Exec.{Tables}
+use Rattle.sdb_model.specs.declared.event.Event.{Event}
+use Rattle.sdb_model.specs.declared.event.Point.{Point}
+use Rattle.sdb_model.specs.Exec.{Tables, find_table}
+use Rattle.sdb_model.specs.Transactions.{body}
 use Rattle.sdb_snapshot.specs.Noted.{base_at}
 use Rattle.sdb_snapshot.specs.Seen.{Seen}
 use Rattle.sdb_laws.specs.Plan.{Plan}
@@ -18,7 +21,7 @@ use Rattle.sdb_model.specs.declared.script.Place.{Place}
 use Rattle.sdb_model.specs.declared.statement.Statement.{Statement}
 use Rattle.sdb_model.specs.Events.{Shelf}
 use Rattle.sdb_model.specs.Images.{row_at}
-use Rattle.sdb_model.specs.Told.{serial}
+use Rattle.sdb_model.specs.Told.{AreRead, serial}
 use Rattle.sdb_laws.specs.Lawful.{Played, is_data}
 use Rattle.sdb_turns.specs.Noted.{SeenOk, work_of}
 use Rattle.sdb_turns.specs.Owner.{plan_of}
@@ -59,3 +62,23 @@ pub record RunsWhole (catalog : List Table) (fit : Tables → Bool) (plan : ℕ 
 -- at each key of a table the rows that the stores show are those of these tables
 abbrev pub ShowsTables : List Place → List Shelf → Tables → Type 0
 ShowsTables places shelves e = (k : Key) → is_data k ≡ true → row_at places shelves k ≡ get e k
+
+-- The texts of a transaction's body read as its statements, and what they were answered is what these come to.
+pub record SaidSo (events : List Event) (t : ℕ) (r : Ran) : Type 0 where
+  pub read : AreRead (body events (id t)) r.body
+  pub told : map (λ s. s.answer) (body events (id t)) ≡ map Some r.answers
+
+-- each transaction of a list did and said so
+abbrev pub AllSaid : List Table → (Tables → Bool) → (ℕ → Plan) → List Event → List Played → (ℕ → Ran) → List ℕ → Type 0
+AllSaid catalog fit plan events past ran order = AllByRecursion (λ t. RanOk catalog fit plan past t (ran t) × SaidSo events t (ran t)) order
+
+-- A test that empty tables pass, and that no tables pass with a row outside the catalog's tables, of which none is the
+-- coordinator's.
+pub record IsFitting (catalog : List Table) (fit : Tables → Bool) : Type 0 where
+  pub starts : fit empty ≡ true
+  pub inside : (d : Tables) (k : Key) → fit d ≡ true → is_some (find_table catalog k.table) ≡ false → get d k ≡ None
+  pub apart : (k : Key) → is_some (find_table catalog k.table) ≡ true → is_data k ≡ true
+
+-- the numbers of the transactions of an order
+abbrev pub numbers_of : List Point → List ℕ
+numbers_of order = map (λ p. p.id.0) order

@@ -1,18 +1,23 @@
 //! The recorded transactions in the order of their points.
-ghost use Rattle.std.specs.Prelude.{◌≡◌, ℕ, List, Bool, true};
+ghost use Rattle.std.specs.Prelude.{◌≡◌, ◌<◌, ◌^◌, ℕ, List, All, Bool, true};
 ghost use Rattle.std.specs.FinMap.{empty};
 ghost use Rattle.sdb_schema.specs.declared.table.Table.{Table};
+ghost use Rattle.sdb_model.specs.declared.event.Point.{Point};
+ghost use Rattle.sdb_model.specs.declared.event.TableDump.{TableDump};
 ghost use Rattle.sdb_model.specs.declared.script.Place.{Place};
 ghost use Rattle.sdb_model.specs.Events.{Shelf};
 ghost use Rattle.sdb_model.specs.Exec.{Tables};
+ghost use Rattle.sdb_model.specs.Told.{IsTold, KeepsRealTime};
+ghost use Rattle.sdb_model.specs.Transactions.{IsOrder};
 ghost use Rattle.sdb_laws.specs.Plan.{Plan};
 ghost use Rattle.sdb_laws.specs.Lawful.{Played};
 ghost use Rattle.sdb_laws.specs.Trace.{closing, history};
-ghost use Rattle.sdb_laws.specs.Explained.{IsRunOf};
+ghost use Rattle.sdb_laws.specs.Explained.{IsRunOf, events_of, newest_first};
+ghost use Rattle.sdb_laws.specs.Faithful.{IsFaithful};
 ghost use Rattle.sdb_laws.specs.Serial.{IsOrdered};
 ghost use Rattle.sdb_snapshot.specs.Seen.{Seen};
 ghost use Rattle.sdb_turns.specs.Noted.{SeenOk};
-ghost use Rattle.sdb_story.specs.Left.{AllRan, AreLeft, Ran, RunsWhole, ShowsTables};
+ghost use Rattle.sdb_story.specs.Left.{AllRan, AllSaid, AreLeft, IsFitting, Ran, RunsWhole, ShowsTables, numbers_of};
 
 /// Over a run, each record that a transaction noted is that of some transaction, and shows the row that this one left there.
 pub fn notes_were_left()
@@ -24,4 +29,12 @@ pub fn notes_were_left()
 pub fn order_runs_whole()
     ensures { (catalog : List Table) (fit : Tables → Bool) (plan : ℕ → Plan) (places : List Place) (opening : List Shelf) (past : List Played) (ss : List (List Shelf)) (ran : ℕ → Ran) (order : List ℕ) → IsRunOf plan places opening past ss → IsOrdered (history plan places opening past ss) order → AllRan catalog fit plan past ran order → fit empty ≡ true
         → (e : Tables) × RunsWhole catalog fit plan ran order empty e × ShowsTables places (closing opening ss) e }
+{}
+
+/// Over a run whose parts are those that the texts tell, where each recorded transaction did and said so: there are tables to print
+/// with which the run owes its clients nothing, and the order keeps real time.
+pub fn run_is_told()
+    ensures { (catalog : List Table) (fit : Tables → Bool) (plan : ℕ → Plan) (places : List Place) (opening : List Shelf) (played : List Played) (ss : List (List Shelf)) (ran : ℕ → Ran) (order : List Point) → IsRunOf plan places opening (newest_first played) ss → IsFaithful plan (events_of played) (newest_first played)
+        → IsOrder places (events_of played) (closing opening ss) order → All (λ (p : Point). p.id.0 < 2 ^ 128) order → IsFitting catalog fit → AllSaid catalog fit plan (events_of played) (newest_first played) ran (numbers_of order)
+        → (tables : List TableDump) × IsTold catalog places (events_of played) (closing opening ss) order tables × KeepsRealTime places (events_of played) (closing opening ss) order }
 {}
