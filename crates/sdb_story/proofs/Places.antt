@@ -1,11 +1,12 @@
 -- A story has the statements that were said, and where each transaction of it begins and ends.
-use Rattle.std.proofs.Common.{◌≡◌, ◌≤◌, ◌<◌, ℕ, zero, suc, Bool, true, false, List, [], ◌∷◌, ◌++◌, length, Some, None, refl, sym, ap, subst, ◌∙◌, arith}
-use Rattle.std.specs.Prelude.{find, if◌then◌else◌, ◌==◌}
+use Rattle.std.proofs.Common.{cond, ◌≡◌, ◌≤◌, ◌<◌, ℕ, zero, suc, Bool, true, false, List, [], ◌∷◌, ◌++◌, length, Some, None, refl, sym, ap, subst, ◌∙◌, arith}
+use Rattle.std.specs.Prelude.{find, if◌then◌else◌, ◌==◌, filter, not, take_while}
 use Rattle.std.specs.Option.{option_map, option_and_then}
 use Rattle.std.proofs.lemmas.Bool.Decides.{nat_tests}
+use Rattle.std.proofs.lemmas.List.Sums.{take_while-cons}
 use Rattle.sdb_types.specs.declared.txid.TxId.{TxId}
 use Rattle.sdb_model.specs.declared.event.Event.{Event}
-use Rattle.sdb_model.specs.Transactions.{Said, begins, ends, said, from_begin, first_of, rest_of, said_since, begun, commit_of, client_of, ordinal_of}
+use Rattle.sdb_model.specs.Transactions.{Said, begins, ends, said, from_begin, first_of, rest_of, said_since, begun, commit_of, client_of, ordinal_of, body, is_effective}
 use Rattle.std.specs.List.{AllByRecursion}
 use Rattle.sdb_turns.proofs.Lists.{each_more}
 use Rattle.sdb_story.specs.Story.{Finished, Rest, Closed, Opened, settle, saids_of, said_of, all_of, IsPlain, IsInside, IsFinished, IsRest, IsStory, MayCome, finished_at, commit_in}
@@ -180,3 +181,28 @@ pub past_is : (events : List Event) (id : TxId) (whole : List Finished) (gap : L
 past_is events id whole gap b body k same ordinal l w rest =
     let here : said_since events id ≡ [] = ap (λ n. from_begin n (said (client_of id) events)) ordinal ∙ ap (from_begin (suc k)) same ∙ since_past whole gap b body k w rest l in
     (ap (λ ss. option_map (λ (s : Said). s.taken) (first_of ss)) here, ap (λ ss. option_and_then commit_in (find ends (rest_of ss))) here)
+
+---- bodies
+
+-- up to what ends a transaction
+inside_only : (body : List Said) (s : Said) (more : List Said) → AllByRecursion IsInside body → ends s ≡ true → take_while (λ x. not (ends x)) (body ++ s ∷ more) ≡ body
+inside_only [] s more i t = take_while-cons (λ x. not (ends x)) s more ∙ ap (λ b. cond (not b) (s ∷ take_while (λ x. not (ends x)) more) []) t
+inside_only (x ∷ xs) s more i t = take_while-cons (λ y. not (ends y)) x (xs ++ s ∷ more) ∙ ap (λ b. cond (not b) (x ∷ take_while (λ y. not (ends y)) (xs ++ s ∷ more)) []) i.0.1 ∙ ap (λ r. x ∷ r) (inside_only xs s more i.1 t)
+
+inside_all : (body : List Said) → AllByRecursion IsInside body → take_while (λ x. not (ends x)) body ≡ body
+inside_all [] i = refl
+inside_all (x ∷ xs) i = take_while-cons (λ y. not (ends y)) x xs ∙ ap (λ b. cond (not b) (x ∷ take_while (λ y. not (ends y)) xs) []) i.0.1 ∙ ap (λ r. x ∷ r) (inside_all xs i.1)
+
+-- The body of a transaction that ended is what changed something of its statements.
+pub finished_body : (events : List Event) (id : TxId) (whole : List Finished) (more : List Said) (k : ℕ) (f : Finished) → said (client_of id) events ≡ saids_of whole ++ more → ordinal_of id ≡ suc k → AllByRecursion IsFinished whole → finished_at whole k ≡ Some f → body events id ≡ filter is_effective f.body
+finished_body events id whole more k f same ordinal w e =
+    let r = since whole more k f w e in
+    let ok = finished_ok whole k f w e in
+    ap (λ ss. filter is_effective (take_while (λ x. not (ends x)) (rest_of ss))) (ap (λ n. from_begin n (said (client_of id) events)) ordinal ∙ ap (from_begin (suc k)) same ∙ r.1)
+    ∙ ap (filter is_effective) (inside_only f.body f.last r.0 ok.body ok.last)
+
+-- And so is that of an open one.
+pub open_body : (events : List Event) (id : TxId) (whole : List Finished) (gap : List Said) (b : Said) (inside : List Said) → said (client_of id) events ≡ saids_of whole ++ (gap ++ b ∷ inside) → ordinal_of id ≡ suc (length whole) → AllByRecursion IsFinished whole → IsRest (Opened gap b inside) → body events id ≡ filter is_effective inside
+open_body events id whole gap b inside same ordinal w rest =
+    ap (λ ss. filter is_effective (take_while (λ x. not (ends x)) (rest_of ss))) (ap (λ n. from_begin n (said (client_of id) events)) ordinal ∙ ap (from_begin (suc (length whole))) same ∙ since_open whole gap b inside w rest.0 rest.1)
+    ∙ ap (filter is_effective) (inside_all inside rest.2)

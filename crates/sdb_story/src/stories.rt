@@ -1,9 +1,9 @@
 //! Stories: a client's statements in order, and where each transaction of it begins and ends.
-ghost use Rattle.std.specs.Prelude.{◌≡◌, ◌≤◌, ◌<◌, ◌*◌, ◌^◌, ℕ, suc, List, ◌++◌, ◌∷◌, [], length, Option, Some, None, true};
+ghost use Rattle.std.specs.Prelude.{◌≡◌, ◌≤◌, ◌<◌, ◌*◌, ◌^◌, ℕ, suc, List, ◌++◌, ◌∷◌, [], length, filter, Option, Some, None, true};
 ghost use Rattle.std.specs.List.{AllByRecursion};
 ghost use Rattle.sdb_types.specs.declared.txid.TxId.{TxId};
 ghost use Rattle.sdb_model.specs.declared.event.Event.{Event};
-ghost use Rattle.sdb_model.specs.Transactions.{Said, said, begun, commit_of, client_of, ordinal_of};
+ghost use Rattle.sdb_model.specs.Transactions.{Said, said, begun, commit_of, client_of, ordinal_of, body, is_effective};
 ghost use Rattle.sdb_laws.specs.Plan.{Plan};
 ghost use Rattle.sdb_laws.specs.Lawful.{Played, talk};
 ghost use Rattle.sdb_laws.specs.Faithful.{AreNoted, IsFaithful};
@@ -27,6 +27,12 @@ pub fn story_tells()
         → (begun events id ≡ None) × (commit_of events id ≡ None) }
     ensures past { (events : List Event) (id : TxId) (whole : List Finished) (gap : List Said) (b : Said) (body : List Said) (k : ℕ) → said (client_of id) events ≡ saids_of whole ++ (gap ++ b ∷ body) → ordinal_of id ≡ suc k → length whole < k → AllByRecursion IsFinished whole → IsRest (Opened gap b body)
         → (begun events id ≡ None) × (commit_of events id ≡ None) }
+{}
+
+/// The body of a transaction is what changed something of its statements: of one that ended, and of an open one.
+pub fn story_bodies()
+    ensures finished { (events : List Event) (id : TxId) (whole : List Finished) (more : List Said) (k : ℕ) (f : Finished) → said (client_of id) events ≡ saids_of whole ++ more → ordinal_of id ≡ suc k → AllByRecursion IsFinished whole → finished_at whole k ≡ Some f → body events id ≡ filter is_effective f.body }
+    ensures opened { (events : List Event) (id : TxId) (whole : List Finished) (gap : List Said) (b : Said) (inside : List Said) → said (client_of id) events ≡ saids_of whole ++ (gap ++ b ∷ inside) → ordinal_of id ≡ suc (length whole) → AllByRecursion IsFinished whole → IsRest (Opened gap b inside) → body events id ≡ filter is_effective inside }
 {}
 
 /// Where each client's story is filed, no transaction of ordinal 0 was taken, and the notes of the plans are what the statements
