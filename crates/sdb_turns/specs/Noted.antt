@@ -62,6 +62,7 @@ IsFoundOk notes x = (q : Key) → is_found x q ≡ true → (is_noted notes q �
 abbrev pub was_read : List Read → Key → Bool
 was_read reads q = list_any (λ r. same_key q r.key) reads
 
+-- a scan of a span with the key found a record there
 abbrev pub was_found : List Scan → Key → Bool
 was_found scans q = list_any (λ x. in_span x.span q && is_found x q) scans
 
@@ -87,6 +88,7 @@ pub record OpenOk (h : Talk) (c t : ℕ) : Type 0 where
   pub unasked : (k : Key) → h.asked t k ≡ false
   pub safe : h.risked t ≡ false
 
+-- the first of the images, if there is one: a get finds no more
 abbrev pub first_image : List Record → Option Record
 first_image [] = None
 first_image (b ∷ bs) = Some b

@@ -38,19 +38,23 @@ own_notes p = map Got (filter (λ r. is_written p.writes r.key) p.reads)
 abbrev pub notes_of : Work → List Note
 notes_of p = checked_notes p ++ own_notes p
 
+-- The plan of a COMMIT: what it writes, its notes, and its moment.
 abbrev pub plan_of : Work → Plan
 plan_of p = record { writes = p.writes; notes = notes_of p; now = p.now }
 
 ---- the parts that its calls play
 
+-- the part of the prepare of a write
 abbrev pub prepare_role : ℕ → Option Write → Reply → Role
 prepare_role t None r = Other
 prepare_role t (Some w) r = Prepares t w.key (word_of r)
 
+-- the part of the roll of a write, by a decision
 abbrev pub roll_role : ℕ → Decision → Option Write → Role
 roll_role t d None = Other
 roll_role t d (Some w) = Rolls t w.key d
 
+-- The part of the call at a stage, with its reply. A check plays one where it passes, and a look none.
 abbrev pub role_of : Work → Stage → Reply → Role
 role_of p (Preparing i) r = prepare_role p.id.0 (slice_get p.writes i) r
 role_of p (Checking i) r = if as_wished p (Checking i) r then Checks p.id.0 i else Other
@@ -75,11 +79,13 @@ pub record CheckTells (p : Work) (i : ℕ) (q : Request) (r : Reply) : Type 0 wh
   pub unchanged : IsUnchanged (plan_of p) note q r
   pub agrees : NoteAgrees p i
 
+-- a request that changes nothing
 abbrev pub IsReading : Request → Type 0
 IsReading (ask.Get key) = Unit {0}
 IsReading (ask.Scan span) = Unit {0}
 IsReading q = ⊥
 
+-- What is so of what a COMMIT takes: it is a plan as the rules want it, and its checks are of the plan's notes.
 pub record WorkOk (p : Work) : Type 0 where
   pub fits : p.id.0 < 2 ^ 128
   pub moment : is_moment p.now ≡ true
@@ -98,18 +104,23 @@ pub record WorkOk (p : Work) : Type 0 where
 
 ---- what it knows at a stage
 
+-- the first so many prepares were seen and applied
 abbrev pub ToldTo : Talk → Work → ℕ → Type 0
 ToldTo h p i = (j : ℕ) (w : Write) → j < i → slice_get p.writes j ≡ Some w → h.told p.id.0 w.key ≡ true
 
+-- the first so many were asked
 abbrev pub AskedTo : Talk → Work → ℕ → Type 0
 AskedTo h p i = (j : ℕ) (w : Write) → j < i → slice_get p.writes j ≡ Some w → h.asked p.id.0 w.key ≡ true
 
+-- none was asked from there on
 abbrev pub UnaskedFrom : Talk → Work → ℕ → Type 0
 UnaskedFrom h p i = (j : ℕ) (w : Write) → i ≤ j → slice_get p.writes j ≡ Some w → h.asked p.id.0 w.key ≡ false
 
+-- the first so many checks passed
 abbrev pub CheckedTo : Talk → Work → ℕ → Type 0
 CheckedTo h p i = (j : ℕ) → j < i → h.checked p.id.0 j ≡ true
 
+-- the first so many notes say of keys that are written the version of the base
 abbrev pub AgreesTo : Work → ℕ → Type 0
 AgreesTo p i = (j : ℕ) → j < i → NoteAgrees p j
 
@@ -119,6 +130,7 @@ OverOk plan past p outcome.Committed = IsKnownCommitted plan past p.id.0 p.now
 OverOk plan past p (outcome.Unknown id) = Unit {0}
 OverOk plan past p a = IsKnownAborted past p.id.0 ⊎ ((talk past).risked p.id.0 ≡ false) ⊎ IsBadRow past p.id.0
 
+-- What the events have said where a COMMIT stands at a stage.
 abbrev pub StageOk : (ℕ → Plan) → List Played → Work → Stage → Type 0
 StageOk plan past p (Preparing i) = ((talk past).stage p.id.0 ≡ laws.Preparing) × ToldTo (talk past) p i × AskedTo (talk past) p i × UnaskedFrom (talk past) p i × ((talk past).risked p.id.0 ≡ false)
 StageOk plan past p (Checking i) = ((talk past).stage p.id.0 ≢ laws.Deciding) × ToldTo (talk past) p (length p.writes) × AskedTo (talk past) p (length p.writes) × CheckedTo (talk past) p i × AgreesTo p i × ((talk past).risked p.id.0 ≡ false)

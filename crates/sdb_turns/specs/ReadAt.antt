@@ -52,6 +52,7 @@ pub data ReadAt : Type 0 where
   Done : (images : List Record) → ReadAt
   Failed : ReadAt
 
+-- what an access asks of a store
 abbrev pub request_of : Access → Request
 request_of (access.Get key) = ask.Get key
 request_of (access.Scan span) = ask.Scan span
@@ -62,6 +63,7 @@ read_pending a Asking = Some (request_of a)
 read_pending a (Resolving images rec meta p left) = recover_request_at rec meta p
 read_pending a s = None
 
+-- one row: an image, or a recovery, or none of ours
 abbrev pub settle_one : Kind → List Record → Record → List Record → ReadAt → ReadAt
 settle_one Firm images r left rest = rest
 settle_one (Open meta) images r left rest = Resolving images r meta phase.Look left
@@ -116,6 +118,7 @@ Rise (k ∷ ks) = AllByRecursion (λ q. key_cmp k q ≡ Less) ks × Rise ks
 abbrev pub InPlace : Access → List Key → Type 0
 InPlace a ks = Rise ks × AllByRecursion (λ k. in_access a k ≡ true) ks
 
+-- the keys of records, in their order
 abbrev pub keys_of : List Record → List Key
 keys_of rs = map (λ r. r.key) rs
 
@@ -123,6 +126,7 @@ keys_of rs = map (λ r. r.key) rs
 abbrev pub IsOfData : Access → Type 0
 IsOfData a = (k : Key) → in_access a k ≡ true → is_data k ≡ true
 
+-- What the client knows where a read stands: of each image and each row left; the keys are those of the access, in order.
 abbrev pub ReadOk : List Played → Access → ReadAt → Type 0
 ReadOk past a Asking = Unit {0}
 ReadOk past a (Resolving images rec meta p left) = AllByRecursion (IsImage past) images × RecoverOk past rec meta p × AllByRecursion (IsLeft past) left × InPlace a (keys_of images ++ rec.key ∷ keys_of left)

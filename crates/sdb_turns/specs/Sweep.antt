@@ -35,6 +35,7 @@ pub data SweepAt : Type 0 where
   Removing : (tombstone : Record) (left : List Record) → SweepAt
   Swept : SweepAt
 
+-- a tombstone is deleted on condition that it still stands
 abbrev pub remove_request : Record → Option Request
 remove_request b = option_map (λ id. ask.DeleteIf b.key (condition.Version id state.Committed)) (id_in b.columns)
 
@@ -49,6 +50,7 @@ sweep_pending Swept = None
 abbrev pub remove_or : Record → List Record → SweepAt → SweepAt
 remove_or b left rest = if is_tombstone b then Removing b left else rest
 
+-- one row: removed where it is a tombstone, resolved where it is unresolved; a record of no transaction ends the VACUUM
 abbrev pub sweep_one : Kind → Record → List Record → SweepAt → SweepAt
 sweep_one Firm r left rest = remove_or r left rest
 sweep_one (Open meta) r left rest = Resolving r meta phase.Look left
@@ -67,10 +69,12 @@ sweep_resolved kind rec meta left (p, steps.Image (Some b)) = remove_or b left (
 sweep_resolved kind rec meta left (p, steps.Busy id at) = sweep kind left
 sweep_resolved kind rec meta left (p, s) = Swept
 
+-- the rows of a scan
 abbrev pub sweep_rows : (Record → Kind) → Reply → SweepAt
 sweep_rows kind (reply.Rows rows) = sweep kind rows
 sweep_rows kind r = Swept
 
+-- after a removal that was applied or not met it goes on
 abbrev pub sweep_removed : (Record → Kind) → List Record → Reply → SweepAt
 sweep_removed kind left reply.Applied = sweep kind left
 sweep_removed kind left (reply.NotMet found) = sweep kind left
@@ -83,6 +87,7 @@ sweep_step kind (Resolving rec meta p left) now r = sweep_resolved kind rec meta
 sweep_step kind (Removing b left) now r = sweep_removed kind left r
 sweep_step kind Swept now r = Swept
 
+-- the part of a removal
 abbrev pub removes_role : Record → Option TxId → Role
 removes_role b None = Other
 removes_role b (Some id) = Removes b.key id.0
@@ -96,6 +101,7 @@ sweep_role Swept r = Other
 
 ---- what its client knows
 
+-- What the client knows where a VACUUM stands: of the record in hand, and of each row left.
 abbrev pub SweepOk : List Played → SweepAt → Type 0
 SweepOk past (Scanning span) = IsOfData (access.Scan span)
 SweepOk past (Resolving rec meta p left) = RecoverOk past rec meta p × AllByRecursion (IsLeft past) left

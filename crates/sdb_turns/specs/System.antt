@@ -56,12 +56,14 @@ Has (Reading id seen a r) t = id.0 ≡ t
 Has (Committing p s) t = p.id.0 ≡ t
 Has x t = ⊥
 
+-- a client has an open transaction in its hands
 abbrev pub has_open : ClientAt → Bool
 has_open (Open id seen) = true
 has_open (Reading id seen a r) = true
 has_open (Committing p s) = true
 has_open x = false
 
+-- a client runs VACUUM
 abbrev pub sweeps : ClientAt → Bool
 sweeps (Sweeping v) = true
 sweeps x = false
@@ -88,6 +90,7 @@ pub record SystemOk (plan : ℕ → Plan) (past : List Played) (sys : SystemAt) 
   -- a client's ids are numbered from 1
   pub ids : (t : ℕ) → (talk past).begun t ≢ 0 → (0 < t % 2 ^ 64) × (t % 2 ^ 64 ≤ sys.begun (t / 2 ^ 64))
 
+-- with one client standing elsewhere
 abbrev pub with_client : SystemAt → ℕ → ClientAt → SystemAt
 with_client sys c x = record sys { clients = laws.at sys.clients c x }
 
@@ -176,6 +179,7 @@ begin_played sys c text = plays (Begins (next_id sys c).0 c) (event.Take c text 
 
 ---- a COMMIT
 
+-- the answer that a COMMIT gives at its end
 abbrev pub answer_of_outcome : Outcome → Answer
 answer_of_outcome outcome.Committed = answer.Committed
 answer_of_outcome (outcome.Conflict key found) = answer.Conflict key found
@@ -190,6 +194,7 @@ abbrev pub answered : Stage → Option Answer
 answered (Over a) = Some (answer_of_outcome a)
 answered s = None
 
+-- the transaction that it ends
 abbrev pub ending_at : ℕ → Stage → Option ℕ
 ending_at t (Over a) = Some t
 ending_at t s = None
