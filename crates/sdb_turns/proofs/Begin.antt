@@ -10,7 +10,7 @@ use Rattle.sdb_laws.specs.History.{Begins, Talk, heard}
 use Rattle.sdb_laws.specs.Lawful.{Played, MayBegin, talk}
 use Rattle.sdb_snapshot.specs.Seen.{nothing}
 use Rattle.sdb_turns.specs.Noted.{OpenOk}
-use Rattle.sdb_turns.specs.System.{ClientAt, Resting, Open, ClientOk, Has, sweeps, SystemAt, SystemOk, with_client, with_begun, next_id, idle, plays, StandsAt, IsBegin, NoneSweeps, begin_played}
+use Rattle.sdb_turns.specs.System.{ClientAt, Resting, Open, ClientOk, Has, sweeps, IsNumbered, SystemAt, SystemOk, with_client, with_begun, next_id, idle, plays, StandsAt, IsBegin, NoneSweeps, begin_played}
 use Rattle.sdb_turns.proofs.Clients.{client_later, others_spared, with_here}
 use Rattle.sdb_turns.proofs.Fresh.{in_turn}
 use Rattle.sdb_turns.proofs.Seen.{seen_nothing}
@@ -56,7 +56,7 @@ unused plan past sys c ok small = by (zero_or ((talk past).begun t))
     by : (((talk past).begun t) ≡ 0) ⊎ ((talk past).begun t ≢ 0) → (talk past).begun t ≡ 0
     by (inl z) = z
     by (inr n) =
-        let l = subst (λ d. t % 2 ^ 64 ≤ sys.begun d) (half c (sys.begun c + 1) small) (ok.ids t n).1 in
+        let l = subst (λ d. t % 2 ^ 64 ≤ sys.begun d) (half c (sys.begun c + 1) small) (ok.ids t n).most in
         absurd (more (sys.begun c) (subst (λ m. m ≤ sys.begun c) (rest c (sys.begun c + 1) small) l))
 
 ---- what is said
@@ -174,9 +174,17 @@ begin_turn plan past sys c text stands begin none = record {
         by (inl e) = subst (λ b. sys.begun c + 1 ≤ (if b then sys.begun c + 1 else sys.begun c)) (sym e.1) (itself (sys.begun c + 1))
         by (inr n) = absurd (n.0 refl)
 
-    ids : (u : ℕ) → (talk (q ∷ past)).begun u ≢ 0 → (((u ≡ t) × ((u == t) ≡ true)) ⊎ ((u ≢ t) × ((u == t) ≡ false))) → (0 < u % 2 ^ 64) × (u % 2 ^ 64 ≤ laws.at sys.begun c (sys.begun c + 1) (u / 2 ^ 64))
-    ids u b (inl e) = subst (λ v. (0 < v % 2 ^ 64) × (v % 2 ^ 64 ≤ laws.at sys.begun c (sys.begun c + 1) (v / 2 ^ 64))) (sym e.0) (subst (λ m. 0 < m) (sym (rest c (sys.begun c + 1) begin.ordinal)) (positive (sys.begun c)), last)
-    ids u b (inr n) = let old = ok.ids u (λ e. b (other_begun (talk past) t c u n.0 ∙ e)) in (old.0, within (u % 2 ^ 64) (sys.begun (u / 2 ^ 64)) (laws.at sys.begun c (sys.begun c + 1) (u / 2 ^ 64)) old.1 (more (u / 2 ^ 64)))
+    ids : (u : ℕ) → (talk (q ∷ past)).begun u ≢ 0 → (((u ≡ t) × ((u == t) ≡ true)) ⊎ ((u ≢ t) × ((u == t) ≡ false))) → IsNumbered (talk (q ∷ past)) (laws.at sys.begun c (sys.begun c + 1)) u
+    ids u b (inl e) = subst (IsNumbered (talk (q ∷ past)) (laws.at sys.begun c (sys.begun c + 1))) (sym e.0) (record {
+      ordinal = subst (λ m. 0 < m) (sym (rest c (sys.begun c + 1) begin.ordinal)) (positive (sys.begun c));
+      most = last;
+      owner = here_owner (talk past) t c ∙ sym (half c (sys.begun c + 1) begin.ordinal);
+    })
+    ids u b (inr n) = let old = ok.ids u (λ e. b (other_begun (talk past) t c u n.0 ∙ e)) in record {
+      ordinal = old.ordinal;
+      most = within (u % 2 ^ 64) (sys.begun (u / 2 ^ 64)) (laws.at sys.begun c (sys.begun c + 1) (u / 2 ^ 64)) old.most (more (u / 2 ^ 64));
+      owner = other_owner (talk past) t c u n.0 ∙ old.owner;
+    }
 
 -- Before the first event all is so.
 pub begins : (plan : ℕ → Plan) → SystemOk plan [] idle
@@ -191,4 +199,4 @@ taken_begun plan past sys t ok taken = by (zero_or ((talk past).begun t))
 
     by : ((talk past).begun t ≡ 0) ⊎ ((talk past).begun t ≢ 0) → 0 < t % 2 ^ 64
     by (inl z) = absurd (clash (sym taken ∙ (in_turn plan past t ok.lawful).taken z))
-    by (inr n) = (ok.ids t n).0
+    by (inr n) = (ok.ids t n).ordinal

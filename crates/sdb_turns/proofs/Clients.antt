@@ -163,7 +163,7 @@ turned plan past sys c q x ok t = record {
   each = λ d. with_here sys c x (ClientOk plan (q ∷ past)) d t.knows (λ apart. client_later plan past d q (sys.clients d) (others_spared plan past c d q (sys.clients d) apart t.by t.may t.ends (ok.each d)) (ok.each d));
   opened = λ u o. subst (λ d. ((talk (q ∷ past)).stopped d ≡ true) ⊎ Has ((with_client sys c x).clients d) u) (sym (go.owner u)) (opened u o (ok.opened u (go.is_open u o)));
   gate = λ d s. gate_goes (talk past) (talk (q ∷ past)) go (with_here sys c x (λ e y. sweeps y ≡ true → Gate (talk past)) d (λ s. ok.gate c (t.starts s)) (λ apart s. ok.gate d s) s);
-  ids = λ u b. ok.ids u (λ e. b (go.begun u ∙ e));
+  ids = λ u b. let i = ok.ids u (λ e. b (go.begun u ∙ e)) in record { ordinal = i.ordinal; most = i.most; owner = go.owner u ∙ i.owner };
 }
   where
     go : Goes (talk past) (talk (q ∷ past))

@@ -186,7 +186,7 @@ over_later plan past q p outcome.Committed c s k = known_later plan past q p.id.
 over_later plan past q p (outcome.Conflict key found) c s k = why_later past q p.id.0 c s k
 over_later plan past q p (outcome.Expired id) c s k = why_later past q p.id.0 c s k
 over_later plan past q p outcome.Faulted c s k = why_later past q p.id.0 c s k
-over_later plan past q p (outcome.Unknown id) c s k = tt
+over_later plan past q p (outcome.Unknown id) c s k = k
 over_later plan past q p (outcome.BadRecord key) c s k = why_later past q p.id.0 c s k
 over_later plan past q p outcome.NoMemory c s k = why_later past q p.id.0 c s k
 

@@ -50,7 +50,7 @@ lost_over plan past p outcome.Committed l k = absurd l
 lost_over plan past p (outcome.Conflict key found) l k = k
 lost_over plan past p (outcome.Expired id) l k = k
 lost_over plan past p outcome.Faulted l k = k
-lost_over plan past p (outcome.Unknown id) l k = tt
+lost_over plan past p (outcome.Unknown id) l k = absurd l
 lost_over plan past p (outcome.BadRecord key) l k = k
 lost_over plan past p outcome.NoMemory l k = k
 
@@ -207,11 +207,11 @@ pub look_kept : (plan : ℕ → Plan) (past : List Played) (c : ℕ) (p : Work) 
     → StageOk plan (plays Other (event.Call c store (look_of p.id) how r a) ∷ past) p (step p (Deciding phase.Look) r)
 look_kept plan past c p store how (reply.Found None) a ok can = ok.stage
 look_kept plan past c p store how (reply.Found (Some row)) a ok can = row_kept plan (plays Other (event.Call c store (look_of p.id) how (reply.Found (Some row)) a) ∷ past) p row (steps.Expired p.id) (outcome.Expired p.id) tt (λ d. refl) ok.stage (inl refl, can) (sym (ap (λ (x : Plan). x.now) ok.planned)) ok.within.taken
-look_kept plan past c p store how reply.Fault a ok can = tt
-look_kept plan past c p store how reply.NoMemory a ok can = tt
-look_kept plan past c p store how reply.Applied a ok can = tt
-look_kept plan past c p store how (reply.NotMet found) a ok can = tt
-look_kept plan past c p store how (reply.Rows rows) a ok can = tt
+look_kept plan past c p store how reply.Fault a ok can = refl
+look_kept plan past c p store how reply.NoMemory a ok can = refl
+look_kept plan past c p store how reply.Applied a ok can = refl
+look_kept plan past c p store how (reply.NotMet found) a ok can = refl
+look_kept plan past c p store how (reply.Rows rows) a ok can = refl
 
 dead : (h : Talk) (t : ℕ) (m : ℤ) → (heard h (Aborts t m Yes)).dead t ≡ true
 dead h t m = grind (arith, nat_tests)
@@ -223,21 +223,21 @@ pub abort_kept : (plan : ℕ → Plan) (past : List Played) (c : ℕ) (p : Work)
     → StageOk plan (plays (Aborts p.id.0 p.now (word_of r)) (event.Call c store (abort_of p.id p.now) how r a) ∷ past) p (step p (Deciding phase.Abort) r)
 abort_kept plan past c p store how reply.Applied a ok can = goes_back plan (plays (Aborts p.id.0 p.now Yes) (event.Call c store (abort_of p.id p.now) how reply.Applied a) ∷ past) p outcome.Faulted (length p.writes) tt ok.stage (inr (inl (dead (talk past) p.id.0 p.now)))
 abort_kept plan past c p store how (reply.NotMet (Some row)) a ok can = row_kept plan (plays (Aborts p.id.0 p.now No) (event.Call c store (abort_of p.id p.now) how (reply.NotMet (Some row)) a) ∷ past) p row (steps.Expired p.id) (outcome.Expired p.id) tt (λ d. refl) ok.stage (inl refl, can.0 ∙ row-key p.id decision.Aborted p.now) (sym (ap (λ (x : Plan). x.now) ok.planned)) ok.within.taken
-abort_kept plan past c p store how (reply.NotMet None) a ok can = tt
+abort_kept plan past c p store how (reply.NotMet None) a ok can = refl
 abort_kept plan past c p store how reply.Fault a ok can = ok.stage
-abort_kept plan past c p store how reply.NoMemory a ok can = tt
-abort_kept plan past c p store how (reply.Found found) a ok can = tt
-abort_kept plan past c p store how (reply.Rows rows) a ok can = tt
+abort_kept plan past c p store how reply.NoMemory a ok can = refl
+abort_kept plan past c p store how (reply.Found found) a ok can = refl
+abort_kept plan past c p store how (reply.Rows rows) a ok can = refl
 
 pub again_kept : (plan : ℕ → Plan) (past : List Played) (c : ℕ) (p : Work) (store : Name) (how : How) (r : Reply) (a : Option Answer) → CommitOk plan past c p (Deciding phase.Again) → CanAnswer (look_of p.id) r
     → StageOk plan (plays Other (event.Call c store (look_of p.id) how r a) ∷ past) p (step p (Deciding phase.Again) r)
 again_kept plan past c p store how (reply.Found (Some row)) a ok can = row_kept plan (plays Other (event.Call c store (look_of p.id) how (reply.Found (Some row)) a) ∷ past) p row steps.Faulted outcome.Faulted tt (λ d. refl) ok.stage (inl refl, can) (sym (ap (λ (x : Plan). x.now) ok.planned)) ok.within.taken
-again_kept plan past c p store how (reply.Found None) a ok can = tt
-again_kept plan past c p store how reply.Fault a ok can = tt
-again_kept plan past c p store how reply.NoMemory a ok can = tt
-again_kept plan past c p store how reply.Applied a ok can = tt
-again_kept plan past c p store how (reply.NotMet found) a ok can = tt
-again_kept plan past c p store how (reply.Rows rows) a ok can = tt
+again_kept plan past c p store how (reply.Found None) a ok can = refl
+again_kept plan past c p store how reply.Fault a ok can = refl
+again_kept plan past c p store how reply.NoMemory a ok can = refl
+again_kept plan past c p store how reply.Applied a ok can = refl
+again_kept plan past c p store how (reply.NotMet found) a ok can = refl
+again_kept plan past c p store how (reply.Rows rows) a ok can = refl
 
 ---- a stop
 

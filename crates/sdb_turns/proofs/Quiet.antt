@@ -32,7 +32,7 @@ quiet_turn plan past sys e ok quiet = record {
   each = λ d. client_later plan past d (plays Other e) (sys.clients d) (quiet_spares d (sys.clients d) e) (ok.each d);
   opened = ok.opened;
   gate = ok.gate;
-  ids = ok.ids;
+  ids = λ u b. let i = ok.ids u b in record { ordinal = i.ordinal; most = i.most; owner = i.owner };
 }
 
 some_is : (x y : ℕ) → Some x ≡ Some y → x ≡ y

@@ -144,7 +144,7 @@ over_replanned plan other past p outcome.Committed same ok = known_replanned pla
 over_replanned plan other past p (outcome.Conflict key found) same ok = ok
 over_replanned plan other past p (outcome.Expired id) same ok = ok
 over_replanned plan other past p outcome.Faulted same ok = ok
-over_replanned plan other past p (outcome.Unknown id) same ok = tt
+over_replanned plan other past p (outcome.Unknown id) same ok = ok
 over_replanned plan other past p (outcome.BadRecord key) same ok = ok
 over_replanned plan other past p outcome.NoMemory same ok = ok
 

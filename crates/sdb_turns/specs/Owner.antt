@@ -127,7 +127,7 @@ AgreesTo p i = (j : ℕ) → j < i → NoteAgrees p j
 -- what has to be known where it answers
 abbrev pub OverOk : (ℕ → Plan) → List Played → Work → Outcome → Type 0
 OverOk plan past p outcome.Committed = IsKnownCommitted plan past p.id.0 p.now
-OverOk plan past p (outcome.Unknown id) = Unit {0}
+OverOk plan past p (outcome.Unknown id) = id ≡ p.id
 OverOk plan past p a = IsKnownAborted past p.id.0 ⊎ ((talk past).risked p.id.0 ≡ false) ⊎ IsBadRow past p.id.0
 
 -- What the events have said where a COMMIT stands at a stage.

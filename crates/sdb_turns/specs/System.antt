@@ -79,6 +79,12 @@ pub record SystemAt : Type 0 where
   pub clients : ℕ → ClientAt
   pub begun : ℕ → ℕ
 
+-- The number of a transaction that has begun tells its client and which of the client's transactions it is, from 1.
+pub record IsNumbered (h : Talk) (begun : ℕ → ℕ) (t : ℕ) : Type 0 where
+  pub ordinal : 0 < t % 2 ^ 64
+  pub most : t % 2 ^ 64 ≤ begun (t / 2 ^ 64)
+  pub owner : h.owner t ≡ t / 2 ^ 64
+
 -- What is so of all clients after the events so far. With these plans the events keep the rules of the protocol.
 pub record SystemOk (plan : ℕ → Plan) (past : List Played) (sys : SystemAt) : Type 0 where
   pub lawful : IsLawful plan past
@@ -87,8 +93,7 @@ pub record SystemOk (plan : ℕ → Plan) (past : List Played) (sys : SystemAt) 
   pub opened : (u : ℕ) → (talk past).is_open u ≡ true → ((talk past).stopped ((talk past).owner u) ≡ true) ⊎ Has (sys.clients ((talk past).owner u)) u
   -- while a client runs VACUUM no transaction is open of a client that goes on
   pub gate : (c : ℕ) → sweeps (sys.clients c) ≡ true → Gate (talk past)
-  -- a client's ids are numbered from 1
-  pub ids : (t : ℕ) → (talk past).begun t ≢ 0 → (0 < t % 2 ^ 64) × (t % 2 ^ 64 ≤ sys.begun (t / 2 ^ 64))
+  pub ids : (t : ℕ) → (talk past).begun t ≢ 0 → IsNumbered (talk past) sys.begun t
 
 -- with one client standing elsewhere
 abbrev pub with_client : SystemAt → ℕ → ClientAt → SystemAt
