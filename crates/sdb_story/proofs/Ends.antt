@@ -1,12 +1,9 @@
 -- What a run owes its clients follows from what its transactions did and said.
-use Rattle.std.proofs.Common.{◌≡◌, ◌≢◌, ◌<◌, ◌^◌, ℕ, Bool, true, false, List, [], ◌∷◌, map, Option, Some, None, refl, sym, ap, subst, ◌∙◌}
-use Rattle.std.specs.Prelude.{All, Contains, is_some, if◌then◌else◌}
-use Rattle.std.specs.List.{AllByRecursion}
+use Rattle.std.proofs.Common.{◌≡◌, ◌<◌, ◌^◌, ℕ, Bool, true, false, List, [], ◌∷◌, map, Some, None, refl, sym, ap, subst, ◌∙◌}
+use Rattle.std.specs.Prelude.{All, is_some, if◌then◌else◌}
 use Rattle.std.specs.FinMap.{get, empty}
-use Rattle.sdb_types.specs.declared.key.Key.{Key}
 use Rattle.sdb_schema.specs.declared.table.Table.{Table}
 use Rattle.sdb_model.specs.declared.answer.Answer.{Answer}
-use Rattle.sdb_model.specs.declared.answer.Answer.TheVariants as answer
 use Rattle.sdb_model.specs.declared.event.Event.{Event}
 use Rattle.sdb_model.specs.declared.event.Point.{Point}
 use Rattle.sdb_model.specs.declared.event.TableDump.{TableDump}
@@ -18,13 +15,13 @@ use Rattle.sdb_model.specs.Images.{row_at}
 use Rattle.sdb_model.specs.Told.{AreBodies, AreImages, IsTold, KeepsRealTime, TransactionsInRealTime, CommittedIsOwned, answers_told, dumps_of, serial}
 use Rattle.sdb_model.specs.Transactions.{IsOrder}
 use Rattle.sdb_laws.specs.Plan.{Plan}
-use Rattle.sdb_laws.specs.Lawful.{Played, is_data}
+use Rattle.sdb_laws.specs.Lawful.{Played}
 use Rattle.sdb_laws.specs.Trace.{closing}
 use Rattle.sdb_laws.specs.Explained.{IsRunOf, newest_first, events_of}
 use Rattle.sdb_laws.specs.Faithful.{IsFaithful}
 use Rattle.sdb_laws.proofs.ModelTime.{answers_true, keeps_real_time, ordered_of}
 use Rattle.sdb_turns.proofs.Lists.{each_any}
-use Rattle.sdb_story.specs.Left.{Ran, RanOk, AllRan, SaidSo, AllSaid, IsFitting, RunsWhole, ShowsTables, numbers_of}
+use Rattle.sdb_story.specs.Left.{Ran, RanOk, SaidSo, AllSaid, IsFitting, RunsWhole, ShowsTables, numbers_of}
 use Rattle.sdb_story.proofs.Wholes.{order_runs}
 
 -- the bodies of an order
@@ -54,16 +51,20 @@ clients_see places events shelves order real owned client s within told late fit
 pub run_told : (catalog : List Table) (fit : Tables → Bool) (plan : ℕ → Plan) (places : List Place) (opening : List Shelf) (played : List Played) (ss : List (List Shelf)) (ran : ℕ → Ran) (order : List Point)
     → IsRunOf plan places opening (newest_first played) ss → IsFaithful plan (events_of played) (newest_first played) → IsOrder places (events_of played) (closing opening ss) order → All (λ (p : Point). p.id.0 < 2 ^ 128) order → IsFitting catalog fit → AllSaid catalog fit plan (events_of played) (newest_first played) ran (numbers_of order)
     → (tables : List TableDump) × IsTold catalog places (events_of played) (closing opening ss) order tables × KeepsRealTime places (events_of played) (closing opening ss) order
-run_told catalog fit plan places opening played ss ran order run faithful ordered small fitting all = (dumps_of catalog (serial catalog bodies empty).1, record {
-  bodies = bodies;
-  read = bodies_read catalog fit plan (events_of played) (newest_first played) ran order all;
-  answers = answers_are catalog fit plan (events_of played) (newest_first played) ran order all ∙ ap (λ (x : List (List Answer) × Tables). map (map Some) x.0) (sym runs.1.runs);
-  printed = refl;
-  images = subst (AreImages catalog places (closing opening ss)) (ap (λ (x : List (List Answer) × Tables). x.1) (sym runs.1.runs)) (images_are catalog fit places (closing opening ss) runs.0 fitting runs.1.fits runs.2);
-  committed = true_answers.committed;
-  owned = true_answers.owned;
-  known = true_answers.known;
-}, clients_see places (events_of played) (closing opening ss) order (keeps_real_time plan places opening played ss order run faithful ordered) true_answers.owned)
+run_told catalog fit plan places opening played ss ran order run faithful ordered small fitting all = (
+  dumps_of catalog (serial catalog bodies empty).1,
+  record {
+    bodies = bodies;
+    read = bodies_read catalog fit plan (events_of played) (newest_first played) ran order all;
+    answers = answers_are catalog fit plan (events_of played) (newest_first played) ran order all ∙ ap (λ (x : List (List Answer) × Tables). map (map Some) x.0) (sym runs.1.runs);
+    printed = refl;
+    images = subst (AreImages catalog places (closing opening ss)) (ap (λ (x : List (List Answer) × Tables). x.1) (sym runs.1.runs)) (images_are catalog fit places (closing opening ss) runs.0 fitting runs.1.fits runs.2);
+    committed = true_answers.committed;
+    owned = true_answers.owned;
+    known = true_answers.known;
+  },
+  clients_see places (events_of played) (closing opening ss) order (keeps_real_time plan places opening played ss order run faithful ordered) true_answers.owned,
+)
   where
     bodies : List (List Statement)
     bodies = map (λ t. (ran t).body) (numbers_of order)

@@ -22,7 +22,7 @@ use Rattle.sdb_story.proofs.Places.{finished_is, finished_ok, open_is, none_is}
 
 ---- one transaction
 
-beyond : (fs : List Finished) (k : ℕ) → finished_at fs k ≡ None → length fs ≤ k
+pub beyond : (fs : List Finished) (k : ℕ) → finished_at fs k ≡ None → length fs ≤ k
 beyond [] k e = omega arith
 beyond (f ∷ fs) zero e = absurd (cc)
 beyond (f ∷ fs) (suc k) e = more (length fs) k (beyond fs k e)
@@ -73,6 +73,9 @@ silent_says events past t began commit untaken = record {
 says_at : (events : List Event) (past : List Played) (t k : ℕ) (x : Filed (t / 2 ^ 64) events past) → t % 2 ^ 64 ≡ suc k → number (t / 2 ^ 64) k ≡ t → Says events past t
 says_at events past t k x ordinal same = by (finished_at x.whole k) refl
   where
+    small : (t k : ℕ) → t % 2 ^ 64 ≡ suc k → suc k < 2 ^ 64
+    small t k e = omega (arith, e)
+
     clash : true ≡ false → ⊥
     clash e = cc
 
@@ -83,12 +86,12 @@ says_at events past t k x ordinal same = by (finished_at x.whole k) refl
         silent_says events past t (λ n h. here.begun ∙ some_is b.taken n (sym o.0 ∙ h)) o.1 (λ h. clash (sym h ∙ here.untaken))
     open_at gap b body rest none (inr l) =
         let o = Rattle.sdb_story.proofs.Places.past_is events (id t) x.whole gap b body k (x.same ∙ ap (λ r. saids_of x.whole ++ said_of r) rest) ordinal l x.ok (subst IsRest rest x.rest_ok) in
-        silent_says events past t (λ n h. none_some n (sym o.0 ∙ h)) o.1 (λ h. x.none k none (subst (λ m. (talk past).taken m ≡ true) (sym same) h))
+        silent_says events past t (λ n h. none_some n (sym o.0 ∙ h)) o.1 (λ h. x.none k (small t k ordinal) none (subst (λ m. (talk past).taken m ≡ true) (sym same) h))
 
     rest_at : (r : Rest) → x.rest ≡ r → finished_at x.whole k ≡ None → Says events past t
     rest_at (Closed gap) rest none =
         let o = none_is events (id t) x.whole gap k (x.same ∙ ap (λ r. saids_of x.whole ++ said_of r) rest) ordinal (beyond x.whole k none) x.ok (subst IsRest rest x.rest_ok) in
-        silent_says events past t (λ n h. none_some n (sym o.0 ∙ h)) o.1 (λ h. x.none k none (subst (λ m. (talk past).taken m ≡ true) (sym same) h))
+        silent_says events past t (λ n h. none_some n (sym o.0 ∙ h)) o.1 (λ h. x.none k (small t k ordinal) none (subst (λ m. (talk past).taken m ≡ true) (sym same) h))
     rest_at (Opened gap b body) rest none = open_at gap b body rest none (side k (length x.whole) (beyond x.whole k none))
       where
         side : (k n : ℕ) → n ≤ k → (k ≡ n) ⊎ (n < k)

@@ -4,3 +4,6 @@ pub mod Bodies
 pub mod Steps
 pub mod Wholes
 pub mod Ends
+pub mod Tellings
+pub mod Answered
+pub mod Files

@@ -42,4 +42,4 @@ pub record Filed (c : ℕ) (events : List Event) (past : List Played) : Type 0 w
   pub fits : (k : ℕ) (f : Finished) → finished_at whole k ≡ Some f → (c < 2 ^ 64) × (suc k < 2 ^ 64)
   pub is_open : (gap : List Said) (b : Said) (body : List Said) → rest ≡ Opened gap b body → IsOpenAt past (number c (length whole)) b
   -- and no COMMIT of another was taken
-  pub none : (k : ℕ) → finished_at whole k ≡ None → (talk past).taken (number c k) ≡ true → ⊥
+  pub none : (k : ℕ) → suc k < 2 ^ 64 → finished_at whole k ≡ None → (talk past).taken (number c k) ≡ true → ⊥

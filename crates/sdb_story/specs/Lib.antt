@@ -2,3 +2,4 @@ pub mod Story
 pub mod Filed
 pub mod Body
 pub mod Left
+pub mod Telling

@@ -6,5 +6,6 @@
 #![tactic(auto)]
 
 pub mod order;
+pub mod said;
 pub mod statements;
 pub mod stories;

@@ -8,7 +8,9 @@ ghost use Rattle.sdb_laws.specs.Plan.{Plan};
 ghost use Rattle.sdb_laws.specs.Lawful.{Played, talk};
 ghost use Rattle.sdb_laws.specs.Faithful.{AreNoted, IsFaithful};
 ghost use Rattle.sdb_story.specs.Story.{Finished, Rest, Closed, Opened, Story, settle, saids_of, said_of, all_of, commit_in, IsFinished, IsRest, IsPlain, IsStory, MayCome, finished_at};
+ghost use Rattle.sdb_turns.specs.System.{SystemAt, SystemOk};
 ghost use Rattle.sdb_story.specs.Filed.{Filed};
+ghost use Rattle.sdb_story.specs.Telling.{AllStories, Telling};
 
 /// One statement more, with its answer, goes last in a client's story and leaves it one.
 pub fn story_grows()
@@ -39,4 +41,10 @@ pub fn story_bodies()
 /// noted, the parts that are played are those that the texts tell.
 pub fn faithful()
     ensures { (plan : ℕ → Plan) (events : List Event) (past : List Played) → ((c : ℕ) → Filed c events past) → ((c : ℕ) → (talk past).taken (c * 2 ^ 64) ≡ true → ⊥) → AreNoted plan events past → IsFaithful plan events past }
+{}
+
+/// Where all is so of all clients, each client has its story, and the notes of the plans are what the statements noted, the parts that
+/// are played are those that the texts tell.
+pub fn clients_are_faithful()
+    ensures { (plan : ℕ → Plan) (events : List Event) (past : List Played) (sys : SystemAt) (told : ℕ → Telling) → SystemOk plan past sys → AllStories events past sys told → AreNoted plan events past → IsFaithful plan events past }
 {}

@@ -44,7 +44,7 @@ test_of u t = by (u == t) refl
     by false h = inr (apart u t h, h)
 
 -- the next id of a client was not used
-unused : (plan : ℕ → Plan) (past : List Played) (sys : SystemAt) (c : ℕ) → SystemOk plan past sys → sys.begun c + 1 < 2 ^ 64 → (talk past).begun (next_id sys c).0 ≡ 0
+pub unused : (plan : ℕ → Plan) (past : List Played) (sys : SystemAt) (c : ℕ) → SystemOk plan past sys → sys.begun c + 1 < 2 ^ 64 → (talk past).begun (next_id sys c).0 ≡ 0
 unused plan past sys c ok small = by (zero_or ((talk past).begun t))
   where
     t : ℕ
@@ -200,3 +200,6 @@ taken_begun plan past sys t ok taken = by (zero_or ((talk past).begun t))
     by : ((talk past).begun t ≡ 0) ⊎ ((talk past).begun t ≢ 0) → 0 < t % 2 ^ 64
     by (inl z) = absurd (clash (sym taken ∙ (in_turn plan past t ok.lawful).taken z))
     by (inr n) = (ok.ids t n).ordinal
+
+pub untaken : (plan : ℕ → Plan) (past : List Played) (sys : SystemAt) (c : ℕ) → SystemOk plan past sys → sys.begun c + 1 < 2 ^ 64 → (talk past).taken (next_id sys c).0 ≡ false
+untaken plan past sys c ok small = (in_turn plan past (next_id sys c).0 ok.lawful).taken (unused plan past sys c ok small)

@@ -1,5 +1,5 @@
 //! What clients know: at the start, through other clients' events, and as a COMMIT takes it.
-ghost use Rattle.std.specs.Prelude.{◌≡◌, ◌≢◌, ◌<◌, ◌%◌, ◌^◌, ℕ, ℤ, List, ◌∷◌, [], ◌++◌, Option, Some, true};
+ghost use Rattle.std.specs.Prelude.{◌≡◌, ◌≢◌, ◌<◌, ◌+◌, ◌%◌, ◌^◌, ℕ, ℤ, List, ◌∷◌, [], ◌++◌, Option, Some, true, false};
 ghost use Rattle.std.specs.List.{AllByRecursion};
 ghost use Rattle.sdb_types.specs.declared.txid.TxId.{TxId};
 ghost use Rattle.sdb_types.specs.declared.record.Record.{Record};
@@ -17,7 +17,7 @@ ghost use Rattle.sdb_turns.specs.Noted.{SeenOk, Sound, Settled, work_of};
 ghost use Rattle.sdb_turns.specs.Owner.{WorkOk};
 ghost use Rattle.sdb_turns.specs.Reader.{RecoverOk, recover_role};
 ghost use Rattle.sdb_turns.specs.ReadAt.{Kind, AreKinds, ReadAt, settle, keys_of, IsImage, IsLeft, IsOfData, InPlace, ReadOk, read_pending, read_role, read_step};
-ghost use Rattle.sdb_turns.specs.System.{ClientAt, ClientOk, SystemAt, SystemOk, SamePlans, IsBy, Called, IsReplyTo, EndsOwn, call_event, plays, idle};
+ghost use Rattle.sdb_turns.specs.System.{ClientAt, ClientOk, SystemAt, SystemOk, SamePlans, IsBy, Called, IsReplyTo, EndsOwn, call_event, plays, idle, next_id};
 
 /// Before the first event no client has done anything, and all is so of all.
 pub fn nothing_happened()
@@ -62,4 +62,10 @@ pub fn plans_are_free()
 /// A transaction whose COMMIT was taken has begun, and its number tells which of its client's transactions it is, from 1.
 pub fn taken_has_begun()
     ensures { (plan : ℕ → Plan) (past : List Played) (sys : SystemAt) (t : ℕ) → SystemOk plan past sys → (talk past).taken t ≡ true → 0 < t % 2 ^ 64 }
+{}
+
+/// The id of a client's next transaction has not begun, nor was a COMMIT taken under it.
+pub fn next_is_fresh()
+    ensures begun { (plan : ℕ → Plan) (past : List Played) (sys : SystemAt) (c : ℕ) → SystemOk plan past sys → sys.begun c + 1 < 2 ^ 64 → (talk past).begun (next_id sys c).0 ≡ 0 }
+    ensures taken { (plan : ℕ → Plan) (past : List Played) (sys : SystemAt) (c : ℕ) → SystemOk plan past sys → sys.begun c + 1 < 2 ^ 64 → (talk past).taken (next_id sys c).0 ≡ false }
 {}
