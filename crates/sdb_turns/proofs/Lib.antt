@@ -15,3 +15,4 @@ pub mod Fresh
 pub mod Quiet
 pub mod Calls
 pub mod Begin
+pub mod Example

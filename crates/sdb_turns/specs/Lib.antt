@@ -4,3 +4,4 @@ pub mod ReadAt
 pub mod Sweep
 pub mod Noted
 pub mod System
+pub mod Worked

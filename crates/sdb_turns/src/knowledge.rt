@@ -17,6 +17,7 @@ ghost use Rattle.sdb_turns.specs.Noted.{SeenOk, Sound, Settled, work_of};
 ghost use Rattle.sdb_turns.specs.Owner.{WorkOk};
 ghost use Rattle.sdb_turns.specs.Reader.{RecoverOk, recover_role};
 ghost use Rattle.sdb_turns.specs.ReadAt.{Kind, AreKinds, ReadAt, settle, keys_of, IsImage, IsLeft, IsOfData, InPlace, ReadOk, read_pending, read_role, read_step};
+ghost use Rattle.sdb_turns.specs.Worked.{SomeCommit};
 ghost use Rattle.sdb_turns.specs.System.{ClientAt, ClientOk, SystemAt, SystemOk, SamePlans, IsBy, Called, IsReplyTo, EndsOwn, call_event, plays, idle, next_id};
 
 /// Before the first event no client has done anything, and all is so of all.
@@ -68,4 +69,10 @@ pub fn taken_has_begun()
 pub fn next_is_fresh()
     ensures begun { (plan : ℕ → Plan) (past : List Played) (sys : SystemAt) (c : ℕ) → SystemOk plan past sys → sys.begun c + 1 < 2 ^ 64 → (talk past).begun (next_id sys c).0 ≡ 0 }
     ensures taken { (plan : ℕ → Plan) (past : List Played) (sys : SystemAt) (c : ℕ) → SystemOk plan past sys → sys.begun c + 1 < 2 ^ 64 → (talk past).taken (next_id sys c).0 ≡ false }
+{}
+
+/// From clients that have done nothing the laws lead to a client that has begun a transaction, read and written a row, and put
+/// COMMITTED, which was applied: what they ask can be given.
+pub fn a_client_commits()
+    ensures { SomeCommit }
 {}
