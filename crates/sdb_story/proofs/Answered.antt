@@ -19,7 +19,7 @@ use Rattle.sdb_laws.specs.Lawful.{Played, answer_of, is_denial, talk}
 use Rattle.sdb_turns.specs.System.{SystemAt, Has, plays}
 use Rattle.sdb_story.specs.Story.{Finished, Rest, Closed, Opened, Story, settle, saids_of, said_of, all_of, MayCome, IsStory, finished_at}
 use Rattle.sdb_story.specs.Filed.{number, IsFiledAt}
-use Rattle.sdb_story.specs.Telling.{Telling, waiting_of, all_told, asked, answered, begun_in, count_of, OpenFiled, IsOpened, HasBegun, StoryOk, IsApart, KeepsHold, IsSaid, IsOrdinary, BeginsHold, EndsHold, IsCounted, NamesIt, taken_said, answered_said}
+use Rattle.sdb_story.specs.Telling.{Telling, waiting_of, all_told, with_waiting, with_answered, begun_in, count_of, OpenFiled, IsOpened, HasBegun, StoryOk, IsApart, KeepsHold, IsSaid, IsOrdinary, BeginsHold, EndsHold, IsCounted, NamesIt, taken_said, answered_said}
 use Rattle.sdb_story.proofs.Places.{story_same, story_kept}
 use Rattle.sdb_story.proofs.Tellings.{said_more, now_more, SameOf, same_of, filed_later, begun_later, within, apart_at, opened_counts}
 
@@ -70,7 +70,7 @@ said_later events past sys c x q w store ask how r a story waits e = record {
   waited = λ v h. let same = some_is w v (sym waits ∙ h) in (ap (λ (y : Said). y.text) same, ap (λ (y : Said). y.taken) same);
 }
 
-settled_same : (events : List Event) (c : ℕ) (x : Telling) (q : Played) (s : Said) → IsSaid events c x q s → said c (events ++ q.event ∷ []) ≡ all_told (answered x s)
+settled_same : (events : List Event) (c : ℕ) (x : Telling) (q : Played) (s : Said) → IsSaid events c x q s → said c (events ++ q.event ∷ []) ≡ all_told (with_answered x s)
 settled_same events c x q s is = is.said ∙ sym (story_same x.whole x.rest s) ∙ sym (append-nil (all_of (settle x.whole x.rest s)))
 
 ---- numbers
@@ -88,7 +88,7 @@ less_apart j k l e = absurd (omega (arith, e))
 
 -- A statement is taken and waits; it plays no part.
 pub story_asks : (events : List Event) (past : List Played) (sys next : SystemAt) (c : ℕ) (x : Telling) (q : Played) (text : List ℕ) → StoryOk events past sys c x → x.waiting ≡ None → q.event ≡ event.Take c text None → IsCounted q.role → IsApart past c q.role → KeepsHold c sys next
-    → StoryOk (events ++ q.event ∷ []) (q ∷ past) next c (asked x (taken_said events text None))
+    → StoryOk (events ++ q.event ∷ []) (q ∷ past) next c (with_waiting x (taken_said events text None))
 story_asks events past sys next c x q text story none e counts apart keeps = record {
   now = now_more events past q q.event counts story.now;
   same = ap (λ y. said c (events ++ y ∷ [])) e ∙ take_said c events text None ∙ ap (λ ss. ss ++ taken_said events text None ∷ []) (story.same ∙ none_waits x none);
@@ -102,7 +102,7 @@ story_asks events past sys next c x q text story none e counts apart keeps = rec
   hold = λ t h. story.hold t (keeps.hold t h);
 }
   where
-    opened : (r : Rest) → (IsOpened r → SameOf (number c (length x.whole)) (talk past) (talk (q ∷ past))) → OpenFiled past c x r → OpenFiled (q ∷ past) c (asked x (taken_said events text None)) r
+    opened : (r : Rest) → (IsOpened r → SameOf (number c (length x.whole)) (talk past) (talk (q ∷ past))) → OpenFiled past c x r → OpenFiled (q ∷ past) c (with_waiting x (taken_said events text None)) r
     opened (Closed gap) s ok = tt
     opened (Opened gap b body) s ok = ((s tt).begun ∙ ok.0, λ h. let w = ok.1 (sym (s tt).taken ∙ h) in none_some w.0 (sym none ∙ w.1))
 
@@ -111,7 +111,7 @@ takes_at h t = grind (arith, nat_tests)
 
 -- The COMMIT of the open transaction is taken and waits.
 pub story_takes : (events : List Event) (past : List Played) (sys next : SystemAt) (c : ℕ) (x : Telling) (text : List ℕ) → StoryOk events past sys c x → x.waiting ≡ None → reads_commit text ≡ true → KeepsHold c sys next
-    → StoryOk (events ++ event.Take c text None ∷ []) (plays (Takes (number c (length x.whole))) (event.Take c text None) ∷ past) next c (asked x (taken_said events text None))
+    → StoryOk (events ++ event.Take c text None ∷ []) (plays (Takes (number c (length x.whole))) (event.Take c text None) ∷ past) next c (with_waiting x (taken_said events text None))
 story_takes events past sys next c x text story none commit keeps = record {
   now = now_more events past q (event.Take c text None) tt story.now;
   same = take_said c events text None ∙ ap (λ ss. ss ++ taken_said events text None ∷ []) (story.same ∙ none_waits x none);
@@ -134,7 +134,7 @@ story_takes events past sys next c x text story none commit keeps = record {
         plus : (n : ℕ) → n + 0 ≡ n
         plus n = omega arith
 
-    opened : (r : Rest) → OpenFiled past c x r → OpenFiled (q ∷ past) c (asked x (taken_said events text None)) r
+    opened : (r : Rest) → OpenFiled past c x r → OpenFiled (q ∷ past) c (with_waiting x (taken_said events text None)) r
     opened (Closed gap) ok = tt
     opened (Opened gap b body) ok = (ok.0, λ h. (taken_said events text None, refl, commit, plus_one (length events) ∙ ap (λ n. n + 1) (sym story.now) ∙ sym (takes_at (talk past) (number c (length x.whole)))))
 
@@ -154,7 +154,7 @@ clash e = absurd (cc)
 -- what stands in a story after an answer, whatever it is
 settles : (events : List Event) (past : List Played) (sys next : SystemAt) (c : ℕ) (x : Telling) (q : Played) (s : Said) (t : Story) → StoryOk events past sys c x → IsSaid events c x q s → IsCounted q.role → MayCome x.rest s → settle x.whole x.rest s ≡ t
     → next.begun c ≡ count_of (telling_of t) → ((k : ℕ) → k < count_of (telling_of t) → HasBegun (q ∷ past) c k) → ((k : ℕ) (f : Finished) → finished_at t.whole k ≡ Some f → IsFiledAt (q ∷ past) (number c k) f) → OpenFiled (q ∷ past) c (telling_of t) t.rest → ((u : ℕ) → Has (next.clients c) u → IsOpened t.rest × (u ≡ number c (length t.whole)))
-    → StoryOk (events ++ q.event ∷ []) (q ∷ past) next c (answered x s)
+    → StoryOk (events ++ q.event ∷ []) (q ∷ past) next c (with_answered x s)
 settles events past sys next c x q s t story is counts may e count alive filed opened hold = subst (λ y. StoryOk (events ++ q.event ∷ []) (q ∷ past) next c (telling_of y)) (sym e) (record {
   now = now_more events past q q.event counts story.now;
   same = settled_same events c x q s is ∙ ap (λ y. all_told (telling_of y)) e;
@@ -170,7 +170,7 @@ settles events past sys next c x q s t story is counts may e count alive filed o
 
 -- An ordinary statement is answered: it neither begins a transaction nor ends one.
 pub story_answers : (events : List Event) (past : List Played) (sys next : SystemAt) (c : ℕ) (x : Telling) (q : Played) (s : Said) → StoryOk events past sys c x → IsSaid events c x q s → MayCome x.rest s → IsOrdinary x.rest s → IsCounted q.role → IsApart past c q.role → KeepsHold c sys next
-    → StoryOk (events ++ q.event ∷ []) (q ∷ past) next c (answered x s)
+    → StoryOk (events ++ q.event ∷ []) (q ∷ past) next c (with_answered x s)
 story_answers events past sys next c x q s story is may plain counts apart keeps = by x.rest refl plain story.opened
   where
     filed : (k : ℕ) (f : Finished) → finished_at x.whole k ≡ Some f → IsFiledAt (q ∷ past) (number c k) f
@@ -179,7 +179,7 @@ story_answers events past sys next c x q s story is may plain counts apart keeps
     alive : (k : ℕ) → k < count_of x → HasBegun (q ∷ past) c k
     alive k l = begun_later past q c k (apart_at events past sys c x q k story apart l) (story.alive k l)
 
-    by : (r : Rest) → x.rest ≡ r → IsOrdinary r s → OpenFiled past c x r → StoryOk (events ++ q.event ∷ []) (q ∷ past) next c (answered x s)
+    by : (r : Rest) → x.rest ≡ r → IsOrdinary r s → OpenFiled past c x r → StoryOk (events ++ q.event ∷ []) (q ∷ past) next c (with_answered x s)
     by (Closed gap) e o open_ok = settles events past sys next c x q s (record { whole = x.whole; rest = Closed (gap ++ s ∷ []) }) story is counts may
         (ap (λ r. settle x.whole r s) e ∙ ap (λ b. if b then record { whole = x.whole; rest = Opened gap s [] } else record { whole = x.whole; rest = Closed (gap ++ s ∷ []) }) o)
         (keeps.begun ∙ story.count ∙ ap (λ r. length x.whole + begun_in r) e)
@@ -205,7 +205,7 @@ begins_owner h t c = grind (arith, nat_tests)
 
 -- A BEGIN is answered Done where no transaction is open.
 pub story_begins : (events : List Event) (past : List Played) (sys next : SystemAt) (c : ℕ) (x : Telling) (gap : List Said) (text : List ℕ) → StoryOk events past sys c x → x.waiting ≡ None → x.rest ≡ Closed gap → begins (taken_said events text (Some answer.Done)) ≡ true → c < 2 ^ 64 → suc (length x.whole) < 2 ^ 64 → (talk past).taken (number c (length x.whole)) ≡ false → BeginsHold c sys next (number c (length x.whole))
-    → StoryOk (events ++ event.Take c text (Some answer.Done) ∷ []) (plays (Begins (number c (length x.whole)) c) (event.Take c text (Some answer.Done)) ∷ past) next c (answered x (taken_said events text (Some answer.Done)))
+    → StoryOk (events ++ event.Take c text (Some answer.Done) ∷ []) (plays (Begins (number c (length x.whole)) c) (event.Take c text (Some answer.Done)) ∷ past) next c (with_answered x (taken_said events text (Some answer.Done)))
 story_begins events past sys next c x gap text story none e starts client ordinal fresh hold = settles events past sys next c x q s (record { whole = x.whole; rest = Opened gap s [] }) story (said_at_once events past sys c x q text answer.Done story none refl) tt may
     (ap (λ r. settle x.whole r s) e ∙ ap (λ b. if b then record { whole = x.whole; rest = Opened gap s [] } else record { whole = x.whole; rest = Closed (gap ++ s ∷ []) }) starts)
     (hold.begun ∙ ap (λ n. n + 1) (story.count ∙ ap (λ r. length x.whole + begun_in r) e) ∙ plus (length x.whole))
@@ -272,7 +272,7 @@ one_more (h ∷ fs) g (suc k) f e = by (one_more fs g k f e)
 
 -- An answer ends the open transaction.
 pub story_ends : (events : List Event) (past : List Played) (sys next : SystemAt) (c : ℕ) (x : Telling) (q : Played) (s : Said) (gap : List Said) (b : Said) (body : List Said) → StoryOk events past sys c x → x.rest ≡ Opened gap b body → IsSaid events c x q s → begins s ≡ false → ends s ≡ true → q.ends ≡ Some (number c (length x.whole)) → NamesIt (number c (length x.whole)) s → IsCounted q.role → IsApart past c q.role → EndsHold c sys next
-    → StoryOk (events ++ q.event ∷ []) (q ∷ past) next c (answered x s)
+    → StoryOk (events ++ q.event ∷ []) (q ∷ past) next c (with_answered x s)
 story_ends events past sys next c x q s gap b body story e is plain over ends_it names counts apart hold = settles events past sys next c x q s (record { whole = x.whole ++ f ∷ []; rest = Closed [] }) story is counts may
     (ap (λ r. settle x.whole r s) e ∙ ap (λ t. if t then record { whole = x.whole ++ f ∷ []; rest = Closed [] } else record { whole = x.whole; rest = Opened gap b (body ++ s ∷ []) }) over)
     (hold.begun ∙ story.count ∙ ap (λ r. length x.whole + begun_in r) e ∙ lengths)

@@ -21,16 +21,16 @@ use Rattle.sdb_laws.specs.Explained.{IsRunOf, newest_first, events_of}
 use Rattle.sdb_laws.specs.Faithful.{IsFaithful}
 use Rattle.sdb_laws.proofs.ModelTime.{answers_true, keeps_real_time, ordered_of}
 use Rattle.sdb_turns.proofs.Lists.{each_any}
-use Rattle.sdb_story.specs.Left.{Ran, RanOk, SaidSo, AllSaid, IsFitting, RunsWhole, ShowsTables, numbers_of}
+use Rattle.sdb_story.specs.Left.{Execution, ExecutionOk, BodyIsSaid, AllBodiesSaid, IsFitting, RunsWhole, ShowsTables, numbers_of}
 use Rattle.sdb_story.proofs.Wholes.{order_runs}
 
 -- the bodies of an order
-bodies_read : (catalog : List Table) (fit : Tables → Bool) (plan : ℕ → Plan) (events : List Event) (past : List Played) (ran : ℕ → Ran) (order : List Point) → AllSaid catalog fit plan events past ran (numbers_of order) → AreBodies events order (map (λ t. (ran t).body) (numbers_of order))
+bodies_read : (catalog : List Table) (fit : Tables → Bool) (plan : ℕ → Plan) (events : List Event) (past : List Played) (ran : ℕ → Execution) (order : List Point) → AllBodiesSaid catalog fit plan events past ran (numbers_of order) → AreBodies events order (map (λ t. (ran t).body) (numbers_of order))
 bodies_read catalog fit plan events past ran [] all = tt
 bodies_read catalog fit plan events past ran (p ∷ ps) all = (all.0.1.read, bodies_read catalog fit plan events past ran ps all.1)
 
 -- and their answers
-answers_are : (catalog : List Table) (fit : Tables → Bool) (plan : ℕ → Plan) (events : List Event) (past : List Played) (ran : ℕ → Ran) (order : List Point) → AllSaid catalog fit plan events past ran (numbers_of order) → map (answers_told events) order ≡ map (map Some) (map (λ t. (ran t).answers) (numbers_of order))
+answers_are : (catalog : List Table) (fit : Tables → Bool) (plan : ℕ → Plan) (events : List Event) (past : List Played) (ran : ℕ → Execution) (order : List Point) → AllBodiesSaid catalog fit plan events past ran (numbers_of order) → map (answers_told events) order ≡ map (map Some) (map (λ t. (ran t).answers) (numbers_of order))
 answers_are catalog fit plan events past ran [] all = refl
 answers_are catalog fit plan events past ran (p ∷ ps) all = ap (λ x. x ∷ map (answers_told events) ps) all.0.1.told ∙ ap (λ xs. map Some (ran p.id.0).answers ∷ xs) (answers_are catalog fit plan events past ran ps all.1)
 
@@ -48,8 +48,8 @@ clients_see places events shelves order real owned client s within told late fit
     let r = owned client s within told in
     (r.id, r.commit, real r.id late r.fits fits s r.commit told recorded n began less)
 
-pub run_told : (catalog : List Table) (fit : Tables → Bool) (plan : ℕ → Plan) (places : List Place) (opening : List Shelf) (played : List Played) (ss : List (List Shelf)) (ran : ℕ → Ran) (order : List Point)
-    → IsRunOf plan places opening (newest_first played) ss → IsFaithful plan (events_of played) (newest_first played) → IsOrder places (events_of played) (closing opening ss) order → All (λ (p : Point). p.id.0 < 2 ^ 128) order → IsFitting catalog fit → AllSaid catalog fit plan (events_of played) (newest_first played) ran (numbers_of order)
+pub run_told : (catalog : List Table) (fit : Tables → Bool) (plan : ℕ → Plan) (places : List Place) (opening : List Shelf) (played : List Played) (ss : List (List Shelf)) (ran : ℕ → Execution) (order : List Point)
+    → IsRunOf plan places opening (newest_first played) ss → IsFaithful plan (events_of played) (newest_first played) → IsOrder places (events_of played) (closing opening ss) order → All (λ (p : Point). p.id.0 < 2 ^ 128) order → IsFitting catalog fit → AllBodiesSaid catalog fit plan (events_of played) (newest_first played) ran (numbers_of order)
     → (tables : List TableDump) × IsTold catalog places (events_of played) (closing opening ss) order tables × KeepsRealTime places (events_of played) (closing opening ss) order
 run_told catalog fit plan places opening played ss ran order run faithful ordered small fitting all = (
   dumps_of catalog (serial catalog bodies empty).1,
@@ -70,7 +70,7 @@ run_told catalog fit plan places opening played ss ran order run faithful ordere
     bodies = map (λ t. (ran t).body) (numbers_of order)
 
     runs : (e : Tables) × RunsWhole catalog fit plan ran (numbers_of order) empty e × ShowsTables places (closing opening ss) e
-    runs = order_runs catalog fit plan places opening (newest_first played) ss ran (numbers_of order) run (ordered_of plan places opening played ss order run faithful ordered small) (each_any (λ t. RanOk catalog fit plan (newest_first played) t (ran t) × SaidSo (events_of played) t (ran t)) (λ t. RanOk catalog fit plan (newest_first played) t (ran t)) (numbers_of order) (λ t h. h.0) all) fitting.starts
+    runs = order_runs catalog fit plan places opening (newest_first played) ss ran (numbers_of order) run (ordered_of plan places opening played ss order run faithful ordered small) (each_any (λ t. ExecutionOk catalog fit plan (newest_first played) t (ran t) × BodyIsSaid (events_of played) t (ran t)) (λ t. ExecutionOk catalog fit plan (newest_first played) t (ran t)) (numbers_of order) (λ t h. h.0) all) fitting.starts
 
     true_answers : Rattle.sdb_laws.specs.Faithful.AnswersAreTrue places (events_of played) (closing opening ss)
     true_answers = answers_true plan places opening played ss run faithful

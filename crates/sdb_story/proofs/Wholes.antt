@@ -32,7 +32,7 @@ use Rattle.sdb_laws.proofs.Times.{whole_of}
 use Rattle.sdb_turns.specs.Noted.{SeenOk}
 use Rattle.sdb_turns.proofs.Seen.{base_settled, base_table}
 use Rattle.sdb_story.specs.Body.{AgreesAll}
-use Rattle.sdb_story.specs.Left.{AreLeft, AreAfter, Ran, AllRan, RunsWhole, ShowsTables}
+use Rattle.sdb_story.specs.Left.{AreLeft, AreAfter, Execution, AllExecutions, RunsWhole, ShowsTables}
 use Rattle.sdb_story.proofs.Steps.{agrees, next}
 
 ---- what is noted was left
@@ -58,19 +58,19 @@ notes_left plan places opening past ss s run ok k b e = (
 
 ---- one after the other
 
-abbrev bodies : (ℕ → Ran) → List ℕ → List (List Statement)
+abbrev bodies : (ℕ → Execution) → List ℕ → List (List Statement)
 bodies ran order = map (λ t. (ran t).body) order
 
-abbrev answers : (ℕ → Ran) → List ℕ → List (List Answer)
+abbrev answers : (ℕ → Execution) → List ℕ → List (List Answer)
 answers ran order = map (λ t. (ran t).answers) order
 
 -- the rest of the order, after its first transactions
-rest_runs : (catalog : List Table) (fit : Tables → Bool) (plan : ℕ → Plan) (w : History) (past : List Played) (ran : ℕ → Ran) (order front back : List ℕ) (d : Tables) → ((s : Seen) → SeenOk past s → AreLeft plan s) → ReadsSerial plan w order → order ≡ front ++ back → AllRan catalog fit plan past ran back → AreAfter plan front d → fit d ≡ true
+rest_runs : (catalog : List Table) (fit : Tables → Bool) (plan : ℕ → Plan) (w : History) (past : List Played) (ran : ℕ → Execution) (order front back : List ℕ) (d : Tables) → ((s : Seen) → SeenOk past s → AreLeft plan s) → ReadsSerial plan w order → order ≡ front ++ back → AllExecutions catalog fit plan past ran back → AreAfter plan front d → fit d ≡ true
     → (e : Tables) × RunsWhole catalog fit plan ran back d e × AreAfter plan order e
 rest_runs catalog fit plan w past ran order front [] d left serial_reads is all after f = (d, record { runs = refl; fits = f }, subst (λ o. AreAfter plan o d) (sym (is ∙ append-nil front)) after)
 rest_runs catalog fit plan w past ran order front (t ∷ back) d left serial_reads is all after f = by (rest_runs catalog fit plan w past ran order (front ++ t ∷ []) back (with_own d r.seen.writes) left serial_reads (is ∙ sym (append_assoc front (t ∷ []) back)) all.1 (next plan front t (Rattle.sdb_turns.specs.Noted.work_of (id t) r.now r.seen) r.seen d all.0.planned refl after) (all.0.body.fits d f agree))
   where
-    r : Ran
+    r : Execution
     r = ran t
 
     agree : AgreesAll r.seen d
@@ -88,7 +88,7 @@ rest_runs catalog fit plan w past ran order front (t ∷ back) d left serial_rea
 
 -- Over a run, the recorded transactions in the order of their points, run whole one after the other from empty tables, give the
 -- answers that their statements had, and leave the rows that the stores show.
-pub order_runs : (catalog : List Table) (fit : Tables → Bool) (plan : ℕ → Plan) (places : List Place) (opening : List Shelf) (past : List Played) (ss : List (List Shelf)) (ran : ℕ → Ran) (order : List ℕ) → IsRunOf plan places opening past ss → IsOrdered (history plan places opening past ss) order → AllRan catalog fit plan past ran order → fit empty ≡ true
+pub order_runs : (catalog : List Table) (fit : Tables → Bool) (plan : ℕ → Plan) (places : List Place) (opening : List Shelf) (past : List Played) (ss : List (List Shelf)) (ran : ℕ → Execution) (order : List ℕ) → IsRunOf plan places opening past ss → IsOrdered (history plan places opening past ss) order → AllExecutions catalog fit plan past ran order → fit empty ≡ true
     → (e : Tables) × RunsWhole catalog fit plan ran order empty e × ShowsTables places (closing opening ss) e
 order_runs catalog fit plan places opening past ss ran order run ordered all f =
     let x = rest_runs catalog fit plan w past ran order [] order empty (λ s ok. notes_left plan places opening past ss s run ok) (reads_serial plan places w past (closing opening ss) order (whole_of plan places opening past ss run) ordered) refl all (record { row = λ k. map.get-empty key_cmp k }) f in

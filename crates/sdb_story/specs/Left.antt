@@ -37,25 +37,25 @@ pub record AreAfter (plan : ℕ → Plan) (front : List ℕ) (d : Tables) : Type
 
 -- What a transaction of the order did: what it had read and written when its COMMIT was taken, and when; its statements; and their
 -- answers.
-pub record Ran : Type 0 where
+pub record Execution : Type 0 where
   pub seen : Seen
   pub now : ℤ
   pub body : List Statement
   pub answers : List Answer
 
 -- Its plan is what it had read and written, and its statements come to that over any tables that agree with what was read.
-pub record RanOk (catalog : List Table) (fit : Tables → Bool) (plan : ℕ → Plan) (past : List Played) (t : ℕ) (r : Ran) : Type 0 where
+pub record ExecutionOk (catalog : List Table) (fit : Tables → Bool) (plan : ℕ → Plan) (past : List Played) (t : ℕ) (r : Execution) : Type 0 where
   pub seen : SeenOk past r.seen
   pub planned : plan t ≡ plan_of (work_of (id t) r.now r.seen)
   pub body : BodyOk catalog fit r.body r.answers r.seen
 
 -- so did each transaction of a list
-abbrev pub AllRan : List Table → (Tables → Bool) → (ℕ → Plan) → List Played → (ℕ → Ran) → List ℕ → Type 0
-AllRan catalog fit plan past ran order = AllByRecursion (λ t. RanOk catalog fit plan past t (ran t)) order
+abbrev pub AllExecutions : List Table → (Tables → Bool) → (ℕ → Plan) → List Played → (ℕ → Execution) → List ℕ → Type 0
+AllExecutions catalog fit plan past ran order = AllByRecursion (λ t. ExecutionOk catalog fit plan past t (ran t)) order
 
 -- The transactions of the order run whole, one after the other, from these tables on: each gives its answers; and these are the
 -- tables at the end.
-pub record RunsWhole (catalog : List Table) (fit : Tables → Bool) (plan : ℕ → Plan) (ran : ℕ → Ran) (order : List ℕ) (d e : Tables) : Type 0 where
+pub record RunsWhole (catalog : List Table) (fit : Tables → Bool) (plan : ℕ → Plan) (ran : ℕ → Execution) (order : List ℕ) (d e : Tables) : Type 0 where
   pub runs : serial catalog (map (λ t. (ran t).body) order) d ≡ (map (λ t. (ran t).answers) order, e)
   pub fits : fit e ≡ true
 
@@ -64,13 +64,13 @@ abbrev pub ShowsTables : List Place → List Shelf → Tables → Type 0
 ShowsTables places shelves e = (k : Key) → is_data k ≡ true → row_at places shelves k ≡ get e k
 
 -- The texts of a transaction's body read as its statements, and what they were answered is what these come to.
-pub record SaidSo (events : List Event) (t : ℕ) (r : Ran) : Type 0 where
+pub record BodyIsSaid (events : List Event) (t : ℕ) (r : Execution) : Type 0 where
   pub read : AreRead (body events (id t)) r.body
   pub told : map (λ s. s.answer) (body events (id t)) ≡ map Some r.answers
 
 -- each transaction of a list did and said so
-abbrev pub AllSaid : List Table → (Tables → Bool) → (ℕ → Plan) → List Event → List Played → (ℕ → Ran) → List ℕ → Type 0
-AllSaid catalog fit plan events past ran order = AllByRecursion (λ t. RanOk catalog fit plan past t (ran t) × SaidSo events t (ran t)) order
+abbrev pub AllBodiesSaid : List Table → (Tables → Bool) → (ℕ → Plan) → List Event → List Played → (ℕ → Execution) → List ℕ → Type 0
+AllBodiesSaid catalog fit plan events past ran order = AllByRecursion (λ t. ExecutionOk catalog fit plan past t (ran t) × BodyIsSaid events t (ran t)) order
 
 -- A test that empty tables pass, and that no tables pass with a row outside the catalog's tables, of which none is the
 -- coordinator's.

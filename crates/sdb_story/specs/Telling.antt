@@ -36,12 +36,12 @@ abbrev pub all_told : Telling → List Said
 all_told x = (saids_of x.whole ++ said_of x.rest) ++ waiting_of x.waiting
 
 -- with a statement that is taken, and waits
-abbrev pub asked : Telling → Said → Telling
-asked x s = record { whole = x.whole; rest = x.rest; waiting = Some s }
+abbrev pub with_waiting : Telling → Said → Telling
+with_waiting x s = record { whole = x.whole; rest = x.rest; waiting = Some s }
 
 -- with a statement and its answer; none waits
-abbrev pub answered : Telling → Said → Telling
-answered x s = record { whole = (settle x.whole x.rest s).whole; rest = (settle x.whole x.rest s).rest; waiting = None }
+abbrev pub with_answered : Telling → Said → Telling
+with_answered x s = record { whole = (settle x.whole x.rest s).whole; rest = (settle x.whole x.rest s).rest; waiting = None }
 
 -- how many transactions are open
 abbrev pub begun_in : Rest → ℕ

@@ -17,7 +17,7 @@ ghost use Rattle.sdb_laws.specs.Faithful.{IsFaithful};
 ghost use Rattle.sdb_laws.specs.Serial.{IsOrdered};
 ghost use Rattle.sdb_snapshot.specs.Seen.{Seen};
 ghost use Rattle.sdb_turns.specs.Noted.{SeenOk};
-ghost use Rattle.sdb_story.specs.Left.{AllRan, AllSaid, AreLeft, IsFitting, Ran, RunsWhole, ShowsTables, numbers_of};
+ghost use Rattle.sdb_story.specs.Left.{AllExecutions, AllBodiesSaid, AreLeft, IsFitting, Execution, RunsWhole, ShowsTables, numbers_of};
 
 /// Over a run, each record that a transaction noted is that of some transaction, and shows the row that this one left there.
 pub fn notes_were_left()
@@ -27,14 +27,14 @@ pub fn notes_were_left()
 /// Over a run, the recorded transactions in the order of their points, run whole one after the other from empty tables, give the
 /// answers that their statements had, and the tables at the end have the rows that the stores show.
 pub fn order_runs_whole()
-    ensures { (catalog : List Table) (fit : Tables → Bool) (plan : ℕ → Plan) (places : List Place) (opening : List Shelf) (past : List Played) (ss : List (List Shelf)) (ran : ℕ → Ran) (order : List ℕ) → IsRunOf plan places opening past ss → IsOrdered (history plan places opening past ss) order → AllRan catalog fit plan past ran order → fit empty ≡ true
+    ensures { (catalog : List Table) (fit : Tables → Bool) (plan : ℕ → Plan) (places : List Place) (opening : List Shelf) (past : List Played) (ss : List (List Shelf)) (ran : ℕ → Execution) (order : List ℕ) → IsRunOf plan places opening past ss → IsOrdered (history plan places opening past ss) order → AllExecutions catalog fit plan past ran order → fit empty ≡ true
         → (e : Tables) × RunsWhole catalog fit plan ran order empty e × ShowsTables places (closing opening ss) e }
 {}
 
 /// Over a run whose parts are those that the texts tell, where each recorded transaction did and said so: there are tables to print
 /// with which the run owes its clients nothing, and the order keeps real time.
 pub fn run_is_told()
-    ensures { (catalog : List Table) (fit : Tables → Bool) (plan : ℕ → Plan) (places : List Place) (opening : List Shelf) (played : List Played) (ss : List (List Shelf)) (ran : ℕ → Ran) (order : List Point) → IsRunOf plan places opening (newest_first played) ss → IsFaithful plan (events_of played) (newest_first played)
-        → IsOrder places (events_of played) (closing opening ss) order → All (λ (p : Point). p.id.0 < 2 ^ 128) order → IsFitting catalog fit → AllSaid catalog fit plan (events_of played) (newest_first played) ran (numbers_of order)
+    ensures { (catalog : List Table) (fit : Tables → Bool) (plan : ℕ → Plan) (places : List Place) (opening : List Shelf) (played : List Played) (ss : List (List Shelf)) (ran : ℕ → Execution) (order : List Point) → IsRunOf plan places opening (newest_first played) ss → IsFaithful plan (events_of played) (newest_first played)
+        → IsOrder places (events_of played) (closing opening ss) order → All (λ (p : Point). p.id.0 < 2 ^ 128) order → IsFitting catalog fit → AllBodiesSaid catalog fit plan (events_of played) (newest_first played) ran (numbers_of order)
         → (tables : List TableDump) × IsTold catalog places (events_of played) (closing opening ss) order tables × KeepsRealTime places (events_of played) (closing opening ss) order }
 {}

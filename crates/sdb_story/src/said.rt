@@ -15,7 +15,7 @@ ghost use Rattle.sdb_laws.specs.Lawful.{Played, MayPlay};
 ghost use Rattle.sdb_turns.specs.System.{SystemAt, SystemOk, IsBy, idle};
 ghost use Rattle.sdb_story.specs.Story.{MayCome};
 ghost use Rattle.sdb_story.specs.Filed.{Filed};
-ghost use Rattle.sdb_story.specs.Telling.{Telling, nothing_yet, asked, answered, StoryOk, TellsOn, IsApart, KeepsHold, LeavesHold, IsSaid, IsOrdinary, BeginsNext, EndsOpen, taken_said, answered_said, begun_played, commit_taken};
+ghost use Rattle.sdb_story.specs.Telling.{Telling, nothing_yet, with_waiting, with_answered, StoryOk, TellsOn, IsApart, KeepsHold, LeavesHold, IsSaid, IsOrdinary, BeginsNext, EndsOpen, taken_said, answered_said, begun_played, commit_taken};
 
 /// Before the first event a client has said nothing.
 pub fn nothing_yet_said()
@@ -32,8 +32,8 @@ pub fn story_stays()
 
 /// A statement is taken and waits for its answer; it may be the COMMIT of the open transaction.
 pub fn statement_waits()
-    ensures asks { (events : List Event) (past : List Played) (sys next : SystemAt) (c : ℕ) (x : Telling) (q : Played) (text : List ℕ) → StoryOk events past sys c x → x.waiting ≡ None → q.event ≡ event.Take c text None → LeavesHold past sys next c q → TellsOn events past q next c (asked x (taken_said events text None)) }
-    ensures takes { (events : List Event) (past : List Played) (sys next : SystemAt) (c : ℕ) (x : Telling) (text : List ℕ) → StoryOk events past sys c x → x.waiting ≡ None → reads_commit text ≡ true → KeepsHold c sys next → TellsOn events past (commit_taken c x text) next c (asked x (taken_said events text None)) }
+    ensures asks { (events : List Event) (past : List Played) (sys next : SystemAt) (c : ℕ) (x : Telling) (q : Played) (text : List ℕ) → StoryOk events past sys c x → x.waiting ≡ None → q.event ≡ event.Take c text None → LeavesHold past sys next c q → TellsOn events past q next c (with_waiting x (taken_said events text None)) }
+    ensures takes { (events : List Event) (past : List Played) (sys next : SystemAt) (c : ℕ) (x : Telling) (text : List ℕ) → StoryOk events past sys c x → x.waiting ≡ None → reads_commit text ≡ true → KeepsHold c sys next → TellsOn events past (commit_taken c x text) next c (with_waiting x (taken_said events text None)) }
 {}
 
 /// A statement has its answer: at once as it is taken, or later by a call of its client.
@@ -46,9 +46,9 @@ pub fn statement_is_said()
 /// A story goes on with an answered statement: an ordinary one, a BEGIN that is answered Done, or one that ends the open
 /// transaction.
 pub fn story_goes_on()
-    ensures ordinary { (events : List Event) (past : List Played) (sys next : SystemAt) (c : ℕ) (x : Telling) (q : Played) (s : Said) → StoryOk events past sys c x → IsSaid events c x q s → MayCome x.rest s → IsOrdinary x.rest s → LeavesHold past sys next c q → TellsOn events past q next c (answered x s) }
-    ensures begins { (events : List Event) (past : List Played) (sys next : SystemAt) (c : ℕ) (x : Telling) (text : List ℕ) → StoryOk events past sys c x → x.waiting ≡ None → BeginsNext events past sys next c x text → TellsOn events past (begun_played c x text) next c (answered x (taken_said events text (Some answer.Done))) }
-    ensures ends { (events : List Event) (past : List Played) (sys next : SystemAt) (c : ℕ) (x : Telling) (q : Played) (s : Said) → StoryOk events past sys c x → IsSaid events c x q s → EndsOpen past sys next c x q s → TellsOn events past q next c (answered x s) }
+    ensures ordinary { (events : List Event) (past : List Played) (sys next : SystemAt) (c : ℕ) (x : Telling) (q : Played) (s : Said) → StoryOk events past sys c x → IsSaid events c x q s → MayCome x.rest s → IsOrdinary x.rest s → LeavesHold past sys next c q → TellsOn events past q next c (with_answered x s) }
+    ensures begins { (events : List Event) (past : List Played) (sys next : SystemAt) (c : ℕ) (x : Telling) (text : List ℕ) → StoryOk events past sys c x → x.waiting ≡ None → BeginsNext events past sys next c x text → TellsOn events past (begun_played c x text) next c (with_answered x (taken_said events text (Some answer.Done))) }
+    ensures ends { (events : List Event) (past : List Played) (sys next : SystemAt) (c : ℕ) (x : Telling) (q : Played) (s : Said) → StoryOk events past sys c x → IsSaid events c x q s → EndsOpen past sys next c x q s → TellsOn events past q next c (with_answered x s) }
 {}
 
 /// Where the events stop, a client's story is filed: a statement that waits has no answer, and a COMMIT that waits ends its

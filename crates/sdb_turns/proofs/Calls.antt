@@ -40,7 +40,7 @@ use Rattle.sdb_turns.specs.Reader.{RecoverOk, recover_role}
 use Rattle.sdb_turns.specs.ReadAt.{Kind, Firm, Open, Bad, AreKinds, IsKind, ReadAt, Asking, Resolving, Done, Failed, request_of, read_pending, read_role, read_step, IsImage, IsLeft, IsOfData, ReadOk, keys_of}
 use Rattle.sdb_turns.specs.Sweep as vacuum
 use Rattle.sdb_turns.specs.Sweep.{SweepAt, SweepOk, remove_request, remove_or, removes_role, sweep, sweep_one, sweep_resolved, sweep_removed, sweep_rows, sweep_pending, sweep_role, sweep_step}
-use Rattle.sdb_turns.specs.System.{Reading, Sweeping, Resting, ClientOk, Has, sweeps, Gate, SystemAt, SystemOk, with_client, plays, ends_with, Called, call_event, IsReplyTo, StandsAt}
+use Rattle.sdb_turns.specs.System.{Reading, Sweeping, Resting, ClientOk, Has, sweeps, Gate, SystemAt, SystemOk, with_client, plays, ends_with, ClientCall, call_event, IsReplyTo, StandsAt}
 use Rattle.sdb_turns.proofs.Foreign.{IsForeign, IsForeignEvent, StopsNot, open_later, going}
 use Rattle.sdb_turns.proofs.Reading.{recover_lawful}
 use Rattle.sdb_turns.proofs.Clients.{BeginsNone, turned}
@@ -131,7 +131,7 @@ read_may plan past a c (Resolving images rec meta p left) store q how r answered
 read_may plan past a c (Done images) store q how r answered ok asked = absurd (cc)
 read_may plan past a c Failed store q how r answered ok asked = absurd (cc)
 
-pub read_turn : (kind : Record → Kind) (plan : ℕ → Plan) (past : List Played) (sys : SystemAt) (x : Called) (id : TxId) (seen : Seen) (a : Access) (s : ReadAt) (answered : Option Answer)
+pub read_turn : (kind : Record → Kind) (plan : ℕ → Plan) (past : List Played) (sys : SystemAt) (x : ClientCall) (id : TxId) (seen : Seen) (a : Access) (s : ReadAt) (answered : Option Answer)
     → AreKinds kind → StandsAt plan past sys x.client (Reading id seen a s) → IsReplyTo (read_pending a s) x → answered ≢ Some answer.Committed
     → SystemOk plan (plays (read_role s x.reply) (call_event x answered) ∷ past) (with_client sys x.client (Reading id seen a (read_step kind s x.now x.reply)))
 read_turn kind plan past sys x id seen a s answered kinds stands reply other = turned plan past sys c one (Reading id seen a (read_step kind s x.now r)) stands.ok (record {
@@ -162,7 +162,7 @@ read_turn kind plan past sys x id seen a s answered kinds stands reply other = t
     known = subst (ClientOk plan past c) stands.at (stands.ok.each c)
 
 -- An answer to the last call of a read may end the transaction.
-pub read_ends_turn : (plan : ℕ → Plan) (past : List Played) (sys : SystemAt) (x : Called) (id : TxId) (seen : Seen) (a : Access) (s : ReadAt) (answered : Option Answer)
+pub read_ends_turn : (plan : ℕ → Plan) (past : List Played) (sys : SystemAt) (x : ClientCall) (id : TxId) (seen : Seen) (a : Access) (s : ReadAt) (answered : Option Answer)
     → StandsAt plan past sys x.client (Reading id seen a s) → IsReplyTo (read_pending a s) x → answered ≢ Some answer.Committed
     → SystemOk plan (ends_with id.0 (read_role s x.reply) (call_event x answered) ∷ past) (with_client sys x.client Resting)
 read_ends_turn plan past sys x id seen a s answered stands reply other = turned plan past sys c one Resting stands.ok (record {
@@ -202,7 +202,7 @@ sweep_apart (vacuum.Removing b left) r = by (id_in b.columns)
     by : (o : Option TxId) → IsApart (removes_role b o)
     by None = tt
     by (Some id) = tt
-sweep_apart vacuum.Swept r = tt
+sweep_apart vacuum.Between r = tt
 
 remove_may : (plan : ℕ → Plan) (past : List Played) (c : ℕ) (b : Record) (store : Name) (q : Request) (how : How) (r : Reply) (answered : Option Answer) → Gate (talk past) → IsImage past b → is_tombstone b ≡ true → is_data b.key ≡ true → remove_request b ≡ Some q → MayPlay plan past (event.Call c store q how r answered) (removes_role b (id_in b.columns))
 remove_may plan past c b store q how r answered gate image gone outside asked = by (id_in b.columns) refl asked
@@ -225,7 +225,7 @@ sweep_may : (plan : ℕ → Plan) (past : List Played) (c : ℕ) (v : SweepAt) (
 sweep_may plan past c (vacuum.Scanning span) store q how r answered gate ok asked = subst (λ x. is_quiet (event.Call c store x how r answered) ≡ true) (some_is (ask.Scan span) q asked) refl
 sweep_may plan past c (vacuum.Resolving rec meta p left) store q how r answered gate ok asked = recover_lawful plan past c rec meta p store q how r answered ok.0 asked
 sweep_may plan past c (vacuum.Removing b left) store q how r answered gate ok asked = remove_may plan past c b store q how r answered gate ok.0 ok.1 ok.2 asked
-sweep_may plan past c vacuum.Swept store q how r answered gate ok asked = absurd (cc)
+sweep_may plan past c vacuum.Between store q how r answered gate ok asked = absurd (cc)
 
 -- a committed record is removed where it is a tombstone
 remove_ok : (past : List Played) (b : Record) (left : List Record) (rest : SweepAt) → IsImage past b → is_data b.key ≡ true → AllByRecursion (IsLeft past) left → SweepOk past rest → SweepOk past (remove_or b left rest)
@@ -291,9 +291,9 @@ sweep_kept : (kind : Record → Kind) (past : List Played) (c : ℕ) (v : SweepA
 sweep_kept kind past c (vacuum.Scanning span) now store q how r answered kinds ok asked can moment = subst (λ x. CanAnswer x r → SweepOk (plays Other (event.Call c store x how r answered) ∷ past) (sweep_rows kind r)) (some_is (ask.Scan span) q asked) (scanned_ok kind past c span store how r answered kinds ok) can
 sweep_kept kind past c (vacuum.Resolving rec meta p left) now store q how r answered kinds ok asked can moment = sweep_resolved_ok kind past c rec meta p left now store q how r answered kinds ok asked can moment
 sweep_kept kind past c (vacuum.Removing b left) now store q how r answered kinds ok asked can moment = removed_ok kind past (plays (removes_role b (id_in b.columns)) (event.Call c store q how r answered)) left r kinds ok.3
-sweep_kept kind past c vacuum.Swept now store q how r answered kinds ok asked can moment = tt
+sweep_kept kind past c vacuum.Between now store q how r answered kinds ok asked can moment = tt
 
-pub vacuum_turn : (kind : Record → Kind) (plan : ℕ → Plan) (past : List Played) (sys : SystemAt) (x : Called) (v : SweepAt) (answered : Option Answer)
+pub vacuum_turn : (kind : Record → Kind) (plan : ℕ → Plan) (past : List Played) (sys : SystemAt) (x : ClientCall) (v : SweepAt) (answered : Option Answer)
     → AreKinds kind → StandsAt plan past sys x.client (Sweeping v) → IsReplyTo (sweep_pending v) x → answered ≢ Some answer.Committed
     → SystemOk plan (plays (sweep_role v x.reply) (call_event x answered) ∷ past) (with_client sys x.client (Sweeping (sweep_step kind v x.now x.reply)))
 vacuum_turn kind plan past sys x v answered kinds stands reply other = turned plan past sys c one (Sweeping (sweep_step kind v x.now r)) stands.ok (record {

@@ -52,7 +52,7 @@ pub sweep_later : (past : List Played) (q : Played) (v : SweepAt) → SweepOk pa
 sweep_later past q (vacuum.Scanning span) ok = ok
 sweep_later past q (vacuum.Resolving rec meta p left) ok = (recover_later past q rec meta p ok.0, left_later past q left ok.1)
 sweep_later past q (vacuum.Removing b left) ok = (image_later past q b ok.0, ok.1, ok.2, left_later past q left ok.3)
-sweep_later past q vacuum.Swept ok = tt
+sweep_later past q vacuum.Between ok = tt
 
 -- An event plays no part of a client's open transaction, nor stops the client.
 pub record Spares (d : ℕ) (x : ClientAt) (q : Played) : Type 0 where

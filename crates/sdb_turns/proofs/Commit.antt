@@ -34,7 +34,7 @@ use Rattle.sdb_phases.specs.Steps.{validate_step, judged}
 use Rattle.sdb_phases.specs.Commit.{Stage, Preparing, Checking, Deciding, Forward, Stopping, Back, Over, pending, step, after_check, starved, starved_answer}
 use Rattle.sdb_phases.specs.CommitLaws.{as_wished, is_more, IsLost}
 use Rattle.sdb_turns.specs.Owner.{CommitOk, StageOk, OverOk, IsReading, role_of, prepare_role, roll_role}
-use Rattle.sdb_turns.specs.System.{ClientAt, Committing, ClientOk, Has, sweeps, SystemAt, SystemOk, plays, answered, ending_at, answer_of_outcome, commit_left, commit_played, with_client, Called, call_event, IsReplyTo, StandsAt}
+use Rattle.sdb_turns.specs.System.{ClientAt, Committing, ClientOk, Has, sweeps, SystemAt, SystemOk, plays, answer_at, ending_at, answer_of_outcome, commit_left, commit_played, with_client, ClientCall, call_event, IsReplyTo, StandsAt}
 use Rattle.sdb_turns.proofs.Own.{prepare_lawful, check_lawful, decide_lawful, abort_lawful, forward_lawful, back_lawful}
 use Rattle.sdb_turns.proofs.Kept.{prepare_kept, decide_kept, look_kept, abort_kept, again_kept, stop_kept, forward_kept, back_kept, passed_kept}
 use Rattle.sdb_turns.proofs.Clients.{BeginsNone, turned, moved}
@@ -208,7 +208,7 @@ denied_ended past e role t u (inl (inr x)) = inl (inr x)
 denied_ended past e role t u (inr (inl r)) = inr (inl r)
 denied_ended past e role t u (inr (inr b)) = inr (inr (record { row = b.row; shown = b.shown; key = b.key; bad = b.bad }))
 
-told_at : (plan : ℕ → Plan) (past : List Played) (p : Work) (e : Event) (role : Role) (s : Stage) → (talk past).taken p.id.0 ≡ true → StageOk plan (plays role e ∷ past) p s → answered s ≡ Some answer.Committed → MayTell plan past (record { event = e; role = role; ends = ending_at p.id.0 s })
+told_at : (plan : ℕ → Plan) (past : List Played) (p : Work) (e : Event) (role : Role) (s : Stage) → (talk past).taken p.id.0 ≡ true → StageOk plan (plays role e ∷ past) p s → answer_at s ≡ Some answer.Committed → MayTell plan past (record { event = e; role = role; ends = ending_at p.id.0 s })
 told_at plan past p e role (Over outcome.Committed) taken ok a = record { t = p.id.0; ends = refl; taken = taken; moment = p.now; known = known_ended plan past e role p.id.0 p.id.0 p.now ok }
 told_at plan past p e role (Over (outcome.Conflict key found)) taken ok a = absurd (cc)
 told_at plan past p e role (Over (outcome.Expired id)) taken ok a = absurd (cc)
@@ -232,7 +232,7 @@ over_why plan past p (outcome.Unknown id) d ok = absurd (cc)
 over_why plan past p (outcome.BadRecord key) d ok = ok
 over_why plan past p outcome.NoMemory d ok = ok
 
-denied_at : (plan : ℕ → Plan) (past : List Played) (p : Work) (e : Event) (role : Role) (s : Stage) (a : Answer) → StageOk plan (plays role e ∷ past) p s → answered s ≡ Some a → is_denial a ≡ true → MayDeny past (record { event = e; role = role; ends = ending_at p.id.0 s })
+denied_at : (plan : ℕ → Plan) (past : List Played) (p : Work) (e : Event) (role : Role) (s : Stage) (a : Answer) → StageOk plan (plays role e ∷ past) p s → answer_at s ≡ Some a → is_denial a ≡ true → MayDeny past (record { event = e; role = role; ends = ending_at p.id.0 s })
 denied_at plan past p e role (Over o) a ok said denial u ends taken = subst (λ t. IsKnownAborted (record { event = e; role = role; ends = Some p.id.0 } ∷ past) t ⊎ ((talk (record { event = e; role = role; ends = Some p.id.0 } ∷ past)).risked t ≡ false) ⊎ IsBadRow (record { event = e; role = role; ends = Some p.id.0 } ∷ past) t) (some_is p.id.0 u ends) (denied_ended past e role p.id.0 p.id.0 (over_why plan (plays role e ∷ past) p o (ap is_denial (some_is (answer_of_outcome o) a said) ∙ denial) ok))
 denied_at plan past p e role (Preparing i) a ok said denial u ends taken = some_none a said
 denied_at plan past p e role (Checking i) a ok said denial u ends taken = some_none a said
@@ -296,7 +296,7 @@ not_open h role t u e o = clash (sym (closed (heard h role) t u e) ∙ o)
     closed : (v : Talk) (t u : ℕ) → t ≡ u → (heard v (laws.Ends t)).is_open u ≡ false
     closed v t u e = grind (arith, nat_tests)
 
-pub commit_turn : (plan : ℕ → Plan) (past : List Played) (sys : SystemAt) (x : Called) (p : Work) (s : Stage) → StandsAt plan past sys x.client (Committing p s) → IsReplyTo (pending p s) x
+pub commit_turn : (plan : ℕ → Plan) (past : List Played) (sys : SystemAt) (x : ClientCall) (p : Work) (s : Stage) → StandsAt plan past sys x.client (Committing p s) → IsReplyTo (pending p s) x
     → SystemOk plan (commit_played p s x ∷ past) (with_client sys x.client (commit_left p (step p s x.reply)))
 commit_turn plan past sys x p s stands reply = turned plan past sys c (commit_played p s x) (commit_left p (step p s r)) ok (record {
   by = refl;
@@ -320,16 +320,16 @@ commit_turn plan past sys x p s stands reply = turned plan past sys c (commit_pl
     ok = stands.ok
 
     e : Event
-    e = call_event x (answered (step p s r))
+    e = call_event x (answer_at (step p s r))
 
     here : CommitOk plan past c p s
     here = subst (ClientOk plan past c) stands.at (ok.each c)
 
     may : MayPlay plan past e (role_of p s r)
-    may = own_play plan past c p s x.store x.request x.how r (answered (step p s r)) here reply.asked reply.can
+    may = own_play plan past c p s x.store x.request x.how r (answer_at (step p s r)) here reply.asked reply.can
 
     now : StageOk plan (plays (role_of p s r) e ∷ past) p (step p s r)
-    now = own_kept plan past c p s x.store x.request x.how r (answered (step p s r)) here reply.asked reply.can
+    now = own_kept plan past c p s x.store x.request x.how r (answer_at (step p s r)) here reply.asked reply.can
 
     owned : (n : Stage) (u : ℕ) → ending_at p.id.0 n ≡ Some u → (talk past).owner u ≡ c
     owned (Over a) u e = subst (λ t. (talk past).owner t ≡ c) (some_is p.id.0 u e) here.within.owner

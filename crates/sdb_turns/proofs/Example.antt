@@ -32,7 +32,7 @@ use Rattle.sdb_snapshot.specs.Seen.{nothing}
 use Rattle.sdb_snapshot.proofs.Keys.{same_itself}
 use Rattle.sdb_turns.specs.Noted.{with_read}
 use Rattle.sdb_turns.specs.ReadAt.{Kind, Firm, Open, Bad, AreKinds, IsKind, Asking, Done, IsOfData, read_role}
-use Rattle.sdb_turns.specs.System.{Resting, Reading, Committing, SystemAt, SystemOk, Called, idle, with_begun, with_client, begin_played, take_played, commit_played, commit_left, commit_begun, with_plan, call_event, plays, next_id}
+use Rattle.sdb_turns.specs.System.{Resting, Reading, Committing, SystemAt, SystemOk, ClientCall, idle, with_begun, with_client, begin_played, take_played, commit_played, commit_left, commit_begun, with_plan, call_event, plays, next_id}
 use Rattle.sdb_turns.specs.System as client
 use Rattle.sdb_turns.specs.Worked.{first_id, inserted, read_once, wrote_once, first_work, call_of, SomeCommit}
 use Rattle.sdb_turns.proofs.Begin.{begins, begin_turn}
@@ -124,7 +124,7 @@ commit_taken = take_turn plans past3 sys5 1 first_id wrote_once (pos 0) (codes "
 abbrev first_write : Write
 first_write = record { key = account; base = None; change = change.Row (balance (pos 100)) }
 
-abbrev prepared_call : Called
+abbrev prepared_call : ClientCall
 prepared_call = call_of (prepare_of first_id (pos 0) first_write) reply.Applied
 
 abbrev past5 : List Played
@@ -136,7 +136,7 @@ sys7 = with_client sys6 1 (Committing first_work (Deciding phase.Put))
 row_prepared : SystemOk plans2 past5 sys7
 row_prepared = commit_turn plans2 past4 sys6 prepared_call first_work (Preparing 0) (record { ok = commit_taken; at = refl }) (record { asked = refl; can = tt; moment = refl })
 
-abbrev decided_call : Called
+abbrev decided_call : ClientCall
 decided_call = call_of (decide_of first_id (pos 0)) reply.Applied
 
 abbrev past6 : List Played

@@ -36,7 +36,7 @@ use Rattle.sdb_phases.specs.declared.step.RecoverStep.TheVariants as steps
 use Rattle.sdb_phases.specs.declared.step.RecoverPhase.{RecoverPhase}
 use Rattle.sdb_phases.specs.Recover.{recover_next, recover_request_at}
 use Rattle.sdb_turns.specs.Reader.{RecoverOk, recover_role}
-use Rattle.sdb_turns.specs.ReadAt.{Kind, Firm, Open, Bad, IsKind, AreKinds, ReadAt, Asking, Resolving, Done, Failed, request_of, read_pending, read_role, read_step, settle, settle_one, answered_rows, resolved, IsImage, IsLeft, IsOfData, Rise, InPlace, keys_of, ReadOk}
+use Rattle.sdb_turns.specs.ReadAt.{Kind, Firm, Open, Bad, IsKind, AreKinds, ReadAt, Asking, Resolving, Done, Failed, request_of, read_pending, read_role, read_step, settle, settle_one, settle_reply, after_recovery, IsImage, IsLeft, IsOfData, Rise, InPlace, keys_of, ReadOk}
 use Rattle.sdb_turns.specs.System.{plays}
 use Rattle.sdb_turns.proofs.Kept.{row_later}
 use Rattle.sdb_turns.proofs.Lists.{each_any, each_both, each_drop, each_more, each_unmap}
@@ -133,7 +133,7 @@ key_itself : (k q : Key) → q ≡ k → in_access (access.Get k) q ≡ true
 key_itself k q e = subst (λ x. is_eq (key_cmp k x) ≡ true) (sym e) (ap is_eq (tied_itself key_total k))
 
 pub asked_ok : (kind : Record → Kind) (past : List Played) (c : ℕ) (a : Access) (store : Name) (how : How) (r : Reply) (answer : Option Answer) → AreKinds kind → IsOfData a → CanAnswer (request_of a) r
-    → ReadOk (plays Rattle.sdb_laws.specs.History.Other (event.Call c store (request_of a) how r answer) ∷ past) a (answered_rows kind r)
+    → ReadOk (plays Rattle.sdb_laws.specs.History.Other (event.Call c store (request_of a) how r answer) ∷ past) a (settle_reply kind r)
 asked_ok kind past c (access.Get k) store how reply.Fault answer kinds tables can = tt
 asked_ok kind past c (access.Get k) store how reply.NoMemory answer kinds tables can = tt
 asked_ok kind past c (access.Get k) store how reply.Applied answer kinds tables can = absurd can
@@ -168,7 +168,7 @@ recover_kept past c rec meta p now store q how r a ok asked can moment = record 
 
 resolved_ok : (kind : Record → Kind) (past : List Played) (a : Access) (c : ℕ) (images : List Record) (rec : Record) (meta : Meta) (p : RecoverPhase) (left : List Record) (now : ℤ) (store : Name) (q : Request) (how : How) (r : Reply) (answer : Option Answer)
     → AreKinds kind → ReadOk past a (Resolving images rec meta p left) → recover_request_at rec meta p ≡ Some q → CanAnswer q r → is_moment now ≡ true
-    → ReadOk (plays (recover_role rec meta p r) (event.Call c store q how r answer) ∷ past) a (resolved kind images rec meta left (recover_next rec meta p now r))
+    → ReadOk (plays (recover_role rec meta p r) (event.Call c store q how r answer) ∷ past) a (after_recovery kind images rec meta left (recover_next rec meta p now r))
 resolved_ok kind past a c images rec meta p left now store q how r answer kinds ok asked can moment = by (recover_next rec meta p now r) refl
   where
     one : Played
@@ -180,7 +180,7 @@ resolved_ok kind past a c images rec meta p left now store q how r answer kinds 
     left_now : AllByRecursion (IsLeft (one ∷ past)) left
     left_now = left_later past one left ok.2
 
-    by : (n : RecoverPhase × RecoverStep) → recover_next rec meta p now r ≡ n → ReadOk (one ∷ past) a (resolved kind images rec meta left n)
+    by : (n : RecoverPhase × RecoverStep) → recover_next rec meta p now r ≡ n → ReadOk (one ∷ past) a (after_recovery kind images rec meta left n)
     by (n, steps.More) e = (images_now, subst (λ (x : RecoverPhase × RecoverStep). RecoverOk (one ∷ past) rec meta x.0) e (recover_kept past c rec meta p now store q how r answer ok.1 asked can moment), left_now, ok.3)
     by (n, steps.Image None) e = settle_ok kind (one ∷ past) a images left kinds images_now left_now (place_drop a (keys_of images) rec.key (keys_of left) ok.3)
     by (n, steps.Image (Some b)) e =
@@ -195,7 +195,7 @@ resolved_ok kind past a c images rec meta p left now store q how r answer kinds 
 pub read_kept : (kind : Record → Kind) (past : List Played) (a : Access) (c : ℕ) (s : ReadAt) (now : ℤ) (store : Name) (q : Request) (how : How) (r : Reply) (answer : Option Answer)
     → AreKinds kind → IsOfData a → ReadOk past a s → read_pending a s ≡ Some q → CanAnswer q r → is_moment now ≡ true
     → ReadOk (plays (read_role s r) (event.Call c store q how r answer) ∷ past) a (read_step kind s now r)
-read_kept kind past a c Asking now store q how r answer kinds tables ok asked can moment = subst (λ x. CanAnswer x r → ReadOk (plays Rattle.sdb_laws.specs.History.Other (event.Call c store x how r answer) ∷ past) a (answered_rows kind r)) (some_is (request_of a) q asked) (asked_ok kind past c a store how r answer kinds tables) can
+read_kept kind past a c Asking now store q how r answer kinds tables ok asked can moment = subst (λ x. CanAnswer x r → ReadOk (plays Rattle.sdb_laws.specs.History.Other (event.Call c store x how r answer) ∷ past) a (settle_reply kind r)) (some_is (request_of a) q asked) (asked_ok kind past c a store how r answer kinds tables) can
   where
     some_is : (x y : Request) → Some x ≡ Some y → x ≡ y
     some_is x y e = cc

@@ -75,23 +75,23 @@ settle kind images [] = Done images
 settle kind images (r ∷ left) = settle_one (kind r) images r left (settle kind (images ++ r ∷ []) left)
 
 -- the rows of a reply begin to be settled
-abbrev pub answered_rows : (Record → Kind) → Reply → ReadAt
-answered_rows kind (reply.Found None) = Done []
-answered_rows kind (reply.Found (Some r)) = settle kind [] (r ∷ [])
-answered_rows kind (reply.Rows rows) = settle kind [] rows
-answered_rows kind r = Failed
+abbrev pub settle_reply : (Record → Kind) → Reply → ReadAt
+settle_reply kind (reply.Found None) = Done []
+settle_reply kind (reply.Found (Some r)) = settle kind [] (r ∷ [])
+settle_reply kind (reply.Rows rows) = settle kind [] rows
+settle_reply kind r = Failed
 
 -- The image that a recovery gives takes the record's place. Any other end of it fails the read.
-abbrev pub resolved : (Record → Kind) → List Record → Record → Meta → List Record → RecoverPhase × RecoverStep → ReadAt
-resolved kind images rec meta left (p, steps.More) = Resolving images rec meta p left
-resolved kind images rec meta left (p, steps.Image None) = settle kind images left
-resolved kind images rec meta left (p, steps.Image (Some b)) = settle kind (images ++ b ∷ []) left
-resolved kind images rec meta left (p, s) = Failed
+abbrev pub after_recovery : (Record → Kind) → List Record → Record → Meta → List Record → RecoverPhase × RecoverStep → ReadAt
+after_recovery kind images rec meta left (p, steps.More) = Resolving images rec meta p left
+after_recovery kind images rec meta left (p, steps.Image None) = settle kind images left
+after_recovery kind images rec meta left (p, steps.Image (Some b)) = settle kind (images ++ b ∷ []) left
+after_recovery kind images rec meta left (p, s) = Failed
 
 -- where a reply at a moment leads
 abbrev pub read_step : (Record → Kind) → ReadAt → ℤ → Reply → ReadAt
-read_step kind Asking now r = answered_rows kind r
-read_step kind (Resolving images rec meta p left) now r = resolved kind images rec meta left (recover_next rec meta p now r)
+read_step kind Asking now r = settle_reply kind r
+read_step kind (Resolving images rec meta p left) now r = after_recovery kind images rec meta left (recover_next rec meta p now r)
 read_step kind s now r = s
 
 -- the part that its call plays

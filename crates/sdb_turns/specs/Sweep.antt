@@ -33,7 +33,7 @@ pub data SweepAt : Type 0 where
   Scanning : (span : Span) → SweepAt
   Resolving : (rec : Record) (meta : Meta) (phase : RecoverPhase) (left : List Record) → SweepAt
   Removing : (tombstone : Record) (left : List Record) → SweepAt
-  Swept : SweepAt
+  Between : SweepAt
 
 -- a tombstone is deleted on condition that it still stands
 abbrev pub remove_request : Record → Option Request
@@ -44,7 +44,7 @@ abbrev pub sweep_pending : SweepAt → Option Request
 sweep_pending (Scanning span) = Some (ask.Scan span)
 sweep_pending (Resolving rec meta p left) = recover_request_at rec meta p
 sweep_pending (Removing b left) = remove_request b
-sweep_pending Swept = None
+sweep_pending Between = None
 
 -- a committed record is removed where it is a tombstone
 abbrev pub remove_or : Record → List Record → SweepAt → SweepAt
@@ -54,11 +54,11 @@ remove_or b left rest = if is_tombstone b then Removing b left else rest
 abbrev pub sweep_one : Kind → Record → List Record → SweepAt → SweepAt
 sweep_one Firm r left rest = remove_or r left rest
 sweep_one (Open meta) r left rest = Resolving r meta phase.Look left
-sweep_one Bad r left rest = Swept
+sweep_one Bad r left rest = Between
 
 -- rows up to the first that is a tombstone or unresolved need no call
 abbrev pub sweep : (Record → Kind) → List Record → SweepAt
-sweep kind [] = Swept
+sweep kind [] = Between
 sweep kind (r ∷ left) = sweep_one (kind r) r left (sweep kind left)
 
 -- A record whose transaction may still decide is passed over. Any other end of a recovery but an image ends the VACUUM.
@@ -67,25 +67,25 @@ sweep_resolved kind rec meta left (p, steps.More) = Resolving rec meta p left
 sweep_resolved kind rec meta left (p, steps.Image None) = sweep kind left
 sweep_resolved kind rec meta left (p, steps.Image (Some b)) = remove_or b left (sweep kind left)
 sweep_resolved kind rec meta left (p, steps.Busy id at) = sweep kind left
-sweep_resolved kind rec meta left (p, s) = Swept
+sweep_resolved kind rec meta left (p, s) = Between
 
 -- the rows of a scan
 abbrev pub sweep_rows : (Record → Kind) → Reply → SweepAt
 sweep_rows kind (reply.Rows rows) = sweep kind rows
-sweep_rows kind r = Swept
+sweep_rows kind r = Between
 
 -- after a removal that was applied or not met it goes on
 abbrev pub sweep_removed : (Record → Kind) → List Record → Reply → SweepAt
 sweep_removed kind left reply.Applied = sweep kind left
 sweep_removed kind left (reply.NotMet found) = sweep kind left
-sweep_removed kind left r = Swept
+sweep_removed kind left r = Between
 
 -- where a reply at a moment leads
 abbrev pub sweep_step : (Record → Kind) → SweepAt → ℤ → Reply → SweepAt
 sweep_step kind (Scanning span) now r = sweep_rows kind r
 sweep_step kind (Resolving rec meta p left) now r = sweep_resolved kind rec meta left (recover_next rec meta p now r)
 sweep_step kind (Removing b left) now r = sweep_removed kind left r
-sweep_step kind Swept now r = Swept
+sweep_step kind Between now r = Between
 
 -- the part of a removal
 abbrev pub removes_role : Record → Option TxId → Role
@@ -97,7 +97,7 @@ abbrev pub sweep_role : SweepAt → Reply → Role
 sweep_role (Scanning span) r = Other
 sweep_role (Resolving rec meta p left) r = recover_role rec meta p r
 sweep_role (Removing b left) r = removes_role b (id_in b.columns)
-sweep_role Swept r = Other
+sweep_role Between r = Other
 
 ---- what its client knows
 
@@ -106,4 +106,4 @@ abbrev pub SweepOk : List Played → SweepAt → Type 0
 SweepOk past (Scanning span) = IsOfData (access.Scan span)
 SweepOk past (Resolving rec meta p left) = RecoverOk past rec meta p × AllByRecursion (IsLeft past) left
 SweepOk past (Removing b left) = IsImage past b × (is_tombstone b ≡ true) × (is_data b.key ≡ true) × AllByRecursion (IsLeft past) left
-SweepOk past Swept = Unit {0}
+SweepOk past Between = Unit {0}

@@ -136,7 +136,7 @@ ends_with t role e = record { event = e; role = role; ends = Some t }
 ---- calls
 
 -- A call of a client with its reply, and the moment at which the client goes on.
-pub record Called : Type 0 where
+pub record ClientCall : Type 0 where
   pub client : ℕ
   pub store : Name
   pub request : Request
@@ -145,11 +145,11 @@ pub record Called : Type 0 where
   pub now : ℤ
 
 -- its event, with the answer that it gives to the client's statement, if it gives one
-abbrev pub call_event : Called → Option Answer → Event
+abbrev pub call_event : ClientCall → Option Answer → Event
 call_event x a = event.Call x.client x.store x.request x.how x.reply a
 
 -- The call is the one that is pending, and its reply is one that it can get.
-pub record IsReplyTo (pending : Option Request) (x : Called) : Type 0 where
+pub record IsReplyTo (pending : Option Request) (x : ClientCall) : Type 0 where
   pub asked : pending ≡ Some x.request
   pub can : CanAnswer x.request x.reply
   pub moment : is_moment x.now ≡ true
@@ -195,9 +195,9 @@ answer_of_outcome (outcome.BadRecord key) = answer.BadRecord key
 answer_of_outcome outcome.NoMemory = answer.NoMemory
 
 -- the answer of a COMMIT that is over
-abbrev pub answered : Stage → Option Answer
-answered (Over a) = Some (answer_of_outcome a)
-answered s = None
+abbrev pub answer_at : Stage → Option Answer
+answer_at (Over a) = Some (answer_of_outcome a)
+answer_at s = None
 
 -- the transaction that it ends
 abbrev pub ending_at : ℕ → Stage → Option ℕ
@@ -210,8 +210,8 @@ commit_left p (Over a) = Resting
 commit_left p s = Committing p s
 
 -- The call of a COMMIT at a stage: where the COMMIT is then over, it gives the answer and ends the transaction.
-abbrev pub commit_played : Work → Stage → Called → Played
-commit_played p s x = record { event = call_event x (answered (step p s x.reply)); role = role_of p s x.reply; ends = ending_at p.id.0 (step p s x.reply) }
+abbrev pub commit_played : Work → Stage → ClientCall → Played
+commit_played p s x = record { event = call_event x (answer_at (step p s x.reply)); role = role_of p s x.reply; ends = ending_at p.id.0 (step p s x.reply) }
 
 -- the same plans, but for that transaction
 abbrev pub with_plan : (ℕ → Plan) → Work → ℕ → Plan

@@ -18,7 +18,7 @@ use Rattle.sdb_snapshot.specs.Seen.{nothing, with_written}
 use Rattle.sdb_laws.specs.Plan.{Plan}
 use Rattle.sdb_laws.specs.Lawful.{Played, talk}
 use Rattle.sdb_turns.specs.Noted.{with_read, work_of}
-use Rattle.sdb_turns.specs.System.{SystemAt, SystemOk, Called, idle, next_id}
+use Rattle.sdb_turns.specs.System.{SystemAt, SystemOk, ClientCall, idle, next_id}
 
 -- the transaction, and what it inserts
 abbrev pub first_id : TxId
@@ -39,7 +39,7 @@ abbrev pub first_work : Work
 first_work = work_of first_id (pos 0) wrote_once
 
 -- a call of client 1 on its store
-abbrev pub call_of : Request → Reply → Called
+abbrev pub call_of : Request → Reply → ClientCall
 call_of q r = record { client = 1; store = codes "ordered"; request = q; how = Seen; reply = r; now = pos 0 }
 
 -- Events, plans and clients with which all is so, and after which the transaction's put of COMMITTED was seen and applied.

@@ -18,7 +18,7 @@ ghost use Rattle.sdb_turns.specs.Owner.{WorkOk};
 ghost use Rattle.sdb_turns.specs.Reader.{RecoverOk, recover_role};
 ghost use Rattle.sdb_turns.specs.ReadAt.{Kind, AreKinds, ReadAt, settle, keys_of, IsImage, IsLeft, IsOfData, InPlace, ReadOk, read_pending, read_role, read_step};
 ghost use Rattle.sdb_turns.specs.Worked.{SomeCommit};
-ghost use Rattle.sdb_turns.specs.System.{ClientAt, ClientOk, SystemAt, SystemOk, SamePlans, IsBy, Called, IsReplyTo, EndsOwn, call_event, plays, idle, next_id};
+ghost use Rattle.sdb_turns.specs.System.{ClientAt, ClientOk, SystemAt, SystemOk, SamePlans, IsBy, ClientCall, IsReplyTo, EndsOwn, call_event, plays, idle, next_id};
 
 /// Before the first event no client has done anything, and all is so of all.
 pub fn nothing_happened()
@@ -34,15 +34,15 @@ pub fn others_leave()
 /// Whatever call of a recovery is pending, the rules let it through, and whatever its reply, the recovery knows what its next
 /// call needs.
 pub fn recovers()
-    ensures may { (plan : ℕ → Plan) (past : List Played) (rec : Record) (meta : Meta) (p : RecoverPhase) (x : Called) (a : Option Answer) → RecoverOk past rec meta p → IsReplyTo (recover_request_at rec meta p) x → MayPlay plan past (call_event x a) (recover_role rec meta p x.reply) }
-    ensures knows { (past : List Played) (rec : Record) (meta : Meta) (p : RecoverPhase) (x : Called) (a : Option Answer) → RecoverOk past rec meta p → IsReplyTo (recover_request_at rec meta p) x → RecoverOk (plays (recover_role rec meta p x.reply) (call_event x a) ∷ past) rec meta (recover_next rec meta p x.now x.reply).0 }
+    ensures may { (plan : ℕ → Plan) (past : List Played) (rec : Record) (meta : Meta) (p : RecoverPhase) (x : ClientCall) (a : Option Answer) → RecoverOk past rec meta p → IsReplyTo (recover_request_at rec meta p) x → MayPlay plan past (call_event x a) (recover_role rec meta p x.reply) }
+    ensures knows { (past : List Played) (rec : Record) (meta : Meta) (p : RecoverPhase) (x : ClientCall) (a : Option Answer) → RecoverOk past rec meta p → IsReplyTo (recover_request_at rec meta p) x → RecoverOk (plays (recover_role rec meta p x.reply) (call_event x a) ∷ past) rec meta (recover_next rec meta p x.now x.reply).0 }
 {}
 
 /// Rows that were shown are settled, each unresolved one by a recovery: each image is a committed record of its key to which a
 /// read of it came, and the keys of the images are those of the access, in their order.
 pub fn rows_settle()
     ensures first { (kind : Record → Kind) (past : List Played) (a : Access) (images left : List Record) → AreKinds kind → AllByRecursion (IsImage past) images → AllByRecursion (IsLeft past) left → InPlace a (keys_of images ++ keys_of left) → ReadOk past a (settle kind images left) }
-    ensures next { (kind : Record → Kind) (past : List Played) (a : Access) (s : ReadAt) (x : Called) (answered : Option Answer) → AreKinds kind → IsOfData a → ReadOk past a s → IsReplyTo (read_pending a s) x → ReadOk (plays (read_role s x.reply) (call_event x answered) ∷ past) a (read_step kind s x.now x.reply) }
+    ensures next { (kind : Record → Kind) (past : List Played) (a : Access) (s : ReadAt) (x : ClientCall) (answered : Option Answer) → AreKinds kind → IsOfData a → ReadOk past a s → IsReplyTo (read_pending a s) x → ReadOk (plays (read_role s x.reply) (call_event x answered) ∷ past) a (read_step kind s x.now x.reply) }
 {}
 
 /// What a transaction has read and written is fit for its COMMIT: of itself, by what the events showed, and as the plan that the

@@ -16,7 +16,7 @@ ghost use Rattle.sdb_snapshot.specs.Seen.{Seen, nothing};
 ghost use Rattle.sdb_turns.specs.Noted.{work_of};
 ghost use Rattle.sdb_turns.specs.ReadAt.{Kind, AreKinds, ReadAt, read_pending, read_role, read_step};
 ghost use Rattle.sdb_turns.specs.Sweep.{SweepAt, sweep_pending, sweep_role, sweep_step};
-ghost use Rattle.sdb_turns.specs.System.{Resting, Open, Reading, Committing, Sweeping, Stopped, SystemAt, SystemOk, StandsAt, IsBy, IsQuiet, IsBegin, IsCommit, NoneSweeps, Called, IsReplyTo, call_event, plays, ends_with, begin_played, take_played, commit_played, commit_left, commit_begun, next_id, with_begun, with_client, with_plan};
+ghost use Rattle.sdb_turns.specs.System.{Resting, Open, Reading, Committing, Sweeping, Stopped, SystemAt, SystemOk, StandsAt, IsBy, IsQuiet, IsBegin, IsCommit, NoneSweeps, ClientCall, IsReplyTo, call_event, plays, ends_with, begin_played, take_played, commit_played, commit_left, commit_begun, next_id, with_begun, with_client, with_plan};
 
 /// BEGIN is answered Done to a client without an open transaction, while no client that goes on runs VACUUM: a transaction is
 /// open, under an id that was never used, and has read and written nothing.
@@ -33,22 +33,22 @@ pub fn take_turn()
 /// Whatever call of a COMMIT is pending and whatever its reply, the COMMIT goes on by its next stage, and where it is over its
 /// answer ends the transaction.
 pub fn commit_turn()
-    ensures { (plan : ℕ → Plan) (past : List Played) (sys : SystemAt) (x : Called) (p : Work) (s : Stage) → StandsAt plan past sys x.client (Committing p s) → IsReplyTo (pending p s) x → SystemOk plan (commit_played p s x ∷ past) (with_client sys x.client (commit_left p (step p s x.reply))) }
+    ensures { (plan : ℕ → Plan) (past : List Played) (sys : SystemAt) (x : ClientCall) (p : Work) (s : Stage) → StandsAt plan past sys x.client (Committing p s) → IsReplyTo (pending p s) x → SystemOk plan (commit_played p s x ∷ past) (with_client sys x.client (commit_left p (step p s x.reply))) }
 {}
 
 /// Whatever call of a statement's read is pending, of its own or of a recovery on its way, and whatever its reply, the read goes
 /// on. An answer to the call may end the transaction.
 pub fn read_turn()
-    ensures goes_on { (kind : Record → Kind) (plan : ℕ → Plan) (past : List Played) (sys : SystemAt) (x : Called) (id : TxId) (seen : Seen) (a : Access) (s : ReadAt) (answered : Option Answer) → AreKinds kind → StandsAt plan past sys x.client (Reading id seen a s) → IsReplyTo (read_pending a s) x → answered ≢ Some answer.Committed
+    ensures goes_on { (kind : Record → Kind) (plan : ℕ → Plan) (past : List Played) (sys : SystemAt) (x : ClientCall) (id : TxId) (seen : Seen) (a : Access) (s : ReadAt) (answered : Option Answer) → AreKinds kind → StandsAt plan past sys x.client (Reading id seen a s) → IsReplyTo (read_pending a s) x → answered ≢ Some answer.Committed
         → SystemOk plan (plays (read_role s x.reply) (call_event x answered) ∷ past) (with_client sys x.client (Reading id seen a (read_step kind s x.now x.reply))) }
-    ensures ends { (plan : ℕ → Plan) (past : List Played) (sys : SystemAt) (x : Called) (id : TxId) (seen : Seen) (a : Access) (s : ReadAt) (answered : Option Answer) → StandsAt plan past sys x.client (Reading id seen a s) → IsReplyTo (read_pending a s) x → answered ≢ Some answer.Committed
+    ensures ends { (plan : ℕ → Plan) (past : List Played) (sys : SystemAt) (x : ClientCall) (id : TxId) (seen : Seen) (a : Access) (s : ReadAt) (answered : Option Answer) → StandsAt plan past sys x.client (Reading id seen a s) → IsReplyTo (read_pending a s) x → answered ≢ Some answer.Committed
         → SystemOk plan (ends_with id.0 (read_role s x.reply) (call_event x answered) ∷ past) (with_client sys x.client Resting) }
 {}
 
 /// Whatever call of a VACUUM is pending, a scan, one of a recovery or the removal of a tombstone, and whatever its reply, the
 /// VACUUM goes on.
 pub fn vacuum_turn()
-    ensures { (kind : Record → Kind) (plan : ℕ → Plan) (past : List Played) (sys : SystemAt) (x : Called) (v : SweepAt) (answered : Option Answer) → AreKinds kind → StandsAt plan past sys x.client (Sweeping v) → IsReplyTo (sweep_pending v) x → answered ≢ Some answer.Committed
+    ensures { (kind : Record → Kind) (plan : ℕ → Plan) (past : List Played) (sys : SystemAt) (x : ClientCall) (v : SweepAt) (answered : Option Answer) → AreKinds kind → StandsAt plan past sys x.client (Sweeping v) → IsReplyTo (sweep_pending v) x → answered ≢ Some answer.Committed
         → SystemOk plan (plays (sweep_role v x.reply) (call_event x answered) ∷ past) (with_client sys x.client (Sweeping (sweep_step kind v x.now x.reply))) }
 {}
 
