@@ -7,3 +7,4 @@ pub mod Ends
 pub mod Tellings
 pub mod Answered
 pub mod Files
+pub mod Turns

@@ -3,3 +3,4 @@ pub mod Filed
 pub mod Body
 pub mod Left
 pub mod Telling
+pub mod Ran

@@ -8,7 +8,7 @@ use Rattle.sdb_model.specs.declared.event.Event.{Event}
 use Rattle.sdb_model.specs.declared.event.Event.TheVariants as event
 use Rattle.sdb_model.specs.Sql.{reads_commit}
 use Rattle.sdb_model.specs.Transactions.{Said, said, begins, ends}
-use Rattle.sdb_laws.specs.History.{Role, Begins, Takes, Ends}
+use Rattle.sdb_laws.specs.History.{Role, Begins, Takes, Ends, at}
 use Rattle.sdb_laws.specs.Lawful.{Played, answer_of, id, talk}
 use Rattle.sdb_turns.specs.System.{SystemAt, Has, plays}
 use Rattle.sdb_story.specs.Story.{Finished, Rest, Closed, Opened, settle, saids_of, said_of, IsFinished, IsRest, finished_at}
@@ -188,3 +188,12 @@ pub record EndsOpen (past : List Played) (sys next : SystemAt) (c : ℕ) (x : Te
 -- each client's story after the events so far
 abbrev pub AllStories : List Event → List Played → SystemAt → (ℕ → Telling) → Type 0
 AllStories events past sys told = (c : ℕ) → StoryOk events past sys c (told c)
+
+-- with the story of one client going on
+abbrev pub with_told : (ℕ → Telling) → ℕ → Telling → ℕ → Telling
+with_told told c x d = at told c x d
+
+-- a turn of one client leaves where the others stand, and how many transactions they have begun
+pub record OthersStand (c : ℕ) (sys next : SystemAt) : Type 0 where
+  pub clients : (d : ℕ) → d ≢ c → next.clients d ≡ sys.clients d
+  pub begun : (d : ℕ) → d ≢ c → next.begun d ≡ sys.begun d

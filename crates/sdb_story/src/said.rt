@@ -12,10 +12,10 @@ ghost use Rattle.sdb_model.specs.Sql.{reads_commit};
 ghost use Rattle.sdb_model.specs.Transactions.{Said, said};
 ghost use Rattle.sdb_laws.specs.Plan.{Plan};
 ghost use Rattle.sdb_laws.specs.Lawful.{Played, MayPlay};
-ghost use Rattle.sdb_turns.specs.System.{SystemAt, SystemOk, IsBy, idle};
+ghost use Rattle.sdb_turns.specs.System.{ClientAt, SystemAt, SystemOk, IsBy, idle, with_begun, with_client};
 ghost use Rattle.sdb_story.specs.Story.{MayCome};
 ghost use Rattle.sdb_story.specs.Filed.{Filed};
-ghost use Rattle.sdb_story.specs.Telling.{Telling, nothing_yet, with_waiting, with_answered, StoryOk, TellsOn, IsApart, KeepsHold, LeavesHold, IsSaid, IsOrdinary, BeginsNext, EndsOpen, taken_said, answered_said, begun_played, commit_taken};
+ghost use Rattle.sdb_story.specs.Telling.{AllStories, OthersStand, Telling, with_told, nothing_yet, with_waiting, with_answered, StoryOk, TellsOn, IsApart, KeepsHold, LeavesHold, IsSaid, IsOrdinary, BeginsNext, EndsOpen, taken_said, answered_said, begun_played, commit_taken};
 
 /// Before the first event a client has said nothing.
 pub fn nothing_yet_said()
@@ -55,4 +55,13 @@ pub fn story_goes_on()
 /// transaction.
 pub fn story_is_filed()
     ensures { (plan : ℕ → Plan) (events : List Event) (past : List Played) (sys : SystemAt) (c : ℕ) (x : Telling) → SystemOk plan past sys → StoryOk events past sys c x → Filed c events past }
+{}
+
+/// Where a turn of one client leaves all so of all clients, and its own story goes on, all stories go on: it leaves where the others
+/// stand.
+pub fn stories_go_on()
+    ensures all { (plan : ℕ → Plan) (events : List Event) (past : List Played) (sys next : SystemAt) (c : ℕ) (q : Played) (told : ℕ → Telling) (x : Telling) → SystemOk plan (q ∷ past) next → IsBy c q.event → OthersStand c sys next → AllStories events past sys told → TellsOn events past q next c x
+        → AllStories (events ++ q.event ∷ []) (q ∷ past) next (with_told told c x) }
+    ensures moved { (sys : SystemAt) (c : ℕ) (x : ClientAt) → OthersStand c sys (with_client sys c x) }
+    ensures begun { (sys : SystemAt) (c : ℕ) (x : ClientAt) → OthersStand c sys (with_begun sys c x) }
 {}

@@ -1,5 +1,5 @@
 //! What the statements of a transaction come to.
-ghost use Rattle.std.specs.Prelude.{◌≡◌, ℕ, List, ◌++◌, ◌∷◌, [], Bool, true};
+ghost use Rattle.std.specs.Prelude.{filter, false, Some, ◌≡◌, ℕ, List, ◌++◌, ◌∷◌, [], Bool, true};
 ghost use Rattle.sdb_types.specs.declared.record.Record.{Record};
 ghost use Rattle.sdb_record.specs.declared.access.Access.{Access};
 ghost use Rattle.sdb_record.specs.declared.write.Keyed.{Keyed};
@@ -7,7 +7,12 @@ ghost use Rattle.sdb_schema.specs.declared.table.Table.{Table};
 ghost use Rattle.sdb_model.specs.declared.answer.Answer.{Answer};
 ghost use Rattle.sdb_model.specs.declared.statement.Statement.{Statement};
 ghost use Rattle.sdb_model.specs.Exec.{Tables};
-ghost use Rattle.sdb_laws.specs.Lawful.{Played};
+ghost use Rattle.sdb_model.specs.declared.event.Event.{Event};
+ghost use Rattle.sdb_model.specs.Sql.{Reads};
+ghost use Rattle.sdb_model.specs.Transactions.{Said, body, is_effective};
+ghost use Rattle.sdb_laws.specs.Lawful.{Played, id};
+ghost use Rattle.sdb_story.specs.Left.{BodyIsSaid, Execution};
+ghost use Rattle.sdb_story.specs.Ran.{BodySaid};
 ghost use Rattle.sdb_snapshot.specs.Seen.{Seen, Agrees, nothing, with_written};
 ghost use Rattle.sdb_turns.specs.Noted.{SeenOk, with_read};
 ghost use Rattle.sdb_story.specs.Body.{AgreesAll, BodyOk, IsCovered, AnswersOn};
@@ -32,4 +37,12 @@ pub fn statement_more()
 /// Tables that agree with each thing that was noted have, at an access that was read, the rows that are noted there.
 pub fn reads_tell_rows()
     ensures { (past : List Played) (s : Seen) (a : Access) (d : Tables) → SeenOk past s → IsCovered s a → AgreesAll s d → Agrees s a d }
+{}
+
+/// A statement that changed nothing adds nothing to what the statements of a transaction ran; one that changed something is one more;
+/// and what was said inside of a transaction is said of its body.
+pub fn body_is_said()
+    ensures nothing { (ss : List Said) (s : Said) (r : Execution) → BodySaid ss r → is_effective s ≡ false → BodySaid (ss ++ s ∷ []) r }
+    ensures one { (ss : List Said) (s : Said) (r next : Execution) (statement : Statement) (a : Answer) → BodySaid ss r → is_effective s ≡ true → Reads s.text statement → s.answer ≡ Some a → next.body ≡ r.body ++ statement ∷ [] → next.answers ≡ r.answers ++ a ∷ [] → BodySaid (ss ++ s ∷ []) next }
+    ensures whole { (events : List Event) (t : ℕ) (ss : List Said) (r : Execution) → body events (id t) ≡ filter is_effective ss → BodySaid ss r → BodyIsSaid events t r }
 {}
