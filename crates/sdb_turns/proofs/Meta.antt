@@ -1,6 +1,6 @@
 -- What the metadata of an unresolved record and a coordinator's row say, and that images are committed records of their keys.
 use Rattle.std.proofs.Common.{◌≡◌, ◌<◌, ◌^◌, ℕ, ℤ, Bool, true, false, cond, List, Option, Some, None, Result, Ok, Err, refl, sym, ap, subst, ◌∙◌}
-use Rattle.std.specs.Prelude.{not, find}
+use Rattle.std.specs.Prelude.{if◌then◌else◌, not, find}
 use Rattle.std.specs.List.{list_any}
 use Rattle.sdb_types.specs.declared.value.Value.{Value}
 use Rattle.sdb_types.specs.declared.value.Value.TheVariants as value
@@ -10,7 +10,7 @@ use Rattle.sdb_types.specs.declared.record.Record.{Record}
 use Rattle.sdb_types.specs.declared.record.State.TheVariants.{Committed}
 use Rattle.sdb_types.specs.Columns.{column}
 use Rattle.sdb_types.specs.Contents.{tx_id, tx_state}
-use Rattle.sdb_types.proofs.Bools.{and_first, and_second}
+use Rattle.sdb_types.proofs.Bools.{and_both, and_first, and_second}
 use Rattle.sdb_record.specs.declared.coordinator.Decided.{Decided}
 use Rattle.sdb_record.specs.declared.coordinator.Decision.TheVariants as decision
 use Rattle.sdb_record.specs.declared.meta.Meta.{Meta}
@@ -22,6 +22,7 @@ use Rattle.sdb_record.specs.Rolls.{forward_record}
 use Rattle.sdb_record.proofs.Fine.{taken, refuse-ok}
 use Rattle.sdb_record.proofs.IdLemmas.{id_of_text-is}
 use Rattle.sdb_record.proofs.ImageLaws.{image-open, image-is, checked-state}
+use Rattle.sdb_turns.specs.ReadAt.{Firm, Open, Bad, AreKinds, IsKind, kind_by, kind_of}
 use Rattle.sdb_turns.specs.Reader.{IsMetaOf}
 
 ---- a row's moment
@@ -106,3 +107,21 @@ pub before_firm : (r b : Record) → is_unresolved r ≡ true → before_record 
 before_firm r b loose says =
     let i = image-is r b None (and_first (is_taken r) (not (is_in Committed r.columns)) loose) tt (image-open r None (held_of r loose) ∙ says) in
     record { key = i.key; taken = i.taken; committed = i.committed }
+
+---- kinds
+
+-- What a record is by its columns it is.
+pub kinds_are : AreKinds kind_of
+kinds_are r = by (is_taken r) refl
+  where
+    committed : (m : Meta) → is_taken r ≡ true → checked r.columns ≡ Ok m → (b : Bool) → is_committed m.state ≡ b → IsKind r (if b then Firm else Open m)
+    committed m taken says true t = (taken, checked-state r.columns m says ∙ t)
+    committed m taken says false f = (and_both (is_taken r) (not (is_in Committed r.columns)) taken (ap not (checked-state r.columns m says ∙ f)), says)
+
+    at : (c : Result Meta (List ℕ)) → is_taken r ≡ true → checked r.columns ≡ c → IsKind r (kind_by c)
+    at (Err column) taken says = tt
+    at (Ok m) taken says = committed m taken says (is_committed m.state) refl
+
+    by : (b : Bool) → is_taken r ≡ b → IsKind r (if b then kind_by (checked r.columns) else Bad)
+    by true taken = at (checked r.columns) taken refl
+    by false f = tt

@@ -1,5 +1,5 @@
 -- A read of a statement: its rows are settled one after the other, each unresolved one by a recovery.
-use Rattle.std.specs.Prelude.{◌≡◌, ℤ, true, List, [], ◌∷◌, ◌++◌, map, Option, Some, None, Ok}
+use Rattle.std.specs.Prelude.{◌≡◌, ℤ, true, List, [], ◌∷◌, ◌++◌, map, Option, Some, None, Ok, Result, Err, if◌then◌else◌, ℕ}
 use Rattle.std.specs.List.{AllByRecursion}
 use Rattle.std.specs.declared.cmp.Ordering.TheVariants.{Less}
 use Rattle.sdb_types.specs.declared.key.Key.{Key}
@@ -13,7 +13,7 @@ use Rattle.sdb_types.specs.Order.{key_cmp}
 use Rattle.sdb_record.specs.declared.access.Access.{Access}
 use Rattle.sdb_record.specs.declared.access.Access.TheVariants as access
 use Rattle.sdb_record.specs.declared.meta.Meta.{Meta}
-use Rattle.sdb_record.specs.Meta.{checked, is_in, is_taken, is_unresolved}
+use Rattle.sdb_record.specs.Meta.{checked, is_committed, is_in, is_taken, is_unresolved}
 use Rattle.sdb_model.specs.Access.{in_access}
 use Rattle.sdb_laws.specs.History.{Role, Other}
 use Rattle.sdb_laws.specs.Lawful.{Played, is_data, IsShown, IsSettled}
@@ -41,6 +41,16 @@ IsKind r Bad = Unit {0}
 -- a test of rows that says of each what it is
 abbrev pub AreKinds : (Record → Kind) → Type 0
 AreKinds kind = (r : Record) → IsKind r (kind r)
+
+-- by its metadata
+abbrev pub kind_by : Result Meta (List ℕ) → Kind
+kind_by (Err column) = Bad
+kind_by (Ok meta) = if is_committed meta.state then Firm else Open meta
+
+-- What a record is by its columns: committed in state 3, unresolved in states 1 and 2, and none of a transaction where they don't pass
+-- the checks.
+abbrev pub kind_of : Record → Kind
+kind_of r = if is_taken r then kind_by (checked r.columns) else Bad
 
 ---- the model
 

@@ -16,7 +16,7 @@ ghost use Rattle.sdb_snapshot.specs.Seen.{Seen};
 ghost use Rattle.sdb_turns.specs.Noted.{SeenOk, Sound, Settled, work_of};
 ghost use Rattle.sdb_turns.specs.Owner.{WorkOk};
 ghost use Rattle.sdb_turns.specs.Reader.{RecoverOk, recover_role};
-ghost use Rattle.sdb_turns.specs.ReadAt.{Kind, AreKinds, ReadAt, settle, keys_of, IsImage, IsLeft, IsOfData, InPlace, ReadOk, read_pending, read_role, read_step};
+ghost use Rattle.sdb_turns.specs.ReadAt.{Kind, kind_of, AreKinds, ReadAt, settle, keys_of, IsImage, IsLeft, IsOfData, InPlace, ReadOk, read_pending, read_role, read_step};
 ghost use Rattle.sdb_turns.specs.Worked.{SomeCommit};
 ghost use Rattle.sdb_turns.specs.System.{ClientAt, ClientOk, SystemAt, SystemOk, SamePlans, IsBy, ClientCall, IsReplyTo, EndsOwn, call_event, plays, idle, next_id};
 
@@ -36,6 +36,11 @@ pub fn others_leave()
 pub fn recovers()
     ensures may { (plan : ℕ → Plan) (past : List Played) (rec : Record) (meta : Meta) (p : RecoverPhase) (x : ClientCall) (a : Option Answer) → RecoverOk past rec meta p → IsReplyTo (recover_request_at rec meta p) x → MayPlay plan past (call_event x a) (recover_role rec meta p x.reply) }
     ensures knows { (past : List Played) (rec : Record) (meta : Meta) (p : RecoverPhase) (x : ClientCall) (a : Option Answer) → RecoverOk past rec meta p → IsReplyTo (recover_request_at rec meta p) x → RecoverOk (plays (recover_role rec meta p x.reply) (call_event x a) ∷ past) rec meta (recover_next rec meta p x.now x.reply).0 }
+{}
+
+/// What a record is by its columns it is: the kinds that turns ask for can be told.
+pub fn kinds_are_told()
+    ensures { AreKinds kind_of }
 {}
 
 /// Rows that were shown are settled, each unresolved one by a recovery: each image is a committed record of its key to which a
