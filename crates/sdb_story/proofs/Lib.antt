@@ -8,3 +8,4 @@ pub mod Tellings
 pub mod Answered
 pub mod Files
 pub mod Turns
+pub mod Run

@@ -4,3 +4,4 @@ pub mod Body
 pub mod Left
 pub mod Telling
 pub mod Ran
+pub mod Linked
