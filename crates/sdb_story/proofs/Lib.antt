@@ -1,0 +1,11 @@
+pub mod Places
+pub mod Faith
+pub mod Bodies
+pub mod Steps
+pub mod Wholes
+pub mod Ends
+pub mod Tellings
+pub mod Answered
+pub mod Files
+pub mod Turns
+pub mod Run

@@ -1,0 +1,7 @@
+pub mod Story
+pub mod Filed
+pub mod Body
+pub mod Left
+pub mod Telling
+pub mod Ran
+pub mod Linked

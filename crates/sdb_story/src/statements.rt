@@ -1,0 +1,48 @@
+//! What the statements of a transaction come to.
+ghost use Rattle.std.specs.Prelude.{filter, false, Some, ◌≡◌, ℕ, List, ◌++◌, ◌∷◌, [], Bool, true};
+ghost use Rattle.sdb_types.specs.declared.record.Record.{Record};
+ghost use Rattle.sdb_record.specs.declared.access.Access.{Access};
+ghost use Rattle.sdb_record.specs.declared.write.Keyed.{Keyed};
+ghost use Rattle.sdb_schema.specs.declared.table.Table.{Table};
+ghost use Rattle.sdb_model.specs.declared.answer.Answer.{Answer};
+ghost use Rattle.sdb_model.specs.declared.statement.Statement.{Statement};
+ghost use Rattle.sdb_model.specs.Exec.{Tables};
+ghost use Rattle.sdb_model.specs.declared.event.Event.{Event};
+ghost use Rattle.sdb_model.specs.Sql.{Reads};
+ghost use Rattle.sdb_model.specs.Transactions.{Said, body, is_effective};
+ghost use Rattle.sdb_laws.specs.Lawful.{Played, id};
+ghost use Rattle.sdb_story.specs.Left.{BodyIsSaid, Execution};
+ghost use Rattle.sdb_story.specs.Ran.{BodySaid};
+ghost use Rattle.sdb_snapshot.specs.Seen.{Seen, Agrees, nothing, with_written};
+ghost use Rattle.sdb_turns.specs.Noted.{SeenOk, with_read};
+ghost use Rattle.sdb_story.specs.Body.{AgreesAll, BodyOk, IsCovered, AnswersOn};
+
+/// Before its first statement a transaction asks nothing of the tables and leaves them as they are.
+pub fn nothing_said()
+    ensures { (catalog : List Table) (fit : Tables → Bool) → BodyOk catalog fit [] [] nothing }
+{}
+
+/// A read that is noted leaves what the statements so far come to: tables that agree with all that was read agreed before it.
+pub fn read_more()
+    ensures { (past : List Played) (catalog : List Table) (fit : Tables → Bool) (body : List Statement) (answers : List Answer) (s : Seen) (a : Access) (images : List Record) → SeenOk past s → BodyOk catalog fit body answers s → BodyOk catalog fit body answers (with_read s a images) }
+{}
+
+/// A statement whose access was read, which is answered from the rows that its transaction sees there as it is on all tables that
+/// have these rows there, and whose changes are written, is one more.
+pub fn statement_more()
+    ensures { (past : List Played) (catalog : List Table) (fit : Tables → Bool) (body : List Statement) (answers : List Answer) (s : Seen) (statement : Statement) (a : Access) (answer : Answer) (changes : List Keyed) → BodyOk catalog fit body answers s → SeenOk past s → IsCovered s a → AnswersOn catalog fit s statement a answer changes
+        → BodyOk catalog fit (body ++ statement ∷ []) (answers ++ answer ∷ []) (with_written s changes) }
+{}
+
+/// Tables that agree with each thing that was noted have, at an access that was read, the rows that are noted there.
+pub fn reads_tell_rows()
+    ensures { (past : List Played) (s : Seen) (a : Access) (d : Tables) → SeenOk past s → IsCovered s a → AgreesAll s d → Agrees s a d }
+{}
+
+/// A statement that changed nothing adds nothing to what the statements of a transaction ran; one that changed something is one more;
+/// and what was said inside of a transaction is said of its body.
+pub fn body_is_said()
+    ensures nothing { (ss : List Said) (s : Said) (r : Execution) → BodySaid ss r → is_effective s ≡ false → BodySaid (ss ++ s ∷ []) r }
+    ensures one { (ss : List Said) (s : Said) (r next : Execution) (statement : Statement) (a : Answer) → BodySaid ss r → is_effective s ≡ true → Reads s.text statement → s.answer ≡ Some a → next.body ≡ r.body ++ statement ∷ [] → next.answers ≡ r.answers ++ a ∷ [] → BodySaid (ss ++ s ∷ []) next }
+    ensures whole { (events : List Event) (t : ℕ) (ss : List Said) (r : Execution) → body events (id t) ≡ filter is_effective ss → BodySaid ss r → BodyIsSaid events t r }
+{}

@@ -1,0 +1,70 @@
+-- Of a transaction that has not begun nothing is said.
+use Rattle.std.proofs.Common.{◌≡◌, ℕ, true, false, List, [], ◌∷◌, Option, Some, None, refl, arith}
+use Rattle.std.proofs.lemmas.Bool.Decides.{nat_tests}
+use Rattle.sdb_types.specs.declared.key.Key.{Key}
+use Rattle.sdb_model.specs.declared.event.Event.{Event}
+use Rattle.sdb_laws.specs.Plan.{Plan}
+use Rattle.sdb_laws.specs.History as laws
+use Rattle.sdb_laws.specs.History.{Role, Other, Begins, Takes, Prepares, Checks, Decides, Aborts, Rolls, Removes, Ends, Stops, Talk, heard}
+use Rattle.sdb_laws.specs.Lawful.{Played, IsLawful, MayPlay, talk, ended}
+use Rattle.sdb_laws.proofs.Keys.{tests}
+
+-- a transaction is open, and its COMMIT is taken, only after it has begun; and its calls come only after its COMMIT was taken
+pub record InTurn (h : Talk) (t : ℕ) : Type 0 where
+  pub is_open : h.begun t ≡ 0 → h.is_open t ≡ false
+  pub taken : h.begun t ≡ 0 → h.taken t ≡ false
+  pub stage : h.taken t ≡ false → h.stage t ≡ laws.Preparing
+  pub asked : (k : Key) → h.taken t ≡ false → h.asked t k ≡ false
+  pub risked : h.taken t ≡ false → h.risked t ≡ false
+
+abbrev IsAfter : Talk → Role → Type 0
+IsAfter h (Takes t) = h.is_open t ≡ true
+IsAfter h (Prepares t k word) = h.taken t ≡ true
+IsAfter h (Checks t i) = h.taken t ≡ true
+IsAfter h (Decides t word) = h.taken t ≡ true
+IsAfter h r = Unit {0}
+
+open_kept : (h : Talk) (r : Role) (t : ℕ) → (h.begun t ≡ 0 → h.is_open t ≡ false) → (heard h r).begun t ≡ 0 → (heard h r).is_open t ≡ false
+open_kept h r t u b = grind (arith, nat_tests)
+
+taken_kept : (h : Talk) (r : Role) (t : ℕ) → IsAfter h r → (h.begun t ≡ 0 → h.is_open t ≡ false) → (h.begun t ≡ 0 → h.taken t ≡ false) → (heard h r).begun t ≡ 0 → (heard h r).taken t ≡ false
+taken_kept h r t a o u b = grind (arith, nat_tests)
+
+stage_kept : (h : Talk) (r : Role) (t : ℕ) → IsAfter h r → (h.taken t ≡ false → h.stage t ≡ laws.Preparing) → (heard h r).taken t ≡ false → (heard h r).stage t ≡ laws.Preparing
+stage_kept h r t a u f = grind (arith, nat_tests)
+
+asked_kept : (h : Talk) (r : Role) (t : ℕ) (k : Key) → IsAfter h r → (h.taken t ≡ false → h.asked t k ≡ false) → (heard h r).taken t ≡ false → (heard h r).asked t k ≡ false
+asked_kept h r t k a u f = grind (arith, tests)
+
+risked_kept : (h : Talk) (r : Role) (t : ℕ) → IsAfter h r → (h.taken t ≡ false → h.risked t ≡ false) → (heard h r).taken t ≡ false → (heard h r).risked t ≡ false
+risked_kept h r t a u f = grind (arith, nat_tests)
+
+turn_kept : (h : Talk) (r : Role) (t : ℕ) → IsAfter h r → InTurn h t → InTurn (heard h r) t
+turn_kept h r t a u = record {
+  is_open = open_kept h r t u.is_open;
+  taken = taken_kept h r t a u.is_open u.taken;
+  stage = stage_kept h r t a u.stage;
+  asked = λ k. asked_kept h r t k a (u.asked k);
+  risked = risked_kept h r t a u.risked;
+}
+
+after_played : (plan : ℕ → Plan) (past : List Played) (e : Event) (r : Role) → MayPlay plan past e r → IsAfter (talk past) r
+after_played plan past e Other m = tt
+after_played plan past e (Begins t c) m = tt
+after_played plan past e (Takes t) m = m.is_open
+after_played plan past e (Prepares t k word) m = m.within.taken
+after_played plan past e (Checks t i) m = m.within.taken
+after_played plan past e (Decides t word) m = m.within.taken
+after_played plan past e (Aborts t n word) m = tt
+after_played plan past e (Rolls t k d) m = tt
+after_played plan past e (Removes k t) m = tt
+after_played plan past e (Ends t) m = tt
+after_played plan past e (Stops c) m = tt
+
+pub in_turn : (plan : ℕ → Plan) (past : List Played) (t : ℕ) → IsLawful plan past → InTurn (talk past) t
+in_turn plan [] t l = record { is_open = λ b. refl; taken = λ b. refl; stage = λ f. refl; asked = λ k f. refl; risked = λ f. refl }
+in_turn plan (p ∷ past) t l = by p.ends (turn_kept (talk past) p.role t (after_played plan past p.event p.role l.1) (in_turn plan past t l.0))
+  where
+    by : (o : Option ℕ) → InTurn (heard (talk past) p.role) t → InTurn (ended (heard (talk past) p.role) o) t
+    by None one = one
+    by (Some u) one = turn_kept (heard (talk past) p.role) (Ends u) t tt one

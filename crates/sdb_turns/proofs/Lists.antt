@@ -1,0 +1,48 @@
+-- What holds of each item of a list.
+use Rattle.std.proofs.Common.{◌≡◌, ℕ, zero, suc, Bool, true, false, List, [], ◌∷◌, ◌++◌, map, Some, refl, subst}
+use Rattle.std.specs.Prelude.{slice_get, filter, if◌then◌else◌}
+use Rattle.std.specs.List.{AllByRecursion}
+
+pub each_at : {A : Type 0} (P : A → Type 0) (xs : List A) (i : ℕ) (x : A) → AllByRecursion P xs → slice_get xs i ≡ Some x → P x
+each_at P [] i x all h = absurd (cc)
+each_at {A = A} P (y ∷ ys) zero x all h = subst P (some_is y x h) all.0
+  where
+    some_is : (a b : A) → Some a ≡ Some b → a ≡ b
+    some_is a b e = cc
+each_at P (y ∷ ys) (suc i) x all h = each_at P ys i x all.1 h
+
+pub each_append : {A : Type 0} (P : A → Type 0) (xs ys : List A) → AllByRecursion P xs → AllByRecursion P ys → AllByRecursion P (xs ++ ys)
+each_append P [] ys a b = b
+each_append P (x ∷ xs) ys a b = (a.0, each_append P xs ys a.1 b)
+
+pub each_more : {A : Type 0} (P : A → Type 0) (xs : List A) (x : A) → AllByRecursion P xs → P x → AllByRecursion P (xs ++ x ∷ [])
+each_more P xs x a b = each_append P xs (x ∷ []) a (b, tt)
+
+pub each_map : {A B : Type 0} (P : B → Type 0) (f : A → B) (xs : List A) → AllByRecursion (λ x. P (f x)) xs → AllByRecursion P (map f xs)
+each_map P f [] a = tt
+each_map P f (x ∷ xs) a = (a.0, each_map P f xs a.1)
+
+pub each_unmap : {A B : Type 0} (P : B → Type 0) (f : A → B) (xs : List A) → AllByRecursion P (map f xs) → AllByRecursion (λ x. P (f x)) xs
+each_unmap P f [] a = tt
+each_unmap P f (x ∷ xs) a = (a.0, each_unmap P f xs a.1)
+
+pub each_filter : {A : Type 0} (P : A → Type 0) (t : A → Bool) (xs : List A) → AllByRecursion P xs → AllByRecursion (λ x. P x × (t x ≡ true)) (filter t xs)
+each_filter P t [] a = tt
+each_filter P t (x ∷ xs) a = by (t x) refl (each_filter P t xs a.1)
+  where
+    by : (b : Bool) → t x ≡ b → AllByRecursion (λ x. P x × (t x ≡ true)) (filter t xs) → AllByRecursion (λ x. P x × (t x ≡ true)) (if b then x ∷ filter t xs else filter t xs)
+    by true e ih = ((a.0, e), ih)
+    by false e ih = ih
+
+pub each_any : {A : Type 0} (P Q : A → Type 0) (xs : List A) → ((x : A) → P x → Q x) → AllByRecursion P xs → AllByRecursion Q xs
+each_any P Q [] f a = tt
+each_any P Q (x ∷ xs) f a = (f x a.0, each_any P Q xs f a.1)
+
+pub each_both : {A : Type 0} (P Q R : A → Type 0) (xs : List A) → ((x : A) → P x → Q x → R x) → AllByRecursion P xs → AllByRecursion Q xs → AllByRecursion R xs
+each_both P Q R [] f a b = tt
+each_both P Q R (x ∷ xs) f a b = (f x a.0 b.0, each_both P Q R xs f a.1 b.1)
+
+-- without one item in the middle
+pub each_drop : {A : Type 0} (P : A → Type 0) (xs : List A) (x : A) (ys : List A) → AllByRecursion P (xs ++ x ∷ ys) → AllByRecursion P (xs ++ ys)
+each_drop P [] x ys a = a.1
+each_drop P (y ∷ xs) x ys a = (a.0, each_drop P xs x ys a.1)

@@ -1,0 +1,392 @@
+-- What a transaction takes into its COMMIT is a plan of the protocol, and its checks are of the plan's notes.
+use Rattle.std.proofs.Common.{◌≡◌, ◌≢◌, ◌≤◌, ◌<◌, ℕ, zero, suc, Bool, true, false, List, [], ◌∷◌, ◌++◌, length, map, Option, Some, None, refl, sym, ap, subst, ◌∙◌, arith, ◌⊎◌, inl, inr}
+use Rattle.std.specs.Prelude.{slice_get, find, filter, not, ◌&&◌, ◌||◌, ◌==◌, if◌then◌else◌}
+use Rattle.std.specs.List.{AllByRecursion}
+use Rattle.std.specs.Option.{option_map, option_and_then}
+use Rattle.std.proofs.lemmas.Option.{slice_get-map}
+use Rattle.std.proofs.lemmas.List.{map-append}
+use Rattle.std.proofs.lemmas.Bool.Decides.{nat_tests}
+use Rattle.sdb_types.specs.declared.key.Key.{Key}
+use Rattle.sdb_types.specs.declared.txid.TxId.{TxId}
+use Rattle.sdb_types.specs.declared.record.Record.{Record}
+use Rattle.sdb_types.specs.declared.record.Reply.{Reply}
+use Rattle.sdb_types.specs.declared.record.Reply.TheVariants as reply
+use Rattle.sdb_types.specs.declared.record.Request.TheVariants as ask
+use Rattle.sdb_types.specs.Contents.{CanAnswer, in_span, rise}
+use Rattle.sdb_record.specs.declared.access.Read.{Read}
+use Rattle.sdb_record.specs.declared.access.Scan.{Scan}
+use Rattle.sdb_record.specs.declared.write.Write.{Write}
+use Rattle.sdb_record.specs.Moved.{version_of, same_version, is_unchanged}
+use Rattle.sdb_record.specs.Rolls.{IsWrite}
+use Rattle.sdb_laws.specs.Plan.{write_at, written, noted, number_of}
+use Rattle.sdb_model.specs.Noted.{Note, Got, Scanned, same_key, version_among, version_noted}
+use Rattle.sdb_laws.specs.Lawful.{is_data, row_among}
+use Rattle.sdb_laws.proofs.Keys.{same_key_tells, same_key_self}
+use Rattle.sdb_phases.specs.declared.check.Check.{Check}
+use Rattle.sdb_phases.specs.Work.{Work}
+use Rattle.sdb_phases.specs.Checks as phases
+use Rattle.sdb_phases.specs.Checks.{checks, check_of_read, check_of_scan, is_written, base_of, version_read, record_among, first_difference, wanted, changed, difference_in}
+use Rattle.sdb_phases.specs.Steps.{validate_step, judged}
+use Rattle.sdb_phases.specs.CommitLaws.{is_more}
+use Rattle.sdb_validate.specs.Rescan.{reads_rise, base_in, kept_by, is_kept, IsFirstLost}
+use Rattle.sdb_validate.proofs.Rescans.{first_lost}
+use Rattle.sdb_turns.specs.Owner.{plan_of, notes_of, checked_notes, own_notes, NoteAgrees, CheckTells, WorkOk, IsReading}
+use Rattle.sdb_turns.proofs.Lists.{each_at, each_append, each_map, each_filter, each_any}
+use Rattle.sdb_turns.specs.Noted.{Once, ReadAgrees, Sound}
+
+---- keys, in either order
+
+pub same_turned : (a b : Key) → phases.same_key a b ≡ same_key b a
+unfolding same_key
+same_turned a b = by (same_key_tells a b) (same_key_tells b a)
+  where
+    by : ((same_key a b ≡ true) × (a ≡ b)) ⊎ ((same_key a b ≡ false) × (a ≢ b)) → ((same_key b a ≡ true) × (b ≡ a)) ⊎ ((same_key b a ≡ false) × (b ≢ a)) → phases.same_key a b ≡ same_key b a
+    by (inl x) (inl y) = x.0 ∙ sym y.0
+    by (inl x) (inr y) = absurd (y.1 (sym x.1))
+    by (inr x) (inl y) = absurd (x.1 (sym y.1))
+    by (inr x) (inr y) = x.0 ∙ sym y.0
+
+row_is : (rows : List Record) (k : Key) → record_among rows k ≡ row_among rows k
+row_is [] k = refl
+row_is (r ∷ rs) k = ap (λ b. if b then Some r else record_among rs k) (same_turned k r.key) ∙ ap (λ o. if same_key r.key k then Some r else o) (row_is rs k)
+
+version_is : (found : List Read) (k : Key) → version_read found k ≡ version_among found k
+version_is [] k = refl
+version_is (r ∷ rs) k = ap (λ b. if b then r.version else version_read rs k) (same_turned k r.key) ∙ by (same_key r.key k) (version_is rs k) ∙ sym (pick (same_key r.key k))
+  where
+    by : (b : Bool) → version_read rs k ≡ version_among rs k → (if b then r.version else version_read rs k) ≡ (if b then r.version else version_among rs k)
+    by true ih = refl
+    by false ih = ih
+
+    pick : (b : Bool) → option_and_then (λ (x : Read). x.version) (if b then Some r else find (λ (x : Read). same_key x.key k) rs) ≡ (if b then r.version else version_among rs k)
+    pick true = refl
+    pick false = refl
+
+base_is : (ws : List Write) (k : Key) → base_of ws k ≡ option_map (λ (w : Write). version_of w.base) (find (λ (w : Write). same_key w.key k) ws)
+base_is [] k = refl
+base_is (w ∷ ws) k = ap (λ b. if b then Some (version_of w.base) else base_of ws k) (same_turned k w.key) ∙ by (same_key w.key k) (base_is ws k)
+  where
+    by : (b : Bool) → base_of ws k ≡ option_map (λ (x : Write). version_of x.base) (find (λ (x : Write). same_key x.key k) ws) → (if b then Some (version_of w.base) else base_of ws k) ≡ option_map (λ (x : Write). version_of x.base) (if b then Some w else find (λ (x : Write). same_key x.key k) ws)
+    by true ih = refl
+    by false ih = ih
+
+written_here : (ws : List Write) (k : Key) → is_written ws k ≡ false → find (λ (w : Write). same_key w.key k) ws ≡ None
+written_here [] k h = refl
+written_here (w ∷ ws) k h = by (same_key w.key k) (ap (λ b. b || is_written ws k) (sym (same_turned k w.key)) ∙ h) (λ e. written_here ws k e)
+  where
+    by : (b : Bool) → (b || is_written ws k) ≡ false → (is_written ws k ≡ false → find (λ (x : Write). same_key x.key k) ws ≡ None) → (if b then Some w else find (λ (x : Write). same_key x.key k) ws) ≡ None
+    by true e ih = absurd (cc (e))
+    by false e ih = ih e
+
+written_there : (ws : List Write) (k : Key) (w : Write) → find (λ (x : Write). same_key x.key k) ws ≡ Some w → is_written ws k ≡ true
+written_there [] k w h = absurd (cc)
+written_there (x ∷ xs) k w h = ap (λ b. b || is_written xs k) (same_turned k x.key) ∙ by (same_key x.key k) h (λ e. written_there xs k w e)
+  where
+    by : (b : Bool) → (if b then Some x else find (λ (y : Write). same_key y.key k) xs) ≡ Some w → (find (λ (y : Write). same_key y.key k) xs ≡ Some w → is_written xs k ≡ true) → (b || is_written xs k) ≡ true
+    by true e ih = refl
+    by false e ih = ih e
+
+-- the plan's writes
+written_base : (p : Work) (k : Key) (base : Option ℕ) → written (plan_of p) k ≡ Some base → (v : Option TxId) × (base_of p.writes k ≡ Some v) × (number_of v ≡ base)
+unfolding written write_at
+written_base p k base h = by (find (λ (w : Write). same_key w.key k) p.writes) refl h
+  where
+    some_is : (x y : Option ℕ) → Some x ≡ Some y → x ≡ y
+    some_is x y e = cc
+
+    by : (o : Option Write) → find (λ (w : Write). same_key w.key k) p.writes ≡ o → option_map (λ (w : Write). number_of (version_of w.base)) o ≡ Some base → (v : Option TxId) × (base_of p.writes k ≡ Some v) × (number_of v ≡ base)
+    by None at e = absurd (cc)
+    by (Some w) at e = (version_of w.base, base_is p.writes k ∙ ap (option_map (λ (x : Write). version_of x.base)) at, some_is (number_of (version_of w.base)) base e)
+
+free_base : (p : Work) (k : Key) → written (plan_of p) k ≡ None → base_of p.writes k ≡ None
+unfolding written write_at
+free_base p k h = by (find (λ (w : Write). same_key w.key k) p.writes) refl h
+  where
+    by : (o : Option Write) → find (λ (w : Write). same_key w.key k) p.writes ≡ o → option_map (λ (w : Write). number_of (version_of w.base)) o ≡ None → base_of p.writes k ≡ None
+    by None at e = base_is p.writes k ∙ ap (option_map (λ (x : Write). version_of x.base)) at
+    by (Some w) at e = absurd (cc)
+
+-- a key that is not written has no base
+unwritten_base : (ws : List Write) (k : Key) → is_written ws k ≡ false → base_of ws k ≡ None
+unwritten_base ws k h = base_is ws k ∙ ap (option_map (λ (x : Write). version_of x.base)) (written_here ws k h)
+
+pub some_apart : {A B : Type 0} (x : A) → ◌≡◌ {A = Option A} None (Some x) → B
+some_apart x e = absurd (cc)
+
+-- and a key without one is not written
+no_base : (ws : List Write) (k : Key) → base_of ws k ≡ None → is_written ws k ≡ false
+no_base [] k h = refl
+no_base (w ∷ ws) k h = by (phases.same_key k w.key) h (λ e. no_base ws k e)
+  where
+    by : (b : Bool) → (if b then Some (version_of w.base) else base_of ws k) ≡ None → (base_of ws k ≡ None → is_written ws k ≡ false) → (b || is_written ws k) ≡ false
+    by true e ih = absurd (cc (e))
+    by false e ih = ih e
+
+pub not_noted : {A : Type 0} (p : Work) (j : ℕ) (k : Key) (version : Option ℕ) → slice_get (notes_of p) j ≡ None → noted (plan_of p) j k ≡ Some version → A
+unfolding noted
+not_noted p j k version at h = some_apart version (sym (ap (λ o. option_map number_of (option_and_then (λ x. version_noted x k) o)) at) ∙ h)
+
+---- lists
+
+lengths : {A B : Type 0} (f : A → B) (xs : List A) → length (map f xs) ≡ length xs
+lengths f [] = refl
+lengths f (x ∷ xs) = ap suc (lengths f xs)
+
+at_front : {A : Type 0} (xs ys : List A) (i : ℕ) (x : A) → slice_get xs i ≡ Some x → slice_get (xs ++ ys) i ≡ Some x
+at_front [] ys i x h = some_apart x h
+at_front (y ∷ xs) ys zero x h = h
+at_front (y ∷ xs) ys (suc i) x h = at_front xs ys i x h
+
+at_back : {A : Type 0} (xs ys : List A) (i : ℕ) (x : A) → length xs ≤ i → slice_get (xs ++ ys) i ≡ Some x → (j : ℕ) × (slice_get ys j ≡ Some x)
+at_back [] ys i x l h = (i, h)
+at_back (y ∷ xs) ys zero x l h = absurd (omega arith)
+at_back (y ∷ xs) ys (suc i) x l h = at_back xs ys i x (omega arith) h
+
+---- checks and notes
+
+abbrev check_of : List Write → Note → Check
+check_of own (Got r) = check_of_read r
+check_of own (Scanned s) = check_of_scan own s
+
+map_got : (own : List Write) (rs : List Read) → map (check_of own) (map Got rs) ≡ map check_of_read rs
+map_got own [] = refl
+map_got own (r ∷ rs) = ap (λ cs. check_of_read r ∷ cs) (map_got own rs)
+
+map_scanned : (own : List Write) (ss : List Scan) → map (check_of own) (map Scanned ss) ≡ map (check_of_scan own) ss
+map_scanned own [] = refl
+map_scanned own (s ∷ ss) = ap (λ cs. check_of_scan own s ∷ cs) (map_scanned own ss)
+
+checks_are : (p : Work) → checks p ≡ map (check_of p.writes) (checked_notes p)
+checks_are p = sym (
+    map-append (check_of p.writes) (map Got (filter (λ (r : Read). not (is_written p.writes r.key)) p.reads)) (map Scanned p.scans)
+    ∙ ap (λ xs. xs ++ map (check_of p.writes) (map Scanned p.scans)) (map_got p.writes (filter (λ (r : Read). not (is_written p.writes r.key)) p.reads))
+    ∙ ap (λ xs. map check_of_read (filter (λ (r : Read). not (is_written p.writes r.key)) p.reads) ++ xs) (map_scanned p.writes p.scans)
+    )
+
+-- the note of a check
+note_of : (p : Work) (i : ℕ) (c : Check) → slice_get (checks p) i ≡ Some c → (n : Note) × (slice_get (checked_notes p) i ≡ Some n) × (check_of p.writes n ≡ c)
+note_of p i c h = by (slice_get (checked_notes p) i) refl (sym (slice_get-map (check_of p.writes) (checked_notes p) i) ∙ ap (λ xs. slice_get xs i) (sym (checks_are p)) ∙ h)
+  where
+    some_is : (x y : Check) → Some x ≡ Some y → x ≡ y
+    some_is x y e = cc
+
+    by : (o : Option Note) → slice_get (checked_notes p) i ≡ o → option_map (check_of p.writes) o ≡ Some c → (n : Note) × (slice_get (checked_notes p) i ≡ Some n) × (check_of p.writes n ≡ c)
+    by None at e = some_apart c e
+    by (Some n) at e = (n, at, some_is (check_of p.writes n) c e)
+
+-- what is so of each note that is checked, and of each other
+abbrev IsCheckedNote : List Write → Note → Type 0
+IsCheckedNote own (Got r) = is_written own r.key ≡ false
+IsCheckedNote own (Scanned s) = reads_rise s.found ≡ true
+
+abbrev IsOwnNote : List Write → Note → Type 0
+IsOwnNote own (Got r) = ReadAgrees own r × (is_written own r.key ≡ true)
+IsOwnNote own (Scanned s) = ⊥
+
+not_true : (b : Bool) → not b ≡ true → b ≡ false
+not_true true e = absurd (cc)
+not_true false e = refl
+
+checked_notes_are : (p : Work) → Sound p → AllByRecursion (IsCheckedNote p.writes) (checked_notes p)
+checked_notes_are p ok = each_append (IsCheckedNote p.writes) (map Got (filter (λ (r : Read). not (is_written p.writes r.key)) p.reads)) (map Scanned p.scans)
+    (each_map (IsCheckedNote p.writes) Got (filter (λ (r : Read). not (is_written p.writes r.key)) p.reads) (each_any (λ r. ReadAgrees p.writes r × (not (is_written p.writes r.key) ≡ true)) (λ r. is_written p.writes r.key ≡ false) (filter (λ (r : Read). not (is_written p.writes r.key)) p.reads) (λ r h. not_true (is_written p.writes r.key) h.1) (each_filter (ReadAgrees p.writes) (λ (r : Read). not (is_written p.writes r.key)) p.reads ok.reads)))
+    (each_map (IsCheckedNote p.writes) Scanned p.scans ok.scans)
+
+own_notes_are : (p : Work) → Sound p → AllByRecursion (IsOwnNote p.writes) (own_notes p)
+own_notes_are p ok = each_map (IsOwnNote p.writes) Got (filter (λ (r : Read). is_written p.writes r.key) p.reads) (each_filter (ReadAgrees p.writes) (λ (r : Read). is_written p.writes r.key) p.reads ok.reads)
+
+-- what a note says of a key, in the plan
+pub noted_by : (p : Work) (i : ℕ) (k : Key) (version : Option ℕ) (n : Note) → slice_get (notes_of p) i ≡ Some n → noted (plan_of p) i k ≡ Some version → option_map number_of (version_noted n k) ≡ Some version
+unfolding noted
+noted_by p i k version n at h = ap (λ o. option_map number_of (option_and_then (λ x. version_noted x k) o)) (sym at) ∙ h
+
+pub got_says : (r : Read) (k : Key) (version : Option ℕ) → option_map number_of (version_noted (Got r) k) ≡ Some version → (r.key ≡ k) × (number_of r.version ≡ version)
+got_says r k version h = by (same_key_tells r.key k) h
+  where
+    some_is : (x y : Option ℕ) → Some x ≡ Some y → x ≡ y
+    some_is x y e = cc
+
+    by : ((same_key r.key k ≡ true) × (r.key ≡ k)) ⊎ ((same_key r.key k ≡ false) × (r.key ≢ k)) → option_map number_of (if same_key r.key k then Some r.version else None) ≡ Some version → (r.key ≡ k) × (number_of r.version ≡ version)
+    by (inl x) e = (x.1, some_is (number_of r.version) version (ap (λ b. option_map number_of (if b then Some r.version else None)) (sym x.0) ∙ e))
+    by (inr x) e = some_apart version (ap (λ b. option_map number_of (if b then Some r.version else None)) (sym x.0) ∙ e)
+
+pub scan_says : (s : Scan) (k : Key) (version : Option ℕ) → option_map number_of (version_noted (Scanned s) k) ≡ Some version → (in_span s.span k ≡ true) × (number_of (version_among s.found k) ≡ version)
+scan_says s k version h = by (in_span s.span k) refl h
+  where
+    some_is : (x y : Option ℕ) → Some x ≡ Some y → x ≡ y
+    some_is x y e = cc
+
+    by : (b : Bool) → in_span s.span k ≡ b → option_map number_of (if b then Some (version_among s.found k) else None) ≡ Some version → (in_span s.span k ≡ true) × (number_of (version_among s.found k) ≡ version)
+    by true t e = (t, some_is (number_of (version_among s.found k)) version e)
+    by false f e = some_apart version e
+
+---- what a check that passes tells
+
+same_number : (a b : Option TxId) → same_version a b ≡ true → number_of b ≡ number_of a
+same_number None None h = refl
+same_number None (Some b) h = absurd (cc)
+same_number (Some a) None h = absurd (cc)
+same_number (Some a) (Some b) h = ap (λ x. Some x) (equal b.0 a.0 h)
+  where
+    equal : (x y : ℕ) → (y == x) ≡ true → x ≡ y
+    equal x y h = grind (arith, nat_tests)
+
+got_agrees : (p : Work) (i : ℕ) (rd : Read) → slice_get (notes_of p) i ≡ Some (Got rd) → is_written p.writes rd.key ≡ false → NoteAgrees p i
+got_agrees p i rd at free k version base h w =
+    let says = got_says rd k version (noted_by p i k version (Got rd) at h) in
+    let b = written_base p k base w in
+    some_apart b.0 (sym (unwritten_base p.writes rd.key free) ∙ ap (base_of p.writes) says.0 ∙ b.1)
+
+got_tells : (p : Work) (i : ℕ) (rd : Read) (r : Reply) → slice_get (notes_of p) i ≡ Some (Got rd) → is_written p.writes rd.key ≡ false → CanAnswer (ask.Get rd.key) r → is_more (validate_step true (Some (check_of_read rd)) r) ≡ true → CheckTells p i (ask.Get rd.key) r
+got_tells p i rd reply.Fault at free can more = absurd (cc)
+got_tells p i rd reply.NoMemory at free can more = absurd (cc)
+got_tells p i rd reply.Applied at free can more = absurd can
+got_tells p i rd (reply.NotMet found) at free can more = absurd can
+got_tells p i rd (reply.Rows rows) at free can more = absurd can
+got_tells p i rd (reply.Found found) at free can more = record { note = Got rd; at = at; unchanged = (found, refl, refl, by (is_unchanged found rd.version) refl more); agrees = got_agrees p i rd at free }
+  where
+    by : (b : Bool) → is_unchanged found rd.version ≡ b → is_more (judged true (changed b rd.key found)) ≡ true → is_unchanged found rd.version ≡ true
+    by true t e = t
+    by false f e = absurd (cc)
+
+rises : (a b : Bool) → (a && b) ≡ true → a ≡ true
+rises true b e = refl
+rises false b e = absurd (cc)
+
+scan_kept : (p : Work) (s : Scan) (rows : List Record) → reads_rise s.found ≡ true → rise rows ≡ true → is_more (judged true (first_difference (wanted p.writes s) rows)) ≡ true → (k : Key) → is_kept p.writes s rows k ≡ true
+scan_kept p s rows found rise more = by (first_difference (wanted p.writes s) rows) more (first_lost p.writes s rows found rise)
+  where
+    by : (o : Option (Key × Option Record)) → is_more (judged true o) ≡ true → IsFirstLost p.writes s rows o → (k : Key) → is_kept p.writes s rows k ≡ true
+    by None e lost = lost
+    by (Some d) e lost = absurd (cc)
+
+scan_agrees : (p : Work) (i : ℕ) (s : Scan) (rows : List Record) → slice_get (notes_of p) i ≡ Some (Scanned s) → ((k : Key) → is_kept p.writes s rows k ≡ true) → NoteAgrees p i
+scan_agrees p i s rows at kept k version base h w =
+    let says = scan_says s k version (noted_by p i k version (Scanned s) at h) in
+    let b = written_base p k base w in
+    let own : base_in s.span p.writes k ≡ Some b.0 = ap (λ t. if t then base_of p.writes k else None) says.0 ∙ b.1 in
+    let same : same_version b.0 (version_read s.found k) ≡ true = ap (λ o. kept_by o (version_read s.found k) (record_among rows k)) (sym own) ∙ kept k in
+    sym says.1 ∙ ap number_of (sym (version_is s.found k)) ∙ same_number b.0 (version_read s.found k) same ∙ b.2
+
+scan_unchanged : (p : Work) (s : Scan) (rows : List Record) → ((k : Key) → is_kept p.writes s rows k ≡ true) → (k : Key) → in_span s.span k ≡ true → written (plan_of p) k ≡ None → is_unchanged (row_among rows k) (version_among s.found k) ≡ true
+scan_unchanged p s rows kept k inside free =
+    let own : base_in s.span p.writes k ≡ None = ap (λ t. if t then base_of p.writes k else None) inside ∙ free_base p k free in
+    ap (λ f. is_unchanged f (version_among s.found k)) (sym (row_is rows k)) ∙ ap (is_unchanged (record_among rows k)) (sym (version_is s.found k)) ∙ ap (λ o. kept_by o (version_read s.found k) (record_among rows k)) (sym own) ∙ kept k
+
+scan_tells : (p : Work) (i : ℕ) (s : Scan) (r : Reply) → slice_get (notes_of p) i ≡ Some (Scanned s) → reads_rise s.found ≡ true → CanAnswer (ask.Scan s.span) r → is_more (validate_step true (Some (check_of_scan p.writes s)) r) ≡ true → CheckTells p i (ask.Scan s.span) r
+scan_tells p i s reply.Fault at found can more = absurd (cc)
+scan_tells p i s reply.NoMemory at found can more = absurd (cc)
+scan_tells p i s reply.Applied at found can more = absurd can
+scan_tells p i s (reply.NotMet x) at found can more = absurd can
+scan_tells p i s (reply.Found x) at found can more = absurd can
+scan_tells p i s (reply.Rows rows) at found can more =
+    let kept = scan_kept p s rows found (rises (rise rows) _ can) more in
+    record { note = Scanned s; at = at; unchanged = (rows, refl, refl, scan_unchanged p s rows kept); agrees = scan_agrees p i s rows at kept }
+
+---- the writes
+
+unwritten_other : (ws : List Write) (i : ℕ) (k : Key) (w : Write) → is_written ws k ≡ false → slice_get ws i ≡ Some w → w.key ≢ k
+unwritten_other [] i k w free at = some_apart w at
+unwritten_other (x ∷ xs) zero k w free at = λ e. absurd (clash (sym (both (phases.same_key k x.key) (is_written xs k) free) ∙ same_turned k x.key ∙ ap (λ y. same_key y k) (key_is x w at ∙ e) ∙ same_key_self k))
+  where
+    key_is : (x w : Write) → Some x ≡ Some w → x.key ≡ w.key
+    key_is x w e = cc
+
+    both : (a b : Bool) → (a || b) ≡ false → a ≡ false
+    both true b e = absurd (cc)
+    both false b e = refl
+
+    clash : false ≡ true → ⊥
+    clash e = cc
+unwritten_other (x ∷ xs) (suc i) k w free at = unwritten_other xs i k w (both (phases.same_key k x.key) (is_written xs k) free) at
+  where
+    both : (a b : Bool) → (a || b) ≡ false → b ≡ false
+    both true b e = absurd (cc)
+    both false b e = e
+
+once_apart : (ws : List Write) (i j : ℕ) (v w : Write) → Once ws → i < j → slice_get ws i ≡ Some v → slice_get ws j ≡ Some w → w.key ≢ v.key
+once_apart [] i j v w once l at there = some_apart v at
+once_apart (x ∷ xs) i zero v w once l at there = absurd (omega arith)
+once_apart (x ∷ xs) zero (suc j) v w once l at there = subst (λ k. w.key ≢ k) (key_is x v at) (unwritten_other xs j x.key w once.0 there)
+  where
+    key_is : (x v : Write) → Some x ≡ Some v → x.key ≡ v.key
+    key_is x v e = cc
+once_apart (x ∷ xs) (suc i) (suc j) v w once l at there = once_apart xs i j v w once.1 (omega arith) at there
+
+once_at : (ws : List Write) (i : ℕ) (w : Write) → Once ws → slice_get ws i ≡ Some w → find (λ (x : Write). same_key x.key w.key) ws ≡ Some w
+once_at [] i w once at = some_apart w at
+once_at (x ∷ xs) zero w once at = ap (λ b. if b then Some x else find (λ (y : Write). same_key y.key w.key) xs) (ap (λ k. same_key k w.key) (key_is x w at) ∙ same_key_self w.key) ∙ at
+  where
+    key_is : (x v : Write) → Some x ≡ Some v → x.key ≡ v.key
+    key_is x v e = cc
+once_at (x ∷ xs) (suc i) w once at = by (same_key_tells x.key w.key) (once_at xs i w once.1 at)
+  where
+    by : ((same_key x.key w.key ≡ true) × (x.key ≡ w.key)) ⊎ ((same_key x.key w.key ≡ false) × (x.key ≢ w.key)) → find (λ (y : Write). same_key y.key w.key) xs ≡ Some w → find (λ (y : Write). same_key y.key w.key) (x ∷ xs) ≡ Some w
+    by (inl y) ih = absurd (unwritten_other xs i x.key w once.0 at (sym y.1))
+    by (inr n) ih = ap (λ b. if b then Some x else find (λ (y : Write). same_key y.key w.key) xs) n.0 ∙ ih
+
+found_at : (ws : List Write) (k : Key) (w : Write) → find (λ (x : Write). same_key x.key k) ws ≡ Some w → (i : ℕ) × (slice_get ws i ≡ Some w)
+found_at [] k w h = some_apart w h
+found_at (x ∷ xs) k w h = by (same_key x.key k) h (λ e. found_at xs k w e)
+  where
+    by : (b : Bool) → (if b then Some x else find (λ (y : Write). same_key y.key k) xs) ≡ Some w → (find (λ (y : Write). same_key y.key k) xs ≡ Some w → (i : ℕ) × (slice_get xs i ≡ Some w)) → (i : ℕ) × (slice_get (x ∷ xs) i ≡ Some w)
+    by true e ih = (zero, e)
+    by false e ih = let f = ih e in (suc f.0, f.1)
+
+---- the whole
+
+reading : (own : List Write) (n : Note) → IsReading (check_of own n).request
+reading own (Got r) = tt
+reading own (Scanned s) = tt
+
+tells_at : (p : Work) (i : ℕ) (n : Note) (r : Reply) → slice_get (notes_of p) i ≡ Some n → IsCheckedNote p.writes n → CanAnswer (check_of p.writes n).request r → is_more (validate_step true (Some (check_of p.writes n)) r) ≡ true → CheckTells p i (check_of p.writes n).request r
+tells_at p i (Got rd) r at ok can more = got_tells p i rd r at ok can more
+tells_at p i (Scanned s) r at ok can more = scan_tells p i s r at ok can more
+
+own_written : (p : Work) (n : Note) (k : Key) (version : Option ℕ) → IsOwnNote p.writes n → option_map number_of (version_noted n k) ≡ Some version → (written (plan_of p) k ≢ None) × ((base : Option ℕ) → written (plan_of p) k ≡ Some base → version ≡ base)
+own_written p (Scanned s) k version own h = absurd own
+own_written p (Got r) k version own h =
+    let says = got_says r k version h in (
+      λ free. absurd (is_there (base_of p.writes r.key) refl (ap (base_of p.writes) says.0 ∙ free_base p k free)),
+      λ base w. let b = written_base p k base w in sym says.1 ∙ ap number_of (own.0 b.0 (ap (base_of p.writes) says.0 ∙ b.1)) ∙ b.2,
+    )
+  where
+    is_there : (o : Option (Option TxId)) → base_of p.writes r.key ≡ o → o ≡ None → ⊥
+    is_there o e n = absurd (clash (sym own.1 ∙ none (base_of p.writes r.key) refl (e ∙ n)))
+      where
+        clash : true ≡ false → ⊥
+        clash x = cc
+
+        none : (o : Option (Option TxId)) → base_of p.writes r.key ≡ o → base_of p.writes r.key ≡ None → is_written p.writes r.key ≡ false
+        none o at e = no_base p.writes r.key e
+
+-- What a transaction takes into its COMMIT is what the law of the protocol wants of it.
+pub work_ok : (p : Work) → Sound p → WorkOk p
+unfolding write_at
+work_ok p ok = record {
+  fits = ok.fits;
+  moment = ok.moment;
+  fine = λ i w at. each_at (λ w. IsWrite w × (is_data w.key ≡ true)) p.writes i w ok.fine at;
+  at = λ i w at. once_at p.writes i w ok.once at;
+  apart = λ i j v w l at there. once_apart p.writes i j v w ok.once l at there;
+  found = λ k w h. found_at p.writes k w h;
+  reads = λ i c h. let n = note_of p i c h in subst (λ x. IsReading x.request) n.2 (reading p.writes n.0);
+  tells = λ i c r h can passed. let n = note_of p i c h in
+      subst (λ x. CanAnswer x.request r → is_more (validate_step true (Some x) r) ≡ true → CheckTells p i x.request r) n.2 (tells_at p i n.0 r (at_front (checked_notes p) (own_notes p) i n.0 n.1) (each_at (IsCheckedNote p.writes) (checked_notes p) i n.0 (checked_notes_are p ok) n.1)) can (ap (λ o. is_more (validate_step true o r)) (sym h) ∙ passed);
+  checked = λ j k version l h. other j k version l h (slice_get (notes_of p) j) refl;
+  agrees = λ j l k version base h w. others j k version base l h w (slice_get (notes_of p) j) refl;
+}
+  where
+    beyond : (j : ℕ) → length (checks p) ≤ j → length (checked_notes p) ≤ j
+    beyond j l = subst (λ n. n ≤ j) (ap length (checks_are p) ∙ lengths (check_of p.writes) (checked_notes p)) l
+
+    own : (j : ℕ) (n : Note) → length (checks p) ≤ j → slice_get (notes_of p) j ≡ Some n → IsOwnNote p.writes n
+    own j n l at = let b = at_back (checked_notes p) (own_notes p) j n (beyond j l) at in each_at (IsOwnNote p.writes) (own_notes p) b.0 n (own_notes_are p ok) b.1
+
+    other : (j : ℕ) (k : Key) (version : Option ℕ) → length (checks p) ≤ j → noted (plan_of p) j k ≡ Some version → (o : Option Note) → slice_get (notes_of p) j ≡ o → written (plan_of p) k ≢ None
+    other j k version l h None at = not_noted p j k version at h
+    other j k version l h (Some n) at = (own_written p n k version (own j n l at) (noted_by p j k version n at h)).0
+
+    others : (j : ℕ) (k : Key) (version base : Option ℕ) → length (checks p) ≤ j → noted (plan_of p) j k ≡ Some version → written (plan_of p) k ≡ Some base → (o : Option Note) → slice_get (notes_of p) j ≡ o → version ≡ base
+    others j k version base l h w None at = not_noted p j k version at h
+    others j k version base l h w (Some n) at = (own_written p n k version (own j n l at) (noted_by p j k version n at h)).1 base w

@@ -1,0 +1,5 @@
+use Rattle.sdb_turns.proofs.Quiet.{stop_turn}
+use Rattle.sdb_turns.proofs.turns.stop_turn.Goals as goal
+
+pub returns : goal.returns
+returns c = stop_turn

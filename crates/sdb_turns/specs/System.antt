@@ -1,0 +1,237 @@
+-- Several clients: where each stands, and what is so of all of them after the events so far.
+use Rattle.std.specs.Prelude.{◌≡◌, ◌≢◌, ◌⊎◌, ◌≤◌, ◌<◌, ◌+◌, ◌/◌, ◌%◌, ◌^◌, ℕ, ℤ, Bool, true, false, List, Option, Some, None}
+use Rattle.sdb_types.specs.declared.txid.TxId.{TxId}
+use Rattle.sdb_types.specs.declared.record.Request.{Request}
+use Rattle.sdb_types.specs.declared.record.Reply.{Reply}
+use Rattle.sdb_types.specs.Contents.{CanAnswer}
+use Rattle.sdb_record.specs.declared.access.Access.{Access}
+use Rattle.sdb_record.specs.Meta.{is_moment}
+use Rattle.sdb_model.specs.declared.answer.Answer.{Answer}
+use Rattle.sdb_model.specs.declared.answer.Answer.TheVariants as answer
+use Rattle.sdb_model.specs.declared.event.Event.{Event}
+use Rattle.sdb_model.specs.declared.event.Event.TheVariants as event
+use Rattle.sdb_model.specs.declared.event.How.{How}
+use Rattle.sdb_model.specs.Rows.{Name}
+use Rattle.sdb_model.specs.Sql.{reads_begin, reads_commit}
+use Rattle.sdb_model.specs.Transactions.{id_of}
+use Rattle.sdb_laws.specs.Plan.{Plan}
+use Rattle.sdb_laws.specs.History as laws
+use Rattle.sdb_laws.specs.History.{Role, Begins, Takes, Talk}
+use Rattle.sdb_laws.specs.Lawful.{Played, IsLawful, talk, answer_of, is_quiet}
+use Rattle.sdb_phases.specs.declared.step.Outcome.{Outcome}
+use Rattle.sdb_phases.specs.declared.step.Outcome.TheVariants as outcome
+use Rattle.sdb_phases.specs.Work.{Work}
+use Rattle.sdb_phases.specs.Commit.{Stage, Over, step, preparing}
+use Rattle.sdb_snapshot.specs.Seen.{Seen}
+use Rattle.sdb_turns.specs.Owner.{CommitOk, plan_of, role_of}
+use Rattle.sdb_turns.specs.Noted.{OpenOk, SeenOk}
+use Rattle.sdb_turns.specs.ReadAt.{ReadAt, IsOfData, ReadOk}
+use Rattle.sdb_turns.specs.Sweep.{SweepAt, SweepOk}
+
+---- clients
+
+-- Where a client stands: no transaction of it is open; one is, with what it has read and written, and makes no call; a statement
+-- of one reads; one commits; the client runs VACUUM; or it has stopped.
+pub data ClientAt : Type 0 where
+  Resting : ClientAt
+  Open : (id : TxId) (seen : Seen) → ClientAt
+  Reading : (id : TxId) (seen : Seen) (access : Access) (read : ReadAt) → ClientAt
+  Committing : (work : Work) (stage : Stage) → ClientAt
+  Sweeping : (sweep : SweepAt) → ClientAt
+  Stopped : ClientAt
+
+-- what a client knows after the events so far
+abbrev pub ClientOk : (ℕ → Plan) → List Played → ℕ → ClientAt → Type 0
+ClientOk plan past c Resting = (talk past).stopped c ≡ false
+ClientOk plan past c (Open id seen) = OpenOk (talk past) c id.0 × SeenOk past seen
+ClientOk plan past c (Reading id seen a r) = OpenOk (talk past) c id.0 × SeenOk past seen × IsOfData a × ReadOk past a r
+ClientOk plan past c (Committing p s) = CommitOk plan past c p s
+ClientOk plan past c (Sweeping v) = ((talk past).stopped c ≡ false) × SweepOk past v
+ClientOk plan past c Stopped = (talk past).stopped c ≡ true
+
+-- a client's open transaction has that number
+abbrev pub Has : ClientAt → ℕ → Type 0
+Has (Open id seen) t = id.0 ≡ t
+Has (Reading id seen a r) t = id.0 ≡ t
+Has (Committing p s) t = p.id.0 ≡ t
+Has x t = ⊥
+
+-- a client has an open transaction in its hands
+abbrev pub has_open : ClientAt → Bool
+has_open (Open id seen) = true
+has_open (Reading id seen a r) = true
+has_open (Committing p s) = true
+has_open x = false
+
+-- a client runs VACUUM
+abbrev pub sweeps : ClientAt → Bool
+sweeps (Sweeping v) = true
+sweeps x = false
+
+-- no transaction is open of a client that goes on
+abbrev pub Gate : Talk → Type 0
+Gate h = (u : ℕ) → h.is_open u ≡ true → h.stopped (h.owner u) ≡ true
+
+---- all clients
+
+-- Where each client stands, and how many transactions each has begun.
+pub record SystemAt : Type 0 where
+  pub clients : ℕ → ClientAt
+  pub begun : ℕ → ℕ
+
+-- The number of a transaction that has begun tells its client and which of the client's transactions it is, from 1.
+pub record IsNumbered (h : Talk) (begun : ℕ → ℕ) (t : ℕ) : Type 0 where
+  pub ordinal : 0 < t % 2 ^ 64
+  pub most : t % 2 ^ 64 ≤ begun (t / 2 ^ 64)
+  pub owner : h.owner t ≡ t / 2 ^ 64
+
+-- What is so of all clients after the events so far. With these plans the events keep the rules of the protocol.
+pub record SystemOk (plan : ℕ → Plan) (past : List Played) (sys : SystemAt) : Type 0 where
+  pub lawful : IsLawful plan past
+  pub each : (c : ℕ) → ClientOk plan past c (sys.clients c)
+  -- a transaction that is open is that of its client, unless that has stopped
+  pub opened : (u : ℕ) → (talk past).is_open u ≡ true → ((talk past).stopped ((talk past).owner u) ≡ true) ⊎ Has (sys.clients ((talk past).owner u)) u
+  -- while a client runs VACUUM no transaction is open of a client that goes on
+  pub gate : (c : ℕ) → sweeps (sys.clients c) ≡ true → Gate (talk past)
+  pub ids : (t : ℕ) → (talk past).begun t ≢ 0 → IsNumbered (talk past) sys.begun t
+
+-- with one client standing elsewhere
+abbrev pub with_client : SystemAt → ℕ → ClientAt → SystemAt
+with_client sys c x = record sys { clients = laws.at sys.clients c x }
+
+-- with one transaction more begun by a client
+abbrev pub with_begun : SystemAt → ℕ → ClientAt → SystemAt
+with_begun sys c x = record { clients = laws.at sys.clients c x; begun = laws.at sys.begun c (sys.begun c + 1) }
+
+-- the id of a client's next transaction
+abbrev pub next_id : SystemAt → ℕ → TxId
+next_id sys c = id_of c (sys.begun c + 1)
+
+-- no client has done anything
+abbrev pub idle : SystemAt
+idle = record { clients = λ c. Resting; begun = λ c. 0 }
+
+---- events
+
+-- an event of a client
+abbrev pub IsBy : ℕ → Event → Type 0
+IsBy d (event.Take c text answer) = c ≡ d
+IsBy d (event.Call c store q how r answer) = c ≡ d
+IsBy d (event.Stop c) = c ≡ d
+IsBy d (event.Clock moment) = ⊥
+IsBy d (event.Idle c) = c ≡ d
+
+-- an event ends no transaction but one of that client
+abbrev pub EndsOwn : List Played → ℕ → Played → Type 0
+EndsOwn past c q = (u : ℕ) → q.ends ≡ Some u → (talk past).owner u ≡ c
+
+-- an event that ends no transaction
+abbrev pub plays : Role → Event → Played
+plays role e = record { event = e; role = role; ends = None }
+
+-- an event that ends a transaction
+abbrev pub ends_with : ℕ → Role → Event → Played
+ends_with t role e = record { event = e; role = role; ends = Some t }
+
+---- calls
+
+-- A call of a client with its reply, and the moment at which the client goes on.
+pub record ClientCall : Type 0 where
+  pub client : ℕ
+  pub store : Name
+  pub request : Request
+  pub how : How
+  pub reply : Reply
+  pub now : ℤ
+
+-- its event, with the answer that it gives to the client's statement, if it gives one
+abbrev pub call_event : ClientCall → Option Answer → Event
+call_event x a = event.Call x.client x.store x.request x.how x.reply a
+
+-- The call is the one that is pending, and its reply is one that it can get.
+pub record IsReplyTo (pending : Option Request) (x : ClientCall) : Type 0 where
+  pub asked : pending ≡ Some x.request
+  pub can : CanAnswer x.request x.reply
+  pub moment : is_moment x.now ≡ true
+
+-- all is so of all clients, and this one stands there
+pub record StandsAt (plan : ℕ → Plan) (past : List Played) (sys : SystemAt) (c : ℕ) (x : ClientAt) : Type 0 where
+  pub ok : SystemOk plan past sys
+  pub at : sys.clients c ≡ x
+
+-- an event without a part: it changes nothing at the stores, is no stop, and doesn't answer Committed
+pub record IsQuiet (e : Event) : Type 0 where
+  pub quiet : is_quiet e ≡ true
+  pub other : answer_of e ≢ Some answer.Committed
+
+-- no client runs VACUUM
+abbrev pub NoneSweeps : SystemAt → Type 0
+NoneSweeps sys = (d : ℕ) → sweeps (sys.clients d) ≡ false
+
+-- no client has an open transaction, but one that has stopped
+abbrev pub NoneOpen : SystemAt → Type 0
+NoneOpen sys = (d : ℕ) → has_open (sys.clients d) ≡ false
+
+-- A statement reads as BEGIN, and its client has an id left: it and the number of its next transaction have 64 bits.
+pub record IsBegin (sys : SystemAt) (c : ℕ) (text : List ℕ) : Type 0 where
+  pub reads : reads_begin text ≡ true
+  pub client : c < 2 ^ 64
+  pub ordinal : sys.begun c + 1 < 2 ^ 64
+
+-- a BEGIN is answered Done
+abbrev pub begin_played : SystemAt → ℕ → List ℕ → Played
+begin_played sys c text = plays (Begins (next_id sys c).0 c) (event.Take c text (Some answer.Done))
+
+---- a COMMIT
+
+-- the answer that a COMMIT gives at its end
+abbrev pub answer_of_outcome : Outcome → Answer
+answer_of_outcome outcome.Committed = answer.Committed
+answer_of_outcome (outcome.Conflict key found) = answer.Conflict key found
+answer_of_outcome (outcome.Expired id) = answer.Expired id
+answer_of_outcome outcome.Faulted = answer.Faulted
+answer_of_outcome (outcome.Unknown id) = answer.Unknown id
+answer_of_outcome (outcome.BadRecord key) = answer.BadRecord key
+answer_of_outcome outcome.NoMemory = answer.NoMemory
+
+-- the answer of a COMMIT that is over
+abbrev pub answer_at : Stage → Option Answer
+answer_at (Over a) = Some (answer_of_outcome a)
+answer_at s = None
+
+-- the transaction that it ends
+abbrev pub ending_at : ℕ → Stage → Option ℕ
+ending_at t (Over a) = Some t
+ending_at t s = None
+
+-- where a COMMIT at a stage leaves its client
+abbrev pub commit_left : Work → Stage → ClientAt
+commit_left p (Over a) = Resting
+commit_left p s = Committing p s
+
+-- The call of a COMMIT at a stage: where the COMMIT is then over, it gives the answer and ends the transaction.
+abbrev pub commit_played : Work → Stage → ClientCall → Played
+commit_played p s x = record { event = call_event x (answer_at (step p s x.reply)); role = role_of p s x.reply; ends = ending_at p.id.0 (step p s x.reply) }
+
+-- the same plans, but for that transaction
+abbrev pub with_plan : (ℕ → Plan) → Work → ℕ → Plan
+with_plan plan p u = laws.at plan p.id.0 (plan_of p) u
+
+-- a statement reads as COMMIT and is taken at a moment
+pub record IsCommit (text : List ℕ) (now : ℤ) : Type 0 where
+  pub reads : reads_commit text ≡ true
+  pub moment : is_moment now ≡ true
+
+-- its taking
+abbrev pub take_played : ℕ → List ℕ → Work → Played
+take_played c text p = plays (Takes p.id.0) (event.Take c text None)
+
+-- the client then makes the first call of the COMMIT
+abbrev pub commit_begun : SystemAt → ℕ → Work → SystemAt
+commit_begun sys c p = with_client sys c (commit_left p (preparing p 0))
+
+---- plans
+
+-- two plans are one for each transaction whose COMMIT was taken
+abbrev pub SamePlans : (ℕ → Plan) → (ℕ → Plan) → List Played → Type 0
+SamePlans plan other past = (t : ℕ) → (talk past).taken t ≡ true → plan t ≡ other t
