@@ -3,11 +3,15 @@
 #![tactic(auto)]
 
 #[cfg(test)]
+mod commit;
+#[cfg(test)]
 mod decide;
 #[cfg(test)]
 mod machine;
 #[cfg(test)]
 mod prepare;
+#[cfg(test)]
+mod read;
 #[cfg(test)]
 mod recover;
 #[cfg(test)]
