@@ -18,7 +18,7 @@ pub new_of : (name n : List ℕ) (m : Contents) (f : ℕ) → n ≡ name → m �
 new_of name n m f a b d = λ i. one_store (a i) (b i) (d i)
 
 -- what a call that attaches a store leaves, where it succeeds
-pub record Behind {T E : Type 0} (r : Result T E) (s : Shelf) (Telling : Type 0) (old new : List Shelf) (told tells : ℕ → Type 0) : Type 0 where
+pub record Attachment {T E : Type 0} (r : Result T E) (s : Shelf) (Telling : Type 0) (old new : List Shelf) (told tells : ℕ → Type 0) : Type 0 where
   pub stores : OnOk r (new ≡ old ++ s ∷ [])
   pub here : OnOk r (Telling → tells (length old))
   pub others : (i : ℕ) → told i → tells i
@@ -28,7 +28,7 @@ pub record AreOwn (stores : List Shelf) (tells : ℕ → Type 0) : Type 0 where
   pub are : stores ≡ own_stores
   pub telling : (at : ℕ) → at < 3 → tells at
 
-pub all_own : {T E : Type 0} (r1 r2 r3 : Result T E) (a b k : Shelf) (A B K : Type 0) (s0 s1 s2 s3 : List Shelf) (t0 t1 t2 t3 : ℕ → Type 0) → Behind r1 a A s0 s1 t0 t1 → Behind r2 b B s1 s2 t1 t2 → Behind r3 k K s2 s3 t2 t3
+pub all_own : {T E : Type 0} (r1 r2 r3 : Result T E) (a b k : Shelf) (A B K : Type 0) (s0 s1 s2 s3 : List Shelf) (t0 t1 t2 t3 : ℕ → Type 0) → Attachment r1 a A s0 s1 t0 t1 → Attachment r2 b B s1 s2 t1 t2 → Attachment r3 k K s2 s3 t2 t3
     → s0 ≡ [] → is_ok r1 ≡ true → is_ok r2 ≡ true → is_ok r3 ≡ true → a ≡ new_store (codes "ordered") → b ≡ new_store (codes "hashed") → k ≡ new_store (codes "sqlite") → A → B → K → AreOwn s3 t3
 all_own r1 r2 r3 a b k A B K s0 s1 s2 s3 t0 t1 t2 t3 first second third none ok1 ok2 ok3 is_a is_b is_k ta tb tk =
     let one : s1 ≡ a ∷ [] = passed _ r1 ok1 first.stores ∙ ap (λ (ss : List Shelf). ss ++ a ∷ []) none in

@@ -1,10 +1,9 @@
 -- What is read of a column of a row.
-use Rattle.std.proofs.Common.{◌≡◌, ◌≢◌, ◌⊎◌, inl, inr, ℕ, zero, suc, ◌<◌, ◌≤◌, List, [], ◌∷◌, length, Bool, true, false, cond, None, Some, Ok, Err, Result, IfOk, IfErr, refl, sym, ap, subst, ◌∙◌, is_eq, arith}
+use Rattle.std.proofs.Common.{◌≡◌, ◌≢◌, ◌⊎◌, inl, inr, ℕ, zero, suc, ◌<◌, ◌≤◌, List, [], ◌∷◌, length, Bool, true, false, cond, None, Ok, Err, Result, IfOk, IfErr, refl, sym, ap, ◌∙◌, is_eq, arith}
 use Rattle.std.specs.Prelude.{Vec, nat_lt}
 use Rattle.std.specs.declared.alloc.Global.{Global}
 use Rattle.std.proofs.lemmas.Bool.{cases_Bool}
 use Rattle.std.proofs.lemmas.Bool.Decides.{nat_tests}
-use Rattle.std.specs.Cmp.{tied_itself}
 use Rattle.sqlite.specs.declared.types.Value.{Value}
 use Rattle.sqlite.specs.declared.types.Value.TheVariants.{Null, Int, Real, Text, Blob}
 use Rattle.sqlite.specs.declared.error.Error.{Error}
@@ -19,7 +18,7 @@ use Rattle.sdb_types.specs.declared.key.Key.{Key}
 use Rattle.sdb_types.specs.declared.pair.Pair.{Pair}
 use Rattle.sdb_types.specs.declared.record.Record.{Record}
 use Rattle.sdb_types.specs.Order.{key_cmp}
-use Rattle.sdb_types.specs.Exact.{equal_of, order_decides}
+use Rattle.sdb_types.specs.Exact.{order_decides}
 use Rattle.sdb_types.proofs.KeyOrder.{key_exact, key_total}
 use Rattle.sdb_codec.specs.Reading.{record_in}
 use Rattle.sdb_sqlite.specs.declared.refused.Stopped.{Stopped}

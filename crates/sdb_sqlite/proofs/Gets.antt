@@ -1,5 +1,5 @@
 -- A get and a scan answer as the map that the rows hold.
-use Rattle.std.proofs.Common.{◌≡◌, ◌⊎◌, inl, inr, ◌≤◌, List, [], ◌∷◌, map, filter, length, Bool, true, false, cond, Some, Option, option_map, slice_get, Ok, Err, Result, IfOk, refl, sym, ap, subst, ◌∙◌, IsPermutation, is_eq}
+use Rattle.std.proofs.Common.{◌≡◌, inl, inr, ◌≤◌, List, [], ◌∷◌, map, filter, length, Bool, true, false, cond, Some, Option, option_map, slice_get, Ok, Err, Result, IfOk, refl, sym, ap, subst, ◌∙◌, IsPermutation, is_eq}
 use Rattle.std.specs.Prelude.{◌&&◌, IsTrue, MatchResult}
 use Rattle.std.specs.List.{AllByRecursion}
 use Rattle.std.specs.FinMap.{find, get, get-from_entries}

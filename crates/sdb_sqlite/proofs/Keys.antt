@@ -1,5 +1,5 @@
 -- Bytes tell keys apart, and a row's bytes say whether it is of a key or of a span.
-use Rattle.std.proofs.Common.{◌≡◌, List, ◌∷◌, Some, All, sym, ap, ◌∙◌, is_eq, arith}
+use Rattle.std.proofs.Common.{◌≡◌, List, Some, All, sym, ap, ◌∙◌, is_eq, arith}
 use Rattle.std.specs.Prelude.{bytes_eq, ◌&&◌}
 use Rattle.std.specs.Bool.{one_answer}
 use Rattle.std.specs.Cmp.Lexicographic.{lists_total}

@@ -1,6 +1,6 @@
 -- What any reply of the store is, whether or not it tells what it holds.
-use Rattle.std.proofs.Common.{◌≡◌, ◌⊎◌, inl, inr, ℕ, List, [], ◌∷◌, Bool, true, false, cond, None, Some, Option, Ok, Err, Result, IfOk, IfSome, refl, sym, ap, subst, ◌∙◌, IsPermutation}
-use Rattle.std.specs.List.{AllByRecursion, list_all}
+use Rattle.std.proofs.Common.{◌≡◌, inl, inr, ℕ, List, [], ◌∷◌, true, false, cond, None, Some, Option, Ok, Err, Result, IfOk, IfSome, refl, sym, subst}
+use Rattle.std.specs.List.{AllByRecursion}
 use Rattle.std.proofs.lemmas.List.Elements.{All-from_recursion}
 use Rattle.std.proofs.lemmas.List.Sums.{list_all-from_AllPass}
 use Rattle.std.proofs.lemmas.List.Sorted.{All-permutation}
@@ -14,7 +14,7 @@ use Rattle.sdb_types.specs.declared.record.Span.{Span}
 use Rattle.sdb_types.specs.declared.record.Condition.{Condition}
 use Rattle.sdb_types.specs.declared.record.Request.{Request}
 use Rattle.sdb_types.specs.declared.record.Request.TheVariants.{Get, Scan, PutIf, DeleteIf}
-use Rattle.sdb_types.specs.Contents.{holds, in_span, rise, are_rows_of, CanAnswer, IsUnmet}
+use Rattle.sdb_types.specs.Contents.{in_span, rise, are_rows_of, CanAnswer, IsUnmet}
 use Rattle.sdb_types.proofs.Bools.{and_both}
 use Rattle.sdb_codec.specs.Reading.{key_in}
 use Rattle.sdb_sqlite.specs.declared.calls.Written.{Written}

@@ -1,11 +1,11 @@
 -- The records that rows give, one after another.
-use Rattle.std.proofs.Common.{◌≡◌, ◌⊎◌, inl, inr, ℕ, List, [], ◌∷◌, ◌++◌, drop, Ok, Err, Result, refl, sym, ap, subst, ◌∙◌, append-nil, append_assoc, suc, ◌<◌, ◌+◌, length, get_or, drop-cons, add-one}
+use Rattle.std.proofs.Common.{◌≡◌, inl, inr, ℕ, List, [], ◌∷◌, ◌++◌, drop, Ok, Err, Result, refl, sym, ap, ◌∙◌, append-nil, append_assoc, suc, ◌<◌, ◌+◌, length, get_or, drop-cons, add-one}
 use Rattle.sqlite.specs.Order.{Row}
 use Rattle.sdb_types.specs.declared.record.Record.{Record}
 use Rattle.sdb_types.specs.declared.record.Span.{Span}
 use Rattle.sdb_sqlite.specs.declared.refused.Stopped.{Stopped}
 use Rattle.sdb_sqlite.specs.declared.refused.Stopped.TheVariants as stopped
-use Rattle.sdb_sqlite.specs.Asked.{IsDue, row_record, before, then_records, rows_records}
+use Rattle.sdb_sqlite.specs.Asked.{IsDue, row_record, then_records, rows_records}
 
 -- records, and what follows them
 abbrev pub onto : List Record → Result (List Record) Stopped → Result (List Record) Stopped

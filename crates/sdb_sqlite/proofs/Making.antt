@@ -1,5 +1,5 @@
 -- What is held once the table and its index are made.
-use Rattle.std.proofs.Common.{◌≡◌, ◌⊎◌, inl, inr, ℕ, ◌≤◌, List, [], false, None, Ok, sym, ap, subst, ◌∙◌, arith}
+use Rattle.std.proofs.Common.{◌≡◌, inl, inr, ℕ, List, [], false, None, Ok, sym, ap, subst, ◌∙◌, arith}
 use Rattle.std.specs.FinMap as map
 use Rattle.sqlite.specs.Command.TheVariants.{CreateTable, CreateIndex, Nothing}
 use Rattle.sqlite.specs.Schema.{Schema}

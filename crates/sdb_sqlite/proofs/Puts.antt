@@ -1,5 +1,5 @@
 -- A put and a delete answer as the map that the rows hold.
-use Rattle.std.proofs.Common.{◌≡◌, ◌⊎◌, inl, inr, ℕ, List, [], ◌∷◌, Bool, true, false, cond, None, Some, Option, option_map, Ok, Err, Result, refl, sym, ap, subst, ◌∙◌, is_eq}
+use Rattle.std.proofs.Common.{◌≡◌, inl, inr, ℕ, List, [], ◌∷◌, Bool, true, false, cond, None, Some, Option, option_map, Ok, Err, Result, refl, sym, ap, subst, ◌∙◌, is_eq}
 use Rattle.std.specs.FinMap.{get, insert, remove, get-remove, same_map}
 use Rattle.sqlite.specs.declared.types.Value.TheVariants.{Blob}
 use Rattle.sqlite.specs.declared.error.Error.{Error}

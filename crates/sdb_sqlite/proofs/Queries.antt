@@ -1,6 +1,6 @@
 -- What the queries show of the table, and that they leave it.
-use Rattle.std.proofs.Common.{◌≡◌, ◌⊎◌, inl, inr, ℕ, ◌≤◌, List, [], ◌∷◌, map, filter, length, Bool, true, false, Some, Ok, Err, Result, refl, sym, ap, subst, ◌∙◌, IsPermutation, is_eq}
-use Rattle.std.specs.Prelude.{bytes_eq, ◌&&◌, IsTrue, MatchResult}
+use Rattle.std.proofs.Common.{◌≡◌, inl, inr, ℕ, ◌≤◌, List, [], ◌∷◌, map, filter, length, Bool, true, false, Some, Ok, Err, Result, refl, sym, ap, subst, ◌∙◌, IsPermutation, is_eq}
+use Rattle.std.specs.Prelude.{bytes_eq, IsTrue, MatchResult}
 use Rattle.std.specs.List.{list_all, AllByRecursion}
 use Rattle.std.proofs.lemmas.List.Sorted.{IsPermutation-map}
 use Rattle.std.proofs.lemmas.List.Concat.{flat_map_single}

@@ -1,5 +1,5 @@
 -- The one table of the store, and its index by table and partition.
-use Rattle.std.specs.Prelude.{true, false, [], ◌∷◌, None, codes, List, ℕ}
+use Rattle.std.specs.Prelude.{true, false, [], ◌∷◌, None, codes}
 use Rattle.sqlite.specs.declared.types.Value.TheVariants.{Null}
 use Rattle.sqlite.specs.Collation.TheVariants.{Binary}
 use Rattle.sqlite.specs.Kind.TheVariants.{Text, Blob}

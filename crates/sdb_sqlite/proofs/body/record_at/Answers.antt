@@ -1,4 +1,4 @@
-use Rattle.std.proofs.Common.{◌≡◌, true, sym, ◌∙◌}
+use Rattle.std.proofs.Common.{sym, ◌∙◌}
 use Rattle.sdb_sqlite.proofs.Columns.{own_record, other_record}
 use Rattle.sdb_sqlite.proofs.body.record_at.Goals as goal
 

@@ -1,5 +1,5 @@
 use Rattle.std.proofs.Common.{[], ◌∷◌}
-use Rattle.sqlite.specs.declared.types.Value.TheVariants.{Text, Blob}
+use Rattle.sqlite.specs.declared.types.Value.TheVariants.{Blob}
 use Rattle.sdb_sqlite.specs.Statements as text
 use Rattle.sdb_sqlite.proofs.Columns.{asked_of}
 use Rattle.sdb_sqlite.proofs.statements.body_at.Goals as goal
