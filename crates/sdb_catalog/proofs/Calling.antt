@@ -1,5 +1,5 @@
 -- Calls on the first store.
-use Rattle.std.proofs.Common.{◌≡◌, ◌⊎◌, true, false, cond, Option, Some, None, ℕ, ◌≤◌, List, [], ◌∷◌, drop, slice_set, inl, inr, refl, sym, ap, subst, ◌∙◌, arith}
+use Rattle.std.proofs.Common.{◌≡◌, ◌⊎◌, true, false, cond, Some, None, ℕ, ◌≤◌, List, [], ◌∷◌, drop, slice_set, inl, inr, refl, sym, ap, subst, ◌∙◌, arith}
 use Rattle.std.specs.Prelude.{slice_get}
 use Rattle.std.specs.FinMap.{insert, get-insert}
 use Rattle.std.specs.declared.cmp.Ordering.{Ordering}
