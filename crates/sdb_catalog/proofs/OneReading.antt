@@ -1,6 +1,5 @@
 -- Rows open in one way.
-use Rattle.std.proofs.Common.{◌≡◌, ◌<◌, ◌^◌, ℕ, List, [], ◌∷◌, ◌++◌, map, inl, inr, refl, sym, ap, subst, ◌∙◌, Option, Some, Ok}
-use Rattle.std.specs.Prelude.{codes}
+use Rattle.std.proofs.Common.{◌≡◌, ◌<◌, ◌^◌, ℕ, List, [], ◌∷◌, ◌++◌, map, inl, inr, refl, sym, ap, subst, ◌∙◌, Ok}
 use Rattle.sdb_types.specs.declared.key.TableName.{TableName}
 use Rattle.sdb_types.specs.declared.record.Record.{Record}
 use Rattle.sdb_types.specs.declared.txid.TxId.{TxId}
@@ -14,8 +13,8 @@ use Rattle.sdb_loader.specs.Described.{described_table}
 use Rattle.sdb_loader.proofs.WordLaws.{table_named-text}
 use Rattle.sdb_catalog.specs.declared.entry.Entry.{Entry}
 use Rattle.sdb_catalog.specs.Definition.{definition_text}
-use Rattle.sdb_catalog.specs.Rows.{MayHaveRow, Texts, coordinators, row_of, texts_of}
-use Rattle.sdb_catalog.specs.Opened.{Follow, Follows, IsEntry, Opens}
+use Rattle.sdb_catalog.specs.Rows.{MayHaveRow, Texts, row_of, texts_of}
+use Rattle.sdb_catalog.specs.Opened.{Follow, IsEntry, Opens}
 use Rattle.sdb_catalog.proofs.Again.{definition_again}
 use Rattle.sdb_catalog.proofs.Reading.{own_name, own_table, row_texts, said_by, same_entry, some_is}
 

@@ -1,13 +1,17 @@
 -- Calls on the store of the catalog's rows: the first one.
-use Rattle.std.specs.Prelude.{◌≡◌, ℕ, ◌≤◌, List, drop, None}
+use Rattle.std.specs.Prelude.{◌≡◌, ℕ, ◌≤◌, Bool, true, false, List, [], ◌∷◌, drop, Some, None}
+use Rattle.std.specs.FinMap.{empty}
 use Rattle.sdb_types.specs.declared.key.Key.{Key}
 use Rattle.sdb_types.specs.declared.record.Request.{Request}
+use Rattle.sdb_types.specs.declared.record.Condition.TheVariants.{Absent, Version}
 use Rattle.sdb_types.specs.declared.record.Request.TheVariants.{Scan}
+use Rattle.sdb_types.specs.declared.record.Request.TheVariants as ask
 use Rattle.sdb_types.specs.declared.record.Record.{Record}
 use Rattle.sdb_types.specs.declared.record.Reply.{Reply}
 use Rattle.sdb_types.specs.declared.record.Reply.TheVariants.{Rows}
 use Rattle.sdb_types.specs.declared.record.Span.{Span}
 use Rattle.sdb_stores.specs.declared.place.Place.{Place}
+use Rattle.sdb_types.specs.Contents.{Contents, record_at}
 use Rattle.sdb_schema.specs.declared.table.Table.{Table}
 use Rattle.sdb_stores.specs.Shelf.{Shelf, IsCallAt, HaveRisen, names_of, placed_on, total_faults}
 use Rattle.sdb_catalog.specs.declared.entry.Entry.{Entry}
@@ -25,8 +29,23 @@ Called told q r old new = IsCallAt 0 q r old new told told
 abbrev pub metadata_span : Span
 metadata_span = record { table = metadata_table; partition = None }
 
--- Calls change no name and no other store, faults add up, and stores that told what they hold go on telling it.
+-- what the first store holds
+abbrev pub first_contents : List Shelf → Contents
+first_contents [] = empty
+first_contents (s ∷ ss) = s.contents
+
+-- a request that takes no record out and puts none over another
+abbrev pub adds : Request → Bool
+adds (ask.Get key) = true
+adds (ask.Scan span) = true
+adds (ask.PutIf r Absent) = true
+adds (ask.PutIf r (Version id state)) = false
+adds (ask.DeleteIf key condition) = false
+
+-- Calls change no name and no other store, faults add up, and stores that told what they hold go on telling it. Each record that the
+-- first store held, where it tells that, is there still.
 pub record GoOn (old new : List Shelf) (told tells : ℕ → Type 0) : Type 0 where
+  pub kept : told 0 → (key : Key) (found : Record) → record_at (first_contents old) key ≡ Some found → record_at (first_contents new) key ≡ Some found
   pub names : names_of new ≡ names_of old
   pub others : drop 1 new ≡ drop 1 old
   pub counted : total_faults old ≤ total_faults new

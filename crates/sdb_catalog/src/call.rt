@@ -1,9 +1,9 @@
 //! Calls on the store of the catalog's rows.
-ghost use Rattle.std.specs.Prelude.{◌≡◌, ◌≢◌, ◌<◌, [], length, IfOk, IfErr};
+ghost use Rattle.std.specs.Prelude.{◌≡◌, ◌≢◌, ◌<◌, [], length, true, IfOk, IfErr};
 ghost use Rattle.sdb_types.specs.declared.record.Request.TheVariants.{Scan};
 ghost use Rattle.sdb_types.specs.declared.record.Reply.TheVariants.{Rows};
 ghost use Rattle.sdb_types.specs.Contents.{CanAnswer};
-ghost use Rattle.sdb_catalog.specs.Calls.{Called, GoOn, IsStopped, metadata_span};
+ghost use Rattle.sdb_catalog.specs.Calls.{adds, Called, GoOn, IsStopped, metadata_span};
 
 use crate::refused::CatalogRefused;
 use crate::rows::metadata_table;
@@ -11,11 +11,12 @@ use sdb_stores::Registry;
 use sdb_types::{Records, Reply, Request, Span};
 use std::alloc::Global;
 
-/// Makes a call on the first store: no namespace is placed.
+/// Makes a call on the first store, which takes no record out: no namespace is placed.
 #[tactic(auto, using(crate::proofs::Calling::goes_call))]
 pub fn call<R: Registry>(stores: &mut R, request: &Request) -> Result<Reply, CatalogRefused>
     requires some { 0 < length (R.shelves stores.old) }
     requires bare { R.places stores.old ≡ [] }
+    requires adds { adds request.now ≡ true }
     ensures called { IfOk result (λ reply. Called (R.tells stores.old) request.now reply (R.shelves stores.old) (R.shelves stores.new)) }
     ensures lawful { IfOk result (λ reply. CanAnswer request.now reply) }
     ensures answered { IfOk result (λ reply. (reply ≢ Reply.Fault) × (reply ≢ Reply.NoMemory)) }

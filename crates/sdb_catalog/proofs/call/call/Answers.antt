@@ -13,6 +13,6 @@ returns-in_default g c =
       lawful = c.perform.ensures.called.lawful;
       answered = (c.in_default.not-Fault, c.in_default.not-NoMemory);
       places = c.perform.ensures.places;
-      goes = goes_call places ns c.args.request.now c.perform.result old new c.requires.bare c.perform.ensures.called;
+      goes = goes_call places ns c.args.request.now c.perform.result old new c.requires.bare c.requires.adds c.perform.ensures.called;
       err = tt;
     }

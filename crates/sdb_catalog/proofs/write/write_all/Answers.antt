@@ -23,3 +23,7 @@ loop-table-preserved g c =
           written_one c.args.places.now c.args.first.now c.args.known.now c.loop-table.known c.write_table.new.known (take i ts) (take (i + 1) ts) t c.in_ok-outcome.outcome c.in_ok-entry.entry (string_bytes c.loop-table.text) (string_bytes c.put_line.new.text) old mid new
           before.so before.goes.telling (c.in_ok-entry.ensures ∙ ap (λ (es : List Entry). entry_for es c.args.places.now c.args.first.now t) c.as_slice.ensures) step.written step.known c.in_ok-put_line.ensures (item_more ts i t c.loop-table-test.true c.table-item.is);
     }
+
+pub returns-in_err-put_line-clause-goes : goal.returns-in_err-put_line-clause-goes
+returns-in_err-put_line-clause-goes g c =
+    goes_more (g.R.Registry.shelves c.args.stores.now) (g.R.Registry.shelves c.loop-table.stores) (g.R.Registry.shelves c.write_table.new.stores) c.loop-table.invariant.goes c.in_ok-outcome.ensures.goes
