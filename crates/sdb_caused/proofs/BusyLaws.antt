@@ -1,8 +1,7 @@
 -- The test of Busy is its cause.
-use Rattle.std.proofs.Common.{◌≡◌, ℕ, ℤ, Bool, true, false, List, [], ◌∷◌, Option, Some, None, ◌⊎◌, inl, inr, refl, sym, ap, ◌∙◌, subst}
-use Rattle.std.specs.Prelude.{filter, Contains, ◌&&◌, nat_lt, not, codes, ◌==◌}
+use Rattle.std.proofs.Common.{◌≡◌, ℕ, ℤ, Bool, true, false, List, Option, Some, None, refl, sym, ap, ◌∙◌, subst}
+use Rattle.std.specs.Prelude.{filter, Contains, ◌&&◌, nat_lt, not}
 use Rattle.std.specs.List.{list_any}
-use Rattle.std.specs.Ordering.{int_eq}
 use Rattle.std.specs.Cmp.{signed_Decides}
 use Rattle.sdb_types.specs.declared.txid.TxId.{TxId}
 use Rattle.sdb_types.specs.declared.key.Key.{Key}
@@ -12,14 +11,14 @@ use Rattle.sdb_types.specs.declared.record.Request.TheVariants as ask
 use Rattle.sdb_types.specs.declared.record.Reply.{Reply}
 use Rattle.sdb_types.specs.declared.record.Reply.TheVariants as reply
 use Rattle.sdb_record.specs.Coordinator.{coordinator_key_of, is_expired}
-use Rattle.sdb_record.specs.Meta.{id_in, is_unresolved, moment_in}
+use Rattle.sdb_record.specs.Meta.{id_in, is_unresolved}
 use Rattle.sdb_model.specs.declared.event.Event.{Event}
 use Rattle.sdb_model.specs.Calls as calls
 use Rattle.sdb_model.specs.Calls.{calls_of, clock_at, is_read, records_read}
 use Rattle.sdb_model.specs.Causes.{IsBusy, IsEarly}
 use Rattle.sdb_model.specs.Noted.{same_key}
 use Rattle.sdb_model.specs.Transactions.{Said}
-use Rattle.sdb_said.proofs.Lists.{clash, none_some, some_is, left, right, both, not_true, true_not, In, any_some, some_any}
+use Rattle.sdb_said.proofs.Lists.{clash, left, right, both, not_true, true_not, any_some, some_any}
 use Rattle.sdb_said.proofs.ShownLaws.{key_is, is_key, number_is, is_number}
 use Rattle.sdb_calls.specs.declared.made.Made.{Made}
 use Rattle.sdb_calls.specs.Values.{all_made, made_of}

@@ -1,6 +1,6 @@
 -- What a search finds is contained, and what is contained is found.
-use Rattle.std.proofs.Common.{◌≡◌, ℕ, zero, suc, ◌+◌, ◌<◌, Bool, true, false, List, [], ◌∷◌, length, map, Option, Some, None, ◌⊎◌, inl, inr, refl, sym, ap, ◌∙◌, arith, subst}
-use Rattle.std.specs.Prelude.{filter, Contains, find, ◌&&◌, ◌||◌, if◌then◌else◌}
+use Rattle.std.proofs.Common.{◌≡◌, zero, suc, Bool, true, false, List, [], ◌∷◌, Option, Some, None, ◌⊎◌, inl, inr, refl, sym, ap, ◌∙◌, arith}
+use Rattle.std.specs.Prelude.{filter, Contains, ◌||◌, if◌then◌else◌}
 use Rattle.std.specs.List.{list_any}
 use Rattle.sdb_types.specs.declared.record.Record.{Record}
 use Rattle.sdb_record.specs.Parts.{before_record}
@@ -11,7 +11,7 @@ use Rattle.sdb_said.specs.Values.{note_of}
 use Rattle.sdb_said.proofs.ShownLaws.{record_is, is_record, kept_is, is_kept_of, keeps_none_is, is_keeps_none}
 use Rattle.sdb_caused.specs.Tests.{same_found}
 use Rattle.sdb_model.specs.Calls as calls
-use Rattle.sdb_said.proofs.Lists.{clash, left, right, both, In, any_some, some_any}
+use Rattle.sdb_said.proofs.Lists.{clash, In}
 use Rattle.sdb_calls.specs.declared.made.Made.{Made}
 use Rattle.sdb_calls.specs.Values.{all_made, all_notes, made_of}
 

@@ -1,12 +1,11 @@
 -- The test of BadRecord is its cause.
-use Rattle.std.proofs.Common.{◌≡◌, ℕ, Bool, true, false, List, [], ◌∷◌, Option, Some, None, refl, sym, ap, ◌∙◌, subst}
+use Rattle.std.proofs.Common.{◌≡◌, ℕ, Bool, true, false, List, refl, sym, ap, ◌∙◌, subst}
 use Rattle.std.specs.Prelude.{Contains, ◌&&◌, MatchBool, is_none, if◌then◌else◌, Result, Ok, Err}
 use Rattle.std.specs.List.{list_any}
 use Rattle.std.specs.Result.{result_ok}
 use Rattle.sdb_types.specs.declared.key.Key.{Key}
 use Rattle.sdb_types.specs.declared.record.Record.{Record}
 use Rattle.sdb_types.specs.declared.record.Reply.{Reply}
-use Rattle.sdb_types.specs.declared.record.Reply.TheVariants as reply
 use Rattle.sdb_record.specs.Coordinator.{decision_in, is_coordinator_table}
 use Rattle.sdb_record.specs.Meta.{checked}
 use Rattle.sdb_model.specs.declared.event.Event.{Event}
@@ -15,7 +14,7 @@ use Rattle.sdb_model.specs.Calls.{calls_of, records_shown}
 use Rattle.sdb_model.specs.Causes.{HasReply, IsBad, IsBadRecord}
 use Rattle.sdb_model.specs.Noted.{same_key}
 use Rattle.sdb_model.specs.Transactions.{Said}
-use Rattle.sdb_said.proofs.Lists.{clash, left, right, both, In, any_some, some_any}
+use Rattle.sdb_said.proofs.Lists.{clash, left, right, both, any_some, some_any}
 use Rattle.sdb_said.proofs.ShownLaws.{key_is, is_key}
 use Rattle.sdb_calls.specs.declared.made.Made.{Made}
 use Rattle.sdb_calls.specs.Values.{all_made, made_of}

@@ -1,5 +1,5 @@
 -- The causes that stand in the text of a statement are told by what it is read as.
-use Rattle.std.proofs.Common.{◌≡◌, ℕ, Bool, true, false, List, [], ◌∷◌, Option, Some, None, ◌⊎◌, inl, inr, refl, sym, ap, ◌∙◌, subst}
+use Rattle.std.proofs.Common.{◌≡◌, ℕ, Bool, true, false, List, [], ◌∷◌, Option, Some, None, inl, inr, refl, sym, ap, ◌∙◌}
 use Rattle.std.specs.Prelude.{◌↔◌, ◌==◌, IsTrue, filter, length, suc, if◌then◌else◌}
 use Rattle.std.specs.Option.{option_map_or}
 use Rattle.std.specs.List.{count_by}
@@ -19,7 +19,7 @@ use Rattle.sdb_model.specs.Calls.{calls_of}
 use Rattle.sdb_calls.specs.declared.made.Made.{Made}
 use Rattle.sdb_calls.specs.Values.{all_made, made_of}
 use Rattle.sdb_said.proofs.ShownLaws.{number_is, is_number, key_is, is_key}
-use Rattle.sdb_said.proofs.Lists.{clash, none_some, some_is}
+use Rattle.sdb_said.proofs.Lists.{clash, some_is}
 use Rattle.sdb_caused.specs.Tests.{Inserts, IsOfCount, IsOfDone, IsOfDuplicate, IsOfRows, IsReading, is_done}
 use Rattle.sdb_caused.proofs.Decided.{never}
 

@@ -1,8 +1,8 @@
 -- Equality of answers and of statements.
-use Rattle.std.proofs.Common.{◌≡◌, ℕ, Bool, true, false, List, [], ◌∷◌, Option, Some, None, refl, sym, ap, ◌∙◌}
+use Rattle.std.proofs.Common.{◌≡◌, true, Option, Some, None, refl, sym, ap, ◌∙◌}
 use Rattle.std.specs.Prelude.{◌&&◌, ◌==◌}
 use Rattle.std.specs.Cmp.{first_so, second_so, unsigned_Decides, signed_Decides}
-use Rattle.std.specs.Cmp.Lexicographic.{pointwise, pointwise_decides}
+use Rattle.std.specs.Cmp.Lexicographic.{pointwise_decides}
 use Rattle.std.specs.Ordering.{int_eq}
 use Rattle.std.specs.Option.{option_eq}
 use Rattle.sdb_types.specs.Exactness.{TellsApart, id_tells, key_tells, maybe_tells, record_tells, values_tell}
@@ -11,7 +11,6 @@ use Rattle.sdb_types.specs.contracts.txid.TxIdPartialEq.TheImpl as id_eq
 use Rattle.sdb_types.specs.contracts.record.RecordPartialEq.TheImpl as record_eq
 use Rattle.sdb_model.specs.declared.answer.Answer.{Answer}
 use Rattle.sdb_model.specs.declared.answer.Answer.TheVariants as answer
-use Rattle.sdb_model.specs.declared.answer.Refusal.{Refusal}
 use Rattle.sdb_model.specs.contracts.answer.AnswerPartialEq.TheImpl as answer_eq
 use Rattle.sdb_model.specs.contracts.answer.RefusalPartialEq.TheImpl as refusal_eq
 use Rattle.sdb_model.specs.Rows.{same_name}

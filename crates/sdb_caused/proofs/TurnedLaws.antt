@@ -1,5 +1,5 @@
 -- What a statement is turned away with is its one answer of that kind.
-use Rattle.std.proofs.Common.{◌≡◌, ◌≢◌, ℕ, ◌+◌, Bool, true, false, List, [], ◌∷◌, Option, Some, None, ◌⊎◌, inl, inr, refl, sym, ap, ◌∙◌, subst}
+use Rattle.std.proofs.Common.{◌≡◌, ℕ, ◌+◌, Bool, true, false, List, [], ◌∷◌, Option, Some, None, inl, inr, refl, sym, ap, ◌∙◌}
 use Rattle.std.specs.Prelude.{◌&&◌, ◌||◌, not, is_some, is_none, ◌==◌, fold, if◌then◌else◌}
 use Rattle.std.specs.List.{list_any, enumerate_from}
 use Rattle.std.specs.Option.{option_map, option_map_or}
@@ -16,13 +16,13 @@ use Rattle.sdb_model.specs.Exec.{table_of}
 use Rattle.sdb_model.specs.Refused.{refusal_of}
 use Rattle.sdb_model.specs.Follows.{has_stopped}
 use Rattle.sdb_model.specs.Transactions.{Said, said, said_after}
-use Rattle.sdb_model.specs.Causes.{IsTurnedAway, NeedsTransaction, SomeClient, is_open, is_open_after, refused, runs_vacuum}
-use Rattle.sdb_said.proofs.Lists.{clash, none_some, some_is, left, right, both, either, or_left, or_right, not_true, true_not, decide, In, any_some, some_any}
-use Rattle.sdb_said.proofs.ShownLaws.{number_is, is_number}
+use Rattle.sdb_model.specs.Causes.{IsTurnedAway, NeedsTransaction, is_open, is_open_after, refused, runs_vacuum}
+use Rattle.sdb_said.proofs.Lists.{clash, none_some, some_is, left, right, both, either, not_true, true_not, decide, In, any_some, some_any}
+use Rattle.sdb_said.proofs.ShownLaws.{number_is}
 use Rattle.sdb_calls.specs.declared.open.Work.{Work}
 use Rattle.sdb_calls.specs.declared.open.Work.TheVariants as work
 use Rattle.sdb_calls.specs.Values.{is_client_doing, is_doing, someone_does, taker}
-use Rattle.sdb_caused.specs.Tests.{IsTurned, begin_turned, inside_turned, refusal_met, turned_by, vacuum_turned}
+use Rattle.sdb_caused.specs.Tests.{IsTurned, inside_turned, refusal_met, turned_by}
 
 ---- clients that take statements
 

@@ -1,4 +1,3 @@
-use Rattle.std.proofs.Common.{◌∙◌}
 use Rattle.sdb_caused.proofs.CausedLaws.{caused_of, of_caused}
 use Rattle.sdb_caused.proofs.Decided.{if_ok}
 use Rattle.sdb_caused.proofs.caused.answers_have_causes.Goals as goal
