@@ -32,7 +32,8 @@ impl Drop for Said {
     }
 }
 
-fn is_prepare(request: &Request, id: TxId) -> bool
+/// Whether a request is a prepare of a transaction.
+pub fn is_prepare(request: &Request, id: TxId) -> bool
     ensures { result ≡ prepares_lem id request.now }
 {
     match request {
@@ -143,20 +144,22 @@ fn is_conflict(answer: &Option<Answer>) -> bool
     matches!(answer, Some(Answer::Conflict(_, _)))
 }
 
-// Whether a statement is read as one of this word.
-fn is_word(alloc: Global, said: &Said, word: Keyword) -> Result<bool, NoMemory>
+/// Whether a statement is read as one of this word.
+pub fn is_word(alloc: Global, said: &Said, word: Keyword) -> Result<bool, NoMemory>
     ensures { IfOk result (λ reads. reads ≡ reads_word_lem word said.now.text) }
 {
     reads_word(alloc, said.text.as_str().as_bytes(), word)
 }
 
-fn begins(alloc: Global, said: &Said) -> Result<bool, NoMemory>
+/// Whether a statement begins a transaction.
+pub fn begins(alloc: Global, said: &Said) -> Result<bool, NoMemory>
     ensures { IfOk result (λ begins. begins ≡ begins_lem (said_of said.now)) }
 {
     Ok(is_word(alloc, said, Keyword::Begin)? && is_done(&said.answer))
 }
 
-fn ends(alloc: Global, said: &Said) -> Result<bool, NoMemory>
+/// Whether a statement ends a transaction that is open.
+pub fn ends(alloc: Global, said: &Said) -> Result<bool, NoMemory>
     ensures { IfOk result (λ ends. ends ≡ ends_lem (said_of said.now)) }
 {
     if is_word(alloc, said, Keyword::Commit)? || is_conflict(&said.answer) {
@@ -165,8 +168,8 @@ fn ends(alloc: Global, said: &Said) -> Result<bool, NoMemory>
     Ok(is_word(alloc, said, Keyword::Rollback)? && is_done(&said.answer))
 }
 
-// The BEGIN of the k-th transaction, k from 1, and the statements after it.
-fn from_begin(alloc: Global, k: u64, said: &[Said]) -> Result<&[Said], NoMemory>
+/// The BEGIN of the k-th transaction, k from 1, and the statements after it.
+pub fn from_begin(alloc: Global, k: u64, said: &[Said]) -> Result<&[Said], NoMemory>
     ensures { IfOk result (λ since. all_said since.now ≡ from_begin_lem k (all_said said.now)) }
 {
     if k == 0 {
@@ -187,7 +190,8 @@ fn from_begin(alloc: Global, k: u64, said: &[Said]) -> Result<&[Said], NoMemory>
     }
 }
 
-fn first_ending(alloc: Global, said: &[Said]) -> Result<Option<&Said>, NoMemory>
+/// The first statement that ends a transaction.
+pub fn first_ending(alloc: Global, said: &[Said]) -> Result<Option<&Said>, NoMemory>
     ensures { IfOk result (λ found. option_map (λ s. said_of s.now) found ≡ find ends_lem (all_said said.now)) }
 {
     let Some((first, rest)) = said.split_first() else {

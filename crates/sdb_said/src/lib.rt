@@ -13,7 +13,8 @@ pub use played::{
     is_past_prepares, is_risked, is_stopped, is_taken, is_told, is_won, owner,
 };
 pub use records::{
-    is_forward, is_held_by, is_kept_in, is_settled, keeps_none, moments, row_of, settles,
-    settles_gone, shown, shows_abort, shows_bad_row, shows_commit,
+    decided, find_text, is_committed, is_forward, is_held_by, is_kept_in, is_settled, keeps_none,
+    kept_writer, moments, row_of, settles, settles_gone, shown, shows_abort, shows_bad_row,
+    shows_commit, writer,
 };
 pub use same::{is_same_key, is_same_record, is_same_request, is_same_span};

@@ -101,7 +101,8 @@ fn is_text(name: &str, text: &str) -> bool
     name.cmp(text).is_eq()
 }
 
-fn find_text<'a>(pairs: &'a [Pair], name: &str) -> Option<&'a Value>
+/// The value of the column of this name.
+pub fn find_text<'a>(pairs: &'a [Pair], name: &str) -> Option<&'a Value>
     ensures { option_copied result ≡ column pairs.now name.now }
 {
     pairs
@@ -125,13 +126,15 @@ fn id_of(value: Option<&Value>) -> Option<TxId>
     }
 }
 
+/// The transaction that wrote a record.
 pub fn writer(rec: &Record) -> Option<TxId>
     ensures { result ≡ id_in rec.now.columns }
 {
     id_of(find_text(rec.columns.pairs(), "tx_id"))
 }
 
-fn kept_writer(columns: &Columns) -> Option<TxId>
+/// The transaction that wrote the record which a before image keeps.
+pub fn kept_writer(columns: &Columns) -> Option<TxId>
     ensures { result ≡ kept_writer_lem columns.now }
 {
     id_of(find_text(columns.pairs(), "before_tx_id"))
@@ -146,7 +149,8 @@ fn is_writer(writer: Option<TxId>, id: TxId) -> bool
     }
 }
 
-fn is_committed(rec: &Record) -> bool
+/// Whether a record is in state 3.
+pub fn is_committed(rec: &Record) -> bool
     ensures { result ≡ is_in Committed rec.now.columns }
 {
     match find_text(rec.columns.pairs(), "tx_state") {
@@ -245,7 +249,8 @@ pub fn is_held_by(rec: &Record, key: &Key, id: TxId) -> bool
     is_held(rec, key) && is_writer(writer(rec), id)
 }
 
-fn decided(alloc: Global, row: &Record) -> Option<Decided>
+/// The decision that a row of the coordinator records, or none where it is not well formed.
+pub fn decided(alloc: Global, row: &Record) -> Option<Decided>
     ensures { result ≡ decided_lem row.now }
 {
     match decision_of(alloc, row) {

@@ -1,0 +1,101 @@
+-- All answers have their causes where those of each client that takes a statement have.
+use Rattle.std.proofs.Common.{◌≡◌, ℕ, Bool, true, false, List, [], ◌∷◌, Option, Some, None, ◌⊎◌, inl, inr, refl, sym, ap, ◌∙◌, subst}
+use Rattle.std.specs.Prelude.{◌↔◌, ◌==◌, ◌||◌, Contains, IfSome, IsTrue}
+use Rattle.std.specs.List.{AllByRecursion}
+use Rattle.std.specs.Option.{option_map_or}
+use Rattle.sdb_schema.specs.declared.table.Table.{Table}
+use Rattle.sdb_model.specs.declared.answer.Answer.{Answer}
+use Rattle.sdb_model.specs.declared.answer.Answer.TheVariants as answer
+use Rattle.sdb_model.specs.declared.event.Event.{Event}
+use Rattle.sdb_model.specs.Causes.{AreCaused, IsTurnedAway, before}
+use Rattle.sdb_model.specs.Transactions.{Said, said}
+use Rattle.sdb_said.proofs.Lists.{clash, none_some, some_is, left, right, both, either, or_right, In}
+use Rattle.sdb_said.proofs.ShownLaws.{number_is, is_number}
+use Rattle.sdb_calls.specs.Values.{taker}
+use Rattle.sdb_caused.specs.Tests.{IsAnsweredWith, IsTurned, IsTurnedIfDue, answered_with, is_no_memory, same_answer, AreTakersWell, IsClientWell, IsWellAnswered}
+use Rattle.sdb_caused.proofs.Finds.{in_contains, contains_in}
+use Rattle.sdb_caused.proofs.SameLaws.{answer_is, is_answer}
+use Rattle.sdb_caused.proofs.TurnedLaws.{taken_by}
+
+by_in : {X : Type 0} (P : X → Type 0) (xs : List X) (x : X) → AllByRecursion P xs → In xs x → P x
+by_in P [] x all i = absurd i
+by_in P (y ∷ ys) x all (inl e) = subst P (sym e) all.0
+by_in P (y ∷ ys) x all (inr i) = by_in P ys x all.1 i
+
+all_in : {X : Type 0} (P : X → Type 0) (xs : List X) → ((x : X) → In xs x → P x) → AllByRecursion P xs
+all_in P [] h = tt
+all_in P (y ∷ ys) h = (h y (inl refl), all_in P ys (λ x i. h x (inr i)))
+
+module _ (catalog : List Table) (events : List Event) where
+  well : (client : ℕ) (s : Said) → AreTakersWell catalog events events → Contains (said client events) s → IsWellAnswered catalog events client s
+  well client s all k =
+      let i = contains_in (said client events) s k in
+      let t = taken_by client events (λ e. subst (λ ss. In ss s) e i) in
+      let w : IsClientWell catalog events client = subst (λ o. IfSome o (IsClientWell catalog events)) t.2 (by_in (λ e. IfSome (taker e) (IsClientWell catalog events)) events t.0 all t.1) in
+      by_in (IsWellAnswered catalog events client) (said client events) s w i
+
+  pub caused_of : AreTakersWell catalog events events → AreCaused catalog events
+  caused_of all = record {
+    caused = λ client s a k e. (well client s all k).0 a e;
+    turned_away = λ client s a k t. (well client s all k).1 a t;
+  }
+
+  pub of_caused : AreCaused catalog events → AreTakersWell catalog events events
+  of_caused c = all_in (λ e. IfSome (taker e) (IsClientWell catalog events)) events (λ e i. by (taker e))
+    where
+      by : (o : Option ℕ) → IfSome o (IsClientWell catalog events)
+      by None = tt
+      by (Some client) = all_in (IsWellAnswered catalog events client) (said client events) (λ s i. (λ a e. c.caused client s a (in_contains (said client events) s i) e, λ a t. c.turned_away client s a (in_contains (said client events) s i) t))
+
+no_memory_is : (a : Answer) → is_no_memory a ≡ true → a ≡ answer.NoMemory
+no_memory_is (answer.Rows rows) h = clash (sym h)
+no_memory_is (answer.Count n) h = clash (sym h)
+no_memory_is answer.Done h = clash (sym h)
+no_memory_is answer.Committed h = clash (sym h)
+no_memory_is (answer.Duplicate key) h = clash (sym h)
+no_memory_is (answer.Busy key id at) h = clash (sym h)
+no_memory_is (answer.Conflict key found) h = clash (sym h)
+no_memory_is (answer.Expired id) h = clash (sym h)
+no_memory_is answer.Faulted h = clash (sym h)
+no_memory_is (answer.Unknown id) h = clash (sym h)
+no_memory_is (answer.BadRecord key) h = clash (sym h)
+no_memory_is (answer.Refused r) h = clash (sym h)
+no_memory_is answer.Vacuuming h = clash (sym h)
+no_memory_is answer.OpenTransactions h = clash (sym h)
+no_memory_is answer.NoMemory h = refl
+
+answered_is : (s : Said) (a : Answer) → answered_with s a ≡ true → IsAnsweredWith s a
+answered_is s a h = (number_is s.answered s.taken (left (s.answered == s.taken) rest h), by s.answer refl (right (s.answered == s.taken) rest h))
+  where
+    rest : Bool
+    rest = option_map_or (λ x. is_no_memory x || same_answer x a) s.answer false
+
+    by : (o : Option Answer) → s.answer ≡ o → option_map_or (λ x. is_no_memory x || same_answer x a) o false ≡ true → (s.answer ≡ Some a) ⊎ (s.answer ≡ Some answer.NoMemory)
+    by None e h = clash (sym h)
+    by (Some x) e h = elim (either (is_no_memory x) (same_answer x a) h) [ inl n ↦ inr (e ∙ ap Some (no_memory_is x n)) | inr k ↦ inl (e ∙ ap Some (answer_is x a k)) ]
+
+is_answered_of : (s : Said) (a : Answer) → IsAnsweredWith s a → answered_with s a ≡ true
+is_answered_of s a (t, w) = both (s.answered == s.taken) (option_map_or (λ x. is_no_memory x || same_answer x a) s.answer false) (is_number s.answered s.taken t) (by w)
+  where
+    by : (s.answer ≡ Some a) ⊎ (s.answer ≡ Some answer.NoMemory) → option_map_or (λ x. is_no_memory x || same_answer x a) s.answer false ≡ true
+    by (inl e) = ap (λ o. option_map_or (λ x. is_no_memory x || same_answer x a) o false) e ∙ or_right (is_no_memory a) (same_answer a a) (is_answer a a refl)
+    by (inr e) = ap (λ o. option_map_or (λ x. is_no_memory x || same_answer x a) o false) e
+
+module _ (catalog : List Table) (events : List Event) (client : ℕ) (s : Said) (o : Option Answer) (turned : IsTurned catalog (before s events) client s.text o) where
+  pub due : (b : Bool) (t : Answer) → o ≡ Some t → b ≡ answered_with s t → IsTrue b ↔ IsTurnedIfDue catalog events client s
+  due b t e f = (
+    λ h a k. subst (IsAnsweredWith s) (some_is t a (sym e ∙ (turned a).0 k)) (answered_is s t (sym f ∙ h)),
+    λ d. f ∙ is_answered_of s t (d t ((turned t).1 e)),
+  )
+
+  pub not_due : o ≡ None → IsTrue true ↔ IsTurnedIfDue catalog events client s
+  not_due e = (λ h a k. none_some (sym e ∙ (turned a).0 k), λ d. refl)
+
+  pub with_answer : (b : Bool) (t a : Answer) → o ≡ Some t → b ≡ same_answer t a → IsTrue b ↔ IsTurnedAway catalog (before s events) client s.text a
+  with_answer b t a e f = (
+    λ h. (turned a).1 (e ∙ ap Some (answer_is t a (sym f ∙ h))),
+    λ k. f ∙ is_answer t a (some_is t a (sym e ∙ (turned a).0 k)),
+  )
+
+  pub without : (a : Answer) → o ≡ None → IsTrue false ↔ IsTurnedAway catalog (before s events) client s.text a
+  without a e = (λ h. clash (sym h), λ k. none_some (sym e ∙ (turned a).0 k))

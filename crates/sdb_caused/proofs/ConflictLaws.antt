@@ -1,0 +1,256 @@
+-- The test of Conflict is its cause.
+use Rattle.std.proofs.Common.{◌≡◌, ℕ, Bool, true, false, List, [], ◌∷◌, Option, Some, None, inl, inr, refl, sym, ap, ◌∙◌, subst}
+use Rattle.std.specs.Prelude.{Contains, ◌&&◌, ◌||◌, not}
+use Rattle.std.specs.List.{list_any}
+use Rattle.std.specs.Option.{option_and_then, option_map_or}
+use Rattle.sdb_types.specs.declared.txid.TxId.{TxId}
+use Rattle.sdb_types.specs.declared.key.Key.{Key}
+use Rattle.sdb_types.specs.declared.pair.Pair.{Pair}
+use Rattle.sdb_types.specs.declared.record.Record.{Record}
+use Rattle.sdb_types.specs.declared.record.Request.{Request}
+use Rattle.sdb_types.specs.declared.record.Request.TheVariants as ask
+use Rattle.sdb_types.specs.declared.record.Reply.{Reply}
+use Rattle.sdb_types.specs.declared.record.Reply.TheVariants as reply
+use Rattle.sdb_types.specs.declared.record.Span.{Span}
+use Rattle.sdb_types.specs.Contents.{in_span}
+use Rattle.sdb_record.specs.declared.access.Scan.{Scan}
+use Rattle.sdb_record.specs.Meta.{id_in}
+use Rattle.sdb_record.specs.Moved.{is_unchanged, same_version, version_of}
+use Rattle.sdb_record.specs.Parts.{before_part, before_record, record_with}
+use Rattle.sdb_model.specs.declared.event.Event.{Event}
+use Rattle.sdb_model.specs.Calls as calls
+use Rattle.sdb_model.specs.Calls.{calls_of, key_asked, put_by, record_among, standing_said}
+use Rattle.sdb_model.specs.Causes.{HasMoved, IsConflict, IsConflictAtCommit, IsConflictAtScan, IsPrepareOver, ShowsAt}
+use Rattle.sdb_model.specs.Noted.{Note, Got, Scanned, noted_in, resolved, same_key, version_among, version_noted}
+use Rattle.sdb_model.specs.Sql.{reads_commit}
+use Rattle.sdb_model.specs.Transactions.{Said, prepares}
+use Rattle.sdb_said.proofs.Lists.{clash, none_some, some_is, left, right, both, either, or_left, or_right, not_true, true_not, In, any_some, some_any}
+use Rattle.sdb_said.proofs.ShownLaws.{key_is, is_key}
+use Rattle.sdb_calls.specs.declared.made.Made.{Made}
+use Rattle.sdb_calls.specs.Values.{all_made, made_of}
+use Rattle.sdb_caused.specs.Tests.{any_id, asks_key, base_put, conflict_at_commit, conflict_at_scan, conflict_of, has_moved, is_commit_of, is_in, is_moved, is_rebased, puts_at, resolves, resolves_by, same_found, scan_differs, scan_shows, scan_shows_by, shows_at, stands_as}
+use Rattle.sdb_caused.proofs.Finds.{in_contains, contains_in, made_contained, contained_made, found_is, is_found}
+use Rattle.sdb_caused.proofs.IdLaws.{commit_is, is_commit, in_is, is_in_of, id_some, commit_found, in_found}
+
+---- what was noted
+
+moved_note : (key : Key) (found : Option Record) (n : Note) → is_moved key found n ≡ true → (version : Option TxId) × (version_noted n key ≡ Some version) × (is_unchanged found version ≡ false)
+moved_note key found n h = by (version_noted n key) refl h
+  where
+    by : (o : Option (Option TxId)) → version_noted n key ≡ o → option_map_or (λ v. not (is_unchanged found v)) o false ≡ true → (version : Option TxId) × (version_noted n key ≡ Some version) × (is_unchanged found version ≡ false)
+    by None e h = clash (sym h)
+    by (Some v) e h = (v, e, not_true (is_unchanged found v) h)
+
+moved_is : (notes : List Note) (key : Key) (found : Option Record) → has_moved notes key found ≡ true → HasMoved notes key found
+moved_is notes key found h =
+    let r = any_some (is_moved key found) notes h in
+    let v = moved_note key found r.0 r.2 in
+    (r.0, v.0, in_contains notes r.0 r.1, v.1, v.2)
+
+is_moved_of : (notes : List Note) (key : Key) (found : Option Record) → HasMoved notes key found → has_moved notes key found ≡ true
+is_moved_of notes key found (note, version, c, e, h) =
+    some_any (is_moved key found) notes note (contains_in notes note c) (ap (λ o. option_map_or (λ v. not (is_unchanged found v)) o false) e ∙ true_not (is_unchanged found version) h)
+
+---- what calls show
+
+asked_is : (o : Option Key) (key : Key) → option_map_or (λ k. same_key k key) o false ≡ true → o ≡ Some key
+asked_is None key h = clash (sym h)
+asked_is (Some k) key h = ap Some (key_is k key h)
+
+is_asked : (o : Option Key) (key : Key) → o ≡ Some key → option_map_or (λ k. same_key k key) o false ≡ true
+is_asked o key e = ap (λ x. option_map_or (λ k. same_key k key) x false) e ∙ is_key key key refl
+
+stands_is : (o : Option (Option Record)) (found : Option Record) → option_map_or (λ x. same_found x found) o false ≡ true → o ≡ Some found
+stands_is None found h = clash (sym h)
+stands_is (Some x) found h = ap Some (found_is x found h)
+
+is_stands : (o : Option (Option Record)) (found : Option Record) → o ≡ Some found → option_map_or (λ x. same_found x found) o false ≡ true
+is_stands o found e = ap (λ y. option_map_or (λ x. same_found x found) y false) e ∙ is_found found found refl
+
+abbrev Scans : (List Record → Option Record) → Request → Reply → Key → Option Record → Type 0
+Scans look q r key found = (span : Span) × (rows : List Record) × (q ≡ ask.Scan span) × (in_span span key ≡ true) × (r ≡ reply.Rows rows) × (found ≡ look rows)
+
+scans_is : (key : Key) (found : Option Record) (q : Request) (r : Reply) → scan_shows_by q r key found ≡ true → Scans (λ rows. record_among rows key) q r key found
+scans_is key found (ask.Scan span) (reply.Rows rows) h =
+    (span, rows, refl, left (in_span span key) (same_found (record_among rows key) found) h, refl, sym (found_is (record_among rows key) found (right (in_span span key) (same_found (record_among rows key) found) h)))
+scans_is key found (ask.Scan span) (reply.Found x) h = clash (sym h)
+scans_is key found (ask.Scan span) reply.Applied h = clash (sym h)
+scans_is key found (ask.Scan span) (reply.NotMet x) h = clash (sym h)
+scans_is key found (ask.Scan span) reply.Fault h = clash (sym h)
+scans_is key found (ask.Scan span) reply.NoMemory h = clash (sym h)
+scans_is key found (ask.Get k) r h = clash (sym h)
+scans_is key found (ask.PutIf rec condition) r h = clash (sym h)
+scans_is key found (ask.DeleteIf k condition) r h = clash (sym h)
+
+is_scans : (key : Key) (found : Option Record) (q : Request) (r : Reply) → Scans (λ rows. record_among rows key) q r key found → scan_shows_by q r key found ≡ true
+is_scans key found q r (span, rows, e, i, f, g) =
+    ap (λ x. scan_shows_by x r key found) e ∙ ap (λ x. scan_shows_by (ask.Scan span) x key found) f
+    ∙ both (in_span span key) (same_found (record_among rows key) found) i (is_found (record_among rows key) found (sym g))
+
+shows_is : (m : Made) (key : Key) (found : Option Record) → shows_at m key found ≡ true → ShowsAt (made_of m) key found
+shows_is m key found h = elim (either (asks_key m key && stands_as m found) (scan_shows m key found) h) [
+  | inl a ↦ inl (asked_is (key_asked m.request) key (left (asks_key m key) (stands_as m found) a), stands_is (standing_said m.reply) found (right (asks_key m key) (stands_as m found) a))
+  | inr b ↦ inr (scans_is key found m.request m.reply b)
+]
+
+is_shows : (m : Made) (key : Key) (found : Option Record) → ShowsAt (made_of m) key found → shows_at m key found ≡ true
+is_shows m key found (inl a) = or_left (asks_key m key && stands_as m found) (scan_shows m key found) (both (asks_key m key) (stands_as m found) (is_asked (key_asked m.request) key a.0) (is_stands (standing_said m.reply) found a.1))
+is_shows m key found (inr b) = or_right (asks_key m key && stands_as m found) (scan_shows m key found) (is_scans key found m.request m.reply b)
+
+---- the base of a prepare
+
+kept_version : (r : Record) → id_in (before_part r.columns) ≡ version_of (before_record r)
+unfolding before_record
+kept_version r = by (before_part r.columns)
+  where
+    by : (ps : List Pair) → id_in ps ≡ version_of (record_with r.key ps)
+    by [] = refl
+    by (p ∷ ps) = refl
+
+abbrev base_in : Request → Option TxId
+base_in q = option_and_then (λ r. id_in (before_part r.columns)) (put_by q)
+
+puts_is : (id : TxId) (key : Key) (q : Request) → prepares id q ≡ true → option_map_or (λ k. same_key k key) (key_asked q) false ≡ true → (r : Record) × (put_by q ≡ Some r) × (r.key ≡ key) × (version_of (before_record r) ≡ base_in q)
+puts_is id key (ask.PutIf rec condition) p h = (rec, refl, key_is rec.key key h, sym (kept_version rec))
+puts_is id key (ask.Get k) p h = clash (sym p)
+puts_is id key (ask.Scan span) p h = clash (sym p)
+puts_is id key (ask.DeleteIf k condition) p h = clash (sym p)
+
+is_puts : (key : Key) (q : Request) (r : Record) → put_by q ≡ Some r → r.key ≡ key → option_map_or (λ k. same_key k key) (key_asked q) false ≡ true
+is_puts key (ask.PutIf rec condition) r e k = is_key rec.key key (ap (λ (x : Record). x.key) (some_is rec r e) ∙ k)
+is_puts key (ask.Get k) r e h = none_some e
+is_puts key (ask.Scan span) r e h = none_some e
+is_puts key (ask.DeleteIf k condition) r e h = none_some e
+
+differs_is : (key : Key) (base : Option TxId) (n : Note) → scan_differs key base n ≡ true → (scan : Scan) × (n ≡ Scanned scan) × (in_span scan.span key ≡ true) × (same_version base (version_among scan.found key) ≡ false)
+differs_is key base (Got read) h = clash (sym h)
+differs_is key base (Scanned scan) h = (scan, refl, left (in_span scan.span key) (not (same_version base (version_among scan.found key))) h, not_true (same_version base (version_among scan.found key)) (right (in_span scan.span key) (not (same_version base (version_among scan.found key))) h))
+
+module _ (events : List Event) (ms : List Made) (client : ℕ) (s : Said) (e : all_made ms ≡ calls_of events client s) (key : Key) (found : Option Record) where
+  contained : (m : Made) → In ms m → Contains (calls_of events client s) (made_of m)
+  contained m i = subst (λ cs. Contains cs (made_of m)) e (made_contained ms m i)
+
+  made : (c : calls.Made) → Contains (calls_of events client s) c → (m : Made) × In ms m × (c ≡ made_of m)
+  made c k = contained_made ms c (subst (λ cs. Contains cs c) (sym e) k)
+
+  abbrev Rebased : List Note → TxId → Type 0
+  Rebased notes id =
+      (prepare : calls.Made) × (base version : Option TxId) × Contains (calls_of events client s) prepare × IsPrepareOver id key base prepare
+      × ((scan : Scan) × Contains notes (Scanned scan) × (in_span scan.span key ≡ true) × (version_among scan.found key ≡ version)) × (same_version base version ≡ false)
+
+  rebased_is : (notes : List Note) (id : TxId) → is_rebased ms notes id key ≡ true → Rebased notes id
+  rebased_is notes id h =
+      let f : Made → Bool = λ p. puts_at id key p && list_any (scan_differs key (base_put p)) notes in
+      let r = any_some f ms h in
+      let p = r.0 in
+      let l = list_any (scan_differs key (base_put p)) notes in
+      let at = left (puts_at id key p) l r.2 in
+      let n = any_some (scan_differs key (base_put p)) notes (right (puts_at id key p) l r.2) in
+      let d = differs_is key (base_put p) n.0 n.2 in
+      let put = puts_is id key p.request (left (prepares id p.request) (asks_key p key) at) (right (prepares id p.request) (asks_key p key) at) in (
+        made_of p,
+        base_put p,
+        version_among d.0.found key,
+        contained p r.1,
+        (put.0, left (prepares id p.request) (asks_key p key) at, put.1, put.2, put.3),
+        (d.0, in_contains notes (Scanned d.0) (subst (λ x. In notes x) d.1 n.1), d.2, refl),
+        d.3,
+      )
+
+  is_rebased_of : (notes : List Note) (id : TxId) → Rebased notes id → is_rebased ms notes id key ≡ true
+  is_rebased_of notes id (prepare, base, version, c, (r, p, put, k, b), (scan, n, i, v), d) =
+      let m = made prepare c in
+      let q : put_by m.0.request ≡ Some r = sym (ap (λ (x : calls.Made). put_by x.request) m.2) ∙ put in
+      let same : base_put m.0 ≡ base = ap (option_and_then (λ (x : Record). id_in (before_part x.columns))) q ∙ kept_version r ∙ b in
+      some_any (λ (x : Made). puts_at id key x && list_any (scan_differs key (base_put x)) notes) ms m.0 m.1
+      (both (puts_at id key m.0) (list_any (scan_differs key (base_put m.0)) notes)
+      (both (prepares id m.0.request) (asks_key m.0 key) (sym (ap (λ (x : calls.Made). prepares id x.request) m.2) ∙ p) (is_puts key m.0.request r q k))
+      (some_any (scan_differs key (base_put m.0)) notes (Scanned scan) (contains_in notes (Scanned scan) n)
+      (both (in_span scan.span key) (not (same_version (base_put m.0) (version_among scan.found key))) i (true_not (same_version (base_put m.0) (version_among scan.found key)) (ap (λ x. same_version x (version_among scan.found key)) same ∙ ap (same_version base) v ∙ d)))))
+
+  at_commit : (id : TxId) → conflict_at_commit ms (noted_in events id) id key found ≡ true → IsConflictAtCommit events client s id key found
+  at_commit id h =
+      let notes = noted_in events id in
+      let l = list_any (λ (m : Made). shows_at m key found) ms in
+      let r = any_some (λ (m : Made). shows_at m key found) ms (left l (has_moved notes key found || is_rebased ms notes id key) h) in (
+        made_of r.0,
+        contained r.0 r.1,
+        shows_is r.0 key found r.2,
+        elim (either (has_moved notes key found) (is_rebased ms notes id key) (right l (has_moved notes key found || is_rebased ms notes id key) h)) [
+          | inl a ↦ inl (moved_is notes key found a)
+          | inr b ↦ inr (rebased_is notes id b)
+        ],
+      )
+
+  is_at_commit : (id : TxId) → IsConflictAtCommit events client s id key found → conflict_at_commit ms (noted_in events id) id key found ≡ true
+  is_at_commit id (c, k, shows, why) =
+      let notes = noted_in events id in
+      let m = made c k in
+      both (list_any (λ (x : Made). shows_at x key found) ms) (has_moved notes key found || is_rebased ms notes id key)
+      (some_any (λ (x : Made). shows_at x key found) ms m.0 m.1 (is_shows m.0 key found (subst (λ y. ShowsAt y key found) m.2 shows)))
+      (elim why [
+        | inl a ↦ or_left (has_moved notes key found) (is_rebased ms notes id key) (is_moved_of notes key found a)
+        | inr b ↦ or_right (has_moved notes key found) (is_rebased ms notes id key) (is_rebased_of notes id b)
+      ])
+
+  abbrev look : List calls.Made → List Record → Option Record
+  look cs rows = option_and_then (resolved cs) (record_among rows key)
+
+  resolves_is : (q : Request) (r : Reply) → resolves_by ms key found q r ≡ true → Scans (look (all_made ms)) q r key found
+  resolves_is (ask.Scan span) (reply.Rows rows) h =
+      (span, rows, refl, left (in_span span key) (same_found (look (all_made ms) rows) found) h, refl, sym (found_is (look (all_made ms) rows) found (right (in_span span key) (same_found (look (all_made ms) rows) found) h)))
+  resolves_is (ask.Scan span) (reply.Found x) h = clash (sym h)
+  resolves_is (ask.Scan span) reply.Applied h = clash (sym h)
+  resolves_is (ask.Scan span) (reply.NotMet x) h = clash (sym h)
+  resolves_is (ask.Scan span) reply.Fault h = clash (sym h)
+  resolves_is (ask.Scan span) reply.NoMemory h = clash (sym h)
+  resolves_is (ask.Get k) r h = clash (sym h)
+  resolves_is (ask.PutIf rec condition) r h = clash (sym h)
+  resolves_is (ask.DeleteIf k condition) r h = clash (sym h)
+
+  is_resolves : (q : Request) (r : Reply) → Scans (look (all_made ms)) q r key found → resolves_by ms key found q r ≡ true
+  is_resolves q r (span, rows, a, i, b, g) =
+      ap (λ x. resolves_by ms key found x r) a ∙ ap (λ x. resolves_by ms key found (ask.Scan span) x) b
+      ∙ both (in_span span key) (same_found (look (all_made ms) rows) found) i (is_found (look (all_made ms) rows) found (sym g))
+
+  at_scan : (id : TxId) → conflict_at_scan ms (noted_in events id) key found ≡ true → IsConflictAtScan events client s id key found
+  at_scan id h =
+      let notes = noted_in events id in
+      let r = any_some (resolves ms key found) ms (right (has_moved notes key found) (list_any (resolves ms key found) ms) h) in
+      let x = resolves_is r.0.request r.0.reply r.2 in
+      (made_of r.0, x.0, x.1, contained r.0 r.1, x.2, x.4, x.3, subst (λ cs. found ≡ look cs x.1) e x.5, moved_is notes key found (left (has_moved notes key found) (list_any (resolves ms key found) ms) h))
+
+  is_at_scan : (id : TxId) → IsConflictAtScan events client s id key found → conflict_at_scan ms (noted_in events id) key found ≡ true
+  is_at_scan id (c, span, rows, k, q, r, i, g, moved) =
+      let notes = noted_in events id in
+      let m = made c k in
+      both (has_moved notes key found) (list_any (resolves ms key found) ms) (is_moved_of notes key found moved)
+      (some_any (resolves ms key found) ms m.0 m.1 (is_resolves m.0.request m.0.reply (span, rows, sym (ap (λ (x : calls.Made). x.request) m.2) ∙ q, i, sym (ap (λ (x : calls.Made). x.reply) m.2) ∙ r, subst (λ cs. found ≡ look cs rows) (sym e) g)))
+
+  pub conflict_is : any_id events client (conflict_of events client s ms key found) ≡ true → IsConflict events client s key found
+  conflict_is h =
+      let r = id_some events client (conflict_of events client s ms key found) h in
+      let id = r.0 in
+      let a = is_commit_of events client s id in
+      let b = conflict_at_commit ms (noted_in events id) id key found in
+      let c = is_in events client s id in
+      let d = conflict_at_scan ms (noted_in events id) key found in
+      let n = not (reads_commit s.text) in (
+        id,
+        elim (either (a && b) (n && (c && d)) r.1) [
+          | inl x ↦ inl (commit_is events client s id (left a b x), at_commit id (right a b x))
+          | inr y ↦ inr (in_is events client s id (left c d (right n (c && d) y)), not_true (reads_commit s.text) (left n (c && d) y), at_scan id (right c d (right n (c && d) y)))
+        ],
+      )
+
+  pub is_conflict_of : IsConflict events client s key found → any_id events client (conflict_of events client s ms key found) ≡ true
+  is_conflict_of (id, inl (c, x)) =
+      let a = is_commit_of events client s id in
+      let b = conflict_at_commit ms (noted_in events id) id key found in
+      commit_found events client s (conflict_of events client s ms key found) id c
+      (or_left (a && b) (not (reads_commit s.text) && (is_in events client s id && conflict_at_scan ms (noted_in events id) key found)) (both a b (is_commit events client s id c) (is_at_commit id x)))
+  is_conflict_of (id, inr (i, n, x)) =
+      let c = is_in events client s id in
+      let d = conflict_at_scan ms (noted_in events id) key found in
+      in_found events client s (conflict_of events client s ms key found) id i
+      (or_right (is_commit_of events client s id && conflict_at_commit ms (noted_in events id) id key found) (not (reads_commit s.text) && (c && d)) (both (not (reads_commit s.text)) (c && d) (true_not (reads_commit s.text) n) (both c d (is_in_of events client s id i) (is_at_scan id x))))

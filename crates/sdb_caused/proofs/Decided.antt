@@ -1,0 +1,73 @@
+-- Each test decides its cause.
+use Rattle.std.proofs.Common.{◌≡◌, ℕ, suc, ℤ, Bool, true, false, List, [], ◌∷◌, length, Option, refl, sym, ap, ◌∙◌}
+use Rattle.std.specs.Prelude.{◌↔◌, IfOk, IsTrue, Result, Ok, Err}
+use Rattle.std.specs.List.{list_any}
+use Rattle.sdb_types.specs.declared.txid.TxId.{TxId}
+use Rattle.sdb_types.specs.declared.key.Key.{Key}
+use Rattle.sdb_types.specs.declared.record.Record.{Record}
+use Rattle.sdb_types.specs.declared.record.Reply.{Reply}
+use Rattle.sdb_record.specs.Coordinator.{coordinator_key_of}
+use Rattle.sdb_model.specs.declared.event.Event.{Event}
+use Rattle.sdb_model.specs.Calls.{calls_of}
+use Rattle.sdb_model.specs.Causes.{HasReply, IsBadRecord, IsBusy, IsConflict, IsExpired, IsOfCommit, IsUnknown}
+use Rattle.sdb_model.specs.Transactions.{Said, id_of, said}
+use Rattle.sdb_plain.specs.declared.points.Said.{Said as Plain}
+use Rattle.sdb_plain.specs.Points.{all_said}
+use Rattle.sdb_said.proofs.Lists.{clash}
+use Rattle.sdb_calls.specs.declared.made.Made.{Made}
+use Rattle.sdb_calls.specs.Values.{all_made}
+use Rattle.sdb_caused.specs.Tests.{any_upto, busy_among, conflict_of, expired_among, is_commit_of, shows_bad, unknown_among}
+use Rattle.sdb_caused.proofs.BusyLaws.{busy_is, is_busy_of}
+use Rattle.sdb_caused.proofs.CommitLaws.{expired_is, is_expired_of, unknown_is, is_unknown_of}
+use Rattle.sdb_caused.proofs.ConflictLaws.{conflict_is, is_conflict_of}
+use Rattle.sdb_caused.proofs.IdLaws.{commit_is, is_commit, of_commit_is, is_of_commit}
+use Rattle.sdb_caused.proofs.PlainLaws.{bad_record_is, is_bad_record, reply_is, is_reply}
+
+pub decide_by : {P : Type 0} (b t : Bool) → b ≡ t → (t ≡ true → P) → (P → t ≡ true) → IsTrue b ↔ P
+decide_by b t e f g = (λ h. f (sym e ∙ h), λ p. e ∙ g p)
+
+pub if_ok : {T E : Type 0} {P Q : T → Type 0} (r : Result T E) → ((b : T) → P b → Q b) → IfOk r P → IfOk r Q
+if_ok (Ok b) f h = f b h
+if_ok (Err e) f h = tt
+
+pub count_said : (all : List Plain) (ss : List Said) → all_said all ≡ ss → length all ≡ length ss
+count_said all ss e = counted all ∙ ap length e
+  where
+    counted : (xs : List Plain) → length xs ≡ length (all_said xs)
+    counted [] = refl
+    counted (x ∷ xs) = ap suc (counted xs)
+
+pub never : {P : Type 0} → (P → false ≡ true) → IsTrue false ↔ P
+never g = (λ h. clash (sym h), g)
+
+module _ (events : List Event) (client : ℕ) (s : Said) where
+  pub busy : (b : Bool) (ms : List Made) (key row : Key) (id : TxId) (at : ℤ) → all_made ms ≡ calls_of events client s → row ≡ coordinator_key_of id → b ≡ busy_among events ms key id row at → IsTrue b ↔ IsBusy events client s key id at
+  busy b ms key row id at e r f =
+      decide_by b (busy_among events ms key id (coordinator_key_of id) at) (f ∙ ap (λ x. busy_among events ms key id x at) r) (busy_is events ms id at client s key e) (is_busy_of events ms id at client s key e)
+
+  pub conflict : (b : Bool) (ms : List Made) (key : Key) (found : Option Record) (n : ℕ) → all_made ms ≡ calls_of events client s → n ≡ length (said client events) → b ≡ any_upto (λ k. conflict_of events client s ms key found (id_of client k)) n → IsTrue b ↔ IsConflict events client s key found
+  conflict b ms key found n e l f =
+      decide_by b (any_upto (λ k. conflict_of events client s ms key found (id_of client k)) (length (said client events))) (f ∙ ap (any_upto (λ k. conflict_of events client s ms key found (id_of client k))) l) (conflict_is events ms client s e key found) (is_conflict_of events ms client s e key found)
+
+  pub of_commit : (b : Bool) (n : ℕ) → n ≡ length (said client events) → b ≡ any_upto (λ k. is_commit_of events client s (id_of client k)) n → IsTrue b ↔ IsOfCommit events client s
+  of_commit b n l f = decide_by b (any_upto (λ k. is_commit_of events client s (id_of client k)) (length (said client events))) (f ∙ ap (any_upto (λ k. is_commit_of events client s (id_of client k))) l) (of_commit_is events client s) (is_of_commit events client s)
+
+  pub expired : (b c : Bool) (ms : List Made) (row : Key) (id : TxId) → all_made ms ≡ calls_of events client s → row ≡ coordinator_key_of id → c ≡ is_commit_of events client s id → c ≡ true → b ≡ expired_among ms row → IsTrue b ↔ IsExpired events client s id
+  expired b c ms row id e r k t f =
+      decide_by b (expired_among ms (coordinator_key_of id)) (f ∙ ap (expired_among ms) r) (expired_is events ms id client s e (commit_is events client s id (sym k ∙ t))) (is_expired_of events ms id client s e)
+
+  pub not_expired : (c : Bool) (id : TxId) → c ≡ is_commit_of events client s id → c ≡ false → IsTrue false ↔ IsExpired events client s id
+  not_expired c id k t = never (λ x. sym (sym (is_commit events client s id x.commit) ∙ sym k ∙ t))
+
+  pub unknown : (b c : Bool) (ms : List Made) (row : Key) (id : TxId) → all_made ms ≡ calls_of events client s → row ≡ coordinator_key_of id → c ≡ is_commit_of events client s id → c ≡ true → b ≡ unknown_among ms row → IsTrue b ↔ IsUnknown events client s id
+  unknown b c ms row id e r k t f =
+      decide_by b (unknown_among ms (coordinator_key_of id)) (f ∙ ap (unknown_among ms) r) (unknown_is events ms id client s e (commit_is events client s id (sym k ∙ t))) (is_unknown_of events ms id client s e)
+
+  pub not_unknown : (c : Bool) (id : TxId) → c ≡ is_commit_of events client s id → c ≡ false → IsTrue false ↔ IsUnknown events client s id
+  not_unknown c id k t = never (λ x. sym (sym (is_commit events client s id x.commit) ∙ sym k ∙ t))
+
+  pub bad_record : (b : Bool) (ms : List Made) (key : Key) → all_made ms ≡ calls_of events client s → b ≡ list_any (λ (m : Made). shows_bad key m.reply) ms → IsTrue b ↔ IsBadRecord events client s key
+  bad_record b ms key e f = decide_by b (list_any (λ (m : Made). shows_bad key m.reply) ms) f (bad_record_is events ms client s e key) (is_bad_record events ms client s e key)
+
+  pub replied : (b : Bool) (ms : List Made) (is : Reply → Bool) → all_made ms ≡ calls_of events client s → b ≡ list_any (λ (m : Made). is m.reply) ms → IsTrue b ↔ HasReply is (calls_of events client s)
+  replied b ms is e f = decide_by b (list_any (λ (m : Made). is m.reply) ms) f (reply_is events ms client s e is) (is_reply events ms client s e is)

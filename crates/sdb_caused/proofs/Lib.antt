@@ -1,0 +1,11 @@
+pub mod Finds
+pub mod BusyLaws
+pub mod SameLaws
+pub mod IdLaws
+pub mod CommitLaws
+pub mod ConflictLaws
+pub mod PlainLaws
+pub mod TurnedLaws
+pub mod CausedLaws
+pub mod Decided
+pub mod ReadLaws

@@ -1,0 +1,68 @@
+-- The test of BadRecord is its cause.
+use Rattle.std.proofs.Common.{◌≡◌, ℕ, Bool, true, false, List, refl, sym, ap, ◌∙◌, subst}
+use Rattle.std.specs.Prelude.{Contains, ◌&&◌, MatchBool, is_none, if◌then◌else◌, Result, Ok, Err}
+use Rattle.std.specs.List.{list_any}
+use Rattle.std.specs.Result.{result_ok}
+use Rattle.sdb_types.specs.declared.key.Key.{Key}
+use Rattle.sdb_types.specs.declared.record.Record.{Record}
+use Rattle.sdb_types.specs.declared.record.Reply.{Reply}
+use Rattle.sdb_record.specs.Coordinator.{decision_in, is_coordinator_table}
+use Rattle.sdb_record.specs.Meta.{checked}
+use Rattle.sdb_model.specs.declared.event.Event.{Event}
+use Rattle.sdb_model.specs.Calls as calls
+use Rattle.sdb_model.specs.Calls.{calls_of, records_shown}
+use Rattle.sdb_model.specs.Causes.{HasReply, IsBad, IsBadRecord}
+use Rattle.sdb_model.specs.Noted.{same_key}
+use Rattle.sdb_model.specs.Transactions.{Said}
+use Rattle.sdb_said.proofs.Lists.{clash, left, right, both, any_some, some_any}
+use Rattle.sdb_said.proofs.ShownLaws.{key_is, is_key}
+use Rattle.sdb_calls.specs.declared.made.Made.{Made}
+use Rattle.sdb_calls.specs.Values.{all_made, made_of}
+use Rattle.sdb_caused.specs.Tests.{is_bad, shows_bad}
+use Rattle.sdb_caused.proofs.Finds.{in_contains, contains_in, made_contained, contained_made}
+
+err_is : {A : Type 0} (x : Result A (List ℕ)) → is_none (result_ok x) ≡ true → (name : List ℕ) × (x ≡ Err name)
+err_is (Ok a) h = clash (sym h)
+err_is (Err name) h = (name, refl)
+
+is_err : {A : Type 0} (x : Result A (List ℕ)) (name : List ℕ) → x ≡ Err name → is_none (result_ok x) ≡ true
+is_err x name e = ap (λ y. is_none (result_ok y)) e
+
+bad_is : (r : Record) → is_bad r ≡ true → IsBad r
+bad_is r h = by (is_coordinator_table r.key.table) h
+  where
+    by : (b : Bool) → (if b then is_none (result_ok (decision_in r)) else is_none (result_ok (checked r.columns))) ≡ true → (name : List ℕ) × MatchBool b (decision_in r ≡ Err name) (checked r.columns ≡ Err name)
+    by true h = err_is (decision_in r) h
+    by false h = err_is (checked r.columns) h
+
+is_bad_of : (r : Record) → IsBad r → is_bad r ≡ true
+is_bad_of r (name, m) = by (is_coordinator_table r.key.table) m
+  where
+    by : (b : Bool) → MatchBool b (decision_in r ≡ Err name) (checked r.columns ≡ Err name) → (if b then is_none (result_ok (decision_in r)) else is_none (result_ok (checked r.columns))) ≡ true
+    by true e = is_err (decision_in r) name e
+    by false e = is_err (checked r.columns) name e
+
+module _ (events : List Event) (ms : List Made) (client : ℕ) (s : Said) (e : all_made ms ≡ calls_of events client s) where
+  pub bad_record_is : (key : Key) → list_any (λ (m : Made). shows_bad key m.reply) ms ≡ true → IsBadRecord events client s key
+  bad_record_is key h =
+      let f : Record → Bool = λ x. same_key x.key key && is_bad x in
+      let m = any_some (λ (x : Made). shows_bad key x.reply) ms h in
+      let r = any_some f (records_shown m.0.reply) m.2 in
+      (made_of m.0, r.0, subst (λ cs. Contains cs (made_of m.0)) e (made_contained ms m.0 m.1), in_contains (records_shown m.0.reply) r.0 r.1, key_is r.0.key key (left (same_key r.0.key key) (is_bad r.0) r.2), bad_is r.0 (right (same_key r.0.key key) (is_bad r.0) r.2))
+
+  pub is_bad_record : (key : Key) → IsBadRecord events client s key → list_any (λ (m : Made). shows_bad key m.reply) ms ≡ true
+  is_bad_record key (c, r, k, shown, at, bad) =
+      let m = contained_made ms c (subst (λ cs. Contains cs c) (sym e) k) in
+      some_any (λ (x : Made). shows_bad key x.reply) ms m.0 m.1
+      (some_any (λ x. same_key x.key key && is_bad x) (records_shown m.0.reply) r (contains_in (records_shown m.0.reply) r (subst (λ (x : calls.Made). Contains (records_shown x.reply) r) m.2 shown))
+      (both (same_key r.key key) (is_bad r) (is_key r.key key at) (is_bad_of r bad)))
+
+  pub reply_is : (is : Reply → Bool) → list_any (λ (m : Made). is m.reply) ms ≡ true → HasReply is (calls_of events client s)
+  reply_is is h =
+      let m = any_some (λ (x : Made). is x.reply) ms h in
+      (made_of m.0, subst (λ cs. Contains cs (made_of m.0)) e (made_contained ms m.0 m.1), m.2)
+
+  pub is_reply : (is : Reply → Bool) → HasReply is (calls_of events client s) → list_any (λ (m : Made). is m.reply) ms ≡ true
+  is_reply is (c, k, h) =
+      let m = contained_made ms c (subst (λ cs. Contains cs c) (sym e) k) in
+      some_any (λ (x : Made). is x.reply) ms m.0 m.1 (sym (ap (λ (x : calls.Made). is x.reply) m.2) ∙ h)

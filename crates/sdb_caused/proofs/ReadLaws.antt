@@ -1,0 +1,105 @@
+-- The causes that stand in the text of a statement are told by what it is read as.
+use Rattle.std.proofs.Common.{◌≡◌, ℕ, Bool, true, false, List, [], ◌∷◌, Option, Some, None, inl, inr, refl, sym, ap, ◌∙◌}
+use Rattle.std.specs.Prelude.{◌↔◌, ◌==◌, IsTrue, filter, length, suc, if◌then◌else◌}
+use Rattle.std.specs.Option.{option_map_or}
+use Rattle.std.specs.List.{count_by}
+use Rattle.std.proofs.lemmas.List.Sums.{length-filter}
+use Rattle.sdb_model.specs.declared.statement.Insert.{Insert}
+use Rattle.sdb_model.specs.Exec.{find_table, key_of}
+use Rattle.sdb_model.specs.Noted.{same_key}
+use Rattle.sdb_schema.specs.declared.table.Table.{Table}
+use Rattle.sdb_model.specs.declared.event.Event.{Event}
+use Rattle.sdb_model.specs.declared.statement.Statement.{Statement}
+use Rattle.sdb_model.specs.declared.statement.Statement.TheVariants as statement
+use Rattle.sdb_model.specs.Sql.{Reads, reads_vacuum}
+use Rattle.sdb_model.specs.Causes.{IsCounted, before, counts, is_open, is_select, removes}
+use Rattle.sdb_model.specs.Transactions.{Said}
+use Rattle.sdb_types.specs.declared.key.Key.{Key}
+use Rattle.sdb_model.specs.Calls.{calls_of}
+use Rattle.sdb_calls.specs.declared.made.Made.{Made}
+use Rattle.sdb_calls.specs.Values.{all_made, made_of}
+use Rattle.sdb_said.proofs.ShownLaws.{number_is, is_number, key_is, is_key}
+use Rattle.sdb_said.proofs.Lists.{clash, some_is}
+use Rattle.sdb_caused.specs.Tests.{Inserts, IsOfCount, IsOfDone, IsOfDuplicate, IsOfRows, IsReading, is_done}
+use Rattle.sdb_caused.proofs.Decided.{never}
+
+module _ (s : Said) (o : Option Statement) (reading : IsReading s.text o) where
+  read : (st : Statement) → Reads s.text st → o ≡ Some st
+  read st r = (reading st).0 r
+
+  passed : (f : Statement → Bool) → option_map_or f o false ≡ true → (st : Statement) × Reads s.text st × (f st ≡ true)
+  passed f h = by o refl h
+    where
+      by : (x : Option Statement) → o ≡ x → option_map_or f x false ≡ true → (st : Statement) × Reads s.text st × (f st ≡ true)
+      by None e h = clash (sym h)
+      by (Some st) e h = (st, (reading st).1 e, h)
+
+  failed : (f : Statement → Bool) (st : Statement) → option_map_or f o false ≡ false → Reads s.text st → f st ≡ true → false ≡ true
+  failed f st n r h = sym n ∙ ap (λ x. option_map_or f x false) (read st r) ∙ h
+
+  done_is : (st : Statement) → is_done st ≡ true → Reads s.text st → IsOfDone s
+  done_is statement.Begin h r = inl r
+  done_is statement.Rollback h r = inr r
+  done_is statement.Commit h r = clash (sym h)
+  done_is statement.Vacuum h r = clash (sym h)
+  done_is (statement.Insert i) h r = clash (sym h)
+  done_is (statement.Upsert i) h r = clash (sym h)
+  done_is (statement.Update u) h r = clash (sym h)
+  done_is (statement.Delete d) h r = clash (sym h)
+  done_is (statement.Select x) h r = clash (sym h)
+
+  is_done_of : IsOfDone s → option_map_or is_done o false ≡ true
+  is_done_of (inl r) = ap (λ x. option_map_or is_done x false) (read statement.Begin r)
+  is_done_of (inr r) = ap (λ x. option_map_or is_done x false) (read statement.Rollback r)
+
+  pub of_done : (b : Bool) → b ≡ option_map_or is_done o false → IsTrue b ↔ IsOfDone s
+  of_done b e = (λ h. let r = passed is_done (sym e ∙ h) in done_is r.0 r.2 r.1, λ d. e ∙ is_done_of d)
+
+  pub of_duplicate : (catalog : List Table) (key : Key) (b : Bool) → IsTrue b ↔ Inserts catalog o key → IsTrue b ↔ IsOfDuplicate catalog s key
+  of_duplicate catalog key b e = (
+    λ h. let x = e.0 h in (x.0, x.1, (reading (statement.Insert x.1)).1 x.2, x.3, x.4),
+    λ (t, i, r, f, k). e.1 (t, i, read (statement.Insert i) r, f, k),
+  )
+
+module _ (events : List Event) (client : ℕ) (s : Said) (o : Option Statement) (reading : IsReading s.text o) where
+  pub of_rows : (b : Bool) → option_map_or is_select o false ≡ true → b ≡ is_open (before s events) client → IsTrue b ↔ IsOfRows events client s
+  of_rows b p e = (λ h. let r = passed s o reading is_select p in (r.0, r.1, r.2, sym e ∙ h), λ (st, r, f, k). e ∙ k)
+
+  pub not_rows : option_map_or is_select o false ≡ false → IsTrue false ↔ IsOfRows events client s
+  not_rows n = never (λ (st, r, f, k). failed s o reading is_select st n r f)
+
+  pub of_count : (b : Bool) (n : ℕ) → option_map_or counts o false ≡ true → IsTrue b ↔ IsCounted events client s n → IsTrue b ↔ IsOfCount events client s n
+  of_count b n p e = (λ h. let r = passed s o reading counts p in (r.0, r.1, r.2, e.0 h), λ (st, r, f, k). e.1 k)
+
+  pub not_count : (n : ℕ) → option_map_or counts o false ≡ false → IsTrue false ↔ IsOfCount events client s n
+  not_count n m = never (λ (st, r, f, k). failed s o reading counts st m r f)
+
+removed_by : (ms : List Made) → length (filter (λ m. removes (made_of m)) ms) ≡ length (filter removes (all_made ms))
+removed_by [] = refl
+removed_by (m ∷ ms) = by (removes (made_of m)) (removed_by ms)
+  where
+    by : (b : Bool) → length (filter (λ m. removes (made_of m)) ms) ≡ length (filter removes (all_made ms)) → length (if b then m ∷ filter (λ m. removes (made_of m)) ms else filter (λ m. removes (made_of m)) ms) ≡ length (if b then made_of m ∷ filter removes (all_made ms) else filter removes (all_made ms))
+    by true more = ap suc more
+    by false more = more
+
+removed_are : (ms : List Made) → length (filter (λ m. removes (made_of m)) ms) ≡ count_by removes (all_made ms)
+removed_are ms = removed_by ms ∙ length-filter removes (all_made ms)
+
+pub counted : (events : List Event) (client : ℕ) (s : Said) (b : Bool) (ms : List Made) (n : ℕ) → all_made ms ≡ calls_of events client s → reads_vacuum s.text ≡ true → b ≡ (n == length (filter (λ m. removes (made_of m)) ms)) → IsTrue b ↔ IsCounted events client s n
+counted events client s b ms n e v f = (
+  λ h w. number_is n (length (filter (λ m. removes (made_of m)) ms)) (sym f ∙ h) ∙ removed_are ms ∙ ap (count_by removes) e,
+  λ k. f ∙ is_number n (length (filter (λ m. removes (made_of m)) ms)) (k v ∙ sym (ap (count_by removes) e) ∙ sym (removed_are ms)),
+)
+
+pub inserts_is : (catalog : List Table) (o : Option Statement) (key : Key) (t : Table) (i : Insert) (b : Bool) → o ≡ Some (statement.Insert i) → find_table catalog i.table ≡ Some t → b ≡ same_key (key_of t i) key → IsTrue b ↔ Inserts catalog o key
+inserts_is catalog o key t i b e f g = (
+  λ h. (t, i, e, f, key_is (key_of t i) key (sym g ∙ h)),
+  λ (u, j, d, k, at). g ∙ is_key (key_of t i) key (
+      let same : i ≡ j = insert_is i j (some_is (statement.Insert i) (statement.Insert j) (sym e ∙ d)) in
+      let table : t ≡ u = some_is t u (sym f ∙ ap (λ (x : Insert). find_table catalog x.table) same ∙ k) in
+      ap (λ (x : Table). key_of x i) table ∙ ap (key_of u) same ∙ at
+      ),
+)
+  where
+    insert_is : (x y : Insert) → statement.Insert x ≡ statement.Insert y → x ≡ y
+    insert_is x y h = cc

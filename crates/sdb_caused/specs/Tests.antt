@@ -1,0 +1,304 @@
+-- Tests that hold exactly where the definitions of causes do: what there is to be found is looked for among the calls.
+use Rattle.std.specs.Prelude.{◌≡◌, ◌⊎◌, ◌↔◌, ℕ, zero, suc, ℤ, Bool, true, false, not, ◌&&◌, ◌||◌, ◌==◌, nat_lt, if◌then◌else◌, List, length, Option, Some, None, is_none, codes, IfSome}
+use Rattle.std.specs.Option.{option_and_then, option_map, option_map_or}
+use Rattle.std.specs.Ordering.{int_eq}
+use Rattle.std.specs.List.{AllByRecursion, list_any}
+use Rattle.std.specs.Result.{result_ok}
+use Rattle.sdb_types.specs.declared.txid.TxId.{TxId}
+use Rattle.sdb_types.specs.declared.key.Key.{Key}
+use Rattle.sdb_types.specs.declared.record.Record.{Record}
+use Rattle.sdb_types.specs.declared.record.Request.{Request}
+use Rattle.sdb_types.specs.declared.record.Request.TheVariants as ask
+use Rattle.sdb_types.specs.declared.record.Reply.{Reply}
+use Rattle.sdb_types.specs.declared.record.Reply.TheVariants as reply
+use Rattle.sdb_types.specs.Contents.{in_span}
+use Rattle.sdb_schema.specs.declared.table.Table.{Table}
+use Rattle.sdb_record.specs.declared.coordinator.Decided.{Decided}
+use Rattle.sdb_record.specs.declared.coordinator.Decision.{Decision}
+use Rattle.sdb_record.specs.declared.coordinator.Decision.TheVariants as decision
+use Rattle.sdb_record.specs.Coordinator.{decision_in, is_coordinator_table, is_expired}
+use Rattle.sdb_record.specs.Meta.{checked, id_in, is_unresolved, moment_in}
+use Rattle.sdb_record.specs.Moved.{is_unchanged, same_version}
+use Rattle.sdb_record.specs.Parts.{before_part}
+use Rattle.sdb_model.specs.declared.answer.Answer.{Answer}
+use Rattle.sdb_model.specs.declared.answer.Answer.TheVariants as answer
+use Rattle.sdb_model.specs.declared.answer.Refusal.{Refusal}
+use Rattle.sdb_model.specs.contracts.answer.AnswerPartialEq.TheImpl as answer_eq
+use Rattle.sdb_model.specs.declared.event.Event.{Event}
+use Rattle.sdb_model.specs.declared.statement.Insert.{Insert}
+use Rattle.sdb_model.specs.declared.statement.Statement.{Statement}
+use Rattle.sdb_model.specs.declared.statement.Statement.TheVariants as statement
+use Rattle.sdb_model.specs.Sql.{Reads, Refuses, reads_commit}
+use Rattle.sdb_model.specs.Exec.{find_table, key_of}
+use Rattle.sdb_model.specs.Refused.{refusal_of}
+use Rattle.sdb_model.specs.Rows.{same_name}
+use Rattle.sdb_model.specs.Transactions.{Said, client_of, commit_of, id_of, prepares, said, statements_of}
+use Rattle.sdb_model.specs.Calls.{clock_at, is_read, key_asked, put_by, record_among, records_read, records_shown, standing_said}
+use Rattle.sdb_model.specs.Noted.{Note, Got, Scanned, noted_in, resolved, same_key, version_among, version_noted}
+use Rattle.sdb_model.specs.Causes.{IsCaused, IsCounted, IsTurnedAway, before, counts, is_open, is_select, refused}
+use Rattle.sdb_said.specs.Values.{same_record}
+use Rattle.sdb_calls.specs.declared.made.Made.{Made}
+use Rattle.sdb_calls.specs.declared.open.Work.TheVariants as work
+use Rattle.sdb_calls.specs.Values.{all_made, asks_row, decision_found_at, someone_does, taker}
+
+---- equality
+
+unfoldable pub same_answer : Answer → Answer → Bool
+same_answer a b = (answer_eq.ghosts).eq a b
+
+abbrev pub answered_alike : Option Answer → Option Answer → Bool
+answered_alike None None = true
+answered_alike None (Some b) = false
+answered_alike (Some a) None = false
+answered_alike (Some a) (Some b) = same_answer a b
+
+abbrev pub same_said : Said → Said → Bool
+same_said a b = (a.taken == b.taken) && ((a.answered == b.answered) && (same_name a.text b.text && answered_alike a.answer b.answer))
+
+abbrev pub same_found : Option Record → Option Record → Bool
+same_found None None = true
+same_found None (Some b) = false
+same_found (Some a) None = false
+same_found (Some a) (Some b) = same_record a b
+
+---- numbers up to one
+
+abbrev pub any_upto : (ℕ → Bool) → ℕ → Bool
+any_upto f zero = false
+any_upto f (suc n) = f (suc n) || any_upto f n
+
+-- some transaction of a client, by what its client said
+abbrev pub any_id : List Event → ℕ → (TxId → Bool) → Bool
+any_id events client f = any_upto (λ k. f (id_of client k)) (length (said client events))
+
+---- Busy
+
+abbrev pub is_id : Option TxId → TxId → Bool
+is_id found id = option_map_or (λ i. i.0 == id.0) found false
+
+abbrev pub is_at : Option ℤ → ℤ → Bool
+is_at found at = option_map_or (λ n. int_eq n at) found false
+
+abbrev pub prepared_moment : Record → Option ℤ
+prepared_moment r = moment_in r.columns (codes "tx_prepared_at")
+
+-- a get of the row that found none, while the record was not expired
+abbrev pub gets_none : List Event → Key → ℤ → ℕ → Request → Reply → Bool
+gets_none events row at n (ask.Get key) (reply.Found None) = same_key key row && not (is_expired at (clock_at events n))
+gets_none events row at n q r = false
+
+abbrev pub looks_early : List Event → ℕ → Key → ℤ → Made → Bool
+looks_early events after row at m = nat_lt after m.at && gets_none events row at m.at m.request m.reply
+
+abbrev pub is_early : List Event → List Made → Made → Record → TxId → Key → ℤ → Bool
+is_early events ms read r id row at = is_unresolved r && (is_id (id_in r.columns) id && (is_at (prepared_moment r) at && list_any (looks_early events read.at row at) ms))
+
+-- a read found such a record at the key
+abbrev pub reads_busy : List Event → List Made → Key → TxId → Key → ℤ → Made → Bool
+reads_busy events ms key id row at m = is_read m.request && list_any (λ r. same_key r.key key && is_early events ms m r id row at) (records_read m.reply)
+
+abbrev pub busy_among : List Event → List Made → Key → TxId → Key → ℤ → Bool
+busy_among events ms key id row at = list_any (reads_busy events ms key id row at) ms
+
+---- the calls of a COMMIT
+
+abbrev pub is_said : Option Said → Said → Bool
+is_said found s = option_map_or (λ x. same_said x s) found false
+
+abbrev pub is_commit_of : List Event → ℕ → Said → TxId → Bool
+is_commit_of events client s id = (client_of id == client) && is_said (commit_of events id) s
+
+abbrev pub is_in : List Event → ℕ → Said → TxId → Bool
+is_in events client s id = (client_of id == client) && list_any (same_said s) (statements_of events id)
+
+abbrev pub same_decision : Decision → Decision → Bool
+same_decision decision.Committed decision.Committed = true
+same_decision decision.Committed decision.Aborted = false
+same_decision decision.Aborted decision.Committed = false
+same_decision decision.Aborted decision.Aborted = true
+
+abbrev pub is_decided : Decision → Option Decided → Bool
+is_decided wanted found = option_map_or (λ d. same_decision d.decision wanted) found false
+
+abbrev pub puts_row : Key → Decision → Made → Bool
+puts_row row wanted m = asks_row row m.request && is_decided wanted (option_and_then (λ r. result_ok (decision_in r)) (put_by m.request))
+
+abbrev pub put_before : Key → ℕ → Made → Bool
+put_before row n m = nat_lt m.at n && puts_row row decision.Aborted m
+
+abbrev pub found_aborted : List Made → Key → Made → Bool
+found_aborted ms row m = is_decided decision.Aborted (decision_found_at row m) && not (list_any (put_before row m.at) ms)
+
+abbrev pub expired_among : List Made → Key → Bool
+expired_among ms row = list_any (found_aborted ms row) ms
+
+abbrev pub is_fault : Reply → Bool
+is_fault reply.Fault = true
+is_fault r = false
+
+abbrev pub has_failed : Reply → Bool
+has_failed reply.Fault = true
+has_failed reply.NoMemory = true
+has_failed r = false
+
+abbrev pub fails_later : Key → ℕ → Made → Bool
+fails_later row n m = nat_lt n m.at && (asks_row row m.request && has_failed m.reply)
+
+abbrev pub is_lost_put : List Made → Key → Made → Bool
+is_lost_put ms row put = puts_row row decision.Committed put && (is_fault put.reply && list_any (fails_later row put.at) ms)
+
+abbrev pub unknown_among : List Made → Key → Bool
+unknown_among ms row = list_any (is_lost_put ms row) ms
+
+---- Conflict
+
+abbrev pub is_moved : Key → Option Record → Note → Bool
+is_moved key found n = option_map_or (λ version. not (is_unchanged found version)) (version_noted n key) false
+
+abbrev pub has_moved : List Note → Key → Option Record → Bool
+has_moved notes key found = list_any (is_moved key found) notes
+
+abbrev pub asks_key : Made → Key → Bool
+asks_key m key = option_map_or (λ k. same_key k key) (key_asked m.request) false
+
+abbrev pub stands_as : Made → Option Record → Bool
+stands_as m found = option_map_or (λ standing. same_found standing found) (standing_said m.reply) false
+
+abbrev pub scan_shows_by : Request → Reply → Key → Option Record → Bool
+scan_shows_by (ask.Scan span) (reply.Rows rows) key found = in_span span key && same_found (record_among rows key) found
+scan_shows_by q r key found = false
+
+abbrev pub scan_shows : Made → Key → Option Record → Bool
+scan_shows m key found = scan_shows_by m.request m.reply key found
+
+abbrev pub shows_at : Made → Key → Option Record → Bool
+shows_at m key found = (asks_key m key && stands_as m found) || scan_shows m key found
+
+-- the version of the base of a record that is put
+abbrev pub base_put : Made → Option TxId
+base_put m = option_and_then (λ r. id_in (before_part r.columns)) (put_by m.request)
+
+abbrev pub puts_at : TxId → Key → Made → Bool
+puts_at id key m = prepares id m.request && asks_key m key
+
+abbrev pub scan_differs : Key → Option TxId → Note → Bool
+scan_differs key base (Got read) = false
+scan_differs key base (Scanned scan) = in_span scan.span key && not (same_version base (version_among scan.found key))
+
+abbrev pub is_rebased : List Made → List Note → TxId → Key → Bool
+is_rebased ms notes id key = list_any (λ p. puts_at id key p && list_any (scan_differs key (base_put p)) notes) ms
+
+abbrev pub conflict_at_commit : List Made → List Note → TxId → Key → Option Record → Bool
+conflict_at_commit ms notes id key found = list_any (λ m. shows_at m key found) ms && (has_moved notes key found || is_rebased ms notes id key)
+
+abbrev pub resolves_by : List Made → Key → Option Record → Request → Reply → Bool
+resolves_by ms key found (ask.Scan span) (reply.Rows rows) = in_span span key && same_found (option_and_then (resolved (all_made ms)) (record_among rows key)) found
+resolves_by ms key found q r = false
+
+abbrev pub resolves : List Made → Key → Option Record → Made → Bool
+resolves ms key found m = resolves_by ms key found m.request m.reply
+
+abbrev pub conflict_at_scan : List Made → List Note → Key → Option Record → Bool
+conflict_at_scan ms notes key found = has_moved notes key found && list_any (resolves ms key found) ms
+
+-- a statement ends this transaction, or is one of it, and has its conflict
+abbrev pub conflict_of : List Event → ℕ → Said → List Made → Key → Option Record → TxId → Bool
+conflict_of events client s ms key found id =
+    (is_commit_of events client s id && conflict_at_commit ms (noted_in events id) id key found)
+    || (not (reads_commit s.text) && (is_in events client s id && conflict_at_scan ms (noted_in events id) key found))
+
+---- BadRecord
+
+abbrev pub is_bad : Record → Bool
+is_bad r = if is_coordinator_table r.key.table then is_none (result_ok (decision_in r)) else is_none (result_ok (checked r.columns))
+
+abbrev pub shows_bad : Key → Reply → Bool
+shows_bad key r = list_any (λ x. same_key x.key key && is_bad x) (records_shown r)
+
+---- texts
+
+-- the statement that a text is read as, if it is read as one
+abbrev pub IsReading : List ℕ → Option Statement → Type 0
+IsReading text found = (st : Statement) → Reads text st ↔ (found ≡ Some st)
+
+-- the refusal of a text, if it is read as no statement
+abbrev pub IsRefusal : List ℕ → Option Refusal → Type 0
+IsRefusal text found = (r : Refusal) → Refuses text r ↔ (found ≡ Some r)
+
+---- what is said of single answers
+
+-- a statement that is answered Done
+abbrev pub is_done : Statement → Bool
+is_done statement.Begin = true
+is_done statement.Rollback = true
+is_done st = false
+
+-- it is an INSERT of this key
+abbrev pub Inserts : List Table → Option Statement → Key → Type 0
+Inserts catalog found key = (t : Table) × (i : Insert) × (found ≡ Some (statement.Insert i)) × (find_table catalog i.table ≡ Some t) × (key_of t i ≡ key)
+
+abbrev pub IsOfRows : List Event → ℕ → Said → Type 0
+IsOfRows events client s = (st : Statement) × Reads s.text st × (is_select st ≡ true) × (is_open (before s events) client ≡ true)
+
+abbrev pub IsOfCount : List Event → ℕ → Said → ℕ → Type 0
+IsOfCount events client s n = (st : Statement) × Reads s.text st × (counts st ≡ true) × IsCounted events client s n
+
+abbrev pub IsOfDone : Said → Type 0
+IsOfDone s = Reads s.text statement.Begin ⊎ Reads s.text statement.Rollback
+
+abbrev pub IsOfDuplicate : List Table → Said → Key → Type 0
+IsOfDuplicate catalog s key = (t : Table) × (i : Insert) × Reads s.text (statement.Insert i) × (find_table catalog i.table ≡ Some t) × (key_of t i ≡ key)
+
+---- statements that are turned away
+
+-- the refusal of a statement that has to be inside a transaction, and is
+abbrev pub refusal_met : List Table → Statement → Option Refusal
+refusal_met catalog statement.Commit = None
+refusal_met catalog statement.Rollback = None
+refusal_met catalog st = refusal_of catalog st
+
+abbrev pub begin_turned : List Event → ℕ → Option Answer
+begin_turned past client = if is_open past client then Some (refused 4) else if someone_does work.Vacuum past then Some answer.Vacuuming else None
+
+abbrev pub vacuum_turned : List Event → Option Answer
+vacuum_turned past = if someone_does work.Transaction past then Some answer.OpenTransactions else None
+
+abbrev pub inside_turned : List Table → List Event → ℕ → Statement → Option Answer
+inside_turned catalog past client st = if is_open past client then option_map answer.Refused (refusal_met catalog st) else Some (refused 5)
+
+-- what a statement that a client takes after some events is turned away with
+abbrev pub turned_by : List Table → List Event → ℕ → Statement → Option Answer
+turned_by catalog past client statement.Begin = begin_turned past client
+turned_by catalog past client statement.Vacuum = vacuum_turned past
+turned_by catalog past client st = inside_turned catalog past client st
+
+abbrev pub IsTurned : List Table → List Event → ℕ → List ℕ → Option Answer → Type 0
+IsTurned catalog past client text found = (a : Answer) → IsTurnedAway catalog past client text a ↔ (found ≡ Some a)
+
+---- all answers
+
+abbrev pub IsAnswerCaused : List Table → List Event → ℕ → Said → Type 0
+IsAnswerCaused catalog events client s = (a : Answer) → s.answer ≡ Some a → IsCaused catalog events client s a
+
+abbrev pub IsAnsweredWith : Said → Answer → Type 0
+IsAnsweredWith s a = (s.answered ≡ s.taken) × ((s.answer ≡ Some a) ⊎ (s.answer ≡ Some answer.NoMemory))
+
+abbrev pub is_no_memory : Answer → Bool
+is_no_memory answer.NoMemory = true
+is_no_memory a = false
+
+abbrev pub answered_with : Said → Answer → Bool
+answered_with s a = (s.answered == s.taken) && option_map_or (λ x. is_no_memory x || same_answer x a) s.answer false
+
+abbrev pub IsTurnedIfDue : List Table → List Event → ℕ → Said → Type 0
+IsTurnedIfDue catalog events client s = (a : Answer) → IsTurnedAway catalog (before s events) client s.text a → IsAnsweredWith s a
+
+abbrev pub IsWellAnswered : List Table → List Event → ℕ → Said → Type 0
+IsWellAnswered catalog events client s = IsAnswerCaused catalog events client s × IsTurnedIfDue catalog events client s
+
+abbrev pub IsClientWell : List Table → List Event → ℕ → Type 0
+IsClientWell catalog events client = AllByRecursion (IsWellAnswered catalog events client) (said client events)
+
+-- the statements of each client that takes one by these events are answered well
+abbrev pub AreTakersWell : List Table → List Event → List Event → Type 0
+AreTakersWell catalog events some = AllByRecursion (λ e. IfSome (taker e) (IsClientWell catalog events)) some

@@ -1,0 +1,213 @@
+//! The causes of the answers of a COMMIT.
+ghost use Rattle.std.specs.Prelude.{◌≡◌, IfOk, IsTrue, ◌↔◌};
+ghost use Rattle.std.specs.List.{list_any};
+ghost use Rattle.sdb_model.specs.Causes.{IsExpired, IsOfCommit, IsUnknown};
+ghost use Rattle.sdb_model.specs.Transactions.{id_of as id_of_lem, through_end};
+ghost use Rattle.sdb_plain.specs.Points.{said_of, all_said};
+ghost use Rattle.sdb_caused.specs.Tests.{any_upto, is_commit_of as is_commit_of_lem, is_in as is_in_lem, same_said, is_decided as is_decided_lem, puts_row as puts_row_lem, put_before, found_aborted as found_aborted_lem, expired_among as expired_among_lem, fails_later as fails_later_lem, is_lost_put as is_lost_put_lem, unknown_among as unknown_among_lem};
+
+use crate::same::is_same_said;
+use sdb_calls::{
+    Made, asks_row, calls_of, client_of, commit_of, decision_found_at, id_of, ordinal_of, put_by,
+    rest_of,
+};
+use sdb_model::Event;
+use sdb_plain::{Said, ends, from_begin, statements_said};
+use sdb_record::{Decided, Decision, coordinator_key};
+use sdb_said::decided;
+use sdb_types::{Key, NoMemory, Reply, TxId};
+use std::alloc::Global;
+
+/// Whether a statement of a client is the COMMIT of this transaction.
+pub fn is_commit_of(
+    alloc: Global,
+    events: &[Event],
+    client: u64,
+    said: &Said,
+    id: TxId,
+) -> Result<bool, NoMemory>
+    ensures { IfOk result (λ is. is ≡ is_commit_of_lem events.now client (said_of said.now) id) }
+{
+    if client_of(id) != client {
+        return Ok(false);
+    }
+    let all = statements_said(alloc, client_of(id), events)?;
+    match commit_of(alloc, all.as_slice(), ordinal_of(id))? {
+        Some(commit) => Ok(is_same_said(commit, said)),
+        None => Ok(false),
+    }
+}
+
+// Whether a statement is one of these, up to the one that ends the transaction.
+#[tactic(auto, using(crate::proofs::Finds::one_found))]
+fn is_through_end(alloc: Global, all: &[Said], said: &Said) -> Result<bool, NoMemory>
+    ensures { IfOk result (λ is. is ≡ list_any (same_said (said_of said.now)) (through_end (all_said all.now))) }
+{
+    let Some((first, rest)) = all.split_first() else {
+        return Ok(false);
+    };
+    if ends(alloc, first)? {
+        return Ok(is_same_said(said, first));
+    }
+    if is_same_said(said, first) {
+        return Ok(true);
+    }
+    is_through_end(alloc, rest, said)
+}
+
+/// Whether a statement of a client is one of this transaction, after its BEGIN.
+pub fn is_in(
+    alloc: Global,
+    events: &[Event],
+    client: u64,
+    said: &Said,
+    id: TxId,
+) -> Result<bool, NoMemory>
+    ensures { IfOk result (λ is. is ≡ is_in_lem events.now client (said_of said.now) id) }
+{
+    if client_of(id) != client {
+        return Ok(false);
+    }
+    let all = statements_said(alloc, client_of(id), events)?;
+    let since = from_begin(alloc, ordinal_of(id), all.as_slice())?;
+    is_through_end(alloc, rest_of(since), said)
+}
+
+// Whether a statement is the COMMIT of one of a client's first transactions.
+#[tactic(auto, using(crate::proofs::IdLaws::upto_step))]
+fn is_among_commits(
+    alloc: Global,
+    events: &[Event],
+    client: u64,
+    said: &Said,
+    count: u64,
+) -> Result<bool, NoMemory>
+    ensures { IfOk result (λ is. is ≡ any_upto (λ k. is_commit_of_lem events.now client (said_of said.now) (id_of_lem client k)) count) }
+{
+    if count == 0 {
+        return Ok(false);
+    }
+    let commits = is_commit_of(alloc, events, client, said, id_of(client, count))?;
+    if commits {
+        return Ok(true);
+    }
+    is_among_commits(alloc, events, client, said, count - 1)
+}
+
+/// Whether a statement is the COMMIT of some transaction of its client.
+pub fn is_of_commit(
+    alloc: Global,
+    events: &[Event],
+    client: u64,
+    said: &Said,
+) -> Result<bool, NoMemory>
+    ensures { IfOk result (λ is. IsTrue is ↔ IsOfCommit events.now client (said_of said.now)) }
+{
+    let all = statements_said(alloc, client, events)?;
+    is_among_commits(alloc, events, client, said, all.len() as u64)
+}
+
+fn is_decided(found: Option<Decided>, wanted: Decision) -> bool
+    ensures { result ≡ is_decided_lem wanted found }
+{
+    match found {
+        Some(found) => found.decision == wanted,
+        None => false,
+    }
+}
+
+// Whether a call puts a transaction's row with this decision.
+fn puts_row(alloc: Global, row: &Key, wanted: Decision, made: &Made) -> bool
+    ensures { result ≡ puts_row_lem row.now wanted made.now }
+{
+    asks_row(row, &made.request)
+        && match put_by(&made.request) {
+            Some(put) => is_decided(decided(alloc, put), wanted),
+            None => false,
+        }
+}
+
+fn has_put_before(alloc: Global, calls: &[Made], row: &Key, at: u64) -> bool
+    ensures { result ≡ list_any (put_before row.now at) calls.now }
+{
+    calls.iter().any(|made| made.at < at && puts_row(alloc, row, Decision::Aborted, made))
+}
+
+fn found_aborted(alloc: Global, calls: &[Made], row: &Key, made: &Made) -> bool
+    ensures { result ≡ found_aborted_lem calls.now row.now made.now }
+{
+    is_decided(decision_found_at(alloc, row, made), Decision::Aborted)
+        && !has_put_before(alloc, calls, row, made.at)
+}
+
+/// Whether a call of the COMMIT found its transaction's row ABORTED, and none of it before had put that row.
+pub fn is_expired(
+    alloc: Global,
+    events: &[Event],
+    client: u64,
+    said: &Said,
+    id: TxId,
+) -> Result<bool, NoMemory>
+    ensures { IfOk result (λ is. IsTrue is ↔ IsExpired events.now client (said_of said.now) id) }
+{
+    let commits = is_commit_of(alloc, events, client, said, id)?;
+    if commits {
+        let calls = calls_of(alloc, events, client, said)?;
+        let row = coordinator_key(alloc, id)?;
+        return Ok(expired_among(alloc, calls.as_slice(), &row));
+    }
+    Ok(false)
+}
+
+fn expired_among(alloc: Global, calls: &[Made], row: &Key) -> bool
+    ensures { result ≡ expired_among_lem calls.now row.now }
+{
+    calls
+        .iter()
+        .any(|made| found_aborted(alloc, calls, row, made))
+}
+
+fn fails_later(row: &Key, at: u64, made: &Made) -> bool
+    ensures { result ≡ fails_later_lem row.now at made.now }
+{
+    at < made.at
+        && (asks_row(row, &made.request) && matches!(made.reply, Reply::Fault | Reply::NoMemory))
+}
+
+fn fails_after(calls: &[Made], row: &Key, at: u64) -> bool
+    ensures { result ≡ list_any (fails_later_lem row.now at) calls.now }
+{
+    calls.iter().any(|made| fails_later(row, at, made))
+}
+
+fn is_lost_put(alloc: Global, calls: &[Made], row: &Key, put: &Made) -> bool
+    ensures { result ≡ is_lost_put_lem calls.now row.now put.now }
+{
+    puts_row(alloc, row, Decision::Committed, put)
+        && (matches!(put.reply, Reply::Fault) && fails_after(calls, row, put.at))
+}
+
+fn unknown_among(alloc: Global, calls: &[Made], row: &Key) -> bool
+    ensures { result ≡ unknown_among_lem calls.now row.now }
+{
+    calls.iter().any(|put| is_lost_put(alloc, calls, row, put))
+}
+
+/// Whether the deciding put of the COMMIT was answered with a fault, and a later call for the row with a fault or out of memory.
+pub fn is_unknown(
+    alloc: Global,
+    events: &[Event],
+    client: u64,
+    said: &Said,
+    id: TxId,
+) -> Result<bool, NoMemory>
+    ensures { IfOk result (λ is. IsTrue is ↔ IsUnknown events.now client (said_of said.now) id) }
+{
+    let commits = is_commit_of(alloc, events, client, said, id)?;
+    if commits {
+        let calls = calls_of(alloc, events, client, said)?;
+        let row = coordinator_key(alloc, id)?;
+        return Ok(unknown_among(alloc, calls.as_slice(), &row));
+    }
+    Ok(false)
+}

@@ -1,0 +1,408 @@
+//! The cause of Conflict: what is found at a key is no longer what was noted there.
+ghost use Rattle.std.specs.Prelude.{◌≡◌, ◌&&◌, IfOk, IsTrue, ◌↔◌, Some, find};
+ghost use Rattle.std.specs.Option.{option_and_then, option_copied};
+ghost use Rattle.std.specs.List.{list_any};
+ghost use Rattle.sdb_model.specs.Causes.{IsConflict};
+ghost use Rattle.sdb_model.specs.Noted.{noted_in as noted_in_lem, resolved, same_key, version_among as version_among_lem, version_noted as version_noted_lem};
+ghost use Rattle.sdb_model.specs.Transactions.{id_of as id_of_lem};
+ghost use Rattle.sdb_plain.specs.Points.{said_of};
+ghost use Rattle.sdb_record.specs.Moved.{is_unchanged as is_unchanged_lem, same_version as same_version_lem};
+ghost use Rattle.sdb_record.specs.Parts.{before_record};
+ghost use Rattle.sdb_record.specs.Rolls.{forward_record};
+ghost use Rattle.sdb_said.specs.Values.{note_of};
+ghost use Rattle.sdb_calls.specs.Values.{all_made, all_notes};
+ghost use Rattle.sdb_caused.specs.Tests.{asks_key, conflict_at_scan, is_moved as is_moved_lem, stands_as as stands_as_lem, has_moved as has_moved_lem, shows_at as shows_at_lem, scan_shows as scan_shows_lem, base_put as base_put_lem, puts_at as puts_at_lem, scan_differs as scan_differs_lem, is_rebased as is_rebased_lem, conflict_at_commit as conflict_at_commit_lem, same_found, resolves as resolves_lem, any_upto, conflict_of as conflict_of_lem};
+
+use crate::commit::{is_commit_of, is_in};
+use crate::same::is_same_found;
+use sdb_calls::{
+    Made, calls_of, decision_for, id_of, is_in_span, key_asked, noted_in, put_by, record_among,
+    standing_said,
+};
+use sdb_model::{Event, Keyword};
+use sdb_plain::{Said, is_prepare, is_word, statements_said};
+use sdb_record::{Decided, Decision, Read, Scan, is_unchanged, rolled_forward};
+use sdb_said::{Note, is_committed, is_kept_in, is_same_key, keeps_none, kept_writer};
+use sdb_types::{Key, NoMemory, Record, Reply, Request, TxId};
+use std::alloc::Global;
+
+fn read_of<'a>(found: &'a [Read], key: &Key) -> Option<&'a Read>
+    ensures { option_copied result ≡ find (λ r. same_key r.key key.now) found.now }
+{
+    found.iter().find(|read| is_same_key(&read.key, key))
+}
+
+fn version_among(found: &[Read], key: &Key) -> Option<TxId>
+    ensures { result ≡ version_among_lem found.now key.now }
+{
+    match read_of(found, key) {
+        Some(read) => read.version,
+        None => None,
+    }
+}
+
+// What a noted read says of a key: nothing, or the version found there, none where there was no record.
+fn version_noted(note: &Note, key: &Key) -> Option<Option<TxId>>
+    ensures { result ≡ version_noted_lem (note_of note.now) key.now }
+{
+    match note {
+        Note::Got(read) => {
+            if is_same_key(&read.key, key) {
+                Some(read.version)
+            } else {
+                None
+            }
+        }
+        Note::Scanned(scan) => {
+            if is_in_span(&scan.span, key) {
+                Some(version_among(scan.found.as_slice(), key))
+            } else {
+                None
+            }
+        }
+    }
+}
+
+fn is_moved(note: &Note, key: &Key, found: &Option<Record>) -> bool
+    ensures { result ≡ is_moved_lem key.now found.now (note_of note.now) }
+{
+    match version_noted(note, key) {
+        Some(version) => !is_unchanged(found, version),
+        None => false,
+    }
+}
+
+fn any_moved(notes: &[Note], key: &Key, found: &Option<Record>) -> bool
+    ensures { result ≡ list_any (λ n. is_moved_lem key.now found.now (note_of n)) notes.now }
+{
+    notes.iter().any(|note| is_moved(note, key, found))
+}
+
+fn has_moved(notes: &[Note], key: &Key, found: &Option<Record>) -> bool
+    ensures { result ≡ has_moved_lem (all_notes notes.now) key.now found.now }
+{
+    any_moved(notes, key, found)
+}
+
+fn scan_shows(made: &Made, key: &Key, found: &Option<Record>) -> bool
+    ensures { result ≡ scan_shows_lem made.now key.now found.now }
+{
+    match (&made.request, &made.reply) {
+        (Request::Scan(span), Reply::Rows(rows)) => {
+            is_in_span(span, key) && is_same_found(record_among(rows.as_slice(), key), found)
+        }
+        _ => false,
+    }
+}
+
+fn is_asked(made: &Made, key: &Key) -> bool
+    ensures { result ≡ asks_key made.now key.now }
+{
+    match key_asked(&made.request) {
+        Some(asked) => is_same_key(asked, key),
+        None => false,
+    }
+}
+
+fn stands_as(made: &Made, found: &Option<Record>) -> bool
+    ensures { result ≡ stands_as_lem made.now found.now }
+{
+    match standing_said(&made.reply) {
+        Some(standing) => is_same_found(standing.as_ref(), found),
+        None => false,
+    }
+}
+
+fn shows_at(made: &Made, key: &Key, found: &Option<Record>) -> bool
+    ensures { result ≡ shows_at_lem made.now key.now found.now }
+{
+    (is_asked(made, key) && stands_as(made, found)) || scan_shows(made, key, found)
+}
+
+// The version of the base of a record that is put.
+#[tactic(auto, using(sdb_said::proofs::ShownLaws::kept_writer_is))]
+fn base_put(made: &Made) -> Option<TxId>
+    ensures { result ≡ base_put_lem made.now }
+{
+    match put_by(&made.request) {
+        Some(rec) => kept_writer(&rec.columns),
+        None => None,
+    }
+}
+
+fn puts_at(id: TxId, key: &Key, made: &Made) -> bool
+    ensures { result ≡ puts_at_lem id key.now made.now }
+{
+    is_prepare(&made.request, id) && is_asked(made, key)
+}
+
+fn is_same_version(a: Option<TxId>, b: Option<TxId>) -> bool
+    ensures { result ≡ same_version_lem a b }
+{
+    match (a, b) {
+        (Some(a), Some(b)) => a.0 == b.0,
+        (None, None) => true,
+        _ => false,
+    }
+}
+
+fn scan_differs(note: &Note, key: &Key, base: Option<TxId>) -> bool
+    ensures { result ≡ scan_differs_lem key.now base (note_of note.now) }
+{
+    match note {
+        Note::Got(_) => false,
+        Note::Scanned(scan) => {
+            is_in_span(&scan.span, key)
+                && !is_same_version(base, version_among(scan.found.as_slice(), key))
+        }
+    }
+}
+
+fn any_scan_differs(notes: &[Note], key: &Key, base: Option<TxId>) -> bool
+    ensures { result ≡ list_any (λ n. scan_differs_lem key.now base (note_of n)) notes.now }
+{
+    notes.iter().any(|note| scan_differs(note, key, base))
+}
+
+fn any_differs(notes: &[Note], key: &Key, base: Option<TxId>) -> bool
+    ensures { result ≡ list_any (scan_differs_lem key.now base) (all_notes notes.now) }
+{
+    any_scan_differs(notes, key, base)
+}
+
+fn differs_from(notes: &[Note], id: TxId, key: &Key, prepare: &Made) -> bool
+    ensures { result ≡ (puts_at_lem id key.now prepare.now && list_any (scan_differs_lem key.now (base_put_lem prepare.now)) (all_notes notes.now)) }
+{
+    puts_at(id, key, prepare) && any_differs(notes, key, base_put(prepare))
+}
+
+// Whether a scan was noted with another version of a key than the prepare's base has.
+fn is_rebased(calls: &[Made], notes: &[Note], id: TxId, key: &Key) -> bool
+    ensures { result ≡ is_rebased_lem calls.now (all_notes notes.now) id key.now }
+{
+    calls
+        .iter()
+        .any(|prepare| differs_from(notes, id, key, prepare))
+}
+
+fn any_shows(calls: &[Made], key: &Key, found: &Option<Record>) -> bool
+    ensures { result ≡ list_any (λ m. shows_at_lem m key.now found.now) calls.now }
+{
+    calls.iter().any(|made| shows_at(made, key, found))
+}
+
+fn conflicts_at_commit(
+    calls: &[Made],
+    notes: &[Note],
+    id: TxId,
+    key: &Key,
+    found: &Option<Record>,
+) -> bool
+    ensures { result ≡ conflict_at_commit_lem calls.now (all_notes notes.now) id key.now found.now }
+{
+    any_shows(calls, key, found)
+        && (has_moved(notes, key, found) || is_rebased(calls, notes, id, key))
+}
+
+// Whether a before image keeps this, where there is one.
+#[tactic(auto, using(crate::proofs::Finds::kept_found, crate::proofs::Finds::kept_none))]
+fn is_kept(rec: &Record, found: &Option<Record>) -> bool
+    ensures { result ≡ same_found (before_record rec.now) found.now }
+{
+    match found {
+        Some(base) => is_kept_in(rec, base),
+        None => keeps_none(rec),
+    }
+}
+
+fn is_forward(
+    alloc: Global,
+    rec: &Record,
+    moment: i64,
+    found: &Option<Record>,
+) -> Result<bool, NoMemory>
+    ensures { IfOk result (λ is. is ≡ same_found (Some (forward_record rec.now moment)) found.now) }
+{
+    let forward = rolled_forward(alloc, rec, moment)?;
+    Ok(is_same_found(Some(&forward), found))
+}
+
+// Whether this is what a record found stands for, by what the calls showed.
+fn resolves_to(
+    alloc: Global,
+    calls: &[Made],
+    rec: &Record,
+    found: &Option<Record>,
+) -> Result<bool, NoMemory>
+    ensures { IfOk result (λ is. is ≡ same_found (resolved (all_made calls.now) rec.now) found.now) }
+{
+    if is_committed(rec) {
+        return Ok(is_same_found(Some(rec), found));
+    }
+    match decision_for(alloc, calls, rec)? {
+        Some(
+            Decided {
+                decision: Decision::Committed,
+                created_at,
+            },
+        ) => is_forward(alloc, rec, created_at, found),
+        _ => Ok(is_kept(rec, found)),
+    }
+}
+
+fn standing_resolves(
+    alloc: Global,
+    calls: &[Made],
+    rec: Option<&Record>,
+    found: &Option<Record>,
+) -> Result<bool, NoMemory>
+    ensures { IfOk result (λ is. is ≡ same_found (option_and_then (resolved (all_made calls.now)) (option_copied rec.entry)) found.now) }
+{
+    match rec {
+        Some(rec) => resolves_to(alloc, calls, rec, found),
+        None => Ok(found.is_none()),
+    }
+}
+
+// Whether a scan of the statement found this at the key, once its rows were resolved.
+fn scan_resolves(
+    alloc: Global,
+    calls: &[Made],
+    made: &Made,
+    key: &Key,
+    found: &Option<Record>,
+) -> Result<bool, NoMemory>
+    ensures { IfOk result (λ is. is ≡ resolves_lem calls.now key.now found.now made.now) }
+{
+    match (&made.request, &made.reply) {
+        (Request::Scan(span), Reply::Rows(rows)) => {
+            if !is_in_span(span, key) {
+                return Ok(false);
+            }
+            standing_resolves(alloc, calls, record_among(rows.as_slice(), key), found)
+        }
+        _ => Ok(false),
+    }
+}
+
+fn any_resolves(
+    alloc: Global,
+    calls: &[Made],
+    key: &Key,
+    found: &Option<Record>,
+) -> Result<bool, NoMemory>
+    ensures { IfOk result (λ is. is ≡ list_any (resolves_lem calls.now key.now found.now) calls.now) }
+{
+    for made in calls {
+        if scan_resolves(alloc, calls, made, key, found)? {
+            return Ok(true);
+        }
+    }
+    Ok(false)
+}
+
+fn commit_conflicts(
+    alloc: Global,
+    events: &[Event],
+    calls: &[Made],
+    id: TxId,
+    key: &Key,
+    found: &Option<Record>,
+) -> Result<bool, NoMemory>
+    ensures { IfOk result (λ is. is ≡ conflict_at_commit_lem calls.now (noted_in_lem events.now id) id key.now found.now) }
+{
+    let notes = noted_in(alloc, events, id)?;
+    Ok(conflicts_at_commit(calls, notes.as_slice(), id, key, found))
+}
+
+fn scan_conflicts(
+    alloc: Global,
+    events: &[Event],
+    calls: &[Made],
+    id: TxId,
+    key: &Key,
+    found: &Option<Record>,
+) -> Result<bool, NoMemory>
+    ensures { IfOk result (λ is. is ≡ conflict_at_scan calls.now (noted_in_lem events.now id) key.now found.now) }
+{
+    let notes = noted_in(alloc, events, id)?;
+    if !has_moved(notes.as_slice(), key, found) {
+        return Ok(false);
+    }
+    any_resolves(alloc, calls, key, found)
+}
+
+// Whether a statement ends this transaction by a conflict.
+fn conflicts_in(
+    alloc: Global,
+    events: &[Event],
+    client: u64,
+    said: &Said,
+    calls: &[Made],
+    id: TxId,
+    key: &Key,
+    found: &Option<Record>,
+) -> Result<bool, NoMemory>
+    ensures { IfOk result (λ is. is ≡ conflict_of_lem events.now client (said_of said.now) calls.now key.now found.now id) }
+{
+    if is_commit_of(alloc, events, client, said, id)?
+        && commit_conflicts(alloc, events, calls, id, key, found)?
+    {
+        return Ok(true);
+    }
+    if is_word(alloc, said, Keyword::Commit)? || !is_in(alloc, events, client, said, id)? {
+        return Ok(false);
+    }
+    scan_conflicts(alloc, events, calls, id, key, found)
+}
+
+// Whether a statement has this conflict in one of its client's first transactions.
+#[tactic(auto, using(crate::proofs::IdLaws::upto_step))]
+fn conflicts_among(
+    alloc: Global,
+    events: &[Event],
+    client: u64,
+    said: &Said,
+    calls: &[Made],
+    key: &Key,
+    found: &Option<Record>,
+    count: u64,
+) -> Result<bool, NoMemory>
+    ensures { IfOk result (λ is. is ≡ any_upto (λ k. conflict_of_lem events.now client (said_of said.now) calls.now key.now found.now (id_of_lem client k)) count) }
+{
+    if count == 0 {
+        return Ok(false);
+    }
+    let id = id_of(client, count);
+    let conflicts = conflicts_in(alloc, events, client, said, calls, id, key, found)?;
+    if conflicts {
+        return Ok(true);
+    }
+    conflicts_among(alloc, events, client, said, calls, key, found, count - 1)
+}
+
+/// Whether a call of the statement found something else at the key than was noted there.
+pub fn is_conflict(
+    alloc: Global,
+    events: &[Event],
+    client: u64,
+    said: &Said,
+    key: &Key,
+    found: &Option<Record>,
+) -> Result<bool, NoMemory>
+    ensures { IfOk result (λ is. IsTrue is ↔ IsConflict events.now client (said_of said.now) key.now found.now) }
+{
+    let calls = calls_of(alloc, events, client, said)?;
+    let all = statements_said(alloc, client, events)?;
+    let count = all.len() as u64;
+    conflicts_among(
+        alloc,
+        events,
+        client,
+        said,
+        calls.as_slice(),
+        key,
+        found,
+        count,
+    )
+}

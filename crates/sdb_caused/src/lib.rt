@@ -1,0 +1,15 @@
+//! Whether the answers of a run have their causes, and whether its calls are counted: the definitions decided, slowly, by
+//! search, for tests.
+#![tactic(auto)]
+
+mod busy;
+mod caused;
+mod commit;
+mod conflict;
+mod plain;
+mod reading;
+mod same;
+mod turned;
+
+pub use caused::{answers_have_causes, has_cause};
+pub use turned::turned_away;

@@ -1,0 +1,55 @@
+//! Equality of answers, of statements that were said, and of what is found.
+ghost use Rattle.std.specs.Prelude.{◌≡◌};
+ghost use Rattle.std.specs.Option.{option_copied};
+ghost use Rattle.sdb_model.specs.Rows.{same_name};
+ghost use Rattle.sdb_plain.specs.Points.{said_of};
+ghost use Rattle.sdb_caused.specs.Tests.{answered_alike, same_answer, same_found, same_said};
+
+use sdb_model::Answer;
+use sdb_plain::Said;
+use sdb_said::is_same_record;
+use sdb_types::{Record, Txt};
+
+/// Whether two answers are equal.
+#[tactic(auto, unfolding(crate::specs::Tests::same_answer))]
+pub fn is_same_answer(a: &Answer, b: &Answer) -> bool
+    ensures { result ≡ same_answer a.now b.now }
+{
+    *a == *b
+}
+
+fn is_answered_alike(a: &Option<Answer>, b: &Option<Answer>) -> bool
+    ensures { result ≡ answered_alike a.now b.now }
+{
+    match (a, b) {
+        (Some(a), Some(b)) => is_same_answer(a, b),
+        (None, None) => true,
+        _ => false,
+    }
+}
+
+fn is_same_text(a: &Txt, b: &Txt) -> bool
+    ensures { result ≡ same_name a.now b.now }
+{
+    a.as_str().cmp(b.as_str()).is_eq()
+}
+
+/// Whether two statements that were said are equal.
+pub fn is_same_said(a: &Said, b: &Said) -> bool
+    ensures { result ≡ same_said (said_of a.now) (said_of b.now) }
+{
+    a.taken == b.taken
+        && (a.answered == b.answered
+            && (is_same_text(&a.text, &b.text) && is_answered_alike(&a.answer, &b.answer)))
+}
+
+/// Whether what stands at a key is this.
+pub fn is_same_found(a: Option<&Record>, b: &Option<Record>) -> bool
+    ensures { result ≡ same_found (option_copied a.entry) b.now }
+{
+    match (a, b) {
+        (Some(a), Some(b)) => is_same_record(a, b),
+        (None, None) => true,
+        _ => false,
+    }
+}

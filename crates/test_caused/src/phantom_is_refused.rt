@@ -1,0 +1,174 @@
+//! A row is inserted into what another transaction scanned.
+use crate::steps::Step;
+use sdb_model::How;
+use sdb_types::{Condition, State, TxId};
+use test_builders::{Ask, Cell, Place, Row, Said, Told};
+
+const KEY_1: Place = Place {
+    ns: "shop",
+    table: "item",
+    partition: &[Cell::Int(2)],
+    clustering: &[Cell::Int(1)],
+};
+
+const KEY_2: Place = Place {
+    ns: "shop",
+    table: "item",
+    partition: &[Cell::Int(1)],
+    clustering: &[Cell::Int(9)],
+};
+
+const RECORD_1: Row = Row {
+    place: KEY_2,
+    columns: &[
+        ("tx_id", Cell::Text("00000000-0000-0002-0000-000000000001")),
+        ("tx_prepared_at", Cell::BigInt(0)),
+        ("tx_state", Cell::Int(1)),
+        ("tx_version", Cell::Int(1)),
+    ],
+};
+
+const KEY_3: Place = Place {
+    ns: "coordinator",
+    table: "state",
+    partition: &[Cell::Text("00000000-0000-0002-0000-000000000001")],
+    clustering: &[],
+};
+
+const RECORD_2: Row = Row {
+    place: KEY_3,
+    columns: &[
+        ("tx_created_at", Cell::BigInt(0)),
+        ("tx_state", Cell::Int(3)),
+    ],
+};
+
+const ID_1: TxId = TxId(0x0000000000000002_0000000000000001);
+
+const RECORD_3: Row = Row {
+    place: KEY_2,
+    columns: &[
+        ("tx_committed_at", Cell::BigInt(0)),
+        ("tx_id", Cell::Text("00000000-0000-0002-0000-000000000001")),
+        ("tx_prepared_at", Cell::BigInt(0)),
+        ("tx_state", Cell::Int(3)),
+        ("tx_version", Cell::Int(1)),
+    ],
+};
+
+const RECORD_4: Row = Row {
+    place: KEY_1,
+    columns: &[
+        ("tx_id", Cell::Text("00000000-0000-0001-0000-000000000001")),
+        ("tx_prepared_at", Cell::BigInt(0)),
+        ("tx_state", Cell::Int(1)),
+        ("tx_version", Cell::Int(1)),
+    ],
+};
+
+const KEY_4: Place = Place {
+    ns: "coordinator",
+    table: "state",
+    partition: &[Cell::Text("00000000-0000-0001-0000-000000000001")],
+    clustering: &[],
+};
+
+const RECORD_5: Row = Row {
+    place: KEY_4,
+    columns: &[
+        ("tx_created_at", Cell::BigInt(0)),
+        ("tx_state", Cell::Int(4)),
+    ],
+};
+
+const ID_2: TxId = TxId(0x0000000000000001_0000000000000001);
+
+pub static EVENTS: [Step; 17] = [
+    Step::Take(1, "BEGIN", Some(Said::Done)),
+    Step::Take(1, "SELECT * FROM shop.item WHERE cat = 1", None),
+    Step::Call(
+        1,
+        "ordered",
+        Ask::Scan("shop", "item", Some(&[Cell::Int(1)])),
+        How::Seen,
+        Told::Rows(&[]),
+        Some(Said::Rows(&[])),
+    ),
+    Step::Take(1, "INSERT INTO shop.item (cat, n) VALUES (2, 1)", None),
+    Step::Call(
+        1,
+        "ordered",
+        Ask::Get(KEY_1),
+        How::Seen,
+        Told::Found(None),
+        Some(Said::Count(1)),
+    ),
+    Step::Take(2, "BEGIN", Some(Said::Done)),
+    Step::Take(2, "INSERT INTO shop.item (cat, n) VALUES (1, 9)", None),
+    Step::Call(
+        2,
+        "ordered",
+        Ask::Get(KEY_2),
+        How::Seen,
+        Told::Found(None),
+        Some(Said::Count(1)),
+    ),
+    Step::Take(2, "COMMIT", None),
+    Step::Call(
+        2,
+        "ordered",
+        Ask::Put(RECORD_1, Condition::Absent),
+        How::Seen,
+        Told::Applied,
+        None,
+    ),
+    Step::Call(
+        2,
+        "ordered",
+        Ask::Put(RECORD_2, Condition::Absent),
+        How::Seen,
+        Told::Applied,
+        None,
+    ),
+    Step::Call(
+        2,
+        "ordered",
+        Ask::Put(RECORD_3, Condition::Version(ID_1, State::Prepared)),
+        How::Seen,
+        Told::Applied,
+        Some(Said::Committed),
+    ),
+    Step::Take(1, "COMMIT", None),
+    Step::Call(
+        1,
+        "ordered",
+        Ask::Put(RECORD_4, Condition::Absent),
+        How::Seen,
+        Told::Applied,
+        None,
+    ),
+    Step::Call(
+        1,
+        "ordered",
+        Ask::Scan("shop", "item", Some(&[Cell::Int(1)])),
+        How::Seen,
+        Told::Rows(&[RECORD_3]),
+        None,
+    ),
+    Step::Call(
+        1,
+        "ordered",
+        Ask::Put(RECORD_5, Condition::Absent),
+        How::Seen,
+        Told::Applied,
+        None,
+    ),
+    Step::Call(
+        1,
+        "ordered",
+        Ask::Delete(KEY_1, Condition::Version(ID_2, State::Prepared)),
+        How::Seen,
+        Told::Applied,
+        Some(Said::Conflict(KEY_2, Some(RECORD_3))),
+    ),
+];
