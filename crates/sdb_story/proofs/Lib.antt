@@ -9,3 +9,5 @@ pub mod Answered
 pub mod Files
 pub mod Turns
 pub mod Run
+pub mod Notes
+pub mod Agree

@@ -15,7 +15,7 @@ use Rattle.sdb_laws.specs.History.{Role, Other, Begins, Takes}
 use Rattle.sdb_laws.specs.Lawful.{Played, MayPlay, id, talk}
 use Rattle.sdb_turns.specs.System.{ClientAt, SystemAt, SystemOk, Has, IsBy, with_begun, with_client}
 use Rattle.sdb_story.specs.Left.{Execution, BodyIsSaid}
-use Rattle.sdb_story.specs.Ran.{BodySaid}
+use Rattle.sdb_story.specs.BodyTexts.{BodySaid}
 use Rattle.sdb_story.specs.Telling.{Telling, StoryOk, TellsOn, AllStories, OthersStand, KeepsHold, IsCounted, with_told}
 use Rattle.sdb_story.proofs.Tellings.{story_stays, others_apart, others_silent}
 

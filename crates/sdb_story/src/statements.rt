@@ -10,9 +10,12 @@ ghost use Rattle.sdb_model.specs.Exec.{Tables};
 ghost use Rattle.sdb_model.specs.declared.event.Event.{Event};
 ghost use Rattle.sdb_model.specs.Sql.{Reads};
 ghost use Rattle.sdb_model.specs.Transactions.{Said, body, is_effective};
-ghost use Rattle.sdb_laws.specs.Lawful.{Played, id};
-ghost use Rattle.sdb_story.specs.Left.{BodyIsSaid, Execution};
-ghost use Rattle.sdb_story.specs.Ran.{BodySaid};
+ghost use Rattle.sdb_laws.specs.Plan.{Plan};
+ghost use Rattle.sdb_laws.specs.Lawful.{Played, id, talk};
+ghost use Rattle.sdb_laws.specs.Faithful.{AreNoted};
+ghost use Rattle.sdb_phases.specs.Work.{Work};
+ghost use Rattle.sdb_story.specs.Left.{AreReads, BodyIsSaid, Execution};
+ghost use Rattle.sdb_story.specs.BodyTexts.{BodySaid};
 ghost use Rattle.sdb_snapshot.specs.Seen.{Seen, Agrees, nothing, with_written};
 ghost use Rattle.sdb_turns.specs.Noted.{SeenOk, with_read};
 ghost use Rattle.sdb_story.specs.Body.{AgreesAll, BodyOk, IsCovered, AnswersOn};
@@ -45,4 +48,9 @@ pub fn body_is_said()
     ensures nothing { (ss : List Said) (s : Said) (r : Execution) → BodySaid ss r → is_effective s ≡ false → BodySaid (ss ++ s ∷ []) r }
     ensures one { (ss : List Said) (s : Said) (r next : Execution) (statement : Statement) (a : Answer) → BodySaid ss r → is_effective s ≡ true → Reads s.text statement → s.answer ≡ Some a → next.body ≡ r.body ++ statement ∷ [] → next.answers ≡ r.answers ++ a ∷ [] → BodySaid (ss ++ s ∷ []) next }
     ensures whole { (events : List Event) (t : ℕ) (ss : List Said) (r : Execution) → body events (id t) ≡ filter is_effective ss → BodySaid ss r → BodyIsSaid events t r }
+{}
+
+/// Where the gets and the scans of what each COMMIT took are what the statements of its transaction noted, so are the notes of the plans.
+pub fn notes_are_reads()
+    ensures { (plan : ℕ → Plan) (events : List Event) (past : List Played) (works : ℕ → Work) → ((t : ℕ) → (talk past).taken t ≡ true → AreReads plan events (works t) t) → AreNoted plan events past }
 {}
