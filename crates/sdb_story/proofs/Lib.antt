@@ -11,3 +11,4 @@ pub mod Turns
 pub mod Run
 pub mod Notes
 pub mod Agree
+pub mod Noting

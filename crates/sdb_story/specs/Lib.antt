@@ -5,3 +5,4 @@ pub mod Left
 pub mod Telling
 pub mod BodyTexts
 pub mod Linked
+pub mod Calls
