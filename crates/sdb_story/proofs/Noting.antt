@@ -28,7 +28,10 @@ use Rattle.sdb_record.specs.declared.meta.Meta.{Meta}
 use Rattle.sdb_record.specs.Coordinator.{coordinator_key_of, coordinator_row_of, decision_in, is_coordinator_table}
 use Rattle.sdb_record.specs.Meta.{id_in, is_in, is_moment}
 use Rattle.sdb_record.specs.Moved.{version_of}
-use Rattle.sdb_record.specs.Parts.{before_record}
+use Rattle.sdb_record.specs.Parts.{before_part, before_record, record_with}
+use Rattle.sdb_types.specs.declared.pair.Pair.{Pair}
+use Rattle.sdb_laws.specs.Lawful.{Played}
+use Rattle.sdb_turns.specs.Reader.{PhaseOk}
 use Rattle.sdb_record.specs.Rolls.{forward_record, image_of, image_under}
 use Rattle.sdb_record.proofs.ImageLaws.{row-key, row-decision, image-open, image-settled}
 use Rattle.sdb_record.proofs.RollLaws.{forward-key, forward-writer}
@@ -42,10 +45,10 @@ use Rattle.sdb_phases.specs.declared.step.RecoverPhase.{RecoverPhase}
 use Rattle.sdb_phases.specs.declared.step.RecoverPhase.TheVariants as phase
 use Rattle.sdb_phases.specs.Work.{look_of, abort_of, undo}
 use Rattle.sdb_phases.specs.Recover.{recover_request_at, recover_next, recover_forward, recover_back, roll_to, stands_found}
-use Rattle.sdb_turns.specs.ReadAt.{Kind, Firm, Open, Bad, AreKinds, IsKind, ReadAt, Asking, Resolving, Done, Failed, request_of, settle, settle_one, settle_reply, after_recovery, read_pending, read_step}
+use Rattle.sdb_turns.specs.ReadAt.{Kind, Firm, Open, Bad, AreKinds, IsKind, ReadAt, Asking, Resolving, Done, Failed, request_of, settle, settle_one, settle_reply, after_recovery, read_pending, read_step, ReadOk}
 use Rattle.sdb_turns.proofs.Lists.{each_any, each_more}
 use Rattle.sdb_turns.proofs.Meta.{meta_of, held_of}
-use Rattle.sdb_story.specs.Calls.{Learned, IsHeldBy, ImageBy, Itself, Forward, Back, AreImagesBy, somes, rows_of, PhaseLearned, RowsMade, ReadMade, AgreeOn}
+use Rattle.sdb_story.specs.Calls.{Learned, IsHeldBy, ImageBy, Itself, Forward, Back, AreImagesBy, somes, rows_of, PhaseLearned, RowsMade, ReadMade, AgreeOn, IsMade, note_with}
 
 ---- what was learned stays
 
@@ -151,11 +154,6 @@ row_learned ms m meta row shown = by (decision_in row) refl
 
 some_is : {A : Type 0} (x y : A) → Some x ≡ Some y → y ≡ x
 some_is x y e = cc
-
--- a call's request and reply
-pub record IsMade (m : Made) (q : Request) (r : Reply) : Type 0 where
-  pub request : m.request ≡ q
-  pub reply : m.reply ≡ r
 
 abbrev waited : Meta → ℤ → Bool → RecoverPhase × RecoverStep
 waited meta now b = if b then (phase.Abort now, steps.More) else (phase.Ended, steps.Busy meta.id meta.prepared_at)
@@ -326,3 +324,85 @@ recovered_made kind ms m a images rec meta p left now q r kinds fits moment made
     by (n, steps.Faulted) h = tt
     by (n, steps.BadRecord key) h = tt
     by (n, steps.NoMemory) h = tt
+
+---- the first call
+
+rows_made : (m : Made) (a : Access) (r : Reply) (rows : List Record) → IsMade m (request_of a) r → rows_of r ≡ Some rows → RowsMade (m ∷ []) a [] rows
+rows_made m a r rows is e = record { first = m; more = []; calls = refl; asked = is.request; done = []; settled = []; rows = ap rows_of is.reply ∙ e; by = tt; found = refl; others = tt }
+
+asked_made : (kind : Record → Kind) (m : Made) (a : Access) (r : Reply) → AreKinds kind → IsMade m (request_of a) r → ReadMade (m ∷ []) a (settle_reply kind r)
+asked_made kind m a (reply.Found None) kinds is = rows_made m a (reply.Found None) [] is refl
+asked_made kind m a (reply.Found (Some x)) kinds is = settle_made kind (m ∷ []) a [] (x ∷ []) kinds (rows_made m a (reply.Found (Some x)) (x ∷ []) is refl)
+asked_made kind m a (reply.Rows rows) kinds is = settle_made kind (m ∷ []) a [] rows kinds (rows_made m a (reply.Rows rows) rows is refl)
+asked_made kind m a reply.Applied kinds is = tt
+asked_made kind m a (reply.NotMet found) kinds is = tt
+asked_made kind m a reply.Fault kinds is = tt
+asked_made kind m a reply.NoMemory kinds is = tt
+
+-- Whatever call of a read is pending, with it and its reply the read keeps what its calls showed.
+pub read_made : (kind : Record → Kind) (past : List Played) (ms : List Made) (m : Made) (a : Access) (s : ReadAt) (now : ℤ) (q : Request) (r : Reply) → AreKinds kind → ReadOk past a s → ReadMade ms a s → read_pending a s ≡ Some q → IsMade m q r → ReadMade (ms ++ m ∷ []) a (read_step kind s now r)
+read_made kind past ms m a Asking now q r kinds ok made e is = subst (λ xs. ReadMade (xs ++ m ∷ []) a (settle_reply kind r)) (sym made) (asked_made kind m a r kinds (record { request = is.request ∙ some_is (request_of a) q e; reply = is.reply }))
+read_made kind past ms m a (Resolving images rec meta p left) now q r kinds ok made e is = recovered_made kind ms m a images rec meta p left now q r kinds ok.1.of.fits (λ n h. subst (PhaseOk past meta) h ok.1.phase) made e is
+read_made kind past ms m a (Done images) now q r kinds ok made e is = absurd (cc)
+read_made kind past ms m a Failed now q r kinds ok made e is = absurd (cc)
+
+---- the model's note
+
+learned_first : (ms : List Made) (id : TxId) (d : Decision) → Learned ms id d → (x : Decided) × (decision_learned ms id ≡ Some x) × Learned ms id x.decision
+learned_first [] id d h = absurd h
+learned_first (m ∷ ms) id d h = by (decision_shown id m) refl h (λ l. learned_first ms id d l)
+  where
+    none_is : (x : Decided) → ◌≡◌ {A = Option Decided} None (Some x) → ⊥
+    none_is x e = cc
+
+    by : (o : Option Decided) → decision_shown id m ≡ o → Learned (m ∷ ms) id d → (Learned ms id d → (x : Decided) × (decision_learned ms id ≡ Some x) × Learned ms id x.decision) → (x : Decided) × (decision_learned (m ∷ ms) id ≡ Some x) × Learned (m ∷ ms) id x.decision
+    by (Some x) e l ih = (x, ap (λ o. if is_some o then o else decision_learned ms id) e, inl (x, e, refl))
+    by None e (inl l) ih = absurd (none_is l.0 (sym e ∙ l.1))
+    by None e (inr l) ih = let x = ih l in (x.0, ap (λ o. if is_some o then o else decision_learned ms id) e ∙ x.1, inr x.2)
+
+learned_is : (ms : List Made) (id : TxId) (d : Decision) → AgreeOn ms → Learned ms id d → (x : Decided) × (decision_learned ms id ≡ Some x) × (x.decision ≡ d)
+learned_is ms id d agree l = let x = learned_first ms id d l in (x.0, x.1, agree id x.0.decision d x.2 l)
+
+-- a record as a scan's read of it
+abbrev read_as : Record → Read
+read_as b = record { key = b.key; version = id_in b.columns }
+
+before_key : (r b : Record) → before_record r ≡ Some b → b.key ≡ r.key
+unfolding before_record
+before_key r b e = by (before_part r.columns) e
+  where
+    key_is : (x : Record) → Some x ≡ Some b → b.key ≡ x.key
+    key_is x e = cc
+
+    by : (ps : List Pair) → record_with r.key ps ≡ Some b → b.key ≡ r.key
+    by [] e = absurd (cc (e))
+    by (p ∷ ps) e = key_is (record { key = r.key; columns = p ∷ ps }) e
+
+-- what is read of a record that stands for some record, by the calls
+abbrev read_by : List Made → Record → Option Read
+read_by ms r = option_map (λ (image : Record). noted.read_of r.key (Some image)) (resolved ms r)
+
+resolved_under : (ms : List Made) (r : Record) (id : TxId) (x : Decided) → IsHeldBy r id → decision_learned ms id ≡ Some x → resolved ms r ≡ image_under r (Some x)
+resolved_under ms r id x h e = ap (λ o. image_of r (option_and_then (decision_learned ms) o)) h.writer ∙ ap (image_of r) e ∙ image-open r (Some x) h.held
+
+under_is : (r : Record) (d c : Decision) (n : ℤ) → c ≡ d → image_under r (Some (record { decision = c; created_at = n })) ≡ image_under r (Some (record { decision = d; created_at = n }))
+under_is r d c n e = ap (λ y. image_under r (Some (record { decision = y; created_at = n }))) e
+
+read_is : (ms : List Made) (r : Record) (o : Option Record) → AgreeOn ms → ImageBy ms r o → read_by ms r ≡ option_map read_as o
+read_is ms r o agree (Itself firm same) = ap (option_map (λ (image : Record). noted.read_of r.key (Some image))) (image-settled r (option_and_then (decision_learned ms) (id_in r.columns)) firm) ∙ ap (option_map read_as) (sym same)
+read_is ms r o agree (Forward id m held learned same) =
+    let x = learned_is ms id decision.Committed agree learned in
+    ap (option_map (λ (image : Record). noted.read_of r.key (Some image))) (resolved_under ms r id x.0 held x.1 ∙ under_is r decision.Committed x.0.decision x.0.created_at x.2)
+    ∙ ap (λ v. Some (record { key = r.key; version = v })) (forward-writer r x.0.created_at)
+    ∙ ap (λ v. Some (record { key = r.key; version = v })) (sym (forward-writer r m))
+    ∙ ap (λ k. Some (record { key = k; version = id_in (forward_record r m).columns })) (sym (forward-key r m))
+    ∙ ap (option_map read_as) (sym same)
+read_is ms r o agree (Back id held learned same) =
+    let x = learned_is ms id decision.Aborted agree learned in
+    ap (option_map (λ (image : Record). noted.read_of r.key (Some image))) (resolved_under ms r id x.0 held x.1 ∙ under_is r decision.Aborted x.0.decision x.0.created_at x.2)
+    ∙ by (before_record r) refl
+    ∙ ap (option_map read_as) (sym same)
+  where
+    by : (b : Option Record) → before_record r ≡ b → option_map (λ (image : Record). noted.read_of r.key (Some image)) b ≡ option_map read_as b
+    by None e = refl
+    by (Some b) e = ap (λ k. Some (record { key = k; version = id_in b.columns })) (sym (before_key r b e))

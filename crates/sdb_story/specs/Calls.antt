@@ -3,10 +3,12 @@ use Rattle.std.specs.Prelude.{◌≡◌, ◌⊎◌, ℤ, true, false, List, [], 
 use Rattle.std.specs.List.{AllByRecursion}
 use Rattle.sdb_types.specs.declared.txid.TxId.{TxId}
 use Rattle.sdb_types.specs.declared.record.Record.{Record}
+use Rattle.sdb_types.specs.declared.record.Request.{Request}
 use Rattle.sdb_types.specs.declared.record.Reply.{Reply}
 use Rattle.sdb_types.specs.declared.record.Reply.TheVariants as reply
 use Rattle.sdb_types.specs.declared.record.State.TheVariants as state
 use Rattle.sdb_record.specs.declared.access.Access.{Access}
+use Rattle.sdb_record.specs.declared.access.Access.TheVariants as access
 use Rattle.sdb_record.specs.declared.coordinator.Decided.{Decided}
 use Rattle.sdb_record.specs.declared.coordinator.Decision.{Decision}
 use Rattle.sdb_record.specs.declared.coordinator.Decision.TheVariants as decision
@@ -15,7 +17,10 @@ use Rattle.sdb_record.specs.Meta.{id_in, is_in}
 use Rattle.sdb_record.specs.Parts.{before_record}
 use Rattle.sdb_record.specs.Rolls.{forward_record}
 use Rattle.sdb_model.specs.Calls.{Made, decision_shown}
-use Rattle.sdb_model.specs.Noted.{reads_rows}
+use Rattle.sdb_record.specs.Moved.{version_of}
+use Rattle.sdb_model.specs.Noted.{Note, Got, Scanned, reads_rows}
+use Rattle.sdb_snapshot.specs.Noted.{reads_of}
+use Rattle.sdb_turns.specs.Noted.{first_image}
 use Rattle.sdb_phases.specs.declared.step.RecoverPhase.{RecoverPhase}
 use Rattle.sdb_phases.specs.declared.step.RecoverPhase.TheVariants as phase
 use Rattle.sdb_turns.specs.ReadAt.{ReadAt, Asking, Resolving, Done, Failed, request_of}
@@ -85,3 +90,13 @@ ReadMade ms a Failed = Unit {0}
 -- what the calls showed of one row agrees
 abbrev pub AgreeOn : List Made → Type 0
 AgreeOn ms = (id : TxId) (c d : Decision) → Learned ms id c → Learned ms id d → c ≡ d
+
+-- the note of a read that is done with these images
+abbrev pub note_with : Access → List Record → Note
+note_with (access.Get key) images = Got (record { key = key; version = version_of (first_image images) })
+note_with (access.Scan span) images = Scanned (record { span = span; found = reads_of images })
+
+-- a call has that request and that reply
+pub record IsMade (m : Made) (q : Request) (r : Reply) : Type 0 where
+  pub request : m.request ≡ q
+  pub reply : m.reply ≡ r
