@@ -1,7 +1,16 @@
 -- The notes of a plan are the reads and the scans of what its COMMIT took.
-use Rattle.std.proofs.Common.{◌≡◌, ◌≢◌, ℕ, zero, suc, Bool, true, false, cond, List, [], ◌∷◌, ◌++◌, map, Option, Some, None, refl, sym, ap, subst, ◌∙◌, ◌⊎◌, inl, inr}
+use Rattle.std.proofs.Common.{ℤ, ◌≡◌, ◌≢◌, ℕ, zero, suc, Bool, true, false, cond, List, [], ◌∷◌, ◌++◌, map, Option, Some, None, refl, sym, ap, subst, ◌∙◌, ◌⊎◌, inl, inr}
 use Rattle.std.specs.Prelude.{Contains, ◌↔◌, filter, not, slice_get, if◌then◌else◌}
-use Rattle.std.proofs.lemmas.List.Elements.{Contains-append_left, Contains-append_right, Contains-append_cases}
+use Rattle.std.proofs.lemmas.List.Elements.{Contains-append_left, Contains-append_right, Contains-append_cases, Contains-push, Contains-push_cases}
+use Rattle.sdb_types.specs.declared.txid.TxId.{TxId}
+use Rattle.sdb_types.specs.declared.record.Record.{Record}
+use Rattle.sdb_record.specs.declared.access.Access.{Access}
+use Rattle.sdb_record.specs.declared.access.Access.TheVariants as access
+use Rattle.sdb_record.specs.Moved.{version_of}
+use Rattle.sdb_snapshot.specs.Noted.{reads_of}
+use Rattle.sdb_snapshot.specs.Seen.{Seen}
+use Rattle.sdb_turns.specs.Noted.{first_image, with_read, work_of}
+use Rattle.sdb_story.specs.Calls.{note_with}
 use Rattle.sdb_record.specs.declared.access.Read.{Read}
 use Rattle.sdb_record.specs.declared.access.Scan.{Scan}
 use Rattle.sdb_model.specs.declared.event.Event.{Event}
@@ -94,3 +103,65 @@ are_noted plan events past works all t taken n = let x = all t taken in (
   λ h. (x.noted n).0 (notes_reads (works t) n (subst (λ (p : Plan). Contains p.notes n) x.planned h)),
   λ h. subst (λ (p : Plan). Contains p.notes n) (sym x.planned) (reads_notes (works t) n ((x.noted n).1 h)),
 )
+
+---- one read more
+
+map_last : {A B : Type 0} (f : A → B) (xs : List A) (x : A) → map f (xs ++ x ∷ []) ≡ map f xs ++ f x ∷ []
+map_last f [] x = refl
+map_last f (y ∷ xs) x = ap (λ r. f y ∷ r) (map_last f xs x)
+
+last_cases : (xs : List Note) (x n : Note) → Contains (xs ++ x ∷ []) n → Contains xs n ⊎ (n ≡ x)
+last_cases xs x n h = by (Contains-push_cases xs x n h)
+  where
+    by : Contains xs n ⊎ (x ≡ n) → Contains xs n ⊎ (n ≡ x)
+    by (inl h) = inl h
+    by (inr e) = inr (sym e)
+
+-- A read that is noted adds its note.
+pub read_adds : (id : TxId) (now : ℤ) (s : Seen) (a : Access) (images : List Record) (n : Note) → Contains (reads_and_scans (work_of id now (with_read s a images))) n ↔ (Contains (reads_and_scans (work_of id now s)) n ⊎ (n ≡ note_with a images))
+read_adds t now s (access.Get key) images n = (λ h. out (Contains-append_cases (map Got (s.reads ++ r ∷ [])) (map Scanned s.scans) n h), into)
+  where
+    r : Read
+    r = record { key = key; version = version_of (first_image images) }
+
+    old : Contains (map Got s.reads) n ⊎ (n ≡ Got r) → Contains (map Got s.reads ++ map Scanned s.scans) n ⊎ (n ≡ Got r)
+    old (inl h) = inl (Contains-append_left (map Got s.reads) (map Scanned s.scans) n h)
+    old (inr e) = inr e
+
+    out : Contains (map Got (s.reads ++ r ∷ [])) n ⊎ Contains (map Scanned s.scans) n → Contains (map Got s.reads ++ map Scanned s.scans) n ⊎ (n ≡ Got r)
+    out (inl h) = old (last_cases (map Got s.reads) (Got r) n (subst (λ xs. Contains xs n) (map_last Got s.reads r) h))
+    out (inr h) = inl (Contains-append_right (map Got s.reads) (map Scanned s.scans) n h)
+
+    again : Contains (map Got s.reads ++ Got r ∷ []) n → Contains (map Got (s.reads ++ r ∷ []) ++ map Scanned s.scans) n
+    again h = Contains-append_left (map Got (s.reads ++ r ∷ [])) (map Scanned s.scans) n (subst (λ xs. Contains xs n) (sym (map_last Got s.reads r)) h)
+
+    keep : Contains (map Got s.reads) n ⊎ Contains (map Scanned s.scans) n → Contains (map Got (s.reads ++ r ∷ []) ++ map Scanned s.scans) n
+    keep (inl h) = again (Contains-append_left (map Got s.reads) (Got r ∷ []) n h)
+    keep (inr h) = Contains-append_right (map Got (s.reads ++ r ∷ [])) (map Scanned s.scans) n h
+
+    into : Contains (map Got s.reads ++ map Scanned s.scans) n ⊎ (n ≡ Got r) → Contains (map Got (s.reads ++ r ∷ []) ++ map Scanned s.scans) n
+    into (inl h) = keep (Contains-append_cases (map Got s.reads) (map Scanned s.scans) n h)
+    into (inr e) = subst (λ y. Contains (map Got (s.reads ++ r ∷ []) ++ map Scanned s.scans) y) (sym e) (Contains-append_left (map Got (s.reads ++ r ∷ [])) (map Scanned s.scans) (Got r) (subst (λ xs. Contains xs (Got r)) (sym (map_last Got s.reads r)) (Contains-push (map Got s.reads) (Got r))))
+read_adds t now s (access.Scan span) images n = (λ h. out (Contains-append_cases (map Got s.reads) (map Scanned (s.scans ++ x ∷ [])) n h), into)
+  where
+    x : Scan
+    x = record { span = span; found = reads_of images }
+
+    old : Contains (map Scanned s.scans) n ⊎ (n ≡ Scanned x) → Contains (map Got s.reads ++ map Scanned s.scans) n ⊎ (n ≡ Scanned x)
+    old (inl h) = inl (Contains-append_right (map Got s.reads) (map Scanned s.scans) n h)
+    old (inr e) = inr e
+
+    out : Contains (map Got s.reads) n ⊎ Contains (map Scanned (s.scans ++ x ∷ [])) n → Contains (map Got s.reads ++ map Scanned s.scans) n ⊎ (n ≡ Scanned x)
+    out (inl h) = inl (Contains-append_left (map Got s.reads) (map Scanned s.scans) n h)
+    out (inr h) = old (last_cases (map Scanned s.scans) (Scanned x) n (subst (λ xs. Contains xs n) (map_last Scanned s.scans x) h))
+
+    again : (y : Note) → Contains (map Scanned s.scans ++ Scanned x ∷ []) y → Contains (map Got s.reads ++ map Scanned (s.scans ++ x ∷ [])) y
+    again y h = Contains-append_right (map Got s.reads) (map Scanned (s.scans ++ x ∷ [])) y (subst (λ xs. Contains xs y) (sym (map_last Scanned s.scans x)) h)
+
+    keep : Contains (map Got s.reads) n ⊎ Contains (map Scanned s.scans) n → Contains (map Got s.reads ++ map Scanned (s.scans ++ x ∷ [])) n
+    keep (inl h) = Contains-append_left (map Got s.reads) (map Scanned (s.scans ++ x ∷ [])) n h
+    keep (inr h) = again n (Contains-append_left (map Scanned s.scans) (Scanned x ∷ []) n h)
+
+    into : Contains (map Got s.reads ++ map Scanned s.scans) n ⊎ (n ≡ Scanned x) → Contains (map Got s.reads ++ map Scanned (s.scans ++ x ∷ [])) n
+    into (inl h) = keep (Contains-append_cases (map Got s.reads) (map Scanned s.scans) n h)
+    into (inr e) = subst (λ y. Contains (map Got s.reads ++ map Scanned (s.scans ++ x ∷ [])) y) (sym e) (again (Scanned x) (Contains-push (map Scanned s.scans) (Scanned x)))

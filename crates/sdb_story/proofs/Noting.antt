@@ -1,7 +1,7 @@
 -- A read keeps what its calls showed, and what it is done with is what the model notes of its calls.
 use Rattle.std.proofs.Common.{◌≡◌, ◌≢◌, ◌<◌, ◌^◌, ℕ, ℤ, Bool, true, false, cond, List, [], ◌∷◌, ◌++◌, map, Option, Some, None, Result, Ok, Err, refl, sym, ap, subst, ◌∙◌, ◌⊎◌, inl, inr}
 use Rattle.std.specs.Prelude.{if◌then◌else◌, is_some, filter}
-use Rattle.std.specs.List.{AllByRecursion, filter_map}
+use Rattle.std.specs.List.{AllByRecursion, cons_option, filter_map}
 use Rattle.std.specs.Option.{option_map, option_map_or, option_and_then}
 use Rattle.std.specs.Result.{result_ok}
 use Rattle.std.specs.Ordering.{is_eq}
@@ -38,7 +38,9 @@ use Rattle.sdb_record.proofs.RollLaws.{forward-key, forward-writer}
 use Rattle.sdb_model.specs.Calls.{Made, decision_shown, decision_said, decision_learned, is_of_row, is_read, key_asked}
 use Rattle.sdb_model.specs.Events.{table_asked}
 use Rattle.sdb_model.specs.Noted as noted
-use Rattle.sdb_model.specs.Noted.{Note, Got, Scanned, reads_rows, resolved, note_of}
+use Rattle.sdb_model.specs.Noted.{Note, Got, Scanned, reads_rows, resolved, note_of, notes_in}
+use Rattle.sdb_snapshot.specs.Noted.{reads_of}
+use Rattle.sdb_turns.specs.Noted.{first_image}
 use Rattle.sdb_phases.specs.declared.step.RecoverStep.{RecoverStep}
 use Rattle.sdb_phases.specs.declared.step.RecoverStep.TheVariants as steps
 use Rattle.sdb_phases.specs.declared.step.RecoverPhase.{RecoverPhase}
@@ -102,6 +104,7 @@ row_done ms a images r left o made i = record {
   more = made.more;
   calls = made.calls;
   asked = made.asked;
+  can = made.can;
   done = made.done ++ r ∷ [];
   settled = made.settled ++ o ∷ [];
   rows = made.rows ∙ ap Some (sym (append_assoc made.done (r ∷ []) left));
@@ -290,6 +293,7 @@ rows_made_more ms m a images left apart made = record {
   more = made.more ++ m ∷ [];
   calls = ap (λ xs. xs ++ m ∷ []) made.calls;
   asked = made.asked;
+  can = made.can;
   done = made.done;
   settled = made.settled;
   rows = made.rows;
@@ -327,24 +331,24 @@ recovered_made kind ms m a images rec meta p left now q r kinds fits moment made
 
 ---- the first call
 
-rows_made : (m : Made) (a : Access) (r : Reply) (rows : List Record) → IsMade m (request_of a) r → rows_of r ≡ Some rows → RowsMade (m ∷ []) a [] rows
-rows_made m a r rows is e = record { first = m; more = []; calls = refl; asked = is.request; done = []; settled = []; rows = ap rows_of is.reply ∙ e; by = tt; found = refl; others = tt }
+rows_made : (m : Made) (a : Access) (r : Reply) (rows : List Record) → IsMade m (request_of a) r → CanAnswer (request_of a) r → rows_of r ≡ Some rows → RowsMade (m ∷ []) a [] rows
+rows_made m a r rows is can e = record { first = m; more = []; calls = refl; asked = is.request; can = subst (CanAnswer (request_of a)) (sym is.reply) can; done = []; settled = []; rows = ap rows_of is.reply ∙ e; by = tt; found = refl; others = tt }
 
-asked_made : (kind : Record → Kind) (m : Made) (a : Access) (r : Reply) → AreKinds kind → IsMade m (request_of a) r → ReadMade (m ∷ []) a (settle_reply kind r)
-asked_made kind m a (reply.Found None) kinds is = rows_made m a (reply.Found None) [] is refl
-asked_made kind m a (reply.Found (Some x)) kinds is = settle_made kind (m ∷ []) a [] (x ∷ []) kinds (rows_made m a (reply.Found (Some x)) (x ∷ []) is refl)
-asked_made kind m a (reply.Rows rows) kinds is = settle_made kind (m ∷ []) a [] rows kinds (rows_made m a (reply.Rows rows) rows is refl)
-asked_made kind m a reply.Applied kinds is = tt
-asked_made kind m a (reply.NotMet found) kinds is = tt
-asked_made kind m a reply.Fault kinds is = tt
-asked_made kind m a reply.NoMemory kinds is = tt
+asked_made : (kind : Record → Kind) (m : Made) (a : Access) (r : Reply) → AreKinds kind → IsMade m (request_of a) r → CanAnswer (request_of a) r → ReadMade (m ∷ []) a (settle_reply kind r)
+asked_made kind m a (reply.Found None) kinds is can = rows_made m a (reply.Found None) [] is can refl
+asked_made kind m a (reply.Found (Some x)) kinds is can = settle_made kind (m ∷ []) a [] (x ∷ []) kinds (rows_made m a (reply.Found (Some x)) (x ∷ []) is can refl)
+asked_made kind m a (reply.Rows rows) kinds is can = settle_made kind (m ∷ []) a [] rows kinds (rows_made m a (reply.Rows rows) rows is can refl)
+asked_made kind m a reply.Applied kinds is can = tt
+asked_made kind m a (reply.NotMet found) kinds is can = tt
+asked_made kind m a reply.Fault kinds is can = tt
+asked_made kind m a reply.NoMemory kinds is can = tt
 
 -- Whatever call of a read is pending, with it and its reply the read keeps what its calls showed.
-pub read_made : (kind : Record → Kind) (past : List Played) (ms : List Made) (m : Made) (a : Access) (s : ReadAt) (now : ℤ) (q : Request) (r : Reply) → AreKinds kind → ReadOk past a s → ReadMade ms a s → read_pending a s ≡ Some q → IsMade m q r → ReadMade (ms ++ m ∷ []) a (read_step kind s now r)
-read_made kind past ms m a Asking now q r kinds ok made e is = subst (λ xs. ReadMade (xs ++ m ∷ []) a (settle_reply kind r)) (sym made) (asked_made kind m a r kinds (record { request = is.request ∙ some_is (request_of a) q e; reply = is.reply }))
-read_made kind past ms m a (Resolving images rec meta p left) now q r kinds ok made e is = recovered_made kind ms m a images rec meta p left now q r kinds ok.1.of.fits (λ n h. subst (PhaseOk past meta) h ok.1.phase) made e is
-read_made kind past ms m a (Done images) now q r kinds ok made e is = absurd (cc)
-read_made kind past ms m a Failed now q r kinds ok made e is = absurd (cc)
+pub read_made : (kind : Record → Kind) (past : List Played) (ms : List Made) (m : Made) (a : Access) (s : ReadAt) (now : ℤ) (q : Request) (r : Reply) → AreKinds kind → ReadOk past a s → ReadMade ms a s → read_pending a s ≡ Some q → CanAnswer q r → IsMade m q r → ReadMade (ms ++ m ∷ []) a (read_step kind s now r)
+read_made kind past ms m a Asking now q r kinds ok made e can is = subst (λ xs. ReadMade (xs ++ m ∷ []) a (settle_reply kind r)) (sym made) (asked_made kind m a r kinds (record { request = is.request ∙ some_is (request_of a) q e; reply = is.reply }) (subst (λ x. CanAnswer x r) (some_is (request_of a) q e) can))
+read_made kind past ms m a (Resolving images rec meta p left) now q r kinds ok made e can is = recovered_made kind ms m a images rec meta p left now q r kinds ok.1.of.fits (λ n h. subst (PhaseOk past meta) h ok.1.phase) made e is
+read_made kind past ms m a (Done images) now q r kinds ok made e can is = absurd (cc)
+read_made kind past ms m a Failed now q r kinds ok made e can is = absurd (cc)
 
 ---- the model's note
 
@@ -406,3 +410,76 @@ read_is ms r o agree (Back id held learned same) =
     by : (b : Option Record) → before_record r ≡ b → option_map (λ (image : Record). noted.read_of r.key (Some image)) b ≡ option_map read_as b
     by None e = refl
     by (Some b) e = ap (λ k. Some (record { key = k; version = id_in b.columns })) (sym (before_key r b e))
+
+reads_are : (ms : List Made) (rs : List Record) (os : List (Option Record)) → AgreeOn ms → AreImagesBy ms rs os → noted.reads_of ms rs ≡ reads_of (somes os)
+reads_are ms [] [] agree h = refl
+reads_are ms [] (o ∷ os) agree h = absurd h
+reads_are ms (r ∷ rs) [] agree h = absurd h
+reads_are ms (r ∷ rs) (o ∷ os) agree h = ap (λ x. cons_option x (noted.reads_of ms rs)) (read_is ms r o agree h.0) ∙ ap (cons_option (option_map read_as o)) (reads_are ms rs os agree h.1) ∙ by o
+  where
+    by : (o : Option Record) → cons_option (option_map read_as o) (reads_of (somes os)) ≡ reads_of (somes (o ∷ os))
+    by None = refl
+    by (Some b) = refl
+
+versions : (f : Record → Read) → ((b : Record) → (f b).version ≡ id_in b.columns) → (o : Option Record) → option_and_then (λ (x : Read). x.version) (option_map f o) ≡ version_of o
+versions f same None = refl
+versions f same (Some b) = same b
+
+version_is : (ms : List Made) (r : Record) (o : Option Record) → AgreeOn ms → ImageBy ms r o → version_of (resolved ms r) ≡ version_of o
+version_is ms r o agree h = sym (versions (λ (image : Record). noted.read_of r.key (Some image)) (λ b. refl) (resolved ms r)) ∙ ap (option_and_then (λ (x : Read). x.version)) (read_is ms r o agree h) ∙ versions read_as (λ b. refl) o
+
+first_is : (o : Option Record) → first_image (somes (o ∷ [])) ≡ o
+first_is None = refl
+first_is (Some b) = refl
+
+-- The calls of a read that is done are noted as it is.
+note_is : (ms : List Made) (a : Access) (images : List Record) → (made : RowsMade ms a images []) → AgreeOn ms → note_of ms made.first.request made.first.reply ≡ Some (note_with a images)
+note_is ms a images made agree = ap (λ q. note_of ms q made.first.reply) made.asked ∙ by a made.first.reply made.can (made.rows ∙ ap Some (append-nil made.done))
+  where
+    none_in : (rs : List Record) (os : List (Option Record)) → rs ≡ [] → AreImagesBy ms rs os → somes os ≡ []
+    none_in [] [] e h = refl
+    none_in [] (o ∷ os) e h = absurd h
+    none_in (r ∷ rs) os e h = absurd (cc (e))
+
+    one_in : (rs : List Record) (os : List (Option Record)) (r : Record) → rs ≡ r ∷ [] → AreImagesBy ms rs os → version_of (resolved ms r) ≡ version_of (first_image (somes os))
+    one_in [] os r e h = absurd (cc (e))
+    one_in (q ∷ []) [] r e h = absurd h
+    one_in (q ∷ []) (o ∷ []) r e h = version_is ms r o agree (subst (λ x. ImageBy ms x o) (head_is q r e) h.0) ∙ ap version_of (sym (first_is o))
+      where
+        head_is : (q r : Record) → q ∷ [] ≡ r ∷ [] → q ≡ r
+        head_is q r e = cc
+    one_in (q ∷ []) (o ∷ p ∷ os) r e h = absurd h.1
+    one_in (q ∷ s ∷ rs) os r e h = absurd (cc (e))
+
+    by : (b : Access) (r : Reply) → CanAnswer (request_of b) r → rows_of r ≡ Some made.done → note_of ms (request_of b) r ≡ Some (note_with b images)
+    by (access.Get key) (reply.Found None) can e = ap (λ v. Some (Got (record { key = key; version = v }))) (ap (λ xs. version_of (first_image xs)) (sym (made.found ∙ none_in made.done made.settled (some_is [] made.done e) made.by)))
+    by (access.Get key) (reply.Found (Some x)) can e = ap (λ v. Some (Got (record { key = key; version = v }))) (one_in made.done made.settled x (some_is (x ∷ []) made.done e) made.by ∙ ap (λ xs. version_of (first_image xs)) (sym made.found))
+    by (access.Get key) (reply.Rows rows) can e = absurd can
+    by (access.Get key) reply.Applied can e = absurd can
+    by (access.Get key) (reply.NotMet found) can e = absurd can
+    by (access.Get key) reply.Fault can e = absurd (cc (e))
+    by (access.Get key) reply.NoMemory can e = absurd (cc (e))
+    by (access.Scan span) (reply.Rows rows) can e = ap (λ found. Some (Scanned (record { span = span; found = found }))) (ap (noted.reads_of ms) (sym (some_is rows made.done e)) ∙ reads_are ms made.done made.settled agree made.by ∙ ap reads_of (sym made.found))
+    by (access.Scan span) (reply.Found found) can e = absurd can
+    by (access.Scan span) reply.Applied can e = absurd can
+    by (access.Scan span) (reply.NotMet found) can e = absurd can
+    by (access.Scan span) reply.Fault can e = absurd (cc (e))
+    by (access.Scan span) reply.NoMemory can e = absurd (cc (e))
+
+none_kept : (ms : List Made) → AllByRecursion (λ m. reads_rows m ≡ false) ms → filter reads_rows ms ≡ []
+none_kept [] h = refl
+none_kept (m ∷ ms) h = ap (λ b. if b then m ∷ filter reads_rows ms else filter reads_rows ms) h.0 ∙ none_kept ms h.1
+
+reads_it : (a : Access) → is_coordinator_table (table_asked (request_of a)) ≡ false → (if is_coordinator_table (table_asked (request_of a)) then false else is_read (request_of a)) ≡ true
+reads_it (access.Get key) e = ap (λ b. if b then false else true) e
+reads_it (access.Scan span) e = ap (λ b. if b then false else true) e
+
+-- What the model notes of the calls of a read is the note of its images, and nothing else.
+pub read_notes : (ms : List Made) (a : Access) (images : List Record) → ReadMade ms a (Done images) → AgreeOn ms → is_coordinator_table (table_asked (request_of a)) ≡ false → notes_in ms ≡ note_with a images ∷ []
+read_notes ms a images made agree tables = ap (λ xs. filter_map (λ m. note_of ms m.request m.reply) (filter reads_rows xs)) made.calls ∙ ap (filter_map (λ m. note_of ms m.request m.reply)) kept ∙ ap (λ o. cons_option o []) (note_is ms a images made agree)
+  where
+    first : reads_rows made.first ≡ true
+    first = ap (λ q. if is_coordinator_table (table_asked q) then false else is_read q) made.asked ∙ reads_it a tables
+
+    kept : filter reads_rows (made.first ∷ made.more) ≡ made.first ∷ []
+    kept = ap (λ b. if b then made.first ∷ filter reads_rows made.more else filter reads_rows made.more) first ∙ ap (λ xs. made.first ∷ xs) (none_kept made.more made.others)

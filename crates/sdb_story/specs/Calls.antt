@@ -7,6 +7,7 @@ use Rattle.sdb_types.specs.declared.record.Request.{Request}
 use Rattle.sdb_types.specs.declared.record.Reply.{Reply}
 use Rattle.sdb_types.specs.declared.record.Reply.TheVariants as reply
 use Rattle.sdb_types.specs.declared.record.State.TheVariants as state
+use Rattle.sdb_types.specs.Contents.{CanAnswer}
 use Rattle.sdb_record.specs.declared.access.Access.{Access}
 use Rattle.sdb_record.specs.declared.access.Access.TheVariants as access
 use Rattle.sdb_record.specs.declared.coordinator.Decided.{Decided}
@@ -73,6 +74,7 @@ pub record RowsMade (ms : List Made) (a : Access) (images left : List Record) : 
   pub more : List Made
   pub calls : ms ≡ first ∷ more
   pub asked : first.request ≡ request_of a
+  pub can : CanAnswer (request_of a) first.reply
   pub done : List Record
   pub settled : List (Option Record)
   pub rows : rows_of first.reply ≡ Some (done ++ left)

@@ -1,5 +1,5 @@
 //! What the statements of a transaction come to.
-ghost use Rattle.std.specs.Prelude.{filter, false, Some, ◌≡◌, ℕ, List, ◌++◌, ◌∷◌, [], Bool, true};
+ghost use Rattle.std.specs.Prelude.{Contains, ◌↔◌, ◌⊎◌, ℤ, filter, false, Some, ◌≡◌, ℕ, List, ◌++◌, ◌∷◌, [], Bool, true};
 ghost use Rattle.sdb_types.specs.declared.record.Record.{Record};
 ghost use Rattle.sdb_record.specs.declared.access.Access.{Access};
 ghost use Rattle.sdb_record.specs.declared.write.Keyed.{Keyed};
@@ -14,10 +14,18 @@ ghost use Rattle.sdb_laws.specs.Plan.{Plan};
 ghost use Rattle.sdb_laws.specs.Lawful.{Played, id, talk};
 ghost use Rattle.sdb_laws.specs.Faithful.{AreNoted};
 ghost use Rattle.sdb_phases.specs.Work.{Work};
-ghost use Rattle.sdb_story.specs.Left.{AreReads, BodyIsSaid, Execution};
+ghost use Rattle.sdb_story.specs.Left.{AreReads, BodyIsSaid, Execution, reads_and_scans};
 ghost use Rattle.sdb_story.specs.BodyTexts.{BodySaid};
 ghost use Rattle.sdb_snapshot.specs.Seen.{Seen, Agrees, nothing, with_written};
-ghost use Rattle.sdb_turns.specs.Noted.{SeenOk, with_read};
+ghost use Rattle.sdb_turns.specs.Noted.{SeenOk, with_read, work_of};
+ghost use Rattle.sdb_turns.specs.ReadAt.{AreKinds, Done, Kind, ReadAt, ReadOk, read_pending, read_step, request_of};
+ghost use Rattle.sdb_turns.specs.System.{ClientCall, IsReplyTo};
+ghost use Rattle.sdb_types.specs.declared.txid.TxId.{TxId};
+ghost use Rattle.sdb_record.specs.Coordinator.{is_coordinator_table};
+ghost use Rattle.sdb_model.specs.Calls.{Made};
+ghost use Rattle.sdb_model.specs.Events.{table_asked};
+ghost use Rattle.sdb_model.specs.Noted.{Note, notes_in};
+ghost use Rattle.sdb_story.specs.Calls.{AgreeOn, IsMade, ReadMade, note_with};
 ghost use Rattle.sdb_story.specs.Body.{AgreesAll, BodyOk, IsCovered, AnswersOn};
 
 /// Before its first statement a transaction asks nothing of the tables and leaves them as they are.
@@ -53,4 +61,17 @@ pub fn body_is_said()
 /// Where the gets and the scans of what each COMMIT took are what the statements of its transaction noted, so are the notes of the plans.
 pub fn notes_are_reads()
     ensures { (plan : ℕ → Plan) (events : List Event) (past : List Played) (works : ℕ → Work) → ((t : ℕ) → (talk past).taken t ≡ true → AreReads plan events (works t) t) → AreNoted plan events past }
+{}
+
+/// Whatever call of a read is pending and whatever its reply, the calls that the read has made showed what it knows: each row is settled
+/// as they say, and each recovery goes on by what they learned.
+pub fn calls_show_rows()
+    ensures { (kind : Record → Kind) (past : List Played) (ms : List Made) (m : Made) (a : Access) (s : ReadAt) (x : ClientCall) → AreKinds kind → ReadOk past a s → ReadMade ms a s → IsReplyTo (read_pending a s) x → IsMade m x.request x.reply → ReadMade (ms ++ m ∷ []) a (read_step kind s x.now x.reply) }
+{}
+
+/// Where what the calls of a read showed of each row agrees, the model notes of them what the read is done with, and nothing else; and
+/// that is what the transaction's notes are more by.
+pub fn read_is_noted()
+    ensures calls { (ms : List Made) (a : Access) (images : List Record) → ReadMade ms a (Done images) → AgreeOn ms → is_coordinator_table (table_asked (request_of a)) ≡ false → notes_in ms ≡ note_with a images ∷ [] }
+    ensures adds { (id : TxId) (now : ℤ) (s : Seen) (a : Access) (images : List Record) (n : Note) → Contains (reads_and_scans (work_of id now (with_read s a images))) n ↔ (Contains (reads_and_scans (work_of id now s)) n ⊎ (n ≡ note_with a images)) }
 {}
