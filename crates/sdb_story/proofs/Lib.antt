@@ -12,3 +12,4 @@ pub mod Run
 pub mod Notes
 pub mod Agree
 pub mod Noting
+pub mod Since

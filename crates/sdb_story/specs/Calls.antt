@@ -1,6 +1,6 @@
 -- What the calls of a read showed of the records that it found.
-use Rattle.std.specs.Prelude.{◌≡◌, ◌⊎◌, ℤ, true, false, List, [], ◌∷◌, ◌++◌, Option, Some, None}
-use Rattle.std.specs.List.{AllByRecursion}
+use Rattle.std.specs.Prelude.{◌≡◌, ◌⊎◌, ℤ, true, false, List, [], ◌∷◌, ◌++◌, Option, Some, None, ℕ, ◌≤◌, filter, nat_lt, length, is_some}
+use Rattle.std.specs.List.{AllByRecursion, cons_option}
 use Rattle.sdb_types.specs.declared.txid.TxId.{TxId}
 use Rattle.sdb_types.specs.declared.record.Record.{Record}
 use Rattle.sdb_types.specs.declared.record.Request.{Request}
@@ -17,7 +17,9 @@ use Rattle.sdb_record.specs.declared.meta.Meta.{Meta}
 use Rattle.sdb_record.specs.Meta.{id_in, is_in}
 use Rattle.sdb_record.specs.Parts.{before_record}
 use Rattle.sdb_record.specs.Rolls.{forward_record}
-use Rattle.sdb_model.specs.Calls.{Made, decision_shown}
+use Rattle.sdb_model.specs.declared.event.Event.{Event}
+use Rattle.sdb_model.specs.Calls.{Made, calls_by, decision_shown, made_by}
+use Rattle.sdb_model.specs.Transactions.{Said}
 use Rattle.sdb_record.specs.Moved.{version_of}
 use Rattle.sdb_model.specs.Noted.{Note, Got, Scanned, reads_rows}
 use Rattle.sdb_snapshot.specs.Noted.{reads_of}
@@ -102,3 +104,16 @@ note_with (access.Scan span) images = Scanned (record { span = span; found = rea
 pub record IsMade (m : Made) (q : Request) (r : Reply) : Type 0 where
   pub request : m.request ≡ q
   pub reply : m.reply ≡ r
+
+-- a client's calls after an event, in order
+abbrev pub calls_since : List Event → ℕ → ℕ → List Made
+calls_since events c n = filter (λ m. nat_lt n m.at) (calls_by events c)
+
+-- the call that an event is of a client, if it is one
+abbrev pub call_made : ℕ → ℕ → Event → List Made
+call_made c n e = cons_option (made_by c (n, e)) []
+
+-- a statement was answered by an event before
+pub record WasAnswered (events : List Event) (s : Said) : Type 0 where
+  pub answered : is_some s.answer ≡ true
+  pub before : s.answered ≤ length events

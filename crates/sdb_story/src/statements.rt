@@ -1,5 +1,5 @@
 //! What the statements of a transaction come to.
-ghost use Rattle.std.specs.Prelude.{Contains, ◌↔◌, ◌⊎◌, ℤ, filter, false, Some, ◌≡◌, ℕ, List, ◌++◌, ◌∷◌, [], Bool, true};
+ghost use Rattle.std.specs.Prelude.{◌≤◌, ◌+◌, length, Contains, ◌↔◌, ◌⊎◌, ℤ, filter, false, Some, ◌≡◌, ℕ, List, ◌++◌, ◌∷◌, [], Bool, true};
 ghost use Rattle.sdb_types.specs.declared.record.Record.{Record};
 ghost use Rattle.sdb_record.specs.declared.access.Access.{Access};
 ghost use Rattle.sdb_record.specs.declared.write.Keyed.{Keyed};
@@ -22,10 +22,10 @@ ghost use Rattle.sdb_turns.specs.ReadAt.{AreKinds, Done, Kind, ReadAt, ReadOk, r
 ghost use Rattle.sdb_turns.specs.System.{ClientCall, IsReplyTo};
 ghost use Rattle.sdb_types.specs.declared.txid.TxId.{TxId};
 ghost use Rattle.sdb_record.specs.Coordinator.{is_coordinator_table};
-ghost use Rattle.sdb_model.specs.Calls.{Made};
+ghost use Rattle.sdb_model.specs.Calls.{Made, calls_of, end_of};
 ghost use Rattle.sdb_model.specs.Events.{table_asked};
 ghost use Rattle.sdb_model.specs.Noted.{Note, notes_in};
-ghost use Rattle.sdb_story.specs.Calls.{AgreeOn, IsMade, ReadMade, note_with};
+ghost use Rattle.sdb_story.specs.Calls.{AgreeOn, IsMade, ReadMade, WasAnswered, call_made, calls_since, note_with};
 ghost use Rattle.sdb_story.specs.Body.{AgreesAll, BodyOk, IsCovered, AnswersOn};
 
 /// Before its first statement a transaction asks nothing of the tables and leaves them as they are.
@@ -74,4 +74,13 @@ pub fn calls_show_rows()
 pub fn read_is_noted()
     ensures calls { (ms : List Made) (a : Access) (images : List Record) → ReadMade ms a (Done images) → AgreeOn ms → is_coordinator_table (table_asked (request_of a)) ≡ false → notes_in ms ≡ note_with a images ∷ [] }
     ensures adds { (id : TxId) (now : ℤ) (s : Seen) (a : Access) (images : List Record) (n : Note) → Contains (reads_and_scans (work_of id now (with_read s a images))) n ↔ (Contains (reads_and_scans (work_of id now s)) n ⊎ (n ≡ note_with a images)) }
+{}
+
+/// The calls of a statement: none at its Take; each event adds the call that it is; those of one that waits or was just answered are all
+/// since its Take; and those of one that was answered before stay.
+pub fn calls_go_on()
+    ensures none { (events : List Event) (c n : ℕ) → length events ≤ n → calls_since events c n ≡ [] }
+    ensures more { (events : List Event) (c n : ℕ) (e : Event) → n ≤ length events → calls_since (events ++ e ∷ []) c n ≡ calls_since events c n ++ call_made c (1 + length events) e }
+    ensures just { (events : List Event) (c : ℕ) (s : Said) → end_of events s ≡ length events → calls_of events c s ≡ calls_since events c s.taken }
+    ensures stay { (events : List Event) (c : ℕ) (s : Said) (e : Event) → WasAnswered events s → calls_of (events ++ e ∷ []) c s ≡ calls_of events c s }
 {}
