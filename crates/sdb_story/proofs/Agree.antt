@@ -1,13 +1,12 @@
 -- What was shown of a transaction's row agrees.
-use Rattle.std.proofs.Common.{◌≡◌, ◌<◌, ◌^◌, ℕ, ℤ, true, List, Option, Some, refl, sym, ap, ◌∙◌, inr, inl}
+use Rattle.std.proofs.Common.{◌≡◌, ◌<◌, ◌^◌, ℕ, ℤ, true, List, Some, sym, ◌∙◌, inr, inl}
 use Rattle.sdb_record.specs.declared.coordinator.Decision.{Decision}
 use Rattle.sdb_record.specs.declared.coordinator.Decision.TheVariants as decision
 use Rattle.sdb_model.specs.declared.script.Place.{Place}
 use Rattle.sdb_model.specs.Events.{Shelf}
 use Rattle.sdb_laws.specs.Plan.{Plan}
-use Rattle.sdb_laws.specs.History.{History}
 use Rattle.sdb_laws.specs.Lawful.{Played, IsRowShown, talk}
-use Rattle.sdb_laws.specs.Trace.{closing, history}
+use Rattle.sdb_laws.specs.Trace.{history}
 use Rattle.sdb_laws.specs.Explained.{IsRunOf}
 use Rattle.sdb_laws.proofs.Known.{row_known}
 use Rattle.sdb_laws.proofs.Settled.{aborted_of}

@@ -13,3 +13,4 @@ pub mod Notes
 pub mod Agree
 pub mod Noting
 pub mod Since
+pub mod Bodily

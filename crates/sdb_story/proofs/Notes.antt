@@ -1,6 +1,6 @@
 -- The notes of a plan are the reads and the scans of what its COMMIT took.
 use Rattle.std.proofs.Common.{ℤ, ◌≡◌, ◌≢◌, ℕ, zero, suc, Bool, true, false, cond, List, [], ◌∷◌, ◌++◌, map, Option, Some, None, refl, sym, ap, subst, ◌∙◌, ◌⊎◌, inl, inr}
-use Rattle.std.specs.Prelude.{Contains, ◌↔◌, filter, not, slice_get, if◌then◌else◌}
+use Rattle.std.specs.Prelude.{Contains, ◌↔◌, filter, not, if◌then◌else◌}
 use Rattle.std.proofs.lemmas.List.Elements.{Contains-append_left, Contains-append_right, Contains-append_cases, Contains-push, Contains-push_cases}
 use Rattle.sdb_types.specs.declared.txid.TxId.{TxId}
 use Rattle.sdb_types.specs.declared.record.Record.{Record}
@@ -14,13 +14,13 @@ use Rattle.sdb_story.specs.Calls.{note_with}
 use Rattle.sdb_record.specs.declared.access.Read.{Read}
 use Rattle.sdb_record.specs.declared.access.Scan.{Scan}
 use Rattle.sdb_model.specs.declared.event.Event.{Event}
-use Rattle.sdb_model.specs.Noted.{Note, Got, Scanned, noted_in}
+use Rattle.sdb_model.specs.Noted.{Note, Got, Scanned}
 use Rattle.sdb_laws.specs.Plan.{Plan}
-use Rattle.sdb_laws.specs.Lawful.{Played, id, talk}
+use Rattle.sdb_laws.specs.Lawful.{Played, talk}
 use Rattle.sdb_laws.specs.Faithful.{AreNoted}
 use Rattle.sdb_phases.specs.Work.{Work}
 use Rattle.sdb_phases.specs.Checks.{is_written}
-use Rattle.sdb_turns.specs.Owner.{plan_of, notes_of, checked_notes, own_notes}
+use Rattle.sdb_turns.specs.Owner.{notes_of, checked_notes, own_notes}
 use Rattle.std.specs.List.{AllByRecursion}
 use Rattle.std.proofs.lemmas.List.Elements.{All-contains, All-from_recursion}
 use Rattle.sdb_turns.proofs.Lists.{each_any}
@@ -110,7 +110,7 @@ map_last : {A B : Type 0} (f : A → B) (xs : List A) (x : A) → map f (xs ++ x
 map_last f [] x = refl
 map_last f (y ∷ xs) x = ap (λ r. f y ∷ r) (map_last f xs x)
 
-last_cases : (xs : List Note) (x n : Note) → Contains (xs ++ x ∷ []) n → Contains xs n ⊎ (n ≡ x)
+pub last_cases : (xs : List Note) (x n : Note) → Contains (xs ++ x ∷ []) n → Contains xs n ⊎ (n ≡ x)
 last_cases xs x n h = by (Contains-push_cases xs x n h)
   where
     by : Contains xs n ⊎ (x ≡ n) → Contains xs n ⊎ (n ≡ x)

@@ -1,5 +1,5 @@
 -- A read keeps what its calls showed, and what it is done with is what the model notes of its calls.
-use Rattle.std.proofs.Common.{◌≡◌, ◌≢◌, ◌<◌, ◌^◌, ℕ, ℤ, Bool, true, false, cond, List, [], ◌∷◌, ◌++◌, map, Option, Some, None, Result, Ok, Err, refl, sym, ap, subst, ◌∙◌, ◌⊎◌, inl, inr}
+use Rattle.std.proofs.Common.{◌≡◌, ◌<◌, ◌^◌, ℕ, ℤ, Bool, true, false, List, [], ◌∷◌, ◌++◌, Option, Some, None, Result, Ok, Err, refl, sym, ap, subst, ◌∙◌, inl, inr}
 use Rattle.std.specs.Prelude.{if◌then◌else◌, is_some, filter}
 use Rattle.std.specs.List.{AllByRecursion, cons_option, filter_map}
 use Rattle.std.specs.Option.{option_map, option_map_or, option_and_then}
@@ -13,7 +13,6 @@ use Rattle.sdb_types.specs.declared.record.Record.{Record}
 use Rattle.sdb_types.specs.declared.record.Reply.{Reply}
 use Rattle.sdb_types.specs.declared.record.Reply.TheVariants as reply
 use Rattle.sdb_types.specs.declared.record.Request.{Request}
-use Rattle.sdb_types.specs.declared.record.Request.TheVariants as ask
 use Rattle.sdb_types.specs.declared.record.State.TheVariants as state
 use Rattle.sdb_types.specs.Contents.{CanAnswer}
 use Rattle.sdb_types.specs.Order.{key_cmp}
@@ -35,7 +34,7 @@ use Rattle.sdb_turns.specs.Reader.{PhaseOk}
 use Rattle.sdb_record.specs.Rolls.{forward_record, image_of, image_under}
 use Rattle.sdb_record.proofs.ImageLaws.{row-key, row-decision, image-open, image-settled}
 use Rattle.sdb_record.proofs.RollLaws.{forward-key, forward-writer}
-use Rattle.sdb_model.specs.Calls.{Made, decision_shown, decision_said, decision_learned, is_of_row, is_read, key_asked}
+use Rattle.sdb_model.specs.Calls.{Made, decision_shown, decision_said, decision_learned, is_read, key_asked}
 use Rattle.sdb_model.specs.Events.{table_asked}
 use Rattle.sdb_model.specs.Noted as noted
 use Rattle.sdb_model.specs.Noted.{Note, Got, Scanned, reads_rows, resolved, note_of, notes_in}
@@ -48,7 +47,7 @@ use Rattle.sdb_phases.specs.declared.step.RecoverPhase.TheVariants as phase
 use Rattle.sdb_phases.specs.Work.{look_of, abort_of, undo}
 use Rattle.sdb_phases.specs.Recover.{recover_request_at, recover_next, recover_forward, recover_back, roll_to, stands_found}
 use Rattle.sdb_turns.specs.ReadAt.{Kind, Firm, Open, Bad, AreKinds, IsKind, ReadAt, Asking, Resolving, Done, Failed, request_of, settle, settle_one, settle_reply, after_recovery, read_pending, read_step, ReadOk}
-use Rattle.sdb_turns.proofs.Lists.{each_any, each_more}
+use Rattle.sdb_turns.proofs.Lists.{each_more}
 use Rattle.sdb_turns.proofs.Meta.{meta_of, held_of}
 use Rattle.sdb_story.specs.Calls.{Learned, IsHeldBy, ImageBy, Itself, Forward, Back, AreImagesBy, somes, rows_of, PhaseLearned, RowsMade, ReadMade, AgreeOn, IsMade, note_with}
 

@@ -1,6 +1,6 @@
 -- The calls of a statement while its client goes on.
-use Rattle.std.proofs.Common.{◌≡◌, ◌≤◌, ◌<◌, ◌+◌, ℕ, zero, suc, Bool, true, false, List, [], ◌∷◌, ◌++◌, length, Option, Some, None, refl, sym, ap, subst, ◌∙◌, arith}
-use Rattle.std.specs.Prelude.{if◌then◌else◌, filter, is_some, nat_lt, nat_le, ◌&&◌, ◌==◌}
+use Rattle.std.proofs.Common.{◌≡◌, ◌≤◌, ◌<◌, ◌+◌, ℕ, suc, Bool, true, false, List, [], ◌∷◌, ◌++◌, length, Option, Some, None, refl, sym, ap, ◌∙◌, arith}
+use Rattle.std.specs.Prelude.{if◌then◌else◌, filter, nat_lt, nat_le, ◌&&◌, ◌==◌}
 use Rattle.std.specs.List.{AllByRecursion, cons_option, enumerate_from, filter_map}
 use Rattle.std.proofs.lemmas.Bool.Decides.{nat_tests}
 use Rattle.std.proofs.lemmas.List.Elements.{filter_map-append}
@@ -8,7 +8,7 @@ use Rattle.sdb_model.specs.declared.event.Event.{Event}
 use Rattle.sdb_model.specs.declared.event.Event.TheVariants as event
 use Rattle.sdb_model.specs.Calls.{Made, calls_by, calls_of, made_by, end_of}
 use Rattle.sdb_model.specs.Transactions.{Said, numbered}
-use Rattle.sdb_turns.proofs.Lists.{each_any, each_append}
+use Rattle.sdb_turns.proofs.Lists.{each_any}
 use Rattle.sdb_story.specs.Calls.{WasAnswered, call_made, calls_since}
 use Rattle.sdb_story.proofs.Tellings.{numbers_more}
 

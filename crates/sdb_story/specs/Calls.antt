@@ -1,6 +1,7 @@
 -- What the calls of a read showed of the records that it found.
-use Rattle.std.specs.Prelude.{◌≡◌, ◌⊎◌, ℤ, true, false, List, [], ◌∷◌, ◌++◌, Option, Some, None, ℕ, ◌≤◌, filter, nat_lt, length, is_some}
-use Rattle.std.specs.List.{AllByRecursion, cons_option}
+use Rattle.std.specs.Prelude.{◌≡◌, ◌⊎◌, ℤ, true, false, List, [], ◌∷◌, ◌++◌, Option, Some, None, ℕ, ◌≤◌, filter, nat_lt, length, is_some, Bool, Contains, ◌↔◌, map}
+use Rattle.std.specs.List.{AllByRecursion, cons_option, flat_map}
+use Rattle.std.specs.Option.{option_map_or}
 use Rattle.sdb_types.specs.declared.txid.TxId.{TxId}
 use Rattle.sdb_types.specs.declared.record.Record.{Record}
 use Rattle.sdb_types.specs.declared.record.Request.{Request}
@@ -13,16 +14,16 @@ use Rattle.sdb_record.specs.declared.access.Access.TheVariants as access
 use Rattle.sdb_record.specs.declared.coordinator.Decided.{Decided}
 use Rattle.sdb_record.specs.declared.coordinator.Decision.{Decision}
 use Rattle.sdb_record.specs.declared.coordinator.Decision.TheVariants as decision
-use Rattle.sdb_record.specs.declared.meta.Meta.{Meta}
 use Rattle.sdb_record.specs.Meta.{id_in, is_in}
 use Rattle.sdb_record.specs.Parts.{before_record}
 use Rattle.sdb_record.specs.Rolls.{forward_record}
 use Rattle.sdb_model.specs.declared.event.Event.{Event}
-use Rattle.sdb_model.specs.Calls.{Made, calls_by, decision_shown, made_by}
-use Rattle.sdb_model.specs.Transactions.{Said}
+use Rattle.sdb_model.specs.Calls.{Made, calls_by, calls_of, decision_shown, made_by}
+use Rattle.sdb_model.specs.Transactions.{Said, is_answered_from_rows, is_effective}
 use Rattle.sdb_record.specs.Moved.{version_of}
-use Rattle.sdb_model.specs.Noted.{Note, Got, Scanned, reads_rows}
+use Rattle.sdb_model.specs.Noted.{Note, Got, Scanned, notes_in, reads_rows}
 use Rattle.sdb_snapshot.specs.Noted.{reads_of}
+use Rattle.sdb_snapshot.specs.Seen.{Seen}
 use Rattle.sdb_turns.specs.Noted.{first_image}
 use Rattle.sdb_phases.specs.declared.step.RecoverPhase.{RecoverPhase}
 use Rattle.sdb_phases.specs.declared.step.RecoverPhase.TheVariants as phase
@@ -117,3 +118,24 @@ call_made c n e = cons_option (made_by c (n, e)) []
 pub record WasAnswered (events : List Event) (s : Said) : Type 0 where
   pub answered : is_some s.answer ≡ true
   pub before : s.answered ≤ length events
+
+-- what the statements of a list noted
+abbrev pub from_rows : Said → Bool
+from_rows s = option_map_or is_answered_from_rows s.answer false
+
+abbrev pub noted_by : List Event → ℕ → List Said → List Note
+noted_by events c ss = flat_map (λ s. notes_in (calls_of events c s)) (filter from_rows (filter is_effective ss))
+
+-- What a transaction has read is what the statements so far noted.
+abbrev pub IsNotedSo : List Event → ℕ → List Said → Seen → Type 0
+IsNotedSo events c ss seen = (n : Note) → Contains (map Got seen.reads ++ map Scanned seen.scans) n ↔ Contains (noted_by events c ss) n
+
+-- a statement noted nothing: it changed nothing, was not answered from rows, or made no read
+abbrev pub NotesNothing : List Event → ℕ → Said → Type 0
+NotesNothing events c s = (is_effective s ≡ false) ⊎ (from_rows s ≡ false) ⊎ (notes_in (calls_of events c s) ≡ [])
+
+-- a statement noted what a read was done with
+pub record NotesRead (events : List Event) (c : ℕ) (s : Said) (a : Access) (images : List Record) : Type 0 where
+  pub effective : is_effective s ≡ true
+  pub rows : from_rows s ≡ true
+  pub notes : notes_in (calls_of events c s) ≡ note_with a images ∷ []

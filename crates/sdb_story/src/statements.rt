@@ -9,7 +9,9 @@ ghost use Rattle.sdb_model.specs.declared.statement.Statement.{Statement};
 ghost use Rattle.sdb_model.specs.Exec.{Tables};
 ghost use Rattle.sdb_model.specs.declared.event.Event.{Event};
 ghost use Rattle.sdb_model.specs.Sql.{Reads};
-ghost use Rattle.sdb_model.specs.Transactions.{Said, body, is_effective};
+ghost use Rattle.sdb_model.specs.Transactions.{Said, body, client_of, is_effective};
+ghost use Rattle.std.specs.List.{AllByRecursion};
+ghost use Rattle.sdb_turns.specs.Owner.{plan_of};
 ghost use Rattle.sdb_laws.specs.Plan.{Plan};
 ghost use Rattle.sdb_laws.specs.Lawful.{Played, id, talk};
 ghost use Rattle.sdb_laws.specs.Faithful.{AreNoted};
@@ -25,7 +27,7 @@ ghost use Rattle.sdb_record.specs.Coordinator.{is_coordinator_table};
 ghost use Rattle.sdb_model.specs.Calls.{Made, calls_of, end_of};
 ghost use Rattle.sdb_model.specs.Events.{table_asked};
 ghost use Rattle.sdb_model.specs.Noted.{Note, notes_in};
-ghost use Rattle.sdb_story.specs.Calls.{AgreeOn, IsMade, ReadMade, WasAnswered, call_made, calls_since, note_with};
+ghost use Rattle.sdb_story.specs.Calls.{AgreeOn, IsMade, IsNotedSo, NotesNothing, NotesRead, ReadMade, WasAnswered, call_made, calls_since, note_with};
 ghost use Rattle.sdb_story.specs.Body.{AgreesAll, BodyOk, IsCovered, AnswersOn};
 
 /// Before its first statement a transaction asks nothing of the tables and leaves them as they are.
@@ -83,4 +85,14 @@ pub fn calls_go_on()
     ensures more { (events : List Event) (c n : ℕ) (e : Event) → n ≤ length events → calls_since (events ++ e ∷ []) c n ≡ calls_since events c n ++ call_made c (1 + length events) e }
     ensures just { (events : List Event) (c : ℕ) (s : Said) → end_of events s ≡ length events → calls_of events c s ≡ calls_since events c s.taken }
     ensures stay { (events : List Event) (c : ℕ) (s : Said) (e : Event) → WasAnswered events s → calls_of (events ++ e ∷ []) c s ≡ calls_of events c s }
+{}
+
+/// What a transaction has read stays what its statements noted: at its start; while events come after its statements were answered; with
+/// a statement that noted nothing, or that noted what a read was done with; and as its COMMIT takes it.
+pub fn notes_go_on()
+    ensures starts { (events : List Event) (c : ℕ) → IsNotedSo events c [] nothing }
+    ensures later { (events : List Event) (c : ℕ) (ss : List Said) (seen : Seen) (e : Event) → AllByRecursion (WasAnswered events) ss → IsNotedSo events c ss seen → IsNotedSo (events ++ e ∷ []) c ss seen }
+    ensures nothing { (events : List Event) (c : ℕ) (ss : List Said) (seen : Seen) (s : Said) → NotesNothing events c s → IsNotedSo events c ss seen → IsNotedSo events c (ss ++ s ∷ []) seen }
+    ensures read { (events : List Event) (c : ℕ) (ss : List Said) (seen : Seen) (s : Said) (a : Access) (images : List Record) → NotesRead events c s a images → IsNotedSo events c ss seen → IsNotedSo events c (ss ++ s ∷ []) (with_read seen a images) }
+    ensures whole { (plan : ℕ → Plan) (events : List Event) (c t : ℕ) (now : ℤ) (ss : List Said) (seen : Seen) → client_of (id t) ≡ c → body events (id t) ≡ filter is_effective ss → plan t ≡ plan_of (work_of (id t) now seen) → IsNotedSo events c ss seen → AreReads plan events (work_of (id t) now seen) t }
 {}

@@ -1,18 +1,14 @@
 -- One client's transaction, turn by turn: BEGIN, an INSERT that reads its key, and its COMMIT up to the put of COMMITTED.
-use Rattle.std.specs.Prelude.{◌≡◌, ℕ, ℤ, pos, true, List, [], ◌∷◌, codes, Option, Some, None}
+use Rattle.std.specs.Prelude.{◌≡◌, ℕ, pos, true, List, [], ◌∷◌, codes}
 use Rattle.sdb_types.specs.declared.txid.TxId.{TxId}
-use Rattle.sdb_types.specs.declared.record.Record.{Record}
 use Rattle.sdb_types.specs.declared.record.Request.{Request}
-use Rattle.sdb_types.specs.declared.record.Request.TheVariants as ask
 use Rattle.sdb_types.specs.declared.record.Reply.{Reply}
-use Rattle.sdb_types.specs.declared.record.Reply.TheVariants as reply
-use Rattle.sdb_record.specs.declared.access.Access.{Access}
 use Rattle.sdb_record.specs.declared.access.Access.TheVariants as access
 use Rattle.sdb_record.specs.declared.write.Change.TheVariants as change
 use Rattle.sdb_record.specs.declared.write.Keyed.{Keyed}
 use Rattle.sdb_model.specs.declared.event.How.TheVariants.{Seen}
 use Rattle.sdb_laws.specs.Worked.{account, balance}
-use Rattle.sdb_phases.specs.Work.{Work, prepare_of, decide_of}
+use Rattle.sdb_phases.specs.Work.{Work}
 use Rattle.sdb_snapshot.specs.Seen as snapshot
 use Rattle.sdb_snapshot.specs.Seen.{nothing, with_written}
 use Rattle.sdb_laws.specs.Plan.{Plan}
