@@ -46,6 +46,7 @@ pub data ImageBy (ms : List Made) (r : Record) (o : Option Record) : Type 0 wher
   Forward : (id : TxId) (m : ℤ) (held : IsHeldBy r id) (learned : Learned ms id decision.Committed) (same : o ≡ Some (forward_record r m)) → ImageBy ms r o
   Back : (id : TxId) (held : IsHeldBy r id) (learned : Learned ms id decision.Aborted) (same : o ≡ before_record r) → ImageBy ms r o
 
+-- each record has that image
 abbrev pub AreImagesBy : List Made → List Record → List (Option Record) → Type 0
 AreImagesBy ms [] [] = Unit {0}
 AreImagesBy ms [] (o ∷ os) = ⊥
@@ -119,10 +120,11 @@ pub record WasAnswered (events : List Event) (s : Said) : Type 0 where
   pub answered : is_some s.answer ≡ true
   pub before : s.answered ≤ length events
 
--- what the statements of a list noted
+-- a statement was answered from rows
 abbrev pub from_rows : Said → Bool
 from_rows s = option_map_or is_answered_from_rows s.answer false
 
+-- the notes of the statements of a list that changed something and were answered from rows
 abbrev pub noted_by : List Event → ℕ → List Said → List Note
 noted_by events c ss = flat_map (λ s. notes_in (calls_of events c s)) (filter from_rows (filter is_effective ss))
 

@@ -20,6 +20,7 @@ use Rattle.sdb_turns.specs.System.{SystemAt, SystemOk, ClientCall, idle, next_id
 abbrev pub first_id : TxId
 first_id = next_id idle 1
 
+-- the row that it inserts
 abbrev pub inserted : List Keyed
 inserted = record { key = account; change = change.Row (balance (pos 100)) } ∷ []
 
@@ -27,6 +28,7 @@ inserted = record { key = account; change = change.Row (balance (pos 100)) } ∷
 abbrev pub read_once : snapshot.Seen
 read_once = with_read nothing (access.Get account) []
 
+-- and what it has when the row is written
 abbrev pub wrote_once : snapshot.Seen
 wrote_once = with_written read_once inserted
 
