@@ -9,3 +9,8 @@ pub mod Answered
 pub mod Files
 pub mod Turns
 pub mod Run
+pub mod Notes
+pub mod Agree
+pub mod Noting
+pub mod Since
+pub mod Bodily

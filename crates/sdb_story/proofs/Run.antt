@@ -1,11 +1,8 @@
 -- Events that are tied to their clients, and agree with the stores, are a run.
-use Rattle.std.proofs.Common.{◌≡◌, ◌<◌, ◌^◌, ℕ, Bool, List, refl, sym, ap, subst, ◌∙◌}
+use Rattle.std.proofs.Common.{◌≡◌, ◌<◌, ◌^◌, Bool, List, sym, subst}
 use Rattle.std.specs.Prelude.{All}
-use Rattle.sdb_schema.specs.declared.table.Table.{Table}
-use Rattle.sdb_model.specs.declared.event.Outcome.{Outcome}
 use Rattle.sdb_model.specs.declared.event.Point.{Point}
 use Rattle.sdb_model.specs.declared.event.TableDump.{TableDump}
-use Rattle.sdb_model.specs.declared.script.Place.{Place}
 use Rattle.sdb_model.specs.declared.script.Script.{Script}
 use Rattle.sdb_model.specs.Events.{Shelf, IsTrace}
 use Rattle.sdb_model.specs.Exec.{Tables}
@@ -24,14 +21,17 @@ use Rattle.sdb_story.proofs.Files.{clients_faithful}
 pub linked_run : (script : Script) (fit : Tables → Bool) (played : List Played) (opening end : List Shelf) (moments : List (List Shelf)) (order : List Point) → IsFitting script.catalog fit → IsLinked script.catalog fit played order
     → Follows script.clients script.moves (events_of played) → IsTrace script.places (events_of played) opening moments end → StartsEmpty script.places opening → IsOrder script.places (events_of played) end order → All (λ (p : Point). p.id.0 < 2 ^ 128) order
     → (tables : List TableDump) × IsRun script opening end (record { events = events_of played; order = order; tables = tables })
-linked_run script fit played opening end moments order fitting linked follows trace empty ordered small = (found.0, record {
-  moments = moments;
-  follows = follows;
-  consistent = trace;
-  order = ordered;
-  told = subst (λ s. IsTold script.catalog script.places (events_of played) s order found.0) turned.1 found.1;
-  real_time = subst (λ s. KeepsRealTime script.places (events_of played) s order) turned.1 found.2;
-})
+linked_run script fit played opening end moments order fitting linked follows trace empty ordered small = (
+  found.0,
+  record {
+    moments = moments;
+    follows = follows;
+    consistent = trace;
+    order = ordered;
+    told = subst (λ s. IsTold script.catalog script.places (events_of played) s order found.0) turned.1 found.1;
+    real_time = subst (λ s. KeepsRealTime script.places (events_of played) s order) turned.1 found.2;
+  },
+)
   where
     turned : IsTraced script.places opening (newest_first played) (newest_first moments) × (closing opening (newest_first moments) ≡ end)
     turned = traced_of script.places opening played moments end trace
@@ -41,5 +41,5 @@ linked_run script fit played opening end moments order fitting linked follows tr
 
     found : (tables : List TableDump) × IsTold script.catalog script.places (events_of played) (closing opening (newest_first moments)) order tables × KeepsRealTime script.places (events_of played) (closing opening (newest_first moments)) order
     found = run_told script.catalog fit linked.plan script.places opening played (newest_first moments) linked.ran order run
-      (clients_faithful linked.plan (events_of played) (newest_first played) linked.sys linked.told linked.system linked.stories linked.noted)
-      (subst (λ s. IsOrder script.places (events_of played) s order) (sym turned.1) ordered) small fitting linked.bodies
+        (clients_faithful linked.plan (events_of played) (newest_first played) linked.sys linked.told linked.system linked.stories linked.noted)
+        (subst (λ s. IsOrder script.places (events_of played) s order) (sym turned.1) ordered) small fitting linked.bodies

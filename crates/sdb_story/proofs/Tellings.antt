@@ -19,7 +19,7 @@ use Rattle.sdb_story.specs.Telling.{Telling, begun_in, count_of, OpenFiled, IsOp
 
 ---- one event more
 
-numbers_more : (n : ℕ) (es : List Event) (e : Event) → enumerate_from n (es ++ e ∷ []) ≡ enumerate_from n es ++ (n + length es, e) ∷ []
+pub numbers_more : (n : ℕ) (es : List Event) (e : Event) → enumerate_from n (es ++ e ∷ []) ≡ enumerate_from n es ++ (n + length es, e) ∷ []
 numbers_more n [] e = ap (λ m. (m, e) ∷ []) (sym (plus n))
   where
     plus : (n : ℕ) → n + 0 ≡ n

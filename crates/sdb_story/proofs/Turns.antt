@@ -1,22 +1,21 @@
 -- A turn of one client keeps all stories.
-use Rattle.std.proofs.Common.{◌≡◌, ◌≢◌, ◌<◌, ◌+◌, ℕ, Bool, true, false, List, [], ◌∷◌, ◌++◌, map, Option, Some, None, refl, sym, ap, subst, ◌∙◌, arith, ◌⊎◌, inl, inr}
+use Rattle.std.proofs.Common.{◌≡◌, ◌≢◌, ◌+◌, ℕ, Bool, true, false, List, [], ◌∷◌, ◌++◌, map, Some, refl, sym, ap, subst, ◌∙◌, arith}
 use Rattle.std.specs.Prelude.{◌==◌, if◌then◌else◌, filter}
 use Rattle.std.proofs.lemmas.Bool.Decides.{nat_tests}
-use Rattle.sdb_types.specs.declared.txid.TxId.{TxId}
 use Rattle.sdb_model.specs.declared.answer.Answer.{Answer}
 use Rattle.sdb_model.specs.declared.event.Event.{Event}
 use Rattle.sdb_model.specs.declared.statement.Statement.{Statement}
 use Rattle.sdb_model.specs.Sql.{Reads}
 use Rattle.sdb_model.specs.Told.{AreRead}
-use Rattle.sdb_model.specs.Transactions.{Said, body, is_effective, said}
+use Rattle.sdb_model.specs.Transactions.{Said, body, is_effective}
 use Rattle.sdb_laws.specs.Plan.{Plan}
 use Rattle.sdb_laws.specs.History as laws
 use Rattle.sdb_laws.specs.History.{Role, Other, Begins, Takes}
-use Rattle.sdb_laws.specs.Lawful.{Played, MayPlay, id, talk}
+use Rattle.sdb_laws.specs.Lawful.{Played, MayPlay, id}
 use Rattle.sdb_turns.specs.System.{ClientAt, SystemAt, SystemOk, Has, IsBy, with_begun, with_client}
 use Rattle.sdb_story.specs.Left.{Execution, BodyIsSaid}
-use Rattle.sdb_story.specs.Ran.{BodySaid}
-use Rattle.sdb_story.specs.Telling.{Telling, StoryOk, TellsOn, AllStories, OthersStand, KeepsHold, IsCounted, with_told}
+use Rattle.sdb_story.specs.BodyTexts.{BodySaid}
+use Rattle.sdb_story.specs.Telling.{Telling, StoryOk, TellsOn, AllStories, OthersStand, IsCounted, with_told}
 use Rattle.sdb_story.proofs.Tellings.{story_stays, others_apart, others_silent}
 
 differ : (m n : ℕ) → m ≢ n → (m == n) ≡ false
@@ -38,8 +37,8 @@ lawful_counts plan past e (laws.Stops c) m = tt
 other_story : (plan : ℕ → Plan) (events : List Event) (past : List Played) (sys next : SystemAt) (c d : ℕ) (q : Played) (x : Telling) → SystemOk plan (q ∷ past) next → IsBy c q.event → OthersStand c sys next → d ≢ c → StoryOk events past sys d x → TellsOn events past q next d x
 other_story plan events past sys next c d q x ok by others apart story =
     story_stays events past sys next d x q story (lawful_counts plan past q.event q.role ok.lawful.1) (others_apart plan past d c q (λ e. apart (sym e)) by ok.lawful.1)
-      (record { begun = others.begun d apart; hold = λ t h. subst (λ y. Has y t) (others.clients d apart) h })
-      (others_silent events d c q.event (λ e. apart (sym e)) by)
+    (record { begun = others.begun d apart; hold = λ t h. subst (λ y. Has y t) (others.clients d apart) h })
+    (others_silent events d c q.event (λ e. apart (sym e)) by)
 
 -- Where a turn leaves all so of all clients, and its own client's story goes on, all stories go on.
 pub stories_turn : (plan : ℕ → Plan) (events : List Event) (past : List Played) (sys next : SystemAt) (c : ℕ) (q : Played) (told : ℕ → Telling) (x : Telling) → SystemOk plan (q ∷ past) next → IsBy c q.event → OthersStand c sys next → AllStories events past sys told → TellsOn events past q next c x → AllStories (events ++ q.event ∷ []) (q ∷ past) next (with_told told c x)

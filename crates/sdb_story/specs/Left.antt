@@ -1,5 +1,5 @@
 -- What a transaction noted is what its writers left, and tables that transactions left one after the other.
-use Rattle.std.specs.Prelude.{◌≡◌, ℕ, ℤ, true, map, List, Some, Bool, false, None, is_some}
+use Rattle.std.specs.Prelude.{◌≡◌, ℕ, ℤ, true, map, List, Some, Bool, false, None, is_some, Contains, ◌↔◌, ◌++◌}
 use Rattle.std.specs.FinMap.{get, empty}
 use Rattle.sdb_types.specs.declared.key.Key.{Key}
 use Rattle.sdb_types.specs.declared.record.Record.{Record}
@@ -24,6 +24,8 @@ use Rattle.sdb_model.specs.Images.{row_at}
 use Rattle.sdb_model.specs.Told.{AreRead, serial}
 use Rattle.sdb_laws.specs.Lawful.{Played, is_data}
 use Rattle.sdb_turns.specs.Noted.{SeenOk, work_of}
+use Rattle.sdb_model.specs.Noted.{Note, Got, Scanned, noted_in}
+use Rattle.sdb_phases.specs.Work.{Work}
 use Rattle.sdb_turns.specs.Owner.{plan_of}
 use Rattle.sdb_story.specs.Body.{BodyOk}
 
@@ -82,3 +84,12 @@ pub record IsFitting (catalog : List Table) (fit : Tables → Bool) : Type 0 whe
 -- the numbers of the transactions of an order
 abbrev pub numbers_of : List Point → List ℕ
 numbers_of order = map (λ p. p.id.0) order
+
+-- the gets and the scans of what a COMMIT took, as notes
+abbrev pub reads_and_scans : Work → List Note
+reads_and_scans p = map Got p.reads ++ map Scanned p.scans
+
+-- What the COMMIT of a transaction took is its plan, and its gets and scans are what its statements noted.
+pub record AreReads (plan : ℕ → Plan) (events : List Event) (p : Work) (t : ℕ) : Type 0 where
+  pub planned : plan t ≡ plan_of p
+  pub noted : (note : Note) → Contains (reads_and_scans p) note ↔ Contains (noted_in events (id t)) note

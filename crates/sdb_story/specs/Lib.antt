@@ -3,5 +3,6 @@ pub mod Filed
 pub mod Body
 pub mod Left
 pub mod Telling
-pub mod Ran
+pub mod BodyTexts
 pub mod Linked
+pub mod Calls

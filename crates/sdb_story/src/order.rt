@@ -1,5 +1,5 @@
 //! The recorded transactions in the order of their points.
-ghost use Rattle.std.specs.Prelude.{◌≡◌, ◌<◌, ◌^◌, ℕ, List, All, Bool, true};
+ghost use Rattle.std.specs.Prelude.{ℤ, ◌≡◌, ◌<◌, ◌^◌, ℕ, List, All, Bool, true};
 ghost use Rattle.std.specs.FinMap.{empty};
 ghost use Rattle.sdb_schema.specs.declared.table.Table.{Table};
 ghost use Rattle.sdb_model.specs.declared.event.Point.{Point};
@@ -12,7 +12,9 @@ ghost use Rattle.sdb_model.specs.Follows.{Follows};
 ghost use Rattle.sdb_model.specs.declared.script.Script.{Script};
 ghost use Rattle.sdb_model.specs.Transactions.{IsOrder};
 ghost use Rattle.sdb_laws.specs.Plan.{Plan};
-ghost use Rattle.sdb_laws.specs.Lawful.{Played};
+ghost use Rattle.sdb_record.specs.declared.coordinator.Decision.{Decision};
+ghost use Rattle.sdb_record.specs.declared.coordinator.Decision.TheVariants as decision;
+ghost use Rattle.sdb_laws.specs.Lawful.{IsRowShown, Played, talk};
 ghost use Rattle.sdb_laws.specs.Trace.{StartsEmpty, closing, history};
 ghost use Rattle.sdb_story.specs.Linked.{IsLinked};
 ghost use Rattle.sdb_laws.specs.Explained.{IsRunOf, events_of, newest_first};
@@ -25,6 +27,12 @@ ghost use Rattle.sdb_story.specs.Left.{AllExecutions, AllBodiesSaid, AreLeft, Is
 /// Over a run, each record that a transaction noted is that of some transaction, and shows the row that this one left there.
 pub fn notes_were_left()
     ensures { (plan : ℕ → Plan) (places : List Place) (opening : List Shelf) (past : List Played) (ss : List (List Shelf)) (s : Seen) → IsRunOf plan places opening past ss → SeenOk past s → AreLeft plan s }
+{}
+
+/// Over a run, all that was shown of a transaction's row agrees: whoever resolves records of it comes to one decision.
+pub fn rows_agree()
+    ensures shown { (plan : ℕ → Plan) (places : List Place) (opening : List Shelf) (past : List Played) (ss : List (List Shelf)) (t : ℕ) (c d : Decision) (m n : ℤ) → IsRunOf plan places opening past ss → t < 2 ^ 128 → IsRowShown past t c m → IsRowShown past t d n → c ≡ d }
+    ensures put { (plan : ℕ → Plan) (places : List Place) (opening : List Shelf) (past : List Played) (ss : List (List Shelf)) (t : ℕ) (d : Decision) (m : ℤ) → IsRunOf plan places opening past ss → t < 2 ^ 128 → (talk past).dead t ≡ true → IsRowShown past t d m → d ≡ decision.Aborted }
 {}
 
 /// Over a run, the recorded transactions in the order of their points, run whole one after the other from empty tables, give the

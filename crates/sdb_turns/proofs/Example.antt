@@ -1,11 +1,10 @@
 -- The laws lead from clients that have done nothing to a COMMIT whose deciding put was applied.
-use Rattle.std.proofs.Common.{◌≡◌, ◌≢◌, ◌<◌, ◌^◌, ℕ, ℤ, Bool, true, false, List, [], ◌∷◌, Option, Some, None, refl, sym, ap, subst, ◌∙◌, arith}
+use Rattle.std.proofs.Common.{◌≡◌, ℕ, true, List, [], ◌∷◌, Option, Some, None, refl, subst, arith}
 use Rattle.std.specs.Prelude.{pos, codes}
 use Rattle.std.specs.Ordering.{is_eq}
 use Rattle.std.specs.declared.cmp.Ordering.{Ordering}
 use Rattle.std.specs.declared.cmp.Ordering.TheVariants.{Less, Equal, Greater}
 use Rattle.std.proofs.lemmas.Bool.Decides.{nat_tests}
-use Rattle.sdb_types.specs.declared.key.Key.{Key}
 use Rattle.sdb_types.specs.declared.record.Record.{Record}
 use Rattle.sdb_types.specs.declared.record.Request.TheVariants as ask
 use Rattle.sdb_types.specs.declared.record.Reply.TheVariants as reply
@@ -17,8 +16,7 @@ use Rattle.sdb_record.specs.declared.write.Write.{Write}
 use Rattle.sdb_model.specs.declared.answer.Answer.{Answer}
 use Rattle.sdb_model.specs.declared.answer.Answer.TheVariants as answer
 use Rattle.sdb_model.specs.declared.event.Event.TheVariants as event
-use Rattle.sdb_model.specs.Access.{in_access}
-use Rattle.sdb_laws.specs.History.{Role, Other, Talk, Decides, Yes, heard}
+use Rattle.sdb_laws.specs.History.{Other, Talk, Decides, Yes, heard}
 use Rattle.sdb_laws.specs.Lawful.{Played, is_data, talk}
 use Rattle.sdb_laws.specs.Plan.{Plan}
 use Rattle.sdb_laws.specs.Worked.{account, balance, nothing as no_plan}
@@ -29,9 +27,7 @@ use Rattle.sdb_phases.specs.Commit.{Preparing, Deciding, Forward}
 use Rattle.sdb_record.specs.Names.{is_meta, base_name}
 use Rattle.sdb_snapshot.specs.Written.{AreChanges}
 use Rattle.sdb_snapshot.specs.Seen.{nothing}
-use Rattle.sdb_snapshot.proofs.Keys.{same_itself}
-use Rattle.sdb_turns.specs.Noted.{with_read}
-use Rattle.sdb_turns.specs.ReadAt.{Kind, Firm, Open, Bad, AreKinds, IsKind, Asking, Done, IsOfData, read_role}
+use Rattle.sdb_turns.specs.ReadAt.{Kind, Bad, Asking, Done, IsOfData}
 use Rattle.sdb_turns.specs.System.{Resting, Reading, Committing, SystemAt, SystemOk, ClientCall, idle, with_begun, with_client, begin_played, take_played, commit_played, commit_left, commit_begun, with_plan, call_event, plays, next_id}
 use Rattle.sdb_turns.specs.System as client
 use Rattle.sdb_turns.specs.Worked.{first_id, inserted, read_once, wrote_once, first_work, call_of, SomeCommit}

@@ -1,18 +1,14 @@
 -- One client's transaction, turn by turn: BEGIN, an INSERT that reads its key, and its COMMIT up to the put of COMMITTED.
-use Rattle.std.specs.Prelude.{◌≡◌, ℕ, ℤ, pos, true, List, [], ◌∷◌, codes, Option, Some, None}
+use Rattle.std.specs.Prelude.{◌≡◌, ℕ, pos, true, List, [], ◌∷◌, codes}
 use Rattle.sdb_types.specs.declared.txid.TxId.{TxId}
-use Rattle.sdb_types.specs.declared.record.Record.{Record}
 use Rattle.sdb_types.specs.declared.record.Request.{Request}
-use Rattle.sdb_types.specs.declared.record.Request.TheVariants as ask
 use Rattle.sdb_types.specs.declared.record.Reply.{Reply}
-use Rattle.sdb_types.specs.declared.record.Reply.TheVariants as reply
-use Rattle.sdb_record.specs.declared.access.Access.{Access}
 use Rattle.sdb_record.specs.declared.access.Access.TheVariants as access
 use Rattle.sdb_record.specs.declared.write.Change.TheVariants as change
 use Rattle.sdb_record.specs.declared.write.Keyed.{Keyed}
 use Rattle.sdb_model.specs.declared.event.How.TheVariants.{Seen}
 use Rattle.sdb_laws.specs.Worked.{account, balance}
-use Rattle.sdb_phases.specs.Work.{Work, prepare_of, decide_of}
+use Rattle.sdb_phases.specs.Work.{Work}
 use Rattle.sdb_snapshot.specs.Seen as snapshot
 use Rattle.sdb_snapshot.specs.Seen.{nothing, with_written}
 use Rattle.sdb_laws.specs.Plan.{Plan}
@@ -24,6 +20,7 @@ use Rattle.sdb_turns.specs.System.{SystemAt, SystemOk, ClientCall, idle, next_id
 abbrev pub first_id : TxId
 first_id = next_id idle 1
 
+-- the row that it inserts
 abbrev pub inserted : List Keyed
 inserted = record { key = account; change = change.Row (balance (pos 100)) } ∷ []
 
@@ -31,6 +28,7 @@ inserted = record { key = account; change = change.Row (balance (pos 100)) } ∷
 abbrev pub read_once : snapshot.Seen
 read_once = with_read nothing (access.Get account) []
 
+-- and what it has when the row is written
 abbrev pub wrote_once : snapshot.Seen
 wrote_once = with_written read_once inserted
 

@@ -1,0 +1,6 @@
+use Rattle.sdb_story.proofs.Noting.{read_notes}
+use Rattle.sdb_story.proofs.Notes.{read_adds}
+use Rattle.sdb_story.proofs.statements.read_is_noted.Goals as goal
+
+pub returns : goal.returns
+returns c = record { calls = read_notes; adds = read_adds }
