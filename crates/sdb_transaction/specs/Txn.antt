@@ -138,8 +138,9 @@ abbrev pub IsCommitting : Doing → (CommitAt → Type 0) → Type 0
 IsCommitting (doing.Commit c) P = P c
 IsCommitting d P = ⊥
 
--- A reply leads a COMMIT where the definition of a COMMIT says, and its answer ends the transaction.
+-- A reply leads a COMMIT where the definition of a COMMIT says, and its answer ends the transaction, which keeps its id.
 pub record CommitTold (t : TxnAt) (c : CommitAt) (r : Reply) (p : Progress) (u : TxnAt) : Type 0 where
   pub answer : p ≡ progress_of (ended_at (commit_step c.work c.stage r))
   pub next : p ≡ progress.More → IsCommitting u.doing (λ d. (d.work ≡ c.work) × IsNext c.work c.stage r d.stage)
   pub over : p ≢ progress.More → u.doing ≡ doing.Over
+  pub same : u.id ≡ t.id

@@ -198,6 +198,7 @@ impl Txn {
         requires idle { self.old.doing ≡ Doing.Idle }
         ensures more { result ≡ Progress.More → self.new ≡ committing self.old now }
         ensures memory { result ≢ Progress.More → (result ≡ Progress.NoMemory) × (self.new.doing ≡ Doing.Over) }
+        ensures same { self.new.id ≡ self.old.id }
     {
         let snapshot = mem::replace(&mut self.snapshot, Snapshot::new(self.alloc));
         let (writes, reads, scans) = snapshot.into_parts();
