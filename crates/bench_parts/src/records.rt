@@ -1,5 +1,5 @@
 //! Committed records of the table `shop.item`, which the benches share.
-use sdb_types::{Columns, Key, Name, Span, TableName, TxId, Value, Values};
+use sdb_types::{Columns, Duplicate, Key, Name, Span, TableName, TxId, Value, Values};
 use std::alloc::Global;
 
 /// The transaction that left all records.
@@ -17,9 +17,9 @@ fn values(alloc: Global, number: i64) -> Option<Values> {
     Some(values)
 }
 
-/// The key of a row of a partition.
-pub fn key_of(alloc: Global, partition: i64, row: i64) -> Option<Key> {
-    let table = table(alloc)?;
+/// The key of a row of a partition. It shares the names of its table, as the keys of statements do.
+pub fn key_of(alloc: Global, table: &TableName, partition: i64, row: i64) -> Option<Key> {
+    let table = table.copy().ok()?;
     let partition = values(alloc, partition)?;
     let clustering = values(alloc, row)?;
     Some(Key {
@@ -30,8 +30,8 @@ pub fn key_of(alloc: Global, partition: i64, row: i64) -> Option<Key> {
 }
 
 /// The span of a partition.
-pub fn span_of(alloc: Global, partition: i64) -> Option<Span> {
-    let table = table(alloc)?;
+pub fn span_of(alloc: Global, table: &TableName, partition: i64) -> Option<Span> {
+    let table = table.copy().ok()?;
     let partition = values(alloc, partition)?;
     Some(Span {
         table,

@@ -2,11 +2,11 @@
 ghost use Rattle.std.specs.Prelude.{◌≡◌, ◌∷◌, [], IfSome};
 ghost use Rattle.sdb_record.specs.Rolls.{IsBaseOf};
 
-use crate::records::{columns_of, key_of, span_of};
+use crate::records::{columns_of, key_of, span_of, table};
 use crate::words::number;
 use sdb_record::{Change, Changes, Keyed, meta_of};
 use sdb_snapshot::Snapshot;
-use sdb_types::{Duplicate, Key, Record, Records, Span};
+use sdb_types::{Duplicate, Key, Record, Records, Span, TableName};
 use std::alloc::Global;
 use std::env::Args;
 
@@ -56,17 +56,23 @@ fn note(alloc: Global, seen: &mut Snapshot, key: Key) -> Option<()> {
     Some(())
 }
 
-fn note_partition(alloc: Global, seen: &mut Snapshot, partition: i64, rows: i64) -> Option<()> {
+fn note_partition(
+    alloc: Global,
+    table: &TableName,
+    seen: &mut Snapshot,
+    partition: i64,
+    rows: i64,
+) -> Option<()> {
     for row in 0..rows {
-        note(alloc, seen, key_of(alloc, partition, row)?)?;
+        note(alloc, seen, key_of(alloc, table, partition, row)?)?;
     }
     Some(())
 }
 
-fn noted(alloc: Global, load: Load) -> Option<Snapshot> {
+fn noted(alloc: Global, table: &TableName, load: Load) -> Option<Snapshot> {
     let mut seen = Snapshot::new(alloc);
     for partition in 0..load.partitions {
-        note_partition(alloc, &mut seen, partition, load.rows)?;
+        note_partition(alloc, table, &mut seen, partition, load.rows)?;
     }
     Some(seen)
 }
@@ -105,12 +111,20 @@ fn scan(alloc: Global, seen: &mut Snapshot, span: Span) -> Option<usize> {
 }
 
 // Makes the call at a partition, or at its first row.
-fn make(alloc: Global, seen: &mut Snapshot, call: Call, partition: i64) -> Option<usize> {
+fn make(
+    alloc: Global,
+    table: &TableName,
+    seen: &mut Snapshot,
+    call: Call,
+    partition: i64,
+) -> Option<usize> {
     match call {
-        Call::Overlay => rows_of(seen, &span_of(alloc, partition)?),
-        Call::Lookup => Some(usize::from(seen.lookup(&key_of(alloc, partition, 0)?).is_some())),
-        Call::Write => write(alloc, seen, key_of(alloc, partition, 0)?),
-        Call::Scan => scan(alloc, seen, span_of(alloc, partition)?),
+        Call::Overlay => rows_of(seen, &span_of(alloc, table, partition)?),
+        Call::Lookup => Some(usize::from(
+            seen.lookup(&key_of(alloc, table, partition, 0)?).is_some(),
+        )),
+        Call::Write => write(alloc, seen, key_of(alloc, table, partition, 0)?),
+        Call::Scan => scan(alloc, seen, span_of(alloc, table, partition)?),
     }
 }
 
@@ -122,11 +136,12 @@ fn after(partition: i64, partitions: i64) -> i64 {
 
 // Goes through the partitions, one call a turn, and returns what the last call returned.
 fn play_turns(alloc: Global, load: Load) -> Option<usize> {
-    let mut seen = noted(alloc, load)?;
+    let table = table(alloc)?;
+    let mut seen = noted(alloc, &table, load)?;
     let mut last = 0;
     let mut partition = 0;
     for _ in 0..load.turns {
-        last = make(alloc, &mut seen, load.call, partition)?;
+        last = make(alloc, &table, &mut seen, load.call, partition)?;
         partition = after(partition, load.partitions);
     }
     Some(last)

@@ -1,5 +1,5 @@
 //! A store filled with records in partitions of ten, and one kind of call again and again, at keys spread over all of them.
-use crate::records::{ID, columns_of, key_of, span_of};
+use crate::records::{ID, columns_of, key_of, span_of, table};
 use crate::words::number;
 use sdb_hashed::Hashed;
 use sdb_ordered::Ordered;
@@ -43,7 +43,7 @@ struct Load {
 
 // The key of a record: its partition, and its row there.
 fn key_at(alloc: Global, number: i64) -> Option<Key> {
-    key_of(alloc, number / ROWS, number % ROWS)
+    key_of(alloc, &table(alloc)?, number / ROWS, number % ROWS)
 }
 
 fn record_of(alloc: Global, number: i64) -> Option<Record> {
@@ -59,7 +59,7 @@ fn put_of(alloc: Global, number: i64) -> Option<Request> {
 
 // The scan of the partition that a record lies in.
 fn scan_of(alloc: Global, number: i64) -> Option<Request> {
-    Some(Request::Scan(span_of(alloc, number / ROWS)?))
+    Some(Request::Scan(span_of(alloc, &table(alloc)?, number / ROWS)?))
 }
 
 fn request_of(alloc: Global, call: CallKind, number: i64) -> Option<Request> {

@@ -21,6 +21,8 @@ mod rolls;
 #[cfg(test)]
 mod seen;
 #[cfg(test)]
+mod transaction;
+#[cfg(test)]
 mod validate;
 #[cfg(test)]
 mod writes;

@@ -16,6 +16,8 @@ pub enum Told {
     Forward,
     Back,
     Busy,
+    /// So many rows are seen.
+    Rows(usize),
     /// The account of that number, and the version that stands there.
     Conflict(i32, Option<TxId>),
     /// The roll of the account of that number was pending, and whether another is left.

@@ -4,7 +4,7 @@ ghost use Rattle.std.specs.Option.{option_copied};
 ghost use Rattle.sdb_types.specs.Contents.{CanAnswer};
 ghost use Rattle.sdb_phases.specs.Steps.{CanGet};
 
-use sdb_types::{Columns, Condition, Duplicate, Key, NameRefused, Record, Reply, Request};
+use sdb_types::{Columns, Condition, Duplicate, Key, NameRefused, Record, Records, Reply, Request};
 use std::alloc::Global;
 use test_builders::{Cell, columns_of};
 
@@ -65,11 +65,13 @@ fn applied(request: &Request) -> Option<Reply>
     }
 }
 
-fn no_row(request: &Request) -> Option<Reply>
+// A get finds no record, and a scan no rows.
+fn no_row(alloc: Global, request: &Request) -> Option<Reply>
     ensures { IfSome result (CanAnswer request.now) }
 {
     match request {
         Request::Get(_) => Some(Reply::Found(None)),
+        Request::Scan(_) => Some(Reply::Rows(Records::new(alloc))),
         _ => None,
     }
 }
@@ -91,7 +93,7 @@ fn answered(alloc: Global, request: &Request, answer: Answer) -> Result<Option<R
         Answer::Applied => Ok(applied(request)),
         Answer::Fault => Ok(Some(Reply::Fault)),
         Answer::Starved => Ok(Some(Reply::NoMemory)),
-        Answer::NoRow => Ok(no_row(request)),
+        Answer::NoRow => Ok(no_row(alloc, request)),
         Answer::Row(columns) => found(request, columns_of(alloc, columns)?),
         Answer::NotMet => Ok(not_met(request)),
     }

@@ -11,8 +11,8 @@ use test_builders::{Cell, account, columns_of, hold, span_of};
 
 const FIRST: Cell = Cell::Text("00000000-0000-0001-0000-000000000001");
 
-// A committed row with the balance 100, and a tombstone.
-const ROW: &[(&str, Cell)] = &[
+/// A committed row with the balance 100.
+pub const ROW: &[(&str, Cell)] = &[
     ("tx_id", FIRST),
     ("tx_state", Cell::Int(3)),
     ("tx_version", Cell::Int(1)),
@@ -21,6 +21,7 @@ const ROW: &[(&str, Cell)] = &[
     ("balance", Cell::Int(100)),
 ];
 
+// A tombstone.
 const TOMBSTONE: &[(&str, Cell)] = &[
     ("tx_id", FIRST),
     ("tx_state", Cell::Int(3)),
@@ -40,8 +41,8 @@ enum Act {
     Delete(i32),
 }
 
-// The span of all accounts.
-fn accounts(alloc: Global) -> Result<Span, NameRefused> {
+/// The span of all accounts.
+pub fn accounts(alloc: Global) -> Result<Span, NameRefused> {
     span_of(alloc, "bank", "account", None)
 }
 
@@ -93,7 +94,8 @@ fn read(
     note(seen, key, image)
 }
 
-fn one_change(alloc: Global, key: &Key, change: Change) -> Result<Changes, NoMemory>
+/// A change of one key.
+pub fn one_change(alloc: Global, key: &Key, change: Change) -> Result<Changes, NoMemory>
     ensures { IfOk result (λ ks. ks ≡ record { key = key.now; change = change } ∷ []) }
 {
     let mut changes = Changes::new(alloc);

@@ -1,0 +1,2 @@
+pub mod Txn
+pub mod Inside

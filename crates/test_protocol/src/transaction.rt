@@ -1,0 +1,188 @@
+//! Whole transactions: what they read and write, and their COMMITs.
+use crate::machine::{EXPIRED, Machine, Told, conflict_at};
+use crate::replies::{Answer, reply_to};
+use crate::seen::{ROW, accounts, one_change};
+use sdb_record::{Change, version_of};
+use sdb_transaction::{Progress, Txn};
+use sdb_types::{Columns, NameRefused, TxId};
+use std::alloc::Global;
+use std::test::Fail;
+use test_builders::{account, all_hold};
+
+const OWN: TxId = TxId(0x1_0000_0000_0000_0001);
+
+fn if_own(id: TxId, told: Told) -> Told {
+    if id.0 == OWN.0 { told } else { Told::Other }
+}
+
+fn told_by(progress: &Progress) -> Told {
+    match progress {
+        Progress::More => Told::More,
+        Progress::Rows(rows) => Told::Rows(rows.len()),
+        Progress::Busy(_, _, _) => Told::Busy,
+        Progress::Faulted => Told::Faulted,
+        Progress::BadRecord(_) => Told::BadRecord,
+        Progress::NoMemory => Told::NoMemory,
+        Progress::Conflict(key, found) => conflict_at(key, version_of(found)),
+        Progress::Committed => Told::Committed,
+        Progress::Expired(id) => if_own(*id, Told::Expired),
+        Progress::Unknown(id) => if_own(*id, Told::Unknown),
+    }
+}
+
+impl Machine for Txn {
+    fn give(&mut self, alloc: Global, answer: Answer, now: i64) -> Result<Told, NameRefused> {
+        match reply_to(alloc, self.pending(), answer)? {
+            Some(reply) => Ok(told_by(&self.advance(reply, now))),
+            None => Ok(Told::Other),
+        }
+    }
+
+    fn is_over(&self) -> bool {
+        self.pending().is_none()
+    }
+}
+
+// What a transaction does: it gets an account, scans all accounts, inserts an account without columns, takes its COMMIT, or has its
+// pending call answered. Where it may not, that tells Other.
+#[derive(Clone, Copy)]
+enum Act {
+    Get(i32),
+    Scan,
+    Insert(i32),
+    Commit,
+    Reply(Answer),
+}
+
+fn get(alloc: Global, txn: &mut Txn, id: i32) -> Result<Told, NameRefused> {
+    let key = account(alloc, id)?;
+    if txn.is_idle() {
+        Ok(told_by(&txn.get(key)))
+    } else {
+        Ok(Told::Other)
+    }
+}
+
+fn scan(alloc: Global, txn: &mut Txn) -> Result<Told, NameRefused> {
+    let span = accounts(alloc)?;
+    if txn.is_idle() {
+        Ok(told_by(&txn.scan(span)))
+    } else {
+        Ok(Told::Other)
+    }
+}
+
+fn insert(alloc: Global, txn: &mut Txn, id: i32) -> Result<Told, NameRefused> {
+    let key = account(alloc, id)?;
+    let changes = one_change(alloc, &key, Change::Row(Columns::new(alloc)))?;
+    if txn.is_idle() && txn.has_read(&key) && txn.write(changes).is_ok() {
+        Ok(Told::Done)
+    } else {
+        Ok(Told::Other)
+    }
+}
+
+fn commit(txn: &mut Txn) -> Told {
+    if txn.is_idle() {
+        told_by(&txn.commit(7))
+    } else {
+        Told::Other
+    }
+}
+
+fn perform(alloc: Global, txn: &mut Txn, act: Act) -> Result<Told, NameRefused> {
+    match act {
+        Act::Get(id) => get(alloc, txn, id),
+        Act::Scan => scan(alloc, txn),
+        Act::Insert(id) => insert(alloc, txn, id),
+        Act::Commit => Ok(commit(txn)),
+        Act::Reply(answer) => txn.give(alloc, answer, EXPIRED),
+    }
+}
+
+type Steps = &'static [(Act, Told)];
+
+fn plays(alloc: Global, txn: &mut Txn, steps: Steps) -> Result<bool, NameRefused> {
+    for (act, told) in steps {
+        if perform(alloc, txn, *act)? != *told {
+            return Ok(false);
+        }
+    }
+    Ok(txn.is_over())
+}
+
+// What a transaction does, with what each act tells.
+static CASES: [Steps; 7] = [
+    // An absent account is read and inserted: one prepare, the deciding put, one roll forward.
+    &[
+        (Act::Get(1), Told::More),
+        (Act::Reply(Answer::NoRow), Told::Rows(0)),
+        (Act::Insert(1), Told::Done),
+        (Act::Get(1), Told::Rows(1)),
+        (Act::Commit, Told::More),
+        (Act::Reply(Answer::Applied), Told::More),
+        (Act::Reply(Answer::Applied), Told::More),
+        (Act::Reply(Answer::Applied), Told::Committed),
+        (Act::Get(1), Told::Other),
+    ],
+    // An account that was read and isn't written is read again.
+    &[
+        (Act::Get(1), Told::More),
+        (Act::Reply(Answer::Row(ROW)), Told::Rows(1)),
+        (Act::Commit, Told::More),
+        (Act::Reply(Answer::NoRow), Told::More),
+        (Act::Reply(Answer::Applied), Told::Conflict(1, None)),
+    ],
+    // A call faults: nothing was read, and the same account may be asked for again.
+    &[
+        (Act::Get(1), Told::More),
+        (Act::Reply(Answer::Fault), Told::Faulted),
+        (Act::Insert(1), Told::Other),
+        (Act::Get(1), Told::More),
+        (Act::Reply(Answer::Fault), Told::Faulted),
+    ],
+    // So it is where a call is out of memory.
+    &[
+        (Act::Get(1), Told::More),
+        (Act::Reply(Answer::Starved), Told::NoMemory),
+        (Act::Insert(1), Told::Other),
+    ],
+    // A scan that was noted makes no call, and shows what was inserted after it.
+    &[
+        (Act::Scan, Told::More),
+        (Act::Reply(Answer::NoRow), Told::Rows(0)),
+        (Act::Scan, Told::Rows(0)),
+        (Act::Get(1), Told::More),
+        (Act::Reply(Answer::NoRow), Told::Rows(0)),
+        (Act::Insert(1), Told::Done),
+        (Act::Scan, Told::Rows(1)),
+    ],
+    // A scan doesn't find a record that was read: the transaction has ended.
+    &[
+        (Act::Get(1), Told::More),
+        (Act::Reply(Answer::Row(ROW)), Told::Rows(1)),
+        (Act::Scan, Told::More),
+        (Act::Reply(Answer::NoRow), Told::Conflict(1, None)),
+        (Act::Commit, Told::Other),
+    ],
+    // Nothing may be read while a call is pending.
+    &[
+        (Act::Get(1), Told::More),
+        (Act::Get(2), Told::Other),
+        (Act::Reply(Answer::NoRow), Told::Rows(0)),
+    ],
+];
+
+// Each transaction is rolled back in the end, also after its answer.
+fn ends(alloc: Global, steps: Steps) -> Result<bool, Fail> {
+    let mut txn = Txn::begin(alloc, OWN);
+    let played = plays(alloc, &mut txn, steps)?;
+    txn.rollback();
+    Ok(played)
+}
+
+#[test]
+fn transactions_read_and_commit(rt: HostRuntime) -> Result<(), Fail> {
+    let alloc = rt.alloc();
+    all_hold(CASES.as_slice(), |steps| ends(alloc, steps))
+}
