@@ -91,11 +91,11 @@ kept_by q r m n k found a p h =
       | inr done ↦ ap (λ (c : Contents). record_at c k) done ∙ kept_after q m k found a h
     ]
 
-first_before : (old : List Shelf) (s : Shelf) → slice_get old 0 ≡ Some s → first_contents old ≡ s.contents
+pub first_before : (old : List Shelf) (s : Shelf) → slice_get old 0 ≡ Some s → first_contents old ≡ s.contents
 first_before [] s h = no_some s h
 first_before (x ∷ xs) s h = let same : x ≡ s = cc in ap (λ (y : Shelf). y.contents) same
 
-first_now : (old new : List Shelf) (before now : Shelf) → slice_get old 0 ≡ Some before → new ≡ slice_set old 0 now → first_contents new ≡ now.contents
+pub first_now : (old new : List Shelf) (before now : Shelf) → slice_get old 0 ≡ Some before → new ≡ slice_set old 0 now → first_contents new ≡ now.contents
 first_now [] new before now h is = no_some before h
 first_now (x ∷ xs) new before now h is = ap first_contents is
 

@@ -35,7 +35,7 @@ pub all_attached : (names : List (List ℕ)) (passed es : List Entry) → Follow
 all_attached names passed [] h = refl
 all_attached names passed (e ∷ es) h = and_both (is_attached names e.store) (are_attached names es) h.0.0.attached (all_attached names (passed ++ e ∷ []) es h.1)
 
-own_ns : bytes_eq coordinators.name.ns (codes "coordinator") ≡ true
+pub own_ns : bytes_eq coordinators.name.ns (codes "coordinator") ≡ true
 unfolding coordinators
 own_ns = refl
 
@@ -71,13 +71,13 @@ all_tables names passed (e ∷ es) h =
 
 ---- how many they are
 
-count_more : (es : List Entry) (e : Entry) → open_count (es ++ e ∷ []) ≡ open_count es + open_count (e ∷ [])
-count_more es e =
+pub count_more : (es fs : List Entry) → open_count (es ++ fs) ≡ open_count es + open_count fs
+count_more es fs =
     let p : Entry → Bool = λ a. not (is_coordinators a) in
-    sym (length-filter p (es ++ e ∷ [])) ∙ ap length (filter-append p es (e ∷ [])) ∙ length-append (filter p es) (filter p (e ∷ []))
-    ∙ ap (λ (n : ℕ). n + length (filter p (e ∷ []))) (length-filter p es) ∙ ap (λ (n : ℕ). open_count es + n) (length-filter p (e ∷ []))
+    sym (length-filter p (es ++ fs)) ∙ ap length (filter-append p es fs) ∙ length-append (filter p es) (filter p fs)
+    ∙ ap (λ (n : ℕ). n + length (filter p fs)) (length-filter p es) ∙ ap (λ (n : ℕ). open_count es + n) (length-filter p fs)
 
-one_count : (e : Entry) (b : Bool) → is_coordinators e ≡ b → open_count (e ∷ []) ≡ cond b 0 1
+pub one_count : (e : Entry) (b : Bool) → is_coordinators e ≡ b → open_count (e ∷ []) ≡ cond b 0 1
 one_count e true q = sym (length-filter (λ (a : Entry). not (is_coordinators a)) (e ∷ [])) ∙ simp q refl
 one_count e false q = sym (length-filter (λ (a : Entry). not (is_coordinators a)) (e ∷ [])) ∙ simp q refl
 
@@ -85,8 +85,8 @@ below : (n : ℕ) → nat_lt n 64 ≡ true → n + 1 ≤ 64
 below n h = grind (arith, nat_tests)
 
 few_after : (es : List Entry) (e : Entry) (b : Bool) → is_coordinators e ≡ b → open_count es ≤ 64 → (b || nat_lt (open_count es) 64) ≡ true → open_count (es ++ e ∷ []) ≤ 64
-few_after es e true q few h = omega (arith, count_more es e, one_count e true q, few)
-few_after es e false q few h = omega (arith, count_more es e, one_count e false q, below (open_count es) h)
+few_after es e true q few h = omega (arith, count_more es (e ∷ []), one_count e true q, few)
+few_after es e false q few h = omega (arith, count_more es (e ∷ []), one_count e false q, below (open_count es) h)
 
 pub few : (names : List (List ℕ)) (passed es : List Entry) → Follow names passed es → open_count passed ≤ 64 → open_count (passed ++ es) ≤ 64
 few names passed [] h k = subst (λ (l : List Entry). open_count l ≤ 64) (sym (append-nil passed)) k
@@ -109,7 +109,7 @@ pub key_is : (a b : TableName) → key_cmp (metadata_key_of a) (metadata_key_of 
 unfolding metadata_key_of
 key_is a b = then_equal _ ∙ then_equal _
 
-less_of : (r : Ordering) → is_lt r ≡ true → r ≡ Less
+pub less_of : (r : Ordering) → is_lt r ≡ true → r ≡ Less
 less_of Less h = refl
 less_of Equal h = cc
 less_of Greater h = cc
@@ -121,9 +121,13 @@ key_of_row : (e : Entry) → (row_of e).key ≡ metadata_key_of e.table.name
 unfolding row_of
 key_of_row e = refl
 
+-- the keys of rows stand in the order of the tables' names
+pub key_order : (a b : Entry) → is_name a.table.name.ns ≡ true → is_name b.table.name.ns ≡ true → key_cmp (row_of a).key (row_of b).key ≡ table_cmp a.table.name b.table.name
+key_order a b h k =
+    ap (λ x. key_cmp x (row_of b).key) (key_of_row a) ∙ ap (key_cmp (metadata_key_of a.table.name)) (key_of_row b) ∙ key_is a.table.name b.table.name ∙ by_text a.table.name b.table.name h k
+
 next_lower : (a b : Entry) → MayHaveRow a.table → MayHaveRow b.table → is_lt (key_cmp (row_of a).key (row_of b).key) ≡ true → is_lt (table_cmp a.table.name b.table.name) ≡ true
-next_lower a b h k less =
-    ap is_lt (sym (by_text a.table.name b.table.name (ns_is a.table h) (ns_is b.table k)) ∙ sym (key_is a.table.name b.table.name) ∙ ap (λ x. key_cmp x (metadata_key_of b.table.name)) (sym (key_of_row a)) ∙ ap (key_cmp (row_of a).key) (sym (key_of_row b))) ∙ less
+next_lower a b h k less = ap is_lt (sym (key_order a b (ns_is a.table h) (ns_is b.table k))) ∙ less
 
 all_lower : (a b : TableName) (ts : List Table) → is_lt (table_cmp a b) ≡ true → lower_than b ts ≡ true → lower_than a ts ≡ true
 all_lower a b [] h k = refl

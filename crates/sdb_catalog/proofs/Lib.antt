@@ -6,3 +6,7 @@ pub mod Opening
 pub mod Catalogs
 pub mod Writes
 pub mod OneReading
+pub mod LastRows
+pub mod Kept
+pub mod FirstEntries
+pub mod ReadBack

@@ -1,5 +1,5 @@
 -- Tables written one after the other.
-use Rattle.std.proofs.Common.{◌≡◌, ℕ, zero, suc, ◌+◌, ◌<◌, List, [], ◌∷◌, ◌++◌, length, map, take, get_or, add-one, true, false, ◌&&◌, cond, refl, sym, ap, subst, ◌∙◌, arith, append-nil, Some}
+use Rattle.std.proofs.Common.{◌≡◌, ℕ, zero, suc, ◌+◌, ◌<◌, List, [], ◌∷◌, ◌++◌, length, map, take, get_or, add-one, Bool, true, false, ◌&&◌, cond, refl, sym, ap, subst, ◌∙◌, arith, append-nil, Some}
 use Rattle.std.specs.Prelude.{flat_map, insert, slice_get, take_while, nat_le}
 use Rattle.std.specs.List.{list_all}
 use Rattle.std.specs.Ordering.{is_lt}
@@ -107,30 +107,30 @@ table_more ts more i t here is =
 pub item_more : (ts : List Table) (i : ℕ) (t : Table) → i < length ts → t ≡ get_or ts i t → take (i + 1) ts ≡ take i ts ++ t ∷ []
 item_more ts i t inside is = ap (λ (n : ℕ). take n ts) (add-one i) ∙ take-suc ts i t inside ∙ ap (λ (x : Table). take i ts ++ x ∷ []) (sym is)
 
-columns_with : (t : Table) (us : List Table) → rises t.columns ≡ true → list_all (λ (u : Table). rises u.columns) us ≡ true → list_all (λ (u : Table). rises u.columns) (with_table t us) ≡ true
-columns_with t [] h k = and_both (rises t.columns) true h refl
-columns_with t (u ∷ us) h k =
-    elim (is_lt (table_cmp u.name t.name)) as (λ b. list_all (λ (x : Table). rises x.columns) (cond b (u ∷ with_table t us) (t ∷ u ∷ us)) ≡ true) [
-      | true ↦ and_both (rises u.columns) (list_all (λ (x : Table). rises x.columns) (with_table t us)) (and_first (rises u.columns) (list_all (λ (x : Table). rises x.columns) us) k) (columns_with t us h (and_second (rises u.columns) (list_all (λ (x : Table). rises x.columns) us) k))
-      | false ↦ and_both (rises t.columns) (list_all (λ (x : Table). rises x.columns) (u ∷ us)) h k
+all_with : (p : Table → Bool) (t : Table) (us : List Table) → p t ≡ true → list_all p us ≡ true → list_all p (with_table t us) ≡ true
+all_with p t [] h k = and_both (p t) true h refl
+all_with p t (u ∷ us) h k =
+    elim (is_lt (table_cmp u.name t.name)) as (λ b. list_all p (cond b (u ∷ with_table t us) (t ∷ u ∷ us)) ≡ true) [
+      | true ↦ and_both (p u) (list_all p (with_table t us)) (and_first (p u) (list_all p us) k) (all_with p t us h (and_second (p u) (list_all p us) k))
+      | false ↦ and_both (p t) (list_all p (u ∷ us)) h k
     ]
 
 each_rises : (us : List Table) → list_all is_table us ≡ true → list_all (λ (u : Table). rises u.columns) us ≡ true
 each_rises [] h = refl
 each_rises (u ∷ us) h = and_both (rises u.columns) (list_all (λ (x : Table). rises x.columns) us) (rising_columns u (and_first (is_table u) (list_all is_table us) h)) (each_rises us (and_second (is_table u) (list_all is_table us) h))
 
+each_table : (ts : List Table) → is_catalog ts ≡ true → list_all is_table ts ≡ true
+each_table ts h =
+    and_second (nat_le (length ts) 64) (list_all is_table ts) (and_second (names_rise ts) (nat_le (length ts) 64 && list_all is_table ts) h)
+
 -- the columns of each written table stand in the order of their names
-pub written_rise : (ts : List Table) → list_all is_table ts ≡ true → list_all (λ (u : Table). rises u.columns) (written_tables ts) ≡ true
-written_rise ts h = columns_with coordinators ts own_rises (each_rises ts h)
+pub written_rise : (ts : List Table) → is_catalog ts ≡ true → list_all (λ (u : Table). rises u.columns) (written_tables ts) ≡ true
+written_rise ts h = all_with (λ (u : Table). rises u.columns) coordinators ts own_rises (each_rises ts (each_table ts h))
 
 pub rises_at : (ts : List Table) (i : ℕ) (t : Table) → list_all (λ (u : Table). rises u.columns) ts ≡ true → i < length ts → t ≡ get_or ts i t → rises t.columns ≡ true
 rises_at [] i t h inside is = absurd (omega arith)
 rises_at (x ∷ xs) zero t h inside is = ap (λ (u : Table). rises u.columns) is ∙ and_first (rises x.columns) (list_all (λ (u : Table). rises u.columns) xs) h
 rises_at (x ∷ xs) (suc i) t h inside is = rises_at xs i t (and_second (rises x.columns) (list_all (λ (u : Table). rises u.columns) xs) h) (omega arith) is
-
-pub each_table : (ts : List Table) → is_catalog ts ≡ true → list_all is_table ts ≡ true
-each_table ts h =
-    and_second (nat_le (length ts) 64) (list_all is_table ts) (and_second (names_rise ts) (nat_le (length ts) 64 && list_all is_table ts) h)
 
 ---- the whole
 

@@ -4,3 +4,4 @@ pub mod Shown
 pub mod Opened
 pub mod Calls
 pub mod Written
+pub mod Kept

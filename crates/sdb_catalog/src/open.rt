@@ -8,6 +8,7 @@ ghost use Rattle.sdb_schema.specs.Table.{is_table};
 ghost use Rattle.sdb_stores.specs.Shelf.{names_of, placed_on};
 ghost use Rattle.sdb_catalog.specs.declared.entry.Entry.{Entry};
 ghost use Rattle.sdb_catalog.specs.Calls.{GoOn, IsOpened, IsRead, IsUnread};
+ghost use Rattle.sdb_catalog.specs.Kept.{IsAsKept};
 ghost use Rattle.sdb_catalog.specs.Opened.{are_attached, is_attached, Follows, IsBadAmong, Opens, agrees as agrees_lem, fits as fits_lem, is_coordinators as is_coordinators_lem, open_count, store_in, tables_of};
 ghost use Rattle.sdb_catalog.specs.Rows.{row_of};
 
@@ -170,10 +171,13 @@ fn catalog_among(alloc: Global, entries: &[Entry]) -> Result<Catalog, NoMemory>
 
 /// The catalog that the rows of `scalardb.metadata` in the first store make, with each of its namespaces, and the coordinator's,
 /// placed on the store that keeps it. No namespace is placed before, and none after a refusal.
+///
+/// Returns the catalog that `store_catalog` wrote, where there was no row before it.
 pub fn open_catalog<R: Registry>(alloc: Global, stores: &mut R) -> Result<Catalog, CatalogRefused>
     requires some { 0 < length (R.shelves stores.old) }
     requires bare { R.places stores.old ≡ [] }
     ensures opened { IfOk result (λ c. IsOpened (R.tells stores.old) (R.shelves stores.old) (R.shelves stores.new) (R.places stores.new) c) }
+    ensures kept { IfOk result (λ c. R.tells stores.old 0 → IsAsKept (R.shelves stores.old) c (R.places stores.new)) }
     ensures unplaced { OnErr result (R.places stores.new ≡ []) }
     ensures goes { GoOn (R.shelves stores.old) (R.shelves stores.new) (R.tells stores.old) (R.tells stores.new) }
     ensures err { IfErr result (IsUnread (R.tells stores.old) (R.shelves stores.old) (R.shelves stores.new)) }

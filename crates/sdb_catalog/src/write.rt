@@ -4,12 +4,14 @@ ghost use Rattle.std.specs.List.{list_all};
 ghost use Rattle.std.specs.Option.{option_copied};
 ghost use Rattle.std.specs.Ordering.{is_lt};
 ghost use Rattle.sdb_types.specs.Order.{table_cmp};
-ghost use Rattle.sdb_schema.specs.Table.{is_table, rises};
+ghost use Rattle.sdb_schema.specs.Catalog.{is_catalog};
+ghost use Rattle.sdb_schema.specs.Table.{rises};
 ghost use Rattle.sdb_schema.specs.declared.table.Table.{Table};
 ghost use Rattle.sdb_loader.specs.Described.{catalog_in};
 ghost use Rattle.sdb_stores.specs.Shelf.{names_of, placed_on};
 ghost use Rattle.sdb_catalog.specs.declared.entry.Entry.{Entry};
 ghost use Rattle.sdb_catalog.specs.Calls.{GoOn, IsStopped, IsUnread};
+ghost use Rattle.sdb_catalog.specs.Kept.{IsFresh, IsKept};
 ghost use Rattle.sdb_catalog.specs.Opened.{store_in as store_in_lem};
 ghost use Rattle.sdb_catalog.specs.Rows.{definition_column, text_at as text_at_lem};
 ghost use Rattle.sdb_catalog.specs.Written.{HasWritten, IsPut, IsStored, IsWritten, entry_for as entry_for_lem, grown, has_entry as has_entry_lem, is_full as is_full_lem, line_text, store_for as store_for_lem, word_of as word_of_lem, written_tables as written_tables_lem, HasDefinition};
@@ -211,10 +213,9 @@ fn table_at(catalog: &Catalog, i: usize) -> &Table
     }
 }
 
-#[tactic(auto, using(crate::proofs::Writes::each_table))]
 fn tables_of(alloc: Global, catalog: &Catalog) -> Result<Seq<Table>, NoMemory>
     ensures tables { IfOk result (λ ts. ts ≡ catalog.now) }
-    ensures each { OnOk result (list_all is_table catalog.now ≡ true) }
+    ensures catalog { OnOk result (is_catalog catalog.now ≡ true) }
 {
     let mut tables = Seq::new(alloc);
     for i in 0..catalog.len() {
@@ -237,6 +238,7 @@ fn count_below(tables: &[Table], other: &Table) -> usize
 fn written_tables(alloc: Global, catalog: &Catalog) -> Result<Seq<Table>, NoMemory>
     ensures tables { IfOk result (λ ts. ts ≡ written_tables_lem catalog.now) }
     ensures columns { IfOk result (λ ts. list_all (λ t. rises t.columns) ts ≡ true) }
+    ensures catalog { OnOk result (is_catalog catalog.now ≡ true) }
 {
     let mut tables = tables_of(alloc, catalog)?;
     let own = coordinators(alloc)?;
@@ -263,6 +265,9 @@ fn first_store<R: Registry>(stores: &R) -> Result<Name, NoMemory>
 ///
 /// The catalog that is there is read first. A namespace that it has keeps its store; another is kept in the store of its place
 /// among `places`, else in the first. No namespace is placed before or after.
+///
+/// Where the first store tells what it holds and had no row of a catalog before, it then holds the rows of this one, and `open_catalog`
+/// returns this catalog.
 pub fn store_catalog<R: Registry>(
     alloc: Global,
     stores: &mut R,
@@ -272,6 +277,7 @@ pub fn store_catalog<R: Registry>(
     requires some { 0 < length (R.shelves stores.old) }
     requires bare { R.places stores.old ≡ [] }
     ensures stored { IfOk result (λ text. IsStored (R.tells stores.old) places.now catalog.now text (R.shelves stores.old) (R.shelves stores.new)) }
+    ensures kept { OnOk result (R.tells stores.old 0 → IsFresh (R.shelves stores.old) places.now catalog.now → IsKept (R.shelves stores.new) places.now catalog.now) }
     ensures places { R.places stores.new ≡ R.places stores.old }
     ensures goes { GoOn (R.shelves stores.old) (R.shelves stores.new) (R.tells stores.old) (R.tells stores.new) }
     ensures err { IfErr result (IsUnread (R.tells stores.old) (R.shelves stores.old) (R.shelves stores.new)) }

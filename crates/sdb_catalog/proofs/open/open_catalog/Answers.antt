@@ -4,8 +4,9 @@ use Rattle.sdb_schema.specs.Catalog.{rises}
 use Rattle.sdb_schema.specs.Table.{is_table}
 use Rattle.sdb_stores.specs.Shelf.{names_of}
 use Rattle.sdb_catalog.specs.declared.entry.Entry.{Entry}
-use Rattle.sdb_catalog.specs.Opened.{are_attached, tables_of}
+use Rattle.sdb_catalog.specs.Opened.{are_attached, store_in, tables_of}
 use Rattle.sdb_catalog.proofs.Catalogs.{all_attached, all_tables, few_tables, read_rises}
+use Rattle.sdb_catalog.proofs.ReadBack.{read_back}
 use Rattle.sdb_catalog.proofs.open.open_catalog.Goals as goal
 
 pub placed-requires-clause-attached : goal.placed-requires-clause-attached
@@ -25,3 +26,8 @@ placed-requires-clause-rise g c =
 pub placed-requires-clause-few : goal.placed-requires-clause-few
 placed-requires-clause-few g c =
     subst (λ (es : List Entry). length (tables_of es) ≤ 64) (sym c.as_slice.ensures) (few_tables (names_of (g.R.Registry.shelves c.args.stores.now)) c.in_ok-entries.entries c.in_ok-entries.ensures.read.opens.follow)
+
+pub returns-in-Ok-clause-kept : goal.returns-in-Ok-clause-kept
+returns-in-Ok-clause-kept g c =
+    read_back c.in_ok-entries.entries (g.R.Registry.places c.placed.new.stores) c.in-Ok.catalog (g.R.Registry.shelves c.args.stores.now) (g.R.Registry.shelves c.read_entries.new.stores) c.in_ok-entries.ensures.read
+    (c.in-Ok.ensures.catalog ∙ ap tables_of c.as_slice.ensures) (λ ns. c.in-Ok.ensures.placed ns ∙ ap (λ (es : List Entry). store_in es ns) c.as_slice.ensures)

@@ -1,0 +1,103 @@
+-- What is written of a catalog where there was none is read back as that catalog.
+use Rattle.std.proofs.Common.{◌≡◌, ℕ, zero, suc, ◌<◌, List, [], ◌∷◌, length, map, get_or, Bool, true, false, ◌&&◌, cond, Option, Some, refl, sym, ap, subst, ◌∙◌, arith}
+use Rattle.std.specs.Prelude.{find, slice_get, nat_le}
+use Rattle.std.specs.List.{list_all}
+use Rattle.std.specs.Option.{option_map}
+use Rattle.std.specs.Str.{bytes_eq}
+use Rattle.std.proofs.lemmas.Slice.Eq.{bytes_eq-Decides}
+use Rattle.sdb_types.specs.declared.record.Record.{Record}
+use Rattle.sdb_types.specs.declared.record.Reply.TheVariants.{Rows}
+use Rattle.sdb_types.specs.declared.record.Request.TheVariants.{Scan}
+use Rattle.sdb_types.specs.Contents.{rows_in}
+use Rattle.sdb_types.specs.Identifier.{is_name}
+use Rattle.sdb_types.proofs.Bools.{and_first, and_second}
+use Rattle.sdb_schema.specs.declared.table.Table.{Table}
+use Rattle.sdb_schema.specs.Catalog.{is_catalog, rises}
+use Rattle.sdb_schema.specs.Table.{is_table}
+use Rattle.sdb_stores.specs.declared.place.Place.{Place}
+use Rattle.sdb_stores.specs.Shelf.{Shelf, names_of, placed_on}
+use Rattle.sdb_catalog.specs.declared.entry.Entry.{Entry}
+use Rattle.sdb_catalog.specs.Calls.{Called, IsRead, first_contents, metadata_span}
+use Rattle.sdb_catalog.specs.Kept.{IsAsKept, IsFresh, IsKept, first_entries}
+use Rattle.sdb_catalog.specs.Opened.{Follow, Opens, store_in, tables_of}
+use Rattle.sdb_catalog.specs.Rows.{row_of}
+use Rattle.sdb_catalog.specs.Written.{AreWritten, IsStored, Line, store_for, written_tables}
+use Rattle.sdb_catalog.proofs.Calling.{first_before, first_now}
+use Rattle.sdb_catalog.proofs.FirstEntries.{each_named, each_written, first_attached, first_follow, first_tables, place_attached, written_rise}
+use Rattle.sdb_catalog.proofs.Kept.{entry, lines_kept}
+use Rattle.sdb_catalog.proofs.OneReading.{one_reading}
+
+---- what a scan shows
+
+rows_same : (a b : List Record) → Rows a ≡ Rows b → a ≡ b
+rows_same a b h = cc
+
+-- a store that tells what it holds shows the rows that it holds
+rows_shown : {told : ℕ → Type 0} (rows : List Record) (old new : List Shelf) → told 0 → Called told (Scan metadata_span) (Rows rows) old new → rows ≡ rows_in metadata_span (first_contents old)
+rows_shown rows old new t call =
+    rows_same rows (rows_in metadata_span call.before.contents) (call.performed t).0 ∙ ap (rows_in metadata_span) (sym (first_before old call.before call.stood))
+
+rows_left : {told : ℕ → Type 0} (rows : List Record) (old new : List Shelf) → told 0 → Called told (Scan metadata_span) (Rows rows) old new → rows_in metadata_span (first_contents new) ≡ rows_in metadata_span (first_contents old)
+rows_left rows old new t call =
+    ap (rows_in metadata_span) (first_now old new call.before call.now call.stood call.rest ∙ (call.performed t).1 ∙ sym (first_before old call.before call.stood))
+
+---- what is written
+
+no_entries : (es : List Entry) → [] ≡ map row_of es → es ≡ []
+no_entries [] h = refl
+no_entries (e ∷ es) h = absurd (let f : [] ≡ row_of e ∷ map row_of es = h in cc)
+
+pub kept : {told : ℕ → Type 0} (places : List Place) (catalog : List Table) (text : List ℕ) (old new : List Shelf) → is_catalog catalog ≡ true → names_of new ≡ names_of old → IsStored told places catalog text old new → told 0 → IsFresh old places catalog
+    → IsKept new places catalog
+kept {told} places catalog text old new sound same stored told0 fresh =
+    let names = names_of old in
+    let first = stored.first in
+    let all = written_tables catalog in
+    let few = and_second (rises catalog) (nat_le (length catalog) 64 && list_all is_table catalog) sound in
+    let each = each_written names places first catalog (λ ns. place_attached names places first ns (first_attached names first stored.named) fresh.attached) (and_second (nat_le (length catalog) 64) (list_all is_table catalog) few) fresh.named in
+    let follow : Follow names [] (map (entry places first) all) = first_follow names places first catalog each (and_first (nat_le (length catalog) 64) (list_all is_table catalog) few) fresh.named in
+    let none : stored.entries ≡ [] = no_entries stored.entries (sym (rows_shown stored.read.rows old stored.mid told0 stored.read.scanned ∙ fresh.none) ∙ stored.read.opens.rows) in
+    let lines : List Line = stored.written.lines in
+    let done : AreWritten told places first [] lines stored.mid new = subst (λ (es : List Entry). AreWritten told places first es lines stored.mid new) none stored.written.written in
+    let tables : map (λ (l : Line). l.table) lines ≡ all = stored.written.tables in
+    let rows : rows_in metadata_span (first_contents new) ≡ map row_of (map (entry places first) all) =
+    lines_kept told names places first [] lines stored.mid new told0 done (rows_left stored.read.rows old stored.mid told0 stored.read.scanned ∙ fresh.none)
+    (ap rises tables ∙ written_rise catalog (and_first (rises catalog) (nat_le (length catalog) 64 && list_all is_table catalog) sound) fresh.named)
+    (ap (list_all (λ (t : Table). is_name t.name.ns)) tables ∙ each_named names places first all each)
+    (subst (λ (ts : List Table). Follow names [] (map (entry places first) ts)) (sym tables) follow)
+    ∙ ap (λ (ts : List Table). map row_of (map (entry places first) ts)) tables in
+    record {
+      first = first;
+      named = ap (λ (ns : List (List ℕ)). slice_get ns 0) same ∙ stored.named;
+      rows = record { rows = rows; follow = subst (λ (ns : List (List ℕ)). Follow ns [] (map (entry places first) all)) (sym same) follow };
+      tables = first_tables names places first catalog fresh.named;
+    }
+
+---- what is opened
+
+-- each namespace of a table is in the store that new entries give it
+module _ (places : List Place) (first : List ℕ) where
+  abbrev store_if : Table → Bool → List ℕ → List Table → Option (List ℕ)
+  store_if u b ns us = option_map (λ (e : Entry). e.store) (cond b (Some (entry places first u)) (find (λ (e : Entry). bytes_eq e.table.name.ns ns) (map (entry places first) us)))
+
+  store_at : (us : List Table) (i : ℕ) (t : Table) → i < length us → get_or us i t ≡ t → store_in (map (entry places first) us) t.name.ns ≡ Some (store_for [] places first t.name.ns)
+  store_at [] i t inside is = absurd (omega arith)
+  store_at (u ∷ us) zero t inside is =
+      ap (λ (b : Bool). store_if u b t.name.ns us) ((bytes_eq-Decides u.name.ns t.name.ns).1 (ap (λ (x : Table). x.name.ns) is)) ∙ ap (λ (x : Table). Some (store_for [] places first x.name.ns)) is
+  store_at (u ∷ us) (suc i) t inside is =
+      elim (bytes_eq u.name.ns t.name.ns) as (λ b. bytes_eq u.name.ns t.name.ns ≡ b → store_if u b t.name.ns us ≡ Some (store_for [] places first t.name.ns)) [
+        | true ↦ λ q. ap (λ (ns : List ℕ). Some (store_for [] places first ns)) ((bytes_eq-Decides u.name.ns t.name.ns).0 q)
+        | false ↦ λ q. store_at us i t (omega arith) is
+      ] refl
+
+pub read_back : {told : ℕ → Type 0} (es : List Entry) (now : List Place) (opened : List Table) (old mid : List Shelf) → IsRead told old mid es → opened ≡ tables_of es → ((ns : List ℕ) → placed_on ns now ≡ store_in es ns) → told 0 → IsAsKept old opened now
+read_back es now opened old mid read tables placed told0 = λ places catalog kept.
+    let shown : Opens (names_of old) (rows_in metadata_span (first_contents old)) es =
+    subst (λ (rs : List Record). Opens (names_of old) rs es) (rows_shown read.rows old mid told0 read.scanned) read.opens in
+    let same : es ≡ first_entries places kept.first catalog = one_reading (names_of old) (rows_in metadata_span (first_contents old)) es (first_entries places kept.first catalog) shown kept.rows in
+    record {
+      same = tables ∙ ap tables_of same ∙ kept.tables;
+      first = kept.first;
+      named = kept.named;
+      placed = λ t c. placed t.name.ns ∙ ap (λ (fs : List Entry). store_in fs t.name.ns) same ∙ store_at places kept.first (written_tables catalog) c.0 t c.1 c.2;
+    }
