@@ -33,10 +33,6 @@ settle whole (Opened gap b body) s =
     if ends s then record { whole = whole ++ record { gap = gap; begin = b; body = body; last = s } ∷ []; rest = Closed [] }
     else record { whole = whole; rest = Opened gap b (body ++ s ∷ []) }
 
--- a story with one statement more
-abbrev pub with_said : Story → Said → Story
-with_said t s = settle t.whole t.rest s
-
 -- the statements of a story again
 abbrev pub saids_of : List Finished → List Said
 saids_of [] = []
