@@ -1,5 +1,5 @@
 -- What the values stand for in the words of the model.
-use Rattle.std.specs.Prelude.{ℕ, Bool, false, if◌then◌else◌, ◌&&◌, nat_lt, nat_le, List, [], map, filter, take_while, not, Option, Some, None, find, is_some}
+use Rattle.std.specs.Prelude.{ℕ, Bool, false, if◌then◌else◌, ◌&&◌, nat_lt, nat_le, List, [], map, take_while, not, Option, Some, None, find, is_some}
 use Rattle.std.specs.List.{cons_option, list_any}
 use Rattle.std.specs.Option.{option_and_then, option_map_or}
 use Rattle.std.specs.Ordering.{is_eq}
@@ -11,7 +11,7 @@ use Rattle.sdb_model.specs.Calls as calls
 use Rattle.sdb_model.specs.Calls.{calls_of, key_asked, decision_said, standing_said}
 use Rattle.sdb_model.specs.Noted as noted
 use Rattle.sdb_model.specs.Noted.{notes_in, reads_rows}
-use Rattle.sdb_model.specs.Transactions.{Said, ends, from_begin, is_answered_from_rows, is_effective, rest_of, through_end}
+use Rattle.sdb_model.specs.Transactions.{Said, ends, from_begin, is_answered_from_rows, is_effective, rest_of}
 use Rattle.sdb_record.specs.Coordinator.{decision_in}
 use Rattle.std.specs.Result.{result_ok}
 use Rattle.sdb_said.specs.declared.plan.Note.{Note}
@@ -59,17 +59,9 @@ decision_learned_at ms row = option_and_then (decision_at row) (find (λ m. is_s
 
 ---- a transaction among what its client said
 
--- its statements after its BEGIN, with the one that ended it
-abbrev pub statements_among : List Said → ℕ → List Said
-statements_among ss k = through_end (rest_of (from_begin k ss))
-
 -- its statements up to its end, that one left out
 abbrev pub inside_among : List Said → ℕ → List Said
 inside_among ss k = take_while (λ s. not (ends s)) (rest_of (from_begin k ss))
-
--- its body
-abbrev pub body_among : List Said → ℕ → List Said
-body_among ss k = filter is_effective (inside_among ss k)
 
 abbrev pub is_from_rows : Said → Bool
 is_from_rows s = option_map_or is_answered_from_rows s.answer false
