@@ -27,3 +27,4 @@ pub mod Moments
 pub mod Forged
 pub mod Uncaused
 pub mod Unchecked
+pub mod Current

@@ -51,13 +51,13 @@ use Rattle.sdb_record.proofs.ImageLaws.{version-writer}
 use Rattle.sdb_types.specs.Contents.{is_version}
 
 -- the keys of a catalog's tables are keys of records
-record IsApart (catalog : List Table) : Type 0 where
-  outside : (key : Key) → IsTableKey catalog key → is_data key ≡ true
+pub record IsApart (catalog : List Table) : Type 0 where
+  pub outside : (key : Key) → IsTableKey catalog key → is_data key ≡ true
 
-clash : {A : Type 0} → true ≡ false → A
+pub clash : {A : Type 0} → true ≡ false → A
 clash e = absurd (cc)
 
-both : (a b : Bool) → (a && b) ≡ true → (a ≡ true) × (b ≡ true)
+pub both : (a b : Bool) → (a && b) ≡ true → (a ≡ true) × (b ≡ true)
 both true true e = (refl, refl)
 both true false e = clash (sym e)
 both false b e = clash (sym e)
@@ -67,7 +67,7 @@ coordinator_is t h =
     let b = both (same_name t.ns coordinator_table.ns) (same_name t.table coordinator_table.table) h in
     ap (λ n. record { ns = n; table = t.table }) (same_name-true t.ns coordinator_table.ns b.0) ∙ ap (λ n. record { ns = coordinator_table.ns; table = n }) (same_name-true t.table coordinator_table.table b.1)
 
-apart_from : (catalog : List Table) → find_table catalog coordinator_table ≡ None → IsApart catalog
+pub apart_from : (catalog : List Table) → find_table catalog coordinator_table ≡ None → IsApart catalog
 apart_from catalog none = record { outside = λ key table. by key table (is_coordinator_table key.table) refl }
   where
     by : (key : Key) → IsTableKey catalog key → (b : Bool) → is_coordinator_table key.table ≡ b → is_data key ≡ true
@@ -95,21 +95,21 @@ gone plan places w past shelves catalog i apart t key r fits aborted table at =
 
 ---- lists turned round
 
-onto : {X : Type 0} → (xs ys : List X) → fold (λ newer x. x ∷ newer) ys xs ≡ newest_first xs ++ ys
+pub onto : {X : Type 0} → (xs ys : List X) → fold (λ newer x. x ∷ newer) ys xs ≡ newest_first xs ++ ys
 onto [] ys = refl
 onto (x ∷ xs) ys = onto xs (x ∷ ys) ∙ sym (append_assoc (newest_first xs) (x ∷ []) ys) ∙ ap (λ zs. zs ++ ys) (sym (onto xs (x ∷ [])))
 
-turned_append : {X : Type 0} → (xs ys : List X) → newest_first (xs ++ ys) ≡ newest_first ys ++ newest_first xs
+pub turned_append : {X : Type 0} → (xs ys : List X) → newest_first (xs ++ ys) ≡ newest_first ys ++ newest_first xs
 turned_append xs ys = fold-append (λ newer x. x ∷ newer) [] xs ys ∙ onto ys (newest_first xs)
 
-turned_more : {X : Type 0} → (x : X) (xs : List X) → newest_first (x ∷ xs) ≡ newest_first xs ++ x ∷ []
+pub turned_more : {X : Type 0} → (x : X) (xs : List X) → newest_first (x ∷ xs) ≡ newest_first xs ++ x ∷ []
 turned_more x xs = onto xs (x ∷ [])
 
-turned_twice : {X : Type 0} → (xs : List X) → newest_first (newest_first xs) ≡ xs
+pub turned_twice : {X : Type 0} → (xs : List X) → newest_first (newest_first xs) ≡ xs
 turned_twice [] = refl
 turned_twice (x ∷ xs) = ap newest_first (turned_more x xs) ∙ turned_append (newest_first xs) (x ∷ []) ∙ ap (λ zs. x ∷ zs) (turned_twice xs)
 
-turned_length : {X : Type 0} → (xs : List X) → length (newest_first xs) ≡ length xs
+pub turned_length : {X : Type 0} → (xs : List X) → length (newest_first xs) ≡ length xs
 turned_length [] = refl
 turned_length (x ∷ xs) = ap length (turned_more x xs) ∙ length-append (newest_first xs) (x ∷ []) ∙ ap (λ n. n + 1) (turned_length xs) ∙ add-one (length xs)
 
@@ -119,19 +119,19 @@ closing_first : (opening first : List Shelf) (zs : List (List Shelf)) → closin
 closing_first opening first [] = refl
 closing_first opening first (z ∷ zs) = refl
 
-moment_at : (opening : List Shelf) (xs ys : List (List Shelf)) → moment opening (xs ++ ys) (length xs) ≡ closing opening (newest_first xs)
+pub moment_at : (opening : List Shelf) (xs ys : List (List Shelf)) → moment opening (xs ++ ys) (length xs) ≡ closing opening (newest_first xs)
 moment_at opening [] [] = refl
 moment_at opening [] (y ∷ ys) = refl
 moment_at opening (x ∷ xs) ys = moment_at x xs ys ∙ sym (closing_first opening x (newest_first xs)) ∙ ap (closing opening) (sym (turned_more x xs))
 
-trace_length : (places : List Place) (opening : List Shelf) (past : List Played) (ss : List (List Shelf)) → IsTraced places opening past ss → length past ≡ length ss
+pub trace_length : (places : List Place) (opening : List Shelf) (past : List Played) (ss : List (List Shelf)) → IsTraced places opening past ss → length past ≡ length ss
 trace_length places opening [] [] t = refl
 trace_length places opening [] (s ∷ ss) t = absurd t
 trace_length places opening (p ∷ past) [] t = absurd t
 trace_length places opening (p ∷ past) (s ∷ ss) t = ap suc (trace_length places opening past ss t.0)
 
 -- the run of the first events alone
-early_run : (plan : ℕ → Plan) (places : List Place) (opening : List Shelf) (front back : List Played) (ms more : List (List Shelf)) → length back ≡ length more → IsRunOf plan places opening (newest_first (front ++ back)) (newest_first (ms ++ more)) → IsRunOf plan places opening (newest_first front) (newest_first ms)
+pub early_run : (plan : ℕ → Plan) (places : List Place) (opening : List Shelf) (front back : List Played) (ms more : List (List Shelf)) → length back ≡ length more → IsRunOf plan places opening (newest_first (front ++ back)) (newest_first (ms ++ more)) → IsRunOf plan places opening (newest_first front) (newest_first ms)
 early_run plan places opening front back ms more e r =
     front_run plan places opening (newest_first back) (newest_first front) (newest_first more) (newest_first ms) (turned_length back ∙ e ∙ sym (turned_length more))
     (subst (λ x. IsRunOf plan places opening x (newest_first more ++ newest_first ms)) (turned_append front back) (subst (λ x. IsRunOf plan places opening (newest_first (front ++ back)) x) (turned_append ms more) r))
@@ -267,24 +267,22 @@ put_is plan places opening early p es s t k word r role done = record {
 
 ---- at every moment
 
-unresolved : (plan : ℕ → Plan) (places : List Place) (opening : List Shelf) (front back : List Played) (ms more : List (List Shelf)) (catalog : List Table) → length back ≡ length more → IsRunOf plan places opening (newest_first (front ++ back)) (newest_first (ms ++ more)) → IsApart catalog → UnresolvedPrepared catalog places (events_of (front ++ back)) opening (ms ++ more) (length ms)
-unresolved plan places opening front back ms more catalog same r apart key x table at open_state =
-    (id u.t, events_of (newest_first b.early), u.writer, below, subst (λ y. IsPreparedAfter places (events_of (front ++ back)) opening (ms ++ more) (id u.t) y (events_of (newest_first b.early))) (sym u.same) prepared)
+-- where a prepare took effect among the first events, and what it put
+pub put_after : (plan : ℕ → Plan) (places : List Place) (opening : List Shelf) (front back : List Played) (ms more : List (List Shelf)) (t : ℕ) (key : Key) → length back ≡ length more → IsRunOf plan places opening (newest_first (front ++ back)) (newest_first (ms ++ more)) → (history plan places opening (newest_first front) (newest_first ms)).took t key ≡ true
+    → (before : List Event) × (length before < length ms) × IsPreparedAfter places (events_of (front ++ back)) opening (ms ++ more) (id t) (held_record plan t key) before
+put_after plan places opening front back ms more t key same r took = (events_of (newest_first b.early), below, prepared)
   where
     run : IsRunOf plan places opening (newest_first front) (newest_first ms)
     run = early_run plan places opening front back ms more same r
 
-    u : IsPreparedRecord plan (history plan places opening (newest_first front) (newest_first ms)) key x
-    u = unresolved_prepared plan places (history plan places opening (newest_first front) (newest_first ms)) (newest_first front) (closing opening (newest_first ms)) (whole_of plan places opening (newest_first front) (newest_first ms) run) key x (apart.outside key table) (ap (λ y. standing places y key) (sym (moment_at opening ms more)) ∙ at) open_state
-
-    b : IsPutBy plan places opening (newest_first front) (newest_first ms) u.t key
-    b = put_by plan places opening (newest_first front) (newest_first ms) u.t key u.took
+    b : IsPutBy plan places opening (newest_first front) (newest_first ms) t key
+    b = put_by plan places opening (newest_first front) (newest_first ms) t key took
 
     then : IsRunOf plan places opening (b.p ∷ b.early) (b.s ∷ b.es)
     then = front_run plan places opening b.later (b.p ∷ b.early) b.more (b.s ∷ b.es) b.same (subst (λ y. IsRunOf plan places opening y (b.more ++ b.s ∷ b.es)) b.past_is (subst (λ y. IsRunOf plan places opening (newest_first front) y) b.ss_is run))
 
-    put : IsPut plan places u.t key b.p.event (closing opening b.es) b.s
-    put = put_is plan places opening b.early b.p b.es b.s u.t key b.word then b.role b.done
+    put : IsPut plan places t key b.p.event (closing opening b.es) b.s
+    put = put_is plan places opening b.early b.p b.es b.s t key b.word then b.role b.done
 
     events_is : events_of (front ++ back) ≡ events_of (newest_first b.early) ++ b.p.event ∷ (events_of (newest_first b.later) ++ events_of back)
     events_is =
@@ -320,7 +318,7 @@ unresolved plan places opening front back ms more catalog same r apart key x tab
         ∙ ap (λ y. closing opening (newest_first y)) (sym (turned_more b.s b.es))
         ∙ ap (closing opening) (turned_twice (b.s ∷ b.es))
 
-    prepared : IsPreparedAfter places (events_of (front ++ back)) opening (ms ++ more) (id u.t) (held_record plan u.t key) (events_of (newest_first b.early))
+    prepared : IsPreparedAfter places (events_of (front ++ back)) opening (ms ++ more) (id t) (held_record plan t key) (events_of (newest_first b.early))
     prepared = record {
       client = put.client;
       store = put.store;
@@ -331,13 +329,24 @@ unresolved plan places opening front back ms more catalog same r apart key x tab
       back = events_of (newest_first b.later) ++ events_of back;
       at = events_is ∙ ap (λ y. events_of (newest_first b.early) ++ y ∷ (events_of (newest_first b.later) ++ events_of back)) put.call;
       prepare = put.prepare;
-      before = ap (λ y. standing places y (held_record plan u.t key).key) before_is ∙ put.before;
-      after = ap (λ y. standing places y (held_record plan u.t key).key) after_is ∙ put.after;
+      before = ap (λ y. standing places y (held_record plan t key).key) before_is ∙ put.before;
+      after = ap (λ y. standing places y (held_record plan t key).key) after_is ∙ put.after;
     }
+
+unresolved : (plan : ℕ → Plan) (places : List Place) (opening : List Shelf) (front back : List Played) (ms more : List (List Shelf)) (catalog : List Table) → length back ≡ length more → IsRunOf plan places opening (newest_first (front ++ back)) (newest_first (ms ++ more)) → IsApart catalog → UnresolvedPrepared catalog places (events_of (front ++ back)) opening (ms ++ more) (length ms)
+unresolved plan places opening front back ms more catalog same r apart key x table at open_state =
+    let p = put_after plan places opening front back ms more u.t key same r u.took in
+    (id u.t, p.0, u.writer, p.1, subst (λ y. IsPreparedAfter places (events_of (front ++ back)) opening (ms ++ more) (id u.t) y p.0) (sym u.same) p.2)
+  where
+    run : IsRunOf plan places opening (newest_first front) (newest_first ms)
+    run = early_run plan places opening front back ms more same r
+
+    u : IsPreparedRecord plan (history plan places opening (newest_first front) (newest_first ms)) key x
+    u = unresolved_prepared plan places (history plan places opening (newest_first front) (newest_first ms)) (newest_first front) (closing opening (newest_first ms)) (whole_of plan places opening (newest_first front) (newest_first ms) run) key x (apart.outside key table) (ap (λ y. standing places y key) (sym (moment_at opening ms more)) ∙ at) open_state
 
 ---- what a transaction without a row prepared stands
 
-open_put : (t : TxId) (r : Record) (c : Condition) → prepares t (ask.PutIf r c) ≡ true → is_in state.Committed r.columns ≡ false
+pub open_put : (t : TxId) (r : Record) (c : Condition) → prepares t (ask.PutIf r c) ≡ true → is_in state.Committed r.columns ≡ false
 open_put t r c h = by (is_in state.Committed r.columns) refl
   where
     by : (b : Bool) → is_in state.Committed r.columns ≡ b → is_in state.Committed r.columns ≡ false
@@ -352,7 +361,7 @@ put_writer t r c fits h = by (is_version t state.Prepared r) refl
     by false e = version-writer r t state.Deleted fits (ap (λ b. b || is_version t state.Deleted r) (sym e) ∙ h)
 
 -- the prefix of a run that ends with an event after `front`, and that its record was prepared by then
-took_by : (plan : ℕ → Plan) (places : List Place) (opening : List Shelf) (early later : List Played) (es ls : List (List Shelf)) (t : TxId) (r : Record) (c : Condition) → length later ≡ length ls → IsRunOf plan places opening (newest_first (early ++ later)) (newest_first (es ++ ls))
+pub took_by : (plan : ℕ → Plan) (places : List Place) (opening : List Shelf) (early later : List Played) (es ls : List (List Shelf)) (t : TxId) (r : Record) (c : Condition) → length later ≡ length ls → IsRunOf plan places opening (newest_first (early ++ later)) (newest_first (es ++ ls))
     → t.0 < 2 ^ 128 → is_data r.key ≡ true → prepares t (ask.PutIf r c) ≡ true → standing places (closing opening (newest_first es)) r.key ≡ Some r
     → ((history plan places opening (newest_first (early ++ later)) (newest_first (es ++ ls))).took t.0 r.key ≡ true) × (r ≡ held_record plan t.0 r.key)
 took_by plan places opening early later es ls t r c same run fits outside prepare at = (still, subst (λ n. r ≡ held_record plan n r.key) number u.same)
@@ -423,17 +432,17 @@ stands plan places opening front back ms more catalog even same r apart t x befo
 
 ---- the laws
 
-half : {X : Type 0} → (n : ℕ) (xs : List X) → xs ≡ take n xs ++ drop n xs
+pub half : {X : Type 0} → (n : ℕ) (xs : List X) → xs ≡ take n xs ++ drop n xs
 half n xs = sym (take-append-drop n xs)
 
 -- a run, cut after its first events
-record IsCut (plan : ℕ → Plan) (places : List Place) (opening : List Shelf) (played : List Played) (moments : List (List Shelf)) (n : ℕ) : Type 0 where
-  whole : IsRunOf plan places opening (newest_first (take n played ++ drop n played)) (newest_first (take n moments ++ drop n moments))
-  even : length (take n played) ≡ length (take n moments)
-  same : length (drop n played) ≡ length (drop n moments)
-  size : length (take n moments) ≡ n
+pub record IsCut (plan : ℕ → Plan) (places : List Place) (opening : List Shelf) (played : List Played) (moments : List (List Shelf)) (n : ℕ) : Type 0 where
+  pub whole : IsRunOf plan places opening (newest_first (take n played ++ drop n played)) (newest_first (take n moments ++ drop n moments))
+  pub even : length (take n played) ≡ length (take n moments)
+  pub same : length (drop n played) ≡ length (drop n moments)
+  pub size : length (take n moments) ≡ n
 
-cut : (plan : ℕ → Plan) (places : List Place) (opening : List Shelf) (played : List Played) (moments : List (List Shelf)) (n : ℕ) → IsRunOf plan places opening (newest_first played) (newest_first moments) → n ≤ length moments → IsCut plan places opening played moments n
+pub cut : (plan : ℕ → Plan) (places : List Place) (opening : List Shelf) (played : List Played) (moments : List (List Shelf)) (n : ℕ) → IsRunOf plan places opening (newest_first played) (newest_first moments) → n ≤ length moments → IsCut plan places opening played moments n
 cut plan places opening played moments n r h = record {
   whole = subst (λ y. IsRunOf plan places opening (newest_first y) (newest_first (take n moments ++ drop n moments))) (half n played) (subst (λ y. IsRunOf plan places opening (newest_first played) (newest_first y)) (half n moments) r);
   even = length-take-le n played (omega (arith, h, lengths)) ∙ sym (length-take-le n moments h);
@@ -445,11 +454,34 @@ cut plan places opening played moments n r h = record {
     lengths = sym (turned_length played) ∙ trace_length places opening (newest_first played) (newest_first moments) r.traced ∙ turned_length moments
 
 -- what is so at the end of a run's first events is so at that moment
-at_cut : (opening : List Shelf) (moments : List (List Shelf)) (n : ℕ) → length (take n moments) ≡ n → moment opening moments n ≡ closing opening (newest_first (take n moments))
+pub at_cut : (opening : List Shelf) (moments : List (List Shelf)) (n : ℕ) → length (take n moments) ≡ n → moment opening moments n ≡ closing opening (newest_first (take n moments))
 at_cut opening moments n e = ap (λ y. moment opening y n) (half n moments) ∙ ap (moment opening (take n moments ++ drop n moments)) (sym e) ∙ moment_at opening (take n moments) (drop n moments)
 
 early_whole : (plan : ℕ → Plan) (places : List Place) (opening : List Shelf) (played : List Played) (moments : List (List Shelf)) (n : ℕ) → IsCut plan places opening played moments n → Whole plan places (history plan places opening (newest_first (take n played)) (newest_first (take n moments))) (newest_first (take n played)) (closing opening (newest_first (take n moments)))
 early_whole plan places opening played moments n c = whole_of plan places opening (newest_first (take n played)) (newest_first (take n moments)) (early_run plan places opening (take n played) (drop n played) (take n moments) (drop n moments) c.same c.whole)
+
+-- a prepare among the events that put its record took effect
+pub took_of : (plan : ℕ → Plan) (places : List Place) (opening : List Shelf) (played : List Played) (moments : List (List Shelf)) (t : TxId) (x : Record) (before : List Event) → IsRunOf plan places opening (newest_first played) (newest_first moments) → t.0 < 2 ^ 128 → is_data x.key ≡ true → IsPreparedAfter places (events_of played) opening moments t x before
+    → ((history plan places opening (newest_first played) (newest_first moments)).took t.0 x.key ≡ true) × (x ≡ held_record plan t.0 x.key)
+took_of plan places opening played moments t x before r fits outside p =
+    subst (λ y. ((history plan places opening (newest_first y) (newest_first moments)).took t.0 x.key ≡ true) × (x ≡ held_record plan t.0 x.key)) (take-append-drop n played)
+    (subst (λ y. ((history plan places opening (newest_first (take n played ++ drop n played)) (newest_first y)).took t.0 x.key ≡ true) × (x ≡ held_record plan t.0 x.key)) (take-append-drop n moments)
+    (took_by plan places opening (take n played) (drop n played) (take n moments) (drop n moments) t x p.condition c.same c.whole fits outside p.prepare (ap (λ y. standing places y x.key) (sym (at_cut opening moments n c.size)) ∙ p.after)))
+  where
+    n : ℕ
+    n = suc (length before)
+
+    size : length (events_of played) ≡ length moments
+    size = length-map played (λ (y : Played). y.event) ∙ sym (turned_length played) ∙ trace_length places opening (newest_first played) (newest_first moments) r.traced ∙ turned_length moments
+
+    at_most : n ≤ length moments
+    at_most = most (length moments) (length p.back) (sym size ∙ ap length p.at ∙ length-append before (event.Call p.client p.store (ask.PutIf x p.condition) p.how p.reply p.answer ∷ p.back))
+      where
+        most : (a b : ℕ) → a ≡ length before + suc b → suc (length before) ≤ a
+        most a b e = omega (arith, e)
+
+    c : IsCut plan places opening played moments n
+    c = cut plan places opening played moments n r at_most
 
 pub committed_at : (plan : ℕ → Plan) (places : List Place) (opening : List Shelf) (played : List Played) (moments : List (List Shelf)) (catalog : List Table) (n : ℕ) → IsRunOf plan places opening (newest_first played) (newest_first moments) → find_table catalog coordinator_table ≡ None → n ≤ length moments → CommittedRecorded catalog places (moment opening moments n)
 committed_at plan places opening played moments catalog n r none h =

@@ -1,10 +1,9 @@
 -- A COMMIT that leaves a check out is lawful under no plan that has what the transaction's statements noted.
 use lib.ListN.{get_or}
-use Rattle.std.proofs.Common.{◌≡◌, ◌<◌, ℕ, zero, suc, length, true, false, List, [], ◌∷◌, Option, Some, None, inl, inr, refl, sym, ap, subst, ◌∙◌, arith}
-use Rattle.std.specs.Prelude.{Contains, codes}
+use Rattle.std.proofs.Common.{◌≡◌, ◌<◌, ℕ, zero, suc, length, true, false, List, [], ◌∷◌, Option, Some, None, refl, sym, ap, subst, ◌∙◌, arith}
+use Rattle.std.specs.Prelude.{Contains}
 use Rattle.std.specs.Option.{option_map, option_and_then}
 use Rattle.std.specs.List.{slice_get}
-use Rattle.sdb_types.specs.declared.txid.TxId.{TxId}
 use Rattle.sdb_model.specs.declared.event.Event.{Event}
 use Rattle.sdb_model.specs.Noted.{Note, Got, noted_in, same_key, version_noted}
 use Rattle.sdb_laws.specs.Plan.{Plan, noted, number_of, written}
@@ -27,7 +26,7 @@ unfolding noted same_key
 noted_so plan i h = ap (λ (o : Option Note). option_map number_of (option_and_then (λ n. version_noted n account) o)) h
 
 -- an item of a list is got at its place
-got : (ns : List Note) (x : Note) (i : ℕ) → i < length ns → get_or ns i x ≡ x → slice_get ns i ≡ Some x
+pub got : (ns : List Note) (x : Note) (i : ℕ) → i < length ns → get_or ns i x ≡ x → slice_get ns i ≡ Some x
 got [] x i low at = absurd (omega (arith, low))
 got (n ∷ ns) x zero low at = ap Some at
 got (n ∷ ns) x (suc i) low at = got ns x i (omega (arith, low)) at

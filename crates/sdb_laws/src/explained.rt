@@ -5,10 +5,11 @@ ghost use Rattle.sdb_record.specs.Coordinator.{coordinator_table};
 ghost use Rattle.sdb_model.specs.declared.script.Place.{Place};
 ghost use Rattle.sdb_model.specs.Exec.{find_table};
 ghost use Rattle.sdb_model.specs.Events.{Shelf, moment};
-ghost use Rattle.sdb_model.specs.Explained.{AbortedGone, CommittedRecorded, PreparedStands, RowsFinal, UnresolvedPrepared};
+ghost use Rattle.sdb_model.specs.Explained.{AbortedGone, CommittedRecorded, PreparedStands, ReadsCurrent, RowsFinal, UnchangedResolved, UnresolvedPrepared, WritesStand};
 ghost use Rattle.sdb_laws.specs.Plan.{Plan};
 ghost use Rattle.sdb_laws.specs.Lawful.{Played};
 ghost use Rattle.sdb_laws.specs.Explained.{IsRunOf, newest_first, events_of};
+ghost use Rattle.sdb_laws.specs.Faithful.{AreNoted, IsFaithful};
 
 /// At each moment a record in state COMMITTED names a transaction that is recorded by then.
 pub fn committed_recorded()
@@ -33,4 +34,21 @@ pub fn unresolved_is_prepared()
 /// At each moment what a transaction without a row has prepared stands.
 pub fn prepared_record_stands()
     ensures { (plan : ℕ → Plan) (places : List Place) (opening : List Shelf) (played : List Played) (moments : List (List Shelf)) (catalog : List Table) (n : ℕ) → IsRunOf plan places opening (newest_first played) (newest_first moments) → find_table catalog coordinator_table ≡ None → n ≤ length moments → PreparedStands catalog places (events_of played) opening moments n }
+{}
+
+/// Whatever a read found unchanged, each transaction whose prepare of that key was put before has its row by then.
+pub fn unchanged_is_resolved()
+    ensures { (plan : ℕ → Plan) (places : List Place) (opening : List Shelf) (played : List Played) (moments : List (List Shelf)) (catalog : List Table) → IsRunOf plan places opening (newest_first played) (newest_first moments) → find_table catalog coordinator_table ≡ None → UnchangedResolved catalog places (events_of played) opening moments }
+{}
+
+/// After the events of a run whose parts are those that the texts tell, each key that a recorded transaction wrote shows what it left
+/// there, or what a later one did.
+pub fn writes_stand()
+    ensures { (plan : ℕ → Plan) (places : List Place) (opening : List Shelf) (played : List Played) (moments : List (List Shelf)) (catalog : List Table) → IsRunOf plan places opening (newest_first played) (newest_first moments) → find_table catalog coordinator_table ≡ None → IsFaithful (events_of played) (newest_first played) → WritesStand catalog places (events_of played) opening moments }
+{}
+
+/// And where its plan's notes are what its statements noted, each version that it noted is of the last writer before its point.
+pub fn reads_are_current()
+    ensures { (plan : ℕ → Plan) (places : List Place) (opening : List Shelf) (played : List Played) (moments : List (List Shelf)) (catalog : List Table) → IsRunOf plan places opening (newest_first played) (newest_first moments) → find_table catalog coordinator_table ≡ None → IsFaithful (events_of played) (newest_first played) → AreNoted plan (events_of played) (newest_first played)
+        → ReadsCurrent catalog places (events_of played) opening moments }
 {}

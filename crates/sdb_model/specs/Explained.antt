@@ -1,16 +1,20 @@
 -- What is so at every moment of a run of the protocol, in the words of events and of what the stores hold.
-use Rattle.std.specs.Prelude.{◌≡◌, ◌≢◌, ℕ, suc, ◌≤◌, ◌<◌, ◌^◌, true, false, List, ◌∷◌, ◌++◌, length, Option, Some, None, is_some, IsSomeAnd}
+use Rattle.std.specs.Prelude.{◌≡◌, ◌≢◌, ◌⊎◌, ℕ, suc, ◌<◌, ◌^◌, true, false, List, ◌∷◌, ◌++◌, length, Option, Some, None, is_some, IsSomeAnd, Contains}
 use Rattle.sdb_types.specs.declared.txid.TxId.{TxId}
 use Rattle.sdb_types.specs.declared.key.Key.{Key}
 use Rattle.sdb_types.specs.declared.record.Record.{Record}
 use Rattle.sdb_types.specs.declared.record.Condition.{Condition}
+use Rattle.sdb_types.specs.declared.record.Request.{Request}
 use Rattle.sdb_types.specs.declared.record.Request.TheVariants as ask
 use Rattle.sdb_types.specs.declared.record.Reply.{Reply}
+use Rattle.sdb_types.specs.declared.record.Reply.TheVariants as reply
 use Rattle.sdb_types.specs.declared.record.State.TheVariants as state
 use Rattle.sdb_schema.specs.declared.table.Table.{Table}
 use Rattle.sdb_record.specs.declared.coordinator.Decision.TheVariants as decision
 use Rattle.sdb_record.specs.Coordinator.{coordinator_key_of}
+use Rattle.sdb_types.specs.Contents.{in_span}
 use Rattle.sdb_record.specs.Meta.{id_in, is_in}
+use Rattle.sdb_record.specs.Moved.{is_unchanged}
 use Rattle.sdb_record.specs.Parts.{before_record}
 use Rattle.sdb_model.specs.declared.answer.Answer.{Answer}
 use Rattle.sdb_model.specs.declared.event.Event.{Event}
@@ -20,8 +24,10 @@ use Rattle.sdb_model.specs.declared.script.Place.{Place}
 use Rattle.sdb_model.specs.Rows.{Name}
 use Rattle.sdb_model.specs.Exec.{find_table}
 use Rattle.sdb_model.specs.Events.{Shelf, standing, moment}
-use Rattle.sdb_model.specs.Images.{decision_at}
-use Rattle.sdb_model.specs.Transactions.{Recorded, prepares}
+use Rattle.sdb_model.specs.Images.{decision_at, image_at}
+use Rattle.sdb_model.specs.Calls.{record_among}
+use Rattle.sdb_model.specs.Noted.{Note, noted_in, version_noted}
+use Rattle.sdb_model.specs.Transactions.{Recorded, begun, point, prepares}
 
 -- a key of a table of the catalog: the coordinator's rows are no records of transactions
 abbrev pub IsTableKey : List Table → Key → Type 0
@@ -79,3 +85,71 @@ UnresolvedPrepared catalog places events opening moments n = (key : Key) (r : Re
 abbrev pub PreparedStands : List Table → List Place → List Event → List Shelf → List (List Shelf) → ℕ → Type 0
 PreparedStands catalog places events opening moments n = (id : TxId) (r : Record) (front : List Event) → id.0 < 2 ^ 128 → IsTableKey catalog r.key → length front < n → IsPreparedAfter places events opening moments id r front
     → standing places (moment opening moments n) (coordinator_key_of id) ≡ None → standing places (moment opening moments n) r.key ≡ Some r
+
+-- a read showed this at a key
+abbrev pub Shows : Request → Reply → Key → Option Record → Type 0
+Shows (ask.Get k) (reply.Found standing) key found = (k ≡ key) × (standing ≡ found)
+Shows (ask.Scan span) (reply.Rows rows) key found = (in_span span key ≡ true) × (record_among rows key ≡ found)
+Shows q r key found = ⊥
+
+-- What a read found unchanged was resolved: each transaction whose prepare of the key was put before has its row by then.
+abbrev pub UnchangedResolved : List Table → List Place → List Event → List Shelf → List (List Shelf) → Type 0
+UnchangedResolved catalog places events opening moments =
+    (front back : List Event) (client : ℕ) (store : Name) (q : Request) (how : How) (r : Reply) (answer : Option Answer) (key : Key) (found : Option Record) (version : Option TxId)
+    → events ≡ front ++ event.Call client store q how r answer ∷ back → Shows q r key found → is_unchanged found version ≡ true → IsTableKey catalog key
+    → (id : TxId) (x : Record) (before : List Event) → id.0 < 2 ^ 128 → x.key ≡ key → length before < length front → IsPreparedAfter places events opening moments id x before
+    → standing places (moment opening moments (length front)) (coordinator_key_of id) ≢ None
+
+---- after all events
+
+abbrev pub closing_of : List Event → List Shelf → List (List Shelf) → List Shelf
+closing_of events opening moments = moment opening moments (length events)
+
+-- A recorded transaction that wrote a key: a prepare of it put this record there.
+pub record IsWriter (places : List Place) (events : List Event) (opening : List Shelf) (moments : List (List Shelf)) (key : Key) (id : TxId) : Type 0 where
+  pub fits : id.0 < 2 ^ 128
+  pub recorded : Recorded places (closing_of events opening moments) id
+  pub r : Record
+  pub front : List Event
+  pub at : r.key ≡ key
+  pub prepared : IsPreparedAfter places events opening moments id r front
+
+-- what a writer left, which deleted the row where nothing stands
+abbrev pub IsLeftBy : TxId → Record → Option Record → Type 0
+IsLeftBy id r None = is_in state.Deleted r.columns ≡ true
+IsLeftBy id r (Some image) = id_in image.columns ≡ Some id
+
+-- What stands for a key is of this transaction or of a later writer. Nothing does only where such a one deleted the row.
+pub record IsOfOrLater (places : List Place) (events : List Event) (opening : List Shelf) (moments : List (List Shelf)) (key : Key) (id : TxId) (image : Option Record) : Type 0 where
+  pub u : TxId
+  pub writer : IsWriter places events opening moments key u
+  pub later : (u ≡ id) ⊎ (point events id < point events u)
+  pub left : IsLeftBy u writer.r image
+
+-- What a recorded transaction wrote stands, or what a later one did: each key that it wrote shows so.
+abbrev pub WritesStand : List Table → List Place → List Event → List Shelf → List (List Shelf) → Type 0
+WritesStand catalog places events opening moments = (key : Key) (id : TxId) → IsTableKey catalog key → IsWriter places events opening moments key id → IsOfOrLater places events opening moments key id (image_at places (closing_of events opening moments) key)
+
+-- It is the last writer of a key before a transaction's point.
+pub record IsLastBefore (places : List Place) (events : List Event) (opening : List Shelf) (moments : List (List Shelf)) (key : Key) (id u : TxId) : Type 0 where
+  pub writer : IsWriter places events opening moments key u
+  pub before : point events u < point events id
+  pub last : (v : TxId) → IsWriter places events opening moments key v → point events v < point events id → (v ≡ u) ⊎ (point events v < point events u)
+
+-- The last writer before its point deleted the row, and was recorded before the transaction began.
+pub record IsDeletedBefore (places : List Place) (events : List Event) (opening : List Shelf) (moments : List (List Shelf)) (key : Key) (id : TxId) : Type 0 where
+  pub u : TxId
+  pub last : IsLastBefore places events opening moments key id u
+  pub deleted : is_in state.Deleted last.writer.r.columns ≡ true
+  pub recorded : (n : ℕ) → begun events id ≡ Some n → Recorded places (moment opening moments n) u
+
+-- A version of a key is current for a transaction: it is that of the last writer before its point. Without a version there is no such
+-- writer, or the last one deleted the row before the transaction began.
+abbrev pub IsCurrent : List Place → List Event → List Shelf → List (List Shelf) → Key → TxId → Option TxId → Type 0
+IsCurrent places events opening moments key id (Some u) = IsLastBefore places events opening moments key id u
+IsCurrent places events opening moments key id None = ((v : TxId) → IsWriter places events opening moments key v → point events v < point events id → ⊥) ⊎ IsDeletedBefore places events opening moments key id
+
+-- What a recorded transaction noted is current at its point.
+abbrev pub ReadsCurrent : List Table → List Place → List Event → List Shelf → List (List Shelf) → Type 0
+ReadsCurrent catalog places events opening moments = (id : TxId) (note : Note) (key : Key) (version : Option TxId) → id.0 < 2 ^ 128 → Recorded places (closing_of events opening moments) id
+    → Contains (noted_in events id) note → version_noted note key ≡ Some version → IsTableKey catalog key → IsCurrent places events opening moments key id version
