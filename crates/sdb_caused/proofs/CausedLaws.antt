@@ -12,7 +12,7 @@ use Rattle.sdb_model.specs.Transactions.{Said, said}
 use Rattle.sdb_said.proofs.Lists.{clash, none_some, some_is, left, right, both, either, or_right, In}
 use Rattle.sdb_said.proofs.ShownLaws.{number_is, is_number}
 use Rattle.sdb_calls.specs.Values.{taker}
-use Rattle.sdb_caused.specs.Tests.{IsAnsweredWith, IsTurned, IsTurnedIfDue, answered_with, is_no_memory, same_answer, AreTakersWell, IsClientWell, IsWellAnswered}
+use Rattle.sdb_caused.specs.Tests.{IsAnsweredWith, IsTurned, IsTurnedIfDue, answered_with, is_no_memory, same_answer, AreTakersWell, IsWellAnswered}
 use Rattle.sdb_caused.proofs.Finds.{in_contains, contains_in}
 use Rattle.sdb_caused.proofs.SameLaws.{answer_is, is_answer}
 use Rattle.sdb_caused.proofs.TurnedLaws.{taken_by}
@@ -26,26 +26,30 @@ all_in : {X : Type 0} (P : X → Type 0) (xs : List X) → ((x : X) → In xs x 
 all_in P [] h = tt
 all_in P (y ∷ ys) h = (h y (inl refl), all_in P ys (λ x i. h x (inr i)))
 
-module _ (catalog : List Table) (events : List Event) where
-  well : (client : ℕ) (s : Said) → AreTakersWell catalog events events → Contains (said client events) s → IsWellAnswered catalog events client s
-  well client s all k =
-      let i = contains_in (said client events) s k in
-      let t = taken_by client events (λ e. subst (λ ss. In ss s) e i) in
-      let w : IsClientWell catalog events client = subst (λ o. IfSome o (IsClientWell catalog events)) t.2 (by_in (λ e. IfSome (taker e) (IsClientWell catalog events)) events t.0 all t.1) in
-      by_in (IsWellAnswered catalog events client) (said client events) s w i
+-- what is so of the statements of each client that takes one is so of all
+pub each_said : (events : List Event) (P : ℕ → Said → Type 0) → AllByRecursion (λ e. IfSome (taker e) (λ c. AllByRecursion (P c) (said c events))) events → (client : ℕ) (s : Said) → Contains (said client events) s → P client s
+each_said events P all client s k =
+    let i = contains_in (said client events) s k in
+    let t = taken_by client events (λ e. subst (λ ss. In ss s) e i) in
+    let w : AllByRecursion (P client) (said client events) = subst (λ o. IfSome o (λ c. AllByRecursion (P c) (said c events))) t.2 (by_in (λ e. IfSome (taker e) (λ c. AllByRecursion (P c) (said c events))) events t.0 all t.1) in
+    by_in (P client) (said client events) s w i
 
+pub said_each : (events : List Event) (P : ℕ → Said → Type 0) → ((client : ℕ) (s : Said) → Contains (said client events) s → P client s) → AllByRecursion (λ e. IfSome (taker e) (λ c. AllByRecursion (P c) (said c events))) events
+said_each events P f = all_in (λ e. IfSome (taker e) (λ c. AllByRecursion (P c) (said c events))) events (λ e i. by (taker e))
+  where
+    by : (o : Option ℕ) → IfSome o (λ c. AllByRecursion (P c) (said c events))
+    by None = tt
+    by (Some client) = all_in (P client) (said client events) (λ s i. f client s (in_contains (said client events) s i))
+
+module _ (catalog : List Table) (events : List Event) where
   pub caused_of : AreTakersWell catalog events events → AreCaused catalog events
   caused_of all = record {
-    caused = λ client s a k e. (well client s all k).0 a e;
-    turned_away = λ client s a k t. (well client s all k).1 a t;
+    caused = λ client s a k e. (each_said events (IsWellAnswered catalog events) all client s k).0 a e;
+    turned_away = λ client s a k t. (each_said events (IsWellAnswered catalog events) all client s k).1 a t;
   }
 
   pub of_caused : AreCaused catalog events → AreTakersWell catalog events events
-  of_caused c = all_in (λ e. IfSome (taker e) (IsClientWell catalog events)) events (λ e i. by (taker e))
-    where
-      by : (o : Option ℕ) → IfSome o (IsClientWell catalog events)
-      by None = tt
-      by (Some client) = all_in (IsWellAnswered catalog events client) (said client events) (λ s i. (λ a e. c.caused client s a (in_contains (said client events) s i) e, λ a t. c.turned_away client s a (in_contains (said client events) s i) t))
+  of_caused c = said_each events (IsWellAnswered catalog events) (λ client s k. (λ a e. c.caused client s a k e, λ a t. c.turned_away client s a k t))
 
 no_memory_is : (a : Answer) → is_no_memory a ≡ true → a ≡ answer.NoMemory
 no_memory_is (answer.Rows rows) h = clash (sym h)

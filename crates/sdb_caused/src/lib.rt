@@ -11,5 +11,7 @@ mod reading;
 mod same;
 mod turned;
 
+pub use busy::{is_early, is_unresolved, prepared_moment};
 pub use caused::{answers_have_causes, has_cause};
+pub use commit::is_commit_of;
 pub use turned::turned_away;

@@ -2,6 +2,8 @@
 #![tactic(auto)]
 
 #[cfg(test)]
+mod counted;
+#[cfg(test)]
 mod decision_and_look_lost;
 #[cfg(test)]
 mod forged;

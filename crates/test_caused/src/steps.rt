@@ -1,5 +1,6 @@
 //! Events of several clients from constants.
 use sdb_caused::answers_have_causes;
+use sdb_counted::{broken_in, calls_are_counted, records_are_resolved};
 use sdb_loader::catalog_of;
 use sdb_model::{Answer, Event, Events, How};
 use sdb_types::{Name, NameRefused, Txt};
@@ -82,4 +83,24 @@ pub fn all_caused(alloc: Global, catalog: &str, steps: &[Step]) -> Result<bool, 
     let catalog = catalog_of(alloc, catalog.as_bytes())?;
     let events = events_of(alloc, steps)?;
     Ok(answers_have_causes(alloc, &catalog, events.as_slice())?)
+}
+
+/// Whether the calls of these events are counted, over a catalog.
+pub fn all_counted(alloc: Global, catalog: &str, steps: &[Step]) -> Result<bool, Fail> {
+    let catalog = catalog_of(alloc, catalog.as_bytes())?;
+    let events = events_of(alloc, steps)?;
+    Ok(calls_are_counted(alloc, &catalog, events.as_slice())?)
+}
+
+/// Whether each unresolved record from which a statement was answered was rolled first.
+pub fn all_resolved(alloc: Global, catalog: &str, steps: &[Step]) -> Result<bool, Fail> {
+    let catalog = catalog_of(alloc, catalog.as_bytes())?;
+    let events = events_of(alloc, steps)?;
+    Ok(records_are_resolved(alloc, &catalog, events.as_slice())?)
+}
+
+/// How many calls of these events the stores failed.
+pub fn broken(alloc: Global, steps: &[Step]) -> Result<usize, Fail> {
+    let events = events_of(alloc, steps)?;
+    Ok(broken_in(events.as_slice()))
 }

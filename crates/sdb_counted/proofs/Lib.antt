@@ -1,0 +1,4 @@
+pub mod Maps
+pub mod CountLaws
+pub mod RollLaws
+pub mod KeptLaws
