@@ -1,0 +1,5 @@
+pub mod Goings
+pub mod Own
+pub mod Mild
+pub mod Steps
+pub mod Rests
