@@ -133,11 +133,11 @@ stands f (p ∷ ps) early late a r (inr m) (inr n) l =
 
 ---- real time
 
-point_of : (plan : ℕ → Plan) (places : List Place) (opening : List Shelf) (played : List Played) (ss : List (List Shelf)) (t : ℕ) → IsRunOf plan places opening (newest_first played) ss → IsFaithful plan (events_of played) (newest_first played) → t < 2 ^ 128 → (talk (newest_first played)).taken t ≡ true → point (events_of played) (id t) ≡ (talk (newest_first played)).point t
+pub point_of : (plan : ℕ → Plan) (places : List Place) (opening : List Shelf) (played : List Played) (ss : List (List Shelf)) (t : ℕ) → IsRunOf plan places opening (newest_first played) ss → IsFaithful (events_of played) (newest_first played) → t < 2 ^ 128 → (talk (newest_first played)).taken t ≡ true → point (events_of played) (id t) ≡ (talk (newest_first played)).point t
 point_of plan places opening played ss t r faithful fits taken =
     ap (unwrap_or (last_prepare (events_of played) (id t))) (faithful.taken t taken) ∙ sym (point_is_last plan places opening played ss t r fits taken)
 
-pub keeps_real_time : (plan : ℕ → Plan) (places : List Place) (opening : List Shelf) (played : List Played) (ss : List (List Shelf)) (order : List Point) → IsRunOf plan places opening (newest_first played) ss → IsFaithful plan (events_of played) (newest_first played) → IsOrder places (events_of played) (closing opening ss) order → TransactionsInRealTime places (events_of played) (closing opening ss) order
+pub keeps_real_time : (plan : ℕ → Plan) (places : List Place) (opening : List Shelf) (played : List Played) (ss : List (List Shelf)) (order : List Point) → IsRunOf plan places opening (newest_first played) ss → IsFaithful (events_of played) (newest_first played) → IsOrder places (events_of played) (closing opening ss) order → TransactionsInRealTime places (events_of played) (closing opening ss) order
 keeps_real_time plan places opening played ss order r faithful o early late fits_early fits_late s commit told recorded n begun lt =
     stands (point (events_of played)) order early late (are_at (point (events_of played)) order o.points) (rises order o.rising)
     (among early fits_early (row_recorded plan places w past end early.0 i fits_early decided.0)) (among late fits_late recorded)
@@ -222,7 +222,7 @@ is_rising : (w : History) (ps : List Point) → ArePoints w ps → Rises ps → 
 is_rising w [] a r = tt
 is_rising w (p ∷ ps) a r = (all_above w p.event (w.talk.point p.id.0) ps a.0 a.1 r.0, is_rising w ps a.1 r.1)
 
-pub ordered_of : (plan : ℕ → Plan) (places : List Place) (opening : List Shelf) (played : List Played) (ss : List (List Shelf)) (order : List Point) → IsRunOf plan places opening (newest_first played) ss → IsFaithful plan (events_of played) (newest_first played) → IsOrder places (events_of played) (closing opening ss) order → All (λ (p : Point). p.id.0 < 2 ^ 128) order
+pub ordered_of : (plan : ℕ → Plan) (places : List Place) (opening : List Shelf) (played : List Played) (ss : List (List Shelf)) (order : List Point) → IsRunOf plan places opening (newest_first played) ss → IsFaithful (events_of played) (newest_first played) → IsOrder places (events_of played) (closing opening ss) order → All (λ (p : Point). p.id.0 < 2 ^ 128) order
     → IsOrdered (history plan places opening (newest_first played) ss) (map (λ (p : Point). p.id.0) order)
 ordered_of plan places opening played ss order r faithful o fit = record {
   recorded = λ t. (
@@ -264,7 +264,7 @@ no_denial answer.Committed h = inl refl
 no_denial (answer.Unknown u) h = inr (u, refl)
 no_denial _ h = absurd (cc)
 
-pub answers_true : (plan : ℕ → Plan) (places : List Place) (opening : List Shelf) (played : List Played) (ss : List (List Shelf)) → IsRunOf plan places opening (newest_first played) ss → IsFaithful plan (events_of played) (newest_first played) → AnswersAreTrue places (events_of played) (closing opening ss)
+pub answers_true : (plan : ℕ → Plan) (places : List Place) (opening : List Shelf) (played : List Played) (ss : List (List Shelf)) → IsRunOf plan places opening (newest_first played) ss → IsFaithful (events_of played) (newest_first played) → AnswersAreTrue places (events_of played) (closing opening ss)
 answers_true plan places opening played ss r faithful = record {
   committed = λ t fits e. committed t fits (commit_of (events_of played) t) refl e;
   owned = λ client s among told.

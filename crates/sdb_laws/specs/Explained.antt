@@ -16,7 +16,7 @@ use Rattle.sdb_model.specs.Images.{image_at}
 use Rattle.sdb_model.specs.Transactions.{Recorded}
 use Rattle.sdb_laws.specs.Plan.{Plan, written, deletes, noted}
 use Rattle.sdb_laws.specs.History.{History, base_of, IsLive, IsWriter, IsPrepared}
-use Rattle.sdb_laws.specs.Lawful.{Played, id, is_data, IsLawful, answer_of, is_denial, talk}
+use Rattle.sdb_laws.specs.Lawful.{Played, id, is_data, IsLawful, IsSettled, answer_of, is_denial, talk}
 use Rattle.sdb_laws.specs.Trace.{IsTraced, StartsEmpty}
 use Rattle.sdb_laws.specs.Records.{held_record, firm_record}
 
@@ -64,6 +64,10 @@ pub record IsCommittedRecord (plan : ℕ → Plan) (places : List Place) (w : Hi
 
 abbrev pub CommittedIsCanon : (ℕ → Plan) → List Place → History → List Shelf → Type 0
 CommittedIsCanon plan places w shelves = (k : Key) (r : Record) → is_data k ≡ true → standing places shelves k ≡ Some r → is_in state.Committed r.columns ≡ true → IsCommittedRecord plan places w shelves k r
+
+-- A record to which a read of a key came is the one that a recorded writer of the key leaves there.
+abbrev pub SettledIsFirm : (ℕ → Plan) → History → List Played → Type 0
+SettledIsFirm plan w past = (k : Key) (b : Record) → is_data k ≡ true → IsSettled past k b → (u : ℕ) × (u < 2 ^ 128) × IsWriter plan w k u × (b ≡ firm_record plan u k)
 
 -- What a transaction prepared stands while it has no row.
 abbrev pub PreparedStands : (ℕ → Plan) → List Place → History → List Shelf → Type 0

@@ -32,13 +32,12 @@ AreNoted plan events past = (t : ℕ) → (talk past).taken t ≡ true → (note
 
 -- The parts say of each transaction what the texts say: when it began, when its COMMIT was taken, and when that was answered
 -- Committed, or that it was denied. Nothing but the COMMIT of a transaction is answered Committed. Unknown names the transaction.
-pub record IsFaithful (plan : ℕ → Plan) (events : List Event) (past : List Played) : Type 0 where
+pub record IsFaithful (events : List Event) (past : List Played) : Type 0 where
   pub begun : (t n : ℕ) → t < 2 ^ 128 → begun events (id t) ≡ Some n → (talk past).begun t ≡ n
   pub taken : (t : ℕ) → (talk past).taken t ≡ true → option_map_or (λ s. s.taken) (commit_of events (id t)) 0 ≡ (talk past).taken_at t
   pub told : (t : ℕ) (s : Said) → t < 2 ^ 128 → commit_of events (id t) ≡ Some s → s.answer ≡ Some answer.Committed → IsToldAt past t s.answered
   pub denied : (t : ℕ) (s : Said) (a : Answer) → t < 2 ^ 128 → commit_of events (id t) ≡ Some s → s.answer ≡ Some a → is_denial a ≡ true → (talk past).taken t ≡ true → IsDenied past t
   pub owned : (client : ℕ) (s : Said) → Contains (said client events) s → s.answer ≡ Some answer.Committed → IsCommitOf events client s
-  pub noted : AreNoted plan events past
   pub unknown : (t : ℕ) (s : Said) (u : TxId) → commit_of events (id t) ≡ Some s → s.answer ≡ Some (answer.Unknown u) → u ≡ id t
 
 -- What the COMMIT of a transaction was answered is true: Committed only of a recorded one, and nothing else is answered so; and of

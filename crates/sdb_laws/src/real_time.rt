@@ -20,16 +20,16 @@ pub fn told_was_decided()
 
 /// The order of the recorded transactions keeps real time.
 pub fn keeps_real_time()
-    ensures { (plan : ℕ → Plan) (places : List Place) (opening : List Shelf) (played : List Played) (ss : List (List Shelf)) (order : List Point) → IsRunOf plan places opening (newest_first played) ss → IsFaithful plan (events_of played) (newest_first played) → IsOrder places (events_of played) (closing opening ss) order → TransactionsInRealTime places (events_of played) (closing opening ss) order }
+    ensures { (plan : ℕ → Plan) (places : List Place) (opening : List Shelf) (played : List Played) (ss : List (List Shelf)) (order : List Point) → IsRunOf plan places opening (newest_first played) ss → IsFaithful (events_of played) (newest_first played) → IsOrder places (events_of played) (closing opening ss) order → TransactionsInRealTime places (events_of played) (closing opening ss) order }
 {}
 
 /// The order of the model is the order that the laws of the order speak of.
 pub fn order_is_by_point()
-    ensures { (plan : ℕ → Plan) (places : List Place) (opening : List Shelf) (played : List Played) (ss : List (List Shelf)) (order : List Point) → IsRunOf plan places opening (newest_first played) ss → IsFaithful plan (events_of played) (newest_first played) → IsOrder places (events_of played) (closing opening ss) order → All (λ (p : Point). p.id.0 < 2 ^ 128) order
+    ensures { (plan : ℕ → Plan) (places : List Place) (opening : List Shelf) (played : List Played) (ss : List (List Shelf)) (order : List Point) → IsRunOf plan places opening (newest_first played) ss → IsFaithful (events_of played) (newest_first played) → IsOrder places (events_of played) (closing opening ss) order → All (λ (p : Point). p.id.0 < 2 ^ 128) order
         → IsOrdered (history plan places opening (newest_first played) ss) (map (λ (p : Point). p.id.0) order) }
 {}
 
 /// What a COMMIT was answered is true.
 pub fn answers_are_true()
-    ensures { (plan : ℕ → Plan) (places : List Place) (opening : List Shelf) (played : List Played) (ss : List (List Shelf)) → IsRunOf plan places opening (newest_first played) ss → IsFaithful plan (events_of played) (newest_first played) → AnswersAreTrue places (events_of played) (closing opening ss) }
+    ensures { (plan : ℕ → Plan) (places : List Place) (opening : List Shelf) (played : List Played) (ss : List (List Shelf)) → IsRunOf plan places opening (newest_first played) ss → IsFaithful (events_of played) (newest_first played) → AnswersAreTrue places (events_of played) (closing opening ss) }
 {}

@@ -6,7 +6,7 @@ ghost use Rattle.sdb_laws.specs.Plan.{Plan};
 ghost use Rattle.sdb_laws.specs.Lawful.{Played};
 ghost use Rattle.sdb_laws.specs.Trace.{closing, history};
 ghost use Rattle.sdb_laws.specs.Records.{IsHeld};
-ghost use Rattle.sdb_laws.specs.Explained.{AbortedGone, CommittedIsCanon, IsRunOf, PreparedStands, RecordedIsPut, RowsFinal, UnresolvedPrepared};
+ghost use Rattle.sdb_laws.specs.Explained.{AbortedGone, CommittedIsCanon, IsRunOf, PreparedStands, RecordedIsPut, RowsFinal, SettledIsFirm, UnresolvedPrepared};
 
 /// The stores hold what the history says: at each key of a table of records, and of each row of a transaction.
 pub fn stores_hold_history()
@@ -32,6 +32,12 @@ pub fn unresolved_prepared()
 /// A record in state 3 is the one record that its transaction leaves at that key, and the transaction is recorded.
 pub fn committed_is_canon()
     ensures { (plan : ℕ → Plan) (places : List Place) (opening : List Shelf) (past : List Played) (ss : List (List Shelf)) → IsRunOf plan places opening past ss → CommittedIsCanon plan places (history plan places opening past ss) (closing opening ss) }
+{}
+
+/// A committed record to which a read comes by what was shown, be it itself, or rolled forward or back, is the one that a recorded
+/// writer of the key leaves there.
+pub fn settled_is_firm()
+    ensures { (plan : ℕ → Plan) (places : List Place) (opening : List Shelf) (past : List Played) (ss : List (List Shelf)) → IsRunOf plan places opening past ss → SettledIsFirm plan (history plan places opening past ss) past }
 {}
 
 /// What a transaction prepared stands while it has no row.

@@ -13,8 +13,7 @@ use Rattle.sdb_model.specs.declared.event.Event.{Event}
 use Rattle.sdb_model.specs.Sql.{reads_begin, reads_commit, reads_rollback}
 use Rattle.sdb_model.specs.Transactions.{Said, said, begun, commit_of, client_of, begins, ends, is_conflict, is_done}
 use Rattle.sdb_laws.specs.Lawful.{Played, id, is_denial, talk}
-use Rattle.sdb_laws.specs.Plan.{Plan}
-use Rattle.sdb_laws.specs.Faithful.{IsFaithful, IsToldAt, IsCommitOf, AreNoted}
+use Rattle.sdb_laws.specs.Faithful.{IsFaithful, IsToldAt, IsCommitOf}
 use Rattle.sdb_laws.specs.Explained.{IsDenied}
 use Rattle.sdb_story.specs.Filed.{number, IsFiledAt, IsOpenAt, Filed}
 use Rattle.sdb_story.specs.Story.{Finished, Rest, Closed, Opened, saids_of, said_of, IsPlain, IsInside, IsFinished, IsRest, finished_at, commit_in}
@@ -181,15 +180,13 @@ last_owned events past c x k f e a =
 all_owned : (events : List Event) (past : List Played) (c : ℕ) (s : Said) → Filed c events past → Contains (said c events) s → s.answer ≡ Some answer.Committed → IsCommitOf events c s
 all_owned events past c s x within = All-contains (IsOwned events c) (said c events) s (All-from_recursion (IsOwned events c) (said c events) (subst (AllByRecursion (IsOwned events c)) (sym x.same) (each_append (IsOwned events c) (saids_of x.whole) (said_of x.rest) (whole_owned events c x.whole x.ok (last_owned events past c x)) (rest_owned events c x.rest x.rest_ok)))) within
 
--- Where each client's story is filed and the notes of the plans are what the statements noted, the parts that are played are
--- those that the texts tell.
-pub faithful : (plan : ℕ → Plan) (events : List Event) (past : List Played) → ((c : ℕ) → Filed c events past) → ((c : ℕ) → (talk past).taken (c * 2 ^ 64) ≡ true → ⊥) → AreNoted plan events past → IsFaithful plan events past
-faithful plan events past filed first noted = record {
+-- Where each client's story is filed, the parts that are played are those that the texts tell.
+pub faithful : (events : List Event) (past : List Played) → ((c : ℕ) → Filed c events past) → ((c : ℕ) → (talk past).taken (c * 2 ^ 64) ≡ true → ⊥) → IsFaithful events past
+faithful events past filed first = record {
   begun = λ t n fits e. (says events past t filed first).begun n e;
   taken = λ t h. (says events past t filed first).taken h;
   told = λ t s fits e a. (says events past t filed first).told s e a;
   denied = λ t s a fits e said denial taken. (says events past t filed first).denied s a e said denial taken;
   owned = λ c s within a. all_owned events past c s (filed c) within a;
-  noted = noted;
   unknown = λ t s u e a. (says events past t filed first).unknown s u e a;
 }

@@ -14,7 +14,7 @@ use Rattle.sdb_story.specs.Story.{Finished, Rest, Closed, Opened, Story, settle,
 use Rattle.sdb_story.specs.Filed.{number, IsFiledAt, IsOpenAt, Filed}
 use Rattle.sdb_story.specs.Telling.{Telling, waiting_of, begun_in, count_of, OpenFiled, StoryOk, nothing_yet}
 use Rattle.sdb_story.proofs.Places.{story_same, story_kept}
-use Rattle.sdb_laws.specs.Faithful.{AreNoted, IsFaithful}
+use Rattle.sdb_laws.specs.Faithful.{IsFaithful}
 use Rattle.sdb_turns.proofs.Begin.{taken_begun}
 use Rattle.sdb_story.proofs.Faith.{beyond, faithful}
 use Rattle.sdb_story.proofs.Tellings.{within}
@@ -200,5 +200,5 @@ no_first plan past sys c ok taken = never (c * 2 ^ 64 % 2 ^ 64) (rest c) (taken_
     never : (n : ℕ) → n ≡ 0 → 0 < n → ⊥
     never n e l = omega (arith, e)
 
-pub clients_faithful : (plan : ℕ → Plan) (events : List Event) (past : List Played) (sys : SystemAt) (told : ℕ → Telling) → SystemOk plan past sys → ((c : ℕ) → StoryOk events past sys c (told c)) → AreNoted plan events past → IsFaithful plan events past
-clients_faithful plan events past sys told ok stories noted = faithful plan events past (λ c. story_files plan events past sys c (told c) ok (stories c)) (λ c taken. no_first plan past sys c ok taken) noted
+pub clients_faithful : (plan : ℕ → Plan) (events : List Event) (past : List Played) (sys : SystemAt) (told : ℕ → Telling) → SystemOk plan past sys → ((c : ℕ) → StoryOk events past sys c (told c)) → IsFaithful events past
+clients_faithful plan events past sys told ok stories = faithful events past (λ c. story_files plan events past sys c (told c) ok (stories c)) (λ c taken. no_first plan past sys c ok taken)

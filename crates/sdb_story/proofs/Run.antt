@@ -41,5 +41,5 @@ linked_run script fit played opening end moments order fitting linked follows tr
 
     found : (tables : List TableDump) × IsTold script.catalog script.places (events_of played) (closing opening (newest_first moments)) order tables × KeepsRealTime script.places (events_of played) (closing opening (newest_first moments)) order
     found = run_told script.catalog fit linked.plan script.places opening played (newest_first moments) linked.ran order run
-        (clients_faithful linked.plan (events_of played) (newest_first played) linked.sys linked.told linked.system linked.stories linked.noted)
+        (clients_faithful linked.plan (events_of played) (newest_first played) linked.sys linked.told linked.system linked.stories)
         (subst (λ s. IsOrder script.places (events_of played) s order) (sym turned.1) ordered) small fitting linked.bodies

@@ -6,7 +6,7 @@ ghost use Rattle.sdb_model.specs.declared.event.Event.{Event};
 ghost use Rattle.sdb_model.specs.Transactions.{Said, said, begun, commit_of, client_of, ordinal_of, body, is_effective};
 ghost use Rattle.sdb_laws.specs.Plan.{Plan};
 ghost use Rattle.sdb_laws.specs.Lawful.{Played, talk};
-ghost use Rattle.sdb_laws.specs.Faithful.{AreNoted, IsFaithful};
+ghost use Rattle.sdb_laws.specs.Faithful.{IsFaithful};
 ghost use Rattle.sdb_story.specs.Story.{Finished, Rest, Closed, Opened, Story, settle, saids_of, said_of, all_of, commit_in, IsFinished, IsRest, IsPlain, IsStory, MayCome, finished_at};
 ghost use Rattle.sdb_turns.specs.System.{SystemAt, SystemOk};
 ghost use Rattle.sdb_story.specs.Filed.{Filed};
@@ -37,14 +37,13 @@ pub fn story_bodies()
     ensures opened { (events : List Event) (id : TxId) (whole : List Finished) (gap : List Said) (b : Said) (inside : List Said) → said (client_of id) events ≡ saids_of whole ++ (gap ++ b ∷ inside) → ordinal_of id ≡ suc (length whole) → AllByRecursion IsFinished whole → IsRest (Opened gap b inside) → body events id ≡ filter is_effective inside }
 {}
 
-/// Where each client's story is filed, no transaction of ordinal 0 was taken, and the notes of the plans are what the statements
-/// noted, the parts that are played are those that the texts tell.
+/// Where each client's story is filed, and no transaction of ordinal 0 was taken, the parts that are played are those that the texts
+/// tell.
 pub fn faithful()
-    ensures { (plan : ℕ → Plan) (events : List Event) (past : List Played) → ((c : ℕ) → Filed c events past) → ((c : ℕ) → (talk past).taken (c * 2 ^ 64) ≡ true → ⊥) → AreNoted plan events past → IsFaithful plan events past }
+    ensures { (events : List Event) (past : List Played) → ((c : ℕ) → Filed c events past) → ((c : ℕ) → (talk past).taken (c * 2 ^ 64) ≡ true → ⊥) → IsFaithful events past }
 {}
 
-/// Where all is so of all clients, each client has its story, and the notes of the plans are what the statements noted, the parts that
-/// are played are those that the texts tell.
+/// Where all is so of all clients, and each client has its story, the parts that are played are those that the texts tell.
 pub fn clients_are_faithful()
-    ensures { (plan : ℕ → Plan) (events : List Event) (past : List Played) (sys : SystemAt) (told : ℕ → Telling) → SystemOk plan past sys → AllStories events past sys told → AreNoted plan events past → IsFaithful plan events past }
+    ensures { (plan : ℕ → Plan) (events : List Event) (past : List Played) (sys : SystemAt) (told : ℕ → Telling) → SystemOk plan past sys → AllStories events past sys told → IsFaithful events past }
 {}
