@@ -1,5 +1,5 @@
 -- Each turn of a client, over what ties the events to the clients.
-use Rattle.std.proofs.Common.{◌≡◌, ◌≢◌, ◌<◌, ◌+◌, ◌*◌, ◌^◌, ℕ, ℤ, pos, suc, Bool, true, false, List, [], ◌∷◌, ◌++◌, length, Option, Some, None, refl, sym, ap, ◌∙◌, subst, arith, inl, inr}
+use Rattle.std.proofs.Common.{◌≡◌, ◌≢◌, ◌<◌, ◌+◌, ◌^◌, ℕ, ℤ, suc, Bool, true, false, List, [], ◌∷◌, ◌++◌, length, Option, Some, None, refl, sym, ap, ◌∙◌, subst, arith, inl, inr}
 use Rattle.std.specs.Prelude.{◌==◌, ◌&&◌, ◌||◌, nat_lt, if◌then◌else◌}
 use Rattle.std.proofs.lemmas.Bool.Decides.{nat_tests}
 use Rattle.sdb_types.specs.declared.record.Record.{Record}
@@ -19,7 +19,7 @@ use Rattle.sdb_model.specs.declared.statement.Statement.{Statement}
 use Rattle.sdb_model.specs.Exec.{Tables}
 use Rattle.sdb_model.specs.Sql.{Reads, reads_begin, reads_commit, reads_rollback}
 use Rattle.sdb_model.specs.Transactions.{Said, begins, changes_nothing, ends, id_of, is_answered_from_rows, is_conflict, is_done, is_effective, said}
-use Rattle.sdb_laws.specs.History.{Begins, Other, Stops, Takes, Talk, at, heard}
+use Rattle.sdb_laws.specs.History.{Begins, Other, Stops, Takes, at}
 use Rattle.sdb_laws.specs.Lawful.{Played, id, talk}
 use Rattle.sdb_laws.specs.Plan.{Plan}
 use Rattle.sdb_phases.specs.declared.step.Outcome.{Outcome}
@@ -51,48 +51,8 @@ use Rattle.sdb_story.proofs.Turns.{begun_stands, client_stands, said_nothing_mor
 use Rattle.sdb_linked.specs.Going.{ClientGoes, EndedOk, HandOk, InsideOk, IsClosed, IsCommitting, IsGoing, IsInner, IsMild, IsRunning, LeavesAtOnce, OpenedOk, RanOk}
 use Rattle.sdb_linked.proofs.Goings.{ended_later, inside_later, kept_apart, turned}
 use Rattle.sdb_linked.proofs.Mild.{clash, effective_by, mild_begins, mild_ends, no_second, nothing_mild, rows_mild, some_is, uncommitted}
+use Rattle.sdb_linked.proofs.Small.{same_number, numbers_same, less_apart, nothing_ran, begins_untaken, committing_as, running_as, twice}
 use Rattle.sdb_linked.proofs.Own.{IsPlainRole, begun, below, closed_as, commit_plain, ended_at, goes_begun, goes_gap, goes_inside, goes_over, gone, inside, opened_as, over, plain_apart, plain_counts, plain_not, ran_here, read_plain, telling_of}
-
-same_number : (n : ℕ) → (n == n) ≡ true
-same_number n = grind (arith, nat_tests)
-
--- no two transactions of a client have one number
-numbers_same : (c j k : ℕ) → number c j ≡ number c k → j ≡ k
-numbers_same c j k e = by (c * 2 ^ 64) e
-  where
-    by : (b : ℕ) → b + suc j ≡ b + suc k → j ≡ k
-    by b h = omega (arith, h)
-
-less_apart : (j k : ℕ) → j < k → j ≢ k
-less_apart j k l e = absurd (omega (arith, l, e))
-
--- what a transaction has run before its first statement
-abbrev pub nothing_ran : Execution
-nothing_ran = record { seen = nothing; now = pos 0; body = []; answers = [] }
-
-begins_untaken : (h : Talk) (t c : ℕ) → (heard h (Begins t c)).taken t ≡ h.taken t
-begins_untaken h t c = grind (arith, nat_tests)
-
-takes_taken : (h : Talk) (t : ℕ) → (heard h (Takes t)).taken t ≡ true
-takes_taken h t = grind (arith, nat_tests)
-
----- the statement that waits
-
-committing_as : (o : Option Said) → IsCommitting o → (w : Said) × (o ≡ Some w) × (reads_commit w.text ≡ true)
-committing_as None h = absurd h
-committing_as (Some w) h = (w, refl, h)
-
-running_as : (st : Statement) (o : Option Said) → IsRunning (Some st) o → (w : Said) × (o ≡ Some w) × Reads w.text st × IsInner w.text
-running_as st None h = absurd h
-running_as st (Some w) h = (w, refl, h.0, h.1)
-
--- a client that stands elsewhere, and then elsewhere again
-twice : (sys : SystemAt) (c : ℕ) (y z : ClientAt) → with_client (with_client sys c y) c z ≡ with_client sys c z
-twice sys c y z = λ j. record { clients = λ u. by u (u == c) j; begun = sys.begun }
-  where
-    by : (u : ℕ) (b : Bool) → (if b then z else (if b then y else sys.clients u)) ≡ (if b then z else sys.clients u)
-    by u true = refl
-    by u false = refl
 
 ---- one client
 

@@ -1,5 +1,5 @@
 //! Each event keeps what ties the events to the clients.
-ghost use Rattle.std.specs.Prelude.{◌≡◌, ◌≢◌, ℕ, ℤ, Bool, true, false, List, ◌∷◌, ◌++◌, [], Option, Some, None};
+ghost use Rattle.std.specs.Prelude.{◌≡◌, ◌<◌, ◌^◌, All, ℕ, ℤ, Bool, true, false, List, ◌∷◌, ◌++◌, [], Option, Some, None};
 ghost use Rattle.sdb_types.specs.declared.record.Record.{Record};
 ghost use Rattle.sdb_types.specs.declared.txid.TxId.{TxId};
 ghost use Rattle.sdb_record.specs.declared.access.Access.{Access};
@@ -9,19 +9,27 @@ ghost use Rattle.sdb_model.specs.declared.answer.Answer.{Answer};
 ghost use Rattle.sdb_model.specs.declared.answer.Answer.TheVariants as answer;
 ghost use Rattle.sdb_model.specs.declared.event.Event.{Event};
 ghost use Rattle.sdb_model.specs.declared.event.Event.TheVariants as event;
+ghost use Rattle.sdb_model.specs.declared.event.Point.{Point};
+ghost use Rattle.sdb_model.specs.declared.event.TableDump.{TableDump};
+ghost use Rattle.sdb_model.specs.declared.script.Script.{Script};
 ghost use Rattle.sdb_model.specs.declared.statement.Statement.{Statement};
+ghost use Rattle.sdb_model.specs.Events.{IsTrace, Shelf};
+ghost use Rattle.sdb_model.specs.Follows.{Follows};
+ghost use Rattle.sdb_model.specs.Told.{IsRun};
 ghost use Rattle.sdb_model.specs.Exec.{Tables};
 ghost use Rattle.sdb_model.specs.Sql.{Reads, reads_commit};
-ghost use Rattle.sdb_model.specs.Transactions.{changes_nothing, is_answered_from_rows, is_conflict};
+ghost use Rattle.sdb_model.specs.Transactions.{IsOrder, changes_nothing, is_answered_from_rows, is_conflict};
 ghost use Rattle.sdb_laws.specs.History.{at};
+ghost use Rattle.sdb_laws.specs.Trace.{StartsEmpty};
 ghost use Rattle.sdb_phases.specs.Work.{Work};
-ghost use Rattle.sdb_phases.specs.Commit.{Stage, pending, step};
+ghost use Rattle.sdb_phases.specs.Commit.{Stage, pending, starved, step};
 ghost use Rattle.sdb_snapshot.specs.Seen.{Seen, nothing, with_written};
 ghost use Rattle.sdb_snapshot.specs.Written.{AreChanges};
 ghost use Rattle.sdb_turns.specs.Noted.{MayNote, with_read, work_of};
 ghost use Rattle.sdb_turns.specs.ReadAt.{AreKinds, Asking, Done, IsOfData, Kind, ReadAt, read_pending, read_step};
 ghost use Rattle.sdb_turns.specs.System.{ClientCall, Committing, IsBegin, IsCommit, IsReplyTo, NoneSweeps, Open, Reading, Resting, Stopped, SystemAt, answer_at, call_event, commit_begun, commit_left, idle, next_id, with_begun, with_client};
 ghost use Rattle.sdb_story.specs.Body.{AnswersOn, IsCovered};
+ghost use Rattle.sdb_story.specs.Left.{IsFitting};
 ghost use Rattle.sdb_linked.specs.Going.{IsGoing, IsInner, IsMild, IsSilent, LeavesAtOnce};
 
 /// Before the first event no client has done anything; and the clock moves, or a client without work idles.
@@ -44,6 +52,13 @@ pub fn commits()
         → IsGoing catalog fit (events ++ event.Take c text None ∷ []) (commit_begun sys c (work_of i now seen)) (at doing c None) }
     ensures calls { (catalog : List Table) (fit : Tables → Bool) (events : List Event) (sys : SystemAt) (doing : ℕ → Option Statement) (y : ClientCall) (p : Work) (s : Stage) → IsGoing catalog fit events sys doing → sys.clients y.client ≡ Committing p s → IsReplyTo (pending p s) y
         → IsGoing catalog fit (events ++ call_event y (answer_at (step p s y.reply)) ∷ []) (with_client sys y.client (commit_left p (step p s y.reply))) (at doing y.client None) }
+{}
+
+/// Without an event a COMMIT may be out of memory in place of a conflict; and what is so of clients that stand so is so of clients that
+/// stand the same.
+pub fn moves()
+    ensures starves { (catalog : List Table) (fit : Tables → Bool) (events : List Event) (sys : SystemAt) (doing : ℕ → Option Statement) (c : ℕ) (p : Work) (s : Stage) → IsGoing catalog fit events sys doing → sys.clients c ≡ Committing p s → IsGoing catalog fit events (with_client sys c (Committing p (starved s))) doing }
+    ensures same { (catalog : List Table) (fit : Tables → Bool) (events : List Event) (sys other : SystemAt) (doing others : ℕ → Option Statement) → IsGoing catalog fit events sys doing → ((c : ℕ) → sys.clients c ≡ other.clients c) → ((c : ℕ) → sys.begun c ≡ other.begun c) → ((c : ℕ) → doing c ≡ others c) → IsGoing catalog fit events other others }
 {}
 
 /// A statement that is answered as it is taken: outside of transactions; inside of one, where it changes nothing, is answered from
@@ -71,4 +86,12 @@ pub fn reads()
         → IsGoing catalog fit (events ++ call_event y (Some b) ∷ []) (with_client sys y.client (Open i (with_written (with_read seen a images) changes))) (at doing y.client None) }
     ensures differs { (kind : Record → Kind) (catalog : List Table) (fit : Tables → Bool) (events : List Event) (sys : SystemAt) (doing : ℕ → Option Statement) (y : ClientCall) (i : TxId) (seen : Seen) (a : Access) (s : ReadAt) (b : Answer) (st : Statement) → AreKinds kind → IsGoing catalog fit events sys doing → sys.clients y.client ≡ Reading i seen a s → IsReplyTo (read_pending a s) y → doing y.client ≡ Some st → is_conflict (Some b) ≡ true
         → IsGoing catalog fit (events ++ call_event y (Some b) ∷ []) (with_client sys y.client Resting) (at doing y.client None) }
+{}
+
+/// Where the events end: events of any number of clients that are tied to them, follow a script's moves, and agree with stores whose
+/// tables began empty, are a run of the script, with some tables to print.
+pub fn going_is_run()
+    ensures { (script : Script) (fit : Tables → Bool) (events : List Event) (sys : SystemAt) (doing : ℕ → Option Statement) (opening end : List Shelf) (moments : List (List Shelf)) (order : List Point) → IsFitting script.catalog fit → IsGoing script.catalog fit events sys doing → Follows script.clients script.moves events
+        → IsTrace script.places events opening moments end → StartsEmpty script.places opening → IsOrder script.places events end order → All (λ (p : Point). p.id.0 < 2 ^ 128) order
+        → (tables : List TableDump) × IsRun script opening end (record { events = events; order = order; tables = tables }) }
 {}
