@@ -34,7 +34,7 @@ not_true true f = absurd (f refl)
 not_true false f = refl
 
 -- a COMMIT was taken of none but those that have begun
-taken_counts : (plan : ℕ → Plan) (past : List Played) (sys : SystemAt) (c k : ℕ) → SystemOk plan past sys → suc k < 2 ^ 64 → (talk past).taken (number c k) ≡ true → k < sys.begun c
+pub taken_counts : (plan : ℕ → Plan) (past : List Played) (sys : SystemAt) (c k : ℕ) → SystemOk plan past sys → suc k < 2 ^ 64 → (talk past).taken (number c k) ≡ true → k < sys.begun c
 taken_counts plan past sys c k ok small taken = by ((talk past).begun (number c k)) refl
   where
     half : (c n : ℕ) → n < 2 ^ 64 → (c * 2 ^ 64 + n) / 2 ^ 64 ≡ c

@@ -1,0 +1,7 @@
+pub mod Goings
+pub mod Own
+pub mod Mild
+pub mod Small
+pub mod Steps
+pub mod Rests
+pub mod Ends

@@ -1,0 +1,800 @@
+-- Each turn of a client, over what ties the events to the clients.
+use Rattle.std.proofs.Common.{◌≡◌, ◌≢◌, ◌<◌, ◌+◌, ◌^◌, ℕ, ℤ, suc, Bool, true, false, List, [], ◌∷◌, ◌++◌, length, Option, Some, None, refl, sym, ap, ◌∙◌, subst, arith, inl, inr}
+use Rattle.std.specs.Prelude.{◌==◌, ◌&&◌, ◌||◌, nat_lt, if◌then◌else◌}
+use Rattle.std.proofs.lemmas.Bool.Decides.{nat_tests}
+use Rattle.sdb_types.specs.declared.record.Record.{Record}
+use Rattle.sdb_types.specs.declared.record.Reply.{Reply}
+use Rattle.sdb_types.specs.declared.record.Request.{Request}
+use Rattle.sdb_types.specs.declared.txid.TxId.{TxId}
+use Rattle.sdb_record.specs.declared.access.Access.{Access}
+use Rattle.sdb_record.specs.declared.write.Keyed.{Keyed}
+use Rattle.sdb_schema.specs.declared.table.Table.{Table}
+use Rattle.sdb_model.specs.declared.answer.Answer.{Answer}
+use Rattle.sdb_model.specs.declared.answer.Answer.TheVariants as answer
+use Rattle.sdb_model.specs.declared.event.Event.{Event}
+use Rattle.sdb_model.specs.declared.event.Event.TheVariants as event
+use Rattle.sdb_model.specs.declared.event.How.{How}
+use Rattle.sdb_model.specs.Rows.{Name}
+use Rattle.sdb_model.specs.declared.statement.Statement.{Statement}
+use Rattle.sdb_model.specs.Exec.{Tables}
+use Rattle.sdb_model.specs.Sql.{Reads, reads_begin, reads_commit, reads_rollback}
+use Rattle.sdb_model.specs.Transactions.{Said, begins, changes_nothing, ends, id_of, is_answered_from_rows, is_conflict, is_done, is_effective, said}
+use Rattle.sdb_laws.specs.History.{Begins, Other, Stops, Takes, at}
+use Rattle.sdb_laws.specs.Lawful.{Played, id, talk}
+use Rattle.sdb_laws.specs.Plan.{Plan}
+use Rattle.sdb_phases.specs.declared.step.Outcome.{Outcome}
+use Rattle.sdb_phases.specs.declared.step.Outcome.TheVariants as outcome
+use Rattle.sdb_phases.specs.Work.{Work}
+use Rattle.sdb_phases.specs.Checks.{checks}
+use Rattle.sdb_phases.specs.Commit.{Stage, Preparing, Checking, Deciding, Forward, Stopping, Back, Over, pending, preparing, step}
+use Rattle.sdb_snapshot.specs.Seen.{Seen, nothing, with_written}
+use Rattle.sdb_snapshot.specs.Written.{AreChanges}
+use Rattle.sdb_turns.specs.Noted.{MayNote, SeenOk, with_read, work_of}
+use Rattle.sdb_turns.specs.Owner.{StageOk, plan_of, role_of}
+use Rattle.sdb_turns.specs.ReadAt.{AreKinds, Asking, Done, IsOfData, Kind, ReadAt, read_pending, read_role, read_step}
+use Rattle.sdb_turns.specs.System.{ClientAt, ClientCall, ClientOk, Has, IsBegin, IsCommit, IsQuiet, IsReplyTo, NoneSweeps, Open, Committing, Reading, Resting, SamePlans, StandsAt, Stopped, SystemAt, SystemOk, answer_at, answer_of_outcome, begin_played, call_event, commit_begun, commit_left, ending_at, ends_with, idle, next_id, plays, take_played, with_begun, with_client, with_plan}
+use Rattle.sdb_turns.proofs.Begin.{begin_turn, untaken}
+use Rattle.sdb_turns.proofs.Calls.{read_turn, read_ends_turn}
+use Rattle.sdb_turns.proofs.Commit.{commit_turn, own_kept}
+use Rattle.sdb_turns.proofs.Quiet.{asks, gives_up, leave_turn, notes, quiet_turn, stop_turn, writes}
+use Rattle.sdb_turns.proofs.Seen.{seen_nothing}
+use Rattle.sdb_turns.proofs.Take.{take_turn}
+use Rattle.sdb_story.specs.Body.{AnswersOn, BodyOk, IsCovered}
+use Rattle.sdb_story.specs.Filed.{number}
+use Rattle.sdb_story.specs.Left.{Execution}
+use Rattle.sdb_story.specs.Story.{Closed, Finished, MayCome, Opened, Rest, finished_at}
+use Rattle.sdb_story.specs.Telling.{BeginsHold, IsOpened, IsOrdinary, IsSaid, KeepsHold, StoryOk, Telling, TellsOn, answered_said, begun_in, taken_said, with_answered, with_waiting}
+use Rattle.sdb_story.proofs.Answered.{commit_ends, said_at_once, said_later, story_answers, story_asks, story_begins, story_ends, story_takes}
+use Rattle.sdb_story.proofs.Bodies.{body_begins, body_read, body_step}
+use Rattle.sdb_story.proofs.Tellings.{SameOf, said_more, same_of, story_stays}
+use Rattle.sdb_story.proofs.Turns.{begun_stands, client_stands, said_nothing_more, said_one_more}
+use Rattle.sdb_linked.specs.Going.{ClientGoes, EndedOk, HandOk, InsideOk, IsClosed, IsCommitting, IsGoing, IsInner, IsMild, IsRunning, LeavesAtOnce, OpenedOk, RanOk}
+use Rattle.sdb_linked.proofs.Goings.{ended_later, inside_later, kept_apart, turned}
+use Rattle.sdb_linked.proofs.Mild.{clash, effective_by, mild_begins, mild_ends, no_second, nothing_mild, rows_mild, some_is, uncommitted}
+use Rattle.sdb_linked.proofs.Small.{same_number, numbers_same, less_apart, nothing_ran, begins_untaken, committing_as, running_as, twice}
+use Rattle.sdb_linked.proofs.Own.{IsPlainRole, begun, below, closed_as, commit_plain, ended_at, goes_begun, goes_gap, goes_inside, goes_over, gone, inside, opened_as, over, plain_apart, plain_counts, plain_not, ran_here, read_plain, telling_of}
+
+---- one client
+
+module _ (catalog : List Table) (fit : Tables → Bool) (events : List Event) (sys : SystemAt) (doing : ℕ → Option Statement) (g : IsGoing catalog fit events sys doing) (c : ℕ) where
+  abbrev x : Telling
+  x = g.told c
+
+  abbrev ran : ℕ → Execution
+  ran = g.ran c
+
+  abbrev n : ℕ
+  n = length x.whole
+
+  was : ClientGoes catalog fit g.plan g.past c (doing c) (sys.clients c) x ran
+  was = g.clients c
+
+  story : StoryOk events g.past sys c x
+  story = g.stories c
+
+  stands : (y : ClientAt) → sys.clients c ≡ y → StandsAt g.plan g.past sys c y
+  stands y e = record { ok = g.system; at = e }
+
+  hand_at : (y : ClientAt) → sys.clients c ≡ y → HandOk (doing c) x (ran n) y
+  hand_at y e = subst (HandOk (doing c) x (ran n)) e was.hand
+
+  client_at : (y : ClientAt) → sys.clients c ≡ y → ClientOk g.plan g.past c y
+  client_at y e = subst (ClientOk g.plan g.past c) e (g.system.each c)
+
+  here : (y : ClientAt) → (with_client sys c y).clients c ≡ y
+  here y = ap (λ b. if b then y else sys.clients c) (same_number c)
+
+  same : SamePlans g.plan g.plan g.past
+  same t h = refl
+
+  -- where a client goes on with what it has in its hands, or less
+  keeps : (y z : ClientAt) → sys.clients c ≡ y → ((u : ℕ) → Has z u → Has y u) → KeepsHold c sys (with_client sys c z)
+  keeps y z e f = record { begun = refl; hold = λ u h. subst (λ w. Has w u) (sym e) (f u (subst (λ w. Has w u) (here z) h)) }
+
+  kept : (q : Played) → IsPlainRole q.role → EndedOk catalog fit g.plan (q ∷ g.past) c x.whole ran × OpenedOk catalog fit g.plan (q ∷ g.past) (number c n) x.rest (ran n)
+  kept q p = kept_apart catalog fit g.plan g.plan events g.past sys q c x ran same story (plain_apart g.past c q.role p) was.ended was.opened
+
+  -- what was so of an open transaction
+  open_ran : (q : Played) → IsPlainRole q.role → (gap : List Said) (b : Said) (body : List Said) → x.rest ≡ Opened gap b body → RanOk catalog fit g.plan (q ∷ g.past) (number c n) body (ran n)
+  open_ran q p gap b body e = subst (λ r. OpenedOk catalog fit g.plan (q ∷ g.past) (number c n) r (ran n)) e (kept q p).1
+
+
+  ---- BEGIN
+
+  module _ (text : List ℕ) (at_rest : sys.clients c ≡ Resting) (b : IsBegin sys c text) (none : NoneSweeps sys) where
+    abbrev gap : List Said
+    gap = (closed_as x.rest (hand_at Resting at_rest).0).0
+
+    closed : x.rest ≡ Closed gap
+    closed = (closed_as x.rest (hand_at Resting at_rest).0).1
+
+    counted : sys.begun c + 1 ≡ suc n
+    counted = ap (λ k. k + 1) (story.count ∙ ap (λ r. n + begun_in r) closed) ∙ by n
+      where
+        by : (k : ℕ) → k + 0 + 1 ≡ suc k
+        by k = omega arith
+
+    next_number : (next_id sys c).0 ≡ number c n
+    next_number = ap (λ k. (id_of c k).0) counted
+
+    abbrev s : Said
+    s = taken_said events text (Some answer.Done)
+
+    abbrev q : Played
+    q = begin_played sys c text
+
+    starts : begins s ≡ true
+    starts = ap (λ z. z && true) b.reads
+
+    abbrev next : SystemAt
+    next = with_begun sys c (Open (next_id sys c) nothing)
+
+    next_here : next.clients c ≡ Open (next_id sys c) nothing
+    next_here = ap (λ z. if z then Open (next_id sys c) nothing else sys.clients c) (same_number c)
+
+    fresh : (talk g.past).taken (number c n) ≡ false
+    fresh = ap (talk g.past).taken (sym next_number) ∙ untaken g.plan g.past sys c g.system b.ordinal
+
+    hold : BeginsHold c sys next (number c n)
+    hold = record {
+      begun = ap (λ z. if z then sys.begun c + 1 else sys.begun c) (same_number c);
+      hold = λ u h. sym (subst (λ w. Has w u) next_here h) ∙ next_number;
+    }
+
+    told_on : TellsOn events g.past q next c (with_answered x s)
+    told_on = subst (λ t. StoryOk (events ++ q.event ∷ []) (plays (Begins t c) (event.Take c text (Some answer.Done)) ∷ g.past) next c (with_answered x s)) (sym next_number)
+        (story_begins events g.past sys next c x gap text story (hand_at Resting at_rest).1 closed starts b.client (subst (λ k. k < 2 ^ 64) counted b.ordinal) fresh hold)
+
+    before : (k : ℕ) (f : Finished) → finished_at x.whole k ≡ Some f → SameOf (number c k) (talk g.past) (talk (q ∷ g.past))
+    before k f e = same_of g.past q (number c k) (λ h. less_apart k n (below x.whole k f e) (numbers_same c k n (sym h ∙ next_number)))
+
+    still_untaken : (talk (q ∷ g.past)).taken (number c n) ≡ true → true ≡ false
+    still_untaken h = sym h ∙ ap (talk (q ∷ g.past)).taken (sym next_number) ∙ begins_untaken (talk g.past) (next_id sys c).0 c ∙ ap (talk g.past).taken next_number ∙ by
+      where
+        by : (talk g.past).taken (number c n) ≡ false
+        by = fresh
+
+    pub going_begins : IsGoing catalog fit (events ++ event.Take c text (Some answer.Done) ∷ []) next (at doing c None)
+    going_begins = turned catalog fit events sys next doing g c None q (record {
+      plan = g.plan;
+      x = with_answered x s;
+      ran = at ran n nothing_ran;
+      same = same;
+      system = begin_turn g.plan g.past sys c text (stands Resting at_rest) b none;
+      by = refl;
+      others = begun_stands sys c (Open (next_id sys c) nothing);
+      story = told_on;
+      own = goes_begun catalog fit g.plan (q ∷ g.past) c None (next.clients c) x ran s gap nothing_ran closed starts
+          (ended_later catalog fit g.plan g.plan g.past q c x.whole ran same before was.ended)
+          (record { inside = record { seen = seen_nothing (q ∷ g.past); body = body_begins catalog fit; said = record { read = tt; told = refl } }; planned = λ h. clash (still_untaken h) })
+          (subst (HandOk None (telling_of (begun x gap s)) nothing_ran) (sym next_here) (tt, refl, refl));
+    })
+
+
+  ---- a client's event that says nothing more
+
+  silent : (e : Event) → ((ss : List Said) (k : ℕ) → Rattle.sdb_model.specs.Transactions.said_after c ss (k, e) ≡ ss) → said c (events ++ e ∷ []) ≡ said c events
+  silent e f = said_more c events e ∙ f (said c events) (1 + length events)
+
+
+  ---- COMMIT is taken
+
+  module _ (text : List ℕ) (i : TxId) (seen : Seen) (now : ℤ) (at_open : sys.clients c ≡ Open i seen) (k : IsCommit text now) where
+    abbrev p : Work
+    p = work_of i now seen
+
+    abbrev q_taken : Played
+    q_taken = take_played c text p
+
+    abbrev s_taken : Said
+    s_taken = taken_said events text None
+
+    here_now : IsOpened x.rest × (x.waiting ≡ None) × ((ran n).seen ≡ seen)
+    here_now = hand_at (Open i seen) at_open
+
+    its_number : i.0 ≡ number c n
+    its_number = (story.hold i.0 (subst (λ w. Has w i.0) (sym at_open) refl)).1
+
+    fresh_taken : (talk g.past).taken i.0 ≡ false
+    fresh_taken = (client_at (Open i seen) at_open).0.fresh
+
+    abbrev plan : ℕ → Plan
+    plan = with_plan g.plan p
+
+    planned_here : plan i.0 ≡ plan_of p
+    planned_here = ap (λ b. if b then plan_of p else g.plan i.0) (same_number i.0)
+
+    differs : (u : ℕ) → (talk g.past).taken u ≡ true → (u == i.0) ≡ false
+    differs u h = by (u == i.0) refl
+      where
+        is : (m k : ℕ) → (m == k) ≡ true → m ≡ k
+        is m k e = grind (arith, nat_tests)
+
+        by : (b : Bool) → (u == i.0) ≡ b → b ≡ false
+        by true e = clash (sym h ∙ ap (talk g.past).taken (is u i.0 e) ∙ fresh_taken)
+        by false e = refl
+
+    replanned : SamePlans g.plan plan g.past
+    replanned u h = sym (ap (λ b. if b then plan_of p else g.plan u) (differs u h))
+
+    abbrev next_taken : SystemAt
+    next_taken = commit_begun sys c p
+
+    has_begun : (t : Stage) (u : ℕ) → Has (commit_left p t) u → Has (Open i seen) u
+    has_begun (Preparing j) u h = h
+    has_begun (Checking j) u h = h
+    has_begun (Deciding d) u h = h
+    has_begun (Forward j) u h = h
+    has_begun (Stopping a m) u h = h
+    has_begun (Back a m j) u h = h
+    has_begun (Over a) u h = absurd h
+
+    told_on_taken : TellsOn events g.past q_taken next_taken c (with_waiting x s_taken)
+    told_on_taken = subst (λ t. StoryOk (events ++ q_taken.event ∷ []) (plays (Takes t) (event.Take c text None) ∷ g.past) next_taken c (with_waiting x s_taken)) (sym its_number)
+        (story_takes events g.past sys next_taken c x text story here_now.1 k.reads (keeps (Open i seen) (commit_left p (preparing p 0)) at_open (has_begun (preparing p 0))))
+
+    before_taken : (j : ℕ) (f : Finished) → finished_at x.whole j ≡ Some f → SameOf (number c j) (talk g.past) (talk (q_taken ∷ g.past))
+    before_taken j f e = same_of g.past q_taken (number c j) (λ h. less_apart j n (below x.whole j f e) (numbers_same c j n (sym h ∙ its_number)))
+
+    abbrev run : Execution
+    run = record { seen = (ran n).seen; now = now; body = (ran n).body; answers = (ran n).answers }
+
+    opened : (r : Rest) → x.rest ≡ r → OpenedOk catalog fit g.plan g.past (number c n) r (ran n) → OpenedOk catalog fit plan (q_taken ∷ g.past) (number c n) r run
+    opened (Closed said) e ok = tt
+    opened (Opened said b body) e ok = record {
+      inside = record { seen = (inside_later catalog fit g.past q_taken body (ran n) ok.inside).seen; body = ok.inside.body; said = record { read = ok.inside.said.read; told = ok.inside.said.told } };
+      planned = λ h. ap plan (sym its_number) ∙ planned_here ∙ ap (λ t. plan_of (work_of (id t) now seen)) its_number ∙ ap (λ z. plan_of (work_of (id (number c n)) now z)) (sym here_now.2);
+    }
+
+    begins_at : (a b : Bool) → HandOk None (with_waiting x s_taken) run (commit_left p (if a then Preparing 0 else (if b then Checking 0 else Deciding Rattle.sdb_phases.specs.declared.step.DecidePhase.TheVariants.Put)))
+    begins_at true b = (here_now.0, k.reads)
+    begins_at false true = (here_now.0, k.reads)
+    begins_at false false = (here_now.0, k.reads)
+
+    pub going_commits : IsGoing catalog fit (events ++ event.Take c text None ∷ []) next_taken (at doing c None)
+    going_commits = turned catalog fit events sys next_taken doing g c None q_taken (record {
+      plan = plan;
+      x = with_waiting x s_taken;
+      ran = at ran n run;
+      same = replanned;
+      system = take_turn g.plan g.past sys c i seen now text (stands (Open i seen) at_open) k;
+      by = refl;
+      others = client_stands sys c (commit_left p (preparing p 0));
+      story = told_on_taken;
+      own = record {
+        ended = ended_at catalog fit plan (q_taken ∷ g.past) c x.whole ran run (ended_later catalog fit g.plan plan g.past q_taken c x.whole ran replanned before_taken was.ended);
+        opened = subst (OpenedOk catalog fit plan (q_taken ∷ g.past) (number c n) x.rest) (sym (ran_here ran n run)) (opened x.rest refl was.opened);
+        hand = subst (λ z. HandOk None (with_waiting x s_taken) z (next_taken.clients c)) (sym (ran_here ran n run)) (subst (HandOk None (with_waiting x s_taken) run) (sym (here (commit_left p (preparing p 0)))) (begins_at (nat_lt 0 (length p.writes)) (nat_lt 0 (length (checks p)))));
+      };
+    })
+
+
+  ---- a statement begins to read
+
+  module _ (text : List ℕ) (st : Statement) (i : TxId) (seen : Seen) (a : Access) (at_open : sys.clients c ≡ Open i seen) (tables : IsOfData a) (reads : Reads text st) (inner : IsInner text) where
+    pub going_asks : IsGoing catalog fit (events ++ event.Take c text None ∷ []) (with_client sys c (Reading i seen a Asking)) (at doing c (Some st))
+    going_asks = turned catalog fit events sys (with_client sys c (Reading i seen a Asking)) doing g c (Some st) q (record {
+      plan = g.plan;
+      x = with_waiting x s;
+      ran = ran;
+      same = same;
+      system = asks g.plan (q ∷ g.past) sys c i seen a (record { ok = quiet_turn g.plan g.past sys q.event g.system (record { quiet = refl; other = λ e. none_some e }); at = at_open }) tables;
+      by = refl;
+      others = client_stands sys c (Reading i seen a Asking);
+      story = story_asks events g.past sys (with_client sys c (Reading i seen a Asking)) c x q text story here_now.1 refl tt (plain_apart g.past c Other tt) (keeps (Open i seen) (Reading i seen a Asking) at_open (λ u h. h));
+      own = record { ended = (kept q tt).0; opened = (kept q tt).1; hand = subst (HandOk (Some st) (with_waiting x s) (ran n)) (sym (here (Reading i seen a Asking))) (here_now.0, (reads, inner), here_now.2) };
+    })
+      where
+        none_some : ◌≡◌ {A = Option Answer} None (Some answer.Committed) → ⊥
+        none_some e = cc
+
+        q : Played
+        q = plays Other (event.Take c text None)
+
+        s : Said
+        s = taken_said events text None
+
+        here_now : IsOpened x.rest × (x.waiting ≡ None) × ((ran n).seen ≡ seen)
+        here_now = hand_at (Open i seen) at_open
+
+
+  ---- answered as it is taken
+
+  module _ (text : List ℕ) (b : Answer) where
+    abbrev taken : Event
+    taken = event.Take c text (Some b)
+
+    abbrev answered : Said
+    answered = taken_said events text (Some b)
+
+    quiet : IsMild b → IsQuiet taken
+    quiet m = record { quiet = refl; other = uncommitted (Some b) b refl m }
+
+    -- outside of a transaction
+    pub going_outside : sys.clients c ≡ Resting → IsMild b → IsGoing catalog fit (events ++ taken ∷ []) sys (at doing c None)
+    going_outside at_rest m = turned catalog fit events sys sys doing g c None q (record {
+      plan = g.plan;
+      x = with_answered x answered;
+      ran = ran;
+      same = same;
+      system = quiet_turn g.plan g.past sys taken g.system (quiet m);
+      by = refl;
+      others = record { clients = λ d h. refl; begun = λ d h. refl };
+      story = story_answers events g.past sys sys c x q answered story (said_at_once events g.past sys c x q text b story now_here.1 refl) (subst (λ r. MayCome r answered) (sym closed.1) (uncommitted (Some b) b refl m)) (subst (λ r. IsOrdinary r answered) (sym closed.1) plain) tt (plain_apart g.past c Other tt) (record { begun = refl; hold = λ u h. h });
+      own = goes_gap catalog fit g.plan (q ∷ g.past) c None (sys.clients c) x ran answered closed.0 closed.1 plain (kept q tt).0 (subst (HandOk None (telling_of (gone x closed.0 answered)) (ran n)) (sym at_rest) (tt, refl));
+    })
+      where
+        q : Played
+        q = plays Other taken
+
+        now_here : IsClosed x.rest × (x.waiting ≡ None)
+        now_here = hand_at Resting at_rest
+
+        closed : (gap : List Said) × (x.rest ≡ Closed gap)
+        closed = closed_as x.rest now_here.0
+
+        plain : begins answered ≡ false
+        plain = mild_begins answered b refl m
+
+
+  ---- answers inside of a transaction
+
+  -- what is owed where a statement is answered inside of an open transaction that stays open
+  module _ (q : Played) (plain : IsPlainRole q.role) (s : Said) (b : Answer) (said_so : s.answer ≡ Some b) (m : IsMild b) (no_commit : reads_commit s.text ≡ false) (is : IsSaid events c x q s) (opened : IsOpened x.rest) (i : TxId) (seen : Seen) (y : ClientAt) (at_y : sys.clients c ≡ y) (mine : (u : ℕ) → i.0 ≡ u → Has y u) where
+    parts : (gap : List Said) × (b : Said) × (body : List Said) × (x.rest ≡ Opened gap b body)
+    parts = opened_as x.rest opened
+
+    goes_on : ends s ≡ false
+    goes_on = mild_ends s b said_so m no_commit
+
+    inside_story : (z : Seen) → TellsOn events g.past q (with_client sys c (Open i z)) c (with_answered x s)
+    inside_story z = story_answers events g.past sys (with_client sys c (Open i z)) c x q s story is (subst (λ r. MayCome r s) (sym parts.3) (mild_begins s b said_so m, λ e. uncommitted s.answer b said_so m)) (subst (λ r. IsOrdinary r s) (sym parts.3) goes_on) (plain_counts q.role plain) (plain_apart g.past c q.role plain) (keeps y (Open i z) at_y mine)
+
+    -- with what it has run then
+    inside_own : (r : Execution) (z : Seen) → RanOk catalog fit g.plan (q ∷ g.past) (number c n) (parts.2 ++ s ∷ []) r → r.seen ≡ z → ClientGoes catalog fit g.plan (q ∷ g.past) c None ((with_client sys c (Open i z)).clients c) (with_answered x s) (at ran n r)
+    inside_own r z ok e = goes_inside catalog fit g.plan (q ∷ g.past) c None ((with_client sys c (Open i z)).clients c) x ran s parts.0 parts.1 parts.2 r parts.3 goes_on (kept q plain).0 ok (subst (HandOk None (telling_of (inside x parts.0 parts.1 parts.2 s)) r) (sym (here (Open i z))) (tt, refl, e))
+
+    before_it : RanOk catalog fit g.plan (q ∷ g.past) (number c n) parts.2 (ran n)
+    before_it = open_ran q plain parts.0 parts.1 parts.2 parts.3
+
+    -- it changed nothing
+    idle_own : (changes_nothing b ≡ true) → (ran n).seen ≡ seen → ClientGoes catalog fit g.plan (q ∷ g.past) c None ((with_client sys c (Open i seen)).clients c) (with_answered x s) (at ran n (ran n))
+    idle_own idle e = inside_own (ran n) seen (record {
+      inside = record { seen = before_it.inside.seen; body = before_it.inside.body; said = said_nothing_more parts.2 s (ran n) before_it.inside.said (effective_by s b true said_so idle) };
+      planned = before_it.planned;
+    }) e
+
+    -- it was answered from rows of an access that was read, and its changes were written
+    more_own : (st : Statement) (read : Seen) (a : Access) (changes : List Keyed) → SeenOk (q ∷ g.past) read → SeenOk (q ∷ g.past) (with_written read changes) → BodyOk catalog fit (ran n).body (ran n).answers read → IsCovered read a → AnswersOn catalog fit read st a b changes → Reads s.text st → changes_nothing b ≡ false → (talk g.past).taken (number c n) ≡ false
+        → ClientGoes catalog fit g.plan (q ∷ g.past) c None ((with_client sys c (Open i (with_written read changes))).clients c) (with_answered x s) (at ran n (record { seen = with_written read changes; now = (ran n).now; body = (ran n).body ++ st ∷ []; answers = (ran n).answers ++ b ∷ [] }))
+    more_own st read a changes known written body covered answers reads effective fresh = inside_own run (with_written read changes) (record {
+      inside = record {
+        seen = written;
+        body = body_step (q ∷ g.past) catalog fit (ran n).body (ran n).answers read st a b changes body known covered answers;
+        said = said_one_more parts.2 s (ran n) run st b before_it.inside.said (effective_by s b false said_so effective) reads said_so refl refl;
+      };
+      planned = λ h. clash (sym h ∙ untaken_still);
+    }) refl
+      where
+        run : Execution
+        run = record { seen = with_written read changes; now = (ran n).now; body = (ran n).body ++ st ∷ []; answers = (ran n).answers ++ b ∷ [] }
+
+        untaken_still : (talk (q ∷ g.past)).taken (number c n) ≡ false
+        untaken_still = (same_of g.past q (number c n) (plain_not (number c n) q.role plain)).taken ∙ fresh
+
+
+  ---- where a transaction is open
+
+  module _ (i : TxId) (seen : Seen) (at_open : sys.clients c ≡ Open i seen) where
+    its_id : i.0 ≡ number c n
+    its_id = (story.hold i.0 (subst (λ w. Has w i.0) (sym at_open) refl)).1
+
+    not_taken : (talk g.past).taken (number c n) ≡ false
+    not_taken = ap (talk g.past).taken (sym its_id) ∙ (client_at (Open i seen) at_open).0.fresh
+
+    held : IsOpened x.rest × (x.waiting ≡ None) × ((ran n).seen ≡ seen)
+    held = hand_at (Open i seen) at_open
+
+    module _ (text : List ℕ) (b : Answer) where
+      abbrev event_of : Event
+      event_of = event.Take c text (Some b)
+
+      abbrev played : Played
+      played = plays Other event_of
+
+      abbrev said_of_it : Said
+      said_of_it = taken_said events text (Some b)
+
+      is_said : IsSaid events c x played said_of_it
+      is_said = said_at_once events g.past sys c x played text b story held.1 refl
+
+      system_now : IsMild b → SystemOk g.plan (played ∷ g.past) sys
+      system_now m = quiet_turn g.plan g.past sys event_of g.system (record { quiet = refl; other = uncommitted (Some b) b refl m })
+
+      unmoved : (u : ℕ) → i.0 ≡ u → Has (Open i seen) u
+      unmoved u h = h
+
+      back_again : with_client sys c (Open i seen) ≡ sys
+      back_again = λ j. record { clients = λ u. by u (u == c) refl j; begun = sys.begun }
+        where
+          is : (m k : ℕ) → (m == k) ≡ true → m ≡ k
+          is m k e = grind (arith, nat_tests)
+
+          by : (u : ℕ) (z : Bool) → (u == c) ≡ z → (if z then Open i seen else sys.clients u) ≡ sys.clients u
+          by u true e = sym (ap sys.clients (is u c e) ∙ at_open)
+          by u false e = refl
+
+      -- a statement that changes nothing
+      pub going_idle : changes_nothing b ≡ true → reads_commit text ≡ false → IsGoing catalog fit (events ++ event_of ∷ []) (with_client sys c (Open i seen)) (at doing c None)
+      going_idle idle no_commit = turned catalog fit events sys (with_client sys c (Open i seen)) doing g c None played (record {
+        plan = g.plan;
+        x = with_answered x said_of_it;
+        ran = at ran n (ran n);
+        same = same;
+        system = subst (SystemOk g.plan (played ∷ g.past)) (sym back_again) (system_now (nothing_mild b idle));
+        by = refl;
+        others = client_stands sys c (Open i seen);
+        story = inside_story played tt said_of_it b refl (nothing_mild b idle) no_commit is_said held.0 i seen (Open i seen) at_open unmoved seen;
+        own = idle_own played tt said_of_it b refl (nothing_mild b idle) no_commit is_said held.0 i seen (Open i seen) at_open unmoved idle held.2;
+      })
+
+      -- a statement that is answered from what was read before
+      pub going_answers : (st : Statement) (a : Access) (changes : List Keyed) → is_answered_from_rows b ≡ true → reads_commit text ≡ false → Reads text st → IsCovered seen a → AnswersOn catalog fit seen st a b changes → AreChanges seen.notes changes
+          → IsGoing catalog fit (events ++ event_of ∷ []) (with_client sys c (Open i (with_written seen changes))) (at doing c None)
+      going_answers st a changes rows no_commit reads covered answers fine = turned catalog fit events sys next doing g c None played (record {
+        plan = g.plan;
+        x = with_answered x said_of_it;
+        ran = at ran n (record { seen = with_written seen changes; now = (ran n).now; body = (ran n).body ++ st ∷ []; answers = (ran n).answers ++ b ∷ [] });
+        same = same;
+        system = system;
+        by = refl;
+        others = client_stands sys c (Open i (with_written seen changes));
+        story = inside_story played tt said_of_it b refl m.0 no_commit is_said held.0 i seen (Open i seen) at_open unmoved (with_written seen changes);
+        own = more_own played tt said_of_it b refl m.0 no_commit is_said held.0 i seen (Open i seen) at_open unmoved st seen a changes
+            (subst (SeenOk (played ∷ g.past)) held.2 (before_it played tt said_of_it b refl m.0 no_commit is_said held.0 i seen (Open i seen) at_open unmoved).inside.seen)
+            (subst (ClientOk g.plan (played ∷ g.past) c) (here (Open i (with_written seen changes))) (system.each c)).1
+            (subst (BodyOk catalog fit (ran n).body (ran n).answers) held.2 (before_it played tt said_of_it b refl m.0 no_commit is_said held.0 i seen (Open i seen) at_open unmoved).inside.body)
+            covered answers reads m.1 not_taken;
+      })
+        where
+          m : IsMild b × (changes_nothing b ≡ false)
+          m = rows_mild b rows
+
+          next : SystemAt
+          next = with_client sys c (Open i (with_written seen changes))
+
+          system : SystemOk g.plan (played ∷ g.past) next
+          system = writes g.plan (played ∷ g.past) sys c i seen changes (record { ok = system_now m.0; at = at_open }) fine
+
+      -- a statement that ends the transaction without a call: ROLLBACK, or a COMMIT that is out of memory
+      going_leaves : b ≢ answer.Committed → begins said_of_it ≡ false → ends said_of_it ≡ true → ((u : TxId) → b ≡ answer.Unknown u → true ≡ false) → IsGoing catalog fit (events ++ event_of ∷ []) (with_client sys c Resting) (at doing c None)
+      going_leaves other plain last known = turned catalog fit events sys (with_client sys c Resting) doing g c None q (record {
+        plan = g.plan;
+        x = with_answered x said_of_it;
+        ran = ran;
+        same = same;
+        system = leave_turn g.plan g.past sys c i seen event_of (stands (Open i seen) at_open) refl (record { quiet = refl; other = λ e. other (some_is b answer.Committed e) });
+        by = refl;
+        others = client_stands sys c Resting;
+        story = story_ends events g.past sys (with_client sys c Resting) c x q said_of_it parts.0 parts.1 parts.2 story parts.3 (said_at_once events g.past sys c x q text b story held.1 refl) plain last (ap Some its_id) (λ u e. clash (known u (some_is b (answer.Unknown u) e))) tt (plain_apart g.past c Other tt) (record { begun = refl; hold = λ u h. subst (λ w. Has w u) (here Resting) h });
+        own = goes_over catalog fit g.plan (q ∷ g.past) c None ((with_client sys c Resting).clients c) x ran said_of_it parts.0 parts.1 parts.2 parts.3 last (kept q tt).0 (open_ran q tt parts.0 parts.1 parts.2 parts.3) (λ r. subst (HandOk None (telling_of (over x parts.0 parts.1 parts.2 said_of_it)) r) (sym (here Resting)) (tt, refl));
+      })
+        where
+          q : Played
+          q = ends_with i.0 Other event_of
+
+          parts : (gap : List Said) × (b : Said) × (body : List Said) × (x.rest ≡ Opened gap b body)
+          parts = opened_as x.rest held.0
+
+      pub going_leaves_so : LeavesAtOnce text b → IsGoing catalog fit (events ++ event_of ∷ []) (with_client sys c Resting) (at doing c None)
+      going_leaves_so (inl h) = going_leaves (λ e. absurd (cc (sym h.0 ∙ e))) (ap (λ z. z && is_done (Some b)) h.1) over_now (λ u e. absurd (cc (sym h.0 ∙ e)))
+        where
+          rolls : (reads_rollback text && is_done (Some b)) ≡ true
+          rolls = ap (λ z. z && is_done (Some b)) h.2 ∙ ap (λ z. is_done (Some z)) h.0
+
+          second : (z : Bool) → (z || true) ≡ true
+          second true = refl
+          second false = refl
+
+          over_now : ends said_of_it ≡ true
+          over_now = ap (λ z. (reads_commit text || is_conflict (Some b)) || z) rolls ∙ second (reads_commit text || is_conflict (Some b))
+      going_leaves_so (inr h) = going_leaves (λ e. absurd (cc (sym h.0 ∙ e))) (ap (λ z. reads_begin text && is_done (Some z)) h.0 ∙ no_second (reads_begin text)) (commit_ends said_of_it h.1) (λ u e. absurd (cc (sym h.0 ∙ e)))
+
+
+  ---- calls
+
+  module _ (store : Name) (request : Request) (how : How) (reply : Reply) (now : ℤ) where
+    abbrev y : ClientCall
+    y = record { client = c; store = store; request = request; how = how; reply = reply; now = now }
+
+    call_silent : said c (events ++ call_event y None ∷ []) ≡ said c events
+    call_silent = silent (call_event y None) (λ ss k. refl)
+
+
+    ---- a call of a COMMIT
+
+    module _ (p : Work) (s : Stage) (at_commit : sys.clients c ≡ Committing p s) (asked : IsReplyTo (pending p s) y) where
+      held_then : IsOpened x.rest × IsCommitting x.waiting
+      held_then = hand_at (Committing p s) at_commit
+
+      commit_id : p.id.0 ≡ number c n
+      commit_id = (story.hold p.id.0 (subst (λ w. Has w p.id.0) (sym at_commit) refl)).1
+
+      abbrev after : Stage
+      after = step p s reply
+
+      -- the event, where the COMMIT is then at a stage
+      abbrev played_at : Stage → Played
+      played_at t = record { event = call_event y (answer_at t); role = role_of p s reply; ends = ending_at p.id.0 t }
+
+      abbrev GoesTo : Stage → Type 0
+      GoesTo t = IsGoing catalog fit (events ++ call_event y (answer_at t) ∷ []) (with_client sys c (commit_left p t)) (at doing c None)
+
+      system_at : (t : Stage) → after ≡ t → SystemOk g.plan (played_at t ∷ g.past) (with_client sys c (commit_left p t))
+      system_at t e = subst (λ t. SystemOk g.plan (played_at t ∷ g.past) (with_client sys c (commit_left p t))) e (commit_turn g.plan g.past sys y p s (stands (Committing p s) at_commit) asked)
+
+      -- it makes a further call
+      more : (t : Stage) → after ≡ t → answer_at t ≡ None → ending_at p.id.0 t ≡ None → commit_left p t ≡ Committing p t → GoesTo t
+      more t e none unended left = subst (λ a. IsGoing catalog fit (events ++ call_event y a ∷ []) (with_client sys c (commit_left p t)) (at doing c None)) (sym none) (turned catalog fit events sys (with_client sys c (commit_left p t)) doing g c None q (record {
+        plan = g.plan;
+        x = x;
+        ran = ran;
+        same = same;
+        system = subst (λ z. SystemOk g.plan (z ∷ g.past) (with_client sys c (commit_left p t))) same_event (system_at t e);
+        by = refl;
+        others = client_stands sys c (commit_left p t);
+        story = story_stays events g.past sys (with_client sys c (commit_left p t)) c x q story (plain_counts q.role plain) (plain_apart g.past c q.role plain) (keeps (Committing p s) (commit_left p t) at_commit (λ u h. subst (λ w. Has w u) left h)) call_silent;
+        own = record { ended = (kept q plain).0; opened = (kept q plain).1; hand = subst (HandOk None x (ran n)) (sym (here (commit_left p t) ∙ left)) held_then };
+      }))
+        where
+          q : Played
+          q = plays (role_of p s reply) (call_event y None)
+
+          plain : IsPlainRole q.role
+          plain = commit_plain p s reply
+
+          same_event : played_at t ≡ q
+          same_event = λ j. record { event = call_event y (none j); role = role_of p s reply; ends = unended j }
+
+      undone : (a : Outcome) → is_done (Some (answer_of_outcome a)) ≡ false
+      undone outcome.Committed = refl
+      undone (outcome.Conflict key found) = refl
+      undone (outcome.Expired u) = refl
+      undone outcome.Faulted = refl
+      undone (outcome.Unknown u) = refl
+      undone (outcome.BadRecord key) = refl
+      undone outcome.NoMemory = refl
+
+      -- Unknown names the transaction
+      names_it : (a : Outcome) → after ≡ Over a → (u : TxId) → answer_of_outcome a ≡ answer.Unknown u → u ≡ id (number c n)
+      names_it outcome.Committed e u h = absurd (cc (h))
+      names_it (outcome.Conflict key found) e u h = absurd (cc (h))
+      names_it (outcome.Expired v) e u h = absurd (cc (h))
+      names_it outcome.Faulted e u h = absurd (cc (h))
+      names_it (outcome.Unknown v) e u h = sym (unknown_is v u h) ∙ subst (λ t. StageOk g.plan (plays (role_of p s reply) (call_event y None) ∷ g.past) p t) e (own_kept g.plan g.past c p s store request how reply None (client_at (Committing p s) at_commit) asked.asked asked.can) ∙ ap id commit_id
+        where
+          unknown_is : (v u : TxId) → answer.Unknown v ≡ answer.Unknown u → v ≡ u
+          unknown_is v u h = cc
+      names_it (outcome.BadRecord key) e u h = absurd (cc (h))
+      names_it outcome.NoMemory e u h = absurd (cc (h))
+
+      -- it is over
+      ends_so : (a : Outcome) → after ≡ Over a → GoesTo (Over a)
+      ends_so a e = turned catalog fit events sys (with_client sys c Resting) doing g c None q (record {
+        plan = g.plan;
+        x = with_answered x s_now;
+        ran = ran;
+        same = same;
+        system = system_at (Over a) e;
+        by = refl;
+        others = client_stands sys c Resting;
+        story = story_ends events g.past sys (with_client sys c Resting) c x q s_now parts.0 parts.1 parts.2 story parts.3 (said_later events g.past sys c x q w.0 store request how reply (answer_of_outcome a) story w.1 refl) begins_no (commit_ends s_now w.2) (ap Some commit_id) (λ u h. names_it a e u (some_is (answer_of_outcome a) (answer.Unknown u) h)) (plain_counts q.role plain) (plain_apart g.past c q.role plain) (record { begun = refl; hold = λ u h. subst (λ z. Has z u) (here Resting) h });
+        own = goes_over catalog fit g.plan (q ∷ g.past) c None ((with_client sys c Resting).clients c) x ran s_now parts.0 parts.1 parts.2 parts.3 (commit_ends s_now w.2) (kept q plain).0 (open_ran q plain parts.0 parts.1 parts.2 parts.3) (λ r. subst (HandOk None (telling_of (over x parts.0 parts.1 parts.2 s_now)) r) (sym (here Resting)) (tt, refl));
+      })
+        where
+          q : Played
+          q = played_at (Over a)
+
+          plain : IsPlainRole q.role
+          plain = commit_plain p s reply
+
+          w : (w : Said) × (x.waiting ≡ Some w) × (reads_commit w.text ≡ true)
+          w = committing_as x.waiting held_then.1
+
+          s_now : Said
+          s_now = answered_said events w.0 (answer_of_outcome a)
+
+          parts : (gap : List Said) × (b : Said) × (body : List Said) × (x.rest ≡ Opened gap b body)
+          parts = opened_as x.rest held_then.0
+
+          begins_no : begins s_now ≡ false
+          begins_no = ap (λ b. reads_begin w.0.text && b) (undone a) ∙ no_second (reads_begin w.0.text)
+
+      by_stage : (t : Stage) → after ≡ t → GoesTo t
+      by_stage (Preparing j) e = more (Preparing j) e refl refl refl
+      by_stage (Checking j) e = more (Checking j) e refl refl refl
+      by_stage (Deciding d) e = more (Deciding d) e refl refl refl
+      by_stage (Forward j) e = more (Forward j) e refl refl refl
+      by_stage (Stopping a m) e = more (Stopping a m) e refl refl refl
+      by_stage (Back a m j) e = more (Back a m j) e refl refl refl
+      by_stage (Over a) e = ends_so a e
+
+      pub going_commit_calls : GoesTo after
+      going_commit_calls = by_stage after refl
+
+
+    ---- a call of a read
+
+    module _ (kind : Record → Kind) (kinds : AreKinds kind) (i : TxId) (seen : Seen) (a : Access) (s : ReadAt) (at_read : sys.clients c ≡ Reading i seen a s) (asked : IsReplyTo (read_pending a s) y) where
+      held_then_read : IsOpened x.rest × IsRunning (doing c) x.waiting × ((ran n).seen ≡ seen)
+      held_then_read = hand_at (Reading i seen a s) at_read
+
+      read_id : i.0 ≡ number c n
+      read_id = (story.hold i.0 (subst (λ w. Has w i.0) (sym at_read) refl)).1
+
+      read_untaken : (talk g.past).taken (number c n) ≡ false
+      read_untaken = ap (talk g.past).taken (sym read_id) ∙ (client_at (Reading i seen a s) at_read).0.fresh
+
+      abbrev next_read : ReadAt
+      next_read = read_step kind s now reply
+
+      -- the read goes on
+      pub going_reads : IsGoing catalog fit (events ++ call_event y None ∷ []) (with_client sys c (Reading i seen a next_read)) (at doing c (doing c))
+      going_reads = turned catalog fit events sys (with_client sys c (Reading i seen a next_read)) doing g c (doing c) q (record {
+        plan = g.plan;
+        x = x;
+        ran = ran;
+        same = same;
+        system = read_turn kind g.plan g.past sys y i seen a s None kinds (stands (Reading i seen a s) at_read) asked (λ e. none_some e);
+        by = refl;
+        others = client_stands sys c (Reading i seen a next_read);
+        story = story_stays events g.past sys (with_client sys c (Reading i seen a next_read)) c x q story (plain_counts q.role plain) (plain_apart g.past c q.role plain) (keeps (Reading i seen a s) (Reading i seen a next_read) at_read (λ u h. h)) call_silent;
+        own = record { ended = (kept q plain).0; opened = (kept q plain).1; hand = subst (HandOk (doing c) x (ran n)) (sym (here (Reading i seen a next_read))) held_then_read };
+      })
+        where
+          none_some : ◌≡◌ {A = Option Answer} None (Some answer.Committed) → ⊥
+          none_some e = cc
+
+          q : Played
+          q = plays (read_role s reply) (call_event y None)
+
+          plain : IsPlainRole q.role
+          plain = read_plain s reply
+
+      -- the statement is answered
+      module _ (b : Answer) (st : Statement) (runs : doing c ≡ Some st) where
+        abbrev answered_q : Played
+        answered_q = plays (read_role s reply) (call_event y (Some b))
+
+        w : (w : Said) × (x.waiting ≡ Some w) × Reads w.text st × IsInner w.text
+        w = running_as st x.waiting (subst (λ o. IsRunning o x.waiting) runs held_then_read.1)
+
+        abbrev s_now : Said
+        s_now = answered_said events w.0 b
+
+        is_said_read : IsSaid events c x answered_q s_now
+        is_said_read = said_later events g.past sys c x answered_q w.0 store request how reply b story w.1 refl
+
+        system_read : IsMild b → SystemOk g.plan (answered_q ∷ g.past) (with_client sys c (Reading i seen a next_read))
+        system_read m = read_turn kind g.plan g.past sys y i seen a s (Some b) kinds (stands (Reading i seen a s) at_read) asked (uncommitted (Some b) b refl m)
+
+        stands_read : IsMild b → StandsAt g.plan (answered_q ∷ g.past) (with_client sys c (Reading i seen a next_read)) c (Reading i seen a next_read)
+        stands_read m = record { ok = system_read m; at = here (Reading i seen a next_read) }
+
+        -- as one that changes nothing
+        pub going_fails : changes_nothing b ≡ true → IsGoing catalog fit (events ++ call_event y (Some b) ∷ []) (with_client sys c (Open i seen)) (at doing c None)
+        going_fails idle = turned catalog fit events sys (with_client sys c (Open i seen)) doing g c None answered_q (record {
+          plan = g.plan;
+          x = with_answered x s_now;
+          ran = at ran n (ran n);
+          same = same;
+          system = subst (SystemOk g.plan (answered_q ∷ g.past)) (twice sys c (Reading i seen a next_read) (Open i seen)) (gives_up g.plan (answered_q ∷ g.past) (with_client sys c (Reading i seen a next_read)) c i seen a next_read (stands_read m));
+          by = refl;
+          others = client_stands sys c (Open i seen);
+          story = inside_story answered_q plain s_now b refl m w.3.commit is_said_read held_then_read.0 i seen (Reading i seen a s) at_read (λ u h. h) seen;
+          own = idle_own answered_q plain s_now b refl m w.3.commit is_said_read held_then_read.0 i seen (Reading i seen a s) at_read (λ u h. h) idle held_then_read.2;
+        })
+          where
+            m : IsMild b
+            m = nothing_mild b idle
+
+            plain : IsPlainRole answered_q.role
+            plain = read_plain s reply
+
+        -- from the rows that the read was done with
+        pub going_tells : (images : List Record) (changes : List Keyed) → is_answered_from_rows b ≡ true → next_read ≡ Done images → MayNote seen a images → IsCovered (with_read seen a images) a → AnswersOn catalog fit (with_read seen a images) st a b changes → AreChanges (with_read seen a images).notes changes
+            → IsGoing catalog fit (events ++ call_event y (Some b) ∷ []) (with_client sys c (Open i (with_written (with_read seen a images) changes))) (at doing c None)
+        going_tells images changes rows done may covered answers fine = turned catalog fit events sys next doing g c None answered_q (record {
+          plan = g.plan;
+          x = with_answered x s_now;
+          ran = at ran n (record { seen = written; now = (ran n).now; body = (ran n).body ++ st ∷ []; answers = (ran n).answers ++ b ∷ [] });
+          same = same;
+          system = system_written;
+          by = refl;
+          others = client_stands sys c (Open i written);
+          story = inside_story answered_q plain s_now b refl m.0 w.3.commit is_said_read held_then_read.0 i seen (Reading i seen a s) at_read (λ u h. h) written;
+          own = more_own answered_q plain s_now b refl m.0 w.3.commit is_said_read held_then_read.0 i seen (Reading i seen a s) at_read (λ u h. h) st read a changes
+              (subst (ClientOk g.plan (answered_q ∷ g.past) c) (here (Open i read)) (system_noted.each c)).1
+              (subst (ClientOk g.plan (answered_q ∷ g.past) c) (here (Open i written)) (system_written.each c)).1
+              (body_read (answered_q ∷ g.past) catalog fit (ran n).body (ran n).answers seen a images (subst (SeenOk (answered_q ∷ g.past)) held_then_read.2 inside_now.seen) (subst (BodyOk catalog fit (ran n).body (ran n).answers) held_then_read.2 inside_now.body))
+              covered answers w.2 m.1 read_untaken;
+        })
+          where
+            m : IsMild b × (changes_nothing b ≡ false)
+            m = rows_mild b rows
+
+            plain : IsPlainRole answered_q.role
+            plain = read_plain s reply
+
+            read : Seen
+            read = with_read seen a images
+
+            written : Seen
+            written = with_written read changes
+
+            next : SystemAt
+            next = with_client sys c (Open i written)
+
+            inside_now : InsideOk catalog fit (answered_q ∷ g.past) (opened_as x.rest held_then_read.0).2 (ran n)
+            inside_now = (open_ran answered_q plain (opened_as x.rest held_then_read.0).0 (opened_as x.rest held_then_read.0).1 (opened_as x.rest held_then_read.0).2 (opened_as x.rest held_then_read.0).3).inside
+
+            system_noted : SystemOk g.plan (answered_q ∷ g.past) (with_client sys c (Open i read))
+            system_noted = subst (SystemOk g.plan (answered_q ∷ g.past)) (twice sys c (Reading i seen a next_read) (Open i read)) (notes g.plan (answered_q ∷ g.past) (with_client sys c (Reading i seen a next_read)) c i seen a images (record { ok = system_read m.0; at = here (Reading i seen a next_read) ∙ ap (Reading i seen a) done }) may)
+
+            system_written : SystemOk g.plan (answered_q ∷ g.past) next
+            system_written = subst (SystemOk g.plan (answered_q ∷ g.past)) (twice sys c (Open i read) (Open i written)) (writes g.plan (answered_q ∷ g.past) (with_client sys c (Open i read)) c i read changes (record { ok = system_noted; at = here (Open i read) }) fine)
+
+        -- as one that ends the transaction: a key that was read differs
+        pub going_differs : is_conflict (Some b) ≡ true → IsGoing catalog fit (events ++ call_event y (Some b) ∷ []) (with_client sys c Resting) (at doing c None)
+        going_differs conflict = turned catalog fit events sys (with_client sys c Resting) doing g c None q (record {
+          plan = g.plan;
+          x = with_answered x s_now;
+          ran = ran;
+          same = same;
+          system = read_ends_turn g.plan g.past sys y i seen a s (Some b) (stands (Reading i seen a s) at_read) asked (λ e. other (some_is b answer.Committed e));
+          by = refl;
+          others = client_stands sys c Resting;
+          story = story_ends events g.past sys (with_client sys c Resting) c x q s_now parts.0 parts.1 parts.2 story parts.3 (said_later events g.past sys c x q w.0 store request how reply b story w.1 refl) begins_no over_now (ap Some read_id) (λ u e. clash (sym conflict ∙ ap is_conflict e)) (plain_counts q.role plain) (plain_apart g.past c q.role plain) (record { begun = refl; hold = λ u h. subst (λ z. Has z u) (here Resting) h });
+          own = goes_over catalog fit g.plan (q ∷ g.past) c None ((with_client sys c Resting).clients c) x ran s_now parts.0 parts.1 parts.2 parts.3 over_now (kept q plain).0 (open_ran q plain parts.0 parts.1 parts.2 parts.3) (λ r. subst (HandOk None (telling_of (over x parts.0 parts.1 parts.2 s_now)) r) (sym (here Resting)) (tt, refl));
+        })
+          where
+            q : Played
+            q = ends_with i.0 (read_role s reply) (call_event y (Some b))
+
+            plain : IsPlainRole q.role
+            plain = read_plain s reply
+
+            other : b ≡ answer.Committed → ⊥
+            other e = clash (sym conflict ∙ ap (λ z. is_conflict (Some z)) e)
+
+            parts : (gap : List Said) × (b : Said) × (body : List Said) × (x.rest ≡ Opened gap b body)
+            parts = opened_as x.rest held_then_read.0
+
+            begins_no : begins s_now ≡ false
+            begins_no = ap (λ z. z && is_done (Some b)) w.3.begin
+
+            over_now : ends s_now ≡ true
+            over_now = ap (λ z. (reads_commit w.0.text || z) || (reads_rollback w.0.text && is_done (Some b))) conflict ∙ second (reads_commit w.0.text) (reads_rollback w.0.text && is_done (Some b))
+              where
+                second : (z r : Bool) → ((z || true) || r) ≡ true
+                second true r = refl
+                second false r = refl
+
+
+  ---- a client stops
+
+  pub going_stops : IsGoing catalog fit (events ++ event.Stop c ∷ []) (with_client sys c Stopped) (at doing c None)
+  going_stops = turned catalog fit events sys (with_client sys c Stopped) doing g c None q (record {
+    plan = g.plan;
+    x = x;
+    ran = ran;
+    same = same;
+    system = stop_turn g.plan g.past sys c g.system;
+    by = refl;
+    others = client_stands sys c Stopped;
+    story = story_stays events g.past sys (with_client sys c Stopped) c x q story tt (plain_apart g.past c q.role tt) (record { begun = refl; hold = λ u h. absurd (subst (λ z. Has z u) (here Stopped) h) }) (silent q.event (λ ss k. refl));
+    own = record { ended = (kept q tt).0; opened = (kept q tt).1; hand = subst (HandOk None x (ran n)) (sym (here Stopped)) tt };
+  })
+    where
+      q : Played
+      q = plays (Stops c) (event.Stop c)
