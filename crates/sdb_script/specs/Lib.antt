@@ -1,0 +1,7 @@
+pub mod Placings
+pub mod Refused
+pub mod Words
+pub mod Lines
+pub mod Begun
+pub mod Whole
+pub mod Told

@@ -1,0 +1,17 @@
+//! Scripts as texts: read, refused and printed.
+#![tactic(auto)]
+
+mod blocks;
+mod counted;
+mod drafting;
+mod fault;
+pub mod laws;
+mod lines;
+mod moves;
+mod placings;
+mod read;
+mod schema;
+mod words;
+
+pub use fault::{LineFault, ScriptRefused};
+pub use read::{MOST_SCRIPT_BYTES, read_script};
