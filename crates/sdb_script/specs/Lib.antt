@@ -1,3 +1,4 @@
+pub mod Printed
 pub mod Placings
 pub mod Refused
 pub mod Words

@@ -9,9 +9,11 @@ pub mod laws;
 mod lines;
 mod moves;
 mod placings;
+mod print;
 mod read;
 mod schema;
 mod words;
 
 pub use fault::{LineFault, ScriptRefused};
+pub use print::print_script;
 pub use read::{MOST_SCRIPT_BYTES, read_script};
