@@ -23,10 +23,10 @@ use Rattle.sdb_model.specs.Exec.{find_table}
 use Rattle.sdb_model.specs.Report.{report_text_of}
 use Rattle.sdb_model.specs.Rows.{Name}
 use Rattle.sdb_model.specs.Told.{IsRun}
-use Rattle.sdb_script.specs.Accounts.{ArePlaces, AreTransactions, IsFormOf, account_text, is_built, script_of_client, statement_of}
-use Rattle.sdb_script.specs.declared.account.AccountStatement.{AccountStatement}
-use Rattle.sdb_script.specs.declared.account.AccountStatement.TheVariants as account
-use Rattle.sdb_script.specs.declared.drawing.AccountForm.{AccountForm}
+use Rattle.sdb_account.specs.Accounts.{ArePlaces, AreTransactions, IsFormOf, account_text, is_built, script_of_client, statement_of}
+use Rattle.sdb_account.specs.declared.account.AccountStatement.{AccountStatement}
+use Rattle.sdb_account.specs.declared.account.AccountStatement.TheVariants as account
+use Rattle.sdb_account.specs.declared.drawing.AccountForm.{AccountForm}
 use Rattle.sdb_session.specs.Session.{Session, outcome_of, store_name, taken_all, start, are_taken}
 use Rattle.sdb_session.proofs.AllStatements.{kept_from_empty, run_from_empty}
 use Rattle.sdb_session.proofs.Finals.{nothing_at}

@@ -14,7 +14,7 @@ use Rattle.sdb_stores.specs.declared.place.Place.{Place as Placed}
 use Rattle.sdb_stores.proofs.Distinct.{apart}
 use Rattle.sdb_model.specs.declared.script.Place.{Place}
 use Rattle.sdb_model.specs.Rows.{Name}
-use Rattle.sdb_script.specs.Accounts.{ArePlaces}
+use Rattle.sdb_account.specs.Accounts.{ArePlaces}
 use Rattle.sdb_model.specs.Events.{store_of}
 use Rattle.sdb_spread.specs.Spread.{is_played}
 use Rattle.sdb_play.specs.Board.{AreFit, placed, shown}

@@ -19,8 +19,8 @@ use Rattle.sdb_model.specs.declared.event.Outcome.{Outcome}
 use Rattle.sdb_model.specs.declared.script.Script.{Script}
 use Rattle.sdb_model.specs.Events.{Shelf}
 use Rattle.sdb_model.specs.Rows.{Name}
-use Rattle.sdb_script.specs.declared.drawing.AccountForm.{AccountForm}
-use Rattle.sdb_script.specs.Accounts.{IsAccountScript, IsNotPlayed, IsFormOf, most_script_bytes, script_of_client}
+use Rattle.sdb_account.specs.declared.drawing.AccountForm.{AccountForm}
+use Rattle.sdb_account.specs.Accounts.{IsAccountScript, IsNotPlayed, IsFormOf, most_script_bytes, script_of_client}
 use Rattle.sdb_app.specs.declared.status.Status.{Status}
 use Rattle.sdb_app.specs.declared.status.Status.TheVariants as status
 use Rattle.sdb_model.specs.Report.{report_text_of}

@@ -4,12 +4,12 @@ ghost use Rattle.sdb_types.specs.declared.key.Key.{Key};
 ghost use Rattle.sdb_types.specs.Bytes.{HasRisen};
 ghost use Rattle.sdb_stores.specs.Shelf.{HaveRisen, names_of, total_faults};
 ghost use Rattle.sdb_app.specs.Run.{is_replay as is_replay_lem, IsReplayed, IsFrontWritten, IsNotEmpty, IsUntold, IsRefused, IsFormRead, IsTextRead, is_unplayed, refuses_input, script_of, stops_building, stops_reading, writes_nothing};
-ghost use Rattle.sdb_script.specs.Accounts.{IsAccountScript, IsFormOf, IsNotPlayed};
+ghost use Rattle.sdb_account.specs.Accounts.{IsAccountScript, IsFormOf, IsNotPlayed};
 
 use crate::replay::replay;
 use crate::status::Status;
 use crate::streams::{Input, ReadRefused, read_input, write_all};
-use sdb_script::{AccountForm, FormRefused, MOST_SCRIPT_BYTES, read_account_script};
+use sdb_account::{AccountForm, FormRefused, MOST_SCRIPT_BYTES, read_account_script};
 use sdb_stores::Registry;
 use sdb_types::{Clock, Ids, Names, NoMemory, Sink, SinkRefused, Source};
 use sdb_words::replays;

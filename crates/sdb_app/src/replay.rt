@@ -3,7 +3,7 @@ ghost use Rattle.std.specs.Prelude.{◌≡◌, ◌<◌, ◌≤◌, ◌^◌, ℕ,
 ghost use Rattle.std.specs.FinMap as finite;
 ghost use Rattle.std.specs.String.{string_bytes};
 ghost use Rattle.sdb_stores.specs.Shelf.{AreDistinct, names_of, total_faults};
-ghost use Rattle.sdb_script.specs.Accounts.{IsFormOf};
+ghost use Rattle.sdb_account.specs.Accounts.{IsFormOf};
 ghost use Rattle.sdb_spread.specs.Spread.{HoldAs};
 ghost use Rattle.sdb_play.specs.Board.{AreFit, GoOn, Refuses, placed, shown};
 ghost use Rattle.sdb_play.specs.Opening.{first_key, opening_records};
@@ -13,7 +13,7 @@ use crate::places::place_all;
 use crate::status::Status;
 use sdb_play::{PlayRefused, first_record, outcome, play};
 use sdb_schema::Catalog;
-use sdb_script::AccountForm;
+use sdb_account::AccountForm;
 use sdb_stores::Registry;
 use sdb_texts::report_text;
 use sdb_types::NoMemory;

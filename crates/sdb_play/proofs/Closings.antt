@@ -15,7 +15,7 @@ use Rattle.sdb_model.specs.declared.event.TableDump.{TableDump}
 use Rattle.sdb_model.specs.declared.script.Place.{Place}
 use Rattle.sdb_model.specs.Rows.{Name}
 use Rattle.sdb_model.specs.Events.{Shelf, store_of, table_asked}
-use Rattle.sdb_script.specs.declared.account.AccountStatement.{AccountStatement}
+use Rattle.sdb_account.specs.declared.account.AccountStatement.{AccountStatement}
 use Rattle.sdb_session.specs.Session.{dump_held, outcome_of, start, taken_all}
 use Rattle.sdb_spread.specs.Spread.{HoldAs, moved_events, moved_outcome}
 use Rattle.sdb_play.specs.Board.{AreFit, placed, shown}

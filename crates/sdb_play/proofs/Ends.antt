@@ -7,8 +7,8 @@ use Rattle.sdb_model.specs.declared.answer.Answer.TheVariants as answer
 use Rattle.sdb_model.specs.declared.event.Event.{Event}
 use Rattle.sdb_model.specs.declared.event.Point.{Point}
 use Rattle.sdb_model.specs.Transactions.{id_of}
-use Rattle.sdb_script.specs.Accounts.{account_text}
-use Rattle.sdb_script.specs.declared.account.AccountStatement.TheVariants as account
+use Rattle.sdb_account.specs.Accounts.{account_text}
+use Rattle.sdb_account.specs.declared.account.AccountStatement.TheVariants as account
 use Rattle.sdb_txn.specs.Commit.{commit_requests}
 use Rattle.sdb_txn.specs.Txn.{Working, begun}
 use Rattle.sdb_txn.specs.declared.txn.Stage.TheVariants.{Committing}

@@ -23,15 +23,15 @@ use Rattle.sdb_record.specs.Names.{is_meta, base_name}
 use Rattle.sdb_record.specs.Rolls.{IsBaseOf, is_change, row_of_change}
 use Rattle.sdb_model.specs.declared.event.Event.{Event}
 use Rattle.sdb_model.specs.declared.event.Point.{Point}
-use Rattle.sdb_script.specs.declared.account.AccountStatement.{AccountStatement}
+use Rattle.sdb_account.specs.declared.account.AccountStatement.{AccountStatement}
 use Rattle.sdb_schema.specs.declared.table.Table.{Table}
-use Rattle.sdb_script.specs.Accounts.{account_text, fits_account, has_accounts, is_account_table, is_built}
+use Rattle.sdb_account.specs.Accounts.{account_text, fits_account, has_accounts, is_account_table, is_built}
 use Rattle.sdb_txn.specs.Commit.{Noted, write_at}
 use Rattle.sdb_types.specs.declared.record.Request.{Request}
 use Rattle.sdb_txn.specs.declared.txn.Stage.{Stage}
 use Rattle.sdb_txn.specs.declared.txn.Progress.TheVariants as progress
 use Rattle.sdb_txn.specs.Txn.{IsWishedOf, Working, got, got_of, got_after, asking, images_seen, is_known, found_at, base_at, row_with, row_seen, images_with, noted}
-use Rattle.sdb_script.specs.declared.account.AccountStatement.TheVariants as account
+use Rattle.sdb_account.specs.declared.account.AccountStatement.TheVariants as account
 use Rattle.sdb_stores.specs.Shelf.{Shelf as Counted}
 use Rattle.sdb_stores.specs.declared.place.Place.{Place as Placed}
 use Rattle.sdb_model.specs.declared.script.Place.{Place}

@@ -8,8 +8,8 @@ use Rattle.std.proofs.Math.Numerals.{add-one}
 use Rattle.std.proofs.lemmas.List.Sums.{fold-append}
 use Rattle.std.proofs.lemmas.Option.{slice_get-map}
 use Rattle.sdb_schema.specs.declared.table.Table.{Table}
-use Rattle.sdb_script.specs.Accounts.{account_text, fits_account, has_accounts, is_built}
-use Rattle.sdb_script.specs.declared.account.AccountStatement.{AccountStatement}
+use Rattle.sdb_account.specs.Accounts.{account_text, fits_account, has_accounts, is_built}
+use Rattle.sdb_account.specs.declared.account.AccountStatement.{AccountStatement}
 use Rattle.sdb_types.proofs.Bools.{and_both, and_first, and_second}
 use Rattle.sdb_model.specs.declared.event.Event.{Event}
 use Rattle.sdb_model.specs.declared.event.Point.{Point}

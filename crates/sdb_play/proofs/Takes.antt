@@ -12,9 +12,9 @@ use Rattle.sdb_model.specs.declared.event.Point.{Point}
 use Rattle.sdb_model.specs.declared.script.Place.{Place}
 use Rattle.sdb_model.specs.Events.{Shelf}
 use Rattle.sdb_model.specs.Transactions.{id_of}
-use Rattle.sdb_script.specs.Accounts.{account_text}
-use Rattle.sdb_script.specs.declared.account.AccountStatement.{AccountStatement}
-use Rattle.sdb_script.specs.declared.account.AccountStatement.TheVariants as account
+use Rattle.sdb_account.specs.Accounts.{account_text}
+use Rattle.sdb_account.specs.declared.account.AccountStatement.{AccountStatement}
+use Rattle.sdb_account.specs.declared.account.AccountStatement.TheVariants as account
 use Rattle.sdb_txn.specs.Txn.{Working, begun}
 use Rattle.sdb_session.specs.Session.{Session, session_of, take_event, commit_events, after_all, looked, committed_session, begun_session, taken_at, asked_at_commit, key_read, AreWished, IsReadyAt}
 use Rattle.sdb_spread.specs.Spread.{AreAbout, IsAbout}

@@ -17,7 +17,7 @@ use Rattle.sdb_model.specs.declared.event.Event.{Event}
 use Rattle.sdb_model.specs.declared.event.Point.{Point}
 use Rattle.sdb_model.specs.declared.script.Place.{Place}
 use Rattle.sdb_model.specs.Events.{Shelf, table_asked}
-use Rattle.sdb_script.specs.declared.account.AccountStatement.{AccountStatement}
+use Rattle.sdb_account.specs.declared.account.AccountStatement.{AccountStatement}
 use Rattle.sdb_txn.specs.Txn.{Working, IsWished, row_seen, noted}
 use Rattle.sdb_txn.specs.declared.txn.Progress.{Progress}
 use Rattle.sdb_txn.specs.declared.txn.Progress.TheVariants as progress

@@ -7,7 +7,7 @@ ghost use Rattle.sdb_types.specs.Contents.{Contents, rows_in};
 ghost use Rattle.sdb_schema.specs.declared.table.Table.{Table as Tabled};
 ghost use Rattle.sdb_model.specs.Events.{Shelf, store_of};
 ghost use Rattle.sdb_model.specs.Rows.{column_names};
-ghost use Rattle.sdb_script.specs.declared.account.AccountStatement.{AccountStatement as Statement};
+ghost use Rattle.sdb_account.specs.declared.account.AccountStatement.{AccountStatement as Statement};
 ghost use Rattle.sdb_session.specs.Session.{dump_held, outcome_of, shown_row, start, taken_all, whole};
 ghost use Rattle.sdb_spread.specs.Spread.{HoldAs, is_played, moved_event, moved_events, moved_outcome};
 ghost use Rattle.sdb_play.specs.Board.{AreFit, GoOn, Refuses, placed, shown as shown_lem};

@@ -6,7 +6,7 @@ ghost use Rattle.sdb_session.specs.Session.{ArePuts, account_key as account_key_
 use crate::values::{Accounts, shown};
 use sdb_model::Answer;
 use sdb_record::Images;
-use sdb_script::AccountStatement;
+use sdb_account::AccountStatement;
 use sdb_txn::{Stage, Txn};
 use sdb_types::{Duplicate, Key, NoMemory};
 use std::alloc::Global;

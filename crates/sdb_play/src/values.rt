@@ -9,7 +9,7 @@ ghost use Rattle.sdb_session.specs.Session.{key_read as key_read_lem, account_ke
 
 use sdb_model::Rows;
 use sdb_record::{Change, Images, Keyed};
-use sdb_script::AccountStatement;
+use sdb_account::AccountStatement;
 use sdb_types::{Columns, Duplicate, Key, Name, NameRefused, NoMemory, TableName, Value, Values};
 use std::alloc::Global;
 use std::marker::Model;

@@ -1,4 +1,8 @@
-pub mod Scan
-pub mod Pieces
-pub mod Accounts
-pub mod Drawn
+pub mod Printed
+pub mod Placings
+pub mod Refused
+pub mod Words
+pub mod Lines
+pub mod Begun
+pub mod Whole
+pub mod Told

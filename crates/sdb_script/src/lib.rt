@@ -1,15 +1,19 @@
-//! Scripts and reports as texts.
+//! Scripts as texts: read, refused and printed.
 #![tactic(auto)]
 
-mod account;
-mod accounts;
-mod drawing;
-mod line;
+mod blocks;
+mod counted;
+mod drafting;
+mod fault;
+pub mod laws;
 mod lines;
-mod places;
-mod scan;
+mod moves;
+mod placings;
+mod print;
+mod read;
 mod schema;
+mod words;
 
-pub use account::{AccountStatement, AccountStatements, account_text};
-pub use accounts::{FormRefused, MOST_SCRIPT_BYTES, account_script_is_exact, read_account_script};
-pub use drawing::AccountForm;
+pub use fault::{LineFault, ScriptRefused};
+pub use print::print_script;
+pub use read::{MOST_SCRIPT_BYTES, read_script};

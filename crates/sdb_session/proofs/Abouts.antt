@@ -22,9 +22,9 @@ use Rattle.sdb_schema.specs.declared.table.Table.{Table}
 use Rattle.sdb_schema.specs.Catalog.{is_catalog}
 use Rattle.sdb_types.proofs.Bools.{and_first, and_second}
 use Rattle.sdb_model.specs.Told.{IsRun}
-use Rattle.sdb_script.specs.Accounts.{account_text, fits_account, has_accounts, is_built, script_of_client}
-use Rattle.sdb_script.specs.declared.account.AccountStatement.{AccountStatement}
-use Rattle.sdb_script.specs.declared.account.AccountStatement.TheVariants as account
+use Rattle.sdb_account.specs.Accounts.{account_text, fits_account, has_accounts, is_built, script_of_client}
+use Rattle.sdb_account.specs.declared.account.AccountStatement.{AccountStatement}
+use Rattle.sdb_account.specs.declared.account.AccountStatement.TheVariants as account
 use Rattle.sdb_spread.specs.Spread.{is_played, IsAbout, AreAbout, AreShelved, HoldAs, moved_outcome}
 use Rattle.sdb_spread.proofs.Told.{run_moved}
 use Rattle.sdb_spread.proofs.Traces.{traced}

@@ -18,7 +18,7 @@ use Rattle.sdb_schema.specs.declared.table.Table.{Table}
 use Rattle.sdb_model.specs.Exec.{find_table}
 use Rattle.sdb_model.specs.Form.{account_name}
 use Rattle.sdb_model.specs.Rows.{kind_of_column}
-use Rattle.sdb_script.specs.Accounts.{is_int, has_int, are_only, is_account_table, has_accounts}
+use Rattle.sdb_account.specs.Accounts.{is_int, has_int, are_only, is_account_table, has_accounts}
 use Rattle.sdb_session.proofs.Basics.{by_test, some_is, true_false, not_none}
 
 -- a table with the key `id` and a `balance`

@@ -23,9 +23,9 @@ use Rattle.sdb_model.specs.Exec.{Tables, find_table}
 use Rattle.sdb_model.specs.Form.{account_name}
 use Rattle.sdb_model.specs.Images.{decision_on, row_at}
 use Rattle.sdb_model.specs.Told.{IsRun, AreImages}
-use Rattle.sdb_script.specs.Accounts.{account_text, fits_account, has_accounts, is_built, script_of_client}
-use Rattle.sdb_script.specs.declared.account.AccountStatement.{AccountStatement}
-use Rattle.sdb_script.specs.declared.account.AccountStatement.TheVariants as account
+use Rattle.sdb_account.specs.Accounts.{account_text, fits_account, has_accounts, is_built, script_of_client}
+use Rattle.sdb_account.specs.declared.account.AccountStatement.{AccountStatement}
+use Rattle.sdb_account.specs.declared.account.AccountStatement.TheVariants as account
 use Rattle.sdb_txn.specs.Commit.{Noted}
 use Rattle.sdb_txn.specs.Txn.{Working, row_seen}
 use Rattle.sdb_types.specs.declared.record.Request.{Request}

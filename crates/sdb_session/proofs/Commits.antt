@@ -25,8 +25,8 @@ use Rattle.sdb_model.specs.Exec.{Tables}
 use Rattle.sdb_model.specs.Transactions.{Said, id_of, client_of, last_prepare}
 use Rattle.sdb_model.specs.Images.{row_at}
 use Rattle.sdb_model.specs.Told.{AreImages, serial, run_body}
-use Rattle.sdb_script.specs.declared.account.AccountStatement.TheVariants as account
-use Rattle.sdb_script.specs.Accounts.{account_text}
+use Rattle.sdb_account.specs.declared.account.AccountStatement.TheVariants as account
+use Rattle.sdb_account.specs.Accounts.{account_text}
 use Rattle.sdb_txn.specs.Commit.{Noted, write_at, only_read, prepare_of, extra_read, decide_of, forward_of, commit_requests}
 use Rattle.sdb_txn.specs.Txn.{Working}
 use Rattle.sdb_session.specs.Opening.{IsOpening}

@@ -26,9 +26,9 @@ use Rattle.sdb_model.specs.declared.statement.Test.TheVariants.{Compare}
 use Rattle.sdb_model.specs.Rows.{fits_int}
 use Rattle.sdb_model.specs.Exec.{Tables, exec, exec_in, key_of, passes, passes_test, row_of_entry, sorted, shown, with_named}
 use Rattle.sdb_model.specs.Form.{account_name, insert_of}
-use Rattle.sdb_script.specs.Accounts.{select_of}
-use Rattle.sdb_script.specs.declared.account.AccountStatement.{AccountStatement}
-use Rattle.sdb_script.specs.declared.account.AccountStatement.TheVariants as account
+use Rattle.sdb_account.specs.Accounts.{select_of}
+use Rattle.sdb_account.specs.declared.account.AccountStatement.{AccountStatement}
+use Rattle.sdb_account.specs.declared.account.AccountStatement.TheVariants as account
 use Rattle.sdb_txn.specs.Txn.{images_with}
 use Rattle.sdb_session.specs.Session.{account_key, account_columns, answer_to, rows_shown}
 use Rattle.sdb_session.proofs.Accounts.{Accounts, IsAccounts}

@@ -26,7 +26,7 @@ use Rattle.sdb_model.specs.Exec.{Tables, find_table}
 use Rattle.sdb_model.specs.Form.{account_name}
 use Rattle.sdb_model.specs.Images.{decision_on, row_at}
 use Rattle.sdb_model.specs.Told.{AreImages, dump_of, dumps_of}
-use Rattle.sdb_script.specs.Accounts.{has_accounts}
+use Rattle.sdb_account.specs.Accounts.{has_accounts}
 use Rattle.sdb_session.specs.Session.{dump_held, shelves_of}
 use Rattle.sdb_session.proofs.Accounts.{accounts_of, IsAccounts}
 use Rattle.sdb_session.proofs.Basics.{by_test, some_is, true_false}

@@ -22,7 +22,7 @@ use Rattle.sdb_model.specs.declared.event.Point.{Point}
 use Rattle.sdb_model.specs.declared.script.ScriptClient.{ScriptClient}
 use Rattle.sdb_model.specs.Exec.{Tables, find_table}
 use Rattle.sdb_model.specs.Images.{decision_at}
-use Rattle.sdb_script.specs.Accounts.{has_accounts, script_of_client}
+use Rattle.sdb_account.specs.Accounts.{has_accounts, script_of_client}
 use Rattle.sdb_txn.specs.Txn.{Working}
 use Rattle.sdb_model.specs.Transactions.{Said, said, id_of, body, client_of, ordinal_of, point, last_prepare, commit_of, Recorded, IsOrder}
 use Rattle.sdb_model.specs.Told.{dumps_of, serial, AreImages, AreBodies, AreRead, answers_told, IsTold, IsRecordedCommit, CommittedIsOwned, KeepsRealTime, TransactionsInRealTime, StandsBefore, IsRun, commit_answer}

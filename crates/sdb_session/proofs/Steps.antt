@@ -22,9 +22,9 @@ use Rattle.sdb_model.specs.Rows.{fits_int}
 use Rattle.sdb_schema.specs.declared.table.Table.{Table}
 use Rattle.sdb_model.specs.Transactions.{Said, is_done, is_conflict, changes_nothing, id_of, last_prepare}
 use Rattle.sdb_model.specs.Told.{AreImages, AreRead, run_body}
-use Rattle.sdb_script.specs.declared.account.AccountStatement.{AccountStatement}
-use Rattle.sdb_script.specs.declared.account.AccountStatement.TheVariants as account
-use Rattle.sdb_script.specs.Accounts.{account_text, statement_of, fits_account}
+use Rattle.sdb_account.specs.declared.account.AccountStatement.{AccountStatement}
+use Rattle.sdb_account.specs.declared.account.AccountStatement.TheVariants as account
+use Rattle.sdb_account.specs.Accounts.{account_text, statement_of, fits_account}
 use Rattle.sdb_txn.specs.Commit.{Noted, write_at}
 use Rattle.sdb_txn.specs.Txn.{Working, begun, is_known, found_at, base_at, row_found, row_with, row_seen, noted, write_of}
 use Rattle.sdb_session.specs.Opening.{IsResolved}

@@ -11,9 +11,9 @@ use Rattle.sdb_model.specs.SqlTokens.{lexed}
 use Rattle.sdb_model.specs.Sql.{CanSpell, IsWhole, Reads, Tokens, are_word, is_lexed_word, reads_word, reads_begin, reads_commit, reads_rollback, statement_tokens, tokens_text}
 use Rattle.sdb_model.specs.Rows.{fits_int}
 use Rattle.sdb_sqltokens.proofs.AllPrinted.{printed_read, statement_read}
-use Rattle.sdb_script.specs.Accounts.{account_text, fits_account, statement_of}
-use Rattle.sdb_script.specs.declared.account.AccountStatement.{AccountStatement}
-use Rattle.sdb_script.specs.declared.account.AccountStatement.TheVariants as account
+use Rattle.sdb_account.specs.Accounts.{account_text, fits_account, statement_of}
+use Rattle.sdb_account.specs.declared.account.AccountStatement.{AccountStatement}
+use Rattle.sdb_account.specs.declared.account.AccountStatement.TheVariants as account
 
 fits_64 : (n : ℤ) → fits_int n ≡ true → FitsSigned w64 n
 fits_64 (pos n) h = let k = and_second (int_le (negsuc 2147483647) (pos n)) _ h in grind (arith, nat_tests)

@@ -18,8 +18,8 @@ use Rattle.sdb_model.specs.Form.{account_name}
 use Rattle.sdb_model.specs.declared.event.Event.{Event}
 use Rattle.sdb_model.specs.Transactions.{body, client_of}
 use Rattle.sdb_model.specs.Told.{serial, run_body, AreImages, AreBodies, AreRead, answers_told}
-use Rattle.sdb_script.specs.declared.account.AccountStatement.{AccountStatement}
-use Rattle.sdb_script.specs.declared.account.AccountStatement.TheVariants as account
+use Rattle.sdb_account.specs.declared.account.AccountStatement.{AccountStatement}
+use Rattle.sdb_account.specs.declared.account.AccountStatement.TheVariants as account
 use Rattle.sdb_session.specs.Session.{Session, shelves_of, account_key}
 
 -- Contents from which a client can begin over the tables of a catalog. Records may stand there in any state, and of any

@@ -32,9 +32,9 @@ use Rattle.sdb_schema.specs.declared.table.Table.{Table}
 use Rattle.sdb_model.specs.Events.{Shelf}
 use Rattle.sdb_model.specs.Form.{account_name}
 use Rattle.sdb_model.specs.Transactions.{id_of}
-use Rattle.sdb_script.specs.declared.account.AccountStatement.{AccountStatement}
-use Rattle.sdb_script.specs.declared.account.AccountStatement.TheVariants as account
-use Rattle.sdb_script.specs.Accounts.{account_text}
+use Rattle.sdb_account.specs.declared.account.AccountStatement.{AccountStatement}
+use Rattle.sdb_account.specs.declared.account.AccountStatement.TheVariants as account
+use Rattle.sdb_account.specs.Accounts.{account_text}
 use Rattle.sdb_txn.specs.Commit.{Noted, commit_requests}
 use Rattle.sdb_txn.specs.declared.txn.Stage.TheVariants as stage
 use Rattle.sdb_txn.specs.Txn.{IsWishedOf, Working, begun, is_known, row_seen, noted, written}

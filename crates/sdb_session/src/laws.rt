@@ -13,8 +13,8 @@ ghost use Rattle.sdb_types.specs.Contents.{Contents};
 ghost use Rattle.sdb_model.specs.Exec.{Tables, find_table};
 ghost use Rattle.sdb_model.specs.Told.{IsRun, AreImages};
 ghost use Rattle.sdb_session.specs.Opening.{IsOpening, AreResolved, AreAccountRows, IsTakenFrom};
-ghost use Rattle.sdb_script.specs.declared.account.AccountStatement.{AccountStatement};
-ghost use Rattle.sdb_script.specs.Accounts.{account_text, fits_account, is_built, script_of_client};
+ghost use Rattle.sdb_account.specs.declared.account.AccountStatement.{AccountStatement};
+ghost use Rattle.sdb_account.specs.Accounts.{account_text, fits_account, is_built, script_of_client};
 ghost use Rattle.sdb_session.specs.Session.{shelves_of, start, taken_all, outcome_of, are_taken, may_take, is_open, IsReady, IsIdle};
 
 /// What a client's transactions come to, one after the other on an empty store, is a run of its script over the tables of a

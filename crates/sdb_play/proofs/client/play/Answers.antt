@@ -2,8 +2,8 @@ use Rattle.std.proofs.Common.{◌≡◌, ◌∙◌, ◌+◌, ◌<◌, ◌≤◌,
 use Rattle.std.specs.List.{slice_get}
 use Rattle.std.specs.Option.{option_map}
 use Rattle.std.proofs.lemmas.Option.{slice_get-map}
-use Rattle.sdb_script.specs.Accounts.{account_text}
-use Rattle.sdb_script.specs.declared.account.AccountStatement.{AccountStatement}
+use Rattle.sdb_account.specs.Accounts.{account_text}
+use Rattle.sdb_account.specs.declared.account.AccountStatement.{AccountStatement}
 use Rattle.sdb_stores.specs.declared.place.Place.{Place}
 use Rattle.sdb_session.specs.Session.{Session, are_taken, is_open, taken_at}
 use Rattle.sdb_play.specs.Board.{placed, shown}

@@ -2,7 +2,7 @@ use Rattle.std.proofs.Common.{◌≡◌, ◌<◌, List, true, length, drop}
 use Rattle.std.specs.FinMap.{empty}
 use Rattle.std.specs.List.{list_all}
 use Rattle.sdb_schema.specs.declared.table.Table.{Table}
-use Rattle.sdb_script.specs.Accounts.{is_built}
+use Rattle.sdb_account.specs.Accounts.{is_built}
 use Rattle.sdb_session.specs.Session.{are_taken, is_open}
 use Rattle.sdb_spread.specs.Spread.{HoldAs}
 use Rattle.sdb_play.specs.Board.{AreFit, GoOn, placed, shown}

@@ -1,0 +1,14 @@
+use Rattle.std.proofs.Common.{◌≡◌, ◌+◌, ◌≤◌, length}
+use Rattle.sdb_model.specs.Form.{lines_of}
+use Rattle.sdb_account.specs.Drawn.{nothing_drawn, drawn_from}
+use Rattle.sdb_account.proofs.accounts.read_lines.Given as goal
+
+abbrev pub invariant-loop-rest : goal.invariant-loop-rest
+invariant-loop-rest l = record {
+  same : drawn_from l.stores l.number l.drawing (lines_of l.rest) ≡ drawn_from l.stores 1 nothing_drawn (lines_of l.bytes);
+  count : l.number + length (lines_of l.rest) ≡ length (lines_of l.bytes) + 1;
+  small : l.number + length l.rest ≤ length l.bytes + 1;
+}
+
+abbrev pub decreases-loop-rest : goal.decreases-loop-rest
+decreases-loop-rest l = length l.rest

@@ -1,0 +1,4 @@
+pub mod Scan
+pub mod Pieces
+pub mod Accounts
+pub mod Drawn

@@ -1,0 +1,117 @@
+-- The lines of a script: how each is spelled, and what it may say.
+use Rattle.std.specs.Prelude.{◌≡◌, ℕ, ◌^◌, ℤ, pos, negsuc, int_le, nat_le, Bool, true, ◌&&◌, List, ◌∷◌, ◌++◌, map, length, codes, sum_by}
+use Rattle.std.specs.Fmt.{decimal, signed_decimal}
+use Rattle.std.specs.Str.{is_utf8}
+use Rattle.sdb_model.specs.declared.script.Act.{Act}
+use Rattle.sdb_model.specs.declared.script.Act.TheVariants as act
+use Rattle.sdb_model.specs.declared.script.Move.{Move}
+use Rattle.sdb_model.specs.declared.script.Move.TheVariants as move
+use Rattle.sdb_model.specs.declared.script.Place.{Place}
+use Rattle.sdb_model.specs.declared.script.ScriptClient.{ScriptClient}
+use Rattle.sdb_model.specs.Form.{client_line}
+use Rattle.sdb_script.specs.Words.{Counts}
+
+---- limits
+
+-- bytes of a script
+abbrev pub most_bytes : ℕ
+most_bytes = 67108864
+
+-- bytes of a line, without its LF
+abbrev pub most_line : ℕ
+most_line = 65536
+
+abbrev pub most_clients : ℕ
+most_clients = 64
+
+-- statements of one client
+abbrev pub most_statements : ℕ
+most_statements = 20000
+
+-- moves, where `step C K` counts as K
+abbrev pub most_moves : ℕ
+most_moves = 200000
+
+-- the latest moment that a clock can show
+abbrev pub latest : ℤ
+latest = pos (2 ^ 53)
+
+---- spellings
+
+-- `place NS STORE`
+abbrev pub place_line : Place → List ℕ
+place_line p = codes "place " ++ (p.ns ++ 32 ∷ p.store)
+
+-- `schema JSON`
+abbrev pub schema_line : List ℕ → List ℕ
+schema_line json = codes "schema " ++ json
+
+-- a statement's text behind two spaces
+abbrev pub text_line : List ℕ → List ℕ
+text_line text = codes "  " ++ text
+
+-- `client NAME` and its statements
+abbrev pub client_lines : ScriptClient → List (List ℕ)
+client_lines c = client_line c.name ∷ map text_line c.statements
+
+-- `step C`, `lose C`, `drop C`, `stop C` and `clock MS`
+abbrev pub act_line : Act → List ℕ
+act_line (act.Step c) = codes "step " ++ decimal c
+act_line (act.Lose c) = codes "lose " ++ decimal c
+act_line (act.Discard c) = codes "drop " ++ decimal c
+act_line (act.Stop c) = codes "stop " ++ decimal c
+act_line (act.Clock ms) = codes "clock " ++ signed_decimal ms
+
+-- an act's, `step C K` or `rest`
+abbrev pub move_line : Move → List ℕ
+move_line (move.Act a) = act_line a
+move_line (move.Repeat c k) = codes "step " ++ (decimal c ++ 32 ∷ decimal k)
+move_line move.Rest = codes "rest"
+
+-- A line says an act, whose number may be of any size.
+abbrev pub SaysAct : List ℕ → Act → Type 0
+SaysAct line (act.Step c) = (word : List ℕ) × (line ≡ codes "step " ++ word) × Counts word c
+SaysAct line (act.Lose c) = (word : List ℕ) × (line ≡ codes "lose " ++ word) × Counts word c
+SaysAct line (act.Discard c) = (word : List ℕ) × (line ≡ codes "drop " ++ word) × Counts word c
+SaysAct line (act.Stop c) = (word : List ℕ) × (line ≡ codes "stop " ++ word) × Counts word c
+SaysAct line (act.Clock (pos n)) = (word : List ℕ) × (line ≡ codes "clock " ++ word) × Counts word n
+SaysAct line (act.Clock (negsuc n)) = ⊥
+
+-- A line says a move, whose numbers may be of any size.
+abbrev pub SaysMove : List ℕ → Move → Type 0
+SaysMove line (move.Act a) = SaysAct line a
+SaysMove line (move.Repeat c k) = (word : List ℕ) × (more : List ℕ) × (line ≡ codes "step " ++ (word ++ 32 ∷ more)) × Counts word c × Counts more k
+SaysMove line move.Rest = line ≡ codes "rest"
+
+---- what lines may say
+
+-- a line is UTF-8 of at most 65,536 bytes
+abbrev pub is_line : List ℕ → Bool
+is_line line = nat_le (length line) most_line && is_utf8 line
+
+-- the number of one of so many clients
+abbrev pub is_client : ℕ → ℕ → Bool
+is_client n c = nat_le 1 c && nat_le c n
+
+-- an act over so many clients, whose clock is from 0 to 2^53
+abbrev pub is_act : ℕ → Act → Bool
+is_act n (act.Step c) = is_client n c
+is_act n (act.Lose c) = is_client n c
+is_act n (act.Discard c) = is_client n c
+is_act n (act.Stop c) = is_client n c
+is_act n (act.Clock ms) = int_le (pos 0) ms && int_le ms latest
+
+-- a move over so many clients, which repeats a step twice or more
+abbrev pub is_move : ℕ → Move → Bool
+is_move n (move.Act a) = is_act n a
+is_move n (move.Repeat c k) = is_client n c && nat_le 2 k
+is_move n move.Rest = true
+
+-- how many moves one counts as
+abbrev pub turns : Move → ℕ
+turns (move.Act a) = 1
+turns (move.Repeat c k) = k
+turns move.Rest = 1
+
+abbrev pub turns_of : List Move → ℕ
+turns_of moves = sum_by turns moves

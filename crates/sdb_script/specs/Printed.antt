@@ -1,0 +1,50 @@
+-- The text of a script that is printed.
+use Rattle.std.specs.Prelude.{ℕ, List, [], ◌∷◌, ◌++◌, flat_map, codes}
+use Rattle.sdb_types.specs.Order.{table_text}
+use Rattle.sdb_schema.specs.declared.table.Table.{Table}
+use Rattle.sdb_catalog.specs.Definition.{definition_text}
+use Rattle.sdb_model.specs.declared.script.Move.{Move}
+use Rattle.sdb_model.specs.declared.script.Place.{Place}
+use Rattle.sdb_model.specs.declared.script.ScriptClient.{ScriptClient}
+use Rattle.sdb_model.specs.declared.script.Script.{Script}
+use Rattle.sdb_model.specs.Form.{client_line}
+use Rattle.sdb_script.specs.Lines.{place_line, schema_line, text_line, move_line}
+
+-- a line with its LF
+abbrev pub with_lf : List ℕ → List ℕ
+with_lf line = line ++ codes "\n"
+
+-- a table as a member of a schema: its name in quotes, and its definition
+abbrev pub member_text : Table → List ℕ
+member_text t = codes "\"" ++ (table_text t.name ++ (codes "\":" ++ definition_text t))
+
+-- members that follow one another
+abbrev pub members_text : List Table → List ℕ
+members_text [] = []
+members_text (t ∷ ts) = member_text t ++ flat_map (λ u. codes "," ++ member_text u) ts
+
+-- the compact JSON of a catalog: each table's definition under its name
+abbrev pub catalog_text : List Table → List ℕ
+catalog_text ts = codes "{" ++ (members_text ts ++ codes "}")
+
+-- the schema's line, left out where there are no tables
+abbrev pub schema_text : List Table → List ℕ
+schema_text [] = []
+schema_text (t ∷ ts) = with_lf (schema_line (catalog_text (t ∷ ts)))
+
+abbrev pub place_text : Place → List ℕ
+place_text p = with_lf (place_line p)
+
+abbrev pub statement_text : List ℕ → List ℕ
+statement_text text = with_lf (text_line text)
+
+abbrev pub client_text : ScriptClient → List ℕ
+client_text c = with_lf (client_line c.name) ++ flat_map statement_text c.statements
+
+abbrev pub move_text : Move → List ℕ
+move_text m = with_lf (move_line m)
+
+-- The places, the schema, the clients with their statements, `run`, and the moves, each line with its LF.
+abbrev pub script_text_of : Script → List ℕ
+script_text_of s =
+    flat_map place_text s.places ++ (schema_text s.catalog ++ (flat_map client_text s.clients ++ (codes "run\n" ++ flat_map move_text s.moves)))

@@ -1,0 +1,13 @@
+//! Laws of scripts as texts.
+ghost use Rattle.std.specs.Prelude.{◌≡◌, ◌⊎◌, ℕ, List};
+ghost use Rattle.sdb_model.specs.declared.script.Script.{Script};
+ghost use Rattle.sdb_script.specs.declared.fault.ScriptRefused.{ScriptRefused};
+ghost use Rattle.sdb_script.specs.Whole.{IsScript, IsRefused};
+
+/// A text is one script, or is refused for one cause, and not both.
+pub fn scripts_are_exact()
+    ensures one { (stores : List (List ℕ)) (text : List ℕ) (s t : Script) → IsScript stores text s → IsScript stores text t → s ≡ t }
+    ensures cause { (stores : List (List ℕ)) (text : List ℕ) (r q : ScriptRefused) → IsRefused stores text r → IsRefused stores text q → r ≡ q }
+    ensures apart { (stores : List (List ℕ)) (text : List ℕ) (s : Script) (r : ScriptRefused) → IsScript stores text s → ¬ IsRefused stores text r }
+    ensures total { (stores : List (List ℕ)) (text : List ℕ) → ((s : Script) × IsScript stores text s) ⊎ ((r : ScriptRefused) × IsRefused stores text r) }
+{}
