@@ -30,7 +30,7 @@ client_sound : Sound client_at decimal IsClient
 client_sound bytes x h = below_sound (2 ^ 32) bytes x h
 
 -- the whole of a text
-whole_is : {X : Type 0} (read : List ℕ → Read X) (text : X → List ℕ) (P : X → Type 0) → Sound read text P → (bytes : List ℕ) (x : X) → whole (read bytes) ≡ Some x → (bytes ≡ text x) × P x
+pub whole_is : {X : Type 0} (read : List ℕ → Read X) (text : X → List ℕ) (P : X → Type 0) → Sound read text P → (bytes : List ℕ) (x : X) → whole (read bytes) ≡ Some x → (bytes ≡ text x) × P x
 whole_is read text P each bytes x h =
     let a = bind_some (read bytes) (λ y. cond (is_empty y.1) (Some y.0) None) x h in
     let s = each bytes a.0 a.1 in

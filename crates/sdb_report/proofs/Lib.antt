@@ -1,0 +1,4 @@
+pub mod Loops
+pub mod Cuts
+pub mod Readers
+pub mod Forms

@@ -1,0 +1,10 @@
+//! Reading reports back: what `report_text` of `sdb_texts` prints.
+#![tactic(auto)]
+
+mod lines;
+mod parts;
+mod refused;
+mod report;
+
+pub use refused::ReportRefused;
+
