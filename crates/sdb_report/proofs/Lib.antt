@@ -2,3 +2,5 @@ pub mod Loops
 pub mod Cuts
 pub mod Readers
 pub mod Forms
+pub mod PartLaws
+pub mod Told

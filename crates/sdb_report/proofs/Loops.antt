@@ -24,7 +24,7 @@ module _ {X : Type 0} (item_at : List X → List ℕ → Placed X) (front : List
   goes_on x after lt h so_far =
       let k : count - i ≡ suc (count - (i + 1)) = omega arith in
       let one : with_front front (lines_at item_at front (count - i) bytes) ≡ with_front (front ++ x ∷ []) (lines_at item_at (front ++ x ∷ []) (count - (i + 1)) after) =
-          rw (k, h) (regroup front x (lines_at item_at (front ++ x ∷ []) (count - (i + 1)) after)) in
+      rw (k, h) (regroup front x (lines_at item_at (front ++ x ∷ []) (count - (i + 1)) after)) in
       sym one ∙ so_far
 
   pub ends : (e : Stopped) → i < count → Stops e (item_at front bytes) → Goes → Stops e total

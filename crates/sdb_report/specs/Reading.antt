@@ -80,7 +80,7 @@ next_table_of before name = if is_after before name then Some name else None
 
 unfoldable pub table_of : Option TableDump → List ℕ → Option (TableName × ℕ)
 table_of before line = after (codes "table ") line >>= λ rest. table_at rest >>= λ name. next_table_of before name.0 >>= λ table. after (codes " ") name.1 >>= λ rest.
-  whole (natural_at rest) >>= λ n. Some (table, n)
+    whole (natural_at rest) >>= λ n. Some (table, n)
 
 ---- items
 

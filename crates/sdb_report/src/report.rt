@@ -5,7 +5,7 @@ ghost use Rattle.sdb_model.specs.Plain.{IsPlain};
 ghost use Rattle.sdb_model.specs.Report.{report_text_of};
 ghost use Rattle.sdb_model.specs.declared.event.Outcome.{Outcome};
 ghost use Rattle.sdb_report.specs.Reading.{report_in};
-ghost use Rattle.sdb_report.specs.Reports.{is_lf, refusal, Reads, IsRefusedAt};
+ghost use Rattle.sdb_report.specs.Reports.{is_lf, refusal, Reads, Answers};
 
 use crate::parts::whole_report;
 use crate::refused::{ReportRefused, Stopped};
@@ -40,4 +40,14 @@ fn report_of(alloc: Global, bytes: &[u8]) -> Result<Outcome, ReportRefused>
         Ok(outcome) => Ok(outcome),
         Err(stopped) => Err(refused_at(bytes, stopped)),
     }
+}
+
+/// The outcome whose report the bytes are.
+pub fn read_report(alloc: Global, bytes: &[u8]) -> Result<Outcome, ReportRefused>
+    // What is read is a plain outcome, and the bytes are its report.
+    ensures ok { IfOk result (λ o. IsPlain o × (bytes.now ≡ report_text_of o)) }
+    // The report of a plain outcome is read, unless memory runs out.
+    ensures only { (o : Outcome) → IsPlain o → bytes.now ≡ report_text_of o → Answers result o }
+{
+    report_of(alloc, bytes)
 }

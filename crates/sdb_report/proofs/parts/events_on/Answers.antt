@@ -15,9 +15,10 @@ returns-in_err-event c =
 pub loop-i-preserved : goal.loop-i-preserved
 loop-i-preserved c =
     let read = subst (λ (k : ℕ). line_at (numbered_event_of (k + 1)) c.loop-i.rest.now ≡ Ok (c.in_ok-event.event, c.in_ok-event.more.now)) (sym c.loop-i.invariant.1) c.in_ok-event.ensures in
-    rw c.in_ok-push.ensures.ok
-    (goes_on event_at c.loop-i.events c.args.count c.loop-i.i c.loop-i.rest.now (lines_at event_at [] c.args.count c.args.bytes.now) c.in_ok-event.event c.in_ok-event.more.now c.loop-i-test.true read c.loop-i.invariant.0,
-    omega (arith, length-append c.loop-i.events (c.in_ok-event.event ∷ []), c.loop-i.invariant.1))
+    rw c.in_ok-push.ensures.ok (
+      goes_on event_at c.loop-i.events c.args.count c.loop-i.i c.loop-i.rest.now (lines_at event_at [] c.args.count c.args.bytes.now) c.in_ok-event.event c.in_ok-event.more.now c.loop-i-test.true read c.loop-i.invariant.0,
+      omega (arith, length-append c.loop-i.events (c.in_ok-event.event ∷ []), c.loop-i.invariant.1),
+    )
 
 pub returns : goal.returns
 returns c = is_done event_at c.loop-i.events c.args.count c.loop-i.i c.loop-i.rest.now (lines_at event_at [] c.args.count c.args.bytes.now) c.loop-i-test.false c.loop-i.invariant.0
