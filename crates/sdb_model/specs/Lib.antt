@@ -18,3 +18,4 @@ pub mod Form
 pub mod SqlTokens
 pub mod Sql
 pub mod Access
+pub mod Plain

@@ -1,0 +1,6 @@
+pub mod Loops
+pub mod Cuts
+pub mod Readers
+pub mod Forms
+pub mod PartLaws
+pub mod Told

@@ -1,0 +1,11 @@
+//! Reading reports back: what `report_text` of `sdb_texts` prints.
+#![tactic(auto)]
+
+pub mod laws;
+mod lines;
+mod parts;
+mod refused;
+mod report;
+
+pub use refused::ReportRefused;
+pub use report::read_report;
