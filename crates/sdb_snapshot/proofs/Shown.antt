@@ -218,7 +218,7 @@ shown_key f d k is =
     ∙ ap (λ b. cond b (f k) None) ((eq_by_cmp_equiv key_total).symm q k)
     ∙ each (is_eq (key_cmp k q)) (f k) (get d q) (λ t. ap f (key_exact k q (equal_of (key_cmp k q) t)) ∙ sym (is q)))
 
-no_row : (notes : List Note) (ws : List Write) (q : Key) → WereRead notes ws → is_some (row_seen notes ws q) ≡ true → is_noted notes q ≡ true
+pub no_row : (notes : List Note) (ws : List Write) (q : Key) → WereRead notes ws → is_some (row_seen notes ws q) ≡ true → is_noted notes q ≡ true
 no_row notes ws q read h = by_write (write_at ws q) (value_at notes q) (read q) h
   where
     by_write : (x : Option Write) (o : Option (Option Record)) → (is_some x ≡ true → is_some o ≡ true) → is_some (row_with x (option_and_then (λ y. y) o)) ≡ true → is_some o ≡ true

@@ -4,3 +4,4 @@ pub mod Lexing
 pub mod Printed
 pub mod AllPrinted
 pub mod Spelled
+pub mod Commit

@@ -11,14 +11,14 @@ pub by_test : {G : Type 0} (t : Bool) → (t ≡ true → G) → (t ≡ false �
 by_test true a b = a refl
 by_test false a b = b refl
 
-one_more : (n : ℕ) → 1 + n ≡ suc n
+pub one_more : (n : ℕ) → 1 + n ≡ suc n
 one_more n = omega arith
 
 all_pass : (p : ℕ → Bool) (bs : List ℕ) → list_all p (take (prefix_len p bs) bs) ≡ true
 all_pass p [] = refl
 all_pass p (b ∷ bs) = by_test (p b) (λ e. rw (e, one_more, e) (all_pass p bs)) (λ e. rw e refl)
 
-start_is_part : (b : ℕ) → is_start b ≡ true → is_part b ≡ true
+pub start_is_part : (b : ℕ) → is_start b ≡ true → is_part b ≡ true
 start_is_part b h = rw h refl
 
 pub front_is_identifier : (bs : List ℕ) → begins is_start bs ≡ true → is_identifier (take (word_len bs) bs) ≡ true

@@ -1,3 +1,4 @@
 pub mod Lexing
 pub mod Printed
 pub mod Spelled
+pub mod OneWord

@@ -241,7 +241,8 @@ fn token_at(alloc: Global, bytes: &[u8]) -> Result<Lexeme, LexError>
     }
 }
 
-fn is_gap(b: u8) -> bool
+/// Whether a byte stands between tokens.
+pub fn is_gap(b: u8) -> bool
     ensures { result ≡ spec.is_gap b }
 {
     b == b' ' || b == b'\t'

@@ -10,5 +10,5 @@ mod printer;
 
 pub use fault::LexRefused;
 pub use lexer::lex;
-pub use one_word::{is_sign, is_word, reads_word};
+pub use one_word::{is_sign, is_word, reads_commit, reads_word};
 pub use printer::put_tokens;

@@ -7,7 +7,7 @@ ghost use Rattle.sdb_read.specs.Read.{read_result, read_step};
 ghost use Rattle.sdb_snapshot.specs.Noted.{is_noted};
 ghost use Rattle.sdb_snapshot.specs.Written.{AreChanges, most_writes};
 ghost use Rattle.sdb_snapshot.specs.Held.{AreKept};
-ghost use Rattle.sdb_snapshot.specs.Seen.{forgotten, is_scanned, overlay, with_written};
+ghost use Rattle.sdb_snapshot.specs.Seen.{forgotten, is_scanned, mark_of, overlay, with_written};
 ghost use Rattle.sdb_snapshot.specs.declared.drafts.WriteRefused.TheVariants as refused;
 ghost use Rattle.sdb_transaction.specs.Txn.{CommitTold, EndTold, IfCommitting, IsCommitting, IsReading, IfReading, ImagesTold, IsBegun, IsShown, IsUnread, KeyTold, ReadTold, SpanTold, begun, committing, idle, pending, pending_in, reading};
 ghost use Rattle.sdb_transaction.specs.Inside.{CanEnd, CanNote, IsReadOf};
@@ -190,6 +190,23 @@ impl Txn {
         ensures err { OnErr result (self.new ≡ self.old) }
     {
         self.snapshot.write(changes)
+    }
+
+    /// How much it has read now. Takes no memory.
+    pub fn mark(&self) -> Mark
+        ensures mark { result ≡ mark_of self.now.seen }
+        ensures kept { AreKept self.now.seen.notes self.now.seen.writes }
+    {
+        self.snapshot.mark()
+    }
+
+    /// Forgets what was read after a mark, of which nothing was written. Takes no memory.
+    pub fn forget(&mut self, mark: Mark)
+        requires idle { self.old.doing ≡ Doing.Idle }
+        requires kept { AreKept (take mark.notes self.old.seen.notes) self.old.seen.writes }
+        ensures { self.new ≡ record self.old { seen = forgotten mark self.old.seen } }
+    {
+        self.snapshot.forget(mark);
     }
 
     /// Takes the COMMIT, at a moment from 0 to 2^53. All requests that it may make are made now: where that is out of memory the
