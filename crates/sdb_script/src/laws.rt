@@ -1,8 +1,10 @@
 //! Laws of scripts as texts.
-ghost use Rattle.std.specs.Prelude.{◌≡◌, ◌⊎◌, ℕ, List};
+ghost use Rattle.std.specs.Prelude.{◌≡◌, ◌⊎◌, ◌≤◌, ℕ, List, length};
 ghost use Rattle.sdb_model.specs.declared.script.Script.{Script};
 ghost use Rattle.sdb_script.specs.declared.fault.ScriptRefused.{ScriptRefused};
+ghost use Rattle.sdb_script.specs.Lines.{most_bytes};
 ghost use Rattle.sdb_script.specs.Whole.{IsScript, IsRefused};
+ghost use Rattle.sdb_script.specs.Printed.{script_text_of, IsReadBack};
 
 /// A text is one script, or is refused for one cause, and not both.
 pub fn scripts_are_exact()
@@ -10,4 +12,11 @@ pub fn scripts_are_exact()
     ensures cause { (stores : List (List ℕ)) (text : List ℕ) (r q : ScriptRefused) → IsRefused stores text r → IsRefused stores text q → r ≡ q }
     ensures apart { (stores : List (List ℕ)) (text : List ℕ) (s : Script) (r : ScriptRefused) → IsScript stores text s → ¬ IsRefused stores text r }
     ensures total { (stores : List (List ℕ)) (text : List ℕ) → ((s : Script) × IsScript stores text s) ⊎ ((r : ScriptRefused) × IsRefused stores text r) }
+{}
+
+/// What is printed of a script that some text is, is that script again, where it isn't too long and the JSON of its catalog, if
+/// it has tables, is a line that describes the catalog.
+pub fn printed_scripts_are_read()
+    ensures again { (stores : List (List ℕ)) (text : List ℕ) (s : Script) → IsScript stores text s → IsReadBack s.catalog → length (script_text_of s) ≤ most_bytes
+        → IsScript stores (script_text_of s) s }
 {}

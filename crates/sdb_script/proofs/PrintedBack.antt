@@ -1,0 +1,131 @@
+-- A script that is printed is read again.
+use Rattle.std.proofs.Common.{◌≡◌, ℕ, ◌≤◌, ◌==◌, Bool, true, false, ◌&&◌, List, [], ◌∷◌, ◌++◌, length, refl, sym, ap, subst, ◌∙◌, append_assoc, append-nil, map, flat_map, codes}
+use Rattle.std.specs.List.{list_all}
+use Rattle.std.proofs.lemmas.List.Concat.{flat_map-append}
+use Rattle.std.proofs.lemmas.List.Folds.{list_all-append}
+use Rattle.sdb_types.proofs.Bools.{and_first, and_second, and_both}
+use Rattle.sdb_schema.specs.declared.table.Table.{Table}
+use Rattle.sdb_model.specs.declared.script.ScriptClient.{ScriptClient}
+use Rattle.sdb_model.specs.declared.script.Script.{Script}
+use Rattle.sdb_model.specs.Form.{lines_of, onto_first, client_line}
+use Rattle.sdb_script.specs.Lines.{most_bytes, place_line, schema_line, text_line, client_lines, move_line, is_line}
+use Rattle.sdb_script.specs.Begun.{IsBegun, IsSchema, run_lines}
+use Rattle.sdb_script.specs.Whole.{whole, IsScript}
+use Rattle.sdb_script.specs.Printed.{with_lf, catalog_text, schema_text, place_text, client_text, script_text_of, schema_lines, is_single, IsReadBack}
+use Rattle.sdb_script.proofs.Pieces.{by_test}
+
+abbrev Lines : Type 0
+Lines = List (List ℕ)
+
+---- lines and their LFs
+
+first_back : (l rest : List ℕ) → is_single l ≡ true → lines_of (l ++ 10 ∷ rest) ≡ l ∷ lines_of rest
+first_back [] rest h = refl
+first_back (b ∷ bs) rest h =
+    by_test (b == 10)
+    (λ t. absurd (let k : (false && is_single bs) ≡ true = rw t at h in cc))
+    (λ t. let k : is_single bs ≡ true = rw t at h in rw (t, first_back bs rest k) refl)
+
+lines_back : (ls : Lines) → list_all is_single ls ≡ true → lines_of (flat_map with_lf ls) ≡ ls
+lines_back [] h = refl
+lines_back (l ∷ ls) h =
+    ap lines_of (append_assoc l (codes "\n") (flat_map with_lf ls)) ∙ first_back l (flat_map with_lf ls) (and_first (is_single l) _ h)
+    ∙ ap (λ (x : Lines). l ∷ x) (lines_back ls (and_second (is_single l) _ h))
+
+single_more : (b : ℕ) (ls : Lines) → (b == 10) ≡ false → list_all is_single ls ≡ true → list_all is_single (onto_first b ls) ≡ true
+single_more b [] t h = rw t refl
+single_more b (l ∷ ls) t h = rw t h
+
+-- no line of a text has an LF
+lines_single : (text : List ℕ) → list_all is_single (lines_of text) ≡ true
+lines_single [] = refl
+lines_single (b ∷ bs) = by_test (b == 10) (λ t. rw t (lines_single bs)) (λ t. rw t (single_more b (lines_of bs) t (lines_single bs)))
+
+---- the lines of a script that is printed
+
+abbrev printed_lines : Script → Lines
+printed_lines s = map place_line s.places ++ (schema_lines s.catalog ++ (flat_map client_lines s.clients ++ (run_lines true ++ map move_line s.moves)))
+
+flat_of_map : {X : Type 0} (f : X → List ℕ) (xs : List X) → flat_map with_lf (map f xs) ≡ flat_map (λ x. with_lf (f x)) xs
+flat_of_map f [] = refl
+flat_of_map f (x ∷ xs) = ap (λ (y : List ℕ). with_lf (f x) ++ y) (flat_of_map f xs)
+
+flat_of_clients : (cs : List ScriptClient) → flat_map with_lf (flat_map client_lines cs) ≡ flat_map client_text cs
+flat_of_clients [] = refl
+flat_of_clients (c ∷ cs) =
+    flat_map-append with_lf (client_lines c) (flat_map client_lines cs)
+    ∙ ap (λ (y : List ℕ). (with_lf (client_line c.name) ++ y) ++ flat_map with_lf (flat_map client_lines cs)) (flat_of_map text_line c.statements)
+    ∙ ap (λ (y : List ℕ). client_text c ++ y) (flat_of_clients cs)
+
+flat_of_schema : (ts : List Table) → flat_map with_lf (schema_lines ts) ≡ schema_text ts
+flat_of_schema [] = refl
+flat_of_schema (t ∷ ts) = append-nil (with_lf (schema_line (catalog_text (t ∷ ts))))
+
+text_of_lines : (s : Script) → flat_map with_lf (printed_lines s) ≡ script_text_of s
+text_of_lines s =
+    let last = run_lines true ++ map move_line s.moves in
+    let middle = flat_map client_lines s.clients ++ last in
+    let behind = schema_lines s.catalog ++ middle in
+    flat_map-append with_lf (map place_line s.places) behind ∙ ap (λ (x : List ℕ). x ++ flat_map with_lf behind) (flat_of_map place_line s.places)
+    ∙ ap (λ (x : List ℕ). flat_map place_text s.places ++ x)
+    (flat_map-append with_lf (schema_lines s.catalog) middle ∙ ap (λ (x : List ℕ). x ++ flat_map with_lf middle) (flat_of_schema s.catalog)
+    ∙ ap (λ (x : List ℕ). schema_text s.catalog ++ x)
+    (flat_map-append with_lf (flat_map client_lines s.clients) last ∙ ap (λ (x : List ℕ). x ++ flat_map with_lf last) (flat_of_clients s.clients)
+    ∙ ap (λ (x : List ℕ). flat_map client_text s.clients ++ (codes "run\n" ++ x)) (flat_of_map move_line s.moves)))
+
+---- each line is one of the text that was read, but for the schema's
+
+swapped : (p : List ℕ → Bool) (a s t r : Lines) → list_all p (a ++ (s ++ r)) ≡ true → list_all p t ≡ true → list_all p (a ++ (t ++ r)) ≡ true
+swapped p a s t r h k =
+    let whole = sym (list_all-append p a (s ++ r)) ∙ h in
+    let front = and_first (list_all p a) (list_all p (s ++ r)) whole in
+    let behind = sym (list_all-append p s r) ∙ and_second (list_all p a) (list_all p (s ++ r)) whole in
+    let rest = and_second (list_all p s) (list_all p r) behind in
+    list_all-append p a (t ++ r) ∙ and_both (list_all p a) (list_all p (t ++ r)) front (list_all-append p t r ∙ and_both (list_all p t) (list_all p r) k rest)
+
+abbrev has_tables : List Table → Bool
+has_tables [] = false
+has_tables (t ∷ ts) = true
+
+schema_again : (ts : List Table) → IsReadBack ts → IsSchema (has_tables ts) ts (schema_lines ts)
+schema_again [] h = (refl, refl)
+schema_again (t ∷ ts) h = (catalog_text (t ∷ ts), refl, h.2)
+
+schema_fits : (ts : List Table) → IsReadBack ts → list_all is_line (schema_lines ts) ≡ true
+schema_fits [] h = refl
+schema_fits (t ∷ ts) h = rw h.0 refl
+
+schema_single : (ts : List Table) → IsReadBack ts → list_all is_single (schema_lines ts) ≡ true
+schema_single [] h = refl
+schema_single (t ∷ ts) h = rw h.1 refl
+
+begun_again : (stores lines : Lines) (described : Bool) (s : Script) → IsBegun stores lines (whole described s) → IsReadBack s.catalog → IsBegun stores (printed_lines s) (whole (has_tables s.catalog) s)
+begun_again stores lines described s st back =
+    let rest = flat_map client_lines s.clients ++ (run_lines true ++ map move_line s.moves) in
+    let fit : list_all is_line (map place_line s.places ++ (st.schema ++ rest)) ≡ true = subst (λ (x : Lines). list_all is_line x ≡ true) st.order st.fit in
+    record {
+      schema = schema_lines s.catalog;
+      order = refl;
+      fit = swapped is_line (map place_line s.places) st.schema (schema_lines s.catalog) rest fit (schema_fits s.catalog back);
+      placed = st.placed;
+      described = schema_again s.catalog back;
+      clients = st.clients;
+      moves = st.moves;
+    }
+
+single_again : (stores : Lines) (text : List ℕ) (described : Bool) (s : Script) → IsBegun stores (lines_of text) (whole described s) → IsReadBack s.catalog → list_all is_single (printed_lines s) ≡ true
+single_again stores text described s st back =
+    let rest = flat_map client_lines s.clients ++ (run_lines true ++ map move_line s.moves) in
+    let single : list_all is_single (map place_line s.places ++ (st.schema ++ rest)) ≡ true = subst (λ (x : Lines). list_all is_single x ≡ true) st.order (lines_single text) in
+    swapped is_single (map place_line s.places) st.schema (schema_lines s.catalog) rest single (schema_single s.catalog back)
+
+-- what is printed of a script that some text is
+pub printed_again : (stores : Lines) (text : List ℕ) (s : Script) → IsScript stores text s → IsReadBack s.catalog → length (script_text_of s) ≤ most_bytes → IsScript stores (script_text_of s) s
+printed_again stores text s is back small =
+    let single = single_again stores text is.described s is.lines back in
+    let lines : lines_of (script_text_of s) ≡ printed_lines s = ap lines_of (sym (text_of_lines s)) ∙ lines_back (printed_lines s) single in
+    record {
+      small = small;
+      described = has_tables s.catalog;
+      lines = subst (λ (x : Lines). IsBegun stores x (whole (has_tables s.catalog) s)) (sym lines) (begun_again stores (lines_of text) is.described s is.lines back);
+    }
