@@ -4,3 +4,5 @@ pub mod Readers
 pub mod Forms
 pub mod PartLaws
 pub mod Told
+pub mod Stops
+pub mod StopLaws

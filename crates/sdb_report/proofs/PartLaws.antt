@@ -41,14 +41,14 @@ module _ {X : Type 0} (word : List ℕ) (one : is_one_line word ≡ true) (item_
       (λ xs p. record { first = length xs; second = xs; made = refl; has_first = p.0; has_second = (refl, p.1) })
       (line_reads (heading_of word) (λ n. word ++ decimal n) IsCount (heading_form word one)) (λ n lt. items_read item_at text P each n [] (omega (arith, lt)))
 
-const_texts : {X : Type 0} (text : X → List ℕ) (before xs : List X) → texts (λ before x. text x) before xs ≡ flat_map text xs
+pub const_texts : {X : Type 0} (text : X → List ℕ) (before xs : List X) → texts (λ before x. text x) before xs ≡ flat_map text xs
 const_texts text before [] = refl
 const_texts text before (x ∷ xs) = ap (λ (t : List ℕ). text x ++ t) (const_texts text (before ++ x ∷ []) xs)
 
-each_all : {X : Type 0} (P : X → Type 0) (xs : List X) → Each (λ before x. P x) [] xs → All P xs
+pub each_all : {X : Type 0} (P : X → Type 0) (xs : List X) → Each (λ before x. P x) [] xs → All P xs
 each_all P xs h = All-from_recursion P xs (Each-all (λ before x. P x) P (λ before x p. p) [] xs h)
 
-all_each : {X : Type 0} (P : X → Type 0) (xs : List X) → All P xs → Each (λ before x. P x) [] xs
+pub all_each : {X : Type 0} (P : X → Type 0) (xs : List X) → All P xs → Each (λ before x. P x) [] xs
 all_each P xs h = Each-from_all (λ before x. P x) P (λ before x p. p) [] xs (recursion_from_All P xs h)
 
 ---- events
@@ -56,14 +56,14 @@ all_each P xs h = Each-from_all (λ before x. P x) P (λ before x p. p) [] xs (r
 abbrev pub event_text : List Event → Event → List ℕ
 event_text before e = event_line (length before + 1) e
 
-abbrev EventAfter : List Event → Event → Type 0
+abbrev pub EventAfter : List Event → Event → Type 0
 EventAfter before e = IsPlainEvent e
 
-event_reads : (before : List Event) → length before + 1 < 2 ^ 64 → Reads (event_at before) (event_text before) (EventAfter before)
+pub event_reads : (before : List Event) → length before + 1 < 2 ^ 64 → Reads (event_at before) (event_text before) (EventAfter before)
 event_reads before lt =
     line_reads (numbered_event_of (length before + 1)) (λ e. decimal (length before + 1) ++ codes " " ++ event_text_of e) IsPlainEvent (event_form (length before + 1) lt)
 
-event_texts : (before es : List Event) → texts event_text before es ≡ event_lines (length before + 1) es
+pub event_texts : (before es : List Event) → texts event_text before es ≡ event_lines (length before + 1) es
 event_texts before [] = refl
 event_texts before (e ∷ es) =
     let k : length (before ++ e ∷ []) ≡ length before + 1 = length-append before (e ∷ []) in
@@ -81,13 +81,13 @@ events_read =
 
 ---- order
 
-abbrev point_after : List Point → Point → List ℕ
+abbrev pub point_after : List Point → Point → List ℕ
 point_after before p = point_line p
 
-abbrev PointAfter : List Point → Point → Type 0
+abbrev pub PointAfter : List Point → Point → Type 0
 PointAfter before p = IsPlainPoint p
 
-point_reads : (before : List Point) → length before + 1 < 2 ^ 64 → Reads (point_at before) (point_after before) (PointAfter before)
+pub point_reads : (before : List Point) → length before + 1 < 2 ^ 64 → Reads (point_at before) (point_after before) (PointAfter before)
 point_reads before lt = line_reads point_of point_text IsPlainPoint point_form
 
 abbrev pub OrderPlain : List Point → Type 0
@@ -102,13 +102,13 @@ order_read =
 
 ---- tables
 
-abbrev row_after : List (List Value) → List Value → List ℕ
+abbrev pub row_after : List (List Value) → List Value → List ℕ
 row_after before row = row_line row
 
-abbrev RowAfter : List (List Value) → List Value → Type 0
+abbrev pub RowAfter : List (List Value) → List Value → Type 0
 RowAfter before row = IsPlainRow row
 
-row_reads : (before : List (List Value)) → length before + 1 < 2 ^ 64 → Reads (row_line_at before) (row_after before) (RowAfter before)
+pub row_reads : (before : List (List Value)) → length before + 1 < 2 ^ 64 → Reads (row_line_at before) (row_after before) (RowAfter before)
 row_reads before lt = line_reads row_of _ IsPlainRow row_form
 
 -- a table that may follow those before it
@@ -116,13 +116,13 @@ pub record DumpAfter (before : List TableDump) (d : TableDump) : Type 0 where
   pub plain : IsPlainDump d
   pub after : is_after (last_of before) d.name ≡ true
 
-abbrev dump_of : Headed → List (List Value) → TableDump
+abbrev pub dump_of : Headed → List (List Value) → TableDump
 dump_of t rows = record { name = t.0; rows = rows }
 
-abbrev RowsOf : Headed → List (List Value) → Type 0
+abbrev pub RowsOf : Headed → List (List Value) → Type 0
 RowsOf t rows = Items RowAfter [] t.1 rows
 
-dump_same : (t : Headed) (rows : List (List Value)) → RowsOf t rows → table_lines (dump_of t rows) ≡ with_lf headed_text t ++ texts row_after [] rows
+pub dump_same : (t : Headed) (rows : List (List Value)) → RowsOf t rows → table_lines (dump_of t rows) ≡ with_lf headed_text t ++ texts row_after [] rows
 dump_same t rows q =
     ap (λ (n : ℕ). (codes "table " ++ table_text t.0 ++ codes " " ++ decimal n ++ codes "\n") ++ flat_map row_line rows) q.0
     ∙ ap (λ (r : List ℕ). (codes "table " ++ table_text t.0 ++ codes " " ++ decimal t.1 ++ codes "\n") ++ r) (sym (const_texts row_line [] rows))
@@ -130,7 +130,7 @@ dump_same t rows q =
 abbrev pub dump_after : List TableDump → TableDump → List ℕ
 dump_after before d = table_lines d
 
-dump_reads : (before : List TableDump) → length before + 1 < 2 ^ 64 → Reads (dump_at before) (dump_after before) (DumpAfter before)
+pub dump_reads : (before : List TableDump) → length before + 1 < 2 ^ 64 → Reads (dump_at before) (dump_after before) (DumpAfter before)
 dump_reads before lt =
     both_reads (line_at (table_of (last_of before))) (λ t. lines_at row_line_at [] t.1) dump_of (with_lf headed_text) (λ t rows. texts row_after [] rows) table_lines
     (IsNext (last_of before)) RowsOf (DumpAfter before)
@@ -153,10 +153,10 @@ each_rising : (before ds : List TableDump) → Each DumpAfter before ds → are_
 each_rising before [] h = refl
 each_rising before (d ∷ ds) h = and_both (starts_after d.name ds) _ (rising_starts d ds before h.1) (each_rising (before ++ d ∷ []) ds h.1)
 
-abbrev StartsAfter : List TableDump → List TableDump → Type 0
+abbrev pub StartsAfter : List TableDump → List TableDump → Type 0
 StartsAfter before ds = (d : TableDump) (es : List TableDump) → ds ≡ d ∷ es → is_after (last_of before) d.name ≡ true
 
-rising_each : (before ds : List TableDump) → StartsAfter before ds → are_rising ds ≡ true → AllByRecursion IsPlainDump ds → Each DumpAfter before ds
+pub rising_each : (before ds : List TableDump) → StartsAfter before ds → are_rising ds ≡ true → AllByRecursion IsPlainDump ds → Each DumpAfter before ds
 rising_each before [] first rising h = tt
 rising_each before (d ∷ ds) first rising h =
     let next : StartsAfter (before ++ d ∷ []) ds = λ e es q.
@@ -178,21 +178,21 @@ tables_read =
 
 ---- the whole
 
-abbrev PlacesPlain : Places → Type 0
+abbrev pub PlacesPlain : Places → Type 0
 PlacesPlain q = OrderPlain q.0 × TablesPlain q.1
 
-abbrev places_text : Places → List ℕ
+abbrev pub places_text : Places → List ℕ
 places_text q = order_text_of q.0 ++ tables_text_of q.1
 
-places_read : Reads places_at places_text PlacesPlain
+pub places_read : Reads places_at places_text PlacesPlain
 places_read =
     both_reads order_at (λ ps. tables_at) (λ ps ts. (ps, ts)) order_text_of (λ ps ts. tables_text_of ts) places_text OrderPlain (λ ps ts. TablesPlain ts) PlacesPlain
     (λ ps ts p q. refl) (λ ps ts p q. (p, q)) (λ z r. record { first = z.0; second = z.1; made = refl; has_first = r.0; has_second = r.1 }) order_read (λ ps p. tables_read)
 
-abbrev parts_text : Outcome → List ℕ
+abbrev pub parts_text : Outcome → List ℕ
 parts_text o = events_text_of o.events ++ places_text (o.order, o.tables)
 
-parts_read : Reads parts_at parts_text IsPlain
+pub parts_read : Reads parts_at parts_text IsPlain
 parts_read =
     both_reads events_at (λ es. places_at) outcome_of events_text_of (λ es q. places_text q) parts_text EventsPlain (λ es q. PlacesPlain q) IsPlain
     (λ es q p r. refl)
@@ -206,19 +206,19 @@ parts_read =
     })
     events_read (λ es p. places_read)
 
-abbrev title : List ℕ
+abbrev pub title : List ℕ
 title = codes "scalardb report 1"
 
-abbrev end_word : List ℕ
+abbrev pub end_word : List ℕ
 end_word = codes "end"
 
-body_read : Reads body_at (λ o. parts_text o ++ codes "end\n") IsPlain
+pub body_read : Reads body_at (λ o. parts_text o ++ codes "end\n") IsPlain
 body_read =
     both_reads parts_at (λ o. end_at) (λ o word. o) parts_text (λ o word. with_lf itself word) (λ o. parts_text o ++ codes "end\n") IsPlain (λ o word. IsWord end_word word) IsPlain
     (λ o word p q. ap (λ (w : List ℕ). parts_text o ++ (w ++ codes "\n")) (sym q)) (λ o word p q. p) (λ o p. record { first = o; second = end_word; made = refl; has_first = p; has_second = refl })
     parts_read (λ o p. line_reads (fixed_of end_word) itself (IsWord end_word) (fixed_form end_word refl))
 
-pieces : (t e o d n : List ℕ) → t ++ ((e ++ (o ++ d)) ++ n) ≡ t ++ e ++ o ++ d ++ n
+pub pieces : (t e o d n : List ℕ) → t ++ ((e ++ (o ++ d)) ++ n) ≡ t ++ e ++ o ++ d ++ n
 pieces t e o d n = simp append_assoc
 
 pub report_read : Reads report_at report_text_of IsPlain

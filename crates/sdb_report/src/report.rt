@@ -5,7 +5,7 @@ ghost use Rattle.sdb_model.specs.Plain.{IsPlain};
 ghost use Rattle.sdb_model.specs.Report.{report_text_of};
 ghost use Rattle.sdb_model.specs.declared.event.Outcome.{Outcome};
 ghost use Rattle.sdb_report.specs.Reading.{report_in};
-ghost use Rattle.sdb_report.specs.Reports.{is_lf, refusal, Reads, Answers};
+ghost use Rattle.sdb_report.specs.Reports.{is_lf, refusal, Reads, Answers, IsRefusedAt};
 
 use crate::parts::whole_report;
 use crate::refused::{ReportRefused, Stopped};
@@ -48,6 +48,8 @@ pub fn read_report(alloc: Global, bytes: &[u8]) -> Result<Outcome, ReportRefused
     ensures ok { IfOk result (λ o. IsPlain o × (bytes.now ≡ report_text_of o)) }
     // The report of a plain outcome is read, unless memory runs out.
     ensures only { (o : Outcome) → IsPlain o → bytes.now ≡ report_text_of o → Answers result o }
+    // A bad line is the first that no report has there.
+    ensures bad { IfErr result (IsRefusedAt bytes.now) }
 {
     report_of(alloc, bytes)
 }

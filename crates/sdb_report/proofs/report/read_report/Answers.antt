@@ -1,3 +1,4 @@
+use Rattle.sdb_report.proofs.StopLaws.{bad_told}
 use Rattle.sdb_report.proofs.Told.{ok_told, only_told}
 use Rattle.sdb_report.proofs.report.read_report.Goals as goal
 
@@ -6,3 +7,6 @@ returns-clause-ok c = ok_told c.args.bytes.now c.report_of.result c.report_of.en
 
 pub returns-clause-only : goal.returns-clause-only
 returns-clause-only c = λ o plain e. only_told c.args.bytes.now c.report_of.result c.report_of.ensures o plain e
+
+pub returns-clause-bad : goal.returns-clause-bad
+returns-clause-bad c = bad_told c.args.bytes.now c.report_of.result c.report_of.ensures
