@@ -1,0 +1,89 @@
+-- What a call leaves of its client.
+use Rattle.std.proofs.Common.{◌≡◌, ◌≢◌, ℤ, Bool, true, false, cond, List, Option, Some, None, refl, sym, ap, subst, ◌∙◌, ◌⊎◌, inl, inr}
+use Rattle.std.specs.Prelude.{IsSomeAnd}
+use Rattle.sdb_types.specs.declared.record.Record.{Record}
+use Rattle.sdb_types.specs.declared.record.Reply.{Reply}
+use Rattle.sdb_record.specs.declared.access.Access.{Access}
+use Rattle.sdb_record.specs.declared.access.Access.TheVariants as access
+use Rattle.sdb_model.specs.declared.answer.Answer.{Answer}
+use Rattle.sdb_model.specs.declared.answer.Answer.TheVariants as answer
+use Rattle.sdb_model.specs.Transactions.{changes_nothing}
+use Rattle.sdb_exec.specs.declared.plan.PlanStep.{PlanStep}
+use Rattle.sdb_exec.specs.declared.plan.PlanStep.TheVariants.{Finished, Read as Wants}
+use Rattle.sdb_exec.specs.Plans.{Planned}
+use Rattle.sdb_read.specs.declared.read.ReadStep.{ReadStep}
+use Rattle.sdb_read.specs.declared.read.ReadStep.TheVariants as step
+use Rattle.sdb_read.specs.Read.{ReadAt, ReadStage, read_result, read_step}
+use Rattle.sdb_transaction.specs.declared.progress.Progress.{Progress}
+use Rattle.sdb_transaction.specs.declared.progress.Progress.TheVariants as progress
+use Rattle.sdb_transaction.specs.declared.txn.Doing.{Doing}
+use Rattle.sdb_transaction.specs.declared.txn.Doing.TheVariants as doing
+use Rattle.sdb_transaction.specs.Txn.{CommitTold, IfCommitting, IfReading, IsCommitting, TxnAt, idle}
+use Rattle.sdb_commit.specs.Phases.{CommitAt}
+use Rattle.sdb_client.specs.declared.next.Next.{Next}
+use Rattle.sdb_client.specs.declared.next.Next.TheVariants as next
+use Rattle.sdb_client.specs.Client.{CallTold, ClientAt, CommitNext, ImagesTold, NextTold, ReplyTold, StageTold, after, answer_in, gives, given_answer, given_left, next_of, noting, written}
+use Rattle.sdb_client.specs.Inside.{IsClient, IsFine, IsLeft, IsReadOf, IsUnder, OpenNext, plan_after, txn_after}
+use Rattle.sdb_client.proofs.Calls.{noting_idle}
+use Rattle.sdb_client.proofs.Taken.{memory_or}
+
+---- reads
+
+given_idle : (was t : TxnAt) (s : PlanStep) → was.doing ≡ doing.Idle → t.doing ≡ doing.Idle → (given_left was t s).doing ≡ doing.Idle
+given_idle was t (Finished a ks) h k = elim (changes_nothing (given_answer t (Finished a ks))) as (λ b. (cond b was (written t ks)).doing ≡ doing.Idle) [ true ↦ h | false ↦ k ]
+given_idle was t (Wants a) h k = h
+
+call_stage : (t u : TxnAt) (p : Planned) (a : Access) (x : ReadAt) (next_stage : ReadStage) (s : ReadStep) → IsReadOf (doing.Read a x) p → StageTold t p a x next_stage s next.Call u → IsUnder u.doing (Some p)
+call_stage t u p a x f step.More at h = subst (λ (d : Doing). IsUnder d (Some p)) (sym (ap (λ (v : TxnAt). v.doing) h.1)) at
+call_stage t u p a x f (step.Images images) at h = absurd h
+call_stage t u p a x f (step.Busy key id m) at h = absurd (let e = h.0 in cc)
+call_stage t u p a x f step.Faulted at h = absurd (let e = h.0 in cc)
+call_stage t u p a x f (step.BadRecord key) at h = absurd (let e = h.0 in cc)
+call_stage t u p a x f step.NoMemory at h = absurd h
+
+answer_stage : (t u : TxnAt) (p : Planned) (a : Access) (x : ReadAt) (next_stage : ReadStage) (s : ReadStep) (z : Answer) → StageTold t p a x next_stage s (next.Answer z) u → u.doing ≡ doing.Idle
+answer_stage t u p a x f step.More z h = absurd (let e = h.0 in cc)
+answer_stage t u p a x f (step.Images images) z h = ap (λ (v : TxnAt). v.doing) h.2 ∙ given_idle (idle t) (noting t a images) (gives p a (noting t a images)) refl (noting_idle t a images)
+answer_stage t u p a x f (step.Busy key id m) z h = ap (λ (v : TxnAt). v.doing) h.1
+answer_stage t u p a x f step.Faulted z h = ap (λ (v : TxnAt). v.doing) h.1
+answer_stage t u p a x f (step.BadRecord key) z h = ap (λ (v : TxnAt). v.doing) h.1
+answer_stage t u p a x f step.NoMemory z h = absurd h
+
+answer_apart : (z : Answer) → z ≢ answer.NoMemory → next.Answer z ≢ next.Answer answer.NoMemory
+answer_apart z n e = n (ap Rattle.sdb_client.proofs.Calls.answer_or e)
+
+call_left : (t u : TxnAt) (p : Planned) (a : Access) (x : ReadAt) (r : Reply) (now : ℤ) (n : Next) → IsReadOf (doing.Read a x) p → CallTold t p a x r now n u → IsLeft n u (Some p)
+call_left t u p a x r now next.Call at h = call_stage t u p a x (read_step x.stage now r) (read_result (read_step x.stage now r)) at (h.told (λ e. cc))
+call_left t u p a x r now (next.Answer z) at h = by (memory_or z)
+  where
+    by : (z ≡ answer.NoMemory) ⊎ (z ≢ answer.NoMemory) → u.doing ≡ doing.Idle
+    by (inl e) = ap (λ (v : TxnAt). v.doing) (h.memory (ap next.Answer e))
+    by (inr n) = answer_stage t u p a x (read_step x.stage now r) (read_result (read_step x.stage now r)) z (h.told (answer_apart z n))
+call_left t u p a x r now (next.End z) at h = tt
+
+-- the plan of a statement whose read goes on is the same
+kept_left : (n : Next) (u : TxnAt) (p q : Option Planned) → (n ≡ next.Call → q ≡ p) → IsLeft n u p → IsLeft n u q
+kept_left next.Call u p q same h = subst (IsUnder u.doing) (sym (same refl)) h
+kept_left (next.Answer z) u p q same h = h
+kept_left (next.End z) u p q same h = h
+
+pub read_left : (d : Doing) (t u : TxnAt) (p q : Planned) (o : Option Planned) (r : Reply) (now : ℤ) (n : Next) → o ≡ Some p → IsUnder d o → IfReading d (λ a x. CallTold t p a x r now n u) → (n ≡ next.Call → q ≡ p) → IsLeft n u (Some q)
+read_left d t u p q o r now n is under h same = by d (subst (IsUnder d) is under) h
+  where
+    by : (d : Doing) → IsUnder d (Some p) → IfReading d (λ a x. CallTold t p a x r now n u) → IsLeft n u (Some q)
+    by (doing.Read a x) under h = kept_left n u (Some p) (Some q) (λ e. ap Some (same e)) (call_left t u p a x r now n under h)
+    by (doing.Commit k) under h = absurd under
+    by doing.Idle under h = absurd under
+    by doing.Over under h = absurd under
+
+---- clients
+
+after_is : (c : ClientAt) (n : Next) (u : TxnAt) (q : Option Planned) → (n ≡ next.Call → q ≡ c.plan) → ◌≡◌ {A = ClientAt} (record c { txn = txn_after (Some u) n; plan = plan_after q n }) (after c n u)
+after_is c next.Call u q same = ap (λ (p : Option Planned). record c { txn = Some u; plan = p }) (same refl)
+after_is c (next.Answer z) u q same = refl
+after_is c (next.End z) u q same = refl
+
+pub reply_told : (c d : ClientAt) (t o : Option TxnAt) (q : Option Planned) (r : Reply) (now : ℤ) (n : Next) (result : Option Answer) → OpenNext t c.plan r now n o → (n ≡ next.Call → q ≡ c.plan) → result ≡ answer_in n → d ≡ record c { txn = txn_after o n; plan = plan_after q n } → ReplyTold c t r now result d
+reply_told c d None o q r now n result h same answers is = absurd h
+reply_told c d (Some t) None q r now n result h same answers is = absurd h
+reply_told c d (Some t) (Some u) q r now n result h same answers is = record { next = n; left = u; told = h; answer = answers; client = is ∙ after_is c n u q same }

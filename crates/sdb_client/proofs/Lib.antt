@@ -1,0 +1,6 @@
+pub mod Fine
+pub mod SeenRows
+pub mod Writable
+pub mod Calls
+pub mod Taken
+pub mod Left

@@ -1,0 +1,22 @@
+use Rattle.std.proofs.Common.{rules, ◌≡◌, ℕ, ℤ, List, sym, subst, Ok, to_z, of_z, w64}
+use Rattle.std.specs.Prelude.{IfSome}
+use Rattle.sdb_model.specs.Sql.{Reads, Refuses}
+use Rattle.sdb_sqltext.specs.Answers.{refusal_of}
+use Rattle.sdb_client.specs.Client.{StatementTold}
+use Rattle.sdb_client.proofs.Taken.{unread_told}
+use Rattle.sdb_client.proofs.client.Client.take.Goals as goal
+
+pub returns-in-Ok-clause-told : goal.returns-in-Ok-clause-told
+returns-in-Ok-clause-told c =
+    let now : to_z w64 (of_z w64 c.args.now) ≡ c.args.now = search rules in
+    λ n. (
+      Ok c.in-Ok.statement,
+      subst (λ (text : List ℕ). Reads text c.in-Ok.statement) c.as_str.ensures c.in-Ok.ensures.read,
+      subst (λ (m : ℤ). StatementTold (record { catalog = c.args.catalog.now; now = m; gate = c.args.gate }) c.in-Ok.statement c.args.self.now c.take_statement.result c.take_statement.new.self) now (c.take_statement.ensures.told n),
+    )
+
+pub returns-in-Err-clause-told : goal.returns-in-Err-clause-told
+returns-in-Err-clause-told c =
+    unread_told _ c.args.text.now (refusal_of c.in-Err.refused) c.unread.result c.args.self.now c.unread.new.self
+    (subst (λ (text : List ℕ). IfSome (refusal_of c.in-Err.refused) (Refuses text)) c.as_str.ensures c.in-Err.ensures.refused)
+    c.unread.ensures.told (λ e. (c.unread.ensures.memory e).0)

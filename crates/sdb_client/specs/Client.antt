@@ -1,0 +1,278 @@
+-- A client, and where each statement and each reply leads it.
+use Rattle.std.specs.Prelude.{◌≡◌, ◌≢◌, ℕ, ℤ, ◌+◌, nat_lt, Bool, true, false, not, ◌&&◌, ◌||◌, if◌then◌else◌, List, [], ◌∷◌, length, Option, Some, None, IfSome, is_some, Result, Ok, Err, slice_get}
+use Rattle.sdb_types.specs.declared.txid.TxId.{TxId}
+use Rattle.sdb_types.specs.declared.key.Key.{Key}
+use Rattle.sdb_types.specs.declared.record.Record.{Record}
+use Rattle.sdb_types.specs.declared.record.Reply.{Reply}
+use Rattle.sdb_types.specs.declared.record.Request.{Request}
+use Rattle.sdb_record.specs.declared.access.Access.{Access}
+use Rattle.sdb_record.specs.declared.access.Access.TheVariants as access
+use Rattle.sdb_record.specs.declared.write.Keyed.{Keyed}
+use Rattle.sdb_schema.specs.declared.table.Table.{Table}
+use Rattle.sdb_model.specs.declared.answer.Answer.{Answer}
+use Rattle.sdb_model.specs.declared.answer.Answer.TheVariants as answer
+use Rattle.sdb_model.specs.declared.answer.Refusal.{Refusal}
+use Rattle.sdb_model.specs.declared.statement.Statement.{Statement}
+use Rattle.sdb_model.specs.declared.statement.Statement.TheVariants as statement
+use Rattle.sdb_model.specs.Causes.{refused}
+use Rattle.sdb_model.specs.Exec.{named_table}
+use Rattle.sdb_model.specs.Refused.{refusal_of}
+use Rattle.sdb_model.specs.Sql.{Reads, Refuses, reads_commit}
+use Rattle.sdb_model.specs.Transactions.{changes_nothing, id_of}
+use Rattle.sdb_exec.specs.declared.plan.PlanStep.{PlanStep}
+use Rattle.sdb_exec.specs.declared.plan.PlanStep.TheVariants.{Finished, Read as Wants}
+use Rattle.sdb_exec.specs.Plans.{Planned, step_of}
+use Rattle.sdb_exec.specs.Reads.{access_of}
+use Rattle.sdb_commit.specs.Phases.{CommitAt}
+use Rattle.sdb_read.specs.declared.read.ReadStep.{ReadStep}
+use Rattle.sdb_read.specs.declared.read.ReadStep.TheVariants as step
+use Rattle.sdb_read.specs.Read.{ReadAt, ReadStage, read_result, read_step}
+use Rattle.sdb_snapshot.specs.Noted.{IsFirstDifference, IsUnmoved, is_noted}
+use Rattle.sdb_snapshot.specs.Seen.{Seen, is_scanned, overlay, with_get, with_scan, with_written}
+use Rattle.sdb_snapshot.specs.Written.{most_writes}
+use Rattle.sdb_transaction.specs.declared.progress.Progress.{Progress}
+use Rattle.sdb_transaction.specs.declared.progress.Progress.TheVariants as progress
+use Rattle.sdb_transaction.specs.declared.txn.Doing.{Doing}
+use Rattle.sdb_transaction.specs.declared.txn.Doing.TheVariants as doing
+use Rattle.sdb_transaction.specs.Txn.{TxnAt, CommitTold, begun, committing, idle, pending, reading}
+use Rattle.sdb_client.specs.declared.gate.Gate.{Gate}
+use Rattle.sdb_client.specs.declared.next.Next.{Next}
+use Rattle.sdb_client.specs.declared.next.Next.TheVariants as next
+
+-- A client: its number, how many transactions it has begun, the one that is open, and the plan of the statement that reads.
+pub record ClientAt : Type 0 where
+  pub number : ℕ
+  pub begun : ℕ
+  pub txn : Option TxnAt
+  pub plan : Option Planned
+
+-- it has done nothing
+abbrev pub nothing_done : ℕ → ClientAt
+nothing_done number = record { number = number; begun = 0; txn = None; plan = None }
+
+abbrev pub pending_of : Option TxnAt → Option Request
+pending_of None = None
+pending_of (Some t) = pending t
+
+-- the call that is pending
+abbrev pub client_pending : ClientAt → Option Request
+client_pending c = pending_of c.txn
+
+-- It waits for a statement: no transaction is open, or the open one does nothing.
+abbrev pub IsIdle : ClientAt → Type 0
+IsIdle c = IfSome c.txn (λ t. t.doing ≡ doing.Idle)
+
+-- no transaction is open
+abbrev pub resting : ClientAt → ClientAt
+resting c = record c { txn = None; plan = None }
+
+-- this one is, and no statement of it waits
+abbrev pub holding : ClientAt → TxnAt → ClientAt
+holding c t = record c { txn = Some t; plan = None }
+
+---- what a plan gives
+
+-- a statement that writes would write more keys than a transaction may
+abbrev pub too_many : TxnAt → List Keyed → Bool
+too_many t [] = false
+too_many t (k ∷ ks) = nat_lt most_writes (length (with_written t.seen (k ∷ ks)).writes)
+
+-- What a statement is answered by what its plan gives: that answer, or that its writes are too many.
+abbrev pub given_answer : TxnAt → PlanStep → Answer
+given_answer t (Finished a ks) = if not (changes_nothing a) && too_many t ks then refused 15 else a
+given_answer t (Wants a) = answer.NoMemory
+
+-- with changes written
+abbrev pub written : TxnAt → List Keyed → TxnAt
+written t ks = record t { seen = with_written t.seen ks }
+
+-- The transaction that a statement leaves, which it read as `t`: with its changes written, or, where it is answered that it changed
+-- nothing, as it was before it.
+abbrev pub given_left : (was t : TxnAt) → PlanStep → TxnAt
+given_left was t (Finished a ks) = if changes_nothing (given_answer t (Finished a ks)) then was else written t ks
+given_left was t (Wants a) = was
+
+-- a statement's plan on the rows that its transaction sees
+abbrev pub gives : Planned → Access → TxnAt → PlanStep
+gives p a t = step_of p (overlay a t.seen)
+
+-- the plan of a statement on its table, for which rows are asked
+abbrev pub plan_of : Table → Statement → Planned
+plan_of table st = record { table = table; statement = st; asked = true }
+
+-- an access can be answered from what was read: its key was read, or its span scanned
+abbrev pub is_covered : Seen → Access → Bool
+is_covered s (access.Get key) = is_noted s.notes key
+is_covered s (access.Scan span) = is_scanned s.scans span
+
+---- a statement that is taken
+
+-- What a statement is taken with: the catalog, the moment, and what other clients do.
+pub record Taking : Type 0 where
+  pub catalog : List Table
+  pub now : ℤ
+  pub gate : Gate
+
+-- A statement is answered at once, and its client is as before.
+pub record IsTold (c : ClientAt) (a : Answer) (result : Option Answer) (d : ClientAt) : Type 0 where
+  pub answer : result ≡ Some a
+  pub same : d ≡ c
+
+-- the id of a client's next transaction
+abbrev pub next_id : ClientAt → TxId
+next_id c = id_of c.number (c.begun + 1)
+
+-- its next transaction is open
+abbrev pub with_begun : ClientAt → ClientAt
+with_begun c = record { number = c.number; begun = c.begun + 1; txn = Some (begun (next_id c)); plan = None }
+
+abbrev pub GateTold : Bool → ClientAt → Option Answer → ClientAt → Type 0
+GateTold true c result d = IsTold c answer.Vacuuming result d
+GateTold false c result d = (result ≡ Some answer.Done) × (d ≡ with_begun c)
+
+-- BEGIN is refused inside of a transaction, and turned away while a VACUUM runs; else a transaction begins.
+abbrev pub BeginTold : Gate → ClientAt → Option TxnAt → Option Answer → ClientAt → Type 0
+BeginTold gate c (Some t) result d = IsTold c (refused 4) result d
+BeginTold gate c None result d = GateTold gate.vacuum_runs c result d
+
+-- COMMIT is refused outside of a transaction; else its first call is pending.
+abbrev pub CommitTaken : ℤ → ClientAt → Option TxnAt → Option Answer → ClientAt → Type 0
+CommitTaken now c None result d = IsTold c (refused 5) result d
+CommitTaken now c (Some t) result d = (result ≡ None) × (d ≡ holding c (committing t now))
+
+-- ROLLBACK is refused outside of a transaction; else it ends the transaction.
+abbrev pub RollbackTold : ClientAt → Option TxnAt → Option Answer → ClientAt → Type 0
+RollbackTold c None result d = IsTold c (refused 5) result d
+RollbackTold c (Some t) result d = (result ≡ Some answer.Done) × (d ≡ resting c)
+
+-- VACUUM is turned away where a transaction is open. Else it isn't built: it is answered as out of memory alone.
+abbrev pub VacuumTold : Bool → ClientAt → Option Answer → ClientAt → Type 0
+VacuumTold true c result d = IsTold c answer.OpenTransactions result d
+VacuumTold false c result d = ⊥
+
+-- A statement reads: from what was read before it is answered at once; else the call for its rows is pending.
+pub record RowsTold (p : Planned) (a : Access) (c : ClientAt) (t : TxnAt) (result : Option Answer) (d : ClientAt) : Type 0 where
+  pub known : is_covered t.seen a ≡ true → (result ≡ Some (given_answer t (gives p a t))) × (d ≡ holding c (given_left t t (gives p a t)))
+  pub unknown : is_covered t.seen a ≡ false → (result ≡ None) × (d ≡ record c { txn = Some (reading t a); plan = Some p })
+
+-- A statement on a table is refused by the catalog, or reads.
+pub record TableTold (q : Taking) (st : Statement) (c : ClientAt) (t : TxnAt) (result : Option Answer) (d : ClientAt) : Type 0 where
+  pub refused : (r : Refusal) → refusal_of q.catalog st ≡ Some r → IsTold c (answer.Refused r) result d
+  pub reads : (table : Table) → refusal_of q.catalog st ≡ None → named_table q.catalog st ≡ Some table → RowsTold (plan_of table st) (access_of table st) c t result d
+
+-- It is refused outside of a transaction.
+abbrev pub AskTold : Taking → Statement → ClientAt → Option TxnAt → Option Answer → ClientAt → Type 0
+AskTold q st c None result d = IsTold c (refused 5) result d
+AskTold q st c (Some t) result d = TableTold q st c t result d
+
+-- What the taking of a statement comes to.
+abbrev pub StatementTold : Taking → Statement → ClientAt → Option Answer → ClientAt → Type 0
+StatementTold q statement.Begin c result d = BeginTold q.gate c c.txn result d
+StatementTold q statement.Commit c result d = CommitTaken q.now c c.txn result d
+StatementTold q statement.Rollback c result d = RollbackTold c c.txn result d
+StatementTold q statement.Vacuum c result d = VacuumTold (is_some c.txn || q.gate.open_elsewhere) c result d
+StatementTold q st c result d = AskTold q st c c.txn result d
+
+-- what a text says: the statement that it is read as, or what it is refused for
+abbrev pub Says : List ℕ → Result Statement Refusal → Type 0
+Says text (Ok st) = Reads text st
+Says text (Err r) = Refuses text r
+
+abbrev pub SaidTold : Taking → Result Statement Refusal → ClientAt → Option Answer → ClientAt → Type 0
+SaidTold q (Ok st) c result d = StatementTold q st c result d
+SaidTold q (Err r) c result d = IsTold c (answer.Refused r) result d
+
+-- What the taking of a text comes to, unless memory runs out.
+abbrev pub TextTold : Taking → List ℕ → ClientAt → Option Answer → ClientAt → Type 0
+TextTold q text c result d = (x : Result Statement Refusal) × Says text x × SaidTold q x c result d
+
+-- What want of memory leaves: a COMMIT ends its transaction, and each other statement leaves all as it was.
+abbrev pub starved : List ℕ → ClientAt → ClientAt
+starved text c = if reads_commit text then resting c else c
+
+---- a reply that is taken
+
+-- the transaction with what a read has found
+abbrev pub noting : TxnAt → Access → List Record → TxnAt
+noting t (access.Get key) images = record (idle t) { seen = with_get t.seen key (slice_get images 0) }
+noting t (access.Scan span) images = record (idle t) { seen = with_scan t.seen span images }
+
+-- a scan finds each key that was read as it was read
+abbrev pub IsAsRead : TxnAt → Access → List Record → Type 0
+IsAsRead t (access.Get key) images = Unit {0}
+IsAsRead t (access.Scan span) images = IsUnmoved t.seen.notes span images
+
+-- this is the first key that it finds otherwise
+abbrev pub IsMovedAt : TxnAt → Access → List Record → Key → Option Record → Type 0
+IsMovedAt t (access.Get key) images moved found = ⊥
+IsMovedAt t (access.Scan span) images moved found = IsFirstDifference t.seen.notes span images moved found
+
+-- A statement that has read is answered from the rows that its transaction then sees; or its read doesn't agree with those before,
+-- and ends the transaction.
+abbrev pub ImagesTold : TxnAt → Planned → Access → List Record → Next → TxnAt → Type 0
+ImagesTold t p a images (next.Answer z) u = IsAsRead t a images × (z ≡ given_answer (noting t a images) (gives p a (noting t a images))) × (u ≡ given_left (idle t) (noting t a images) (gives p a (noting t a images)))
+ImagesTold t p a images (next.End (answer.Conflict key found)) u = IsMovedAt t a images key found
+ImagesTold t p a images n u = ⊥
+
+-- What the call of a read comes to, by the stage that its reply leads to.
+abbrev pub StageTold : TxnAt → Planned → Access → ReadAt → ReadStage → ReadStep → Next → TxnAt → Type 0
+StageTold t p a x after step.More n u = (n ≡ next.Call) × (u ≡ record t { doing = doing.Read a (record x { stage = after }) })
+StageTold t p a x after (step.Images images) n u = ImagesTold t p a images n u
+StageTold t p a x after (step.Busy key id at) n u = (n ≡ next.Answer (answer.Busy key id at)) × (u ≡ idle t)
+StageTold t p a x after step.Faulted n u = (n ≡ next.Answer answer.Faulted) × (u ≡ idle t)
+StageTold t p a x after (step.BadRecord key) n u = (n ≡ next.Answer (answer.BadRecord key)) × (u ≡ idle t)
+StageTold t p a x after step.NoMemory n u = ⊥
+
+-- A reply leads a statement where the definition of its read says; or it is out of memory, and has noted nothing.
+pub record CallTold (t : TxnAt) (p : Planned) (a : Access) (x : ReadAt) (r : Reply) (now : ℤ) (n : Next) (u : TxnAt) : Type 0 where
+  pub memory : n ≡ next.Answer answer.NoMemory → u ≡ idle t
+  pub told : n ≢ next.Answer answer.NoMemory → StageTold t p a x (read_step x.stage now r) (read_result (read_step x.stage now r)) n u
+
+-- the answer of a COMMIT's call; none where another is pending
+abbrev pub next_of : Progress → Next
+next_of progress.More = next.Call
+next_of (progress.Rows rows) = next.End answer.NoMemory
+next_of (progress.Busy key id at) = next.End (answer.Busy key id at)
+next_of progress.Faulted = next.End answer.Faulted
+next_of (progress.BadRecord key) = next.End (answer.BadRecord key)
+next_of progress.NoMemory = next.End answer.NoMemory
+next_of (progress.Conflict key found) = next.End (answer.Conflict key found)
+next_of progress.Committed = next.End answer.Committed
+next_of (progress.Expired id) = next.End (answer.Expired id)
+next_of (progress.Unknown id) = next.End (answer.Unknown id)
+
+-- the answer that a call gives, if it gives one
+abbrev pub answer_in : Next → Option Answer
+answer_in next.Call = None
+answer_in (next.Answer a) = Some a
+answer_in (next.End a) = Some a
+
+-- the client after it
+abbrev pub after : ClientAt → Next → TxnAt → ClientAt
+after c next.Call u = record c { txn = Some u }
+after c (next.Answer a) u = holding c u
+after c (next.End a) u = resting c
+
+-- A call of a COMMIT leads where the definition of a COMMIT says, and its answer ends the transaction.
+pub record CommitNext (t : TxnAt) (k : CommitAt) (r : Reply) (n : Next) (u : TxnAt) : Type 0 where
+  pub progress : Progress
+  pub told : CommitTold t k r progress u
+  pub next : n ≡ next_of progress
+
+-- What a reply leads to, by what the transaction does.
+abbrev pub NextTold : TxnAt → Doing → Option Planned → Reply → ℤ → Next → TxnAt → Type 0
+NextTold t (doing.Read a x) (Some p) r now n u = CallTold t p a x r now n u
+NextTold t (doing.Commit k) None r now n u = CommitNext t k r n u
+NextTold t d p r now n u = ⊥
+
+-- A reply leads the client's open transaction somewhere, and the client is left there, with the answer that this gives.
+pub record TxnTold (c : ClientAt) (t : TxnAt) (r : Reply) (now : ℤ) (result : Option Answer) (d : ClientAt) : Type 0 where
+  pub next : Next
+  pub left : TxnAt
+  pub told : NextTold t t.doing c.plan r now next left
+  pub answer : result ≡ answer_in next
+  pub client : d ≡ after c next left
+
+abbrev pub ReplyTold : ClientAt → Option TxnAt → Reply → ℤ → Option Answer → ClientAt → Type 0
+ReplyTold c None r now result d = ⊥
+ReplyTold c (Some t) r now result d = TxnTold c t r now result d

@@ -1,0 +1,106 @@
+-- What a client is inside.
+use Rattle.std.specs.Prelude.{◌≡◌, ℤ, IsSomeAnd, true, false, List, Option, Some, None}
+use Rattle.sdb_types.specs.declared.record.Reply.{Reply}
+use Rattle.sdb_schema.specs.declared.table.Table.{Table}
+use Rattle.sdb_schema.specs.Table.{is_table}
+use Rattle.sdb_model.specs.declared.statement.Statement.{Statement}
+use Rattle.sdb_model.specs.Exec.{named_table}
+use Rattle.sdb_model.specs.Refused.{refusal_of, refusal_on}
+use Rattle.sdb_exec.specs.declared.plan.PlanStep.{PlanStep}
+use Rattle.sdb_exec.specs.declared.plan.PlanStep.TheVariants.{Finished, Read as Wants}
+use Rattle.sdb_exec.specs.Plans.{Planned, has_all_literals}
+use Rattle.sdb_exec.specs.Reads.{access_of}
+use Rattle.sdb_record.specs.declared.access.Image.{Image}
+use Rattle.sdb_snapshot.specs.Noted.{Note, is_noted}
+use Rattle.sdb_snapshot.specs.Written.{AreChanges}
+use Rattle.sdb_transaction.specs.declared.progress.Progress.{Progress}
+use Rattle.sdb_transaction.specs.declared.progress.Progress.TheVariants as progress
+use Rattle.sdb_transaction.specs.declared.txn.Doing.{Doing}
+use Rattle.sdb_transaction.specs.declared.txn.Doing.TheVariants as doing
+use Rattle.sdb_transaction.specs.Txn.{TxnAt, reading}
+use Rattle.sdb_record.specs.declared.access.Access.{Access}
+use Rattle.sdb_record.specs.declared.access.Access.TheVariants as access
+use Rattle.sdb_model.specs.declared.answer.Answer.{Answer}
+use Rattle.sdb_model.specs.declared.statement.Statement.TheVariants as statement
+use Rattle.sdb_client.specs.declared.next.Next.{Next}
+use Rattle.sdb_client.specs.declared.next.Next.TheVariants as next
+use Rattle.sdb_client.specs.Client.{ClientAt, NextTold, given_answer, given_left, gives, is_covered, resting}
+
+-- A plan that was asked for its rows, of a statement that its table doesn't refuse.
+pub record IsFine (p : Planned) : Type 0 where
+  pub asked : p.asked ≡ true
+  pub table : is_table p.table ≡ true
+  pub taken : refusal_on p.table p.statement ≡ None
+  pub literals : has_all_literals p.statement ≡ true
+
+-- the plan of a statement that the catalog doesn't refuse
+pub record IsPlanOf (catalog : List Table) (st : Statement) (p : Planned) : Type 0 where
+  pub table : named_table catalog st ≡ Some p.table
+  pub statement : p.statement ≡ st
+  pub asked : p.asked ≡ true
+  pub taken : refusal_of catalog st ≡ None
+
+-- what a plan gives may be written
+abbrev pub MayWrite : List Note → PlanStep → Type 0
+MayWrite notes (Finished a ks) = AreChanges notes ks
+MayWrite notes (Wants a) = Unit {0}
+
+-- the key of a get was read
+abbrev pub IsKeyRead : List Note → Access → Type 0
+IsKeyRead notes (access.Get key) = is_noted notes key ≡ true
+IsKeyRead notes (access.Scan span) = Unit {0}
+
+-- A statement has a plan while it reads, and reads where the plan says.
+abbrev pub IsUnder : Doing → Option Planned → Type 0
+IsUnder doing.Idle None = Unit {0}
+IsUnder (doing.Read a x) (Some p) = IsFine p × (a ≡ access_of p.table p.statement)
+IsUnder (doing.Commit k) None = Unit {0}
+IsUnder d p = ⊥
+
+abbrev pub IsClient : Option TxnAt → Option Planned → Type 0
+IsClient None None = Unit {0}
+IsClient None (Some p) = ⊥
+IsClient (Some t) p = IsUnder t.doing p
+
+-- it does the read of an access, by a plan that is fine
+abbrev pub IsReadOf : Doing → Planned → Type 0
+IsReadOf (doing.Read a x) p = IsFine p × (a ≡ access_of p.table p.statement)
+IsReadOf d p = ⊥
+
+-- rows are told, and they are so
+abbrev pub IfRows : Progress → (List Image → Type 0) → Type 0
+IfRows (progress.Rows rows) P = P rows
+IfRows p P = Unit {0}
+
+-- a statement reads, of an open transaction
+pub record TxnReads (p : Planned) (a : Access) (t : TxnAt) (result : Option Answer) (u : TxnAt) (v : Option Planned) : Type 0 where
+  pub known : is_covered t.seen a ≡ true → (result ≡ Some (given_answer t (gives p a t))) × (u ≡ given_left t t (gives p a t)) × (v ≡ None)
+  pub unknown : is_covered t.seen a ≡ false → (result ≡ None) × (u ≡ reading t a) × (v ≡ Some p)
+
+-- the transaction that is open after a call
+abbrev pub txn_after : Option TxnAt → Next → Option TxnAt
+txn_after t next.Call = t
+txn_after t (next.Answer a) = t
+txn_after t (next.End a) = None
+
+-- the plan that a statement has after it
+abbrev pub plan_after : Option Planned → Next → Option Planned
+plan_after p next.Call = p
+plan_after p (next.Answer a) = None
+plan_after p (next.End a) = None
+
+-- what want of memory leaves, by the statement
+abbrev pub left_by : Statement → ClientAt → ClientAt
+left_by statement.Commit c = resting c
+left_by st c = c
+
+-- What is so of a transaction after a call: another is pending, or it does nothing, or it has ended.
+abbrev pub IsLeft : Next → TxnAt → Option Planned → Type 0
+IsLeft next.Call u p = IsUnder u.doing p
+IsLeft (next.Answer a) u p = u.doing ≡ doing.Idle
+IsLeft (next.End a) u p = Unit {0}
+
+-- a reply leads the transaction that is open
+abbrev pub OpenNext : Option TxnAt → Option Planned → Reply → ℤ → Next → Option TxnAt → Type 0
+OpenNext None p r now n u = ⊥
+OpenNext (Some t) p r now n u = IsSomeAnd u (NextTold t t.doing p r now n)

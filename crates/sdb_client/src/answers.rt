@@ -1,0 +1,55 @@
+//! Answers that a client gives of its own.
+ghost use Rattle.std.specs.Prelude.{◌≡◌, true, false};
+ghost use Rattle.sdb_model.specs.Causes.{refused as refused_lem};
+ghost use Rattle.sdb_model.specs.Transactions.{changes_nothing as changes_nothing_lem};
+ghost use Rattle.sdb_client.specs.Client.{next_of as next_of_lem};
+
+use crate::next::Next;
+use sdb_model::{Answer, Refusal};
+use sdb_transaction::Progress;
+
+/// A refusal of a whole statement.
+pub fn refused(kind: u8) -> Answer
+    ensures { result ≡ refused_lem kind }
+{
+    Answer::Refused(Refusal { kind, place: 0 })
+}
+
+/// What VACUUM is answered while it isn't built: the one answer that needs no cause.
+pub fn not_built() -> Answer
+    ensures { result ≡ Answer.NoMemory }
+{
+    Answer::NoMemory
+}
+
+/// Whether a statement that is answered so changed nothing of its transaction, and left it open.
+pub fn changes_nothing(answer: &Answer) -> bool
+    ensures { result ≡ changes_nothing_lem answer.now }
+{
+    match answer {
+        Answer::Busy(_, _, _)
+        | Answer::Faulted
+        | Answer::BadRecord(_)
+        | Answer::Refused(_)
+        | Answer::OpenTransactions
+        | Answer::NoMemory => true,
+        _ => false,
+    }
+}
+
+/// What a call of a COMMIT leads to.
+pub fn next_of(progress: Progress) -> Next
+    ensures { result ≡ next_of_lem progress }
+{
+    match progress {
+        Progress::More => Next::Call,
+        Progress::Rows(_) | Progress::NoMemory => Next::End(Answer::NoMemory),
+        Progress::Busy(key, id, at) => Next::End(Answer::Busy(key, id, at)),
+        Progress::Faulted => Next::End(Answer::Faulted),
+        Progress::BadRecord(key) => Next::End(Answer::BadRecord(key)),
+        Progress::Conflict(key, found) => Next::End(Answer::Conflict(key, found)),
+        Progress::Committed => Next::End(Answer::Committed),
+        Progress::Expired(id) => Next::End(Answer::Expired(id)),
+        Progress::Unknown(id) => Next::End(Answer::Unknown(id)),
+    }
+}

@@ -1,0 +1,250 @@
+//! A client.
+ghost use Rattle.std.specs.Prelude.{◌≡◌, ◌≢◌, ◌<◌, ◌^◌, ◌||◌, IfSome, IsSome, Some, None, is_some, length, true};
+ghost use Rattle.std.specs.Option.{option_copied};
+ghost use Rattle.sdb_model.specs.Transactions.{id_of as id_of_lem};
+ghost use Rattle.sdb_model.specs.declared.answer.Answer.TheVariants as answer;
+ghost use Rattle.sdb_exec.specs.Plans.{has_all_literals};
+ghost use Rattle.sdb_phases.specs.Steps.{CanGet};
+ghost use Rattle.sdb_client.specs.Client.{AskTold, BeginTold, CommitTaken, IsIdle, ReplyTold, RollbackTold, StatementTold, TextTold, VacuumTold, client_pending, nothing_done, resting, starved};
+ghost use Rattle.sdb_sqltext.specs.Answers.{refusal_of};
+ghost use Rattle.sdb_client.specs.Inside.{left_by};
+
+use crate::answers::{not_built, refused};
+use crate::call::{leave, take_reply};
+use crate::gate::Gate;
+use crate::plan::ask;
+use sdb_exec::Plan;
+use sdb_model::{Answer, Statement};
+use sdb_schema::Catalog;
+use sdb_sqltext::{ParseRefused, parse_statement};
+use sdb_sqltokens::reads_commit;
+use sdb_transaction::{Progress, Txn};
+use sdb_types::{Reply, Request, TxId, Txt};
+use std::alloc::Global;
+use std::marker::Model;
+
+/// A client: it takes one statement after another, and makes the calls of each.
+pub struct Client {
+    alloc: Global,
+    number: u32,
+    begun: u64,
+    txn: Option<Txn>,
+    plan: Option<Plan>,
+}
+
+// By hand: each drop is then one call, where a derived one stands at each place with a call for each field.
+impl Drop for Client {
+    fn drop(self) {
+        let Client {
+            alloc: _,
+            number: _,
+            begun: _,
+            txn: _,
+            plan: _,
+        } = self;
+    }
+}
+
+impl Model for Client {
+    ghost use Rattle.sdb_client.specs.Client.{ClientAt};
+    ghost use Rattle.sdb_client.specs.Inside.{IsClient};
+
+    ghost Value = { ClientAt };
+
+    ghost view = { λ c. record { number = c.number; begun = c.begun; txn = c.txn; plan = c.plan } };
+
+    ghost invariant = { λ c. IsClient c.txn c.plan };
+}
+
+// The id of a client's transaction.
+fn id_of(number: u32, ordinal: u64) -> TxId
+    ensures { result ≡ id_of_lem number ordinal }
+{
+    TxId(number as u128 * 0x1_0000_0000_0000_0000 + ordinal as u128)
+}
+
+impl Client {
+    /// A client that has done nothing, with its number from 1.
+    pub fn new(alloc: Global, number: u32) -> Client
+        ensures { result ≡ nothing_done number }
+    {
+        Client {
+            alloc,
+            number,
+            begun: 0,
+            txn: None,
+            plan: None,
+        }
+    }
+
+    /// Whether a transaction of it is open. Takes no memory.
+    pub fn is_open(&self) -> bool
+        ensures { result ≡ is_some self.now.txn }
+    {
+        self.txn.is_some()
+    }
+
+    /// How many transactions it has begun. Takes no memory.
+    pub fn begun(&self) -> u64
+        ensures { result ≡ self.now.begun }
+    {
+        self.begun
+    }
+
+    /// The call that is pending. Takes no memory.
+    pub fn pending(&self) -> Option<&Request>
+        ensures { option_copied result ≡ client_pending self.now }
+    {
+        match &self.txn {
+            Some(txn) => txn.pending(),
+            None => None,
+        }
+    }
+
+    /// Takes a statement, at a moment from 0 to 2^53, and answers it; where it answers nothing a call is pending. A client that has
+    /// begun 2^64 - 1 transactions counts as one that wants memory.
+    pub fn take(&mut self, catalog: &Catalog, text: &Txt, now: i64, gate: Gate) -> Option<Answer>
+        requires idle { IsIdle self.old }
+        requires short { length text.now < 2 ^ 32 }
+        ensures memory { result ≡ Some answer.NoMemory → self.new ≡ starved text.now self.old }
+        ensures told { result ≢ Some answer.NoMemory → TextTold (record { catalog = catalog.now; now = now; gate = gate }) text.now self.old result self.new }
+    {
+        match parse_statement(self.alloc, text.as_str()) {
+            Ok(statement) => self.take_statement(catalog, &statement, now, gate),
+            Err(refused) => Some(self.unread(text, refused)),
+        }
+    }
+
+    // A text is no statement, or couldn't be read.
+    fn unread(&mut self, text: &Txt, refused: ParseRefused) -> Answer
+        requires idle { IsIdle self.old }
+        requires place { IfSome (refusal_of refused) (λ r. r.place < 2 ^ 32) }
+        ensures memory { refusal_of refused ≡ None → (result ≡ answer.NoMemory) × (self.new ≡ starved text.now self.old) }
+        ensures told { IfSome (refusal_of refused) (λ r. (result ≡ answer.Refused r) × (self.new ≡ self.old)) }
+    {
+        match refused.refusal() {
+            Some(refusal) => Answer::Refused(refusal),
+            None => {
+                if reads_commit(text.as_str().as_bytes()) {
+                    self.txn = None;
+                }
+                Answer::NoMemory
+            }
+        }
+    }
+
+    // Takes a statement.
+    fn take_statement(
+        &mut self,
+        catalog: &Catalog,
+        statement: &Statement,
+        now: i64,
+        gate: Gate,
+    ) -> Option<Answer>
+        requires idle { IsIdle self.old }
+        requires literals { has_all_literals statement.now ≡ true }
+        ensures memory { result ≡ Some answer.NoMemory → self.new ≡ left_by statement.now self.old }
+        ensures told { result ≢ Some answer.NoMemory → StatementTold (record { catalog = catalog.now; now = now; gate = gate }) statement.now self.old result self.new }
+    {
+        match statement {
+            Statement::Begin => Some(self.begin(gate)),
+            Statement::Commit => self.commit(now),
+            Statement::Rollback => Some(self.rollback()),
+            Statement::Vacuum => Some(self.vacuum(gate)),
+            _ => self.ask(catalog, statement, now, gate),
+        }
+    }
+
+    fn begin(&mut self, gate: Gate) -> Answer
+        requires idle { IsIdle self.old }
+        ensures memory { result ≡ answer.NoMemory → self.new ≡ self.old }
+        ensures told { result ≢ answer.NoMemory → BeginTold gate self.old self.old.txn (Some result) self.new }
+    {
+        if self.txn.is_some() {
+            return refused(4);
+        }
+        if gate.vacuum_runs {
+            return Answer::Vacuuming;
+        }
+        match self.begun.checked_add(1) {
+            Some(ordinal) => {
+                self.begun = ordinal;
+                self.txn = Some(Txn::begin(self.alloc, id_of(self.number, ordinal)));
+                Answer::Done
+            }
+            None => Answer::NoMemory,
+        }
+    }
+
+    // Takes a COMMIT. Want of memory ends the transaction too.
+    fn commit(&mut self, now: i64) -> Option<Answer>
+        requires idle { IsIdle self.old }
+        ensures memory { result ≡ Some answer.NoMemory → self.new ≡ resting self.old }
+        ensures told { result ≢ Some answer.NoMemory → CommitTaken now self.old self.old.txn result self.new }
+    {
+        match &mut self.txn {
+            Some(txn) => match txn.commit(now) {
+                Progress::More => None,
+                _ => {
+                    self.txn = None;
+                    Some(Answer::NoMemory)
+                }
+            },
+            None => Some(refused(5)),
+        }
+    }
+
+    fn rollback(&mut self) -> Answer
+        requires idle { IsIdle self.old }
+        ensures some { result ≢ answer.NoMemory }
+        ensures told { RollbackTold self.old self.old.txn (Some result) self.new }
+    {
+        match self.txn.take() {
+            Some(txn) => {
+                txn.rollback();
+                Answer::Done
+            }
+            None => refused(5),
+        }
+    }
+
+    // VACUUM isn't built: where no transaction is open it is answered as out of memory.
+    fn vacuum(&self, gate: Gate) -> Answer
+        ensures told { result ≢ answer.NoMemory → VacuumTold (is_some self.now.txn || gate.open_elsewhere) self.now (Some result) self.now }
+    {
+        if self.is_open() || gate.open_elsewhere {
+            return Answer::OpenTransactions;
+        }
+        not_built()
+    }
+
+    // Takes a statement on a table.
+    fn ask(
+        &mut self,
+        catalog: &Catalog,
+        statement: &Statement,
+        now: i64,
+        gate: Gate,
+    ) -> Option<Answer>
+        requires idle { IsIdle self.old }
+        requires literals { has_all_literals statement.now ≡ true }
+        ensures memory { result ≡ Some answer.NoMemory → self.new ≡ self.old }
+        ensures told { result ≢ Some answer.NoMemory → AskTold (record { catalog = catalog.now; now = now; gate = gate }) statement.now self.old self.old.txn result self.new }
+    {
+        match &mut self.txn {
+            Some(txn) => ask(self.alloc, txn, &mut self.plan, catalog, statement),
+            None => Some(refused(5)),
+        }
+    }
+
+    /// Takes the reply to the pending call, at a moment from 0 to 2^53, and answers the statement; where it answers nothing another
+    /// call is pending.
+    pub fn advance(&mut self, reply: Reply, now: i64) -> Option<Answer>
+        requires pending { IsSome (client_pending self.old) }
+        requires reply { CanGet (client_pending self.old) reply }
+        ensures { ReplyTold self.old self.old.txn reply now result self.new }
+    {
+        let next = take_reply(&mut self.txn, &mut self.plan, reply, now);
+        leave(&mut self.txn, &mut self.plan, next)
+    }
+}

@@ -1,0 +1,12 @@
+//! What a call of a client leads to.
+use sdb_model::Answer;
+
+#[derive(Debug, Drop)]
+pub enum Next {
+    /// Another call.
+    Call,
+    /// The statement is answered.
+    Answer(Answer),
+    /// The answer ends the transaction.
+    End(Answer),
+}
