@@ -1,31 +1,25 @@
 -- Answers: what is read stands there, and what stands there is read.
-use Rattle.std.proofs.Common.{◌≡◌, ℕ, ℤ, ◌+◌, ◌^◌, ◌<◌, ◌≤◌, Bool, true, false, cond, ltb, ◌==◌, List, [], ◌∷◌, ◌++◌, length, All, Option, Some, None, IfSome, refl, sym, ap, subst, ◌∙◌, append_assoc, arith, flat_map}
+use Rattle.std.proofs.Common.{◌≡◌, ℕ, ◌^◌, ◌<◌, true, List, [], ◌∷◌, ◌++◌, length, All, Option, Some, None, IfSome, refl, sym, ap, subst, ◌∙◌, append_assoc, arith, flat_map}
 use Rattle.std.specs.Prelude.{codes, FitsSigned}
 use Rattle.std.specs.Char.{is_ascii_digit}
 use Rattle.std.specs.Fmt.{decimal, signed_decimal}
 use Rattle.std.specs.Int.{w64}
-use Rattle.std.specs.List.{AllByRecursion}
-use Rattle.std.proofs.lemmas.Bool.Decides.{nat_tests}
-use Rattle.std.proofs.lemmas.List.{append-nil, length-append}
 use Rattle.std.proofs.lemmas.List.Elements.{All-from_recursion, recursion_from_All}
-use Rattle.std.proofs.lemmas.Option.{same_Some, cond_some}
-use Rattle.sdb_types.specs.Fits.{key_fits, columns_fit, record_fits}
-use Rattle.sdb_types.specs.TxId.{id_text}
+use Rattle.std.proofs.lemmas.Option.{same_Some}
+use Rattle.sdb_types.specs.Fits.{key_fits}
 use Rattle.sdb_types.specs.declared.key.Key.{Key}
 use Rattle.sdb_types.specs.declared.record.Record.{Record}
-use Rattle.sdb_types.specs.declared.txid.TxId.{TxId}
 use Rattle.sdb_types.specs.declared.value.Value.{Value}
-use Rattle.sdb_model.specs.Plain.{is_counted, id_fits, values_fit, refusal_fits, IsFoundAt, IsPlainAnswer, IsPlainGiven}
+use Rattle.sdb_model.specs.Plain.{is_counted, id_fits, values_fit, IsFoundAt, IsPlainAnswer, IsPlainGiven}
 use Rattle.sdb_model.specs.Report.{given_text_of}
-use Rattle.sdb_model.specs.Texts.{row_text_of, key_text_of, columns_text_of, found_columns_text_of, rows_text_of, busy_text_of, conflict_text_of, refusal_text_of, answer_text_of}
+use Rattle.sdb_model.specs.Texts.{row_text_of, key_text_of, found_columns_text_of, rows_text_of, answer_text_of}
 use Rattle.sdb_model.specs.declared.answer.Answer.{Answer}
 use Rattle.sdb_model.specs.declared.answer.Answer.TheVariants as answer
-use Rattle.sdb_model.specs.declared.answer.Refusal.{Refusal}
 use Rattle.sdb_reading.specs.Reading.{Read, ◌>>=◌, case_of, after, natural_at, natural_below, integer_at, counted, row_at, key_at, columns_at, id_at}
 use Rattle.sdb_reading.specs.Lines.{made, behind_space, items_at, rows_at, busy_at, found_columns_at, conflict_at, refusal_at, rows_answer_at, count_at, duplicate_at, expired_at, unknown_at, bad_record_at, long_answer_at, answer_at, given_at}
-use Rattle.sdb_reading.proofs.WordLaws.{bind_some, case_some, join, Says, Sound, Again, after_is, after_again, stops_at}
+use Rattle.sdb_reading.proofs.WordLaws.{bind_some, case_some, join, Says, Sound, Again, after_is, stops_at}
 use Rattle.sdb_reading.proofs.NumberLaws.{natural_sound, natural_again, below_sound, below_again, integer_sound, integer_again, id_text_of, id_sound, id_again}
-use Rattle.sdb_reading.proofs.Lists.{More, Counted, Each-all, counted_is, counted_again}
+use Rattle.sdb_reading.proofs.Lists.{Each-all, counted_is, counted_again}
 use Rattle.sdb_reading.proofs.ValueLaws.{row_sound, row_again}
 use Rattle.sdb_reading.proofs.KeyLaws.{key_sound, key_again, columns_sound, columns_again}
 

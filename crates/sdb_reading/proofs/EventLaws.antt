@@ -1,26 +1,24 @@
 -- Events of whole lines: what is read is the line, and the line of each event is read.
-use Rattle.std.proofs.Common.{◌≡◌, ℕ, ℤ, ◌^◌, ◌<◌, ◌≤◌, Bool, true, false, cond, List, [], ◌∷◌, ◌++◌, Option, Some, None, IfSome, refl, sym, ap, subst, ◌∙◌, append_assoc, arith}
-use Rattle.std.specs.Prelude.{codes, FitsSigned}
+use Rattle.std.proofs.Common.{◌≡◌, ℕ, ℤ, ◌^◌, ◌<◌, true, cond, List, [], ◌∷◌, ◌++◌, Option, Some, None, refl, sym, ap, subst, ◌∙◌, append_assoc, arith}
+use Rattle.std.specs.Prelude.{codes}
 use Rattle.std.specs.Fmt.{decimal, signed_decimal}
-use Rattle.std.specs.Int.{w64}
-use Rattle.std.specs.Str.{is_utf8, IsUtf8}
+use Rattle.std.specs.Str.{is_utf8}
 use Rattle.std.proofs.lemmas.List.{append-nil}
 use Rattle.std.proofs.lemmas.Option.{same_Some, cond_some}
 use Rattle.std.proofs.lemmas.Str.{IsUtf8-from_is_utf8, is_utf8-from_IsUtf8}
-use Rattle.sdb_types.specs.Identifier.{is_name}
 use Rattle.sdb_types.specs.declared.record.Reply.{Reply}
 use Rattle.sdb_types.specs.declared.record.Request.{Request}
 use Rattle.sdb_model.specs.Plain.{request_fits, reply_fits, IsPlainGiven, HasPlainParts}
-use Rattle.sdb_model.specs.Report.{given_text_of, request_text_of, how_text_of, reply_text_of, take_text_of, asked_text_of, came_text_of, event_text_of}
+use Rattle.sdb_model.specs.Report.{given_text_of, request_text_of, how_text_of, reply_text_of, asked_text_of, came_text_of, event_text_of}
 use Rattle.sdb_model.specs.declared.answer.Answer.{Answer}
 use Rattle.sdb_model.specs.declared.event.Event.{Event}
 use Rattle.sdb_model.specs.declared.event.Event.TheVariants as event
 use Rattle.sdb_model.specs.declared.event.How.{How}
 use Rattle.sdb_reading.specs.Reading.{Read, ◌>>=◌, case_of, after, text_of, name_at, integer_at}
 use Rattle.sdb_reading.specs.Lines.{behind_space, given_at, request_at, how_at, reply_at, client_at, is_empty, whole, take_of, came_at, asked_at, call_of, event_of, numbered_event_of}
-use Rattle.sdb_reading.proofs.WordLaws.{by_test, bind_some, case_some, join, Says, Sound, after_is, after_again, itself, IsName, name_sound, name_again}
+use Rattle.sdb_reading.proofs.WordLaws.{bind_some, case_some, join, Says, Sound, after_is, after_again, itself, IsName, name_sound, name_again}
 use Rattle.sdb_reading.proofs.NumberLaws.{below_sound, below_again, IsLong, integer_sound, integer_again}
-use Rattle.sdb_reading.proofs.AnswerLaws.{behind, behind_sound, join_space, given_sound, given_again}
+use Rattle.sdb_reading.proofs.AnswerLaws.{behind_sound, join_space, given_sound, given_again}
 use Rattle.sdb_reading.proofs.RequestLaws.{request_sound, request_again, any_how, how_sound, how_again, reply_sound, reply_again}
 
 abbrev IsClient : ℕ → Type 0

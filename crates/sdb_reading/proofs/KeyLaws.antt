@@ -1,15 +1,14 @@
 -- Keys, spans, columns and records: what is read stands there, and what stands there is read.
-use Rattle.std.proofs.Common.{◌≡◌, ℕ, ◌+◌, ◌-◌, ◌<◌, ◌≤◌, Bool, true, false, cond, not, ◌==◌, ◌&&◌, ◌||◌, List, [], ◌∷◌, ◌++◌, length, All, slice_get, Option, Some, None, IfSome, refl, sym, ap, subst, ◌∙◌, append_assoc, arith, flat_map}
+use Rattle.std.proofs.Common.{◌≡◌, ℕ, ◌-◌, ◌<◌, true, not, List, [], ◌∷◌, ◌++◌, length, Option, Some, None, IfSome, refl, sym, ap, subst, ◌∙◌, append_assoc, arith, flat_map}
 use Rattle.std.specs.Prelude.{codes}
 use Rattle.std.specs.List.{AllByRecursion, join_by}
-use Rattle.std.proofs.lemmas.Bool.Decides.{nat_tests}
-use Rattle.std.proofs.lemmas.List.{append-nil, length-append}
+use Rattle.std.proofs.lemmas.List.{length-append}
 use Rattle.std.proofs.lemmas.List.Elements.{All-from_recursion, recursion_from_All}
 use Rattle.std.proofs.lemmas.Option.{same_Some, cond_some, slice_get_read}
 use Rattle.std.proofs.Math.Seq.{get_or-append_seam}
 use Rattle.sdb_types.specs.Columns.{is_null, starts_above, are_columns}
 use Rattle.sdb_types.specs.Fits.{value_fits, pair_fits, key_fits, columns_fit, record_fits}
-use Rattle.sdb_types.specs.Identifier.{is_part, is_name}
+use Rattle.sdb_types.specs.Identifier.{is_part}
 use Rattle.sdb_types.specs.Order.{table_text}
 use Rattle.sdb_types.specs.declared.key.Key.{Key}
 use Rattle.sdb_types.specs.declared.key.TableName.{TableName}
@@ -21,9 +20,9 @@ use Rattle.sdb_types.proofs.Bools.{and_first, and_second, and_both}
 use Rattle.sdb_types.proofs.ColumnMap.{tail_above, tail_columns}
 use Rattle.sdb_model.specs.Plain.{table_fits, span_fits, values_fit}
 use Rattle.sdb_model.specs.Texts.{value_text_of, values_text_of, row_text_of, clustering_text_of, key_text_of, partition_text_of, span_text_of, pair_text_of, columns_text_of, record_text_of}
-use Rattle.sdb_reading.specs.Reading.{Read, ◌>>=◌, case_of, after, name_at, value_at, many, some_values_at, values_at, row_at, table_at, clustering_at, key_at, partition_at, span_at, last_of, is_above, is_next_column, column_of, pair_at, next_pair_at, some_pairs_at, pairs_at, columns_at, record_at}
-use Rattle.sdb_reading.proofs.WordLaws.{by_test, bind_some, case_some, join, Says, Sound, Again, after_is, after_again, stops_at, name_sound, name_again}
-use Rattle.sdb_reading.proofs.Lists.{Each, Each-all, Each-from_all, More, many_is, many_again, count_le}
+use Rattle.sdb_reading.specs.Reading.{◌>>=◌, after, name_at, value_at, many, some_values_at, values_at, row_at, table_at, clustering_at, key_at, partition_at, span_at, last_of, is_above, is_next_column, column_of, pair_at, next_pair_at, some_pairs_at, pairs_at, columns_at, record_at}
+use Rattle.sdb_reading.proofs.WordLaws.{bind_some, case_some, join, Says, Sound, Again, after_is, stops_at, name_sound, name_again}
+use Rattle.sdb_reading.proofs.Lists.{Each, Each-all, many_is, many_again, count_le}
 use Rattle.sdb_reading.proofs.ValueLaws.{value_sound, value_again, ends_value, some_values_sound, some_values_again, values_sound, values_again, ends_values, row_sound, row_again}
 
 ---- tables

@@ -1,12 +1,11 @@
 -- Items one after another: the loops, what they read, and that what stands there is read.
-use Rattle.std.proofs.Common.{◌≡◌, ℕ, zero, suc, ◌-◌, ◌+◌, ◌≤◌, ◌<◌, true, List, [], ◌∷◌, ◌++◌, length, All, Option, Some, None, refl, sym, ap, subst, ◌∙◌, append_assoc, arith, flat_map}
+use Rattle.std.proofs.Common.{◌≡◌, ℕ, zero, suc, ◌-◌, ◌+◌, ◌≤◌, ◌<◌, List, [], ◌∷◌, ◌++◌, length, Some, None, refl, sym, ap, subst, ◌∙◌, append_assoc, arith, flat_map}
 use Rattle.std.specs.List.{AllByRecursion}
 use Rattle.std.proofs.lemmas.List.{append-nil, length-append}
-use Rattle.std.proofs.lemmas.List.Elements.{All-from_recursion}
 use Rattle.std.proofs.lemmas.Option.{same_Some}
 use Rattle.sdb_reading.specs.declared.unread.Unread.{Unread}
 use Rattle.sdb_reading.specs.declared.unread.Unread.TheVariants.{Bad, NoMemory}
-use Rattle.sdb_reading.specs.Reading.{Read, ◌>>=◌, case_of, Fails, many, counted}
+use Rattle.sdb_reading.specs.Reading.{Read, case_of, Fails, many, counted}
 use Rattle.sdb_reading.proofs.WordLaws.{bind_some, Says, Sound, join}
 
 ---- turns of the loops

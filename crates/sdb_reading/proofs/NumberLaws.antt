@@ -1,25 +1,25 @@
 -- Numbers and ids: what is read stands there, and what stands there is read.
-use Rattle.std.proofs.Common.{◌≡◌, ℕ, zero, suc, ◌+◌, ◌-◌, ◌*◌, ◌/◌, ◌%◌, ◌^◌, ◌<◌, ◌≤◌, Bool, true, false, cond, ltb, ◌==◌, List, [], ◌∷◌, ◌++◌, length, take, drop, Option, Some, None, refl, sym, ap, subst, ◌∙◌, append_assoc, arith, ℤ, pos, negsuc, inl}
+use Rattle.std.proofs.Common.{◌≡◌, ℕ, zero, suc, ◌+◌, ◌/◌, ◌%◌, ◌^◌, ◌<◌, ◌≤◌, Bool, true, false, cond, ltb, ◌==◌, List, [], ◌∷◌, ◌++◌, length, take, drop, Option, Some, None, refl, sym, ap, subst, ◌∙◌, append_assoc, arith, ℤ, pos, negsuc, inl}
 use Rattle.std.specs.Prelude.{FitsSigned, codes}
 use Rattle.std.specs.Char.{is_ascii_digit}
 use Rattle.std.specs.Fmt.{decimal, signed_decimal}
 use Rattle.std.specs.Int.{w64, w128, to_be_bytes}
 use Rattle.std.specs.Str.{is_utf8}
-use Rattle.std.proofs.lemmas.Bool.{ltb-true, ltb-false, lt-ltb, le-ltb}
+use Rattle.std.proofs.lemmas.Bool.{ltb-true, lt-ltb, le-ltb}
 use Rattle.std.proofs.lemmas.Bool.Decides.{nat_tests}
 use Rattle.std.proofs.lemmas.Fmt.{decimal_by_steps}
 use Rattle.std.proofs.lemmas.List.{take_at, drop_at, length-append}
 use Rattle.std.proofs.lemmas.Option.{same_Some, cond_some}
 use Rattle.std.proofs.lemmas.Str.{is_utf8-from_IsUtf8, IsUtf8-from_ascii}
 use Rattle.std.proofs.Common.{take-append-drop}
-use Rattle.uuid.specs.Text.{lower, hyphenated_text}
+use Rattle.uuid.specs.Text.{lower}
 use Rattle.uuid.proofs.TextLemmas.{hyphenated_ascii, by_index_length}
 use Rattle.sdb_types.specs.TxId.{id_text}
 use Rattle.sdb_types.specs.declared.txid.TxId.{TxId}
 use Rattle.sdb_model.specs.Plain.{id_fits}
 use Rattle.sdb_record.specs.Ids.{id_of_text}
 use Rattle.sdb_record.proofs.IdLemmas.{id_of_text-id_text, id_of_text-is}
-use Rattle.sdb_reading.specs.Reading.{Read, ◌>>=◌, case_of, after, widest, with_digit, number_on, natural_at, natural_below, longest, positive, negative, said_at, integer_at, text_of, id_at}
+use Rattle.sdb_reading.specs.Reading.{◌>>=◌, case_of, after, with_digit, number_on, natural_at, natural_below, positive, negative, said_at, integer_at, text_of, id_at}
 use Rattle.sdb_reading.proofs.WordLaws.{by_test, bind_some, Says, Sound, Again, after_is, after_again, stops_at}
 
 is_digit : (d : ℕ) → d < 10 → is_ascii_digit (48 + d) ≡ true

@@ -1,12 +1,10 @@
 -- Requests, what became of them, and replies: what is read stands there, and what stands there is read.
-use Rattle.std.proofs.Common.{◌≡◌, ℕ, ◌^◌, ◌<◌, true, false, List, [], ◌∷◌, ◌++◌, length, All, Option, Some, None, IfSome, refl, sym, ap, subst, ◌∙◌, append_assoc}
+use Rattle.std.proofs.Common.{◌≡◌, ℕ, ◌<◌, List, [], ◌∷◌, ◌++◌, Option, Some, None, IfSome, refl, ap, subst, ◌∙◌, append_assoc}
 use Rattle.std.specs.Prelude.{codes}
 use Rattle.std.specs.Fmt.{decimal, signed_decimal}
 use Rattle.std.proofs.lemmas.Option.{same_Some}
 use Rattle.sdb_types.specs.Contents.{state_number}
 use Rattle.sdb_types.specs.Fits.{key_fits, record_fits}
-use Rattle.sdb_types.specs.TxId.{id_text}
-use Rattle.sdb_types.specs.declared.key.Key.{Key}
 use Rattle.sdb_types.specs.declared.record.Condition.{Condition}
 use Rattle.sdb_types.specs.declared.record.Condition.TheVariants.{Absent, Version}
 use Rattle.sdb_types.specs.declared.record.Record.{Record}
@@ -16,15 +14,15 @@ use Rattle.sdb_types.specs.declared.record.Request.{Request}
 use Rattle.sdb_types.specs.declared.record.Request.TheVariants as ask
 use Rattle.sdb_types.specs.declared.record.State.{State}
 use Rattle.sdb_types.specs.declared.record.State.TheVariants.{Prepared, Deleted, Committed, Aborted}
-use Rattle.sdb_model.specs.Plain.{is_counted, id_fits, span_fits, condition_fits, request_fits, reply_fits}
+use Rattle.sdb_model.specs.Plain.{span_fits, condition_fits, request_fits, reply_fits}
 use Rattle.sdb_model.specs.Report.{condition_text_of, request_text_of, how_text_of, found_text_of, records_text_of, reply_text_of}
 use Rattle.sdb_model.specs.Texts.{key_text_of, span_text_of, record_text_of}
 use Rattle.sdb_model.specs.declared.event.How.{How}
 use Rattle.sdb_model.specs.declared.event.How.TheVariants.{Seen, Lost, Discarded, Broken}
 use Rattle.sdb_reading.specs.Reading.{Read, ◌>>=◌, case_of, after, name_at, table_at, key_at, span_at, record_at, id_at}
-use Rattle.sdb_reading.specs.Lines.{made, behind_space, state_at, version_at, condition_at, get_at, scan_at, put_at, delete_at, request_at, how_at, found_at, records_at, found_reply_at, rows_reply_at, not_met_at, reply_at}
+use Rattle.sdb_reading.specs.Lines.{behind_space, state_at, version_at, condition_at, get_at, scan_at, put_at, delete_at, request_at, how_at, found_at, records_at, found_reply_at, rows_reply_at, not_met_at, reply_at}
 use Rattle.std.specs.Int.{w128, to_be_bytes}
-use Rattle.std.proofs.Common.{get_or, ltb, ◌/◌, ◌%◌, arith}
+use Rattle.std.proofs.Common.{get_or, ltb, arith}
 use Rattle.std.proofs.Common.{◌+◌}
 use Rattle.std.proofs.lemmas.Fmt.{decimal_digit}
 use Rattle.std.proofs.lemmas.Bool.{ltb-true}
@@ -33,10 +31,10 @@ use Rattle.uuid.specs.Text.{hex_digit, lower, nibble}
 use Rattle.uuid.proofs.TextLemmas.{by_index_at}
 use Rattle.sdb_types.specs.declared.txid.TxId.{TxId}
 use Rattle.sdb_reading.proofs.NumberLaws.{id_long}
-use Rattle.sdb_reading.proofs.WordLaws.{by_test, bind_some, case_some, join, Says, Sound, Again, after_is}
+use Rattle.sdb_reading.proofs.WordLaws.{by_test, bind_some, case_some, join, Says, Sound, after_is}
 use Rattle.sdb_reading.proofs.NumberLaws.{id_text_of, id_sound, id_again}
 use Rattle.sdb_reading.proofs.KeyLaws.{key_sound, key_again, span_sound, span_again, record_sound, record_again}
-use Rattle.sdb_reading.proofs.AnswerLaws.{behind_sound, made_sound, word_sound, join_space, two_pieces, CountedFit, items_sound, items_again, EndsDigits}
+use Rattle.sdb_reading.proofs.AnswerLaws.{behind_sound, made_sound, word_sound, join_space, CountedFit, items_sound, items_again, EndsDigits}
 
 ---- conditions
 

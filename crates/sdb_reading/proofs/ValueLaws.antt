@@ -1,15 +1,15 @@
 -- Values and rows: what is read stands there, and what stands there is read.
-use Rattle.std.proofs.Common.{◌≡◌, ℕ, zero, suc, ◌+◌, ◌^◌, ◌<◌, ◌≤◌, Bool, true, false, cond, not, ltb, ◌==◌, ◌&&◌, ◌||◌, List, [], ◌∷◌, ◌++◌, length, take, drop, All, Option, Some, None, Result, Ok, Err, refl, sym, ap, subst, ◌∙◌, append_assoc, arith, ℤ, pos, negsuc, inl, inr, flat_map, ◌/◌, ◌%◌, ◌-◌, ◌*◌}
+use Rattle.std.proofs.Common.{◌≡◌, ℕ, zero, suc, ◌^◌, ◌<◌, Bool, true, false, cond, ltb, ◌==◌, ◌&&◌, ◌||◌, List, [], ◌∷◌, ◌++◌, length, take, Option, Some, None, Result, Ok, Err, refl, sym, ap, subst, ◌∙◌, append_assoc, arith, ℤ, pos, negsuc, inl, inr, flat_map, ◌/◌, ◌%◌}
 use Rattle.std.specs.Prelude.{FitsSigned, codes, slice_index}
 use Rattle.std.specs.Char.{is_ascii_digit}
 use Rattle.std.specs.Fmt.{decimal, signed_decimal}
-use Rattle.std.specs.Int.{w32, w64}
-use Rattle.std.specs.List.{list_all, prefix_len, AllByRecursion, join_by}
+use Rattle.std.specs.Int.{w32}
+use Rattle.std.specs.List.{list_all, prefix_len, AllByRecursion}
 use Rattle.std.specs.Result.{result_ok}
 use Rattle.std.specs.Str.{is_utf8, IsUtf8}
-use Rattle.std.proofs.lemmas.Bool.{eqb-true, ltb-true, lt-ltb, cases_lt}
+use Rattle.std.proofs.lemmas.Bool.{eqb-true, ltb-true, lt-ltb}
 use Rattle.std.proofs.lemmas.Bool.Decides.{nat_tests}
-use Rattle.std.proofs.lemmas.List.{append-nil, length-append, take_at}
+use Rattle.std.proofs.lemmas.List.{append-nil, take_at}
 use Rattle.std.proofs.lemmas.List.Elements.{All-from_recursion, recursion_from_All}
 use Rattle.std.proofs.lemmas.Option.{same_Some, cond_some}
 use Rattle.std.proofs.lemmas.Str.{IsUtf8-from_is_utf8, is_utf8-from_IsUtf8}
@@ -19,13 +19,12 @@ use Rattle.hex.proofs.HexLemmas.{decode_of-ok, decode_of-encode_upper, IsDigits-
 use Rattle.sdb_types.specs.Fits.{AreBytes, text_fits, value_fits}
 use Rattle.sdb_types.specs.declared.value.Value.{Value}
 use Rattle.sdb_types.specs.declared.value.Value.TheVariants as value
-use Rattle.sdb_model.specs.Texts.{doubled, quoted, bool_text_of, value_text_of, values_text_of, row_text_of}
+use Rattle.sdb_model.specs.Texts.{doubled, quoted, value_text_of, values_text_of, row_text_of}
 use Rattle.sdb_model.specs.Plain.{values_fit}
-use Rattle.sdb_reading.specs.Reading.{Read, ◌>>=◌, case_of, after, text_of, integer_at, int_of, begins_number, numeral_at, quoted_on, text_at, is_unquoted, blob_at, value_at, many, next_value_at, some_values_at, values_at, row_at}
+use Rattle.sdb_reading.specs.Reading.{◌>>=◌, case_of, after, text_of, integer_at, int_of, begins_number, numeral_at, quoted_on, text_at, is_unquoted, blob_at, value_at, many, next_value_at, some_values_at, values_at, row_at}
 use Rattle.sdb_reading.proofs.WordLaws.{by_test, bind_some, case_some, join, Says, Sound, Again, after_is, after_again, stops_at, front_again}
 use Rattle.sdb_reading.proofs.NumberLaws.{digits_go, begins_digit, integer_sound, integer_again, IsLong}
-use Rattle.sdb_reading.proofs.Lists.{Each, Each-all, Each-from_all, More, many_is, many_again, count_le}
-use Rattle.std.specs.Char.{encode_utf8}
+use Rattle.sdb_reading.proofs.Lists.{Each-all, Each-from_all, many_is, many_again, count_le}
 use lib.Utf8.{scalar, scalars, encode, encodes, next, scalar_cases}
 
 ---- a text in UTF-8 is bytes

@@ -1,31 +1,29 @@
 -- The forms of a report's lines.
-use Rattle.std.proofs.Common.{◌≡◌, ℕ, zero, suc, ◌+◌, ◌-◌, ◌/◌, ◌%◌, ◌^◌, ◌<◌, ◌≤◌, Bool, true, false, cond, ltb, not, ◌==◌, ◌&&◌, ◌||◌, List, [], ◌∷◌, ◌++◌, length, Option, Some, None, refl, sym, ap, subst, ◌∙◌, append_assoc, arith}
+use Rattle.std.proofs.Common.{◌≡◌, ℕ, zero, suc, ◌+◌, ◌-◌, ◌%◌, ◌^◌, ◌<◌, ◌≤◌, Bool, true, false, cond, ltb, ◌==◌, List, [], ◌∷◌, ◌++◌, Option, Some, refl, sym, ap, subst, ◌∙◌, append_assoc, arith}
 use Rattle.std.specs.Prelude.{codes}
 use Rattle.std.specs.Fmt.{decimal}
 use Rattle.std.specs.Int.{w128, to_be_bytes}
 use Rattle.std.specs.List.{list_all}
 use Rattle.std.specs.Str.{bytes_eq}
-use Rattle.std.proofs.lemmas.Bool.{ltb-true, ltb-false}
+use Rattle.std.proofs.lemmas.Bool.{ltb-false}
 use Rattle.std.proofs.lemmas.Bool.Decides.{nat_tests}
 use Rattle.std.proofs.lemmas.Fmt.{decimal_by_steps}
 use Rattle.std.proofs.lemmas.List.{append-nil}
 use Rattle.std.proofs.lemmas.Option.{same_Some, cond_some}
 use Rattle.std.proofs.lemmas.Slice.Eq.{bytes_eq-Decides}
 use Rattle.uuid.specs.Text.{by_index, hex_digit, lower, nibble, is_hyphen_place, digit_place, hyphen}
-use Rattle.sdb_types.specs.Identifier.{is_part, is_name}
+use Rattle.sdb_types.specs.Identifier.{is_part}
 use Rattle.sdb_types.specs.Order.{table_text}
 use Rattle.sdb_types.specs.TxId.{id_text}
 use Rattle.sdb_types.specs.declared.key.TableName.{TableName}
-use Rattle.sdb_types.specs.declared.value.Value.{Value}
 use Rattle.sdb_types.proofs.Bools.{and_first, and_second, and_both}
 use Rattle.sdb_types.proofs.KeyOrder.{parts}
-use Rattle.sdb_model.specs.Plain.{table_fits, is_no_lf, is_one_line, HasPlainParts, IsPlainEvent, IsPlainPoint, IsPlainRow}
+use Rattle.sdb_model.specs.Plain.{table_fits, is_no_lf, is_one_line, IsPlainEvent, IsPlainPoint, IsPlainRow}
 use Rattle.sdb_model.specs.Report.{event_text_of}
 use Rattle.sdb_model.specs.Texts.{row_text_of}
-use Rattle.sdb_model.specs.declared.event.Event.{Event}
 use Rattle.sdb_model.specs.declared.event.Point.{Point}
 use Rattle.sdb_model.specs.declared.event.TableDump.{TableDump}
-use Rattle.sdb_reading.specs.Reading.{Read, ◌>>=◌, after, natural_at, row_at, table_at, id_at}
+use Rattle.sdb_reading.specs.Reading.{◌>>=◌, after, natural_at, row_at, table_at, id_at}
 use Rattle.sdb_reading.specs.Lines.{whole, numbered_event_of}
 use Rattle.sdb_reading.proofs.WordLaws.{by_test, bind_some, join, after_is, after_again}
 use Rattle.sdb_reading.proofs.NumberLaws.{natural_sound, natural_again, id_text_of, id_sound, id_again}

@@ -1,12 +1,11 @@
 -- The parts of a report, and the whole: what is read is the report of a plain outcome, and each such report is read.
-use Rattle.std.proofs.Common.{◌≡◌, ℕ, suc, ◌+◌, ◌^◌, ◌<◌, Bool, cond, true, false, ◌&&◌, List, [], ◌∷◌, ◌++◌, length, All, Option, Some, None, Result, Ok, Err, refl, sym, ap, subst, ◌∙◌, append_assoc, arith, flat_map}
+use Rattle.std.proofs.Common.{◌≡◌, ℕ, ◌+◌, ◌^◌, ◌<◌, Bool, cond, true, false, List, [], ◌∷◌, ◌++◌, length, All, Option, Result, Ok, Err, refl, sym, ap, subst, ◌∙◌, append_assoc, arith, flat_map}
 use Rattle.std.specs.Prelude.{codes}
 use Rattle.std.specs.Fmt.{decimal}
 use Rattle.std.specs.List.{AllByRecursion}
 use Rattle.std.proofs.lemmas.List.{append-nil, length-append}
 use Rattle.std.proofs.lemmas.List.Elements.{All-from_recursion, recursion_from_All}
 use Rattle.sdb_types.specs.Order.{table_text}
-use Rattle.sdb_types.specs.declared.key.TableName.{TableName}
 use Rattle.sdb_types.specs.declared.value.Value.{Value}
 use Rattle.sdb_types.proofs.Bools.{and_first, and_second, and_both}
 use Rattle.sdb_model.specs.Plain.{is_counted, is_one_line, IsPlainEvent, IsPlainPoint, IsPlainRow, IsPlainDump, starts_after, are_rising, IsPlain}
@@ -19,8 +18,8 @@ use Rattle.sdb_reading.specs.Reading.{last_of}
 use Rattle.sdb_reading.specs.Lines.{numbered_event_of, is_empty}
 use Rattle.sdb_reading.proofs.KeyLaws.{last_of-push}
 use Rattle.sdb_reading.proofs.Lists.{Each, Each-all, Each-from_all}
-use Rattle.sdb_report.specs.Reading.{Placed, both, line_at, lines_at, fixed_of, heading_of, point_of, row_of, is_after, table_of, event_at, point_at, row_line_at, dump_at, part_at, title_at, end_at, events_at, order_at, tables_at, Places, places_at, outcome_of, parts_at, body_at, report_at, all_of, report_in}
-use Rattle.sdb_report.proofs.Readers.{Reads, HasForm, with_lf, line_reads, IsMade, both_reads, texts, Items, items_read, read_as, ok_is}
+use Rattle.sdb_report.specs.Reading.{Placed, line_at, lines_at, fixed_of, heading_of, point_of, row_of, is_after, table_of, event_at, point_at, row_line_at, dump_at, part_at, title_at, end_at, events_at, order_at, tables_at, Places, places_at, outcome_of, parts_at, body_at, report_at, all_of, report_in}
+use Rattle.sdb_report.proofs.Readers.{Reads, with_lf, line_reads, both_reads, texts, Items, items_read, read_as, ok_is}
 use Rattle.sdb_report.proofs.Forms.{itself, IsWord, fixed_form, IsCount, heading_form, event_form, point_text, point_form, row_form, Headed, headed_text, IsNext, table_form}
 
 ---- a part

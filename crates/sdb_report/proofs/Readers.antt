@@ -1,15 +1,14 @@
 -- Readers of lines: what is read stands there, and what stands there is read.
-use Rattle.std.proofs.Common.{◌≡◌, ℕ, zero, suc, ◌+◌, Bool, true, false, List, [], ◌∷◌, ◌++◌, length, Option, Some, None, Result, Ok, Err, refl, sym, ap, subst, ◌∙◌, append_assoc, arith}
+use Rattle.std.proofs.Common.{◌≡◌, ℕ, zero, suc, ◌+◌, true, List, [], ◌∷◌, ◌++◌, length, Option, Some, None, Result, Ok, Err, refl, sym, ap, subst, ◌∙◌, append_assoc, arith}
 use Rattle.std.specs.Prelude.{codes}
 use Rattle.std.proofs.Common.{◌^◌, ◌<◌}
-use Rattle.std.specs.Fmt.{decimal}
 use Rattle.std.proofs.lemmas.List.{length-append}
 use Rattle.sdb_model.specs.Plain.{is_one_line}
 use Rattle.sdb_reading.specs.Reading.{case_of}
 use Rattle.sdb_reading.proofs.WordLaws.{join, Says}
 use Rattle.sdb_reading.proofs.Lists.{Each}
 use Rattle.sdb_report.specs.Reading.{Placed, then_read, both, cut_line, line_at, lines_at}
-use Rattle.sdb_report.proofs.Cuts.{IsCut, cut_is, cut_again}
+use Rattle.sdb_report.proofs.Cuts.{cut_is, cut_again}
 
 abbrev pub done : {A : Type 0} → A → Result A ℕ
 done x = Ok x

@@ -1,18 +1,16 @@
 -- Where the reading of a report stops: the first line that no report has there.
-use Rattle.std.proofs.Common.{◌≡◌, ◌≢◌, ℕ, suc, ◌+◌, ◌-◌, ◌^◌, ◌<◌, ◌==◌, Bool, true, false, cond, not, List, [], ◌∷◌, ◌++◌, length, take, All, Option, Some, None, Result, Ok, Err, IfErr, refl, sym, ap, subst, ◌∙◌, append_assoc, arith, flat_map}
+use Rattle.std.proofs.Common.{◌≡◌, ℕ, ◌+◌, ◌-◌, ◌^◌, ◌<◌, ◌==◌, true, false, cond, List, [], ◌∷◌, ◌++◌, length, take, All, Option, Some, None, Result, Ok, Err, IfErr, refl, sym, ap, subst, ◌∙◌, append_assoc, arith}
 use Rattle.std.specs.Prelude.{codes}
 use Rattle.std.specs.Fmt.{decimal}
-use Rattle.std.specs.List.{AllByRecursion, count_by}
+use Rattle.std.specs.List.{count_by}
 use Rattle.std.proofs.lemmas.List.{append-nil, length-append, take_at}
 use Rattle.std.proofs.lemmas.List.Sums.{sum_by-cons}
 use Rattle.std.proofs.lemmas.List.Elements.{All-from_recursion, recursion_from_All}
 use Rattle.sdb_types.specs.Fits.{value_fits}
-use Rattle.sdb_types.specs.Order.{table_text}
-use Rattle.sdb_types.specs.declared.key.TableName.{TableName}
 use Rattle.sdb_types.specs.declared.value.Value.{Value}
 use Rattle.sdb_types.proofs.Bools.{and_first, and_second}
 use Rattle.sdb_model.specs.Plain.{is_counted, table_fits, is_no_lf, is_one_line, IsPlainEvent, IsPlainPoint, IsPlainRow, IsPlainDump, IsPlain}
-use Rattle.sdb_model.specs.Report.{event_text_of, point_line, row_line, table_lines, events_text_of, order_text_of, tables_text_of, report_text_of}
+use Rattle.sdb_model.specs.Report.{event_text_of, point_line, table_lines, events_text_of, order_text_of, tables_text_of, report_text_of}
 use Rattle.sdb_model.specs.Texts.{row_text_of}
 use Rattle.sdb_model.specs.declared.event.Event.{Event}
 use Rattle.sdb_model.specs.declared.event.Event.TheVariants as event
@@ -23,15 +21,15 @@ use Rattle.sdb_reading.specs.Reading.{last_of}
 use Rattle.sdb_reading.specs.Lines.{numbered_event_of, is_empty}
 use Rattle.sdb_reading.proofs.WordLaws.{by_test}
 use Rattle.sdb_reading.proofs.Lists.{Each}
-use Rattle.sdb_report.specs.Reading.{Placed, both, cut_line, line_at, lines_at, fixed_of, heading_of, point_of, row_of, is_after, table_of, event_at, point_at, row_line_at, dump_at, part_at, title_at, end_at, events_at, order_at, tables_at, Places, places_at, outcome_of, parts_at, body_at, report_at, all_of, report_in}
-use Rattle.sdb_report.specs.Reports.{is_lf, refusal, Reads as ReadsAs, text_of_lines, IsLoose, Begins, IsDead, IsFirstBad, IsRefusedAt}
+use Rattle.sdb_report.specs.Reading.{Placed, cut_line, line_at, lines_at, fixed_of, heading_of, point_of, row_of, table_of, event_at, point_at, row_line_at, dump_at, part_at, title_at, end_at, events_at, order_at, tables_at, Places, places_at, outcome_of, parts_at, body_at, report_at, all_of, report_in}
+use Rattle.sdb_report.specs.Reports.{is_lf, Reads as ReadsAs, text_of_lines, IsLoose, Begins, IsDead, IsFirstBad, IsRefusedAt}
 use Rattle.sdb_report.specs.declared.refused.ReportRefused.{ReportRefused}
 use Rattle.sdb_report.specs.declared.refused.ReportRefused.TheVariants as refused
 use Rattle.sdb_report.proofs.Cuts.{cut_is, cut_again}
-use Rattle.sdb_report.proofs.Readers.{done, ok_is, Reads, HasForm, with_lf, line_reads, IsMade, texts, Items, items_read}
+use Rattle.sdb_report.proofs.Readers.{done, Reads, with_lf, line_reads, texts, Items}
 use Rattle.sdb_report.proofs.Forms.{lines_joined, decimal_one, itself, IsWord, fixed_form, IsCount, heading_form, event_form, point_text, point_form, row_form, Headed, headed_text, IsNext, table_form}
-use Rattle.sdb_report.proofs.PartLaws.{part_text, IsPart, const_texts, each_all, all_each, event_text, EventAfter, event_reads, event_texts, EventsPlain, events_read, point_after, PointAfter, point_reads, OrderPlain, order_read, row_after, RowAfter, row_reads, DumpAfter, dump_of, RowsOf, dump_same, dump_after, dump_reads, TablesPlain, tables_read, rising_each, PlacesPlain, places_text, places_read, parts_text, parts_read, title, end_word, body_read, pieces, report_read, in_again}
-use Rattle.sdb_report.proofs.Stops.{AreLines, lines_append, SameLine, Whole, failed, err_is, Stop, Stopping, line_stopping, Filled, both_stopping, items_fill, items_stopping, stopping_as}
+use Rattle.sdb_report.proofs.PartLaws.{part_text, IsPart, const_texts, each_all, all_each, event_text, EventAfter, event_reads, event_texts, EventsPlain, events_read, point_after, PointAfter, point_reads, OrderPlain, order_read, row_after, RowAfter, row_reads, DumpAfter, dump_of, RowsOf, dump_same, dump_after, dump_reads, TablesPlain, rising_each, PlacesPlain, places_text, parts_text, parts_read, title, end_word, pieces, report_read, in_again}
+use Rattle.sdb_report.proofs.Stops.{AreLines, lines_append, SameLine, failed, err_is, Stopping, line_stopping, Filled, both_stopping, items_fill, items_stopping, stopping_as}
 
 ---- a part
 

@@ -1,15 +1,13 @@
 -- Where readers of lines stop: the lines before begin some text, and the next line is in none.
-use Rattle.std.proofs.Common.{◌≡◌, ◌≢◌, ℕ, zero, suc, ◌+◌, ◌^◌, ◌<◌, Bool, true, false, List, [], ◌∷◌, ◌++◌, length, Option, Some, None, Result, Ok, Err, refl, sym, ap, subst, ◌∙◌, append_assoc, arith, flat_map}
+use Rattle.std.proofs.Common.{◌≡◌, ℕ, zero, suc, ◌+◌, ◌^◌, ◌<◌, true, List, [], ◌∷◌, ◌++◌, length, Option, Some, None, Result, Ok, Err, refl, sym, ap, subst, ◌∙◌, append_assoc, arith}
 use Rattle.std.specs.Prelude.{codes}
 use Rattle.std.specs.List.{AllByRecursion}
 use Rattle.std.proofs.lemmas.List.{append-nil, length-append}
 use Rattle.sdb_model.specs.Plain.{is_one_line}
 use Rattle.sdb_reading.specs.Reading.{case_of}
-use Rattle.sdb_reading.proofs.Lists.{Each}
-use Rattle.sdb_reading.proofs.WordLaws.{Says}
 use Rattle.sdb_report.specs.Reading.{Placed, then_read, both, cut_line, line_at, lines_at}
 use Rattle.sdb_report.specs.Reports.{text_of_lines}
-use Rattle.sdb_report.proofs.Readers.{done, ok_is, Reads, HasForm, with_lf, IsMade, texts, Items, items_read}
+use Rattle.sdb_report.proofs.Readers.{done, Reads, HasForm, with_lf, IsMade, texts, Items}
 
 ---- lines
 

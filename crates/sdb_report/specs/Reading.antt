@@ -1,5 +1,5 @@
 -- Reading a report line by line. What is wrong is told by the bytes left where the bad line begins.
-use Rattle.std.specs.Prelude.{◌≡◌, ℕ, zero, suc, ◌+◌, ◌==◌, nat_lt, Bool, true, if◌then◌else◌, List, [], ◌∷◌, ◌++◌, length, take, drop, codes, Option, Some, None, Result, Ok, Err}
+use Rattle.std.specs.Prelude.{◌≡◌, ℕ, zero, suc, ◌+◌, Bool, true, if◌then◌else◌, List, [], ◌∷◌, ◌++◌, length, take, drop, codes, Option, Some, None, Result, Ok, Err}
 use Rattle.std.specs.List.{prefix_len}
 use Rattle.std.specs.Ordering.{is_lt}
 use Rattle.std.specs.Str.{bytes_eq}
@@ -12,7 +12,7 @@ use Rattle.sdb_model.specs.declared.event.Outcome.{Outcome}
 use Rattle.sdb_model.specs.declared.event.Point.{Point}
 use Rattle.sdb_model.specs.declared.event.TableDump.{TableDump}
 use Rattle.sdb_reading.specs.Lines.{whole, numbered_event_of, is_empty}
-use Rattle.sdb_reading.specs.Reading.{Read, ◌>>=◌, case_of, after, natural_at, row_at, table_at, id_at, last_of}
+use Rattle.sdb_reading.specs.Reading.{◌>>=◌, case_of, after, natural_at, row_at, table_at, id_at, last_of}
 use Rattle.sdb_report.specs.declared.refused.Stopped.{Stopped}
 use Rattle.sdb_report.specs.declared.refused.Stopped.TheVariants as stopped
 

@@ -6,6 +6,8 @@ mod parsed;
 #[cfg(test)]
 mod printed;
 #[cfg(test)]
+mod readback;
+#[cfg(test)]
 mod reports;
 #[cfg(test)]
 mod scripts;

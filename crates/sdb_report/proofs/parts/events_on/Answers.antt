@@ -1,4 +1,4 @@
-use Rattle.std.proofs.Common.{◌≡◌, [], ◌∷◌, ◌+◌, length, sym, subst, ◌∙◌, arith, ℕ, Ok}
+use Rattle.std.proofs.Common.{◌≡◌, [], ◌∷◌, ◌+◌, sym, subst, arith, ℕ, Ok}
 use Rattle.std.proofs.lemmas.List.{length-append}
 use Rattle.std.proofs.lemmas.Result.{err_from_is_err_and}
 use Rattle.sdb_reading.specs.Lines.{numbered_event_of}
