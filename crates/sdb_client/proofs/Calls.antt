@@ -1,5 +1,5 @@
 -- What the call of a read leads its statement to.
-use Rattle.std.proofs.Common.{◌≡◌, ◌≢◌, ℤ, Bool, true, false, List, [], ◌∷◌, Option, Some, None, refl, sym, ap, subst, ◌∙◌, take, slice_get, is_some, cond, ◌++◌, ◌⊎◌, inl, inr}
+use Rattle.std.proofs.Common.{◌≡◌, ◌≢◌, ℤ, Bool, true, List, [], ◌∷◌, Option, Some, None, refl, sym, ap, subst, ◌∙◌, take, slice_get, is_some, cond, ◌++◌, ◌⊎◌, inl, inr}
 use Rattle.sdb_types.specs.declared.key.Key.{Key}
 use Rattle.sdb_types.specs.declared.txid.TxId.{TxId}
 use Rattle.sdb_types.specs.declared.record.Record.{Record}
@@ -23,14 +23,14 @@ use Rattle.sdb_transaction.proofs.Notes.{kept_cut}
 use Rattle.sdb_transaction.specs.declared.txn.Doing.{Doing}
 use Rattle.sdb_transaction.specs.declared.txn.Doing.TheVariants as doing
 use Rattle.sdb_exec.specs.Reads.{access_of}
-use Rattle.sdb_client.specs.Inside.{IsFine, IsKeyRead, IsReadOf}
+use Rattle.sdb_client.specs.Inside.{IsKeyRead, IsReadOf}
 use Rattle.sdb_snapshot.proofs.Forgotten.{get_forgotten, scan_forgotten}
 use Rattle.sdb_transaction.specs.declared.progress.Progress.{Progress}
 use Rattle.sdb_transaction.specs.declared.progress.Progress.TheVariants as progress
-use Rattle.sdb_transaction.specs.Txn.{EndTold, IfReading, ImagesTold as ImagesEnd, ReadTold, StepTold, TxnAt, idle}
+use Rattle.sdb_transaction.specs.Txn.{IfReading, ImagesTold as ImagesEnd, ReadTold, StepTold, TxnAt, idle}
 use Rattle.sdb_client.specs.declared.next.Next.{Next}
 use Rattle.sdb_client.specs.declared.next.Next.TheVariants as next
-use Rattle.sdb_client.specs.Client.{CallTold, ImagesTold, IsAsRead, IsMovedAt, StageTold, gives, given_answer, given_left, noting}
+use Rattle.sdb_client.specs.Client.{CallTold, IsAsRead, IsMovedAt, StageTold, gives, given_answer, given_left, noting}
 
 -- neither rows nor a conflict
 abbrev pub IsPlain : Progress → Type 0
@@ -129,7 +129,7 @@ rows_in (progress.Rows rows) = rows
 rows_in g = []
 
 noted_images : (t u : TxnAt) (a : Access) (images : List Record) (rows : List Image) → ImagesEnd t a images (progress.Rows rows) u → IsNoted t u a (step.Images images) rows
-noted_images t u (access.Get key) images rows h = record { images = images; ended = refl; noted = h.noted; rows = ap rows_in h.rows; as_read = tt }
+noted_images t u (access.Get key) images rows h = record { images = images; ended = refl; noted = h.noted; rows = ap rows_in h.rows; as_read = h.unread }
 noted_images t u (access.Scan span) images rows h = record { images = images; ended = refl; noted = h.1; rows = h.2; as_read = h.0 }
 
 noted_stage : (t u : TxnAt) (a : Access) (x : ReadAt) (after : ReadStage) (s : ReadStep) (rows : List Image) → StepTold t a x after s (progress.Rows rows) u → IsNoted t u a s rows

@@ -1,8 +1,8 @@
 -- The rows that a statement writes hold user columns alone, in their order.
-use Rattle.std.proofs.Common.{◌≡◌, ℕ, Bool, true, false, not, ◌&&◌, cond, List, [], ◌∷◌, map, Option, Some, None, refl, sym, ap, subst, ◌∙◌}
-use Rattle.std.specs.Prelude.{filter, find, is_ok, is_some, unwrap_or, Result, Ok, Err}
+use Rattle.std.proofs.Common.{◌≡◌, ℕ, Bool, true, false, not, ◌&&◌, cond, List, [], ◌∷◌, Option, Some, None, refl, subst}
+use Rattle.std.specs.Prelude.{find, is_ok, Result}
 use Rattle.std.specs.Option.{option_map, option_map_or}
-use Rattle.std.specs.List.{AllByRecursion, list_all}
+use Rattle.std.specs.List.{list_all}
 use Rattle.sdb_types.specs.Exact.{equal_of}
 use Rattle.std.proofs.lemmas.Bool.{and_parts}
 use Rattle.sdb_types.specs.Order.{name_cmp}
@@ -15,15 +15,10 @@ use Rattle.sdb_types.proofs.ColumnLemmas.{with_column-are_columns}
 use Rattle.sdb_types.proofs.KeyOrder.{name_exact}
 use Rattle.sdb_record.specs.Names.{is_user, same_name}
 use Rattle.sdb_record.specs.Parts.{are_user_columns, is_column_name, is_user_pair}
-use Rattle.sdb_record.specs.Rolls.{is_change}
-use Rattle.sdb_record.specs.declared.access.Image.{Image}
-use Rattle.sdb_record.specs.declared.write.Change.{Change}
-use Rattle.sdb_record.specs.declared.write.Change.TheVariants as change
-use Rattle.sdb_record.specs.declared.write.Keyed.{Keyed}
 use Rattle.sdb_schema.specs.declared.table.Column.{Column}
 use Rattle.sdb_schema.specs.declared.table.Table.{Table}
 use Rattle.sdb_schema.specs.declared.make.TableRefused.{TableRefused}
-use Rattle.sdb_schema.specs.Table.{refuse, none_of, first_unknown, first_listed_twice, first_repeated, first_reserved, limit_passed, checked_table, is_table, is_reserved, key_names, rises}
+use Rattle.sdb_schema.specs.Table.{refuse, none_of, first_unknown, first_listed_twice, first_repeated, first_reserved, checked_table, is_table, is_reserved, key_names, rises}
 use Rattle.sdb_schema.specs.Rows.{fits_table, is_of_column, is_stored_in, is_value_of}
 use Rattle.sdb_model.specs.Rows.{Name, is_key_column, literal_at}
 use Rattle.sdb_model.specs.Exec.{with_named, with_sets}

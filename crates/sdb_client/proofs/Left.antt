@@ -1,10 +1,7 @@
 -- What a call leaves of its client.
-use Rattle.std.proofs.Common.{◌≡◌, ◌≢◌, ℤ, Bool, true, false, cond, List, Option, Some, None, refl, sym, ap, subst, ◌∙◌, ◌⊎◌, inl, inr}
-use Rattle.std.specs.Prelude.{IsSomeAnd}
-use Rattle.sdb_types.specs.declared.record.Record.{Record}
+use Rattle.std.proofs.Common.{◌≡◌, ◌≢◌, ℤ, true, false, cond, Option, Some, None, refl, sym, ap, subst, ◌∙◌, ◌⊎◌, inl, inr}
 use Rattle.sdb_types.specs.declared.record.Reply.{Reply}
 use Rattle.sdb_record.specs.declared.access.Access.{Access}
-use Rattle.sdb_record.specs.declared.access.Access.TheVariants as access
 use Rattle.sdb_model.specs.declared.answer.Answer.{Answer}
 use Rattle.sdb_model.specs.declared.answer.Answer.TheVariants as answer
 use Rattle.sdb_model.specs.Transactions.{changes_nothing}
@@ -14,16 +11,13 @@ use Rattle.sdb_exec.specs.Plans.{Planned}
 use Rattle.sdb_read.specs.declared.read.ReadStep.{ReadStep}
 use Rattle.sdb_read.specs.declared.read.ReadStep.TheVariants as step
 use Rattle.sdb_read.specs.Read.{ReadAt, ReadStage, read_result, read_step}
-use Rattle.sdb_transaction.specs.declared.progress.Progress.{Progress}
-use Rattle.sdb_transaction.specs.declared.progress.Progress.TheVariants as progress
 use Rattle.sdb_transaction.specs.declared.txn.Doing.{Doing}
 use Rattle.sdb_transaction.specs.declared.txn.Doing.TheVariants as doing
-use Rattle.sdb_transaction.specs.Txn.{CommitTold, IfCommitting, IfReading, IsCommitting, TxnAt, idle}
-use Rattle.sdb_commit.specs.Phases.{CommitAt}
+use Rattle.sdb_transaction.specs.Txn.{IfReading, TxnAt, idle}
 use Rattle.sdb_client.specs.declared.next.Next.{Next}
 use Rattle.sdb_client.specs.declared.next.Next.TheVariants as next
-use Rattle.sdb_client.specs.Client.{CallTold, ClientAt, CommitNext, ImagesTold, NextTold, ReplyTold, StageTold, after, answer_in, gives, given_answer, given_left, next_of, noting, written}
-use Rattle.sdb_client.specs.Inside.{IsClient, IsFine, IsLeft, IsReadOf, IsUnder, OpenNext, plan_after, txn_after}
+use Rattle.sdb_client.specs.Client.{CallTold, ClientAt, ReplyTold, StageTold, after, answer_in, gives, given_answer, given_left, noting, written}
+use Rattle.sdb_client.specs.Inside.{IsLeft, IsReadOf, IsUnder, OpenNext, plan_after, txn_after}
 use Rattle.sdb_client.proofs.Calls.{noting_idle}
 use Rattle.sdb_client.proofs.Taken.{memory_or}
 

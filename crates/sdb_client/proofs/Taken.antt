@@ -1,5 +1,5 @@
 -- What the taking of a statement rests on.
-use Rattle.std.proofs.Common.{◌≡◌, ◌≢◌, ℕ, Bool, true, false, List, [], ◌∷◌, Option, Some, None, Result, Ok, Err, refl, sym, ap, subst, ◌∙◌, ◌⊎◌, inl, inr, cond}
+use Rattle.std.proofs.Common.{◌≡◌, ◌≢◌, ℕ, true, List, Option, Some, None, Err, refl, sym, ap, subst, ◌∙◌, ◌⊎◌, inl, inr}
 use Rattle.std.specs.Prelude.{IfSome}
 use Rattle.sdb_schema.specs.declared.table.Table.{Table}
 use Rattle.sdb_schema.specs.Catalog.{is_catalog}
@@ -7,8 +7,7 @@ use Rattle.sdb_model.specs.declared.answer.Answer.{Answer}
 use Rattle.sdb_model.specs.declared.answer.Answer.TheVariants as answer
 use Rattle.sdb_model.specs.declared.answer.Refusal.{Refusal}
 use Rattle.sdb_model.specs.declared.statement.Statement.{Statement}
-use Rattle.sdb_model.specs.Exec.{named_table}
-use Rattle.sdb_model.specs.Refused.{refusal_by, refusal_of, refusal_on}
+use Rattle.sdb_model.specs.Refused.{refusal_by, refusal_on}
 use Rattle.sdb_model.specs.Sql.{Refuses}
 use Rattle.sdb_model.specs.Transactions.{changes_nothing}
 use Rattle.sdb_exec.specs.declared.plan.PlanStep.{PlanStep}

@@ -1,5 +1,5 @@
 -- What a plan gives on the rows that its transaction sees may be written.
-use Rattle.std.proofs.Common.{◌≡◌, Bool, true, false, not, ◌&&◌, cond, List, [], ◌∷◌, map, Option, Some, None, refl, sym, ap, subst, ◌∙◌}
+use Rattle.std.proofs.Common.{◌≡◌, Bool, true, false, not, ◌&&◌, cond, List, [], ◌∷◌, map, Option, Some, None, refl, sym, subst}
 use Rattle.std.specs.Prelude.{filter, find, is_some, unwrap_or}
 use Rattle.std.specs.Option.{option_map}
 use Rattle.std.specs.Ordering.{is_eq}
@@ -22,9 +22,6 @@ use Rattle.sdb_schema.specs.Rows.{fits_table}
 use Rattle.sdb_model.specs.declared.statement.Statement.{Statement}
 use Rattle.sdb_model.specs.declared.statement.Statement.TheVariants as statement
 use Rattle.sdb_model.specs.Exec.{key_of, passes, with_sets}
-use Rattle.sdb_model.specs.Refused.{refusal_on}
-use Rattle.sdb_exec.specs.declared.plan.PlanStep.{PlanStep}
-use Rattle.sdb_exec.specs.declared.plan.PlanStep.TheVariants.{Finished, Read as Wants}
 use Rattle.sdb_exec.specs.Plans.{Planned, change_fits, changes_on, columns_at, finished, first_unfit, has_all_literals, is_unfit, put_row, step_at, step_of}
 use Rattle.sdb_exec.specs.Reads.{access_of}
 use Rattle.sdb_exec.proofs.Fits.{changes_fit}

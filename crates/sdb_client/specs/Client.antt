@@ -1,5 +1,5 @@
 -- A client, and where each statement and each reply leads it.
-use Rattle.std.specs.Prelude.{◌≡◌, ◌≢◌, ℕ, ℤ, ◌+◌, nat_lt, Bool, true, false, not, ◌&&◌, ◌||◌, if◌then◌else◌, List, [], ◌∷◌, length, Option, Some, None, IfSome, is_some, Result, Ok, Err, slice_get}
+use Rattle.std.specs.Prelude.{◌≡◌, ◌≢◌, ℕ, ℤ, ◌+◌, nat_lt, Bool, true, false, not, ◌&&◌, ◌||◌, if◌then◌else◌, List, [], ◌∷◌, length, Option, Some, None, IfSome, IsSomeAnd, is_some, Result, Ok, Err, slice_get}
 use Rattle.sdb_types.specs.declared.txid.TxId.{TxId}
 use Rattle.sdb_types.specs.declared.key.Key.{Key}
 use Rattle.sdb_types.specs.declared.record.Record.{Record}
@@ -61,6 +61,10 @@ client_pending c = pending_of c.txn
 -- It waits for a statement: no transaction is open, or the open one does nothing.
 abbrev pub IsIdle : ClientAt → Type 0
 IsIdle c = IfSome c.txn (λ t. t.doing ≡ doing.Idle)
+
+-- it waits for a reply
+abbrev pub IsBusy : ClientAt → Type 0
+IsBusy c = IsSomeAnd c.txn (λ t. t.doing ≢ doing.Idle)
 
 -- no transaction is open
 abbrev pub resting : ClientAt → ClientAt
@@ -197,9 +201,9 @@ abbrev pub noting : TxnAt → Access → List Record → TxnAt
 noting t (access.Get key) images = record (idle t) { seen = with_get t.seen key (slice_get images 0) }
 noting t (access.Scan span) images = record (idle t) { seen = with_scan t.seen span images }
 
--- a scan finds each key that was read as it was read
+-- a get is of a key that was not read, and a scan finds each key that was read as it was read
 abbrev pub IsAsRead : TxnAt → Access → List Record → Type 0
-IsAsRead t (access.Get key) images = Unit {0}
+IsAsRead t (access.Get key) images = is_noted t.seen.notes key ≡ false
 IsAsRead t (access.Scan span) images = IsUnmoved t.seen.notes span images
 
 -- this is the first key that it finds otherwise

@@ -1,11 +1,11 @@
 //! A client.
-ghost use Rattle.std.specs.Prelude.{◌≡◌, ◌≢◌, ◌<◌, ◌^◌, ◌||◌, IfSome, IsSome, Some, None, is_some, length, true};
+ghost use Rattle.std.specs.Prelude.{◌≡◌, ◌≢◌, ◌<◌, ◌^◌, ◌||◌, IfSome, IsSome, Some, None, is_some, length, true, false};
 ghost use Rattle.std.specs.Option.{option_copied};
 ghost use Rattle.sdb_model.specs.Transactions.{id_of as id_of_lem};
 ghost use Rattle.sdb_model.specs.declared.answer.Answer.TheVariants as answer;
 ghost use Rattle.sdb_exec.specs.Plans.{has_all_literals};
 ghost use Rattle.sdb_phases.specs.Steps.{CanGet};
-ghost use Rattle.sdb_client.specs.Client.{AskTold, BeginTold, CommitTaken, IsIdle, ReplyTold, RollbackTold, StatementTold, TextTold, VacuumTold, client_pending, nothing_done, resting, starved};
+ghost use Rattle.sdb_client.specs.Client.{AskTold, BeginTold, CommitTaken, IsBusy, IsIdle, ReplyTold, RollbackTold, StatementTold, TextTold, VacuumTold, client_pending, nothing_done, resting, starved};
 ghost use Rattle.sdb_sqltext.specs.Answers.{refusal_of};
 ghost use Rattle.sdb_client.specs.Inside.{left_by};
 
@@ -82,6 +82,17 @@ impl Client {
         ensures { result ≡ is_some self.now.txn }
     {
         self.txn.is_some()
+    }
+
+    /// Whether it waits for a statement: no transaction of it is open, or the open one makes no call. Takes no memory.
+    pub fn is_idle(&self) -> bool
+        ensures idle { result ≡ true → IsIdle self.now }
+        ensures busy { result ≡ false → IsBusy self.now }
+    {
+        match &self.txn {
+            Some(txn) => txn.is_idle(),
+            None => true,
+        }
     }
 
     /// How many transactions it has begun. Takes no memory.

@@ -67,7 +67,7 @@ span_told t u span images (progress.Expired id) h = absurd h
 span_told t u span images (progress.Unknown id) h = absurd h
 
 images_told : (t u : TxnAt) (a : Access) (images : List Record) (p : Progress) → ImagesTold (idle t) a images p u → ImagesTold t a images p u
-images_told t u (access.Get key) images p h = record { noted = h.noted; rows = h.rows }
+images_told t u (access.Get key) images p h = record { unread = h.unread; noted = h.noted; rows = h.rows }
 images_told t u (access.Scan span) images p h = span_told t u span images p h
 
 step_told : (t u : TxnAt) (a : Access) (x : ReadAt) (next : ReadStage) (e : ReadStep) (p : Progress) → (e ≢ step.NoMemory → e ≡ read_result next) → EndTold (idle t) a e p u → StepTold t a x next (read_result next) p u

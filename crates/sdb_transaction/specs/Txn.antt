@@ -67,8 +67,9 @@ pub record IsBegun (t : TxnAt) (a : Access) (p : Progress) (u : TxnAt) : Type 0 
 abbrev pub idle : TxnAt → TxnAt
 idle t = record t { doing = doing.Idle }
 
--- The images of a get are noted, and the row that is seen then is shown.
+-- The images of a get of a key that was not read are noted, and the row that is seen then is shown.
 pub record KeyTold (t : TxnAt) (key : Key) (images : List Record) (p : Progress) (u : TxnAt) : Type 0 where
+  pub unread : is_noted t.seen.notes key ≡ false
   pub noted : u ≡ record (idle t) { seen = with_get t.seen key (slice_get images 0) }
   pub rows : p ≡ progress.Rows (overlay (access.Get key) u.seen)
 

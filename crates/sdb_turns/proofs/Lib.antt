@@ -16,3 +16,4 @@ pub mod Quiet
 pub mod Calls
 pub mod Begin
 pub mod Example
+pub mod Machine

@@ -5,3 +5,4 @@ pub mod Sweep
 pub mod Noted
 pub mod System
 pub mod Worked
+pub mod Machine

@@ -6,5 +6,6 @@
 #![tactic(auto)]
 
 pub mod knowledge;
+pub mod machines;
 pub mod moves;
 pub mod turns;

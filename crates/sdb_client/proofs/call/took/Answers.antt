@@ -1,4 +1,4 @@
-use Rattle.std.proofs.Common.{◌≡◌, to_z, of_z, w64}
+use Rattle.std.proofs.Common.{to_z, of_z, w64}
 use Rattle.sdb_client.proofs.Left.{read_left}
 use Rattle.sdb_client.proofs.call.took.Goals as goal
 

@@ -1,6 +1,5 @@
-use Rattle.std.proofs.Common.{◌≡◌, sym, subst, List}
+use Rattle.std.proofs.Common.{sym, subst, List}
 use Rattle.sdb_record.specs.declared.access.Image.{Image}
-use Rattle.sdb_exec.specs.declared.plan.PlanStep.{PlanStep}
 use Rattle.sdb_exec.specs.Plans.{step_of}
 use Rattle.sdb_client.specs.Inside.{MayWrite}
 use Rattle.sdb_client.proofs.Writable.{may_write}

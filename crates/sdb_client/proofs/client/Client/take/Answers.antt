@@ -1,4 +1,4 @@
-use Rattle.std.proofs.Common.{rules, ◌≡◌, ℕ, ℤ, List, sym, subst, Ok, to_z, of_z, w64}
+use Rattle.std.proofs.Common.{rules, ◌≡◌, ℕ, ℤ, List, subst, Ok, to_z, of_z, w64}
 use Rattle.std.specs.Prelude.{IfSome}
 use Rattle.sdb_model.specs.Sql.{Reads, Refuses}
 use Rattle.sdb_sqltext.specs.Answers.{refusal_of}

@@ -1,0 +1,22 @@
+-- Where the machine of a read stands, as the laws of clients say it.
+use Rattle.std.specs.Prelude.{◌≡◌, List}
+use Rattle.sdb_types.specs.declared.record.Record.{Record}
+use Rattle.sdb_read.specs.declared.read.ReadStep.TheVariants as step
+use Rattle.sdb_read.specs.Read as machine
+use Rattle.sdb_turns.specs.ReadAt.{Kind, Firm, Open, Bad, ReadAt, Asking, Resolving, Done, Failed}
+
+abbrev pub kind_at : machine.Kind → Kind
+kind_at machine.Firm = Firm
+kind_at (machine.Open meta) = Open meta
+kind_at machine.Bad = Bad
+
+-- what the machine takes a row for
+abbrev pub machine_kind : Record → Kind
+machine_kind r = kind_at (machine.kind_of r)
+
+-- A machine that has ended with images is done with them; with any other end it has failed.
+abbrev pub stands_at : machine.ReadStage → ReadAt
+stands_at machine.Asking = Asking
+stands_at (machine.Resolving images rec meta p left) = Resolving images rec meta p left
+stands_at (machine.Ended (step.Images images)) = Done images
+stands_at (machine.Ended s) = Failed
