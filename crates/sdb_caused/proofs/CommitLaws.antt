@@ -15,13 +15,14 @@ use Rattle.sdb_record.specs.declared.coordinator.Decision.TheVariants as decisio
 use Rattle.sdb_record.specs.Coordinator.{coordinator_key_of, decision_in}
 use Rattle.sdb_model.specs.declared.event.Event.{Event}
 use Rattle.sdb_model.specs.Calls as calls
-use Rattle.sdb_model.specs.Calls.{calls_of, is_of_row, put_by}
-use Rattle.sdb_model.specs.Causes.{IsCommitOf, IsDecided, IsExpired, IsUnknown, PutsRow}
+use Rattle.sdb_model.specs.Calls.{calls_of, decision_learned, is_of_row, put_by}
+use Rattle.sdb_model.specs.Causes.{IsCommitOf, IsDecided, IsExpired, IsOfCommit, IsUnknown, PutsRow}
 use Rattle.sdb_model.specs.Transactions.{Said}
 use Rattle.sdb_said.proofs.Lists.{clash, left, right, both, not_true, true_not, decide, not_both, In, any_some, some_any}
 use Rattle.sdb_calls.specs.declared.made.Made.{Made}
 use Rattle.sdb_calls.specs.Values.{all_made, asks_row, decision_found_at, made_of}
-use Rattle.sdb_caused.specs.Tests.{expired_among, fails_later, found_aborted, has_failed, is_decided, is_fault, is_lost_put, put_before, puts_row, same_decision, unknown_among}
+use Rattle.sdb_caused.specs.Tests.{any_id, commits_as, is_commit_of, expired_among, fails_later, found_aborted, has_failed, is_decided, is_fault, is_lost_put, put_before, puts_row, same_decision, unknown_among}
+use Rattle.sdb_caused.proofs.IdLaws.{commit_found, commit_is, id_some, is_commit}
 use Rattle.sdb_caused.proofs.Finds.{in_contains, contains_in, kept_in, in_kept, made_in, in_made, made_contained, contained_made}
 
 decision_is : (a b : Decision) → same_decision a b ≡ true → a ≡ b
@@ -156,3 +157,20 @@ module _ (events : List Event) (ms : List Made) (id : TxId) where
       (some_any (fails_later row p.at) ms m t.1
       (both (nat_lt p.at m.at) (asks_row row m.request && has_failed m.reply) (sym (ap (λ (y : calls.Made). nat_lt y.at m.at) r.2) ∙ sym (ap (λ (y : calls.Made). nat_lt u.put.at y.at) t.2) ∙ k.1)
       (both (asks_row row m.request) (has_failed m.reply) (sym (ap (λ (y : calls.Made). is_of_row id y.request) t.2) ∙ u.failed.1) (is_failed m.reply (subst (λ (y : calls.Made). (y.reply ≡ reply.Fault) ⊎ (y.reply ≡ reply.NoMemory)) t.2 u.failed.2)))))))
+
+---- Committed
+
+module _ (events : List Event) (ms : List Made) (client : ℕ) (s : Said) (e : all_made ms ≡ calls_of events client s) where
+  abbrev learned : TxId → Bool
+  learned id = is_decided decision.Committed (decision_learned (all_made ms) id)
+
+  pub of_commit_is : any_id events client (commits_as events client s ms) ≡ true → IsOfCommit events client s
+  of_commit_is h =
+      let r = id_some events client (commits_as events client s ms) h in
+      let a = is_commit_of events client s r.0 in
+      (r.0, commit_is events client s r.0 (left a (learned r.0) r.1), subst (λ cs. IsDecided decision.Committed (decision_learned cs r.0)) e (decided_is decision.Committed (decision_learned (all_made ms) r.0) (right a (learned r.0) r.1)))
+
+  pub is_of_commit : IsOfCommit events client s → any_id events client (commits_as events client s ms) ≡ true
+  is_of_commit (id, c, d) =
+      commit_found events client s (commits_as events client s ms) id c
+      (both (is_commit_of events client s id) (learned id) (is_commit events client s id c) (is_decided_of decision.Committed (decision_learned (all_made ms) id) (subst (λ cs. IsDecided decision.Committed (decision_learned cs id)) (sym e) d)))

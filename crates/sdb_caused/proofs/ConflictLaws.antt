@@ -19,8 +19,8 @@ use Rattle.sdb_record.specs.Moved.{is_unchanged, same_version, version_of}
 use Rattle.sdb_record.specs.Parts.{before_part, before_record, record_with}
 use Rattle.sdb_model.specs.declared.event.Event.{Event}
 use Rattle.sdb_model.specs.Calls as calls
-use Rattle.sdb_model.specs.Calls.{calls_of, key_asked, put_by, record_among, standing_said}
-use Rattle.sdb_model.specs.Causes.{HasMoved, IsConflict, IsConflictAtCommit, IsConflictAtScan, IsPrepareOver, ShowsAt}
+use Rattle.sdb_model.specs.Calls.{calls_of, key_asked, put_by, record_among}
+use Rattle.sdb_model.specs.Causes.{HasMoved, IsChecked, IsConflict, IsConflictAtCommit, IsConflictAtScan, IsRebased, IsUnmet, ReadShows, prepares_key}
 use Rattle.sdb_model.specs.Noted.{Note, Got, Scanned, noted_in, resolved, same_key, version_among, version_noted}
 use Rattle.sdb_model.specs.Sql.{reads_commit}
 use Rattle.sdb_model.specs.Transactions.{Said, prepares}
@@ -28,7 +28,7 @@ use Rattle.sdb_said.proofs.Lists.{clash, none_some, some_is, left, right, both, 
 use Rattle.sdb_said.proofs.ShownLaws.{key_is, is_key}
 use Rattle.sdb_calls.specs.declared.made.Made.{Made}
 use Rattle.sdb_calls.specs.Values.{all_made, made_of}
-use Rattle.sdb_caused.specs.Tests.{any_id, asks_key, base_put, conflict_at_commit, conflict_at_scan, conflict_of, has_moved, is_commit_of, is_in, is_moved, is_rebased, puts_at, resolves, resolves_by, same_found, scan_differs, scan_shows, scan_shows_by, shows_at, stands_as}
+use Rattle.sdb_caused.specs.Tests.{any_id, asks_key, base_put, conflict_at_commit, conflict_at_scan, conflict_of, get_shows, has_moved, has_prepared, is_commit_of, is_found_by, is_in, is_moved, is_rebased, is_unmet, not_met_as, read_shows, resolves, resolves_by, same_found, scan_differs, scan_shows, scan_shows_by}
 use Rattle.sdb_caused.proofs.Finds.{in_contains, contains_in, made_contained, contained_made, found_is, is_found}
 use Rattle.sdb_caused.proofs.IdLaws.{commit_is, is_commit, in_is, is_in_of, id_some, commit_found, in_found}
 
@@ -53,19 +53,30 @@ is_moved_of notes key found (note, version, c, e, h) =
 
 ---- what calls show
 
-asked_is : (o : Option Key) (key : Key) → option_map_or (λ k. same_key k key) o false ≡ true → o ≡ Some key
-asked_is None key h = clash (sym h)
-asked_is (Some k) key h = ap Some (key_is k key h)
+met_is : (r : Reply) (found : Option Record) → not_met_as r found ≡ true → r ≡ reply.NotMet found
+met_is (reply.NotMet x) found h = ap (λ y. reply.NotMet y) (found_is x found h)
+met_is (reply.Found x) found h = clash (sym h)
+met_is (reply.Rows rows) found h = clash (sym h)
+met_is reply.Applied found h = clash (sym h)
+met_is reply.Fault found h = clash (sym h)
+met_is reply.NoMemory found h = clash (sym h)
 
-is_asked : (o : Option Key) (key : Key) → o ≡ Some key → option_map_or (λ k. same_key k key) o false ≡ true
-is_asked o key e = ap (λ x. option_map_or (λ k. same_key k key) x false) e ∙ is_key key key refl
+is_met : (r : Reply) (found : Option Record) → r ≡ reply.NotMet found → not_met_as r found ≡ true
+is_met r found e = ap (λ x. not_met_as x found) e ∙ is_found found found refl
 
-stands_is : (o : Option (Option Record)) (found : Option Record) → option_map_or (λ x. same_found x found) o false ≡ true → o ≡ Some found
-stands_is None found h = clash (sym h)
-stands_is (Some x) found h = ap Some (found_is x found h)
+gets_is : (key : Key) (found : Option Record) (q : Request) (r : Reply) → get_shows q r key found ≡ true → (q ≡ ask.Get key) × (r ≡ reply.Found found)
+gets_is key found (ask.Get k) (reply.Found x) h = (ap (λ y. ask.Get y) (key_is k key (left (same_key k key) (same_found x found) h)), ap (λ y. reply.Found y) (found_is x found (right (same_key k key) (same_found x found) h)))
+gets_is key found (ask.Get k) (reply.Rows rows) h = clash (sym h)
+gets_is key found (ask.Get k) reply.Applied h = clash (sym h)
+gets_is key found (ask.Get k) (reply.NotMet x) h = clash (sym h)
+gets_is key found (ask.Get k) reply.Fault h = clash (sym h)
+gets_is key found (ask.Get k) reply.NoMemory h = clash (sym h)
+gets_is key found (ask.Scan span) r h = clash (sym h)
+gets_is key found (ask.PutIf rec condition) r h = clash (sym h)
+gets_is key found (ask.DeleteIf k condition) r h = clash (sym h)
 
-is_stands : (o : Option (Option Record)) (found : Option Record) → o ≡ Some found → option_map_or (λ x. same_found x found) o false ≡ true
-is_stands o found e = ap (λ y. option_map_or (λ x. same_found x found) y false) e ∙ is_found found found refl
+is_gets : (key : Key) (found : Option Record) (q : Request) (r : Reply) → q ≡ ask.Get key → r ≡ reply.Found found → get_shows q r key found ≡ true
+is_gets key found q r e f = ap (λ x. get_shows x r key found) e ∙ ap (λ x. get_shows (ask.Get key) x key found) f ∙ both (same_key key key) (same_found found found) (is_key key key refl) (is_found found found refl)
 
 abbrev Scans : (List Record → Option Record) → Request → Reply → Key → Option Record → Type 0
 Scans look q r key found = (span : Span) × (rows : List Record) × (q ≡ ask.Scan span) × (in_span span key ≡ true) × (r ≡ reply.Rows rows) × (found ≡ look rows)
@@ -87,15 +98,19 @@ is_scans key found q r (span, rows, e, i, f, g) =
     ap (λ x. scan_shows_by x r key found) e ∙ ap (λ x. scan_shows_by (ask.Scan span) x key found) f
     ∙ both (in_span span key) (same_found (record_among rows key) found) i (is_found (record_among rows key) found (sym g))
 
-shows_is : (m : Made) (key : Key) (found : Option Record) → shows_at m key found ≡ true → ShowsAt (made_of m) key found
-shows_is m key found h = elim (either (asks_key m key && stands_as m found) (scan_shows m key found) h) [
-  | inl a ↦ inl (asked_is (key_asked m.request) key (left (asks_key m key) (stands_as m found) a), stands_is (standing_said m.reply) found (right (asks_key m key) (stands_as m found) a))
+shows_is : (m : Made) (key : Key) (found : Option Record) → read_shows m key found ≡ true → ReadShows (made_of m) key found
+shows_is m key found h = elim (either (get_shows m.request m.reply key found) (scan_shows m key found) h) [
+  | inl a ↦ inl (gets_is key found m.request m.reply a)
   | inr b ↦ inr (scans_is key found m.request m.reply b)
 ]
 
-is_shows : (m : Made) (key : Key) (found : Option Record) → ShowsAt (made_of m) key found → shows_at m key found ≡ true
-is_shows m key found (inl a) = or_left (asks_key m key && stands_as m found) (scan_shows m key found) (both (asks_key m key) (stands_as m found) (is_asked (key_asked m.request) key a.0) (is_stands (standing_said m.reply) found a.1))
-is_shows m key found (inr b) = or_right (asks_key m key && stands_as m found) (scan_shows m key found) (is_scans key found m.request m.reply b)
+is_shows : (m : Made) (key : Key) (found : Option Record) → ReadShows (made_of m) key found → read_shows m key found ≡ true
+is_shows m key found (inl a) = or_left (get_shows m.request m.reply key found) (scan_shows m key found) (is_gets key found m.request m.reply a.0 a.1)
+is_shows m key found (inr b) = or_right (get_shows m.request m.reply key found) (scan_shows m key found) (is_scans key found m.request m.reply b)
+
+any_made : (f : calls.Made → Bool) (ms : List Made) → list_any f (all_made ms) ≡ list_any (λ m. f (made_of m)) ms
+any_made f [] = refl
+any_made f (m ∷ ms) = ap (λ b. f (made_of m) || b) (any_made f ms)
 
 ---- the base of a prepare
 
@@ -133,19 +148,14 @@ module _ (events : List Event) (ms : List Made) (client : ℕ) (s : Said) (e : a
   made : (c : calls.Made) → Contains (calls_of events client s) c → (m : Made) × In ms m × (c ≡ made_of m)
   made c k = contained_made ms c (subst (λ cs. Contains cs c) (sym e) k)
 
-  abbrev Rebased : List Note → TxId → Type 0
-  Rebased notes id =
-      (prepare : calls.Made) × (base version : Option TxId) × Contains (calls_of events client s) prepare × IsPrepareOver id key base prepare
-      × ((scan : Scan) × Contains notes (Scanned scan) × (in_span scan.span key ≡ true) × (version_among scan.found key ≡ version)) × (same_version base version ≡ false)
-
-  rebased_is : (notes : List Note) (id : TxId) → is_rebased ms notes id key ≡ true → Rebased notes id
+  rebased_is : (notes : List Note) (id : TxId) → is_rebased ms notes id key ≡ true → IsRebased (calls_of events client s) notes id key
   rebased_is notes id h =
-      let f : Made → Bool = λ p. puts_at id key p && list_any (scan_differs key (base_put p)) notes in
+      let f : Made → Bool = λ p. prepares_key id key (made_of p) && list_any (scan_differs key (base_put p)) notes in
       let r = any_some f ms h in
       let p = r.0 in
       let l = list_any (scan_differs key (base_put p)) notes in
-      let at = left (puts_at id key p) l r.2 in
-      let n = any_some (scan_differs key (base_put p)) notes (right (puts_at id key p) l r.2) in
+      let at = left (prepares_key id key (made_of p)) l r.2 in
+      let n = any_some (scan_differs key (base_put p)) notes (right (prepares_key id key (made_of p)) l r.2) in
       let d = differs_is key (base_put p) n.0 n.2 in
       let put = puts_is id key p.request (left (prepares id p.request) (asks_key p key) at) (right (prepares id p.request) (asks_key p key) at) in (
         made_of p,
@@ -157,41 +167,80 @@ module _ (events : List Event) (ms : List Made) (client : ℕ) (s : Said) (e : a
         d.3,
       )
 
-  is_rebased_of : (notes : List Note) (id : TxId) → Rebased notes id → is_rebased ms notes id key ≡ true
+  is_rebased_of : (notes : List Note) (id : TxId) → IsRebased (calls_of events client s) notes id key → is_rebased ms notes id key ≡ true
   is_rebased_of notes id (prepare, base, version, c, (r, p, put, k, b), (scan, n, i, v), d) =
       let m = made prepare c in
       let q : put_by m.0.request ≡ Some r = sym (ap (λ (x : calls.Made). put_by x.request) m.2) ∙ put in
       let same : base_put m.0 ≡ base = ap (option_and_then (λ (x : Record). id_in (before_part x.columns))) q ∙ kept_version r ∙ b in
-      some_any (λ (x : Made). puts_at id key x && list_any (scan_differs key (base_put x)) notes) ms m.0 m.1
-      (both (puts_at id key m.0) (list_any (scan_differs key (base_put m.0)) notes)
+      some_any (λ (x : Made). prepares_key id key (made_of x) && list_any (scan_differs key (base_put x)) notes) ms m.0 m.1
+      (both (prepares_key id key (made_of m.0)) (list_any (scan_differs key (base_put m.0)) notes)
       (both (prepares id m.0.request) (asks_key m.0 key) (sym (ap (λ (x : calls.Made). prepares id x.request) m.2) ∙ p) (is_puts key m.0.request r q k))
       (some_any (scan_differs key (base_put m.0)) notes (Scanned scan) (contains_in notes (Scanned scan) n)
       (both (in_span scan.span key) (not (same_version (base_put m.0) (version_among scan.found key))) i (true_not (same_version (base_put m.0) (version_among scan.found key)) (ap (λ x. same_version x (version_among scan.found key)) same ∙ ap (same_version base) v ∙ d)))))
 
+  unmet_is : (id : TxId) → list_any (is_unmet id key found) ms ≡ true → IsUnmet (calls_of events client s) id key found
+  unmet_is id h =
+      let r = any_some (is_unmet id key found) ms h in
+      let p = prepares_key id key (made_of r.0) in
+      let n = not_met_as r.0.reply found in
+      (made_of r.0, contained r.0 r.1, left p n r.2, met_is r.0.reply found (right p n r.2))
+
+  is_unmet_of : (id : TxId) → IsUnmet (calls_of events client s) id key found → list_any (is_unmet id key found) ms ≡ true
+  is_unmet_of id (c, k, p, n) =
+      let m = made c k in
+      some_any (is_unmet id key found) ms m.0 m.1
+      (both (prepares_key id key (made_of m.0)) (not_met_as m.0.reply found) (sym (ap (prepares_key id key) m.2) ∙ p) (is_met m.0.reply found (sym (ap (λ (x : calls.Made). x.reply) m.2) ∙ n)))
+
+  -- a key is prepared by the calls, seen either way
+  prepared_as : (id : TxId) → list_any (prepares_key id key) (calls_of events client s) ≡ has_prepared ms id key
+  prepared_as id = ap (list_any (prepares_key id key)) (sym e) ∙ any_made (prepares_key id key) ms
+
+  checked_is : (id : TxId) → (not (has_prepared ms id key) && list_any (λ (m : Made). read_shows m key found) ms) ≡ true → IsChecked (calls_of events client s) id key found
+  checked_is id h =
+      let n = not (has_prepared ms id key) in
+      let l = list_any (λ (m : Made). read_shows m key found) ms in
+      let r = any_some (λ (m : Made). read_shows m key found) ms (right n l h) in
+      (made_of r.0, contained r.0 r.1, shows_is r.0 key found r.2, prepared_as id ∙ not_true (has_prepared ms id key) (left n l h))
+
+  is_checked_of : (id : TxId) → IsChecked (calls_of events client s) id key found → (not (has_prepared ms id key) && list_any (λ (m : Made). read_shows m key found) ms) ≡ true
+  is_checked_of id (c, k, shows, none) =
+      let m = made c k in
+      both (not (has_prepared ms id key)) (list_any (λ (x : Made). read_shows x key found) ms) (true_not (has_prepared ms id key) (sym (prepared_as id) ∙ none))
+      (some_any (λ (x : Made). read_shows x key found) ms m.0 m.1 (is_shows m.0 key found (subst (λ y. ReadShows y key found) m.2 shows)))
+
+  abbrev rescans : Bool
+  rescans = list_any (λ (m : Made). scan_shows m key found) ms
+
   at_commit : (id : TxId) → conflict_at_commit ms (noted_in events id) id key found ≡ true → IsConflictAtCommit events client s id key found
   at_commit id h =
       let notes = noted_in events id in
-      let l = list_any (λ (m : Made). shows_at m key found) ms in
-      let r = any_some (λ (m : Made). shows_at m key found) ms (left l (has_moved notes key found || is_rebased ms notes id key) h) in (
-        made_of r.0,
-        contained r.0 r.1,
-        shows_is r.0 key found r.2,
-        elim (either (has_moved notes key found) (is_rebased ms notes id key) (right l (has_moved notes key found || is_rebased ms notes id key) h)) [
-          | inl a ↦ inl (moved_is notes key found a)
-          | inr b ↦ inr (rebased_is notes id b)
-        ],
-      )
+      let a = has_moved notes key found in
+      let b = is_found_by ms id key found in
+      let d = is_rebased ms notes id key in
+      let u = list_any (is_unmet id key found) ms in
+      let c = not (has_prepared ms id key) && list_any (λ (m : Made). read_shows m key found) ms in
+      elim (either (a && b) (rescans && d) h) [
+        | inl x ↦ inl (moved_is notes key found (left a b x), elim (either u c (right a b x)) [ inl y ↦ inl (unmet_is id y) | inr z ↦ inr (checked_is id z) ])
+        | inr x ↦
+            let r = any_some (λ (m : Made). scan_shows m key found) ms (left rescans d x) in
+            inr ((made_of r.0, contained r.0 r.1, scans_is key found r.0.request r.0.reply r.2), rebased_is notes id (right rescans d x))
+      ]
 
   is_at_commit : (id : TxId) → IsConflictAtCommit events client s id key found → conflict_at_commit ms (noted_in events id) id key found ≡ true
-  is_at_commit id (c, k, shows, why) =
+  is_at_commit id (inl (moved, why)) =
+      let notes = noted_in events id in
+      let u = list_any (is_unmet id key found) ms in
+      let c = not (has_prepared ms id key) && list_any (λ (m : Made). read_shows m key found) ms in
+      or_left (has_moved notes key found && is_found_by ms id key found) (rescans && is_rebased ms notes id key)
+      (both (has_moved notes key found) (is_found_by ms id key found) (is_moved_of notes key found moved)
+      (elim why [ inl y ↦ or_left u c (is_unmet_of id y) | inr z ↦ or_right u c (is_checked_of id z) ]))
+  is_at_commit id (inr ((c, k, shows), based)) =
       let notes = noted_in events id in
       let m = made c k in
-      both (list_any (λ (x : Made). shows_at x key found) ms) (has_moved notes key found || is_rebased ms notes id key)
-      (some_any (λ (x : Made). shows_at x key found) ms m.0 m.1 (is_shows m.0 key found (subst (λ y. ShowsAt y key found) m.2 shows)))
-      (elim why [
-        | inl a ↦ or_left (has_moved notes key found) (is_rebased ms notes id key) (is_moved_of notes key found a)
-        | inr b ↦ or_right (has_moved notes key found) (is_rebased ms notes id key) (is_rebased_of notes id b)
-      ])
+      or_right (has_moved notes key found && is_found_by ms id key found) (rescans && is_rebased ms notes id key)
+      (both rescans (is_rebased ms notes id key)
+      (some_any (λ (x : Made). scan_shows x key found) ms m.0 m.1 (is_scans key found m.0.request m.0.reply (subst (λ (y : calls.Made). Scans (λ rows. record_among rows key) y.request y.reply key found) m.2 shows)))
+      (is_rebased_of notes id based))
 
   abbrev look : List calls.Made → List Record → Option Record
   look cs rows = option_and_then (resolved cs) (record_among rows key)

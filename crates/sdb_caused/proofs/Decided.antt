@@ -1,26 +1,28 @@
 -- Each test decides its cause.
 use Rattle.std.proofs.Common.{◌≡◌, ℕ, suc, ℤ, Bool, true, false, List, [], ◌∷◌, length, Option, refl, sym, ap, ◌∙◌}
-use Rattle.std.specs.Prelude.{◌↔◌, IfOk, IsTrue, Result, Ok, Err}
+use Rattle.std.specs.Prelude.{◌↔◌, ◌&&◌, not, IfOk, IsTrue, Result, Ok, Err}
 use Rattle.std.specs.List.{list_any}
 use Rattle.sdb_types.specs.declared.txid.TxId.{TxId}
 use Rattle.sdb_types.specs.declared.key.Key.{Key}
 use Rattle.sdb_types.specs.declared.record.Record.{Record}
 use Rattle.sdb_types.specs.declared.record.Reply.{Reply}
+use Rattle.sdb_schema.specs.declared.table.Table.{Table}
 use Rattle.sdb_record.specs.Coordinator.{coordinator_key_of}
 use Rattle.sdb_model.specs.declared.event.Event.{Event}
 use Rattle.sdb_model.specs.Calls.{calls_of}
 use Rattle.sdb_model.specs.Causes.{HasReply, IsBadRecord, IsBusy, IsConflict, IsExpired, IsOfCommit, IsUnknown}
+use Rattle.sdb_model.specs.Sql.{reads_commit, reads_vacuum}
 use Rattle.sdb_model.specs.Transactions.{Said, id_of, said}
 use Rattle.sdb_plain.specs.declared.points.Said.{Said as Plain}
 use Rattle.sdb_plain.specs.Points.{all_said}
 use Rattle.sdb_said.proofs.Lists.{clash}
 use Rattle.sdb_calls.specs.declared.made.Made.{Made}
 use Rattle.sdb_calls.specs.Values.{all_made}
-use Rattle.sdb_caused.specs.Tests.{any_upto, busy_among, conflict_of, expired_among, is_commit_of, shows_bad, unknown_among}
+use Rattle.sdb_caused.specs.Tests.{any_upto, busy_among, commits_as, conflict_of, expired_among, is_commit_of, shows_bad, unknown_among}
 use Rattle.sdb_caused.proofs.BusyLaws.{busy_is, is_busy_of}
-use Rattle.sdb_caused.proofs.CommitLaws.{expired_is, is_expired_of, unknown_is, is_unknown_of}
+use Rattle.sdb_caused.proofs.CommitLaws.{of_commit_is, is_of_commit, expired_is, is_expired_of, unknown_is, is_unknown_of}
 use Rattle.sdb_caused.proofs.ConflictLaws.{conflict_is, is_conflict_of}
-use Rattle.sdb_caused.proofs.IdLaws.{commit_is, is_commit, of_commit_is, is_of_commit}
+use Rattle.sdb_caused.proofs.IdLaws.{commit_is, is_commit}
 use Rattle.sdb_caused.proofs.PlainLaws.{bad_record_is, is_bad_record, reply_is, is_reply}
 
 pub decide_by : {P : Type 0} (b t : Bool) → b ≡ t → (t ≡ true → P) → (P → t ≡ true) → IsTrue b ↔ P
@@ -49,8 +51,8 @@ module _ (events : List Event) (client : ℕ) (s : Said) where
   conflict b ms key found n e l f =
       decide_by b (any_upto (λ k. conflict_of events client s ms key found (id_of client k)) (length (said client events))) (f ∙ ap (any_upto (λ k. conflict_of events client s ms key found (id_of client k))) l) (conflict_is events ms client s e key found) (is_conflict_of events ms client s e key found)
 
-  pub of_commit : (b : Bool) (n : ℕ) → n ≡ length (said client events) → b ≡ any_upto (λ k. is_commit_of events client s (id_of client k)) n → IsTrue b ↔ IsOfCommit events client s
-  of_commit b n l f = decide_by b (any_upto (λ k. is_commit_of events client s (id_of client k)) (length (said client events))) (f ∙ ap (any_upto (λ k. is_commit_of events client s (id_of client k))) l) (of_commit_is events client s) (is_of_commit events client s)
+  pub of_commit : (b : Bool) (ms : List Made) (n : ℕ) → all_made ms ≡ calls_of events client s → n ≡ length (said client events) → b ≡ any_upto (λ k. commits_as events client s ms (id_of client k)) n → IsTrue b ↔ IsOfCommit events client s
+  of_commit b ms n e l f = decide_by b (any_upto (λ k. commits_as events client s ms (id_of client k)) (length (said client events))) (f ∙ ap (any_upto (λ k. commits_as events client s ms (id_of client k))) l) (of_commit_is events ms client s e) (is_of_commit events ms client s e)
 
   pub expired : (b c : Bool) (ms : List Made) (row : Key) (id : TxId) → all_made ms ≡ calls_of events client s → row ≡ coordinator_key_of id → c ≡ is_commit_of events client s id → c ≡ true → b ≡ expired_among ms row → IsTrue b ↔ IsExpired events client s id
   expired b c ms row id e r k t f =
@@ -66,8 +68,10 @@ module _ (events : List Event) (client : ℕ) (s : Said) where
   pub not_unknown : (c : Bool) (id : TxId) → c ≡ is_commit_of events client s id → c ≡ false → IsTrue false ↔ IsUnknown events client s id
   not_unknown c id k t = never (λ x. sym (sym (is_commit events client s id x.commit) ∙ sym k ∙ t))
 
-  pub bad_record : (b : Bool) (ms : List Made) (key : Key) → all_made ms ≡ calls_of events client s → b ≡ list_any (λ (m : Made). shows_bad key m.reply) ms → IsTrue b ↔ IsBadRecord events client s key
-  bad_record b ms key e f = decide_by b (list_any (λ (m : Made). shows_bad key m.reply) ms) f (bad_record_is events ms client s e key) (is_bad_record events ms client s e key)
+  pub bad_record : (catalog : List Table) (b : Bool) (ms : List Made) (commits vacuums : Bool) (key : Key) → all_made ms ≡ calls_of events client s → commits ≡ reads_commit s.text → vacuums ≡ reads_vacuum s.text → b ≡ list_any (shows_bad catalog ms (not commits && not vacuums) key) ms → IsTrue b ↔ IsBadRecord catalog events client s key
+  bad_record catalog b ms commits vacuums key e c v f =
+      decide_by b (list_any (shows_bad catalog ms (not (reads_commit s.text) && not (reads_vacuum s.text)) key) ms) (f ∙ ap (λ x. list_any (shows_bad catalog ms (not x && not vacuums) key) ms) c ∙ ap (λ x. list_any (shows_bad catalog ms (not (reads_commit s.text) && not x) key) ms) v)
+      (bad_record_is catalog events ms client s e key) (is_bad_record catalog events ms client s e key)
 
   pub replied : (b : Bool) (ms : List Made) (is : Reply → Bool) → all_made ms ≡ calls_of events client s → b ≡ list_any (λ (m : Made). is m.reply) ms → IsTrue b ↔ HasReply is (calls_of events client s)
   replied b ms is e f = decide_by b (list_any (λ (m : Made). is m.reply) ms) f (reply_is events ms client s e is) (is_reply events ms client s e is)

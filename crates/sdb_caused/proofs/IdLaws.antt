@@ -7,7 +7,7 @@ use Rattle.sdb_model.specs.Sql.{reads_commit}
 use Rattle.std.proofs.lemmas.Nat.{div-add-mod'}
 use Rattle.sdb_types.specs.declared.txid.TxId.{TxId}
 use Rattle.sdb_model.specs.declared.event.Event.{Event}
-use Rattle.sdb_model.specs.Causes.{IsCommitOf, IsIn, IsOfCommit}
+use Rattle.sdb_model.specs.Causes.{IsCommitOf, IsIn}
 use Rattle.sdb_model.specs.Transactions.{Said, begins, ends, rest_of, through_end, client_of, commit_of, from_begin, id_of, ordinal_of, said, statements_of}
 use Rattle.sdb_said.proofs.Lists.{clash, decide, none_some, left, right, both, either, or_left, or_right, In, any_some, some_any}
 use Rattle.sdb_said.proofs.ShownLaws.{number_is, is_number}
@@ -110,12 +110,6 @@ commit_found events client s f id c h = some_id events client f id c.0 (begun_by
 
 pub in_found : (events : List Event) (client : ℕ) (s : Said) (f : TxId → Bool) (id : TxId) → IsIn events client s id → f id ≡ true → any_id events client f ≡ true
 in_found events client s f id c h = some_id events client f id c.0 (begun_in events client s id c) h
-
-pub of_commit_is : (events : List Event) (client : ℕ) (s : Said) → any_id events client (is_commit_of events client s) ≡ true → IsOfCommit events client s
-of_commit_is events client s h = let r = id_some events client (is_commit_of events client s) h in (r.0, commit_is events client s r.0 r.1)
-
-pub is_of_commit : (events : List Event) (client : ℕ) (s : Said) → IsOfCommit events client s → any_id events client (is_commit_of events client s) ≡ true
-is_of_commit events client s (id, c) = commit_found events client s (is_commit_of events client s) id c (is_commit events client s id c)
 
 -- the last number first
 pub upto_step : (f : ℕ → Bool) (n : ℕ) → 0 < n → any_upto f n ≡ (f n || any_upto f (n - 1))

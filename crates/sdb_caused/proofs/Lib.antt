@@ -9,3 +9,4 @@ pub mod TurnedLaws
 pub mod CausedLaws
 pub mod Decided
 pub mod ReadLaws
+pub mod FullLaws

@@ -1,24 +1,26 @@
 -- The test of BadRecord is its cause.
-use Rattle.std.proofs.Common.{◌≡◌, ℕ, Bool, true, false, List, refl, sym, ap, ◌∙◌, subst}
-use Rattle.std.specs.Prelude.{Contains, ◌&&◌, MatchBool, is_none, if◌then◌else◌, Result, Ok, Err}
+use Rattle.std.proofs.Common.{◌≡◌, ℕ, Bool, true, false, List, ◌⊎◌, inl, inr, refl, sym, ap, ◌∙◌, subst}
+use Rattle.std.specs.Prelude.{Contains, ◌&&◌, not, MatchBool, is_none, if◌then◌else◌, Result, Ok, Err}
 use Rattle.std.specs.List.{list_any}
 use Rattle.std.specs.Result.{result_ok}
 use Rattle.sdb_types.specs.declared.key.Key.{Key}
 use Rattle.sdb_types.specs.declared.record.Record.{Record}
 use Rattle.sdb_types.specs.declared.record.Reply.{Reply}
+use Rattle.sdb_schema.specs.declared.table.Table.{Table}
 use Rattle.sdb_record.specs.Coordinator.{decision_in, is_coordinator_table}
 use Rattle.sdb_record.specs.Meta.{checked}
 use Rattle.sdb_model.specs.declared.event.Event.{Event}
 use Rattle.sdb_model.specs.Calls as calls
 use Rattle.sdb_model.specs.Calls.{calls_of, records_shown}
-use Rattle.sdb_model.specs.Causes.{HasReply, IsBad, IsBadRecord}
-use Rattle.sdb_model.specs.Noted.{same_key}
+use Rattle.sdb_model.specs.Causes.{HasReply, IsBad, IsBadRecord, IsMisfit, is_misfit}
+use Rattle.sdb_model.specs.Noted.{reads_rows, same_key}
+use Rattle.sdb_model.specs.Sql.{reads_commit, reads_vacuum}
 use Rattle.sdb_model.specs.Transactions.{Said}
-use Rattle.sdb_said.proofs.Lists.{clash, left, right, both, any_some, some_any}
+use Rattle.sdb_said.proofs.Lists.{clash, left, right, both, either, or_left, or_right, not_true, true_not, any_some, some_any}
 use Rattle.sdb_said.proofs.ShownLaws.{key_is, is_key}
 use Rattle.sdb_calls.specs.declared.made.Made.{Made}
 use Rattle.sdb_calls.specs.Values.{all_made, made_of}
-use Rattle.sdb_caused.specs.Tests.{is_bad, shows_bad}
+use Rattle.sdb_caused.specs.Tests.{is_bad, is_refused_there, shows_bad}
 use Rattle.sdb_caused.proofs.Finds.{in_contains, contains_in, made_contained, contained_made}
 
 err_is : {A : Type 0} (x : Result A (List ℕ)) → is_none (result_ok x) ≡ true → (name : List ℕ) × (x ≡ Err name)
@@ -42,21 +44,58 @@ is_bad_of r (name, m) = by (is_coordinator_table r.key.table) m
     by true e = is_err (decision_in r) name e
     by false e = is_err (checked r.columns) name e
 
-module _ (events : List Event) (ms : List Made) (client : ℕ) (s : Said) (e : all_made ms ≡ calls_of events client s) where
-  pub bad_record_is : (key : Key) → list_any (λ (m : Made). shows_bad key m.reply) ms ≡ true → IsBadRecord events client s key
-  bad_record_is key h =
-      let f : Record → Bool = λ x. same_key x.key key && is_bad x in
-      let m = any_some (λ (x : Made). shows_bad key x.reply) ms h in
-      let r = any_some f (records_shown m.0.reply) m.2 in
-      (made_of m.0, r.0, subst (λ cs. Contains cs (made_of m.0)) e (made_contained ms m.0 m.1), in_contains (records_shown m.0.reply) r.0 r.1, key_is r.0.key key (left (same_key r.0.key key) (is_bad r.0) r.2), bad_is r.0 (right (same_key r.0.key key) (is_bad r.0) r.2))
+module _ (catalog : List Table) (events : List Event) (ms : List Made) (client : ℕ) (s : Said) (e : all_made ms ≡ calls_of events client s) where
+  abbrev reads : Bool
+  reads = not (reads_commit s.text) && not (reads_vacuum s.text)
 
-  pub is_bad_record : (key : Key) → IsBadRecord events client s key → list_any (λ (m : Made). shows_bad key m.reply) ms ≡ true
+  abbrev rows : Made → Bool
+  rows m = reads && reads_rows (made_of m)
+
+  refused_is : (m : Made) (r : Record) → is_refused_there catalog ms (rows m) r ≡ true → IsBad r ⊎ IsMisfit catalog events client s (made_of m) r
+  refused_is m r h =
+      let fits = is_misfit catalog (all_made ms) r in
+      elim (either (is_bad r) (rows m && fits) h) [
+        | inl a ↦ inl (bad_is r a)
+        | inr b ↦
+            let both_read = left (rows m) fits b in
+            let words = left reads (reads_rows (made_of m)) both_read in
+            inr (
+              not_true (reads_commit s.text) (left (not (reads_commit s.text)) (not (reads_vacuum s.text)) words),
+              not_true (reads_vacuum s.text) (right (not (reads_commit s.text)) (not (reads_vacuum s.text)) words),
+              right reads (reads_rows (made_of m)) both_read,
+              subst (λ cs. is_misfit catalog cs r ≡ true) e (right (rows m) fits b),
+            )
+      ]
+
+  is_refused_of : (m : Made) (r : Record) → IsBad r ⊎ IsMisfit catalog events client s (made_of m) r → is_refused_there catalog ms (rows m) r ≡ true
+  is_refused_of m r (inl x) = or_left (is_bad r) (rows m && is_misfit catalog (all_made ms) r) (is_bad_of r x)
+  is_refused_of m r (inr (c, v, q, k)) =
+      or_right (is_bad r) (rows m && is_misfit catalog (all_made ms) r)
+      (both (rows m) (is_misfit catalog (all_made ms) r)
+      (both reads (reads_rows (made_of m)) (both (not (reads_commit s.text)) (not (reads_vacuum s.text)) (true_not (reads_commit s.text) c) (true_not (reads_vacuum s.text) v)) q)
+      (subst (λ cs. is_misfit catalog cs r ≡ true) (sym e) k))
+
+  pub bad_record_is : (key : Key) → list_any (shows_bad catalog ms reads key) ms ≡ true → IsBadRecord catalog events client s key
+  bad_record_is key h =
+      let m = any_some (shows_bad catalog ms reads key) ms h in
+      let f : Record → Bool = λ x. same_key x.key key && is_refused_there catalog ms (rows m.0) x in
+      let r = any_some f (records_shown m.0.reply) m.2 in (
+        made_of m.0,
+        r.0,
+        subst (λ cs. Contains cs (made_of m.0)) e (made_contained ms m.0 m.1),
+        in_contains (records_shown m.0.reply) r.0 r.1,
+        key_is r.0.key key (left (same_key r.0.key key) (is_refused_there catalog ms (rows m.0) r.0) r.2),
+        refused_is m.0 r.0 (right (same_key r.0.key key) (is_refused_there catalog ms (rows m.0) r.0) r.2),
+      )
+
+  pub is_bad_record : (key : Key) → IsBadRecord catalog events client s key → list_any (shows_bad catalog ms reads key) ms ≡ true
   is_bad_record key (c, r, k, shown, at, bad) =
       let m = contained_made ms c (subst (λ cs. Contains cs c) (sym e) k) in
-      some_any (λ (x : Made). shows_bad key x.reply) ms m.0 m.1
-      (some_any (λ x. same_key x.key key && is_bad x) (records_shown m.0.reply) r (contains_in (records_shown m.0.reply) r (subst (λ (x : calls.Made). Contains (records_shown x.reply) r) m.2 shown))
-      (both (same_key r.key key) (is_bad r) (is_key r.key key at) (is_bad_of r bad)))
+      some_any (shows_bad catalog ms reads key) ms m.0 m.1
+      (some_any (λ x. same_key x.key key && is_refused_there catalog ms (rows m.0) x) (records_shown m.0.reply) r (contains_in (records_shown m.0.reply) r (subst (λ (x : calls.Made). Contains (records_shown x.reply) r) m.2 shown))
+      (both (same_key r.key key) (is_refused_there catalog ms (rows m.0) r) (is_key r.key key at) (is_refused_of m.0 r (subst (λ (x : calls.Made). IsBad r ⊎ IsMisfit catalog events client s x r) m.2 bad))))
 
+module _ (events : List Event) (ms : List Made) (client : ℕ) (s : Said) (e : all_made ms ≡ calls_of events client s) where
   pub reply_is : (is : Reply → Bool) → list_any (λ (m : Made). is m.reply) ms ≡ true → HasReply is (calls_of events client s)
   reply_is is h =
       let m = any_some (λ (x : Made). is x.reply) ms h in

@@ -1,6 +1,6 @@
 -- The causes that stand in the text of a statement are told by what it is read as.
 use Rattle.std.proofs.Common.{◌≡◌, ℕ, Bool, true, false, List, [], ◌∷◌, Option, Some, None, inl, inr, refl, sym, ap, ◌∙◌}
-use Rattle.std.specs.Prelude.{◌↔◌, ◌==◌, IsTrue, filter, length, suc, if◌then◌else◌}
+use Rattle.std.specs.Prelude.{◌↔◌, IsTrue, filter, length, suc, if◌then◌else◌}
 use Rattle.std.specs.Option.{option_map_or}
 use Rattle.std.specs.List.{count_by}
 use Rattle.std.proofs.lemmas.List.Sums.{length-filter}
@@ -11,8 +11,8 @@ use Rattle.sdb_schema.specs.declared.table.Table.{Table}
 use Rattle.sdb_model.specs.declared.event.Event.{Event}
 use Rattle.sdb_model.specs.declared.statement.Statement.{Statement}
 use Rattle.sdb_model.specs.declared.statement.Statement.TheVariants as statement
-use Rattle.sdb_model.specs.Sql.{Reads, reads_vacuum}
-use Rattle.sdb_model.specs.Causes.{IsCounted, before, counts, is_open, is_select, removes}
+use Rattle.sdb_model.specs.Sql.{Reads}
+use Rattle.sdb_model.specs.Causes.{IsCounted, before, is_open, is_select, removes}
 use Rattle.sdb_model.specs.Transactions.{Said}
 use Rattle.sdb_types.specs.declared.key.Key.{Key}
 use Rattle.sdb_model.specs.Calls.{calls_of}
@@ -20,14 +20,14 @@ use Rattle.sdb_calls.specs.declared.made.Made.{Made}
 use Rattle.sdb_calls.specs.Values.{all_made, made_of}
 use Rattle.sdb_said.proofs.ShownLaws.{number_is, is_number, key_is, is_key}
 use Rattle.sdb_said.proofs.Lists.{clash, some_is}
-use Rattle.sdb_caused.specs.Tests.{Inserts, IsOfCount, IsOfDone, IsOfDuplicate, IsOfRows, IsReading, is_done}
+use Rattle.sdb_caused.specs.Tests.{Inserts, IsOfCount, IsOfDone, IsOfDuplicate, IsOfRows, IsReading, counts_so, is_done, removed_by}
 use Rattle.sdb_caused.proofs.Decided.{never}
 
 module _ (s : Said) (o : Option Statement) (reading : IsReading s.text o) where
-  read : (st : Statement) → Reads s.text st → o ≡ Some st
+  pub read : (st : Statement) → Reads s.text st → o ≡ Some st
   read st r = (reading st).0 r
 
-  passed : (f : Statement → Bool) → option_map_or f o false ≡ true → (st : Statement) × Reads s.text st × (f st ≡ true)
+  pub passed : (f : Statement → Bool) → option_map_or f o false ≡ true → (st : Statement) × Reads s.text st × (f st ≡ true)
   passed f h = by o refl h
     where
       by : (x : Option Statement) → o ≡ x → option_map_or f x false ≡ true → (st : Statement) × Reads s.text st × (f st ≡ true)
@@ -68,28 +68,45 @@ module _ (events : List Event) (client : ℕ) (s : Said) (o : Option Statement) 
   pub not_rows : option_map_or is_select o false ≡ false → IsTrue false ↔ IsOfRows events client s
   not_rows n = never (λ (st, r, f, k). failed s o reading is_select st n r f)
 
-  pub of_count : (b : Bool) (n : ℕ) → option_map_or counts o false ≡ true → IsTrue b ↔ IsCounted events client s n → IsTrue b ↔ IsOfCount events client s n
-  of_count b n p e = (λ h. let r = passed s o reading counts p in (r.0, r.1, r.2, e.0 h), λ (st, r, f, k). e.1 k)
-
-  pub not_count : (n : ℕ) → option_map_or counts o false ≡ false → IsTrue false ↔ IsOfCount events client s n
-  not_count n m = never (λ (st, r, f, k). failed s o reading counts st m r f)
-
-removed_by : (ms : List Made) → length (filter (λ m. removes (made_of m)) ms) ≡ length (filter removes (all_made ms))
-removed_by [] = refl
-removed_by (m ∷ ms) = by (removes (made_of m)) (removed_by ms)
+removed_each : (ms : List Made) → length (filter (λ m. removes (made_of m)) ms) ≡ length (filter removes (all_made ms))
+removed_each [] = refl
+removed_each (m ∷ ms) = by (removes (made_of m)) (removed_each ms)
   where
     by : (b : Bool) → length (filter (λ m. removes (made_of m)) ms) ≡ length (filter removes (all_made ms)) → length (if b then m ∷ filter (λ m. removes (made_of m)) ms else filter (λ m. removes (made_of m)) ms) ≡ length (if b then made_of m ∷ filter removes (all_made ms) else filter removes (all_made ms))
     by true more = ap suc more
     by false more = more
 
-removed_are : (ms : List Made) → length (filter (λ m. removes (made_of m)) ms) ≡ count_by removes (all_made ms)
-removed_are ms = removed_by ms ∙ length-filter removes (all_made ms)
+removed_are : (ms : List Made) → removed_by ms ≡ count_by removes (all_made ms)
+removed_are ms = removed_each ms ∙ length-filter removes (all_made ms)
 
-pub counted : (events : List Event) (client : ℕ) (s : Said) (b : Bool) (ms : List Made) (n : ℕ) → all_made ms ≡ calls_of events client s → reads_vacuum s.text ≡ true → b ≡ (n == length (filter (λ m. removes (made_of m)) ms)) → IsTrue b ↔ IsCounted events client s n
-counted events client s b ms n e v f = (
-  λ h w. number_is n (length (filter (λ m. removes (made_of m)) ms)) (sym f ∙ h) ∙ removed_are ms ∙ ap (count_by removes) e,
-  λ k. f ∙ is_number n (length (filter (λ m. removes (made_of m)) ms)) (k v ∙ sym (ap (count_by removes) e) ∙ sym (removed_are ms)),
-)
+module _ (events : List Event) (client : ℕ) (s : Said) (ms : List Made) (e : all_made ms ≡ calls_of events client s) (n : ℕ) where
+  counts_is : (st : Statement) → counts_so (removed_by ms) n st ≡ true → IsCounted events client s st n
+  counts_is (statement.Insert i) h = number_is n 1 h
+  counts_is (statement.Upsert i) h = number_is n 1 h
+  counts_is (statement.Update u) h = tt
+  counts_is (statement.Delete d) h = tt
+  counts_is (statement.Select x) h = clash (sym h)
+  counts_is statement.Begin h = clash (sym h)
+  counts_is statement.Commit h = clash (sym h)
+  counts_is statement.Rollback h = clash (sym h)
+  counts_is statement.Vacuum h = number_is n (removed_by ms) h ∙ removed_are ms ∙ ap (count_by removes) e
+
+  is_counts : (st : Statement) → IsCounted events client s st n → counts_so (removed_by ms) n st ≡ true
+  is_counts (statement.Insert i) k = is_number n 1 k
+  is_counts (statement.Upsert i) k = is_number n 1 k
+  is_counts (statement.Update u) k = refl
+  is_counts (statement.Delete d) k = refl
+  is_counts (statement.Select x) k = absurd k
+  is_counts statement.Begin k = absurd k
+  is_counts statement.Commit k = absurd k
+  is_counts statement.Rollback k = absurd k
+  is_counts statement.Vacuum k = is_number n (removed_by ms) (k ∙ sym (ap (count_by removes) e) ∙ sym (removed_are ms))
+
+  pub of_count : (o : Option Statement) → IsReading s.text o → (b : Bool) → b ≡ option_map_or (counts_so (removed_by ms) n) o false → IsTrue b ↔ IsOfCount events client s n
+  of_count o reading b f = (
+    λ h. let r = passed s o reading (counts_so (removed_by ms) n) (sym f ∙ h) in (r.0, r.1, counts_is r.0 r.2),
+    λ (st, r, k). f ∙ ap (λ x. option_map_or (counts_so (removed_by ms) n) x false) (read s o reading st r) ∙ is_counts st k,
+  )
 
 pub inserts_is : (catalog : List Table) (o : Option Statement) (key : Key) (t : Table) (i : Insert) (b : Bool) → o ≡ Some (statement.Insert i) → find_table catalog i.table ≡ Some t → b ≡ same_key (key_of t i) key → IsTrue b ↔ Inserts catalog o key
 inserts_is catalog o key t i b e f g = (

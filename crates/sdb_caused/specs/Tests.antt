@@ -1,5 +1,5 @@
 -- Tests that hold exactly where the definitions of causes do: what there is to be found is looked for among the calls.
-use Rattle.std.specs.Prelude.{◌≡◌, ◌⊎◌, ◌↔◌, ℕ, zero, suc, ℤ, Bool, true, false, not, ◌&&◌, ◌||◌, ◌==◌, nat_lt, if◌then◌else◌, List, length, Option, Some, None, is_none, codes, IfSome}
+use Rattle.std.specs.Prelude.{◌≡◌, ◌⊎◌, ◌↔◌, ℕ, zero, suc, ℤ, Bool, true, false, not, ◌&&◌, ◌||◌, ◌==◌, ◌+◌, ◌-◌, nat_le, nat_lt, if◌then◌else◌, List, [], ◌∷◌, filter, length, Option, Some, None, is_none, codes, IfSome}
 use Rattle.std.specs.Option.{option_and_then, option_map, option_map_or}
 use Rattle.std.specs.Ordering.{int_eq}
 use Rattle.std.specs.List.{AllByRecursion, list_any}
@@ -32,14 +32,14 @@ use Rattle.sdb_model.specs.Sql.{Reads, Refuses, reads_commit}
 use Rattle.sdb_model.specs.Exec.{find_table, key_of}
 use Rattle.sdb_model.specs.Refused.{refusal_of}
 use Rattle.sdb_model.specs.Rows.{same_name}
-use Rattle.sdb_model.specs.Transactions.{Said, client_of, commit_of, id_of, prepares, said, statements_of}
-use Rattle.sdb_model.specs.Calls.{clock_at, is_read, key_asked, put_by, record_among, records_read, records_shown, standing_said}
-use Rattle.sdb_model.specs.Noted.{Note, Got, Scanned, noted_in, resolved, same_key, version_among, version_noted}
-use Rattle.sdb_model.specs.Causes.{IsCaused, IsCounted, IsTurnedAway, before, counts, is_open, is_select, refused}
+use Rattle.sdb_model.specs.Transactions.{Said, client_of, commit_of, id_of, is_effective, ordinal_of, said, statements_of}
+use Rattle.sdb_model.specs.Calls.{clock_at, calls_of, decision_learned, is_read, key_asked, put_by, record_among, records_read, records_shown}
+use Rattle.sdb_model.specs.Noted.{Note, Got, Scanned, noted_in, reads_rows, resolved, same_key, version_among, version_noted}
+use Rattle.sdb_model.specs.Causes.{IsCaused, IsCounted, IsTurnedAway, before, is_misfit, is_open, is_select, prepares_key, records_found, refused, removes, rows_counted}
 use Rattle.sdb_said.specs.Values.{same_record}
 use Rattle.sdb_calls.specs.declared.made.Made.{Made}
 use Rattle.sdb_calls.specs.declared.open.Work.TheVariants as work
-use Rattle.sdb_calls.specs.Values.{all_made, asks_row, decision_found_at, someone_does, taker}
+use Rattle.sdb_calls.specs.Values.{all_made, asks_row, decision_found_at, inside_among, made_of, someone_does, taker}
 
 ---- equality
 
@@ -120,6 +120,10 @@ same_decision decision.Aborted decision.Aborted = true
 abbrev pub is_decided : Decision → Option Decided → Bool
 is_decided wanted found = option_map_or (λ d. same_decision d.decision wanted) found false
 
+-- it is the COMMIT of this transaction, and these calls showed first that this is committed
+abbrev pub commits_as : List Event → ℕ → Said → List Made → TxId → Bool
+commits_as events client s ms id = is_commit_of events client s id && is_decided decision.Committed (decision_learned (all_made ms) id)
+
 abbrev pub puts_row : Key → Decision → Made → Bool
 puts_row row wanted m = asks_row row m.request && is_decided wanted (option_and_then (λ r. result_ok (decision_in r)) (put_by m.request))
 
@@ -161,8 +165,16 @@ has_moved notes key found = list_any (is_moved key found) notes
 abbrev pub asks_key : Made → Key → Bool
 asks_key m key = option_map_or (λ k. same_key k key) (key_asked m.request) false
 
-abbrev pub stands_as : Made → Option Record → Bool
-stands_as m found = option_map_or (λ standing. same_found standing found) (standing_said m.reply) false
+abbrev pub not_met_as : Reply → Option Record → Bool
+not_met_as (reply.NotMet standing) found = same_found standing found
+not_met_as r found = false
+
+abbrev pub is_unmet : TxId → Key → Option Record → Made → Bool
+is_unmet id key found m = prepares_key id key (made_of m) && not_met_as m.reply found
+
+abbrev pub get_shows : Request → Reply → Key → Option Record → Bool
+get_shows (ask.Get k) (reply.Found standing) key found = same_key k key && same_found standing found
+get_shows q r key found = false
 
 abbrev pub scan_shows_by : Request → Reply → Key → Option Record → Bool
 scan_shows_by (ask.Scan span) (reply.Rows rows) key found = in_span span key && same_found (record_among rows key) found
@@ -171,25 +183,29 @@ scan_shows_by q r key found = false
 abbrev pub scan_shows : Made → Key → Option Record → Bool
 scan_shows m key found = scan_shows_by m.request m.reply key found
 
-abbrev pub shows_at : Made → Key → Option Record → Bool
-shows_at m key found = (asks_key m key && stands_as m found) || scan_shows m key found
+abbrev pub read_shows : Made → Key → Option Record → Bool
+read_shows m key found = get_shows m.request m.reply key found || scan_shows m key found
+
+abbrev pub has_prepared : List Made → TxId → Key → Bool
+has_prepared ms id key = list_any (λ m. prepares_key id key (made_of m)) ms
+
+-- what a call found at a key was found by a prepare that was not met, or by a check of a key that was not prepared
+abbrev pub is_found_by : List Made → TxId → Key → Option Record → Bool
+is_found_by ms id key found = list_any (is_unmet id key found) ms || (not (has_prepared ms id key) && list_any (λ m. read_shows m key found) ms)
 
 -- the version of the base of a record that is put
 abbrev pub base_put : Made → Option TxId
 base_put m = option_and_then (λ r. id_in (before_part r.columns)) (put_by m.request)
-
-abbrev pub puts_at : TxId → Key → Made → Bool
-puts_at id key m = prepares id m.request && asks_key m key
 
 abbrev pub scan_differs : Key → Option TxId → Note → Bool
 scan_differs key base (Got read) = false
 scan_differs key base (Scanned scan) = in_span scan.span key && not (same_version base (version_among scan.found key))
 
 abbrev pub is_rebased : List Made → List Note → TxId → Key → Bool
-is_rebased ms notes id key = list_any (λ p. puts_at id key p && list_any (scan_differs key (base_put p)) notes) ms
+is_rebased ms notes id key = list_any (λ p. prepares_key id key (made_of p) && list_any (scan_differs key (base_put p)) notes) ms
 
 abbrev pub conflict_at_commit : List Made → List Note → TxId → Key → Option Record → Bool
-conflict_at_commit ms notes id key found = list_any (λ m. shows_at m key found) ms && (has_moved notes key found || is_rebased ms notes id key)
+conflict_at_commit ms notes id key found = (has_moved notes key found && is_found_by ms id key found) || (list_any (λ m. scan_shows m key found) ms && is_rebased ms notes id key)
 
 abbrev pub resolves_by : List Made → Key → Option Record → Request → Reply → Bool
 resolves_by ms key found (ask.Scan span) (reply.Rows rows) = in_span span key && same_found (option_and_then (resolved (all_made ms)) (record_among rows key)) found
@@ -207,13 +223,68 @@ conflict_of events client s ms key found id =
     (is_commit_of events client s id && conflict_at_commit ms (noted_in events id) id key found)
     || (not (reads_commit s.text) && (is_in events client s id && conflict_at_scan ms (noted_in events id) key found))
 
+---- too many keys
+
+-- a statement of the body, unless it ends the transaction, that was taken before
+abbrev pub is_before : ℕ → Said → Bool
+is_before taken b = is_effective b && nat_lt b.taken taken
+
+abbrev pub before_only : (Said → ℕ) → ℕ → Said → ℕ
+before_only f taken b = if is_before taken b then f b else 0
+
+-- a sum over the statements that are so
+abbrev pub total_before : (Said → ℕ) → ℕ → List Said → ℕ
+total_before f taken [] = 0
+total_before f taken (b ∷ bs) = before_only f taken b + total_before f taken bs
+
+abbrev pub counted_by : Said → ℕ
+counted_by b = rows_counted b.answer
+
+abbrev pub found_by : List Event → ℕ → Said → ℕ
+found_by events client b = records_found (calls_of events client b)
+
+abbrev pub read_by : Made → ℕ
+read_by m = if reads_rows (made_of m) then length (records_read m.reply) else 0
+
+abbrev pub found_among : List Made → ℕ
+found_among [] = 0
+found_among (m ∷ ms) = read_by m + found_among ms
+
+-- the same test by what is left of one more than the most keys: after the rows that were counted, and then the records that were found
+abbrev pub passes_left : ℕ → ℕ → Statement → Bool
+passes_left written found (statement.Insert i) = nat_le written 1
+passes_left written found (statement.Upsert i) = nat_le written 1
+passes_left written found (statement.Update u) = found == 0
+passes_left written found (statement.Delete d) = found == 0
+passes_left written found (statement.Select x) = false
+passes_left written found statement.Begin = false
+passes_left written found statement.Commit = false
+passes_left written found statement.Rollback = false
+passes_left written found statement.Vacuum = false
+
+-- what the transaction's statements, up to its end, leave of so many keys before one
+abbrev pub written_left : List Event → TxId → ℕ → ℕ
+written_left events id taken = 4097 - total_before counted_by taken (inside_among (said (client_of id) events) (ordinal_of id))
+
+abbrev pub found_left : List Event → ℕ → TxId → Said → ℕ
+found_left events client id s =
+    (written_left events id s.taken - total_before (found_by events client) s.taken (inside_among (said (client_of id) events) (ordinal_of id))) - found_by events client s
+
+abbrev pub passes_most : List Event → ℕ → Said → Option Statement → TxId → Bool
+passes_most events client s read id = is_in events client s id && option_map_or (passes_left (written_left events id s.taken) (found_left events client id s)) read false
+
 ---- BadRecord
 
 abbrev pub is_bad : Record → Bool
 is_bad r = if is_coordinator_table r.key.table then is_none (result_ok (decision_in r)) else is_none (result_ok (checked r.columns))
 
-abbrev pub shows_bad : Key → Reply → Bool
-shows_bad key r = list_any (λ x. same_key x.key key && is_bad x) (records_shown r)
+-- a record isn't of the form of records, or it was read, and the row that it stands for doesn't fit its table
+abbrev pub is_refused_there : List Table → List Made → Bool → Record → Bool
+is_refused_there catalog ms reads r = is_bad r || (reads && is_misfit catalog (all_made ms) r)
+
+-- a call of a statement, which is one of those that read rows to answer from, or not, shows such a record at the key
+abbrev pub shows_bad : List Table → List Made → Bool → Key → Made → Bool
+shows_bad catalog ms reads key m = list_any (λ x. same_key x.key key && is_refused_there catalog ms (reads && reads_rows (made_of m)) x) (records_shown m.reply)
 
 ---- texts
 
@@ -240,8 +311,24 @@ Inserts catalog found key = (t : Table) × (i : Insert) × (found ≡ Some (stat
 abbrev pub IsOfRows : List Event → ℕ → Said → Type 0
 IsOfRows events client s = (st : Statement) × Reads s.text st × (is_select st ≡ true) × (is_open (before s events) client ≡ true)
 
+-- how many calls of VACUUM removed a tombstone
+abbrev pub removed_by : List Made → ℕ
+removed_by ms = length (filter (λ m. removes (made_of m)) ms)
+
+-- a statement counts so many rows, where so many tombstones were removed
+abbrev pub counts_so : ℕ → ℕ → Statement → Bool
+counts_so removed n (statement.Insert i) = n == 1
+counts_so removed n (statement.Upsert i) = n == 1
+counts_so removed n (statement.Update u) = true
+counts_so removed n (statement.Delete d) = true
+counts_so removed n (statement.Select x) = false
+counts_so removed n statement.Begin = false
+counts_so removed n statement.Commit = false
+counts_so removed n statement.Rollback = false
+counts_so removed n statement.Vacuum = n == removed
+
 abbrev pub IsOfCount : List Event → ℕ → Said → ℕ → Type 0
-IsOfCount events client s n = (st : Statement) × Reads s.text st × (counts st ≡ true) × IsCounted events client s n
+IsOfCount events client s n = (st : Statement) × Reads s.text st × IsCounted events client s st n
 
 abbrev pub IsOfDone : Said → Type 0
 IsOfDone s = Reads s.text statement.Begin ⊎ Reads s.text statement.Rollback

@@ -2,17 +2,17 @@
 ghost use Rattle.std.specs.Prelude.{◌≡◌, ◌||◌, IfOk, IfSome, IsTrue, ◌↔◌};
 ghost use Rattle.std.specs.List.{AllByRecursion};
 ghost use Rattle.sdb_model.specs.declared.answer.Answer.TheVariants as answer;
-ghost use Rattle.sdb_model.specs.Causes.{AreCaused, IsCaused, IsTurnedAway, before as before_lem};
+ghost use Rattle.sdb_model.specs.Causes.{AreCaused, IsCaused, IsTurnedAway, MayPassMost, before as before_lem};
 ghost use Rattle.sdb_plain.specs.Points.{all_said, said_of};
 ghost use Rattle.sdb_calls.specs.Values.{taker as taker_lem};
 ghost use Rattle.sdb_caused.specs.Tests.{answered_with, is_no_memory, same_answer, AreTakersWell, IsAnswerCaused, IsClientWell, IsTurnedIfDue, IsWellAnswered};
 
+use crate::bad::is_bad_record;
 use crate::busy::is_busy;
 use crate::commit::{is_expired, is_of_commit, is_unknown};
 use crate::conflict::is_conflict;
-use crate::plain::{
-    before, has_fault, is_bad_record, is_of_count, is_of_done, is_of_duplicate, is_of_rows,
-};
+use crate::full::may_pass_most;
+use crate::plain::{before, has_fault, is_of_count, is_of_done, is_of_duplicate, is_of_rows};
 use crate::same::is_same_answer;
 use crate::turned::turned_away;
 use sdb_calls::taker;
@@ -39,7 +39,23 @@ fn is_turned_with(
     }
 }
 
-// Whether a refusal has its cause. That of too many keys needs none.
+// Whether it is the refusal of too many keys, and the transaction may write more than it may.
+fn is_past_most(
+    alloc: Global,
+    events: &[Event],
+    client: u64,
+    said: &Said,
+    refusal: Refusal,
+) -> Result<bool, NoMemory>
+    ensures { IfOk result (λ is. IsTrue is ↔ ((refusal.kind ≡ 15) × (refusal.place ≡ 0) × MayPassMost events.now client (said_of said.now))) }
+{
+    if refusal.kind == 15 && refusal.place == 0 {
+        return may_pass_most(alloc, events, client, said);
+    }
+    Ok(false)
+}
+
+// Whether a refusal has its cause.
 fn is_refused(
     alloc: Global,
     catalog: &Catalog,
@@ -50,17 +66,12 @@ fn is_refused(
 ) -> Result<bool, NoMemory>
     ensures { IfOk result (λ is. IsTrue is ↔ IsCaused catalog.now events.now client (said_of said.now) (answer.Refused refusal)) }
 {
-    if refusal.kind == 15 {
+    let answer = Answer::Refused(refusal);
+    let turned = is_turned_with(alloc, catalog, events, client, said, &answer)?;
+    if turned {
         return Ok(true);
     }
-    is_turned_with(
-        alloc,
-        catalog,
-        events,
-        client,
-        said,
-        &Answer::Refused(refusal),
-    )
+    is_past_most(alloc, events, client, said, refusal)
 }
 
 /// Whether an answer to a statement of a client has its cause.
@@ -85,7 +96,7 @@ pub fn has_cause(
         Answer::Expired(id) => is_expired(alloc, events, client, said, *id),
         Answer::Faulted => has_fault(alloc, events, client, said),
         Answer::Unknown(id) => is_unknown(alloc, events, client, said, *id),
-        Answer::BadRecord(key) => is_bad_record(alloc, events, client, said, key),
+        Answer::BadRecord(key) => is_bad_record(alloc, catalog, events, client, said, key),
         Answer::Refused(refusal) => is_refused(alloc, catalog, events, client, said, *refusal),
         Answer::Vacuuming => is_turned_with(alloc, catalog, events, client, said, answer),
         Answer::OpenTransactions => is_turned_with(alloc, catalog, events, client, said, answer),

@@ -1,15 +1,18 @@
 //! The causes of the answers of a COMMIT.
 ghost use Rattle.std.specs.Prelude.{◌≡◌, IfOk, IsTrue, ◌↔◌};
 ghost use Rattle.std.specs.List.{list_any};
+ghost use Rattle.sdb_record.specs.declared.coordinator.Decision.TheVariants as decision;
+ghost use Rattle.sdb_model.specs.Calls.{decision_learned};
 ghost use Rattle.sdb_model.specs.Causes.{IsExpired, IsOfCommit, IsUnknown};
 ghost use Rattle.sdb_model.specs.Transactions.{id_of as id_of_lem, through_end};
 ghost use Rattle.sdb_plain.specs.Points.{said_of, all_said};
-ghost use Rattle.sdb_caused.specs.Tests.{any_upto, is_commit_of as is_commit_of_lem, is_in as is_in_lem, same_said, is_decided as is_decided_lem, puts_row as puts_row_lem, put_before, found_aborted as found_aborted_lem, expired_among as expired_among_lem, fails_later as fails_later_lem, is_lost_put as is_lost_put_lem, unknown_among as unknown_among_lem};
+ghost use Rattle.sdb_calls.specs.Values.{all_made};
+ghost use Rattle.sdb_caused.specs.Tests.{any_upto, commits_as as commits_as_lem, is_commit_of as is_commit_of_lem, is_in as is_in_lem, same_said, is_decided as is_decided_lem, puts_row as puts_row_lem, put_before, found_aborted as found_aborted_lem, expired_among as expired_among_lem, fails_later as fails_later_lem, is_lost_put as is_lost_put_lem, unknown_among as unknown_among_lem};
 
 use crate::same::is_same_said;
 use sdb_calls::{
-    Made, asks_row, calls_of, client_of, commit_of, decision_found_at, id_of, ordinal_of, put_by,
-    rest_of,
+    Made, asks_row, calls_of, client_of, commit_of, decision_found_at, decision_learned_at, id_of,
+    ordinal_of, put_by, rest_of,
 };
 use sdb_model::Event;
 use sdb_plain::{Said, ends, from_begin, statements_said};
@@ -73,28 +76,65 @@ pub fn is_in(
     is_through_end(alloc, rest_of(since), said)
 }
 
-// Whether a statement is the COMMIT of one of a client's first transactions.
+fn is_decided(found: Option<Decided>, wanted: Decision) -> bool
+    ensures { result ≡ is_decided_lem wanted found }
+{
+    match found {
+        Some(found) => found.decision == wanted,
+        None => false,
+    }
+}
+
+// Whether the first decision on a transaction that calls showed is COMMITTED.
+#[tactic(auto, using(sdb_calls::proofs::Walks::learned_is))]
+fn is_learned(alloc: Global, calls: &[Made], id: TxId) -> Result<bool, NoMemory>
+    ensures { IfOk result (λ is. is ≡ is_decided_lem decision.Committed (decision_learned (all_made calls.now) id)) }
+{
+    let row = coordinator_key(alloc, id)?;
+    Ok(is_decided(decision_learned_at(alloc, calls, &row), Decision::Committed))
+}
+
+// Whether a statement is the COMMIT of this transaction, and its calls showed first that this is committed.
+fn commits_as(
+    alloc: Global,
+    events: &[Event],
+    client: u64,
+    said: &Said,
+    calls: &[Made],
+    id: TxId,
+) -> Result<bool, NoMemory>
+    ensures { IfOk result (λ is. is ≡ commits_as_lem events.now client (said_of said.now) calls.now id) }
+{
+    let commits = is_commit_of(alloc, events, client, said, id)?;
+    if commits {
+        return is_learned(alloc, calls, id);
+    }
+    Ok(false)
+}
+
+// Whether it is so of one of a client's first transactions.
 #[tactic(auto, using(crate::proofs::IdLaws::upto_step))]
 fn is_among_commits(
     alloc: Global,
     events: &[Event],
     client: u64,
     said: &Said,
+    calls: &[Made],
     count: u64,
 ) -> Result<bool, NoMemory>
-    ensures { IfOk result (λ is. is ≡ any_upto (λ k. is_commit_of_lem events.now client (said_of said.now) (id_of_lem client k)) count) }
+    ensures { IfOk result (λ is. is ≡ any_upto (λ k. commits_as_lem events.now client (said_of said.now) calls.now (id_of_lem client k)) count) }
 {
     if count == 0 {
         return Ok(false);
     }
-    let commits = is_commit_of(alloc, events, client, said, id_of(client, count))?;
+    let commits = commits_as(alloc, events, client, said, calls, id_of(client, count))?;
     if commits {
         return Ok(true);
     }
-    is_among_commits(alloc, events, client, said, count - 1)
+    is_among_commits(alloc, events, client, said, calls, count - 1)
 }
 
-/// Whether a statement is the COMMIT of some transaction of its client.
+/// Whether a statement is the COMMIT of some transaction of its client, and its calls showed first that this is committed.
 pub fn is_of_commit(
     alloc: Global,
     events: &[Event],
@@ -103,17 +143,10 @@ pub fn is_of_commit(
 ) -> Result<bool, NoMemory>
     ensures { IfOk result (λ is. IsTrue is ↔ IsOfCommit events.now client (said_of said.now)) }
 {
+    let calls = calls_of(alloc, events, client, said)?;
     let all = statements_said(alloc, client, events)?;
-    is_among_commits(alloc, events, client, said, all.len() as u64)
-}
-
-fn is_decided(found: Option<Decided>, wanted: Decision) -> bool
-    ensures { result ≡ is_decided_lem wanted found }
-{
-    match found {
-        Some(found) => found.decision == wanted,
-        None => false,
-    }
+    let count = all.len() as u64;
+    is_among_commits(alloc, events, client, said, calls.as_slice(), count)
 }
 
 // Whether a call puts a transaction's row with this decision.

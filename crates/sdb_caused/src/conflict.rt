@@ -2,7 +2,7 @@
 ghost use Rattle.std.specs.Prelude.{◌≡◌, ◌&&◌, IfOk, IsTrue, ◌↔◌, Some, find};
 ghost use Rattle.std.specs.Option.{option_and_then, option_copied};
 ghost use Rattle.std.specs.List.{list_any};
-ghost use Rattle.sdb_model.specs.Causes.{IsConflict};
+ghost use Rattle.sdb_model.specs.Causes.{IsConflict, prepares_key as prepares_key_lem};
 ghost use Rattle.sdb_model.specs.Noted.{noted_in as noted_in_lem, resolved, same_key, version_among as version_among_lem, version_noted as version_noted_lem};
 ghost use Rattle.sdb_model.specs.Transactions.{id_of as id_of_lem};
 ghost use Rattle.sdb_plain.specs.Points.{said_of};
@@ -10,14 +10,13 @@ ghost use Rattle.sdb_record.specs.Moved.{is_unchanged as is_unchanged_lem, same_
 ghost use Rattle.sdb_record.specs.Parts.{before_record};
 ghost use Rattle.sdb_record.specs.Rolls.{forward_record};
 ghost use Rattle.sdb_said.specs.Values.{note_of};
-ghost use Rattle.sdb_calls.specs.Values.{all_made, all_notes};
-ghost use Rattle.sdb_caused.specs.Tests.{asks_key, conflict_at_scan, is_moved as is_moved_lem, stands_as as stands_as_lem, has_moved as has_moved_lem, shows_at as shows_at_lem, scan_shows as scan_shows_lem, base_put as base_put_lem, puts_at as puts_at_lem, scan_differs as scan_differs_lem, is_rebased as is_rebased_lem, conflict_at_commit as conflict_at_commit_lem, same_found, resolves as resolves_lem, any_upto, conflict_of as conflict_of_lem};
+ghost use Rattle.sdb_calls.specs.Values.{all_made, all_notes, made_of};
+ghost use Rattle.sdb_caused.specs.Tests.{asks_key, conflict_at_scan, is_moved as is_moved_lem, has_moved as has_moved_lem, get_shows as get_shows_lem, has_prepared as has_prepared_lem, is_found_by as is_found_by_lem, is_unmet as is_unmet_lem, not_met_as as not_met_as_lem, read_shows as read_shows_lem, scan_shows as scan_shows_lem, base_put as base_put_lem, scan_differs as scan_differs_lem, is_rebased as is_rebased_lem, conflict_at_commit as conflict_at_commit_lem, same_found, resolves as resolves_lem, any_upto, conflict_of as conflict_of_lem};
 
 use crate::commit::{is_commit_of, is_in};
 use crate::same::is_same_found;
 use sdb_calls::{
     Made, calls_of, decision_for, id_of, is_in_span, key_asked, noted_in, put_by, record_among,
-    standing_said,
 };
 use sdb_model::{Event, Keyword};
 use sdb_plain::{Said, is_prepare, is_word, statements_said};
@@ -104,19 +103,69 @@ fn is_asked(made: &Made, key: &Key) -> bool
     }
 }
 
-fn stands_as(made: &Made, found: &Option<Record>) -> bool
-    ensures { result ≡ stands_as_lem made.now found.now }
+fn prepares_key(id: TxId, key: &Key, made: &Made) -> bool
+    ensures { result ≡ prepares_key_lem id key.now (made_of made.now) }
 {
-    match standing_said(&made.reply) {
-        Some(standing) => is_same_found(standing.as_ref(), found),
-        None => false,
+    is_prepare(&made.request, id) && is_asked(made, key)
+}
+
+fn not_met_as(reply: &Reply, found: &Option<Record>) -> bool
+    ensures { result ≡ not_met_as_lem reply.now found.now }
+{
+    match reply {
+        Reply::NotMet(standing) => is_same_found(standing.as_ref(), found),
+        _ => false,
     }
 }
 
-fn shows_at(made: &Made, key: &Key, found: &Option<Record>) -> bool
-    ensures { result ≡ shows_at_lem made.now key.now found.now }
+// Whether a call is a prepare of the key that was not met, where this stands.
+fn is_unmet(id: TxId, key: &Key, found: &Option<Record>, made: &Made) -> bool
+    ensures { result ≡ is_unmet_lem id key.now found.now made.now }
 {
-    (is_asked(made, key) && stands_as(made, found)) || scan_shows(made, key, found)
+    prepares_key(id, key, made) && not_met_as(&made.reply, found)
+}
+
+fn any_unmet(calls: &[Made], id: TxId, key: &Key, found: &Option<Record>) -> bool
+    ensures { result ≡ list_any (is_unmet_lem id key.now found.now) calls.now }
+{
+    calls.iter().any(|made| is_unmet(id, key, found, made))
+}
+
+fn has_prepared(calls: &[Made], id: TxId, key: &Key) -> bool
+    ensures { result ≡ has_prepared_lem calls.now id key.now }
+{
+    calls.iter().any(|made| prepares_key(id, key, made))
+}
+
+fn get_shows(made: &Made, key: &Key, found: &Option<Record>) -> bool
+    ensures { result ≡ get_shows_lem made.now.request made.now.reply key.now found.now }
+{
+    match (&made.request, &made.reply) {
+        (Request::Get(asked), Reply::Found(standing)) => {
+            is_same_key(asked, key) && is_same_found(standing.as_ref(), found)
+        }
+        _ => false,
+    }
+}
+
+fn read_shows(made: &Made, key: &Key, found: &Option<Record>) -> bool
+    ensures { result ≡ read_shows_lem made.now key.now found.now }
+{
+    get_shows(made, key, found) || scan_shows(made, key, found)
+}
+
+fn any_read_shows(calls: &[Made], key: &Key, found: &Option<Record>) -> bool
+    ensures { result ≡ list_any (λ m. read_shows_lem m key.now found.now) calls.now }
+{
+    calls.iter().any(|made| read_shows(made, key, found))
+}
+
+// Whether this was found by a prepare that was not met, or by a check of a key that was not prepared.
+fn is_found_by(calls: &[Made], id: TxId, key: &Key, found: &Option<Record>) -> bool
+    ensures { result ≡ is_found_by_lem calls.now id key.now found.now }
+{
+    any_unmet(calls, id, key, found)
+        || (!has_prepared(calls, id, key) && any_read_shows(calls, key, found))
 }
 
 // The version of the base of a record that is put.
@@ -128,12 +177,6 @@ fn base_put(made: &Made) -> Option<TxId>
         Some(rec) => kept_writer(&rec.columns),
         None => None,
     }
-}
-
-fn puts_at(id: TxId, key: &Key, made: &Made) -> bool
-    ensures { result ≡ puts_at_lem id key.now made.now }
-{
-    is_prepare(&made.request, id) && is_asked(made, key)
 }
 
 fn is_same_version(a: Option<TxId>, b: Option<TxId>) -> bool
@@ -171,9 +214,9 @@ fn any_differs(notes: &[Note], key: &Key, base: Option<TxId>) -> bool
 }
 
 fn differs_from(notes: &[Note], id: TxId, key: &Key, prepare: &Made) -> bool
-    ensures { result ≡ (puts_at_lem id key.now prepare.now && list_any (scan_differs_lem key.now (base_put_lem prepare.now)) (all_notes notes.now)) }
+    ensures { result ≡ (prepares_key_lem id key.now (made_of prepare.now) && list_any (scan_differs_lem key.now (base_put_lem prepare.now)) (all_notes notes.now)) }
 {
-    puts_at(id, key, prepare) && any_differs(notes, key, base_put(prepare))
+    prepares_key(id, key, prepare) && any_differs(notes, key, base_put(prepare))
 }
 
 // Whether a scan was noted with another version of a key than the prepare's base has.
@@ -185,10 +228,10 @@ fn is_rebased(calls: &[Made], notes: &[Note], id: TxId, key: &Key) -> bool
         .any(|prepare| differs_from(notes, id, key, prepare))
 }
 
-fn any_shows(calls: &[Made], key: &Key, found: &Option<Record>) -> bool
-    ensures { result ≡ list_any (λ m. shows_at_lem m key.now found.now) calls.now }
+fn any_scan_shows(calls: &[Made], key: &Key, found: &Option<Record>) -> bool
+    ensures { result ≡ list_any (λ m. scan_shows_lem m key.now found.now) calls.now }
 {
-    calls.iter().any(|made| shows_at(made, key, found))
+    calls.iter().any(|made| scan_shows(made, key, found))
 }
 
 fn conflicts_at_commit(
@@ -200,8 +243,8 @@ fn conflicts_at_commit(
 ) -> bool
     ensures { result ≡ conflict_at_commit_lem calls.now (all_notes notes.now) id key.now found.now }
 {
-    any_shows(calls, key, found)
-        && (has_moved(notes, key, found) || is_rebased(calls, notes, id, key))
+    (has_moved(notes, key, found) && is_found_by(calls, id, key, found))
+        || (any_scan_shows(calls, key, found) && is_rebased(calls, notes, id, key))
 }
 
 // Whether a before image keeps this, where there is one.

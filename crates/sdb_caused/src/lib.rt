@@ -2,10 +2,12 @@
 //! search, for tests.
 #![tactic(auto)]
 
+mod bad;
 mod busy;
 mod caused;
 mod commit;
 mod conflict;
+mod full;
 mod plain;
 mod reading;
 mod same;

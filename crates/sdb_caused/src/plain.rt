@@ -1,23 +1,21 @@
 //! The causes that stand in the text of a statement, or in its replies alone.
-ghost use Rattle.std.specs.Prelude.{◌≡◌, ◌&&◌, IfOk, IsTrue, ◌↔◌, ◌==◌, ◌≤◌, false, filter, length};
+ghost use Rattle.std.specs.Prelude.{◌≡◌, IfOk, IsTrue, ◌↔◌, ◌≤◌, false, length};
 ghost use Rattle.std.specs.Option.{option_map_or};
 ghost use Rattle.std.specs.List.{list_any};
 ghost use Rattle.sdb_model.specs.Calls.{calls_of as calls_of_lem, is_fault as is_fault_lem};
-ghost use Rattle.sdb_model.specs.Noted.{same_key};
-ghost use Rattle.sdb_model.specs.Causes.{HasReply, IsBadRecord, IsCounted, before as before_lem, counts as counts_lem, is_select as is_select_lem, removes as removes_lem};
+ghost use Rattle.sdb_model.specs.Causes.{HasReply, before as before_lem, is_select as is_select_lem, removes as removes_lem};
 ghost use Rattle.sdb_plain.specs.Points.{said_of};
 ghost use Rattle.sdb_calls.specs.Values.{made_of};
-ghost use Rattle.sdb_caused.specs.Tests.{Inserts, is_done as is_done_lem, IsOfRows, IsOfCount, IsOfDone, IsOfDuplicate, is_bad as is_bad_lem, shows_bad as shows_bad_lem};
+ghost use Rattle.sdb_caused.specs.Tests.{Inserts, counts_so as counts_so_lem, is_done as is_done_lem, IsOfRows, IsOfCount, IsOfDone, IsOfDuplicate, removed_by};
 
 use crate::reading::statement_in;
-use sdb_calls::{Made, calls_of, is_coordinator, is_open, is_removal, prefix};
-use sdb_model::{Event, Keyword, Statement};
-use sdb_plain::{Said, is_word};
-use sdb_record::meta_of;
+use sdb_calls::{Made, calls_of, is_open, is_removal, prefix};
+use sdb_model::{Event, Statement};
+use sdb_plain::Said;
 use sdb_rows::inserted_key;
-use sdb_said::{decided, is_same_key};
+use sdb_said::is_same_key;
 use sdb_schema::Catalog;
-use sdb_types::{Key, NoMemory, Record, Reply};
+use sdb_types::{Key, NoMemory, Reply};
 use std::alloc::Global;
 
 /// The events before a statement was taken.
@@ -54,21 +52,6 @@ pub fn is_of_rows(
     Ok(false)
 }
 
-fn counts(statement: &Option<Statement>) -> bool
-    ensures { result ≡ option_map_or counts_lem statement.now false }
-{
-    matches!(
-        statement,
-        Some(
-            Statement::Insert(_)
-                | Statement::Upsert(_)
-                | Statement::Update(_)
-                | Statement::Delete(_)
-                | Statement::Vacuum
-        )
-    )
-}
-
 /// Whether a call is a delete of a committed record that took effect.
 fn removes(made: &Made) -> bool
     ensures { result ≡ removes_lem (made_of made.now) }
@@ -77,7 +60,7 @@ fn removes(made: &Made) -> bool
 }
 
 fn removed(calls: &[Made]) -> usize
-    ensures count { result ≡ length (filter (λ m. removes_lem (made_of m)) calls.now) }
+    ensures count { result ≡ removed_by calls.now }
     ensures most { result ≤ length calls.now }
 {
     let Some((first, rest)) = calls.split_first() else {
@@ -87,31 +70,19 @@ fn removed(calls: &[Made]) -> usize
     if removes(first) { more + 1 } else { more }
 }
 
-fn counts_removed(calls: &[Made], count: u64) -> bool
-    ensures { result ≡ (count == length (filter (λ m. removes_lem (made_of m)) calls.now)) }
+// Whether a statement counts so many rows, where so many tombstones were removed.
+fn counts_so(removed: usize, count: u64, statement: &Option<Statement>) -> bool
+    ensures { result ≡ option_map_or (counts_so_lem removed count) statement.now false }
 {
-    count == removed(calls) as u64
-}
-
-// Whether VACUUM counts the deletes that it was told took effect.
-fn is_counted(
-    alloc: Global,
-    events: &[Event],
-    client: u64,
-    said: &Said,
-    count: u64,
-) -> Result<bool, NoMemory>
-    ensures { IfOk result (λ is. IsTrue is ↔ IsCounted events.now client (said_of said.now) count) }
-{
-    let vacuums = is_word(alloc, said, Keyword::Vacuum)?;
-    if vacuums {
-        let calls = calls_of(alloc, events, client, said)?;
-        return Ok(counts_removed(calls.as_slice(), count));
+    match statement {
+        Some(Statement::Insert(_) | Statement::Upsert(_)) => count == 1,
+        Some(Statement::Update(_) | Statement::Delete(_)) => true,
+        Some(Statement::Vacuum) => count == removed as u64,
+        _ => false,
     }
-    Ok(true)
 }
 
-/// The cause of Count: it is a statement that counts, and VACUUM counts what it removed.
+/// The cause of Count: it is a statement that counts, INSERT and UPSERT count one row, and VACUUM counts what it removed.
 pub fn is_of_count(
     alloc: Global,
     events: &[Event],
@@ -122,10 +93,9 @@ pub fn is_of_count(
     ensures { IfOk result (λ is. IsTrue is ↔ IsOfCount events.now client (said_of said.now) count) }
 {
     let statement = statement_in(alloc, &said.text)?;
-    if counts(&statement) {
-        return is_counted(alloc, events, client, said, count);
-    }
-    Ok(false)
+    let calls = calls_of(alloc, events, client, said)?;
+    let removed = removed(calls.as_slice());
+    Ok(counts_so(removed, count, &statement))
 }
 
 fn is_done(statement: &Option<Statement>) -> bool
@@ -192,52 +162,4 @@ pub fn has_fault(
 {
     let calls = calls_of(alloc, events, client, said)?;
     Ok(any_fault(calls.as_slice()))
-}
-
-fn is_bad(alloc: Global, rec: &Record) -> bool
-    ensures { result ≡ is_bad_lem rec.now }
-{
-    if is_coordinator(&rec.key.table) {
-        decided(alloc, rec).is_none()
-    } else {
-        meta_of(alloc, rec).is_err()
-    }
-}
-
-fn is_bad_at(alloc: Global, rec: &Record, key: &Key) -> bool
-    ensures { result ≡ (same_key rec.now.key key.now && is_bad_lem rec.now) }
-{
-    is_same_key(&rec.key, key) && is_bad(alloc, rec)
-}
-
-#[tactic(auto, using(crate::proofs::Finds::one_found))]
-fn shows_bad(alloc: Global, reply: &Reply, key: &Key) -> bool
-    ensures { result ≡ shows_bad_lem key.now reply.now }
-{
-    match reply {
-        Reply::Found(Some(rec)) => is_bad_at(alloc, rec, key),
-        Reply::NotMet(Some(rec)) => is_bad_at(alloc, rec, key),
-        Reply::Rows(rows) => { rows.as_slice().iter().any(|rec| is_bad_at(alloc, rec, key)) }
-        _ => false,
-    }
-}
-
-fn any_bad(alloc: Global, calls: &[Made], key: &Key) -> bool
-    ensures { result ≡ list_any (λ m. shows_bad_lem key.now m.reply) calls.now }
-{
-    calls.iter().any(|made| shows_bad(alloc, &made.reply, key))
-}
-
-/// The cause of BadRecord: a call of the statement found a record of the key that isn't of the form of records.
-pub fn is_bad_record(
-    alloc: Global,
-    events: &[Event],
-    client: u64,
-    said: &Said,
-    key: &Key,
-) -> Result<bool, NoMemory>
-    ensures { IfOk result (λ is. IsTrue is ↔ IsBadRecord events.now client (said_of said.now) key.now) }
-{
-    let calls = calls_of(alloc, events, client, said)?;
-    Ok(any_bad(alloc, calls.as_slice(), key))
 }

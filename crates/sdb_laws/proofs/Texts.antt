@@ -1,8 +1,12 @@
 -- What some short texts read as.
-use Rattle.std.proofs.Common.{◌≡◌, ℕ, true, false, List, refl}
+use Rattle.std.proofs.Common.{◌≡◌, ℕ, true, false, List, [], ◌∷◌, Some, refl}
+use Rattle.std.specs.Option.{option_map}
+use Rattle.std.specs.Result.{result_ok}
+use Rattle.sdb_model.specs.declared.token.Keyword.TheVariants as word
+use Rattle.sdb_model.specs.declared.token.Token.TheVariants.{Word}
 use Rattle.std.specs.Prelude.{codes}
 use Rattle.sdb_model.specs.SqlTokens.{keyword_of, letter_at, lexed, number_at, sign_of, token_at, word_at}
-use Rattle.sdb_model.specs.Sql.{reads_begin, reads_commit, reads_rollback, reads_vacuum}
+use Rattle.sdb_model.specs.Sql.{reads_begin, reads_commit, reads_rollback, tokens_of}
 
 pub begin_begins : reads_begin (codes "BEGIN") ≡ true
 unfolding lexed token_at letter_at word_at keyword_of
@@ -28,9 +32,9 @@ pub rollback_begins_not : reads_begin (codes "ROLLBACK") ≡ false
 unfolding lexed token_at letter_at word_at keyword_of
 rollback_begins_not = refl
 
-pub vacuum_vacuums : reads_vacuum (codes "VACUUM") ≡ true
+pub vacuum_tokens : option_map tokens_of (result_ok (lexed (codes "VACUUM"))) ≡ Some (Word word.Vacuum ∷ [])
 unfolding lexed token_at letter_at word_at keyword_of
-vacuum_vacuums = refl
+vacuum_tokens = refl
 
 abbrev pub select_text : List ℕ
 select_text = codes "SELECT balance FROM bank.account WHERE id = 1"

@@ -1,5 +1,5 @@
 -- What a client did for one statement: the calls that it made, what they asked, and what their replies showed.
-use Rattle.std.specs.Prelude.{ℕ, ℤ, pos, Bool, true, false, ◌&&◌, ◌==◌, nat_le, nat_lt, if◌then◌else◌, List, [], ◌∷◌, filter, fold, find, length, take, Option, Some, None, is_none, is_some}
+use Rattle.std.specs.Prelude.{ℕ, ℤ, pos, Bool, true, false, ◌&&◌, ◌==◌, nat_le, nat_lt, if◌then◌else◌, List, [], ◌∷◌, filter, fold, find, length, take, Option, Some, None, is_some}
 use Rattle.std.specs.Option.{option_and_then, option_map_or}
 use Rattle.std.specs.List.{filter_map}
 use Rattle.std.specs.Result.{result_ok}
@@ -139,10 +139,6 @@ decision_learned (m ∷ ms) id = if is_some (decision_shown id m) then decision_
 abbrev pub is_fault : Reply → Bool
 is_fault reply.Fault = true
 is_fault r = false
-
-abbrev pub is_out_of_memory : Reply → Bool
-is_out_of_memory reply.NoMemory = true
-is_out_of_memory r = false
 
 abbrev pub is_applied : Reply → Bool
 is_applied reply.Applied = true

@@ -1,10 +1,11 @@
 -- Why a statement has its answer: for each answer its cause, over the events of a run.
-use Rattle.std.specs.Prelude.{◌≡◌, ◌≢◌, ◌⊎◌, ℕ, ℤ, ◌-◌, Bool, true, false, ◌&&◌, if◌then◌else◌, MatchBool, List, fold, take, codes, Option, Some, None, IsSomeAnd, is_none, is_some, Contains, Err, All}
-use Rattle.std.specs.Option.{option_and_then}
-use Rattle.std.specs.List.{count_by}
+use Rattle.std.specs.Prelude.{◌≡◌, ◌≢◌, ◌⊎◌, ℕ, ℤ, ◌+◌, ◌-◌, Bool, true, false, not, ◌&&◌, if◌then◌else◌, MatchBool, nat_lt, List, filter, length, fold, take, sum_by, codes, Option, Some, None, IsSomeAnd, is_none, is_some, Contains, Err, All}
+use Rattle.std.specs.Option.{option_and_then, option_map_or}
+use Rattle.std.specs.List.{count_by, list_any}
 use Rattle.std.specs.Result.{result_ok}
 use Rattle.sdb_types.specs.declared.txid.TxId.{TxId}
 use Rattle.sdb_types.specs.declared.key.Key.{Key}
+use Rattle.sdb_types.specs.declared.pair.Pair.{Pair}
 use Rattle.sdb_types.specs.declared.record.Record.{Record}
 use Rattle.sdb_types.specs.declared.record.Request.TheVariants as ask
 use Rattle.sdb_types.specs.declared.record.Reply.{Reply}
@@ -12,6 +13,7 @@ use Rattle.sdb_types.specs.declared.record.Reply.TheVariants as reply
 use Rattle.sdb_types.specs.declared.record.Span.{Span}
 use Rattle.sdb_types.specs.Contents.{in_span}
 use Rattle.sdb_schema.specs.declared.table.Table.{Table}
+use Rattle.sdb_schema.specs.Rows.{fits_table}
 use Rattle.sdb_record.specs.declared.access.Scan.{Scan}
 use Rattle.sdb_record.specs.declared.coordinator.Decided.{Decided}
 use Rattle.sdb_record.specs.declared.coordinator.Decision.{Decision}
@@ -20,22 +22,21 @@ use Rattle.sdb_record.specs.Coordinator.{coordinator_key_of, decision_in, is_coo
 use Rattle.sdb_record.specs.Meta.{checked, id_in, is_unresolved, moment_in}
 use Rattle.sdb_record.specs.Moved.{Moved, same_version, version_of}
 use Rattle.sdb_record.specs.Parts.{before_record}
+use Rattle.sdb_record.specs.Rolls.{row_of_image}
 use Rattle.sdb_model.specs.declared.answer.Answer.{Answer}
 use Rattle.sdb_model.specs.declared.answer.Answer.TheVariants as answer
 use Rattle.sdb_model.specs.declared.answer.Refusal.{Refusal}
 use Rattle.sdb_model.specs.declared.event.Event.{Event}
-use Rattle.sdb_model.specs.declared.script.Place.{Place}
 use Rattle.sdb_model.specs.declared.statement.Insert.{Insert}
 use Rattle.sdb_model.specs.declared.statement.Statement.{Statement}
 use Rattle.sdb_model.specs.declared.statement.Statement.TheVariants as statement
 use Rattle.sdb_model.specs.Sql.{Reads, Refuses, reads_commit, reads_vacuum}
 use Rattle.sdb_model.specs.Exec.{find_table, key_of, table_of}
 use Rattle.sdb_model.specs.Refused.{refusal_of}
-use Rattle.sdb_model.specs.Events.{Shelf}
 use Rattle.sdb_model.specs.Follows.{has_stopped}
-use Rattle.sdb_model.specs.Transactions.{Said, said, begins, ends, client_of, commit_of, statements_of, prepares, Recorded}
-use Rattle.sdb_model.specs.Calls.{Made, calls_of, calls_after, calls_before, clock_at, decision_found, is_applied, is_fault, is_of_row, is_read, is_removal, key_asked, put_by, record_among, records_read, records_shown, standing_said}
-use Rattle.sdb_model.specs.Noted.{Note, Scanned, noted_in, resolved, version_among, version_noted}
+use Rattle.sdb_model.specs.Transactions.{Said, said, begins, ends, body, client_of, commit_of, statements_of, prepares}
+use Rattle.sdb_model.specs.Calls.{Made, calls_of, calls_after, calls_before, clock_at, decision_found, decision_learned, is_applied, is_fault, is_of_row, is_read, is_removal, key_asked, put_by, record_among, records_read, records_shown}
+use Rattle.sdb_model.specs.Noted.{Note, Scanned, noted_in, reads_rows, resolved, same_key, version_among, version_noted}
 
 -- the events before a statement was taken
 abbrev pub before : Said → List Event → List Event
@@ -44,18 +45,6 @@ before s events = take (s.taken - 1) events
 abbrev pub is_select : Statement → Bool
 is_select (statement.Select s) = true
 is_select st = false
-
--- a statement that is answered with a count
-abbrev pub counts : Statement → Bool
-counts (statement.Insert i) = true
-counts (statement.Upsert i) = true
-counts (statement.Update u) = true
-counts (statement.Delete d) = true
-counts (statement.Select s) = false
-counts statement.Begin = false
-counts statement.Commit = false
-counts statement.Rollback = false
-counts statement.Vacuum = true
 
 ---- what a client is in, after some events
 
@@ -148,24 +137,44 @@ pub record IsBusy (events : List Event) (client : ℕ) (s : Said) (key : Key) (i
 abbrev pub HasMoved : List Note → Key → Option Record → Type 0
 HasMoved notes key found = (note : Note) × (version : Option TxId) × Contains notes note × (version_noted note key ≡ Some version) × Moved found version
 
--- a call showed this at a key: one for that key, or a scan of a span over it
-abbrev pub ShowsAt : Made → Key → Option Record → Type 0
-ShowsAt m key found =
-    ((key_asked m.request ≡ Some key) × (standing_said m.reply ≡ Some found))
-    ⊎ ((span : Span) × (rows : List Record) × (m.request ≡ ask.Scan span) × (in_span span key ≡ true) × (m.reply ≡ reply.Rows rows) × (found ≡ record_among rows key))
+-- a scan of a span over a key showed this there
+abbrev pub ScanShows : Made → Key → Option Record → Type 0
+ScanShows m key found = (span : Span) × (rows : List Record) × (m.request ≡ ask.Scan span) × (in_span span key ≡ true) × (m.reply ≡ reply.Rows rows) × (found ≡ record_among rows key)
 
--- the base that a transaction's prepare has for a key, where it made one
+-- a read showed this at a key: a get of it, or a scan of a span over it
+abbrev pub ReadShows : Made → Key → Option Record → Type 0
+ReadShows m key found = ((m.request ≡ ask.Get key) × (m.reply ≡ reply.Found found)) ⊎ ScanShows m key found
+
+-- a prepare of a key by a transaction
+abbrev pub prepares_key : TxId → Key → Made → Bool
+prepares_key id key m = prepares id m.request && option_map_or (λ k. same_key k key) (key_asked m.request) false
+
+-- A prepare of the key was not met, and this was found there.
+abbrev pub IsUnmet : List Made → TxId → Key → Option Record → Type 0
+IsUnmet calls id key found = (m : Made) × Contains calls m × (prepares_key id key m ≡ true) × (m.reply ≡ reply.NotMet found)
+
+-- A check showed it at a key that was not prepared.
+abbrev pub IsChecked : List Made → TxId → Key → Option Record → Type 0
+IsChecked calls id key found = (m : Made) × Contains calls m × ReadShows m key found × (list_any (prepares_key id key) calls ≡ false)
+
+-- the base of a transaction's prepare of a key has this version
 abbrev pub IsPrepareOver : TxId → Key → Option TxId → Made → Type 0
 IsPrepareOver id key version m = (r : Record) × (prepares id m.request ≡ true) × (put_by m.request ≡ Some r) × (r.key ≡ key) × (version_of (before_record r) ≡ version)
 
--- A call of a COMMIT found something else at a key than was noted there: a prepare or a check found another version; or a scan was
--- noted with another version of a key that is written than the prepare's base has.
+-- A scan was noted with another version of a key than the base of its prepare has.
+abbrev pub IsRebased : List Made → List Note → TxId → Key → Type 0
+IsRebased calls notes id key =
+    (prepare : Made) × (base version : Option TxId) × Contains calls prepare × IsPrepareOver id key base prepare
+    × ((scan : Scan) × Contains notes (Scanned scan) × (in_span scan.span key ≡ true) × (version_among scan.found key ≡ version)) × (same_version base version ≡ false)
+
+-- A call of a COMMIT found something else at a key than was noted there: a prepare that was not met, or a check of a key that was not
+-- prepared; or a rescan came to a key that was prepared over another version than the scan was noted with.
+abbrev pub ConflictsAtCommit : List Made → List Note → TxId → Key → Option Record → Type 0
+ConflictsAtCommit calls notes id key found =
+    (HasMoved notes key found × (IsUnmet calls id key found ⊎ IsChecked calls id key found)) ⊎ (((m : Made) × Contains calls m × ScanShows m key found) × IsRebased calls notes id key)
+
 abbrev pub IsConflictAtCommit : List Event → ℕ → Said → TxId → Key → Option Record → Type 0
-IsConflictAtCommit events client s id key found =
-    (m : Made) × Contains (calls_of events client s) m × ShowsAt m key found
-    × (HasMoved (noted_in events id) key found
-    ⊎ ((prepare : Made) × (base version : Option TxId) × Contains (calls_of events client s) prepare × IsPrepareOver id key base prepare
-    × ((scan : Scan) × Contains (noted_in events id) (Scanned scan) × (in_span scan.span key ≡ true) × (version_among scan.found key ≡ version)) × (same_version base version ≡ false)))
+IsConflictAtCommit events client s id key found = ConflictsAtCommit (calls_of events client s) (noted_in events id) id key found
 
 -- A scan of a statement found, once its rows were resolved, something else at a key than was noted there.
 abbrev pub IsConflictAtScan : List Event → ℕ → Said → TxId → Key → Option Record → Type 0
@@ -204,27 +213,86 @@ pub record IsUnknown (events : List Event) (client : ℕ) (s : Said) (id : TxId)
 abbrev pub IsBad : Record → Type 0
 IsBad r = (name : List ℕ) × MatchBool (is_coordinator_table r.key.table) (decision_in r ≡ Err name) (checked r.columns ≡ Err name)
 
-abbrev pub IsBadRecord : List Event → ℕ → Said → Key → Type 0
-IsBadRecord events client s key = (m : Made) × (r : Record) × Contains (calls_of events client s) m × Contains (records_shown m.reply) r × (r.key ≡ key) × IsBad r
+-- whether a row fits its table of the catalog
+abbrev pub is_fit : List Table → Key → List Pair → Bool
+is_fit catalog key columns = option_map_or (λ t. fits_table t key columns) (find_table catalog key.table) true
+
+-- the row that a record stands for, by what the statement's calls showed, doesn't fit its table
+abbrev pub is_misfit : List Table → List Made → Record → Bool
+is_misfit catalog calls r = not (is_coordinator_table r.key.table) && option_map_or (λ columns. not (is_fit catalog r.key columns)) (option_and_then row_of_image (resolved calls r)) false
+
+-- A statement that is no COMMIT and no VACUUM read such a record.
+abbrev pub IsMisfit : List Table → List Event → ℕ → Said → Made → Record → Type 0
+IsMisfit catalog events client s m r = (reads_commit s.text ≡ false) × (reads_vacuum s.text ≡ false) × (reads_rows m ≡ true) × (is_misfit catalog (calls_of events client s) r ≡ true)
+
+abbrev pub IsBadRecord : List Table → List Event → ℕ → Said → Key → Type 0
+IsBadRecord catalog events client s key =
+    (m : Made) × (r : Record) × Contains (calls_of events client s) m × Contains (records_shown m.reply) r × (r.key ≡ key) × (IsBad r ⊎ IsMisfit catalog events client s m r)
+
+-- how many keys a transaction may write
+abbrev pub most_keys : ℕ
+most_keys = 4096
+
+-- the statements of a transaction's body that were taken before this one
+abbrev pub body_before : List Event → TxId → Said → List Said
+body_before events id s = filter (λ b. nat_lt b.taken s.taken) (body events id)
+
+-- how many rows an answer counts
+abbrev pub rows_counted : Option Answer → ℕ
+rows_counted (Some (answer.Count n)) = n
+rows_counted a = 0
+
+-- how many records the reads among some calls found
+abbrev pub records_found : List Made → ℕ
+records_found calls = sum_by (λ m. length (records_read m.reply)) (filter reads_rows calls)
+
+-- After so many rows were counted as written, and so many records found, a statement may write more keys than a transaction may: INSERT
+-- and UPSERT write one more, UPDATE and DELETE at most one for each record found.
+abbrev pub may_pass : ℕ → ℕ → Statement → Bool
+may_pass counted found (statement.Insert i) = nat_lt most_keys (counted + 1)
+may_pass counted found (statement.Upsert i) = nat_lt most_keys (counted + 1)
+may_pass counted found (statement.Update u) = nat_lt most_keys (counted + found)
+may_pass counted found (statement.Delete d) = nat_lt most_keys (counted + found)
+may_pass counted found st = false
+
+-- It is a statement of a transaction that writes, and by what the statements before it counted and found, and it found, the transaction
+-- may write more keys with it than it may.
+pub record MayPassMost (events : List Event) (client : ℕ) (s : Said) : Type 0 where
+  pub id : TxId
+  pub statement : Statement
+  pub within : IsIn events client s id
+  pub read : Reads s.text statement
+  pub past :
+      may_pass (sum_by (λ b. rows_counted b.answer) (body_before events id s))
+      (sum_by (λ b. records_found (calls_of events client b)) (body_before events id s) + records_found (calls_of events client s)) statement ≡ true
 
 -- a delete of a committed record that took effect
 abbrev pub removes : Made → Bool
 removes m = is_removal m.request && is_applied m.reply
 
--- VACUUM counts the deletes of committed records that it was told took effect.
-abbrev pub IsCounted : List Event → ℕ → Said → ℕ → Type 0
-IsCounted events client s n = reads_vacuum s.text ≡ true → n ≡ count_by removes (calls_of events client s)
+-- INSERT and UPSERT count one row. VACUUM counts the deletes of committed records that it was told took effect. Of UPDATE and DELETE
+-- the number is not said.
+abbrev pub IsCounted : List Event → ℕ → Said → Statement → ℕ → Type 0
+IsCounted events client s (statement.Insert i) n = n ≡ 1
+IsCounted events client s (statement.Upsert i) n = n ≡ 1
+IsCounted events client s (statement.Update u) n = Unit {0}
+IsCounted events client s (statement.Delete d) n = Unit {0}
+IsCounted events client s (statement.Select x) n = ⊥
+IsCounted events client s statement.Begin n = ⊥
+IsCounted events client s statement.Commit n = ⊥
+IsCounted events client s statement.Rollback n = ⊥
+IsCounted events client s statement.Vacuum n = n ≡ count_by removes (calls_of events client s)
 
 ---- what each answer says
 
--- the answers of COMMIT alone
+-- It is the COMMIT of a transaction, and the first decision on this that its calls showed is COMMITTED.
 abbrev pub IsOfCommit : List Event → ℕ → Said → Type 0
-IsOfCommit events client s = (id : TxId) × IsCommitOf events client s id
+IsOfCommit events client s = (id : TxId) × IsCommitOf events client s id × IsDecided decision.Committed (decision_learned (calls_of events client s) id)
 
 -- Why a statement that a client took has its answer. Out of memory needs no cause.
 abbrev pub IsCaused : List Table → List Event → ℕ → Said → Answer → Type 0
 IsCaused catalog events client s (answer.Rows rows) = (st : Statement) × Reads s.text st × (is_select st ≡ true) × (is_open (before s events) client ≡ true)
-IsCaused catalog events client s (answer.Count n) = (st : Statement) × Reads s.text st × (counts st ≡ true) × IsCounted events client s n
+IsCaused catalog events client s (answer.Count n) = (st : Statement) × Reads s.text st × IsCounted events client s st n
 IsCaused catalog events client s answer.Done = Reads s.text statement.Begin ⊎ Reads s.text statement.Rollback
 IsCaused catalog events client s answer.Committed = IsOfCommit events client s
 IsCaused catalog events client s (answer.Duplicate key) = (t : Table) × (i : Insert) × Reads s.text (statement.Insert i) × (find_table catalog i.table ≡ Some t) × (key_of t i ≡ key)
@@ -233,8 +301,8 @@ IsCaused catalog events client s (answer.Conflict key found) = IsConflict events
 IsCaused catalog events client s (answer.Expired id) = IsExpired events client s id
 IsCaused catalog events client s answer.Faulted = HasReply is_fault (calls_of events client s)
 IsCaused catalog events client s (answer.Unknown id) = IsUnknown events client s id
-IsCaused catalog events client s (answer.BadRecord key) = IsBadRecord events client s key
-IsCaused catalog events client s (answer.Refused r) = IsTurnedAway catalog (before s events) client s.text (answer.Refused r) ⊎ (r.kind ≡ 15)
+IsCaused catalog events client s (answer.BadRecord key) = IsBadRecord catalog events client s key
+IsCaused catalog events client s (answer.Refused r) = IsTurnedAway catalog (before s events) client s.text (answer.Refused r) ⊎ ((r.kind ≡ 15) × (r.place ≡ 0) × MayPassMost events client s)
 IsCaused catalog events client s answer.Vacuuming = IsTurnedAway catalog (before s events) client s.text answer.Vacuuming
 IsCaused catalog events client s answer.OpenTransactions = IsTurnedAway catalog (before s events) client s.text answer.OpenTransactions
 IsCaused catalog events client s answer.NoMemory = Unit {0}
@@ -243,10 +311,3 @@ IsCaused catalog events client s answer.NoMemory = Unit {0}
 pub record AreCaused (catalog : List Table) (events : List Event) : Type 0 where
   pub caused : (client : ℕ) (s : Said) (a : Answer) → Contains (said client events) s → s.answer ≡ Some a → IsCaused catalog events client s a
   pub turned_away : (client : ℕ) (s : Said) (a : Answer) → Contains (said client events) s → IsTurnedAway catalog (before s events) client s.text a → (s.answered ≡ s.taken) × ((s.answer ≡ Some a) ⊎ (s.answer ≡ Some answer.NoMemory))
-
--- A COMMIT that was answered Faulted or NoMemory is of a transaction that is not recorded.
-abbrev pub IsNotRecorded : Answer → Type 0
-IsNotRecorded a = (a ≡ answer.Faulted) ⊎ (a ≡ answer.NoMemory)
-
-abbrev pub FailedIsNotRecorded : List Place → List Event → List Shelf → Type 0
-FailedIsNotRecorded places events shelves = (client : ℕ) (s : Said) (a : Answer) (id : TxId) → Contains (said client events) s → IsCommitOf events client s id → s.answer ≡ Some a → IsNotRecorded a → Recorded places shelves id → ⊥

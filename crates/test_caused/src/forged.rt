@@ -94,6 +94,35 @@ const UNFIT: Row = Row {
     ],
 };
 
+// What the other prepared there with such a balance.
+const HELD_UNFIT: Row = Row {
+    place: ONE,
+    columns: &[
+        ("balance", Cell::Text("much")),
+        ("tx_id", Cell::Text(OTHER_TEXT)),
+        ("tx_prepared_at", Cell::BigInt(0)),
+        ("tx_state", Cell::Int(1)),
+        ("tx_version", Cell::Int(1)),
+    ],
+};
+
+// The other's row, COMMITTED and ABORTED.
+const DECIDED: Row = Row {
+    place: OTHER_ROW,
+    columns: &[
+        ("tx_created_at", Cell::BigInt(0)),
+        ("tx_state", Cell::Int(3)),
+    ],
+};
+
+const DENIED: Row = Row {
+    place: OTHER_ROW,
+    columns: &[
+        ("tx_created_at", Cell::BigInt(0)),
+        ("tx_state", Cell::Int(4)),
+    ],
+};
+
 // A record without metadata.
 const BARE: Row = Row {
     place: ONE,
@@ -117,6 +146,10 @@ const SELECT: &str = "SELECT * FROM bank.account WHERE id = 1";
 const UPDATE: &str = "UPDATE bank.account SET balance = 7 WHERE id = 1";
 
 const INSERT: &str = "INSERT INTO bank.account (id, balance) VALUES (1, 100)";
+
+const UPSERT: &str = "UPSERT INTO bank.account (id, balance) VALUES (1, 100)";
+
+const UPDATE_ALL: &str = "UPDATE bank.account SET balance = 7";
 
 const BEGIN: Step = Step::Take(1, "BEGIN", Some(Said::Done));
 
@@ -370,17 +403,38 @@ static COUNTS: [Case; 4] = [
     },
 ];
 
-// What the definitions take although no program answers it.
-static TAKEN: [Case; 7] = [
+// Causes that hold narrowly: beside each true answer one that differs from it in little.
+static NARROW: [Case; 14] = [
     Case {
-        steps: &[BEGIN, Step::Take(1, SELECT, Some(Said::Refused(15, 0)))],
+        steps: &[BEGIN, Step::Take(1, "COMMIT", Some(Said::Committed))],
+        caused: false,
+    },
+    Case {
+        steps: &[
+            BEGIN,
+            COMMIT,
+            Step::Lost(DECIDE, None),
+            Step::Seen(
+                Ask::Get(MY_ROW),
+                Told::Found(Some(COMMITTED)),
+                Some(Said::Committed),
+            ),
+        ],
         caused: true,
     },
     Case {
         steps: &[
             BEGIN,
-            Step::Take(1, UPDATE, None),
-            Step::Seen(GET, Told::Found(None), Some(Said::Count(5))),
+            COMMIT,
+            Step::Seen(DECIDE, Told::NotMet(Some(ABORTED)), Some(Said::Committed)),
+        ],
+        caused: false,
+    },
+    Case {
+        steps: &[
+            BEGIN,
+            Step::Take(1, INSERT, None),
+            Step::Seen(GET, Told::Found(None), Some(Said::Count(1))),
         ],
         caused: true,
     },
@@ -389,6 +443,183 @@ static TAKEN: [Case; 7] = [
             BEGIN,
             Step::Take(1, INSERT, None),
             Step::Seen(GET, Told::Found(None), Some(Said::Count(2))),
+        ],
+        caused: false,
+    },
+    Case {
+        steps: &[
+            BEGIN,
+            Step::Take(1, UPSERT, None),
+            Step::Seen(GET, Told::Found(None), Some(Said::Count(0))),
+        ],
+        caused: false,
+    },
+    Case {
+        steps: &[
+            BEGIN,
+            Step::Take(1, SELECT, None),
+            Step::Seen(GET, Told::Found(Some(UNFIT)), Some(Said::BadRecord(ONE))),
+        ],
+        caused: true,
+    },
+    Case {
+        steps: &[
+            BEGIN,
+            Step::Take(1, SELECT, None),
+            Step::Seen(GET, Told::Found(Some(HELD_UNFIT)), None),
+            Step::Seen(LOOK, Told::Found(Some(DECIDED)), Some(Said::BadRecord(ONE))),
+        ],
+        caused: true,
+    },
+    Case {
+        steps: &[
+            BEGIN,
+            Step::Take(1, SELECT, None),
+            Step::Seen(GET, Told::Found(Some(HELD_UNFIT)), None),
+            Step::Seen(LOOK, Told::Found(Some(DENIED)), Some(Said::BadRecord(ONE))),
+        ],
+        caused: false,
+    },
+    Case {
+        steps: &[
+            BEGIN,
+            COMMIT,
+            Step::Seen(GET, Told::Found(Some(UNFIT)), Some(Said::BadRecord(ONE))),
+        ],
+        caused: false,
+    },
+    Case {
+        steps: &[
+            BEGIN,
+            Step::Take(1, INSERT, None),
+            Step::Seen(GET, Told::Found(None), Some(Said::Count(1))),
+            COMMIT,
+            Step::Seen(
+                Ask::Put(OWN, Condition::Absent),
+                Told::NotMet(Some(HELD)),
+                Some(Said::Conflict(ONE, Some(HELD))),
+            ),
+        ],
+        caused: true,
+    },
+    Case {
+        steps: &[
+            BEGIN,
+            Step::Take(1, INSERT, None),
+            Step::Seen(GET, Told::Found(None), Some(Said::Count(1))),
+            COMMIT,
+            Step::Seen(Ask::Put(OWN, Condition::Absent), Told::Applied, None),
+            Step::Seen(
+                GET,
+                Told::Found(Some(OWN)),
+                Some(Said::Conflict(ONE, Some(OWN))),
+            ),
+        ],
+        caused: false,
+    },
+    Case {
+        steps: &[
+            BEGIN,
+            Step::Take(1, "SELECT * FROM bank.account", None),
+            Step::Seen(SWEEP, Told::Rows(&[]), Some(Said::Rows(&[]))),
+            Step::Take(1, INSERT, None),
+            Step::Seen(GET, Told::Found(None), Some(Said::Count(1))),
+            COMMIT,
+            Step::Seen(Ask::Put(OWN, Condition::Absent), Told::Applied, None),
+            Step::Seen(
+                SWEEP,
+                Told::Rows(&[OWN]),
+                Some(Said::Conflict(ONE, Some(OWN))),
+            ),
+        ],
+        caused: false,
+    },
+    Case {
+        steps: &[
+            BEGIN,
+            Step::Take(1, SELECT, None),
+            Step::Seen(GET, Told::Found(None), Some(Said::Rows(&[]))),
+            COMMIT,
+            Step::Seen(
+                GET,
+                Told::Found(Some(HELD)),
+                Some(Said::Conflict(ONE, Some(HELD))),
+            ),
+        ],
+        caused: true,
+    },
+];
+
+// Refusals of too many keys.
+static FULL: [Case; 7] = [
+    Case {
+        steps: &[BEGIN, Step::Take(1, SELECT, Some(Said::Refused(15, 0)))],
+        caused: false,
+    },
+    Case {
+        steps: &[
+            BEGIN,
+            Step::Take(1, INSERT, None),
+            Step::Seen(GET, Told::Found(None), Some(Said::Refused(15, 0))),
+        ],
+        caused: false,
+    },
+    Case {
+        steps: &[
+            BEGIN,
+            Step::Take(1, UPDATE_ALL, None),
+            Step::Seen(SWEEP, Told::Rows(&[]), Some(Said::Count(4095))),
+            Step::Take(1, INSERT, Some(Said::Refused(15, 0))),
+        ],
+        caused: false,
+    },
+    Case {
+        steps: &[
+            BEGIN,
+            Step::Take(1, UPDATE_ALL, None),
+            Step::Seen(SWEEP, Told::Rows(&[]), Some(Said::Count(4096))),
+            Step::Take(1, INSERT, Some(Said::Refused(15, 0))),
+        ],
+        caused: true,
+    },
+    Case {
+        steps: &[
+            BEGIN,
+            Step::Take(1, UPDATE_ALL, None),
+            Step::Seen(SWEEP, Told::Rows(&[]), Some(Said::Count(4096))),
+            Step::Take(1, INSERT, Some(Said::Refused(15, 3))),
+        ],
+        caused: false,
+    },
+    Case {
+        steps: &[
+            BEGIN,
+            Step::Take(1, UPDATE_ALL, None),
+            Step::Seen(SWEEP, Told::Rows(&[]), Some(Said::Count(4096))),
+            Step::Take(1, UPDATE, None),
+            Step::Seen(GET, Told::Found(None), Some(Said::Refused(15, 0))),
+        ],
+        caused: false,
+    },
+    Case {
+        steps: &[
+            BEGIN,
+            Step::Take(1, UPDATE_ALL, None),
+            Step::Seen(SWEEP, Told::Rows(&[]), Some(Said::Count(4096))),
+            Step::Take(1, UPDATE, None),
+            Step::Seen(GET, Told::Found(Some(GONE)), Some(Said::Refused(15, 0))),
+        ],
+        caused: true,
+    },
+];
+
+// What the definitions take although no program answers it.
+static TAKEN: [Case; 3] = [
+    Case {
+        steps: &[
+            BEGIN,
+            Step::Take(1, UPDATE, None),
+            Step::Seen(GET, Told::Found(None), Some(Said::Count(5))),
         ],
         caused: true,
     },
@@ -407,55 +638,23 @@ static TAKEN: [Case; 7] = [
         ],
         caused: true,
     },
-    Case {
-        steps: &[BEGIN, Step::Take(1, "COMMIT", Some(Said::Committed))],
-        caused: true,
-    },
-    Case {
-        steps: &[
-            BEGIN,
-            Step::Take(1, SELECT, None),
-            Step::Seen(GET, Told::Found(Some(UNFIT)), Some(Said::BadRecord(ONE))),
-        ],
-        caused: false,
-    },
 ];
 
-// What the definitions take or refuse otherwise than programs answer: a rescan that shows the own write is taken for a conflict;
-// and a read that is noted before memory runs out has no note.
-static OTHERWISE: [Case; 2] = [
-    Case {
-        steps: &[
-            BEGIN,
-            Step::Take(1, "SELECT * FROM bank.account", None),
-            Step::Seen(SWEEP, Told::Rows(&[]), Some(Said::Rows(&[]))),
-            Step::Take(1, INSERT, None),
-            Step::Seen(GET, Told::Found(None), Some(Said::Count(1))),
-            COMMIT,
-            Step::Seen(Ask::Put(OWN, Condition::Absent), Told::Applied, None),
-            Step::Seen(
-                SWEEP,
-                Told::Rows(&[OWN]),
-                Some(Said::Conflict(ONE, Some(OWN))),
-            ),
-        ],
-        caused: true,
-    },
-    Case {
-        steps: &[
-            BEGIN,
-            Step::Take(1, SELECT, None),
-            Step::Seen(GET, Told::Found(None), Some(Said::NoMemory)),
-            COMMIT,
-            Step::Seen(
-                GET,
-                Told::Found(Some(HELD)),
-                Some(Said::Conflict(ONE, Some(HELD))),
-            ),
-        ],
-        caused: false,
-    },
-];
+// A read whose statement was not answered from rows is not noted, so nothing found at its key is a conflict.
+static UNNOTED: [Case; 1] = [Case {
+    steps: &[
+        BEGIN,
+        Step::Take(1, SELECT, None),
+        Step::Seen(GET, Told::Found(None), Some(Said::NoMemory)),
+        COMMIT,
+        Step::Seen(
+            GET,
+            Told::Found(Some(HELD)),
+            Some(Said::Conflict(ONE, Some(HELD))),
+        ),
+    ],
+    caused: false,
+}];
 
 fn all_judged(alloc: Global, cases: &[Case]) -> Result<(), Fail> {
     all_hold(
@@ -485,11 +684,21 @@ fn counts(rt: HostRuntime) -> Result<(), Fail> {
 }
 
 #[test]
+fn narrow(rt: HostRuntime) -> Result<(), Fail> {
+    all_judged(rt.alloc(), NARROW.as_slice())
+}
+
+#[test]
+fn too_many_keys(rt: HostRuntime) -> Result<(), Fail> {
+    all_judged(rt.alloc(), FULL.as_slice())
+}
+
+#[test]
 fn taken_by_the_definitions(rt: HostRuntime) -> Result<(), Fail> {
     all_judged(rt.alloc(), TAKEN.as_slice())
 }
 
 #[test]
-fn judged_otherwise(rt: HostRuntime) -> Result<(), Fail> {
-    all_judged(rt.alloc(), OTHERWISE.as_slice())
+fn not_noted(rt: HostRuntime) -> Result<(), Fail> {
+    all_judged(rt.alloc(), UNNOTED.as_slice())
 }

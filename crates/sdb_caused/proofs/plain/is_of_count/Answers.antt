@@ -1,12 +1,12 @@
-use Rattle.std.proofs.Common.{sym, ◌∙◌}
+use Rattle.std.proofs.Common.{false, ap, ◌∙◌}
+use Rattle.std.specs.Option.{option_map_or}
 use Rattle.sdb_plain.specs.Points.{said_of}
-use Rattle.sdb_caused.proofs.Decided.{if_ok}
-use Rattle.sdb_caused.proofs.ReadLaws.{of_count, not_count}
+use Rattle.sdb_calls.specs.Values.{all_made}
+use Rattle.sdb_caused.specs.Tests.{counts_so}
+use Rattle.sdb_caused.proofs.ReadLaws.{of_count}
 use Rattle.sdb_caused.proofs.plain.is_of_count.Goals as goal
 
-pub returns-then-counts : goal.returns-then-counts
-returns-then-counts c =
-    if_ok c.is_counted.result (λ b h. of_count c.args.events.now c.args.client (said_of c.args.said.now) c.in_ok-statement.statement c.in_ok-statement.ensures b c.args.count (sym c.counts.ensures ∙ c.if-counts.true) h) c.is_counted.ensures
-
 pub returns : goal.returns
-returns c = not_count c.args.events.now c.args.client (said_of c.args.said.now) c.in_ok-statement.statement c.in_ok-statement.ensures c.args.count (sym c.counts.ensures ∙ c.if-counts.false)
+returns c =
+    of_count c.args.events.now c.args.client (said_of c.args.said.now) c.as_slice.result.now (ap all_made c.as_slice.ensures ∙ c.in_ok-calls.ensures) c.args.count c.in_ok-statement.statement c.in_ok-statement.ensures c.counts_so.result
+    (c.counts_so.ensures ∙ ap (λ n. option_map_or (counts_so n c.args.count) c.in_ok-statement.statement false) c.removed-removed.ensures.count)

@@ -1,0 +1,181 @@
+//! The cause of BadRecord: a record isn't of the form of records, or the row that it stands for doesn't fit its table.
+ghost use Rattle.std.specs.Prelude.{◌≡◌, ◌&&◌, not, false, true, IfOk, IsTrue, ◌↔◌};
+ghost use Rattle.std.specs.Option.{option_and_then, option_map_or};
+ghost use Rattle.std.specs.List.{list_any};
+ghost use Rattle.sdb_record.specs.Meta.{is_taken};
+ghost use Rattle.sdb_record.specs.Rolls.{row_of_image};
+ghost use Rattle.sdb_model.specs.Noted.{resolved, same_key};
+ghost use Rattle.sdb_model.specs.Causes.{IsBadRecord, is_fit as is_fit_lem};
+ghost use Rattle.sdb_plain.specs.Points.{said_of};
+ghost use Rattle.sdb_calls.specs.Values.{all_made};
+ghost use Rattle.sdb_caused.specs.Tests.{is_refused_there, shows_bad as shows_bad_lem};
+
+use sdb_calls::{Made, calls_of, decision_for, is_coordinator, reads_rows};
+use sdb_model::{Event, Keyword};
+use sdb_plain::{Said, is_word};
+use sdb_record::{committed_image, meta_of};
+use sdb_said::{decided, is_same_key};
+use sdb_schema::Catalog;
+use sdb_snapshot::row_of;
+use sdb_types::{Columns, Key, NoMemory, Record, Reply};
+use std::alloc::Global;
+
+// The row that a record stands for, by what the calls showed.
+fn row_resolved(alloc: Global, calls: &[Made], rec: &Record) -> Result<Option<Columns>, NoMemory>
+    requires { is_taken rec.now ≡ true }
+    ensures { IfOk result (λ row. row ≡ option_and_then row_of_image (resolved (all_made calls.now) rec.now)) }
+{
+    let decided = decision_for(alloc, calls, rec)?;
+    match committed_image(alloc, rec, decided.as_ref())? {
+        Some(image) => row_of(alloc, &image),
+        None => Ok(None),
+    }
+}
+
+fn is_fit(catalog: &Catalog, key: &Key, columns: &Columns) -> bool
+    ensures { result ≡ is_fit_lem catalog.now key.now columns.now }
+{
+    match catalog.find(&key.table) {
+        Some(table) => table.fits(key, columns),
+        None => true,
+    }
+}
+
+// Whether the row that a record stands for doesn't fit its table.
+fn stands_unfit(
+    alloc: Global,
+    catalog: &Catalog,
+    calls: &[Made],
+    rec: &Record,
+) -> Result<bool, NoMemory>
+    requires { is_taken rec.now ≡ true }
+    ensures { IfOk result (λ is. is ≡ option_map_or (λ columns. not (is_fit_lem catalog.now rec.now.key columns)) (option_and_then row_of_image (resolved (all_made calls.now) rec.now)) false) }
+{
+    match row_resolved(alloc, calls, rec)? {
+        Some(columns) => Ok(!is_fit(catalog, &rec.key, &columns)),
+        None => Ok(false),
+    }
+}
+
+// Whether a record isn't of the form of records, or was read, and the row that it stands for doesn't fit.
+fn is_refused(
+    alloc: Global,
+    catalog: &Catalog,
+    calls: &[Made],
+    reads: bool,
+    rec: &Record,
+) -> Result<bool, NoMemory>
+    ensures { IfOk result (λ is. is ≡ is_refused_there catalog.now calls.now reads rec.now) }
+{
+    if is_coordinator(&rec.key.table) {
+        return Ok(decided(alloc, rec).is_none());
+    }
+    match meta_of(alloc, rec) {
+        Ok(_) => {
+            if reads {
+                stands_unfit(alloc, catalog, calls, rec)
+            } else {
+                Ok(false)
+            }
+        }
+        Err(_) => Ok(true),
+    }
+}
+
+fn is_refused_at(
+    alloc: Global,
+    catalog: &Catalog,
+    calls: &[Made],
+    reads: bool,
+    key: &Key,
+    rec: &Record,
+) -> Result<bool, NoMemory>
+    ensures { IfOk result (λ is. is ≡ (same_key rec.now.key key.now && is_refused_there catalog.now calls.now reads rec.now)) }
+{
+    if is_same_key(&rec.key, key) {
+        is_refused(alloc, catalog, calls, reads, rec)
+    } else {
+        Ok(false)
+    }
+}
+
+fn any_refused(
+    alloc: Global,
+    catalog: &Catalog,
+    calls: &[Made],
+    reads: bool,
+    key: &Key,
+    rows: &[Record],
+) -> Result<bool, NoMemory>
+    ensures { IfOk result (λ is. is ≡ list_any (λ x. same_key x.key key.now && is_refused_there catalog.now calls.now reads x) rows.now) }
+{
+    for rec in rows {
+        if is_refused_at(alloc, catalog, calls, reads, key, rec)? {
+            return Ok(true);
+        }
+    }
+    Ok(false)
+}
+
+// Whether a call shows such a record at the key.
+#[tactic(auto, using(crate::proofs::Finds::one_found))]
+fn shows_bad(
+    alloc: Global,
+    catalog: &Catalog,
+    calls: &[Made],
+    reads: bool,
+    key: &Key,
+    made: &Made,
+) -> Result<bool, NoMemory>
+    ensures { IfOk result (λ is. is ≡ shows_bad_lem catalog.now calls.now reads key.now made.now) }
+{
+    let reads = reads && reads_rows(made);
+    match &made.reply {
+        Reply::Found(Some(rec)) => is_refused_at(alloc, catalog, calls, reads, key, rec),
+        Reply::NotMet(Some(rec)) => is_refused_at(alloc, catalog, calls, reads, key, rec),
+        Reply::Rows(rows) => any_refused(alloc, catalog, calls, reads, key, rows.as_slice()),
+        _ => Ok(false),
+    }
+}
+
+fn any_bad(
+    alloc: Global,
+    catalog: &Catalog,
+    calls: &[Made],
+    reads: bool,
+    key: &Key,
+) -> Result<bool, NoMemory>
+    ensures { IfOk result (λ is. is ≡ list_any (shows_bad_lem catalog.now calls.now reads key.now) calls.now) }
+{
+    for made in calls {
+        if shows_bad(alloc, catalog, calls, reads, key, made)? {
+            return Ok(true);
+        }
+    }
+    Ok(false)
+}
+
+fn is_neither(a: bool, b: bool) -> bool
+    ensures { result ≡ (not a && not b) }
+{
+    !a && !b
+}
+
+/// Whether a call of the statement showed a record of the key that isn't of the form of records; or the statement, which is no COMMIT
+/// and no VACUUM, read one whose row doesn't fit its table.
+pub fn is_bad_record(
+    alloc: Global,
+    catalog: &Catalog,
+    events: &[Event],
+    client: u64,
+    said: &Said,
+    key: &Key,
+) -> Result<bool, NoMemory>
+    ensures { IfOk result (λ is. IsTrue is ↔ IsBadRecord catalog.now events.now client (said_of said.now) key.now) }
+{
+    let commits = is_word(alloc, said, Keyword::Commit)?;
+    let vacuums = is_word(alloc, said, Keyword::Vacuum)?;
+    let calls = calls_of(alloc, events, client, said)?;
+    let reads = is_neither(commits, vacuums);
+    any_bad(alloc, catalog, calls.as_slice(), reads, key)
+}
