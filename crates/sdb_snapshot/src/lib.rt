@@ -10,5 +10,6 @@ mod row;
 mod snapshot;
 
 pub use drafts::{MOST_WRITES, WriteRefused};
+pub use row::row_of;
 pub use sdb_record::{Access, Read, Reads, Scan, Scans};
 pub use snapshot::{Mark, NoteRefused, Snapshot};
