@@ -1,5 +1,5 @@
 -- The test of the refusal of too many keys is its cause.
-use Rattle.std.proofs.Common.{◌≡◌, ℕ, ◌+◌, ◌-◌, Bool, true, false, List, [], ◌∷◌, length, Option, Some, None, refl, sym, ap, ◌∙◌, arith, zero-add}
+use Rattle.std.proofs.Common.{◌≡◌, ℕ, ◌+◌, ◌-◌, Bool, true, false, List, [], ◌∷◌, length, Option, refl, sym, ap, ◌∙◌, arith, zero-add}
 use Rattle.std.specs.Prelude.{◌↔◌, ◌&&◌, ◌==◌, IsTrue, filter, nat_le, nat_lt, sum_by, if◌then◌else◌}
 use Rattle.std.specs.Option.{option_map_or}
 use Rattle.std.proofs.lemmas.Bool.Decides.{nat_tests}
@@ -16,7 +16,7 @@ use Rattle.sdb_model.specs.Transactions.{Said, client_of, id_of, is_effective, o
 use Rattle.sdb_said.proofs.Lists.{left, right, both}
 use Rattle.sdb_calls.specs.declared.made.Made.{Made}
 use Rattle.sdb_calls.specs.Values.{all_made, inside_among, made_of}
-use Rattle.sdb_caused.specs.Tests.{IsReading, any_id, any_upto, before_only, counted_by, found_among, found_by, found_left, is_before, is_in, passes_left, passes_most, read_by, total_before, written_left}
+use Rattle.sdb_caused.specs.Tests.{IsReading, any_id, any_upto, counted_by, found_among, found_by, found_left, is_in, passes_left, passes_most, total_before, written_left}
 use Rattle.sdb_caused.proofs.Decided.{decide_by}
 use Rattle.sdb_caused.proofs.IdLaws.{id_some, in_found, in_is, is_in_of}
 use Rattle.sdb_caused.proofs.ReadLaws.{passed, read}

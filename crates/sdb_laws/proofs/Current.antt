@@ -35,13 +35,13 @@ use Rattle.sdb_model.specs.Calls.{record_among}
 use Rattle.sdb_model.specs.Noted.{Note, same_key, version_noted}
 use Rattle.sdb_model.specs.Transactions.{Recorded, begun, point}
 use Rattle.sdb_model.specs.Explained as model
-use Rattle.sdb_model.specs.Explained.{IsTableKey, IsPreparedAfter, Shows, UnchangedResolved, IsLeftBy, IsOfOrLater, WritesStand, IsLastBefore, IsDeletedBefore, ReadsCurrent, closing_of}
+use Rattle.sdb_model.specs.Explained.{IsTableKey, IsPreparedAfter, Shows, UnchangedResolved, IsOfOrLater, WritesStand, IsLastBefore, ReadsCurrent, closing_of}
 use Rattle.sdb_laws.specs.Plan.{Plan, written, deletes, is_delete, noted, number_of}
 use Rattle.sdb_laws.specs.History.{Role, Other, Begins, Takes, Prepares, Checks, Decides, Aborts, Rolls, Removes, Ends, Stops, Talk, History, IsWriter, happens, heard}
 use Rattle.sdb_laws.specs.Lawful.{Played, MayPlay, IsLawful, id, is_data, row_among, talk, ended}
 use Rattle.sdb_laws.specs.Trace.{closing, history}
 use Rattle.sdb_laws.specs.Records.{held_record, write_there}
-use Rattle.sdb_laws.specs.Explained.{IsRunOf, IsLastWriter, IsRemoved, IsNeverWritten, ImageOf, IsAsFound, newest_first, events_of}
+use Rattle.sdb_laws.specs.Explained.{IsRunOf, IsLastWriter, ImageOf, IsAsFound, newest_first, events_of}
 use Rattle.sdb_laws.specs.Explained as laws
 use Rattle.sdb_laws.specs.Faithful.{AreNoted, IsFaithful}
 use Rattle.sdb_laws.proofs.Keys.{tests}

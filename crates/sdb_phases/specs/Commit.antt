@@ -101,23 +101,6 @@ abbrev pub after : Work → List Reply → Stage
 after p [] = preparing p 0
 after p (r ∷ past) = step p (after p past) r
 
-pub data Next : Type 0 where
-  Ask : (request : Request) → Next
-  Ends : (answer : Outcome) → Next
-  Stuck : Next
-
-abbrev pub asked : Option Request → Next
-asked None = Stuck
-asked (Some q) = Ask q
-
-abbrev pub next_of : Work → Stage → Next
-next_of p (Over a) = Ends a
-next_of p s = asked (pending p s)
-
--- what a COMMIT does next, after these replies
-abbrev pub commit_next : Work → List Reply → Next
-commit_next p past = next_of p (after p past)
-
 ---- want of memory in place of a conflict
 
 abbrev pub starved_answer : Outcome → Outcome

@@ -83,13 +83,6 @@ recover_next rec meta phase.Back now (reply.NotMet found) = (phase.Ended, steps.
 recover_next rec meta phase.Back now reply.Fault = (phase.Ended, steps.Faulted)
 recover_next rec meta p now r = (phase.Ended, steps.NoMemory)
 
--- where a reply at a moment leads
-abbrev pub recovered : Recovers → ℤ → Reply → Recovers
-recovered r now q = record r { phase = (recover_next r.rec r.meta r.phase now q).0 }
-
-abbrev pub recover_result : Recovers → ℤ → Reply → RecoverStep
-recover_result r now q = (recover_next r.rec r.meta r.phase now q).1
-
 -- the call that follows is made from what the reply told
 abbrev pub makes_call : RecoverPhase → Bool
 makes_call (phase.Abort now) = true
@@ -131,15 +124,3 @@ abbrev pub RecoverPlayed : Record → Meta → List Heard → Type 0
 RecoverPlayed rec meta [] = Unit {0}
 RecoverPlayed rec meta (c ∷ past) =
     RecoverPlayed rec meta past × CanGet (recover_pending rec meta past) c.reply × (is_moment c.now ≡ true)
-
-pub data RecoverNext : Type 0 where
-  Ask : (request : Request) → RecoverNext
-  Ends : (answer : RecoverStep) → RecoverNext
-
-abbrev pub asked : RecoverStep → Option Request → RecoverNext
-asked answer None = Ends answer
-asked answer (Some q) = Ask q
-
--- what a recovery does next, after these replies
-abbrev pub recover_next_of : Record → Meta → List Heard → RecoverNext
-recover_next_of rec meta past = asked (recover_answer rec meta past) (recover_pending rec meta past)
