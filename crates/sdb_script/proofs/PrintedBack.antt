@@ -1,6 +1,12 @@
 -- A script that is printed is read again.
-use Rattle.std.proofs.Common.{◌≡◌, ℕ, ◌≤◌, ◌==◌, Bool, true, false, ◌&&◌, List, [], ◌∷◌, ◌++◌, length, refl, sym, ap, subst, ◌∙◌, append_assoc, append-nil, map, flat_map, codes}
+use Rattle.std.proofs.Common.{◌≡◌, ℕ, ◌≤◌, ◌==◌, Bool, true, false, ◌&&◌, List, [], ◌∷◌, ◌++◌, length, refl, sym, ap, subst, ◌∙◌, append_assoc, append-nil, map, flat_map, codes, Ok, Err, arith}
+use Rattle.std.specs.Prelude.{nat_le}
 use Rattle.std.specs.List.{list_all}
+use Rattle.std.specs.Str.{is_utf8, IsUtf8, chars}
+use Rattle.std.proofs.lemmas.Bool.Decides.{nat_tests}
+use Rattle.std.proofs.lemmas.Str.{IsUtf8-from_is_utf8, is_utf8-from_IsUtf8, IsUtf8-append}
+use Rattle.sdb_loader.specs.Described.{catalog_in}
+use Rattle.sdb_loader.specs.declared.fault.SchemaFault.TheVariants as schema
 use Rattle.std.proofs.lemmas.List.Concat.{flat_map-append}
 use Rattle.std.proofs.lemmas.List.Folds.{list_all-append}
 use Rattle.sdb_types.proofs.Bools.{and_first, and_second, and_both}
@@ -8,10 +14,11 @@ use Rattle.sdb_schema.specs.declared.table.Table.{Table}
 use Rattle.sdb_model.specs.declared.script.ScriptClient.{ScriptClient}
 use Rattle.sdb_model.specs.declared.script.Script.{Script}
 use Rattle.sdb_model.specs.Form.{lines_of, onto_first, client_line}
-use Rattle.sdb_script.specs.Lines.{most_bytes, place_line, schema_line, text_line, client_lines, move_line, is_line}
+use Rattle.sdb_script.specs.Lines.{most_bytes, most_line, place_line, schema_line, text_line, client_lines, move_line, is_line}
 use Rattle.sdb_script.specs.Begun.{IsBegun, IsSchema, run_lines}
 use Rattle.sdb_script.specs.Whole.{whole, IsScript}
-use Rattle.sdb_script.specs.Printed.{with_lf, catalog_text, schema_text, place_text, client_text, script_text_of, schema_lines, is_single, IsReadBack}
+use Rattle.sdb_script.specs.Printed.{with_lf, catalog_text, schema_text, place_text, client_text, script_text_of, schema_lines, IsReadBack}
+use Rattle.sdb_script.proofs.OneLine.{is_single, json_single, json_may}
 use Rattle.sdb_script.proofs.Pieces.{by_test}
 
 abbrev Lines : Type 0
@@ -89,15 +96,34 @@ has_tables (t ∷ ts) = true
 
 schema_again : (ts : List Table) → IsReadBack ts → IsSchema (has_tables ts) ts (schema_lines ts)
 schema_again [] h = (refl, refl)
-schema_again (t ∷ ts) h = (catalog_text (t ∷ ts), refl, h.2)
+schema_again (t ∷ ts) h = (catalog_text (t ∷ ts), refl, h.1)
+
+-- JSON that describes a catalog is UTF-8
+text_described : (json : List ℕ) (ts : List Table) → catalog_in json ≡ Ok ts → is_utf8 json ≡ true
+text_described json ts h = by_test (is_utf8 json) (λ t. t) (λ t. absurd (let k : Err schema.NotJson ≡ Ok ts = rw t at h in cc))
+
+word_utf8 : is_utf8 (codes "schema ") ≡ true
+unfolding is_utf8 chars lib.Utf8.encode
+word_utf8 = refl
+
+schema_utf8 : (json : List ℕ) → is_utf8 json ≡ true → is_utf8 (schema_line json) ≡ true
+schema_utf8 json h =
+    let front : IsUtf8 (codes "schema ") = IsUtf8-from_is_utf8 (codes "schema ") word_utf8 in
+    is_utf8-from_IsUtf8 (schema_line json) (IsUtf8-append (codes "schema ") json front (IsUtf8-from_is_utf8 json h))
 
 schema_fits : (ts : List Table) → IsReadBack ts → list_all is_line (schema_lines ts) ≡ true
 schema_fits [] h = refl
-schema_fits (t ∷ ts) h = rw h.0 refl
+schema_fits (t ∷ ts) h =
+    let json = catalog_text (t ∷ ts) in
+    let short : nat_le (length (schema_line json)) most_line ≡ true = within (length (schema_line json)) most_line h.0 in
+    rw (short, schema_utf8 json (text_described json (t ∷ ts) h.1)) refl
+  where
+    within : (n m : ℕ) → n ≤ m → nat_le n m ≡ true
+    within n m k = grind (arith, nat_tests)
 
 schema_single : (ts : List Table) → IsReadBack ts → list_all is_single (schema_lines ts) ≡ true
 schema_single [] h = refl
-schema_single (t ∷ ts) h = rw h.1 refl
+schema_single (t ∷ ts) h = rw (json_single (t ∷ ts) (json_may (catalog_text (t ∷ ts)) (t ∷ ts) h.1)) refl
 
 begun_again : (stores lines : Lines) (described : Bool) (s : Script) → IsBegun stores lines (whole described s) → IsReadBack s.catalog → IsBegun stores (printed_lines s) (whole (has_tables s.catalog) s)
 begun_again stores lines described s st back =

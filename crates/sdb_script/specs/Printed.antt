@@ -1,6 +1,5 @@
 -- The text of a script that is printed.
-use Rattle.std.specs.Prelude.{◌≡◌, ℕ, ◌==◌, Bool, true, not, List, [], ◌∷◌, ◌++◌, flat_map, codes, Ok}
-use Rattle.std.specs.List.{list_all}
+use Rattle.std.specs.Prelude.{◌≡◌, ◌≤◌, length, ℕ, List, [], ◌∷◌, ◌++◌, flat_map, codes, Ok}
 use Rattle.sdb_loader.specs.Described.{catalog_in}
 use Rattle.sdb_types.specs.Order.{table_text}
 use Rattle.sdb_schema.specs.declared.table.Table.{Table}
@@ -10,7 +9,7 @@ use Rattle.sdb_model.specs.declared.script.Place.{Place}
 use Rattle.sdb_model.specs.declared.script.ScriptClient.{ScriptClient}
 use Rattle.sdb_model.specs.declared.script.Script.{Script}
 use Rattle.sdb_model.specs.Form.{client_line}
-use Rattle.sdb_script.specs.Lines.{place_line, schema_line, text_line, move_line, is_line}
+use Rattle.sdb_script.specs.Lines.{most_line, place_line, schema_line, text_line, move_line}
 
 -- a line with its LF
 abbrev pub with_lf : List ℕ → List ℕ
@@ -58,12 +57,7 @@ abbrev pub schema_lines : List Table → List (List ℕ)
 schema_lines [] = []
 schema_lines (t ∷ ts) = schema_line (catalog_text (t ∷ ts)) ∷ []
 
--- no LF stands in a line
-abbrev pub is_single : List ℕ → Bool
-is_single line = list_all (λ b. not (b == 10)) line
-
--- The JSON of a catalog is one line of a script, and describes the catalog; without tables there is none.
+-- The JSON of a catalog describes the catalog, and its line keeps the limit; without tables there is none.
 abbrev pub IsReadBack : List Table → Type 0
 IsReadBack [] = Unit {0}
-IsReadBack (t ∷ ts) =
-    (is_line (schema_line (catalog_text (t ∷ ts))) ≡ true) × (is_single (catalog_text (t ∷ ts)) ≡ true) × (catalog_in (catalog_text (t ∷ ts)) ≡ Ok (t ∷ ts))
+IsReadBack (t ∷ ts) = (length (schema_line (catalog_text (t ∷ ts))) ≤ most_line) × (catalog_in (catalog_text (t ∷ ts)) ≡ Ok (t ∷ ts))

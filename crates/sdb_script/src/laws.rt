@@ -14,8 +14,8 @@ pub fn scripts_are_exact()
     ensures total { (stores : List (List ℕ)) (text : List ℕ) → ((s : Script) × IsScript stores text s) ⊎ ((r : ScriptRefused) × IsRefused stores text r) }
 {}
 
-/// What is printed of a script that some text is, is that script again, where it isn't too long and the JSON of its catalog, if
-/// it has tables, is a line that describes the catalog.
+/// What is printed of a script that some text is, is that script again, where it keeps the limits, and the JSON of its catalog, if it
+/// has tables, describes the catalog.
 pub fn printed_scripts_are_read()
     ensures again { (stores : List (List ℕ)) (text : List ℕ) (s : Script) → IsScript stores text s → IsReadBack s.catalog → length (script_text_of s) ≤ most_bytes
         → IsScript stores (script_text_of s) s }

@@ -11,7 +11,7 @@ use sdb_types::{Duplicate, Name, NoMemory};
 use std::alloc::Global;
 use std::marker::Model;
 
-/// The stores of namespaces, in the order in which these were placed.
+/// The stores of namespaces, in the order in which these were placed. A namespace is found by its hash, whose seed is fixed.
 pub struct Placings {
     stores: IndexMap<Name, Name>,
 }

@@ -14,4 +14,6 @@ mod scripts;
 #[cfg(test)]
 mod tokens;
 #[cfg(test)]
+mod whole_scripts;
+#[cfg(test)]
 mod words;

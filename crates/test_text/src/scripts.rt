@@ -1,6 +1,6 @@
 //! Scripts that are read, and those that are refused because of a line.
-use sdb_model::{Place, Places};
 use sdb_account::{AccountForm, FormRefused, read_account_script};
+use sdb_model::{Place, Places};
 use std::alloc::{AllocError, Global};
 use std::test::Fail;
 use test_builders::{all_hold, hold, names_of};
