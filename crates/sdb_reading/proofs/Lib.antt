@@ -6,3 +6,4 @@ pub mod KeyLaws
 pub mod AnswerLaws
 pub mod RequestLaws
 pub mod EventLaws
+pub mod LineLaws

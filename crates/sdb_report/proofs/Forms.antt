@@ -1,85 +1,29 @@
 -- The forms of a report's lines.
-use Rattle.std.proofs.Common.{◌≡◌, ℕ, zero, suc, ◌+◌, ◌-◌, ◌%◌, ◌^◌, ◌<◌, ◌≤◌, Bool, true, false, cond, ltb, ◌==◌, List, [], ◌∷◌, ◌++◌, Option, Some, refl, sym, ap, subst, ◌∙◌, append_assoc, arith}
+use Rattle.std.proofs.Common.{◌≡◌, ℕ, ◌^◌, ◌<◌, true, List, [], ◌∷◌, ◌++◌, Option, Some, refl, sym, ap, subst, ◌∙◌, append_assoc}
 use Rattle.std.specs.Prelude.{codes}
 use Rattle.std.specs.Fmt.{decimal}
-use Rattle.std.specs.Int.{w128, to_be_bytes}
-use Rattle.std.specs.List.{list_all}
 use Rattle.std.specs.Str.{bytes_eq}
-use Rattle.std.proofs.lemmas.Bool.{ltb-false}
-use Rattle.std.proofs.lemmas.Bool.Decides.{nat_tests}
-use Rattle.std.proofs.lemmas.Fmt.{decimal_by_steps}
 use Rattle.std.proofs.lemmas.List.{append-nil}
 use Rattle.std.proofs.lemmas.Option.{same_Some, cond_some}
 use Rattle.std.proofs.lemmas.Slice.Eq.{bytes_eq-Decides}
-use Rattle.uuid.specs.Text.{by_index, hex_digit, lower, nibble, is_hyphen_place, digit_place, hyphen}
-use Rattle.sdb_types.specs.Identifier.{is_part}
 use Rattle.sdb_types.specs.Order.{table_text}
 use Rattle.sdb_types.specs.TxId.{id_text}
 use Rattle.sdb_types.specs.declared.key.TableName.{TableName}
-use Rattle.sdb_types.proofs.Bools.{and_first, and_second, and_both}
-use Rattle.sdb_types.proofs.KeyOrder.{parts}
-use Rattle.sdb_model.specs.Plain.{table_fits, is_no_lf, is_one_line, IsPlainEvent, IsPlainPoint, IsPlainRow}
+use Rattle.sdb_model.specs.Plain.{table_fits, is_one_line, IsPlainEvent, IsPlainPoint, IsPlainRow}
 use Rattle.sdb_model.specs.Report.{event_text_of}
 use Rattle.sdb_model.specs.Texts.{row_text_of}
 use Rattle.sdb_model.specs.declared.event.Point.{Point}
 use Rattle.sdb_model.specs.declared.event.TableDump.{TableDump}
 use Rattle.sdb_reading.specs.Reading.{◌>>=◌, after, natural_at, row_at, table_at, id_at}
 use Rattle.sdb_reading.specs.Lines.{whole, numbered_event_of}
-use Rattle.sdb_reading.proofs.WordLaws.{by_test, bind_some, join, after_is, after_again}
+use Rattle.sdb_reading.proofs.WordLaws.{bind_some, join, after_is, after_again}
 use Rattle.sdb_reading.proofs.NumberLaws.{natural_sound, natural_again, id_text_of, id_sound, id_again}
 use Rattle.sdb_reading.proofs.ValueLaws.{row_sound, row_again}
 use Rattle.sdb_reading.proofs.KeyLaws.{table_sound, table_again}
+use Rattle.sdb_reading.proofs.LineLaws.{lines_joined, line_ends, decimal_one, table_one, id_one}
 use Rattle.sdb_reading.proofs.EventLaws.{whole_is, numbered_is, numbered_again}
 use Rattle.sdb_report.specs.Reading.{fixed_of, heading_of, point_of, row_of, is_after, next_table_of, table_of}
 use Rattle.sdb_report.proofs.Readers.{HasForm}
-
----- texts without an LF
-
-pub lines_joined : (xs ys : List ℕ) → is_one_line xs ≡ true → is_one_line ys ≡ true → is_one_line (xs ++ ys) ≡ true
-lines_joined [] ys h k = k
-lines_joined (x ∷ xs) ys h k = and_both (is_no_lf x) _ (and_first (is_no_lf x) _ h) (lines_joined xs ys (and_second (is_no_lf x) _ h) k)
-
-pub line_ends : (xs ys : List ℕ) → is_one_line (xs ++ ys) ≡ true → is_one_line ys ≡ true
-line_ends [] ys h = h
-line_ends (x ∷ xs) ys h = line_ends xs ys (and_second (is_no_lf x) _ h)
-
-digit_no_lf : (d : ℕ) → is_no_lf (48 + d) ≡ true
-digit_no_lf d = grind (arith, nat_tests)
-
-pub decimal_one : (n : ℕ) → n < 2 ^ 64 → is_one_line (decimal n) ≡ true
-decimal_one n lt =
-    decimal_by_steps (λ n ds. is_one_line ds ≡ true) (λ n small. rw (digit_no_lf n) refl)
-    (λ n ds ge h. lines_joined ds ((48 + n % 10) ∷ []) h (rw (digit_no_lf (n % 10)) refl)) n lt
-
-part_no_lf : (c : ℕ) → is_part c ≡ true → is_no_lf c ≡ true
-part_no_lf c h = grind (arith, nat_tests)
-
-parts_one : (cs : List ℕ) → list_all is_part cs ≡ true → is_one_line cs ≡ true
-parts_one [] h = refl
-parts_one (c ∷ cs) h = and_both (is_no_lf c) _ (part_no_lf c (and_first (is_part c) _ h)) (parts_one cs (and_second (is_part c) _ h))
-
-table_one : (t : TableName) → table_fits t → is_one_line (table_text t) ≡ true
-table_one t fits = lines_joined t.ns (46 ∷ t.table) (parts_one t.ns (parts t.ns fits.ns)) (parts_one t.table (parts t.table fits.table))
-
-by_index_one : (n : ℕ) (f : ℕ → ℕ) → ((k : ℕ) → is_no_lf (f k) ≡ true) → is_one_line (by_index n f) ≡ true
-unfolding by_index
-by_index_one zero f h = refl
-by_index_one (suc n) f h = lines_joined (by_index n f) (f n ∷ []) (by_index_one n f h) (rw (h n) refl)
-
-hex_no_lf : (d : ℕ) → is_no_lf (hex_digit lower d) ≡ true
-hex_no_lf d =
-    by_test (ltb d 10) (λ e. rw e (digit_no_lf d))
-    (λ e. let ge : 10 ≤ d = ltb-false d 10 e in let k : (97 + d - 10 == 10) ≡ false = grind (arith, nat_tests) in rw (e, k) refl)
-
-id_digit : List ℕ → ℕ → ℕ
-id_digit xs k = cond (is_hyphen_place k) hyphen (hex_digit lower (nibble xs (digit_place k)))
-
-either_no_lf : (b : Bool) (d : ℕ) → is_no_lf (cond b hyphen (hex_digit lower d)) ≡ true
-either_no_lf true d = refl
-either_no_lf false d = hex_no_lf d
-
-pub id_one : (n : ℕ) → is_one_line (id_text n) ≡ true
-id_one n = by_index_one 36 _ (λ k. either_no_lf (is_hyphen_place k) (nibble (to_be_bytes w128 n) (digit_place k)))
 
 ---- fixed lines
 

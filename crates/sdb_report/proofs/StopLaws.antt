@@ -27,7 +27,8 @@ use Rattle.sdb_report.specs.declared.refused.ReportRefused.{ReportRefused}
 use Rattle.sdb_report.specs.declared.refused.ReportRefused.TheVariants as refused
 use Rattle.sdb_report.proofs.Cuts.{cut_is, cut_again}
 use Rattle.sdb_report.proofs.Readers.{done, Reads, with_lf, line_reads, texts, Items}
-use Rattle.sdb_report.proofs.Forms.{lines_joined, decimal_one, itself, IsWord, fixed_form, IsCount, heading_form, event_form, point_text, point_form, row_form, Headed, headed_text, IsNext, table_form}
+use Rattle.sdb_reading.proofs.LineLaws.{lines_joined, decimal_one}
+use Rattle.sdb_report.proofs.Forms.{itself, IsWord, fixed_form, IsCount, heading_form, event_form, point_text, point_form, row_form, Headed, headed_text, IsNext, table_form}
 use Rattle.sdb_report.proofs.PartLaws.{part_text, IsPart, const_texts, each_all, all_each, event_text, EventAfter, event_reads, event_texts, EventsPlain, events_read, point_after, PointAfter, point_reads, OrderPlain, order_read, row_after, RowAfter, row_reads, DumpAfter, dump_of, RowsOf, dump_same, dump_after, dump_reads, TablesPlain, rising_each, PlacesPlain, places_text, parts_text, parts_read, title, end_word, pieces, report_read, in_again}
 use Rattle.sdb_report.proofs.Stops.{AreLines, lines_append, SameLine, failed, err_is, Stopping, line_stopping, Filled, both_stopping, items_fill, items_stopping, stopping_as}
 

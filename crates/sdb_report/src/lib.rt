@@ -1,6 +1,7 @@
 //! Reading reports back: what `report_text` of `sdb_texts` prints.
 #![tactic(auto)]
 
+mod events;
 pub mod laws;
 mod lines;
 mod parts;

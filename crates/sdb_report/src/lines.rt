@@ -8,9 +8,10 @@ ghost use Rattle.sdb_reading.specs.Lines as form;
 ghost use Rattle.sdb_report.specs.Reading as spec;
 ghost use Rattle.sdb_report.specs.Reading.{Gives};
 
+use crate::events::numbered_event_of;
 use crate::refused::Stopped;
 use sdb_model::{Event, Point, TableDump};
-use sdb_reading::{Unread, expect, id_at, natural_at, numbered_event_of, row_at, table_at};
+use sdb_reading::{Unread, expect, id_at, natural_at, row_at, table_at};
 use sdb_types::{TableName, Values};
 use std::alloc::Global;
 
