@@ -1,5 +1,5 @@
 -- What a call leaves of its client.
-use Rattle.std.proofs.Common.{◌≡◌, ◌≢◌, ℤ, true, false, cond, Option, Some, None, refl, sym, ap, subst, ◌∙◌, ◌⊎◌, inl, inr}
+use Rattle.std.proofs.Common.{◌≡◌, ◌≢◌, ℤ, true, false, cond, Option, Some, None, refl, sym, ap, subst, ◌∙◌, ◌⊎◌, inl, inr, IsSome}
 use Rattle.sdb_types.specs.declared.record.Reply.{Reply}
 use Rattle.sdb_record.specs.declared.access.Access.{Access}
 use Rattle.sdb_model.specs.declared.answer.Answer.{Answer}
@@ -13,13 +13,22 @@ use Rattle.sdb_read.specs.declared.read.ReadStep.TheVariants as step
 use Rattle.sdb_read.specs.Read.{ReadAt, ReadStage, read_result, read_step}
 use Rattle.sdb_transaction.specs.declared.txn.Doing.{Doing}
 use Rattle.sdb_transaction.specs.declared.txn.Doing.TheVariants as doing
-use Rattle.sdb_transaction.specs.Txn.{IfReading, TxnAt, idle}
+use Rattle.sdb_transaction.specs.Txn.{IfReading, TxnAt, idle, CommitTold, IfCommitting, IsCommitting, pending_in, progress_of}
 use Rattle.sdb_client.specs.declared.next.Next.{Next}
 use Rattle.sdb_client.specs.declared.next.Next.TheVariants as next
-use Rattle.sdb_client.specs.Client.{CallTold, ClientAt, ReplyTold, StageTold, after, answer_in, gives, given_answer, given_left, noting, written}
-use Rattle.sdb_client.specs.Inside.{IsLeft, IsReadOf, IsUnder, OpenNext, plan_after, txn_after}
+use Rattle.sdb_client.specs.Client.{CallTold, ClientAt, ReplyTold, StageTold, after, answer_in, gives, given_answer, given_left, noting, written, next_of}
+use Rattle.sdb_client.specs.Inside.{IsLeft, IsReadOf, IsUnder, OpenNext, plan_after, txn_after, IsGoing}
 use Rattle.sdb_client.proofs.Calls.{noting_idle}
 use Rattle.sdb_client.proofs.Taken.{memory_or}
+use Rattle.sdb_client.proofs.Pending.{commit_goes, step_asks}
+use Rattle.sdb_phases.specs.Work.{Work}
+use Rattle.sdb_phases.specs.Commit.{step as commit_step}
+use Rattle.sdb_phases.specs.declared.step.Outcome.{Outcome}
+use Rattle.sdb_phases.specs.declared.step.Outcome.TheVariants as outcome
+use Rattle.sdb_commit.specs.Phases.{CommitAt, IsNext, ended_at}
+use Rattle.sdb_transaction.specs.declared.progress.Progress.{Progress}
+use Rattle.sdb_transaction.specs.declared.progress.Progress.TheVariants as progress
+use Rattle.sdb_read.specs.Read.{read_pending_at}
 
 ---- reads
 
@@ -27,13 +36,13 @@ given_idle : (was t : TxnAt) (s : PlanStep) → was.doing ≡ doing.Idle → t.d
 given_idle was t (Finished a ks) h k = elim (changes_nothing (given_answer t (Finished a ks))) as (λ b. (cond b was (written t ks)).doing ≡ doing.Idle) [ true ↦ h | false ↦ k ]
 given_idle was t (Wants a) h k = h
 
-call_stage : (t u : TxnAt) (p : Planned) (a : Access) (x : ReadAt) (next_stage : ReadStage) (s : ReadStep) → IsReadOf (doing.Read a x) p → StageTold t p a x next_stage s next.Call u → IsUnder u.doing (Some p)
-call_stage t u p a x f step.More at h = subst (λ (d : Doing). IsUnder d (Some p)) (sym (ap (λ (v : TxnAt). v.doing) h.1)) at
-call_stage t u p a x f (step.Images images) at h = absurd h
-call_stage t u p a x f (step.Busy key id m) at h = absurd (let e = h.0 in cc)
-call_stage t u p a x f step.Faulted at h = absurd (let e = h.0 in cc)
-call_stage t u p a x f (step.BadRecord key) at h = absurd (let e = h.0 in cc)
-call_stage t u p a x f step.NoMemory at h = absurd h
+call_stage : (t u : TxnAt) (p : Planned) (a : Access) (x : ReadAt) (f : ReadStage) (s : ReadStep) → read_result f ≡ s → IsReadOf (doing.Read a x) p → (read_result f ≡ step.More → IsSome (read_pending_at x.request f)) → StageTold t p a x f s next.Call u → IsUnder u.doing (Some p)
+call_stage t u p a x f step.More is at goes h = subst (λ (d : Doing). IsUnder d (Some p)) (sym (ap (λ (v : TxnAt). v.doing) h.1)) (at.0, at.1, goes is)
+call_stage t u p a x f (step.Images images) is at goes h = absurd h
+call_stage t u p a x f (step.Busy key id m) is at goes h = absurd (let e = h.0 in cc)
+call_stage t u p a x f step.Faulted is at goes h = absurd (let e = h.0 in cc)
+call_stage t u p a x f (step.BadRecord key) is at goes h = absurd (let e = h.0 in cc)
+call_stage t u p a x f step.NoMemory is at goes h = absurd h
 
 answer_stage : (t u : TxnAt) (p : Planned) (a : Access) (x : ReadAt) (next_stage : ReadStage) (s : ReadStep) (z : Answer) → StageTold t p a x next_stage s (next.Answer z) u → u.doing ≡ doing.Idle
 answer_stage t u p a x f step.More z h = absurd (let e = h.0 in cc)
@@ -47,7 +56,7 @@ answer_apart : (z : Answer) → z ≢ answer.NoMemory → next.Answer z ≢ next
 answer_apart z n e = n (ap Rattle.sdb_client.proofs.Calls.answer_or e)
 
 call_left : (t u : TxnAt) (p : Planned) (a : Access) (x : ReadAt) (r : Reply) (now : ℤ) (n : Next) → IsReadOf (doing.Read a x) p → CallTold t p a x r now n u → IsLeft n u (Some p)
-call_left t u p a x r now next.Call at h = call_stage t u p a x (read_step x.stage now r) (read_result (read_step x.stage now r)) at (h.told (λ e. cc))
+call_left t u p a x r now next.Call at h = call_stage t u p a x (read_step x.stage now r) (read_result (read_step x.stage now r)) refl at (step_asks x.request x.stage now r at.2) (h.told (λ e. cc))
 call_left t u p a x r now (next.Answer z) at h = by (memory_or z)
   where
     by : (z ≡ answer.NoMemory) ⊎ (z ≢ answer.NoMemory) → u.doing ≡ doing.Idle
@@ -69,6 +78,45 @@ read_left d t u p q o r now n is under h same = by d (subst (IsUnder d) is under
     by (doing.Commit k) under h = absurd under
     by doing.Idle under h = absurd under
     by doing.Over under h = absurd under
+
+---- COMMITs
+
+none_ended : (o : Option Outcome) → progress.More ≡ progress_of o → o ≡ None
+none_ended None e = refl
+none_ended (Some outcome.Committed) e = absurd (cc)
+none_ended (Some (outcome.Conflict key found)) e = absurd (cc)
+none_ended (Some (outcome.Expired id)) e = absurd (cc)
+none_ended (Some outcome.Faulted) e = absurd (cc)
+none_ended (Some (outcome.Unknown id)) e = absurd (cc)
+none_ended (Some (outcome.BadRecord key)) e = absurd (cc)
+none_ended (Some outcome.NoMemory) e = absurd (cc)
+
+goes_on : (d : Doing) (k : CommitAt) (r : Reply) → IsGoing k.work k.stage → ended_at (commit_step k.work k.stage r) ≡ None → IsCommitting d (λ m. (m.work ≡ k.work) × IsNext k.work k.stage r m.stage) → IsUnder d None
+goes_on (doing.Commit m) k r going e h = subst (λ (p : Work). IsGoing p m.stage) (sym h.0) (commit_goes k.work k.stage r m.stage going h.1 e)
+goes_on doing.Idle k r going e h = absurd h
+goes_on (doing.Read a x) k r going e h = absurd h
+goes_on doing.Over k r going e h = absurd h
+
+told_left : (t u : TxnAt) (k : CommitAt) (r : Reply) (g : Progress) → IsGoing k.work k.stage → CommitTold t k r g u → IsLeft (next_of g) u None
+told_left t u k r progress.More going h = goes_on u.doing k r going (none_ended (ended_at (commit_step k.work k.stage r)) h.answer) (h.next refl)
+told_left t u k r (progress.Rows rows) going h = tt
+told_left t u k r (progress.Busy key id m) going h = tt
+told_left t u k r progress.Faulted going h = tt
+told_left t u k r (progress.BadRecord key) going h = tt
+told_left t u k r progress.NoMemory going h = tt
+told_left t u k r (progress.Conflict key found) going h = tt
+told_left t u k r progress.Committed going h = tt
+told_left t u k r (progress.Expired id) going h = tt
+told_left t u k r (progress.Unknown id) going h = tt
+
+pub commit_left : (d : Doing) (t u : TxnAt) (o : Option Planned) (r : Reply) (g : Progress) (n : Next) → IsSome (pending_in d) → o ≡ None → n ≡ next_of g → IsUnder d o → IfCommitting d (λ k. CommitTold t k r g u) → IsLeft n u None
+commit_left d t u o r g n asks is same under h = subst (λ (m : Next). IsLeft m u None) (sym same) (by d asks (subst (IsUnder d) is under) h)
+  where
+    by : (d : Doing) → IsSome (pending_in d) → IsUnder d None → IfCommitting d (λ k. CommitTold t k r g u) → IsLeft (next_of g) u None
+    by (doing.Commit k) asks under h = told_left t u k r g under h
+    by doing.Over asks under h = absurd under
+    by (doing.Read a x) asks under h = absurd under
+    by doing.Idle asks under h = absurd (cc)
 
 ---- clients
 

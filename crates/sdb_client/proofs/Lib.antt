@@ -4,3 +4,5 @@ pub mod Writable
 pub mod Calls
 pub mod Taken
 pub mod Left
+pub mod Pending
+pub mod Waits

@@ -1,5 +1,5 @@
 -- What a client is inside.
-use Rattle.std.specs.Prelude.{◌≡◌, ℤ, IsSomeAnd, true, false, List, Option, Some, None}
+use Rattle.std.specs.Prelude.{◌≡◌, ◌<◌, ◌≤◌, ℤ, length, IsSome, IsSomeAnd, true, false, List, Option, Some, None}
 use Rattle.sdb_types.specs.declared.record.Reply.{Reply}
 use Rattle.sdb_schema.specs.declared.table.Table.{Table}
 use Rattle.sdb_schema.specs.Table.{is_table}
@@ -11,6 +11,11 @@ use Rattle.sdb_exec.specs.declared.plan.PlanStep.TheVariants.{Finished, Read as 
 use Rattle.sdb_exec.specs.Plans.{Planned, has_all_literals}
 use Rattle.sdb_exec.specs.Reads.{access_of}
 use Rattle.sdb_record.specs.declared.access.Image.{Image}
+use Rattle.sdb_phases.specs.Work.{Work}
+use Rattle.sdb_phases.specs.Checks.{checks}
+use Rattle.sdb_phases.specs.Steps.{decide_request_at}
+use Rattle.sdb_phases.specs.Commit.{Stage, Preparing, Checking, Deciding, Forward, Stopping, Back, Over}
+use Rattle.sdb_read.specs.Read.{read_pending}
 use Rattle.sdb_snapshot.specs.Noted.{Note, is_noted}
 use Rattle.sdb_snapshot.specs.Written.{AreChanges}
 use Rattle.sdb_transaction.specs.declared.progress.Progress.{Progress}
@@ -50,11 +55,21 @@ abbrev pub IsKeyRead : List Note → Access → Type 0
 IsKeyRead notes (access.Get key) = is_noted notes key ≡ true
 IsKeyRead notes (access.Scan span) = Unit {0}
 
--- A statement has a plan while it reads, and reads where the plan says.
+-- A COMMIT goes on: a call of it is pending, and those that are left to it are within what it writes and checks.
+abbrev pub IsGoing : Work → Stage → Type 0
+IsGoing p (Preparing i) = i < length p.writes
+IsGoing p (Checking i) = i < length (checks p)
+IsGoing p (Deciding d) = IsSome (decide_request_at p.id p.now d)
+IsGoing p (Forward i) = i < length p.writes
+IsGoing p (Stopping a n) = n ≤ length p.writes
+IsGoing p (Back a n i) = (i < n) × (n ≤ length p.writes)
+IsGoing p (Over a) = ⊥
+
+-- A statement has a plan while it reads, and reads where the plan says. Where it reads, and where a COMMIT goes on, a call is pending.
 abbrev pub IsUnder : Doing → Option Planned → Type 0
 IsUnder doing.Idle None = Unit {0}
-IsUnder (doing.Read a x) (Some p) = IsFine p × (a ≡ access_of p.table p.statement)
-IsUnder (doing.Commit k) None = Unit {0}
+IsUnder (doing.Read a x) (Some p) = IsFine p × (a ≡ access_of p.table p.statement) × IsSome (read_pending x)
+IsUnder (doing.Commit k) None = IsGoing k.work k.stage
 IsUnder d p = ⊥
 
 abbrev pub IsClient : Option TxnAt → Option Planned → Type 0
@@ -64,7 +79,7 @@ IsClient (Some t) p = IsUnder t.doing p
 
 -- it does the read of an access, by a plan that is fine
 abbrev pub IsReadOf : Doing → Planned → Type 0
-IsReadOf (doing.Read a x) p = IsFine p × (a ≡ access_of p.table p.statement)
+IsReadOf (doing.Read a x) p = IsFine p × (a ≡ access_of p.table p.statement) × IsSome (read_pending x)
 IsReadOf d p = ⊥
 
 -- rows are told, and they are so

@@ -102,9 +102,11 @@ impl Client {
         self.begun
     }
 
-    /// The call that is pending. Takes no memory.
+    /// The call that is pending; where there is none the client waits for a statement. Takes no memory.
+    #[tactic(auto, using(crate::proofs::Waits::client_waits))]
     pub fn pending(&self) -> Option<&Request>
-        ensures { option_copied result ≡ client_pending self.now }
+        ensures pending { option_copied result ≡ client_pending self.now }
+        ensures idle { client_pending self.now ≡ None → IsIdle self.now }
     {
         match &self.txn {
             Some(txn) => txn.pending(),
@@ -188,6 +190,7 @@ impl Client {
     }
 
     // Takes a COMMIT. Want of memory ends the transaction too.
+    #[tactic(auto, using(crate::proofs::Pending::going_first))]
     fn commit(&mut self, now: i64) -> Option<Answer>
         requires idle { IsIdle self.old }
         ensures memory { result ≡ Some answer.NoMemory → self.new ≡ resting self.old }

@@ -3,6 +3,8 @@
 #![tactic(auto)]
 
 #[cfg(test)]
+mod client;
+#[cfg(test)]
 mod commit;
 #[cfg(test)]
 mod decide;

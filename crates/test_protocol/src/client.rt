@@ -1,0 +1,342 @@
+//! Whole scripts of one client: what its statements are answered, and each call with its reply.
+use crate::replies::{Answer, reply_to};
+use crate::seen::ROW;
+use sdb_client::{Client, Gate};
+use sdb_loader::catalog_of;
+use sdb_schema::Catalog;
+use sdb_texts::{answer_text, put_key, put_record, put_span};
+use sdb_types::{NoMemory, Request, Txt};
+use std::alloc::Global;
+use std::test::Fail;
+use test_builders::all_hold;
+
+// A statement, its calls, each with its reply, and its answer.
+type Step = (
+    &'static str,
+    &'static [(&'static str, Answer)],
+    &'static str,
+);
+
+const BANK: &[u8] =
+    b"{\"bank.account\":{\"partition-key\":[\"id\"],\"columns\":{\"id\":\"INT\",\"balance\":\"INT\"}}}";
+
+const BIG: &[u8] =
+    b"{\"bank.big\":{\"partition-key\":[\"id\"],\"columns\":{\"id\":\"INT\",\"v\":\"BIGINT\"}}}";
+
+const SHOP: &[u8] =
+    b"{\"shop.item\":{\"partition-key\":[\"cat\"],\"clustering-key\":[\"n\"],\"columns\":{\"cat\":\"INT\",\"n\":\"INT\",\"qty\":\"INT\"}}}";
+
+const BEGIN: Step = ("BEGIN", &[], "done");
+
+// The call as a text, but for its condition.
+fn put_call(out: &mut String, request: &Request) -> Result<(), NoMemory> {
+    match request {
+        Request::Get(key) => {
+            out.push_str("get ")?;
+            put_key(out, key)
+        }
+        Request::Scan(span) => {
+            out.push_str("scan ")?;
+            put_span(out, span)
+        }
+        Request::PutIf(rec, _) => {
+            out.push_str("put ")?;
+            put_record(out, rec)
+        }
+        Request::DeleteIf(key, _) => {
+            out.push_str("delete ")?;
+            put_key(out, key)
+        }
+    }
+}
+
+// Whether this call is pending.
+fn asks(alloc: Global, client: &Client, call: &str) -> Result<bool, Fail> {
+    let mut out = String::new(alloc);
+    if let Some(request) = client.pending() {
+        put_call(&mut out, request)?;
+    }
+    Ok(out.as_str() == call)
+}
+
+// The text of what a statement is answered; none where a call is pending.
+fn told(alloc: Global, answer: Option<sdb_model::Answer>) -> Result<Option<Txt>, Fail> {
+    match answer {
+        Some(answer) => Ok(Some(answer_text(alloc, &answer)?)),
+        None => Ok(None),
+    }
+}
+
+const QUIET: Gate = Gate {
+    vacuum_runs: false,
+    open_elsewhere: false,
+};
+
+fn take(
+    alloc: Global,
+    client: &mut Client,
+    catalog: &Catalog,
+    text: &str,
+) -> Result<Option<Txt>, Fail> {
+    let text = Txt::new(alloc, text)?;
+    if text.as_str().len() < 1_000 && client.is_idle() {
+        told(alloc, client.take(catalog, &text, 0, QUIET))
+    } else {
+        Err(Fail::from("it may not be taken"))
+    }
+}
+
+fn give(alloc: Global, client: &mut Client, answer: Answer) -> Result<Option<Txt>, Fail> {
+    match reply_to(alloc, client.pending(), answer)? {
+        Some(reply) => told(alloc, client.advance(reply, 0)),
+        None => Err(Fail::from("no such reply")),
+    }
+}
+
+// What a statement is answered in the end, if each of its calls is the one that is pending in turn.
+fn answered(
+    alloc: Global,
+    client: &mut Client,
+    catalog: &Catalog,
+    step: &Step,
+) -> Result<Option<Txt>, Fail> {
+    let mut answer = take(alloc, client, catalog, step.0)?;
+    for (call, reply) in step.1 {
+        if answer.is_some() || !asks(alloc, client, call)? {
+            return Err(Fail::from("another call"));
+        }
+        answer = give(alloc, client, *reply)?;
+    }
+    Ok(answer)
+}
+
+fn goes(alloc: Global, client: &mut Client, catalog: &Catalog, step: &Step) -> Result<bool, Fail> {
+    match answered(alloc, client, catalog, step)? {
+        Some(answer) => Ok(answer.as_str() == step.2),
+        None => Ok(false),
+    }
+}
+
+#[derive(Clone, Copy)]
+struct Script {
+    schema: &'static [u8],
+    steps: &'static [Step],
+    // Whether a transaction is open in the end, and how many have begun.
+    open: bool,
+    begun: u64,
+}
+
+fn plays(alloc: Global, script: Script) -> Result<bool, Fail> {
+    let catalog = catalog_of(alloc, script.schema)?;
+    let mut client = Client::new(alloc, 1);
+    for step in script.steps {
+        if !goes(alloc, &mut client, &catalog, step)? {
+            return Ok(false);
+        }
+    }
+    Ok(client.is_open() == script.open && client.begun() == script.begun)
+}
+
+const INSERTED: Step = (
+    "INSERT INTO bank.account (id, balance) VALUES (1, 100)",
+    &[("get bank.account(1)", Answer::NoRow)],
+    "count 1",
+);
+
+const COMMITTED: Step = (
+    "COMMIT",
+    &[
+        (
+            "put bank.account(1){balance=100,tx_id='00000000-0000-0001-0000-000000000001',tx_prepared_at=0L,tx_state=1,tx_version=1}",
+            Answer::Applied,
+        ),
+        (
+            "put coordinator.state('00000000-0000-0001-0000-000000000001'){tx_created_at=0L,tx_state=3}",
+            Answer::Applied,
+        ),
+        (
+            "put bank.account(1){balance=100,tx_committed_at=0L,tx_id='00000000-0000-0001-0000-000000000001',tx_prepared_at=0L,tx_state=3,tx_version=1}",
+            Answer::Applied,
+        ),
+    ],
+    "committed",
+);
+
+const FIRST: &[Step] = &[BEGIN, INSERTED, COMMITTED];
+
+const EXTRA_READS: &[Step] = &[
+    BEGIN,
+    INSERTED,
+    COMMITTED,
+    BEGIN,
+    (
+        "SELECT balance FROM bank.account WHERE id = 1",
+        &[("get bank.account(1)", Answer::Row(ROW))],
+        "rows 1 (100)",
+    ),
+    (
+        "SELECT balance FROM bank.account WHERE id = 2",
+        &[("get bank.account(2)", Answer::NoRow)],
+        "rows 0",
+    ),
+    (
+        "COMMIT",
+        &[
+            ("get bank.account(1)", Answer::Row(ROW)),
+            ("get bank.account(2)", Answer::NoRow),
+            (
+                "put coordinator.state('00000000-0000-0001-0000-000000000002'){tx_created_at=0L,tx_state=3}",
+                Answer::Applied,
+            ),
+        ],
+        "committed",
+    ),
+];
+
+const NOTHING: &[Step] = &[
+    BEGIN,
+    (
+        "COMMIT",
+        &[(
+            "put coordinator.state('00000000-0000-0001-0000-000000000001'){tx_created_at=0L,tx_state=3}",
+            Answer::Applied,
+        )],
+        "committed",
+    ),
+];
+
+const REFUSED: &[Step] = &[
+    BEGIN,
+    (
+        "INSERT INTO bank.big (id, v) VALUES (1, 9007199254740992)",
+        &[("get bank.big(1)", Answer::NoRow)],
+        "count 1",
+    ),
+    (
+        "INSERT INTO bank.big (id, v) VALUES (2, 9007199254740993)",
+        &[],
+        "refused 12 2",
+    ),
+    (
+        "INSERT INTO bank.big (id, v) VALUES (NULL, 1)",
+        &[],
+        "refused 11 1",
+    ),
+    (
+        "INSERT INTO bank.big (id, v) VALUES (1, 5)",
+        &[],
+        "duplicate bank.big(1)",
+    ),
+];
+
+const HOSTILE: &[Step] = &[
+    BEGIN,
+    ("SELECT * FROM a.b WHERE x = 'abc", &[], "refused 1 28"),
+    ("COMMIT COMMIT", &[], "refused 2 7"),
+    (" ", &[], "refused 2 1"),
+    ("SELECT * FROM a.b LIMIT -1", &[], "refused 2 24"),
+    (
+        "SELECT * FROM a.b LIMIT 9223372036854775808",
+        &[],
+        "refused 3 24",
+    ),
+    ("INSERT INTO a.b (c) VALUES (X'0')", &[], "refused 2 28"),
+    ("select * from \"SELECT\".\"from\"", &[], "refused 6 0"),
+];
+
+const OWN_INSERT: &[Step] = &[
+    BEGIN,
+    (
+        "SELECT * FROM shop.item WHERE cat = 1",
+        &[("scan shop.item(1)", Answer::NoRow)],
+        "rows 0",
+    ),
+    (
+        "INSERT INTO shop.item (cat, n) VALUES (1, 3)",
+        &[("get shop.item(1;3)", Answer::NoRow)],
+        "count 1",
+    ),
+    (
+        "SELECT * FROM shop.item WHERE cat = 1",
+        &[],
+        "rows 1 (1,3,NULL)",
+    ),
+];
+
+// Statements inside and outside of transactions; a fault leaves the transaction open, and notes nothing.
+const OUTSIDE: &[Step] = &[
+    ("COMMIT", &[], "refused 5 0"),
+    ("ROLLBACK;", &[], "refused 5 0"),
+    ("SELECT * FROM a.b", &[], "refused 5 0"),
+    BEGIN,
+    ("begin", &[], "refused 4 0"),
+    ("VACUUM", &[], "opentransactions"),
+    (
+        "DELETE FROM bank.account WHERE id = 1",
+        &[("get bank.account(1)", Answer::Fault)],
+        "faulted",
+    ),
+    (
+        "UPDATE bank.account SET balance = 1 WHERE id = 1",
+        &[("get bank.account(1)", Answer::Row(ROW))],
+        "count 1",
+    ),
+    (
+        "SELECT balance FROM bank.account",
+        &[("scan bank.account", Answer::NoRow)],
+        "conflict bank.account(1) none",
+    ),
+    BEGIN,
+    ("ROLLBACK", &[], "done"),
+];
+
+static SCRIPTS: [Script; 7] = [
+    Script {
+        schema: BANK,
+        steps: FIRST,
+        open: false,
+        begun: 1,
+    },
+    Script {
+        schema: BANK,
+        steps: EXTRA_READS,
+        open: false,
+        begun: 2,
+    },
+    Script {
+        schema: BANK,
+        steps: NOTHING,
+        open: false,
+        begun: 1,
+    },
+    Script {
+        schema: BIG,
+        steps: REFUSED,
+        open: true,
+        begun: 1,
+    },
+    Script {
+        schema: BANK,
+        steps: HOSTILE,
+        open: true,
+        begun: 1,
+    },
+    Script {
+        schema: SHOP,
+        steps: OWN_INSERT,
+        open: true,
+        begun: 1,
+    },
+    Script {
+        schema: BANK,
+        steps: OUTSIDE,
+        open: false,
+        begun: 2,
+    },
+];
+
+#[test]
+fn clients_are_answered(rt: HostRuntime) -> Result<(), Fail> {
+    let alloc = rt.alloc();
+    all_hold(SCRIPTS.as_slice(), |script| plays(alloc, script))
+}
