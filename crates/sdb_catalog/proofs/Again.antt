@@ -133,13 +133,14 @@ passed : {A B : Type 0} (o : Option A) (f : A → TableRefused) (next : Result B
 passed None f next h = (refl, h)
 passed (Some a) f next h = false_true h
 
-record IsSound (t : Table) : Type 0 where
-  rising : rises t.columns ≡ true
-  columns : are_columns t.columns ≡ true
-  partition : list_all is_column_name t.partition ≡ true
-  clustering : are_orders t.clustering ≡ true
-  indexed : list_all is_column_name t.indexed ≡ true
-  checked : is_ok (checked_table t) ≡ true
+-- What a table that is one has.
+pub record IsSound (t : Table) : Type 0 where
+  pub rising : rises t.columns ≡ true
+  pub columns : are_columns t.columns ≡ true
+  pub partition : list_all is_column_name t.partition ≡ true
+  pub clustering : are_orders t.clustering ≡ true
+  pub indexed : list_all is_column_name t.indexed ≡ true
+  pub checked : is_ok (checked_table t) ≡ true
 
 known_keys : (t : Table) → is_ok (checked_table t) ≡ true → (first_unknown t.columns (key_names t) ≡ None) × (first_unknown t.columns t.indexed ≡ None)
 unfolding checked_table
@@ -149,7 +150,7 @@ known_keys t h =
     let c = passed (first_unknown t.columns t.indexed) _ _ b.1 in
     (b.0, c.0)
 
-sound : (t : Table) → is_table t ≡ true → IsSound t
+pub sound : (t : Table) → is_table t ≡ true → IsSound t
 sound t h =
     let rest = and_second (rises t.columns) (are_columns t.columns && is_ok (checked_table t)) h in
     let cols = and_first (are_columns t.columns) (is_ok (checked_table t)) rest in
@@ -199,11 +200,12 @@ refusal_none : {A : Type 0} (r : Result A TableRefused) → is_ok r ≡ true →
 refusal_none (Ok a) h = refl
 refusal_none (Err e) h = false_true h
 
+pub refused_none : (t : Table) → is_table t ≡ true → refusal_in (checked_table t) ≡ None
+refused_none t h = refusal_none (checked_table t) (sound t h).checked
+
 pub described_again : (t : Table) → is_table t ≡ true → described_tables (defined t ∷ []) ≡ Ok (t ∷ [])
 unfolding described_tables
-described_again t h =
-    let s = sound t h in
-    simp (fields_again t h, kinds_again t h, table_again t h, refusal_none (checked_table t) s.checked) refl
+described_again t h = simp (fields_again t h, kinds_again t h, table_again t h, refused_none t h) refl
 
 pub rising_columns : (t : Table) → is_table t ≡ true → rises t.columns ≡ true
 rising_columns t h = (sound t h).rising

@@ -1,3 +1,4 @@
+pub mod Members
 pub mod Texts
 pub mod Again
 pub mod Reading

@@ -1,27 +1,25 @@
 -- The text of a table's definition has no number, and is read as its value.
-use Rattle.std.proofs.Common.{◌≡◌, ℕ, ◌≤◌, List, [], ◌∷◌, ◌++◌, map, true, false, refl, sym, ap, ◌∙◌, append_assoc, append-nil, arith, Option, Some}
+use Rattle.std.proofs.Common.{◌≡◌, ℕ, ◌≤◌, List, [], ◌∷◌, ◌++◌, map, true, false, refl, sym, ap, subst, ◌∙◌, append-nil, arith, Option, Some}
 use Rattle.std.specs.Prelude.{max}
 use Rattle.std.specs.Option.{option_map, option_and_then}
-use Rattle.std.specs.declared.cmp.Ordering.{Ordering}
-use Rattle.std.specs.declared.cmp.Ordering.TheVariants.{Less, Equal, Greater}
-use Rattle.std.specs.Ordering.{is_lt, match_ordering, ordering_reverse}
+use Rattle.std.specs.Ordering.{is_lt}
 use Rattle.json.specs.Token.{Token}
 use Rattle.json.specs.Print.{print}
 use Rattle.json.specs.Json as json
 use Rattle.json.specs.Tree as tree
 use Rattle.json.proofs.Printed.Tokens.{tokens-print}
 use Rattle.json.proofs.Printed.Trees.{value-json_tokens, ArePrintable-json_tokens}
-use Rattle.serde_json.specs.Data.{string, Items, item, member, put}
+use Rattle.serde_json.specs.Data.{string, Items, item, Members, no_members, member}
 use Rattle.serde_json.specs.Read.{read, max_depth, of_json, of_items, of_members}
 use Rattle.serde_json.specs.View.{items_of}
 use Rattle.serde_json.specs.Written.{outline, items_outline, members_outline, has_float, items_have_float, members_have_float}
 use Rattle.serde_json.proofs.Texts.{print-outline}
 use Rattle.sdb_types.specs.Order.{name_cmp}
-use Rattle.sdb_types.proofs.Bools.{and_first, and_second}
-use Rattle.sdb_types.proofs.KeyOrder.{name_total}
+use Rattle.sdb_types.proofs.Bools.{and_first, and_second, and_both}
 use Rattle.sdb_schema.specs.declared.table.Column.{Column}
 use Rattle.sdb_schema.specs.declared.table.Table.{Table}
-use Rattle.sdb_schema.specs.Table.{rises, stands_above}
+use Rattle.sdb_schema.specs.Table.{rises}
+use Rattle.sdb_catalog.proofs.Members.{AreRead, keys_rise, members_of, members_read}
 use Rattle.sdb_catalog.specs.Definition.{columns_data, definition_of, definition_text, kind_text, order_text}
 
 ---- strings in an array
@@ -59,63 +57,42 @@ columns_flat : (cs : List Column) → tree.members_depth (members_outline (colum
 columns_flat [] = refl
 columns_flat (c ∷ cs) = ap (max 0) (columns_flat cs)
 
-less_of : (r : Ordering) → is_lt r ≡ true → r ≡ Less
-less_of Less h = refl
-less_of Equal h = cc
-less_of Greater h = cc
+kinds_read : (cs : List Column) → AreRead (λ (c : Column). string (kind_text c.kind)) cs
+kinds_read [] = tt
+kinds_read (c ∷ cs) = (refl, kinds_read cs)
 
--- a column's name that stands above all others
-abbrev below_all : List Column → List ℕ → Type 0
-below_all [] name = Unit {0}
-below_all (d ∷ ds) name = (name_cmp name d.name ≡ Greater) × below_all ds name
+columns_rise : (cs : List Column) → rises cs ≡ true → keys_rise (λ (c : Column). c.name) cs ≡ true
+columns_rise [] h = refl
+columns_rise (c ∷ []) h = refl
+columns_rise (c ∷ d ∷ cs) h =
+    and_both (is_lt (name_cmp c.name d.name)) (keys_rise (λ (c : Column). c.name) (d ∷ cs)) (and_first (is_lt (name_cmp c.name d.name)) (rises (d ∷ cs)) h) (columns_rise (d ∷ cs) (and_second (is_lt (name_cmp c.name d.name)) (rises (d ∷ cs)) h))
 
-greater : (a b : List ℕ) → is_lt (name_cmp a b) ≡ true → name_cmp b a ≡ Greater
-greater a b h = name_total.antisymm b a ∙ ap ordering_reverse (less_of (name_cmp a b) h)
+columns_are : (cs : List Column) → members_of (λ (c : Column). c.name) (λ (c : Column). string (kind_text c.kind)) cs ≡ columns_data cs
+columns_are [] = refl
+columns_are (c ∷ cs) = ap (member c.name (string (kind_text c.kind))) (columns_are cs)
 
-lower : (a b c : List ℕ) → is_lt (name_cmp a b) ≡ true → is_lt (name_cmp b c) ≡ true → is_lt (name_cmp a c) ≡ true
-lower a b c h k = ap is_lt (name_total.trans a b c (less_of _ h) (less_of _ k))
-
-under : (name : List ℕ) (ds : List Column) (c : Column) (rest : List Column) → rises (ds ++ c ∷ rest) ≡ true → stands_above name (ds ++ c ∷ rest) ≡ true → is_lt (name_cmp name c.name) ≡ true
-under name [] c rest r h = h
-under name (d ∷ ds) c rest r h =
-    lower name d.name c.name h (under d.name ds c rest (and_second (stands_above d.name (ds ++ c ∷ rest)) (rises (ds ++ c ∷ rest)) r) (and_first (stands_above d.name (ds ++ c ∷ rest)) (rises (ds ++ c ∷ rest)) r))
-
-above : (ds : List Column) (c : Column) (rest : List Column) → rises (ds ++ c ∷ rest) ≡ true → below_all ds c.name
-above [] c rest r = tt
-above (d ∷ ds) c rest r =
-    let tail = and_second (stands_above d.name (ds ++ c ∷ rest)) (rises (ds ++ c ∷ rest)) r in
-    (greater d.name c.name (under d.name ds c rest tail (and_first (stands_above d.name (ds ++ c ∷ rest)) (rises (ds ++ c ∷ rest)) r)), above ds c rest tail)
-
-put_last : (ds : List Column) (c : Column) → below_all ds c.name → put c.name (string (kind_text c.kind)) (columns_data ds) ≡ columns_data (ds ++ c ∷ [])
-put_last [] c h = refl
-put_last (d ∷ ds) c h =
-    ap (λ (o : Ordering). match_ordering o (member c.name (string (kind_text c.kind)) (columns_data (d ∷ ds))) (member d.name (string (kind_text c.kind)) (columns_data ds)) (member d.name (string (kind_text d.kind)) (put c.name (string (kind_text c.kind)) (columns_data ds)))) h.0
-    ∙ ap (member d.name (string (kind_text d.kind))) (put_last ds c h.1)
-
-columns_read : (ds cs : List Column) → rises (ds ++ cs) ≡ true → of_members (members_outline (columns_data cs)) (columns_data ds) ≡ Some (columns_data (ds ++ cs))
-columns_read ds [] r = ap (λ (l : List Column). Some (columns_data l)) (sym (append-nil ds))
-columns_read ds (c ∷ cs) r =
-    ap (of_members (members_outline (columns_data cs))) (put_last ds c (above ds c cs r))
-    ∙ columns_read (ds ++ c ∷ []) cs (ap rises (append_assoc ds (c ∷ []) cs) ∙ r)
-    ∙ ap (λ (l : List Column). Some (columns_data l)) (append_assoc ds (c ∷ []) cs)
+columns_read : (cs : List Column) → rises cs ≡ true → of_members (members_outline (columns_data cs)) no_members ≡ Some (columns_data cs)
+columns_read cs r =
+    subst (λ (ms : Members). of_members (members_outline ms) no_members ≡ Some ms) (columns_are cs)
+    (members_read (λ (c : Column). c.name) (λ (c : Column). string (kind_text c.kind)) [] cs (columns_rise cs r) (kinds_read cs))
 
 ---- the whole
 
 pub plain : (t : Table) → has_float (definition_of t) ≡ false
 plain t = simp (no_float order_text t.clustering, columns_no_float t.columns, no_float (λ (n : List ℕ). n) t.partition, no_float (λ (n : List ℕ). n) t.indexed) refl
 
-outline_read : (t : Table) → rises t.columns ≡ true → of_json (outline (definition_of t)) ≡ Some (definition_of t)
+pub outline_read : (t : Table) → rises t.columns ≡ true → of_json (outline (definition_of t)) ≡ Some (definition_of t)
 outline_read t h =
-    simp (strings_read order_text t.clustering, columns_read [] t.columns h, strings_read (λ (n : List ℕ). n) t.partition, strings_read (λ (n : List ℕ). n) t.indexed) refl
+    simp (strings_read order_text t.clustering, columns_read t.columns h, strings_read (λ (n : List ℕ). n) t.partition, strings_read (λ (n : List ℕ). n) t.indexed) refl
 
-all_numbered : (t : Table) → tree.HasNumbers (outline (definition_of t))
+pub all_numbered : (t : Table) → tree.HasNumbers (outline (definition_of t))
 all_numbered t =
     (numbered order_text t.clustering, (columns_numbered t.columns, (numbered (λ (n : List ℕ). n) t.partition, (numbered (λ (n : List ℕ). n) t.indexed, tt))))
 
-shallow : (t : Table) → tree.depth (outline (definition_of t)) ≡ 2
+pub shallow : (t : Table) → tree.depth (outline (definition_of t)) ≡ 2
 shallow t = simp (flat order_text t.clustering, columns_flat t.columns, flat (λ (n : List ℕ). n) t.partition, flat (λ (n : List ℕ). n) t.indexed) refl
 
-printed_read : (j : json.Json) → tree.HasNumbers j → tree.depth j ≤ max_depth → read (print (tree.json_tokens j)) ≡ of_json j
+pub printed_read : (j : json.Json) → tree.HasNumbers j → tree.depth j ≤ max_depth → read (print (tree.json_tokens j)) ≡ of_json j
 printed_read j numbers low =
     ap (λ (o : Option (json.Json × List Token)). option_and_then of_json (option_and_then (λ p. json.if_last p.0 p.1) o))
     (ap (json.value max_depth) (tokens-print (tree.json_tokens j) (ArePrintable-json_tokens j numbers) ∙ sym (append-nil (tree.json_tokens j))) ∙ value-json_tokens j max_depth [] low)

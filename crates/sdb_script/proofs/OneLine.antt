@@ -124,7 +124,7 @@ column_single : (name : List ℕ) → is_column_name name ≡ true → is_single
 column_single name h = identifier_single name (and_second (nat_le (length name) 64) (is_identifier name) h)
 
 -- a schema may name the table
-abbrev may_name : Table → Bool
+abbrev pub may_name : Table → Bool
 may_name t = names_table t.name.ns t.name.table
 
 name_single : (n : TableName) → names_table n.ns n.table ≡ true → is_single (table_text n) ≡ true

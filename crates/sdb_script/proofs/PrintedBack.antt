@@ -1,6 +1,6 @@
 -- A script that is printed is read again.
-use Rattle.std.proofs.Common.{◌≡◌, ℕ, ◌≤◌, ◌==◌, Bool, true, false, ◌&&◌, List, [], ◌∷◌, ◌++◌, length, refl, sym, ap, subst, ◌∙◌, append_assoc, append-nil, map, flat_map, codes, Ok, Err, arith}
-use Rattle.std.specs.Prelude.{nat_le}
+use Rattle.std.proofs.Common.{◌≡◌, ℕ, ◌≤◌, ◌==◌, Bool, true, false, ◌&&◌, List, [], ◌∷◌, ◌++◌, length, refl, sym, ap, subst, ◌∙◌, append_assoc, append-nil, map, flat_map, codes, Result, Ok, Err, arith}
+use Rattle.std.specs.Prelude.{nat_le, IfOk}
 use Rattle.std.specs.List.{list_all}
 use Rattle.std.specs.Str.{is_utf8, IsUtf8, chars}
 use Rattle.std.proofs.lemmas.Bool.Decides.{nat_tests}
@@ -11,18 +11,25 @@ use Rattle.std.proofs.lemmas.List.Concat.{flat_map-append}
 use Rattle.std.proofs.lemmas.List.Folds.{list_all-append}
 use Rattle.sdb_types.proofs.Bools.{and_first, and_second, and_both}
 use Rattle.sdb_schema.specs.declared.table.Table.{Table}
+use Rattle.sdb_schema.specs.Catalog.{is_catalog}
 use Rattle.sdb_model.specs.declared.script.ScriptClient.{ScriptClient}
 use Rattle.sdb_model.specs.declared.script.Script.{Script}
 use Rattle.sdb_model.specs.Form.{lines_of, onto_first, client_line}
 use Rattle.sdb_script.specs.Lines.{most_bytes, most_line, place_line, schema_line, text_line, client_lines, move_line, is_line}
 use Rattle.sdb_script.specs.Begun.{IsBegun, IsSchema, run_lines}
 use Rattle.sdb_script.specs.Whole.{whole, IsScript}
-use Rattle.sdb_script.specs.Printed.{with_lf, catalog_text, schema_text, place_text, client_text, script_text_of, schema_lines, IsReadBack}
-use Rattle.sdb_script.proofs.OneLine.{is_single, json_single, json_may}
+use Rattle.sdb_script.specs.Printed.{with_lf, catalog_text, schema_text, place_text, client_text, script_text_of, schema_lines, keeps_line}
+use Rattle.sdb_script.proofs.CatalogBack.{catalog_again}
+use Rattle.sdb_script.proofs.OneLine.{is_single, json_single, json_may, may_name}
 use Rattle.sdb_script.proofs.Pieces.{by_test}
 
 abbrev Lines : Type 0
 Lines = List (List ℕ)
+
+-- The JSON of a catalog describes the catalog, and its line keeps the limit; without tables there is none.
+abbrev IsReadBack : List Table → Type 0
+IsReadBack [] = Unit {0}
+IsReadBack (t ∷ ts) = (length (schema_line (catalog_text (t ∷ ts))) ≤ most_line) × (catalog_in (catalog_text (t ∷ ts)) ≡ Ok (t ∷ ts))
 
 ---- lines and their LFs
 
@@ -145,8 +152,7 @@ single_again stores text described s st back =
     let single : list_all is_single (map place_line s.places ++ (st.schema ++ rest)) ≡ true = subst (λ (x : Lines). list_all is_single x ≡ true) st.order (lines_single text) in
     swapped is_single (map place_line s.places) st.schema (schema_lines s.catalog) rest single (schema_single s.catalog back)
 
--- what is printed of a script that some text is
-pub printed_again : (stores : Lines) (text : List ℕ) (s : Script) → IsScript stores text s → IsReadBack s.catalog → length (script_text_of s) ≤ most_bytes → IsScript stores (script_text_of s) s
+printed_again : (stores : Lines) (text : List ℕ) (s : Script) → IsScript stores text s → IsReadBack s.catalog → length (script_text_of s) ≤ most_bytes → IsScript stores (script_text_of s) s
 printed_again stores text s is back small =
     let single = single_again stores text is.described s is.lines back in
     let lines : lines_of (script_text_of s) ≡ printed_lines s = ap lines_of (sym (text_of_lines s)) ∙ lines_back (printed_lines s) single in
@@ -155,3 +161,26 @@ printed_again stores text s is back small =
       described = has_tables s.catalog;
       lines = subst (λ (x : Lines). IsBegun stores x (whole (has_tables s.catalog) s)) (sym lines) (begun_again stores (lines_of text) is.described s is.lines back);
     }
+
+---- of a catalog that a text described
+
+read_back : (ts : List Table) → list_all may_name ts ≡ true → is_catalog ts ≡ true → keeps_line ts ≡ true → IsReadBack ts
+read_back [] h c k = tt
+read_back (t ∷ ts) h c k =
+    let n = length (schema_line (catalog_text (t ∷ ts))) in
+    (within n most_line (and_first (nat_le n most_line) true k), catalog_again (t ∷ ts) h c)
+  where
+    within : (n m : ℕ) → nat_le n m ≡ true → n ≤ m
+    within n m h = grind (arith, nat_tests)
+
+names_may : (described : Bool) (ts : List Table) (lines : Lines) → IsSchema described ts lines → list_all may_name ts ≡ true
+names_may false ts lines h = ap (list_all may_name) h.1
+names_may true ts lines h = json_may h.0 ts h.2
+
+-- what is printed of a script that some text is
+pub printed_back : (stores : Lines) (text : List ℕ) (s : Script) → IsScript stores text s → is_catalog s.catalog ≡ true → keeps_line s.catalog ≡ true → length (script_text_of s) ≤ most_bytes → IsScript stores (script_text_of s) s
+printed_back stores text s is c k small = printed_again stores text s is (read_back s.catalog (names_may is.described s.catalog is.lines.schema is.lines.described) c k) small
+
+pub again_of : {E : Type 0} (result : Result (List ℕ) E) (s : Script) → is_catalog s.catalog ≡ true → IfOk result (λ t. t ≡ script_text_of s) → (stores : Lines) (text : List ℕ) → IsScript stores text s → keeps_line s.catalog ≡ true → length (script_text_of s) ≤ most_bytes → IfOk result (λ t. IsScript stores t s)
+again_of (Ok t) s c e stores text is k small = subst (λ (x : List ℕ). IsScript stores x s) (sym e) (printed_back stores text s is c k small)
+again_of (Err x) s c e stores text is k small = tt

@@ -1,6 +1,6 @@
 -- The text of a script that is printed.
-use Rattle.std.specs.Prelude.{◌≡◌, ◌≤◌, length, ℕ, List, [], ◌∷◌, ◌++◌, flat_map, codes, Ok}
-use Rattle.sdb_loader.specs.Described.{catalog_in}
+use Rattle.std.specs.Prelude.{ℕ, Bool, nat_le, List, [], ◌∷◌, ◌++◌, length, flat_map, codes}
+use Rattle.std.specs.List.{list_all}
 use Rattle.sdb_types.specs.Order.{table_text}
 use Rattle.sdb_schema.specs.declared.table.Table.{Table}
 use Rattle.sdb_catalog.specs.Definition.{definition_text}
@@ -57,7 +57,6 @@ abbrev pub schema_lines : List Table → List (List ℕ)
 schema_lines [] = []
 schema_lines (t ∷ ts) = schema_line (catalog_text (t ∷ ts)) ∷ []
 
--- The JSON of a catalog describes the catalog, and its line keeps the limit; without tables there is none.
-abbrev pub IsReadBack : List Table → Type 0
-IsReadBack [] = Unit {0}
-IsReadBack (t ∷ ts) = (length (schema_line (catalog_text (t ∷ ts))) ≤ most_line) × (catalog_in (catalog_text (t ∷ ts)) ≡ Ok (t ∷ ts))
+-- a catalog's line keeps the limit of a line; without tables there is none
+abbrev pub keeps_line : List Table → Bool
+keeps_line ts = list_all (λ line. nat_le (length line) most_line) (schema_lines ts)

@@ -1,10 +1,11 @@
 //! Laws of scripts as texts.
-ghost use Rattle.std.specs.Prelude.{◌≡◌, ◌⊎◌, ◌≤◌, ℕ, List, length};
+ghost use Rattle.std.specs.Prelude.{◌≡◌, ◌⊎◌, ◌≤◌, ℕ, List, length, true};
+ghost use Rattle.sdb_schema.specs.Catalog.{is_catalog};
 ghost use Rattle.sdb_model.specs.declared.script.Script.{Script};
 ghost use Rattle.sdb_script.specs.declared.fault.ScriptRefused.{ScriptRefused};
 ghost use Rattle.sdb_script.specs.Lines.{most_bytes};
 ghost use Rattle.sdb_script.specs.Whole.{IsScript, IsRefused};
-ghost use Rattle.sdb_script.specs.Printed.{script_text_of, IsReadBack};
+ghost use Rattle.sdb_script.specs.Printed.{keeps_line, script_text_of};
 
 /// A text is one script, or is refused for one cause, and not both.
 pub fn scripts_are_exact()
@@ -14,9 +15,9 @@ pub fn scripts_are_exact()
     ensures total { (stores : List (List ℕ)) (text : List ℕ) → ((s : Script) × IsScript stores text s) ⊎ ((r : ScriptRefused) × IsRefused stores text r) }
 {}
 
-/// What is printed of a script that some text is, is that script again, where it keeps the limits, and the JSON of its catalog, if it
-/// has tables, describes the catalog.
+/// What is printed of a script that some text is, is that script again, where the printed text keeps the limits of a text and of its
+/// schema's line.
 pub fn printed_scripts_are_read()
-    ensures again { (stores : List (List ℕ)) (text : List ℕ) (s : Script) → IsScript stores text s → IsReadBack s.catalog → length (script_text_of s) ≤ most_bytes
-        → IsScript stores (script_text_of s) s }
+    ensures again { (stores : List (List ℕ)) (text : List ℕ) (s : Script) → IsScript stores text s → is_catalog s.catalog ≡ true → keeps_line s.catalog ≡ true
+        → length (script_text_of s) ≤ most_bytes → IsScript stores (script_text_of s) s }
 {}

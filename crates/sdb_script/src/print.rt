@@ -1,12 +1,13 @@
 //! Printing scripts. Each `put_` function adds a text at the end of a string.
-ghost use Rattle.std.specs.Prelude.{◌≡◌, ◌++◌, true, OnOk, IfOk, codes, decimal, flat_map, slice_get, option_to_list, drop};
+ghost use Rattle.std.specs.Prelude.{◌≡◌, ◌≤◌, ◌++◌, ℕ, List, length, true, OnOk, IfOk, codes, decimal, flat_map, slice_get, option_to_list, drop};
 ghost use Rattle.std.specs.Fmt.{signed_decimal};
 ghost use Rattle.std.specs.String.{string_bytes};
 ghost use Rattle.sdb_types.specs.Order.{table_text};
 ghost use Rattle.sdb_schema.specs.Table.{rises};
 ghost use Rattle.sdb_model.specs.Form.{client_line};
-ghost use Rattle.sdb_script.specs.Lines.{place_line, act_line, move_line};
+ghost use Rattle.sdb_script.specs.Lines.{most_bytes, place_line, act_line, move_line};
 ghost use Rattle.sdb_script.specs.Printed as spec;
+ghost use Rattle.sdb_script.specs.Whole.{IsScript};
 
 use itoa::Buffer;
 use sdb_catalog::definition_text;
@@ -195,9 +196,8 @@ fn put_schema(alloc: Global, out: &mut String, catalog: &Catalog) -> Result<(), 
     Ok(())
 }
 
-/// The text of a script: each line by its form, with its LF. The schema's JSON is compact, and its line is left out where there
-/// are no tables. Takes time and memory linear in the text's length.
-pub fn print_script(alloc: Global, script: &Script) -> Result<Txt, NoMemory>
+// The text of a script.
+fn text_of(alloc: Global, script: &Script) -> Result<Txt, NoMemory>
     ensures { IfOk result (λ t. t ≡ spec.script_text_of script.now) }
 {
     let mut out = String::new(alloc);
@@ -207,4 +207,16 @@ pub fn print_script(alloc: Global, script: &Script) -> Result<Txt, NoMemory>
     out.push_str("run\n")?;
     put_moves(&mut out, script.moves.as_slice())?;
     Txt::new(alloc, out.as_str())
+}
+
+/// The text of a script: each line by its form, with its LF. The schema's JSON is compact, and its line is left out where there
+/// are no tables. So a script that was read is read again from it, unless the text passes a limit that the first did not: the members
+/// of a schema that may be missing are all written. Takes time and memory linear in the text's length.
+pub fn print_script(alloc: Global, script: &Script) -> Result<Txt, NoMemory>
+    ensures text { IfOk result (λ t. t ≡ spec.script_text_of script.now) }
+    ensures again { (stores : List (List ℕ)) (text : List ℕ) → IsScript stores text script.now → spec.keeps_line script.now.catalog ≡ true
+        → length (spec.script_text_of script.now) ≤ most_bytes → IfOk result (λ t. IsScript stores t script.now) }
+{
+    let _tables = script.catalog.len();
+    text_of(alloc, script)
 }
