@@ -6,3 +6,4 @@ pub mod PartLaws
 pub mod Told
 pub mod Stops
 pub mod StopLaws
+pub mod Shown

@@ -148,7 +148,7 @@ rising_starts : (d : TableDump) (ds before : List TableDump) → Each DumpAfter 
 rising_starts d [] before h = refl
 rising_starts d (e ∷ es) before h = subst (λ (o : Option TableDump). is_after o e.name ≡ true) (last_of-push before d) h.0.after
 
-each_rising : (before ds : List TableDump) → Each DumpAfter before ds → are_rising ds ≡ true
+pub each_rising : (before ds : List TableDump) → Each DumpAfter before ds → are_rising ds ≡ true
 each_rising before [] h = refl
 each_rising before (d ∷ ds) h = and_both (starts_after d.name ds) _ (rising_starts d ds before h.1) (each_rising (before ++ d ∷ []) ds h.1)
 

@@ -22,7 +22,7 @@ use Rattle.sdb_reading.specs.Lines.{numbered_event_of, is_empty}
 use Rattle.sdb_reading.proofs.WordLaws.{by_test}
 use Rattle.sdb_reading.proofs.Lists.{Each}
 use Rattle.sdb_report.specs.Reading.{Placed, cut_line, line_at, lines_at, fixed_of, heading_of, point_of, row_of, table_of, event_at, point_at, row_line_at, dump_at, part_at, title_at, end_at, events_at, order_at, tables_at, Places, places_at, outcome_of, parts_at, body_at, report_at, all_of, report_in}
-use Rattle.sdb_report.specs.Reports.{is_lf, Reads as ReadsAs, text_of_lines, IsLoose, Begins, IsDead, IsFirstBad, IsRefusedAt}
+use Rattle.sdb_report.specs.Reports.{is_lf, text_of_lines, IsLoose, IsDead}
 use Rattle.sdb_report.specs.declared.refused.ReportRefused.{ReportRefused}
 use Rattle.sdb_report.specs.declared.refused.ReportRefused.TheVariants as refused
 use Rattle.sdb_report.proofs.Cuts.{cut_is, cut_again}
@@ -169,7 +169,7 @@ body_stopping =
     (λ o word p q. ap (λ (w : List ℕ). parts_text o ++ (w ++ codes "\n")) (sym q)) (λ o word p q. p) (λ o p. record { first = o; second = end_word; made = refl; has_first = p; has_second = refl })
     (λ o p. record { value = end_word; fits = refl }) parts_read parts_stopping (λ o p. fixed_stopping end_word refl)
 
-report_stopping : Stopping report_at report_text_of IsPlain IsLoose
+pub report_stopping : Stopping report_at report_text_of IsPlain IsLoose
 report_stopping =
     stopping_as report_at (λ o. codes "scalardb report 1\n" ++ (parts_text o ++ codes "end\n")) report_text_of IsPlain IsPlain IsLoose IsLoose
     (λ o. pieces (codes "scalardb report 1\n") (events_text_of o.events) (order_text_of o.order) (tables_text_of o.tables) (codes "end\n")) (λ o p. p) (λ o p. p)
@@ -180,6 +180,13 @@ report_stopping =
 
 ---- all of the bytes
 
+-- The report of some outcome begins with these lines.
+pub record Opens (lines : List (List ℕ)) : Type 0 where
+  pub outcome : Outcome
+  pub loose : IsLoose outcome
+  pub rest : List ℕ
+  pub text : report_text_of outcome ≡ text_of_lines lines ++ rest
+
 -- what is known where the reading of all of the bytes stops
 pub record Halt (bytes : List ℕ) (left : ℕ) : Type 0 where
   pub lines : List (List ℕ)
@@ -187,7 +194,7 @@ pub record Halt (bytes : List ℕ) (left : ℕ) : Type 0 where
   pub split : bytes ≡ text_of_lines lines ++ tail
   pub whole : AreLines lines
   pub here : length tail ≡ left
-  pub begins : Begins lines
+  pub begins : Opens lines
   pub local : (t : List ℕ) → SameLine (cut_line tail) tail t → report_in (text_of_lines lines ++ t) ≡ Err (length t)
 
 abbrev left_over : Outcome × List ℕ → Result Outcome ℕ
@@ -243,7 +250,7 @@ halted bytes left h =
 no_outcome : (o : Outcome) (n : ℕ) → done o ≡ Err n → ⊥
 no_outcome o n e = absurd cc
 
-dead_of : (lines : List (List ℕ)) (tail : List ℕ) → ((t : List ℕ) → SameLine (cut_line tail) tail t → report_in (text_of_lines lines ++ t) ≡ Err (length t)) → IsDead lines tail (cut_line tail)
+pub dead_of : (lines : List (List ℕ)) (tail : List ℕ) → ((t : List ℕ) → SameLine (cut_line tail) tail t → report_in (text_of_lines lines ++ t) ≡ Err (length t)) → IsDead lines tail (cut_line tail)
 dead_of lines tail local =
     elim (cut_line tail) as (λ o. cut_line tail ≡ o → IsDead lines tail o) [
       | None ↦ λ q o plain e.
@@ -269,26 +276,6 @@ count_line (b ∷ bs) rest h =
     (λ q. let k = and_first (is_no_lf b) _ h in let bad : false ≡ true = rw q at k in absurd cc)
     (λ q. let none : ends_line b ≡ 0 = rw q refl in omega (arith, sum_by-cons ends_line b ((bs ++ codes "\n") ++ rest), none, count_line bs rest (and_second (is_no_lf b) _ h)))
 
-count_lines : (lines : List (List ℕ)) → AreLines lines → count_by is_lf (text_of_lines lines) ≡ length lines
+pub count_lines : (lines : List (List ℕ)) → AreLines lines → count_by is_lf (text_of_lines lines) ≡ length lines
 count_lines [] h = refl
 count_lines (l ∷ ls) h = count_line l (text_of_lines ls) h.0 ∙ omega (arith, count_lines ls h.1)
-
-first_bad : (bytes : List ℕ) (n left : ℕ) → Halt bytes left → n ≡ count_by is_lf (take (length bytes - left) bytes) + 1 → IsFirstBad bytes n
-first_bad bytes n left h e =
-    let front : List ℕ = text_of_lines h.lines in
-    let len : length front ≡ length bytes - left = omega (arith, h.here, ap (λ (b : List ℕ). length b) h.split, length-append front h.tail) in
-    let cut : take (length bytes - left) bytes ≡ front = ap (λ (b : List ℕ). take (length bytes - left) b) h.split ∙ take_at front h.tail (length bytes - left) len in
-    record {
-      lines = h.lines;
-      tail = h.tail;
-      split = h.split;
-      whole = h.whole;
-      here = e ∙ ap (λ (t : List ℕ). count_by is_lf t + 1) cut ∙ ap (λ (k : ℕ). k + 1) (count_lines h.lines h.whole);
-      begins = h.begins;
-      dead = dead_of h.lines h.tail h.local;
-    }
-
-pub bad_told : (bytes : List ℕ) (r : Result Outcome ReportRefused) → ReadsAs bytes r (report_in bytes) → IfErr r (IsRefusedAt bytes)
-bad_told bytes (Ok o) h = tt
-bad_told bytes (Err refused.NoMemory) h = tt
-bad_told bytes (Err (refused.BadLine n)) h = first_bad bytes n h.0 (halted bytes h.0 h.1) h.2

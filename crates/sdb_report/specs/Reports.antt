@@ -1,9 +1,10 @@
 -- What is said of a report that is read, and of one that is refused.
 use Rattle.std.specs.Prelude.{◌≡◌, ◌≢◌, ℕ, ◌+◌, ◌-◌, ◌==◌, Bool, true, List, [], ◌∷◌, ◌++◌, length, take, All, codes, Option, Some, None, Result, Ok, Err}
 use Rattle.std.specs.List.{AllByRecursion, count_by, flat_map}
-use Rattle.sdb_model.specs.Plain.{is_counted, is_one_line, IsPlainEvent, IsPlainPoint, IsPlainDump, IsPlain}
-use Rattle.sdb_model.specs.Report.{report_text_of}
+use Rattle.sdb_model.specs.Plain.{is_counted, is_one_line, IsPlainEvent, IsPlainPoint, IsPlainDump, are_rising, IsPlain}
+use Rattle.sdb_model.specs.Report.{report_text_of, table_lines}
 use Rattle.sdb_model.specs.declared.event.Outcome.{Outcome}
+use Rattle.sdb_model.specs.declared.event.TableDump.{TableDump}
 use Rattle.sdb_report.specs.Reading.{cut_line}
 use Rattle.sdb_report.specs.declared.refused.ReportRefused.{ReportRefused}
 use Rattle.sdb_report.specs.declared.refused.ReportRefused.TheVariants as refused
@@ -47,12 +48,22 @@ pub record IsLoose (o : Outcome) : Type 0 where
   pub tables_counted : is_counted o.tables
   pub tables : All IsPlainDump o.tables
 
--- The report of some outcome begins with these lines.
+-- the rest of a report says all that the report says of these tables
+abbrev pub IsHidden : List TableDump → List ℕ → Type 0
+IsHidden [] rest = Unit {0}
+IsHidden (t ∷ ts) rest = (r : List ℕ) × (rest ≡ r ++ (flat_map table_lines (t ∷ ts) ++ codes "end\n"))
+
+-- The report of some outcome begins with these lines, and the tables that they show rise.
 pub record Begins (lines : List (List ℕ)) : Type 0 where
   pub outcome : Outcome
   pub loose : IsLoose outcome
   pub rest : List ℕ
   pub text : report_text_of outcome ≡ text_of_lines lines ++ rest
+  pub shown : List TableDump
+  pub later : List TableDump
+  pub tables : outcome.tables ≡ shown ++ later
+  pub rising : are_rising shown ≡ true
+  pub hidden : IsHidden later rest
 
 -- No plain outcome's report has the line that comes next, or ends where the text ends.
 abbrev pub IsDead : List (List ℕ) → List ℕ → Option (List ℕ × List ℕ) → Type 0

@@ -1,4 +1,4 @@
-use Rattle.sdb_report.proofs.StopLaws.{bad_told}
+use Rattle.sdb_report.proofs.Shown.{bad_told}
 use Rattle.sdb_report.proofs.Told.{ok_told, only_told}
 use Rattle.sdb_report.proofs.report.read_report.Goals as goal
 
