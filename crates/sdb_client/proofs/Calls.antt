@@ -67,7 +67,7 @@ plain_stage t u p a x after step.Faulted g plain h = (ap plain_next h.0, h.1)
 plain_stage t u p a x after (step.BadRecord key) g plain h = (ap plain_next h.0, h.1)
 plain_stage t u p a x after step.NoMemory g plain h = absurd h
 
--- only the want of memory is told as such
+-- only out of memory is told as such
 memory_alone : (t u : TxnAt) (a : Access) (x : ReadAt) (after : ReadStage) (s : ReadStep) (g : Progress) → IsPlain g → StepTold t a x after s g u → plain_next g ≢ next.Answer answer.NoMemory
 memory_alone t u a x after step.More g plain h e = absurd (let same : next.Call ≡ next.Answer answer.NoMemory = sym (ap plain_next h.0) ∙ e in cc)
 memory_alone t u a x after (step.Images images) g plain h e = absurd (no_images t u a images g plain h)
@@ -244,7 +244,7 @@ plain_told doing.Idle t u p r now g plain h = tt
 plain_told (doing.Commit k) t u p r now g plain h = tt
 plain_told doing.Over t u p r now g plain h = tt
 
--- what the want of memory, and what no read is told, are told as
+-- what out of memory, and what no read is told, are told as
 pub other_told : (d : Doing) (t u : TxnAt) (p : Planned) (r : Reply) (now : ℤ) (g : Progress) → (g ≡ progress.NoMemory) ⊎ ((g ≡ progress.Committed) ⊎ (((id : TxId) × (g ≡ progress.Expired id)) ⊎ ((id : TxId) × (g ≡ progress.Unknown id)))) → IfReading d (λ a x. ReadTold t a x r now g u) → IfReading d (λ a x. CallTold t p a x r now (next.Answer answer.NoMemory) u)
 other_told d t u p r now g (inl e) h = plain_told d t u p r now progress.NoMemory tt (subst (λ (y : Progress). IfReading d (λ a x. ReadTold t a x r now y u)) e h)
 other_told d t u p r now g (inr (inl e)) h = plain_told d t u p r now progress.Committed tt (subst (λ (y : Progress). IfReading d (λ a x. ReadTold t a x r now y u)) e h)

@@ -190,7 +190,7 @@ SaidTold q (Err r) c result d = IsTold c (answer.Refused r) result d
 abbrev pub TextTold : Taking → List ℕ → ClientAt → Option Answer → ClientAt → Type 0
 TextTold q text c result d = (x : Result Statement Refusal) × Says text x × SaidTold q x c result d
 
--- What want of memory leaves: a COMMIT ends its transaction, and each other statement leaves all as it was.
+-- What out of memory leaves: a COMMIT ends its transaction, and each other statement leaves all as it was.
 abbrev pub starved : List ℕ → ClientAt → ClientAt
 starved text c = if reads_commit text then resting c else c
 

@@ -104,7 +104,7 @@ plan_after p next.Call = p
 plan_after p (next.Answer a) = None
 plan_after p (next.End a) = None
 
--- what want of memory leaves, by the statement
+-- what out of memory leaves, by the statement
 abbrev pub left_by : Statement → ClientAt → ClientAt
 left_by statement.Commit c = resting c
 left_by st c = c

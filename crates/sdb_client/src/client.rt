@@ -189,7 +189,7 @@ impl Client {
         }
     }
 
-    // Takes a COMMIT. Want of memory ends the transaction too.
+    // Takes a COMMIT. Out of memory ends the transaction too.
     #[tactic(auto, using(crate::proofs::Pending::going_first))]
     fn commit(&mut self, now: i64) -> Option<Answer>
         requires idle { IsIdle self.old }

@@ -38,7 +38,7 @@ behind_sound read text P each bytes x h =
     let s = each a.0 x a.2 in
     record { parts = join (codes " ") (text x.0) x.1 (after_is (codes " ") bytes a.0 a.1) s.parts; fits = s.fits }
 
--- what is read and made into something else, behind a word
+-- what is read and made into something else, after a word
 pub made_sound : {X Y : Type 0} (read : List ℕ → Read X) (text : X → List ℕ) (P : X → Type 0) (f : X → Y) (word : List ℕ) (whole : Y → List ℕ) (Q : Y → Type 0)
     → Sound read text P → ((x : X) → whole (f x) ≡ word ++ text x) → ((x : X) → P x → Q (f x))
     → (bytes rest : List ℕ) (y : Y × List ℕ) → after word bytes ≡ Some rest → made f (read rest) ≡ Some y → Says whole Q bytes y
@@ -60,7 +60,7 @@ join_space x y c p q = p ∙ ap (λ (t : List ℕ). x ++ t) q ∙ sym (append_as
 
 ---- rows
 
--- a list behind its length, each item behind a space
+-- a list after its length, each item after a space
 abbrev pub counted_text : {X : Type 0} → (X → List ℕ) → List X → List ℕ
 counted_text text xs = decimal (length xs) ++ flat_map (behind text) xs
 

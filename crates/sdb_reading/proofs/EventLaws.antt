@@ -116,7 +116,7 @@ call_is line rest e p h =
     let same : event.Call a.0.0.0 a.0.0.1 a.0.0.2 b.0.0 b.0.1 b.0.2 ≡ e = same_Some (event.Call a.0.0.0 a.0.0.1 a.0.0.2 b.0.0 b.0.1 b.0.2) e b.2 in
     subst (EventIs line) same (s.parts ∙ ap (λ (t : List ℕ). asked_of a.0.0 ++ t) c.0, (s.fits.0, s.fits.1, s.fits.2, c.1.0, c.1.1))
 
--- a number behind a word
+-- a number after a word
 word_is : {X : Type 0} (read : List ℕ → Read X) (text : X → List ℕ) (P : X → Type 0) (f : X → Event) (word : List ℕ) → Sound read text P
     → ((x : X) → event_text_of (f x) ≡ word ++ text x) → ((x : X) → P x → HasPlainParts (f x))
     → (line rest : List ℕ) (e : Event) → line ≡ word ++ rest → (whole (read rest) >>= λ x. Some (f x)) ≡ Some e → EventIs line e

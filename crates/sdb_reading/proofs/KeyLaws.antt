@@ -131,7 +131,7 @@ no_row : (rest : List ℕ) → row_at (32 ∷ rest) ≡ None
 unfolding row_at
 no_row rest = refl
 
--- a space behind a span
+-- a space after a span
 pub span_again : (s : Span) (rest : List ℕ) → span_fits s → span_at (span_text_of s ++ 32 ∷ rest) ≡ Some (s, 32 ∷ rest)
 unfolding span_at partition_at
 span_again s rest fits =

@@ -151,7 +151,7 @@ request_sound bytes x h =
 if_pieces : (w r c rest : List ℕ) → (w ++ r ++ codes " if " ++ c) ++ rest ≡ w ++ (r ++ (codes " if " ++ (c ++ rest)))
 if_pieces w r c rest = simp append_assoc
 
--- a space behind a request
+-- a space after a request
 pub request_again : (r : Request) (rest : List ℕ) → request_fits r → request_at (request_text_of r ++ 32 ∷ rest) ≡ Some (r, 32 ∷ rest)
 unfolding request_at put_at delete_at
 request_again (ask.Get key) rest fits = rw (key_again key (32 ∷ rest) fits) refl
@@ -238,7 +238,7 @@ reply_sound bytes x h =
     case_some (after (codes "fault") bytes) (λ rest. Some (reply.Fault, rest)) nomemory (Some x) k (λ rest q k. reply_word (codes "fault") reply.Fault refl tt bytes rest x q k) (λ q k.
     case_some (after (codes "nomemory") bytes) (λ rest. Some (reply.NoMemory, rest)) None (Some x) k (λ rest q k. reply_word (codes "nomemory") reply.NoMemory refl tt bytes rest x q k) (λ q k. absurd cc))))))
 
--- a space behind a reply
+-- a space after a reply
 pub reply_again : (r : Reply) (rest : List ℕ) → reply_fits r → reply_at (reply_text_of r ++ 32 ∷ rest) ≡ Some (r, 32 ∷ rest)
 unfolding reply_at
 reply_again (reply.Found found) rest fits = rw (found_again found rest fits) refl

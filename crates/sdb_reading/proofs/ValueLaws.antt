@@ -225,7 +225,7 @@ value_sound bytes x h =
     case_some (after (codes "X'") bytes) blob_at None (Some x) k
     (λ rest q e. subst (λ (b : List ℕ). ValueSays b x) (sym (after_is (codes "X'") bytes rest q)) (blob_sound rest x e)) (λ q k. absurd cc))))))
 
--- what may stand behind a value
+-- what may stand after a value
 abbrev pub ends_value : List ℕ → Bool
 ends_value [] = false
 ends_value (c ∷ cs) = c == 44 || c == 59 || c == 41 || c == 125
@@ -318,7 +318,7 @@ values_sound bytes x h =
     (λ y q k. let s = some_values_sound bytes y q in subst (Says values_text_of values_fit bytes) (same_Some y x k) (record { parts = s.parts; fits = s.fits.0 }))
     (λ q k. subst (Says values_text_of values_fit bytes) (same_Some ([], bytes) x k) (record { parts = refl; fits = All-from_recursion value_fits [] tt }))
 
--- what may stand behind values
+-- what may stand after values
 abbrev pub ends_values : List ℕ → Bool
 ends_values [] = false
 ends_values (c ∷ cs) = c == 59 || c == 41

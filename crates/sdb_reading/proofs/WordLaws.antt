@@ -70,7 +70,7 @@ pub front_passes : (p : ℕ → Bool) (bs : List ℕ) → list_all p (take (pref
 front_passes p [] = refl
 front_passes p (b ∷ bs) = by_test (p b) (λ e. rw (e, one_more, e) (front_passes p bs)) (λ e. rw e refl)
 
--- a byte stands at the front that the test refuses, or none
+-- a byte is at the start that the test refuses, or none
 abbrev pub stops_at : (ℕ → Bool) → List ℕ → Bool
 stops_at p [] = true
 stops_at p (c ∷ cs) = cond (p c) false true

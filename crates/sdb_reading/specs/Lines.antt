@@ -28,7 +28,7 @@ made f read = read >>= λ x. Some (f x.0, x.1)
 abbrev pub behind_space : {X : Type 0} → (List ℕ → Read X) → List ℕ → Read X
 behind_space item_at bytes = after (codes " ") bytes >>= item_at
 
--- how many items, and each behind a space
+-- how many items, and each after a space
 abbrev pub items_at : {X : Type 0} → (List ℕ → Read X) → List ℕ → Read (List X)
 items_at item_at bytes = natural_at bytes >>= λ n. counted (behind_space item_at) n.0 [] n.1
 

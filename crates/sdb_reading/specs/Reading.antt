@@ -45,7 +45,7 @@ Gives view (Err e) read = Fails e read
 
 ---- words and names
 
--- what follows a word that stands at the front
+-- what follows a word that is at the start
 abbrev pub after : List ℕ → List ℕ → Option (List ℕ)
 after [] bytes = Some bytes
 after (w ∷ ws) [] = None
@@ -69,7 +69,7 @@ widest = 2 ^ 64 - 1
 abbrev pub with_digit : ℕ → ℕ → ℕ
 with_digit n c = min (min (n * 10) widest + (c - 48)) widest
 
--- the number that goes on with the digits at the front
+-- the number that goes on with the digits at the start
 abbrev pub number_on : ℕ → List ℕ → ℕ
 number_on n [] = n
 number_on n (c ∷ cs) = if is_ascii_digit c then number_on (with_digit n c) cs else n
@@ -113,7 +113,7 @@ numeral_at bytes = integer_at bytes >>= λ n. case_of (after (codes "L") n.1)
     (λ rest. Some (value.BigInt n.0, rest))
     (int_of n.0 >>= λ i. Some (value.Int i, n.1))
 
--- what is quoted, after what was read of it so far; `second` just behind a quote
+-- what is quoted, after what was read of it so far; `second` just after a quote
 abbrev pub quoted_on : Bool → List ℕ → List ℕ → Read (List ℕ)
 quoted_on true text [] = Some (text, [])
 quoted_on true text (b ∷ bs) = if b == 39 then quoted_on false (text ++ b ∷ []) bs else Some (text, b ∷ bs)

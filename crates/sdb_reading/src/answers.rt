@@ -1,4 +1,4 @@
-//! Answers at the front of a text.
+//! Answers at the start of a text.
 ghost use Rattle.std.specs.Prelude.{◌≡◌, [], ◌^◌};
 ghost use Rattle.sdb_reading.specs.Reading as spec;
 ghost use Rattle.sdb_reading.specs.Reading.{Gives};
@@ -20,7 +20,7 @@ fn next_row_at(alloc: Global, bytes: &[u8]) -> Result<(Values, &[u8]), Unread>
     row_at(alloc, rest)
 }
 
-// So many rows, each behind a space.
+// So many rows, each after a space.
 fn rows_on(alloc: Global, count: u64, bytes: &[u8]) -> Result<(Rows, &[u8]), Unread>
     ensures { Gives (λ x. (x.0, x.1.now)) result (spec.counted (form.behind_space spec.row_at) count [] bytes.now) }
 {
@@ -42,7 +42,7 @@ fn rows_at(alloc: Global, bytes: &[u8]) -> Result<(Rows, &[u8]), Unread>
     rows_on(alloc, count, rest)
 }
 
-/// An id behind a space.
+/// An id after a space.
 pub fn next_id_at(alloc: Global, bytes: &[u8]) -> Result<(TxId, &[u8]), Unread>
     ensures { Gives (λ x. (x.0, x.1.now)) result (form.behind_space spec.id_at bytes.now) }
 {
@@ -196,7 +196,7 @@ fn long_answer_at(alloc: Global, bytes: &[u8]) -> Result<(Answer, &[u8]), Unread
     Err(Unread::Bad)
 }
 
-/// The answer at the front.
+/// The answer at the start.
 #[tactic(auto, unfolding(crate::specs::Lines::answer_at))]
 pub fn answer_at(alloc: Global, bytes: &[u8]) -> Result<(Answer, &[u8]), Unread>
     ensures { Gives (λ x. (x.0, x.1.now)) result (form.answer_at bytes.now) }
@@ -222,7 +222,7 @@ pub fn answer_at(alloc: Global, bytes: &[u8]) -> Result<(Answer, &[u8]), Unread>
     long_answer_at(alloc, bytes)
 }
 
-/// The answer at the front, or `-`.
+/// The answer at the start, or `-`.
 #[tactic(auto, unfolding(crate::specs::Lines::given_at))]
 pub fn given_at(alloc: Global, bytes: &[u8]) -> Result<(Option<Answer>, &[u8]), Unread>
     ensures { Gives (λ x. (x.0, x.1.now)) result (form.given_at bytes.now) }

@@ -1,4 +1,4 @@
-//! Keys, spans, columns and records at the front of a text.
+//! Keys, spans, columns and records at the start of a text.
 ghost use Rattle.std.specs.Prelude.{◌≡◌, [], ◌∷◌, Some, length};
 ghost use Rattle.std.specs.Option.{option_copied};
 ghost use Rattle.sdb_types.specs.Columns.{is_null};
@@ -11,7 +11,7 @@ use crate::words::{after, expect, name_at};
 use sdb_types::{Columns, Key, Name, Pair, Record, SharedSeq, Span, TableName, Value, Values};
 use std::alloc::Global;
 
-/// The table's name at the front.
+/// The table's name at the start.
 #[tactic(auto, unfolding(crate::specs::Reading::table_at))]
 pub fn table_at(alloc: Global, bytes: &[u8]) -> Result<(TableName, &[u8]), Unread>
     ensures { Gives (λ x. (x.0, x.1.now)) result (spec.table_at bytes.now) }
@@ -32,7 +32,7 @@ fn clustering_at(alloc: Global, bytes: &[u8]) -> Result<(Values, &[u8]), Unread>
     }
 }
 
-/// The key at the front.
+/// The key at the start.
 #[tactic(auto, unfolding(crate::specs::Reading::key_at))]
 pub fn key_at(alloc: Global, bytes: &[u8]) -> Result<(Key, &[u8]), Unread>
     ensures { Gives (λ x. (x.0, x.1.now)) result (spec.key_at bytes.now) }
@@ -61,7 +61,7 @@ fn partition_at(alloc: Global, bytes: &[u8]) -> Result<(Option<Values>, &[u8]), 
     }
 }
 
-/// The span at the front.
+/// The span at the start.
 #[tactic(auto, unfolding(crate::specs::Reading::span_at))]
 pub fn span_at(alloc: Global, bytes: &[u8]) -> Result<(Span, &[u8]), Unread>
     ensures { Gives (λ x. (x.0, x.1.now)) result (spec.span_at bytes.now) }
@@ -126,7 +126,7 @@ fn next_pair_at<'a>(
     pair_at(alloc, before, rest)
 }
 
-// More columns, each behind a comma.
+// More columns, each after a comma.
 fn pairs_on(alloc: Global, first: Pair, bytes: &[u8]) -> Result<(SharedSeq<Pair>, &[u8]), Unread>
     ensures { Gives (λ x. (x.0, x.1.now)) result (Some (spec.many spec.next_pair_at (length bytes.now) (first ∷ []) bytes.now)) }
 {
@@ -166,7 +166,7 @@ fn pairs_at(alloc: Global, bytes: &[u8]) -> Result<(SharedSeq<Pair>, &[u8]), Unr
     }
 }
 
-/// The columns at the front.
+/// The columns at the start.
 #[tactic(auto, unfolding(crate::specs::Reading::columns_at))]
 pub fn columns_at(alloc: Global, bytes: &[u8]) -> Result<(Columns, &[u8]), Unread>
     ensures { Gives (λ x. (x.0, x.1.now)) result (spec.columns_at bytes.now) }
@@ -177,7 +177,7 @@ pub fn columns_at(alloc: Global, bytes: &[u8]) -> Result<(Columns, &[u8]), Unrea
     Ok((Columns::from_pairs(pairs), rest))
 }
 
-/// The record at the front.
+/// The record at the start.
 #[tactic(auto, unfolding(crate::specs::Reading::record_at))]
 pub fn record_at(alloc: Global, bytes: &[u8]) -> Result<(Record, &[u8]), Unread>
     ensures { Gives (λ x. (x.0, x.1.now)) result (spec.record_at bytes.now) }

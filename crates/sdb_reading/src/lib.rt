@@ -1,5 +1,5 @@
 //! Reading the texts that `sdb_texts` prints: values, keys, records, answers, requests and replies. Each `_at` function reads what
-//! stands at the front of a text and gives the bytes after it; each `_of` function reads a whole text.
+//! is at the start of a text and gives the bytes after it; each `_of` function reads a whole text.
 #![tactic(auto)]
 
 mod answers;

@@ -1,4 +1,4 @@
-//! Numbers and ids at the front of a text.
+//! Numbers and ids at the start of a text.
 ghost use Rattle.std.specs.Prelude.{◌≡◌, ◌^◌};
 ghost use Rattle.sdb_record.specs.Ids.{id_of_text};
 ghost use Rattle.sdb_reading.specs.Reading as spec;
@@ -10,7 +10,7 @@ use itoa::Buffer;
 use sdb_types::{TxId, Txt};
 use std::alloc::Global;
 
-// The number of the digits at the front, at most the widest.
+// The number of the digits at the start, at most the widest.
 fn number_in(bytes: &[u8]) -> u64
     ensures { result ≡ spec.number_on 0 bytes.now }
 {
@@ -26,7 +26,7 @@ fn number_in(bytes: &[u8]) -> u64
     n
 }
 
-/// The number at the front, in its shortest decimal.
+/// The number at the start, in its shortest decimal.
 #[tactic(auto, unfolding(crate::specs::Reading::natural_at))]
 pub fn natural_at(bytes: &[u8]) -> Result<(u64, &[u8]), Unread>
     ensures { Gives (λ x. (x.0, x.1.now)) result (spec.natural_at bytes.now) }
@@ -85,7 +85,7 @@ fn said_at(bytes: &[u8]) -> i64
     }
 }
 
-/// The number with its sign at the front, in its shortest decimal.
+/// The number with its sign at the start, in its shortest decimal.
 #[tactic(auto, unfolding(crate::specs::Reading::integer_at))]
 pub fn integer_at(bytes: &[u8]) -> Result<(i64, &[u8]), Unread>
     ensures { Gives (λ x. (x.0, x.1.now)) result (spec.integer_at bytes.now) }
@@ -102,7 +102,7 @@ fn id_of(text: &Txt) -> Option<TxId>
     TxId::from_text(text)
 }
 
-/// The id at the front.
+/// The id at the start.
 #[tactic(auto, unfolding(crate::specs::Reading::id_at))]
 pub fn id_at(alloc: Global, bytes: &[u8]) -> Result<(TxId, &[u8]), Unread>
     ensures { Gives (λ x. (x.0, x.1.now)) result (spec.id_at bytes.now) }

@@ -1,4 +1,4 @@
-//! Requests, what became of them, and replies at the front of a text.
+//! Requests, what became of them, and replies at the start of a text.
 ghost use Rattle.std.specs.Prelude.{◌≡◌, []};
 ghost use Rattle.sdb_reading.specs.Reading as spec;
 ghost use Rattle.sdb_reading.specs.Reading.{Gives};
@@ -91,7 +91,7 @@ fn delete_at(alloc: Global, bytes: &[u8]) -> Result<(Request, &[u8]), Unread>
     Ok((Request::DeleteIf(key, condition), rest))
 }
 
-/// The request at the front.
+/// The request at the start.
 #[tactic(auto, unfolding(crate::specs::Lines::request_at))]
 pub fn request_at(alloc: Global, bytes: &[u8]) -> Result<(Request, &[u8]), Unread>
     ensures { Gives (λ x. (x.0, x.1.now)) result (form.request_at bytes.now) }
@@ -130,7 +130,7 @@ fn how_at(bytes: &[u8]) -> Result<(How, &[u8]), Unread>
     Err(Unread::Bad)
 }
 
-/// What became of a call, behind a space.
+/// What became of a call, after a space.
 pub fn next_how_at(bytes: &[u8]) -> Result<(How, &[u8]), Unread>
     ensures { Gives (λ x. (x.0, x.1.now)) result (form.behind_space form.how_at bytes.now) }
 {
@@ -159,7 +159,7 @@ fn next_record_at(alloc: Global, bytes: &[u8]) -> Result<(Record, &[u8]), Unread
     record_at(alloc, rest)
 }
 
-// So many records, each behind a space.
+// So many records, each after a space.
 fn records_on(alloc: Global, count: u64, bytes: &[u8]) -> Result<(Records, &[u8]), Unread>
     ensures { Gives (λ x. (x.0, x.1.now)) result (spec.counted (form.behind_space spec.record_at) count [] bytes.now) }
 {
@@ -202,7 +202,7 @@ fn not_met_at(alloc: Global, bytes: &[u8]) -> Result<(Reply, &[u8]), Unread>
     Ok((Reply::NotMet(found), rest))
 }
 
-/// The reply at the front.
+/// The reply at the start.
 #[tactic(auto, unfolding(crate::specs::Lines::reply_at))]
 pub fn reply_at(alloc: Global, bytes: &[u8]) -> Result<(Reply, &[u8]), Unread>
     ensures { Gives (λ x. (x.0, x.1.now)) result (form.reply_at bytes.now) }

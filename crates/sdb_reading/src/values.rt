@@ -1,4 +1,4 @@
-//! Values and rows at the front of a text.
+//! Values and rows at the start of a text.
 ghost use Rattle.std.specs.Prelude.{◌≡◌, ◌≤◌, [], ◌∷◌, Some, false, length};
 ghost use Rattle.std.specs.List.{prefix_len};
 ghost use Rattle.std.specs.Result.{result_ok};
@@ -13,7 +13,7 @@ use hex::FromHexError;
 use sdb_types::{Octets, Value, Values};
 use std::alloc::Global;
 
-// What is quoted, behind the first quote.
+// What is quoted, after the first quote.
 fn quoted_at(alloc: Global, bytes: &[u8]) -> Result<(Vec<u8>, &[u8]), Unread>
     ensures { Gives (λ x. (x.0.items, x.1.now)) result (spec.quoted_on false [] bytes.now) }
 {
@@ -104,7 +104,7 @@ fn numeral_at(bytes: &[u8]) -> Result<(Value, &[u8]), Unread>
     Ok((Value::Int(int_of(n)?), rest))
 }
 
-/// The value at the front.
+/// The value at the start.
 #[tactic(auto, unfolding(crate::specs::Reading::value_at))]
 pub fn value_at(alloc: Global, bytes: &[u8]) -> Result<(Value, &[u8]), Unread>
     ensures { Gives (λ x. (x.0, x.1.now)) result (spec.value_at bytes.now) }
@@ -137,7 +137,7 @@ fn next_value_at(alloc: Global, bytes: &[u8]) -> Result<(Value, &[u8]), Unread>
     value_at(alloc, rest)
 }
 
-// More values, each behind a comma.
+// More values, each after a comma.
 fn values_on(alloc: Global, first: Value, bytes: &[u8]) -> Result<(Values, &[u8]), Unread>
     ensures { Gives (λ x. (x.0, x.1.now)) result (Some (spec.many spec.next_value_at (length bytes.now) (first ∷ []) bytes.now)) }
 {
@@ -178,7 +178,7 @@ pub fn values_at(alloc: Global, bytes: &[u8]) -> Result<(Values, &[u8]), Unread>
     }
 }
 
-/// The row at the front.
+/// The row at the start.
 #[tactic(auto, unfolding(crate::specs::Reading::row_at))]
 pub fn row_at(alloc: Global, bytes: &[u8]) -> Result<(Values, &[u8]), Unread>
     ensures { Gives (λ x. (x.0, x.1.now)) result (spec.row_at bytes.now) }

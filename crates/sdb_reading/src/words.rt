@@ -1,4 +1,4 @@
-//! Words and names at the front of a text.
+//! Words and names at the start of a text.
 ghost use Rattle.std.specs.Prelude.{◌≡◌, ◌≤◌, length};
 ghost use Rattle.std.specs.List.{prefix_len, list_all};
 ghost use Rattle.std.specs.Option.{option_map};
@@ -10,7 +10,7 @@ use crate::unread::Unread;
 use sdb_types::{Name, NameRefused, Txt};
 use std::alloc::Global;
 
-/// What follows a word that stands at the front.
+/// What follows a word that is at the start.
 pub fn after<'a>(word: &[u8], bytes: &'a [u8]) -> Option<&'a [u8]>
     ensures { option_map (λ x. x.now) result ≡ spec.after word.now bytes.now }
 {
@@ -49,7 +49,7 @@ fn goes_on(b: u8) -> bool
     starts(b) || b.is_ascii_digit()
 }
 
-// How many letters, digits and `_` stand at the front.
+// How many letters, digits and `_` are at the start.
 fn word_len(bytes: &[u8]) -> usize
     ensures len { result ≡ prefix_len identifier.is_part bytes.now }
     ensures within { result ≤ length bytes.now }
@@ -70,7 +70,7 @@ fn name_of(alloc: Global, word: &[u8]) -> Result<Name, Unread>
     }
 }
 
-/// The name at the front.
+/// The name at the start.
 #[tactic(auto, unfolding(crate::specs::Reading::name_at))]
 pub fn name_at(alloc: Global, bytes: &[u8]) -> Result<(Name, &[u8]), Unread>
     ensures { Gives (λ x. (x.0, x.1.now)) result (spec.name_at bytes.now) }

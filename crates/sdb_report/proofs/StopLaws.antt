@@ -200,7 +200,7 @@ pub record Halt (bytes : List ℕ) (left : ℕ) : Type 0 where
 abbrev left_over : Outcome × List ℕ → Result Outcome ℕ
 left_over x = cond (is_empty x.1) (Ok x.0) (Err (length x.1))
 
--- a text with a line at its front isn't empty
+-- a text with a line at its start isn't empty
 not_empty : (tail t : List ℕ) → is_empty tail ≡ false → SameLine (cut_line tail) tail t → is_empty t ≡ false
 not_empty tail t full same =
     elim (cut_line tail) as (λ o. SameLine o tail t → is_empty t ≡ false) [

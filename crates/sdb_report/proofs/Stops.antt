@@ -22,7 +22,7 @@ pub are_append : (xs ys : List (List ℕ)) → AreLines xs → AreLines ys → A
 are_append [] ys h k = k
 are_append (x ∷ xs) ys h k = (h.0, are_append xs ys h.1 k)
 
--- a text with the same line at its front, or the same text where there is none
+-- a text with the same line at its start, or the same text where there is none
 abbrev pub SameLine : Option (List ℕ × List ℕ) → List ℕ → List ℕ → Type 0
 SameLine None tail t = tail ≡ t
 SameLine (Some cut) tail t = (more : List ℕ) × (cut_line t ≡ Some (cut.0, more))

@@ -39,7 +39,7 @@ Gives view (Err e) read = Stops e read
 
 ---- lines
 
--- the line at the front, which ends with LF, and the bytes after it
+-- the line at the start, which ends with LF, and the bytes after it
 abbrev pub behind_lf : List ℕ → List ℕ → Option (List ℕ × List ℕ)
 behind_lf line [] = None
 behind_lf line (b ∷ rest) = Some (line, rest)
@@ -47,7 +47,7 @@ behind_lf line (b ∷ rest) = Some (line, rest)
 abbrev pub cut_line : List ℕ → Option (List ℕ × List ℕ)
 cut_line bytes = behind_lf (take (prefix_len is_no_lf bytes) bytes) (drop (prefix_len is_no_lf bytes) bytes)
 
--- the line at the front, if it has a form
+-- the line at the start, if it has a form
 abbrev pub line_at : {X : Type 0} → (List ℕ → Option X) → List ℕ → Placed X
 line_at form_of bytes = case_of (cut_line bytes) (λ cut. case_of (form_of cut.0) (λ x. Ok (x, cut.1)) (Err (length bytes))) (Err (length bytes))
 

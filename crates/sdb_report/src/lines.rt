@@ -15,7 +15,7 @@ use sdb_reading::{Unread, expect, id_at, natural_at, row_at, table_at};
 use sdb_types::{TableName, Values};
 use std::alloc::Global;
 
-// How long the line at the front is.
+// How long the line at the start is.
 fn line_len(bytes: &[u8]) -> usize
     ensures len { result ≡ prefix_len is_no_lf bytes.now }
     ensures within { result ≤ length bytes.now }
@@ -23,7 +23,7 @@ fn line_len(bytes: &[u8]) -> usize
     bytes.iter().take_while(|b| **b != b'\n').count()
 }
 
-/// The line at the front, which ends with LF, and the bytes after it.
+/// The line at the start, which ends with LF, and the bytes after it.
 pub fn cut_line(bytes: &[u8]) -> Option<(&[u8], &[u8])>
     ensures { option_map (λ x. (x.0.now, x.1.now)) result ≡ spec.cut_line bytes.now }
 {

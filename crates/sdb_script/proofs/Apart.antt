@@ -49,7 +49,7 @@ new_at f (x ∷ xs) m rest h =
     (λ t. absurd (first_apart (f x) (map f xs) rest m h (same_bytes (f x) m t)))
     (λ t. rw t (new_at f xs m rest (fewer (f x) (map f xs ++ m ∷ rest) h)))
 
--- a name that comes behind others is none of them
+-- a name that comes after others is none of them
 pub new_again : {A : Type 0} (f : A → Text) (xs : List A) (x : A) (rest : List A) → AreApart (map f (xs ++ x ∷ rest)) → has_name f xs (f x) ≡ false
 new_again f xs x rest h = new_at f xs (f x) (map f rest) (subst AreApart (map-append f xs (x ∷ rest)) h)
 
@@ -59,6 +59,6 @@ attached_of stores store h = Contains-from_any same_bytes store stores h
 pub attached_again : (stores : List Text) (store : Text) → Contains stores store → list_any (bytes_eq store) stores ≡ true
 attached_again stores store c = list_any_at (bytes_eq store) stores c.0 store c.1 (rw c.2 (itself store))
 
--- what holds of each holds of the one behind others
+-- what holds of each holds of the one after others
 pub at_next : {A : Type 0} (P : A → Type 0) (xs : List A) (x : A) (rest : List A) → All P (xs ++ x ∷ rest) → P x
 at_next P xs x rest h = All-contains P (xs ++ x ∷ rest) x h (Contains-append_right xs (x ∷ rest) x (0, omega arith, refl))

@@ -66,7 +66,7 @@ none_begun stores = record {
 
 ---- the order of lines
 
--- one more line behind all
+-- one more line after all
 last_in : (a s c r m : Lines) (l : List ℕ) → (a ++ (s ++ (c ++ (r ++ m)))) ++ l ∷ [] ≡ a ++ (s ++ (c ++ (r ++ (m ++ l ∷ []))))
 last_in a s c r m l =
     append_assoc a (s ++ (c ++ (r ++ m))) (l ∷ []) ∙ ap (λ (x : Lines). a ++ x)

@@ -1,4 +1,4 @@
--- Pieces of the text of a script, one behind the other.
+-- Pieces of the text of a script, one after the other.
 use Rattle.std.proofs.Common.{◌≡◌, ℕ, zero, suc, ◌+◌, ◌-◌, ◌<◌, ◌≤◌, ◌==◌, true, false, List, [], ◌∷◌, ◌++◌, length, take, drop, flat_map, option_to_list, slice_get, sym, ap, ◌∙◌, append_assoc, append-nil, arith, codes}
 use Rattle.std.proofs.lemmas.List.Concat.{flat_map-append}
 use Rattle.sdb_schema.specs.declared.table.Table.{Table}
@@ -8,7 +8,7 @@ use Rattle.sdb_script.proofs.PlaceLaws.{next_taken}
 abbrev Text : Type 0
 Text = List ℕ
 
--- one item more of those behind the first
+-- one item more of those after the first
 pub others_more : {X : Type 0} (g : X → Text) (init mid new : Text) (xs : List X) (i : ℕ) → 1 ≤ i → i < length xs → mid ≡ init ++ flat_map g (take (i - 1) (drop 1 xs)) → new ≡ mid ++ flat_map g (option_to_list (slice_get xs i)) → new ≡ init ++ flat_map g (take (i + 1 - 1) (drop 1 xs))
 others_more {X} g init mid new xs zero low high p q = absurd (omega arith)
 others_more {X} g init mid new [] (suc j) low high p q = absurd (omega arith)

@@ -56,7 +56,7 @@ pub record AreClients (clients : List ScriptClient) : Type 0 where
   pub once : AllPairs ◌≢◌ (map (λ c. c.name) clients)
   pub few : length clients ≤ most_clients
 
--- At most 200,000 moves over so many clients, behind `run`.
+-- At most 200,000 moves over so many clients, after `run`.
 abbrev pub AreMoves : Bool → ℕ → List Move → Type 0
 AreMoves false n moves = moves ≡ []
 AreMoves true n moves = All (λ m. is_move n m ≡ true) moves × (turns_of moves ≤ most_moves)
@@ -103,7 +103,7 @@ abbrev pub is_known : List ScriptClient → List ℕ → Bool
 is_known clients name = list_any (λ c. bytes_eq c.name name) clients
 
 -- What may come next, but for stores, the schema's JSON and the limits: a place or the schema first; a client of a new name before
--- `run`; a statement that isn't empty in a client's block; one `run`; and behind it moves.
+-- `run`; a statement that isn't empty in a client's block; one `run`; and after it moves.
 abbrev pub may_come : Draft → Said → Bool
 may_come d (PlaceOf p) = is_first d && (is_client_name p.ns && is_client_name p.store)
 may_come d (SchemaOf json) = is_first d
@@ -149,7 +149,7 @@ IsCause stores d line (refused.Bad fault.Missing) = ⊥
 IsCause stores d line (refused.Limit which.InputBytes) = ⊥
 IsCause stores d line refused.NoMemory = ⊥
 
--- Behind these lines the script stops: at the next line, or, where there is none, for want of `run`.
+-- After these lines the script stops: at the next line, or, where there is none, for want of `run`.
 abbrev pub Stops : List (List ℕ) → Draft → List (List ℕ) → LineRefused → Type 0
 Stops stores d [] r = (d.ran ≡ false) × (r ≡ refused.Bad fault.Missing)
 Stops stores d (line ∷ lines) r = IsCause stores d line r

@@ -46,7 +46,7 @@ place_line p = codes "place " ++ (p.ns ++ 32 ∷ p.store)
 abbrev pub schema_line : List ℕ → List ℕ
 schema_line json = codes "schema " ++ json
 
--- a statement's text behind two spaces
+-- a statement's text after two spaces
 abbrev pub text_line : List ℕ → List ℕ
 text_line text = codes "  " ++ text
 

@@ -147,7 +147,7 @@ take_head stores d line = if bytes_eq line (codes "run") then Ok (run_of d) else
 abbrev pub with_move : Draft → Move → Result Draft LineRefused
 with_move d m = if nat_le (turns_of d.moves + turns m) most_moves then Ok (record d { moves = d.moves ++ m ∷ [] }) else Err (refused.Limit which.Moves)
 
--- a line behind `run`
+-- a line after `run`
 abbrev pub take_move : Draft → List ℕ → Result Draft LineRefused
 take_move d line = option_map_or (with_move d) (move_in (length d.clients) line) form
 
@@ -161,7 +161,7 @@ told stores d line =
     then (if is_utf8 line then take_text_line stores d line else Err (refused.Bad fault.Text))
     else Err (refused.Limit which.LineBytes)
 
--- A refusal that comes of an outcome; want of memory may stand in the place of any.
+-- A refusal that comes of an outcome; out of memory may be returned in place of any.
 abbrev pub Refuses : {A : Type 0} → Result A LineRefused → LineRefused → Type 0
 Refuses r (refused.Bad f) = r ≡ Err (refused.Bad f)
 Refuses r (refused.Limit w) = r ≡ Err (refused.Limit w)
@@ -201,7 +201,7 @@ script_in stores text =
     then ended_at (length (lines_of text) + 1) (told_from stores 1 nothing (lines_of text))
     else Err (Limit (last_line text) which.InputBytes)
 
--- A refusal that comes of an outcome; want of memory may stand in the place of any.
+-- A refusal that comes of an outcome; out of memory may be returned in place of any.
 abbrev pub Agrees : {A : Type 0} → Result A ScriptRefused → ScriptRefused → Type 0
 Agrees r (BadLine n f) = r ≡ Err (BadLine n f)
 Agrees r (Limit n w) = r ≡ Err (Limit n w)

@@ -227,7 +227,7 @@ impl Drafting {
         }
     }
 
-    // Takes a line behind `run`.
+    // Takes a line after `run`.
     fn take_move(&mut self, line: &str) -> Result<(), LineRefused>
         ensures ok { OnOk result (spec.take_move self.old line.now ≡ Ok self.new) }
         ensures bad { IfErr result (spec.Refuses (spec.take_move self.old line.now)) }

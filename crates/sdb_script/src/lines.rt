@@ -21,7 +21,7 @@ fn line_len(bytes: &[u8]) -> usize
     }
 }
 
-/// The first line, and what stands behind its LF.
+/// The first line, and what follows its LF.
 pub fn first_line(bytes: &[u8]) -> (&[u8], &[u8])
     requires { 0 < length bytes.now }
     ensures lines { lines_of bytes.now ≡ result.0.now ∷ lines_of result.1.now }

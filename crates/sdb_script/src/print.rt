@@ -140,7 +140,7 @@ fn put_name(out: &mut String, name: &TableName) -> Result<(), NoMemory>
     Ok(())
 }
 
-// Adds a table's name and its definition, behind a text.
+// Adds a table's name and its definition, after a text.
 fn put_member(alloc: Global, out: &mut String, front: &str, table: &Table) -> Result<(), NoMemory>
     requires { rises table.now.columns ≡ true }
     ensures { OnOk result (string_bytes out.new ≡ string_bytes out.old ++ (front.now ++ spec.member_text table.now)) }
@@ -154,7 +154,7 @@ fn put_member(alloc: Global, out: &mut String, front: &str, table: &Table) -> Re
     Ok(())
 }
 
-// Adds the table at a place, behind a text.
+// Adds the table at a place, after a text.
 fn put_at(
     alloc: Global,
     out: &mut String,
@@ -171,7 +171,7 @@ fn put_at(
     }
 }
 
-// Adds the tables behind the first.
+// Adds the tables after the first.
 fn put_others(alloc: Global, out: &mut String, catalog: &Catalog) -> Result<(), NoMemory>
     ensures { OnOk result (string_bytes out.new ≡ string_bytes out.old ++ flat_map (λ t. codes "," ++ spec.member_text t) (drop 1 catalog.now)) }
 {

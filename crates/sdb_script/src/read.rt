@@ -38,7 +38,7 @@ fn at_line(number: u64, refused: LineRefused) -> ScriptRefused
     }
 }
 
-// What all lines say, and the number of the line behind the last.
+// What all lines say, and the number of the line after the last.
 fn read_lines(alloc: Global, bytes: &[u8], stores: &Names) -> Result<(Drafting, u64), ScriptRefused>
     ensures ok { IfOk result (λ d. (spec.told_from stores.now 1 nothing (lines_of bytes.now) ≡ Ok d.0) × (d.1 ≡ length (lines_of bytes.now) + 1)) }
     ensures bad { IfErr result (spec.Agrees (spec.told_from stores.now 1 nothing (lines_of bytes.now))) }
@@ -67,7 +67,7 @@ fn last_line(bytes: &[u8]) -> u64
     lf_count(read) as u64 + 1
 }
 
-// The script of the lines that were read, where the last number is that of the line behind them.
+// The script of the lines that were read, where the last number is that of the line after them.
 fn script_of(alloc: Global, drafting: Drafting, number: u64) -> Result<Script, ScriptRefused>
     ensures ok { IfOk result (λ s. spec.ended number drafting ≡ Ok s) }
     ensures bad { IfErr result (spec.Agrees (spec.ended number drafting)) }
@@ -94,7 +94,7 @@ fn script_in(alloc: Global, bytes: &[u8], stores: &Names) -> Result<Script, Scri
 /// The script that a text says, over the attached stores, of which the names are given.
 ///
 /// The text has at most 67,108,864 bytes, in lines of UTF-8 of at most 65,536 bytes. They are any number of `place NS STORE`; at
-/// most one `schema JSON`; at most 64 blocks of `client NAME` and at most 20,000 statements, each behind two spaces; `run`; and
+/// most one `schema JSON`; at most 64 blocks of `client NAME` and at most 20,000 statements, each after two spaces; `run`; and
 /// moves that count as at most 200,000. The first line that may not come is told, with what is wrong with it.
 /// Takes memory linear in the text's length, and time linear in it, but for the schema, whose JSON `catalog_of` reads, and as far as the
 /// hashes of namespaces don't collide; each place is compared with the stores, and each client with those before it.

@@ -1,4 +1,4 @@
-//! Words of a line: what stands behind one, numerals and names.
+//! Words of a line: what follows one, numerals and names.
 ghost use Rattle.std.specs.Prelude.{◌≡◌, ◌-◌, ◌^◌, min, true, IfOk};
 ghost use Rattle.std.specs.List.{list_all};
 ghost use Rattle.std.specs.Option.{option_copied, option_map};
@@ -24,14 +24,14 @@ pub fn as_text(line: &[u8]) -> Option<&str>
     }
 }
 
-/// What follows a word that stands at the front.
+/// What follows a word that is at the start.
 pub fn after<'a>(word: &str, text: &'a str) -> Option<&'a str>
     ensures { option_copied result ≡ after_front word.now text.now }
 {
     text.strip_prefix(word)
 }
 
-/// What stands before the first space and behind it.
+/// What is before the first space and after it.
 pub fn around_space(text: &str) -> Option<(&str, &str)>
     ensures { option_map (λ p. (p.0.now, p.1.now)) result ≡ around 32 text.now }
 {
