@@ -44,7 +44,7 @@ wanted_is : (events : List Event) (id : TxId) (ms : List Made) → calls_wanted 
 wanted_is events id ms =
     let p : length (prepares_in id (all_made ms)) ≡ count_by (λ m. prepares id m.request) ms = kept_count (λ m. prepares id m.request) made_of ms in
     let c : count_by (is_checked_get (prepares_in id (all_made ms))) (noted_in events id) + count_by is_scan (noted_in events id) ≡ count_by (is_check ms id) (noted_in events id)
-        = count_both (is_checked_get (prepares_in id (all_made ms))) is_scan (is_check ms id) note (noted_in events id) in
+    = count_both (is_checked_get (prepares_in id (all_made ms))) is_scan (is_check ms id) note (noted_in events id) in
     omega (arith, p, c)
   where
     either_is : (b : Bool) → cond b 1 0 + 0 ≡ cond b 1 0
@@ -99,10 +99,10 @@ module _ (events : List Event) (id : TxId) (s : Said) (ms : List Made) where
       | inr e ↦ e
     ]) ∙ ap (λ n. n + 1) (sym (wanted_is events id ms));
     most =
-      let l : length ms ≤ w + 4 = le_is (length ms) (w + 4) (left most (not told || exact) h) in
-      let a : length (all_made ms) ≡ length ms = length-map ms made_of in
-      let e : calls_wanted events id (all_made ms) ≡ w = wanted_is events id ms in
-      omega (arith, l, a, e);
+        let l : length ms ≤ w + 4 = le_is (length ms) (w + 4) (left most (not told || exact) h) in
+        let a : length (all_made ms) ≡ length ms = length-map ms made_of in
+        let e : calls_wanted events id (all_made ms) ≡ w = wanted_is events id ms in
+        omega (arith, l, a, e);
   }
 
   is_counted_of : IsCommitCounted events id s (all_made ms) → commit_counted ms (noted_in events id) id s ≡ true

@@ -96,7 +96,7 @@ module _ (ms : List Made) (read : Made) (r : Record) where
       let answered : is_answered roll.0.reply ≡ true = ap (λ (c : calls.Made). is_answered c.reply) (sym roll.3) ∙ x.answered.1 in
       let rolls : is_roll look.0.at q roll.0 ≡ true = both (nat_lt look.0.at roll.0.at) (is_seen roll.0.how && (is_answered roll.0.reply && same_request roll.0.request q)) late (both (is_seen roll.0.how) (is_answered roll.0.reply && same_request roll.0.request q) seen (both (is_answered roll.0.reply) (same_request roll.0.request q) answered (is_request roll.0.request q put))) in
       let one : is_rolled_by ms read r x.id x.state look.0 ≡ true = both (nat_lt read.at look.0.at) (option_map_or (λ d. rolled_after ms look.0.at (roll_by r (condition.Version x.id x.state) d)) (decision_at (coordinator_key_of x.id) look.0) false) look.2
-          (of_some (λ d. rolled_after ms look.0.at (roll_by r (condition.Version x.id x.state) d)) (decision_at (coordinator_key_of x.id) look.0) x.decided shown (some_any (is_roll look.0.at q) ms roll.0 roll.1 rolls)) in
+      (of_some (λ d. rolled_after ms look.0.at (roll_by r (condition.Version x.id x.state) d)) (decision_at (coordinator_key_of x.id) look.0) x.decided shown (some_any (is_roll look.0.at q) ms roll.0 roll.1 rolls)) in
       of_some (λ id. option_map_or (is_rolled_in ms read r id) (state_in r.columns) false) (id_in r.columns) x.id x.writer.0
       (of_some (is_rolled_in ms read r x.id) (state_in r.columns) x.state x.writer.1 (some_any (is_rolled_by ms read r x.id x.state) ms look.0 look.1 one))
 
@@ -151,7 +151,7 @@ module _ (events : List Event) (client : ℕ) (s : Said) (ms : List Made) (e : a
   well_of a x y all = each_all (is_well_read events (reads_vacuum s.text) ms) ms (λ m i. elim (decide (reads_rows (made_of m))) [
     | inr n ↦ or_left (not (reads_rows (made_of m))) (are_well_left events (reads_vacuum s.text) ms m (records_read m.reply)) (true_not (reads_rows (made_of m)) n)
     | inl t ↦ or_right (not (reads_rows (made_of m))) (are_well_left events (reads_vacuum s.text) ms m (records_read m.reply))
-      (each_all (is_well_left events (reads_vacuum s.text) ms m) (records_read m.reply) (λ r j. is_left_of ms m r events s (λ u.
+        (each_all (is_well_left events (reads_vacuum s.text) ms m) (records_read m.reply) (λ r j. is_left_of ms m r events s (λ u.
         subst (λ cs. IsWell cs (made_of m) r) (sym e) (all a (made_of m) r x y (subst (λ cs. Contains cs (made_of m)) e (in_contains (all_made ms) (made_of m) (made_in ms m i))) t (in_contains (records_read m.reply) r j) u))))
   ])
 

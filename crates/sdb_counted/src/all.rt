@@ -139,11 +139,7 @@ fn broken(events: &[Event]) -> usize
         return 0;
     };
     let more = broken(rest);
-    if is_broken(first) {
-        more + 1
-    } else {
-        more
-    }
+    if is_broken(first) { more + 1 } else { more }
 }
 
 /// How many calls the stores themselves failed.

@@ -35,9 +35,7 @@ fn are_seen(calls: &[Made]) -> bool
 fn is_prepared(calls: &[Made], id: TxId, key: &Key) -> bool
     ensures { result ≡ is_prepared_lem calls.now id key.now }
 {
-    calls
-        .iter()
-        .any(|made| is_prepare(&made.request, id) && asks_row(key, &made.request))
+    calls.iter().any(|made| is_prepare(&made.request, id) && asks_row(key, &made.request))
 }
 
 // Whether a COMMIT checks a note: a scan, or a get of a key that it doesn't prepare.
@@ -87,8 +85,7 @@ fn commit_counted(calls: &[Made], notes: &[Note], id: TxId, said: &Said) -> bool
 {
     let wanted = wanted(calls, notes, id);
     let made = calls.len() as u128;
-    made <= wanted + 4
-        && (!(is_told_committed(said) && are_seen(calls)) || made == wanted + 1)
+    made <= wanted + 4 && (!(is_told_committed(said) && are_seen(calls)) || made == wanted + 1)
 }
 
 // Whether a statement is the COMMIT of a transaction, and its calls are not counted.
@@ -145,13 +142,7 @@ fn unresolved_in(alloc: Global, made: &Made) -> usize
         return 0;
     }
     match &made.reply {
-        Reply::Found(Some(rec)) => {
-            if is_unresolved(alloc, rec) {
-                1
-            } else {
-                0
-            }
-        }
+        Reply::Found(Some(rec)) => { if is_unresolved(alloc, rec) { 1 } else { 0 } }
         Reply::Rows(rows) => unresolved_among(alloc, rows.as_slice()),
         _ => 0,
     }

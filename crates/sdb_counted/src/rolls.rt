@@ -141,12 +141,7 @@ fn any_rolled(
 }
 
 // Whether an unresolved record that a read found was rolled later.
-fn is_rolled(
-    alloc: Global,
-    calls: &[Made],
-    read: &Made,
-    rec: &Record,
-) -> Result<bool, NoMemory>
+fn is_rolled(alloc: Global, calls: &[Made], read: &Made, rec: &Record) -> Result<bool, NoMemory>
     requires { is_unresolved_lem rec.now ≡ true }
     ensures { IfOk result (λ is. is ≡ is_rolled_lem calls.now read.now rec.now) }
 {

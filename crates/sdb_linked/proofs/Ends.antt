@@ -214,6 +214,6 @@ going_is_run script fit events sys doing opening end moments order fitting g fol
       system = subst (λ ps. Rattle.sdb_turns.specs.System.SystemOk g.plan ps sys) g.turned g.system;
       stories = subst (λ ps. Rattle.sdb_story.specs.Telling.AllStories (events_of g.played) ps sys g.told) g.turned (subst (λ es. Rattle.sdb_story.specs.Telling.AllStories es g.past sys g.told) g.same g.stories);
       bodies = subst (λ ps. Rattle.sdb_story.specs.Left.AllBodiesSaid script.catalog fit g.plan (events_of g.played) ps (ran_of script.catalog fit events sys doing g) (numbers_of order)) g.turned (subst (λ es. Rattle.sdb_story.specs.Left.AllBodiesSaid script.catalog fit g.plan es g.past (ran_of script.catalog fit events sys doing g) (numbers_of order)) g.same
-        (all_ids (λ t. ExecutionOk script.catalog fit g.plan g.past t (ran_of script.catalog fit events sys doing g t) × BodyIsSaid events t (ran_of script.catalog fit events sys doing g t)) order
+          (all_ids (λ t. ExecutionOk script.catalog fit g.plan g.past t (ran_of script.catalog fit events sys doing g t) × BodyIsSaid events t (ran_of script.catalog fit events sys doing g t)) order
           (all_by (λ (p : Point). ExecutionOk script.catalog fit g.plan g.past p.id.0 (ran_of script.catalog fit events sys doing g p.id.0) × BodyIsSaid events p.id.0 (ran_of script.catalog fit events sys doing g p.id.0)) order (λ k d l. done script.catalog fit events sys doing g (slice_index_or order k d).id.0 (taken k d l)))));
     }

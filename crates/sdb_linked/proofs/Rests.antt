@@ -116,4 +116,3 @@ module _ (catalog : List Table) (fit : Tables → Bool) where
       stories = λ d. let story = g.stories d in record { now = story.now; same = story.same; ok = story.ok; rest_ok = story.rest_ok; waits = story.waits; count = story.count; alive = story.alive; filed = story.filed; opened = story.opened; hold = by_client (λ k y. (u : ℕ) → Has y u → IsOpened (g.told k).rest × (u ≡ number k (length (g.told k).whole))) (λ h. h) (λ k. (g.stories k).hold) d };
       clients = λ d. let was = g.clients d in record { ended = was.ended; opened = was.opened; hand = by_client (λ k y. HandOk (doing k) (g.told k) (g.ran k (length (g.told k).whole)) y) (λ h. h) (λ k. (g.clients k).hand) d };
     }
-

@@ -98,7 +98,6 @@ module _ (catalog : List Table) (fit : Tables → Bool) (events : List Event) (s
   open_ran : (q : Played) → IsPlainRole q.role → (gap : List Said) (b : Said) (body : List Said) → x.rest ≡ Opened gap b body → RanOk catalog fit g.plan (q ∷ g.past) (number c n) body (ran n)
   open_ran q p gap b body e = subst (λ r. OpenedOk catalog fit g.plan (q ∷ g.past) (number c n) r (ran n)) e (kept q p).1
 
-
   ---- BEGIN
 
   module _ (text : List ℕ) (at_rest : sys.clients c ≡ Resting) (b : IsBegin sys c text) (none : NoneSweeps sys) where
@@ -170,12 +169,10 @@ module _ (catalog : List Table) (fit : Tables → Bool) (events : List Event) (s
           (subst (HandOk None (telling_of (begun x gap s)) nothing_ran) (sym next_here) (tt, refl, refl));
     })
 
-
   ---- a client's event that says nothing more
 
   silent : (e : Event) → ((ss : List Said) (k : ℕ) → Rattle.sdb_model.specs.Transactions.said_after c ss (k, e) ≡ ss) → said c (events ++ e ∷ []) ≡ said c events
   silent e f = said_more c events e ∙ f (said c events) (1 + length events)
-
 
   ---- COMMIT is taken
 
@@ -268,7 +265,6 @@ module _ (catalog : List Table) (fit : Tables → Bool) (events : List Event) (s
       };
     })
 
-
   ---- a statement begins to read
 
   module _ (text : List ℕ) (st : Statement) (i : TxId) (seen : Seen) (a : Access) (at_open : sys.clients c ≡ Open i seen) (tables : IsOfData a) (reads : Reads text st) (inner : IsInner text) where
@@ -296,7 +292,6 @@ module _ (catalog : List Table) (fit : Tables → Bool) (events : List Event) (s
 
         here_now : IsOpened x.rest × (x.waiting ≡ None) × ((ran n).seen ≡ seen)
         here_now = hand_at (Open i seen) at_open
-
 
   ---- answered as it is taken
 
@@ -335,7 +330,6 @@ module _ (catalog : List Table) (fit : Tables → Bool) (events : List Event) (s
 
         plain : begins answered ≡ false
         plain = mild_begins answered b refl m
-
 
   ---- answers inside of a transaction
 
@@ -381,7 +375,6 @@ module _ (catalog : List Table) (fit : Tables → Bool) (events : List Event) (s
 
         untaken_still : (talk (q ∷ g.past)).taken (number c n) ≡ false
         untaken_still = (same_of g.past q (number c n) (plain_not (number c n) q.role plain)).taken ∙ fresh
-
 
   ---- where a transaction is open
 
@@ -500,7 +493,6 @@ module _ (catalog : List Table) (fit : Tables → Bool) (events : List Event) (s
           over_now = ap (λ z. (reads_commit text || is_conflict (Some b)) || z) rolls ∙ second (reads_commit text || is_conflict (Some b))
       going_leaves_so (inr h) = going_leaves (λ e. absurd (cc (sym h.0 ∙ e))) (ap (λ z. reads_begin text && is_done (Some z)) h.0 ∙ no_second (reads_begin text)) (commit_ends said_of_it h.1) (λ u e. absurd (cc (sym h.0 ∙ e)))
 
-
   ---- calls
 
   module _ (store : Name) (request : Request) (how : How) (reply : Reply) (now : ℤ) where
@@ -509,7 +501,6 @@ module _ (catalog : List Table) (fit : Tables → Bool) (events : List Event) (s
 
     call_silent : said c (events ++ call_event y None ∷ []) ≡ said c events
     call_silent = silent (call_event y None) (λ ss k. refl)
-
 
     ---- a call of a COMMIT
 
@@ -621,7 +612,6 @@ module _ (catalog : List Table) (fit : Tables → Bool) (events : List Event) (s
 
       pub going_commit_calls : GoesTo after
       going_commit_calls = by_stage after refl
-
 
     ---- a call of a read
 
@@ -779,7 +769,6 @@ module _ (catalog : List Table) (fit : Tables → Bool) (events : List Event) (s
                 second : (z r : Bool) → ((z || true) || r) ≡ true
                 second true r = refl
                 second false r = refl
-
 
   ---- a client stops
 

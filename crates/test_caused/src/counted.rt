@@ -99,7 +99,11 @@ static RUNS: [Case; 5] = [
             BEGIN,
             SELECT,
             FOUND,
-            Step::Seen(Ask::Get(OTHER_ROW), Told::Found(Some(COMMITTED)), Some(ROWS)),
+            Step::Seen(
+                Ask::Get(OTHER_ROW),
+                Told::Found(Some(COMMITTED)),
+                Some(ROWS),
+            ),
         ],
         counted: true,
         resolved: false,
@@ -145,8 +149,10 @@ static RUNS: [Case; 5] = [
 ];
 
 fn is_judged(alloc: Global, case: Case) -> Result<bool, Fail> {
-    Ok(all_counted(alloc, BANK, case.steps)? == case.counted
-        && all_resolved(alloc, BANK, case.steps)? == case.resolved)
+    Ok(
+        all_counted(alloc, BANK, case.steps)? == case.counted
+            && all_resolved(alloc, BANK, case.steps)? == case.resolved,
+    )
 }
 
 #[test]

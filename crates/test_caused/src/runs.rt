@@ -5,9 +5,11 @@ use std::test::Fail;
 use test_builders::hold;
 
 fn all_kept(alloc: Global, catalog: &str, events: &[Step]) -> Result<bool, Fail> {
-    Ok(all_caused(alloc, catalog, events)?
-        && all_counted(alloc, catalog, events)?
-        && all_resolved(alloc, catalog, events)?)
+    Ok(
+        all_caused(alloc, catalog, events)?
+            && all_counted(alloc, catalog, events)?
+            && all_resolved(alloc, catalog, events)?,
+    )
 }
 
 #[test]
