@@ -11,9 +11,9 @@ ghost use Rattle.sdb_app.specs.Run.{AreReady, IsFirstFound, IsFoundIn, IsReporte
 
 use crate::places::place_all;
 use crate::status::Status;
+use sdb_account::AccountForm;
 use sdb_play::{PlayRefused, first_record, outcome, play};
 use sdb_schema::Catalog;
-use sdb_account::AccountForm;
 use sdb_stores::Registry;
 use sdb_texts::report_text;
 use sdb_types::NoMemory;

@@ -4,9 +4,9 @@ ghost use Rattle.sdb_txn.specs.Txn.{images_with, row_seen};
 ghost use Rattle.sdb_session.specs.Session.{ArePuts, account_key as account_key_lem, answer_to, changed_by, key_read as key_read_lem};
 
 use crate::values::{Accounts, shown};
+use sdb_account::AccountStatement;
 use sdb_model::Answer;
 use sdb_record::Images;
-use sdb_account::AccountStatement;
 use sdb_txn::{Stage, Txn};
 use sdb_types::{Duplicate, Key, NoMemory};
 use std::alloc::Global;

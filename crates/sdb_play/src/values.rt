@@ -7,9 +7,9 @@ ghost use Rattle.sdb_record.specs.declared.write.Change.TheVariants as TheChange
 ghost use Rattle.sdb_model.specs.Form.{account_name};
 ghost use Rattle.sdb_session.specs.Session.{key_read as key_read_lem, account_key as account_key_lem, account_columns, balance_of};
 
+use sdb_account::AccountStatement;
 use sdb_model::Rows;
 use sdb_record::{Change, Images, Keyed};
-use sdb_account::AccountStatement;
 use sdb_types::{Columns, Duplicate, Key, Name, NameRefused, NoMemory, TableName, Value, Values};
 use std::alloc::Global;
 use std::marker::Model;
