@@ -1,0 +1,5 @@
+use Rattle.sdb_steps.proofs.FittingRows.{is_fitting, answers_on}
+use Rattle.sdb_steps.proofs.fitting.plans_on_fitting_tables.Goals as goal
+
+pub returns : goal.returns
+returns c = record { fitting = is_fitting; answers = answers_on }

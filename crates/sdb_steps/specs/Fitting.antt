@@ -1,0 +1,17 @@
+-- Tables whose rows all fit.
+use Rattle.std.specs.Prelude.{Bool, false, List}
+use Rattle.std.specs.Option.{option_map_or}
+use Rattle.std.specs.List.{list_all}
+use Rattle.sdb_types.specs.declared.key.Key.{Key}
+use Rattle.sdb_types.specs.declared.pair.Pair.{Pair}
+use Rattle.sdb_schema.specs.declared.table.Table.{Table}
+use Rattle.sdb_schema.specs.Rows.{fits_table}
+use Rattle.sdb_model.specs.Exec.{Tables, all_rows, find_table}
+
+-- a row is of a table of the catalog, and fits it
+abbrev pub row_fits : List Table → Key → List Pair → Bool
+row_fits catalog key columns = option_map_or (λ t. fits_table t key columns) (find_table catalog key.table) false
+
+-- each row is such a row
+abbrev pub tables_fit : List Table → Tables → Bool
+tables_fit catalog d = list_all (λ r. row_fits catalog r.key r.columns) (all_rows d)

@@ -1,0 +1,6 @@
+//! What each step of a client comes to, in the words of the laws of clients: what ties the events of a run to its clients is kept.
+//!
+//! Each law is the contract of a function with an empty body.
+#![tactic(auto)]
+
+pub mod fitting;
