@@ -1,6 +1,6 @@
 -- Tables whose rows all fit, and what a plan leaves of them.
-use Rattle.std.proofs.Common.{◌≡◌, Bool, true, false, not, ◌&&◌, ◌||◌, cond, List, [], ◌∷◌, map, Option, Some, None, refl, sym, ap, ap₂, subst, ◌∙◌}
-use Rattle.std.specs.Prelude.{filter, find, is_some, unwrap_or}
+use Rattle.std.proofs.Common.{◌≡◌, Bool, true, false, not, ◌||◌, cond, List, [], ◌∷◌, map, Option, Some, None, refl, sym, ap, ap₂, subst, ◌∙◌}
+use Rattle.std.specs.Prelude.{filter, is_some, unwrap_or}
 use Rattle.std.specs.Option.{option_map_or}
 use Rattle.std.specs.List.{list_all}
 use Rattle.std.specs.Ordering.{is_eq, is_lt}
@@ -17,7 +17,6 @@ use Rattle.sdb_types.specs.Order.{key_cmp, table_cmp}
 use Rattle.sdb_types.proofs.Bools.{and_first, and_second, and_both}
 use Rattle.sdb_types.proofs.ColumnLemmas.{less_of}
 use Rattle.sdb_types.proofs.KeyOrder.{key_total, table_exact, table_total}
-use Rattle.sdb_record.specs.declared.access.Access.{Access}
 use Rattle.sdb_record.specs.declared.access.Image.{Image}
 use Rattle.sdb_record.specs.declared.write.Change.{Change}
 use Rattle.sdb_record.specs.declared.write.Change.TheVariants as change
@@ -27,17 +26,14 @@ use Rattle.sdb_schema.specs.declared.table.Table.{Table}
 use Rattle.sdb_schema.specs.Catalog.{is_catalog}
 use Rattle.sdb_schema.specs.Rows.{fits_table}
 use Rattle.sdb_model.specs.declared.answer.Answer.{Answer}
-use Rattle.sdb_model.specs.declared.answer.Answer.TheVariants as answer
-use Rattle.sdb_model.specs.declared.answer.Refusal.{Refusal}
 use Rattle.sdb_model.specs.declared.statement.Statement.{Statement}
 use Rattle.sdb_model.specs.declared.statement.Statement.TheVariants as statement
 use Rattle.sdb_model.specs.declared.statement.Test.{Test}
 use Rattle.sdb_model.specs.Access.{rows_at, with_changes, with_row}
-use Rattle.sdb_model.specs.Exec.{Tables, all_rows, exec, find_table, is_row_of, key_of, named_table, passes, row_of_entry, table_of, with_named}
+use Rattle.sdb_model.specs.Exec.{Tables, all_rows, find_table, is_row_of, key_of, named_table, passes, row_of_entry, table_of, with_named}
 use Rattle.sdb_model.specs.Refused.{refusal_by, refusal_of, refusal_on}
-use Rattle.sdb_exec.specs.declared.plan.PlanStep.{PlanStep}
-use Rattle.sdb_exec.specs.declared.plan.PlanStep.TheVariants.{Finished, Read as Wants}
-use Rattle.sdb_exec.specs.Plans.{IsExec, Planned, all_fit, answer_on, change_fits, changes_on, columns_at, finished, first_unfit, has_all_literals, is_unfit, leaves_fit, put_row, step_of}
+use Rattle.sdb_exec.specs.declared.plan.PlanStep.TheVariants.{Finished}
+use Rattle.sdb_exec.specs.Plans.{IsExec, Planned, change_fits, changes_on, columns_at, finished, first_unfit, has_all_literals, leaves_fit, put_row, step_of}
 use Rattle.sdb_exec.specs.Reads.{access_of}
 use Rattle.sdb_exec.proofs.Fits.{changes_fit}
 use Rattle.sdb_exec.proofs.Laid.{by_key, get-with_row, keyed, true_from_T}

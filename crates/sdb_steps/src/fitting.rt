@@ -5,7 +5,6 @@ ghost use Rattle.sdb_record.specs.declared.write.Keyed.{Keyed};
 ghost use Rattle.sdb_schema.specs.declared.table.Table.{Table};
 ghost use Rattle.sdb_schema.specs.Catalog.{is_catalog};
 ghost use Rattle.sdb_model.specs.declared.answer.Answer.{Answer};
-ghost use Rattle.sdb_model.specs.declared.statement.Statement.{Statement};
 ghost use Rattle.sdb_model.specs.Exec.{find_table, named_table};
 ghost use Rattle.sdb_model.specs.Refused.{refusal_of};
 ghost use Rattle.sdb_exec.specs.declared.plan.PlanStep.TheVariants.{Finished};
