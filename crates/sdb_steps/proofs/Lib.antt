@@ -1,1 +1,4 @@
-pub mod FittingRows
+pub mod RowsFit
+pub mod Taken
+pub mod Asked
+pub mod Whole

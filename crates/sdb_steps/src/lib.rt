@@ -4,3 +4,4 @@
 #![tactic(auto)]
 
 pub mod fitting;
+pub mod taking;

@@ -1,4 +1,4 @@
-use Rattle.sdb_steps.proofs.FittingRows.{is_fitting, answers_on}
+use Rattle.sdb_steps.proofs.RowsFit.{is_fitting, answers_on}
 use Rattle.sdb_steps.proofs.fitting.plans_on_fitting_tables.Goals as goal
 
 pub returns : goal.returns

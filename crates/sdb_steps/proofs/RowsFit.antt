@@ -45,11 +45,11 @@ use Rattle.sdb_story.specs.Body.{AnswersOn}
 use Rattle.sdb_story.specs.Left.{IsFitting}
 use Rattle.sdb_steps.specs.Fitting.{row_fits, tables_fit}
 
-by_test : {G : Type 0} (b : Bool) → (b ≡ true → G) → (b ≡ false → G) → G
+pub by_test : {G : Type 0} (b : Bool) → (b ≡ true → G) → (b ≡ false → G) → G
 by_test true a b = a refl
 by_test false a b = b refl
 
-equal_of : (o : Ordering) → is_eq o ≡ true → o ≡ Equal
+pub equal_of : (o : Ordering) → is_eq o ≡ true → o ≡ Equal
 equal_of Less h = cc
 equal_of Equal h = refl
 equal_of Greater h = cc
@@ -184,7 +184,7 @@ found_named (u ∷ us) name t h =
     (λ e. let k : Some u ≡ Some t = rw e at h in let same : u ≡ t = cc in ap (λ (x : Table). x.name) (sym same) ∙ table_exact u.name name (equal_of (table_cmp u.name name) e))
     (λ e. found_named us name t (rw e at h))
 
-found_itself : (catalog : List Table) (o : Option TableName) (t : Table) → option_map_or (find_table catalog) o None ≡ Some t → find_table catalog t.name ≡ Some t
+pub found_itself : (catalog : List Table) (o : Option TableName) (t : Table) → option_map_or (find_table catalog) o None ≡ Some t → find_table catalog t.name ≡ Some t
 found_itself catalog None t h = absurd (cc)
 found_itself catalog (Some name) t h = ap (find_table catalog) (found_named catalog name t h) ∙ h
 

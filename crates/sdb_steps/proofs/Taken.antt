@@ -1,0 +1,187 @@
+-- A client that takes a statement which makes no call keeps what ties the events to the clients.
+use Rattle.std.proofs.Common.{◌≡◌, ◌≢◌, ℕ, ℤ, ◌+◌, ◌^◌, ◌<◌, ◌==◌, inl, inr, length, Bool, true, false, List, [], ◌∷◌, ◌++◌, Option, Some, None, Ok, Err, refl, sym, ap, subst, ◌∙◌}
+use Rattle.std.specs.Prelude.{IfSome, if◌then◌else◌, nat_lt}
+use Rattle.std.proofs.lemmas.Bool.{eqb-true}
+use Rattle.sdb_schema.specs.declared.table.Table.{Table}
+use Rattle.sdb_model.specs.declared.answer.Answer.{Answer}
+use Rattle.sdb_model.specs.declared.answer.Answer.TheVariants as answer
+use Rattle.sdb_model.specs.declared.answer.Refusal.{Refusal}
+use Rattle.sdb_model.specs.declared.event.Event.{Event}
+use Rattle.sdb_model.specs.declared.event.Event.TheVariants as event
+use Rattle.sdb_model.specs.declared.statement.Statement.{Statement}
+use Rattle.sdb_model.specs.declared.statement.Statement.TheVariants as statement
+use Rattle.sdb_model.specs.Exec.{Tables}
+use Rattle.sdb_model.specs.Sql.{Reads, Refuses, reads_begin, reads_commit}
+use Rattle.sdb_model.specs.Transactions.{changes_nothing}
+use Rattle.sdb_laws.specs.History.{at}
+use Rattle.sdb_sqltext.proofs.Clauses.{not_both, one_statement}
+use Rattle.sdb_record.specs.Meta.{is_moment}
+use Rattle.sdb_phases.specs.Work.{Work}
+use Rattle.sdb_phases.specs.Checks.{checks}
+use Rattle.sdb_phases.specs.Commit.{Preparing, Checking, Deciding}
+use Rattle.sdb_phases.specs.declared.step.DecidePhase.TheVariants.{Put}
+use Rattle.sdb_snapshot.specs.Seen.{nothing}
+use Rattle.sdb_model.specs.Transactions.{id_of}
+use Rattle.sdb_sqltext.proofs.OneWord.{begin_read, commit_read, rollback_read}
+use Rattle.sdb_transaction.specs.declared.txn.Doing.{Doing}
+use Rattle.sdb_transaction.specs.declared.txn.Doing.TheVariants as doing
+use Rattle.sdb_transaction.specs.Txn.{TxnAt, committing, work_of as txn_work}
+use Rattle.sdb_client.specs.Client.{ClientAt as Client, holding, resting as client_resting, starved, with_begun as client_begun}
+use Rattle.sdb_turns.specs.System.{ClientAt, Committing, NoneSweeps, Open, Resting, SystemAt, commit_left, next_id, sweeps, with_begun, with_client}
+use Rattle.sdb_linked.specs.Going.{IsGoing, IsMild, LeavesAtOnce}
+use Rattle.sdb_linked.proofs.Steps.{going_begins, going_commits, going_idle, going_leaves_so, going_outside}
+use Rattle.sdb_steps.specs.Hands.{Hand, IsPlainAnswer, IsReady, doing_of, runs, stands, stands_doing, stands_txn, system_of, with_hand}
+use Rattle.sdb_steps.proofs.RowsFit.{by_test}
+
+---- one client elsewhere
+
+pub mapped_at : {X Y : Type 0} (g : X → Y) (f : ℕ → X) (c : ℕ) (x : X) (e : ℕ) → at (λ k. g (f k)) c (g x) e ≡ g (at f c x e)
+mapped_at g f c x e = by_test (e == c) (λ t. rw t refl) (λ t. rw t refl)
+
+pub kept_at : {X Y : Type 0} (g : X → Y) (f : ℕ → X) (c : ℕ) (x : X) → g x ≡ g (f c) → (e : ℕ) → g (f e) ≡ g (at f c x e)
+kept_at {X} g f c x h e = by_test (e == c) (λ t. rw t (ap (λ (k : ℕ). g (f k)) (eqb-true e c t) ∙ sym h)) (λ t. rw t refl)
+
+abbrev hand_of : Client → Hand
+hand_of d = record { client = d; stopped = false }
+
+module _ (catalog : List Table) (fit : Tables → Bool) (hands : ℕ → Hand) (c : ℕ) (d : Client) (events : List Event) where
+  abbrev pub IsSo : Type 0
+  IsSo = IsGoing catalog fit events (system_of (with_hand hands c d)) (doing_of (with_hand hands c d))
+
+  -- where all clients stand as these do
+  placed : (sys : SystemAt) (does : ℕ → Option Statement) → IsGoing catalog fit events sys does → ((e : ℕ) → sys.clients e ≡ stands (with_hand hands c d e)) → ((e : ℕ) → sys.begun e ≡ (with_hand hands c d e).client.begun)
+      → ((e : ℕ) → does e ≡ doing_of (with_hand hands c d) e) → IsSo
+  placed sys does g here begun doing =
+      subst (λ ds. IsGoing catalog fit events (system_of (with_hand hands c d)) ds) (λ i k. doing k i) (subst (λ (y : SystemAt). IsGoing catalog fit events y does) (λ i. record { clients = λ k. here k i; begun = λ k. begun k i }) g)
+
+  -- one client stands elsewhere, and has begun as many transactions
+  pub moved : d.begun ≡ (hands c).client.begun → IsGoing catalog fit events (with_client (system_of hands) c (stands_txn d.txn)) (at (doing_of hands) c (runs d)) → IsSo
+  moved same g =
+      placed (with_client (system_of hands) c (stands_txn d.txn)) (at (doing_of hands) c (runs d)) g (mapped_at stands hands c (hand_of d)) (kept_at (λ (h : Hand). h.client.begun) hands c (hand_of d) same)
+      (mapped_at (λ (h : Hand). runs h.client) hands c (hand_of d))
+
+  -- one client stands as it stood
+  pub unmoved : d.begun ≡ (hands c).client.begun → stands_txn d.txn ≡ stands (hands c) → runs d ≡ None → IsGoing catalog fit events (system_of hands) (at (doing_of hands) c None) → IsSo
+  unmoved same as_before none g =
+      placed (system_of hands) (at (doing_of hands) c None) g (kept_at stands hands c (hand_of d) as_before) (kept_at (λ (h : Hand). h.client.begun) hands c (hand_of d) same)
+      (λ e. ap (λ (o : Option Statement). at (doing_of hands) c o e) (sym none) ∙ mapped_at (λ (h : Hand). runs h.client) hands c (hand_of d) e)
+
+---- answered as it is taken, and as it was
+
+module _ (catalog : List Table) (fit : Tables → Bool) (events : List Event) (hands : ℕ → Hand) (g : IsGoing catalog fit events (system_of hands) (doing_of hands)) (c : ℕ) (ready : IsReady hands c) where
+  at_rest : (hands c).client.txn ≡ None → (system_of hands).clients c ≡ Resting
+  at_rest none = rw (ready.goes_on, none) refl
+
+  pub at_open : (t : TxnAt) → (hands c).client.txn ≡ Some t → (system_of hands).clients c ≡ Open t.id t.seen
+  at_open t some =
+      let idle : t.doing ≡ doing.Idle = subst (λ (o : Option TxnAt). IfSome o (λ u. u.doing ≡ doing.Idle)) some ready.idle in
+      rw (ready.goes_on, some, idle) refl
+
+  as_stands : stands_txn (hands c).client.txn ≡ stands (hands c)
+  as_stands = rw ready.goes_on refl
+
+  no_plan : runs (hands c).client ≡ None
+  no_plan = rw ready.free refl
+
+  -- outside of a transaction
+  pub told_outside : (text : List ℕ) (b : Answer) → (hands c).client.txn ≡ None → IsMild b → IsSo catalog fit hands c (hands c).client (events ++ event.Take c text (Some b) ∷ [])
+  told_outside text b none mild =
+      unmoved catalog fit hands c (hands c).client (events ++ event.Take c text (Some b) ∷ []) refl as_stands no_plan
+      (going_outside catalog fit events (system_of hands) (doing_of hands) g c text b (at_rest none) mild)
+
+  -- inside of one, where nothing is changed
+  pub told_idle : (text : List ℕ) (b : Answer) (t : TxnAt) → (hands c).client.txn ≡ Some t → changes_nothing b ≡ true → reads_commit text ≡ false → IsSo catalog fit hands c (hands c).client (events ++ event.Take c text (Some b) ∷ [])
+  told_idle text b t some idle no_commit =
+      let here : stands_txn (hands c).client.txn ≡ Open t.id t.seen = as_stands ∙ at_open t some in
+      let e : List Event = events ++ event.Take c text (Some b) ∷ [] in
+      moved catalog fit hands c (hands c).client e refl
+      (subst (λ (x : ClientAt). IsGoing catalog fit e (with_client (system_of hands) c x) (at (doing_of hands) c (runs (hands c).client))) (sym here)
+      (subst (λ (o : Option Statement). IsGoing catalog fit e (with_client (system_of hands) c (Open t.id t.seen)) (at (doing_of hands) c o)) (sym no_plan)
+      (going_idle catalog fit events (system_of hands) (doing_of hands) g c t.id t.seen (at_open t some) text b idle no_commit)))
+
+  -- whatever transaction is open
+  pub told_same : (text : List ℕ) (b : Answer) → IsPlainAnswer b → reads_commit text ≡ false → IsSo catalog fit hands c (hands c).client (events ++ event.Take c text (Some b) ∷ [])
+  told_same text b plain no_commit =
+      elim ((hands c).client.txn) as (λ o. (hands c).client.txn ≡ o → IsSo catalog fit hands c (hands c).client (events ++ event.Take c text (Some b) ∷ [])) [
+        | None ↦ λ q. told_outside text b q plain.mild
+        | Some t ↦ λ q. told_idle text b t q plain.idle no_commit
+      ] refl
+
+---- texts that don't read as COMMIT
+
+pub refused_no_commit : (text : List ℕ) (r : Refusal) → Refuses text r → reads_commit text ≡ false
+refused_no_commit text r h = by_test (reads_commit text) (λ t. absurd (not_both text statement.Commit r ((commit_read text).0 t) h)) (λ t. t)
+
+pub other_no_commit : (text : List ℕ) (st : Statement) → Reads text st → st ≢ statement.Commit → reads_commit text ≡ false
+other_no_commit text st h other = by_test (reads_commit text) (λ t. absurd (other (one_statement text st statement.Commit h ((commit_read text).0 t)))) (λ t. t)
+
+pub refused_plain : (r : Refusal) → IsPlainAnswer (answer.Refused r)
+refused_plain r = record { idle = refl; mild = record { undone = refl; agrees = refl; other = λ e. cc } }
+
+---- BEGIN, COMMIT, ROLLBACK
+
+sweeps_doing : (t : TxnAt) (d : Doing) → sweeps (stands_doing t d) ≡ false
+sweeps_doing t doing.Idle = refl
+sweeps_doing t (doing.Read a x) = refl
+sweeps_doing t (doing.Commit k) = refl
+sweeps_doing t doing.Over = refl
+
+sweeps_txn : (o : Option TxnAt) → sweeps (stands_txn o) ≡ false
+sweeps_txn None = refl
+sweeps_txn (Some t) = sweeps_doing t t.doing
+
+none_sweeps : (hands : ℕ → Hand) → NoneSweeps (system_of hands)
+none_sweeps hands e = by_test ((hands e).stopped) (λ t. rw t refl) (λ t. rw t (sweeps_txn (hands e).client.txn))
+
+pub other_no_begin : (text : List ℕ) (st : Statement) → Reads text st → st ≢ statement.Begin → reads_begin text ≡ false
+other_no_begin text st h other = by_test (reads_begin text) (λ t. absurd (other (one_statement text st statement.Begin h ((begin_read text).0 t)))) (λ t. t)
+
+going_stages : (p : Work) (a b : Bool) → commit_left p (if a then Preparing 0 else (if b then Checking 0 else Deciding Put)) ≡ Committing p (if a then Preparing 0 else (if b then Checking 0 else Deciding Put))
+going_stages p true b = refl
+going_stages p false true = refl
+going_stages p false false = refl
+
+module _ (catalog : List Table) (fit : Tables → Bool) (events : List Event) (hands : ℕ → Hand) (g : IsGoing catalog fit events (system_of hands) (doing_of hands)) (c : ℕ) (ready : IsReady hands c) where
+  abbrev now : Client
+  now = (hands c).client
+
+  pub told_begun : (text : List ℕ) → now.txn ≡ None → Reads text statement.Begin → now.begun + 1 < 2 ^ 64 → IsSo catalog fit hands c (client_begun now) (events ++ event.Take c text (Some answer.Done) ∷ [])
+  told_begun text none reads few =
+      let id_same : Open (next_id (system_of hands) c) nothing ≡ stands_txn (client_begun now).txn = ap (λ (n : ℕ). Open (id_of n (now.begun + 1)) nothing) (sym ready.number) in
+      let e : List Event = events ++ event.Take c text (Some answer.Done) ∷ [] in
+      let begun_so = going_begins catalog fit events (system_of hands) (doing_of hands) g c text (at_rest catalog fit events hands g c ready none) (record { reads = (begin_read text).1 reads; client = ready.small; ordinal = few }) (none_sweeps hands) in
+      placed catalog fit hands c (client_begun now) e (with_begun (system_of hands) c (stands_txn (client_begun now).txn)) (at (doing_of hands) c None)
+      (subst (λ (x : ClientAt). IsGoing catalog fit e (with_begun (system_of hands) c x) (at (doing_of hands) c None)) id_same begun_so)
+      (mapped_at stands hands c (hand_of (client_begun now))) (mapped_at (λ (h : Hand). h.client.begun) hands c (hand_of (client_begun now))) (mapped_at (λ (h : Hand). runs h.client) hands c (hand_of (client_begun now)))
+
+  pub told_commit : (text : List ℕ) (t : TxnAt) (moment : ℤ) → now.txn ≡ Some t → reads_commit text ≡ true → is_moment moment ≡ true → IsSo catalog fit hands c (holding now (committing t moment)) (events ++ event.Take c text None ∷ [])
+  told_commit text t moment some reads is =
+      let p = txn_work t moment in
+      let e : List Event = events ++ event.Take c text None ∷ [] in
+      let taken = going_commits catalog fit events (system_of hands) (doing_of hands) g c text t.id t.seen moment (at_open catalog fit events hands g c ready t some) (record { reads = reads; moment = is }) in
+      moved catalog fit hands c (holding now (committing t moment)) e refl
+      (subst (λ (x : ClientAt). IsGoing catalog fit e (with_client (system_of hands) c x) (at (doing_of hands) c None)) (going_stages p (nat_lt 0 (length p.writes)) (nat_lt 0 (length (checks p)))) taken)
+
+  -- a statement ends its transaction without a call
+  pub told_left : (text : List ℕ) (t : TxnAt) (b : Answer) → now.txn ≡ Some t → LeavesAtOnce text b → IsSo catalog fit hands c (client_resting now) (events ++ event.Take c text (Some b) ∷ [])
+  told_left text t b some leaves =
+      moved catalog fit hands c (client_resting now) (events ++ event.Take c text (Some b) ∷ []) refl
+      (going_leaves_so catalog fit events (system_of hands) (doing_of hands) g c t.id t.seen (at_open catalog fit events hands g c ready t some) text b leaves)
+
+  pub told_rollback : (text : List ℕ) (t : TxnAt) → now.txn ≡ Some t → Reads text statement.Rollback → IsSo catalog fit hands c (client_resting now) (events ++ event.Take c text (Some answer.Done) ∷ [])
+  told_rollback text t some reads = told_left text t answer.Done some (inl (refl, other_no_begin text statement.Rollback reads (λ e. cc), (rollback_read text).1 reads))
+
+  memory_plain : IsPlainAnswer answer.NoMemory
+  memory_plain = record { idle = refl; mild = record { undone = refl; agrees = refl; other = λ e. cc } }
+
+  -- out of memory
+  pub told_starved : (text : List ℕ) → IsSo catalog fit hands c (starved text now) (events ++ event.Take c text (Some answer.NoMemory) ∷ [])
+  told_starved text =
+      by_test (reads_commit text)
+      (λ q. rw q (elim (now.txn) as (λ o. now.txn ≡ o → IsSo catalog fit hands c (client_resting now) (events ++ event.Take c text (Some answer.NoMemory) ∷ [])) [
+        | None ↦ λ k.
+            unmoved catalog fit hands c (client_resting now) (events ++ event.Take c text (Some answer.NoMemory) ∷ []) refl (sym (at_rest catalog fit events hands g c ready k)) refl
+            (going_outside catalog fit events (system_of hands) (doing_of hands) g c text answer.NoMemory (at_rest catalog fit events hands g c ready k) memory_plain.mild)
+        | Some t ↦ λ k. told_left text t answer.NoMemory k (inr (refl, q))
+      ] refl))
+      (λ q. rw q (told_same catalog fit events hands g c ready text answer.NoMemory memory_plain q))

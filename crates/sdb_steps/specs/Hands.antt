@@ -1,0 +1,67 @@
+-- The clients of a run, and where each stands in the words of the laws of clients.
+use Rattle.std.specs.Prelude.{◌≡◌, ◌≢◌, ℕ, ◌<◌, ◌^◌, Bool, true, false, if◌then◌else◌, List, Option, Some, None}
+use Rattle.std.specs.Option.{option_map}
+use Rattle.sdb_model.specs.declared.answer.Answer.{Answer}
+use Rattle.sdb_model.specs.declared.answer.Answer.TheVariants as answer
+use Rattle.sdb_model.specs.declared.statement.Statement.{Statement}
+use Rattle.sdb_laws.specs.History.{at}
+use Rattle.sdb_transaction.specs.declared.txn.Doing.{Doing}
+use Rattle.sdb_transaction.specs.declared.txn.Doing.TheVariants as doing
+use Rattle.sdb_transaction.specs.Txn.{TxnAt}
+use Rattle.sdb_client.specs.Client.{ClientAt as Client, IsIdle, Taking, TextTold, starved}
+use Rattle.sdb_model.specs.Transactions.{changes_nothing}
+use Rattle.sdb_linked.specs.Going.{IsMild}
+use Rattle.sdb_turns.specs.Machine.{stands_at}
+use Rattle.sdb_turns.specs.System.{ClientAt, Committing, Open, Reading, Resting, Stopped, SystemAt}
+
+-- A client, and whether it has stopped.
+pub record Hand : Type 0 where
+  pub client : Client
+  pub stopped : Bool
+
+abbrev pub stands_doing : TxnAt → Doing → ClientAt
+stands_doing t doing.Idle = Open t.id t.seen
+stands_doing t (doing.Read a x) = Reading t.id t.seen a (stands_at x.stage)
+stands_doing t (doing.Commit k) = Committing k.work k.stage
+stands_doing t doing.Over = Resting
+
+-- where a client stands by its open transaction
+abbrev pub stands_txn : Option TxnAt → ClientAt
+stands_txn None = Resting
+stands_txn (Some t) = stands_doing t t.doing
+
+abbrev pub stands : Hand → ClientAt
+stands h = if h.stopped then Stopped else stands_txn h.client.txn
+
+-- where all stand, and how many transactions each has begun
+abbrev pub system_of : (ℕ → Hand) → SystemAt
+system_of hands = record { clients = λ c. stands (hands c); begun = λ c. (hands c).client.begun }
+
+-- the statement that a client reads for
+abbrev pub runs : Client → Option Statement
+runs c = option_map (λ p. p.statement) c.plan
+
+abbrev pub doing_of : (ℕ → Hand) → ℕ → Option Statement
+doing_of hands c = runs (hands c).client
+
+-- with one client so
+abbrev pub with_hand : (ℕ → Hand) → ℕ → Client → ℕ → Hand
+with_hand hands c d = at hands c (record { client = d; stopped = false })
+
+-- a client waits for a statement, and has its own number
+pub record IsReady (hands : ℕ → Hand) (c : ℕ) : Type 0 where
+  pub goes_on : (hands c).stopped ≡ false
+  pub number : (hands c).client.number ≡ c
+  pub small : c < 2 ^ 64
+  pub idle : IsIdle (hands c).client
+  pub free : (hands c).client.plan ≡ None
+
+-- What the taking of a text by a client comes to: that, or out of memory.
+pub record Takes (q : Taking) (text : List ℕ) (c : Client) (result : Option Answer) (d : Client) : Type 0 where
+  pub memory : result ≡ Some answer.NoMemory → d ≡ starved text c
+  pub told : result ≢ Some answer.NoMemory → TextTold q text c result d
+
+-- an answer that changes nothing, and is neither of a BEGIN nor of an end
+pub record IsPlainAnswer (b : Answer) : Type 0 where
+  pub idle : changes_nothing b ≡ true
+  pub mild : IsMild b
