@@ -52,7 +52,7 @@ key_read s (access.Get key) h = h
 key_read s (access.Scan span) h = tt
 
 -- what a statement on a table is answered on rows that fit
-from_rows : (t : Table) (st : Statement) (rows : List Image) → changes_nothing (answer_on t st rows) ≡ false → is_answered_from_rows (answer_on t st rows) ≡ true
+pub from_rows : (t : Table) (st : Statement) (rows : List Image) → changes_nothing (answer_on t st rows) ≡ false → is_answered_from_rows (answer_on t st rows) ≡ true
 from_rows t (statement.Insert s) rows h = by_test (is_some (columns_at (key_of t s) rows)) (λ q. rw q refl) (λ q. rw q refl)
 from_rows t (statement.Upsert s) rows h = refl
 from_rows t (statement.Update s) rows h = refl

@@ -2,3 +2,8 @@ pub mod RowsFit
 pub mod Taken
 pub mod Asked
 pub mod Whole
+pub mod Fitted
+pub mod ReadReplies
+pub mod Replied
+pub mod InTables
+pub mod ClientIn

@@ -1,5 +1,5 @@
 -- Whatever a client takes keeps what ties the events to the clients.
-use Rattle.std.proofs.Common.{◌≡◌, ◌≢◌, ℕ, ◌+◌, ◌^◌, ◌<◌, Bool, true, false, ◌||◌, List, [], ◌∷◌, ◌++◌, Option, Some, None, Ok, Err, refl, sym, ap, subst, ◌∙◌}
+use Rattle.std.proofs.Common.{◌≡◌, ◌≢◌, ℕ, ◌^◌, ◌<◌, Bool, true, false, ◌||◌, List, [], ◌∷◌, ◌++◌, Option, Some, None, Ok, Err, refl, sym, ap, subst, ◌∙◌}
 use Rattle.std.specs.Prelude.{IfSome, is_some}
 use Rattle.std.specs.Ordering.{is_eq}
 use Rattle.std.specs.Cmp.{eq_by_cmp_equiv, tied_itself}
@@ -9,7 +9,6 @@ use Rattle.sdb_types.specs.declared.key.TableName.{TableName}
 use Rattle.sdb_types.specs.declared.value.Value.{Value}
 use Rattle.sdb_types.specs.Order.{key_cmp, table_cmp}
 use Rattle.sdb_types.proofs.KeyOrder.{key_exact, table_exact, table_total}
-use Rattle.sdb_record.specs.declared.access.Access.TheVariants as access
 use Rattle.sdb_record.specs.Meta.{is_moment}
 use Rattle.sdb_schema.specs.declared.table.Table.{Table}
 use Rattle.sdb_schema.specs.Catalog.{is_catalog}
@@ -76,7 +75,7 @@ reads_data catalog st table named apart k h =
 
 ---- what a text is read as
 
-literals_read : (text : List ℕ) (st : Statement) → Reads text st → has_all_literals st ≡ true
+pub literals_read : (text : List ℕ) (st : Statement) → Reads text st → has_all_literals st ≡ true
 literals_read text (statement.Insert s) h = eq-eqb _ _ h.2.1
 literals_read text (statement.Upsert s) h = eq-eqb _ _ h.2.1
 literals_read text (statement.Update s) h = refl
@@ -101,7 +100,7 @@ inner_read text st h on = record { begin = other_no_begin text st h on.begin; co
 
 ---- the answer of a taking, by whether it is out of memory
 
-by_memory : {X : Type 0} (r : Option Answer) → (r ≡ Some answer.NoMemory → X) → (r ≢ Some answer.NoMemory → X) → X
+pub by_memory : {X : Type 0} (r : Option Answer) → (r ≡ Some answer.NoMemory → X) → (r ≢ Some answer.NoMemory → X) → X
 by_memory None a b = b (λ e. cc)
 by_memory (Some (answer.Rows rows)) a b = b (λ e. cc)
 by_memory (Some (answer.Count n)) a b = b (λ e. cc)

@@ -1,18 +1,28 @@
 -- The clients of a run, and where each stands in the words of the laws of clients.
-use Rattle.std.specs.Prelude.{◌≡◌, ◌≢◌, ℕ, ◌<◌, ◌^◌, Bool, true, false, if◌then◌else◌, List, Option, Some, None}
+use Rattle.std.specs.Prelude.{◌≡◌, ◌≢◌, ℕ, ◌<◌, ◌^◌, Bool, true, false, if◌then◌else◌, List, Option, Some, None, IsSome}
 use Rattle.std.specs.Option.{option_map}
+use Rattle.sdb_types.specs.declared.record.Request.{Request}
+use Rattle.sdb_types.specs.Contents.{CanAnswer}
+use Rattle.sdb_record.specs.Meta.{is_moment}
+use Rattle.sdb_record.specs.declared.access.Access.{Access}
+use Rattle.sdb_schema.specs.declared.table.Table.{Table}
 use Rattle.sdb_model.specs.declared.answer.Answer.{Answer}
 use Rattle.sdb_model.specs.declared.answer.Answer.TheVariants as answer
 use Rattle.sdb_model.specs.declared.statement.Statement.{Statement}
+use Rattle.sdb_model.specs.Exec.{named_table}
+use Rattle.sdb_model.specs.Refused.{refusal_of}
+use Rattle.sdb_exec.specs.Plans.{Planned, has_all_literals}
+use Rattle.sdb_exec.specs.Reads.{access_of}
 use Rattle.sdb_laws.specs.History.{at}
+use Rattle.sdb_read.specs.Read.{ReadAt, request_of}
 use Rattle.sdb_transaction.specs.declared.txn.Doing.{Doing}
 use Rattle.sdb_transaction.specs.declared.txn.Doing.TheVariants as doing
 use Rattle.sdb_transaction.specs.Txn.{TxnAt}
-use Rattle.sdb_client.specs.Client.{ClientAt as Client, IsIdle, Taking, TextTold, starved}
+use Rattle.sdb_client.specs.Client.{ClientAt as Client, IsBusy, IsIdle, Taking, TextTold, client_pending, starved}
 use Rattle.sdb_model.specs.Transactions.{changes_nothing}
 use Rattle.sdb_linked.specs.Going.{IsMild}
 use Rattle.sdb_turns.specs.Machine.{stands_at}
-use Rattle.sdb_turns.specs.System.{ClientAt, Committing, Open, Reading, Resting, Stopped, SystemAt}
+use Rattle.sdb_turns.specs.System.{ClientAt, ClientCall, Committing, Open, Reading, Resting, Stopped, SystemAt}
 
 -- A client, and whether it has stopped.
 pub record Hand : Type 0 where
@@ -65,3 +75,49 @@ pub record Takes (q : Taking) (text : List ℕ) (c : Client) (result : Option An
 pub record IsPlainAnswer (b : Answer) : Type 0 where
   pub idle : changes_nothing b ≡ true
   pub mild : IsMild b
+
+---- clients that read
+
+-- A read is of a statement that the catalog doesn't refuse, on the statement's table, where its plan reads.
+pub record IsAskedBy (catalog : List Table) (p : Planned) (a : Access) (x : ReadAt) : Type 0 where
+  pub named : named_table catalog p.statement ≡ Some p.table
+  pub asked : p.asked ≡ true
+  pub taken : refusal_of catalog p.statement ≡ None
+  pub literals : has_all_literals p.statement ≡ true
+  pub access : a ≡ access_of p.table p.statement
+  pub request : x.request ≡ request_of a
+
+-- while a statement reads its plan is so, and there is no plan else
+abbrev pub IsUsing : List Table → Doing → Option Planned → Type 0
+IsUsing catalog (doing.Read a x) (Some p) = IsAskedBy catalog p a x
+IsUsing catalog (doing.Read a x) None = ⊥
+IsUsing catalog doing.Over p = ⊥
+IsUsing catalog d p = p ≡ None
+
+abbrev pub IsUsingTxn : List Table → Option TxnAt → Option Planned → Type 0
+IsUsingTxn catalog None p = p ≡ None
+IsUsingTxn catalog (Some t) p = IsUsing catalog t.doing p
+
+-- what a client reads is of a statement that the catalog takes
+abbrev pub IsFitted : List Table → Client → Type 0
+IsFitted catalog c = IsUsingTxn catalog c.txn c.plan
+
+-- a client waits for the reply to a call
+pub record IsWaiting (catalog : List Table) (hands : ℕ → Hand) (c : ℕ) (q : Request) : Type 0 where
+  pub goes_on : (hands c).stopped ≡ false
+  pub pending : client_pending (hands c).client ≡ Some q
+  pub fitted : IsFitted catalog (hands c).client
+
+-- A call of a client is the one that it waits for, and its reply is one that it can get.
+pub record IsCalled (catalog : List Table) (hands : ℕ → Hand) (y : ClientCall) : Type 0 where
+  pub waiting : IsWaiting catalog hands y.client y.request
+  pub can : CanAnswer y.request y.reply
+  pub moment : is_moment y.now ≡ true
+
+-- What a client is after a statement or a reply, with what that answered: the same client, fitted; it waits for a reply where it
+-- answered nothing, and for a statement where it did.
+pub record IsAfter (catalog : List Table) (c : Client) (result : Option Answer) (d : Client) : Type 0 where
+  pub number : d.number ≡ c.number
+  pub fitted : IsFitted catalog d
+  pub busy : result ≡ None → IsBusy d
+  pub idle : IsSome result → IsIdle d

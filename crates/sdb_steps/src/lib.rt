@@ -3,5 +3,8 @@
 //! Each law is the contract of a function with an empty body.
 #![tactic(auto)]
 
+pub mod about;
 pub mod fitting;
+pub mod keeping;
+pub mod replying;
 pub mod taking;

@@ -1,0 +1,244 @@
+-- Whatever a client takes and whatever reply it gets, what it reads then is of a statement that the catalog takes.
+use Rattle.std.proofs.Common.{◌≡◌, ◌≢◌, ℕ, ℤ, Bool, true, false, cond, ◌||◌, List, Option, Some, None, Ok, Err, refl, sym, ap, subst, ◌∙◌}
+use Rattle.std.specs.Prelude.{IfSome, is_some}
+use Rattle.sdb_types.specs.declared.record.Reply.{Reply}
+use Rattle.sdb_record.specs.declared.access.Access.{Access}
+use Rattle.sdb_record.specs.declared.access.Access.TheVariants as access
+use Rattle.sdb_schema.specs.declared.table.Table.{Table}
+use Rattle.sdb_types.specs.declared.record.Record.{Record}
+use Rattle.sdb_model.specs.declared.answer.Answer.{Answer}
+use Rattle.sdb_model.specs.declared.answer.Answer.TheVariants as answer
+use Rattle.sdb_model.specs.declared.answer.Refusal.{Refusal}
+use Rattle.sdb_model.specs.declared.statement.Statement.{Statement}
+use Rattle.sdb_model.specs.declared.statement.Statement.TheVariants as statement
+use Rattle.sdb_model.specs.Causes.{refused}
+use Rattle.sdb_model.specs.Exec.{named_table}
+use Rattle.sdb_model.specs.Refused.{refusal_by, refusal_of}
+use Rattle.sdb_model.specs.Sql.{Reads, reads_commit}
+use Rattle.sdb_model.specs.Transactions.{changes_nothing}
+use Rattle.sdb_exec.specs.declared.plan.PlanStep.{PlanStep}
+use Rattle.sdb_exec.specs.declared.plan.PlanStep.TheVariants.{Finished, Read as Wants}
+use Rattle.sdb_exec.specs.Plans.{Planned}
+use Rattle.sdb_exec.specs.Reads.{access_of}
+use Rattle.sdb_phases.specs.Commit.{preparing}
+use Rattle.sdb_read.specs.declared.read.ReadStep.{ReadStep}
+use Rattle.sdb_read.specs.declared.read.ReadStep.TheVariants as step
+use Rattle.sdb_read.specs.Read.{ReadAt, ReadStage, read_result, read_step}
+use Rattle.sdb_commit.specs.Phases.{CommitAt, IsNext}
+use Rattle.sdb_transaction.specs.declared.progress.Progress.{Progress}
+use Rattle.sdb_transaction.specs.declared.progress.Progress.TheVariants as progress
+use Rattle.sdb_transaction.specs.declared.txn.Doing.{Doing}
+use Rattle.sdb_transaction.specs.declared.txn.Doing.TheVariants as doing
+use Rattle.sdb_transaction.specs.Txn.{CommitTold, IsCommitting, TxnAt, committing, idle as idle_of, work_of}
+use Rattle.sdb_client.specs.declared.next.Next.{Next}
+use Rattle.sdb_client.specs.declared.next.Next.TheVariants as next
+use Rattle.sdb_client.specs.Client.{AskTold, BeginTold, CallTold, ClientAt as Client, CommitNext, CommitTaken, GateTold, ImagesTold, IsIdle, IsTold, NextTold, ReplyTold, RollbackTold, RowsTold, StageTold, StatementTold, TableTold, Taking, TextTold, VacuumTold, after, answer_in, gives, given_answer, given_left, holding, is_covered, next_of, noting, plan_of, resting, starved, with_begun, written}
+use Rattle.sdb_steps.specs.Hands.{IsAfter, IsAskedBy, IsFitted, IsUsing, IsUsingTxn, Takes}
+use Rattle.sdb_steps.proofs.RowsFit.{by_test}
+use Rattle.sdb_steps.proofs.Whole.{by_memory, literals_read}
+
+---- a client that is so after it
+
+no_none : (b : Answer) → ◌≡◌ {A = Option Answer} (Some b) None → ⊥
+no_none b e = cc
+
+none_some : is_some {T = Answer} None ≡ true → ⊥
+none_some e = cc
+
+module _ (catalog : List Table) (c : Client) where
+  as_so : (r result : Option Answer) (u d : Client) → result ≡ r → d ≡ u → IsAfter catalog c r u → IsAfter catalog c result d
+  as_so r result u d e k s = subst (λ (x : Option Answer). IsAfter catalog c x d) (sym e) (subst (λ (x : Client). IsAfter catalog c r x) (sym k) s)
+
+  -- it has answered, and its open transaction does nothing
+  so_left : (b : Answer) (u : TxnAt) → u.doing ≡ doing.Idle → IsAfter catalog c (Some b) (holding c u)
+  so_left b u idle = record { number = refl; fitted = subst (λ (d : Doing). IsUsing catalog d None) (sym idle) refl; busy = λ e. absurd (no_none b e); idle = λ h. idle }
+
+  -- it has answered, and no transaction is open
+  so_ended : (b : Answer) → IsAfter catalog c (Some b) (resting c)
+  so_ended b = record { number = refl; fitted = refl; busy = λ e. absurd (no_none b e); idle = λ h. tt }
+
+  -- it has answered, and is as before
+  so_same : (b : Answer) → IsIdle c → IsFitted catalog c → IsAfter catalog c (Some b) c
+  so_same b idle fitted = record { number = refl; fitted = fitted; busy = λ e. absurd (no_none b e); idle = λ h. idle }
+
+  -- it has answered nothing, and reads
+  so_reads : (t : TxnAt) (p : Planned) (a : Access) (x : ReadAt) (plan : Option Planned) → plan ≡ Some p → IsAskedBy catalog p a x → IsAfter catalog c None (record c { txn = Some (record t { doing = doing.Read a x }); plan = plan })
+  so_reads t p a x plan is asked = record { number = refl; fitted = subst (λ (o : Option Planned). IsUsing catalog (doing.Read a x) o) (sym is) asked; busy = λ e k. cc; idle = λ h. absurd (none_some h) }
+
+  -- it has answered nothing, and commits
+  so_commits : (u : TxnAt) (k : CommitAt) (plan : Option Planned) → plan ≡ None → u.doing ≡ doing.Commit k → IsAfter catalog c None (record c { txn = Some u; plan = plan })
+  so_commits u k plan none commits = record {
+    number = refl;
+    fitted = subst (λ (d : Doing). IsUsing catalog d plan) (sym commits) none;
+    busy = λ e z. no_idle k (sym commits ∙ z);
+    idle = λ h. absurd (none_some h);
+  }
+    where
+      no_idle : (k : CommitAt) → doing.Commit k ≡ doing.Idle → ⊥
+      no_idle k e = cc
+
+-- what a plan leaves does nothing
+left_idle : (was t : TxnAt) (s : PlanStep) → was.doing ≡ doing.Idle → t.doing ≡ doing.Idle → (given_left was t s).doing ≡ doing.Idle
+left_idle was t (Finished a ks) h k = elim (changes_nothing (given_answer t (Finished a ks))) as (λ b. (cond b was (written t ks)).doing ≡ doing.Idle) [ true ↦ h | false ↦ k ]
+left_idle was t (Wants a) h k = h
+
+---- statements
+
+module _ (q : Taking) (text : List ℕ) (c : Client) (is_idle : IsIdle c) (fitted : IsFitted q.catalog c) where
+  abbrev After : Option Answer → Client → Type 0
+  After result d = IsAfter q.catalog c result d
+
+  as_told : (b : Answer) (result : Option Answer) (d : Client) → IsTold c b result d → After result d
+  as_told b result d h = as_so q.catalog c (Some b) result c d h.answer h.same (so_same q.catalog c b is_idle fitted)
+
+  gate_case : (b : Bool) (result : Option Answer) (d : Client) → GateTold b c result d → After result d
+  gate_case true result d h = as_told answer.Vacuuming result d h
+  gate_case false result d h = as_so q.catalog c (Some answer.Done) result (with_begun c) d h.0 h.1 (record { number = refl; fitted = refl; busy = λ e. absurd (no_none answer.Done e); idle = λ k. refl })
+
+  begin_case : (o : Option TxnAt) (result : Option Answer) (d : Client) → BeginTold q.gate c o result d → After result d
+  begin_case (Some t) result d h = as_told (refused 4) result d h
+  begin_case None result d h = gate_case q.gate.vacuum_runs result d h
+
+  commit_case : (o : Option TxnAt) (result : Option Answer) (d : Client) → CommitTaken q.now c o result d → After result d
+  commit_case None result d h = as_told (refused 5) result d h
+  commit_case (Some t) result d h = as_so q.catalog c None result (holding c (committing t q.now)) d h.0 h.1 (so_commits q.catalog c (committing t q.now) (record { work = work_of t q.now; stage = preparing (work_of t q.now) 0 }) None refl refl)
+
+  rollback_case : (o : Option TxnAt) (result : Option Answer) (d : Client) → RollbackTold c o result d → After result d
+  rollback_case None result d h = as_told (refused 5) result d h
+  rollback_case (Some t) result d h = as_so q.catalog c (Some answer.Done) result (resting c) d h.0 h.1 (so_ended q.catalog c answer.Done)
+
+  vacuum_case : (b : Bool) (result : Option Answer) (d : Client) → VacuumTold b c result d → After result d
+  vacuum_case true result d h = as_told answer.OpenTransactions result d h
+  vacuum_case false result d h = absurd h
+
+  rows_case : (st : Statement) (t : TxnAt) (result : Option Answer) (d : Client) (table : Table) → c.txn ≡ Some t → Reads text st → refusal_of q.catalog st ≡ None → named_table q.catalog st ≡ Some table → RowsTold (plan_of table st) (access_of table st) c t result d → After result d
+  rows_case st t result d table e reads taken named h =
+      by_test (is_covered t.seen (access_of table st))
+      (λ b. let r = h.known b in as_so q.catalog c _ result _ d r.0 r.1 (so_left q.catalog c _ _ (left_idle t t (gives (plan_of table st) (access_of table st) t) idle idle)))
+      (λ b. let r = h.unknown b in as_so q.catalog c None result _ d r.0 r.1
+      (so_reads q.catalog c t (plan_of table st) (access_of table st) _ (Some (plan_of table st)) refl (record { named = named; asked = refl; taken = taken; literals = literals_read text st reads; access = refl; request = refl })))
+    where
+      idle : t.doing ≡ doing.Idle
+      idle = subst (λ (o : Option TxnAt). IfSome o (λ u. u.doing ≡ doing.Idle)) e is_idle
+
+  table_case : (st : Statement) (t : TxnAt) (result : Option Answer) (d : Client) → c.txn ≡ Some t → Reads text st → TableTold q st c t result d → After result d
+  table_case st t result d e reads h = by_refusal (refusal_of q.catalog st) refl
+    where
+      by_table : (o : Option Table) → refusal_of q.catalog st ≡ None → named_table q.catalog st ≡ o → After result d
+      by_table (Some table) taken named = rows_case st t result d table e reads taken named (h.reads table taken named)
+      by_table None taken named = absurd (let k : Some (record { kind = 6; place = 0 }) ≡ None = sym (ap (λ (o : Option Table). refusal_by o st) named) ∙ taken in cc)
+
+      by_refusal : (o : Option Refusal) → refusal_of q.catalog st ≡ o → After result d
+      by_refusal (Some r) k = as_told (answer.Refused r) result d (h.refused r k)
+      by_refusal None k = by_table (named_table q.catalog st) k refl
+
+  ask_case : (st : Statement) (o : Option TxnAt) (result : Option Answer) (d : Client) → c.txn ≡ o → Reads text st → AskTold q st c o result d → After result d
+  ask_case st None result d e reads h = as_told (refused 5) result d h
+  ask_case st (Some t) result d e reads h = table_case st t result d e reads h
+
+  statement_case : (st : Statement) (result : Option Answer) (d : Client) → Reads text st → StatementTold q st c result d → After result d
+  statement_case statement.Begin result d reads h = begin_case c.txn result d h
+  statement_case statement.Commit result d reads h = commit_case c.txn result d h
+  statement_case statement.Rollback result d reads h = rollback_case c.txn result d h
+  statement_case statement.Vacuum result d reads h = vacuum_case (is_some c.txn || q.gate.open_elsewhere) result d h
+  statement_case (statement.Insert s) result d reads h = ask_case (statement.Insert s) c.txn result d refl reads h
+  statement_case (statement.Upsert s) result d reads h = ask_case (statement.Upsert s) c.txn result d refl reads h
+  statement_case (statement.Update s) result d reads h = ask_case (statement.Update s) c.txn result d refl reads h
+  statement_case (statement.Delete s) result d reads h = ask_case (statement.Delete s) c.txn result d refl reads h
+  statement_case (statement.Select s) result d reads h = ask_case (statement.Select s) c.txn result d refl reads h
+
+  text_case : (result : Option Answer) (d : Client) → TextTold q text c result d → After result d
+  text_case result d (Ok st, reads, h) = statement_case st result d reads h
+  text_case result d (Err r, reads, h) = as_told (answer.Refused r) result d h
+
+  so_starved : After (Some answer.NoMemory) (starved text c)
+  so_starved = by_test (reads_commit text) (λ b. rw b (so_ended q.catalog c answer.NoMemory)) (λ b. rw b (so_same q.catalog c answer.NoMemory is_idle fitted))
+
+  pub takes_fitted : (result : Option Answer) (d : Client) → Takes q text c result d → After result d
+  takes_fitted result d h = by_memory result (λ e. as_so q.catalog c (Some answer.NoMemory) result (starved text c) d e (h.memory e) so_starved) (λ n. text_case result d (h.told n))
+
+---- replies
+
+pub by_next : {X : Type 0} (n : Next) → (n ≡ next.Answer answer.NoMemory → X) → (n ≢ next.Answer answer.NoMemory → X) → X
+by_next next.Call a b = b (λ e. cc)
+by_next (next.End z) a b = b (λ e. cc)
+by_next (next.Answer z) a b = by_memory (Some z) (λ e. a (same z e)) (λ k. b (λ e. k (other z e)))
+  where
+    same : (z : Answer) → Some z ≡ Some answer.NoMemory → next.Answer z ≡ next.Answer answer.NoMemory
+    same z e = cc
+
+    other : (z : Answer) → next.Answer z ≡ next.Answer answer.NoMemory → Some z ≡ Some answer.NoMemory
+    other z e = cc
+
+module _ (catalog : List Table) (c : Client) where
+  -- where it leads
+  abbrev Left : Next → TxnAt → Type 0
+  Left n u = IsAfter catalog c (answer_in n) (after c n u)
+
+  as_next : (n m : Next) (u v : TxnAt) → n ≡ m → u ≡ v → Left m v → Left n u
+  as_next n m u v e k s = subst (λ (x : Next). Left x u) (sym e) (subst (λ (x : TxnAt). Left m x) (sym k) s)
+
+  -- a read
+  module _ (t : TxnAt) (p : Planned) (a : Access) (x : ReadAt) (plan : c.plan ≡ Some p) (asked : IsAskedBy catalog p a x) where
+    images_case : (images : List Record) (n : Next) (u : TxnAt) → ImagesTold t p a images n u → Left n u
+    images_case images (next.Answer z) u h = so_left catalog c z u (ap (λ (v : TxnAt). v.doing) h.2 ∙ left_idle (idle_of t) (noting t a images) (gives p a (noting t a images)) refl (noting_idle a))
+      where
+        noting_idle : (a : Access) → (noting t a images).doing ≡ doing.Idle
+        noting_idle (access.Get key) = refl
+        noting_idle (access.Scan span) = refl
+    images_case images (next.End z) u h = so_ended catalog c z
+    images_case images next.Call u h = absurd h
+
+    stage_case : (s : ReadStage) (e : ReadStep) (n : Next) (u : TxnAt) → StageTold t p a x s e n u → Left n u
+    stage_case s step.More n u h =
+        as_next n next.Call u _ h.0 h.1
+        (so_reads catalog c t p a (record x { stage = s }) c.plan plan (record { named = asked.named; asked = asked.asked; taken = asked.taken; literals = asked.literals; access = asked.access; request = asked.request }))
+    stage_case s (step.Images images) n u h = images_case images n u h
+    stage_case s (step.Busy key id at) n u h = as_next n _ u (idle_of t) h.0 h.1 (so_left catalog c (answer.Busy key id at) (idle_of t) refl)
+    stage_case s step.Faulted n u h = as_next n _ u (idle_of t) h.0 h.1 (so_left catalog c answer.Faulted (idle_of t) refl)
+    stage_case s (step.BadRecord key) n u h = as_next n _ u (idle_of t) h.0 h.1 (so_left catalog c (answer.BadRecord key) (idle_of t) refl)
+    stage_case s step.NoMemory n u h = absurd h
+
+    call_case : (r : Reply) (now : ℤ) (n : Next) (u : TxnAt) → CallTold t p a x r now n u → Left n u
+    call_case r now n u h =
+        by_next n
+        (λ e. as_next n (next.Answer answer.NoMemory) u (idle_of t) e (h.memory e) (so_left catalog c answer.NoMemory (idle_of t) refl))
+        (λ e. stage_case (read_step x.stage now r) (read_result (read_step x.stage now r)) n u (h.told e))
+
+  -- a COMMIT
+  module _ (t : TxnAt) (k : CommitAt) (r : Reply) (none : c.plan ≡ None) where
+    goes_case : (u : TxnAt) (d : Doing) → u.doing ≡ d → IsCommitting d (λ m. (m.work ≡ k.work) × IsNext k.work k.stage r m.stage) → Left next.Call u
+    goes_case u (doing.Commit m) e h = so_commits catalog c u m c.plan none e
+    goes_case u doing.Idle e h = absurd h
+    goes_case u (doing.Read a x) e h = absurd h
+    goes_case u doing.Over e h = absurd h
+
+    told_case : (g : Progress) (u : TxnAt) → CommitTold t k r g u → Left (next_of g) u
+    told_case progress.More u h = goes_case u u.doing refl (h.next refl)
+    told_case (progress.Rows rows) u h = so_ended catalog c _
+    told_case (progress.Busy key id at) u h = so_ended catalog c _
+    told_case progress.Faulted u h = so_ended catalog c _
+    told_case (progress.BadRecord key) u h = so_ended catalog c _
+    told_case progress.NoMemory u h = so_ended catalog c _
+    told_case (progress.Conflict key found) u h = so_ended catalog c _
+    told_case progress.Committed u h = so_ended catalog c _
+    told_case (progress.Expired id) u h = so_ended catalog c _
+    told_case (progress.Unknown id) u h = so_ended catalog c _
+
+    commit_next : (n : Next) (u : TxnAt) → CommitNext t k r n u → Left n u
+    commit_next n u h = as_next n (next_of h.progress) u u h.next refl (told_case h.progress u h.told)
+
+  next_case : (t : TxnAt) (d : Doing) (o : Option Planned) (r : Reply) (now : ℤ) (n : Next) (u : TxnAt) → c.plan ≡ o → IsUsing catalog d o → NextTold t d o r now n u → Left n u
+  next_case t (doing.Read a x) (Some p) r now n u plan asked h = call_case t p a x plan asked r now n u h
+  next_case t (doing.Commit k) None r now n u plan asked h = commit_next t k r plan n u h
+  next_case t (doing.Read a x) None r now n u plan asked h = absurd h
+  next_case t (doing.Commit k) (Some p) r now n u plan asked h = absurd h
+  next_case t doing.Idle o r now n u plan asked h = absurd h
+  next_case t doing.Over o r now n u plan asked h = absurd h
+
+  txn_case : (o : Option TxnAt) (r : Reply) (now : ℤ) (result : Option Answer) (d : Client) → IsUsingTxn catalog o c.plan → ReplyTold c o r now result d → IsAfter catalog c result d
+  txn_case None r now result d fitted h = absurd h
+  txn_case (Some t) r now result d fitted h = as_so catalog c (answer_in h.next) result (after c h.next h.left) d h.answer h.client (next_case t t.doing c.plan r now h.next h.left refl fitted h.told)
+
+pub replies_fitted : (catalog : List Table) (c : Client) (r : Reply) (now : ℤ) (result : Option Answer) (d : Client) → IsFitted catalog c → ReplyTold c c.txn r now result d → IsAfter catalog c result d
+replies_fitted catalog c r now result d fitted h = txn_case catalog c c.txn r now result d fitted h

@@ -1,0 +1,241 @@
+-- A client that gets a reply to its read keeps what ties the events to the clients.
+use Rattle.std.proofs.Common.{◌≡◌, ℕ, Bool, true, false, ◌||◌, List, [], ◌∷◌, ◌++◌, Option, Some, None, refl, sym, ap, subst, ◌∙◌}
+use Rattle.std.specs.Prelude.{if◌then◌else◌, is_some}
+use Rattle.std.specs.Option.{option_map}
+use Rattle.sdb_types.specs.declared.key.Key.{Key}
+use Rattle.sdb_types.specs.declared.record.Record.{Record}
+use Rattle.sdb_types.specs.declared.record.Request.{Request}
+use Rattle.sdb_types.specs.Exactness.{span_tells}
+use Rattle.sdb_keyed.specs.Entries.{same_key, value_at}
+use Rattle.sdb_record.specs.declared.access.Access.{Access}
+use Rattle.sdb_record.specs.declared.access.Access.TheVariants as access
+use Rattle.sdb_record.specs.declared.access.Scan.{Scan}
+use Rattle.sdb_record.specs.declared.write.Keyed.{Keyed}
+use Rattle.sdb_schema.specs.declared.table.Table.{Table}
+use Rattle.sdb_schema.specs.Catalog.{is_catalog}
+use Rattle.sdb_model.specs.declared.answer.Answer.{Answer}
+use Rattle.sdb_model.specs.declared.answer.Answer.TheVariants as answer
+use Rattle.sdb_model.specs.declared.event.Event.{Event}
+use Rattle.sdb_model.specs.Causes.{refused}
+use Rattle.sdb_model.specs.Refused.{refusal_by}
+use Rattle.sdb_model.specs.Transactions.{changes_nothing, is_answered_from_rows}
+use Rattle.sdb_exec.specs.declared.plan.PlanStep.{PlanStep}
+use Rattle.sdb_exec.specs.declared.plan.PlanStep.TheVariants.{Finished}
+use Rattle.sdb_exec.specs.Plans.{Planned, finished, first_unfit, step_at, step_of}
+use Rattle.sdb_exec.specs.Reads.{access_of}
+use Rattle.sdb_exec.proofs.Places.{named_is_table}
+use Rattle.sdb_laws.specs.History.{at}
+use Rattle.sdb_read.specs.declared.read.ReadStep.TheVariants as step
+use Rattle.sdb_read.specs.Read.{ReadAt, ReadStage, Asking, Resolving, Ended, read_pending_at, read_result, read_step, request_of}
+use Rattle.sdb_snapshot.specs.Held.{AreKept}
+use Rattle.sdb_snapshot.specs.Noted.{Note, is_noted, reads_of}
+use Rattle.sdb_snapshot.specs.Seen.{Seen, is_scanned, overlay, same_span, with_written}
+use Rattle.sdb_snapshot.specs.Written.{AreChanges}
+use Rattle.sdb_snapshot.proofs.Keys.{or_else, same_itself, value_last}
+use Rattle.sdb_transaction.specs.declared.txn.Doing.{Doing}
+use Rattle.sdb_transaction.specs.declared.txn.Doing.TheVariants as doing
+use Rattle.sdb_transaction.specs.Txn.{TxnAt, idle as idle_of, pending, pending_in}
+use Rattle.sdb_client.specs.declared.next.Next.{Next}
+use Rattle.sdb_client.specs.declared.next.Next.TheVariants as next
+use Rattle.sdb_client.specs.Client.{CallTold, ClientAt as Client, ImagesTold, IsAsRead, StageTold, after, answer_in, gives, given_answer, given_left, holding, noting, pending_of, resting, too_many, written}
+use Rattle.sdb_client.specs.Inside.{IsFine, IsKeyRead, MayWrite}
+use Rattle.sdb_client.proofs.Writable.{may_write}
+use Rattle.sdb_turns.specs.Machine.{machine_kind, stands_at}
+use Rattle.sdb_turns.specs.Noted.{MayNote, first_image, with_read}
+use Rattle.sdb_turns.specs.ReadAt.{Done}
+use Rattle.sdb_turns.specs.ReadAt as laws
+use Rattle.sdb_turns.specs.System.{ClientAt, ClientCall, ClientOk, IsReplyTo, Open, Reading, SystemOk, call_event, with_client}
+use Rattle.sdb_turns.proofs.Machine.{machine_asks, machine_kinds, machine_steps}
+use Rattle.sdb_turns.proofs.Quiet.{notes}
+use Rattle.sdb_story.specs.Body.{AnswersOn, IsCovered}
+use Rattle.sdb_linked.specs.Going.{IsGoing}
+use Rattle.sdb_linked.proofs.Small.{same_number}
+use Rattle.sdb_linked.proofs.Steps.{going_differs, going_fails, going_reads, going_tells}
+use Rattle.sdb_steps.specs.Fitting.{tables_fit}
+use Rattle.sdb_steps.specs.Hands.{Hand, IsAskedBy, IsCalled, doing_of, stands_txn, system_of}
+use Rattle.sdb_steps.proofs.RowsFit.{answers_on, by_test}
+use Rattle.sdb_steps.proofs.Asked.{from_rows}
+use Rattle.sdb_steps.proofs.Fitted.{by_next}
+use Rattle.sdb_steps.proofs.Taken.{IsSo, moved}
+
+---- what a read has noted
+
+or_some : (o : Option (Option Record)) (f : Option Record) (b : Bool) → b ≡ true → is_some (or_else o (if b then Some f else None)) ≡ true
+or_some None f b h = rw h refl
+or_some (Some x) f b h = refl
+
+noted_last : (notes : List Note) (k : Key) (f : Option Record) → is_noted (notes ++ (k, f) ∷ []) k ≡ true
+noted_last notes k f = ap is_some (value_last notes k f k) ∙ or_some (value_at notes k) f (same_key k k) (same_itself k)
+
+or_so : (a b : Bool) → b ≡ true → (a || b) ≡ true
+or_so true b h = refl
+or_so false b h = h
+
+scanned_last : (xs : List Scan) (x : Scan) → is_scanned (xs ++ x ∷ []) x.span ≡ true
+scanned_last [] x = ap (λ (b : Bool). b || false) ((span_tells x.span x.span).1 refl)
+scanned_last (y ∷ xs) x = or_so (same_span y.span x.span) (is_scanned (xs ++ x ∷ []) x.span) (scanned_last xs x)
+
+covered_now : (s : Seen) (a : Access) (images : List Record) → IsCovered (with_read s a images) a
+covered_now s (access.Get key) images = noted_last s.notes key (first_image images)
+covered_now s (access.Scan span) images = scanned_last s.scans (record { span = span; found = reads_of images })
+
+key_read_now : (s : Seen) (a : Access) (images : List Record) → IsKeyRead (with_read s a images).notes a
+key_read_now s (access.Get key) images = noted_last s.notes key (first_image images)
+key_read_now s (access.Scan span) images = tt
+
+may_note : (t : TxnAt) (a : Access) (images : List Record) → IsAsRead t a images → MayNote t.seen a images
+may_note t (access.Get key) images h = h
+may_note t (access.Scan span) images h = h
+
+-- The transaction with what its read has found.
+record IsNoting (t : TxnAt) (a : Access) (images : List Record) (v : TxnAt) : Type 0 where
+  id : v.id ≡ t.id
+  seen : v.seen ≡ with_read t.seen a images
+  idle : v.doing ≡ doing.Idle
+
+noting_first : (t : TxnAt) (key : Key) (images : List Record) → IsNoting t (access.Get key) images (noting t (access.Get key) images)
+noting_first t key [] = record { id = refl; seen = refl; idle = refl }
+noting_first t key (r ∷ rs) = record { id = refl; seen = refl; idle = refl }
+
+is_noting : (t : TxnAt) (a : Access) (images : List Record) → IsNoting t a images (noting t a images)
+is_noting t (access.Get key) images = noting_first t key images
+is_noting t (access.Scan span) images = record { id = refl; seen = refl; idle = refl }
+
+pub at_itself : {X : Type 0} (f : ℕ → X) (c : ℕ) (x : X) → at f c x c ≡ x
+at_itself f c x = ap (λ (b : Bool). if b then x else f c) (same_number c)
+
+module _ (catalog : List Table) (events : List Event) (hands : ℕ → Hand) (g : IsGoing catalog (tables_fit catalog) events (system_of hands) (doing_of hands)) (y : ClientCall) (is : is_catalog catalog ≡ true) (called : IsCalled catalog hands y) where
+  abbrev pub now : Client
+  now = (hands y.client).client
+
+  -- what ties them is so with the event of the call
+  abbrev pub RepliedSo : Option Answer → Client → Type 0
+  RepliedSo result d = IsSo catalog (tables_fit catalog) hands y.client d (events ++ call_event y result ∷ [])
+
+  -- where the reply leads
+  abbrev pub LedSo : Next → TxnAt → Type 0
+  LedSo n u = RepliedSo (answer_in n) (after now n u)
+
+  pub as_led : (n m : Next) (u v : TxnAt) → n ≡ m → u ≡ v → LedSo m v → LedSo n u
+  as_led n m u v e k s = subst (λ (x : Next). LedSo x u) (sym e) (subst (λ (x : TxnAt). LedSo m x) (sym k) s)
+
+  module _ (t : TxnAt) (p : Planned) (a : Access) (x : ReadAt) (some : now.txn ≡ Some t) (reads : t.doing ≡ doing.Read a x) (plan : now.plan ≡ Some p) (k : IsAskedBy catalog p a x) where
+    here : (system_of hands).clients y.client ≡ Reading t.id t.seen a (stands_at x.stage)
+    here = rw (called.waiting.goes_on, some, reads) refl
+
+    pends : read_pending_at (request_of a) x.stage ≡ Some y.request
+    pends =
+        let open_txn : pending t ≡ Some y.request = subst (λ (o : Option TxnAt). pending_of o ≡ Some y.request) some called.waiting.pending in
+        let read : read_pending_at x.request x.stage ≡ Some y.request = subst (λ (d : Doing). pending_in d ≡ Some y.request) reads open_txn in
+        subst (λ (q : Request). read_pending_at q x.stage ≡ Some y.request) k.request read
+
+    asked : IsReplyTo (laws.read_pending a (stands_at x.stage)) y
+    asked = record { asked = sym (machine_asks a x.stage) ∙ pends; can = called.can; moment = called.moment }
+
+    runs_it : doing_of hands y.client ≡ Some p.statement
+    runs_it = ap (λ (o : Option Planned). option_map (λ (q : Planned). q.statement) o) plan
+
+    fine : IsFine p
+    fine = record { asked = k.asked; table = named_is_table catalog p.statement p.table is k.named; taken = sym (ap (λ (o : Option Table). refusal_by o p.statement) k.named) ∙ k.taken; literals = k.literals }
+
+    -- the read goes on
+    abbrev read_then : laws.ReadAt
+    read_then = laws.read_step machine_kind (stands_at x.stage) y.now y.reply
+
+    going : IsGoing catalog (tables_fit catalog) (events ++ call_event y None ∷ []) (with_client (system_of hands) y.client (Reading t.id t.seen a read_then)) (at (doing_of hands) y.client (doing_of hands y.client))
+    going = going_reads catalog (tables_fit catalog) events (system_of hands) (doing_of hands) g y.client y.store y.request y.how y.reply y.now machine_kind machine_kinds t.id t.seen a (stands_at x.stage) here asked
+
+    reads_on : (s : ReadStage) → read_step x.stage y.now y.reply ≡ s → RepliedSo None (record now { txn = Some (record t { doing = doing.Read a (record x { stage = s }) }) })
+    reads_on s e =
+        moved catalog (tables_fit catalog) hands y.client (record now { txn = Some (record t { doing = doing.Read a (record x { stage = s }) }) }) (events ++ call_event y None ∷ []) refl
+        (subst (λ (z : laws.ReadAt). IsGoing catalog (tables_fit catalog) (events ++ call_event y None ∷ []) (with_client (system_of hands) y.client (Reading t.id t.seen a z)) (at (doing_of hands) y.client (doing_of hands y.client)))
+        (sym (machine_steps x.stage y.now y.reply) ∙ ap stands_at e) going)
+
+    -- it is answered as one that changes nothing
+    fails : (b : Answer) → changes_nothing b ≡ true → RepliedSo (Some b) (holding now (idle_of t))
+    fails b nothing =
+        moved catalog (tables_fit catalog) hands y.client (holding now (idle_of t)) (events ++ call_event y (Some b) ∷ []) refl
+        (going_fails catalog (tables_fit catalog) events (system_of hands) (doing_of hands) g y.client y.store y.request y.how y.reply y.now machine_kind machine_kinds t.id t.seen a (stands_at x.stage) here asked b p.statement runs_it nothing)
+
+    -- a key that was read differs
+    differs : (key : Key) (found : Option Record) → RepliedSo (Some (answer.Conflict key found)) (resting now)
+    differs key found =
+        moved catalog (tables_fit catalog) hands y.client (resting now) (events ++ call_event y (Some (answer.Conflict key found)) ∷ []) refl
+        (going_differs catalog (tables_fit catalog) events (system_of hands) (doing_of hands) g y.client y.store y.request y.how y.reply y.now machine_kind machine_kinds t.id t.seen a (stands_at x.stage) here asked (answer.Conflict key found) p.statement runs_it refl)
+
+    -- the read is done
+    module _ (images : List Record) (ends : read_step x.stage y.now y.reply ≡ Ended (step.Images images)) (as_read : IsAsRead t a images) where
+      abbrev seen : Seen
+      seen = with_read t.seen a images
+
+      done : read_then ≡ Done images
+      done = sym (machine_steps x.stage y.now y.reply) ∙ ap stands_at ends
+
+      noted : SystemOk going.plan going.past (with_client (with_client (system_of hands) y.client (Reading t.id t.seen a read_then)) y.client (Open t.id seen))
+      noted =
+          notes going.plan going.past (with_client (system_of hands) y.client (Reading t.id t.seen a read_then)) y.client t.id t.seen a images
+          (record { ok = going.system; at = at_itself (system_of hands).clients y.client (Reading t.id t.seen a read_then) ∙ ap (Reading t.id t.seen a) done })
+          (may_note t a images as_read)
+
+      kept : AreKept seen.notes seen.writes
+      kept =
+          (subst (ClientOk going.plan going.past y.client) (at_itself (with_client (system_of hands) y.client (Reading t.id t.seen a read_then)).clients y.client (Open t.id seen)) (noted.each y.client)).1.kept
+
+      step_seen : (v : TxnAt) (b : Answer) (ks : List Keyed) → IsNoting t a images v → gives p a v ≡ Finished b ks → step_of p (overlay (access_of p.table p.statement) seen) ≡ Finished b ks
+      step_seen v b ks n h = sym (ap (λ (q : Access). step_of p (overlay q seen)) k.access) ∙ ap (λ (s : Seen). step_of p (overlay a s)) (sym n.seen) ∙ h
+
+      -- it is answered from the rows
+      tells : (v : TxnAt) (b : Answer) (ks : List Keyed) → IsNoting t a images v → gives p a v ≡ Finished b ks → is_answered_from_rows b ≡ true → RepliedSo (Some b) (holding now (written v ks))
+      tells v b ks n gave rows =
+          let h : step_of p (overlay (access_of p.table p.statement) seen) ≡ Finished b ks = step_seen v b ks n gave in
+          let changes : AreChanges seen.notes ks = subst (MayWrite seen.notes) h (may_write seen p fine kept (subst (IsKeyRead seen.notes) k.access (key_read_now t.seen a images))) in
+          let answers : AnswersOn catalog (tables_fit catalog) seen p.statement a b ks = subst (λ (q : Access). AnswersOn catalog (tables_fit catalog) seen p.statement q b ks) (sym k.access) (answers_on catalog p seen b ks is k.named k.asked k.taken k.literals h) in
+          moved catalog (tables_fit catalog) hands y.client (holding now (written v ks)) (events ++ call_event y (Some b) ∷ []) refl
+          (subst (λ (z : ClientAt). IsGoing catalog (tables_fit catalog) (events ++ call_event y (Some b) ∷ []) (with_client (system_of hands) y.client z) (at (doing_of hands) y.client None)) (sym by_doing)
+          (going_tells catalog (tables_fit catalog) events (system_of hands) (doing_of hands) g y.client y.store y.request y.how y.reply y.now machine_kind machine_kinds t.id t.seen a (stands_at x.stage) here asked b p.statement runs_it images ks
+          rows done (may_note t a images as_read) (covered_now t.seen a images) answers changes))
+        where
+          by_doing : stands_txn (Some (written v ks)) ≡ Open t.id (with_written seen ks)
+          by_doing = rw n.idle (λ i. Open (n.id i) (with_written (n.seen i) ks))
+
+      abbrev Told : TxnAt → PlanStep → Type 0
+      Told v s = RepliedSo (Some (given_answer v s)) (holding now (given_left (idle_of t) v s))
+
+      finished_so : (v : TxnAt) (b : Answer) (ks : List Keyed) → IsNoting t a images v → gives p a v ≡ Finished b ks → (changes_nothing b ≡ false → is_answered_from_rows b ≡ true) → Told v (Finished b ks)
+      finished_so v b ks n gave rows =
+          by_test (changes_nothing b)
+          (λ q. rw q (rw q (fails b q)))
+          (λ q. by_test (too_many v ks) (λ m. rw (q, m) (fails (refused 15) refl)) (λ m. rw (q, m) (rw q (tells v b ks n gave (rows q)))))
+
+      told : (v : TxnAt) → IsNoting t a images v → Told v (gives p a v)
+      told v n = by_unfit (first_unfit p.table (overlay a v.seen)) refl
+        where
+          gave : (o : Option Key) → first_unfit p.table (overlay a v.seen) ≡ o → gives p a v ≡ finished p.table p.statement (overlay a v.seen) o
+          gave o e = ap (λ (b : Bool). step_at b p.table p.statement (overlay a v.seen)) k.asked ∙ ap (finished p.table p.statement (overlay a v.seen)) e
+
+          by_unfit : (o : Option Key) → first_unfit p.table (overlay a v.seen) ≡ o → Told v (gives p a v)
+          by_unfit None e = subst (Told v) (sym (gave None e)) (finished_so v _ _ n (gave None e) (from_rows p.table p.statement (overlay a v.seen)))
+          by_unfit (Some key) e = subst (Told v) (sym (gave (Some key) e)) (finished_so v (answer.BadRecord key) [] n (gave (Some key) e) (λ h. absurd (cc)))
+
+    images_case : (images : List Record) → read_step x.stage y.now y.reply ≡ Ended (step.Images images) → (n : Next) (u : TxnAt) → ImagesTold t p a images n u → LedSo n u
+    images_case images ends (next.Answer z) u h =
+        as_led (next.Answer z) (next.Answer (given_answer (noting t a images) (gives p a (noting t a images)))) u (given_left (idle_of t) (noting t a images) (gives p a (noting t a images))) (ap next.Answer h.1) h.2
+        (told images ends h.0 (noting t a images) (is_noting t a images))
+    images_case images ends (next.End (answer.Conflict key found)) u h = differs key found
+    images_case images ends n u h = absurd h
+
+    stage_case : (s : ReadStage) → read_step x.stage y.now y.reply ≡ s → (n : Next) (u : TxnAt) → StageTold t p a x s (read_result s) n u → LedSo n u
+    stage_case Asking e n u h = as_led n next.Call u (record t { doing = doing.Read a (record x { stage = Asking }) }) h.0 h.1 (reads_on Asking e)
+    stage_case (Resolving images rec meta q left) e n u h = as_led n next.Call u (record t { doing = doing.Read a (record x { stage = Resolving images rec meta q left }) }) h.0 h.1 (reads_on (Resolving images rec meta q left) e)
+    stage_case (Ended step.More) e n u h = as_led n next.Call u (record t { doing = doing.Read a (record x { stage = Ended step.More }) }) h.0 h.1 (reads_on (Ended step.More) e)
+    stage_case (Ended (step.Images images)) e n u h = images_case images e n u h
+    stage_case (Ended (step.Busy key id moment)) e n u h = as_led n (next.Answer (answer.Busy key id moment)) u (idle_of t) h.0 h.1 (fails (answer.Busy key id moment) refl)
+    stage_case (Ended step.Faulted) e n u h = as_led n (next.Answer answer.Faulted) u (idle_of t) h.0 h.1 (fails answer.Faulted refl)
+    stage_case (Ended (step.BadRecord key)) e n u h = as_led n (next.Answer (answer.BadRecord key)) u (idle_of t) h.0 h.1 (fails (answer.BadRecord key) refl)
+    stage_case (Ended step.NoMemory) e n u h = absurd h
+
+    pub replied_read : (n : Next) (u : TxnAt) → CallTold t p a x y.reply y.now n u → LedSo n u
+    replied_read n u h =
+        by_next n
+        (λ e. as_led n (next.Answer answer.NoMemory) u (idle_of t) e (h.memory e) (fails answer.NoMemory refl))
+        (λ e. stage_case (read_step x.stage y.now y.reply) refl n u (h.told e))

@@ -1,0 +1,184 @@
+-- Whatever reply a client's call gets, it keeps what ties the events to the clients.
+use Rattle.std.proofs.Common.{◌≡◌, ℕ, ◌+◌, true, length, List, [], ◌∷◌, ◌++◌, Option, Some, None, refl, sym, ap, subst, ◌∙◌, ◌⊎◌, inl, inr}
+use Rattle.std.specs.Prelude.{nat_lt, slice_get}
+use Rattle.std.specs.Option.{option_map}
+use Rattle.sdb_types.specs.declared.record.Reply.{Reply}
+use Rattle.sdb_schema.specs.declared.table.Table.{Table}
+use Rattle.sdb_schema.specs.Catalog.{is_catalog}
+use Rattle.sdb_model.specs.declared.answer.Answer.{Answer}
+use Rattle.sdb_model.specs.declared.event.Event.{Event}
+use Rattle.sdb_model.specs.declared.statement.Statement.{Statement}
+use Rattle.sdb_exec.specs.Plans.{Planned}
+use Rattle.sdb_laws.specs.History.{at}
+use Rattle.sdb_phases.specs.declared.step.Outcome.{Outcome}
+use Rattle.sdb_phases.specs.declared.step.Outcome.TheVariants as outcome
+use Rattle.sdb_phases.specs.declared.step.ValidateStep.{ValidateStep}
+use Rattle.sdb_phases.specs.declared.step.ValidateStep.TheVariants as validate
+use Rattle.sdb_phases.specs.Work.{Work}
+use Rattle.sdb_phases.specs.Checks.{checks}
+use Rattle.sdb_phases.specs.Steps.{validate_step}
+use Rattle.sdb_phases.specs.Commit.{Stage, Preparing, Checking, Deciding, Forward, Stopping, Back, Over, after_check, pending as commit_pending, starved as starved_stage, step as commit_step}
+use Rattle.sdb_validate.specs.Inside.{Judges}
+use Rattle.sdb_commit.specs.Phases.{CommitAt, IsNext, ended_at}
+use Rattle.sdb_transaction.specs.declared.progress.Progress.TheVariants as progress
+use Rattle.sdb_transaction.specs.declared.txn.Doing.{Doing}
+use Rattle.sdb_transaction.specs.declared.txn.Doing.TheVariants as doing
+use Rattle.sdb_transaction.specs.Txn.{IsCommitting, TxnAt, pending_in, progress_of}
+use Rattle.sdb_client.specs.declared.next.Next.{Next}
+use Rattle.sdb_client.specs.declared.next.Next.TheVariants as next
+use Rattle.sdb_client.specs.Client.{ClientAt as Client, CommitNext, NextTold, ReplyTold, answer_in, next_of, pending_of, resting}
+use Rattle.sdb_turns.specs.System.{ClientAt, ClientCall, Committing, IsReplyTo, answer_at, answer_of_outcome, call_event, commit_left, with_client}
+use Rattle.sdb_linked.specs.Going.{IsGoing}
+use Rattle.sdb_linked.proofs.Rests.{going_starves}
+use Rattle.sdb_linked.proofs.Small.{twice}
+use Rattle.sdb_linked.proofs.Steps.{going_commit_calls}
+use Rattle.sdb_steps.specs.Fitting.{tables_fit}
+use Rattle.sdb_steps.specs.Hands.{Hand, IsCalled, IsUsing, IsUsingTxn, doing_of, stands_doing, system_of}
+use Rattle.sdb_steps.proofs.ReadReplies.{LedSo, RepliedSo, at_itself, replied_read}
+use Rattle.sdb_steps.proofs.Taken.{moved}
+
+---- where a COMMIT goes
+
+-- want of memory stands in place of a conflict alone
+verdict : (p : Work) (i : ℕ) (want v : ValidateStep) → Judges want v → (after_check p i v ≡ after_check p i want) ⊎ (after_check p i v ≡ starved_stage (after_check p i want))
+verdict p i (validate.Conflict key found) validate.NoMemory h = inr refl
+verdict p i validate.NoMemory validate.NoMemory h = inl refl
+verdict p i validate.More validate.NoMemory h = absurd (cc)
+verdict p i validate.Valid validate.NoMemory h = absurd (cc)
+verdict p i validate.Faulted validate.NoMemory h = absurd (cc)
+verdict p i want validate.More h = inl (ap (after_check p i) h)
+verdict p i want validate.Valid h = inl (ap (after_check p i) h)
+verdict p i want (validate.Conflict key found) h = inl (ap (after_check p i) h)
+verdict p i want validate.Faulted h = inl (ap (after_check p i) h)
+
+-- the next stage is that of the protocol, or it is out of memory there
+next_stage : (p : Work) (s : Stage) (r : Reply) (m : Stage) → IsNext p s r m → (m ≡ commit_step p s r) ⊎ (m ≡ starved_stage (commit_step p s r))
+next_stage p (Preparing i) r m h = inl h
+next_stage p (Checking i) r m h = as_verdict (verdict p i (validate_step (nat_lt (i + 1) (length (checks p))) (slice_get (checks p) i) r) h.0 h.1)
+  where
+    as_verdict : (after_check p i h.0 ≡ commit_step p (Checking i) r) ⊎ (after_check p i h.0 ≡ starved_stage (commit_step p (Checking i) r)) → (m ≡ commit_step p (Checking i) r) ⊎ (m ≡ starved_stage (commit_step p (Checking i) r))
+    as_verdict (inl e) = inl (h.2 ∙ e)
+    as_verdict (inr e) = inr (h.2 ∙ e)
+next_stage p (Deciding d) r m h = inl h
+next_stage p (Forward i) r m h = inl h
+next_stage p (Stopping a n) r m h = inl h
+next_stage p (Back a n i) r m h = inl h
+next_stage p (Over a) r m h = inl h
+
+ended_is : (s : Stage) (a : Outcome) → ended_at s ≡ Some a → s ≡ Over a
+ended_is (Preparing i) a e = absurd (cc)
+ended_is (Checking i) a e = absurd (cc)
+ended_is (Deciding d) a e = absurd (cc)
+ended_is (Forward i) a e = absurd (cc)
+ended_is (Stopping b n) a e = absurd (cc)
+ended_is (Back b n i) a e = absurd (cc)
+ended_is (Over b) a e = cc
+
+-- the answer that it ends with
+told_end : (a : Outcome) → next_of (progress_of (Some a)) ≡ next.End (answer_of_outcome a)
+told_end outcome.Committed = refl
+told_end (outcome.Conflict key found) = refl
+told_end (outcome.Expired id) = refl
+told_end outcome.Faulted = refl
+told_end (outcome.Unknown id) = refl
+told_end (outcome.BadRecord key) = refl
+told_end outcome.NoMemory = refl
+
+module _ (catalog : List Table) (events : List Event) (hands : ℕ → Hand) (g : IsGoing catalog (tables_fit catalog) events (system_of hands) (doing_of hands)) (y : ClientCall) (is : is_catalog catalog ≡ true) (called : IsCalled catalog hands y) where
+  abbrev now : Client
+  now = (hands y.client).client
+
+  abbrev Replied : Option Answer → Client → Type 0
+  Replied result d = RepliedSo catalog events hands g y is called result d
+
+  abbrev Led : Next → TxnAt → Type 0
+  Led n u = LedSo catalog events hands g y is called n u
+
+  module _ (t : TxnAt) (k : CommitAt) (some : now.txn ≡ Some t) (commits : t.doing ≡ doing.Commit k) (none : now.plan ≡ None) where
+    here : (system_of hands).clients y.client ≡ Committing k.work k.stage
+    here = rw (called.waiting.goes_on, some, commits) refl
+
+    asked : IsReplyTo (commit_pending k.work k.stage) y
+    asked = record {
+      asked = subst (λ (d : Doing). pending_in d ≡ Some y.request) commits (subst (λ (o : Option TxnAt). pending_of o ≡ Some y.request) some called.waiting.pending);
+      can = called.can;
+      moment = called.moment;
+    }
+
+    abbrev then_at : Stage
+    then_at = commit_step k.work k.stage y.reply
+
+    -- the events are tied to the client where it then stands
+    abbrev Goes : Option Answer → ClientAt → Type 0
+    Goes b z = IsGoing catalog (tables_fit catalog) (events ++ call_event y b ∷ []) (with_client (system_of hands) y.client z) (at (doing_of hands) y.client None)
+
+    goes : Goes (answer_at then_at) (commit_left k.work then_at)
+    goes = going_commit_calls catalog (tables_fit catalog) events (system_of hands) (doing_of hands) g y.client y.store y.request y.how y.reply y.now k.work k.stage here asked
+
+    is_over : (a : Outcome) → then_at ≡ Over a → Replied (Some (answer_of_outcome a)) (resting now)
+    is_over a e =
+        moved catalog (tables_fit catalog) hands y.client (resting now) (events ++ call_event y (Some (answer_of_outcome a)) ∷ []) refl
+        (subst (λ (s : Stage). Goes (answer_at s) (commit_left k.work s)) e goes)
+
+    further : (s : Stage) → then_at ≡ s → ended_at s ≡ None → Goes None (Committing k.work s)
+    further (Preparing i) e n = subst (λ (s : Stage). Goes (answer_at s) (commit_left k.work s)) e goes
+    further (Checking i) e n = subst (λ (s : Stage). Goes (answer_at s) (commit_left k.work s)) e goes
+    further (Deciding d) e n = subst (λ (s : Stage). Goes (answer_at s) (commit_left k.work s)) e goes
+    further (Forward i) e n = subst (λ (s : Stage). Goes (answer_at s) (commit_left k.work s)) e goes
+    further (Stopping a m) e n = subst (λ (s : Stage). Goes (answer_at s) (commit_left k.work s)) e goes
+    further (Back a m i) e n = subst (λ (s : Stage). Goes (answer_at s) (commit_left k.work s)) e goes
+    further (Over a) e n = absurd (cc)
+
+    -- its conflict may be told as out of memory
+    further_starved : ended_at then_at ≡ None → Goes None (Committing k.work (starved_stage then_at))
+    further_starved n =
+        subst (λ z. IsGoing catalog (tables_fit catalog) (events ++ call_event y None ∷ []) z (at (doing_of hands) y.client None)) (twice (system_of hands) y.client (Committing k.work then_at) (Committing k.work (starved_stage then_at)))
+        (going_starves catalog (tables_fit catalog) (events ++ call_event y None ∷ []) (with_client (system_of hands) y.client (Committing k.work then_at)) (at (doing_of hands) y.client None) (further then_at refl n) y.client k.work then_at
+        (at_itself (system_of hands).clients y.client (Committing k.work then_at)))
+
+    goes_there : (m : Stage) → ended_at then_at ≡ None → IsNext k.work k.stage y.reply m → Goes None (Committing k.work m)
+    goes_there m n h = by_next (next_stage k.work k.stage y.reply m h)
+      where
+        by_next : (m ≡ then_at) ⊎ (m ≡ starved_stage then_at) → Goes None (Committing k.work m)
+        by_next (inl e) = subst (λ (s : Stage). Goes None (Committing k.work s)) (sym e) (further then_at refl n)
+        by_next (inr e) = subst (λ (s : Stage). Goes None (Committing k.work s)) (sym e) (further_starved n)
+
+    no_run : option_map (λ (p : Planned). p.statement) now.plan ≡ None
+    no_run = ap (λ (o : Option Planned). option_map (λ (p : Planned). p.statement) o) none
+
+    goes_on : (u : TxnAt) (m : CommitAt) → u.doing ≡ doing.Commit m → m.work ≡ k.work → IsNext k.work k.stage y.reply m.stage → ended_at then_at ≡ None → Replied None (record now { txn = Some u })
+    goes_on u m doing_it same h n =
+        moved catalog (tables_fit catalog) hands y.client (record now { txn = Some u }) (events ++ call_event y None ∷ []) refl
+        (subst (λ (o : Option Statement). IsGoing catalog (tables_fit catalog) (events ++ call_event y None ∷ []) (with_client (system_of hands) y.client (stands_doing u u.doing)) (at (doing_of hands) y.client o)) (sym no_run)
+        (subst (λ (d : Doing). Goes None (stands_doing u d)) (sym doing_it) (subst (λ (p : Work). Goes None (Committing p m.stage)) (sym same) (goes_there m.stage n h))))
+
+    by_doing : (u : TxnAt) (d : Doing) → u.doing ≡ d → IsCommitting d (λ m. (m.work ≡ k.work) × IsNext k.work k.stage y.reply m.stage) → ended_at then_at ≡ None → Led next.Call u
+    by_doing u (doing.Commit m) e h n = goes_on u m e h.0 h.1 n
+    by_doing u doing.Idle e h n = absurd h
+    by_doing u (doing.Read a x) e h n = absurd h
+    by_doing u doing.Over e h n = absurd h
+
+    replied_commit : (n : Next) (u : TxnAt) → CommitNext t k y.reply n u → Led n u
+    replied_commit n u h = by_end (ended_at then_at) refl
+      where
+        by_end : (o : Option Outcome) → ended_at then_at ≡ o → Led n u
+        by_end None e =
+            let more : h.progress ≡ progress.More = h.told.answer ∙ ap progress_of e in
+            subst (λ (x : Next). Led x u) (sym (h.next ∙ ap next_of more)) (by_doing u u.doing refl (h.told.next more) e)
+        by_end (Some a) e = subst (λ (x : Next). Led x u) (sym (h.next ∙ ap next_of (h.told.answer ∙ ap progress_of e) ∙ told_end a)) (is_over a (ended_is then_at a e))
+
+  next_case : (t : TxnAt) (d : Doing) (o : Option Planned) (n : Next) (u : TxnAt) → now.txn ≡ Some t → t.doing ≡ d → now.plan ≡ o → IsUsing catalog d o → NextTold t d o y.reply y.now n u → Led n u
+  next_case t (doing.Read a x) (Some p) n u some does plan fitted h = replied_read catalog events hands g y is called t p a x some does plan fitted n u h
+  next_case t (doing.Commit k) None n u some does plan fitted h = replied_commit t k some does plan n u h
+  next_case t (doing.Read a x) None n u some does plan fitted h = absurd h
+  next_case t (doing.Commit k) (Some p) n u some does plan fitted h = absurd h
+  next_case t doing.Idle o n u some does plan fitted h = absurd h
+  next_case t doing.Over o n u some does plan fitted h = absurd h
+
+  txn_case : (o : Option TxnAt) (result : Option Answer) (d : Client) → now.txn ≡ o → IsUsingTxn catalog o now.plan → ReplyTold now o y.reply y.now result d → Replied result d
+  txn_case None result d e fitted h = absurd h
+  txn_case (Some t) result d e fitted h =
+      subst (λ (r : Option Answer). Replied r d) (sym h.answer) (subst (λ (x : Client). Replied (answer_in h.next) x) (sym h.client) (next_case t t.doing now.plan h.next h.left e refl refl fitted h.told))
+
+  pub replies_so : (result : Option Answer) (d : Client) → ReplyTold now now.txn y.reply y.now result d → Replied result d
+  replies_so result d h = txn_case now.txn result d refl called.waiting.fitted h
