@@ -1,0 +1,44 @@
+-- Events that are tied to their clients, and agree with stores whose tables began empty, are a run of the laws.
+use Rattle.std.proofs.Common.{◌≡◌, ℕ, Bool, List, Option, subst}
+use Rattle.sdb_schema.specs.declared.table.Table.{Table}
+use Rattle.sdb_model.specs.declared.event.Event.{Event}
+use Rattle.sdb_model.specs.declared.script.Place.{Place}
+use Rattle.sdb_model.specs.declared.statement.Statement.{Statement}
+use Rattle.sdb_model.specs.Events.{IsTrace, Shelf}
+use Rattle.sdb_model.specs.Exec.{Tables}
+use Rattle.sdb_laws.specs.Explained.{IsRunOf, events_of, newest_first}
+use Rattle.sdb_laws.specs.Faithful.{IsFaithful}
+use Rattle.sdb_laws.specs.Lawful.{IsLawful, Played}
+use Rattle.sdb_laws.specs.Plan.{Plan}
+use Rattle.sdb_laws.specs.Trace.{IsTraced, StartsEmpty, closing}
+use Rattle.sdb_laws.proofs.Times.{traced_of}
+use Rattle.sdb_turns.specs.System.{SystemAt, SystemOk}
+use Rattle.sdb_story.specs.Telling.{AllStories}
+use Rattle.sdb_story.proofs.Files.{clients_faithful}
+use Rattle.sdb_linked.specs.Going.{IsGoing}
+
+-- The parts of the events, and what the stores held, newest first.
+pub record ByLaws (places : List Place) (events : List Event) (opening end : List Shelf) : Type 0 where
+  pub plan : ℕ → Plan
+  pub played : List Played
+  pub held : List (List Shelf)
+  pub same : events ≡ events_of played
+  pub end_is : closing opening held ≡ end
+  pub run : IsRunOf plan places opening (newest_first played) held
+  pub faithful : IsFaithful (events_of played) (newest_first played)
+
+pub by_laws : (catalog : List Table) (fit : Tables → Bool) (events : List Event) (sys : SystemAt) (doing : ℕ → Option Statement) (places : List Place) (opening end : List Shelf) (moments : List (List Shelf)) → IsGoing catalog fit events sys doing → IsTrace places events opening moments end → StartsEmpty places opening → ByLaws places events opening end
+by_laws catalog fit events sys doing places opening end moments g trace empty = record {
+  plan = g.plan;
+  played = g.played;
+  held = newest_first moments;
+  same = g.same;
+  end_is = turned.1;
+  run = record { empty = empty; lawful = subst (IsLawful g.plan) g.turned g.system.lawful; traced = turned.0 };
+  faithful = clients_faithful g.plan (events_of g.played) (newest_first g.played) sys g.told
+      (subst (λ ps. SystemOk g.plan ps sys) g.turned g.system)
+      (subst (λ ps. AllStories (events_of g.played) ps sys g.told) g.turned (subst (λ es. AllStories es g.past sys g.told) g.same g.stories));
+}
+  where
+    turned : IsTraced places opening (newest_first g.played) (newest_first moments) × (closing opening (newest_first moments) ≡ end)
+    turned = traced_of places opening g.played moments end (subst (λ es. IsTrace places es opening moments end) g.same trace)

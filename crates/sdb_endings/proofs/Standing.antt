@@ -1,0 +1,107 @@
+-- What stands at the keys of tables are transactional records, and what stands in the coordinator's table are well formed rows.
+use Rattle.std.proofs.Common.{◌≡◌, ◌≢◌, ◌<◌, ◌^◌, ℕ, Bool, true, false, List, Option, Some, None, refl, sym, ap, ◌∙◌, subst}
+use Rattle.std.specs.Prelude.{◌&&◌, not, IsOk, Result, Ok, Err, is_ok}
+use Rattle.std.specs.Option.{option_map}
+use Rattle.sdb_types.specs.declared.key.Key.{Key}
+use Rattle.sdb_types.specs.declared.record.Record.{Record}
+use Rattle.sdb_types.specs.declared.record.State.TheVariants.{Committed}
+use Rattle.sdb_record.specs.declared.coordinator.Decided.{Decided}
+use Rattle.sdb_record.specs.declared.coordinator.Decision.{Decision}
+use Rattle.sdb_record.specs.Coordinator.{coordinator_key_of, coordinator_row_of, decision_in, is_coordinator_table}
+use Rattle.sdb_record.specs.Meta.{checked, is_in, is_taken, is_unresolved}
+use Rattle.sdb_record.specs.Parts.{are_stored}
+use Rattle.sdb_record.proofs.ImageLaws.{prepared-unresolved, row-decision}
+use Rattle.sdb_record.proofs.RollLaws.{forward-taken}
+use Rattle.sdb_model.specs.declared.event.Event.{Event}
+use Rattle.sdb_model.specs.declared.script.Place.{Place}
+use Rattle.sdb_model.specs.Events.{Shelf, standing}
+use Rattle.sdb_laws.specs.Explained.{newest_first}
+use Rattle.sdb_laws.specs.History.{Firm, Held, History, Standing}
+use Rattle.sdb_laws.specs.Lawful.{id, is_data}
+use Rattle.sdb_laws.specs.Plan.{Plan, written}
+use Rattle.sdb_laws.specs.Records.{firm_record, held_record, record_for, write_there}
+use Rattle.sdb_laws.specs.Trace.{closing, history}
+use Rattle.sdb_laws.proofs.Known.{IsPlanned, taken_fits, took_is_taken, writer_taken, writes_it}
+use Rattle.sdb_laws.proofs.Times.{whole_of}
+use Rattle.sdb_laws.proofs.Whole.{Whole}
+use Rattle.sdb_endings.specs.Points.{AreKnown}
+use Rattle.sdb_endings.proofs.Others.{only_rows}
+use Rattle.sdb_endings.proofs.Runs.{ByLaws}
+
+---- records
+
+held_unresolved : (plan : ℕ → Plan) (t : ℕ) (k : Key) → IsPlanned plan t → t < 2 ^ 128 → written (plan t) k ≢ None → is_unresolved (held_record plan t k) ≡ true
+unfolding held_record
+held_unresolved plan t k planned fits writes = prepared-unresolved (write_there (plan t) k) (id t) (plan t).now (planned.write k (write_there (plan t) k) (writes_it (plan t) k writes)).0 fits planned.moment
+
+firm_taken : (plan : ℕ → Plan) (t : ℕ) (k : Key) → IsPlanned plan t → t < 2 ^ 128 → written (plan t) k ≢ None → is_taken (firm_record plan t k) ≡ true
+unfolding firm_record
+firm_taken plan t k planned fits writes = forward-taken (held_record plan t k) (plan t).now (held_unresolved plan t k planned fits writes) planned.moment
+
+left : (a b : Bool) → (a && b) ≡ true → a ≡ true
+left true b h = refl
+left false b h = absurd (cc)
+
+right : (a b : Bool) → (a && b) ≡ true → b ≡ true
+right true b h = h
+right false b h = absurd (cc)
+
+held_taken : (r : Record) → is_unresolved r ≡ true → is_taken r ≡ true
+held_taken r h = left (is_taken r) (not (is_in Committed r.columns)) h
+
+ok_of : {A E : Type 0} (x : Result A E) → is_ok x ≡ true → IsOk x
+ok_of (Ok a) h = refl
+ok_of (Err e) h = absurd (cc)
+
+meta_ok : (r : Record) → is_taken r ≡ true → IsOk (checked r.columns)
+meta_ok r h = ok_of (checked r.columns) (right (are_stored r.columns) (is_ok (checked r.columns)) h)
+
+some_is : (x y : Record) → Some x ≡ Some y → x ≡ y
+some_is x y e = cc
+
+module _ (places : List Place) (events : List Event) (opening end : List Shelf) (b : ByLaws places events opening end) where
+  whole : Whole b.plan places (history b.plan places opening (newest_first b.played) b.held) (newest_first b.played) (closing opening b.held)
+  whole = whole_of b.plan places opening (newest_first b.played) b.held b.run
+
+  record_taken : (k : Key) (r : Record) → is_data k ≡ true → standing places end k ≡ Some r → is_taken r ≡ true
+  record_taken k r outside at = by ((history b.plan places opening (newest_first b.played) b.held).rows k) refl (sym (whole.held.records k outside) ∙ ap (λ s. standing places s k) b.end_is ∙ at)
+    where
+      w : History
+      w = history b.plan places opening (newest_first b.played) b.held
+
+      by : (s : Option Standing) → (history b.plan places opening (newest_first b.played) b.held).rows k ≡ s → option_map (record_for b.plan k) s ≡ Some r → is_taken r ≡ true
+      by None e h = absurd (cc)
+      by (Some (Firm t)) e h =
+          let writer = whole.all.one.firm k t e in
+          let taken = writer_taken b.plan w k t whole.all.one.taken writer in
+          subst (λ x. is_taken x ≡ true) (some_is (firm_record b.plan t k) r h) (firm_taken b.plan t k (whole.knows.planned t taken) (taken_fits w t whole.all.one.begun whole.knows.fits taken) writer.1)
+      by (Some (Held t)) e h =
+          let took = whole.all.one.held k t e in
+          let taken = took_is_taken w t k whole.all.one.taken took in
+          let asked = ((whole.all.one.took t k).0 took).0 in
+          subst (λ x. is_taken x ≡ true) (some_is (held_record b.plan t k) r h) (held_taken (held_record b.plan t k) (held_unresolved b.plan t k (whole.knows.planned t taken) (taken_fits w t whole.all.one.begun whole.knows.fits taken) (whole.all.one.asked t k asked)))
+
+  row_ok : (t : ℕ) (row : Record) → t < 2 ^ 128 → standing places end (coordinator_key_of (id t)) ≡ Some row → IsOk (decision_in row)
+  row_ok t row fits at = by ((history b.plan places opening (newest_first b.played) b.held).row t) refl (sym (whole.held.rows t fits) ∙ ap (λ s. standing places s (coordinator_key_of (id t))) b.end_is ∙ at)
+    where
+      w : History
+      w = history b.plan places opening (newest_first b.played) b.held
+
+      by : (o : Option Decision) → (history b.plan places opening (newest_first b.played) b.held).row t ≡ o → option_map (λ d. coordinator_row_of (id t) d ((history b.plan places opening (newest_first b.played) b.held).moment t)) o ≡ Some row → IsOk (decision_in row)
+      by None e h = absurd (cc)
+      by (Some d) e h = subst (λ x. IsOk (decision_in x)) (some_is (coordinator_row_of (id t) d (w.moment t)) row h) (subst (λ (x : Result Decided (List ℕ)). IsOk x) (sym (row-decision (id t) d (w.moment t) fits ((whole.knows.moments t).some (λ n. apart (sym e ∙ n))))) refl)
+        where
+          apart : Some d ≡ None → ⊥
+          apart x = absurd (cc)
+
+  each_row : (k : Key) (row : Record) → is_coordinator_table k.table ≡ true → standing places end k ≡ Some row → IsOk (decision_in row)
+  each_row k row of_rows at =
+      let key = only_rows b.plan places opening (newest_first b.played) b.held k row b.run.empty b.run.lawful b.run.traced (ap not of_rows) (ap (λ s. standing places s k) b.end_is ∙ at) in
+      row_ok key.t row key.fits (ap (standing places end) (sym key.same) ∙ at)
+
+  pub are_known : AreKnown places end
+  are_known = record {
+    taken = record_taken;
+    meta = λ k r outside at. meta_ok r (record_taken k r outside at);
+    rows = each_row;
+  }

@@ -1,0 +1,4 @@
+pub mod Ending
+pub mod Order
+pub mod Points
+pub mod Stores

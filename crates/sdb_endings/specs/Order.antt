@@ -1,0 +1,18 @@
+-- Transactions by their points.
+use Rattle.std.specs.Prelude.{◌≡◌, ◌≢◌, List, map, All, Contains}
+use Rattle.std.specs.List.Sorted.{IsStrictlyIncreasing}
+use Rattle.sdb_types.specs.declared.txid.TxId.{TxId}
+use Rattle.sdb_model.specs.declared.event.Event.{Event}
+use Rattle.sdb_model.specs.declared.event.Point.{Point}
+use Rattle.sdb_model.specs.Transactions.{point}
+
+-- Of the ids of a list, two that have one point, other than 0, are one.
+abbrev pub ArePointsApart : List Event → List TxId → Type 0
+ArePointsApart events ids = (id other : TxId) → Contains ids id → Contains ids other → point events id ≡ point events other → point events id ≢ 0 → id ≡ other
+
+-- Those of a list that have a point, each with it, by rising point.
+pub record HasRisen (events : List Event) (ids : List TxId) (order : List Point) : Type 0 where
+  pub points : All (λ p. p.event ≡ point events p.id) order
+  pub rising : IsStrictlyIncreasing (map (λ p. p.event) order)
+  pub among : (id : TxId) → Contains (map (λ p. p.id) order) id → Contains ids id × (point events id ≢ 0)
+  pub whole : ArePointsApart events ids → (id : TxId) → Contains ids id → point events id ≢ 0 → Contains (map (λ p. p.id) order) id
