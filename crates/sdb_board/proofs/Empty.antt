@@ -1,0 +1,156 @@
+-- Stores whose tables hold no record.
+use Rattle.std.proofs.Common.{◌≡◌, ◌∙◌, inl, inr, ℕ, zero, suc, ◌+◌, ◌<◌, ◌≤◌, Bool, true, List, [], ◌∷◌, ◌++◌, length, take, get_or, Option, Some, None, refl, sym, ap, subst}
+use Rattle.std.specs.Prelude.{◌&&◌, slice_get}
+use Rattle.std.specs.FinMap.{empty, get-empty}
+use Rattle.std.specs.List.{AllByRecursion, flat_map}
+use Rattle.std.specs.Option.{option_map, option_map_or}
+use Rattle.std.specs.Ordering.{is_eq}
+use Rattle.std.specs.Cmp.{tied_itself}
+use Rattle.std.proofs.Math.Numerals.{add-one}
+use Rattle.std.proofs.lemmas.List.{append-nil}
+use Rattle.std.proofs.lemmas.Option.{slice_get-get_or}
+use Rattle.sdb_types.specs.declared.key.Key.{Key}
+use Rattle.sdb_types.specs.declared.key.TableName.{TableName}
+use Rattle.sdb_types.specs.declared.record.Record.{Record}
+use Rattle.sdb_types.specs.declared.record.Request.TheVariants as ask
+use Rattle.sdb_types.specs.declared.record.Reply.{Reply}
+use Rattle.sdb_types.specs.declared.record.Reply.TheVariants as reply
+use Rattle.sdb_types.specs.Contents.{Contents, record_at, record_of, rows_in, in_span}
+use Rattle.sdb_types.specs.Order.{key_cmp}
+use Rattle.sdb_types.proofs.KeyOrder.{table_total}
+use Rattle.sdb_laws.specs.Lawful.{row_among}
+use Rattle.sdb_laws.proofs.Shown.{row_there}
+use Rattle.sdb_schema.specs.declared.table.Table.{Table}
+use Rattle.sdb_stores.specs.Shelf.{Shelf as Counted}
+use Rattle.sdb_stores.specs.declared.place.Place.{Place as Placed}
+use Rattle.sdb_model.specs.declared.script.Place.{Place}
+use Rattle.sdb_model.specs.Events.{Shelf, held_by, store_of}
+use Rattle.sdb_spread.specs.Spread.{HoldAs, is_played}
+use Rattle.sdb_board.specs.Board.{AreFit, GoOn, IsCalled, placed, shown}
+use Rattle.sdb_board.specs.Opening.{records_of, run_tables, opening_records, first_key, whole}
+use Rattle.sdb_board.proofs.Lists.{all_at, taken_up}
+use Rattle.sdb_board.proofs.RunTables.{names_played, of_played}
+
+nothing_at : (key : Key) → record_at empty key ≡ None
+nothing_at key = ap (option_map (λ columns. record_of (key, columns))) (get-empty key_cmp key)
+
+inside : (key : Key) → in_span (whole key.table) key ≡ true
+inside key = ap (λ (b : Bool). b && true) (ap is_eq (tied_itself table_total key.table))
+
+-- no rows of a table are no record at its keys
+none_of_table : (m : Contents) (key : Key) → rows_in (whole key.table) m ≡ [] → record_at m key ≡ None
+none_of_table m key e = sym (row_there (whole key.table) key m (inside key)) ∙ ap (λ (rows : List Record). row_among rows key) e
+
+none_there : (o : Option Contents) (key : Key) → option_map_or (rows_in (whole key.table)) o [] ≡ [] → option_map_or (λ (m : Contents). record_at m key) o None ≡ None
+none_there None key e = refl
+none_there (Some m) key e = none_of_table m key e
+
+pub none_first : (rows : List Record) → first_key rows ≡ None → rows ≡ []
+none_first [] e = refl
+none_first (r ∷ rs) e = absurd (cc)
+
+no_append : {A : Type 0} (xs ys : List A) → xs ++ ys ≡ [] → (xs ≡ []) × (ys ≡ [])
+no_append [] ys e = (refl, e)
+no_append (x ∷ xs) ys e = absurd (cc)
+
+-- where tables together hold no record, each holds none
+none_each : (f : TableName → List Record) (ts : List TableName) → flat_map f ts ≡ [] → AllByRecursion (λ (t : TableName). f t ≡ []) ts
+none_each f [] e = tt
+none_each f (t ∷ ts) e = let both = no_append (f t) (flat_map f ts) e in (both.0, none_each f ts both.1)
+
+-- where there is no first record, there is none
+pub no_record : (catalog : List Table) (places : List Place) (shelves : List Shelf) → first_key (opening_records catalog places shelves) ≡ None → HoldAs catalog places shelves empty
+no_record catalog places shelves e =
+    let each = none_each (records_of places shelves) (run_tables catalog) (none_first (opening_records catalog places shelves) e) in
+    record {
+      at = λ key about.
+          none_there (held_by shelves (store_of places shelves key.table.ns)) key (of_played (λ (t : TableName). records_of places shelves t ≡ []) catalog key.table each about) ∙ sym (nothing_at key);
+    }
+
+-- the rows that a scan found are those of its table
+pub scanned : (places : List Place) (name table : TableName) (rows : List Record) (r : Reply) (before now : List Shelf) → name ≡ table → r ≡ reply.Rows rows → IsCalled places (ask.Scan (whole name)) r before now → rows ≡ records_of places before table
+scanned places name table rows r before now named is h = by (subst (λ (x : Reply). IsCalled places (ask.Scan (whole name)) x before now) is h)
+  where
+    rows_is : (xs ys : List Record) → reply.Rows xs ≡ reply.Rows ys → xs ≡ ys
+    rows_is xs ys e = cc
+
+    by : IsCalled places (ask.Scan (whole name)) (reply.Rows rows) before now → rows ≡ records_of places before table
+    by k = elim k.performed [
+      | inl e ↦ rows_is rows (rows_in (whole name) k.held) (sym (ap (λ (x : Reply × Contents). x.0) e)) ∙ sym (ap (λ (o : Option Contents). option_map_or (rows_in (whole name)) o []) k.found) ∙ ap (records_of places before) named
+      | inr w ↦ absurd (let f : reply.Rows rows ≡ reply.NoMemory = w.0 in cc)
+    ]
+
+---- the first record
+
+first_stays : (xs ys : List Record) (key : Key) → first_key xs ≡ Some key → first_key (xs ++ ys) ≡ Some key
+first_stays [] ys key e = absurd (cc)
+first_stays (x ∷ xs) ys key e = e
+
+some_is : {A : Type 0} (x y : A) → Some x ≡ Some y → x ≡ y
+some_is x y e = cc
+
+none_some : {A : Type 0} (x : A) → ◌≡◌ {A = Option A} None (Some x) → ⊥
+none_some x e = cc
+
+-- where the tables before hold none, the first of the next is the first of all
+first_behind : (f : TableName → List Record) (ts : List TableName) (i : ℕ) (t : TableName) (key : Key) → slice_get ts i ≡ Some t → flat_map f (take i ts) ≡ [] → first_key (f t) ≡ Some key → first_key (flat_map f ts) ≡ Some key
+first_behind f [] i t key here none first = absurd (none_some t here)
+first_behind f (x ∷ ts) zero t key here none first = first_stays (f x) (flat_map f ts) key (ap (λ (y : TableName). first_key (f y)) (some_is x t here) ∙ first)
+first_behind f (x ∷ ts) (suc i) t key here none first =
+    let both = no_append (f x) (flat_map f (take i ts)) none in
+    ap (λ (rows : List Record). first_key (rows ++ flat_map f ts)) both.0 ∙ first_behind f ts i t key here both.1 first
+
+-- one table more that holds none
+none_behind : (f : TableName → List Record) (ts : List TableName) (i : ℕ) (t : TableName) → slice_get ts i ≡ Some t → flat_map f (take i ts) ≡ [] → f t ≡ [] → flat_map f (take (suc i) ts) ≡ []
+none_behind f [] i t here none empty = absurd (none_some t here)
+none_behind f (x ∷ ts) zero t here none empty = append-nil (f x) ∙ ap f (some_is x t here) ∙ empty
+none_behind f (x ∷ ts) (suc i) t here none empty =
+    let both = no_append (f x) (flat_map f (take i ts)) none in
+    ap (λ (rows : List Record). rows ++ flat_map f (take (suc i) ts)) both.0 ∙ none_behind f ts i t here both.1 empty
+
+-- the table that is looked at
+pub looked_at : (ts : List TableName) (i : ℕ) (t : TableName) → i < length ts → t ≡ get_or ts i t → slice_get ts i ≡ Some t
+looked_at ts i t within is = slice_get-get_or ts i t within ∙ ap Some (sym is)
+
+---- table by table
+
+-- a table that is scanned behind others holds what it held at first
+pub scanned_behind : {t u : ℕ → Type 0} (catalog : List Table) (p q : List Placed) (old mid : List Counted) (table : TableName) (rows : List Record) → GoOn p q old mid t u → (AreFit catalog p old t → shown mid ≡ shown old)
+    → ((c : List Table) → AreFit c q mid u → is_played c table ≡ true → rows ≡ records_of (placed q) (shown mid) table) → is_played catalog table ≡ true → AreFit catalog p old t → rows ≡ records_of (placed p) (shown old) table
+scanned_behind catalog p q old mid table rows goes still found about fit =
+    found catalog (goes.fit catalog fit) about ∙ ap (λ (ps : List Placed). records_of (placed ps) (shown mid) table) goes.places ∙ ap (λ (ss : List Shelf). records_of (placed p) ss table) (still fit)
+
+-- nothing became of the stores by a scan more
+pub still_behind : {t u : ℕ → Type 0} (catalog : List Table) (p q : List Placed) (old mid new : List Counted) (table : TableName) → GoOn p q old mid t u → (AreFit catalog p old t → shown mid ≡ shown old)
+    → ((c : List Table) → AreFit c q mid u → is_played c table ≡ true → shown new ≡ shown mid) → is_played catalog table ≡ true → AreFit catalog p old t → shown new ≡ shown old
+still_behind catalog p q old mid new table goes before after about fit = after catalog (goes.fit catalog fit) about ∙ before fit
+
+-- each table that is looked at is one of the run's
+pub looked_about : (catalog : List Table) (ts : List TableName) (i : ℕ) (table : TableName) → ts ≡ run_tables catalog → slice_get ts i ≡ Some table → is_played catalog table ≡ true
+looked_about catalog ts i table all here =
+    all_at (λ (n : TableName). is_played catalog n ≡ true) ts i table (subst (AllByRecursion (λ (n : TableName). is_played catalog n ≡ true)) (sym all) (names_played catalog)) here
+
+-- what the tables so far hold
+abbrev pub looked : List Placed → List Counted → List TableName → ℕ → List Record
+looked places shelves ts i = flat_map (records_of (placed places) (shown shelves)) (take i ts)
+
+-- a table that holds no record
+pub look_on : {t u : ℕ → Type 0} (catalog : List Table) (p q : List Placed) (old mid : List Counted) (ts : List TableName) (i : ℕ) (table : TableName) (rows : List Record) (first : Option Key) → ts ≡ run_tables catalog → slice_get ts i ≡ Some table → GoOn p q old mid t u → (AreFit catalog p old t → shown mid ≡ shown old)
+    → (AreFit catalog p old t → looked p old ts i ≡ []) → ((c : List Table) → AreFit c q mid u → is_played c table ≡ true → rows ≡ records_of (placed q) (shown mid) table) → first ≡ first_key rows → first ≡ None
+    → AreFit catalog p old t → looked p old ts (i + 1) ≡ []
+look_on catalog p q old mid ts i table rows first all here goes still before found is none fit =
+    let rows_are = scanned_behind catalog p q old mid table rows goes still found (looked_about catalog ts i table all here) fit in
+    ap (looked p old ts) (add-one i) ∙ none_behind (records_of (placed p) (shown old)) ts i table here (before fit) (sym rows_are ∙ none_first rows (sym is ∙ none))
+
+-- a table that holds one
+pub look_found : {t u : ℕ → Type 0} (catalog : List Table) (p q : List Placed) (old mid : List Counted) (ts : List TableName) (i : ℕ) (table : TableName) (rows : List Record) (first : Option Key) (key : Key) → ts ≡ run_tables catalog → slice_get ts i ≡ Some table → GoOn p q old mid t u → (AreFit catalog p old t → shown mid ≡ shown old)
+    → (AreFit catalog p old t → looked p old ts i ≡ []) → ((c : List Table) → AreFit c q mid u → is_played c table ≡ true → rows ≡ records_of (placed q) (shown mid) table) → first ≡ first_key rows → first ≡ Some key
+    → AreFit catalog p old t → Some key ≡ first_key (opening_records catalog (placed p) (shown old))
+look_found catalog p q old mid ts i table rows first key all here goes still before found is some fit =
+    let rows_are = scanned_behind catalog p q old mid table rows goes still found (looked_about catalog ts i table all here) fit in
+    sym (ap (λ (xs : List TableName). first_key (flat_map (records_of (placed p) (shown old)) xs)) (sym all) ∙ first_behind (records_of (placed p) (shown old)) ts i table key here (before fit) (ap first_key (sym rows_are) ∙ sym is ∙ some))
+
+-- all hold none
+pub look_done : {t : ℕ → Type 0} (catalog : List Table) (p : List Placed) (old : List Counted) (ts : List TableName) (i : ℕ) → ts ≡ run_tables catalog → length ts ≤ i → (AreFit catalog p old t → looked p old ts i ≡ []) → AreFit catalog p old t → None ≡ first_key (opening_records catalog (placed p) (shown old))
+look_done catalog p old ts i all up before fit =
+    sym (ap first_key (ap (flat_map (records_of (placed p) (shown old))) (sym all ∙ sym (taken_up ts i up)) ∙ before fit))

@@ -1,0 +1,27 @@
+-- Lists, place by place.
+use Rattle.std.proofs.Common.{◌≡◌, ℕ, zero, suc, ◌≤◌, List, [], ◌∷◌, ◌++◌, length, take, Option, Some, None, refl, sym, ap, subst, arith}
+use Rattle.std.specs.Prelude.{slice_get}
+use Rattle.std.specs.List.{AllByRecursion}
+
+some_is : {A : Type 0} (x y : A) → Some x ≡ Some y → x ≡ y
+some_is x y e = cc
+
+none_some : {A : Type 0} (x : A) → ◌≡◌ {A = Option A} None (Some x) → ⊥
+none_some x e = cc
+
+pub take_suc : {A : Type 0} (xs : List A) (i : ℕ) (x : A) → slice_get xs i ≡ Some x → take (suc i) xs ≡ take i xs ++ x ∷ []
+take_suc [] i x e = absurd (none_some x e)
+take_suc (y ∷ ys) zero x e = ap (λ z. z ∷ []) (some_is y x e)
+take_suc (y ∷ ys) (suc i) x e = ap (λ zs. y ∷ zs) (take_suc ys i x e)
+
+pub taken_up : {A : Type 0} (xs : List A) (i : ℕ) → length xs ≤ i → take i xs ≡ xs
+taken_up [] zero h = refl
+taken_up [] (suc i) h = refl
+taken_up (x ∷ xs) zero h = absurd (omega arith)
+taken_up (x ∷ xs) (suc i) h = ap (λ ys. x ∷ ys) (taken_up xs i (omega arith))
+
+-- what is so of each is so of the i-th
+pub all_at : {A : Type 0} (P : A → Type 0) (xs : List A) (i : ℕ) (x : A) → AllByRecursion P xs → slice_get xs i ≡ Some x → P x
+all_at P [] i x h e = absurd (none_some x e)
+all_at P (y ∷ ys) zero x h e = subst P (some_is y x e) h.0
+all_at P (y ∷ ys) (suc i) x h e = all_at P ys i x h.1 e

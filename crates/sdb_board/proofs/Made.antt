@@ -1,0 +1,131 @@
+-- One call on the store of its table, as events have it.
+use Rattle.std.proofs.Common.{◌≡◌, ◌≢◌, ℕ, Bool, true, false, List, [], Option, Some, None, inl, inr, refl, sym, ap, subst, ◌∙◌}
+use Rattle.std.specs.Prelude.{slice_get, slice_set}
+use Rattle.std.specs.Option.{option_map}
+use Rattle.std.proofs.lemmas.Option.{slice_get-map}
+use Rattle.sdb_types.specs.declared.key.TableName.{TableName}
+use Rattle.sdb_types.specs.declared.record.Request.{Request}
+use Rattle.sdb_types.specs.declared.record.Request.TheVariants as ask
+use Rattle.sdb_types.specs.declared.record.Reply.{Reply}
+use Rattle.sdb_types.specs.declared.record.Reply.TheVariants as reply
+use Rattle.sdb_types.specs.Contents.{Contents, reply_to, after}
+use Rattle.sdb_schema.specs.declared.table.Table.{Table}
+use Rattle.sdb_store.specs.Store.{Performs}
+use Rattle.sdb_stores.specs.Shelf.{Shelf as Counted, IsCallAt, names_of, home, table_of}
+use Rattle.sdb_stores.specs.declared.place.Place.{Place as Placed}
+use Rattle.sdb_model.specs.declared.event.How.{How}
+use Rattle.sdb_model.specs.declared.event.How.TheVariants.{Seen, Lost, Discarded, Broken}
+use Rattle.sdb_model.specs.declared.script.Place.{Place}
+use Rattle.sdb_model.specs.Rows.{Name}
+use Rattle.sdb_model.specs.Events.{Shelf, IsCall, IsPerformed, held_by, with_contents, store_of, table_asked}
+use Rattle.sdb_spread.specs.Spread.{is_played}
+use Rattle.sdb_board.specs.Board.{AreFit, IsCalled, IsMade, how_lost, how_seen, is_read, reply_lost, shown, placed}
+use Rattle.sdb_board.proofs.Shelves.{held_at, set_there, set_still, named_home}
+
+some_is : {A : Type 0} (x y : A) → Some x ≡ Some y → x ≡ y
+some_is x y e = cc
+
+pub asked : (q : Request) → table_of q ≡ table_asked q
+asked (ask.Get key) = refl
+asked (ask.Scan span) = refl
+asked (ask.PutIf r condition) = refl
+asked (ask.DeleteIf key condition) = refl
+
+-- what a store does is what an event says
+performed : (q : Request) (r : Reply) (old new : Contents) → Performs q r old new → IsPerformed q (how_seen r) r old new
+performed q reply.Fault old new p = (refl, p)
+performed q reply.NoMemory old new p = inr (refl, p)
+performed q (reply.Found found) old new p = inl (λ i. (sym p.0 i, sym p.1 i))
+performed q (reply.Rows rows) old new p = inl (λ i. (sym p.0 i, sym p.1 i))
+performed q reply.Applied old new p = inl (λ i. (sym p.0 i, sym p.1 i))
+performed q (reply.NotMet found) old new p = inl (λ i. (sym p.0 i, sym p.1 i))
+
+stays : (q : Request) (m : Contents) → is_read q ≡ true → after q m ≡ m
+stays (ask.Get key) m e = refl
+stays (ask.Scan span) m e = refl
+stays (ask.PutIf r condition) m e = absurd (let f : false ≡ true = e in cc)
+stays (ask.DeleteIf key condition) m e = absurd (let f : false ≡ true = e in cc)
+
+-- a read leaves its store as it was, whatever it answers
+kept : (q : Request) (r : Reply) (old new : Contents) → is_read q ≡ true → Performs q r old new → new ≡ old
+kept q reply.Fault old new e p = elim p [
+  | inl same ↦ same
+  | inr later ↦ later ∙ stays q old e
+]
+kept q reply.NoMemory old new e p = p
+kept q (reply.Found found) old new e p = p.1 ∙ stays q old e
+kept q (reply.Rows rows) old new e p = p.1 ∙ stays q old e
+kept q reply.Applied old new e p = p.1 ∙ stays q old e
+kept q (reply.NotMet found) old new e p = p.1 ∙ stays q old e
+
+module _ {told : ℕ → Type 0} (catalog : List Table) (places : List Placed) (old : List Counted) (q : Request) (fit : AreFit catalog places old told) (about : is_played catalog (table_asked q) ≡ true) where
+  -- the store at the home of a table is the one of its namespace
+  there_is : (s : Counted) → slice_get old (home (table_of q).ns places (names_of old)) ≡ Some s → store_of (placed places) (shown old) (table_asked q).ns ≡ s.name
+  there_is s at =
+      let name : slice_get (names_of old) (home (table_of q).ns places (names_of old)) ≡ Some s.name = slice_get-map (λ (s : Counted). s.name) old (home (table_of q).ns places (names_of old)) ∙ ap (option_map (λ (s : Counted). s.name)) at in
+      let store : s.name ≡ store_of (placed places) (shown old) (table_of q).ns = some_is _ _ (sym name ∙ named_home places old (table_of q).ns fit.some (fit.homed (table_of q).ns)) in
+      ap (λ (t : TableName). store_of (placed places) (shown old) t.ns) (sym (asked q)) ∙ sym store
+
+  told_there : told (home (table_of q).ns places (names_of old))
+  told_there = fit.telling (table_of q) (ap (is_played catalog) (asked q) ∙ about)
+
+  -- A call on the store at the home of its table is one on the store of its table's namespace.
+  pub called : {tells : ℕ → Type 0} (new : List Counted) (r : Reply) → IsCallAt (home (table_of q).ns places (names_of old)) q r old new told tells → IsCalled (placed places) q r (shown old) (shown new)
+  called new r call =
+      let there = there_is call.before call.stood in
+      record {
+        held = call.before.contents;
+        left = call.now.contents;
+        placed = refl;
+        found = ap (λ (n : Name). held_by (shown old) n) there ∙ held_at old _ call.before fit.distinct call.stood;
+        performed = performed q r call.before.contents call.now.contents (call.performed told_there);
+        others = ap shown call.rest ∙ set_there old _ call.before call.now fit.distinct call.stood call.name ∙ ap (λ (n : Name). with_contents (shown old) n call.now.contents) (sym there);
+      }
+
+  pub still : {tells : ℕ → Type 0} (new : List Counted) (r : Reply) → IsCallAt (home (table_of q).ns places (names_of old)) q r old new told tells → is_read q ≡ true → shown new ≡ shown old
+  still new r call e = ap shown call.rest ∙ set_still old _ call.before call.now call.stood call.name (kept q r call.before.contents call.now.contents e (call.performed told_there))
+
+  -- A call that is discarded is made on no store.
+  pub discarded : IsMade (placed places) q Discarded reply.Fault (shown old) (shown old)
+  discarded = by (slice_get old (home (table_of q).ns places (names_of old))) refl
+    where
+      by : (o : Option Counted) → slice_get old (home (table_of q).ns places (names_of old)) ≡ o → IsMade (placed places) q Discarded reply.Fault (shown old) (shown old)
+      by None at =
+          let name = slice_get-map (λ (s : Counted). s.name) old (home (table_of q).ns places (names_of old)) ∙ ap (option_map (λ (s : Counted). s.name)) at in
+          absurd (none_some _ (sym name ∙ named_home places old (table_of q).ns fit.some (fit.homed (table_of q).ns)))
+        where
+          none_some : {A : Type 0} (x : A) → ◌≡◌ {A = Option A} None (Some x) → ⊥
+          none_some x e = cc
+      by (Some s) at =
+          let there = there_is s at in
+          record {
+            held = s.contents;
+            left = s.contents;
+            placed = refl;
+            found = ap (λ (n : Name). held_by (shown old) n) there ∙ held_at old _ s fit.distinct at;
+            performed = (refl, refl);
+            others = sym (set_still old _ s s at refl refl) ∙ set_there old _ s s fit.distinct at refl ∙ ap (λ (n : Name). with_contents (shown old) n s.contents) (sym there);
+          }
+
+-- a call that answered, and whose reply is lost
+loses : (places : List Place) (q : Request) (r : Reply) (before now : List Shelf) → IsMade places q Seen r before now → r ≢ reply.NoMemory → IsMade places q Lost reply.Fault before now
+loses places q r before now c memory = record {
+  held = c.held;
+  left = c.left;
+  placed = c.placed;
+  found = c.found;
+  performed = elim c.performed [
+    | inl e ↦ (refl, sym (ap (λ (x : Reply × Contents). x.1) e))
+    | inr w ↦ absurd (memory w.0)
+  ];
+  others = c.others;
+}
+
+-- a call whose reply is lost
+pub lost : (places : List Place) (q : Request) (r : Reply) (before now : List Shelf) → IsCalled places q r before now → IsMade places q (how_lost r) (reply_lost r) before now
+lost places q reply.Fault before now c = c
+lost places q reply.NoMemory before now c = c
+lost places q (reply.Found found) before now c = loses places q (reply.Found found) before now c (λ e. cc)
+lost places q (reply.Rows rows) before now c = loses places q (reply.Rows rows) before now c (λ e. cc)
+lost places q reply.Applied before now c = loses places q reply.Applied before now c (λ e. cc)
+lost places q (reply.NotMet found) before now c = loses places q (reply.NotMet found) before now c (λ e. cc)

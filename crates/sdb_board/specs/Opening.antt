@@ -1,0 +1,39 @@
+-- What the tables of a run hold before it begins.
+use Rattle.std.specs.Prelude.{List, [], ◌∷◌, map, length, take_while, insert, Option, Some, None}
+use Rattle.std.specs.List.{flat_map}
+use Rattle.std.specs.Option.{option_map_or}
+use Rattle.std.specs.Ordering.{is_lt}
+use Rattle.sdb_types.specs.declared.key.Key.{Key}
+use Rattle.sdb_types.specs.declared.key.TableName.{TableName}
+use Rattle.sdb_types.specs.declared.record.Record.{Record}
+use Rattle.sdb_types.specs.declared.record.Span.{Span}
+use Rattle.sdb_types.specs.Contents.{rows_in}
+use Rattle.sdb_types.specs.Order.{table_cmp}
+use Rattle.sdb_record.specs.Coordinator.{coordinator_table}
+use Rattle.sdb_schema.specs.declared.table.Table.{Table}
+use Rattle.sdb_model.specs.declared.script.Place.{Place}
+use Rattle.sdb_model.specs.Events.{Shelf, held_by, store_of}
+
+-- a whole table
+abbrev pub whole : TableName → Span
+whole table = record { table = table; partition = None }
+
+-- the names of a catalog's tables, in their order
+abbrev pub table_names : List Table → List TableName
+table_names catalog = map (λ t. t.name) catalog
+
+-- the names of a run's tables, in their order: those of its catalog, with the coordinator's before the first that isn't below it
+abbrev pub run_tables : List Table → List TableName
+run_tables catalog = insert (table_names catalog) (length (take_while (λ n. is_lt (table_cmp n coordinator_table)) (table_names catalog))) coordinator_table
+
+-- the records of a table, in the order of their keys, in the store where it is kept
+abbrev pub records_of : List Place → List Shelf → TableName → List Record
+records_of places shelves table = option_map_or (rows_in (whole table)) (held_by shelves (store_of places shelves table.ns)) []
+
+-- all records of a run's tables, table by table, in the order of their names
+abbrev pub opening_records : List Table → List Place → List Shelf → List Record
+opening_records catalog places shelves = flat_map (records_of places shelves) (run_tables catalog)
+
+abbrev pub first_key : List Record → Option Key
+first_key [] = None
+first_key (r ∷ rs) = Some r.key

@@ -1,0 +1,68 @@
+//! Scans of whole tables, and whether the tables of a run are empty.
+ghost use Rattle.std.specs.Prelude.{◌≡◌, ◌<◌, List, length, true, IfOk, IfErr, OnOk};
+ghost use Rattle.sdb_schema.specs.declared.table.Table.{Table};
+ghost use Rattle.sdb_spread.specs.Spread.{is_played};
+ghost use Rattle.sdb_board.specs.Board.{AreFit, GoOn, Refuses, placed, shown};
+ghost use Rattle.sdb_board.specs.Opening.{first_key as first_key_lem, opening_records, records_of};
+
+use crate::calls::call;
+use crate::refused::CallRefused;
+use crate::tables::run_tables;
+use sdb_schema::Catalog;
+use sdb_stores::Registry;
+use sdb_types::{Duplicate, Key, NoMemory, Records, Reply, Request, Span, TableName};
+use std::alloc::Global;
+
+/// The records of a table, by one scan.
+pub fn scan<R: Registry>(stores: &mut R, table: &TableName) -> Result<Records, CallRefused>
+    requires some { 0 < length (R.shelves stores.old) }
+    ensures rows { IfOk result (λ rows. (catalog : List Table) → AreFit catalog (R.places stores.old) (R.shelves stores.old) (R.tells stores.old) → is_played catalog table.now ≡ true → rows ≡ records_of (placed (R.places stores.old)) (shown (R.shelves stores.old)) table.now) }
+    ensures still { OnOk result ((catalog : List Table) → AreFit catalog (R.places stores.old) (R.shelves stores.old) (R.tells stores.old) → is_played catalog table.now ≡ true → shown (R.shelves stores.new) ≡ shown (R.shelves stores.old)) }
+    ensures goes { GoOn (R.places stores.old) (R.places stores.new) (R.shelves stores.old) (R.shelves stores.new) (R.tells stores.old) (R.tells stores.new) }
+    ensures err { IfErr result (Refuses (R.shelves stores.old) (R.shelves stores.new)) }
+{
+    let name = table.copy()?;
+    let request = Request::Scan(Span {
+        table: name,
+        partition: None,
+    });
+    match call(stores, &request) {
+        Reply::Rows(rows) => Ok(rows),
+        Reply::Fault => Err(CallRefused::StoreFault),
+        Reply::NoMemory => Err(CallRefused::NoMemory),
+        _ => unreachable!(),
+    }
+}
+
+// The key of the first record.
+fn first_key(rows: &Records) -> Result<Option<Key>, NoMemory>
+    ensures { IfOk result (λ first. first ≡ first_key_lem rows.now) }
+{
+    match rows.as_slice() {
+        [first, ..] => Ok(Some(first.key.copy()?)),
+        [] => Ok(None),
+    }
+}
+
+/// The first record of a run's tables: they are scanned one after the other, in the order of their names, up to the first that
+/// holds a record.
+pub fn first_record<R: Registry>(
+    alloc: Global,
+    stores: &mut R,
+    catalog: &Catalog,
+) -> Result<Option<Key>, CallRefused>
+    requires some { 0 < length (R.shelves stores.old) }
+    ensures first { IfOk result (λ first. AreFit catalog.now (R.places stores.old) (R.shelves stores.old) (R.tells stores.old) → first ≡ first_key_lem (opening_records catalog.now (placed (R.places stores.old)) (shown (R.shelves stores.old)))) }
+    ensures still { OnOk result (AreFit catalog.now (R.places stores.old) (R.shelves stores.old) (R.tells stores.old) → shown (R.shelves stores.new) ≡ shown (R.shelves stores.old)) }
+    ensures goes { GoOn (R.places stores.old) (R.places stores.new) (R.shelves stores.old) (R.shelves stores.new) (R.tells stores.old) (R.tells stores.new) }
+    ensures err { IfErr result (Refuses (R.shelves stores.old) (R.shelves stores.new)) }
+{
+    let tables = run_tables(alloc, catalog)?;
+    for table in tables.as_slice() {
+        let rows = scan(stores, table)?;
+        if let Some(key) = first_key(&rows)? {
+            return Ok(Some(key));
+        }
+    }
+    Ok(None)
+}
