@@ -1,0 +1,140 @@
+-- The records that a scan shows to break the rules stand at their keys.
+use Rattle.std.proofs.Common.{◌≡◌, ◌∙◌, inl, inr, ℕ, zero, suc, Bool, true, false, cond, List, [], ◌∷◌, ◌++◌, take, Option, Some, None, refl, sym, ap}
+use Rattle.std.specs.Prelude.{Contains, find, is_some, not, slice_get}
+use Rattle.std.specs.List.{AllByRecursion, flat_map, list_all}
+use Rattle.std.specs.Option.{option_map, option_map_or}
+use Rattle.std.specs.Ordering.{is_eq}
+use Rattle.sdb_types.specs.declared.key.Key.{Key}
+use Rattle.sdb_types.specs.declared.key.TableName.{TableName}
+use Rattle.sdb_types.specs.declared.record.Record.{Record}
+use Rattle.sdb_types.specs.Contents.{Contents, in_span, record_at, rise, rows_in}
+use Rattle.sdb_types.specs.Exact.{equal_of}
+use Rattle.sdb_types.specs.Order.{table_cmp}
+use Rattle.sdb_types.proofs.Bools.{and_first, and_second}
+use Rattle.sdb_types.proofs.KeyOrder.{table_exact}
+use Rattle.sdb_types.proofs.Replies.{rows_in-are_rows_of}
+use Rattle.sdb_record.specs.Coordinator.{coordinator_table, is_coordinator_table}
+use Rattle.sdb_record.specs.Meta.{is_taken}
+use Rattle.sdb_laws.proofs.Shown.{row_there}
+use Rattle.sdb_schema.specs.declared.table.Table.{Table}
+use Rattle.sdb_model.specs.declared.script.Place.{Place}
+use Rattle.sdb_model.specs.Events.{Shelf, held_by, standing, store_of}
+use Rattle.sdb_model.specs.Exec.{find_table}
+use Rattle.sdb_board.specs.Opening.{records_of, whole}
+use Rattle.sdb_board.proofs.RunTables.{each_found}
+use Rattle.sdb_dump.specs.Decided.{is_decided}
+use Rattle.sdb_dump.specs.Odd.{IsOddAt, first_odd, first_of}
+use Rattle.sdb_dump.specs.Refused.{first_unlike}
+use Rattle.sdb_dump.proofs.Coordinated.{row_found}
+use Rattle.sdb_dump.proofs.Lists.{first_or_later, found_in_list, none_in, none_some, some_is}
+
+not_so : (b : Bool) → not b ≡ true → b ≡ false
+not_so true e = let f = e in cc
+not_so false e = refl
+
+all_in : (p : Record → Bool) (rs : List Record) (r : Record) → list_all p rs ≡ true → Contains rs r → p r ≡ true
+all_in p [] r all among = absurd (none_in r among)
+all_in p (x ∷ rs) r all among = elim (first_or_later x r rs among) [
+  | inl same ↦ ap p (sym same) ∙ and_first (p x) (list_all p rs) all
+  | inr more ↦ all_in p rs r (and_second (p x) (list_all p rs) all) more
+]
+
+-- a record of a table, in the order of its scan, stands at its key
+pub record Scanned (places : List Place) (shelves : List Shelf) (table : TableName) (r : Record) : Type 0 where
+  pub stands : standing places shelves r.key ≡ Some r
+  pub table_is : table ≡ r.key.table
+
+scanned : (places : List Place) (shelves : List Shelf) (table : TableName) (r : Record) → Contains (records_of places shelves table) r → Scanned places shelves table r
+scanned places shelves table r among = by (held_by shelves (store_of places shelves table.ns)) refl among
+  where
+    by : (o : Option Contents) → held_by shelves (store_of places shelves table.ns) ≡ o → Contains (option_map_or (rows_in (whole table)) o []) r → Scanned places shelves table r
+    by None e h = absurd (none_in r h)
+    by (Some m) e h =
+        let lawful = rows_in-are_rows_of (whole table) m in
+        let within : in_span (whole table) r.key ≡ true = all_in (λ x. in_span (whole table) x.key) (rows_in (whole table) m) r (and_second (rise (rows_in (whole table) m)) (list_all (λ x. in_span (whole table) x.key) (rows_in (whole table) m)) lawful) h in
+        let found : record_at m r.key ≡ Some r = sym (row_there (whole table) r.key m within) ∙ row_found (rows_in (whole table) m) r (and_first (rise (rows_in (whole table) m)) (list_all (λ x. in_span (whole table) x.key) (rows_in (whole table) m)) lawful) h in
+        let named : table ≡ r.key.table = table_exact table r.key.table (equal_of (table_cmp table r.key.table) (and_first (is_eq (table_cmp table r.key.table)) true within)) in
+        record {
+          stands = ap (λ (t : TableName). option_map_or (λ (x : Contents). record_at x r.key) (held_by shelves (store_of places shelves t.ns)) None) (sym named) ∙ ap (λ (x : Option Contents). option_map_or (λ (y : Contents). record_at y r.key) x None) e ∙ found;
+          table_is = named;
+        }
+
+-- the first record that isn't so
+pub record Unlike (places : List Place) (shelves : List Shelf) (table : TableName) (is_so : Record → Bool) (key : Key) : Type 0 where
+  pub found : Record
+  pub stands : standing places shelves key ≡ Some found
+  pub table_is : table ≡ found.key.table
+  pub bad : is_so found ≡ false
+
+unlike : (places : List Place) (shelves : List Shelf) (table : TableName) (is_so : Record → Bool) (key : Key) → first_unlike is_so (records_of places shelves table) ≡ Some key → Unlike places shelves table is_so key
+unlike places shelves table is_so key h = by (find (λ r. not (is_so r)) (records_of places shelves table)) refl h
+  where
+    by : (o : Option Record) → find (λ r. not (is_so r)) (records_of places shelves table) ≡ o → option_map (λ (r : Record). r.key) o ≡ Some key → Unlike places shelves table is_so key
+    by None e k = absurd (none_some key k)
+    by (Some r) e k =
+        let there = found_in_list (λ (x : Record). not (is_so x)) (records_of places shelves table) r e in
+        let s = scanned places shelves table r there.0 in
+        record { found = r; stands = ap (standing places shelves) (sym (some_is r.key key k)) ∙ s.stands; table_is = s.table_is; bad = not_so (is_so r) there.1 }
+
+-- of the coordinator's table
+odd_row : (catalog : List Table) (places : List Place) (shelves : List Shelf) (key : Key) → first_unlike is_decided (records_of places shelves coordinator_table) ≡ Some key → IsOddAt catalog places shelves key
+odd_row catalog places shelves key h =
+    let u = unlike places shelves coordinator_table is_decided key h in
+    record { found = u.found; stands = u.stands; odd = inr (ap is_coordinator_table (sym u.table_is), u.bad) }
+
+-- of a table of the catalog
+odd_record : (catalog : List Table) (places : List Place) (shelves : List Shelf) (t : Table) (key : Key) → is_some (find_table catalog t.name) ≡ true → first_unlike is_taken (records_of places shelves t.name) ≡ Some key → IsOddAt catalog places shelves key
+odd_record catalog places shelves t key known h =
+    let u = unlike places shelves t.name is_taken key h in
+    record { found = u.found; stands = u.stands; odd = inl (ap (λ (n : TableName). is_some (find_table catalog n)) (sym u.table_is) ∙ known, u.bad) }
+
+---- table by table
+
+unlike_append : (p : Record → Bool) (xs ys : List Record) → first_unlike p (xs ++ ys) ≡ first_of (first_unlike p xs) (first_unlike p ys)
+unlike_append p [] ys = refl
+unlike_append p (x ∷ xs) ys = by (not (p x)) (unlike_append p xs ys)
+  where
+    by : (b : Bool) → first_unlike p (xs ++ ys) ≡ first_of (first_unlike p xs) (first_unlike p ys)
+        → option_map (λ (r : Record). r.key) (cond b (Some x) (find (λ r. not (p r)) (xs ++ ys))) ≡ first_of (option_map (λ (r : Record). r.key) (cond b (Some x) (find (λ r. not (p r)) xs))) (first_unlike p ys)
+    by true rest = refl
+    by false rest = rest
+
+none_both : (a b : Option Key) → first_of a b ≡ None → (a ≡ None) × (b ≡ None)
+none_both None b h = (refl, h)
+none_both (Some k) b h = absurd (none_some k (sym h))
+
+-- where the tables before hold none, the first of the next is the first of all
+pub first_behind : (p : Record → Bool) (f : Table → List Record) (ts : List Table) (i : ℕ) (t : Table) (key : Key) → slice_get ts i ≡ Some t → first_unlike p (flat_map f (take i ts)) ≡ None → first_unlike p (f t) ≡ Some key → first_unlike p (flat_map f ts) ≡ Some key
+first_behind p f [] i t key here none first = absurd (none_some t here)
+first_behind p f (x ∷ ts) zero t key here none first =
+    unlike_append p (f x) (flat_map f ts) ∙ ap (λ (o : Option Key). first_of o (first_unlike p (flat_map f ts))) (ap (λ (y : Table). first_unlike p (f y)) (some_is x t here) ∙ first)
+first_behind p f (x ∷ ts) (suc i) t key here none first =
+    let both = none_both (first_unlike p (f x)) (first_unlike p (flat_map f (take i ts))) (sym (unlike_append p (f x) (flat_map f (take i ts))) ∙ none) in
+    unlike_append p (f x) (flat_map f ts) ∙ ap (λ (o : Option Key). first_of o (first_unlike p (flat_map f ts))) both.0 ∙ first_behind p f ts i t key here both.1 first
+
+-- one table more that holds none
+pub none_behind : (p : Record → Bool) (f : Table → List Record) (ts : List Table) (i : ℕ) (t : Table) → slice_get ts i ≡ Some t → first_unlike p (flat_map f (take i ts)) ≡ None → first_unlike p (f t) ≡ None → first_unlike p (flat_map f (take (suc i) ts)) ≡ None
+none_behind p f [] i t here none last = absurd (none_some t here)
+none_behind p f (x ∷ ts) zero t here none last =
+    unlike_append p (f x) [] ∙ ap (λ (o : Option Key). first_of o None) (ap (λ (y : Table). first_unlike p (f y)) (some_is x t here) ∙ last)
+none_behind p f (x ∷ ts) (suc i) t here none last =
+    let both = none_both (first_unlike p (f x)) (first_unlike p (flat_map f (take i ts))) (sym (unlike_append p (f x) (flat_map f (take i ts))) ∙ none) in
+    unlike_append p (f x) (flat_map f (take (suc i) ts)) ∙ ap (λ (o : Option Key). first_of o (first_unlike p (flat_map f (take (suc i) ts)))) both.0 ∙ none_behind p f ts i t here both.1 last
+
+odd_among : (catalog : List Table) (places : List Place) (shelves : List Shelf) (ts : List Table) (key : Key) → AllByRecursion (λ (t : Table). is_some (find_table catalog t.name) ≡ true) ts → first_unlike is_taken (flat_map (λ t. records_of places shelves t.name) ts) ≡ Some key → IsOddAt catalog places shelves key
+odd_among catalog places shelves [] key known h = absurd (none_some key h)
+odd_among catalog places shelves (t ∷ ts) key known h =
+    by (first_unlike is_taken (records_of places shelves t.name)) refl (odd_among catalog places shelves ts key known.1) (sym (unlike_append is_taken (records_of places shelves t.name) (flat_map (λ u. records_of places shelves u.name) ts)) ∙ h)
+  where
+    by : (o : Option Key) → first_unlike is_taken (records_of places shelves t.name) ≡ o → (first_unlike is_taken (flat_map (λ u. records_of places shelves u.name) ts) ≡ Some key → IsOddAt catalog places shelves key)
+        → first_of o (first_unlike is_taken (flat_map (λ u. records_of places shelves u.name) ts)) ≡ Some key → IsOddAt catalog places shelves key
+    by None e rest k = rest k
+    by (Some x) e rest k = odd_record catalog places shelves t key known.0 (e ∙ k)
+
+-- the first odd record stands at its key
+pub odd_first : (catalog : List Table) (places : List Place) (shelves : List Shelf) (key : Key) → first_odd catalog places shelves ≡ Some key → IsOddAt catalog places shelves key
+odd_first catalog places shelves key h = by (first_unlike is_decided (records_of places shelves coordinator_table)) refl h
+  where
+    by : (o : Option Key) → first_unlike is_decided (records_of places shelves coordinator_table) ≡ o → first_of o (first_unlike is_taken (flat_map (λ t. records_of places shelves t.name) catalog)) ≡ Some key → IsOddAt catalog places shelves key
+    by None e k = odd_among catalog places shelves catalog key (each_found catalog) k
+    by (Some x) e k = odd_row catalog places shelves key (e ∙ k)

@@ -1,0 +1,36 @@
+use Rattle.std.proofs.Common.{◌≡◌, ◌∙◌, ◌++◌, ◌∷◌, [], false, List, take, sym, ap}
+use Rattle.std.specs.Prelude.{find, not}
+use Rattle.std.specs.List.{cons_option, filter_map}
+use Rattle.std.proofs.lemmas.List.Elements.{filter_map-append}
+use Rattle.sdb_types.specs.declared.key.Key.{Key}
+use Rattle.sdb_types.specs.declared.record.Record.{Record}
+use Rattle.sdb_record.specs.declared.access.Image.{Image}
+use Rattle.sdb_record.specs.Meta.{is_taken}
+use Rattle.sdb_dump.specs.Decided.{decided}
+use Rattle.sdb_dump.specs.Dumped.{image_by}
+use Rattle.sdb_dump.proofs.Lists.{none_more}
+use Rattle.sdb_dump.proofs.Refusals.{first_is, item_at, item_more, passed, refused_as}
+use Rattle.sdb_dump.proofs.rows.rows_of.Goals as goal
+
+pub loop-rec-preserved : goal.loop-rec-preserved
+loop-rec-preserved c =
+    let before = c.loop-rec.invariant in
+    let records = c.args.records.now in
+    let i = c.loop-rec.rec-index in
+    let rec = c.rec-item.result in
+    let image = image_by (decided c.args.decisions.now) in
+    let next = item_more records i rec c.loop-rec-test.true c.rec-item.is in
+    record {
+      rows = c.in_ok-push_row.ensures.rows ∙ ap (λ (rs : List Image). rs ++ cons_option (image rec) []) before.rows
+          ∙ sym (ap (filter_map image) next ∙ filter_map-append image (take i records) (rec ∷ []));
+      fine = ap (find (λ (r : Record). not (is_taken r))) next ∙ none_more (λ (r : Record). not (is_taken r)) (take i records) rec before.fine (ap not c.in_ok-push_row.ensures.taken);
+    }
+
+pub returns-in_err-push_row-clause-err : goal.returns-in_err-push_row-clause-err
+returns-in_err-push_row-clause-err c =
+    let records = c.args.records.now in
+    let i = c.loop-rec.rec-index in
+    let rec = c.rec-item.result in
+    passed _ c.from_residual.result c.in_err-push_row.field-0.0 c.from_residual.ensures.1
+    (refused_as (λ (key : Key). (key ≡ rec.key) × (is_taken rec ≡ false)) _ ⊥ ⊥ c.in_err-push_row.field-0.0
+    (λ key bad. first_is is_taken records i rec key (item_at records i rec c.loop-rec-test.true c.rec-item.is) c.loop-rec.invariant.fine bad) (λ h. h) c.in_err-push_row.ensures.err)

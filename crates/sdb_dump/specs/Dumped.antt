@@ -1,0 +1,25 @@
+-- What is printed of a table's records under decisions on transactions.
+use Rattle.std.specs.Prelude.{List, Option, None, map}
+use Rattle.std.specs.List.{filter_map}
+use Rattle.std.specs.Option.{option_map, option_and_then}
+use Rattle.sdb_types.specs.declared.pair.Pair.{Pair}
+use Rattle.sdb_types.specs.declared.txid.TxId.{TxId}
+use Rattle.sdb_types.specs.declared.record.Record.{Record}
+use Rattle.sdb_record.specs.declared.access.Image.{Image}
+use Rattle.sdb_record.specs.declared.coordinator.Decided.{Decided}
+use Rattle.sdb_record.specs.Meta.{id_in}
+use Rattle.sdb_record.specs.Rolls.{image_of, row_of_image}
+use Rattle.sdb_schema.specs.declared.table.Table.{Table}
+use Rattle.sdb_model.specs.declared.event.TableDump.{TableDump}
+use Rattle.sdb_model.specs.Exec.{shown, sorted}
+
+-- the row of a record's committed image, under the decision on its writer
+abbrev pub row_by : (TxId → Option Decided) → Record → Option (List Pair)
+row_by decide r = option_and_then row_of_image (image_of r (option_and_then decide (id_in r.columns)))
+
+abbrev pub image_by : (TxId → Option Decided) → Record → Option Image
+image_by decide r = option_map (λ columns. record { key = r.key; columns = columns }) (row_by decide r)
+
+-- the rows of a table's records, in its order, all columns in name order
+abbrev pub dump_by : (TxId → Option Decided) → Table → List Record → TableDump
+dump_by decide t records = record { name = t.name; rows = map (shown t None) (sorted t (filter_map (image_by decide) records)) }

@@ -1,0 +1,4 @@
+pub mod Decided
+pub mod Dumped
+pub mod Odd
+pub mod Refused

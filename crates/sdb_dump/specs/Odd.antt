@@ -1,0 +1,33 @@
+-- Records that break the rules of their tables.
+use Rattle.std.specs.Prelude.{◌≡◌, ◌⊎◌, true, false, List, Option, Some, None, is_some}
+use Rattle.std.specs.List.{flat_map}
+use Rattle.sdb_types.specs.declared.key.Key.{Key}
+use Rattle.sdb_types.specs.declared.record.Record.{Record}
+use Rattle.sdb_record.specs.Coordinator.{coordinator_table, is_coordinator_table}
+use Rattle.sdb_record.specs.Meta.{is_taken}
+use Rattle.sdb_schema.specs.declared.table.Table.{Table}
+use Rattle.sdb_model.specs.declared.script.Place.{Place}
+use Rattle.sdb_model.specs.Events.{Shelf, standing}
+use Rattle.sdb_model.specs.Exec.{find_table}
+use Rattle.sdb_board.specs.Opening.{records_of}
+use Rattle.sdb_dump.specs.Decided.{is_decided}
+use Rattle.sdb_dump.specs.Refused.{first_unlike}
+
+-- A record of a catalog's table that isn't a transactional one, or a row of the coordinator's table that isn't well formed.
+abbrev pub IsOdd : List Table → Record → Type 0
+IsOdd catalog r = ((is_some (find_table catalog r.key.table) ≡ true) × (is_taken r ≡ false)) ⊎ ((is_coordinator_table r.key.table ≡ true) × (is_decided r ≡ false))
+
+-- Such a record stands at a key.
+pub record IsOddAt (catalog : List Table) (places : List Place) (shelves : List Shelf) (key : Key) : Type 0 where
+  pub found : Record
+  pub stands : standing places shelves key ≡ Some found
+  pub odd : IsOdd catalog found
+
+abbrev pub first_of : Option Key → Option Key → Option Key
+first_of None other = other
+first_of (Some key) other = Some key
+
+-- the key of the first such record, where the coordinator's table is scanned first, and then each table of the catalog
+abbrev pub first_odd : List Table → List Place → List Shelf → Option Key
+first_odd catalog places shelves =
+    first_of (first_unlike is_decided (records_of places shelves coordinator_table)) (first_unlike is_taken (flat_map (λ t. records_of places shelves t.name) catalog))
