@@ -3,6 +3,8 @@
 #![tactic(auto)]
 
 #[cfg(test)]
+mod order;
+#[cfg(test)]
 mod plain;
 #[cfg(test)]
 mod plans;

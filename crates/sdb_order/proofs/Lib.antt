@@ -1,0 +1,4 @@
+pub mod Saying
+pub mod Ended
+pub mod Prepared
+pub mod Rising

@@ -1,0 +1,14 @@
+use Rattle.std.proofs.Common.{◌≡◌, ◌≤◌, length, drop}
+use Rattle.std.specs.Prelude.{reverse}
+use Rattle.sdb_order.specs.Commits.{all_said, commits_of, first_commit}
+use Rattle.sdb_order.proofs.commits.commits_among.Given as goal
+
+abbrev pub invariant-loop-i : goal.invariant-loop-i
+invariant-loop-i l = record {
+  within : l.i ≤ length l.said;
+  found : l.found.items ≡ reverse (commits_of (all_said (drop l.i l.said)));
+  first : l.first ≡ first_commit (all_said (drop l.i l.said));
+}
+
+abbrev pub decreases-loop-i : goal.decreases-loop-i
+decreases-loop-i l = l.i

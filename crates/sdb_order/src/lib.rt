@@ -1,0 +1,9 @@
+//! The order of the recorded transactions: each with its point, by rising point.
+#![tactic(auto)]
+
+mod commits;
+mod order;
+mod prepares;
+mod said;
+
+pub use order::order_of;

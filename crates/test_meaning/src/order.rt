@@ -1,0 +1,78 @@
+//! One client runs a transaction that only reads, one that writes, and one that it rolls back: the order of those recorded.
+use sdb_model::{Point, Points};
+use sdb_types::{Condition, Seq, TxId};
+use std::alloc::Global;
+use std::test::Fail;
+use test_builders::{Ask, Cell, Happening, Place, Row, Said, Told, events_of, hold};
+
+const READER: TxId = TxId(0x1_0000_0000_0000_0001);
+
+const WRITER: TxId = TxId(0x1_0000_0000_0000_0002);
+
+const ROLLED_BACK: TxId = TxId(0x1_0000_0000_0000_0003);
+
+const ACCOUNT: Place = Place {
+    ns: "bank",
+    table: "account",
+    partition: &[Cell::Int(1)],
+    clustering: &[],
+};
+
+const PREPARED: Row = Row {
+    place: ACCOUNT,
+    columns: &[
+        ("tx_id", Cell::Text("00000000-0000-0001-0000-000000000002")),
+        ("tx_state", Cell::Int(1)),
+    ],
+};
+
+static EVENTS: [Happening; 7] = [
+    Happening::Take("BEGIN", Some(Said::Done)),
+    Happening::Take("COMMIT", Some(Said::Committed)),
+    Happening::Take("BEGIN", Some(Said::Done)),
+    Happening::Take("COMMIT", None),
+    Happening::Call(
+        Ask::Put(PREPARED, Condition::Absent),
+        Told::Applied,
+        Some(Said::Committed),
+    ),
+    Happening::Take("BEGIN", Some(Said::Done)),
+    Happening::Take("ROLLBACK", Some(Said::Done)),
+];
+
+const WANTED: [Point; 2] = [
+    Point {
+        id: READER,
+        event: 2,
+    },
+    Point {
+        id: WRITER,
+        event: 5,
+    },
+];
+
+fn quick(alloc: Global) -> Result<Points, Fail> {
+    let events = events_of(alloc, EVENTS.as_slice())?;
+    let ids = Seq::from_slice(alloc, [ROLLED_BACK, WRITER, READER].as_slice())?;
+    Ok(sdb_order::order_of(alloc, events.as_slice(), ids.as_slice())?)
+}
+
+fn slow(alloc: Global) -> Result<Points, Fail> {
+    let events = events_of(alloc, EVENTS.as_slice())?;
+    let ids = Seq::from_slice(alloc, [WRITER, READER].as_slice())?;
+    Ok(sdb_plain::order_of(alloc, events.as_slice(), ids.as_slice())?)
+}
+
+fn is_wanted(points: &Points) -> Result<bool, Fail> {
+    Ok(points.as_slice() == WANTED.as_slice())
+}
+
+#[test]
+fn points_rise(rt: HostRuntime) -> Result<(), Fail> {
+    hold(is_wanted(&quick(rt.alloc())?))
+}
+
+#[test]
+fn the_slow_order_is_the_same(rt: HostRuntime) -> Result<(), Fail> {
+    hold(is_wanted(&slow(rt.alloc())?))
+}
