@@ -57,10 +57,12 @@ played_on_own stores tells left old_input new_input old_output new_output own h 
       record {
         script = it.script;
         read = it.read;
-        report = record {
-          outcome = it.report.outcome;
-          written = it.report.written;
-          played = λ _. it.report.played (λ at store table here about named. own.telling at (slice_get_within own_stores at store here));
+        outcome = it.outcome;
+        made = record {
+          follows = it.made.follows;
+          caused = it.made.caused;
+          played = λ _. it.made.played (λ at store table here about named. own.telling at (slice_get_within own_stores at store here));
         };
+        written = it.written;
       },
     )

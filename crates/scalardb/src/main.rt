@@ -89,7 +89,7 @@ fn main(rt: HostRuntime) -> ExitCode {
 }
 
 fn status_end(alloc: Global, rt: &HostRuntime, status: Status) -> ExitCode {
-    if status == Status::Done {
+    if matches!(status, Status::Done) {
         return ExitCode::from(0);
     }
     match status.line(alloc) {

@@ -1,2 +1,5 @@
+pub mod CatalogRead
 pub mod Placing
+pub mod Playable
 pub mod Headline
+pub mod Playing

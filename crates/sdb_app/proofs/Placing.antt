@@ -1,5 +1,5 @@
 -- The places of a script, once its namespaces are placed.
-use Rattle.std.proofs.Common.{◌≡◌, ◌≢◌, ◌∙◌, ℕ, zero, suc, ◌+◌, ◌<◌, ◌≤◌, Bool, true, false, cond, List, [], ◌∷◌, ◌++◌, length, take, Option, Some, None, IfSome, refl, sym, ap, subst, arith, get_or}
+use Rattle.std.proofs.Common.{◌≡◌, ◌≢◌, ◌∙◌, ℕ, zero, suc, ◌+◌, ◌<◌, ◌≤◌, Bool, true, cond, List, [], ◌∷◌, ◌++◌, length, map, take, Option, Some, None, IfSome, refl, sym, ap, subst, arith, get_or}
 use Rattle.std.specs.Prelude.{slice_get, IsSome, find, is_some}
 use Rattle.std.specs.List.{Contains}
 use Rattle.std.specs.Option.{option_map}
@@ -14,21 +14,12 @@ use Rattle.sdb_stores.specs.declared.place.Place.{Place as Placed}
 use Rattle.sdb_stores.proofs.Distinct.{apart}
 use Rattle.sdb_model.specs.declared.script.Place.{Place}
 use Rattle.sdb_model.specs.Rows.{Name}
-use Rattle.sdb_account.specs.Accounts.{ArePlaces}
+use Rattle.sdb_script.specs.Begun.{ArePlaces}
 use Rattle.sdb_model.specs.Events.{store_of}
 use Rattle.sdb_spread.specs.Spread.{is_played}
-use Rattle.sdb_play.specs.Board.{AreFit, placed, shown}
-use Rattle.sdb_play.proofs.Shelves.{named_home}
-
-some_is : {A : Type 0} (x y : A) → Some x ≡ Some y → x ≡ y
-some_is x y e = cc
-
-none_some : {A : Type 0} (x : A) → ◌≡◌ {A = Option A} None (Some x) → ⊥
-none_some x e = cc
-
-by_test : {G : Type 0} (t : Bool) → (t ≡ true → G) → (t ≡ false → G) → G
-by_test true a b = a refl
-by_test false a b = b refl
+use Rattle.sdb_board.specs.Board.{AreFit, placed, shown}
+use Rattle.sdb_board.proofs.Shelves.{named_home}
+use Rattle.sdb_types.proofs.Basics.{by_test, none_some, some_is}
 
 ---- the stores of places
 
@@ -90,14 +81,23 @@ taken_at (y ∷ ys) zero k x e = absurd (none_some x e)
 taken_at (y ∷ ys) (suc i) zero x e = (omega arith, e)
 taken_at (y ∷ ys) (suc i) (suc k) x e = let t = taken_at ys i k x e in (let n = t.0 in omega arith, t.1)
 
+-- the namespace of a place, among all
+name_at : (places : List Place) (k : ℕ) (p : Place) (d : Name) → slice_get places k ≡ Some p → get_or (map (λ (x : Place). x.ns) places) k d ≡ p.ns
+name_at [] k p d e = absurd (none_some p e)
+name_at (q ∷ qs) zero p d e = ap (λ (x : Place). x.ns) (some_is q p e)
+name_at (q ∷ qs) (suc k) p d e = name_at qs k p d e
+
+name_within : (places : List Place) (k : ℕ) (p : Place) → slice_get places k ≡ Some p → k < length (map (λ (x : Place). x.ns) places)
+name_within [] k p e = absurd (none_some p e)
+name_within (q ∷ qs) zero p e = omega arith
+name_within (q ∷ qs) (suc k) p e = let h = name_within qs k p e in omega arith
+
 -- the next namespace has no place yet
 pub free_at : (ps : List Placed) (names : List Name) (places : List Place) (i : ℕ) (p : Place) → ArePlaces names places → placed ps ≡ take i places → slice_get places i ≡ Some p → placed_on p.ns ps ≡ None
 free_at ps names places i p h same here =
     free_by ps p.ns (λ k q e.
     let t = taken_at places i k q (ap (λ (xs : List Place). slice_get xs k) (sym same) ∙ e) in
-    let low : get_or places k p ≡ q = get_or_from_slice_get places k q p t.1 in
-    let high : get_or places i p ≡ p = get_or_from_slice_get places i p p here in
-    λ alike. h.once k i p t.0 (slice_get_within places i p here) (ap (λ (x : Place). x.ns) low ∙ alike ∙ ap (λ (x : Place). x.ns) (sym high)))
+    λ alike. h.once k i p.ns t.0 (name_within places i p here) (name_at places k q p.ns t.1 ∙ alike ∙ sym (name_at places i p p.ns here)))
 
 take_suc : {A : Type 0} (xs : List A) (i : ℕ) (x : A) → slice_get xs i ≡ Some x → take (suc i) xs ≡ take i xs ++ x ∷ []
 take_suc [] i x e = absurd (none_some x e)

@@ -1,5 +1,5 @@
 -- What the program promises of one of its runs.
-use Rattle.std.specs.Prelude.{◌≡◌, ◌⊎◌, ℕ, ◌≤◌, ◌<◌, Bool, true, false, List, [], ◌∷◌, length, slice_get, take, Option, Some, None, codes}
+use Rattle.std.specs.Prelude.{◌≡◌, ◌⊎◌, ℕ, ◌≤◌, ◌<◌, Bool, true, false, List, length, slice_get, take, Option, Some, None, codes}
 use Rattle.sdb_words.specs.Commands.{is_alone}
 use Rattle.sdb_types.specs.declared.key.Key.{Key}
 use Rattle.sdb_types.specs.Bytes.{Takes, Appends, IsAtEnd}
@@ -7,23 +7,32 @@ use Rattle.sdb_stores.specs.Shelf.{Shelf as Counted, HaveRisen, names_of}
 use Rattle.sdb_types.specs.declared.key.TableName.{TableName}
 use Rattle.sdb_model.specs.Events.{store_of}
 use Rattle.sdb_spread.specs.Spread.{HoldAs, is_played}
-use Rattle.sdb_play.specs.Board.{AreFit, placed, shown}
+use Rattle.sdb_board.specs.Board.{AreFit, placed, shown}
 use Rattle.sdb_stores.specs.declared.place.Place.{Place as Placed}
 use Rattle.sdb_schema.specs.declared.table.Table.{Table}
 use Rattle.std.specs.FinMap.{empty}
-use Rattle.sdb_play.specs.Opening.{first_key, opening_records}
-use Rattle.sdb_play.specs.declared.refused.PlayRefused.{PlayRefused}
-use Rattle.sdb_play.specs.declared.refused.PlayRefused.TheVariants as refused
-use Rattle.sdb_model.specs.declared.script.Place.{Place}
+use Rattle.sdb_board.specs.Opening.{first_key, opening_records}
 use Rattle.sdb_model.specs.declared.event.Outcome.{Outcome}
 use Rattle.sdb_model.specs.declared.script.Script.{Script}
 use Rattle.sdb_model.specs.Events.{Shelf}
 use Rattle.sdb_model.specs.Rows.{Name}
-use Rattle.sdb_account.specs.declared.drawing.AccountForm.{AccountForm}
-use Rattle.sdb_account.specs.Accounts.{IsAccountScript, IsNotPlayed, IsFormOf, most_script_bytes, script_of_client}
+use Rattle.sdb_script.specs.declared.fault.ScriptRefused.{ScriptRefused}
+use Rattle.sdb_script.specs.declared.fault.ScriptRefused.TheVariants.{BadLine, Limit as Limited, NoMemory as OutOfMemory}
+use Rattle.sdb_script.specs.Lines.{most_bytes}
+use Rattle.sdb_script.specs.Whole.{IsScript, IsRefused as IsRefusedText}
+use Rattle.sdb_board.specs.declared.refused.CallRefused.{CallRefused}
+use Rattle.sdb_board.specs.declared.refused.CallRefused.TheVariants as call
+use Rattle.sdb_dump.specs.declared.refused.ClosingRefused.{ClosingRefused}
+use Rattle.sdb_dump.specs.declared.refused.ClosingRefused.TheVariants as closing
+use Rattle.sdb_causes.specs.Tied.{AnswersHaveCauses}
+use Rattle.sdb_world.specs.Explained.{IsExplained}
+use Rattle.sdb_world.specs.World.{WorldAt}
+use Rattle.sdb_world.specs.Played.{HasPlayed}
+use Rattle.sdb_app.specs.declared.status.InputFault.TheVariants.{Line}
 use Rattle.sdb_app.specs.declared.status.Status.{Status}
 use Rattle.sdb_app.specs.declared.status.Status.TheVariants as status
 use Rattle.sdb_model.specs.Report.{report_text_of}
+use Rattle.sdb_model.specs.Follows.{Follows}
 use Rattle.sdb_model.specs.Told.{IsRun}
 
 -- the words of the command that plays a script, the only one that is there so far
@@ -35,7 +44,7 @@ pub record IsScriptRead (stores : List Name) (old_input new_input : Option (List
   pub text : List ℕ
   pub taken : Takes text old_input new_input
   pub ended : IsAtEnd new_input
-  pub form : IsAccountScript stores text script
+  pub form : IsScript stores text script
 
 -- The stores that keep the tables of a script, and the coordinator's rows, tell what they hold.
 abbrev pub TellOf : Script → List Counted → (ℕ → Type 0) → Type 0
@@ -43,42 +52,42 @@ TellOf script shelves tells =
     (at : ℕ) (store : Counted) (table : TableName) → slice_get shelves at ≡ Some store → is_played script.catalog table ≡ true → store_of script.places (shown shelves) table.ns ≡ store.name → tells at
 
 -- The tables of a script were empty, and one outcome is that of a run that follows it, from what the stores held at the entry
--- to what they hold at the exit.
+-- to what they hold at the exit; and what stood in the stores at each moment is explained by its events.
 pub record IsPlayed (script : Script) (opening closing : List Shelf) (outcome : Outcome) : Type 0 where
   pub empty : first_key (opening_records script.catalog script.places opening) ≡ None
   pub run : IsRun script opening closing outcome
+  pub explained : IsExplained script outcome.events opening
 
--- The report of one outcome was written, whole and nothing else; and where the stores tell what they hold, it is that of a run of the
--- script.
-pub record IsWritten (telling : Type 0) (script : Script) (opening closing : List Shelf) (old_output new_output : Option (List ℕ)) : Type 0 where
-  pub outcome : Outcome
-  pub written : Appends (report_text_of outcome) old_output new_output
+-- One outcome of a script on any stores: its events follow the script's moves, and the answers have their causes among them; and where
+-- the stores tell what they hold, it is that of a run of the script, whose tables were empty.
+pub record IsOutcome (telling : Type 0) (script : Script) (opening closing : List Shelf) (outcome : Outcome) : Type 0 where
+  pub follows : Follows script.clients script.moves outcome.events
+  pub caused : AnswersHaveCauses script.catalog outcome.events
   pub played : telling → IsPlayed script opening closing outcome
 
--- The same, but only a prefix of the report was written.
-pub record IsFront (telling : Type 0) (script : Script) (opening closing : List Shelf) (old_output new_output : Option (List ℕ)) : Type 0 where
+-- The headline: the input is a script over the attached stores, and the report of one outcome of it was written, whole and nothing else.
+pub record IsReplayed (old : List Counted) (tells : ℕ → Type 0) (new : List Counted) (old_input new_input old_output new_output : Option (List ℕ)) : Type 0 where
+  pub script : Script
+  pub read : IsScriptRead (names_of old) old_input new_input script
   pub outcome : Outcome
+  pub made : IsOutcome (TellOf script old tells) script (shown old) (shown new) outcome
+  pub written : Appends (report_text_of outcome) old_output new_output
+
+-- The same, but only a prefix of the report was written.
+pub record IsPrefixWritten (old : List Counted) (tells : ℕ → Type 0) (new : List Counted) (old_input new_input old_output new_output : Option (List ℕ)) : Type 0 where
+  pub script : Script
+  pub read : IsScriptRead (names_of old) old_input new_input script
+  pub outcome : Outcome
+  pub made : IsOutcome (TellOf script old tells) script (shown old) (shown new) outcome
   pub size : ℕ
   pub within : size ≤ length (report_text_of outcome)
   pub written : Appends (take size (report_text_of outcome)) old_output new_output
-  pub played : telling → IsPlayed script opening closing outcome
 
 -- A script was read over these stores, and this is so of it where the stores of its tables tell what they hold.
 pub record IsReadAnd (stores : List Counted) (tells : ℕ → Type 0) (old_input new_input : Option (List ℕ)) (P : Script → Type 0) : Type 0 where
   pub script : Script
   pub read : IsScriptRead (names_of stores) old_input new_input script
   pub so : TellOf script stores tells → P script
-
--- The headline.
-pub record IsReplayed (old : List Counted) (tells : ℕ → Type 0) (new : List Counted) (old_input new_input old_output new_output : Option (List ℕ)) : Type 0 where
-  pub script : Script
-  pub read : IsScriptRead (names_of old) old_input new_input script
-  pub report : IsWritten (TellOf script old tells) script (shown old) (shown new) old_output new_output
-
-pub record IsFrontWritten (old : List Counted) (tells : ℕ → Type 0) (new : List Counted) (old_input new_input old_output new_output : Option (List ℕ)) : Type 0 where
-  pub script : Script
-  pub read : IsScriptRead (names_of old) old_input new_input script
-  pub front : IsFront (TellOf script old tells) script (shown old) (shown new) old_output new_output
 
 -- The key is that of the first record in the tables of the script, and the stores hold what they held.
 pub record IsFirstFound (script : Script) (old new : List Shelf) (key : Key) : Type 0 where
@@ -92,26 +101,29 @@ IsNotEmpty old tells new old_input new_input key = IsReadAnd old tells old_input
 abbrev pub IsUntold : List Counted → (ℕ → Type 0) → Option (List ℕ) → Option (List ℕ) → Type 0
 IsUntold old tells old_input new_input = IsReadAnd old tells old_input new_input (λ script. ⊥)
 
--- Bytes that were read of the input are no script over these stores because of that line: they are all of it, or more than are
--- read of a script, and the rest is left.
-pub record IsRefused (stores : List Name) (old_input new_input : Option (List ℕ)) (n : ℕ) : Type 0 where
+-- Bytes that were read of the input are no script over these stores, for that cause: they are all of it, or more than are read of a
+-- script, and the rest is left.
+pub record IsRefused (stores : List Name) (old_input new_input : Option (List ℕ)) (r : ScriptRefused) : Type 0 where
   pub text : List ℕ
   pub taken : Takes text old_input new_input
-  pub whole : IsAtEnd new_input ⊎ (most_script_bytes < length text)
-  pub refused : IsNotPlayed stores text n
+  pub whole : IsAtEnd new_input ⊎ (most_bytes < length text)
+  pub refused : IsRefusedText stores text r
 
--- The script of a form.
-abbrev pub script_of : AccountForm → Script
-script_of form = script_of_client form.places form.catalog form.client
+-- how the program ends where a text was refused
+abbrev pub status_of_text : ScriptRefused → Status
+status_of_text (BadLine n f) = status.BadInput n (Line f)
+status_of_text (Limited n which) = status.Limit n which
+status_of_text OutOfMemory = status.NoMemory
 
--- The input was read to its end and is this script.
-pub record IsFormRead (stores : List Name) (old_input new_input : Option (List ℕ)) (form : AccountForm) : Type 0 where
-  pub read : IsScriptRead stores old_input new_input (script_of form)
-  pub statements : IsFormOf stores form
+-- The input is refused as no script over these stores, and the program ends so.
+pub record IsRefusedAs (stores : List Name) (old_input new_input : Option (List ℕ)) (s : Status) : Type 0 where
+  pub cause : ScriptRefused
+  pub refused : IsRefused stores old_input new_input cause
+  pub ends : s ≡ status_of_text cause
 
 -- Bytes that were read of the input: all of it, or more than are read of a script.
 abbrev pub IsTextRead : List ℕ → Option (List ℕ) → Option (List ℕ) → Type 0
-IsTextRead text old_input new_input = Takes text old_input new_input × (IsAtEnd new_input ⊎ (most_script_bytes < length text))
+IsTextRead text old_input new_input = Takes text old_input new_input × (IsAtEnd new_input ⊎ (most_bytes < length text))
 
 -- the endings while reading
 abbrev pub stops_reading : Status → Bool
@@ -119,37 +131,23 @@ stops_reading status.ReadFault = true
 stops_reading status.NoMemory = true
 stops_reading _ = false
 
--- the endings while building
-abbrev pub stops_building : Status → Bool
-stops_building (status.NotBuilt n) = true
-stops_building status.NoMemory = true
-stops_building _ = false
+-- the endings because of a script's text, but out of memory
+abbrev pub is_refusal : Status → Bool
+is_refusal (status.BadInput n f) = true
+is_refusal (status.Limit n which) = true
+is_refusal _ = false
 
--- how the program ends where playing was refused
-abbrev pub status_of : PlayRefused → Status
-status_of refused.StoreFault = status.StoreFault
-status_of (refused.BadStore key) = status.BadStore key
-status_of refused.NoMemory = status.NoMemory
-
--- the script of a form, with these places
-abbrev pub placed_form : AccountForm → List Place → Script
-placed_form form places = script_of_client places form.catalog form.client
-
--- The text is the report of one outcome; and on these premises it is that of a run that follows the script.
-pub record IsTold (premise : Type 0) (script : Script) (opening closing : List Shelf) (report : List ℕ) : Type 0 where
-  pub outcome : Outcome
-  pub text : report ≡ report_text_of outcome
-  pub run : premise → IsRun script opening closing outcome
-
--- The same, and then the tables of the script were empty.
+-- The text is the report of one outcome of a script.
 pub record IsReported (telling : Type 0) (script : Script) (opening closing : List Shelf) (report : List ℕ) : Type 0 where
   pub outcome : Outcome
   pub text : report ≡ report_text_of outcome
-  pub played : telling → IsPlayed script opening closing outcome
+  pub made : IsOutcome telling script opening closing outcome
 
--- The stores of a catalog's tables are fit for a run over them, and hold nothing of them.
-abbrev pub AreReady : List Table → List Placed → List Counted → (ℕ → Type 0) → Type 0
-AreReady catalog places shelves tells = AreFit catalog places shelves tells × HoldAs catalog (placed places) (shown shelves) empty
+-- The stores of a script's tables are fit for a run of it, as it places them, and hold nothing of them.
+pub record AreReady (script : Script) (places : List Placed) (shelves : List Counted) (tells : ℕ → Type 0) : Type 0 where
+  pub fit : AreFit script.catalog places shelves tells
+  pub placed_so : placed places ≡ script.places
+  pub nothing : HoldAs script.catalog script.places (shown shelves) empty
 
 -- The key is that of the first record of a catalog's tables, and the stores hold what they held, where they are fit for a run.
 abbrev pub IsFoundIn : List Table → List Placed → List Counted → (ℕ → Type 0) → List Counted → Key → Type 0
@@ -167,7 +165,8 @@ Stops old new foreign found _ = ⊥
 abbrev pub refuses_input : Status → Bool
 refuses_input status.ReadFault = true
 refuses_input status.NoMemory = true
-refuses_input (status.NotBuilt n) = true
+refuses_input (status.BadInput n f) = true
+refuses_input (status.Limit n which) = true
 refuses_input _ = false
 
 -- the endings before anything is written
@@ -177,12 +176,33 @@ writes_nothing status.ReadFault = true
 writes_nothing status.StoreFault = true
 writes_nothing (status.NotEmpty key) = true
 writes_nothing (status.BadStore key) = true
-writes_nothing (status.NotBuilt n) = true
+writes_nothing (status.BadInput n f) = true
+writes_nothing (status.Limit n which) = true
 writes_nothing _ = false
 
 -- the endings before a script was read
 abbrev pub is_unplayed : Status → Bool
 is_unplayed status.Usage = true
 is_unplayed status.ReadFault = true
-is_unplayed (status.NotBuilt n) = true
+is_unplayed (status.BadInput n f) = true
+is_unplayed (status.Limit n which) = true
 is_unplayed _ = false
+
+---- the outcome of a world
+
+abbrev pub status_of_call : CallRefused → Status
+status_of_call call.StoreFault = status.StoreFault
+status_of_call call.NoMemory = status.NoMemory
+
+abbrev pub status_of_closing : ClosingRefused → Status
+status_of_closing closing.StoreFault = status.StoreFault
+status_of_closing (closing.BadRecord key) = status.BadStore key
+status_of_closing closing.NoMemory = status.NoMemory
+
+-- An outcome is that of a run of a world's script, where the world has played it on stores that are fit for it.
+abbrev pub IsOutcomeOf : WorldAt → List Placed → List Counted → (ℕ → Type 0) → List Shelf → Outcome → Type 0
+IsOutcomeOf w places shelves tells left o = (opening : List Shelf) → AreFit w.script.catalog places shelves tells → placed places ≡ w.script.places → HasPlayed w opening (shown shelves) → IsRun w.script opening left o
+
+-- A world has not played its script on stores that are fit for it.
+abbrev pub HasNotPlayed : WorldAt → List Placed → List Counted → (ℕ → Type 0) → Type 0
+HasNotPlayed w places shelves tells = (opening : List Shelf) → AreFit w.script.catalog places shelves tells → placed places ≡ w.script.places → HasPlayed w opening (shown shelves) → ⊥

@@ -8,4 +8,4 @@ mod status;
 mod streams;
 
 pub use program::run;
-pub use status::Status;
+pub use status::{InputFault, Status};

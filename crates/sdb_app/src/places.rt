@@ -1,8 +1,8 @@
 //! Placing the namespaces of a script.
 ghost use Rattle.std.specs.Prelude.{◌≡◌, ◌<◌, ◌++◌, ◌∷◌, [], ℕ, length, Some, None, IsSome, OnOk, slice_get};
-ghost use Rattle.sdb_account.specs.Accounts.{ArePlaces};
+ghost use Rattle.sdb_script.specs.Begun.{ArePlaces};
 ghost use Rattle.sdb_stores.specs.Shelf.{names_of, place_of, placed_on};
-ghost use Rattle.sdb_play.specs.Board.{placed};
+ghost use Rattle.sdb_board.specs.Board.{placed};
 
 use sdb_model::{Place, Places};
 use sdb_stores::{PlaceRefused, Registry};

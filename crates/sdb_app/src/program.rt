@@ -3,13 +3,13 @@ ghost use Rattle.std.specs.Prelude.{◌≡◌, ◌↔◌, ◌⊎◌, ◌<◌, �
 ghost use Rattle.sdb_types.specs.declared.key.Key.{Key};
 ghost use Rattle.sdb_types.specs.Bytes.{HasRisen};
 ghost use Rattle.sdb_stores.specs.Shelf.{HaveRisen, names_of, total_faults};
-ghost use Rattle.sdb_app.specs.Run.{is_replay as is_replay_lem, IsReplayed, IsFrontWritten, IsNotEmpty, IsUntold, IsRefused, IsFormRead, IsTextRead, is_unplayed, refuses_input, script_of, stops_building, stops_reading, writes_nothing};
-ghost use Rattle.sdb_account.specs.Accounts.{IsAccountScript, IsFormOf, IsNotPlayed};
+ghost use Rattle.sdb_app.specs.Run.{is_replay as is_replay_lem, IsReplayed, IsPrefixWritten, IsNotEmpty, IsUntold, IsRefusedAs, IsScriptRead, IsTextRead, is_refusal, is_unplayed, refuses_input, status_of_text, stops_reading, writes_nothing};
 
 use crate::replay::replay;
-use crate::status::Status;
+use crate::status::{InputFault, Status};
 use crate::streams::{Input, ReadRefused, read_input, write_all};
-use sdb_account::{AccountForm, FormRefused, MOST_SCRIPT_BYTES, read_account_script};
+use sdb_model::Script;
+use sdb_script::{MOST_SCRIPT_BYTES, ScriptRefused, read_script};
 use sdb_stores::Registry;
 use sdb_types::{Clock, Ids, Names, NoMemory, Sink, SinkRefused, Source};
 use sdb_words::replays;
@@ -30,34 +30,34 @@ fn read_bytes<R: Source>(alloc: Global, input: &mut R) -> Result<Vec<u8>, Status
     }
 }
 
-// The script over stores of these names that bytes are, or how the program ends without one.
-fn form_of(alloc: Global, bytes: &[u8], stores: &Names) -> Result<AccountForm, Status>
-    ensures form { IfOk result (λ form. IsAccountScript stores.now bytes.now (script_of form)) }
-    ensures statements { IfOk result (IsFormOf stores.now) }
-    ensures not_built { (n : ℕ) → IsErrOf result (Status.NotBuilt n) → IsNotPlayed stores.now bytes.now n }
-    ensures kinds { IfErr result (λ status. stops_building status ≡ true) }
+// How the program ends where a text was refused.
+fn refused_status(refused: ScriptRefused) -> Status
+    ensures { result ≡ status_of_text refused }
 {
-    match read_account_script(alloc, bytes, stores) {
-        Ok(form) => Ok(form),
-        Err(FormRefused::NotBuilt(n)) => Err(Status::NotBuilt(n)),
-        Err(FormRefused::NoMemory) => Err(Status::NoMemory),
+    match refused {
+        ScriptRefused::BadLine(n, fault) => Status::BadInput(n, InputFault::Line(fault)),
+        ScriptRefused::Limit(n, which) => Status::Limit(n, which),
+        ScriptRefused::NoMemory => Status::NoMemory,
     }
 }
 
 // Reads a script over stores of these names, or says how the program ends without one.
-fn read_script<R: Source>(
+fn read_input_script<R: Source>(
     alloc: Global,
     input: &mut R,
     stores: &Names,
-) -> Result<AccountForm, Status>
-    ensures read { IfOk result (IsFormRead stores.now (R.remaining input.old) (R.remaining input.new)) }
+) -> Result<Script, Status>
+    ensures read { IfOk result (IsScriptRead stores.now (R.remaining input.old) (R.remaining input.new)) }
     ensures read_fault { IsErrOf result Status.ReadFault → HasRisen (R.faults input.old) (R.faults input.new) }
-    ensures not_built { (n : ℕ) → IsErrOf result (Status.NotBuilt n) → IsRefused stores.now (R.remaining input.old) (R.remaining input.new) n }
+    ensures refused { IfErr result (λ s. is_refusal s ≡ true → IsRefusedAs stores.now (R.remaining input.old) (R.remaining input.new) s) }
     ensures kinds { IfErr result (λ status. refuses_input status ≡ true) }
     ensures counted { R.faults input.old ≤ R.faults input.new }
 {
     let bytes = read_bytes(alloc, input)?;
-    form_of(alloc, &bytes, stores)
+    match read_script(alloc, &bytes, stores) {
+        Ok(script) => Ok(script),
+        Err(refused) => Err(refused_status(refused)),
+    }
 }
 
 // Reads a script, plays it on the stores, and writes the report of the run.
@@ -70,20 +70,21 @@ fn replay_input<S: Registry, R: Source, W: Sink>(
     requires { 0 < length (S.shelves stores.old) }
     ensures known { (result ≡ Status.Usage) → ⊥ }
     ensures read_fault { result ≡ Status.ReadFault → HasRisen (R.faults input.old) (R.faults input.new) }
-    // The text that was read isn't built because of that line.
-    ensures not_built { (n : ℕ) → result ≡ Status.NotBuilt n → IsRefused (names_of (S.shelves stores.old)) (R.remaining input.old) (R.remaining input.new) n }
+    // The text that was read is no script, or passes a limit, at that line and for that cause.
+    ensures refused { is_refusal result ≡ true → IsRefusedAs (names_of (S.shelves stores.old)) (R.remaining input.old) (R.remaining input.new) result }
     ensures store_fault { result ≡ Status.StoreFault → HaveRisen (S.shelves stores.old) (S.shelves stores.new) }
-    // The record is the first in the tables of the script that was read, and the stores hold what they held.
+    // A script was read. Where the stores of its tables tell what they hold, the record is the first in these tables, and the stores hold
+    // what they held.
     ensures not_empty { (key : Key) → result ≡ Status.NotEmpty key → IsNotEmpty (S.shelves stores.old) (S.tells stores.old) (S.shelves stores.new) (R.remaining input.old) (R.remaining input.new) key }
-    // Some store of the script's tables doesn't tell what it holds.
+    // A script was read, and some store of its tables doesn't tell what it holds.
     ensures bad_store { (key : Key) → result ≡ Status.BadStore key → IsUntold (S.shelves stores.old) (S.tells stores.old) (R.remaining input.old) (R.remaining input.new) }
     // A prefix of the report was written.
     ensures write_fault { result ≡ Status.WriteFault → HasRisen (W.faults output.old) (W.faults output.new) }
-    ensures front { result ≡ Status.WriteFault → IsFrontWritten (S.shelves stores.old) (S.tells stores.old) (S.shelves stores.new) (R.remaining input.old) (R.remaining input.new) (W.written output.old) (W.written output.new) }
+    ensures prefix { result ≡ Status.WriteFault → IsPrefixWritten (S.shelves stores.old) (S.tells stores.old) (S.shelves stores.new) (R.remaining input.old) (R.remaining input.new) (W.written output.old) (W.written output.new) }
     // The headline.
     ensures done { result ≡ Status.Done → IsReplayed (S.shelves stores.old) (S.tells stores.old) (S.shelves stores.new) (R.remaining input.old) (R.remaining input.new) (W.written output.old) (W.written output.new) }
     // Where memory ran out nothing was written, or a prefix of the report of a run.
-    ensures out_of_memory { result ≡ Status.NoMemory → (W.written output.new ≡ W.written output.old) ⊎ IsFrontWritten (S.shelves stores.old) (S.tells stores.old) (S.shelves stores.new) (R.remaining input.old) (R.remaining input.new) (W.written output.old) (W.written output.new) }
+    ensures out_of_memory { result ≡ Status.NoMemory → (W.written output.new ≡ W.written output.old) ⊎ IsPrefixWritten (S.shelves stores.old) (S.tells stores.old) (S.shelves stores.new) (R.remaining input.old) (R.remaining input.new) (W.written output.old) (W.written output.new) }
     // The stores are as they were where no script was read.
     ensures unplayed { is_unplayed result ≡ true → S.shelves stores.new ≡ S.shelves stores.old }
     // Nothing is written before the run has ended.
@@ -100,11 +101,11 @@ fn replay_input<S: Registry, R: Source, W: Sink>(
     let Ok(names) = stores.names() else {
         return Status::NoMemory;
     };
-    let form = match read_script(alloc, input, &names) {
-        Ok(form) => form,
+    let script = match read_input_script(alloc, input, &names) {
+        Ok(script) => script,
         Err(status) => return status,
     };
-    let text = match replay(alloc, stores, &form) {
+    let text = match replay(alloc, stores, script) {
         Ok(text) => text,
         Err(status) => return status,
     };
@@ -117,10 +118,10 @@ fn replay_input<S: Registry, R: Source, W: Sink>(
 
 /// Runs the program on its words, those after its name, and on the stores of a registry, at least one.
 ///
-/// `replay` takes all places away and reads a script of the form that can be played so far. It places the namespaces as the
-/// script says, sees to it that the script's tables are empty, plays it on the stores, and writes the report of the run. Nothing
-/// is written before the run has ended. What is said of a run and of records is said where the
-/// stores of the script's tables tell what they hold.
+/// `replay` takes all places away and reads a script. It places the namespaces as the script says, sees to it that the script's tables
+/// are empty, plays it on the stores, and writes the report of the run. Nothing is written before the run has ended. What is said of a
+/// run and of records is said where the stores of the script's tables tell what they hold. VACUUM isn't built: it is answered as out of
+/// memory where no transaction is open.
 pub fn run<S: Registry, R: Source, W: Sink, C: Clock, I: Ids>(
     alloc: Global,
     words: &[String],
@@ -134,20 +135,21 @@ pub fn run<S: Registry, R: Source, W: Sink, C: Clock, I: Ids>(
     // The words are not those of a command that is there so far.
     ensures usage { (result ≡ Status.Usage) ↔ (is_replay_lem (map string_bytes words.now) ≡ false) }
     ensures read_fault { result ≡ Status.ReadFault → HasRisen (R.faults input.old) (R.faults input.new) }
-    // The text that was read isn't built because of that line.
-    ensures not_built { (n : ℕ) → result ≡ Status.NotBuilt n → IsRefused (names_of (S.shelves stores.old)) (R.remaining input.old) (R.remaining input.new) n }
+    // The text that was read is no script, or passes a limit, at that line and for that cause.
+    ensures refused { is_refusal result ≡ true → IsRefusedAs (names_of (S.shelves stores.old)) (R.remaining input.old) (R.remaining input.new) result }
     ensures store_fault { result ≡ Status.StoreFault → HaveRisen (S.shelves stores.old) (S.shelves stores.new) }
-    // The record is the first in the tables of the script that was read, and the stores hold what they held.
+    // A script was read. Where the stores of its tables tell what they hold, the record is the first in these tables, and the stores hold
+    // what they held.
     ensures not_empty { (key : Key) → result ≡ Status.NotEmpty key → IsNotEmpty (S.shelves stores.old) (S.tells stores.old) (S.shelves stores.new) (R.remaining input.old) (R.remaining input.new) key }
-    // Some store of the script's tables doesn't tell what it holds.
+    // A script was read, and some store of its tables doesn't tell what it holds.
     ensures bad_store { (key : Key) → result ≡ Status.BadStore key → IsUntold (S.shelves stores.old) (S.tells stores.old) (R.remaining input.old) (R.remaining input.new) }
     // A prefix of the report was written.
     ensures write_fault { result ≡ Status.WriteFault → HasRisen (W.faults output.old) (W.faults output.new) }
-    ensures front { result ≡ Status.WriteFault → IsFrontWritten (S.shelves stores.old) (S.tells stores.old) (S.shelves stores.new) (R.remaining input.old) (R.remaining input.new) (W.written output.old) (W.written output.new) }
+    ensures prefix { result ≡ Status.WriteFault → IsPrefixWritten (S.shelves stores.old) (S.tells stores.old) (S.shelves stores.new) (R.remaining input.old) (R.remaining input.new) (W.written output.old) (W.written output.new) }
     // The headline.
     ensures done { result ≡ Status.Done → IsReplayed (S.shelves stores.old) (S.tells stores.old) (S.shelves stores.new) (R.remaining input.old) (R.remaining input.new) (W.written output.old) (W.written output.new) }
     // Where memory ran out nothing was written, or a prefix of the report of a run.
-    ensures out_of_memory { result ≡ Status.NoMemory → (W.written output.new ≡ W.written output.old) ⊎ IsFrontWritten (S.shelves stores.old) (S.tells stores.old) (S.shelves stores.new) (R.remaining input.old) (R.remaining input.new) (W.written output.old) (W.written output.new) }
+    ensures out_of_memory { result ≡ Status.NoMemory → (W.written output.new ≡ W.written output.old) ⊎ IsPrefixWritten (S.shelves stores.old) (S.tells stores.old) (S.shelves stores.new) (R.remaining input.old) (R.remaining input.new) (W.written output.old) (W.written output.new) }
     // The stores are as they were where no script was read.
     ensures unplayed { is_unplayed result ≡ true → S.shelves stores.new ≡ S.shelves stores.old }
     // Nothing is written before the run has ended.

@@ -1,22 +1,31 @@
 //! Playing a script on stores.
-ghost use Rattle.std.specs.Prelude.{◌≡◌, ◌<◌, ◌≤◌, ◌^◌, ℕ, [], length, Some, None, IfOk, IfErr, OnOk};
-ghost use Rattle.std.specs.FinMap as finite;
+ghost use Rattle.std.specs.Prelude.{◌≡◌, ◌<◌, ◌≤◌, ℕ, List, [], length, Some, None, IfOk, IfErr, OnOk};
 ghost use Rattle.std.specs.String.{string_bytes};
 ghost use Rattle.sdb_stores.specs.Shelf.{AreDistinct, names_of, total_faults};
-ghost use Rattle.sdb_account.specs.Accounts.{IsFormOf};
-ghost use Rattle.sdb_spread.specs.Spread.{HoldAs};
-ghost use Rattle.sdb_play.specs.Board.{AreFit, GoOn, Refuses, placed, shown};
-ghost use Rattle.sdb_play.specs.Opening.{first_key, opening_records};
-ghost use Rattle.sdb_app.specs.Run.{AreReady, IsFirstFound, IsFoundIn, IsReported, IsTold, Stops, TellOf, placed_form, script_of};
+ghost use Rattle.sdb_model.specs.Events.{Shelf};
+ghost use Rattle.sdb_model.specs.Follows.{Follows};
+ghost use Rattle.sdb_model.specs.Told.{IsRun};
+ghost use Rattle.sdb_script.specs.Begun.{ArePlaces};
+ghost use Rattle.sdb_board.specs.Board.{AreFit, GoOn, placed, shown};
+ghost use Rattle.sdb_board.specs.Opening.{first_key, opening_records};
+ghost use Rattle.sdb_causes.specs.Tied.{AnswersHaveCauses};
+ghost use Rattle.sdb_world.specs.Explained.{IsExplained};
+ghost use Rattle.sdb_world.specs.Linked.{HaveCauses};
+ghost use Rattle.sdb_world.specs.Played.{HasPlayed};
+ghost use Rattle.sdb_world.specs.World.{IsPlayable, IsWorld};
+ghost use Rattle.sdb_world.specs.Step.{CanFollow};
+ghost use Rattle.sdb_app.specs.Run.{AreReady, HasNotPlayed, IsFirstFound, IsFoundIn, IsOutcomeOf, IsReported, Stops, TellOf, status_of_call, status_of_closing};
 
 use crate::places::place_all;
 use crate::status::Status;
-use sdb_account::AccountForm;
-use sdb_play::{PlayRefused, first_record, outcome, play};
+use sdb_board::{CallRefused, first_record};
+use sdb_dump::ClosingRefused;
+use sdb_model::{Outcome, Script};
 use sdb_schema::Catalog;
 use sdb_stores::Registry;
 use sdb_texts::report_text;
 use sdb_types::NoMemory;
+use sdb_world::World;
 use std::alloc::Global;
 
 impl From<NoMemory> for Status {
@@ -30,18 +39,24 @@ impl From<NoMemory> for Status {
     }
 }
 
-impl From<PlayRefused> for Status {
-    ghost use Rattle.std.specs.Prelude.{◌≡◌};
-    ghost use Rattle.sdb_app.specs.Run.{status_of};
+// How the program ends where a scan stopped.
+fn scan_status(refused: CallRefused) -> Status
+    ensures { result ≡ status_of_call refused }
+{
+    match refused {
+        CallRefused::StoreFault => Status::StoreFault,
+        CallRefused::NoMemory => Status::NoMemory,
+    }
+}
 
-    ghost from_gives = { λ refused s. s ≡ status_of refused };
-
-    fn from(refused: PlayRefused) -> Status {
-        match refused {
-            PlayRefused::StoreFault => Status::StoreFault,
-            PlayRefused::BadStore(key) => Status::BadStore(key),
-            PlayRefused::NoMemory => Status::NoMemory,
-        }
+// How the program ends where the closing dump stopped.
+fn closing_status(refused: ClosingRefused) -> Status
+    ensures { result ≡ status_of_closing refused }
+{
+    match refused {
+        ClosingRefused::StoreFault => Status::StoreFault,
+        ClosingRefused::BadRecord(key) => Status::BadStore(key),
+        ClosingRefused::NoMemory => Status::NoMemory,
     }
 }
 
@@ -53,46 +68,63 @@ fn be_empty<R: Registry>(alloc: Global, stores: &mut R, catalog: &Catalog) -> Re
     ensures goes { GoOn (R.places stores.old) (R.places stores.new) (R.shelves stores.old) (R.shelves stores.new) (R.tells stores.old) (R.tells stores.new) }
     ensures err { IfErr result (Stops (R.shelves stores.old) (R.shelves stores.new) ⊥ (IsFoundIn catalog.now (R.places stores.old) (R.shelves stores.old) (R.tells stores.old) (R.shelves stores.new))) }
 {
-    match first_record(alloc, stores, catalog)? {
-        None => Ok(()),
-        Some(key) => Err(Status::NotEmpty(key)),
+    match first_record(alloc, stores, catalog) {
+        Ok(None) => Ok(()),
+        Ok(Some(key)) => Err(Status::NotEmpty(key)),
+        Err(refused) => Err(scan_status(refused)),
     }
 }
 
-// Plays the statements of a script, and writes the report's text.
-fn tell<R: Registry>(
-    alloc: Global,
-    stores: &mut R,
-    form: &AccountForm,
-) -> Result<String, PlayRefused>
+// The outcome of a world that has played its script.
+fn ended<R: Registry>(alloc: Global, stores: &mut R, world: World) -> Result<Outcome, Status>
     requires some { 0 < length (R.shelves stores.old) }
-    requires form { IsFormOf (names_of (R.shelves stores.old)) form.now }
-    ensures told { IfOk result (λ text. IsTold (AreReady form.now.catalog (R.places stores.old) (R.shelves stores.old) (R.tells stores.old)) (placed_form form.now (placed (R.places stores.old))) (shown (R.shelves stores.old)) (shown (R.shelves stores.new)) (string_bytes text)) }
+    requires world { IsWorld world }
+    ensures events { IfOk result (λ o. o.events ≡ world.events) }
+    ensures caused { IfOk result (λ o. HaveCauses world → AnswersHaveCauses world.script.catalog o.events) }
+    ensures explained { IfOk result (λ o. (opening : List Shelf) → HasPlayed world opening (shown (R.shelves stores.old)) → IsExplained world.script o.events opening) }
+    ensures run { IfOk result (λ o. IsOutcomeOf world (R.places stores.old) (R.shelves stores.old) (R.tells stores.old) (shown (R.shelves stores.new)) o) }
     ensures goes { GoOn (R.places stores.old) (R.places stores.new) (R.shelves stores.old) (R.shelves stores.new) (R.tells stores.old) (R.tells stores.new) }
-    ensures err { IfErr result (Refuses (AreFit form.now.catalog (R.places stores.old) (R.shelves stores.old) (R.tells stores.old) → HoldAs form.now.catalog (placed (R.places stores.old)) (shown (R.shelves stores.old)) finite.empty → ⊥) (R.shelves stores.old) (R.shelves stores.new)) }
+    ensures err { IfErr result (Stops (R.shelves stores.old) (R.shelves stores.new) (HasNotPlayed world (R.places stores.old) (R.shelves stores.old) (R.tells stores.old)) (λ key. ⊥)) }
 {
-    let log = play(alloc, stores, &form.client.statements, &form.statements)?;
-    let outcome = outcome(alloc, stores, &form.catalog, log)?;
-    Ok(report_text(alloc, &outcome)?)
+    match world.outcome(alloc, stores) {
+        Ok(outcome) => Ok(outcome),
+        Err(refused) => Err(closing_status(refused)),
+    }
+}
+
+// Plays a script on stores where its namespaces are placed.
+fn play<R: Registry>(alloc: Global, stores: &mut R, script: Script) -> Result<Outcome, Status>
+    requires some { 0 < length (R.shelves stores.old) }
+    requires playable { IsPlayable script }
+    requires can { CanFollow script }
+    ensures follows { IfOk result (λ o. Follows script.clients script.moves o.events) }
+    ensures caused { IfOk result (λ o. AnswersHaveCauses script.catalog o.events) }
+    ensures explained { IfOk result (λ o. AreReady script (R.places stores.old) (R.shelves stores.old) (R.tells stores.old) → IsExplained script o.events (shown (R.shelves stores.old))) }
+    ensures run { IfOk result (λ o. AreReady script (R.places stores.old) (R.shelves stores.old) (R.tells stores.old) → IsRun script (shown (R.shelves stores.old)) (shown (R.shelves stores.new)) o) }
+    ensures goes { GoOn (R.places stores.old) (R.places stores.new) (R.shelves stores.old) (R.shelves stores.new) (R.tells stores.old) (R.tells stores.new) }
+    ensures err { IfErr result (Stops (R.shelves stores.old) (R.shelves stores.new) (AreReady script (R.places stores.old) (R.shelves stores.old) (R.tells stores.old) → ⊥) (λ key. ⊥)) }
+{
+    let mut world = World::new(alloc, script)?;
+    world.follow(stores)?;
+    ended(alloc, stores, world)
 }
 
 /// Plays a script on stores of which none has a place yet, and gives the text of its report.
-pub fn replay<R: Registry>(
-    alloc: Global,
-    stores: &mut R,
-    form: &AccountForm,
-) -> Result<String, Status>
+pub fn replay<R: Registry>(alloc: Global, stores: &mut R, script: Script) -> Result<String, Status>
     requires some { 0 < length (R.shelves stores.old) }
     requires unplaced { R.places stores.old ≡ [] }
     requires distinct { AreDistinct (names_of (R.shelves stores.old)) }
-    requires form { IsFormOf (names_of (R.shelves stores.old)) form.now }
-    ensures report { IfOk result (λ text. IsReported (TellOf (script_of form.now) (R.shelves stores.old) (R.tells stores.old)) (script_of form.now) (shown (R.shelves stores.old)) (shown (R.shelves stores.new)) (string_bytes text)) }
+    requires playable { IsPlayable script }
+    requires can { CanFollow script }
+    requires places { ArePlaces (names_of (R.shelves stores.old)) script.places }
+    ensures report { IfOk result (λ text. IsReported (TellOf script (R.shelves stores.old) (R.tells stores.old)) script (shown (R.shelves stores.old)) (shown (R.shelves stores.new)) (string_bytes text)) }
     ensures names { names_of (R.shelves stores.new) ≡ names_of (R.shelves stores.old) }
     ensures counted { total_faults (R.shelves stores.old) ≤ total_faults (R.shelves stores.new) }
-    ensures err { IfErr result (Stops (R.shelves stores.old) (R.shelves stores.new) (TellOf (script_of form.now) (R.shelves stores.old) (R.tells stores.old) → ⊥) (λ key. TellOf (script_of form.now) (R.shelves stores.old) (R.tells stores.old) → IsFirstFound (script_of form.now) (shown (R.shelves stores.old)) (shown (R.shelves stores.new)) key)) }
+    ensures err { IfErr result (Stops (R.shelves stores.old) (R.shelves stores.new) (TellOf script (R.shelves stores.old) (R.tells stores.old) → ⊥) (λ key. TellOf script (R.shelves stores.old) (R.tells stores.old) → IsFirstFound script (shown (R.shelves stores.old)) (shown (R.shelves stores.new)) key)) }
     ensures telling { (at : ℕ) → R.tells stores.old at → R.tells stores.new at }
 {
-    place_all(stores, &form.places)?;
-    be_empty(alloc, stores, &form.catalog)?;
-    Ok(tell(alloc, stores, form)?)
+    place_all(stores, &script.places)?;
+    be_empty(alloc, stores, &script.catalog)?;
+    let outcome = play(alloc, stores, script)?;
+    Ok(report_text(alloc, &outcome)?)
 }

@@ -1,33 +1,43 @@
 //! How the program ends.
-ghost use Rattle.std.specs.Prelude.{◌≡◌, ◌++◌, IfOk, codes, decimal};
+ghost use Rattle.std.specs.Prelude.{◌≡◌, ◌++◌, IfOk, codes, decimal, string_bytes};
 ghost use Rattle.sdb_model.specs.Texts.{key_text_of};
-ghost use Rattle.sdb_app.specs.Status.{code_of, line_of};
+ghost use Rattle.sdb_app.specs.Status.{code_of, line_of, which_name as which_name_lem};
 
+use sdb_model::Which;
+use sdb_script::LineFault;
 use sdb_texts::key_text;
 use sdb_types::{Key, NoMemory, Txt};
 use std::alloc::Global;
 
+/// What is wrong with the input.
+#[derive(Debug, Drop)]
+pub enum InputFault {
+    /// With a line of a script.
+    Line(LineFault),
+}
+
 /// How a run of the program ended.
-#[derive(Debug, Drop, PartialEq, Eq)]
+#[derive(Debug, Drop)]
 pub enum Status {
     /// The input was read to its end, and all was written.
     Done,
     /// The words are none that the program knows.
     Usage,
+    /// The input is refused: this is the first line that may not come, and what is wrong with it.
+    BadInput(u64, InputFault),
     /// The source failed.
     ReadFault,
-    /// The sink failed; a front of the output was written.
+    /// The sink failed; a prefix of the output was written.
     WriteFault,
     /// A store failed.
     StoreFault,
     NoMemory,
     /// The tables of the script are not empty: this is the first record that was found.
     NotEmpty(Key),
-    /// A store answered the call that was about this key in a way that doesn't let the client go on, or holds a record there
-    /// that isn't one that a run leaves.
+    /// A store holds a record at this key that no run leaves.
     BadStore(Key),
-    /// The input isn't one that can be played so far, because of this line.
-    NotBuilt(u64),
+    /// The input is refused: at this line that quantity passes its limit.
+    Limit(u64, Which),
 }
 
 impl Status {
@@ -38,13 +48,14 @@ impl Status {
         match self {
             Status::Done => 0,
             Status::Usage => 2,
+            Status::BadInput(_, _) => 3,
             Status::ReadFault => 4,
             Status::WriteFault => 5,
             Status::StoreFault => 6,
             Status::NoMemory => 7,
             Status::NotEmpty(_) => 8,
             Status::BadStore(_) => 9,
-            Status::NotBuilt(_) => 13,
+            Status::Limit(_, _) => 10,
         }
     }
 
@@ -58,30 +69,60 @@ impl Status {
                 alloc,
                 "usage: scalardb replay | sql | schema [NS=STORE]... | load NS.TABLE insert|update|upsert N | export NS.TABLE | bench N",
             ),
+            Status::BadInput(n, _) => bad_input(alloc, *n),
             Status::ReadFault => Txt::new(alloc, "read fault"),
             Status::WriteFault => Txt::new(alloc, "write fault"),
             Status::StoreFault => Txt::new(alloc, "store fault"),
             Status::NoMemory => Txt::new(alloc, "out of memory"),
             Status::NotEmpty(key) => about_key(alloc, "not empty: ", key),
             Status::BadStore(key) => about_key(alloc, "bad record: ", key),
-            Status::NotBuilt(n) => not_built(alloc, *n),
+            Status::Limit(n, which) => limit(alloc, *n, *which),
         }
     }
 }
 
 // A line that ends with a key.
-fn about_key(alloc: Global, front: &str, key: &Key) -> Result<Txt, NoMemory>
-    ensures { IfOk result (λ text. text ≡ front.now ++ key_text_of key.now) }
+fn about_key(alloc: Global, prefix: &str, key: &Key) -> Result<Txt, NoMemory>
+    ensures { IfOk result (λ text. text ≡ prefix.now ++ key_text_of key.now) }
 {
-    let mut text = String::from_str(alloc, front)?;
+    let mut text = String::from_str(alloc, prefix)?;
     text.push_str(key_text(alloc, key)?.as_str())?;
     Txt::new(alloc, text.as_str())
 }
 
-fn not_built(alloc: Global, n: u64) -> Result<Txt, NoMemory>
-    ensures { IfOk result (λ text. text ≡ codes "not built at " ++ decimal n) }
+// A line that ends with a number.
+fn about_line(alloc: Global, prefix: &str, n: u64) -> Result<String, NoMemory>
+    ensures { IfOk result (λ text. string_bytes text ≡ prefix.now ++ decimal n) }
 {
-    let mut text = String::from_str(alloc, "not built at ")?;
+    let mut text = String::from_str(alloc, prefix)?;
     text.push_str(n.to_string(alloc)?.as_str())?;
+    Ok(text)
+}
+
+fn bad_input(alloc: Global, n: u64) -> Result<Txt, NoMemory>
+    ensures { IfOk result (λ text. text ≡ codes "bad input at " ++ decimal n) }
+{
+    let text = about_line(alloc, "bad input at ", n)?;
+    Txt::new(alloc, text.as_str())
+}
+
+fn which_name(which: Which) -> &'static str
+    ensures { result.now ≡ which_name_lem which }
+{
+    match which {
+        Which::LineBytes => "LineBytes",
+        Which::InputBytes => "InputBytes",
+        Which::Clients => "Clients",
+        Which::Statements => "Statements",
+        Which::Moves => "Moves",
+    }
+}
+
+fn limit(alloc: Global, n: u64, which: Which) -> Result<Txt, NoMemory>
+    ensures { IfOk result (λ text. text ≡ codes "limit at " ++ decimal n ++ codes ": " ++ which_name_lem which) }
+{
+    let mut text = about_line(alloc, "limit at ", n)?;
+    text.push_str(": ")?;
+    text.push_str(which_name(which))?;
     Txt::new(alloc, text.as_str())
 }

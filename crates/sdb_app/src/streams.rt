@@ -68,10 +68,10 @@ pub fn read_input<R: Source>(
     Ok(Input::Longer(bytes))
 }
 
-/// Writes a whole text. Where that fails, a front of the text was written.
+/// Writes a whole text. Where that fails, a prefix of the text was written.
 pub fn write_all<W: Sink>(sink: &mut W, bytes: &[u8]) -> Result<(), SinkRefused>
     ensures all { OnOk result (Appends bytes.now (W.written sink.old) (W.written sink.new)) }
-    ensures front { OnErr result ((k : ℕ) × (k ≤ length bytes.now) × Appends (take k bytes.now) (W.written sink.old) (W.written sink.new)) }
+    ensures prefix { OnErr result ((k : ℕ) × (k ≤ length bytes.now) × Appends (take k bytes.now) (W.written sink.old) (W.written sink.new)) }
     ensures later { W.faults sink.old ≤ W.faults sink.new }
     ensures failed { IsErrOf result SinkRefused.Failed → HasRisen (W.faults sink.old) (W.faults sink.new) }
 {

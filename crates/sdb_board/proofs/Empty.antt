@@ -30,6 +30,7 @@ use Rattle.sdb_board.specs.Board.{AreFit, GoOn, IsCalled, placed, shown}
 use Rattle.sdb_board.specs.Opening.{records_of, run_tables, opening_records, first_key, whole}
 use Rattle.sdb_board.proofs.Lists.{all_at, taken_up}
 use Rattle.sdb_board.proofs.RunTables.{names_played, of_played}
+use Rattle.sdb_types.proofs.Basics.{none_some, some_is}
 
 nothing_at : (key : Key) → record_at empty key ≡ None
 nothing_at key = ap (option_map (λ columns. record_of (key, columns))) (get-empty key_cmp key)
@@ -85,12 +86,6 @@ scanned places name table rows r before now named is h = by (subst (λ (x : Repl
 first_stays : (xs ys : List Record) (key : Key) → first_key xs ≡ Some key → first_key (xs ++ ys) ≡ Some key
 first_stays [] ys key e = absurd (cc)
 first_stays (x ∷ xs) ys key e = e
-
-some_is : {A : Type 0} (x y : A) → Some x ≡ Some y → x ≡ y
-some_is x y e = cc
-
-none_some : {A : Type 0} (x : A) → ◌≡◌ {A = Option A} None (Some x) → ⊥
-none_some x e = cc
 
 -- where the tables before hold none, the first of the next is the first of all
 first_behind : (f : TableName → List Record) (ts : List TableName) (i : ℕ) (t : TableName) (key : Key) → slice_get ts i ≡ Some t → flat_map f (take i ts) ≡ [] → first_key (f t) ≡ Some key → first_key (flat_map f ts) ≡ Some key

@@ -21,9 +21,7 @@ use Rattle.sdb_model.specs.Events.{Shelf, IsCall, IsPerformed, held_by, with_con
 use Rattle.sdb_spread.specs.Spread.{is_played}
 use Rattle.sdb_board.specs.Board.{AreFit, IsCalled, IsMade, how_lost, how_seen, is_read, reply_lost, shown, placed}
 use Rattle.sdb_board.proofs.Shelves.{held_at, set_there, set_still, named_home}
-
-some_is : {A : Type 0} (x y : A) → Some x ≡ Some y → x ≡ y
-some_is x y e = cc
+use Rattle.sdb_types.proofs.Basics.{some_is}
 
 pub asked : (q : Request) → table_of q ≡ table_asked q
 asked (ask.Get key) = refl

@@ -18,10 +18,7 @@ use Rattle.sdb_model.specs.Exec.{find_table}
 use Rattle.sdb_spread.specs.Spread.{is_played}
 use Rattle.sdb_board.specs.Opening.{run_tables, table_names}
 use Rattle.sdb_board.proofs.Lists.{take_suc}
-
-by_test : {G : Type 0} (t : Bool) → (t ≡ true → G) → (t ≡ false → G) → G
-by_test true a b = a refl
-by_test false a b = b refl
+use Rattle.sdb_types.proofs.Basics.{by_test, or_second}
 
 or_cases : (a b : Bool) → (a || b) ≡ true → (a ≡ true) ⊎ (b ≡ true)
 or_cases true b e = inl refl
@@ -29,10 +26,6 @@ or_cases false b e = inr e
 
 or_first : (a b : Bool) → a ≡ true → (a || b) ≡ true
 or_first a b e = ap (λ (x : Bool). x || b) e
-
-or_second : (a b : Bool) → b ≡ true → (a || b) ≡ true
-or_second true b e = refl
-or_second false b e = e
 
 false_true : {G : Type 0} → false ≡ true → G
 false_true e = absurd (let f = e in cc)

@@ -15,16 +15,10 @@ use Rattle.sdb_model.specs.declared.script.Place.{Place}
 use Rattle.sdb_model.specs.Rows.{Name, same_name}
 use Rattle.sdb_model.specs.Events.{held_by, with_contents, first_name, store_of}
 use Rattle.sdb_board.specs.Board.{shown, placed}
-
-some_is : {A : Type 0} (x y : A) → Some x ≡ Some y → x ≡ y
-some_is x y e = cc
+use Rattle.sdb_types.proofs.Basics.{by_test, some_is}
 
 true_false : {G : Type 0} → true ≡ false → G
 true_false e = absurd (let f = e in cc)
-
-by_test : {G : Type 0} (t : Bool) → (t ≡ true → G) → (t ≡ false → G) → G
-by_test true a b = a refl
-by_test false a b = b refl
 
 ---- names
 

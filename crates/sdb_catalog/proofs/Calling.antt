@@ -23,6 +23,7 @@ use Rattle.sdb_stores.proofs.Called.{same_names, grown}
 use Rattle.sdb_catalog.specs.declared.refused.CatalogRefused.{CatalogRefused}
 use Rattle.sdb_catalog.specs.declared.refused.CatalogRefused.TheVariants as refused
 use Rattle.sdb_catalog.specs.Calls.{Called, GoOn, IsStopped, IsUnread, adds, first_contents}
+use Rattle.sdb_types.specs.Exact.{equal_of}
 
 -- without places each namespace belongs to the first store
 pub at_first : {told tells : ℕ → Type 0} (places : List Place) (ns : List ℕ) (q : Request) (r : Reply) (old new : List Shelf) → places ≡ [] → IsCallAt (home ns places (names_of old)) q r old new told tells → IsCallAt 0 q r old new told tells
@@ -52,11 +53,6 @@ others_stay (x ∷ xs) s = refl
 
 no_some : {A X : Type 0} (x : A) → None ≡ Some x → X
 no_some x e = absurd (let f : None ≡ Some x = e in cc)
-
-equal_of : (r : Ordering) → is_eq r ≡ true → r ≡ Equal
-equal_of Less h = cc
-equal_of Equal h = refl
-equal_of Greater h = cc
 
 put_beside : (m : Contents) (k : Key) (v : List Pair) (q : Key) (found : Record) → record_at m k ≡ None → record_at m q ≡ Some found → record_at (insert m k v) q ≡ Some found
 put_beside m k v q found none h =

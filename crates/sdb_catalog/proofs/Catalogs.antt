@@ -28,6 +28,7 @@ use Rattle.sdb_catalog.specs.declared.entry.Entry.{Entry}
 use Rattle.sdb_catalog.specs.Calls.{IsRead, metadata_span}
 use Rattle.sdb_catalog.specs.Opened.{Follow, agrees, are_attached, is_attached, is_coordinators, open_count, open_entries, tables_of}
 use Rattle.sdb_catalog.specs.Rows.{MayHaveRow, coordinators, metadata_key_of, row_of}
+use Rattle.sdb_types.proofs.Basics.{less_of}
 
 ---- each entry
 
@@ -108,11 +109,6 @@ then_equal Greater = refl
 pub key_is : (a b : TableName) → key_cmp (metadata_key_of a) (metadata_key_of b) ≡ name_cmp (table_text a) (table_text b)
 unfolding metadata_key_of
 key_is a b = then_equal _ ∙ then_equal _
-
-pub less_of : (r : Ordering) → is_lt r ≡ true → r ≡ Less
-less_of Less h = refl
-less_of Equal h = cc
-less_of Greater h = cc
 
 abbrev lower_than : TableName → List Table → Bool
 lower_than name ts = list_all (λ (t : Table). is_lt (table_cmp name t.name)) ts

@@ -28,15 +28,12 @@ use Rattle.sdb_catalog.specs.Rows.{MayHaveRow, coordinators}
 use Rattle.sdb_catalog.specs.Opened.{Follow, IsEntry, agrees, is_attached, is_coordinators, open_count, open_entries, tables_of}
 use Rattle.sdb_catalog.proofs.Catalogs.{count_more, ns_is, one_count, own_ns}
 use Rattle.sdb_catalog.proofs.Kept.{entry, store_of}
+use Rattle.std.proofs.lemmas.Bool.{not-true as false_of}
 
 ---- names
 
 abbrev names_all : List Table → Bool
 names_all ts = list_all (λ (t : Table). names_table t.name.ns t.name.table) ts
-
-false_of : (b : Bool) → not b ≡ true → b ≡ false
-false_of true h = cc
-false_of false h = refl
 
 -- a table that a schema may name isn't in the coordinator's namespace
 other_ns : (t : Table) → names_table t.name.ns t.name.table ≡ true → bytes_eq t.name.ns (codes "coordinator") ≡ false

@@ -28,8 +28,9 @@ use Rattle.sdb_catalog.specs.Rows.{metadata_key_of, row_of}
 use Rattle.sdb_catalog.specs.Opened.{Follow, agrees, is_coordinators, open_count, store_in}
 use Rattle.sdb_catalog.specs.Written.{AreWritten, IsWritten, Line, entry_for, grown, has_entry, is_full, put_of}
 use Rattle.sdb_catalog.proofs.Calling.{first_before, first_now}
-use Rattle.sdb_catalog.proofs.Catalogs.{key_order, less_of}
+use Rattle.sdb_catalog.proofs.Catalogs.{key_order}
 use Rattle.sdb_catalog.proofs.LastRows.{are_below, none_at, rows_pushed}
+use Rattle.sdb_types.proofs.Basics.{less_of}
 
 ---- the entry of a table
 

@@ -17,11 +17,7 @@ use Rattle.sdb_types.specs.Exact.{equal_of}
 use Rattle.sdb_types.specs.Order.{key_cmp}
 use Rattle.sdb_types.proofs.Bools.{and_first, and_second, and_both}
 use Rattle.sdb_types.proofs.KeyOrder.{key_exact, key_total}
-use Rattle.sdb_catalog.proofs.Catalogs.{less_of}
-
-truth : (b : Bool) → T b → b ≡ true
-truth true h = refl
-truth false h = absurd h
+use Rattle.sdb_types.proofs.Basics.{less_of, truth}
 
 -- the records have keys below this one
 abbrev pub are_below : Key → List Record → Bool

@@ -10,6 +10,7 @@ use Rattle.serde_json.specs.Written.{outline, members_outline}
 use Rattle.sdb_types.specs.Order.{name_cmp}
 use Rattle.sdb_types.proofs.Bools.{and_first, and_second}
 use Rattle.sdb_types.proofs.KeyOrder.{name_total}
+use Rattle.sdb_types.proofs.Basics.{less_of}
 
 -- the members of a list: a key and a value of each
 abbrev pub members_of : {A : Type 0} → (A → List ℕ) → (A → Data) → List A → Members
@@ -29,11 +30,6 @@ keys_rise key (x ∷ xs) = is_under key (key x) xs && keys_rise key xs
 abbrev pub AreRead : {A : Type 0} → (A → Data) → List A → Type 0
 AreRead value [] = Unit {0}
 AreRead value (x ∷ xs) = (of_json (outline (value x)) ≡ Some (value x)) × AreRead value xs
-
-less_of : (r : Ordering) → is_lt r ≡ true → r ≡ Less
-less_of Less h = refl
-less_of Equal h = cc
-less_of Greater h = cc
 
 -- a key above all others
 abbrev Above : {A : Type 0} → (A → List ℕ) → List A → List ℕ → Type 0

@@ -16,7 +16,8 @@ use Rattle.sdb_catalog.specs.Definition.{definition_text}
 use Rattle.sdb_catalog.specs.Rows.{MayHaveRow, Texts, row_of, texts_of}
 use Rattle.sdb_catalog.specs.Opened.{Follow, IsEntry, Opens}
 use Rattle.sdb_catalog.proofs.Again.{definition_again}
-use Rattle.sdb_catalog.proofs.Reading.{own_name, own_table, row_texts, said_by, same_entry, some_is}
+use Rattle.sdb_catalog.proofs.Reading.{own_name, own_table, row_texts, said_by, same_entry}
+use Rattle.sdb_types.proofs.Basics.{some_is}
 
 one_table : (t u : Table) → MayHaveRow t → MayHaveRow u → table_text t.name ≡ table_text u.name → definition_text t ≡ definition_text u → t ≡ u
 one_table t u h k named defined =

@@ -15,7 +15,6 @@ use Rattle.sdb_model.specs.Sql.{reads_commit, reads_vacuum}
 use Rattle.sdb_model.specs.Transactions.{Said, id_of, said}
 use Rattle.sdb_plain.specs.declared.points.Said.{Said as Plain}
 use Rattle.sdb_plain.specs.Points.{all_said}
-use Rattle.sdb_said.proofs.Lists.{clash}
 use Rattle.sdb_calls.specs.declared.made.Made.{Made}
 use Rattle.sdb_calls.specs.Values.{all_made}
 use Rattle.sdb_caused.specs.Tests.{any_upto, busy_among, commits_as, conflict_of, expired_among, is_commit_of, shows_bad, unknown_among}
@@ -24,6 +23,7 @@ use Rattle.sdb_caused.proofs.CommitLaws.{of_commit_is, is_of_commit, expired_is,
 use Rattle.sdb_caused.proofs.ConflictLaws.{conflict_is, is_conflict_of}
 use Rattle.sdb_caused.proofs.IdLaws.{commit_is, is_commit}
 use Rattle.sdb_caused.proofs.PlainLaws.{bad_record_is, is_bad_record, reply_is, is_reply}
+use Rattle.sdb_types.proofs.Basics.{clash}
 
 pub decide_by : {P : Type 0} (b t : Bool) → b ≡ t → (t ≡ true → P) → (P → t ≡ true) → IsTrue b ↔ P
 decide_by b t e f g = (λ h. f (sym e ∙ h), λ p. e ∙ g p)

@@ -19,9 +19,9 @@ use Rattle.sdb_model.specs.Calls.{calls_of}
 use Rattle.sdb_calls.specs.declared.made.Made.{Made}
 use Rattle.sdb_calls.specs.Values.{all_made, made_of}
 use Rattle.sdb_said.proofs.ShownLaws.{number_is, is_number, key_is, is_key}
-use Rattle.sdb_said.proofs.Lists.{clash, some_is}
 use Rattle.sdb_caused.specs.Tests.{Inserts, IsOfCount, IsOfDone, IsOfDuplicate, IsOfRows, IsReading, counts_so, is_done, removed_by}
 use Rattle.sdb_caused.proofs.Decided.{never}
+use Rattle.sdb_types.proofs.Basics.{clash, some_is}
 
 module _ (s : Said) (o : Option Statement) (reading : IsReading s.text o) where
   pub read : (st : Statement) → Reads s.text st → o ≡ Some st

@@ -19,15 +19,15 @@ use Rattle.sdb_snapshot.specs.Noted.{Note, is_noted}
 use Rattle.sdb_snapshot.specs.declared.snapshot.Mark.{Mark}
 use Rattle.sdb_snapshot.specs.Held.{AreKept}
 use Rattle.sdb_snapshot.specs.Seen.{Seen, forgotten, mark_of, overlay}
-use Rattle.sdb_transaction.proofs.Notes.{kept_cut}
-use Rattle.sdb_transaction.specs.declared.txn.Doing.{Doing}
-use Rattle.sdb_transaction.specs.declared.txn.Doing.TheVariants as doing
+use Rattle.sdb_txn.proofs.Notes.{kept_cut}
+use Rattle.sdb_txn.specs.declared.txn.Doing.{Doing}
+use Rattle.sdb_txn.specs.declared.txn.Doing.TheVariants as doing
 use Rattle.sdb_exec.specs.Reads.{access_of}
 use Rattle.sdb_client.specs.Inside.{IsKeyRead, IsReadOf}
 use Rattle.sdb_snapshot.proofs.Forgotten.{get_forgotten, scan_forgotten}
-use Rattle.sdb_transaction.specs.declared.progress.Progress.{Progress}
-use Rattle.sdb_transaction.specs.declared.progress.Progress.TheVariants as progress
-use Rattle.sdb_transaction.specs.Txn.{IfReading, ImagesTold as ImagesEnd, ReadTold, StepTold, TxnAt, idle}
+use Rattle.sdb_txn.specs.declared.progress.Progress.{Progress}
+use Rattle.sdb_txn.specs.declared.progress.Progress.TheVariants as progress
+use Rattle.sdb_txn.specs.Txn.{IfReading, ImagesTold as ImagesEnd, ReadTold, StepTold, TxnAt, idle}
 use Rattle.sdb_client.specs.declared.next.Next.{Next}
 use Rattle.sdb_client.specs.declared.next.Next.TheVariants as next
 use Rattle.sdb_client.specs.Client.{CallTold, IsAsRead, IsMovedAt, StageTold, gives, given_answer, given_left, noting}

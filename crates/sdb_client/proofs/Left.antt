@@ -11,9 +11,9 @@ use Rattle.sdb_exec.specs.Plans.{Planned}
 use Rattle.sdb_read.specs.declared.read.ReadStep.{ReadStep}
 use Rattle.sdb_read.specs.declared.read.ReadStep.TheVariants as step
 use Rattle.sdb_read.specs.Read.{ReadAt, ReadStage, read_result, read_step}
-use Rattle.sdb_transaction.specs.declared.txn.Doing.{Doing}
-use Rattle.sdb_transaction.specs.declared.txn.Doing.TheVariants as doing
-use Rattle.sdb_transaction.specs.Txn.{IfReading, TxnAt, idle, CommitTold, IfCommitting, IsCommitting, pending_in, progress_of}
+use Rattle.sdb_txn.specs.declared.txn.Doing.{Doing}
+use Rattle.sdb_txn.specs.declared.txn.Doing.TheVariants as doing
+use Rattle.sdb_txn.specs.Txn.{IfReading, TxnAt, idle, CommitTold, IfCommitting, IsCommitting, pending_in, progress_of}
 use Rattle.sdb_client.specs.declared.next.Next.{Next}
 use Rattle.sdb_client.specs.declared.next.Next.TheVariants as next
 use Rattle.sdb_client.specs.Client.{CallTold, ClientAt, ReplyTold, StageTold, after, answer_in, gives, given_answer, given_left, noting, written, next_of}
@@ -26,8 +26,8 @@ use Rattle.sdb_phases.specs.Commit.{step as commit_step}
 use Rattle.sdb_phases.specs.declared.step.Outcome.{Outcome}
 use Rattle.sdb_phases.specs.declared.step.Outcome.TheVariants as outcome
 use Rattle.sdb_commit.specs.Phases.{CommitAt, IsNext, ended_at}
-use Rattle.sdb_transaction.specs.declared.progress.Progress.{Progress}
-use Rattle.sdb_transaction.specs.declared.progress.Progress.TheVariants as progress
+use Rattle.sdb_txn.specs.declared.progress.Progress.{Progress}
+use Rattle.sdb_txn.specs.declared.progress.Progress.TheVariants as progress
 use Rattle.sdb_read.specs.Read.{read_pending_at}
 
 ---- reads

@@ -15,7 +15,6 @@ use Rattle.sdb_types.specs.Order.{key_cmp}
 use Rattle.sdb_types.specs.Columns.{are_columns}
 use Rattle.sdb_types.proofs.Bools.{and_first}
 use Rattle.sdb_keyed.specs.Entries.{same_key}
-use Rattle.sdb_types.proofs.ColumnLemmas.{less_of}
 use Rattle.sdb_types.proofs.KeyOrder.{key_total}
 use Rattle.sdb_record.proofs.ColumnLaws.{are_columns-filter}
 use Rattle.sdb_record.specs.Parts.{are_stored, is_user_pair, user_columns}
@@ -27,13 +26,14 @@ use Rattle.sdb_record.specs.declared.write.Change.TheVariants as change
 use Rattle.sdb_record.specs.declared.write.Write.{Write}
 use Rattle.sdb_model.specs.Exec.{Tables, row_of_entry}
 use Rattle.sdb_model.specs.Access.{in_access, rows_at}
-use Rattle.sdb_exec.proofs.Laid.{by_key, true_from_T}
+use Rattle.sdb_exec.proofs.Laid.{by_key}
 use Rattle.sdb_snapshot.specs.Noted.{Note, AreBases, base_at, is_noted, note_at}
 use Rattle.sdb_snapshot.specs.Held.{AreKept}
 use Rattle.sdb_snapshot.specs.Rows.{row_found}
 use Rattle.sdb_snapshot.specs.Seen.{Seen, overlay, row_seen, row_with, tables_seen}
 use Rattle.sdb_snapshot.specs.Written.{AreWrites, write_at}
 use Rattle.sdb_snapshot.proofs.Shown.{get_seen, no_row}
+use Rattle.sdb_types.proofs.Basics.{less_of, truth as true_from_T}
 
 -- a row of a key that was read, with its columns in order
 abbrev pub IsSeenRow : List Note → Image → Type 0

@@ -14,7 +14,7 @@ use Rattle.sdb_exec.specs.declared.plan.PlanStep.{PlanStep}
 use Rattle.sdb_exec.specs.declared.plan.PlanStep.TheVariants.{Finished, Read as Wants}
 use Rattle.sdb_exec.specs.Plans.{Planned, has_all_literals}
 use Rattle.sdb_exec.proofs.Places.{named_is_table}
-use Rattle.sdb_transaction.specs.Txn.{TxnAt}
+use Rattle.sdb_txn.specs.Txn.{TxnAt}
 use Rattle.sdb_client.specs.Client.{ClientAt, Taking, TextTold, given_answer, given_left}
 use Rattle.sdb_client.specs.Inside.{IsFine, IsPlanOf}
 

@@ -3,9 +3,9 @@ use Rattle.std.proofs.Common.{◌≡◌, Option, Some, None, refl, subst}
 use Rattle.std.specs.Prelude.{IfSome, IsSome}
 use Rattle.sdb_types.specs.declared.record.Request.{Request}
 use Rattle.sdb_exec.specs.Plans.{Planned}
-use Rattle.sdb_transaction.specs.declared.txn.Doing.{Doing}
-use Rattle.sdb_transaction.specs.declared.txn.Doing.TheVariants as doing
-use Rattle.sdb_transaction.specs.Txn.{TxnAt, pending_in}
+use Rattle.sdb_txn.specs.declared.txn.Doing.{Doing}
+use Rattle.sdb_txn.specs.declared.txn.Doing.TheVariants as doing
+use Rattle.sdb_txn.specs.Txn.{TxnAt, pending_in}
 use Rattle.sdb_client.specs.Client.{pending_of}
 use Rattle.sdb_client.specs.Inside.{IsClient, IsUnder}
 use Rattle.sdb_client.proofs.Pending.{going_asks}

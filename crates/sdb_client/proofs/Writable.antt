@@ -4,7 +4,7 @@ use Rattle.std.specs.Prelude.{filter, find, is_some, unwrap_or}
 use Rattle.std.specs.Option.{option_map}
 use Rattle.std.specs.Ordering.{is_eq}
 use Rattle.std.specs.List.{AllByRecursion, list_all}
-use Rattle.std.proofs.lemmas.Bool.{and_parts}
+use Rattle.std.proofs.lemmas.Bool.{and_parts, not-false as unnot}
 use Rattle.sdb_types.specs.declared.key.Key.{Key}
 use Rattle.sdb_types.specs.declared.pair.Pair.{Pair}
 use Rattle.sdb_types.specs.Order.{key_cmp}
@@ -82,10 +82,6 @@ are_changes notes t table [] h f = tt
 are_changes notes t table (k ∷ ks) h f =
     let parts = and_parts (change_fits t k) (list_all (change_fits t) ks) f in
     ((h.0.0, change_fine t table k h.0.1 parts.0), are_changes notes t table ks h.1 parts.1)
-
-unnot : (b : Bool) → not b ≡ false → b ≡ true
-unnot true h = refl
-unnot false h = cc
 
 all_fit : (t : Table) (rows : List Image) → first_unfit t rows ≡ None → list_all (λ r. fits_table t r.key r.columns) rows ≡ true
 all_fit t [] h = refl

@@ -30,11 +30,11 @@ use Rattle.sdb_read.specs.Read.{ReadAt, ReadStage, read_result, read_step}
 use Rattle.sdb_snapshot.specs.Noted.{IsFirstDifference, IsUnmoved, is_noted}
 use Rattle.sdb_snapshot.specs.Seen.{Seen, is_scanned, overlay, with_get, with_scan, with_written}
 use Rattle.sdb_snapshot.specs.Written.{most_writes}
-use Rattle.sdb_transaction.specs.declared.progress.Progress.{Progress}
-use Rattle.sdb_transaction.specs.declared.progress.Progress.TheVariants as progress
-use Rattle.sdb_transaction.specs.declared.txn.Doing.{Doing}
-use Rattle.sdb_transaction.specs.declared.txn.Doing.TheVariants as doing
-use Rattle.sdb_transaction.specs.Txn.{TxnAt, CommitTold, begun, committing, idle, pending, reading}
+use Rattle.sdb_txn.specs.declared.progress.Progress.{Progress}
+use Rattle.sdb_txn.specs.declared.progress.Progress.TheVariants as progress
+use Rattle.sdb_txn.specs.declared.txn.Doing.{Doing}
+use Rattle.sdb_txn.specs.declared.txn.Doing.TheVariants as doing
+use Rattle.sdb_txn.specs.Txn.{TxnAt, CommitTold, begun, committing, idle, pending, reading}
 use Rattle.sdb_client.specs.declared.gate.Gate.{Gate}
 use Rattle.sdb_client.specs.declared.next.Next.{Next}
 use Rattle.sdb_client.specs.declared.next.Next.TheVariants as next

@@ -18,11 +18,11 @@ use Rattle.sdb_phases.specs.Commit.{Stage, Preparing, Checking, Deciding, Forwar
 use Rattle.sdb_read.specs.Read.{read_pending}
 use Rattle.sdb_snapshot.specs.Noted.{Note, is_noted}
 use Rattle.sdb_snapshot.specs.Written.{AreChanges}
-use Rattle.sdb_transaction.specs.declared.progress.Progress.{Progress}
-use Rattle.sdb_transaction.specs.declared.progress.Progress.TheVariants as progress
-use Rattle.sdb_transaction.specs.declared.txn.Doing.{Doing}
-use Rattle.sdb_transaction.specs.declared.txn.Doing.TheVariants as doing
-use Rattle.sdb_transaction.specs.Txn.{TxnAt, reading}
+use Rattle.sdb_txn.specs.declared.progress.Progress.{Progress}
+use Rattle.sdb_txn.specs.declared.progress.Progress.TheVariants as progress
+use Rattle.sdb_txn.specs.declared.txn.Doing.{Doing}
+use Rattle.sdb_txn.specs.declared.txn.Doing.TheVariants as doing
+use Rattle.sdb_txn.specs.Txn.{TxnAt, reading}
 use Rattle.sdb_record.specs.declared.access.Access.{Access}
 use Rattle.sdb_record.specs.declared.access.Access.TheVariants as access
 use Rattle.sdb_model.specs.declared.answer.Answer.{Answer}

@@ -6,7 +6,7 @@ ghost use Rattle.sdb_client.specs.Client.{next_of as next_of_lem};
 
 use crate::next::Next;
 use sdb_model::{Answer, Refusal};
-use sdb_transaction::Progress;
+use sdb_txn::Progress;
 
 /// A refusal of a whole statement.
 pub fn refused(kind: u8) -> Answer

@@ -1,7 +1,7 @@
 //! What the calls of a client lead to.
 ghost use Rattle.std.specs.Prelude.{◌≡◌, IsSome, None, Some};
 ghost use Rattle.sdb_phases.specs.Steps.{CanGet};
-ghost use Rattle.sdb_transaction.specs.Txn.{IfReading, pending};
+ghost use Rattle.sdb_txn.specs.Txn.{IfReading, pending};
 ghost use Rattle.sdb_client.specs.Client.{CallTold, NextTold, answer_in, pending_of};
 ghost use Rattle.sdb_client.specs.Inside.{IsClient, IsLeft, IsReadOf, IsUnder, OpenNext, plan_after, txn_after};
 
@@ -10,7 +10,7 @@ use crate::finish::finish_read;
 use crate::next::Next;
 use sdb_exec::Plan;
 use sdb_model::Answer;
-use sdb_transaction::{Progress, Txn};
+use sdb_txn::{Progress, Txn};
 use sdb_types::Reply;
 
 // Takes the reply to a call of a statement's read.

@@ -18,7 +18,7 @@ use sdb_model::{Answer, Statement};
 use sdb_schema::Catalog;
 use sdb_sqltext::{ParseRefused, parse_statement};
 use sdb_sqltokens::reads_commit;
-use sdb_transaction::{Progress, Txn};
+use sdb_txn::{Progress, Txn};
 use sdb_types::{Reply, Request, TxId, Txt};
 use std::alloc::Global;
 use std::marker::Model;

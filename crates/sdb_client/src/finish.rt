@@ -6,7 +6,7 @@ ghost use Rattle.sdb_exec.specs.Reads.{access_of};
 ghost use Rattle.sdb_snapshot.specs.Held.{AreKept};
 ghost use Rattle.sdb_snapshot.specs.Seen.{forgotten, overlay};
 ghost use Rattle.sdb_snapshot.specs.Written.{AreChanges};
-ghost use Rattle.sdb_transaction.specs.declared.txn.Doing.TheVariants as doing;
+ghost use Rattle.sdb_txn.specs.declared.txn.Doing.TheVariants as doing;
 ghost use Rattle.sdb_client.specs.Client.{given_answer, given_left};
 ghost use Rattle.sdb_client.specs.Inside.{IsFine, IsKeyRead};
 
@@ -15,7 +15,7 @@ use sdb_exec::{Plan, PlanStep};
 use sdb_model::Answer;
 use sdb_record::{Changes, Images};
 use sdb_snapshot::{Mark, WriteRefused};
-use sdb_transaction::Txn;
+use sdb_txn::Txn;
 
 // Writes the changes of a statement, all or none.
 fn write(txn: &mut Txn, answer: Answer, changes: Changes) -> Answer

@@ -9,8 +9,8 @@ ghost use Rattle.sdb_model.specs.Refused.{refusal_of};
 ghost use Rattle.sdb_exec.specs.Plans.{has_all_literals};
 ghost use Rattle.sdb_exec.specs.Reads.{access_of};
 ghost use Rattle.sdb_snapshot.specs.Seen.{overlay};
-ghost use Rattle.sdb_transaction.specs.declared.txn.Doing.TheVariants as doing;
-ghost use Rattle.sdb_transaction.specs.Txn.{reading};
+ghost use Rattle.sdb_txn.specs.declared.txn.Doing.TheVariants as doing;
+ghost use Rattle.sdb_txn.specs.Txn.{reading};
 ghost use Rattle.sdb_client.specs.Client.{given_answer, given_left, gives, is_covered, plan_of};
 ghost use Rattle.sdb_client.specs.Inside.{IfRows, IsFine, IsPlanOf, IsUnder, TxnReads};
 
@@ -19,7 +19,7 @@ use sdb_exec::{Plan, PlanRefused, PlanStep};
 use sdb_model::{Answer, Statement};
 use sdb_record::{Access, Images};
 use sdb_schema::Catalog;
-use sdb_transaction::{Progress, Txn};
+use sdb_txn::{Progress, Txn};
 use sdb_types::Duplicate;
 use std::alloc::Global;
 

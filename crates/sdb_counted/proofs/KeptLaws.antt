@@ -7,11 +7,12 @@ use Rattle.sdb_model.specs.declared.event.Event.{Event}
 use Rattle.sdb_model.specs.Counted.{AreCounted, AreResolved}
 use Rattle.sdb_model.specs.Sql.{reads_commit}
 use Rattle.sdb_model.specs.Transactions.{Said, begins, client_of, commit_of, ends, from_begin, ordinal_of, rest_of, said}
-use Rattle.sdb_said.proofs.Lists.{In, found_in, none_some, some_is}
+use Rattle.sdb_said.proofs.Lists.{In, found_in, none_some}
 use Rattle.sdb_caused.proofs.CausedLaws.{each_said, said_each}
 use Rattle.sdb_caused.proofs.Finds.{in_contains}
 use Rattle.sdb_counted.specs.declared.all.Law.TheVariants as law
 use Rattle.sdb_counted.specs.Kept.{AreTakersKept, IsKept}
+use Rattle.sdb_types.proofs.Basics.{some_is}
 
 -- the COMMIT of a transaction is a statement of its client
 in_begin : (k : ℕ) (ss : List Said) (s : Said) → In (from_begin k ss) s → In ss s

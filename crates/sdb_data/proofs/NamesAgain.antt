@@ -28,13 +28,9 @@ use Rattle.sdb_data.specs.declared.fault.Mode.TheVariants as mode
 use Rattle.sdb_data.specs.Tables.{header_fault, is_named, named_at, names_fault, nothing_to_set, repeat_place, taken_at}
 use Rattle.sdb_data.specs.Printed.{can_load}
 use Rattle.sdb_data.proofs.FieldsAgain.{ascii-utf8}
+use Rattle.sdb_types.proofs.Basics.{less_of, one_more}
 
 ---- columns whose names rise
-
-less_of : (r : Ordering) → is_lt r ≡ true → r ≡ Less
-less_of Less h = refl
-less_of Equal h = cc
-less_of Greater h = cc
 
 above : (d : Column) (ds : List Column) (c : Column) (back : List Column) → rises (ds ++ c ∷ back) ≡ true → stands_above d.name (ds ++ c ∷ back) ≡ true → is_lt (name_cmp d.name c.name) ≡ true
 above d [] c back r h = h
@@ -70,9 +66,6 @@ fresh (d ∷ ds) c back r = rw (other d ds c back r) (fresh ds c back (behind d 
 named-has : (cs : List Column) (name : List ℕ) → is_named (column_names cs) name ≡ has_column cs name
 named-has [] name = refl
 named-has (c ∷ cs) name = ap (λ b. same_name c.name name || b) (named-has cs name)
-
-one_more : (n : ℕ) → 1 + n ≡ suc n
-one_more n = omega arith
 
 place : (front : List Column) (c : Column) (back : List Column) → rises (front ++ c ∷ back) ≡ true → position_or_len (λ n. same_name n c.name) (column_names (front ++ c ∷ back)) ≡ length front
 place [] c back r = rw (same_name-itself c.name) refl

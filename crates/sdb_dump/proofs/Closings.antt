@@ -33,12 +33,9 @@ use Rattle.sdb_dump.specs.Refused.{first_unlike}
 use Rattle.sdb_dump.proofs.Coordinated.{IsCommitted, recorded_all, recorded_has, recorded_once}
 use Rattle.sdb_dump.proofs.Images.{decision_there, dumps_are, records_rise}
 use Rattle.sdb_dump.proofs.OddRecords.{first_behind, none_behind}
+use Rattle.sdb_types.proofs.Basics.{or_second}
 
 ---- tables of the run
-
-or_second : (a b : Bool) → b ≡ true → (a || b) ≡ true
-or_second true b e = refl
-or_second false b e = e
 
 pub coordinator_played : (catalog : List Table) (table : TableName) → table ≡ coordinator_table → is_played catalog table ≡ true
 coordinator_played catalog table named = ap (is_played catalog) named ∙ or_second (is_some (find_table catalog coordinator_table)) (is_coordinator_table coordinator_table) refl

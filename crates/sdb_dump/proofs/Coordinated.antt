@@ -35,7 +35,8 @@ use Rattle.sdb_record.proofs.NameLemmas.{same_name-true}
 use Rattle.sdb_model.specs.Noted.{same_key}
 use Rattle.sdb_laws.specs.Lawful.{row_among}
 use Rattle.sdb_dump.specs.Decided.{committed_one, decision_among, is_decided, recorded_among, recorded_by, recorded_in}
-use Rattle.sdb_dump.proofs.Lists.{by_test, err_is, first_or_later, here_in, kept_from, kept_in, later_in, none_in, none_some, pairs_more, some_is, true_false}
+use Rattle.sdb_dump.proofs.Lists.{err_is, first_or_later, here_in, kept_from, kept_in, later_in, none_in, pairs_more, true_false}
+use Rattle.sdb_types.proofs.Basics.{by_test, none_some, some_is}
 
 ---- the transaction of a row
 

@@ -39,8 +39,8 @@ use Rattle.sdb_board.specs.Opening.{records_of, whole}
 use Rattle.sdb_board.proofs.RunTables.{each_found}
 use Rattle.sdb_dump.specs.Decided.{decision_among}
 use Rattle.sdb_dump.specs.Dumped.{dump_by, image_by, row_by}
-use Rattle.sdb_dump.proofs.Lists.{none_some}
 use Rattle.sdb_dump.proofs.Tables.{of_table, table_rows}
+use Rattle.sdb_types.proofs.Basics.{none_some}
 
 ---- decisions
 

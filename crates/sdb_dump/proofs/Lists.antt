@@ -4,19 +4,10 @@ use Rattle.std.specs.Prelude.{AllPairs, Contains, find, slice_get}
 use Rattle.std.specs.List.{cons_option, filter_map}
 use Rattle.std.specs.Result.{result_ok}
 use Rattle.std.proofs.lemmas.List.Elements.{Contains-get_or}
-
-pub by_test : {G : Type 0} (t : Bool) → (t ≡ true → G) → (t ≡ false → G) → G
-by_test true a b = a refl
-by_test false a b = b refl
+use Rattle.sdb_types.proofs.Basics.{by_test, none_some, some_is}
 
 pub true_false : {G : Type 0} → true ≡ false → G
 true_false e = absurd (let f = e in cc)
-
-pub some_is : {A : Type 0} (x y : A) → Some x ≡ Some y → x ≡ y
-some_is x y e = cc
-
-pub none_some : {A : Type 0} (x : A) → ◌≡◌ {A = Option A} None (Some x) → ⊥
-none_some x e = cc
 
 -- what is so of a success
 pub ok_is : {A E : Type 0} (P : A → Type 0) (r : Result A E) (x : A) → IfOk r P → Some x ≡ result_ok r → P x

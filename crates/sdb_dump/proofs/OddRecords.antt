@@ -26,7 +26,8 @@ use Rattle.sdb_dump.specs.Decided.{is_decided}
 use Rattle.sdb_dump.specs.Odd.{IsOddAt, first_odd, first_of}
 use Rattle.sdb_dump.specs.Refused.{first_unlike}
 use Rattle.sdb_dump.proofs.Coordinated.{row_found}
-use Rattle.sdb_dump.proofs.Lists.{first_or_later, found_in_list, none_in, none_some, some_is}
+use Rattle.sdb_dump.proofs.Lists.{first_or_later, found_in_list, none_in}
+use Rattle.sdb_types.proofs.Basics.{none_some, some_is}
 
 not_so : (b : Bool) → not b ≡ true → b ≡ false
 not_so true e = let f = e in cc

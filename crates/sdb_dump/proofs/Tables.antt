@@ -21,7 +21,8 @@ use Rattle.sdb_types.proofs.KeyOrder.{key_exact, key_total, table_exact, table_t
 use Rattle.sdb_record.specs.declared.access.Image.{Image}
 use Rattle.sdb_schema.specs.declared.table.Table.{Table}
 use Rattle.sdb_model.specs.Exec.{Tables, all_rows, is_row_of, row_of_entry}
-use Rattle.sdb_dump.proofs.Lists.{by_test, true_false}
+use Rattle.sdb_dump.proofs.Lists.{true_false}
+use Rattle.sdb_types.proofs.Basics.{by_test}
 
 abbrev pub Entry : Type 0
 Entry = Key × List Pair

@@ -5,3 +5,5 @@ pub mod Others
 pub mod Standing
 pub mod Ordered
 pub mod OnStores
+pub mod Moments
+pub mod Explains

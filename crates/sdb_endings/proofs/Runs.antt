@@ -17,6 +17,30 @@ use Rattle.sdb_story.specs.Telling.{AllStories}
 use Rattle.sdb_story.proofs.Files.{clients_faithful}
 use Rattle.sdb_linked.specs.Going.{IsGoing}
 
+-- The parts of the events, which with these moments are a run of the laws.
+pub record IsLawfulRun (places : List Place) (events : List Event) (opening : List Shelf) (moments : List (List Shelf)) : Type 0 where
+  pub plan : ℕ → Plan
+  pub played : List Played
+  pub same : events ≡ events_of played
+  pub run : IsRunOf plan places opening (newest_first played) (newest_first moments)
+  pub faithful : IsFaithful (events_of played) (newest_first played)
+
+-- the trace, newest first
+turned : (catalog : List Table) (fit : Tables → Bool) (events : List Event) (sys : SystemAt) (doing : ℕ → Option Statement) (places : List Place) (opening end : List Shelf) (moments : List (List Shelf)) → (g : IsGoing catalog fit events sys doing) → IsTrace places events opening moments end
+    → IsTraced places opening (newest_first g.played) (newest_first moments) × (closing opening (newest_first moments) ≡ end)
+turned catalog fit events sys doing places opening end moments g trace = traced_of places opening g.played moments end (subst (λ es. IsTrace places es opening moments end) g.same trace)
+
+pub lawful_run : (catalog : List Table) (fit : Tables → Bool) (events : List Event) (sys : SystemAt) (doing : ℕ → Option Statement) (places : List Place) (opening end : List Shelf) (moments : List (List Shelf)) → IsGoing catalog fit events sys doing → IsTrace places events opening moments end → StartsEmpty places opening → IsLawfulRun places events opening moments
+lawful_run catalog fit events sys doing places opening end moments g trace empty = record {
+  plan = g.plan;
+  played = g.played;
+  same = g.same;
+  run = record { empty = empty; lawful = subst (IsLawful g.plan) g.turned g.system.lawful; traced = (turned catalog fit events sys doing places opening end moments g trace).0 };
+  faithful = clients_faithful g.plan (events_of g.played) (newest_first g.played) sys g.told
+      (subst (λ ps. SystemOk g.plan ps sys) g.turned g.system)
+      (subst (λ ps. AllStories (events_of g.played) ps sys g.told) g.turned (subst (λ es. AllStories es g.past sys g.told) g.same g.stories));
+}
+
 -- The parts of the events, and what the stores held, newest first.
 pub record ByLaws (places : List Place) (events : List Event) (opening end : List Shelf) : Type 0 where
   pub plan : ℕ → Plan
@@ -28,17 +52,6 @@ pub record ByLaws (places : List Place) (events : List Event) (opening end : Lis
   pub faithful : IsFaithful (events_of played) (newest_first played)
 
 pub by_laws : (catalog : List Table) (fit : Tables → Bool) (events : List Event) (sys : SystemAt) (doing : ℕ → Option Statement) (places : List Place) (opening end : List Shelf) (moments : List (List Shelf)) → IsGoing catalog fit events sys doing → IsTrace places events opening moments end → StartsEmpty places opening → ByLaws places events opening end
-by_laws catalog fit events sys doing places opening end moments g trace empty = record {
-  plan = g.plan;
-  played = g.played;
-  held = newest_first moments;
-  same = g.same;
-  end_is = turned.1;
-  run = record { empty = empty; lawful = subst (IsLawful g.plan) g.turned g.system.lawful; traced = turned.0 };
-  faithful = clients_faithful g.plan (events_of g.played) (newest_first g.played) sys g.told
-      (subst (λ ps. SystemOk g.plan ps sys) g.turned g.system)
-      (subst (λ ps. AllStories (events_of g.played) ps sys g.told) g.turned (subst (λ es. AllStories es g.past sys g.told) g.same g.stories));
-}
-  where
-    turned : IsTraced places opening (newest_first g.played) (newest_first moments) × (closing opening (newest_first moments) ≡ end)
-    turned = traced_of places opening g.played moments end (subst (λ es. IsTrace places es opening moments end) g.same trace)
+by_laws catalog fit events sys doing places opening end moments g trace empty =
+    let r = lawful_run catalog fit events sys doing places opening end moments g trace empty in
+    record { plan = r.plan; played = r.played; held = newest_first moments; same = r.same; end_is = (turned catalog fit events sys doing places opening end moments g trace).1; run = r.run; faithful = r.faithful }

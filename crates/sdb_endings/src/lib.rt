@@ -5,6 +5,7 @@
 #![tactic(auto)]
 
 pub mod ending;
+pub mod explained;
 pub mod order;
 pub mod points;
 pub mod records;

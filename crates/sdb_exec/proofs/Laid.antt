@@ -18,15 +18,7 @@ use Rattle.sdb_record.specs.declared.access.Image.{Image}
 use Rattle.sdb_model.specs.Exec.{Tables, row_of_entry, entry_of_row}
 use Rattle.sdb_record.specs.Rolls.{row_of_change}
 use Rattle.sdb_model.specs.Access.{with_row, with_changes}
-
-pub true_from_T : (b : Bool) → T b → b ≡ true
-true_from_T true h = refl
-true_from_T false h = absurd h
-
-less : (o : Ordering) → is_lt o ≡ true → o ≡ Less
-less Less h = refl
-less Equal h = cc
-less Greater h = cc
+use Rattle.sdb_types.proofs.Basics.{less_of as less, truth as true_from_T}
 
 apart : (x : Key) (es : List (Key × List Pair)) → below_all key_cmp x es ≡ true → find key_cmp x es ≡ None
 apart x [] h = refl

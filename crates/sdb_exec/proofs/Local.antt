@@ -30,7 +30,8 @@ use Rattle.sdb_exec.specs.Reads.{access_for, access_of}
 use Rattle.sdb_model.specs.Access.{in_access, rows_at, with_row, with_changes}
 use Rattle.sdb_exec.specs.Plans.{has_shape, are_shaped, put_row, columns_at, answer_on, changes_on}
 use Rattle.sdb_exec.proofs.Narrow.{narrow, tests_imply_access}
-use Rattle.sdb_exec.proofs.Laid.{true_from_T, outcome, keyed, laid, mapped_at, find-mapped, sieved_at, find-sieved}
+use Rattle.sdb_exec.proofs.Laid.{outcome, keyed, laid, mapped_at, find-mapped, sieved_at, find-sieved}
+use Rattle.sdb_types.proofs.Basics.{truth as true_from_T}
 
 -- the rows that pass are found among those of the access
 pub passing : (t : Table) (ts : List Test) (d : Tables) → is_table t ≡ true → are_shaped t (all_rows d) ≡ true → filter (passes t ts) (all_rows d) ≡ filter (passes t ts) (rows_at (access_for t ts) d)

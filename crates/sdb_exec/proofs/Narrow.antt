@@ -33,11 +33,7 @@ use Rattle.sdb_exec.specs.Reads.{is_equals, fixed, joined, all_fixed, access_by,
 use Rattle.sdb_model.specs.Access.{in_access}
 use Rattle.sdb_exec.specs.Plans.{has_shape}
 use Rattle.sdb_exec.proofs.Places.{sound}
-
-equal : (o : Ordering) → is_eq o ≡ true → o ≡ Equal
-equal Less h = cc
-equal Equal h = refl
-equal Greater h = cc
+use Rattle.sdb_types.specs.Exact.{equal_of as equal}
 
 -- filters
 

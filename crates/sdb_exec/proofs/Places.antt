@@ -2,7 +2,7 @@
 use Rattle.std.proofs.Common.{◌≡◌, ℕ, ◌+◌, ◌<◌, ◌≤◌, ◌^◌, List, [], ◌∷◌, ◌++◌, Bool, true, false, not, cond, map, length, Option, Some, None, refl, sym, ap, ◌∙◌, arith}
 use Rattle.std.specs.Prelude.{find, nat_lt, nat_le, position, is_ok, Result, Ok, Err}
 use Rattle.std.specs.List.{position_or_len, list_any, list_all}
-use Rattle.std.proofs.lemmas.Bool.{and_parts}
+use Rattle.std.proofs.lemmas.Bool.{and_parts, not-false as unnot}
 use Rattle.std.proofs.lemmas.Bool.Decides.{nat_tests}
 use Rattle.std.proofs.lemmas.List.{length-append, length-map}
 use Rattle.sdb_schema.specs.declared.table.Table.{Table}
@@ -45,10 +45,6 @@ sound t h = checked t (and_parts (list_all (λ c. is_column_name c.name) t.colum
 passed : (b : Bool) (n : ℕ) (o : Option ℕ) → ◌≡◌ {A = Option ℕ} (cond b (Some n) o) None → (b ≡ false) × (o ≡ None)
 passed true n o h = absurd (cc)
 passed false n o h = (refl, h)
-
-unnot : (b : Bool) → not b ≡ false → b ≡ true
-unnot true h = refl
-unnot false h = cc
 
 keys_few : (t : Table) → is_table t ≡ true → length (key_names t) ≤ 16
 keys_few t h =

@@ -31,6 +31,7 @@ use Rattle.sdb_exec.specs.Reads.{access_of, access_by}
 use Rattle.sdb_model.specs.Access.{in_access, rows_at, with_changes}
 use Rattle.sdb_exec.specs.Plans.{Planned, is_unfit, first_unfit, has_shape, are_shaped, all_fit, answer_on, changes_on, finished, step_at, step_of, IsExec}
 use Rattle.sdb_exec.proofs.Local.{same_answer, same_after, agree_rows}
+use Rattle.sdb_types.specs.Exact.{equal_of as equal}
 
 ---- rows that fit have the shape of their table
 
@@ -62,11 +63,6 @@ all_shaped t (r ∷ rs) h =
     and_from (not (is_row_of t r) || has_shape t r.key) (are_shaped t rs) (weaker (is_row_of t r) (fits_table t r.key r.columns) (has_shape t r.key) (fits_shape t r.key r.columns) parts.0) (all_shaped t rs parts.1)
 
 ---- the rows of an access are those of the table
-
-equal : (o : Ordering) → is_eq o ≡ true → o ≡ Equal
-equal Less h = cc
-equal Equal h = refl
-equal Greater h = cc
 
 get_own : (k q : Key) → is_eq (key_cmp k q) ≡ true → is_eq (table_cmp q.table k.table) ≡ true
 get_own k q h =

@@ -33,6 +33,7 @@ use Rattle.sdb_hashed.specs.declared.section.Section.{Section}
 use Rattle.sdb_hashed.specs.Section.{section_of, section_eq}
 use Rattle.sdb_hashed.specs.Gathered.{gathered, held, HasOwnKeys}
 use Rattle.sdb_hashed.proofs.Gather.{or_else, find_append, in_bucket, held_get, find_gathered}
+use Rattle.std.proofs.lemmas.List.{append-nil as append_nil}
 
 alike : (span : Span) (q x : Key) → key_cmp q x ≡ Equal → in_span span x ≡ in_span span q
 alike span q x e = ap (in_span span) (sym (key_exact q x e))
@@ -100,10 +101,6 @@ pub rows_along : {E : Type 0} (r : Result (List Record) E) (a b : List Record) �
 rows_along r a b e h = subst (λ (rs : List Record). IfOk r (λ rows. rows ≡ rs)) e h
 
 ---- a whole table
-
-append_nil : {A : Type 0} (xs : List A) → xs ++ [] ≡ xs
-append_nil [] = refl
-append_nil (x ∷ xs) = ap (λ ys. x ∷ ys) (append_nil xs)
 
 gathered_more : (xs : List (Section × Contents)) (e : Section × Contents) → gathered (xs ++ e ∷ []) ≡ entries e.1 ++ gathered xs
 gathered_more [] e = sym (append_nil (entries e.1))

@@ -22,8 +22,9 @@ use Rattle.sdb_said.specs.declared.plan.Note.{Note}
 use Rattle.sdb_said.specs.declared.plan.Note.TheVariants as note
 use Rattle.sdb_said.specs.Values.{note_of, plan_in, writes_in, notes_in, write_in}
 use Rattle.sdb_lawful.specs.Rules.{is_base, is_sound}
-use Rattle.sdb_said.proofs.Lists.{clash, none_some, some_is, left, right, both, either, In, found_in, got_in, in_got, got_map}
+use Rattle.sdb_said.proofs.Lists.{none_some, left, right, both, either, In, found_in, got_in, in_got, got_map}
 use Rattle.sdb_said.proofs.ShownLaws.{key_is, is_key}
+use Rattle.sdb_types.proofs.Basics.{clash, some_is}
 
 ---- writes
 

@@ -41,11 +41,12 @@ use Rattle.sdb_said.specs.Values.{all_played, note_of, plan_in, writes_in, notes
 use Rattle.sdb_said.specs.Said.{begun_in, taken_in, open_in, owner_of, stopped_in}
 use Rattle.sdb_said.specs.Shown.{shown, is_settled, settles}
 use Rattle.sdb_lawful.specs.Rules.{is_sound, is_fine_write, is_fine_key, are_fine_writes, is_fine_version, is_fine_found, is_fine_note, is_done, begins_well, commits_well, takes_well}
-use Rattle.sdb_said.proofs.Lists.{clash, none_some, some_is, left, right, both, either, or_left, or_right, not_true, true_not, decide, not_both, In, all_each, each_all, got_in, in_got}
+use Rattle.sdb_said.proofs.Lists.{none_some, left, right, both, either, or_left, not_true, true_not, decide, not_both, In, all_each, each_all, got_in, in_got}
 use Rattle.sdb_said.proofs.SaidLaws.{is_zero, zero_is, begun_is, taken_is, open_is, owner_is, stopped_is}
 use Rattle.sdb_said.proofs.ShownLaws.{number_is, is_number}
 use Rattle.sdb_said.proofs.SettledLaws.{settled_is, is_settled_of, HasSettled, settles_is, settles_of}
 use Rattle.sdb_lawful.proofs.PlanLaws.{sound_is, is_sound_of, write_is, write_in_is, write_own, Says, noted_says, says_noted, got_says, says_got, scan_says, says_scan, among_is}
+use Rattle.sdb_types.proofs.Basics.{clash, or_second as or_right, some_is}
 
 ---- BEGIN
 

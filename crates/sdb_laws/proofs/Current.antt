@@ -56,11 +56,9 @@ use Rattle.sdb_laws.proofs.Derived.{image_is_last_writer, reads_current, recorde
 use Rattle.sdb_laws.proofs.Times.{whole_of, lasts}
 use Rattle.sdb_laws.proofs.Seen.{All as Holds}
 use Rattle.sdb_laws.proofs.ModelTime.{point_of}
-use Rattle.sdb_laws.proofs.Moments.{IsApart, IsCut, apart_from, at_cut, clash, cut, early_run, moment_at, open_put, put_after, stands_at, took_of, trace_length, turned_append, turned_length}
+use Rattle.sdb_laws.proofs.Moments.{IsApart, IsCut, apart_from, at_cut, cut, early_run, moment_at, open_put, put_after, stands_at, took_of, trace_length, turned_append, turned_length}
 use Rattle.sdb_laws.proofs.Unchecked.{got}
-
-some_is : {A : Type 0} (a b : A) → Some a ≡ Some b → a ≡ b
-some_is a b e = cc
+use Rattle.sdb_types.proofs.Basics.{clash, some_is}
 
 some_none : {A : Type 0} (a : A) → Some a ≡ None → ⊥
 some_none a e = cc

@@ -31,12 +31,7 @@ use Rattle.sdb_laws.proofs.Known.{AreMoments, held_before, taken_fits, writer_ta
 use Rattle.sdb_laws.proofs.Settled.{Knows, forward_at}
 use Rattle.sdb_laws.proofs.Moves.{writer_fits}
 use Rattle.sdb_laws.proofs.Whole.{Whole}
-
-clash : {A : Type 0} → true ≡ false → A
-clash e = absurd (cc)
-
-some_is : {A : Type 0} (a b : A) → Some a ≡ Some b → a ≡ b
-some_is a b e = cc
+use Rattle.sdb_types.proofs.Basics.{clash, some_is}
 
 ---- rows
 

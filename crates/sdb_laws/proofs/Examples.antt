@@ -31,9 +31,7 @@ use Rattle.sdb_laws.proofs.Keys.{same_key_tells, same_key_self}
 use Rattle.sdb_laws.proofs.Canon.{version_state, not_firm_version}
 use Rattle.sdb_laws.proofs.Reading.{noted_got}
 use Rattle.sdb_laws.proofs.Texts.{begin_begins, commit_commits}
-
-clash : {A : Type 0} → true ≡ false → A
-clash e = absurd (cc)
+use Rattle.sdb_types.proofs.Basics.{clash}
 
 ---- plans of one write and one note
 

@@ -49,13 +49,11 @@ use Rattle.sdb_laws.proofs.Times.{whole_of, front_run, lasts, stood_before, rows
 use Rattle.sdb_laws.proofs.Points.{held_prepares, firm_no}
 use Rattle.sdb_record.proofs.ImageLaws.{version-writer}
 use Rattle.sdb_types.specs.Contents.{is_version}
+use Rattle.sdb_types.proofs.Basics.{clash}
 
 -- the keys of a catalog's tables are keys of records
 pub record IsApart (catalog : List Table) : Type 0 where
   pub outside : (key : Key) → IsTableKey catalog key → is_data key ≡ true
-
-pub clash : {A : Type 0} → true ≡ false → A
-clash e = absurd (cc)
 
 pub both : (a b : Bool) → (a && b) ≡ true → (a ≡ true) × (b ≡ true)
 both true true e = (refl, refl)

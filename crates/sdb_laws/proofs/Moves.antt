@@ -37,13 +37,11 @@ use Rattle.sdb_laws.proofs.Writes.{IsWritten}
 use Rattle.sdb_laws.proofs.Known.{written_some, write_is, held_key, taken_fits, writer_taken, took_is_taken}
 use Rattle.sdb_laws.proofs.Settled.{Knows}
 use Rattle.sdb_laws.proofs.Links.{link_write, link_row, put_call, took_held}
+use Rattle.sdb_types.proofs.Basics.{clash}
 
 pub record Moves (plan : ℕ → Plan) (places : List Place) (w : History) (r : Role) (done : Bool) (now : List Shelf) : Type 0 where
   pub allowed : Allowed plan w r done
   pub held : IsHeld plan places (happens plan w r done) now
-
-pub clash : {A : Type 0} → true ≡ false → A
-clash e = absurd (cc)
 
 ---- who stands there
 

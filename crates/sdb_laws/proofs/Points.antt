@@ -48,11 +48,9 @@ use Rattle.sdb_laws.proofs.Known.{taken_fits, held_before}
 use Rattle.sdb_laws.proofs.Settled.{Knows, IsOwn, prepared_there}
 use Rattle.sdb_laws.proofs.Moves.{held_is}
 use Rattle.sdb_laws.proofs.Whole.{Whole, whole}
+use Rattle.sdb_types.proofs.Basics.{clash}
 
 ---- which events are prepares
-
-clash : {A : Type 0} → true ≡ false → A
-clash e = absurd (cc)
 
 -- a request that prepares nothing of a transaction
 no_prepare : (t : TxId) (client : ℕ) (store : List ℕ) (q : Request) (how : How) (r : Reply) (a : Option Answer) → prepares t q ≡ false → is_prepared_by t (event.Call client store q how r a) ≡ false

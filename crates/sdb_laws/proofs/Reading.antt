@@ -30,7 +30,8 @@ use Rattle.sdb_laws.proofs.Shown.{get_reply, scan_reply, read_leaves}
 use Rattle.sdb_laws.proofs.Known.{IsPlanned, IsFirmOf, written_is}
 use Rattle.sdb_laws.proofs.Settled.{Knows, firm_of as settled_of}
 use Rattle.sdb_laws.proofs.Links.{link_same}
-use Rattle.sdb_laws.proofs.Moves.{Moves, clash, live, version_stands, writer_fits}
+use Rattle.sdb_laws.proofs.Moves.{Moves, live, version_stands, writer_fits}
+use Rattle.sdb_types.proofs.Basics.{clash}
 
 ---- checks
 

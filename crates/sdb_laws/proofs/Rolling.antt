@@ -31,7 +31,8 @@ use Rattle.sdb_laws.proofs.Writes.{IsWritten}
 use Rattle.sdb_laws.proofs.Known.{IsPlanned, writes_it, held_before, firm_key, writer_taken}
 use Rattle.sdb_laws.proofs.Settled.{Knows, firm_of as settled_of, forward_at, prepared_there, committed_of, aborted_of}
 use Rattle.sdb_laws.proofs.Links.{link_write, put_call, delete_call, took_held}
-use Rattle.sdb_laws.proofs.Moves.{Moves, clash, open_stands, firm_stands, writer_fits}
+use Rattle.sdb_laws.proofs.Moves.{Moves, open_stands, firm_stands, writer_fits}
+use Rattle.sdb_types.proofs.Basics.{clash}
 
 rolled_rows : (plan : ℕ → Plan) (w : History) (t : ℕ) (k : Key) (d : Decision) (b : Bool) (q : Key) → (happens plan w (Rolls t k d) b).rows q ≡ (if b && same_key q k then rolled (plan t) t k d else w.rows q)
 rolled_rows plan w t k d true q = refl

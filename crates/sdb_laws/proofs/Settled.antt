@@ -16,6 +16,7 @@ use Rattle.sdb_laws.specs.Records.{held_record, firm_record}
 use Rattle.sdb_laws.proofs.Cover.{Inv}
 use Rattle.sdb_laws.proofs.Canon.{held_writer, held_open, firm_committed, same_writer}
 use Rattle.sdb_laws.proofs.Known.{IsPlanned, IsFirmOf, IsHeldOf, Known, AreMoments, row_known, held_before, took_is_taken, taken_fits, writer_taken, writes_it}
+use Rattle.sdb_types.proofs.Basics.{clash}
 
 -- What holds at a moment, over what was shown up to then.
 pub record Knows (plan : ℕ → Plan) (w : History) (past : List Played) : Type 0 where
@@ -25,9 +26,6 @@ pub record Knows (plan : ℕ → Plan) (w : History) (past : List Played) : Type
   pub fits : (t : ℕ) → w.talk.begun t ≢ 0 → t < 2 ^ 128
   pub planned : (t : ℕ) → w.talk.taken t ≡ true → IsPlanned plan t
   pub moments : (t : ℕ) → AreMoments plan w t
-
-clash : {A : Type 0} → true ≡ false → A
-clash e = absurd (cc)
 
 -- a record that was shown unresolved is what its transaction prepared there
 pub record IsOwn (plan : ℕ → Plan) (w : History) (t : ℕ) (k : Key) (r : Record) : Type 0 where

@@ -43,9 +43,7 @@ use Rattle.sdb_story.proofs.Turns.{body_is_said}
 use Rattle.sdb_linked.specs.Going.{IsGoing, OpenedOk, RanOk}
 use Rattle.sdb_linked.proofs.Mild.{no_second}
 use Rattle.sdb_linked.proofs.Own.{finished, over}
-
-none_some : {A B : Type 0} (x : A) → ◌≡◌ {A = Option A} None (Some x) → B
-none_some x e = absurd (cc)
+use Rattle.sdb_types.proofs.Basics.{none_some}
 
 ---- a recorded transaction's COMMIT was taken
 

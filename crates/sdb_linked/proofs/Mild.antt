@@ -7,9 +7,7 @@ use Rattle.sdb_model.specs.declared.answer.Answer.TheVariants as answer
 use Rattle.sdb_model.specs.Sql.{reads_begin, reads_commit, reads_rollback}
 use Rattle.sdb_model.specs.Transactions.{Said, begins, changes_nothing, ends, is_answered_from_rows, is_conflict, is_done, is_effective}
 use Rattle.sdb_linked.specs.Going.{IsMild}
-
-pub clash : {A : Type 0} → true ≡ false → A
-clash e = absurd (cc)
+use Rattle.sdb_types.proofs.Basics.{clash, some_is}
 
 ---- answers that neither begin nor end a transaction
 
@@ -59,9 +57,6 @@ mild_begins s a e m = ap (λ o. reads_begin s.text && is_done o) e ∙ ap (λ b.
 
 pub mild_ends : (s : Said) (a : Answer) → s.answer ≡ Some a → IsMild a → reads_commit s.text ≡ false → ends s ≡ false
 mild_ends s a e m c = ap (λ b. b || is_conflict s.answer || (reads_rollback s.text && is_done s.answer)) c ∙ ap (λ o. is_conflict o || (reads_rollback s.text && is_done o)) e ∙ ap (λ b. b || (reads_rollback s.text && is_done (Some a))) m.agrees ∙ ap (λ b. reads_rollback s.text && b) m.undone ∙ no_second (reads_rollback s.text)
-
-pub some_is : {A : Type 0} (x y : A) → Some x ≡ Some y → x ≡ y
-some_is x y e = cc
 
 pub uncommitted : (o : Option Answer) (a : Answer) → o ≡ Some a → IsMild a → o ≢ Some answer.Committed
 uncommitted o a e m k = m.other (some_is a answer.Committed (sym e ∙ k))

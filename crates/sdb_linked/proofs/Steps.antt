@@ -50,9 +50,10 @@ use Rattle.sdb_story.proofs.Tellings.{SameOf, said_more, same_of, story_stays}
 use Rattle.sdb_story.proofs.Turns.{begun_stands, client_stands, said_nothing_more, said_one_more}
 use Rattle.sdb_linked.specs.Going.{ClientGoes, EndedOk, HandOk, InsideOk, IsClosed, IsCommitting, IsGoing, IsInner, IsMild, IsRunning, LeavesAtOnce, OpenedOk, RanOk}
 use Rattle.sdb_linked.proofs.Goings.{ended_later, inside_later, kept_apart, turned}
-use Rattle.sdb_linked.proofs.Mild.{clash, effective_by, mild_begins, mild_ends, no_second, nothing_mild, rows_mild, some_is, uncommitted}
+use Rattle.sdb_linked.proofs.Mild.{effective_by, mild_begins, mild_ends, no_second, nothing_mild, rows_mild, uncommitted}
 use Rattle.sdb_linked.proofs.Small.{same_number, numbers_same, less_apart, nothing_ran, begins_untaken, committing_as, running_as, twice}
 use Rattle.sdb_linked.proofs.Own.{IsPlainRole, begun, below, closed_as, commit_plain, ended_at, goes_begun, goes_gap, goes_inside, goes_over, gone, inside, opened_as, over, plain_apart, plain_counts, plain_not, ran_here, read_plain, telling_of}
+use Rattle.sdb_types.proofs.Basics.{clash, some_is}
 
 ---- one client
 

@@ -23,6 +23,7 @@ use Rattle.sdb_record.specs.Parts.{is_column_name}
 use Rattle.sdb_schema.specs.Catalog.{rises, stands_above}
 use Rattle.sdb_loader.specs.Words.{is_open, names_table, table_named}
 use Rattle.sdb_loader.specs.Described.{bad_name, named, table_of}
+use Rattle.sdb_types.proofs.Basics.{lt_of, some_is}
 
 -- a name of 64 bytes is one of 71
 longer : (n : ℕ) → nat_le n 64 ≡ true → nat_le n 71 ≡ true
@@ -31,17 +32,11 @@ longer n h = grind (arith, nat_tests)
 pub name_of_column : (text : List ℕ) → is_column_name text ≡ true → is_name text ≡ true
 name_of_column text h = and_both (nat_le (length text) 71) _ (longer (length text) (and_first (nat_le (length text) 64) (is_identifier text) h)) (and_second (nat_le (length text) 64) (is_identifier text) h)
 
-some_is : {A : Type 0} (x y : A) → Some x ≡ Some y → x ≡ y
-some_is x y h = cc
-
 none_is : (t : TableName) → None ≡ Some t → ⊥
 none_is t h = cc
 
 eq_of : (a b : ℕ) → (a == b) ≡ true → a ≡ b
 eq_of a b h = grind (arith, nat_tests)
-
-lt_of : (a b : ℕ) → nat_lt a b ≡ true → a < b
-lt_of a b h = grind (arith, nat_tests)
 
 -- a text is what stands before its first byte c, that byte, and what stands behind it
 pub at_byte : (c : ℕ) (text : List ℕ) → nat_lt (position_or_len (λ b. b == c) text) (length text) ≡ true → text ≡ before_first (λ b. b == c) text ++ (c ∷ after_first (λ b. b == c) text)

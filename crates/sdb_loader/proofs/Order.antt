@@ -9,11 +9,7 @@ use Rattle.sdb_types.proofs.Bools.{and_first, and_second, and_both}
 use Rattle.sdb_types.proofs.KeyOrder.{table_total}
 use Rattle.sdb_schema.specs.declared.table.Table.{Table}
 use Rattle.sdb_schema.specs.Catalog.{has_table, with_table, stands_above, rises}
-
-less_of : (r : Ordering) → is_lt r ≡ true → r ≡ Less
-less_of Less h = refl
-less_of Equal h = cc
-less_of Greater h = cc
+use Rattle.sdb_types.proofs.Basics.{less_of}
 
 lower : (t u v : TableName) → is_lt (table_cmp t u) ≡ true → is_lt (table_cmp u v) ≡ true → is_lt (table_cmp t v) ≡ true
 lower t u v h k = ap is_lt (table_total.trans t u v (less_of _ h) (less_of _ k))

@@ -1,5 +1,5 @@
 -- What is so at every moment of a run of the protocol, in the words of events and of what the stores hold.
-use Rattle.std.specs.Prelude.{◌≡◌, ◌≢◌, ◌⊎◌, ℕ, suc, ◌<◌, ◌^◌, true, false, List, ◌∷◌, ◌++◌, length, Option, Some, None, is_some, IsSomeAnd, Contains}
+use Rattle.std.specs.Prelude.{◌≡◌, ◌≢◌, ◌⊎◌, ℕ, suc, ◌<◌, ◌≤◌, ◌^◌, true, false, List, ◌∷◌, ◌++◌, length, Option, Some, None, is_some, IsSomeAnd, Contains}
 use Rattle.sdb_types.specs.declared.txid.TxId.{TxId}
 use Rattle.sdb_types.specs.declared.key.Key.{Key}
 use Rattle.sdb_types.specs.declared.record.Record.{Record}
@@ -153,3 +153,20 @@ IsCurrent places events opening moments key id None = ((v : TxId) → IsWriter p
 abbrev pub ReadsCurrent : List Table → List Place → List Event → List Shelf → List (List Shelf) → Type 0
 ReadsCurrent catalog places events opening moments = (id : TxId) (note : Note) (key : Key) (version : Option TxId) → id.0 < 2 ^ 128 → Recorded places (closing_of events opening moments) id
     → Contains (noted_in events id) note → version_noted note key ≡ Some version → IsTableKey catalog key → IsCurrent places events opening moments key id version
+
+---- the whole
+
+-- Which records stand at every moment, and which events put them there.
+pub record StandingExplained (catalog : List Table) (places : List Place) (events : List Event) (opening : List Shelf) (moments : List (List Shelf)) : Type 0 where
+  pub committed_recorded : (n : ℕ) → n ≤ length moments → CommittedRecorded catalog places (moment opening moments n)
+  pub unresolved_prepared : (n : ℕ) → n ≤ length moments → UnresolvedPrepared catalog places events opening moments n
+  pub prepared_stands : (n : ℕ) → n ≤ length moments → PreparedStands catalog places events opening moments n
+  pub writes_stand : WritesStand catalog places events opening moments
+  pub aborted_gone : (n : ℕ) → n ≤ length moments → AbortedGone catalog places (moment opening moments n)
+  pub rows_final : (early late : ℕ) → early ≤ late → late ≤ length moments → RowsFinal places (moment opening moments early) (moment opening moments late)
+  pub unchanged_resolved : UnchangedResolved catalog places events opening moments
+
+-- The invariant of every moment: what so many events and the moments of a trace that agrees with them owe.
+pub record Explained (catalog : List Table) (places : List Place) (events : List Event) (opening : List Shelf) (moments : List (List Shelf)) : Type 0 where
+  pub standing : StandingExplained catalog places events opening moments
+  pub reads_current : ReadsCurrent catalog places events opening moments

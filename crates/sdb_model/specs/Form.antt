@@ -1,14 +1,8 @@
--- The form of the scripts that can be played so far, as a grammar over the whole text.
-use Rattle.std.specs.Prelude.{ℕ, ℤ, Bool, ◌&&◌, ◌==◌, nat_le, if◌then◌else◌, List, [], ◌∷◌, ◌++◌, map, length, codes}
+-- Parts of the text of a script.
+use Rattle.std.specs.Prelude.{ℕ, Bool, ◌&&◌, ◌==◌, nat_le, if◌then◌else◌, List, [], ◌∷◌, ◌++◌, length, codes}
 use Rattle.sdb_types.specs.Identifier.{is_identifier}
-use Rattle.sdb_types.specs.declared.key.TableName.{TableName}
-use Rattle.sdb_types.specs.declared.value.Value.TheVariants as value
 use Rattle.sdb_model.specs.declared.script.Place.{Place}
 use Rattle.sdb_model.specs.declared.script.Script.{Script}
-use Rattle.sdb_model.specs.declared.statement.Insert.{Insert}
-use Rattle.sdb_model.specs.declared.statement.Statement.{Statement}
-use Rattle.sdb_model.specs.declared.statement.Statement.TheVariants as statement
-use Rattle.sdb_model.specs.Sql.{statement_text_of}
 
 ---- lines
 
@@ -21,22 +15,10 @@ abbrev pub lines_of : List ℕ → List (List ℕ)
 lines_of [] = []
 lines_of (b ∷ bs) = if b == 10 then [] ∷ lines_of bs else onto_first b (lines_of bs)
 
----- the one table, and its statements
-
-abbrev pub account_name : TableName
-account_name = record { ns = codes "bank"; table = codes "account" }
-
--- `INSERT INTO bank.account (id, balance) VALUES (N, M)`
-abbrev pub insert_of : ℤ → ℤ → Statement
-insert_of n m = statement.Insert (record { table = account_name; columns = codes "id" ∷ codes "balance" ∷ []; values = value.BigInt n ∷ value.BigInt m ∷ [] })
-
----- the form
+---- clients
 
 abbrev pub client_line : List ℕ → List ℕ
 client_line name = codes "client " ++ name
-
-abbrev pub statement_line : Statement → List ℕ
-statement_line s = codes "  " ++ statement_text_of s
 
 -- a client's name: an identifier of at most 64 bytes
 abbrev pub is_client_name : List ℕ → Bool

@@ -10,6 +10,7 @@ use Rattle.sdb_model.specs.declared.event.Event.{Event}
 use Rattle.sdb_model.specs.declared.event.Point.{Point}
 use Rattle.sdb_model.specs.Transactions.{point}
 use Rattle.sdb_order.specs.Order.{PointsApart, point_at, rising_from}
+use Rattle.sdb_types.proofs.Basics.{lt_of as is_less}
 
 ---- what a list has
 
@@ -61,9 +62,6 @@ strictly n xs r k l = subst (λ m. slice_index xs k < slice_index xs m) (next k)
   where
     next : (k : ℕ) → suc k ≡ k + 1
     next k = omega arith
-
-is_less : (m n : ℕ) → nat_lt m n ≡ true → m < n
-is_less m n h = grind (arith, nat_tests)
 
 is_not_less : (m n : ℕ) → nat_lt m n ≡ false → n ≤ m
 is_not_less m n h = grind (arith, nat_tests)

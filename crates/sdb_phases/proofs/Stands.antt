@@ -32,16 +32,13 @@ use Rattle.sdb_phases.specs.Steps as small
 use Rattle.sdb_phases.specs.Steps.{CanGet, decide_next, told}
 use Rattle.sdb_phases.specs.Commit.{Stage, Preparing, Checking, Deciding, Forward, Stopping, Back, Over, pending, step, after, preparing, checking, forward, back, after_prepare, after_check, after_decide}
 use Rattle.sdb_phases.specs.CommitLaws.{IsWork, Seen, seen, note, nothing_seen, Played, Stands, IsCaused, is_unrecorded, may_undo, without_effect, is_more, is_fault, is_decision, same_decision, says, tells, is_malformed, holds_malformed, writes_of, reads_of, most_calls}
+use Rattle.sdb_types.proofs.Basics.{or_second as right}
 
 ---- tests
 
 pub left : (a b : Bool) → a ≡ true → (a || b) ≡ true
 left true b h = refl
 left false b h = cc
-
-pub right : (a b : Bool) → b ≡ true → (a || b) ≡ true
-right true b h = refl
-right false b h = h
 
 no_left : (a b : Bool) → (a || b) ≡ false → b ≡ false
 no_left true b h = cc

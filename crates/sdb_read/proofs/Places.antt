@@ -15,11 +15,7 @@ use Rattle.sdb_types.specs.Contents.{in_span, rise, starts_after}
 use Rattle.sdb_types.proofs.Bools.{and_first, and_second}
 use Rattle.sdb_types.proofs.KeyOrder.{key_total}
 use Rattle.sdb_read.specs.Fine.{ArePlaced}
-
-less_of : (o : Ordering) → is_lt o ≡ true → o ≡ Less
-less_of Less h = refl
-less_of Equal h = cc
-less_of Greater h = cc
+use Rattle.sdb_types.proofs.Basics.{less_of}
 
 both : (a b : Bool) → a ≡ true → b ≡ true → (a && b) ≡ true
 both true true x y = refl

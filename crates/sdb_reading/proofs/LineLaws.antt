@@ -40,7 +40,7 @@ use Rattle.sdb_model.specs.declared.event.Event.TheVariants as event
 use Rattle.sdb_model.specs.declared.event.How.{How}
 use Rattle.sdb_model.specs.declared.event.How.TheVariants.{Seen, Lost, Discarded, Broken}
 use Rattle.sdb_reading.specs.OneLine.{ValueHasNoLf, ValuesHaveNoLf, KeyHasNoLf, ColumnsHaveNoLf, RecordHasNoLf, AnswerHasNoLf, RequestHasNoLf, ReplyHasNoLf, EventHasNoLf}
-use Rattle.sdb_reading.proofs.WordLaws.{by_test}
+use Rattle.sdb_types.proofs.Basics.{by_test}
 
 abbrev One : List ℕ → Type 0
 One text = is_one_line text ≡ true

@@ -22,10 +22,11 @@ use Rattle.sdb_types.specs.declared.value.Value.TheVariants as value
 use Rattle.sdb_model.specs.Texts.{doubled, quoted, value_text_of, values_text_of, row_text_of}
 use Rattle.sdb_model.specs.Plain.{values_fit}
 use Rattle.sdb_reading.specs.Reading.{◌>>=◌, case_of, after, text_of, integer_at, int_of, begins_number, numeral_at, quoted_on, text_at, is_unquoted, blob_at, value_at, many, next_value_at, some_values_at, values_at, row_at}
-use Rattle.sdb_reading.proofs.WordLaws.{by_test, bind_some, case_some, join, Says, Sound, Again, after_is, after_again, stops_at, front_again}
+use Rattle.sdb_reading.proofs.WordLaws.{bind_some, case_some, join, Says, Sound, Again, after_is, after_again, stops_at, front_again}
 use Rattle.sdb_reading.proofs.NumberLaws.{digits_go, begins_digit, integer_sound, integer_again, IsLong}
 use Rattle.sdb_reading.proofs.Lists.{Each-all, Each-from_all, many_is, many_again, count_le}
 use lib.Utf8.{scalar, scalars, encode, encodes, next, scalar_cases}
+use Rattle.sdb_types.proofs.Basics.{and_parts, by_test}
 
 ---- a text in UTF-8 is bytes
 
@@ -49,10 +50,6 @@ one_small c lt =
 all_append : (P : ℕ → Type 0) (xs ys : List ℕ) → AllByRecursion P xs → AllByRecursion P ys → AllByRecursion P (xs ++ ys)
 all_append P [] ys h k = k
 all_append P (x ∷ xs) ys h k = (h.0, all_append P xs ys h.1 k)
-
-and_parts : (a b : Bool) → (a && b) ≡ true → (a ≡ true) × (b ≡ true)
-and_parts true b h = (refl, h)
-and_parts false b h = absurd cc
 
 scalar_small : (c : ℕ) → scalar c ≡ true → c < 1114112
 scalar_small c h = elim (scalar_cases c h) [ inl k ↦ omega arith | inr k ↦ k.1 ]

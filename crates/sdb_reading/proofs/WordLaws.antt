@@ -12,10 +12,7 @@ use Rattle.sdb_types.specs.Identifier.{is_part, is_name}
 use Rattle.sdb_types.proofs.Bools.{and_first, and_second}
 use Rattle.sdb_types.proofs.KeyOrder.{parts}
 use Rattle.sdb_reading.specs.Reading.{Read, ◌>>=◌, case_of, after, name_of, name_at}
-
-pub by_test : {G : Type 0} (t : Bool) → (t ≡ true → G) → (t ≡ false → G) → G
-by_test true a b = a refl
-by_test false a b = b refl
+use Rattle.sdb_types.proofs.Basics.{by_test, one_more}
 
 ---- steps
 
@@ -62,9 +59,6 @@ after_short ws [] i h short = rw (drop_more ws i 0 h) refl
 after_short ws (b ∷ bs) i h short = absurd (omega arith)
 
 ---- fronts
-
-one_more : (n : ℕ) → 1 + n ≡ suc n
-one_more n = omega arith
 
 pub front_passes : (p : ℕ → Bool) (bs : List ℕ) → list_all p (take (prefix_len p bs) bs) ≡ true
 front_passes p [] = refl

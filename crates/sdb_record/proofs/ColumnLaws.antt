@@ -16,14 +16,11 @@ use Rattle.std.specs.Prelude.{is_some, map}
 use Rattle.sdb_record.specs.Names.{before_name, base_name, is_before, is_meta}
 use Rattle.sdb_record.specs.Parts.{with_columns, before_pair, before_part, are_user_columns, is_user_pair, is_column_name}
 use Rattle.sdb_record.proofs.NameLemmas.{base_name-before_name, base_name-is}
+use Rattle.sdb_types.proofs.Basics.{less_of}
+use Rattle.std.proofs.lemmas.Bool.{not-true}
 
 pub swapped : (a b : List ℕ) (r : Ordering) → name_cmp a b ≡ r → name_cmp b a ≡ ordering_reverse r
 swapped a b r q = name_total.antisymm b a ∙ ap ordering_reverse q
-
-less_of : (r : Ordering) → is_lt r ≡ true → r ≡ Less
-less_of Less h = refl
-less_of Equal h = cc
-less_of Greater h = cc
 
 less_less : (a b c : List ℕ) → name_cmp a b ≡ Less → name_cmp b c ≡ Less → name_cmp a c ≡ Less
 less_less a b c = name_total.trans a b c
@@ -63,10 +60,6 @@ stays keep p = not (is_null p.value) && keep p.name
 
 abbrev pub leaves : (List ℕ → Bool) → Pair → Bool
 leaves keep p = not (is_null p.value) && not (keep p.name)
-
-pub not-true : (b : Bool) → not b ≡ true → b ≡ false
-not-true true h = cc
-not-true false h = refl
 
 differ : (keep : List ℕ → Bool) (x y : Pair) → stays keep x ≡ true → leaves keep y ≡ true → x.name ≡ y.name → ⊥
 differ keep x y h k e =

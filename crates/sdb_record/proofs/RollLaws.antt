@@ -29,6 +29,7 @@ use Rattle.sdb_record.proofs.Fine.{Says, Fine, taken, ok-of, checked-fine, none-
 use Rattle.sdb_record.proofs.States.{is_in-says, says-committed, says-deleted, no-tombstone, state_value}
 use Rattle.sdb_record.proofs.ColumnLaws.{not_before, are_columns-filter, are_columns-before_part}
 use Rattle.sdb_record.proofs.Settings.{column-put-same, column-put-other, none-put, none-filter, all-put, all-filter, filter-put, column-filter}
+use Rattle.std.proofs.lemmas.Bool.{not-true as not-not}
 
 ---- the columns
 
@@ -145,10 +146,6 @@ forward-user ps n =
     marked-user (is_in Deleted ps) (unmarked ps n) ∙ filter-put is_user (time_pair n) (put_pair state_pair (own_columns ps)) not_user-meta.1 ∙ filter-put is_user state_pair (own_columns ps) not_user-meta.0 ∙ filter-twice is_user not_before ps user-own
 
 ---- the checks
-
-not-not : (b : Bool) → not b ≡ true → b ≡ false
-not-not true h = cc
-not-not false h = refl
 
 none-own : (ps : List Pair) → find is_before_pair (own_columns ps) ≡ None
 none-own [] = refl

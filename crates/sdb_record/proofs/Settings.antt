@@ -14,7 +14,8 @@ use Rattle.sdb_record.specs.Parts.{with_columns, before_pair, base_pair, before_
 use Rattle.sdb_record.proofs.NameLemmas.{same_name-itself, same_name-true, base_name-before_name}
 use Rattle.sdb_record.proofs.Within.{chosen}
 use Rattle.sdb_record.proofs.Fine.{none-first, none-rest, none-make}
-use Rattle.sdb_record.proofs.ColumnLaws.{stays, leaves, not_before, not-true}
+use Rattle.sdb_record.proofs.ColumnLaws.{stays, leaves, not_before}
+use Rattle.std.proofs.lemmas.Bool.{not-true}
 
 ---- one column
 

@@ -31,8 +31,3 @@ Moved found version = holds (condition_of version) found ≡ false
 
 abbrev pub is_unchanged : Option Record → Option TxId → Bool
 is_unchanged found version = holds (condition_of version) found
-
--- The same of a key that the transaction writes, in a rescan: the base of the write has another version than the scan
--- found, where none counts as a version of its own.
-abbrev pub BaseMoved : Option Record → Option TxId → Type 0
-BaseMoved base version = same_version (version_of base) version ≡ false

@@ -3,17 +3,12 @@ use Rattle.std.proofs.Common.{◌≡◌, ◌≢◌, ℕ, zero, suc, ◌+◌, Boo
 use Rattle.std.specs.Prelude.{◌&&◌, ◌||◌, not, find, map, slice_get, if◌then◌else◌}
 use Rattle.std.specs.Option.{option_map_or, option_map}
 use Rattle.std.specs.List.{list_any, list_all, enumerate_from}
+use Rattle.sdb_types.proofs.Basics.{clash, or_second as or_right, some_is}
 
 ---- tests
 
-pub clash : {A : Type 0} → true ≡ false → A
-clash e = absurd (cc)
-
 pub none_some : {A B : Type 0} {x : A} → ◌≡◌ {A = Option A} None (Some x) → B
 none_some e = absurd (cc)
-
-pub some_is : {A : Type 0} (x y : A) → Some x ≡ Some y → x ≡ y
-some_is x y e = cc
 
 pub left : (a b : Bool) → (a && b) ≡ true → a ≡ true
 left true b h = refl
@@ -32,10 +27,6 @@ either false b h = inr h
 
 pub or_left : (a b : Bool) → a ≡ true → (a || b) ≡ true
 or_left a b h = λ i. h i || b
-
-pub or_right : (a b : Bool) → b ≡ true → (a || b) ≡ true
-or_right true b h = refl
-or_right false b h = h
 
 pub not_true : (a : Bool) → not a ≡ true → a ≡ false
 not_true true h = clash (sym h)

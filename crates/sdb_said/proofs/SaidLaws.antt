@@ -13,7 +13,8 @@ use Rattle.sdb_said.specs.declared.played.Role.TheVariants as role
 use Rattle.sdb_said.specs.declared.played.Played.{Played}
 use Rattle.sdb_said.specs.Values.{role_of, all_played, word_of}
 use Rattle.sdb_said.specs.Said.{is_begin_of, owner_in, is_take_of, is_prepare_of, is_applied, is_check_of, is_stage_of, is_decision, is_risk_of, is_win_of, is_death_of, is_meeting_of, is_stop_of, is_end_of, ends_with, touches, opens, begun_in, owner_of, open_in, stopped_in, taken_in, asked_in, told_in, checked_in, staged_in, deciding_in, risked_in, won_in, dead_in, met_in}
-use Rattle.sdb_said.proofs.Lists.{clash, if_or, either, or_left, or_right, left, right, both, decide, not_both}
+use Rattle.sdb_said.proofs.Lists.{if_or, either, or_left, left, right, both, decide, not_both}
+use Rattle.sdb_types.proofs.Basics.{clash, or_second as or_right}
 
 -- a test of a pair of conditions
 and_or : (a b x : Bool) → (if a && b then true else x) ≡ ((a && b) || x)

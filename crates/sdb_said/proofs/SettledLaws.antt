@@ -25,8 +25,9 @@ use Rattle.sdb_laws.specs.Lawful.{id, IsShown, IsRowShown, IsHeldShown, IsSettle
 use Rattle.sdb_said.specs.declared.played.Played.{Played}
 use Rattle.sdb_said.specs.Values.{all_played, same_record}
 use Rattle.sdb_said.specs.Shown.{shown, writer_is, kept_writer, keeps_tombstone, is_kept_in, is_held, is_held_by, shows_commit, moments, is_forward, is_itself, is_back, forward_from, is_settled, settles, settles_gone}
-use Rattle.sdb_said.proofs.Lists.{clash, none_some, some_is, left, right, both, either, or_left, or_right, not_true, true_not, decide, not_both, In, any_some, some_any}
+use Rattle.sdb_said.proofs.Lists.{none_some, left, right, both, either, or_left, not_true, true_not, decide, not_both, In, any_some, some_any}
 use Rattle.sdb_said.proofs.ShownLaws.{key_is, is_key, record_is, is_record, number_is, is_number, shown_is, is_shown, commit_shown, shows_commit_of, moment_shown, shown_moment, forward_is, is_forward_at, kept_is, is_kept_of, kept_writer_is, kept_some, before_columns}
+use Rattle.sdb_types.proofs.Basics.{clash, or_second as or_right, some_is}
 
 ---- writers
 

@@ -36,7 +36,8 @@ use Rattle.sdb_laws.proofs.Keys.{same_key_self, same_key_tells}
 use Rattle.sdb_said.specs.declared.played.Played.{Played}
 use Rattle.sdb_said.specs.Values.{all_played, same_record}
 use Rattle.sdb_said.specs.Shown.{is_first, with_rows, with_found, with_reply, with_event, gathered, shown, writer_is, kept_writer, no_more, keeps_next, keeps, is_kept_in, keeps_none, decided, is_commit, commits, aborts, commit_moment, row_moment, shows_commit, shows_abort, shows_bad_row, moments, is_forward}
-use Rattle.sdb_said.proofs.Lists.{clash, none_some, some_is, left, right, both, either, or_left, or_right, not_true, true_not, decide, not_both, In, any_some, some_any, found_in}
+use Rattle.sdb_said.proofs.Lists.{none_some, left, right, both, either, or_left, not_true, true_not, decide, not_both, In, any_some, some_any, found_in}
+use Rattle.sdb_types.proofs.Basics.{clash, or_second as or_right, some_is}
 
 ---- equality
 

@@ -14,12 +14,10 @@ use Rattle.sdb_schema.specs.declared.table.Table.{Table}
 use Rattle.sdb_schema.specs.declared.catalog.AddRefused.{AddRefused}
 use Rattle.sdb_schema.specs.Table.{is_table}
 use Rattle.sdb_schema.specs.Catalog.{is_called, has_table, with_table, stands_above, rises, is_catalog}
+use Rattle.sdb_types.proofs.Basics.{one_more}
 
 abbrev pub below : Table → Table → Bool
 below t u = is_lt (table_cmp u.name t.name)
-
-one_more : (n : ℕ) → 1 + n ≡ suc n
-one_more n = omega arith
 
 pub with_table-is : (t : Table) (us : List Table) → insert us (length (take_while (below t) us)) t ≡ with_table t us
 with_table-is t [] = refl

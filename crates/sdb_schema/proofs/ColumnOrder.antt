@@ -13,12 +13,10 @@ use Rattle.sdb_types.proofs.KeyOrder.{name_total}
 use Rattle.sdb_record.specs.Parts.{is_column_name}
 use Rattle.sdb_schema.specs.declared.table.Column.{Column}
 use Rattle.sdb_schema.specs.Table.{put_column, put_columns, in_order, rises, stands_above, next_repeats, first_listed_twice, are_short}
+use Rattle.sdb_types.proofs.Basics.{less_of, one_more}
 
 abbrev pub below : Column → Column → Bool
 below c d = is_lt (name_cmp d.name c.name)
-
-one_more : (n : ℕ) → 1 + n ≡ suc n
-one_more n = omega arith
 
 pub put_column-is : (c : Column) (ds : List Column) → insert ds (length (take_while (below c) ds)) c ≡ put_column c ds
 put_column-is c [] = refl
@@ -27,11 +25,6 @@ put_column-is c (d ∷ ds) =
       | true ↦ λ q. simp (q, one_more) (ap (λ l. d ∷ l) (put_column-is c ds))
       | false ↦ λ q. simp q refl
     ] refl
-
-less_of : (r : Ordering) → is_lt r ≡ true → r ≡ Less
-less_of Less h = refl
-less_of Equal h = cc
-less_of Greater h = cc
 
 ---- columns that rise are in order
 

@@ -8,7 +8,8 @@ use Rattle.std.proofs.lemmas.List.Elements.{All-nil, All-cons, All-contains, Con
 use Rattle.std.proofs.lemmas.List.Folds.{list_any_at}
 use Rattle.std.proofs.lemmas.List.Quantifiers.{all_pairs_push}
 use Rattle.std.proofs.lemmas.Map.Views.{Contains-from_any}
-use Rattle.sdb_script.proofs.Pieces.{by_test, same_bytes, itself}
+use Rattle.sdb_script.proofs.Pieces.{same_bytes, itself}
+use Rattle.sdb_types.proofs.Basics.{by_test}
 
 abbrev pub Text : Type 0
 Text = List ℕ

@@ -5,13 +5,10 @@ use Rattle.std.specs.List.{position_or_len}
 use Rattle.std.proofs.lemmas.Bool.{ltb-false}
 use Rattle.std.proofs.lemmas.List.{take_all, drop_all}
 use Rattle.sdb_model.specs.Form.{lines_of}
+use Rattle.sdb_types.proofs.Basics.{by_test}
 
 abbrev pub is_lf : ℕ → Bool
 is_lf b = b == 10
-
-by_test : {G : Type 0} (t : Bool) → (t ≡ true → G) → (t ≡ false → G) → G
-by_test true a b = a refl
-by_test false a b = b refl
 
 pub len_le : (xs : List ℕ) → position_or_len is_lf xs ≤ length xs
 len_le [] = omega arith

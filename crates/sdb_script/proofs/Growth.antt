@@ -21,10 +21,11 @@ use Rattle.sdb_script.specs.declared.fault.LineRefused.{LineRefused}
 use Rattle.sdb_script.specs.Lines.{most_clients, most_statements, most_moves, place_line, schema_line, text_line, client_lines, move_line, SaysMove, is_line, is_move, turns, turns_of}
 use Rattle.sdb_script.specs.Begun.{Draft, nothing, ArePlaces, IsClient, AreMoves, IsBegun, Said, PlaceOf, SchemaOf, ClientOf, StatementOf, Runs, MoveOf, is_first, is_known, is_placed, is_attached, may_stand, last_count, Comes}
 use Rattle.sdb_script.specs.Told.{with_catalog, new_client, more_said, add_text}
-use Rattle.sdb_script.proofs.Pieces.{by_test, itself}
+use Rattle.sdb_script.proofs.Pieces.{itself}
 use Rattle.sdb_script.proofs.MoveLines.{move_text}
 use Rattle.sdb_script.proofs.Apart.{none_apart, more_apart, attached_of}
 use Rattle.sdb_script.proofs.Steps.{past}
+use Rattle.sdb_types.proofs.Basics.{by_test}
 
 abbrev Lines : Type 0
 Lines = List (List ℕ)

@@ -16,8 +16,9 @@ use Rattle.sdb_model.specs.declared.script.Move.TheVariants as move
 use Rattle.sdb_script.specs.Words.{Counts, numeral_in}
 use Rattle.sdb_script.specs.Lines.{act_line, move_line, SaysAct, SaysMove, is_client, is_act, is_move, turns, latest}
 use Rattle.sdb_script.specs.Told.{client_in, act_in, repeat_of, step_in, clock_of, clock_in, rest_in, clock_or, stop_or, drop_or, lose_or, move_in}
-use Rattle.sdb_script.proofs.Pieces.{by_test, same_bytes, some_is, no_some, map_is, bind_is, map_or_is}
+use Rattle.sdb_script.proofs.Pieces.{same_bytes, no_some, map_is, bind_is, map_or_is}
 use Rattle.sdb_script.proofs.Numerals.{numeral_no_space, around_again, around_none, around_is, counted_is, counted_again, text_counts, counts_text}
+use Rattle.sdb_types.proofs.Basics.{by_test, some_is}
 
 abbrev Says : ℕ → List ℕ → Move → Type 0
 Says n line m = SaysMove line m × (is_move n m ≡ true)

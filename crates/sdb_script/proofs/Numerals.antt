@@ -15,7 +15,8 @@ use Rattle.sdb_loader.proofs.Names.{at_byte}
 use Rattle.sdb_model.specs.SqlTokens.{is_digit, digits_value}
 use Rattle.sdb_model.specs.Form.{is_client_name}
 use Rattle.sdb_script.specs.Words.{is_numeral, Counts, numeral_in}
-use Rattle.sdb_script.proofs.Pieces.{by_test, some_is, no_some}
+use Rattle.sdb_script.proofs.Pieces.{no_some}
+use Rattle.sdb_types.proofs.Basics.{by_test, some_is}
 
 ---- words before a space
 

@@ -27,7 +27,7 @@ use Rattle.sdb_loader.proofs.Names.{text_of}
 use Rattle.sdb_catalog.specs.Definition.{kind_text, order_text, columns_data, names_data, orders_data, definition_text}
 use Rattle.sdb_script.specs.Printed.{member_text, catalog_text}
 use Rattle.sdb_script.specs.Printed as printed
-use Rattle.sdb_script.proofs.Pieces.{by_test}
+use Rattle.sdb_types.proofs.Basics.{by_test}
 
 -- no LF stands in a text
 abbrev pub is_single : List ℕ → Bool

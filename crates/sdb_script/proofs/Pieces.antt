@@ -8,10 +8,7 @@ use Rattle.std.proofs.lemmas.Str.{IsUtf8-from_is_utf8}
 use Rattle.std.proofs.lemmas.Slice.Eq.{bytes_eq-Decides}
 use Rattle.sdb_record.specs.Names.{after_front}
 use Rattle.sdb_record.proofs.NameLemmas.{after_front-append, no_front}
-
-pub by_test : {G : Type 0} (t : Bool) → (t ≡ true → G) → (t ≡ false → G) → G
-by_test true a b = a refl
-by_test false a b = b refl
+use Rattle.sdb_types.proofs.Basics.{by_test, some_is}
 
 pub no_utf8 : (text : List ℕ) → (IsUtf8 text → ⊥) → false ≡ is_utf8 text
 no_utf8 text h = by_test (is_utf8 text) (λ t. absurd (h (IsUtf8-from_is_utf8 text t))) (λ t. sym t)
@@ -29,9 +26,6 @@ same_bytes a b h = (bytes_eq-Decides a b).0 h
 
 pub itself : (a : List ℕ) → bytes_eq a a ≡ true
 itself a = (bytes_eq-Decides a a).1 refl
-
-pub some_is : {A : Type 0} (x y : A) → Some x ≡ Some y → x ≡ y
-some_is x y e = cc
 
 pub no_some : {A G : Type 0} (x : A) → ◌≡◌ {A = Option A} None (Some x) → G
 no_some x e = absurd cc

@@ -8,7 +8,8 @@ use Rattle.indexmap.specs.IndexMap.{insert_entry}
 use Rattle.sdb_model.specs.declared.script.Place.{Place}
 use Rattle.sdb_script.specs.Begun.{is_placed}
 use Rattle.sdb_script.specs.Placings.{placing, placings}
-use Rattle.sdb_script.proofs.Pieces.{by_test, same_bytes, itself}
+use Rattle.sdb_script.proofs.Pieces.{same_bytes, itself}
+use Rattle.sdb_types.proofs.Basics.{by_test}
 
 abbrev Entries : Type 0
 Entries = List (List ℕ × List ℕ)

@@ -21,7 +21,7 @@ use Rattle.sdb_script.specs.Whole.{whole, IsScript}
 use Rattle.sdb_script.specs.Printed.{with_lf, catalog_text, schema_text, place_text, client_text, script_text_of, schema_lines, keeps_line}
 use Rattle.sdb_script.proofs.CatalogBack.{catalog_again}
 use Rattle.sdb_script.proofs.OneLine.{is_single, json_single, json_may, may_name}
-use Rattle.sdb_script.proofs.Pieces.{by_test}
+use Rattle.sdb_types.proofs.Basics.{by_test}
 
 abbrev Lines : Type 0
 Lines = List (List ℕ)

@@ -15,10 +15,10 @@ use Rattle.sdb_script.specs.Lines.{most_bytes}
 use Rattle.sdb_script.specs.Begun.{Draft, nothing, IsBegun, Stops, IsFirstWrong}
 use Rattle.sdb_script.specs.Whole.{whole, IsScript, last_line, IsRefused}
 use Rattle.sdb_script.specs.Told.{told, at_line, told_next, told_from, script_of, ended, ended_at, script_in, Agrees}
-use Rattle.sdb_script.proofs.Pieces.{by_test}
 use Rattle.sdb_script.proofs.Steps.{told_is, cause_is, cause_again}
 use Rattle.sdb_script.proofs.Growth.{none_begun, more_begun}
 use Rattle.sdb_script.proofs.Sections.{begun_goes}
+use Rattle.sdb_types.proofs.Basics.{by_test}
 
 abbrev Lines : Type 0
 Lines = List (List ℕ)

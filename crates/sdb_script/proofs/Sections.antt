@@ -17,11 +17,12 @@ use Rattle.sdb_script.specs.declared.fault.LineRefused.{LineRefused}
 use Rattle.sdb_script.specs.Lines.{most_clients, most_statements, most_moves, place_line, schema_line, text_line, client_lines, move_line, is_line, is_move, turns, turns_of}
 use Rattle.sdb_script.specs.Begun.{Draft, nothing, ArePlaces, IsSchema, IsClient, AreClients, AreMoves, run_lines, IsBegun, Said, PlaceOf, SchemaOf, ClientOf, StatementOf, Runs, MoveOf, is_known, may_stand, last_count, Comes}
 use Rattle.sdb_script.specs.Told.{with_catalog, new_client, told_next, told_from}
-use Rattle.sdb_script.proofs.Pieces.{by_test, same_bytes}
+use Rattle.sdb_script.proofs.Pieces.{same_bytes}
 use Rattle.sdb_script.proofs.MoveLines.{text_move}
 use Rattle.sdb_script.proofs.BlockLaws.{add_last, count_last}
 use Rattle.sdb_script.proofs.Apart.{new_again, attached_again, at_next}
 use Rattle.sdb_script.proofs.Steps.{past, told_again}
+use Rattle.sdb_types.proofs.Basics.{by_test}
 
 abbrev Lines : Type 0
 Lines = List (List ℕ)

@@ -19,9 +19,10 @@ use Rattle.sdb_script.specs.declared.fault.LineRefused.TheVariants as refused
 use Rattle.sdb_script.specs.Lines.{most_line, most_clients, most_statements, most_moves, is_line, turns, turns_of}
 use Rattle.sdb_script.specs.Begun.{Draft, Said, PlaceOf, SchemaOf, ClientOf, StatementOf, Runs, MoveOf, Says, is_first, is_known, may_come, may_stand, last_count, Comes, IsCause}
 use Rattle.sdb_script.specs.Told.{move_in, form, with_place, with_words, take_place, with_catalog, take_schema, with_client, take_client, with_text, take_text, run_of, place_or, schema_or, client_or, text_or, take_head, with_move, take_move, take_text_line, told}
-use Rattle.sdb_script.proofs.Pieces.{by_test, same_bytes}
+use Rattle.sdb_script.proofs.Pieces.{same_bytes}
 use Rattle.sdb_script.proofs.Numerals.{name_no_space, around_again, around_is}
 use Rattle.sdb_script.proofs.MoveLines.{move_is, move_again}
+use Rattle.sdb_types.proofs.Basics.{by_test}
 
 -- what comes of something that may come next
 abbrev pub past : List (List ℕ) → Draft → Said → Result Draft LineRefused

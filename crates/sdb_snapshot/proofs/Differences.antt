@@ -22,7 +22,8 @@ use Rattle.sdb_record.specs.Rolls.{IsBaseOf, IsWrite}
 use Rattle.sdb_snapshot.specs.Noted.{Note, is_noted, base_at, with_note, with_images, has_key, record_in, has_moved, differs, IsFirstDifference, IsUnmoved, AreKeysOf, AreBases, AreCommitted}
 use Rattle.sdb_snapshot.specs.Written.{write_at, with_write, with_writes, with_change_of, write_of, AreWrites, AreChanges}
 use Rattle.sdb_snapshot.specs.Held.{WereRead, differs_from}
-use Rattle.sdb_snapshot.proofs.Keys.{by_test, same_exact, value_last, or_else}
+use Rattle.sdb_snapshot.proofs.Keys.{same_exact, value_last, or_else}
+use Rattle.sdb_types.proofs.Basics.{by_test, less_of, some_is}
 
 ---- what is noted of a scan
 
@@ -78,11 +79,6 @@ noted_last_keeps notes k f q h = ap is_some (value_last notes k f q) ∙ ap is_s
 
 ---- the first that differs
 
-less_of : (o : Ordering) → is_lt o ≡ true → o ≡ Less
-less_of Less h = refl
-less_of Equal h = cc
-less_of Greater h = cc
-
 behind : (k q : Key) (rs : List Record) → starts_after k rs ≡ true → rise rs ≡ true → has_key rs q ≡ true → key_cmp k q ≡ Less
 behind k q [] s h has = absurd (cc)
 behind k q (r ∷ rs) s h has =
@@ -90,9 +86,6 @@ behind k q (r ∷ rs) s h has =
     (λ t. subst (λ (x : Key). key_cmp k x ≡ Less) (sym (key_exact q r.key (equal_of (key_cmp q r.key) t))) (less_of (key_cmp k r.key) s))
     (λ t. key_total.trans k r.key q (less_of (key_cmp k r.key) s)
     (behind r.key q rs (and_first (starts_after r.key rs) (rise rs) h) (and_second (starts_after r.key rs) (rise rs) h) (sym (ap (λ b. b || has_key rs q) t) ∙ has)))
-
-some_is : {A : Type 0} (x y : A) → Some x ≡ Some y → x ≡ y
-some_is x y e = cc
 
 -- what is found first among keys that rise stands at the least key
 least : (p : Key → Bool) (rs : List Record) (r : Record) (q : Key) → rise rs ≡ true → find (λ s. p s.key) rs ≡ Some r → has_key rs q ≡ true → p q ≡ true → is_le (key_cmp r.key q) ≡ true

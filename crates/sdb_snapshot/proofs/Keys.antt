@@ -10,10 +10,7 @@ use Rattle.sdb_types.specs.Exact.{equal_of}
 use Rattle.sdb_types.specs.Exactness.{key_tells}
 use Rattle.sdb_types.proofs.KeyOrder.{key_total, key_exact}
 use Rattle.sdb_keyed.specs.Entries.{same_key, value_at, with_value}
-
-pub by_test : {G : Type 0} (t : Bool) → (t ≡ true → G) → (t ≡ false → G) → G
-by_test true a b = a refl
-by_test false a b = b refl
+use Rattle.sdb_types.proofs.Basics.{by_test}
 
 pub same_itself : (a : Key) → same_key a a ≡ true
 same_itself a = (key_tells a a).1 refl

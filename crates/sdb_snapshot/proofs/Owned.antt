@@ -11,8 +11,9 @@ use Rattle.sdb_record.specs.Rolls.{IsBaseOf}
 use Rattle.sdb_snapshot.specs.Noted.{Note, AreCommitted, is_noted, base_at, with_images}
 use Rattle.sdb_snapshot.specs.Written.{AreChanges, HaveBases, HaveKeysOnce, is_written, write_at, with_write, with_writes, with_change_of, write_of}
 use Rattle.sdb_snapshot.specs.Held.{AreKept}
-use Rattle.sdb_snapshot.proofs.Keys.{by_test, same_itself, same_exact, value_last}
+use Rattle.sdb_snapshot.proofs.Keys.{same_itself, same_exact, value_last}
 use Rattle.sdb_snapshot.proofs.Differences.{or_there, noted_images, noted_last_keeps, still_noted, bases_last, bases_images, writes_fine, writes_read}
+use Rattle.sdb_types.proofs.Basics.{by_test}
 
 ---- bases
 

@@ -15,7 +15,8 @@ use Rattle.sdb_snapshot.specs.Held.{ArePlaces}
 use Rattle.sdb_snapshot.specs.Written.{write_at, is_written}
 use Rattle.sdb_snapshot.specs.Opened.{with_new, with_laid}
 use Rattle.sdb_snapshot.proofs.Fronts.{starts_itself, starts_more, starts_take}
-use Rattle.sdb_snapshot.proofs.Keys.{by_test, put_new}
+use Rattle.sdb_snapshot.proofs.Keys.{put_new}
+use Rattle.sdb_types.proofs.Basics.{by_test, one_more}
 
 abbrev pub key_of : Write → Key
 key_of w = w.key
@@ -68,9 +69,6 @@ place_within ws key i h =
 
 abbrev pub laid_on : Write → Keyed → Write
 laid_on x k = record { key = x.key; base = x.base; change = k.change }
-
-one_more : (n : ℕ) → 1 + n ≡ suc n
-one_more n = omega arith
 
 -- the write at the first place that a key has
 pub laid_here : (ws : List Write) (k : Keyed) (x : Write) (n : ℕ) → n ≡ position_or_len (λ w. same_key k.key w.key) ws → slice_get ws n ≡ Some x → with_laid ws k ≡ slice_set ws n (laid_on x k)

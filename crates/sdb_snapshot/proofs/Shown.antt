@@ -32,7 +32,8 @@ use Rattle.sdb_model.specs.Access.{in_access, rows_at, with_row, with_changes}
 use Rattle.sdb_snapshot.specs.Rows.{with_own, row_found, tables_of_notes}
 use Rattle.sdb_snapshot.specs.Held.{WereRead}
 use Rattle.sdb_snapshot.specs.Seen.{Seen, tables_seen, overlay, Agrees, row_with, row_seen, images_with, images_at}
-use Rattle.sdb_snapshot.proofs.Keys.{by_test, same_is, same_exact}
+use Rattle.sdb_snapshot.proofs.Keys.{same_is, same_exact}
+use Rattle.sdb_types.proofs.Basics.{by_test, less_of}
 
 ---- what tables have at a key
 
@@ -136,11 +137,6 @@ find_pairs : (f : Key → Option (List Pair)) (rs : List Record) (q : Key) → f
 find_pairs f [] q = refl
 find_pairs f (r ∷ rs) q =
     find_step (is_eq (key_cmp q r.key)) (f r.key) r.key q (pairs_at f rs) (has_key rs q) (f q) refl (λ t. ap f (key_exact q r.key (equal_of (key_cmp q r.key) t))) (find_pairs f rs q)
-
-less_of : (o : Ordering) → is_lt o ≡ true → o ≡ Less
-less_of Less h = refl
-less_of Equal h = cc
-less_of Greater h = cc
 
 starts_trans : (k l : Key) (rs : List Record) → key_cmp k l ≡ Less → starts_after l rs ≡ true → starts_after k rs ≡ true
 starts_trans k l [] h g = refl

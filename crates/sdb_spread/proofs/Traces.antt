@@ -20,15 +20,13 @@ use Rattle.sdb_model.specs.Events.{Shelf, held_by, with_contents, store_of, stan
 use Rattle.sdb_laws.proofs.Effects.{store_same, held_there, held_elsewhere}
 use Rattle.sdb_spread.specs.Spread.{one_shelf, moved_event, moved_events, is_played, AreAbout, HoldAs, AreShelved}
 use Rattle.sdb_spread.proofs.Calls.{SameOf, same_reply, same_after, left_apart, held_as}
+use Rattle.sdb_types.proofs.Basics.{some_is as some_same}
 
 ---- the one store
 
 abbrev contents_of : List Shelf → Contents
 contents_of [] = empty
 contents_of (s ∷ ss) = s.contents
-
-some_same : {A : Type 0} (x y : A) → Some x ≡ Some y → x ≡ y
-some_same x y e = cc
 
 one_held : (name : Name) (m : Contents) → held_by (one_shelf name m) name ≡ Some m
 one_held name m = rw (same_name-itself name) refl

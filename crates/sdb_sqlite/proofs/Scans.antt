@@ -50,6 +50,7 @@ use Rattle.sdb_sqlite.proofs.Lists.{filter_same, weaker, passed, few_permutation
 use Rattle.sdb_sqlite.proofs.Queries.{passes, blobs_test, texts_test, answered, query_keeps}
 use Rattle.sdb_sqlite.proofs.Gets.{IsSure, tied_key, stopped_performs}
 use Rattle.sdb_sqlite.proofs.Lawful.{due_stops}
+use Rattle.sdb_types.proofs.Basics.{less_of}
 
 ---- the rows that the query of a span passes
 
@@ -118,11 +119,6 @@ all_given span [] all = refl
 all_given span (row ∷ rows) (one, all) = λ i. then_records (one i) (all_given span rows all i)
 
 ---- the order of the records
-
-less_of : (o : Ordering) → is_lt o ≡ true → o ≡ Less
-less_of Less h = refl
-less_of Equal h = cc
-less_of Greater h = cc
 
 starts_trans : (k l : Key) (rs : List Record) → key_cmp k l ≡ Less → starts_after l rs ≡ true → starts_after k rs ≡ true
 starts_trans k l [] h g = refl

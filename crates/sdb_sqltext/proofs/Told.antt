@@ -32,6 +32,7 @@ use Rattle.sdb_sqltext.specs.States.{Filter}
 use Rattle.sdb_sqltext.specs.States.{State}
 use Rattle.sdb_sqltext.specs.States as state
 use Rattle.sdb_sqltext.specs.Machine.{◌>>=◌, on_sign, name_of, word_value, value_of, literal_of, limit_of, sign_comparison, comparison_of, with_name, with_literal, with_test, inserted, filtered, filtered_by, is_select, begun, ending, more_sets, untested, with_set, step}
+use Rattle.sdb_types.proofs.Basics.{and_parts as and_both, some_is}
 
 -- ---- the tokens so far
 
@@ -175,9 +176,6 @@ pub chosen : {A : Type 0} (b : Bool) (x y z : A) → cond b x y ≡ z → ((b �
 chosen true x y z e = inl (refl, e)
 chosen false x y z e = inr (refl, e)
 
-pub some_is : {A : Type 0} (x y : A) → Some x ≡ Some y → x ≡ y
-some_is x y e = cc
-
 pub bind_some : {A B : Type 0} (r : Option A) (f : A → Option B) (y : B) → (r >>= f) ≡ Some y → (x : A) × (r ≡ Some x) × (f x ≡ Some y)
 bind_some (Some x) f y e = (x, refl, e)
 bind_some None f y e = absurd cc
@@ -315,10 +313,6 @@ comparison_back Overlong x h = absurd cc
 comparison_back (Word w) x h = absurd cc
 comparison_back (Text n) x h = absurd cc
 comparison_back (Blob n) x h = absurd cc
-
-and_both : (a b : Bool) → (a && b) ≡ true → (a ≡ true) × (b ≡ true)
-and_both true b h = (refl, h)
-and_both false b h = absurd cc
 
 same_length : (a b : ℕ) → (a == b) ≡ true → a ≡ b
 same_length a b h = grind (arith, nat_tests)

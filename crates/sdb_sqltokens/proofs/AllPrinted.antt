@@ -20,9 +20,9 @@ use Rattle.sdb_sqltokens.specs.Lexing.{GivesTokens}
 use Rattle.sdb_sqltokens.specs.Printed.{GivesAll}
 use Rattle.sdb_sqltokens.specs.declared.fault.LexRefused.{LexRefused}
 use Rattle.sdb_sqltokens.specs.declared.fault.LexRefused.TheVariants as refused
-use Rattle.sdb_sqltokens.proofs.Words.{by_test}
 use Rattle.sdb_sqltokens.proofs.Lexing.{gap_turn, token_turn}
 use Rattle.sdb_sqltokens.proofs.Printed.{clear, Again, keyword_identifier, by_keyword, word_read, name_read, sign_read, number_read, text_read, blob_read, drop_seam}
+use Rattle.sdb_types.proofs.Basics.{by_test}
 
 is_bytes : (bs : List ℕ) → AllByRecursion (λ b. b < 256) bs → IsBytes bs
 is_bytes [] h i = omega arith

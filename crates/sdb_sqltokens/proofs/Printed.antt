@@ -21,8 +21,8 @@ use Rattle.sdb_model.specs.declared.token.Sign.{Sign}
 use Rattle.sdb_model.specs.declared.token.Sign.TheVariants as sign
 use Rattle.sdb_model.specs.declared.token.Token.{Token}
 use Rattle.sdb_model.specs.declared.token.Token.TheVariants.{Word, Name, Number, Text, Blob, Sign as Mark}
-use Rattle.sdb_sqltokens.proofs.Words.{by_test}
 use Rattle.sdb_sqltokens.proofs.Enclosed.{encloses_none, encloses_byte, encloses_quote}
+use Rattle.sdb_types.proofs.Basics.{and_parts as and_true, by_test, one_more}
 
 -- ---- what ends a token: the end of the text, a space, `,` `)` or `.`
 
@@ -45,13 +45,6 @@ not_quote b h = grind (arith, nat_tests)
 pub clear_of : (p : ℕ → Bool) → ((b : ℕ) → ends_token b ≡ true → p b ≡ false) → (rest : List ℕ) → clear rest ≡ true → begins p rest ≡ false
 clear_of p fails [] h = refl
 clear_of p fails (b ∷ bs) h = fails b h
-
-one_more : (n : ℕ) → 1 + n ≡ suc n
-one_more n = omega arith
-
-and_true : (a b : Bool) → (a && b) ≡ true → (a ≡ true) × (b ≡ true)
-and_true true b h = (refl, h)
-and_true false b h = absurd cc
 
 -- what passes at the front, where what follows doesn't
 pub front_len : (p : ℕ → Bool) (w rest : List ℕ) → list_all p w ≡ true → begins p rest ≡ false → prefix_len p (w ++ rest) ≡ length w

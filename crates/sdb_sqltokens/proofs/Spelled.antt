@@ -18,7 +18,8 @@ use Rattle.sdb_model.specs.declared.token.Sign.{Sign}
 use Rattle.sdb_model.specs.declared.token.Token.{Token}
 use Rattle.sdb_model.specs.declared.token.Token.TheVariants.{Name, Overlong, Number, Text}
 use Rattle.sdb_sqltokens.specs.Spelled.{IsSpelled}
-use Rattle.sdb_sqltokens.proofs.Words.{by_test, front_is_identifier}
+use Rattle.sdb_sqltokens.proofs.Words.{front_is_identifier}
+use Rattle.sdb_types.proofs.Basics.{by_test}
 
 abbrev Fine : Lexeme → Type 0
 Fine (Ok p) = IsSpelled p.0

@@ -6,13 +6,7 @@ use Rattle.std.proofs.lemmas.Bool.Decides.{nat_tests}
 use Rattle.std.proofs.lemmas.Str.{IsUtf8-from_ascii, IsUtf8-from_is_utf8}
 use Rattle.sdb_types.specs.Identifier.{is_start, is_part, is_identifier}
 use Rattle.sdb_model.specs.SqlTokens.{begins, word_len}
-
-pub by_test : {G : Type 0} (t : Bool) → (t ≡ true → G) → (t ≡ false → G) → G
-by_test true a b = a refl
-by_test false a b = b refl
-
-pub one_more : (n : ℕ) → 1 + n ≡ suc n
-one_more n = omega arith
+use Rattle.sdb_types.proofs.Basics.{and_parts as and_true, by_test, one_more}
 
 all_pass : (p : ℕ → Bool) (bs : List ℕ) → list_all p (take (prefix_len p bs) bs) ≡ true
 all_pass p [] = refl
@@ -32,10 +26,6 @@ start_small b h = grind (arith, nat_tests)
 
 part_small : (b : ℕ) → is_part b ≡ true → b < 128
 part_small b h = grind (arith, nat_tests)
-
-and_true : (a b : Bool) → (a && b) ≡ true → (a ≡ true) × (b ≡ true)
-and_true true b h = (refl, h)
-and_true false b h = absurd cc
 
 all_small : (bs : List ℕ) → list_all is_part bs ≡ true → IsAscii bs
 all_small [] h i = omega arith

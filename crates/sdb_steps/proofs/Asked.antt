@@ -28,8 +28,8 @@ use Rattle.sdb_laws.specs.History.{at}
 use Rattle.sdb_snapshot.specs.Held.{AreKept}
 use Rattle.sdb_snapshot.specs.Seen.{Seen, overlay, with_written}
 use Rattle.sdb_snapshot.specs.Written.{AreChanges}
-use Rattle.sdb_transaction.specs.declared.txn.Doing.TheVariants as doing
-use Rattle.sdb_transaction.specs.Txn.{TxnAt, reading}
+use Rattle.sdb_txn.specs.declared.txn.Doing.TheVariants as doing
+use Rattle.sdb_txn.specs.Txn.{TxnAt, reading}
 use Rattle.sdb_client.specs.Client.{ClientAt as Client, given_answer, given_left, gives, holding, is_covered, plan_of, too_many, written}
 use Rattle.sdb_client.specs.Inside.{IsFine, IsKeyRead, MayWrite}
 use Rattle.sdb_client.proofs.Writable.{may_write}

@@ -24,11 +24,11 @@ use Rattle.sdb_exec.specs.Reads.{access_of}
 use Rattle.sdb_commit.specs.Phases.{CommitAt, IsNext}
 use Rattle.sdb_read.specs.declared.read.ReadStep.TheVariants as step
 use Rattle.sdb_read.specs.Read.{Asking, Ended, ReadAt, ReadStage, Resolving, read_pending_at, read_result, read_step, request_of}
-use Rattle.sdb_transaction.specs.declared.progress.Progress.{Progress}
-use Rattle.sdb_transaction.specs.declared.progress.Progress.TheVariants as progress
-use Rattle.sdb_transaction.specs.declared.txn.Doing.{Doing}
-use Rattle.sdb_transaction.specs.declared.txn.Doing.TheVariants as doing
-use Rattle.sdb_transaction.specs.Txn.{IsCommitting, TxnAt, idle, pending_in}
+use Rattle.sdb_txn.specs.declared.progress.Progress.{Progress}
+use Rattle.sdb_txn.specs.declared.progress.Progress.TheVariants as progress
+use Rattle.sdb_txn.specs.declared.txn.Doing.{Doing}
+use Rattle.sdb_txn.specs.declared.txn.Doing.TheVariants as doing
+use Rattle.sdb_txn.specs.Txn.{IsCommitting, TxnAt, idle, pending_in}
 use Rattle.sdb_client.specs.declared.next.Next.{Next}
 use Rattle.sdb_client.specs.declared.next.Next.TheVariants as next
 use Rattle.sdb_client.specs.Client.{AskTold, BeginTold, CallTold, ClientAt as Client, CommitNext, CommitTaken, GateTold, ImagesTold, IsIdle, IsTold, NextTold, ReplyTold, RollbackTold, RowsTold, StageTold, StatementTold, TableTold, Taking, TextTold, VacuumTold, after, client_pending, given_answer, given_left, gives, holding, is_covered, next_of, noting, pending_of, plan_of, resting, starved, written}

@@ -25,11 +25,11 @@ use Rattle.sdb_read.specs.declared.read.ReadStep.{ReadStep}
 use Rattle.sdb_read.specs.declared.read.ReadStep.TheVariants as step
 use Rattle.sdb_read.specs.Read.{ReadAt, ReadStage, read_result, read_step}
 use Rattle.sdb_commit.specs.Phases.{CommitAt, IsNext}
-use Rattle.sdb_transaction.specs.declared.progress.Progress.{Progress}
-use Rattle.sdb_transaction.specs.declared.progress.Progress.TheVariants as progress
-use Rattle.sdb_transaction.specs.declared.txn.Doing.{Doing}
-use Rattle.sdb_transaction.specs.declared.txn.Doing.TheVariants as doing
-use Rattle.sdb_transaction.specs.Txn.{CommitTold, IsCommitting, TxnAt, committing, idle as idle_of, work_of}
+use Rattle.sdb_txn.specs.declared.progress.Progress.{Progress}
+use Rattle.sdb_txn.specs.declared.progress.Progress.TheVariants as progress
+use Rattle.sdb_txn.specs.declared.txn.Doing.{Doing}
+use Rattle.sdb_txn.specs.declared.txn.Doing.TheVariants as doing
+use Rattle.sdb_txn.specs.Txn.{CommitTold, IsCommitting, TxnAt, committing, idle as idle_of, work_of}
 use Rattle.sdb_client.specs.declared.next.Next.{Next}
 use Rattle.sdb_client.specs.declared.next.Next.TheVariants as next
 use Rattle.sdb_client.specs.Client.{AskTold, BeginTold, CallTold, ClientAt as Client, CommitNext, CommitTaken, GateTold, ImagesTold, IsIdle, IsTold, NextTold, ReplyTold, RollbackTold, RowsTold, StageTold, StatementTold, TableTold, Taking, TextTold, VacuumTold, after, answer_in, gives, given_answer, given_left, holding, is_covered, next_of, noting, plan_of, resting, starved, with_begun, written}

@@ -66,7 +66,7 @@ use Rattle.sdb_snapshot.specs.Seen.{Seen, overlay, tables_seen, with_get, with_s
 use Rattle.sdb_snapshot.specs.Written.{with_change_of, with_write, with_writes, write_of}
 use Rattle.sdb_spread.specs.Spread.{is_played}
 use Rattle.sdb_steps.specs.About.{AreNotesIn, AreRecordsIn, AreWritesIn, IsIn, IsListed, IsRecordIn, IsSeenIn, IsStageIn, IsWorkIn}
-use Rattle.sdb_steps.proofs.RowsFit.{equal_of}
+use Rattle.sdb_types.specs.Exact.{equal_of}
 
 ---- the keys of an access
 

@@ -32,9 +32,9 @@ use Rattle.sdb_snapshot.specs.Noted.{Note, is_noted, reads_of}
 use Rattle.sdb_snapshot.specs.Seen.{Seen, is_scanned, overlay, same_span, with_written}
 use Rattle.sdb_snapshot.specs.Written.{AreChanges}
 use Rattle.sdb_snapshot.proofs.Keys.{or_else, same_itself, value_last}
-use Rattle.sdb_transaction.specs.declared.txn.Doing.{Doing}
-use Rattle.sdb_transaction.specs.declared.txn.Doing.TheVariants as doing
-use Rattle.sdb_transaction.specs.Txn.{TxnAt, idle as idle_of, pending, pending_in}
+use Rattle.sdb_txn.specs.declared.txn.Doing.{Doing}
+use Rattle.sdb_txn.specs.declared.txn.Doing.TheVariants as doing
+use Rattle.sdb_txn.specs.Txn.{TxnAt, idle as idle_of, pending, pending_in}
 use Rattle.sdb_client.specs.declared.next.Next.{Next}
 use Rattle.sdb_client.specs.declared.next.Next.TheVariants as next
 use Rattle.sdb_client.specs.Client.{CallTold, ClientAt as Client, ImagesTold, IsAsRead, StageTold, after, answer_in, gives, given_answer, given_left, holding, noting, pending_of, resting, too_many, written}
@@ -57,6 +57,7 @@ use Rattle.sdb_steps.proofs.RowsFit.{answers_on, by_test}
 use Rattle.sdb_steps.proofs.Asked.{from_rows}
 use Rattle.sdb_steps.proofs.Fitted.{by_next}
 use Rattle.sdb_steps.proofs.Taken.{IsSo, moved}
+use Rattle.sdb_types.proofs.Basics.{or_second as or_so}
 
 ---- what a read has noted
 
@@ -66,10 +67,6 @@ or_some (Some x) f b h = refl
 
 noted_last : (notes : List Note) (k : Key) (f : Option Record) → is_noted (notes ++ (k, f) ∷ []) k ≡ true
 noted_last notes k f = ap is_some (value_last notes k f k) ∙ or_some (value_at notes k) f (same_key k k) (same_itself k)
-
-or_so : (a b : Bool) → b ≡ true → (a || b) ≡ true
-or_so true b h = refl
-or_so false b h = h
 
 scanned_last : (xs : List Scan) (x : Scan) → is_scanned (xs ++ x ∷ []) x.span ≡ true
 scanned_last [] x = ap (λ (b : Bool). b || false) ((span_tells x.span x.span).1 refl)

@@ -20,10 +20,10 @@ use Rattle.sdb_phases.specs.Steps.{validate_step}
 use Rattle.sdb_phases.specs.Commit.{Stage, Preparing, Checking, Deciding, Forward, Stopping, Back, Over, after_check, pending as commit_pending, starved as starved_stage, step as commit_step}
 use Rattle.sdb_validate.specs.Inside.{Judges}
 use Rattle.sdb_commit.specs.Phases.{CommitAt, IsNext, ended_at}
-use Rattle.sdb_transaction.specs.declared.progress.Progress.TheVariants as progress
-use Rattle.sdb_transaction.specs.declared.txn.Doing.{Doing}
-use Rattle.sdb_transaction.specs.declared.txn.Doing.TheVariants as doing
-use Rattle.sdb_transaction.specs.Txn.{IsCommitting, TxnAt, pending_in, progress_of}
+use Rattle.sdb_txn.specs.declared.progress.Progress.TheVariants as progress
+use Rattle.sdb_txn.specs.declared.txn.Doing.{Doing}
+use Rattle.sdb_txn.specs.declared.txn.Doing.TheVariants as doing
+use Rattle.sdb_txn.specs.Txn.{IsCommitting, TxnAt, pending_in, progress_of}
 use Rattle.sdb_client.specs.declared.next.Next.{Next}
 use Rattle.sdb_client.specs.declared.next.Next.TheVariants as next
 use Rattle.sdb_client.specs.Client.{ClientAt as Client, CommitNext, NextTold, ReplyTold, answer_in, next_of, pending_of, resting}

@@ -15,7 +15,6 @@ use Rattle.sdb_types.specs.declared.key.TableName.{TableName}
 use Rattle.sdb_types.specs.declared.pair.Pair.{Pair}
 use Rattle.sdb_types.specs.Order.{key_cmp, table_cmp}
 use Rattle.sdb_types.proofs.Bools.{and_first, and_second, and_both}
-use Rattle.sdb_types.proofs.ColumnLemmas.{less_of}
 use Rattle.sdb_types.proofs.KeyOrder.{key_total, table_exact, table_total}
 use Rattle.sdb_record.specs.declared.access.Image.{Image}
 use Rattle.sdb_record.specs.declared.write.Change.{Change}
@@ -36,7 +35,7 @@ use Rattle.sdb_exec.specs.declared.plan.PlanStep.TheVariants.{Finished}
 use Rattle.sdb_exec.specs.Plans.{IsExec, Planned, change_fits, changes_on, columns_at, finished, first_unfit, has_all_literals, leaves_fit, put_row, step_of}
 use Rattle.sdb_exec.specs.Reads.{access_of}
 use Rattle.sdb_exec.proofs.Fits.{changes_fit}
-use Rattle.sdb_exec.proofs.Laid.{by_key, get-with_row, keyed, true_from_T}
+use Rattle.sdb_exec.proofs.Laid.{by_key, get-with_row, keyed}
 use Rattle.sdb_exec.proofs.Places.{named_is_table}
 use Rattle.sdb_exec.proofs.Whole.{fitting_is_exec}
 use Rattle.sdb_laws.specs.Lawful.{is_data}
@@ -44,15 +43,12 @@ use Rattle.sdb_snapshot.specs.Seen.{Seen, overlay}
 use Rattle.sdb_story.specs.Body.{AnswersOn}
 use Rattle.sdb_story.specs.Left.{IsFitting}
 use Rattle.sdb_steps.specs.Fitting.{row_fits, tables_fit}
+use Rattle.sdb_types.proofs.Basics.{less_of, truth as true_from_T}
+use Rattle.sdb_types.specs.Exact.{equal_of}
 
 pub by_test : {G : Type 0} (b : Bool) → (b ≡ true → G) → (b ≡ false → G) → G
 by_test true a b = a refl
 by_test false a b = b refl
-
-pub equal_of : (o : Ordering) → is_eq o ≡ true → o ≡ Equal
-equal_of Less h = cc
-equal_of Equal h = refl
-equal_of Greater h = cc
 
 ---- rows of tables, by their keys
 

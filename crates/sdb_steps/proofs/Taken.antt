@@ -23,9 +23,9 @@ use Rattle.sdb_phases.specs.declared.step.DecidePhase.TheVariants.{Put}
 use Rattle.sdb_snapshot.specs.Seen.{nothing}
 use Rattle.sdb_model.specs.Transactions.{id_of}
 use Rattle.sdb_sqltext.proofs.OneWord.{begin_read, commit_read, rollback_read}
-use Rattle.sdb_transaction.specs.declared.txn.Doing.{Doing}
-use Rattle.sdb_transaction.specs.declared.txn.Doing.TheVariants as doing
-use Rattle.sdb_transaction.specs.Txn.{TxnAt, committing, work_of as txn_work}
+use Rattle.sdb_txn.specs.declared.txn.Doing.{Doing}
+use Rattle.sdb_txn.specs.declared.txn.Doing.TheVariants as doing
+use Rattle.sdb_txn.specs.Txn.{TxnAt, committing, work_of as txn_work}
 use Rattle.sdb_client.specs.Client.{ClientAt as Client, holding, resting as client_resting, starved, with_begun as client_begun}
 use Rattle.sdb_turns.specs.System.{ClientAt, Committing, NoneSweeps, Open, Resting, SystemAt, commit_left, next_id, sweeps, with_begun, with_client}
 use Rattle.sdb_linked.specs.Going.{IsGoing, IsMild, LeavesAtOnce}

@@ -30,17 +30,18 @@ use Rattle.sdb_laws.specs.Lawful.{is_data}
 use Rattle.sdb_snapshot.specs.Held.{AreKept}
 use Rattle.sdb_sqltext.proofs.Clauses.{one_statement}
 use Rattle.sdb_sqltext.proofs.OneWord.{commit_read, rollback_read}
-use Rattle.sdb_transaction.specs.declared.txn.Doing.TheVariants as doing
-use Rattle.sdb_transaction.specs.Txn.{TxnAt}
+use Rattle.sdb_txn.specs.declared.txn.Doing.TheVariants as doing
+use Rattle.sdb_txn.specs.Txn.{TxnAt}
 use Rattle.sdb_client.specs.Client.{AskTold, BeginTold, ClientAt as Client, CommitTaken, IsTold, RollbackTold, RowsTold, StatementTold, TableTold, Taking, TextTold, VacuumTold, GateTold, is_covered, plan_of, starved}
 use Rattle.sdb_turns.specs.ReadAt.{IsOfData}
 use Rattle.sdb_turns.specs.System.{ClientOk}
 use Rattle.sdb_linked.specs.Going.{IsGoing, IsInner, IsMild}
 use Rattle.sdb_steps.specs.Fitting.{tables_fit}
 use Rattle.sdb_steps.specs.Hands.{Hand, IsPlainAnswer, IsReady, Takes, doing_of, system_of}
-use Rattle.sdb_steps.proofs.RowsFit.{by_test, equal_of, found_itself}
+use Rattle.sdb_steps.proofs.RowsFit.{by_test, found_itself}
 use Rattle.sdb_steps.proofs.Asked.{IsAsked, told_known, told_unknown}
 use Rattle.sdb_steps.proofs.Taken.{IsSo, at_open, other_no_begin, other_no_commit, refused_no_commit, refused_plain, told_begun, told_commit, told_outside, told_rollback, told_same, told_starved}
+use Rattle.sdb_types.specs.Exact.{equal_of}
 
 ---- the keys of an access are of its table
 

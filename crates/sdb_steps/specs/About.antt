@@ -18,8 +18,8 @@ use Rattle.sdb_read.specs.declared.read.ReadStep.TheVariants as step
 use Rattle.sdb_read.specs.Read.{Asking, Ended, ReadAt, ReadStage, Resolving, request_of}
 use Rattle.sdb_snapshot.specs.Noted.{Note}
 use Rattle.sdb_snapshot.specs.Seen.{Seen}
-use Rattle.sdb_transaction.specs.declared.txn.Doing.{Doing}
-use Rattle.sdb_transaction.specs.declared.txn.Doing.TheVariants as doing
+use Rattle.sdb_txn.specs.declared.txn.Doing.{Doing}
+use Rattle.sdb_txn.specs.declared.txn.Doing.TheVariants as doing
 use Rattle.sdb_client.specs.Client.{ClientAt as Client}
 
 -- the catalog has a table of that name

@@ -15,9 +15,9 @@ use Rattle.sdb_exec.specs.Plans.{Planned, has_all_literals}
 use Rattle.sdb_exec.specs.Reads.{access_of}
 use Rattle.sdb_laws.specs.History.{at}
 use Rattle.sdb_read.specs.Read.{ReadAt, request_of}
-use Rattle.sdb_transaction.specs.declared.txn.Doing.{Doing}
-use Rattle.sdb_transaction.specs.declared.txn.Doing.TheVariants as doing
-use Rattle.sdb_transaction.specs.Txn.{TxnAt}
+use Rattle.sdb_txn.specs.declared.txn.Doing.{Doing}
+use Rattle.sdb_txn.specs.declared.txn.Doing.TheVariants as doing
+use Rattle.sdb_txn.specs.Txn.{TxnAt}
 use Rattle.sdb_client.specs.Client.{ClientAt as Client, IsBusy, IsIdle, Taking, TextTold, client_pending, starved}
 use Rattle.sdb_model.specs.Transactions.{changes_nothing}
 use Rattle.sdb_linked.specs.Going.{IsMild}

@@ -22,15 +22,10 @@ use Rattle.sdb_story.specs.Filed.{number, IsFiledAt}
 use Rattle.sdb_story.specs.Telling.{Telling, waiting_of, all_told, with_waiting, with_answered, begun_in, count_of, OpenFiled, IsOpened, HasBegun, StoryOk, IsApart, KeepsHold, IsSaid, IsOrdinary, BeginsHold, EndsHold, IsCounted, NamesIt, taken_said, answered_said}
 use Rattle.sdb_story.proofs.Places.{story_same, story_kept}
 use Rattle.sdb_story.proofs.Tellings.{said_more, now_more, SameOf, same_of, filed_later, begun_later, within, apart_at, opened_counts}
+use Rattle.sdb_types.proofs.Basics.{clash, none_some, some_is}
 
 itself : (c : ℕ) → (c == c) ≡ true
 itself c = grind (arith, nat_tests)
-
-none_some : {A B : Type 0} (x : A) → ◌≡◌ {A = Option A} None (Some x) → B
-none_some x e = absurd (cc)
-
-some_is : {A : Type 0} (x y : A) → Some x ≡ Some y → x ≡ y
-some_is x y e = cc
 
 plus_one : (n : ℕ) → 1 + n ≡ n + 1
 plus_one n = omega arith
@@ -147,9 +142,6 @@ telling_of t = record { whole = t.whole; rest = t.rest; waiting = None }
 -- a COMMIT ends a transaction
 pub commit_ends : (s : Said) → reads_commit s.text ≡ true → ends s ≡ true
 commit_ends s e = ap (λ b. b || is_conflict s.answer || (reads_rollback s.text && is_done s.answer)) e
-
-clash : {A : Type 0} → true ≡ false → A
-clash e = absurd (cc)
 
 -- what stands in a story after an answer, whatever it is
 settles : (events : List Event) (past : List Played) (sys next : SystemAt) (c : ℕ) (x : Telling) (q : Played) (s : Said) (t : Story) → StoryOk events past sys c x → IsSaid events c x q s → IsCounted q.role → MayCome x.rest s → settle x.whole x.rest s ≡ t

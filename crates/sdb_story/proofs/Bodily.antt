@@ -18,10 +18,7 @@ use Rattle.sdb_story.specs.Calls.{IsNotedSo, NotesNothing, NotesRead, WasAnswere
 use Rattle.sdb_story.specs.Left.{AreReads, reads_and_scans}
 use Rattle.sdb_story.proofs.Notes.{last_cases, read_adds}
 use Rattle.sdb_story.proofs.Since.{calls_stay}
-
-no_more : {A : Type 0} (xs : List A) → xs ++ [] ≡ xs
-no_more [] = refl
-no_more (x ∷ xs) = ap (λ r. x ∷ r) (no_more xs)
+use Rattle.std.proofs.lemmas.List.{append-nil as no_more}
 
 assoc : {A : Type 0} (xs ys zs : List A) → (xs ++ ys) ++ zs ≡ xs ++ (ys ++ zs)
 assoc [] ys zs = refl

@@ -18,6 +18,7 @@ use Rattle.sdb_laws.specs.Explained.{IsDenied}
 use Rattle.sdb_story.specs.Filed.{number, IsFiledAt, IsOpenAt, Filed}
 use Rattle.sdb_story.specs.Story.{Finished, Rest, Closed, Opened, saids_of, said_of, IsPlain, IsInside, IsFinished, IsRest, finished_at, commit_in}
 use Rattle.sdb_story.proofs.Places.{finished_is, finished_ok, open_is, none_is}
+use Rattle.sdb_types.proofs.Basics.{none_some, some_is}
 
 ---- one transaction
 
@@ -36,12 +37,6 @@ pub record Says (events : List Event) (past : List Played) (t : ℕ) : Type 0 wh
   pub told : (s : Said) → commit_of events (id t) ≡ Some s → s.answer ≡ Some answer.Committed → IsToldAt past t s.answered
   pub denied : (s : Said) (a : Answer) → commit_of events (id t) ≡ Some s → s.answer ≡ Some a → is_denial a ≡ true → (talk past).taken t ≡ true → IsDenied past t
   pub unknown : (s : Said) (u : TxId) → commit_of events (id t) ≡ Some s → s.answer ≡ Some (answer.Unknown u) → u ≡ id t
-
-some_is : {A : Type 0} (x y : A) → Some x ≡ Some y → x ≡ y
-some_is x y e = cc
-
-none_some : {A B : Type 0} (x : A) → ◌≡◌ {A = Option A} None (Some x) → B
-none_some x e = absurd (cc)
 
 commit_is : (s x : Said) → commit_in s ≡ Some x → s ≡ x
 commit_is s x e = by (reads_commit s.text) e

@@ -19,15 +19,7 @@ use Rattle.sdb_turns.proofs.Begin.{taken_begun}
 use Rattle.sdb_story.proofs.Faith.{beyond, faithful}
 use Rattle.sdb_story.proofs.Tellings.{within}
 use Rattle.sdb_story.proofs.Answered.{commit_ends, one_more}
-
-clash : {A : Type 0} → true ≡ false → A
-clash e = absurd (cc)
-
-none_some : {A B : Type 0} (x : A) → ◌≡◌ {A = Option A} None (Some x) → B
-none_some x e = absurd (cc)
-
-some_is : {A : Type 0} (x y : A) → Some x ≡ Some y → x ≡ y
-some_is x y e = cc
+use Rattle.sdb_types.proofs.Basics.{clash, none_some, some_is}
 
 not_true : (b : Bool) → (b ≡ true → ⊥) → b ≡ false
 not_true true f = absurd (f refl)

@@ -10,16 +10,13 @@ use Rattle.sdb_model.specs.Transactions.{Said, begins, ends, said, from_begin, f
 use Rattle.std.specs.List.{AllByRecursion}
 use Rattle.sdb_turns.proofs.Lists.{each_more}
 use Rattle.sdb_story.specs.Story.{Finished, Rest, Closed, Opened, settle, saids_of, said_of, all_of, IsPlain, IsInside, IsFinished, IsRest, IsStory, MayCome, finished_at, commit_in}
+use Rattle.std.proofs.lemmas.List.{append-nil as no_more}
 
 ---- lists
 
 assoc : {A : Type 0} (xs ys zs : List A) → (xs ++ ys) ++ zs ≡ xs ++ (ys ++ zs)
 assoc [] ys zs = refl
 assoc (x ∷ xs) ys zs = ap (λ r. x ∷ r) (assoc xs ys zs)
-
-no_more : {A : Type 0} (xs : List A) → xs ++ [] ≡ xs
-no_more [] = refl
-no_more (x ∷ xs) = ap (λ r. x ∷ r) (no_more xs)
 
 saids_more : (fs : List Finished) (f : Finished) → saids_of (fs ++ f ∷ []) ≡ saids_of fs ++ (f.gap ++ f.begin ∷ (f.body ++ f.last ∷ []))
 saids_more [] f = refl

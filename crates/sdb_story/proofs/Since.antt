@@ -11,6 +11,7 @@ use Rattle.sdb_model.specs.Transactions.{Said, numbered}
 use Rattle.sdb_turns.proofs.Lists.{each_any}
 use Rattle.sdb_story.specs.Calls.{WasAnswered, call_made, calls_since}
 use Rattle.sdb_story.proofs.Tellings.{numbers_more}
+use Rattle.std.proofs.lemmas.List.{append-nil as no_more}
 
 -- one event more
 calls_more : (events : List Event) (c : ℕ) (e : Event) → calls_by (events ++ e ∷ []) c ≡ calls_by events c ++ call_made c (1 + length events) e
@@ -72,10 +73,6 @@ filter_same t u (x ∷ xs) h = ap (λ b. if b then x ∷ filter t xs else filter
 filter_none : (t : Made → Bool) (xs : List Made) → AllByRecursion (λ x. t x ≡ false) xs → filter t xs ≡ []
 filter_none t [] h = refl
 filter_none t (x ∷ xs) h = ap (λ b. if b then x ∷ filter t xs else filter t xs) h.0 ∙ filter_none t xs h.1
-
-no_more : {A : Type 0} (xs : List A) → xs ++ [] ≡ xs
-no_more [] = refl
-no_more (x ∷ xs) = ap (λ r. x ∷ r) (no_more xs)
 
 not_after : (n at : ℕ) → at ≤ n → nat_lt n at ≡ false
 not_after n at l = grind (arith, nat_tests)

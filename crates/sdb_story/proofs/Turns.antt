@@ -17,6 +17,7 @@ use Rattle.sdb_story.specs.Left.{Execution, BodyIsSaid}
 use Rattle.sdb_story.specs.BodyTexts.{BodySaid}
 use Rattle.sdb_story.specs.Telling.{Telling, StoryOk, TellsOn, AllStories, OthersStand, IsCounted, with_told}
 use Rattle.sdb_story.proofs.Tellings.{story_stays, others_apart, others_silent}
+use Rattle.std.proofs.lemmas.List.{append-nil as no_more}
 
 differ : (m n : ℕ) → m ≢ n → (m == n) ≡ false
 differ m n h = grind (arith, nat_tests)
@@ -73,10 +74,6 @@ filter_more (x ∷ ss) s = by (is_effective x) (filter_more ss s)
     by : (b : Bool) → filter is_effective (ss ++ s ∷ []) ≡ filter is_effective ss ++ (if is_effective s then s ∷ [] else []) → (if b then x ∷ filter is_effective (ss ++ s ∷ []) else filter is_effective (ss ++ s ∷ [])) ≡ (if b then x ∷ filter is_effective ss else filter is_effective ss) ++ (if is_effective s then s ∷ [] else [])
     by true ih = ap (λ r. x ∷ r) ih
     by false ih = ih
-
-no_more : {A : Type 0} (xs : List A) → xs ++ [] ≡ xs
-no_more [] = refl
-no_more (x ∷ xs) = ap (λ r. x ∷ r) (no_more xs)
 
 read_more : (ss : List Said) (body : List Statement) (s : Said) (statement : Statement) → AreRead ss body → Reads s.text statement → AreRead (ss ++ s ∷ []) (body ++ statement ∷ [])
 read_more [] [] s statement all here = (here, tt)

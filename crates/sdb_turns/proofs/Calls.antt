@@ -49,9 +49,7 @@ use Rattle.sdb_turns.proofs.Meta.{meta_of}
 use Rattle.sdb_turns.proofs.Rows.{rise_is, inside_each, rows_left, read_kept, recover_kept, image_after, left_later}
 use Rattle.sdb_turns.proofs.Lists.{each_any}
 use Rattle.sdb_turns.proofs.Seen.{seen_later}
-
-some_is : {A : Type 0} (x y : A) → Some x ≡ Some y → x ≡ y
-some_is x y e = cc
+use Rattle.sdb_types.proofs.Basics.{some_is}
 
 ---- parts of a recovery
 

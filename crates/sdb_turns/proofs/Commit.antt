@@ -38,12 +38,7 @@ use Rattle.sdb_turns.specs.System.{ClientAt, Committing, ClientOk, Has, sweeps, 
 use Rattle.sdb_turns.proofs.Own.{prepare_lawful, check_lawful, decide_lawful, abort_lawful, forward_lawful, back_lawful}
 use Rattle.sdb_turns.proofs.Kept.{prepare_kept, decide_kept, look_kept, abort_kept, again_kept, stop_kept, forward_kept, back_kept, passed_kept}
 use Rattle.sdb_turns.proofs.Clients.{BeginsNone, turned, moved}
-
-some_is : {A : Type 0} (x y : A) → Some x ≡ Some y → x ≡ y
-some_is x y e = cc
-
-some_none : {A B : Type 0} (x : A) → ◌≡◌ {A = Option A} None (Some x) → B
-some_none x e = absurd (cc)
+use Rattle.sdb_types.proofs.Basics.{none_some as some_none, some_is}
 
 ---- it may play its part
 

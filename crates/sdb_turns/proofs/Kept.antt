@@ -40,6 +40,7 @@ use Rattle.sdb_phases.specs.Commit.{Stage, Preparing, Checking, Deciding, Forwar
 use Rattle.sdb_phases.specs.CommitLaws.{as_wished, IsLost}
 use Rattle.sdb_turns.specs.System.{plays}
 use Rattle.sdb_turns.specs.Owner.{NoteAgrees, WorkOk, CommitOk, StageOk, ToldTo, AskedTo, UnaskedFrom, CheckedTo, AgreesTo, OverOk}
+use Rattle.sdb_types.proofs.Basics.{lt_of as less, some_is}
 
 pub by_test : (plan : ℕ → Plan) (past : List Played) (p : Work) (b : Bool) (x y : Stage) → (b ≡ true → StageOk plan past p x) → (b ≡ false → StageOk plan past p y) → StageOk plan past p (cond b x y)
 by_test plan past p true x y t f = t refl
@@ -64,9 +65,6 @@ asked_any h t k q word a = grind (arith, tests)
 
 asked_other : (h : Talk) (t : ℕ) (k q : Key) (word : Word) → q ≢ k → (heard h (Prepares t k word)).asked t q ≡ h.asked t q
 asked_other h t k q word n = grind (arith, tests)
-
-some_is : {A : Type 0} (a b : A) → Some a ≡ Some b → a ≡ b
-some_is a b e = cc
 
 -- i is the last, or before
 earlier : (i j : ℕ) → j < i + 1 → (j < i) ⊎ (j ≡ i)
@@ -164,9 +162,6 @@ RowIn past p row = IsShown past row × (row.key ≡ coordinator_key_of p.id)
 
 goes_forward : (plan : ℕ → Plan) (past : List Played) (p : Work) → AskedTo (talk past) p (length p.writes) → IsKnownCommitted plan past p.id.0 p.now → StageOk plan past p (forward p 0)
 goes_forward plan past p asked known = by_test plan past p (nat_lt 0 (length p.writes)) (Forward 0) (Over outcome.Committed) (λ t. (asked, known)) (λ f. known)
-
-less : (i n : ℕ) → nat_lt i n ≡ true → i < n
-less i n t = grind (arith, nat_tests)
 
 goes_back : (plan : ℕ → Plan) (past : List Played) (p : Work) (a : Outcome) (n : ℕ) → IsLost a → AskedTo (talk past) p n → IsKnownAborted past p.id.0 → StageOk plan past p (back a n 0)
 goes_back plan past p a n lost asked known = by_test plan past p (nat_lt 0 n) (Back a n 0) (Over a) (λ t. (asked, known, lost, less 0 n t)) (λ f. lost_over plan past p a lost (inl known))

@@ -11,14 +11,12 @@ use Rattle.sdb_laws.specs.History.{Role, Other, Begins, Takes, Prepares, Checks,
 use Rattle.sdb_laws.specs.Lawful.{Played, talk, ended, id, IsLawful, MayPlay, MayTake, MayPrepare, MayCheck, MayDecide, MayRoll, MayRollForward, MayRollBack, MayTell, IsUnchanged, IsPreparedThere, IsKnownCommitted, prepared_at}
 use Rattle.sdb_laws.proofs.Keys.{tests}
 use Rattle.sdb_turns.specs.System.{SamePlans}
+use Rattle.sdb_types.proofs.Basics.{clash}
 
 -- before its COMMIT is taken nothing is said of a transaction's calls
 pub record Unsaid (h : Talk) (t : ℕ) : Type 0 where
   pub asked : (k : Key) → h.taken t ≡ false → h.asked t k ≡ false
   pub won : h.taken t ≡ false → h.won t ≡ false
-
-clash : {A : Type 0} → true ≡ false → A
-clash e = absurd (cc)
 
 -- an event's part leaves it so, where its transaction was taken if it is one of a COMMIT
 abbrev IsAfter : Talk → Role → Type 0

@@ -42,6 +42,7 @@ use Rattle.sdb_turns.proofs.Kept.{row_later}
 use Rattle.sdb_turns.proofs.Lists.{each_any, each_both, each_drop, each_more, each_unmap}
 use Rattle.sdb_turns.proofs.Meta.{meta_of}
 use Rattle.sdb_turns.proofs.Reading.{IsImageOf, phase_kept, image_settled}
+use Rattle.sdb_types.proofs.Basics.{less_of}
 
 ---- what stays
 
@@ -63,11 +64,6 @@ pub left_later : (past : List Played) (q : Played) (left : List Record) → AllB
 left_later past q left all = each_any (IsLeft past) (IsLeft (q ∷ past)) left (λ x s. (inr s.0, s.1)) all
 
 ---- keys that rise
-
-less_of : (o : Ordering) → is_lt o ≡ true → o ≡ Less
-less_of Less h = refl
-less_of Equal h = cc
-less_of Greater h = cc
 
 -- all rows behind a key have greater ones
 behind : (k : Key) (rs : List Record) → starts_after k rs ≡ true → rise rs ≡ true → AllByRecursion (λ q. key_cmp k q ≡ Less) (keys_of rs)

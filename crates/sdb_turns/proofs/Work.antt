@@ -33,6 +33,7 @@ use Rattle.sdb_validate.proofs.Rescans.{first_lost}
 use Rattle.sdb_turns.specs.Owner.{plan_of, notes_of, checked_notes, own_notes, NoteAgrees, CheckTells, WorkOk, IsReading}
 use Rattle.sdb_turns.proofs.Lists.{each_at, each_append, each_map, each_filter, each_any}
 use Rattle.sdb_turns.specs.Noted.{Once, ReadAgrees, Sound}
+use Rattle.sdb_types.proofs.Basics.{none_some as some_apart}
 
 ---- keys, in either order
 
@@ -109,9 +110,6 @@ free_base p k h = by (find (λ (w : Write). same_key w.key k) p.writes) refl h
 -- a key that is not written has no base
 unwritten_base : (ws : List Write) (k : Key) → is_written ws k ≡ false → base_of ws k ≡ None
 unwritten_base ws k h = base_is ws k ∙ ap (option_map (λ (x : Write). version_of x.base)) (written_here ws k h)
-
-pub some_apart : {A B : Type 0} (x : A) → ◌≡◌ {A = Option A} None (Some x) → B
-some_apart x e = absurd (cc)
 
 -- and a key without one is not written
 no_base : (ws : List Write) (k : Key) → base_of ws k ≡ None → is_written ws k ≡ false

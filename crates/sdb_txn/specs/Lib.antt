@@ -1,3 +1,2 @@
-pub mod Commit
 pub mod Txn
-pub mod Held
+pub mod Inside

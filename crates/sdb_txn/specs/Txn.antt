@@ -1,183 +1,154 @@
--- A transaction as its callers see it.
-use Rattle.std.specs.Prelude.{◌≡◌, Bool, true, false, ◌==◌, if◌then◌else◌, List, [], ◌∷◌, ◌++◌, drop, length, Option, Some, None, is_some, IfSome}
-use Rattle.std.specs.List.{AllByRecursion}
-use Rattle.std.specs.Option.{option_and_then}
-use Rattle.std.specs.FinMap.{find}
-use Rattle.sdb_types.specs.declared.key.Key.{Key}
-use Rattle.sdb_types.specs.declared.pair.Pair.{Pair}
+-- A transaction, and where each reply leads it.
+use Rattle.std.specs.Prelude.{◌≡◌, ◌≢◌, ◌≤◌, ℤ, false, List, length, Option, Some, None, slice_get}
 use Rattle.sdb_types.specs.declared.txid.TxId.{TxId}
+use Rattle.sdb_types.specs.declared.key.Key.{Key}
 use Rattle.sdb_types.specs.declared.record.Record.{Record}
-use Rattle.sdb_types.specs.declared.record.Request.{Request}
-use Rattle.sdb_types.specs.declared.record.Request.TheVariants as ask
 use Rattle.sdb_types.specs.declared.record.Reply.{Reply}
-use Rattle.sdb_types.specs.declared.record.Reply.TheVariants as reply
-use Rattle.sdb_types.specs.Order.{key_cmp}
-use Rattle.sdb_record.specs.declared.access.Image.{Image}
-use Rattle.sdb_record.specs.declared.write.Write.{Write}
-use Rattle.sdb_record.specs.declared.write.Keyed.{Keyed}
-use Rattle.sdb_record.specs.Rolls.{IsBaseOf, IsWrite, row_of_image, row_of_change}
-use Rattle.sdb_txn.specs.Commit.{Noted, write_at}
-use Rattle.sdb_txn.specs.declared.txn.Stage.{Stage}
-use Rattle.sdb_txn.specs.declared.txn.Stage.TheVariants as stage
-use Rattle.sdb_txn.specs.declared.txn.Progress.{Progress}
-use Rattle.sdb_txn.specs.declared.txn.Progress.TheVariants as progress
+use Rattle.sdb_types.specs.declared.record.Request.{Request}
+use Rattle.sdb_types.specs.declared.record.Span.{Span}
+use Rattle.sdb_record.specs.declared.access.Access.{Access}
+use Rattle.sdb_record.specs.declared.access.Access.TheVariants as access
+use Rattle.sdb_phases.specs.declared.step.Outcome.{Outcome}
+use Rattle.sdb_phases.specs.declared.step.Outcome.TheVariants as outcome
+use Rattle.sdb_phases.specs.Work.{Work}
+use Rattle.sdb_phases.specs.Commit.{Over, after as commit_after, pending as commit_pending, preparing, step as commit_step}
+use Rattle.sdb_phases.specs.CommitLaws.{Played, exact_calls, most_calls, seen}
+use Rattle.sdb_commit.specs.Phases.{CommitAt, IsNext, ended_at}
+use Rattle.sdb_read.specs.declared.read.ReadStep.{ReadStep}
+use Rattle.sdb_read.specs.declared.read.ReadStep.TheVariants as step
+use Rattle.sdb_read.specs.Read.{ReadAt, ReadStage, Asking, read_pending, read_result, read_step, request_of}
+use Rattle.sdb_snapshot.specs.Noted.{IsFirstDifference, IsUnmoved, is_noted}
+use Rattle.sdb_snapshot.specs.Seen.{Seen, nothing, overlay, with_get, with_scan}
+use Rattle.sdb_txn.specs.declared.progress.Progress.{Progress}
+use Rattle.sdb_txn.specs.declared.progress.Progress.TheVariants as progress
+use Rattle.sdb_txn.specs.declared.txn.Doing.{Doing}
+use Rattle.sdb_txn.specs.declared.txn.Doing.TheVariants as doing
 
--- Its id, where it stands, what it has read and written, each in the order of first use, and the calls that are left of
--- what it does, the pending one first.
-pub record Working : Type 0 where
+-- what a transaction has read and written, and what it does
+pub record TxnAt : Type 0 where
   pub id : TxId
-  pub stage : Stage
-  pub reads : List Noted
-  pub writes : List Write
-  pub left : List Request
+  pub seen : Seen
+  pub doing : Doing
 
-abbrev pub begun : TxId → Working
-begun id = record { id = id; stage = stage.Open; reads = []; writes = []; left = [] }
+abbrev pub begun : TxId → TxnAt
+begun id = record { id = id; seen = nothing; doing = doing.Idle }
 
--- what was found at a key, where it was read
-abbrev pub found_at : List Noted → Key → Option (Option Record)
-found_at notes key = find key_cmp key notes
+abbrev pub pending_in : Doing → Option Request
+pending_in doing.Idle = None
+pending_in (doing.Read a r) = read_pending r
+pending_in (doing.Commit c) = commit_pending c.work c.stage
+pending_in doing.Over = None
 
-abbrev pub is_known : Working → Key → Bool
-is_known w key = is_some (found_at w.reads key)
+-- the call that is pending
+abbrev pub pending : TxnAt → Option Request
+pending t = pending_in t.doing
 
--- the record that was found at a key, none where it has none or was not read
-abbrev pub base_at : List Noted → Key → Option Record
-base_at notes key = option_and_then (λ found. found) (found_at notes key)
+---- a read
 
--- the row of a record that was found
-abbrev pub row_found : Option Record → Option (List Pair)
-row_found found = option_and_then row_of_image found
+-- a get of a key that was read makes no call
+abbrev pub IsUnread : Seen → Access → Type 0
+IsUnread s (access.Get key) = is_noted s.notes key ≡ false
+IsUnread s (access.Scan span) = Unit {0}
 
-abbrev pub row_with : Option Write → Option Record → Option (List Pair)
-row_with None found = row_found found
-row_with (Some w) found = row_of_change w.change
+-- the rows of an access are asked for
+abbrev pub reading : TxnAt → Access → TxnAt
+reading t a = record t { doing = doing.Read a (record { request = request_of a; stage = Asking }) }
 
--- the row that the transaction sees at a key: what it wrote there, or else the row of what it found
-abbrev pub row_seen : Working → Key → Option (List Pair)
-row_seen w key = row_with (write_at w.writes key) (base_at w.reads key)
+-- A read without a call shows the rows that the transaction sees there; it may be out of memory. It changes nothing.
+pub record IsShown (t : TxnAt) (a : Access) (p : Progress) (u : TxnAt) : Type 0 where
+  pub rows : p ≢ progress.NoMemory → p ≡ progress.Rows (overlay a t.seen)
+  pub same : u ≡ t
 
--- that row as an image
-abbrev pub images_with : Key → Option (List Pair) → List Image
-images_with key None = []
-images_with key (Some columns) = record { key = key; columns = columns } ∷ []
+-- A read that makes a call has it pending, or is out of memory and changes nothing.
+pub record IsBegun (t : TxnAt) (a : Access) (p : Progress) (u : TxnAt) : Type 0 where
+  pub more : p ≡ progress.More → u ≡ reading t a
+  pub memory : p ≢ progress.More → (p ≡ progress.NoMemory) × (u ≡ t)
 
-abbrev pub images_seen : Working → Key → List Image
-images_seen w key = images_with key (row_seen w key)
+-- nothing is done
+abbrev pub idle : TxnAt → TxnAt
+idle t = record t { doing = doing.Idle }
 
----- reading
+-- The images of a get of a key that was not read are noted, and the row that is seen then is shown.
+pub record KeyTold (t : TxnAt) (key : Key) (images : List Record) (p : Progress) (u : TxnAt) : Type 0 where
+  pub unread : is_noted t.seen.notes key ≡ false
+  pub noted : u ≡ record (idle t) { seen = with_get t.seen key (slice_get images 0) }
+  pub rows : p ≡ progress.Rows (overlay (access.Get key) u.seen)
 
-abbrev pub asking : Working → Key → Working
-asking w key = record w { stage = stage.Reading; left = ask.Get key ∷ [] }
+-- The images of a scan are noted where no key that was read differs, and the rows that are seen then are shown; the first key
+-- that differs ends the transaction.
+abbrev pub SpanTold : TxnAt → Span → List Record → Progress → TxnAt → Type 0
+SpanTold t span images (progress.Rows rows) u = IsUnmoved t.seen.notes span images × (u ≡ record (idle t) { seen = with_scan t.seen span images }) × (rows ≡ overlay (access.Scan span) u.seen)
+SpanTold t span images (progress.Conflict key found) u = IsFirstDifference t.seen.notes span images key found × (u ≡ record t { doing = doing.Over })
+SpanTold t span images p u = ⊥
 
--- the row that is seen at a key, where it was read
-abbrev pub images_known : Working → Key → Option (List Image)
-images_known w key = if is_known w key then Some (images_seen w key) else None
+abbrev pub ImagesTold : TxnAt → Access → List Record → Progress → TxnAt → Type 0
+ImagesTold t (access.Get key) images p u = KeyTold t key images p u
+ImagesTold t (access.Scan span) images p u = SpanTold t span images p u
 
-abbrev pub got_of : Option (List Image) → Progress
-got_of None = progress.More
-got_of (Some images) = progress.Rows images
+-- what the end of a read is told as
+abbrev pub EndTold : TxnAt → Access → ReadStep → Progress → TxnAt → Type 0
+EndTold t a (step.Images images) p u = ImagesTold t a images p u
+EndTold t a (step.Busy key id at) p u = (p ≡ progress.Busy key id at) × (u ≡ idle t)
+EndTold t a step.Faulted p u = (p ≡ progress.Faulted) × (u ≡ idle t)
+EndTold t a (step.BadRecord key) p u = (p ≡ progress.BadRecord key) × (u ≡ idle t)
+EndTold t a s p u = ⊥
 
--- A key that was read is answered at once, and another one by a call.
-abbrev pub got : Working → Key → Progress
-got w key = got_of (images_known w key)
+-- What the step of a read is told as, where its reply leads to a stage.
+abbrev pub StepTold : TxnAt → Access → ReadAt → ReadStage → ReadStep → Progress → TxnAt → Type 0
+StepTold t a x next step.More p u = (p ≡ progress.More) × (u ≡ record t { doing = doing.Read a (record x { stage = next }) })
+StepTold t a x next s p u = EndTold t a s p u
 
-abbrev pub got_after : Working → Key → Working
-got_after w key = if is_known w key then w else asking w key
+-- A reply leads a read where the definition of a read says; or it is out of memory, and has noted nothing.
+pub record ReadTold (t : TxnAt) (a : Access) (x : ReadAt) (r : Reply) (now : ℤ) (p : Progress) (u : TxnAt) : Type 0 where
+  pub memory : p ≡ progress.NoMemory → u ≡ idle t
+  pub told : p ≢ progress.NoMemory → StepTold t a x (read_step x.stage now r) (read_result (read_step x.stage now r)) p u
 
--- with what was found at a key that had not been read
-abbrev pub noted : Working → Key → Option Record → Working
-noted w key found = record w { stage = stage.Open; reads = w.reads ++ (key, found) ∷ []; left = [] }
+---- a COMMIT
 
----- writing
+abbrev pub work_of : TxnAt → ℤ → Work
+work_of t now = record { id = t.id; now = now; writes = t.seen.writes; reads = t.seen.reads; scans = t.seen.scans }
 
--- a write of a key that was read
-abbrev pub write_of : List Noted → Keyed → Write
-write_of notes change = record { key = change.key; base = base_at notes change.key; change = change.change }
+-- the COMMIT is taken
+abbrev pub committing : TxnAt → ℤ → TxnAt
+committing t now = record { id = t.id; seen = nothing; doing = doing.Commit (record { work = work_of t now; stage = preparing (work_of t now) 0 }) }
 
-abbrev pub written : Working → Keyed → Working
-written w change = record w { writes = w.writes ++ write_of w.reads change ∷ [] }
+-- The calls of a COMMIT, whatever each is replied: two for each write, one for each extra read and one for the deciding put, where it is
+-- answered Committed and no call faulted; and at most three more else.
+pub record AreCallsCounted (p : Work) : Type 0 where
+  pub exact : (past : List Reply) → Played p past → commit_after p past ≡ Over outcome.Committed → (seen p past).faulted ≡ false → length past ≡ exact_calls p
+  pub most : (past : List Reply) → Played p past → length past ≤ most_calls p
 
-abbrev pub AreWrites : List Write → Type 0
-AreWrites ws = AllByRecursion IsWrite ws
+abbrev pub progress_of : Option Outcome → Progress
+progress_of None = progress.More
+progress_of (Some outcome.Committed) = progress.Committed
+progress_of (Some (outcome.Conflict key found)) = progress.Conflict key found
+progress_of (Some (outcome.Expired id)) = progress.Expired id
+progress_of (Some outcome.Faulted) = progress.Faulted
+progress_of (Some (outcome.Unknown id)) = progress.Unknown id
+progress_of (Some (outcome.BadRecord key)) = progress.BadRecord key
+progress_of (Some outcome.NoMemory) = progress.NoMemory
 
----- replies
+---- by what a transaction does
 
--- whether a call is pending
-abbrev pub is_calling : Stage → Bool
-is_calling stage.Open = false
-is_calling stage.Reading = true
-is_calling stage.Committing = true
-is_calling stage.Ended = false
+abbrev pub IfReading : Doing → (Access → ReadAt → Type 0) → Type 0
+IfReading (doing.Read a x) P = P a x
+IfReading d P = Unit {0}
 
--- A read finds no record, or a committed one of its key.
-abbrev pub IsFoundAt : Key → Reply → Type 0
-IsFoundAt key (reply.Found found) = IfSome found (IsBaseOf key)
-IsFoundAt key _ = ⊥
+abbrev pub IsReading : Doing → Type 0
+IsReading (doing.Read a x) = Unit {0}
+IsReading d = ⊥
 
-abbrev pub IsGot : Stage → List Noted → Key → Reply → Type 0
-IsGot stage.Reading notes key r = (is_some (found_at notes key) ≡ false) × IsFoundAt key r
-IsGot _ notes key r = r ≡ reply.Found (base_at notes key)
+abbrev pub IfCommitting : Doing → (CommitAt → Type 0) → Type 0
+IfCommitting (doing.Commit c) P = P c
+IfCommitting d P = Unit {0}
 
-abbrev pub IsPut : Stage → Reply → Type 0
-IsPut stage.Reading r = ⊥
-IsPut _ r = r ≡ reply.Applied
+abbrev pub IsCommitting : Doing → (CommitAt → Type 0) → Type 0
+IsCommitting (doing.Commit c) P = P c
+IsCommitting d P = ⊥
 
-abbrev pub IsWishedOf : Stage → List Noted → List Request → Reply → Type 0
-IsWishedOf s notes [] r = ⊥
-IsWishedOf s notes (ask.Get key ∷ left) r = IsGot s notes key r
-IsWishedOf s notes (ask.Scan span ∷ left) r = ⊥
-IsWishedOf s notes (ask.PutIf rec condition ∷ left) r = IsPut s r
-IsWishedOf s notes (ask.DeleteIf key condition ∷ left) r = IsPut s r
-
--- The reply is one that lets a transaction go on: a read is of a key that was not read, and finds no record or a committed
--- one; an extra read finds what was read; and a put is applied.
-abbrev pub IsWished : Working → Reply → Type 0
-IsWished w r = IsWishedOf w.stage w.reads w.left r
-
--- whether a read is pending
-abbrev pub is_get : List Request → Bool
-is_get (ask.Get key ∷ left) = true
-is_get _ = false
-
--- what is left behind the pending call
-abbrev pub tail_of : List Request → List Request
-tail_of left = drop 1 left
-
-abbrev pub found_in : Reply → Option Record
-found_in (reply.Found found) = found
-found_in _ = None
-
-abbrev pub images_found : List Write → List Request → Reply → List Image
-images_found ws (ask.Get key ∷ left) r = images_with key (row_with (write_at ws key) (found_in r))
-images_found ws _ r = []
-
-abbrev pub noted_by : Working → List Request → Reply → Working
-noted_by w (ask.Get key ∷ left) r = noted w key (found_in r)
-noted_by w _ r = w
-
-abbrev pub at_commit : List Request → Progress
-at_commit left = if length left == 0 then progress.Committed else progress.More
-
-abbrev pub progress_at : Stage → List Write → List Request → Reply → Progress
-progress_at stage.Reading ws left r = progress.Rows (images_found ws left r)
-progress_at _ ws left r = at_commit (tail_of left)
-
--- What a wished reply gives: a read gives the row that is seen at its key; a COMMIT goes on with its next call, and behind
--- the last has committed.
-abbrev pub progress_of : Working → Reply → Progress
-progress_of w r = progress_at w.stage w.writes w.left r
-
-abbrev pub committing : List Request → Stage
-committing left = if length left == 0 then stage.Ended else stage.Committing
-
-abbrev pub gone_on : Working → Working
-gone_on w = record w { stage = committing (tail_of w.left); left = tail_of w.left }
-
-abbrev pub advanced_at : Stage → Working → Reply → Working
-advanced_at stage.Reading w r = noted_by w w.left r
-advanced_at _ w r = gone_on w
-
--- What it leaves: a read is noted, and a COMMIT has one call less before it.
-abbrev pub advanced : Working → Reply → Working
-advanced w r = advanced_at w.stage w r
+-- A reply leads a COMMIT where the definition of a COMMIT says, and its answer ends the transaction, which keeps its id.
+pub record CommitTold (t : TxnAt) (c : CommitAt) (r : Reply) (p : Progress) (u : TxnAt) : Type 0 where
+  pub answer : p ≡ progress_of (ended_at (commit_step c.work c.stage r))
+  pub next : p ≡ progress.More → IsCommitting u.doing (λ d. (d.work ≡ c.work) × IsNext c.work c.stage r d.stage)
+  pub over : p ≢ progress.More → u.doing ≡ doing.Over
+  pub same : u.id ≡ t.id

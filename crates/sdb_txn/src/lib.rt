@@ -1,10 +1,9 @@
-//! One transaction: its reads, its writes and its COMMIT.
+//! One transaction: what it reads and writes, what it asks of the stores for that and for its COMMIT, and what the replies come to.
 #![tactic(auto)]
 
-mod requests;
-mod row;
+mod progress;
 mod txn;
 
-pub use requests::Requests;
-pub use row::row_of;
-pub use txn::{Progress, Stage, Txn, is_committed};
+pub use progress::Progress;
+pub use sdb_record::Access;
+pub use txn::Txn;

@@ -1,78 +1,92 @@
-//! A transaction, step by step: what it asks of the stores, and what becomes of the replies.
-ghost use Rattle.std.specs.Prelude.{◌≡◌, ◌≢◌, ◌+◌, ◌*◌, ◌<◌, ◌⊎◌, ◌↔◌, ◌&&◌, [], ◌∷◌, length, drop, true, false, OnOk, OnErr, IfOk, IfSome, Some, None, Option};
+//! A transaction.
+ghost use Rattle.std.specs.Prelude.{◌≡◌, ◌≢◌, ◌≤◌, ◌<◌, OnOk, OnErr, IsSome, Err, length, slice_get, take, true, false};
 ghost use Rattle.std.specs.Option.{option_copied};
-ghost use Rattle.std.specs.List.{slice_get};
-ghost use Rattle.sdb_record.specs.Rolls.{is_change, IsWrite, IsBaseOf};
-ghost use Rattle.sdb_txn.specs.Commit.{commit_requests, only_read, write_at};
-ghost use Rattle.sdb_types.specs.declared.record.Request.TheVariants.{Get};
-ghost use Rattle.sdb_record.specs.Meta.{is_taken, is_in};
-ghost use Rattle.sdb_types.specs.declared.record.State.TheVariants.{Committed};
-ghost use Rattle.sdb_txn.specs.Txn.{IsGot, is_get, tail_of, images_with as images_of, row_with, images_found, noted_by, at_commit, gone_on, found_in as found_in_lem};
-ghost use Rattle.sdb_txn.specs.Txn.{Working, begun, is_known, images_known, got, got_after, base_at, noted, written, asking, found_at, IsWished, is_calling, progress_of, advanced};
+ghost use Rattle.sdb_record.specs.declared.access.Access.TheVariants as access;
+ghost use Rattle.sdb_phases.specs.CommitLaws.{IsWork};
+ghost use Rattle.sdb_phases.specs.Steps.{CanGet};
+ghost use Rattle.sdb_read.specs.Read.{read_result, read_step};
+ghost use Rattle.sdb_snapshot.specs.Noted.{is_noted};
+ghost use Rattle.sdb_snapshot.specs.Written.{AreChanges, most_writes};
+ghost use Rattle.sdb_snapshot.specs.Held.{AreKept};
+ghost use Rattle.sdb_snapshot.specs.Seen.{forgotten, is_scanned, mark_of, overlay, with_written};
+ghost use Rattle.sdb_snapshot.specs.declared.drafts.WriteRefused.TheVariants as refused;
+ghost use Rattle.sdb_txn.specs.Txn.{AreCallsCounted, CommitTold, EndTold, IfCommitting, IsCommitting, IsReading, IfReading, ImagesTold, IsBegun, IsShown, IsUnread, KeyTold, ReadTold, SpanTold, begun, committing, idle, pending, pending_in, reading, work_of};
+ghost use Rattle.sdb_txn.specs.Inside.{CanEnd, CanNote, IsReadOf};
 
-use crate::requests::{Drafts, Notes, Requests, commit_asks};
-use crate::row::{images_with, row_of_change, row_of_found};
-use sdb_record::{Images, Keyed, Write, meta_of};
-use sdb_types::{Columns, Duplicate, Key, NoMemory, Record, Reply, Request, TxId, same};
+use crate::progress::{Progress, told};
+use sdb_commit::CommitPhases;
+use sdb_read::{ReadPhases, ReadStep};
+use sdb_record::{Access, Changes};
+use sdb_snapshot::{Mark, NoteRefused, Snapshot, WriteRefused};
+use sdb_types::{Duplicate, Key, Record, Records, Reply, Request, Span, TxId};
 use std::alloc::Global;
 use std::marker::Model;
+use std::mem;
 
-/// Where a transaction stands.
-#[derive(Clone, Copy, Debug, PartialEq, Eq)]
-pub enum Stage {
-    /// It can be given a statement.
-    Open,
-    /// A read has a call pending.
-    Reading,
-    /// Its COMMIT has a call pending.
-    Committing,
-    Ended,
+/// What a transaction does: nothing, a read, or its COMMIT; or it has ended.
+#[derive(Drop)]
+pub enum Doing {
+    Idle,
+    Read(Access, ReadPhases),
+    Commit(CommitPhases),
+    Over,
 }
 
-/// What became of a step.
-#[derive(Debug, Drop, PartialEq, Eq)]
-pub enum Progress {
-    /// A call is pending.
-    More,
-    /// The row that a read found or knew, or none.
-    Rows(Images),
-    Committed,
-    NoMemory,
-}
-
-/// One transaction.
+/// A transaction, from its BEGIN to its end.
 pub struct Txn {
+    alloc: Global,
     id: TxId,
-    stage: Stage,
-    notes: Notes,
-    drafts: Drafts,
-    asks: Requests,
-    at: usize,
-}
-
-impl Model for Txn {
-    ghost use Rattle.std.specs.Prelude.{◌≡◌, ◌≤◌, true, drop, length};
-    ghost use Rattle.sdb_txn.specs.Txn.{Working, AreWrites};
-    ghost use Rattle.sdb_txn.specs.Held.{writes_in, AreKeyed, AreBases};
-
-    ghost Value = { Working };
-
-    ghost view = { λ t. record { id = t.id; stage = t.stage; reads = t.notes; writes = writes_in t.drafts; left = drop t.at t.asks } };
-
-    ghost invariant = { λ t. AreBases t.notes × AreKeyed t.drafts × AreWrites (writes_in t.drafts) × (t.at ≤ length t.asks) };
+    snapshot: Snapshot,
+    doing: Doing,
 }
 
 // By hand: each drop is then one call, where a derived one stands at each place with a call for each field.
 impl Drop for Txn {
     fn drop(self) {
         let Txn {
+            alloc: _,
             id: _,
-            stage: _,
-            notes: _,
-            drafts: _,
-            asks: _,
-            at: _,
+            snapshot: _,
+            doing: _,
         } = self;
+    }
+}
+
+impl Model for Txn {
+    ghost use Rattle.sdb_txn.specs.Txn.{TxnAt};
+    ghost use Rattle.sdb_txn.specs.Inside.{IsTxn};
+
+    ghost Value = { TxnAt };
+
+    ghost view = { λ t. record { id = t.id; seen = t.snapshot; doing = t.doing } };
+
+    ghost invariant = { λ t. IsTxn t.doing t.snapshot };
+}
+
+// The first of some records.
+fn first(images: Records) -> Option<Record>
+    ensures { result ≡ slice_get images 0 }
+{
+    let mut rows = images.into_vec();
+    if rows.is_empty() {
+        None
+    } else {
+        Some(rows.swap_remove(0))
+    }
+}
+
+// Hands the reply to the read that is under way.
+fn read_on(doing: &mut Doing, reply: Reply, now: i64) -> ReadStep
+    requires at { IsReading doing.old }
+    requires pending { IsSome (pending_in doing.old) }
+    requires reply { CanGet (pending_in doing.old) reply }
+    ensures step { IfReading doing.old (λ a x. result ≢ ReadStep.NoMemory → result ≡ read_result (read_step x.stage now reply)) }
+    ensures after { IfReading doing.old (λ a x. result ≡ ReadStep.More → doing.new ≡ Doing.Read a (record x { stage = read_step x.stage now reply })) }
+    ensures same { IfReading doing.old (λ a x. IsReadOf a doing.new) }
+{
+    match doing {
+        Doing::Read(_, read) => read.take(reply, now),
+        _ => ReadStep::NoMemory,
     }
 }
 
@@ -82,12 +96,10 @@ impl Txn {
         ensures { result ≡ begun id }
     {
         Txn {
+            alloc,
             id,
-            stage: Stage::Open,
-            notes: Notes::new(alloc),
-            drafts: Drafts::new(alloc),
-            asks: Requests::new(alloc),
-            at: 0,
+            snapshot: Snapshot::new(alloc),
+            doing: Doing::Idle,
         }
     }
 
@@ -97,300 +109,275 @@ impl Txn {
         self.id
     }
 
-    /// How many keys it has written.
-    pub fn write_count(&self) -> usize
-        ensures { result ≡ length self.now.writes }
+    /// Whether it may read, write and commit: no call is pending, and it hasn't ended. Takes no memory.
+    pub fn is_idle(&self) -> bool
+        ensures idle { result ≡ true → self.now.doing ≡ Doing.Idle }
+        ensures busy { result ≡ false → self.now.doing ≢ Doing.Idle }
     {
-        self.drafts.len()
+        matches!(self.doing, Doing::Idle)
     }
 
-    /// The call that is pending, if one is. Takes no memory.
+    /// Whether a key was read: by a get, or as a row of a scan. Takes no memory.
+    pub fn has_read(&self, key: &Key) -> bool
+        ensures { result ≡ is_noted self.now.seen.notes key.now }
+    {
+        self.snapshot.lookup(key).is_some()
+    }
+
+    /// The call that is pending; none where nothing is done. Takes no memory.
     pub fn pending(&self) -> Option<&Request>
-        ensures { option_copied result ≡ slice_get self.now.left 0 }
+        ensures { option_copied result ≡ pending self.now }
     {
-        self.asks.at(self.at)
-    }
-
-    // The row that is seen at a key where this was found.
-    fn row_at(
-        &self,
-        alloc: Global,
-        key: &Key,
-        found: &Option<Record>,
-    ) -> Result<Option<Columns>, NoMemory>
-        ensures { IfOk result (λ row. row ≡ row_with (write_at self.now.writes key.now) found.now) }
-    {
-        match self.drafts.get(key) {
-            Some(write) => row_of_change(&write.change),
-            None => row_of_found(alloc, found),
+        match &self.doing {
+            Doing::Read(_, read) => read.request(),
+            Doing::Commit(commit) => commit.request(),
+            Doing::Idle | Doing::Over => None,
         }
     }
 
-    // The row that is seen at a key, where it was read.
-    fn known(&self, alloc: Global, key: &Key) -> Result<Option<Images>, NoMemory>
-        ensures { IfOk result (λ images. images ≡ images_known self.now key.now) }
+    // Begins a read that makes a call.
+    fn read(&mut self, access: Access) -> Progress
+        requires idle { self.old.doing ≡ Doing.Idle }
+        requires unread { IsUnread self.old.seen access }
+        ensures more { result ≡ Progress.More → self.new ≡ reading self.old access }
+        ensures memory { result ≢ Progress.More → (result ≡ Progress.NoMemory) × (self.new ≡ self.old) }
     {
-        match self.notes.get(key) {
-            Some(found) => {
-                let row = self.row_at(alloc, key, found)?;
-                Ok(Some(images_with(alloc, key, row)?))
-            }
-            None => Ok(None),
-        }
-    }
-
-    // Begins to read a key.
-    fn ask(&mut self, alloc: Global, key: Key) -> Result<(), NoMemory>
-        ensures ok { OnOk result (self.new ≡ asking self.old key) }
-        ensures err { OnErr result (self.new ≡ self.old) }
-    {
-        let mut asks = Requests::new(alloc);
-        asks.push(Request::Get(key))?;
-        self.asks = asks;
-        self.at = 0;
-        self.stage = Stage::Reading;
-        Ok(())
-    }
-
-    /// Reads a key. One that was read is answered at once, with what the transaction wrote there or found; another one
-    /// by a call.
-    pub fn get(&mut self, alloc: Global, key: Key) -> Progress
-        requires { self.old.stage ≡ Stage.Open }
-        ensures told { result ≢ Progress.NoMemory → result ≡ got self.old key }
-        ensures after { result ≢ Progress.NoMemory → self.new ≡ got_after self.old key }
-        ensures starved { result ≡ Progress.NoMemory → self.new ≡ self.old }
-    {
-        match self.known(alloc, &key) {
-            Ok(Some(images)) => Progress::Rows(images),
-            Ok(None) => match self.ask(alloc, key) {
-                Ok(()) => Progress::More,
-                Err(NoMemory) => Progress::NoMemory,
-            },
-            Err(NoMemory) => Progress::NoMemory,
-        }
-    }
-
-    // What was found at a key.
-    fn base(&self, key: &Key) -> Result<Option<Record>, NoMemory>
-        ensures { IfOk result (λ base. base ≡ base_at self.now.reads key.now) }
-    {
-        match self.notes.get(key) {
-            Some(found) => found.copy(),
-            None => Ok(None),
-        }
-    }
-
-    /// Writes a key that was not written yet. What was found there is the base, none where it was not read.
-    pub fn write(&mut self, change: Keyed) -> Result<(), NoMemory>
-        requires open { self.old.stage ≡ Stage.Open }
-        requires change { is_change change.change ≡ true }
-        requires new { write_at self.old.writes change.key ≡ None }
-        ensures ok { OnOk result (self.new ≡ written self.old change) }
-        ensures err { OnErr result (self.new ≡ self.old) }
-    {
-        let base = self.base(&change.key)?;
-        let place = change.key.copy()?;
-        let (key, change) = change.into_parts();
-        self.drafts.put(place, Write { key, base, change })?;
-        Ok(())
-    }
-
-    /// Takes the COMMIT, at this moment: it makes two calls for each write, one for each key that was only read, and one
-    /// more. Want of memory ends the transaction before any call.
-    pub fn commit(&mut self, alloc: Global, now: i64) -> Progress
-        requires { self.old.stage ≡ Stage.Open }
-        ensures more { result ≡ Progress.More → self.new ≡ record self.old { stage = Stage.Committing; left = commit_requests self.old.id now self.old.reads self.old.writes } }
-        ensures calls { result ≡ Progress.More → length self.new.left ≡ 2 * length self.old.writes + length (only_read self.old.reads self.old.writes) + 1 }
-        ensures starved { result ≡ Progress.NoMemory → self.new ≡ record self.old { stage = Stage.Ended } }
-        ensures kinds { (result ≡ Progress.More) ⊎ (result ≡ Progress.NoMemory) }
-    {
-        match commit_asks(alloc, &self.notes, &self.drafts, self.id, now) {
-            Ok(asks) => {
-                self.asks = asks;
-                self.at = 0;
-                self.stage = Stage::Committing;
+        match ReadPhases::new(self.alloc, &access) {
+            Ok(read) => {
+                self.doing = Doing::Read(access, read);
                 Progress::More
             }
-            Err(NoMemory) => {
-                self.stage = Stage::Ended;
+            Err(_) => Progress::NoMemory,
+        }
+    }
+
+    /// Reads a key: its row at once where it was read or written, and else by a call.
+    pub fn get(&mut self, key: Key) -> Progress
+        requires idle { self.old.doing ≡ Doing.Idle }
+        ensures known { is_noted self.old.seen.notes key ≡ true → IsShown self.old (access.Get key) result self.new }
+        ensures unknown { is_noted self.old.seen.notes key ≡ false → IsBegun self.old (access.Get key) result self.new }
+    {
+        if self.snapshot.lookup(&key).is_none() {
+            return self.read(Access::Get(key));
+        }
+        match self.snapshot.overlay_key(&key) {
+            Ok(rows) => Progress::Rows(rows),
+            Err(_) => Progress::NoMemory,
+        }
+    }
+
+    /// Reads a span: its rows at once where it was scanned, and else by a call.
+    pub fn scan(&mut self, span: Span) -> Progress
+        requires idle { self.old.doing ≡ Doing.Idle }
+        ensures known { is_scanned self.old.seen.scans span ≡ true → IsShown self.old (access.Scan span) result self.new }
+        ensures unknown { is_scanned self.old.seen.scans span ≡ false → IsBegun self.old (access.Scan span) result self.new }
+    {
+        if !self.snapshot.scanned(&span) {
+            return self.read(Access::Scan(span));
+        }
+        match self.snapshot.overlay_span(&span) {
+            Ok(rows) => Progress::Rows(rows),
+            Err(_) => Progress::NoMemory,
+        }
+    }
+
+    /// Writes changes of keys that were read, in order: all or, where they are refused, none.
+    pub fn write(&mut self, changes: Changes) -> Result<(), WriteRefused>
+        requires idle { self.old.doing ≡ Doing.Idle }
+        requires read { AreChanges self.old.seen.notes changes }
+        ensures ok { OnOk result (self.new ≡ record self.old { seen = with_written self.old.seen changes }) }
+        ensures fits { OnOk result (length (with_written self.old.seen changes).writes ≤ most_writes) }
+        ensures many { result ≡ Err refused.TooManyWrites → most_writes < length (with_written self.old.seen changes).writes }
+        ensures err { OnErr result (self.new ≡ self.old) }
+    {
+        self.snapshot.write(changes)
+    }
+
+    /// How much it has read now. Takes no memory.
+    pub fn mark(&self) -> Mark
+        ensures mark { result ≡ mark_of self.now.seen }
+        ensures kept { AreKept self.now.seen.notes self.now.seen.writes }
+    {
+        self.snapshot.mark()
+    }
+
+    /// Forgets what was read after a mark, of which nothing was written. Takes no memory.
+    pub fn forget(&mut self, mark: Mark)
+        requires idle { self.old.doing ≡ Doing.Idle }
+        requires kept { AreKept (take mark.notes self.old.seen.notes) self.old.seen.writes }
+        ensures { self.new ≡ record self.old { seen = forgotten mark self.old.seen } }
+    {
+        self.snapshot.forget(mark);
+    }
+
+    /// Takes the COMMIT, at a moment from 0 to 2^53. All requests that it may make are made now: where that is out of memory the
+    /// transaction ends before any call.
+    #[tactic(auto, using(crate::proofs::Counts::counted))]
+    pub fn commit(&mut self, now: i64) -> Progress
+        requires idle { self.old.doing ≡ Doing.Idle }
+        ensures more { result ≡ Progress.More → self.new ≡ committing self.old now }
+        ensures counted { IsWork (work_of self.old now) → AreCallsCounted (work_of self.old now) }
+        ensures memory { result ≢ Progress.More → (result ≡ Progress.NoMemory) × (self.new.doing ≡ Doing.Over) }
+        ensures same { self.new.id ≡ self.old.id }
+    {
+        let snapshot = mem::replace(&mut self.snapshot, Snapshot::new(self.alloc));
+        let (writes, reads, scans) = snapshot.into_parts();
+        match CommitPhases::new(self.alloc, self.id, now, writes, reads, scans) {
+            Ok(commit) => {
+                self.doing = Doing::Commit(commit);
+                Progress::More
+            }
+            Err(_) => {
+                self.doing = Doing::Over;
                 Progress::NoMemory
             }
         }
     }
 
-    // Whether a key was read.
-    fn has_read(&self, key: &Key) -> bool
-        ensures { result ≡ is_known self.now key.now }
-    {
-        self.notes.get(key).is_some()
-    }
+    /// Ends the transaction without a call.
+    pub fn rollback(self) {}
 
-    // Whether this is what was found at a key.
-    fn is_noted(&self, key: &Key, found: &Option<Record>) -> bool
-        ensures { (result ≡ true) ↔ (found.now ≡ base_at self.now.reads key.now) }
+    /// Takes the reply to the pending call, at a moment from 0 to 2^53. A read may be out of memory at any call, and has then noted
+    /// nothing; a COMMIT only as its phases say.
+    pub fn advance(&mut self, reply: Reply, now: i64) -> Progress
+        requires pending { IsSome (pending self.old) }
+        requires reply { CanGet (pending self.old) reply }
+        ensures read { IfReading self.old.doing (λ a x. ReadTold self.old a x reply now result self.new) }
+        ensures commit { IfCommitting self.old.doing (λ c. CommitTold self.old c reply result self.new) }
     {
-        match self.notes.get(key) {
-            Some(noted) => same(found, noted),
-            None => found.is_none(),
+        match &self.doing {
+            Doing::Read(_, _) => self.read_took(reply, now),
+            Doing::Commit(_) => self.commit_took(reply),
+            Doing::Idle | Doing::Over => Progress::NoMemory,
         }
     }
 
-    // Whether a read wishes for a reply: its key was not read, and the record that was found, if one was, is committed.
-    fn reads(&self, alloc: Global, key: &Key, reply: &Reply) -> bool
-        ensures { (result ≡ true) ↔ IsGot Stage.Reading self.now.reads key.now reply.now }
+    // Takes the reply to a call of a read.
+    fn read_took(&mut self, reply: Reply, now: i64) -> Progress
+        requires at { IsReading self.old.doing }
+        requires pending { IsSome (pending self.old) }
+        requires reply { CanGet (pending self.old) reply }
+        ensures { IfReading self.old.doing (λ a x. ReadTold self.old a x reply now result self.new) }
     {
-        match reply {
-            Reply::Found(found) => !self.has_read(key) && is_readable(alloc, key, found),
-            _ => false,
+        let step = read_on(&mut self.doing, reply, now);
+        if step == ReadStep::More {
+            return Progress::More;
+        }
+        match mem::replace(&mut self.doing, Doing::Idle) {
+            Doing::Read(access, _) => self.read_ended(&access, step),
+            _ => Progress::NoMemory,
         }
     }
 
-    // Whether an extra read found what was read.
-    fn reads_again(&self, key: &Key, reply: &Reply) -> bool
-        ensures { (result ≡ true) ↔ (reply.now ≡ Reply.Found (base_at self.now.reads key.now)) }
+    // A read has ended.
+    fn read_ended(&mut self, access: &Access, step: ReadStep) -> Progress
+        requires idle { self.old.doing ≡ Doing.Idle }
+        requires fine { CanEnd self.old.seen access.now step }
+        ensures memory { result ≡ Progress.NoMemory → self.new ≡ self.old }
+        ensures told { result ≢ Progress.NoMemory → EndTold self.old access.now step result self.new }
     {
-        match reply {
-            Reply::Found(found) => self.is_noted(key, found),
-            _ => false,
+        match step {
+            ReadStep::Images(images) => self.note(access, images),
+            ReadStep::Busy(key, id, at) => Progress::Busy(key, id, at),
+            ReadStep::Faulted => Progress::Faulted,
+            ReadStep::BadRecord(key) => Progress::BadRecord(key),
+            ReadStep::More | ReadStep::NoMemory => Progress::NoMemory,
         }
     }
 
-    /// Whether the reply to the pending call is one that lets the transaction go on.
-    pub fn wishes(&self, alloc: Global, reply: &Reply) -> bool
-        requires { is_calling self.now.stage ≡ true }
-        ensures { (result ≡ true) ↔ IsWished self.now reply.now }
+    // Takes the reply to a call of a COMMIT.
+    fn commit_took(&mut self, reply: Reply) -> Progress
+        requires at { IsCommitting self.old.doing (λ c. Unit {0}) }
+        requires pending { IsSome (pending self.old) }
+        requires reply { CanGet (pending self.old) reply }
+        ensures { IfCommitting self.old.doing (λ c. CommitTold self.old c reply result self.new) }
     {
-        match (self.pending(), self.stage) {
-            (Some(Request::Get(key)), Stage::Reading) => self.reads(alloc, key, reply),
-            (Some(Request::Get(key)), _) => self.reads_again(key, reply),
-            (Some(Request::PutIf(_, _)), Stage::Committing) => is_applied(reply),
-            (Some(Request::DeleteIf(_, _)), Stage::Committing) => is_applied(reply),
-            _ => false,
+        let answer = match &mut self.doing {
+            Doing::Commit(commit) => commit.take(reply),
+            _ => None,
+        };
+        if answer.is_some() {
+            self.doing = Doing::Over;
+        }
+        told(answer)
+    }
+
+    // Shows the rows that are seen where a read was noted, or forgets what was noted after the mark.
+    fn show(&mut self, access: &Access, mark: Mark) -> Progress
+        requires idle { self.old.doing ≡ Doing.Idle }
+        requires kept { AreKept (take mark.notes self.old.seen.notes) self.old.seen.writes }
+        ensures rows { result ≢ Progress.NoMemory → result ≡ Progress.Rows (overlay access.now self.old.seen) }
+        ensures same { result ≢ Progress.NoMemory → self.new ≡ self.old }
+        ensures memory { result ≡ Progress.NoMemory → self.new ≡ record self.old { seen = forgotten mark self.old.seen } }
+    {
+        let rows = match access {
+            Access::Get(key) => self.snapshot.overlay_key(key),
+            Access::Scan(span) => self.snapshot.overlay_span(span),
+        };
+        match rows {
+            Ok(rows) => Progress::Rows(rows),
+            Err(_) => {
+                self.snapshot.forget(mark);
+                Progress::NoMemory
+            }
         }
     }
 
-    // The key of the read that is pending.
-    fn asked_key(&self) -> Result<Key, NoMemory>
-        requires { is_get self.now.left ≡ true }
-        ensures { IfOk result (λ key. self.now.left ≡ Get key ∷ tail_of self.now.left) }
+    // A key that was read differs: the transaction has ended.
+    fn conflict(&mut self, key: Key, found: Option<Record>) -> Progress
+        ensures told { result ≡ Progress.Conflict key found }
+        ensures over { self.new ≡ record self.old { doing = Doing.Over } }
     {
-        match self.pending() {
-            Some(Request::Get(key)) => key.copy(),
-            _ => unreachable!(),
+        self.doing = Doing::Over;
+        Progress::Conflict(key, found)
+    }
+
+    // Notes the record of a key, and shows the row that is seen then.
+    fn note_key(&mut self, whole: &Access, key: &Key, images: Records) -> Progress
+        requires idle { self.old.doing ≡ Doing.Idle }
+        requires of { whole.now ≡ access.Get key.now }
+        requires fine { CanNote self.old.seen (access.Get key.now) images }
+        ensures memory { result ≡ Progress.NoMemory → self.new ≡ self.old }
+        ensures told { result ≢ Progress.NoMemory → KeyTold self.old key.now images result self.new }
+    {
+        let mark = self.snapshot.mark();
+        let Ok(noted) = key.copy() else {
+            return Progress::NoMemory;
+        };
+        match self.snapshot.note_get(noted, first(images)) {
+            Ok(()) => self.show(whole, mark),
+            Err(_) => Progress::NoMemory,
         }
     }
 
-    // Notes what a read found.
-    fn note(&mut self, alloc: Global, key: Key, found: Option<Record>) -> Result<Images, NoMemory>
-        requires unread { is_known self.old key ≡ false }
-        requires base { IfSome found (IsBaseOf key) }
-        ensures images { IfOk result (λ images. images ≡ images_of key (row_with (write_at self.old.writes key) found)) }
-        ensures ok { OnOk result (self.new ≡ noted self.old key found) }
-        ensures err { OnErr result (self.new ≡ self.old) }
+    // Notes the records of a span, and shows the rows that are seen then. A key that differs ends the transaction.
+    fn note_span(&mut self, whole: &Access, span: &Span, images: Records) -> Progress
+        requires idle { self.old.doing ≡ Doing.Idle }
+        requires of { whole.now ≡ access.Scan span.now }
+        requires fine { CanNote self.old.seen (access.Scan span.now) images }
+        ensures memory { result ≡ Progress.NoMemory → self.new ≡ self.old }
+        ensures told { result ≢ Progress.NoMemory → SpanTold self.old span.now images result self.new }
     {
-        let row = self.row_at(alloc, &key, &found)?;
-        let images = images_with(alloc, &key, row)?;
-        self.notes.put(key, found)?;
-        self.asks = Requests::new(alloc);
-        self.at = 0;
-        self.stage = Stage::Open;
-        Ok(images)
-    }
-
-    // Digests the reply to a read.
-    fn read(&mut self, alloc: Global, reply: &Reply) -> Result<Images, NoMemory>
-        requires reading { self.old.stage ≡ Stage.Reading }
-        requires wished { IsWished self.old reply.now }
-        ensures images { IfOk result (λ images. images ≡ images_found self.old.writes self.old.left reply.now) }
-        ensures ok { OnOk result (self.new ≡ noted_by self.old self.old.left reply.now) }
-        ensures err { OnErr result (self.new ≡ self.old) }
-    {
-        let key = self.asked_key()?;
-        let found = found_in(reply)?;
-        self.note(alloc, key, found)
-    }
-
-    // Goes on behind a call of a COMMIT.
-    #[tactic(auto, using(crate::proofs::Left::drop_next))]
-    fn go_on(&mut self) -> Progress
-        requires left { 0 < length self.old.left }
-        ensures progress { result ≡ at_commit (tail_of self.old.left) }
-        ensures after { self.new ≡ gone_on self.old }
-    {
-        let count = self.asks.len();
-        let next = self.at + 1;
-        self.at = next;
-        if next < count {
-            self.stage = Stage::Committing;
-            Progress::More
-        } else {
-            self.stage = Stage::Ended;
-            Progress::Committed
+        let mark = self.snapshot.mark();
+        let Ok(noted) = span.copy() else {
+            return Progress::NoMemory;
+        };
+        match self.snapshot.note_scan(noted, images) {
+            Ok(()) => self.show(whole, mark),
+            Err(NoteRefused::Differs(key, found)) => self.conflict(key, found),
+            Err(NoteRefused::NoMemory) => Progress::NoMemory,
         }
     }
 
-    /// Digests the reply to the pending call, which is one that lets the transaction go on.
-    pub fn advance(&mut self, alloc: Global, reply: &Reply) -> Progress
-        requires calls { is_calling self.old.stage ≡ true }
-        requires left { 0 < length self.old.left }
-        requires wished { IsWished self.old reply.now }
-        ensures progress { result ≢ Progress.NoMemory → result ≡ progress_of self.old reply.now }
-        ensures after { result ≢ Progress.NoMemory → self.new ≡ advanced self.old reply.now }
-        ensures starved { result ≡ Progress.NoMemory → self.new ≡ self.old }
+    fn note(&mut self, access: &Access, images: Records) -> Progress
+        requires idle { self.old.doing ≡ Doing.Idle }
+        requires fine { CanNote self.old.seen access.now images }
+        ensures memory { result ≡ Progress.NoMemory → self.new ≡ self.old }
+        ensures told { result ≢ Progress.NoMemory → ImagesTold self.old access.now images result self.new }
     {
-        match self.stage {
-            Stage::Reading => match self.read(alloc, reply) {
-                Ok(images) => Progress::Rows(images),
-                Err(NoMemory) => Progress::NoMemory,
-            },
-            Stage::Committing => self.go_on(),
-            Stage::Open | Stage::Ended => unreachable!(),
+        match access {
+            Access::Get(key) => self.note_key(access, key, images),
+            Access::Scan(span) => self.note_span(access, span, images),
         }
-    }
-}
-
-/// Whether a record is a committed one that passes the checks.
-pub fn is_committed(alloc: Global, rec: &Record) -> bool
-    ensures { result ≡ (is_taken rec.now && is_in Committed rec.now.columns) }
-{
-    match meta_of(alloc, rec) {
-        Ok(meta) => meta.is_committed(),
-        Err(_) => false,
-    }
-}
-
-// Whether a record is a committed one of a key.
-fn is_base(alloc: Global, key: &Key, rec: &Record) -> bool
-    ensures { (result ≡ true) ↔ IsBaseOf key.now rec.now }
-{
-    same(&rec.key, key) && is_committed(alloc, rec)
-}
-
-// Whether what was found at a key is no record, or a committed one.
-fn is_readable(alloc: Global, key: &Key, found: &Option<Record>) -> bool
-    ensures { (result ≡ true) ↔ IfSome found.now (IsBaseOf key.now) }
-{
-    match found {
-        Some(rec) => is_base(alloc, key, rec),
-        None => true,
-    }
-}
-
-fn is_applied(reply: &Reply) -> bool
-    ensures { (result ≡ true) ↔ (reply.now ≡ Reply.Applied) }
-{
-    match reply {
-        Reply::Applied => true,
-        _ => false,
-    }
-}
-
-// The record that a reply found, or none.
-fn found_in(reply: &Reply) -> Result<Option<Record>, NoMemory>
-    ensures { IfOk result (λ found. found ≡ found_in_lem reply.now) }
-{
-    match reply {
-        Reply::Found(found) => found.copy(),
-        _ => Ok(None),
     }
 }

@@ -12,6 +12,7 @@ use Rattle.sdb_types.specs.Order.{name_cmp}
 use Rattle.sdb_types.proofs.Bools.{and_first, and_second, and_both}
 use Rattle.sdb_types.proofs.KeyOrder.{name_exact, name_total}
 use Rattle.sdb_types.specs.Columns.{is_null, starts_above, are_columns, is_below, put_pair, take_out, with_column, place_in, stands_first}
+use Rattle.sdb_types.proofs.Basics.{less_of}
 
 pub by_order : {G : Type 0} (r : Ordering) → (r ≡ Less → G) → (r ≡ Equal → G) → (r ≡ Greater → G) → G
 by_order Less f g h = f refl
@@ -58,11 +59,6 @@ not_above name p (e ∷ es) h k =
     (λ q. simp q k)
     (λ q. simp q h)
     (λ q. simp q h)
-
-pub less_of : (r : Ordering) → is_lt r ≡ true → r ≡ Less
-less_of Less h = refl
-less_of Equal h = cc
-less_of Greater h = cc
 
 pub put-are_columns : (p : Pair) (es : List Pair) → is_null p.value ≡ false → are_columns es ≡ true → are_columns (put_pair p es) ≡ true
 put-are_columns p [] n h = simp n refl

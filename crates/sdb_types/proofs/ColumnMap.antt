@@ -11,7 +11,8 @@ use Rattle.sdb_types.specs.Order.{name_cmp}
 use Rattle.sdb_types.specs.Columns.{is_null, starts_above, are_columns, put_pair, take_out, with_column, column, is_named}
 use Rattle.sdb_types.proofs.Bools.{and_first, and_second}
 use Rattle.sdb_types.proofs.KeyOrder.{name_exact, name_total}
-use Rattle.sdb_types.proofs.ColumnLemmas.{by_order, less_of, above_more}
+use Rattle.sdb_types.proofs.ColumnLemmas.{by_order, above_more}
+use Rattle.sdb_types.proofs.Basics.{less_of}
 
 -- what follows a column stands above it
 pub tail_above : (e : Pair) (es : List Pair) → are_columns (e ∷ es) ≡ true → starts_above e.name es ≡ true

@@ -1,3 +1,4 @@
+pub mod Basics
 pub mod Bools
 pub mod KeyOrder
 pub mod ColumnLemmas

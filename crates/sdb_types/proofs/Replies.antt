@@ -15,10 +15,7 @@ use Rattle.sdb_types.specs.declared.record.Reply.TheVariants as reply
 use Rattle.sdb_types.specs.Order.{key_cmp}
 use Rattle.sdb_types.specs.Contents.{Contents, record_of, record_at, in_span, rows_among, rows_in, holds, put_reply, reply_to, starts_after, rise, are_rows_of, CanAnswer}
 use Rattle.sdb_types.proofs.Bools.{and_first, and_second, and_both}
-
-truth : (b : Bool) → T b → b ≡ true
-truth true h = refl
-truth false h = absurd h
+use Rattle.sdb_types.proofs.Basics.{truth}
 
 rows_after : (key : Key) (span : Span) (es : List (Key × List Pair)) → below_all key_cmp key es ≡ true → starts_after key (rows_among span es) ≡ true
 rows_after key span [] h = refl

@@ -13,18 +13,11 @@ use Rattle.sdb_types.specs.Order.{key_cmp}
 use Rattle.sdb_types.proofs.KeyOrder.{key_total, key_exact}
 use Rattle.sdb_phases.specs.declared.check.Wanted.{Wanted}
 use Rattle.sdb_phases.specs.Checks.{same_key, wish_at, record_among, is_fulfilled, differs, lesser, least, keys_among, first_difference}
+use Rattle.sdb_types.proofs.Basics.{less_of}
+use Rattle.std.proofs.lemmas.Bool.{not-true as not_true}
+use Rattle.sdb_types.specs.Exact.{equal_of}
 
 ---- orders
-
-pub less_of : (o : Ordering) → is_lt o ≡ true → o ≡ Less
-less_of Less h = refl
-less_of Equal h = cc
-less_of Greater h = cc
-
-pub equal_of : (o : Ordering) → is_eq o ≡ true → o ≡ Equal
-equal_of Less h = cc
-equal_of Equal h = refl
-equal_of Greater h = cc
 
 pub key_of_same : (a b : Key) → same_key a b ≡ true → a ≡ b
 key_of_same a b h = key_exact a b (equal_of (key_cmp a b) h)
@@ -99,10 +92,6 @@ in_rows (r ∷ rs) k h = by_test (same_key k r.key) (in_rows rs k) h where
   by_test : (b : Bool) → (is_none (record_among rs k) ≡ false → list_any (λ c. same_key k c) (map (λ x. x.key) rs) ≡ true) → is_none (cond b (Some r) (record_among rs k)) ≡ false → (b || list_any (λ c. same_key k c) (map (λ x. x.key) rs)) ≡ true
   by_test true rest g = refl
   by_test false rest g = rest g
-
-not_true : (b : Bool) → not b ≡ true → b ≡ false
-not_true true h = cc
-not_true false h = refl
 
 in_keys : (ws : List Wanted) (rows : List Record) (k : Key) → differs ws rows k ≡ true → list_any (λ c. same_key k c) (keys_among ws rows) ≡ true
 in_keys [] rows k h = in_rows rows k (not_true (is_none (record_among rows k)) h)

@@ -16,10 +16,7 @@ use Rattle.sdb_phases.specs.declared.check.Wish.{Wish}
 use Rattle.sdb_phases.specs.Checks.{wanted, wanted_of, wishes, check_of_read, check_of_scan, checks_of, is_written}
 use Rattle.sdb_validate.specs.Merge.{below_wanted, wanted_rise, target_rises}
 use Rattle.sdb_validate.specs.Inside.{AreOrdered}
-
-is_true : (b : Bool) → T b → b ≡ true
-is_true true h = refl
-is_true false h = absurd h
+use Rattle.sdb_types.proofs.Basics.{truth as is_true}
 
 below_entries : (key : Key) (es : List (Key × Wish)) → below_all key_cmp key es ≡ true → below_wanted key (map wanted_of es) ≡ true
 below_entries key [] h = refl

@@ -21,9 +21,11 @@ use Rattle.sdb_phases.specs.declared.check.Wish.TheVariants as wish
 use Rattle.sdb_phases.specs.Checks.{same_key, Wishes, with_reads, with_write, with_writes, wishes, wanted, wanted_of, wish_at, wished_version, is_fulfilled, differs, base_of, version_read, record_among, first_difference}
 use Rattle.sdb_validate.specs.Merge.{merge}
 use Rattle.sdb_validate.specs.Rescan.{kept_by, is_kept, starts_behind, reads_rise, IsFirstLost}
-use Rattle.sdb_validate.proofs.Firsts.{IsFirst, first_is, less_of, key_of_same, same_itself}
+use Rattle.sdb_validate.proofs.Firsts.{IsFirst, first_is, key_of_same, same_itself}
 use Rattle.sdb_validate.proofs.Merges.{merge_is}
 use Rattle.sdb_validate.proofs.Ordered.{wanted_in_order}
+use Rattle.sdb_types.proofs.Basics.{less_of}
+use Rattle.std.proofs.lemmas.Bool.{not-false as not_false, not-true as not_true}
 
 wish-find : (es : List (Key × Wish)) (q : Key) → wish_at (map wanted_of es) q ≡ find key_cmp q es
 wish-find [] q = refl
@@ -148,14 +150,6 @@ pub differs-lost : (own : List Write) (scan : Scan) (rows : List Record) (q : Ke
 differs-lost own scan rows q up =
     ap (λ o. not (is_fulfilled o (record_among rows q))) (wanted-is own scan q up)
     ∙ ap not (kept_at (in_span scan.span q) (base_of own q) scan.found q (record_among rows q))
-
-not_false : (b : Bool) → not b ≡ false → b ≡ true
-not_false true h = refl
-not_false false h = cc
-
-not_true : (b : Bool) → not b ≡ true → b ≡ false
-not_true true h = cc
-not_true false h = refl
 
 as_lost : (own : List Write) (scan : Scan) (rows : List Record) (o : Option (Key × Option Record)) → reads_rise scan.found ≡ true → IsFirst (wanted own scan) rows o → IsFirstLost own scan rows o
 as_lost own scan rows None up first = λ q. not_false (is_kept own scan rows q) (sym (differs-lost own scan rows q up) ∙ first q)

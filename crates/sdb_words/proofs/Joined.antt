@@ -11,6 +11,7 @@ use Rattle.sdb_types.proofs.KeyOrder.{parts}
 use Rattle.sdb_record.specs.Parts.{is_column_name}
 use Rattle.sdb_words.specs.Names.{IsTable, around, table_text}
 use Rattle.sdb_words.specs.declared.names.TableWord.{TableWord}
+use Rattle.sdb_types.proofs.Basics.{lt_of}
 
 ---- bytes that no name has
 
@@ -35,9 +36,6 @@ long_name text h = and_both (nat_le (length text) 71) _ (longer (length text) (a
 
 eq_of : (a b : ℕ) → (a == b) ≡ true → a ≡ b
 eq_of a b h = grind (arith, nat_tests)
-
-lt_of : (a b : ℕ) → nat_lt a b ≡ true → a < b
-lt_of a b h = grind (arith, nat_tests)
 
 -- a text is what stands before its first byte c, that byte, and what stands behind it
 at_byte : (c : ℕ) (text : List ℕ) → nat_lt (position_or_len (λ b. b == c) text) (length text) ≡ true → text ≡ before_first (λ b. b == c) text ++ (c ∷ after_first (λ b. b == c) text)

@@ -2,6 +2,10 @@
 #![tactic(auto)]
 
 #[cfg(test)]
+mod attached;
+#[cfg(test)]
 mod program;
 #[cfg(test)]
 mod run;
+#[cfg(test)]
+mod worked;

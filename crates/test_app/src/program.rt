@@ -1,17 +1,13 @@
 //! Scripts with their reports, and calls that end otherwise.
-use crate::run::{Case, End, ends, ends_by};
-use sdb_hashed::Hashed;
-use sdb_ordered::Ordered;
-use sdb_sqlite::Kept;
-use sdb_store::{Fails, Store};
+use crate::attached::{attach_ordered, on_failing, on_kept, on_memory, on_memory_by, on_short};
+use crate::run::{Bad, Case, End, Play, REPLAY, ends, ends_by, is_line, played, stopped};
+use sdb_app::Status;
+use sdb_model::Which;
+use sdb_store::Fails;
 use sdb_stores::Stores;
-use sdb_types::Name;
-use sqlite::Connection;
-use std::alloc::Global;
+use std::alloc::{AllocError, Global};
 use std::test::Fail;
 use test_builders::{all_hold, hold};
-
-const REPLAY: &[&str] = &["replay"];
 
 const SCRIPT: &[u8] =
     b"schema {\"bank.account\":{\"partition-key\":[\"id\"],\"columns\":{\"id\":\"INT\",\"balance\":\"INT\"}}}\nclient a\n  BEGIN\n  INSERT INTO bank.account (id, balance) VALUES (1, 100)\n  COMMIT\nrun\nrest\n";
@@ -19,14 +15,7 @@ const SCRIPT: &[u8] =
 const REPORT: &[u8] =
     b"scalardb report 1\nevents 7\n1 take 1 done : BEGIN\n2 take 1 - : INSERT INTO bank.account (id, balance) VALUES (1, 100)\n3 call 1 ordered get bank.account(1) seen found none count 1\n4 take 1 - : COMMIT\n5 call 1 ordered put bank.account(1){balance=100,tx_id='00000000-0000-0001-0000-000000000001',tx_prepared_at=0L,tx_state=1,tx_version=1} if absent seen applied -\n6 call 1 ordered put coordinator.state('00000000-0000-0001-0000-000000000001'){tx_created_at=0L,tx_state=3} if absent seen applied -\n7 call 1 ordered put bank.account(1){balance=100,tx_committed_at=0L,tx_id='00000000-0000-0001-0000-000000000001',tx_prepared_at=0L,tx_state=3,tx_version=1} if 00000000-0000-0001-0000-000000000001 1 seen applied committed\norder 1\n00000000-0000-0001-0000-000000000001 5\ntables 1\ntable bank.account 1\n(100,1)\nend\n";
 
-// A script, and its report.
-#[derive(Clone, Copy)]
-struct Play {
-    script: &'static [u8],
-    written: &'static [u8],
-}
-
-static PLAYED: [Play; 7] = [
+static PLAYED: [Play; 8] = [
     Play {
         script: SCRIPT,
         written: REPORT,
@@ -56,10 +45,15 @@ static PLAYED: [Play; 7] = [
         script: b"schema {\"shop.orders\":{\"partition-key\":[\"customer\"],\"clustering-key\":[\"n DESC\"],\"columns\":{\"customer\":\"TEXT\",\"n\":\"BIGINT\",\"total\":\"INT\"}},\"bank.account\":{\"partition-key\":[\"id\"],\"columns\":{\"id\":\"INT\",\"note\":\"TEXT\",\"active\":\"BOOLEAN\",\"balance\":\"INT\"}},\"aa.log\":{\"partition-key\":[\"n\"],\"columns\":{\"n\":\"BLOB\"}}}\nclient a\n  BEGIN\n  INSERT INTO bank.account (id, balance) VALUES (1, 100)\n  COMMIT\nrun\nrest\n",
         written: b"scalardb report 1\nevents 7\n1 take 1 done : BEGIN\n2 take 1 - : INSERT INTO bank.account (id, balance) VALUES (1, 100)\n3 call 1 ordered get bank.account(1) seen found none count 1\n4 take 1 - : COMMIT\n5 call 1 ordered put bank.account(1){balance=100,tx_id='00000000-0000-0001-0000-000000000001',tx_prepared_at=0L,tx_state=1,tx_version=1} if absent seen applied -\n6 call 1 ordered put coordinator.state('00000000-0000-0001-0000-000000000001'){tx_created_at=0L,tx_state=3} if absent seen applied -\n7 call 1 ordered put bank.account(1){balance=100,tx_committed_at=0L,tx_id='00000000-0000-0001-0000-000000000001',tx_prepared_at=0L,tx_state=3,tx_version=1} if 00000000-0000-0001-0000-000000000001 1 seen applied committed\norder 1\n00000000-0000-0001-0000-000000000001 5\ntables 3\ntable aa.log 0\ntable bank.account 1\n(NULL,100,1,NULL)\ntable shop.orders 0\nend\n",
     },
-    // A client without statements needs no accounts.
+    // A client without statements.
     Play {
         script: b"schema {\"aa.log\":{\"partition-key\":[\"n\"],\"columns\":{\"n\":\"BLOB\"}}}\nclient a\nrun\nrest\n",
         written: b"scalardb report 1\nevents 0\norder 0\ntables 1\ntable aa.log 0\nend\n",
+    },
+    // Nothing but `run`.
+    Play {
+        script: b"run\n",
+        written: b"scalardb report 1\nevents 0\norder 0\ntables 0\nend\n",
     },
 ];
 
@@ -70,7 +64,7 @@ static KEPT: [Play; 1] = [Play {
 }];
 
 // Calls that end otherwise.
-static STOPPED: [Case; 5] = [
+static STOPPED: [Case<'static>; 3] = [
     // A read that fails writes nothing, and a write that fails leaves a prefix.
     Case {
         words: REPLAY,
@@ -97,82 +91,56 @@ static STOPPED: [Case; 5] = [
         end: End::Usage,
         written: b"",
     },
-    // Another script is not built.
-    Case {
-        words: REPLAY,
-        script: b"schema {}\nrun\n",
-        reads_fail: &[],
-        writes_fail: &[],
-        end: End::NotBuilt(2),
-        written: b"",
-    },
-    // Nor is one with a place on no store.
-    Case {
-        words: REPLAY,
-        script: b"place bank other\n",
-        reads_fail: &[],
-        writes_fail: &[],
-        end: End::NotBuilt(1),
-        written: b"",
-    },
 ];
 
-fn attach(
-    alloc: Global,
-    stores: &mut Stores,
-    name: &str,
-    store: Box<dyn Store>,
-) -> Result<bool, Fail> {
-    let name = Name::new(alloc, name)?;
-    Ok(stores.attach(name, store).is_ok())
+// A script that is refused, with the line on standard error.
+#[derive(Clone, Copy)]
+struct Refused {
+    script: &'static [u8],
+    end: End,
+    line: &'static str,
+    code: u8,
 }
 
-// The store `ordered`, of which these calls fail.
-fn attach_ordered(alloc: Global, stores: &mut Stores, failing: Fails) -> Result<bool, Fail> {
-    attach(
-        alloc,
-        stores,
-        "ordered",
-        Box::new(alloc, Ordered::new(alloc, failing))?,
-    )
-}
-
-fn attach_hashed(alloc: Global, stores: &mut Stores) -> Result<bool, Fail> {
-    let hashed = Hashed::new(alloc, Fails::new(alloc));
-    attach(alloc, stores, "hashed", Box::new(alloc, hashed)?)
-}
-
-// The store `sqlite` over a new database in memory.
-fn attach_kept(alloc: Global, stores: &mut Stores) -> Result<bool, Fail> {
-    let database = Connection::open_in_memory(alloc)?;
-    let kept = Box::new(alloc, Kept::new(alloc, database)?)?;
-    attach(alloc, stores, "sqlite", kept)
-}
-
-fn on_memory(alloc: Global, case: Case) -> Result<bool, Fail> {
-    let mut stores = Stores::new(alloc);
-    let attached = attach_ordered(alloc, &mut stores, Fails::new(alloc))?
-        && attach_hashed(alloc, &mut stores)?;
-    Ok(attached && ends(alloc, &mut stores, case)?)
-}
-
-fn on_kept(alloc: Global, case: Case) -> Result<bool, Fail> {
-    let mut stores = Stores::new(alloc);
-    let attached = attach_ordered(alloc, &mut stores, Fails::new(alloc))?
-        && attach_kept(alloc, &mut stores)?;
-    Ok(attached && ends(alloc, &mut stores, case)?)
-}
-
-fn played(play: Play) -> Case {
-    Case {
-        words: REPLAY,
-        script: play.script,
-        reads_fail: &[],
-        writes_fail: &[],
-        end: End::Done,
-        written: play.written,
-    }
-}
+static REFUSED: [Refused; 6] = [
+    Refused {
+        script: b"schema {}\nrest\nrun\n",
+        end: End::BadInput(2, Bad::Form),
+        line: "bad input at 2",
+        code: 3,
+    },
+    Refused {
+        script: b"run\nstep 1\n",
+        end: End::BadInput(2, Bad::Form),
+        line: "bad input at 2",
+        code: 3,
+    },
+    // A place on no store.
+    Refused {
+        script: b"place bank other\nrun\n",
+        end: End::BadInput(1, Bad::Store),
+        line: "bad input at 1",
+        code: 3,
+    },
+    Refused {
+        script: b"client a\n  BEGIN\n  \xFF\nrun\n",
+        end: End::BadInput(3, Bad::Text),
+        line: "bad input at 3",
+        code: 3,
+    },
+    Refused {
+        script: b"schema {\"bank.account\":[]}\nrun\n",
+        end: End::BadInput(1, Bad::Schema),
+        line: "bad input at 1",
+        code: 3,
+    },
+    Refused {
+        script: b"client a\n",
+        end: End::BadInput(2, Bad::Missing),
+        line: "bad input at 2",
+        code: 3,
+    },
+];
 
 #[test]
 fn scripts_have_their_reports(rt: HostRuntime) -> Result<(), Fail> {
@@ -192,71 +160,132 @@ fn calls_end_otherwise(rt: HostRuntime) -> Result<(), Fail> {
     all_hold(STOPPED.as_slice(), |case| on_memory(alloc, case))
 }
 
-fn stopped(script: &'static [u8], end: End) -> Case {
-    Case {
-        words: REPLAY,
-        script,
-        reads_fail: &[],
-        writes_fail: &[],
-        end,
-        written: b"",
-    }
-}
-
-fn fails_at(alloc: Global, call: u64) -> Result<Fails, Fail> {
-    let mut failing = Fails::new(alloc);
-    failing.push(sdb_store::Fail { call, after: false })?;
-    Ok(failing)
-}
-
-// Whether the first script ends by that line and that code on a store whose call of this number fails.
-fn stops_after(alloc: Global, call: u64, line: &str, code: u8) -> Result<bool, Fail> {
-    let case = stopped(SCRIPT, End::StoreFault);
-    let mut stores = Stores::new(alloc);
-    let attached = attach_ordered(alloc, &mut stores, fails_at(alloc, call)?)?;
-    Ok(attached && ends_by(alloc, &mut stores, case, line, code)?)
-}
-
-// A failed call of the opening, and of a statement.
 #[test]
-fn a_failed_call_writes_nothing(rt: HostRuntime) -> Result<(), Fail> {
+fn scripts_are_refused(rt: HostRuntime) -> Result<(), Fail> {
     let alloc = rt.alloc();
-    all_hold(
-        [1, 4].as_slice(),
-        |call| stops_after(alloc, call, "store fault", 6),
-    )
+    all_hold(REFUSED.as_slice(), |refused| {
+        let case = stopped(refused.script, refused.end);
+        on_memory_by(alloc, case, refused.line, refused.code)
+    })
 }
 
-// The first script, with its report.
-fn first_play() -> Case {
-    played(Play {
-        script: SCRIPT,
-        written: REPORT,
+// A script whose second line has so many bytes.
+fn with_line(alloc: Global, bytes: usize) -> Result<String, AllocError> {
+    let mut text = String::from_str(alloc, "client a\n")?;
+    for _ in 0..bytes {
+        text.push_str(" ")?;
+    }
+    text.push_str("\nrest\n")?;
+    Ok(text)
+}
+
+fn is_line_limited(
+    alloc: Global,
+    bytes: usize,
+    end: End,
+    line: &str,
+    code: u8,
+) -> Result<bool, Fail> {
+    let script = with_line(alloc, bytes)?;
+    on_memory_by(alloc, stopped(script.as_str().as_bytes(), end), line, code)
+}
+
+#[test]
+fn a_line_has_at_most_so_many_bytes(rt: HostRuntime) -> Result<(), Fail> {
+    let alloc = rt.alloc();
+    let bad = End::BadInput(3, Bad::Form);
+    hold(is_line_limited(alloc, 65_536, bad, "bad input at 3", 3))?;
+    let limit = End::Limit(2, Which::LineBytes);
+    hold(is_line_limited(alloc, 65_537, limit, "limit at 2: LineBytes", 10))
+}
+
+static LIMITS: [(Which, &str); 5] = [
+    (Which::LineBytes, "limit at 7: LineBytes"),
+    (Which::InputBytes, "limit at 7: InputBytes"),
+    (Which::Clients, "limit at 7: Clients"),
+    (Which::Statements, "limit at 7: Statements"),
+    (Which::Moves, "limit at 7: Moves"),
+];
+
+#[test]
+fn limits_have_names(rt: HostRuntime) -> Result<(), Fail> {
+    let alloc = rt.alloc();
+    all_hold(LIMITS.as_slice(), |case| {
+        is_line(alloc, &Status::Limit(7, case.0), case.1, 10)
     })
+}
+
+// A failed scan of the opening, and of the closing dump.
+#[test]
+fn a_failed_scan_of_a_table_writes_nothing(rt: HostRuntime) -> Result<(), Fail> {
+    let alloc = rt.alloc();
+    all_hold([1, 2, 7, 8].as_slice(), |call| {
+        let case = stopped(SCRIPT, End::StoreFault);
+        on_failing(alloc, call, false, case, "store fault", 6)
+    })
+}
+
+// The first script, where its read fails before its effect.
+const READ_FAILS: Play = Play {
+    script: SCRIPT,
+    written: b"scalardb report 1\nevents 5\n1 take 1 done : BEGIN\n2 take 1 - : INSERT INTO bank.account (id, balance) VALUES (1, 100)\n3 call 1 ordered get bank.account(1) failed fault faulted\n4 take 1 - : COMMIT\n5 call 1 ordered put coordinator.state('00000000-0000-0001-0000-000000000001'){tx_created_at=0L,tx_state=3} if absent seen applied committed\norder 1\n00000000-0000-0001-0000-000000000001 4\ntables 1\ntable bank.account 0\nend\n",
+};
+
+#[test]
+fn a_failed_read_is_told(rt: HostRuntime) -> Result<(), Fail> {
+    hold(on_failing(rt.alloc(), 3, false, played(READ_FAILS), "", 0))
+}
+
+// A worked script, where the put that decides fails after its effect in place of its reply being lost.
+const DECISION_FAILS: Play = Play {
+    script: b"schema {\"bank.account\":{\"partition-key\":[\"id\"],\"columns\":{\"id\":\"INT\",\"balance\":\"INT\"}}}\nclient c1\n  BEGIN\n  INSERT INTO bank.account (id, balance) VALUES (1, 100)\n  COMMIT\nclient c2\n  BEGIN\n  UPDATE bank.account SET balance = 7 WHERE id = 1\n  COMMIT\nrun\nstep 1 7\nstep 2 5\nstep 2\nrest\n",
+    written: b"scalardb report 1\nevents 15\n1 take 1 done : BEGIN\n2 take 1 - : INSERT INTO bank.account (id, balance) VALUES (1, 100)\n3 call 1 ordered get bank.account(1) seen found none count 1\n4 take 1 - : COMMIT\n5 call 1 ordered put bank.account(1){balance=100,tx_id='00000000-0000-0001-0000-000000000001',tx_prepared_at=0L,tx_state=1,tx_version=1} if absent seen applied -\n6 call 1 ordered put coordinator.state('00000000-0000-0001-0000-000000000001'){tx_created_at=0L,tx_state=3} if absent seen applied -\n7 call 1 ordered put bank.account(1){balance=100,tx_committed_at=0L,tx_id='00000000-0000-0001-0000-000000000001',tx_prepared_at=0L,tx_state=3,tx_version=1} if 00000000-0000-0001-0000-000000000001 1 seen applied committed\n8 take 2 done : BEGIN\n9 take 2 - : UPDATE bank.account SET balance = 7 WHERE id = 1\n10 call 2 ordered get bank.account(1) seen found bank.account(1){balance=100,tx_committed_at=0L,tx_id='00000000-0000-0001-0000-000000000001',tx_prepared_at=0L,tx_state=3,tx_version=1} count 1\n11 take 2 - : COMMIT\n12 call 2 ordered put bank.account(1){balance=7,before_balance=100,before_tx_committed_at=0L,before_tx_id='00000000-0000-0001-0000-000000000001',before_tx_prepared_at=0L,before_tx_state=3,before_tx_version=1,tx_id='00000000-0000-0002-0000-000000000001',tx_prepared_at=0L,tx_state=1,tx_version=2} if 00000000-0000-0001-0000-000000000001 3 seen applied -\n13 call 2 ordered put coordinator.state('00000000-0000-0002-0000-000000000001'){tx_created_at=0L,tx_state=3} if absent failed fault -\n14 call 2 ordered get coordinator.state('00000000-0000-0002-0000-000000000001') seen found coordinator.state('00000000-0000-0002-0000-000000000001'){tx_created_at=0L,tx_state=3} -\n15 call 2 ordered put bank.account(1){balance=7,tx_committed_at=0L,tx_id='00000000-0000-0002-0000-000000000001',tx_prepared_at=0L,tx_state=3,tx_version=2} if 00000000-0000-0002-0000-000000000001 1 seen applied committed\norder 2\n00000000-0000-0001-0000-000000000001 5\n00000000-0000-0002-0000-000000000001 12\ntables 1\ntable bank.account 1\n(7,1)\nend\n",
+};
+
+#[test]
+fn a_failed_decision_is_looked_up(rt: HostRuntime) -> Result<(), Fail> {
+    hold(on_failing(rt.alloc(), 9, true, played(DECISION_FAILS), "", 0))
+}
+
+// No memory for a scan of the opening, and of the closing dump.
+#[test]
+fn a_scan_of_a_table_without_memory_writes_nothing(rt: HostRuntime) -> Result<(), Fail> {
+    let alloc = rt.alloc();
+    all_hold([1, 2, 7, 8].as_slice(), |call| {
+        let case = stopped(SCRIPT, End::NoMemory);
+        on_short(alloc, call, case, "out of memory", 7)
+    })
+}
+
+// The first script, where its read finds no memory.
+const READ_IS_SHORT: Play = Play {
+    script: SCRIPT,
+    written: b"scalardb report 1\nevents 5\n1 take 1 done : BEGIN\n2 take 1 - : INSERT INTO bank.account (id, balance) VALUES (1, 100)\n3 call 1 ordered get bank.account(1) seen nomemory nomemory\n4 take 1 - : COMMIT\n5 call 1 ordered put coordinator.state('00000000-0000-0001-0000-000000000001'){tx_created_at=0L,tx_state=3} if absent seen applied committed\norder 1\n00000000-0000-0001-0000-000000000001 4\ntables 1\ntable bank.account 0\nend\n",
+};
+
+#[test]
+fn a_read_without_memory_is_told(rt: HostRuntime) -> Result<(), Fail> {
+    hold(on_short(rt.alloc(), 3, played(READ_IS_SHORT), "", 0))
 }
 
 // The first script, played again on its stores.
 fn is_not_empty(alloc: Global) -> Result<bool, Fail> {
     let again = stopped(SCRIPT, End::NotEmpty);
+    let first = Play {
+        script: SCRIPT,
+        written: REPORT,
+    };
     let mut stores = Stores::new(alloc);
     let attached = attach_ordered(alloc, &mut stores, Fails::new(alloc))?;
-    let first = ends(alloc, &mut stores, first_play())?;
-    Ok(attached && first && ends_by(alloc, &mut stores, again, "not empty: bank.account(1)", 8)?)
+    let comes_out = ends(alloc, &mut stores, played(first))?;
+    Ok(
+        attached
+            && comes_out
+            && ends_by(alloc, &mut stores, again, "not empty: bank.account(1)", 8)?,
+    )
 }
 
 #[test]
 fn a_table_with_records_is_not_empty(rt: HostRuntime) -> Result<(), Fail> {
     hold(is_not_empty(rt.alloc()))
-}
-
-fn is_not_built(alloc: Global) -> Result<bool, Fail> {
-    let case = stopped(b"schema {}\nrun\n", End::NotBuilt(2));
-    let mut stores = Stores::new(alloc);
-    let attached = attach_ordered(alloc, &mut stores, Fails::new(alloc))?;
-    Ok(attached && ends_by(alloc, &mut stores, case, "not built at 2", 13)?)
-}
-
-#[test]
-fn another_script_is_not_built(rt: HostRuntime) -> Result<(), Fail> {
-    hold(is_not_built(rt.alloc()))
 }

@@ -1,47 +1,107 @@
 //! The program's top call on whole inputs, and on sources and sinks that fail.
 ghost use Rattle.std.specs.Prelude.{◌<◌, length};
 
-use sdb_app::{Status, run};
+use sdb_app::{InputFault, Status, run};
+use sdb_model::Which;
+use sdb_script::LineFault;
 use sdb_stores::Registry;
 use sdb_types::{Calls, Feed, Moments, NoMemory, Numbers, Octets, Ticks, Tray};
 use std::alloc::Global;
 use std::test::Fail;
 
-/// How the program ends: the statuses that tests name, and whether it is another.
+/// What is wrong with a line that is refused.
+#[derive(Clone, Copy, PartialEq, Eq)]
+pub enum Bad {
+    Text,
+    Form,
+    Store,
+    Schema,
+    Missing,
+}
+
+/// How the program ends, without the keys.
 #[derive(Clone, Copy, PartialEq, Eq)]
 pub enum End {
     Done,
+    Usage,
+    BadInput(u64, Bad),
     ReadFault,
     WriteFault,
     StoreFault,
-    Usage,
-    NotBuilt(u64),
+    NoMemory,
     NotEmpty,
-    Other,
+    BadStore,
+    Limit(u64, Which),
+}
+
+fn bad_of(fault: &InputFault) -> Bad {
+    match fault {
+        InputFault::Line(LineFault::Text) => Bad::Text,
+        InputFault::Line(LineFault::Form) => Bad::Form,
+        InputFault::Line(LineFault::Store) => Bad::Store,
+        InputFault::Line(LineFault::Schema(_)) => Bad::Schema,
+        InputFault::Line(LineFault::Missing) => Bad::Missing,
+    }
 }
 
 fn end_of(status: &Status) -> End {
     match status {
         Status::Done => End::Done,
+        Status::Usage => End::Usage,
+        Status::BadInput(line, fault) => End::BadInput(*line, bad_of(fault)),
         Status::ReadFault => End::ReadFault,
         Status::WriteFault => End::WriteFault,
         Status::StoreFault => End::StoreFault,
-        Status::Usage => End::Usage,
-        Status::NotBuilt(line) => End::NotBuilt(*line),
+        Status::NoMemory => End::NoMemory,
         Status::NotEmpty(_) => End::NotEmpty,
-        _ => End::Other,
+        Status::BadStore(_) => End::BadStore,
+        Status::Limit(line, which) => End::Limit(*line, *which),
     }
 }
 
 /// The words and the script of a call, the reads and the writes that fail, how it ends, and what it writes.
 #[derive(Clone, Copy)]
-pub struct Case {
+pub struct Case<'a> {
     pub words: &'static [&'static str],
-    pub script: &'static [u8],
+    pub script: &'a [u8],
     pub reads_fail: &'static [u64],
     pub writes_fail: &'static [u64],
     pub end: End,
     pub written: &'static [u8],
+}
+
+/// A script, and its report.
+#[derive(Clone, Copy)]
+pub struct Play {
+    pub script: &'static [u8],
+    pub written: &'static [u8],
+}
+
+/// The word of the command that plays a script.
+pub const REPLAY: &[&str] = &["replay"];
+
+/// A script that is played to its end has its report.
+pub fn played(play: Play) -> Case<'static> {
+    Case {
+        words: REPLAY,
+        script: play.script,
+        reads_fail: &[],
+        writes_fail: &[],
+        end: End::Done,
+        written: play.written,
+    }
+}
+
+/// A script that isn't played to its end writes nothing.
+pub fn stopped(script: &[u8], end: End) -> Case<'_> {
+    Case {
+        words: REPLAY,
+        script,
+        reads_fail: &[],
+        writes_fail: &[],
+        end,
+        written: b"",
+    }
 }
 
 fn words_of(alloc: Global, words: &[&str]) -> Result<Vec<String>, Fail> {
@@ -79,7 +139,11 @@ fn ran<S: Registry>(
 }
 
 // How the program ends on a case, and whether it writes as listed.
-fn status_of<S: Registry>(alloc: Global, stores: &mut S, case: Case) -> Result<(Status, bool), Fail>
+fn status_of<S: Registry>(
+    alloc: Global,
+    stores: &mut S,
+    case: Case<'_>,
+) -> Result<(Status, bool), Fail>
     requires { 0 < length (S.shelves stores.old) }
 {
     let words = words_of(alloc, case.words)?;
@@ -90,7 +154,7 @@ fn status_of<S: Registry>(alloc: Global, stores: &mut S, case: Case) -> Result<(
 }
 
 /// Whether the program ends as listed.
-pub fn ends<S: Registry>(alloc: Global, stores: &mut S, case: Case) -> Result<bool, Fail> {
+pub fn ends<S: Registry>(alloc: Global, stores: &mut S, case: Case<'_>) -> Result<bool, Fail> {
     if stores.len() == 0 {
         return Ok(false);
     }
@@ -102,7 +166,7 @@ pub fn ends<S: Registry>(alloc: Global, stores: &mut S, case: Case) -> Result<bo
 pub fn ends_by<S: Registry>(
     alloc: Global,
     stores: &mut S,
-    case: Case,
+    case: Case<'_>,
     line: &str,
     code: u8,
 ) -> Result<bool, Fail> {
@@ -113,6 +177,7 @@ pub fn ends_by<S: Registry>(
     Ok(writes && end_of(&status) == case.end && is_line(alloc, &status, line, code)?)
 }
 
-fn is_line(alloc: Global, status: &Status, line: &str, code: u8) -> Result<bool, Fail> {
+/// Whether a status has that line and that code.
+pub fn is_line(alloc: Global, status: &Status, line: &str, code: u8) -> Result<bool, Fail> {
     Ok(status.code() == code && status.line(alloc)?.as_str() == line)
 }

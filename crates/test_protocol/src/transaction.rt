@@ -3,7 +3,7 @@ use crate::machine::{EXPIRED, Machine, Told, conflict_at};
 use crate::replies::{Answer, reply_to};
 use crate::seen::{ROW, accounts, one_change};
 use sdb_record::{Change, version_of};
-use sdb_transaction::{Progress, Txn};
+use sdb_txn::{Progress, Txn};
 use sdb_types::{Columns, NameRefused, TxId};
 use std::alloc::Global;
 use std::test::Fail;

@@ -10,8 +10,6 @@ mod readback;
 #[cfg(test)]
 mod reports;
 #[cfg(test)]
-mod scripts;
-#[cfg(test)]
 mod tokens;
 #[cfg(test)]
 mod whole_scripts;

@@ -1,5 +1,5 @@
 use Rattle.std.proofs.Common.{◌≡◌, ℕ, take}
-use Rattle.sdb_play.specs.Board.{placed}
+use Rattle.sdb_board.specs.Board.{placed}
 use Rattle.sdb_app.proofs.places.place_all.Given as goal
 
 abbrev pub invariant-loop-i : goal.invariant-loop-i

@@ -1,9 +1,10 @@
-use Rattle.std.proofs.Common.{◌≡◌, ◌∙◌, Some, inr}
+use Rattle.std.proofs.Common.{◌≡◌, ◌∙◌, inr}
 use Rattle.std.specs.String.{string_bytes}
 use Rattle.sdb_model.specs.declared.script.Script.{Script}
-use Rattle.sdb_play.specs.Board.{shown}
-use Rattle.sdb_app.specs.Run.{IsFirstFound, script_of}
-use Rattle.sdb_app.proofs.Headline.{found_of, front_replayed, read_and, replayed, stops_foreign, stops_found, stops_played}
+use Rattle.sdb_board.specs.Board.{shown}
+use Rattle.sdb_app.specs.Run.{IsFirstFound}
+use Rattle.sdb_app.proofs.Headline.{found_of, prefix_replayed, read_and, replayed, stops_foreign, stops_found, stops_played}
+use Rattle.sdb_app.proofs.Playable.{followable, playable}
 use Rattle.sdb_app.proofs.program.replay_input.Goals as goal
 
 pub returns-in-Err-replay-clause-not_empty : goal.returns-in-Err-replay-clause-not_empty
@@ -11,15 +12,15 @@ returns-in-Err-replay-clause-not_empty g c = λ key is.
     let before = g.S.Registry.shelves c.args.stores.now in
     let mid = g.S.Registry.shelves c.clear_places.new.self in
     let new = g.S.Registry.shelves c.replay.new.stores in
-    let form = c.in-Ok-read_script.form in
-    read_and (λ (s : Script). IsFirstFound s (shown mid) (shown new) key) (λ (s : Script). IsFirstFound s (shown before) (shown new) key) form _ _ c.in-Ok.names before mid c.in-Ok.ensures.names c.clear_places.ensures.stores c.clear_places.ensures.telling c.in-Ok-read_script.ensures.read
-    (stops_found mid new _ _ c.in-Err-replay.status key c.in-Err-replay.ensures.err is) (found_of (script_of form) before mid (shown new) key c.clear_places.ensures.stores)
+    let script = c.in-Ok-read_input_script.script in
+    read_and (λ (s : Script). IsFirstFound s (shown mid) (shown new) key) (λ (s : Script). IsFirstFound s (shown before) (shown new) key) script _ _ c.in-Ok.names before mid c.in-Ok.ensures.names c.clear_places.ensures.stores c.clear_places.ensures.telling c.in-Ok-read_input_script.ensures.read
+    (stops_found mid new _ _ c.in-Err-replay.status key c.in-Err-replay.ensures.err is) (found_of script before mid (shown new) key c.clear_places.ensures.stores)
 
 pub returns-in-Err-replay-clause-bad_store : goal.returns-in-Err-replay-clause-bad_store
 returns-in-Err-replay-clause-bad_store g c = λ key is.
     let before = g.S.Registry.shelves c.args.stores.now in
     let mid = g.S.Registry.shelves c.clear_places.new.self in
-    read_and (λ (s : Script). ⊥) (λ (s : Script). ⊥) c.in-Ok-read_script.form _ _ c.in-Ok.names before mid c.in-Ok.ensures.names c.clear_places.ensures.stores c.clear_places.ensures.telling c.in-Ok-read_script.ensures.read
+    read_and (λ (s : Script). ⊥) (λ (s : Script). ⊥) c.in-Ok-read_input_script.script _ _ c.in-Ok.names before mid c.in-Ok.ensures.names c.clear_places.ensures.stores c.clear_places.ensures.telling c.in-Ok-read_input_script.ensures.read
     (stops_foreign mid (g.S.Registry.shelves c.replay.new.stores) _ _ c.in-Err-replay.status key c.in-Err-replay.ensures.err is) (λ x. x)
 
 pub returns-in-Ok-write_all-clause-done : goal.returns-in-Ok-write_all-clause-done
@@ -27,14 +28,14 @@ returns-in-Ok-write_all-clause-done g c = λ _.
     let before = g.S.Registry.shelves c.args.stores.now in
     let mid = g.S.Registry.shelves c.clear_places.new.self in
     let bytes : c.as_bytes.result.now ≡ string_bytes c.in-Ok-replay.text = c.as_bytes.ensures.value ∙ c.as_str.ensures.value in
-    replayed c.in-Ok-read_script.form c.in-Ok.names before mid (g.S.Registry.shelves c.replay.new.stores) _ _ _ _ (string_bytes c.in-Ok-replay.text) c.as_bytes.result.now c.in-Ok.ensures.names c.clear_places.ensures.stores c.clear_places.ensures.telling c.in-Ok-read_script.ensures.read bytes c.in-Ok-write_all.ensures.all c.in-Ok-replay.ensures.report
+    replayed c.in-Ok-read_input_script.script c.in-Ok.names before mid (g.S.Registry.shelves c.replay.new.stores) _ _ _ _ (string_bytes c.in-Ok-replay.text) c.as_bytes.result.now c.in-Ok.ensures.names c.clear_places.ensures.stores c.clear_places.ensures.telling c.in-Ok-read_input_script.ensures.read bytes c.in-Ok-write_all.ensures.all c.in-Ok-replay.ensures.report
 
-pub returns-in-Err-Failed-clause-front : goal.returns-in-Err-Failed-clause-front
-returns-in-Err-Failed-clause-front g c = λ _.
+pub returns-in-Err-Failed-clause-prefix : goal.returns-in-Err-Failed-clause-prefix
+returns-in-Err-Failed-clause-prefix g c = λ _.
     let before = g.S.Registry.shelves c.args.stores.now in
     let mid = g.S.Registry.shelves c.clear_places.new.self in
     let bytes : c.as_bytes.result.now ≡ string_bytes c.in-Ok-replay.text = c.as_bytes.ensures.value ∙ c.as_str.ensures.value in
-    front_replayed c.in-Ok-read_script.form c.in-Ok.names before mid (g.S.Registry.shelves c.replay.new.stores) _ _ _ _ (string_bytes c.in-Ok-replay.text) c.as_bytes.result.now c.in-Ok.ensures.names c.clear_places.ensures.stores c.clear_places.ensures.telling c.in-Ok-read_script.ensures.read bytes c.in-Err-Failed.ensures.front c.in-Ok-replay.ensures.report
+    prefix_replayed c.in-Ok-read_input_script.script c.in-Ok.names before mid (g.S.Registry.shelves c.replay.new.stores) _ _ _ _ (string_bytes c.in-Ok-replay.text) c.as_bytes.result.now c.in-Ok.ensures.names c.clear_places.ensures.stores c.clear_places.ensures.telling c.in-Ok-read_input_script.ensures.read bytes c.in-Err-Failed.ensures.prefix c.in-Ok-replay.ensures.report
 
 pub returns-in-Err-replay-clause-unplayed : goal.returns-in-Err-replay-clause-unplayed
 returns-in-Err-replay-clause-unplayed g c = λ is.
@@ -45,4 +46,10 @@ returns-clause-out_of_memory g c = λ _.
     let before = g.S.Registry.shelves c.args.stores.now in
     let mid = g.S.Registry.shelves c.clear_places.new.self in
     let bytes : c.as_bytes.result.now ≡ string_bytes c.in-Ok-replay.text = c.as_bytes.ensures.value ∙ c.as_str.ensures.value in
-    inr (front_replayed c.in-Ok-read_script.form c.in-Ok.names before mid (g.S.Registry.shelves c.replay.new.stores) _ _ _ _ (string_bytes c.in-Ok-replay.text) c.as_bytes.result.now c.in-Ok.ensures.names c.clear_places.ensures.stores c.clear_places.ensures.telling c.in-Ok-read_script.ensures.read bytes c.in-Err-NoMemory.ensures.front c.in-Ok-replay.ensures.report)
+    inr (prefix_replayed c.in-Ok-read_input_script.script c.in-Ok.names before mid (g.S.Registry.shelves c.replay.new.stores) _ _ _ _ (string_bytes c.in-Ok-replay.text) c.as_bytes.result.now c.in-Ok.ensures.names c.clear_places.ensures.stores c.clear_places.ensures.telling c.in-Ok-read_input_script.ensures.read bytes c.in-Err-NoMemory.ensures.prefix c.in-Ok-replay.ensures.report)
+
+pub replay-requires-clause-playable : goal.replay-requires-clause-playable
+replay-requires-clause-playable g c = playable c.in-Ok.names _ c.in-Ok-read_input_script.script c.in-Ok-read_input_script.ensures.read.form
+
+pub replay-requires-clause-can : goal.replay-requires-clause-can
+replay-requires-clause-can g c = followable c.in-Ok.names _ c.in-Ok-read_input_script.script c.in-Ok-read_input_script.ensures.read.form

@@ -8,6 +8,6 @@ loop-at-preserved g c =
     let h = c.in_ok-n.ensures in
     record {
       inside = omega (arith, h.fits.1, length-take (length c.args.bytes.now - c.loop-at.at) (drop c.loop-at.at c.args.bytes.now), length-drop c.loop-at.at c.args.bytes.now);
-      front = appends_piece c.args.bytes.now c.loop-at.at c.in_ok-n.n _ _ _ c.loop-at.invariant.front h.appended;
+      prefix = appends_piece c.args.bytes.now c.loop-at.at c.in_ok-n.n _ _ _ c.loop-at.invariant.prefix h.appended;
       later = omega (arith, h.later);
     }

@@ -1,8 +1,9 @@
 use Rattle.std.proofs.Common.{Some, ap, sym, subst, ◌∙◌}
 use Rattle.sdb_model.specs.Sql.{Reads}
 use Rattle.sdb_sqltext.specs.Answers.{refusal_of}
-use Rattle.sdb_said.proofs.Lists.{none_some, some_is}
+use Rattle.sdb_said.proofs.Lists.{none_some}
 use Rattle.sdb_caused.proofs.reading.statement_in.Goals as goal
+use Rattle.sdb_types.proofs.Basics.{some_is}
 
 pub returns-in-Ok : goal.returns-in-Ok
 returns-in-Ok c st = (

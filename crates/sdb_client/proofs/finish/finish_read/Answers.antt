@@ -1,7 +1,7 @@
 use Rattle.std.proofs.Common.{◌≡◌, sym, subst, take, ◌∙◌}
 use Rattle.sdb_exec.specs.Plans.{step_of}
 use Rattle.sdb_snapshot.specs.Held.{AreKept}
-use Rattle.sdb_transaction.specs.Txn.{TxnAt}
+use Rattle.sdb_txn.specs.Txn.{TxnAt}
 use Rattle.sdb_client.proofs.Taken.{nothing_left}
 use Rattle.sdb_client.proofs.finish.finish_read.Goals as goal
 

@@ -1,4 +1,0 @@
-pub mod Scan
-pub mod Pieces
-pub mod Accounts
-pub mod Drawn

@@ -1,0 +1,11 @@
+pub mod Lists
+pub mod Calls
+pub mod Later
+pub mod Rows
+pub mod Stages
+pub mod ReadSteps
+pub mod Given
+pub mod Knowing
+pub mod Takings
+pub mod Replyings
+pub mod Whole

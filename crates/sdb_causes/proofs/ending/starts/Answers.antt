@@ -1,0 +1,5 @@
+use Rattle.sdb_causes.proofs.Whole.{starts_all}
+use Rattle.sdb_causes.proofs.ending.starts.Goals as goal
+
+pub returns : goal.returns
+returns x = λ catalog hands fresh. starts_all catalog hands fresh

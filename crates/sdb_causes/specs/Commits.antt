@@ -1,0 +1,88 @@
+-- What the calls of a COMMIT so far say of where it stands, and why it ends so.
+use Rattle.std.specs.Prelude.{◌≡◌, ◌⊎◌, ℕ, true, false, List, None, Err, MatchBool, Contains, All}
+use Rattle.std.specs.List.{AllByRecursion}
+use Rattle.sdb_types.specs.declared.txid.TxId.{TxId}
+use Rattle.sdb_types.specs.declared.key.Key.{Key}
+use Rattle.sdb_types.specs.declared.record.Record.{Record}
+use Rattle.sdb_types.specs.declared.record.Reply.TheVariants as reply
+use Rattle.sdb_record.specs.declared.coordinator.Decision.TheVariants as decision
+use Rattle.sdb_record.specs.Coordinator.{decision_in, is_coordinator_table}
+use Rattle.sdb_record.specs.Meta.{is_taken}
+use Rattle.sdb_model.specs.Calls.{Made, calls_after, calls_before, decision_found, decision_learned, is_fault, is_of_row, records_shown}
+use Rattle.sdb_model.specs.Causes.{HasReply, IsDecided, PutsRow}
+use Rattle.sdb_phases.specs.declared.step.DecidePhase.TheVariants as phase
+use Rattle.sdb_phases.specs.declared.step.Outcome.{Outcome}
+use Rattle.sdb_phases.specs.declared.step.Outcome.TheVariants as outcome
+use Rattle.sdb_phases.specs.Work.{Work}
+use Rattle.sdb_phases.specs.Commit.{Stage, Preparing, Checking, Deciding, Forward, Stopping, Back, Over}
+
+-- no call was for a transaction's row
+abbrev pub NoneOfRow : TxId → List Made → Type 0
+NoneOfRow id calls = AllByRecursion (λ m. is_of_row id m.request ≡ false) calls
+
+-- the deciding put faulted
+abbrev pub HasFaulted : TxId → List Made → Made → Type 0
+HasFaulted id calls put = Contains calls put × PutsRow id decision.Committed put × (put.reply ≡ reply.Fault)
+
+-- The deciding put faulted, no call has shown a decision, and none has put the row ABORTED.
+pub record IsUndecided (id : TxId) (calls : List Made) : Type 0 where
+  pub put : Made
+  pub deciding : HasFaulted id calls put
+  pub none : decision_learned calls id ≡ None
+  pub not_own : AllByRecursion (λ m. PutsRow id decision.Aborted m → ⊥) calls
+
+-- The deciding put faulted, and a later call for the row faulted or was out of memory.
+pub record HasFailed (id : TxId) (calls : List Made) : Type 0 where
+  pub put : Made
+  pub later : Made
+  pub deciding : HasFaulted id calls put
+  pub failed : Contains (calls_after put.at calls) later × (is_of_row id later.request ≡ true) × ((later.reply ≡ reply.Fault) ⊎ (later.reply ≡ reply.NoMemory))
+
+-- and no call has shown a decision
+pub record IsFailing (id : TxId) (calls : List Made) : Type 0 where
+  pub failed : HasFailed id calls
+  pub none : decision_learned calls id ≡ None
+
+-- A call found the row ABORTED, and none before it has put that.
+pub record IsGivenUp (id : TxId) (calls : List Made) : Type 0 where
+  pub call : Made
+  pub among : Contains calls call
+  pub aborted : IsDecided decision.Aborted (decision_found id call)
+  pub not_own : All (λ m. PutsRow id decision.Aborted m → ⊥) (calls_before call.at calls)
+
+-- a row of the coordinator that no decision can be read from, or a record that isn't one of a transaction
+abbrev pub IsBadRow : Record → Type 0
+IsBadRow r = MatchBool (is_coordinator_table r.key.table) ((name : List ℕ) × (decision_in r ≡ Err name)) (is_taken r ≡ false)
+
+-- a call showed such a record of a key
+pub record ShowsBad (calls : List Made) (key : Key) : Type 0 where
+  pub call : Made
+  pub found : Record
+  pub among : Contains calls call
+  pub shown : Contains (records_shown call.reply) found
+  pub same : found.key ≡ key
+  pub bad : IsBadRow found
+
+-- Why a COMMIT ends so.
+abbrev pub EndsBy : TxId → List Made → Outcome → Type 0
+EndsBy id calls outcome.Committed = IsDecided decision.Committed (decision_learned calls id)
+EndsBy id calls (outcome.Conflict key found) = Unit {0}
+EndsBy id calls (outcome.Expired u) = (u ≡ id) × IsGivenUp id calls
+EndsBy id calls outcome.Faulted = HasReply is_fault calls
+EndsBy id calls (outcome.Unknown u) = (u ≡ id) × HasFailed id calls
+EndsBy id calls (outcome.BadRecord key) = ShowsBad calls key
+EndsBy id calls outcome.NoMemory = Unit {0}
+
+-- What the calls say where it stands.
+abbrev pub StandsBy : Work → List Made → Stage → Type 0
+StandsBy p calls (Preparing i) = NoneOfRow p.id calls
+StandsBy p calls (Checking i) = NoneOfRow p.id calls
+StandsBy p calls (Deciding phase.Put) = NoneOfRow p.id calls
+StandsBy p calls (Deciding phase.Look) = IsUndecided p.id calls
+StandsBy p calls (Deciding phase.Abort) = IsUndecided p.id calls
+StandsBy p calls (Deciding phase.Again) = IsFailing p.id calls
+StandsBy p calls (Deciding phase.Ended) = ⊥
+StandsBy p calls (Forward i) = EndsBy p.id calls outcome.Committed
+StandsBy p calls (Stopping a n) = EndsBy p.id calls a
+StandsBy p calls (Back a n i) = EndsBy p.id calls a
+StandsBy p calls (Over a) = EndsBy p.id calls a

@@ -1,0 +1,3 @@
+pub mod Commits
+pub mod Reads
+pub mod Tied

@@ -1,0 +1,265 @@
+-- Which records stand at every moment of several stores, and which events put them there, by what is so of the one store.
+use Rattle.std.proofs.Common.{◌≡◌, ℕ, suc, ◌<◌, ◌≤◌, Bool, true, false, List, [], ◌∷◌, ◌++◌, length, Option, None, inl, inr, refl, sym, ap, subst, ◌∙◌}
+use Rattle.std.specs.Prelude.{IsSomeAnd, is_some}
+use Rattle.std.specs.Option.{option_and_then}
+use Rattle.std.specs.Result.{result_ok}
+use Rattle.std.specs.FinMap.{empty}
+use Rattle.std.proofs.lemmas.List.{length-map}
+use Rattle.sdb_types.specs.declared.key.Key.{Key}
+use Rattle.sdb_types.specs.declared.record.Record.{Record}
+use Rattle.sdb_types.specs.declared.record.Reply.{Reply}
+use Rattle.sdb_types.specs.declared.record.Request.{Request}
+use Rattle.sdb_types.specs.declared.record.Request.TheVariants as ask
+use Rattle.sdb_types.specs.declared.txid.TxId.{TxId}
+use Rattle.sdb_types.specs.Contents.{Contents}
+use Rattle.sdb_types.proofs.Basics.{clash}
+use Rattle.sdb_types.proofs.Bools.{or_first}
+use Rattle.sdb_record.specs.declared.coordinator.Decided.{Decided}
+use Rattle.sdb_record.specs.declared.coordinator.Decision.TheVariants as decision
+use Rattle.sdb_record.specs.Coordinator.{coordinator_key_of, coordinator_table, decision_in, is_coordinator_table}
+use Rattle.sdb_record.specs.Meta.{id_in}
+use Rattle.sdb_record.specs.Rolls.{image_of}
+use Rattle.sdb_schema.specs.declared.table.Table.{Table}
+use Rattle.sdb_model.specs.declared.answer.Answer.{Answer}
+use Rattle.sdb_model.specs.declared.event.Event.{Event}
+use Rattle.sdb_model.specs.declared.event.Event.TheVariants as event
+use Rattle.sdb_model.specs.declared.event.How.{How}
+use Rattle.sdb_model.specs.declared.script.Place.{Place}
+use Rattle.sdb_model.specs.declared.statement.Statement.{Statement}
+use Rattle.sdb_model.specs.Events.{IsTrace, Shelf, moment, standing, table_asked}
+use Rattle.sdb_model.specs.Exec.{Tables, find_table}
+use Rattle.sdb_model.specs.Explained.{IsLeftBy, IsOfOrLater, IsPreparedAfter, IsTableKey, IsWriter, StandingExplained, closing_of}
+use Rattle.sdb_model.specs.Images.{decision_at, image_at}
+use Rattle.sdb_model.specs.Rows.{Name}
+use Rattle.sdb_model.specs.Transactions.{Recorded, point}
+use Rattle.sdb_laws.proofs.Current.{stand_at, unchanged_at}
+use Rattle.sdb_laws.proofs.Moments.{committed_at, gone_at, rows_at, stands_at, unresolved_at}
+use Rattle.sdb_turns.specs.System.{SystemAt}
+use Rattle.sdb_linked.specs.Going.{IsGoing}
+use Rattle.sdb_spread.specs.Spread.{AreAbout, HoldAs, IsAbout, is_played, moved_event, moved_events, one_shelf}
+use Rattle.sdb_spread.proofs.Moved.{moved_more, point_moved}
+use Rattle.sdb_endings.proofs.Ended.{or_true, starts_empty}
+use Rattle.sdb_endings.proofs.Moments.{Alone, alone}
+use Rattle.sdb_endings.proofs.Runs.{IsLawfulRun, lawful_run}
+
+---- a run of the laws
+
+by_run : (catalog : List Table) (places : List Place) (events : List Event) (opening : List Shelf) (moments : List (List Shelf)) → find_table catalog coordinator_table ≡ None → IsLawfulRun places events opening moments → StandingExplained catalog places events opening moments
+by_run catalog places events opening moments none b =
+    subst (λ (es : List Event). StandingExplained catalog places es opening moments) (sym b.same) (record {
+      committed_recorded = λ n low. committed_at b.plan places opening b.played moments catalog n b.run none low;
+      unresolved_prepared = λ n low. unresolved_at b.plan places opening b.played moments catalog n b.run none low;
+      prepared_stands = λ n low. stands_at b.plan places opening b.played moments catalog n b.run none low;
+      writes_stand = stand_at b.plan places opening b.played moments catalog b.run none b.faithful;
+      aborted_gone = λ n low. gone_at b.plan places opening b.played moments catalog n b.run none low;
+      rows_final = λ early late order low. rows_at b.plan places opening b.played moments early late b.run order low;
+      unchanged_resolved = unchanged_at b.plan places opening b.played moments catalog b.run none;
+    })
+
+---- calls among events
+
+about_at : (catalog : List Table) (front : List Event) (e : Event) (back : List Event) → AreAbout catalog (front ++ e ∷ back) → IsAbout catalog e
+about_at catalog [] e back h = h.0
+about_at catalog (x ∷ xs) e back h = about_at catalog xs e back h.1
+
+-- a call that was moved, among the events as they were
+record IsMoved (events front : List Event) (client : ℕ) (q : Request) (how : How) (r : Reply) (answer : Option Answer) : Type 0 where
+  early : List Event
+  store : Name
+  back : List Event
+  same : events ≡ early ++ event.Call client store q how r answer ∷ back
+  long : length early ≡ length front
+
+none_some : (x : Event) (xs : List Event) → ◌≡◌ {A = List Event} [] (x ∷ xs) → ⊥
+none_some x xs h = absurd (cc)
+
+firsts : (x y : Event) (xs ys : List Event) → ◌≡◌ {A = List Event} (x ∷ xs) (y ∷ ys) → x ≡ y
+firsts x y xs ys h = cc
+
+others : (x y : Event) (xs ys : List Event) → ◌≡◌ {A = List Event} (x ∷ xs) (y ∷ ys) → xs ≡ ys
+others x y xs ys h = cc
+
+abbrev calls : Event → Bool
+calls (event.Call client store q how r answer) = true
+calls _ = false
+
+-- no other event is a call
+no_call : (e : Event) (es back : List Event) (client : ℕ) (store : Name) (q : Request) (how : How) (r : Reply) (answer : Option Answer) → calls e ≡ false → ◌≡◌ {A = List Event} (e ∷ es) (event.Call client store q how r answer ∷ back) → ⊥
+no_call e es back client store q how r answer other h = clash (sym (ap calls (firsts e (event.Call client store q how r answer) es back h)) ∙ other)
+
+call_same : (c client : ℕ) (s u store : Name) (p q : Request) (g how : How) (b r : Reply) (a answer : Option Answer) (es fs back : List Event) → ◌≡◌ {A = List Event} (event.Call c u p g b a ∷ fs) (event.Call client store q how r answer ∷ back)
+    → ◌≡◌ {A = List Event} (event.Call c s p g b a ∷ es) (event.Call client s q how r answer ∷ es)
+call_same c client s u store p q g how b r a answer es fs back h = cc
+
+moved_from : (at : Name → Name) (events front back : List Event) (client : ℕ) (store : Name) (q : Request) (how : How) (r : Reply) (answer : Option Answer) → moved_events at events ≡ front ++ event.Call client store q how r answer ∷ back → IsMoved events front client q how r answer
+moved_from at [] [] back client store q how r answer h = absurd (none_some _ _ h)
+moved_from at [] (f ∷ fs) back client store q how r answer h = absurd (none_some _ _ h)
+moved_from at (event.Take c text a ∷ es) [] back client store q how r answer h = absurd (no_call (event.Take c text a) (moved_events at es) back client store q how r answer refl h)
+moved_from at (event.Call c s p g b a ∷ es) [] back client store q how r answer h =
+    record { early = []; store = s; back = es; same = call_same c client s (at (table_asked p).ns) store p q g how b r a answer es (moved_events at es) back h; long = refl }
+moved_from at (event.Stop c ∷ es) [] back client store q how r answer h = absurd (no_call (event.Stop c) (moved_events at es) back client store q how r answer refl h)
+moved_from at (event.Clock m ∷ es) [] back client store q how r answer h = absurd (no_call (event.Clock m) (moved_events at es) back client store q how r answer refl h)
+moved_from at (event.Idle c ∷ es) [] back client store q how r answer h = absurd (no_call (event.Idle c) (moved_events at es) back client store q how r answer refl h)
+moved_from at (e ∷ es) (f ∷ fs) back client store q how r answer h =
+    let rest = moved_from at es fs back client store q how r answer (others (moved_event at e) f (moved_events at es) (fs ++ event.Call client store q how r answer ∷ back) h) in
+    record { early = e ∷ rest.early; store = rest.store; back = rest.back; same = ap (λ (xs : List Event). e ∷ xs) rest.same; long = ap suc rest.long }
+
+---- keys of the tables
+
+row_played : (catalog : List Table) (id : TxId) → is_played catalog (coordinator_key_of id).table ≡ true
+unfolding coordinator_key_of
+row_played catalog id = or_true (is_some (find_table catalog (coordinator_key_of id).table))
+
+table_played : (catalog : List Table) (key : Key) → IsTableKey catalog key → is_played catalog key.table ≡ true
+table_played catalog key table = or_first (is_some (find_table catalog key.table)) (is_coordinator_table key.table) table
+
+---- from the one store to several
+
+module _ (catalog : List Table) (name : Name) (places : List Place) (events : List Event) (opening : List Shelf) (moments : List (List Shelf)) (m : Contents) (about : AreAbout catalog events) (a : Alone catalog name places events opening moments m) where
+  abbrev moved : List Event → List Event
+  moved = moved_events (λ ns. name)
+
+  abbrev many : ℕ → List Shelf
+  many = moment opening moments
+
+  abbrev one : ℕ → List Shelf
+  one = moment (one_shelf name m) a.singles
+
+  long : (es : List Event) → length (moved es) ≡ length es
+  long es = length-map es (moved_event (λ ns. name))
+
+  within : (n : ℕ) → n ≤ length moments → n ≤ length a.singles
+  within n low = subst (λ (k : ℕ). n ≤ k) (sym a.long) low
+
+  at_row : (n : ℕ) (id : TxId) → standing places (many n) (coordinator_key_of id) ≡ standing [] (one n) (coordinator_key_of id)
+  at_row n id = a.stands n (coordinator_key_of id) (row_played catalog id)
+
+  at_key : (n : ℕ) (key : Key) → IsTableKey catalog key → standing places (many n) key ≡ standing [] (one n) key
+  at_key n key table = a.stands n key (table_played catalog key table)
+
+  decided : (n : ℕ) (id : TxId) → decision_at places (many n) id ≡ decision_at [] (one n) id
+  decided n id = ap (option_and_then (λ (row : Record). result_ok (decision_in row))) (at_row n id)
+
+  -- what the decisions make of a record
+  image_of_found : (n : ℕ) (found : Option Record) → option_and_then (λ (r : Record). image_of r (option_and_then (decision_at places (many n)) (id_in r.columns))) found ≡ option_and_then (λ (r : Record). image_of r (option_and_then (decision_at [] (one n)) (id_in r.columns))) found
+  image_of_found n found = λ k. option_and_then (λ (r : Record). image_of r (option_and_then (λ (id : TxId). decided n id k) (id_in r.columns))) found
+
+  image : (n : ℕ) (key : Key) → IsTableKey catalog key → image_at places (many n) key ≡ image_at [] (one n) key
+  image n key table =
+      ap (option_and_then (λ (r : Record). image_of r (option_and_then (decision_at places (many n)) (id_in r.columns)))) (at_key n key table) ∙ image_of_found n (standing [] (one n) key)
+
+  recorded_on : (n : ℕ) (id : TxId) → Recorded places (many n) id → Recorded [] (one n) id
+  recorded_on n id h = subst (λ (o : Option Decided). IsSomeAnd o (λ d. d.decision ≡ decision.Committed)) (decided n id) h
+
+  recorded_back : (n : ℕ) (id : TxId) → Recorded [] (one n) id → Recorded places (many n) id
+  recorded_back n id h = subst (λ (o : Option Decided). IsSomeAnd o (λ d. d.decision ≡ decision.Committed)) (sym (decided n id)) h
+
+  put_played : (front : List Event) (e : Event) (back : List Event) → events ≡ front ++ e ∷ back → IsAbout catalog e
+  put_played front e back same = about_at catalog front e back (subst (AreAbout catalog) same about)
+
+  call_on : (front : List Event) (client : ℕ) (store : Name) (q : Request) (how : How) (r : Reply) (answer : Option Answer) (back : List Event) → events ≡ front ++ event.Call client store q how r answer ∷ back → moved events ≡ moved front ++ event.Call client name q how r answer ∷ moved back
+  call_on front client store q how r answer back same = ap moved same ∙ moved_more (λ ns. name) front (event.Call client store q how r answer ∷ back)
+
+  -- a prepare on several stores, and on the one
+  prepared_on : (id : TxId) (r : Record) (front : List Event) → IsPreparedAfter places events opening moments id r front → IsPreparedAfter [] (moved events) (one_shelf name m) a.singles id r (moved front)
+  prepared_on id r front p =
+      let played = put_played front (event.Call p.client p.store (ask.PutIf r p.condition) p.how p.reply p.answer) p.back p.at in
+      record {
+        client = p.client;
+        store = name;
+        condition = p.condition;
+        how = p.how;
+        reply = p.reply;
+        answer = p.answer;
+        back = moved p.back;
+        at = call_on front p.client p.store (ask.PutIf r p.condition) p.how p.reply p.answer p.back p.at;
+        prepare = p.prepare;
+        before = ap (λ (n : ℕ). standing [] (one n) r.key) (long front) ∙ sym (a.stands (length front) r.key played) ∙ p.before;
+        after = ap (λ (n : ℕ). standing [] (one (suc n)) r.key) (long front) ∙ sym (a.stands (suc (length front)) r.key played) ∙ p.after;
+      }
+
+  prepared_back : (id : TxId) (r : Record) (front : List Event) → IsPreparedAfter [] (moved events) (one_shelf name m) a.singles id r front → (early : List Event) × (length early ≡ length front) × IsPreparedAfter places events opening moments id r early
+  prepared_back id r front p =
+      let c = moved_from (λ ns. name) events front p.back p.client p.store (ask.PutIf r p.condition) p.how p.reply p.answer p.at in
+      let played = put_played c.early (event.Call p.client c.store (ask.PutIf r p.condition) p.how p.reply p.answer) c.back c.same in (
+        c.early,
+        c.long,
+        record {
+          client = p.client;
+          store = c.store;
+          condition = p.condition;
+          how = p.how;
+          reply = p.reply;
+          answer = p.answer;
+          back = c.back;
+          at = c.same;
+          prepare = p.prepare;
+          before = a.stands (length c.early) r.key played ∙ ap (λ (n : ℕ). standing [] (one n) r.key) c.long ∙ p.before;
+          after = a.stands (suc (length c.early)) r.key played ∙ ap (λ (n : ℕ). standing [] (one (suc n)) r.key) c.long ∙ p.after;
+        },
+      )
+
+  -- a writer
+  writer_on : (key : Key) (id : TxId) → IsWriter places events opening moments key id → IsWriter [] (moved events) (one_shelf name m) a.singles key id
+  writer_on key id w = record {
+    fits = w.fits;
+    recorded = subst (λ (n : ℕ). Recorded [] (one n) id) (sym (long events)) (recorded_on (length events) id w.recorded);
+    r = w.r;
+    front = moved w.front;
+    at = w.at;
+    prepared = prepared_on id w.r w.front w.prepared;
+  }
+
+  abbrev writer_back : (key : Key) (id : TxId) → IsWriter [] (moved events) (one_shelf name m) a.singles key id → IsWriter places events opening moments key id
+  writer_back key id w = record {
+    fits = w.fits;
+    recorded = recorded_back (length events) id (subst (λ (n : ℕ). Recorded [] (one n) id) (long events) w.recorded);
+    r = w.r;
+    front = (prepared_back id w.r w.front w.prepared).0;
+    at = w.at;
+    prepared = (prepared_back id w.r w.front w.prepared).2;
+  }
+
+  left_back : (key : Key) (id : TxId) → IsTableKey catalog key → IsOfOrLater [] (moved events) (one_shelf name m) a.singles key id (image_at [] (closing_of (moved events) (one_shelf name m) a.singles) key) → IsOfOrLater places events opening moments key id (image_at places (closing_of events opening moments) key)
+  left_back key id table l = record {
+    u = l.u;
+    writer = writer_back key l.u l.writer;
+    later = elim l.later [
+      | inl same ↦ inl same
+      | inr less ↦ inr (subst (λ (n : ℕ). n < point events l.u) (point_moved (λ ns. name) events id) (subst (λ (n : ℕ). point (moved events) id < n) (point_moved (λ ns. name) events l.u) less))
+    ];
+    left = subst (λ (o : Option Record). IsLeftBy l.u l.writer.r o) (ap (λ (n : ℕ). image_at [] (one n) key) (long events) ∙ sym (image (length events) key table)) l.left;
+  }
+
+  explained_back : StandingExplained catalog [] (moved events) (one_shelf name m) a.singles → StandingExplained catalog places events opening moments
+  explained_back s = record {
+    committed_recorded = λ n low key r table at committed.
+        let c = s.committed_recorded n (within n low) key r table (sym (at_key n key table) ∙ at) committed in
+        (c.0, c.1, recorded_back n c.0 c.2);
+    unresolved_prepared = λ n low key r table at loose.
+        let u = s.unresolved_prepared n (within n low) key r table (sym (at_key n key table) ∙ at) loose in
+        let p = prepared_back u.0 r u.1 u.4 in
+        (u.0, p.0, u.2, subst (λ (k : ℕ). k < n) (sym p.1) u.3, p.2);
+    prepared_stands = λ n low id r front fits table early p none.
+        at_key n r.key table ∙ s.prepared_stands n (within n low) id r (moved front) fits table (subst (λ (k : ℕ). k < n) (sym (long front)) early) (prepared_on id r front p) (sym (at_row n id) ∙ none);
+    writes_stand = λ key id table w. left_back key id table (s.writes_stand key id table (writer_on key id w));
+    aborted_gone = λ n low id key r fits aborted table at.
+        s.aborted_gone n (within n low) id key r fits (subst (λ (o : Option Decided). IsSomeAnd o (λ d. d.decision ≡ decision.Aborted)) (decided n id) aborted) table (sym (at_key n key table) ∙ at);
+    rows_final = λ early late order low id row fits at.
+        at_row late id ∙ s.rows_final early late order (within late low) id row fits (sym (at_row early id) ∙ at);
+    unchanged_resolved = λ front back client store q how r answer key found version same shows still table id x before fits at early p none.
+        s.unchanged_resolved (moved front) (moved back) client name q how r answer key found version (call_on front client store q how r answer back same) shows still table id x (moved before) fits at
+        (subst (λ (n : ℕ). n < length (moved front)) (sym (long before)) (subst (λ (n : ℕ). length before < n) (sym (long front)) early)) (prepared_on id x before p)
+        (ap (λ (n : ℕ). standing [] (one n) (coordinator_key_of id)) (long front) ∙ sym (at_row (length front) id) ∙ none);
+  }
+
+---- the whole
+
+pub going_is_explained : (catalog : List Table) (places : List Place) (name : Name) (fit : Tables → Bool) (events : List Event) (sys : SystemAt) (doing : ℕ → Option Statement) (opening closing : List Shelf) (moments : List (List Shelf))
+    → IsGoing catalog fit (moved_events (λ ns. name) events) sys doing → find_table catalog coordinator_table ≡ None → IsTrace places events opening moments closing → AreAbout catalog events → HoldAs catalog places opening empty
+    → StandingExplained catalog places events opening moments
+going_is_explained catalog places name fit events sys doing opening closing moments g none t about h =
+    let a = alone catalog name places events opening moments closing empty t about h in
+    explained_back catalog name places events opening moments empty about a
+    (by_run catalog [] (moved_events (λ ns. name) events) (one_shelf name empty) a.singles none
+    (lawful_run catalog fit (moved_events (λ ns. name) events) sys doing [] (one_shelf name empty) a.last a.singles g a.traced (starts_empty name)))

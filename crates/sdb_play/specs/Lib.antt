@@ -1,4 +1,0 @@
-pub mod Board
-pub mod Played
-pub mod Opening
-pub mod Closing

@@ -1,2 +1,0 @@
-pub mod Txn
-pub mod Inside

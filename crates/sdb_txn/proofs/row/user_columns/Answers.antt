@@ -1,8 +1,0 @@
-use Rattle.std.proofs.Common.{◌∙◌, ap, []}
-use Rattle.sdb_record.specs.Parts.{user_columns, is_user_pair, with_columns}
-use Rattle.sdb_record.proofs.ColumnLaws.{with_columns-none, are_columns-filter}
-use Rattle.sdb_txn.proofs.row.user_columns.Goals as goal
-
-pub returns : goal.returns
-returns c =
-    c.in_ok-lay_user.ensures ∙ ap (with_columns (user_columns c.pairs.result.now)) c.new-user.ensures ∙ ap (λ ps. with_columns (user_columns ps) []) c.pairs.ensures ∙ with_columns-none (user_columns c.args.columns.now) (are_columns-filter is_user_pair c.args.columns.now c.len-length.ensures.columns)

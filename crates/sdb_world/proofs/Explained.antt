@@ -1,0 +1,62 @@
+-- What stands at every moment is explained by the events of a world.
+use Rattle.std.proofs.Common.{◌≡◌, List, [], ◌∷◌, ◌++◌, Option, Some, None, refl, sym, ap, subst, ◌∙◌}
+use Rattle.std.specs.Prelude.{is_some, OnOk, Result, Ok, Err}
+use Rattle.std.specs.FinMap.{empty}
+use Rattle.sdb_types.proofs.Basics.{clash}
+use Rattle.sdb_record.specs.Coordinator.{coordinator_table}
+use Rattle.sdb_schema.specs.declared.table.Table.{Table}
+use Rattle.sdb_model.specs.declared.event.Event.{Event}
+use Rattle.sdb_model.specs.declared.script.Act.{Act}
+use Rattle.sdb_model.specs.declared.script.Place.{Place}
+use Rattle.sdb_model.specs.declared.script.Script.{Script}
+use Rattle.sdb_model.specs.Events.{Effect, IsTrace, Shelf}
+use Rattle.sdb_model.specs.Exec.{find_table}
+use Rattle.sdb_model.specs.Explained.{StandingExplained}
+use Rattle.sdb_spread.specs.Spread.{HoldAs}
+use Rattle.sdb_steps.specs.Fitting.{tables_fit}
+use Rattle.sdb_steps.specs.Hands.{doing_of, system_of}
+use Rattle.sdb_endings.proofs.Explains.{going_is_explained}
+use Rattle.sdb_endings.proofs.Moments.{lone_effect}
+use Rattle.sdb_world.specs.World.{IsPlayable, IsWorld, WorldAt, hands_of}
+use Rattle.sdb_world.specs.Linked.{IsLinked, one_name}
+use Rattle.sdb_world.specs.Played.{HasPlayed}
+use Rattle.sdb_world.specs.Step.{HasCome, IsOne}
+use Rattle.sdb_world.specs.Explained.{IsExplained, IsExplainedAfter}
+use Rattle.sdb_world.proofs.Acts.{Came}
+use Rattle.sdb_world.proofs.Goes.{traces_on}
+
+-- no table of a script is the coordinator's
+no_coordinator : (script : Script) → IsPlayable script → find_table script.catalog coordinator_table ≡ None
+no_coordinator script p = by (find_table script.catalog coordinator_table) refl
+  where
+    by : (o : Option Table) → find_table script.catalog coordinator_table ≡ o → find_table script.catalog coordinator_table ≡ None
+    by None e = e
+    by (Some t) e = clash (sym (p.apart (record { table = coordinator_table; partition = []; clustering = [] }) (ap is_some e)))
+
+pub world_explained : (w : WorldAt) → IsWorld w → IsLinked w → (places : List Place) (opening closing : List Shelf) (moments : List (List Shelf)) → HoldAs w.script.catalog places opening empty → IsTrace places w.events opening moments closing → StandingExplained w.script.catalog places w.events opening moments
+world_explained w h g places opening closing moments nothing traced =
+    going_is_explained w.script.catalog places one_name (tables_fit w.script.catalog) w.events (system_of (hands_of w.seats)) (doing_of (hands_of w.seats)) opening closing moments g (no_coordinator w.script h.playable) traced h.about nothing
+
+-- a world that has played its script
+pub played_explained : (w : WorldAt) → IsWorld w → (events : List Event) → events ≡ w.events → (opening closing : List Shelf) → HasPlayed w opening closing → IsExplained w.script events opening
+played_explained w h events same opening closing p moments end traced =
+    subst (λ (es : List Event). StandingExplained w.script.catalog w.script.places es opening moments) (sym same)
+    (world_explained w h p.linked w.script.places opening end moments p.nothing (subst (λ (es : List Event). IsTrace w.script.places es opening moments end) same traced))
+
+-- one event more
+pub came_explained : (fit : Type 0) (places : List Place) (before now : List Shelf) (w v : WorldAt) (a : Act) → Came fit places before now w a v → IsExplainedAfter fit places before now w v
+came_explained fit places before now w v a (h, c) f g opening moments nothing traced =
+    let e : Event = c.so.event in
+    let s = c.gone.traced f in
+    let effect : Effect places e before now = lone_effect places e before now s.0 (subst (λ (es : List Event). IsTrace places es before s.0 now) c.so.lone s.1) in
+    let events : v.events ≡ w.events ++ e ∷ [] = c.gone.events ∙ ap (λ (es : List Event). w.events ++ es) c.so.lone in
+    let on : IsTrace places v.events opening (moments ++ now ∷ []) now =
+    subst (λ (es : List Event). IsTrace places es opening (moments ++ now ∷ []) now) (sym events) (traces_on places w.events (e ∷ []) opening before now moments (now ∷ []) traced (effect, refl)) in
+    record {
+      traced = on;
+      standing = world_explained v h (c.gone.linked g) places opening now (moments ++ now ∷ []) (subst (λ (x : Script). HoldAs x.catalog places opening empty) (sym c.gone.script) nothing) on;
+    }
+
+pub on_explained : {T E : Type 0} (r : Result T E) (fit : Type 0) (places : List Place) (before now : List Shelf) (w v : WorldAt) (a : Act) → OnOk r (IsWorld v) → OnOk r (HasCome (IsOne w.script.clients a w.events) fit places before now w v) → OnOk r (IsExplainedAfter fit places before now w v)
+on_explained (Ok x) fit places before now w v a h c = came_explained fit places before now w v a (h, c)
+on_explained (Err e) fit places before now w v a h c = tt

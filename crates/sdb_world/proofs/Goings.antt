@@ -1,0 +1,74 @@
+-- A step of a client, whichever it is.
+use Rattle.std.proofs.Common.{◌≡◌, ℕ, ℤ, zero, suc, ◌-◌, ◌<◌, ◌≤◌, Bool, true, false, List, [], ◌∷◌, ◌++◌, length, Option, IfSome, sym, ap, subst, ◌∙◌, arith, get_or}
+use Rattle.std.specs.Prelude.{not, nat_lt, slice_get}
+use Rattle.std.proofs.lemmas.Bool.{ltb-true}
+use Rattle.sdb_types.proofs.Bools.{and_second}
+use Rattle.sdb_model.specs.declared.event.Event.{Event}
+use Rattle.sdb_model.specs.declared.event.Event.TheVariants as event
+use Rattle.sdb_model.specs.declared.script.Act.{Act}
+use Rattle.sdb_model.specs.declared.script.Act.TheVariants as act
+use Rattle.sdb_model.specs.declared.script.Place.{Place}
+use Rattle.sdb_model.specs.Events.{Shelf}
+use Rattle.sdb_model.specs.Follows.{has_work, texts_of}
+use Rattle.sdb_client.specs.Client.{IsIdle}
+use Rattle.sdb_world.specs.declared.seat.Seat.{Seat}
+use Rattle.sdb_world.specs.declared.way.Way.{Way}
+use Rattle.sdb_world.specs.World.{IsWorld, WorldAt, at_moment, with_event}
+use Rattle.sdb_world.specs.Step.{CanAct, HasCalled, HasLeft, HasTaken, IsBusyAt, IsIdleAt, IsNumber, act_of}
+use Rattle.sdb_world.proofs.Acts.{Came, acts_call, acts_clock, acts_idle, acts_take}
+use Rattle.sdb_world.proofs.Takings.{read_there}
+use Rattle.sdb_world.proofs.Works.{work_is}
+
+-- a number from 1 is that of a place from 0
+pub number_is : (c : ℕ) → 0 < c → suc (c - 1) ≡ c
+number_is zero h = absurd (omega arith)
+number_is (suc c) h = omega arith
+
+-- the place of a client is one of the world's
+pub place_low : (w : WorldAt) (c : ℕ) → IsWorld w → IsNumber w.script c → c - 1 < length w.seats
+place_low w c h number =
+    let low : 0 < c = number.0 in
+    let high : c ≤ length w.script.clients = number.1 in
+    let same : length w.seats ≡ length w.script.clients = h.clients in
+    omega (arith, low, high, same)
+
+-- what is so of the client that was read at a place
+pub at_write : (P : Seat → Type 0) (seats : List Seat) (i : ℕ) (s : Seat) → i < length seats → s ≡ get_or seats i s → P s → IfSome (slice_get seats i) P
+at_write P seats i s low read p = subst (λ (o : Option Seat). IfSome o P) (sym (read_there seats i s low read)) p
+
+-- a client with work that waits for a statement has one left
+pub left_of : (w : WorldAt) (i : ℕ) (s : Seat) → IsWorld w → i < length w.seats → s ≡ get_or w.seats i s → IsIdle s.client → has_work w.script.clients (suc i) w.events ≡ true → HasLeft w i
+left_of w i s h low read idle works =
+    at_write (λ (x : Seat). x.taken < length (texts_of w.script.clients (suc i))) w.seats i s low read
+    (let lt : nat_lt s.taken (length (texts_of w.script.clients (suc i))) ≡ true = and_second (not s.stopped) (nat_lt s.taken (length (texts_of w.script.clients (suc i)))) (sym (work_is w i s true h (read_there w.seats i s low read) (λ e. idle) (λ e. cc)) ∙ works) in ltb-true s.taken (length (texts_of w.script.clients (suc i))) lt)
+
+-- nothing but an event more
+idled : (u w : WorldAt) → u ≡ w → (es : List Event) (c : ℕ) → es ≡ u.events ++ event.Idle c ∷ [] → record { script = u.script; seats = u.seats; events = es; clock = u.clock } ≡ with_event w (event.Idle c)
+idled u w same es c came =
+    subst (λ (x : WorldAt). record { script = x.script; seats = x.seats; events = es; clock = x.clock } ≡ with_event w (event.Idle c)) (sym same)
+    (λ k. record { script = w.script; seats = w.seats; events = (came ∙ ap (λ (x : WorldAt). x.events ++ event.Idle c ∷ []) same) k; clock = w.clock })
+
+module _ (fit : Type 0) (places : List Place) (w : WorldAt) (c : ℕ) (way : Way) (h : IsWorld w) (number : IsNumber w.script c) (b : Bool) (works : b ≡ has_work w.script.clients (suc (c - 1)) w.events) where
+  -- it has no work
+  pub goes_idle : (now : List Shelf) (u : WorldAt) (es : List Event) → b ≡ false → u ≡ w → es ≡ u.events ++ event.Idle c ∷ [] → Came fit places now now w (act_of way c) (record { script = u.script; seats = u.seats; events = es; clock = u.clock })
+  goes_idle now u es none same came =
+      acts_idle fit places now w (record { script = u.script; seats = u.seats; events = es; clock = u.clock }) c way h (sym (works ∙ ap (λ (n : ℕ). has_work w.script.clients n w.events) (number_is c number.0)) ∙ none) (idled u w same es c came)
+
+  -- it takes a statement
+  pub goes_take : (now : List Shelf) (v : WorldAt) → b ≡ true → IsIdleAt w (c - 1) → HasTaken w (c - 1) v → Came fit places now now w (act_of way c) v
+  goes_take now v has idle t = subst (λ (n : ℕ). Came fit places now now w (act_of way n) v) (number_is c number.0) (acts_take fit places now w v (c - 1) way h (sym works ∙ has) idle t)
+
+  -- its call is made
+  pub goes_call : (before now : List Shelf) (v : WorldAt) → b ≡ true → IsBusyAt w (c - 1) → HasCalled fit places before now w (c - 1) way v → Came fit places before now w (act_of way c) v
+  goes_call before now v has busy t = subst (λ (n : ℕ). Came fit places before now w (act_of way n) v) (number_is c number.0) (acts_call fit places before now w v (c - 1) way h (sym works ∙ has) busy t)
+
+-- the clock, and an event more
+clocked : (u w : WorldAt) → u ≡ w → (es : List Event) (m : ℤ) → es ≡ u.events ++ event.Clock m ∷ [] → record { script = u.script; seats = u.seats; events = es; clock = m } ≡ with_event (at_moment w m) (event.Clock m)
+clocked u w same es m came =
+    subst (λ (x : WorldAt). record { script = x.script; seats = x.seats; events = es; clock = m } ≡ with_event (at_moment w m) (event.Clock m)) (sym same)
+    (λ k. record { script = w.script; seats = w.seats; events = (came ∙ ap (λ (x : WorldAt). x.events ++ event.Clock m ∷ []) same) k; clock = m })
+
+pub goes_clock : (fit : Type 0) (places : List Place) (now : List Shelf) (u w : WorldAt) → u ≡ w → (es : List Event) (a : Act) (m : ℤ) → IsWorld w → a ≡ act.Clock m → CanAct w.script a → es ≡ u.events ++ event.Clock m ∷ [] → Came fit places now now w a (record { script = u.script; seats = u.seats; events = es; clock = m })
+goes_clock fit places now u w same es a m h is can came =
+    subst (λ (x : Act). Came fit places now now w x (record { script = u.script; seats = u.seats; events = es; clock = m })) (sym is)
+    (acts_clock fit places now w (record { script = u.script; seats = u.seats; events = es; clock = m }) m h (subst (CanAct w.script) is can) (clocked u w same es m came))

@@ -1,0 +1,126 @@
+-- What is so of a world stays so.
+use Rattle.std.proofs.Common.{◌≡◌, ℕ, zero, suc, ℤ, ◌+◌, true, false, List, [], ◌∷◌, ◌++◌, Option, Some, None, refl, sym, ap, subst, ◌∙◌, slice_set, add-zero}
+use Rattle.std.specs.Prelude.{is_none, slice_get, IsSome}
+use Rattle.std.specs.List.{AllByRecursion}
+use Rattle.sdb_types.specs.declared.record.Reply.{Reply}
+use Rattle.sdb_types.specs.declared.record.Request.{Request}
+use Rattle.sdb_record.specs.Meta.{is_moment}
+use Rattle.sdb_model.specs.declared.answer.Answer.{Answer}
+use Rattle.sdb_model.specs.declared.event.Event.{Event}
+use Rattle.sdb_model.specs.declared.event.Event.TheVariants as event
+use Rattle.sdb_model.specs.declared.event.How.{How}
+use Rattle.sdb_model.specs.declared.script.Script.{Script}
+use Rattle.sdb_model.specs.Rows.{Name}
+use Rattle.sdb_spread.specs.Spread.{IsAbout}
+use Rattle.sdb_client.specs.Client.{ClientAt}
+use Rattle.sdb_steps.specs.About.{IsOfTables}
+use Rattle.sdb_steps.specs.Hands.{IsAfter}
+use Rattle.sdb_world.specs.declared.seat.Seat.{Seat}
+use Rattle.sdb_world.specs.World.{IsSeat, IsWorld, WorldAt, at_moment, with_event, with_seat}
+use Rattle.sdb_world.specs.Step.{moved_seat, stopped_seat}
+use Rattle.sdb_world.proofs.Seats.{set_here, set_length, set_other}
+use Rattle.sdb_world.proofs.Ties.{IsApart, apart_pending, apart_stopped, apart_taken, own_call_pending, own_call_stopped, own_call_taken, own_stop_pending, own_stop_stopped, own_stop_taken, own_take_pending, own_take_stopped, own_take_taken}
+use Rattle.sdb_types.proofs.Basics.{some_is}
+
+by_nat : {G : Type 0} (i j : ℕ) → (i ≡ j → G) → ((i ≡ j → ⊥) → G) → G
+by_nat zero zero a b = a refl
+by_nat zero (suc j) a b = b (λ e. cc)
+by_nat (suc i) zero a b = b (λ e. cc)
+by_nat (suc i) (suc j) a b = by_nat i j (λ e. a (ap suc e)) (λ n. b (λ e. n (suc_is i j e)))
+  where
+    suc_is : (i j : ℕ) → suc i ≡ suc j → i ≡ j
+    suc_is i j e = cc
+
+---- a client that the event isn't of
+
+seat_stays : (script : Script) (es : List Event) (e : Event) (j : ℕ) (s : Seat) → IsApart (suc j) e → IsSeat script es j s → IsSeat script (es ++ e ∷ []) j s
+seat_stays script es e j s apart h = record {
+  number = h.number;
+  fitted = h.fitted;
+  about = h.about;
+  taken = h.taken ∙ sym (apart_taken (suc j) es e apart);
+  stopped = h.stopped ∙ sym (apart_stopped (suc j) es e apart);
+  busy = λ t. h.busy (sym (apart_pending (suc j) es e apart) ∙ t);
+  idle = λ t. h.idle (sym (apart_pending (suc j) es e apart) ∙ t);
+}
+
+all_more : {A : Type 0} (P : A → Type 0) (xs : List A) (x : A) → AllByRecursion P xs → P x → AllByRecursion P (xs ++ x ∷ [])
+all_more P [] x h p = (p, tt)
+all_more P (y ∷ ys) x h p = (h.0, all_more P ys x h.1 p)
+
+-- an event that is of no client's doing
+pub world_stays : (w : WorldAt) (e : Event) → ((j : ℕ) → IsApart (suc j) e) → IsAbout w.script.catalog e → IsWorld w → IsWorld (with_event w e)
+world_stays w e apart about h = record {
+  playable = h.playable;
+  clients = h.clients;
+  each = λ j s at. seat_stays w.script w.events e j s (apart j) (h.each j s at);
+  moment = h.moment;
+  about = all_more (IsAbout w.script.catalog) w.events e h.about about;
+}
+
+-- the clock moves
+pub world_ticks : (w : WorldAt) (m : ℤ) → is_moment m ≡ true → ((j : ℕ) → IsApart (suc j) (event.Clock m)) → IsWorld w → IsWorld (with_event (at_moment w m) (event.Clock m))
+world_ticks w m is apart h = record {
+  playable = h.playable;
+  clients = h.clients;
+  each = λ j s at. seat_stays w.script w.events (event.Clock m) j s (apart j) (h.each j s at);
+  moment = is;
+  about = all_more (IsAbout w.script.catalog) w.events (event.Clock m) h.about tt;
+}
+
+-- a client stands elsewhere, and the event is its own
+pub world_moves : (w : WorldAt) (i : ℕ) (s t : Seat) (e : Event) → slice_get w.seats i ≡ Some s → ((j : ℕ) → (i ≡ j → ⊥) → IsApart (suc j) e) → IsSeat w.script (w.events ++ e ∷ []) i t → IsAbout w.script.catalog e → IsWorld w → IsWorld (with_event (with_seat w i t) e)
+world_moves w i s t e at apart own about h = record {
+  playable = h.playable;
+  clients = set_length w.seats i t ∙ h.clients;
+  each = λ j u there.
+      by_nat i j
+      (λ same. subst (λ (k : ℕ). slice_get (slice_set w.seats i t) k ≡ Some u → IsSeat w.script (w.events ++ e ∷ []) k u) same (λ here. subst (IsSeat w.script (w.events ++ e ∷ []) i) (some_is t u (sym (set_here w.seats i s t at) ∙ here)) own) there)
+      (λ other. seat_stays w.script w.events e j u (apart j other) (h.each j u (sym (set_other w.seats i j t (λ same. other (sym same))) ∙ there)));
+  moment = h.moment;
+  about = all_more (IsAbout w.script.catalog) w.events e h.about about;
+}
+
+---- a client after its own event
+
+none_true : (o : Option Answer) → is_none o ≡ true → o ≡ None
+none_true None t = refl
+none_true (Some a) t = absurd (cc)
+
+none_false : (o : Option Answer) → is_none o ≡ false → IsSome o
+none_false None t = absurd (cc)
+none_false (Some a) t = refl
+
+module _ (script : Script) (es : List Event) (i : ℕ) (s : Seat) (h : IsSeat script es i s) (a : Option Answer) (d : ClientAt) (after : IsAfter script.catalog s.client a d) (about : IsOfTables script.catalog d) where
+  pub seat_takes : (text : List ℕ) → IsSeat script (es ++ event.Take (suc i) text a ∷ []) i (moved_seat s 1 d)
+  seat_takes text = record {
+    number = after.number ∙ h.number;
+    fitted = after.fitted;
+    about = about;
+    taken = ap (λ (n : ℕ). n + 1) h.taken ∙ sym (own_take_taken (suc i) es text a);
+    stopped = h.stopped ∙ sym (own_take_stopped (suc i) es text a);
+    busy = λ t. after.busy (none_true a (sym (own_take_pending (suc i) es text a) ∙ t));
+    idle = λ t. after.idle (none_false a (sym (own_take_pending (suc i) es text a) ∙ t));
+  }
+
+  pub seat_calls : (store : Name) (q : Request) (how : How) (r : Reply) → IsSeat script (es ++ event.Call (suc i) store q how r a ∷ []) i (moved_seat s 0 d)
+  seat_calls store q how r = record {
+    number = after.number ∙ h.number;
+    fitted = after.fitted;
+    about = about;
+    taken = add-zero s.taken ∙ h.taken ∙ sym (own_call_taken (suc i) es store q how r a);
+    stopped = h.stopped ∙ sym (own_call_stopped (suc i) es store q how r a);
+    busy = λ t. after.busy (none_true a (sym (own_call_pending (suc i) es store q how r a) ∙ t));
+    idle = λ t. after.idle (none_false a (sym (own_call_pending (suc i) es store q how r a) ∙ t));
+  }
+
+pub seat_stops : (script : Script) (es : List Event) (i : ℕ) (s : Seat) → IsSeat script es i s → IsSeat script (es ++ event.Stop (suc i) ∷ []) i (stopped_seat s)
+seat_stops script es i s h = record {
+  number = h.number;
+  fitted = h.fitted;
+  about = h.about;
+  taken = h.taken ∙ sym (own_stop_taken (suc i) es);
+  stopped = sym (own_stop_stopped (suc i) es);
+  busy = λ t. h.busy (sym (own_stop_pending (suc i) es) ∙ t);
+  idle = λ t. h.idle (sym (own_stop_pending (suc i) es) ∙ t);
+}

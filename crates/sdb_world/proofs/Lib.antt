@@ -1,0 +1,14 @@
+pub mod Ties
+pub mod Seats
+pub mod Kept
+pub mod Linked
+pub mod Causing
+pub mod Goes
+pub mod Acts
+pub mod Rounds
+pub mod Outcomes
+pub mod Fresh
+pub mod Works
+pub mod Takings
+pub mod Goings
+pub mod Explained

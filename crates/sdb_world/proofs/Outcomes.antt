@@ -1,0 +1,138 @@
+-- What the outcome of a world that has played its script is.
+use Rattle.std.proofs.Common.{◌≡◌, inl, inr, ℕ, zero, suc, ◌<◌, ◌^◌, Bool, true, false, List, [], ◌∷◌, length, Option, Some, None, refl, sym, ap, subst, ◌∙◌, get_or, arith}
+use Rattle.std.specs.Prelude.{◌||◌, All, Contains, ◌↔◌, IsOk, Result, is_ok, is_some, slice_index_or}
+use Rattle.std.specs.FinMap.{empty, get}
+use Rattle.std.specs.Option.{option_map, option_map_or}
+use Rattle.sdb_types.specs.declared.key.Key.{Key}
+use Rattle.sdb_types.specs.declared.pair.Pair.{Pair}
+use Rattle.sdb_types.specs.declared.record.Record.{Record}
+use Rattle.sdb_types.specs.declared.txid.TxId.{TxId}
+use Rattle.sdb_types.specs.Contents.{Contents, record_at, record_of}
+use Rattle.sdb_record.specs.Coordinator.{decision_in, is_coordinator_table}
+use Rattle.sdb_record.specs.Meta.{is_taken}
+use Rattle.sdb_schema.specs.declared.table.Table.{Table}
+use Rattle.sdb_model.specs.declared.event.Event.{Event}
+use Rattle.sdb_model.specs.declared.event.Point.{Point}
+use Rattle.sdb_model.specs.declared.event.TableDump.{TableDump}
+use Rattle.sdb_model.specs.declared.script.Place.{Place}
+use Rattle.sdb_model.specs.Events.{Shelf, held_by, standing, store_of}
+use Rattle.sdb_model.specs.Exec.{Tables, find_table}
+use Rattle.sdb_model.specs.Told.{AreImages, IsRun, dumps_of, serial}
+use Rattle.sdb_model.specs.Transactions.{Recorded}
+use Rattle.sdb_steps.specs.Fitting.{tables_fit}
+use Rattle.sdb_steps.specs.Hands.{doing_of, system_of}
+use Rattle.sdb_steps.proofs.RowsFit.{is_fitting}
+use Rattle.sdb_dump.specs.Odd.{IsOddAt}
+use Rattle.sdb_endings.specs.Ending.{IsEnd}
+use Rattle.sdb_endings.specs.Order.{HasRisen}
+use Rattle.sdb_endings.specs.Stores.{AreSound, IsPlayedOn}
+use Rattle.sdb_endings.proofs.Ended.{going_is_run_on_stores}
+use Rattle.sdb_endings.proofs.OnStores.{points_on_stores, sound_on_stores}
+use Rattle.sdb_endings.proofs.Ordered.{is_order, risen_fits}
+use Rattle.sdb_world.specs.World.{IsWorld, WorldAt, hands_of}
+use Rattle.sdb_world.specs.Linked.{one_name}
+use Rattle.sdb_world.specs.Played.{HasPlayed}
+
+or_same : {A : Type 0} (xs : List A) (i : ℕ) (a b : A) → i < length xs → get_or xs i a ≡ get_or xs i b
+or_same [] i a b low = absurd (omega arith)
+or_same (x ∷ xs) zero a b low = refl
+or_same (x ∷ xs) (suc i) a b low = or_same xs i a b (omega (arith, low))
+
+-- what is so of each that a list contains is so of all of it
+all_contained : {A : Type 0} (P : A → Type 0) (xs : List A) → ((x : A) → Contains xs x → P x) → All P xs
+all_contained P xs h i d low = h (slice_index_or xs i d) (i, low, or_same xs i (slice_index_or xs i d) d low)
+
+module _ (w : WorldAt) (h : IsWorld w) (opening closing : List Shelf) (p : HasPlayed w opening closing) where
+  on_stores : IsPlayedOn w.script w.events opening closing
+  on_stores = record { moments = p.moments; traced = p.traced; about = h.about; nothing = p.nothing }
+
+  -- what an order of the recorded transactions and the rows of the images are
+  pub run_is : (recorded : List TxId) (order : List Point) (tables : List TableDump) → ((id : TxId) → id.0 < 2 ^ 128 → Contains recorded id ↔ Recorded w.script.places closing id) → ((id : TxId) → Contains recorded id → id.0 < 2 ^ 128) → HasRisen w.events recorded order
+      → ((d : Tables) → AreImages w.script.catalog w.script.places closing d → tables ≡ dumps_of w.script.catalog d) → IsRun w.script opening closing (record { events = w.events; order = order; tables = tables })
+  run_is recorded order tables each small risen printed =
+      let all_small = all_contained (λ (id : TxId). id.0 < 2 ^ 128) recorded small in
+      let have = points_on_stores w.script one_name (tables_fit w.script.catalog) w.events (system_of (hands_of w.seats)) (doing_of (hands_of w.seats)) opening closing p.linked on_stores in
+      let end : IsEnd w.script w.events opening closing order = record {
+        moments = p.moments;
+        follows = p.follows;
+        traced = p.traced;
+        about = h.about;
+        nothing = p.nothing;
+        ordered = is_order w.script.places w.events closing recorded order all_small each have risen;
+        small = risen_fits w.events recorded order all_small risen;
+      } in
+      let run = going_is_run_on_stores w.script one_name (tables_fit w.script.catalog) w.events (system_of (hands_of w.seats)) (doing_of (hands_of w.seats)) opening closing order (is_fitting w.script.catalog h.playable.apart) p.linked end in
+      let same : tables ≡ run.0 = printed (serial w.script.catalog run.1.told.bodies empty).1 run.1.told.images ∙ sym run.1.told.printed in
+      subst (λ (ts : List TableDump). IsRun w.script opening closing (record { events = w.events; order = order; tables = ts })) (sym same) run.1
+
+  sound : AreSound w.script.catalog w.script.places closing
+  sound = sound_on_stores w.script one_name (tables_fit w.script.catalog) w.events (system_of (hands_of w.seats)) (doing_of (hands_of w.seats)) opening closing p.linked on_stores
+
+  -- a record that stands at a key has that key
+  key_is : (key : Key) (r : Record) → standing w.script.places closing key ≡ Some r → r.key ≡ key
+  key_is key r e = by (held_by closing (store_of w.script.places closing key.table.ns)) e
+    where
+      some_is : {A : Type 0} (x y : A) → Some x ≡ Some y → x ≡ y
+      some_is x y e = cc
+
+      none_some : {A : Type 0} (x : A) → ◌≡◌ {A = Option A} None (Some x) → ⊥
+      none_some x e = cc
+
+      of_columns : (o : Option (List Pair)) → option_map (λ columns. record_of (key, columns)) o ≡ Some r → r.key ≡ key
+      of_columns None k = absurd (none_some r k)
+      of_columns (Some columns) k = ap (λ (x : Record). x.key) (sym (some_is (record_of (key, columns)) r k))
+
+      by : (o : Option Contents) → option_map_or (λ m. record_at m key) o None ≡ Some r → r.key ≡ key
+      by None k = absurd (none_some r k)
+      by (Some m) k = of_columns (get m key) k
+
+  true_false : {G : Type 0} → true ≡ false → G
+  true_false e = absurd (let f = e in cc)
+
+  or_first : (a b : Bool) → a ≡ true → (a || b) ≡ true
+  or_first a b e = ap (λ (x : Bool). x || b) e
+
+  ok_decided : {A B : Type 0} (r : Result A B) → IsOk r → is_ok r ≡ false → ⊥
+  ok_decided r a b = absurd (cc)
+
+  -- no record breaks the rules
+  pub none_odd : (key : Key) → IsOddAt w.script.catalog w.script.places closing key → ⊥
+  none_odd key odd = elim odd.odd [
+    | inl data_odd ↦ (
+        let table : is_some (find_table w.script.catalog key.table) ≡ true = ap (λ (k : Key). is_some (find_table w.script.catalog k.table)) (sym same) ∙ data_odd.0 in
+        let taken : is_taken odd.found ≡ true = sound.taken key odd.found (or_first (is_some (find_table w.script.catalog key.table)) (is_coordinator_table key.table) table) (h.playable.apart key table) odd.stands in
+        true_false (sym taken ∙ data_odd.1)
+        )
+    | inr row_odd ↦ ok_decided (decision_in odd.found) (sound.rows key odd.found (ap (λ (k : Key). is_coordinator_table k.table) (sym same) ∙ row_odd.0) odd.stands) row_odd.1
+  ]
+    where
+      same : odd.found.key ≡ key
+      same = key_is key odd.found odd.stands
+
+---- what a dump of the stores tells of them
+
+-- What was read of stores that are fit for a catalog: the recorded transactions, and the rows of the images.
+pub record IsReadOf (F : List Table → Type 0) (catalog : List Table) (places : List Place) (old new : List Shelf) (recorded : List TxId) (tables : List TableDump) : Type 0 where
+  pub printed : F catalog → (d : Tables) → AreImages catalog places old d → tables ≡ dumps_of catalog d
+  pub each : F catalog → (id : TxId) → id.0 < 2 ^ 128 → Contains recorded id ↔ Recorded places old id
+  pub small : (id : TxId) → Contains recorded id → id.0 < 2 ^ 128
+  pub still : F catalog → new ≡ old
+
+module _ (F : List Table → Type 0) (w : WorldAt) (h : IsWorld w) (opening old new : List Shelf) (places : List Place) (catalog : List Table) (same : catalog ≡ w.script.catalog) where
+  pub outcome_run : (events : List Event) (recorded : List TxId) (order : List Point) (tables : List TableDump) → events ≡ w.events → IsReadOf F catalog places old new recorded tables → HasRisen events recorded order
+      → F w.script.catalog → places ≡ w.script.places → HasPlayed w opening old → IsRun w.script opening new (record { events = events; order = order; tables = tables })
+  outcome_run events recorded order tables told got risen fit placed p =
+      let f : F catalog = subst F (sym same) fit in
+      let each = subst (λ (ps : List Place). (id : TxId) → id.0 < 2 ^ 128 → Contains recorded id ↔ Recorded ps old id) placed (got.each f) in
+      let there = subst (λ (ps : List Place). (d : Tables) → AreImages catalog ps old d → tables ≡ dumps_of catalog d) placed (got.printed f) in
+      let images = subst (λ (ts : List Table). (d : Tables) → AreImages ts w.script.places old d → tables ≡ dumps_of ts d) same there in
+      let rose = subst (λ (es : List Event). HasRisen es recorded order) told risen in
+      subst (λ (es : List Event). IsRun w.script opening new (record { events = es; order = order; tables = tables })) (sym told)
+      (subst (λ (ss : List Shelf). IsRun w.script opening ss (record { events = w.events; order = order; tables = tables })) (sym (got.still f))
+      (run_is w h opening old p recorded order tables each got.small rose images))
+
+  pub outcome_sound : (key : Key) → (F catalog → IsOddAt catalog places old key) → F w.script.catalog → places ≡ w.script.places → HasPlayed w opening old → ⊥
+  outcome_sound key odd fit placed p =
+      none_odd w h opening old p key
+      (subst (λ (ts : List Table). IsOddAt ts w.script.places old key) same
+      (subst (λ (ps : List Place). IsOddAt catalog ps old key) placed (odd (subst F (sym same) fit))))

@@ -1,0 +1,118 @@
+-- What a client's step comes to, by what the code has of it.
+use Rattle.std.proofs.Common.{◌≡◌, ℕ, suc, ◌+◌, ◌<◌, ◌^◌, true, List, [], ◌∷◌, ◌++◌, length, Option, Some, Result, Ok, Err, IfSome, refl, sym, ap, subst, ◌∙◌, get_or, slice_set, add-zero}
+use Rattle.std.specs.Prelude.{OnOk, slice_get}
+use Rattle.std.proofs.Math.Numerals.{add-one}
+use Rattle.std.proofs.lemmas.Option.{slice_get_read}
+use Rattle.sdb_types.specs.declared.key.TableName.{TableName}
+use Rattle.sdb_types.specs.declared.record.Reply.{Reply}
+use Rattle.sdb_types.specs.declared.record.Request.{Request}
+use Rattle.sdb_types.specs.Contents.{CanAnswer}
+use Rattle.sdb_schema.specs.declared.table.Table.{Table}
+use Rattle.sdb_stores.specs.Shelf.{Shelf as Counted, home, names_of, table_of}
+use Rattle.sdb_stores.specs.declared.place.Place.{Place as Placed}
+use Rattle.sdb_model.specs.declared.answer.Answer.{Answer}
+use Rattle.sdb_model.specs.declared.event.Event.{Event}
+use Rattle.sdb_model.specs.declared.event.Event.TheVariants as event
+use Rattle.sdb_model.specs.declared.event.How.{How}
+use Rattle.sdb_model.specs.declared.script.Place.{Place}
+use Rattle.sdb_model.specs.Rows.{Name}
+use Rattle.sdb_model.specs.Events.{Shelf, store_of, table_asked}
+use Rattle.sdb_model.specs.Follows.{texts_of}
+use Rattle.sdb_spread.specs.Spread.{is_played}
+use Rattle.sdb_client.specs.Client.{ClientAt, ReplyTold, client_pending}
+use Rattle.sdb_client.specs.declared.gate.Gate.{Gate}
+use Rattle.sdb_board.specs.Board.{AreFit, IsMade, placed, shown}
+use Rattle.sdb_board.proofs.Made.{asked}
+use Rattle.sdb_board.proofs.Shelves.{named_home}
+use Rattle.sdb_steps.specs.Hands.{Takes}
+use Rattle.sdb_world.specs.declared.seat.Seat.{Seat}
+use Rattle.sdb_world.specs.declared.way.Way.{Way}
+use Rattle.sdb_causes.specs.Tied.{IsGate}
+use Rattle.sdb_world.specs.World.{IsWorld, WorldAt, hands_of}
+use Rattle.sdb_world.specs.Step.{HasCalled, HasLeft, HasTaken, IsHowOf, IsPendingAt}
+use Rattle.sdb_types.proofs.Basics.{some_is}
+
+-- the client that was read at a place stands there
+pub read_there : (seats : List Seat) (i : ℕ) (s : Seat) → i < length seats → s ≡ get_or seats i s → slice_get seats i ≡ Some s
+read_there seats i s low read = slice_get_read seats (length seats) i s refl low read
+
+-- what is so of the client at a place is so of the one that was read there
+pub at_read : (P : Seat → Type 0) (seats : List Seat) (i : ℕ) (s : Seat) → i < length seats → s ≡ get_or seats i s → IfSome (slice_get seats i) P → P s
+at_read P seats i s low read h = subst (λ (o : Option Seat). IfSome o P) (read_there seats i s low read) h
+
+-- the next text of a client
+abbrev pub IsNextText : WorldAt → ℕ → List ℕ → Type 0
+IsNextText w i text = IfSome (slice_get w.seats i) (λ s. slice_get (texts_of w.script.clients (suc i)) s.taken ≡ Some text)
+
+-- it is no longer than a text may be
+pub next_short : (w : WorldAt) (i : ℕ) (s : Seat) (text : List ℕ) → IsWorld w → i < length w.seats → s ≡ get_or w.seats i s → IsNextText w i text → length text < 2 ^ 32
+next_short w i s text h low read next = h.playable.short (suc i) s.taken text (at_read (λ (x : Seat). slice_get (texts_of w.script.clients (suc i)) x.taken ≡ Some text) w.seats i s low read next)
+
+-- a statement is left to it
+pub some_left : (w : WorldAt) (i : ℕ) (s : Seat) → i < length w.seats → s ≡ get_or w.seats i s → HasLeft w i → s.taken < length (texts_of w.script.clients (suc i))
+some_left w i s low read left = at_read (λ (x : Seat). x.taken < length (texts_of w.script.clients (suc i))) w.seats i s low read left
+
+abbrev pub after_taking : WorldAt → ℕ → Seat → ClientAt → List Event → WorldAt
+after_taking u i s d es = record { script = u.script; seats = slice_set u.seats i (record { client = d; taken = s.taken + 1; stopped = s.stopped }); events = es; clock = u.clock }
+
+-- A client took its next text.
+pub took : (u w : WorldAt) → u ≡ w → (i : ℕ) (s : Seat) (text : List ℕ) (gate : Gate) (a : Option Answer) (d : ClientAt) (es : List Event) → i < length w.seats → s ≡ get_or w.seats i s → IsNextText w i text
+    → Takes (record { catalog = u.script.catalog; now = u.clock; gate = gate }) text s.client a d → d.begun < 2 ^ 64 → IsGate (hands_of w.seats) (suc i) gate → es ≡ u.events ++ event.Take (i + 1) text a ∷ [] → HasTaken w i (after_taking u i s d es)
+took u w same i s text gate a d es low read next takes begun gated came =
+    subst (λ (x : WorldAt). HasTaken w i (after_taking x i s d es)) (sym same)
+    (record {
+      seat = s;
+      text = text;
+      gate = gate;
+      answer = a;
+      client = d;
+      at = read_there w.seats i s low read;
+      next = at_read (λ (x : Seat). slice_get (texts_of w.script.clients (suc i)) x.taken ≡ Some text) w.seats i s low read next;
+      takes = subst (λ (x : WorldAt). Takes (record { catalog = x.script.catalog; now = x.clock; gate = gate }) text s.client a d) same takes;
+      begun = begun;
+      gated = gated;
+      left = λ k. record { script = w.script; seats = slice_set w.seats i (record { client = d; taken = s.taken + 1; stopped = s.stopped }); events = here k; clock = w.clock };
+    })
+  where
+    here : es ≡ w.events ++ event.Take (suc i) text a ∷ []
+    here = came ∙ ap (λ (x : WorldAt). x.events ++ event.Take (i + 1) text a ∷ []) same ∙ ap (λ (n : ℕ). w.events ++ event.Take n text a ∷ []) (add-one i)
+
+abbrev pub after_calling : WorldAt → ℕ → Seat → ClientAt → List Event → WorldAt
+after_calling u i s d es = record { script = u.script; seats = slice_set u.seats i (record { client = d; taken = s.taken; stopped = s.stopped }); events = es; clock = u.clock }
+
+-- the store of a call is that of its table's namespace
+pub named_store : {tells : ℕ → Type 0} (ps : List Placed) (shelves : List Counted) (q : Request) (table : TableName) (store : Name) → table ≡ table_of q → slice_get (names_of shelves) (home table.ns ps (names_of shelves)) ≡ Some store → {catalog : List Table} → AreFit catalog ps shelves tells → store ≡ store_of (placed ps) (shown shelves) (table_asked q).ns
+named_store ps shelves q table store same found fit =
+    some_is store (store_of (placed ps) (shown shelves) (table_asked q).ns)
+    (sym found ∙ named_home ps shelves table.ns fit.some (fit.homed table.ns) ∙ ap (λ (t : TableName). Some (store_of (placed ps) (shown shelves) t.ns)) (same ∙ asked q))
+
+-- A client's call was made.
+pub called : (fit : Type 0) (places : List Place) (before now : List Shelf) (u w : WorldAt) → u ≡ w → (i : ℕ) (s : Seat) (way : Way) (store : Name) (q : Request) (how : How) (r : Reply) (a : Option Answer) (d : ClientAt) (es : List Event) → i < length w.seats → s ≡ get_or w.seats i s → IsPendingAt w i q → CanAnswer q r → IsHowOf way how r
+    → ReplyTold s.client s.client.txn r u.clock a d → (fit → is_played w.script.catalog (table_asked q) ≡ true → (store ≡ store_of places before (table_asked q).ns) × IsMade places q how r before now) → es ≡ u.events ++ event.Call (i + 1) store q how r a ∷ []
+    → HasCalled fit places before now w i way (after_calling u i s d es)
+called fit places before now u w same i s way store q how r a d es low read pends can allowed told made came =
+    subst (λ (x : WorldAt). HasCalled fit places before now w i way (after_calling x i s d es)) (sym same)
+    (record {
+      seat = s;
+      store = store;
+      request = q;
+      how = how;
+      reply = r;
+      answer = a;
+      client = d;
+      at = read_there w.seats i s low read;
+      pending = at_read (λ (x : Seat). client_pending x.client ≡ Some q) w.seats i s low read pends;
+      can = can;
+      allowed = allowed;
+      told = subst (λ (x : WorldAt). ReplyTold s.client s.client.txn r x.clock a d) same told;
+      made = made;
+      left = λ k. record { script = w.script; seats = slice_set w.seats i (record { client = d; taken = sym (add-zero s.taken) k; stopped = s.stopped }); events = here k; clock = w.clock };
+    })
+  where
+    here : es ≡ w.events ++ event.Call (suc i) store q how r a ∷ []
+    here = came ∙ ap (λ (x : WorldAt). x.events ++ event.Call (i + 1) store q how r a ∷ []) same ∙ ap (λ (n : ℕ). w.events ++ event.Call n store q how r a ∷ []) (add-one i)
+
+-- what follows of a success
+pub on_ok : {T E A B : Type 0} (r : Result T E) → OnOk r A → (A → B) → OnOk r B
+on_ok (Ok x) a f = f a
+on_ok (Err e) a f = tt

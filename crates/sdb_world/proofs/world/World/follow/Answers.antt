@@ -1,0 +1,36 @@
+use Rattle.std.proofs.Common.{◌≡◌, ◌+◌, take, refl}
+use Rattle.sdb_model.specs.Follows.{AreMoved, IsMoved}
+use Rattle.sdb_board.specs.Board.{AreFit, placed, shown}
+use Rattle.sdb_board.proofs.GoesOn.{goes_more, goes_none, some_more}
+use Rattle.sdb_world.proofs.Goes.{come_more, come_none}
+use Rattle.sdb_world.proofs.Rounds.{follows_more}
+use Rattle.sdb_world.proofs.world.World.follow.Goals as goal
+
+pub loop-i-init : goal.loop-i-init
+loop-i-init g c = record {
+  some = c.requires.some;
+  world = c.requires.world;
+  goes = goes_none (g.R.Registry.places c.args.stores.now) (g.R.Registry.shelves c.args.stores.now);
+  come = come_none (AreMoved c.args.self.now.script.clients (take 0 c.args.self.now.script.moves) c.args.self.now.events) (AreFit c.args.self.now.script.catalog (g.R.Registry.places c.args.stores.now) (g.R.Registry.shelves c.args.stores.now) (g.R.Registry.tells c.args.stores.now)) (placed (g.R.Registry.places c.args.stores.now)) (shown (g.R.Registry.shelves c.args.stores.now)) c.args.self.now refl;
+}
+
+pub loop-i-preserved : goal.loop-i-preserved
+loop-i-preserved g c =
+    let before = c.loop-i.invariant in
+    let script = c.args.self.now.script in
+    let past = c.args.self.now.events in
+    let later = c.loop-i.self.script in
+    let now = c.loop-i.self.events in
+    let i = c.loop-i.i in
+    let made = c.move_at-made.result in
+    let same : later ≡ script = before.come.gone.script in
+    let done = c.in_ok-make.ensures in
+    record {
+      some = some_more _ _ done.goes.names before.some;
+      world = done.world;
+      goes = goes_more _ _ _ _ _ _ before.goes done.goes;
+      come = come_more (AreMoved script.clients (take i script.moves) past) (IsMoved later.clients made now) (AreMoved script.clients (take (i + 1) script.moves) past)
+          (g.R.Registry.tells c.args.stores.now) (g.R.Registry.tells c.loop-i.stores) (g.R.Registry.places c.args.stores.now) (g.R.Registry.places c.loop-i.stores) (g.R.Registry.shelves c.args.stores.now) (g.R.Registry.shelves c.loop-i.stores) (shown (g.R.Registry.shelves c.make.new.stores))
+          c.args.self.now c.loop-i.self c.make.new.self before.goes before.come done.come
+          (λ es more at h k. follows_more script later i made past now es more same at c.move_at-made.ensures h k);
+    }

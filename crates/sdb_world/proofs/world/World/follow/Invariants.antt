@@ -1,0 +1,14 @@
+use Rattle.std.proofs.Common.{◌<◌, length, take}
+use Rattle.sdb_model.specs.Follows.{AreMoved}
+use Rattle.sdb_board.specs.Board.{AreFit, GoOn, placed, shown}
+use Rattle.sdb_world.specs.World.{IsWorld}
+use Rattle.sdb_world.specs.Step.{HasCome}
+use Rattle.sdb_world.proofs.world.World.follow.Given as goal
+
+abbrev pub invariant-loop-i : goal.invariant-loop-i
+invariant-loop-i g l = record {
+  some : 0 < length (g.R.Registry.shelves l.stores);
+  world : IsWorld l.self;
+  goes : GoOn (g.R.Registry.places l.initial.stores) (g.R.Registry.places l.stores) (g.R.Registry.shelves l.initial.stores) (g.R.Registry.shelves l.stores) (g.R.Registry.tells l.initial.stores) (g.R.Registry.tells l.stores);
+  come : HasCome (AreMoved l.initial.self.script.clients (take l.i l.initial.self.script.moves) l.initial.self.events) (AreFit l.initial.self.script.catalog (g.R.Registry.places l.initial.stores) (g.R.Registry.shelves l.initial.stores) (g.R.Registry.tells l.initial.stores)) (placed (g.R.Registry.places l.initial.stores)) (shown (g.R.Registry.shelves l.initial.stores)) (shown (g.R.Registry.shelves l.stores)) l.initial.self l.self;
+}

@@ -1,0 +1,6 @@
+use Rattle.sdb_world.specs.Step.{AreFresh}
+use Rattle.sdb_world.proofs.world.fresh_seats.Given as goal
+
+-- so many clients that have done nothing
+abbrev pub invariant-loop-i : goal.invariant-loop-i
+invariant-loop-i l = AreFresh l.i l.seats.items

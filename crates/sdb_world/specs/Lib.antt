@@ -1,0 +1,5 @@
+pub mod World
+pub mod Step
+pub mod Linked
+pub mod Played
+pub mod Explained

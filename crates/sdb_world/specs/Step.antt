@@ -1,0 +1,194 @@
+-- The steps of a world, and what they do to the stores.
+use Rattle.std.specs.Prelude.{◌≡◌, ◌≢◌, ℕ, suc, ◌+◌, ◌≤◌, ◌<◌, ◌^◌, true, false, List, [], ◌∷◌, ◌++◌, length, Option, Some, IfSome, IsSomeAnd, is_some, slice_get}
+use Rattle.std.specs.List.{AllByRecursion}
+use Rattle.sdb_types.specs.declared.record.Reply.{Reply}
+use Rattle.sdb_types.specs.declared.record.Request.{Request}
+use Rattle.sdb_types.specs.Contents.{CanAnswer}
+use Rattle.sdb_record.specs.Meta.{is_moment}
+use Rattle.sdb_model.specs.declared.answer.Answer.{Answer}
+use Rattle.sdb_model.specs.declared.event.Event.{Event}
+use Rattle.sdb_model.specs.declared.event.Event.TheVariants as event
+use Rattle.sdb_model.specs.declared.event.How.{How}
+use Rattle.sdb_model.specs.declared.script.Act.{Act}
+use Rattle.sdb_model.specs.declared.script.Act.TheVariants as act
+use Rattle.sdb_model.specs.declared.script.Move.{Move}
+use Rattle.sdb_model.specs.declared.script.Move.TheVariants as move
+use Rattle.sdb_model.specs.declared.script.Place.{Place}
+use Rattle.sdb_model.specs.declared.script.Script.{Script}
+use Rattle.sdb_model.specs.declared.script.ScriptClient.{ScriptClient}
+use Rattle.sdb_model.specs.Rows.{Name}
+use Rattle.sdb_model.specs.Events.{IsTrace, Shelf, store_of, table_asked}
+use Rattle.sdb_model.specs.Follows.{AllIdle, AreStepsOf, IsActed, IsAmong, IsHowOfDiscard, IsHowOfLose, IsHowOfStep, has_work, texts_of}
+use Rattle.sdb_client.specs.Client.{ClientAt, IsBusy, IsIdle, ReplyTold, client_pending, nothing_done}
+use Rattle.sdb_client.specs.declared.gate.Gate.{Gate}
+use Rattle.sdb_spread.specs.Spread.{is_played}
+use Rattle.sdb_board.specs.Board.{IsMade}
+use Rattle.sdb_steps.specs.Hands.{Takes}
+use Rattle.sdb_world.specs.declared.seat.Seat.{Seat}
+use Rattle.sdb_world.specs.declared.way.Way.{Way}
+use Rattle.sdb_world.specs.declared.way.Way.TheVariants as way
+use Rattle.sdb_causes.specs.Tied.{IsGate}
+use Rattle.sdb_world.specs.World.{WorldAt, hands_of, with_event, with_seat}
+use Rattle.sdb_world.specs.Linked.{HaveCauses, IsLinked}
+
+-- a client has that number
+abbrev pub IsNumber : Script → ℕ → Type 0
+IsNumber script c = (0 < c) × (c ≤ length script.clients)
+
+-- An act that a world can do: its client is one of the script, and its moment one of the clock.
+abbrev pub CanAct : Script → Act → Type 0
+CanAct script (act.Step c) = IsNumber script c
+CanAct script (act.Lose c) = IsNumber script c
+CanAct script (act.Discard c) = IsNumber script c
+CanAct script (act.Stop c) = IsNumber script c
+CanAct script (act.Clock moment) = is_moment moment ≡ true
+
+-- which hows a call has, by the way in which it is made
+abbrev pub IsHowOf : Way → How → Reply → Type 0
+IsHowOf way.Step how r = IsHowOfStep how r
+IsHowOf way.Lose how r = IsHowOfLose how r
+IsHowOf way.Discard how r = IsHowOfDiscard how r
+
+---- a client at a place
+
+-- it waits for a statement
+abbrev pub IsIdleAt : WorldAt → ℕ → Type 0
+IsIdleAt w i = IfSome (slice_get w.seats i) (λ s. IsIdle s.client)
+
+-- it waits for a reply
+abbrev pub IsBusyAt : WorldAt → ℕ → Type 0
+IsBusyAt w i = IfSome (slice_get w.seats i) (λ s. IsBusy s.client)
+
+-- a statement of it is left
+abbrev pub HasLeft : WorldAt → ℕ → Type 0
+HasLeft w i = IfSome (slice_get w.seats i) (λ s. s.taken < length (texts_of w.script.clients (suc i)))
+
+-- that call of it is pending
+abbrev pub IsPendingAt : WorldAt → ℕ → Request → Type 0
+IsPendingAt w i q = IfSome (slice_get w.seats i) (λ s. client_pending s.client ≡ Some q)
+
+-- it goes on, and has a transaction open
+abbrev pub IsOpenAt : List Seat → ℕ → Type 0
+IsOpenAt seats i = IsSomeAnd (slice_get seats i) (λ s. (s.stopped ≡ false) × (is_some s.client.txn ≡ true))
+
+-- it has stopped, or has none open
+abbrev pub IsShutAt : List Seat → ℕ → Type 0
+IsShutAt seats i = IfSome (slice_get seats i) (λ s. s.stopped ≡ false → is_some s.client.txn ≡ false)
+
+-- some other client, or no other one, goes on with a transaction open
+abbrev pub SomeOpen : List Seat → ℕ → Type 0
+SomeOpen seats at = (j : ℕ) × (j ≢ at) × IsOpenAt seats j
+
+abbrev pub NoneOpen : List Seat → ℕ → Type 0
+NoneOpen seats at = (j : ℕ) → j ≢ at → IsShutAt seats j
+
+---- one step of one client
+
+-- a client after a statement or a reply
+abbrev pub moved_seat : Seat → ℕ → ClientAt → Seat
+moved_seat s more client = record { client = client; taken = s.taken + more; stopped = s.stopped }
+
+-- A client takes its next statement.
+pub record HasTaken (w : WorldAt) (i : ℕ) (v : WorldAt) : Type 0 where
+  pub seat : Seat
+  pub text : List ℕ
+  pub gate : Gate
+  pub answer : Option Answer
+  pub client : ClientAt
+  pub at : slice_get w.seats i ≡ Some seat
+  pub next : slice_get (texts_of w.script.clients (suc i)) seat.taken ≡ Some text
+  pub takes : Takes (record { catalog = w.script.catalog; now = w.clock; gate = gate }) text seat.client answer client
+  pub begun : client.begun < 2 ^ 64
+  pub gated : IsGate (hands_of w.seats) (suc i) gate
+  pub left : v ≡ with_event (with_seat w i (moved_seat seat 1 client)) (event.Take (suc i) text answer)
+
+-- A client's pending call is made in some way, and the client has the reply.
+pub record HasCalled (fit : Type 0) (places : List Place) (before now : List Shelf) (w : WorldAt) (i : ℕ) (way : Way) (v : WorldAt) : Type 0 where
+  pub seat : Seat
+  pub store : Name
+  pub request : Request
+  pub how : How
+  pub reply : Reply
+  pub answer : Option Answer
+  pub client : ClientAt
+  pub at : slice_get w.seats i ≡ Some seat
+  pub pending : client_pending seat.client ≡ Some request
+  pub can : CanAnswer request reply
+  pub allowed : IsHowOf way how reply
+  pub told : ReplyTold seat.client seat.client.txn reply w.clock answer client
+  pub made : fit → is_played w.script.catalog (table_asked request) ≡ true → (store ≡ store_of places before (table_asked request).ns) × IsMade places request how reply before now
+  pub left : v ≡ with_event (with_seat w i (moved_seat seat 0 client)) (event.Call (suc i) store request how reply answer)
+
+-- the client has stopped
+abbrev pub stopped_seat : Seat → Seat
+stopped_seat s = record { client = s.client; taken = s.taken; stopped = true }
+
+-- A client stops.
+pub record HasStopped (w : WorldAt) (c : ℕ) (v : WorldAt) : Type 0 where
+  pub place : ℕ
+  pub seat : Seat
+  pub number : c ≡ suc place
+  pub at : slice_get w.seats place ≡ Some seat
+  pub left : v ≡ with_event (with_seat w place (stopped_seat seat)) (event.Stop c)
+
+-- a client that has done nothing
+abbrev pub fresh_seat : ℕ → Seat
+fresh_seat i = record { client = nothing_done (suc i); taken = 0; stopped = false }
+
+-- so many clients that have done nothing
+pub record AreFresh (count : ℕ) (seats : List Seat) : Type 0 where
+  pub size : length seats ≡ count
+  pub each : (i : ℕ) (s : Seat) → slice_get seats i ≡ Some s → s ≡ fresh_seat i
+
+-- the act of a client's step, by the way in which its call is made
+abbrev pub act_of : Way → ℕ → Act
+act_of way.Step c = act.Step c
+act_of way.Lose c = act.Lose c
+act_of way.Discard c = act.Discard c
+
+---- events, and the stores
+
+-- Events came to a world and to these stores: the script stays, what ties events to clients and the causes of answers are kept whatever
+-- the replies, and where
+-- the stores are fit for the run a trace of them agrees with the events.
+pub record HasGone (fit : Type 0) (places : List Place) (before now : List Shelf) (w v : WorldAt) (es : List Event) : Type 0 where
+  pub script : v.script ≡ w.script
+  pub events : v.events ≡ w.events ++ es
+  pub linked : IsLinked w → IsLinked v
+  pub caused : HaveCauses w → HaveCauses v
+  pub traced : fit → (moments : List (List Shelf)) × IsTrace places es before moments now
+
+-- Events came, and they are so.
+pub record HasCome (P : List Event → Type 0) (fit : Type 0) (places : List Place) (before now : List Shelf) (w v : WorldAt) : Type 0 where
+  pub es : List Event
+  pub so : P es
+  pub gone : HasGone fit places before now w v es
+
+-- one event, which is what an act gives
+pub record IsOne (clients : List ScriptClient) (a : Act) (past es : List Event) : Type 0 where
+  pub event : Event
+  pub lone : es ≡ event ∷ []
+  pub acted : IsActed clients a past event
+
+-- so many steps of a client
+pub record AreSteps (clients : List ScriptClient) (c times : ℕ) (past es : List Event) : Type 0 where
+  pub count : length es ≡ times
+  pub steps : AreStepsOf clients c past es
+
+---- moves
+
+-- A move that a world can make: its client is one of the script, and its moment one of the clock.
+abbrev pub CanMove : Script → Move → Type 0
+CanMove script (move.Act a) = CanAct script a
+CanMove script (move.Repeat c times) = IsNumber script c
+CanMove script move.Rest = Unit {0}
+
+-- it can make all of its script
+abbrev pub CanFollow : Script → Type 0
+CanFollow script = AllByRecursion (CanMove script) script.moves
+
+-- the first client with work, from one number up to another
+pub record IsFirst (w : WorldAt) (low high c : ℕ) : Type 0 where
+  pub among : IsAmong low high c
+  pub works : has_work w.script.clients c w.events ≡ true
+  pub before : AllIdle w.script.clients w.events low c

@@ -1,0 +1,49 @@
+//! What a run has come to.
+ghost use Rattle.std.specs.Prelude.{◌≡◌, ◌<◌, List, length, IfOk, IfErr, OnOk};
+ghost use Rattle.sdb_stores.specs.Shelf.{HaveRisen};
+ghost use Rattle.sdb_model.specs.Events.{Shelf};
+ghost use Rattle.sdb_model.specs.Told.{IsRun};
+ghost use Rattle.sdb_board.specs.Board.{AreFit, GoOn, placed, shown};
+ghost use Rattle.sdb_dump.specs.Refused.{Refuses};
+ghost use Rattle.sdb_causes.specs.Tied.{AnswersHaveCauses};
+ghost use Rattle.sdb_world.specs.Linked.{HaveCauses};
+ghost use Rattle.sdb_world.specs.World.{IsWorld};
+ghost use Rattle.sdb_world.specs.Played.{HasPlayed};
+ghost use Rattle.sdb_world.specs.Explained.{IsExplained};
+
+use crate::world::World;
+use sdb_dump::{Closing, ClosingRefused, closing_dump};
+use sdb_model::Outcome;
+use sdb_order::order_of;
+use sdb_stores::Registry;
+use std::alloc::Global;
+
+impl World {
+    /// The outcome of a run: its events, the recorded transactions in their order, and the committed rows of what the stores hold, by one
+    /// scan of the coordinator's table and of each table. It changes nothing. Where the script was played on stores that are fit for it and
+    /// held nothing of its tables, the outcome is that of a run of the script, what stands at each moment is explained by its events, and
+    /// no record is bad.
+    pub fn outcome<R: Registry>(
+        self,
+        alloc: Global,
+        stores: &mut R,
+    ) -> Result<Outcome, ClosingRefused>
+        requires some { 0 < length (R.shelves stores.old) }
+        requires world { IsWorld self }
+        ensures run { IfOk result (λ o. (opening : List Shelf) → AreFit self.script.catalog (R.places stores.old) (R.shelves stores.old) (R.tells stores.old) → placed (R.places stores.old) ≡ self.script.places → HasPlayed self opening (shown (R.shelves stores.old)) → IsRun self.script opening (shown (R.shelves stores.new)) o) }
+        ensures explained { IfOk result (λ o. (opening : List Shelf) → HasPlayed self opening (shown (R.shelves stores.old)) → IsExplained self.script o.events opening) }
+        ensures caused { IfOk result (λ o. HaveCauses self → AnswersHaveCauses self.script.catalog o.events) }
+        ensures events { IfOk result (λ o. o.events ≡ self.events) }
+        ensures goes { GoOn (R.places stores.old) (R.places stores.new) (R.shelves stores.old) (R.shelves stores.new) (R.tells stores.old) (R.tells stores.new) }
+        ensures err { IfErr result (Refuses (λ key. (opening : List Shelf) → AreFit self.script.catalog (R.places stores.old) (R.shelves stores.old) (R.tells stores.old) → placed (R.places stores.old) ≡ self.script.places → HasPlayed self opening (shown (R.shelves stores.old)) → ⊥) (HaveRisen (R.shelves stores.old) (R.shelves stores.new))) }
+    {
+        let (script, events) = self.into_parts();
+        let Closing { recorded, tables } = closing_dump(alloc, stores, &script.catalog)?;
+        let order = order_of(alloc, events.as_slice(), recorded.as_slice())?;
+        Ok(Outcome {
+            events,
+            order,
+            tables,
+        })
+    }
+}

@@ -1,0 +1,63 @@
+//! One call of a client, made in some way.
+ghost use Rattle.std.specs.Prelude.{◌≡◌, ◌<◌, List, length, true};
+ghost use Rattle.sdb_types.specs.Contents.{CanAnswer};
+ghost use Rattle.sdb_schema.specs.declared.table.Table.{Table};
+ghost use Rattle.sdb_model.specs.Events.{table_asked};
+ghost use Rattle.sdb_spread.specs.Spread.{is_played};
+ghost use Rattle.sdb_board.specs.Board.{AreFit, GoOn, IsMade, how_lost as how_lost_lem, how_seen as how_seen_lem, placed, reply_lost as reply_lost_lem, shown};
+ghost use Rattle.sdb_world.specs.Step.{IsHowOf};
+
+use crate::way::Way;
+use sdb_board::call;
+use sdb_model::How;
+use sdb_stores::Registry;
+use sdb_types::{Reply, Request};
+
+fn how_seen(reply: &Reply) -> How
+    ensures { result ≡ how_seen_lem reply.now }
+{
+    match reply {
+        Reply::Fault => How::Broken,
+        _ => How::Seen,
+    }
+}
+
+fn how_lost(reply: &Reply) -> How
+    ensures { result ≡ how_lost_lem reply.now }
+{
+    match reply {
+        Reply::Fault => How::Broken,
+        Reply::NoMemory => How::Seen,
+        _ => How::Lost,
+    }
+}
+
+fn reply_lost(reply: Reply) -> Reply
+    ensures { result ≡ reply_lost_lem reply }
+{
+    match reply {
+        Reply::NoMemory => Reply::NoMemory,
+        _ => Reply::Fault,
+    }
+}
+
+/// Makes a call on the store of its table in some way: how it came out, and the reply that its client gets.
+pub fn perform<R: Registry>(stores: &mut R, request: &Request, way: Way) -> (How, Reply)
+    requires some { 0 < length (R.shelves stores.old) }
+    ensures made { (catalog : List Table) → AreFit catalog (R.places stores.old) (R.shelves stores.old) (R.tells stores.old) → is_played catalog (table_asked request.now) ≡ true → IsMade (placed (R.places stores.old)) request.now result.0 result.1 (shown (R.shelves stores.old)) (shown (R.shelves stores.new)) }
+    ensures lawful { CanAnswer request.now result.1 }
+    ensures allowed { IsHowOf way result.0 result.1 }
+    ensures goes { GoOn (R.places stores.old) (R.places stores.new) (R.shelves stores.old) (R.shelves stores.new) (R.tells stores.old) (R.tells stores.new) }
+{
+    match way {
+        Way::Step => {
+            let reply = call(stores, request);
+            (how_seen(&reply), reply)
+        }
+        Way::Lose => {
+            let reply = call(stores, request);
+            (how_lost(&reply), reply_lost(reply))
+        }
+        Way::Discard => (How::Discarded, Reply::Fault),
+    }
+}

@@ -1,0 +1,132 @@
+//! The moves of a script, one after the other.
+ghost use Rattle.std.specs.Prelude.{◌≡◌, ◌<◌, ◌≤◌, length, Some, IfSome, IfNone, OnOk, slice_get};
+ghost use Rattle.sdb_model.specs.Follows.{AllIdle, AreMoved, IsMoved, IsRest, IsTurn, end_of};
+ghost use Rattle.sdb_board.specs.Board.{AreFit, GoOn, placed, shown};
+ghost use Rattle.sdb_world.specs.World.{IsWorld};
+ghost use Rattle.sdb_world.specs.Step.{AreSteps, CanFollow, CanMove, HasCome, IsFirst, IsNumber};
+
+use crate::way::Way;
+use crate::world::World;
+use sdb_model::Move;
+use sdb_stores::Registry;
+use sdb_types::NoMemory;
+
+impl World {
+    // The first client with work, from one number up to another, that one left out.
+    fn first_from(&self, low: u32, high: u32) -> Option<u32>
+        requires world { IsWorld self.now }
+        requires low { 0 < low }
+        requires high { high ≤ end_of self.now.script.clients }
+        ensures some { IfSome result (IsFirst self.now low high) }
+        ensures none { IfNone result (AllIdle self.now.script.clients self.now.events low high) }
+    {
+        let mut client = low;
+        while client < high {
+            if self.has_work(client as usize - 1) {
+                return Some(client);
+            }
+            client += 1;
+        }
+        None
+    }
+
+    // The client whose turn it is, where those before a number had theirs in this round.
+    fn turn(&self, from: u32) -> Option<u32>
+        requires world { IsWorld self.now }
+        requires low { 0 < from }
+        requires high { from ≤ end_of self.now.script.clients }
+        ensures some { IfSome result (λ c. IsTurn self.now.script.clients self.now.events from c) }
+        ensures none { IfNone result (AllIdle self.now.script.clients self.now.events 1 (end_of self.now.script.clients)) }
+    {
+        let end = self.script().clients.len() as u32 + 1;
+        match self.first_from(from, end) {
+            Some(client) => Some(client),
+            None => self.first_from(1, from),
+        }
+    }
+
+    // So many steps of a client.
+    fn repeat<R: Registry>(
+        &mut self,
+        stores: &mut R,
+        client: u32,
+        times: u32,
+    ) -> Result<(), NoMemory>
+        requires some { 0 < length (R.shelves stores.old) }
+        requires world { IsWorld self.old }
+        requires client { IsNumber self.old.script client }
+        ensures world { OnOk result (IsWorld self.new) }
+        ensures come { OnOk result (HasCome (AreSteps self.old.script.clients client times self.old.events) (AreFit self.old.script.catalog (R.places stores.old) (R.shelves stores.old) (R.tells stores.old)) (placed (R.places stores.old)) (shown (R.shelves stores.old)) (shown (R.shelves stores.new)) self.old self.new) }
+        ensures goes { GoOn (R.places stores.old) (R.places stores.new) (R.shelves stores.old) (R.shelves stores.new) (R.tells stores.old) (R.tells stores.new) }
+    {
+        for _ in 0..times {
+            self.go(stores, client, Way::Step)?;
+        }
+        Ok(())
+    }
+
+    /// Gives each client that has work and goes on one step in turn, by number, round after round, until none has work. After out of
+    /// memory, as which more than 2^64 - 1 steps count, the world isn't used again.
+    pub fn rest<R: Registry>(&mut self, stores: &mut R) -> Result<(), NoMemory>
+        requires some { 0 < length (R.shelves stores.old) }
+        requires world { IsWorld self.old }
+        ensures world { OnOk result (IsWorld self.new) }
+        ensures come { OnOk result (HasCome (IsRest self.old.script.clients 1 self.old.events) (AreFit self.old.script.catalog (R.places stores.old) (R.shelves stores.old) (R.tells stores.old)) (placed (R.places stores.old)) (shown (R.shelves stores.old)) (shown (R.shelves stores.new)) self.old self.new) }
+        ensures goes { GoOn (R.places stores.old) (R.places stores.new) (R.shelves stores.old) (R.shelves stores.new) (R.tells stores.old) (R.tells stores.new) }
+    {
+        let mut from = 1;
+        for _ in 0..u64::MAX {
+            match self.turn(from) {
+                Some(client) => {
+                    self.go(stores, client, Way::Step)?;
+                    from = client + 1;
+                }
+                None => return Ok(()),
+            }
+        }
+        Err(NoMemory)
+    }
+
+    // Makes a move.
+    fn make<R: Registry>(&mut self, stores: &mut R, made: Move) -> Result<(), NoMemory>
+        requires some { 0 < length (R.shelves stores.old) }
+        requires world { IsWorld self.old }
+        requires can { CanMove self.old.script made }
+        ensures world { OnOk result (IsWorld self.new) }
+        ensures come { OnOk result (HasCome (IsMoved self.old.script.clients made self.old.events) (AreFit self.old.script.catalog (R.places stores.old) (R.shelves stores.old) (R.tells stores.old)) (placed (R.places stores.old)) (shown (R.shelves stores.old)) (shown (R.shelves stores.new)) self.old self.new) }
+        ensures goes { GoOn (R.places stores.old) (R.places stores.new) (R.shelves stores.old) (R.shelves stores.new) (R.tells stores.old) (R.tells stores.new) }
+    {
+        match made {
+            Move::Act(act) => self.step(stores, act),
+            Move::Repeat(client, times) => self.repeat(stores, client, times),
+            Move::Rest => self.rest(stores),
+        }
+    }
+
+    // The i-th move of the script.
+    fn move_at(&self, i: usize) -> Move
+        requires { i < length self.now.script.moves }
+        ensures { slice_get self.now.script.moves i ≡ Some result }
+    {
+        match self.script().moves.at(i) {
+            Some(made) => *made,
+            None => unreachable!(),
+        }
+    }
+
+    /// Makes all moves of the script, one after the other. After out of memory the world isn't used again.
+    pub fn follow<R: Registry>(&mut self, stores: &mut R) -> Result<(), NoMemory>
+        requires some { 0 < length (R.shelves stores.old) }
+        requires world { IsWorld self.old }
+        requires can { CanFollow self.old.script }
+        ensures world { OnOk result (IsWorld self.new) }
+        ensures come { OnOk result (HasCome (AreMoved self.old.script.clients self.old.script.moves self.old.events) (AreFit self.old.script.catalog (R.places stores.old) (R.shelves stores.old) (R.tells stores.old)) (placed (R.places stores.old)) (shown (R.shelves stores.old)) (shown (R.shelves stores.new)) self.old self.new) }
+        ensures goes { GoOn (R.places stores.old) (R.places stores.new) (R.shelves stores.old) (R.shelves stores.new) (R.tells stores.old) (R.tells stores.new) }
+    {
+        for i in 0..self.script().moves.len() {
+            let made = self.move_at(i);
+            self.make(stores, made)?;
+        }
+        Ok(())
+    }
+}

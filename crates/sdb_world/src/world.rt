@@ -1,0 +1,282 @@
+//! A world: the clients of a script, and what has happened.
+ghost use Rattle.std.specs.Prelude.{◌≡◌, ◌<◌, ◌≤◌, ◌-◌, [], ◌^◌, suc, true, false, length, Some, IfOk, OnOk, IfSome, slice_get};
+ghost use Rattle.sdb_model.specs.Follows.{has_work as has_work_lem, texts_of};
+ghost use Rattle.sdb_board.specs.Board.{AreFit, GoOn, placed, shown};
+ghost use Rattle.sdb_world.specs.World.{IsPlayable, IsWorld};
+ghost use Rattle.sdb_world.specs.Explained.{IsExplainedAfter};
+ghost use Rattle.sdb_world.specs.Linked.{HaveCauses, IsLinked};
+ghost use Rattle.sdb_world.specs.Step.{AreFresh, CanAct, HasCalled, HasCome, HasLeft, HasStopped, HasTaken, IsBusyAt, IsIdleAt, IsNumber, IsOne, IsOpenAt, IsPendingAt, IsShutAt, NoneOpen, SomeOpen, act_of};
+
+use crate::perform::perform;
+use crate::seat::Seat;
+use crate::way::Way;
+use sdb_client::{Client, Gate};
+use sdb_model::{Act, Event, Events, Script, Texts};
+use sdb_stores::{Registry, table_of};
+use sdb_types::{Duplicate, NoMemory, Request, Txt};
+use std::alloc::Global;
+use std::marker::Model;
+
+/// The clients of a script at work.
+pub struct World {
+    script: Script,
+    seats: Vec<Seat>,
+    events: Events,
+    clock: i64,
+}
+
+// By hand: each drop is then one call, where a derived one stands at each place with a call for each field.
+impl Drop for World {
+    fn drop(self) {
+        let World {
+            script: _,
+            seats: _,
+            events: _,
+            clock: _,
+        } = self;
+    }
+}
+
+impl Model for World {
+    ghost use Rattle.sdb_world.specs.World.{WorldAt};
+
+    ghost Value = { WorldAt };
+
+    ghost view = { λ w. record { script = w.script; seats = w.seats.items; events = w.events; clock = w.clock } };
+}
+
+// The clients of a script before their first statement.
+fn fresh_seats(alloc: Global, count: usize) -> Result<Vec<Seat>, NoMemory>
+    requires few { count < 2 ^ 32 - 1 }
+    ensures { IfOk result (λ seats. AreFresh count seats.items) }
+{
+    let mut seats = Vec::new(alloc);
+    for i in 0..count {
+        seats.push(Seat {
+            client: Client::new(alloc, i as u32 + 1),
+            taken: 0,
+            stopped: false,
+        })?;
+    }
+    Ok(seats)
+}
+
+impl World {
+    /// The clients of a script before their first statement, at moment 0.
+    pub fn new(alloc: Global, script: Script) -> Result<World, NoMemory>
+        requires playable { IsPlayable script }
+        ensures world { IfOk result IsWorld }
+        ensures script { IfOk result (λ w. w.script ≡ script) }
+        ensures events { IfOk result (λ w. w.events ≡ []) }
+        ensures linked { IfOk result IsLinked }
+        ensures caused { IfOk result HaveCauses }
+    {
+        let seats = fresh_seats(alloc, script.clients.len())?;
+        Ok(World {
+            script,
+            seats,
+            events: Events::new(alloc),
+            clock: 0,
+        })
+    }
+
+    /// The script. Takes no memory.
+    pub fn script(&self) -> &Script
+        ensures { result.now ≡ self.now.script }
+    {
+        &self.script
+    }
+
+    /// What has happened, in order. Takes no memory.
+    pub fn events(&self) -> &Events
+        ensures { result.now ≡ self.now.events }
+    {
+        &self.events
+    }
+
+    // The script and what has happened.
+    pub(crate) fn into_parts(self) -> (Script, Events)
+        ensures script { result.0 ≡ self.script }
+        ensures events { result.1 ≡ self.events }
+    {
+        let World {
+            script,
+            seats: _,
+            events,
+            clock: _,
+        } = self;
+        (script, events)
+    }
+
+    // The texts of a client's statements.
+    fn statements(&self, at: usize) -> &Texts
+        requires at { at < length self.now.script.clients }
+        ensures { result.now ≡ texts_of self.now.script.clients (suc at) }
+    {
+        match self.script.clients.at(at) {
+            Some(client) => &client.statements,
+            None => unreachable!(),
+        }
+    }
+
+    // Whether a client has work: it goes on, and a call of it is pending or a statement is left.
+    pub(crate) fn has_work(&self, at: usize) -> bool
+        requires world { IsWorld self.now }
+        requires at { at < length self.now.seats }
+        ensures { result ≡ has_work_lem self.now.script.clients (suc at) self.now.events }
+    {
+        let seat = &self.seats[at];
+        !seat.stopped && (!seat.client.is_idle() || seat.taken < self.statements(at).len())
+    }
+
+    // Whether a client goes on and has a transaction open.
+    fn is_open_at(&self, i: usize) -> bool
+        requires { i < length self.now.seats }
+        ensures some { result ≡ true → IsOpenAt self.now.seats i }
+        ensures none { result ≡ false → IsShutAt self.now.seats i }
+    {
+        let seat = &self.seats[i];
+        !seat.stopped && seat.client.is_open()
+    }
+
+    // Whether another client goes on and has a transaction open.
+    fn is_open_elsewhere(&self, at: usize) -> bool
+        ensures some { result ≡ true → SomeOpen self.now.seats at }
+        ensures none { result ≡ false → NoneOpen self.now.seats at }
+    {
+        for i in 0..self.seats.len() {
+            if i != at && self.is_open_at(i) {
+                return true;
+            }
+        }
+        false
+    }
+
+    // The text of a client's next statement.
+    fn next_text(&self, at: usize) -> Result<Txt, NoMemory>
+        requires at { at < length self.now.seats }
+        requires clients { length self.now.seats ≡ length self.now.script.clients }
+        requires left { HasLeft self.now at }
+        ensures { IfOk result (λ text. IfSome (slice_get self.now.seats at) (λ s. slice_get (texts_of self.now.script.clients (suc at)) s.taken ≡ Some text)) }
+    {
+        match self.statements(at).at(self.seats[at].taken) {
+            Some(text) => text.copy(),
+            None => unreachable!(),
+        }
+    }
+
+    // A client takes its next statement.
+    fn take(&mut self, at: usize) -> Result<(), NoMemory>
+        requires world { IsWorld self.old }
+        requires at { at < length self.old.seats }
+        requires idle { IsIdleAt self.old at }
+        requires left { HasLeft self.old at }
+        ensures { OnOk result (HasTaken self.old at self.new) }
+    {
+        let _left = self.statements(at).len();
+        let text = self.next_text(at)?;
+        let gate = Gate {
+            vacuum_runs: false,
+            open_elsewhere: self.is_open_elsewhere(at),
+        };
+        let seat = &mut self.seats[at];
+        let answer = seat
+            .client
+            .take(&self.script.catalog, &text, self.clock, gate);
+        let _begun = seat.client.begun();
+        seat.taken += 1;
+        self.events.push(Event::Take(at as u32 + 1, text, answer))?;
+        Ok(())
+    }
+
+    // The call that a client has pending.
+    fn request(&self, at: usize) -> Result<Request, NoMemory>
+        requires at { at < length self.now.seats }
+        requires busy { IsBusyAt self.now at }
+        ensures { IfOk result (λ request. IsPendingAt self.now at request) }
+    {
+        match self.seats[at].client.pending() {
+            Some(request) => request.copy(),
+            None => unreachable!(),
+        }
+    }
+
+    // The pending call of a client is made in some way, and the client has the reply.
+    fn call<R: Registry>(&mut self, stores: &mut R, at: usize, way: Way) -> Result<(), NoMemory>
+        requires some { 0 < length (R.shelves stores.old) }
+        requires world { IsWorld self.old }
+        requires at { at < length self.old.seats }
+        requires busy { IsBusyAt self.old at }
+        ensures called { OnOk result (HasCalled (AreFit self.old.script.catalog (R.places stores.old) (R.shelves stores.old) (R.tells stores.old)) (placed (R.places stores.old)) (shown (R.shelves stores.old)) (shown (R.shelves stores.new)) self.old at way self.new) }
+        ensures goes { GoOn (R.places stores.old) (R.places stores.new) (R.shelves stores.old) (R.shelves stores.new) (R.tells stores.old) (R.tells stores.new) }
+    {
+        let request = self.request(at)?;
+        let store = stores.store_of(table_of(&request)).copy()?;
+        let (how, reply) = perform(stores, &request, way);
+        let told = reply.copy()?;
+        let answer = self.seats[at].client.advance(reply, self.clock);
+        self.events.push(Event::Call(at as u32 + 1, store, request, how, told, answer))?;
+        Ok(())
+    }
+
+    // A step of a client, whose call is made in some way.
+    pub(crate) fn go<R: Registry>(
+        &mut self,
+        stores: &mut R,
+        client: u32,
+        way: Way,
+    ) -> Result<(), NoMemory>
+        requires some { 0 < length (R.shelves stores.old) }
+        requires world { IsWorld self.old }
+        requires client { IsNumber self.old.script client }
+        ensures world { OnOk result (IsWorld self.new) }
+        ensures acted { OnOk result (HasCome (IsOne self.old.script.clients (act_of way client) self.old.events) (AreFit self.old.script.catalog (R.places stores.old) (R.shelves stores.old) (R.tells stores.old)) (placed (R.places stores.old)) (shown (R.shelves stores.old)) (shown (R.shelves stores.new)) self.old self.new) }
+        ensures goes { GoOn (R.places stores.old) (R.places stores.new) (R.shelves stores.old) (R.shelves stores.new) (R.tells stores.old) (R.tells stores.new) }
+    {
+        let at = client as usize - 1;
+        if !self.has_work(at) {
+            self.events.push(Event::Idle(client))?;
+            return Ok(());
+        }
+        if self.seats[at].client.is_idle() {
+            self.take(at)
+        } else {
+            self.call(stores, at, way)
+        }
+    }
+
+    // A client stops.
+    fn stop(&mut self, client: u32) -> Result<(), NoMemory>
+        requires client { (0 < client) × (client ≤ length self.old.seats) }
+        ensures { OnOk result (HasStopped self.old client self.new) }
+    {
+        self.seats[client as usize - 1].stopped = true;
+        self.events.push(Event::Stop(client))?;
+        Ok(())
+    }
+
+    /// Does one act, which gives exactly one event: a step of a client, whose call is made on the store of its table and may be lost
+    /// or discarded; a stop; a move of the clock. On stores that are fit for the run, and that held nothing of the script's tables when it
+    /// began, what stands at each moment is explained by the events. After out of memory the world isn't used again.
+    pub fn step<R: Registry>(&mut self, stores: &mut R, act: Act) -> Result<(), NoMemory>
+        requires some { 0 < length (R.shelves stores.old) }
+        requires world { IsWorld self.old }
+        requires act { CanAct self.old.script act }
+        ensures world { OnOk result (IsWorld self.new) }
+        ensures acted { OnOk result (HasCome (IsOne self.old.script.clients act self.old.events) (AreFit self.old.script.catalog (R.places stores.old) (R.shelves stores.old) (R.tells stores.old)) (placed (R.places stores.old)) (shown (R.shelves stores.old)) (shown (R.shelves stores.new)) self.old self.new) }
+        ensures explained { OnOk result (IsExplainedAfter (AreFit self.old.script.catalog (R.places stores.old) (R.shelves stores.old) (R.tells stores.old)) (placed (R.places stores.old)) (shown (R.shelves stores.old)) (shown (R.shelves stores.new)) self.old self.new) }
+        ensures goes { GoOn (R.places stores.old) (R.places stores.new) (R.shelves stores.old) (R.shelves stores.new) (R.tells stores.old) (R.tells stores.new) }
+    {
+        match act {
+            Act::Step(client) => self.go(stores, client, Way::Step),
+            Act::Lose(client) => self.go(stores, client, Way::Lose),
+            Act::Discard(client) => self.go(stores, client, Way::Discard),
+            Act::Stop(client) => self.stop(client),
+            Act::Clock(moment) => {
+                self.clock = moment;
+                self.events.push(Event::Clock(moment))?;
+                Ok(())
+            }
+        }
+    }
+}

@@ -1,0 +1,167 @@
+//! The stores that tests play on.
+ghost use Rattle.std.specs.Prelude.{◌≡◌};
+ghost use Rattle.std.specs.FinMap as map;
+
+use crate::run::{Case, ends, ends_by};
+use sdb_hashed::Hashed;
+use sdb_ordered::Ordered;
+use sdb_sqlite::Kept;
+use sdb_store::{Fails, Store};
+use sdb_stores::Stores;
+use sdb_types::{Condition, Key, Name, Record, Reply, Span};
+use sqlite::Connection;
+use std::alloc::Global;
+use std::test::Fail;
+
+// A store in memory, of which the call with this number finds no memory.
+#[derive(Drop)]
+struct Short {
+    ordered: Ordered,
+    made: u64,
+    wanting: u64,
+}
+
+impl Short {
+    // Counts a call more: whether it finds memory.
+    fn finds_memory(&mut self) -> bool
+        ensures { self.new.ordered ≡ self.old.ordered }
+    {
+        self.made = self.made.saturating_add(1);
+        self.made != self.wanting
+    }
+}
+
+impl Store for Short {
+    ghost tells = { λ _. ⊥ };
+
+    ghost contents = { λ _. map.empty };
+
+    ghost faults = { λ s. ⟦<Ordered as Store>⟧.faults s.ordered };
+
+    fn get(&mut self, key: &Key) -> Reply {
+        if !self.finds_memory() {
+            return Reply::NoMemory;
+        }
+        self.ordered.get(key)
+    }
+
+    fn scan(&mut self, span: &Span) -> Reply {
+        if !self.finds_memory() {
+            return Reply::NoMemory;
+        }
+        self.ordered.scan(span)
+    }
+
+    fn put_if(&mut self, rec: &Record, condition: &Condition) -> Reply {
+        if !self.finds_memory() {
+            return Reply::NoMemory;
+        }
+        self.ordered.put_if(rec, condition)
+    }
+
+    fn delete_if(&mut self, key: &Key, condition: &Condition) -> Reply {
+        if !self.finds_memory() {
+            return Reply::NoMemory;
+        }
+        self.ordered.delete_if(key, condition)
+    }
+}
+
+fn attach(
+    alloc: Global,
+    stores: &mut Stores,
+    name: &str,
+    store: Box<dyn Store>,
+) -> Result<bool, Fail> {
+    let name = Name::new(alloc, name)?;
+    Ok(stores.attach(name, store).is_ok())
+}
+
+/// Attaches the store `ordered`, of which these calls fail.
+pub fn attach_ordered(alloc: Global, stores: &mut Stores, failing: Fails) -> Result<bool, Fail> {
+    attach(
+        alloc,
+        stores,
+        "ordered",
+        Box::new(alloc, Ordered::new(alloc, failing))?,
+    )
+}
+
+fn attach_hashed(alloc: Global, stores: &mut Stores) -> Result<bool, Fail> {
+    let hashed = Hashed::new(alloc, Fails::new(alloc));
+    attach(alloc, stores, "hashed", Box::new(alloc, hashed)?)
+}
+
+// The store `sqlite` over a new database in memory.
+fn attach_kept(alloc: Global, stores: &mut Stores) -> Result<bool, Fail> {
+    let database = Connection::open_in_memory(alloc)?;
+    let kept = Box::new(alloc, Kept::new(alloc, database)?)?;
+    attach(alloc, stores, "sqlite", kept)
+}
+
+// The store `ordered`, of which the call with this number finds no memory.
+fn attach_short(alloc: Global, stores: &mut Stores, call: u64) -> Result<bool, Fail> {
+    let short = Short {
+        ordered: Ordered::new(alloc, Fails::new(alloc)),
+        made: 0,
+        wanting: call,
+    };
+    attach(alloc, stores, "ordered", Box::new(alloc, short)?)
+}
+
+fn fails_at(alloc: Global, call: u64, after: bool) -> Result<Fails, Fail> {
+    let mut failing = Fails::new(alloc);
+    failing.push(sdb_store::Fail { call, after })?;
+    Ok(failing)
+}
+
+/// Whether a case ends as listed on two stores in memory.
+pub fn on_memory(alloc: Global, case: Case<'_>) -> Result<bool, Fail> {
+    let mut stores = Stores::new(alloc);
+    let attached = attach_ordered(alloc, &mut stores, Fails::new(alloc))?
+        && attach_hashed(alloc, &mut stores)?;
+    Ok(attached && ends(alloc, &mut stores, case)?)
+}
+
+/// Whether a case ends as listed, by that line and that code, on a store in memory.
+pub fn on_memory_by(alloc: Global, case: Case<'_>, line: &str, code: u8) -> Result<bool, Fail> {
+    let mut stores = Stores::new(alloc);
+    let attached = attach_ordered(alloc, &mut stores, Fails::new(alloc))?;
+    Ok(attached && ends_by(alloc, &mut stores, case, line, code)?)
+}
+
+/// Whether a case ends as listed on a store in memory and a database.
+pub fn on_kept(alloc: Global, case: Case<'_>) -> Result<bool, Fail> {
+    let mut stores = Stores::new(alloc);
+    let attached = attach_ordered(alloc, &mut stores, Fails::new(alloc))?
+        && attach_kept(alloc, &mut stores)?;
+    Ok(attached && ends(alloc, &mut stores, case)?)
+}
+
+/// Whether a case ends as listed, by that line and that code, on a store whose call of this number fails, after its effect or before
+/// it.
+pub fn on_failing(
+    alloc: Global,
+    call: u64,
+    after: bool,
+    case: Case<'_>,
+    line: &str,
+    code: u8,
+) -> Result<bool, Fail> {
+    let mut stores = Stores::new(alloc);
+    let attached = attach_ordered(alloc, &mut stores, fails_at(alloc, call, after)?)?;
+    Ok(attached && ends_by(alloc, &mut stores, case, line, code)?)
+}
+
+/// Whether a case ends as listed, by that line and that code, on a store whose call of this number finds no memory.
+pub fn on_short(
+    alloc: Global,
+    call: u64,
+    case: Case<'_>,
+    line: &str,
+    code: u8,
+) -> Result<bool, Fail> {
+    let mut stores = Stores::new(alloc);
+    let attached = attach_short(alloc, &mut stores, call)?;
+    Ok(attached && ends_by(alloc, &mut stores, case, line, code)?)
+}
