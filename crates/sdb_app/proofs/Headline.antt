@@ -1,7 +1,7 @@
 -- A script that was read and played is a run of the headline.
-use Rattle.std.proofs.Common.{◌≡◌, ◌∙◌, Result, Ok, Err, IfErr, ℕ, ◌≤◌, ◌<◌, true, List, Option, Some, None, length, take, sym, ap, subst}
+use Rattle.std.proofs.Common.{◌≡◌, ◌∙◌, refl, Result, Ok, Err, IfErr, ℕ, ◌≤◌, ◌<◌, true, List, [], Option, Some, None, length, take, sym, ap, subst}
 use Rattle.std.specs.FinMap.{empty}
-use Rattle.std.specs.Prelude.{slice_get, IsErrAnd}
+use Rattle.std.specs.Prelude.{Contains, slice_get, IsErrAnd, nat_le, nat_lt, ◌&&◌}
 use Rattle.sdb_types.specs.declared.key.Key.{Key}
 use Rattle.sdb_types.specs.Bytes.{Appends}
 use Rattle.sdb_stores.specs.Shelf.{Shelf as Counted, AreDistinct, names_of}
@@ -9,24 +9,38 @@ use Rattle.sdb_stores.specs.declared.place.Place.{Place as Placed}
 use Rattle.sdb_model.specs.declared.event.Outcome.{Outcome}
 use Rattle.sdb_model.specs.declared.script.Place.{Place}
 use Rattle.sdb_model.specs.declared.script.Script.{Script}
+use Rattle.sdb_model.specs.declared.answer.Answer.{Answer}
+use Rattle.sdb_model.specs.declared.answer.Answer.TheVariants as answer
+use Rattle.sdb_model.specs.Calls.{Made, calls_by, calls_of, end_of}
+use Rattle.sdb_model.specs.Causes.{AreCaused, IsCaused}
 use Rattle.sdb_model.specs.Events.{Shelf, store_of}
 use Rattle.sdb_model.specs.Report.{report_text_of}
 use Rattle.sdb_model.specs.Rows.{Name}
 use Rattle.sdb_model.specs.Follows.{Follows}
 use Rattle.sdb_model.specs.Told.{IsRun}
+use Rattle.sdb_model.specs.Transactions.{Said, said}
 use Rattle.sdb_spread.specs.Spread.{HoldAs}
 use Rattle.sdb_board.specs.Board.{AreFit, GoOn, placed, shown}
 use Rattle.sdb_board.specs.Opening.{first_key, opening_records}
 use Rattle.sdb_board.specs.declared.refused.CallRefused.TheVariants as refused
 use Rattle.sdb_board.proofs.Empty.{no_record}
 use Rattle.sdb_board.proofs.GoesOn.{refused_after}
+use Rattle.sdb_causes.specs.Moves.{TellOne}
 use Rattle.sdb_causes.specs.Tied.{AnswersHaveCauses}
+use Rattle.sdb_causes.proofs.Counting.{all_counted}
+use Rattle.sdb_causes.proofs.Lists.{kept_in}
+use Rattle.sdb_causes.proofs.Rolled.{all_resolved}
+use Rattle.sdb_endings.specs.Decisions.{ShowOne}
+use Rattle.sdb_endings.proofs.Agreeing.{decisions_agree}
+use Rattle.sdb_world.specs.Broken.{BreaksWithin}
 use Rattle.sdb_world.specs.Explained.{IsExplained}
+use Rattle.sdb_world.proofs.Broken.{breaks_after}
 use Rattle.sdb_app.specs.declared.status.Status.{Status}
 use Rattle.sdb_app.specs.declared.status.Status.TheVariants as status
 use Rattle.sdb_app.specs.Run.{AreReady, TellOf, IsFirstFound, IsOutcome, IsPlayed, IsPrefixWritten, IsReadAnd, IsReplayed, IsReported, IsScriptRead, Stops, is_unplayed}
 use Rattle.sdb_script.specs.Begun.{ArePlaces}
 use Rattle.sdb_app.proofs.Placing.{fit_for}
+use Rattle.sdb_app.proofs.Seeing.{answered_seen, seen_fine}
 
 ---- why it stopped
 
@@ -83,24 +97,64 @@ ready_after script ps qs mid then same goes fit none quiet = record {
   nothing = subst (λ (ss : List Shelf). HoldAs script.catalog script.places ss empty) (sym quiet) (subst (λ (xs : List Place). HoldAs script.catalog xs (shown mid) empty) same (no_record script.catalog (placed ps) (shown mid) none));
 }
 
-played_on : {u v : ℕ → Type 0} (script : Script) (ps qs : List Placed) (old mid then : List Counted) (new : List Shelf) (o : Outcome) → placed ps ≡ script.places → mid ≡ old → GoOn ps qs mid then u v → AreFit script.catalog ps mid u
-    → first_key (opening_records script.catalog (placed ps) (shown mid)) ≡ None → shown then ≡ shown mid → (AreReady script qs then v → IsRun script (shown then) new o) → (AreReady script qs then v → IsExplained script o.events (shown then)) → IsPlayed script (shown old) new o
-played_on script ps qs old mid then new o same still goes fit none quiet run explained = record {
-  empty = sym (ap (λ (ss : List Shelf). first_key (opening_records script.catalog script.places ss)) (ap shown still)) ∙ sym (ap (λ (xs : List Place). first_key (opening_records script.catalog xs (shown mid))) same) ∙ none;
-  run = subst (λ (ss : List Shelf). IsRun script ss new o) (quiet ∙ ap shown still) (run (ready_after script ps qs mid then same goes fit none quiet));
-  explained = subst (λ (ss : List Shelf). IsExplained script o.events ss) (quiet ∙ ap shown still) (explained (ready_after script ps qs mid then same goes fit none quiet));
-}
+-- Stores that tell show one decision on each transaction, so each answer has its cause.
+causes_of : (script : Script) (opening closing : List Shelf) (o : Outcome) → AnswersHaveCauses script.catalog o.events → IsRun script opening closing o → IsExplained script o.events opening → AreCaused script.catalog o.events
+causes_of script opening closing o caused run explained = record { caused = each; turned_away = caused.turned_away }
+  where
+    one : ShowOne o.events
+    one = decisions_agree script.places o.events opening closing run.moments run.consistent (explained run.moments closing run.consistent).standing.rows_final
 
-pub reported : {t u v : ℕ → Type 0} (script : Script) (ps qs : List Placed) (old mid then : List Counted) (new : List Shelf) (o : Outcome) (text : List ℕ) → placed ps ≡ script.places → mid ≡ old → GoOn ps qs mid then u v → (TellOf script old t → AreFit script.catalog ps mid u)
+    within : (c : ℕ) (s : Said) (m : Made) → Contains (calls_of o.events c s) m → Contains (calls_by o.events c) m
+    within c s m = kept_in (λ (x : Made). nat_lt s.taken x.at && nat_le x.at (end_of o.events s)) (calls_by o.events c) m
+
+    tells : (c : ℕ) (s : Said) → TellOne (calls_of o.events c s)
+    tells c s id m x a b fits in_m in_x = one c c id m x a b fits (within c s m in_m) (within c s x in_x)
+
+    each : (c : ℕ) (s : Said) (a : Answer) → Contains (said c o.events) s → s.answer ≡ Some a → IsCaused script.catalog o.events c s a
+    each c s (answer.Rows rows) has is = caused.caused c s (answer.Rows rows) has is refl
+    each c s (answer.Count n) has is = caused.caused c s (answer.Count n) has is refl
+    each c s answer.Done has is = caused.caused c s answer.Done has is refl
+    each c s answer.Committed has is = caused.caused c s answer.Committed has is refl
+    each c s (answer.Duplicate key) has is = caused.caused c s (answer.Duplicate key) has is refl
+    each c s (answer.Busy key id at) has is = caused.caused c s (answer.Busy key id at) has is refl
+    each c s (answer.Conflict key found) has is = caused.conflicts c (λ x in_said. tells c x) s key found has is
+    each c s (answer.Expired id) has is = caused.caused c s (answer.Expired id) has is refl
+    each c s answer.Faulted has is = caused.caused c s answer.Faulted has is refl
+    each c s (answer.Unknown id) has is = caused.caused c s (answer.Unknown id) has is refl
+    each c s (answer.BadRecord key) has is = caused.bad_records c s key has is (tells c s)
+    each c s (answer.Refused r) has is = caused.caused c s (answer.Refused r) has is refl
+    each c s answer.Vacuuming has is = caused.caused c s answer.Vacuuming has is refl
+    each c s answer.OpenTransactions has is = caused.caused c s answer.OpenTransactions has is refl
+    each c s answer.NoMemory has is = caused.caused c s answer.NoMemory has is refl
+
+played_on : {u v : ℕ → Type 0} (script : Script) (ps qs : List Placed) (old mid then : List Counted) (new : List Shelf) (o : Outcome) → placed ps ≡ script.places → mid ≡ old → GoOn ps qs mid then u v → AreFit script.catalog ps mid u
+    → first_key (opening_records script.catalog (placed ps) (shown mid)) ≡ None → shown then ≡ shown mid → (AreReady script qs then v → IsRun script (shown then) new o) → (AreReady script qs then v → IsExplained script o.events (shown then)) → AnswersHaveCauses script.catalog o.events → IsPlayed script (shown old) new o
+played_on script ps qs old mid then new o same still goes fit none quiet run explained caused = record {
+  empty = sym (ap (λ (ss : List Shelf). first_key (opening_records script.catalog script.places ss)) (ap shown still)) ∙ sym (ap (λ (xs : List Place). first_key (opening_records script.catalog xs (shown mid))) same) ∙ none;
+  run = run_now;
+  explained = explained_now;
+  caused = causes_of script (shown old) new o caused run_now explained_now;
+  counted = all_counted script.catalog o.events caused.counted (seen_fine script.places o.events (shown old) new run_now.moments run_now.consistent);
+  resolved = all_resolved o.events caused.rolled (answered_seen script.places o.events (shown old) new run_now.moments run_now.consistent);
+}
+  where
+    run_now : IsRun script (shown old) new o
+    run_now = subst (λ (ss : List Shelf). IsRun script ss new o) (quiet ∙ ap shown still) (run (ready_after script ps qs mid then same goes fit none quiet))
+
+    explained_now : IsExplained script o.events (shown old)
+    explained_now = subst (λ (ss : List Shelf). IsExplained script o.events ss) (quiet ∙ ap shown still) (explained (ready_after script ps qs mid then same goes fit none quiet))
+
+pub reported : {t u v : ℕ → Type 0} (script : Script) (ps qs : List Placed) (old mid then new : List Counted) (o : Outcome) (text : List ℕ) → placed ps ≡ script.places → mid ≡ old → GoOn ps qs mid then u v → (TellOf script old t → AreFit script.catalog ps mid u)
     → (AreFit script.catalog ps mid u → first_key (opening_records script.catalog (placed ps) (shown mid)) ≡ None) → (AreFit script.catalog ps mid u → shown then ≡ shown mid)
-    → Follows script.clients script.moves o.events → AnswersHaveCauses script.catalog o.events → (AreReady script qs then v → IsRun script (shown then) new o) → (AreReady script qs then v → IsExplained script o.events (shown then)) → text ≡ report_text_of o → IsReported (TellOf script old t) script (shown old) new text
-reported script ps qs old mid then new o text same still goes fit none quiet follows caused run explained is = record {
+    → Follows script.clients script.moves o.events → AnswersHaveCauses script.catalog o.events → BreaksWithin [] o.events then new → (AreReady script qs then v → IsRun script (shown then) (shown new) o) → (AreReady script qs then v → IsExplained script o.events (shown then)) → text ≡ report_text_of o → IsReported (TellOf script old t) script old new text
+reported script ps qs old mid then new o text same still goes fit none quiet follows caused broken run explained is = record {
   outcome = o;
   text = is;
   made = record {
     follows = follows;
     caused = caused;
-    played = λ all. played_on script ps qs old mid then new o same still goes (fit all) (none (fit all)) (quiet (fit all)) run explained;
+    broken = subst (λ (ss : List Counted). BreaksWithin [] o.events ss new) still (breaks_after [] o.events ps qs mid then new goes broken);
+    played = λ all. played_on script ps qs old mid then (shown new) o same still goes (fit all) (none (fit all)) (quiet (fit all)) run explained caused;
   };
 }
 
@@ -124,32 +178,33 @@ read_and P Q script old new names before mid named same telling h so then = reco
   so = λ all. then (so (tell_on script before mid same telling all));
 }
 
-made_of : {t u : ℕ → Type 0} (script : Script) (before mid : List Counted) (closing : List Shelf) (o : Outcome) → mid ≡ before → ((at : ℕ) → t at → u at) → IsOutcome (TellOf script mid u) script (shown mid) closing o → IsOutcome (TellOf script before t) script (shown before) closing o
-made_of script before mid closing o same telling made = record {
+made_of : {t u : ℕ → Type 0} (script : Script) (before mid new : List Counted) (o : Outcome) → mid ≡ before → ((at : ℕ) → t at → u at) → IsOutcome (TellOf script mid u) script mid new o → IsOutcome (TellOf script before t) script before new o
+made_of script before mid new o same telling made = record {
   follows = made.follows;
   caused = made.caused;
-  played = λ all. subst (λ (ss : List Counted). IsPlayed script (shown ss) closing o) same (made.played (tell_on script before mid same telling all));
+  broken = subst (λ (ss : List Counted). BreaksWithin [] o.events ss new) same made.broken;
+  played = λ all. subst (λ (ss : List Counted). IsPlayed script (shown ss) (shown new) o) same (made.played (tell_on script before mid same telling all));
 }
 
 -- the report of a script that was read was written
 pub replayed : {t u : ℕ → Type 0} (script : Script) (names : List Name) (before mid new : List Counted) (old_input new_input old new_output : Option (List ℕ)) (text bytes : List ℕ) → names ≡ names_of mid → mid ≡ before → ((at : ℕ) → t at → u at) → IsScriptRead names old_input new_input script
-    → bytes ≡ text → Appends bytes old new_output → IsReported (TellOf script mid u) script (shown mid) (shown new) text → IsReplayed before t new old_input new_input old new_output
+    → bytes ≡ text → Appends bytes old new_output → IsReported (TellOf script mid u) script mid new text → IsReplayed before t new old_input new_input old new_output
 replayed script names before mid new old_input new_input old new_output text bytes named same telling h is written r = record {
   script = script;
   read = subst (λ (ns : List Name). IsScriptRead ns old_input new_input script) (named ∙ ap names_of same) h;
   outcome = r.outcome;
-  made = made_of script before mid (shown new) r.outcome same telling r.made;
+  made = made_of script before mid new r.outcome same telling r.made;
   written = subst (λ (x : List ℕ). Appends x old new_output) (is ∙ r.text) written;
 }
 
 -- a prefix of it
 pub prefix_replayed : {t u : ℕ → Type 0} (script : Script) (names : List Name) (before mid new : List Counted) (old_input new_input old new_output : Option (List ℕ)) (text bytes : List ℕ) → names ≡ names_of mid → mid ≡ before → ((at : ℕ) → t at → u at) → IsScriptRead names old_input new_input script
-    → bytes ≡ text → (k : ℕ) × (k ≤ length bytes) × Appends (take k bytes) old new_output → IsReported (TellOf script mid u) script (shown mid) (shown new) text → IsPrefixWritten before t new old_input new_input old new_output
+    → bytes ≡ text → (k : ℕ) × (k ≤ length bytes) × Appends (take k bytes) old new_output → IsReported (TellOf script mid u) script mid new text → IsPrefixWritten before t new old_input new_input old new_output
 prefix_replayed script names before mid new old_input new_input old new_output text bytes named same telling h is w r = record {
   script = script;
   read = subst (λ (ns : List Name). IsScriptRead ns old_input new_input script) (named ∙ ap names_of same) h;
   outcome = r.outcome;
-  made = made_of script before mid (shown new) r.outcome same telling r.made;
+  made = made_of script before mid new r.outcome same telling r.made;
   size = w.0;
   within = subst (λ (x : List ℕ). w.0 ≤ length x) (is ∙ r.text) w.1;
   written = subst (λ (x : List ℕ). Appends (take w.0 x) old new_output) (is ∙ r.text) w.2;

@@ -19,11 +19,13 @@ use Rattle.sdb_dump.specs.Refused.{Refuses as ClosingRefuses}
 use Rattle.sdb_dump.specs.declared.refused.ClosingRefused.{ClosingRefused}
 use Rattle.sdb_dump.specs.declared.refused.ClosingRefused.TheVariants as closing
 use Rattle.sdb_causes.specs.Tied.{AnswersHaveCauses}
+use Rattle.sdb_world.specs.Broken.{BreaksWithin}
 use Rattle.sdb_world.specs.Explained.{IsExplained}
 use Rattle.sdb_world.specs.World.{WorldAt}
 use Rattle.sdb_world.specs.Linked.{HaveCauses, IsLinked}
 use Rattle.sdb_world.specs.Played.{HasPlayed}
 use Rattle.sdb_world.specs.Step.{HasCome}
+use Rattle.sdb_world.proofs.Broken.{breaks_more, breaks_still}
 use Rattle.sdb_app.specs.Run.{AreReady, HasNotPlayed, IsOutcomeOf, Stops, status_of_call, status_of_closing}
 use Rattle.sdb_stores.specs.Shelf.{HaveRisen}
 
@@ -66,7 +68,7 @@ module _ {t u : ℕ → Type 0} (script : Script) (w v : WorldAt) (ps qs : List 
 
   -- the answers of its outcome have their causes
   pub caused_played : HaveCauses w → (events : List Event) → (HaveCauses v → AnswersHaveCauses v.script.catalog events) → AnswersHaveCauses script.catalog events
-  caused_played kept events out = subst (λ (s : Script). AnswersHaveCauses s.catalog events) vs (out (came.gone.caused kept))
+  caused_played kept events out = subst (λ (s : Script). AnswersHaveCauses s.catalog events) vs (out (came.gone.caused linked kept))
 
   -- its outcome is that of a run
   pub run_played : (left : List Shelf) (o : Outcome) → IsOutcomeOf v qs mid u left o → AreReady script ps old t → IsRun script (shown old) left o
@@ -79,6 +81,12 @@ module _ {t u : ℕ → Type 0} (script : Script) (w v : WorldAt) (ps qs : List 
   -- and there is one
   pub none_played : HasNotPlayed v qs mid u → AreReady script ps old t → ⊥
   none_played never ready = never (shown old) (fit ready) (at ready) (played ready)
+
+-- no more of its calls are Broken than the stores failed
+pub broken_played : {t u : ℕ → Type 0} (w v : WorldAt) (ps qs : List Placed) (old mid new : List Counted) (events : List Event) → w.events ≡ [] → BreaksWithin w.events v.events old mid → GoOn ps qs mid new t u → events ≡ v.events → BreaksWithin [] events old new
+broken_played w v ps qs old mid new events none h goes is =
+    subst (λ (xs : List Event). BreaksWithin [] xs old new) (sym is)
+    (subst (λ (xs : List Event). BreaksWithin xs v.events old new) none (breaks_more w.events v.events v.events ps qs old mid new h goes (breaks_still v.events ps qs mid new goes)))
 
 ---- what is so of a result
 

@@ -1,5 +1,5 @@
 -- What the program promises of one of its runs.
-use Rattle.std.specs.Prelude.{◌≡◌, ◌⊎◌, ℕ, ◌≤◌, ◌<◌, Bool, true, false, List, length, slice_get, take, Option, Some, None, codes}
+use Rattle.std.specs.Prelude.{◌≡◌, ◌⊎◌, ℕ, ◌≤◌, ◌<◌, Bool, true, false, List, [], length, slice_get, take, Option, Some, None, codes}
 use Rattle.sdb_words.specs.Commands.{is_alone}
 use Rattle.sdb_types.specs.declared.key.Key.{Key}
 use Rattle.sdb_types.specs.Bytes.{Takes, Appends, IsAtEnd}
@@ -25,6 +25,7 @@ use Rattle.sdb_board.specs.declared.refused.CallRefused.TheVariants as call
 use Rattle.sdb_dump.specs.declared.refused.ClosingRefused.{ClosingRefused}
 use Rattle.sdb_dump.specs.declared.refused.ClosingRefused.TheVariants as closing
 use Rattle.sdb_causes.specs.Tied.{AnswersHaveCauses}
+use Rattle.sdb_world.specs.Broken.{BreaksWithin}
 use Rattle.sdb_world.specs.Explained.{IsExplained}
 use Rattle.sdb_world.specs.World.{WorldAt}
 use Rattle.sdb_world.specs.Played.{HasPlayed}
@@ -32,6 +33,8 @@ use Rattle.sdb_app.specs.declared.status.InputFault.TheVariants.{Line}
 use Rattle.sdb_app.specs.declared.status.Status.{Status}
 use Rattle.sdb_app.specs.declared.status.Status.TheVariants as status
 use Rattle.sdb_model.specs.Report.{report_text_of}
+use Rattle.sdb_model.specs.Causes.{AreCaused}
+use Rattle.sdb_model.specs.Counted.{AreCounted, AreResolved}
 use Rattle.sdb_model.specs.Follows.{Follows}
 use Rattle.sdb_model.specs.Told.{IsRun}
 
@@ -52,25 +55,31 @@ TellOf script shelves tells =
     (at : ℕ) (store : Counted) (table : TableName) → slice_get shelves at ≡ Some store → is_played script.catalog table ≡ true → store_of script.places (shown shelves) table.ns ≡ store.name → tells at
 
 -- The tables of a script were empty, and one outcome is that of a run that follows it, from what the stores held at the entry
--- to what they hold at the exit; and what stood in the stores at each moment is explained by its events.
+-- to what they hold at the exit; what stood in the stores at each moment is explained by its events, and what each recorded transaction
+-- noted is current at its point; each answer has its cause; the calls of all statements are counted by what was seen; and whoever was
+-- answered from rows had each unresolved record that was found rolled first.
 pub record IsPlayed (script : Script) (opening closing : List Shelf) (outcome : Outcome) : Type 0 where
   pub empty : first_key (opening_records script.catalog script.places opening) ≡ None
   pub run : IsRun script opening closing outcome
   pub explained : IsExplained script outcome.events opening
+  pub caused : AreCaused script.catalog outcome.events
+  pub counted : AreCounted script.catalog outcome.events
+  pub resolved : AreResolved outcome.events
 
--- One outcome of a script on any stores: its events follow the script's moves, and the answers have their causes among them; and where
--- the stores tell what they hold, it is that of a run of the script, whose tables were empty.
-pub record IsOutcome (telling : Type 0) (script : Script) (opening closing : List Shelf) (outcome : Outcome) : Type 0 where
+-- One outcome of a script on any stores: its events follow the script's moves, the answers have their causes among them, and no more calls
+-- are Broken than the stores failed; and where the stores tell what they hold, it is that of a run of the script, whose tables were empty.
+pub record IsOutcome (telling : Type 0) (script : Script) (old new : List Counted) (outcome : Outcome) : Type 0 where
   pub follows : Follows script.clients script.moves outcome.events
   pub caused : AnswersHaveCauses script.catalog outcome.events
-  pub played : telling → IsPlayed script opening closing outcome
+  pub broken : BreaksWithin [] outcome.events old new
+  pub played : telling → IsPlayed script (shown old) (shown new) outcome
 
 -- The headline: the input is a script over the attached stores, and the report of one outcome of it was written, whole and nothing else.
 pub record IsReplayed (old : List Counted) (tells : ℕ → Type 0) (new : List Counted) (old_input new_input old_output new_output : Option (List ℕ)) : Type 0 where
   pub script : Script
   pub read : IsScriptRead (names_of old) old_input new_input script
   pub outcome : Outcome
-  pub made : IsOutcome (TellOf script old tells) script (shown old) (shown new) outcome
+  pub made : IsOutcome (TellOf script old tells) script old new outcome
   pub written : Appends (report_text_of outcome) old_output new_output
 
 -- The same, but only a prefix of the report was written.
@@ -78,7 +87,7 @@ pub record IsPrefixWritten (old : List Counted) (tells : ℕ → Type 0) (new : 
   pub script : Script
   pub read : IsScriptRead (names_of old) old_input new_input script
   pub outcome : Outcome
-  pub made : IsOutcome (TellOf script old tells) script (shown old) (shown new) outcome
+  pub made : IsOutcome (TellOf script old tells) script old new outcome
   pub size : ℕ
   pub within : size ≤ length (report_text_of outcome)
   pub written : Appends (take size (report_text_of outcome)) old_output new_output
@@ -138,10 +147,10 @@ is_refusal (status.Limit n which) = true
 is_refusal _ = false
 
 -- The text is the report of one outcome of a script.
-pub record IsReported (telling : Type 0) (script : Script) (opening closing : List Shelf) (report : List ℕ) : Type 0 where
+pub record IsReported (telling : Type 0) (script : Script) (old new : List Counted) (report : List ℕ) : Type 0 where
   pub outcome : Outcome
   pub text : report ≡ report_text_of outcome
-  pub made : IsOutcome telling script opening closing outcome
+  pub made : IsOutcome telling script old new outcome
 
 -- The stores of a script's tables are fit for a run of it, as it places them, and hold nothing of them.
 pub record AreReady (script : Script) (places : List Placed) (shelves : List Counted) (tells : ℕ → Type 0) : Type 0 where

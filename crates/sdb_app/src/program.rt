@@ -120,8 +120,7 @@ fn replay_input<S: Registry, R: Source, W: Sink>(
 ///
 /// `replay` takes all places away and reads a script. It places the namespaces as the script says, sees to it that the script's tables
 /// are empty, plays it on the stores, and writes the report of the run. Nothing is written before the run has ended. What is said of a
-/// run and of records is said where the stores of the script's tables tell what they hold. VACUUM isn't built: it is answered as out of
-/// memory where no transaction is open.
+/// run and of records is said where the stores of the script's tables tell what they hold.
 pub fn run<S: Registry, R: Source, W: Sink, C: Clock, I: Ids>(
     alloc: Global,
     words: &[String],

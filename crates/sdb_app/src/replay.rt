@@ -9,6 +9,7 @@ ghost use Rattle.sdb_script.specs.Begun.{ArePlaces};
 ghost use Rattle.sdb_board.specs.Board.{AreFit, GoOn, placed, shown};
 ghost use Rattle.sdb_board.specs.Opening.{first_key, opening_records};
 ghost use Rattle.sdb_causes.specs.Tied.{AnswersHaveCauses};
+ghost use Rattle.sdb_world.specs.Broken.{BreaksWithin};
 ghost use Rattle.sdb_world.specs.Explained.{IsExplained};
 ghost use Rattle.sdb_world.specs.Linked.{HaveCauses};
 ghost use Rattle.sdb_world.specs.Played.{HasPlayed};
@@ -99,6 +100,7 @@ fn play<R: Registry>(alloc: Global, stores: &mut R, script: Script) -> Result<Ou
     requires can { CanFollow script }
     ensures follows { IfOk result (λ o. Follows script.clients script.moves o.events) }
     ensures caused { IfOk result (λ o. AnswersHaveCauses script.catalog o.events) }
+    ensures broken { IfOk result (λ o. BreaksWithin [] o.events (R.shelves stores.old) (R.shelves stores.new)) }
     ensures explained { IfOk result (λ o. AreReady script (R.places stores.old) (R.shelves stores.old) (R.tells stores.old) → IsExplained script o.events (shown (R.shelves stores.old))) }
     ensures run { IfOk result (λ o. AreReady script (R.places stores.old) (R.shelves stores.old) (R.tells stores.old) → IsRun script (shown (R.shelves stores.old)) (shown (R.shelves stores.new)) o) }
     ensures goes { GoOn (R.places stores.old) (R.places stores.new) (R.shelves stores.old) (R.shelves stores.new) (R.tells stores.old) (R.tells stores.new) }
@@ -117,7 +119,7 @@ pub fn replay<R: Registry>(alloc: Global, stores: &mut R, script: Script) -> Res
     requires playable { IsPlayable script }
     requires can { CanFollow script }
     requires places { ArePlaces (names_of (R.shelves stores.old)) script.places }
-    ensures report { IfOk result (λ text. IsReported (TellOf script (R.shelves stores.old) (R.tells stores.old)) script (shown (R.shelves stores.old)) (shown (R.shelves stores.new)) (string_bytes text)) }
+    ensures report { IfOk result (λ text. IsReported (TellOf script (R.shelves stores.old) (R.tells stores.old)) script (R.shelves stores.old) (R.shelves stores.new) (string_bytes text)) }
     ensures names { names_of (R.shelves stores.new) ≡ names_of (R.shelves stores.old) }
     ensures counted { total_faults (R.shelves stores.old) ≤ total_faults (R.shelves stores.new) }
     ensures err { IfErr result (Stops (R.shelves stores.old) (R.shelves stores.new) (TellOf script (R.shelves stores.old) (R.tells stores.old) → ⊥) (λ key. TellOf script (R.shelves stores.old) (R.tells stores.old) → IsFirstFound script (shown (R.shelves stores.old)) (shown (R.shelves stores.new)) key)) }

@@ -1,7 +1,10 @@
 -- What goes on of the stores, call by call.
-use Rattle.std.proofs.Common.{◌≡◌, ℕ, ◌<◌, List, [], ◌∷◌, ◌++◌, length, Result, Ok, Err, IfErr, inl, inr, refl, sym, ap, subst, ◌∙◌, arith}
-use Rattle.std.specs.Prelude.{IfSome, IsSome, IsErrAnd}
-use Rattle.std.proofs.lemmas.List.{length-map}
+use Rattle.std.proofs.Common.{◌≡◌, ℕ, ◌<◌, ◌≤◌, ◌-◌, ◌^◌, Bool, true, false, List, [], ◌∷◌, ◌++◌, length, get_or, slice_set, Result, Ok, Err, IfErr, inl, inr, refl, sym, ap, subst, ◌∙◌, arith}
+use Rattle.std.specs.Prelude.{◌==◌, IfSome, IsSome, IsErrAnd}
+use Rattle.std.proofs.lemmas.Bool.{eqb-false, eqb-true}
+use Rattle.std.proofs.lemmas.List.{get_or-set_other, length-map, length-set}
+use Rattle.std.proofs.lemmas.List.Quantifiers.{any-set}
+use Rattle.std.proofs.lemmas.Option.{get_or_from_slice_get, slice_get_within}
 use Rattle.sdb_types.specs.declared.record.Request.{Request}
 use Rattle.sdb_types.specs.declared.record.Reply.{Reply}
 use Rattle.sdb_stores.specs.Shelf.{Shelf as Counted, AreDistinct, HaveRisen, IsCallAt, names_of, home, place_of, placed_on}
@@ -11,24 +14,37 @@ use Rattle.sdb_model.specs.declared.event.Event.{Event}
 use Rattle.sdb_model.specs.declared.script.Place.{Place}
 use Rattle.sdb_model.specs.Rows.{Name}
 use Rattle.sdb_model.specs.Events.{Shelf, IsTrace, Effect}
-use Rattle.sdb_board.specs.Board.{AreFit, GoOn, Refuses}
+use Rattle.sdb_board.specs.Board.{GoOn, IsFull, Refuses}
 use Rattle.sdb_board.specs.declared.refused.CallRefused.{CallRefused}
 use Rattle.sdb_board.specs.declared.refused.CallRefused.TheVariants as refused
 
 pub goes_none : {told : ℕ → Type 0} (places : List Placed) (old : List Counted) → GoOn places places old old told told
-goes_none places old = record { places = refl; names = refl; counted = omega arith; fit = λ catalog f. f; telling = λ at h. h }
+goes_none places old = record { places = refl; names = refl; counted = omega arith; full = λ m. m; fit = λ catalog f. f; telling = λ at h. h }
 
 pub goes_more : {t u v : ℕ → Type 0} (p q r : List Placed) (a b c : List Counted) → GoOn p q a b t u → GoOn q r b c u v → GoOn p r a c t v
 goes_more p q r a b c g h = record {
   places = h.places ∙ g.places;
   names = h.names ∙ g.names;
   counted = omega (arith, g.counted, h.counted);
+  full = λ m. h.full (g.full m);
   fit = λ catalog f. h.fit catalog (g.fit catalog f);
   telling = λ at t. h.telling at (g.telling at t);
 }
 
 same_length : (old new : List Counted) → names_of new ≡ names_of old → length new ≡ length old
 same_length old new e = sym (length-map new (λ (s : Counted). s.name)) ∙ ap length e ∙ length-map old (λ (s : Counted). s.name)
+
+-- no count falls, so one at its greatest value stays there
+full_call : {told tells : ℕ → Type 0} (at : ℕ) (q : Request) (r : Reply) (old new : List Counted) → IsCallAt at q r old new told tells → IsFull old → IsFull new
+full_call at q r old new call (i, s, within, is, most) = subst IsFull (sym call.rest) (by (i == at) refl)
+  where
+    by : (b : Bool) → (i == at) ≡ b → IsFull (slice_set old at call.now)
+    by true e =
+        let here : i ≡ at = eqb-true i at e in
+        let same : s ≡ call.before = sym is ∙ ap (λ (k : ℕ). get_or old k s) here ∙ get_or_from_slice_get old at call.before s call.stood in
+        let spent : 2 ^ 64 - 1 ≤ call.before.faults = subst (λ (x : Counted). 2 ^ 64 - 1 ≤ x.faults) same most in
+        any-set (λ s. 2 ^ 64 - 1 ≤ s.faults) old at call.now (slice_get_within old at call.before call.stood) (omega (arith, call.counted, spent))
+    by false e = (i, s, subst (λ (n : ℕ). i < n) (sym (length-set old at call.now)) within, get_or-set_other old at i call.now s (λ k. eqb-false i at e k) ∙ is, most)
 
 pub goes_call : {told tells : ℕ → Type 0} (at : ℕ) (places : List Placed) (old new : List Counted) (q : Request) (r : Reply) → IsCallAt at q r old new told tells → GoOn places places old new told tells
 goes_call {told} at places old new q r call =
@@ -37,6 +53,7 @@ goes_call {told} at places old new q r call =
       places = refl;
       names = names;
       counted = grown at q r old new call;
+      full = full_call at q r old new call;
       fit = λ catalog f. record {
         some = subst (λ (n : ℕ). 0 < n) (sym (same_length old new names)) f.some;
         distinct = subst AreDistinct (sym names) f.distinct;

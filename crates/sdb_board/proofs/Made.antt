@@ -1,6 +1,6 @@
 -- One call on the store of its table, as events have it.
-use Rattle.std.proofs.Common.{◌≡◌, ◌≢◌, ℕ, Bool, true, false, List, [], Option, Some, None, inl, inr, refl, sym, ap, subst, ◌∙◌}
-use Rattle.std.specs.Prelude.{slice_get, slice_set}
+use Rattle.std.proofs.Common.{◌≡◌, ◌≢◌, ℕ, true, false, List, Option, Some, None, inl, inr, refl, sym, ap, ◌∙◌}
+use Rattle.std.specs.Prelude.{slice_get}
 use Rattle.std.specs.Option.{option_map}
 use Rattle.std.proofs.lemmas.Option.{slice_get-map}
 use Rattle.sdb_types.specs.declared.key.TableName.{TableName}
@@ -8,16 +8,15 @@ use Rattle.sdb_types.specs.declared.record.Request.{Request}
 use Rattle.sdb_types.specs.declared.record.Request.TheVariants as ask
 use Rattle.sdb_types.specs.declared.record.Reply.{Reply}
 use Rattle.sdb_types.specs.declared.record.Reply.TheVariants as reply
-use Rattle.sdb_types.specs.Contents.{Contents, reply_to, after}
+use Rattle.sdb_types.specs.Contents.{Contents, after}
 use Rattle.sdb_schema.specs.declared.table.Table.{Table}
 use Rattle.sdb_store.specs.Store.{Performs}
 use Rattle.sdb_stores.specs.Shelf.{Shelf as Counted, IsCallAt, names_of, home, table_of}
 use Rattle.sdb_stores.specs.declared.place.Place.{Place as Placed}
-use Rattle.sdb_model.specs.declared.event.How.{How}
-use Rattle.sdb_model.specs.declared.event.How.TheVariants.{Seen, Lost, Discarded, Broken}
+use Rattle.sdb_model.specs.declared.event.How.TheVariants.{Seen, Lost, Discarded}
 use Rattle.sdb_model.specs.declared.script.Place.{Place}
 use Rattle.sdb_model.specs.Rows.{Name}
-use Rattle.sdb_model.specs.Events.{Shelf, IsCall, IsPerformed, held_by, with_contents, store_of, table_asked}
+use Rattle.sdb_model.specs.Events.{Shelf, IsPerformed, held_by, with_contents, store_of, table_asked}
 use Rattle.sdb_spread.specs.Spread.{is_played}
 use Rattle.sdb_board.specs.Board.{AreFit, IsCalled, IsMade, how_lost, how_seen, is_read, reply_lost, shown, placed}
 use Rattle.sdb_board.proofs.Shelves.{held_at, set_there, set_still, named_home}

@@ -1,5 +1,5 @@
 -- The stores that a run is played on, and what its calls do to them.
-use Rattle.std.specs.Prelude.{◌≡◌, ℕ, ◌<◌, ◌≤◌, Bool, true, false, List, length, map, IfSome, IsSome}
+use Rattle.std.specs.Prelude.{◌≡◌, ℕ, ◌<◌, ◌≤◌, ◌-◌, ◌^◌, Bool, true, false, List, length, map, Any, IfSome, IsSome}
 use Rattle.sdb_types.specs.declared.key.TableName.{TableName}
 use Rattle.sdb_types.specs.declared.record.Request.{Request}
 use Rattle.sdb_types.specs.declared.record.Request.TheVariants as ask
@@ -36,12 +36,17 @@ pub record AreFit (catalog : List Table) (places : List Placed) (shelves : List 
   pub homed : (ns : List ℕ) → IfSome (placed_on ns places) (λ store. IsSome (place_of store (names_of shelves)))
   pub telling : AreTold catalog places shelves tells
 
--- Calls change no name and no place, faults add up, stores that are fit for a run stay so, and those that told what they hold go on
--- telling it.
+-- The count of some store stands at the greatest value of its type.
+abbrev pub IsFull : List Counted → Type 0
+IsFull shelves = Any (λ s. 2 ^ 64 - 1 ≤ s.faults) shelves
+
+-- Calls change no name and no place, faults add up, a count at its greatest value stays there, stores that are fit for a run stay so, and
+-- those that told what they hold go on telling it.
 pub record GoOn (before after : List Placed) (old new : List Counted) (told tells : ℕ → Type 0) : Type 0 where
   pub places : after ≡ before
   pub names : names_of new ≡ names_of old
   pub counted : total_faults old ≤ total_faults new
+  pub full : IsFull old → IsFull new
   pub fit : (catalog : List Table) → AreFit catalog before old told → AreFit catalog after new tells
   pub telling : (at : ℕ) → told at → tells at
 

@@ -6,26 +6,34 @@ use Rattle.std.proofs.lemmas.List.{append-nil}
 use Rattle.std.proofs.lemmas.List.Sums.{fold-append}
 use Rattle.sdb_schema.specs.declared.table.Table.{Table}
 use Rattle.sdb_model.specs.declared.answer.Answer.{Answer}
-use Rattle.sdb_model.specs.declared.answer.Answer.TheVariants as answer
 use Rattle.sdb_model.specs.declared.event.Event.{Event}
 use Rattle.sdb_model.specs.Calls.{calls_of, made_by}
 use Rattle.sdb_model.specs.Causes.{is_open, is_open_after, runs_vacuum}
 use Rattle.sdb_model.specs.Sql.{reads_begin, reads_commit, reads_rollback, reads_vacuum}
-use Rattle.sdb_model.specs.Transactions.{Said, begins, ends, is_conflict, is_done, said}
+use Rattle.sdb_model.specs.Transactions.{Said, begins, ends, from_begin, is_conflict, is_done, rest_of, said}
 use Rattle.sdb_exec.specs.Plans.{Planned}
 use Rattle.sdb_txn.specs.declared.txn.Doing.{Doing}
 use Rattle.sdb_txn.specs.declared.txn.Doing.TheVariants as doing
 use Rattle.sdb_txn.specs.Txn.{TxnAt}
+use Rattle.sdb_vacuum.specs.Vacuum.{VacuumAt}
 use Rattle.sdb_client.specs.Client.{ClientAt}
 use Rattle.sdb_story.specs.Telling.{waiting_of}
 use Rattle.sdb_turns.proofs.Lists.{each_more}
 use Rattle.sdb_types.proofs.Basics.{none_some}
 use Rattle.sdb_causes.specs.Commits.{StandsBy}
 use Rattle.sdb_causes.specs.Reads.{ReadsBy}
-use Rattle.sdb_causes.specs.Tied.{IsAnswered, IsDoing, IsOpenAs, IsWaiting, Knows, StandsIn, open_after}
+use Rattle.sdb_causes.specs.Conflicts.{ChecksBy}
+use Rattle.sdb_causes.specs.Moves.{ShowsAt, WorkBy, notes_told}
+use Rattle.sdb_causes.proofs.Noting.{body_answered, moved_still, noted_still, notes_stay, tell_back}
+use Rattle.sdb_causes.specs.Sweeps.{VacuumBy}
+use Rattle.sdb_causes.specs.Unfit.{ShowStored}
+use Rattle.sdb_causes.specs.Tied.{IsAnswered, IsDoing, IsNoting, IsOpenAs, IsSweeping, IsWaiting, Knows, StandsIn, StandsOn, open_after}
+use Rattle.sdb_causes.proofs.Filling.{filled_stays}
 use Rattle.sdb_causes.proofs.Lists.{since_more}
-use Rattle.sdb_causes.proofs.Calls.{calls_open, end_waiting, later_same}
+use Rattle.sdb_causes.proofs.Calls.{calls_open, end_waiting, later_same, none_made}
 use Rattle.sdb_causes.proofs.Later.{answered_stay, waiting_stays}
+use Rattle.sdb_causes.proofs.Counting.{counts_stay}
+use Rattle.sdb_causes.proofs.Rolled.{rolls_stay}
 
 ---- one statement more
 
@@ -66,9 +74,9 @@ after_begin was s b = ap (λ x. if x then true else if ends s && is_some s.answe
 
 -- a client has a transaction open where its events say so
 pub open_now : (catalog : List Table) (events : List Event) (c : ℕ) (h : ClientAt) → Knows catalog events c h → is_open events c ≡ is_some h.txn
-open_now catalog events c h k = ap open_after k.same ∙ all_told k.waiting k.waits ∙ by h.txn k.stands
+open_now catalog events c h k = ap open_after k.same ∙ all_told k.waiting k.waits ∙ either h.vacuum k.stands
   where
-    all_told : (o : Option Said) → IfSome o (IsWaiting catalog events c) → open_after (k.told ++ waiting_of o) ≡ open_after k.told
+    all_told : (o : Option Said) → IfSome o (IsWaiting catalog events c (is_some h.vacuum)) → open_after (k.told ++ waiting_of o) ≡ open_after k.told
     all_told None w = ap open_after (append-nil k.told)
     all_told (Some w) waits = after_more k.told w ∙ waits_open (open_after k.told) w waits.unanswered
 
@@ -76,12 +84,20 @@ open_now catalog events c h k = ap open_after k.same ∙ all_told k.waiting k.wa
     by None s = s.1
     by (Some t) s = s.0
 
+    sweeps : (w : Option Said) (v : VacuumAt) → IsSweeping events c k.told w h.txn v → open_after k.told ≡ is_some h.txn
+    sweeps None v s = absurd s
+    sweeps (Some w) v s = s.1 ∙ sym (ap is_some s.0)
+
+    either : (v : Option VacuumAt) → StandsOn events c h.begun k.told k.waiting h.plan h.txn v → open_after k.told ≡ is_some h.txn
+    either None s = by h.txn s
+    either (Some v) s = sweeps k.waiting v s
+
 abbrev sweeping : Bool → Said → Bool
 sweeping was s = reads_vacuum s.text && is_none s.answer
 
--- it runs no VACUUM
-pub no_vacuum : (catalog : List Table) (events : List Event) (c : ℕ) (h : ClientAt) → Knows catalog events c h → runs_vacuum events c ≡ false
-no_vacuum catalog events c h k = ap (fold sweeping false) k.same ∙ fold-append sweeping false k.told (waiting_of k.waiting) ∙ ap (λ b. fold sweeping b (waiting_of k.waiting)) (none k.told false refl k.answered) ∙ last k.waiting k.waits
+-- it runs VACUUM where its events say so
+pub sweeps_now : (catalog : List Table) (events : List Event) (c : ℕ) (h : ClientAt) → Knows catalog events c h → runs_vacuum events c ≡ is_some h.vacuum
+sweeps_now catalog events c h k = ap (fold sweeping false) k.same ∙ fold-append sweeping false k.told (waiting_of k.waiting) ∙ ap (λ b. fold sweeping b (waiting_of k.waiting)) (none k.told false refl k.answered) ∙ last k.waiting k.waits (only h.vacuum k.waiting k.stands)
   where
     not_none : (b : Bool) → (b && false) ≡ false
     not_none true = refl
@@ -94,9 +110,19 @@ no_vacuum catalog events c h k = ap (fold sweeping false) k.same ∙ fold-append
     none [] b e all = e
     none (s ∷ ss) b e all = none ss (sweeping b s) (answered s all.0.given all.0.is) all.1
 
-    last : (o : Option Said) → IfSome o (IsWaiting catalog events c) → fold sweeping false (waiting_of o) ≡ false
-    last None w = refl
-    last (Some w) waits = ap (λ b. b && is_none w.answer) waits.vacuum
+    -- one that runs VACUUM waits for a statement
+    only : (v : Option VacuumAt) (o : Option Said) → StandsOn events c h.begun k.told o h.plan h.txn v → o ≡ None → is_some v ≡ false
+    only None o s e = refl
+    only (Some v) None s e = absurd s
+    only (Some v) (Some w) s e = none_some w (sym e)
+
+    and_true : (b : Bool) → (b && true) ≡ b
+    and_true true = refl
+    and_true false = refl
+
+    last : (o : Option Said) → IfSome o (IsWaiting catalog events c (is_some h.vacuum)) → (o ≡ None → is_some h.vacuum ≡ false) → fold sweeping false (waiting_of o) ≡ is_some h.vacuum
+    last None w rests = sym (rests refl)
+    last (Some w) waits rests = ap (λ a. reads_vacuum w.text && is_none a) waits.unanswered ∙ and_true (reads_vacuum w.text) ∙ waits.vacuum
 
 ---- an event that isn't of a client
 
@@ -107,16 +133,33 @@ calls_wait catalog c events e w none unanswered =
 
 doing_stays : (c : ℕ) (events : List Event) (e : Event) (t : TxnAt) (p : Option Planned) (w : Option Said) (d : Doing) → ((x : Said) → w ≡ Some x → calls_of (events ++ e ∷ []) c x ≡ calls_of events c x) → IsDoing events c t p w d → IsDoing (events ++ e ∷ []) c t p w d
 doing_stays c events e t p w doing.Idle same h = h
-doing_stays c events e t (Some p) (Some w) (doing.Read a x) same h = record { text = h.text; inner = h.inner; stage = subst (λ ms. ReadsBy ms x.stage) (sym (same w refl)) h.stage }
+doing_stays c events e t (Some p) (Some w) (doing.Read a x) same h = record { text = h.text; inner = h.inner; stage = subst (λ ms. ReadsBy ms x.stage) (sym (same w refl)) h.stage; shows = subst (λ ms. ShowsAt x.request ms x.stage) (sym (same w refl)) h.shows }
 doing_stays c events e t (Some p) None (doing.Read a x) same h = h
 doing_stays c events e t None w (doing.Read a x) same h = h
 doing_stays c events e t p (Some w) (doing.Commit k) same h = record { text = h.text; same = h.same; moment = h.moment; stage = subst (λ ms. StandsBy k.work ms k.stage) (sym (same w refl)) h.stage }
 doing_stays c events e t p None (doing.Commit k) same h = h
 doing_stays c events e t p w doing.Over same h = h
 
-stands_stay : (c : ℕ) (events : List Event) (e : Event) (n : ℕ) (told : List Said) (w : Option Said) (p : Option Planned) (o : Option TxnAt) → ((x : Said) → w ≡ Some x → calls_of (events ++ e ∷ []) c x ≡ calls_of events c x) → StandsIn events c n told w p o → StandsIn (events ++ e ∷ []) c n told w p o
-stands_stay c events e n told w p None same s = s
-stands_stay c events e n told w p (Some t) same s = (s.0, s.1, doing_stays c events e t p w t.doing same s.2)
+noting_stays : (catalog : List Table) (c : ℕ) (events : List Event) (e : Event) (n : ℕ) (told : List Said) (t : TxnAt) (o : IsOpenAs c n told t) (d : Doing) (w : Option Said) → ((x : Said) → w ≡ Some x → calls_of (events ++ e ∷ []) c x ≡ calls_of events c x) → AllByRecursion (IsAnswered catalog events c) told
+    → IsNoting events c told o.body t d w → IsNoting (events ++ e ∷ []) c told o.body t d w
+noting_stays catalog c events e n told t o doing.Idle w same all h = noted_still catalog events e c n told t o all t.seen h
+noting_stays catalog c events e n told t o (doing.Read a x) w same all h = noted_still catalog events e c n told t o all t.seen h
+noting_stays catalog c events e n told t o (doing.Commit k) None same all h = tt
+noting_stays catalog c events e n told t o (doing.Commit k) (Some x) same all h = λ one.
+    let z = h (tell_back catalog events e c told all one) in
+    let notes : notes_told events c o.body ≡ notes_told (events ++ e ∷ []) c o.body = sym (notes_stay catalog events e c o.body (body_answered catalog events e c n told t o all)) in
+    (subst (λ ns. WorkBy ns k.work) notes z.0, subst (λ ns. ChecksBy ns k.work (calls_of (events ++ e ∷ []) c x) k.stage) notes (subst (λ ms. ChecksBy (notes_told events c o.body) k.work ms k.stage) (sym (same x refl)) z.1))
+noting_stays catalog c events e n told t o doing.Over w same all h = noted_still catalog events e c n told t o all t.seen h
+
+stands_stay : (catalog : List Table) (c : ℕ) (events : List Event) (e : Event) (n : ℕ) (told : List Said) (w : Option Said) (p : Option Planned) (o : Option TxnAt) → AllByRecursion (IsAnswered catalog events c) told → ((x : Said) → w ≡ Some x → calls_of (events ++ e ∷ []) c x ≡ calls_of events c x) → StandsIn events c n told w p o → StandsIn (events ++ e ∷ []) c n told w p o
+stands_stay catalog c events e n told w p None all same s = s
+stands_stay catalog c events e n told w p (Some t) all same s = (s.0, s.1, doing_stays c events e t p w t.doing same s.2, noting_stays catalog c events e n told t s.1 t.doing w same all s.3)
+
+-- and so does a client that runs VACUUM
+stays_on : (catalog : List Table) (c : ℕ) (events : List Event) (e : Event) (n : ℕ) (told : List Said) (w : Option Said) (p : Option Planned) (o : Option TxnAt) (v : Option VacuumAt) → AllByRecursion (IsAnswered catalog events c) told → ((x : Said) → w ≡ Some x → calls_of (events ++ e ∷ []) c x ≡ calls_of events c x) → StandsOn events c n told w p o v → StandsOn (events ++ e ∷ []) c n told w p o v
+stays_on catalog c events e n told w p o None all same s = stands_stay catalog c events e n told w p o all same s
+stays_on catalog c events e n told None p o (Some v) all same s = s
+stays_on catalog c events e n told (Some w) p o (Some v) all same s = (s.0, s.1, subst (λ ms. VacuumBy ms v) (sym (same w refl)) s.2)
 
 -- An event that isn't of a client, with which it says and calls nothing, leaves what is known of it.
 pub knows_still : (catalog : List Table) (c : ℕ) (events : List Event) (e : Event) (h : ClientAt) → said c (events ++ e ∷ []) ≡ said c events → made_by c (1 + length events, e) ≡ None → Knows catalog events c h → Knows catalog (events ++ e ∷ []) c h
@@ -126,23 +169,29 @@ knows_still catalog c events e h nothing none k = record {
   same = nothing ∙ k.same;
   answered = answered_stay catalog c events e k.told (inl nothing) k.answered;
   waits = waits k.waiting k.waits;
+  moved = λ one. moved_still catalog events e c k.told k.told k.answered (k.moved (tell_back catalog events e c k.told k.answered one));
   number = k.number;
   begun = k.begun;
   small = k.small;
-  stands = stands_stay c events e h.begun k.told k.waiting h.plan h.txn (λ x is. calls_wait catalog c events e x none (unanswered k.waiting k.waits x is)) k.stands;
+  stands = stays_on catalog c events e h.begun k.told k.waiting h.plan h.txn h.vacuum k.answered (λ x is. calls_wait catalog c events e x none (unanswered k.waiting k.waits x is)) k.stands;
+  counted = counts_stay catalog c events e k.told k.waiting h k.answered k.counted (λ x is. calls_wait catalog c events e x none (unanswered k.waiting k.waits x is));
+  filled = filled_stays events e c (rest_of (from_begin h.begun k.told)) h.txn k.filled;
+  fits = k.fits;
+  stored = subst ShowStored (sym (none_made c events e none)) k.stored;
+  rolled = rolls_stay catalog c events e k.told k.waiting h k.answered k.rolled (λ x is. calls_wait catalog c events e x none (unanswered k.waiting k.waits x is));
 }
   where
-    waits : (o : Option Said) → IfSome o (IsWaiting catalog events c) → IfSome o (IsWaiting catalog (events ++ e ∷ []) c)
+    waits : (o : Option Said) → IfSome o (IsWaiting catalog events c (is_some h.vacuum)) → IfSome o (IsWaiting catalog (events ++ e ∷ []) c (is_some h.vacuum))
     waits None w = tt
-    waits (Some x) w = waiting_stays catalog c events e x w
+    waits (Some x) w = waiting_stays catalog c events e (is_some h.vacuum) x w
 
-    unanswered : (o : Option Said) → IfSome o (IsWaiting catalog events c) → (x : Said) → o ≡ Some x → x.answer ≡ None
+    unanswered : (o : Option Said) → IfSome o (IsWaiting catalog events c (is_some h.vacuum)) → (x : Said) → o ≡ Some x → x.answer ≡ None
     unanswered None w x is = none_some x is
     unanswered (Some y) w x is = let same : y ≡ x = cc in subst (λ z. z.answer ≡ None) same w.unanswered
 
 ---- one statement more of an open transaction
 
-pub open_more : (c n : ℕ) (told : List Said) (t u : TxnAt) (s : Said) → u.id ≡ t.id → ends s ≡ false → IsOpenAs c n told t → IsOpenAs c n (told ++ s ∷ []) u
+abbrev pub open_more : (c n : ℕ) (told : List Said) (t u : TxnAt) (s : Said) → u.id ≡ t.id → ends s ≡ false → IsOpenAs c n told t → IsOpenAs c n (told ++ s ∷ []) u
 open_more c n told t u s same e o = record {
   begin = o.begin;
   body = o.body ++ s ∷ [];

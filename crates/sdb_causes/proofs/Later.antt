@@ -1,10 +1,11 @@
 -- Why a statement was answered so stays, whatever event comes.
-use Rattle.std.proofs.Common.{◌≡◌, ◌≤◌, ◌+◌, ◌⊎◌, inl, inr, ℕ, Bool, true, false, List, [], ◌∷◌, ◌++◌, length, Option, Some, None, refl, sym, ap, subst, ◌∙◌, arith}
+use Rattle.std.proofs.Common.{◌≡◌, ◌≤◌, ◌⊎◌, inl, inr, ℕ, Bool, true, false, List, [], ◌∷◌, ◌++◌, length, Option, Some, None, refl, sym, ap, subst, ◌∙◌, arith}
 use Rattle.std.specs.Prelude.{if◌then◌else◌, find, nat_lt, All, Contains}
 use Rattle.std.specs.List.{AllByRecursion, count_by}
 use Rattle.std.specs.Option.{option_and_then}
-use Rattle.std.proofs.lemmas.Bool.Decides.{nat_tests}
 use Rattle.sdb_types.specs.declared.txid.TxId.{TxId}
+use Rattle.sdb_types.specs.declared.key.Key.{Key}
+use Rattle.sdb_types.specs.declared.record.Record.{Record}
 use Rattle.sdb_types.specs.declared.record.Reply.TheVariants as reply
 use Rattle.sdb_types.specs.declared.record.Request.TheVariants as ask
 use Rattle.sdb_record.specs.declared.coordinator.Decision.TheVariants as decision
@@ -15,20 +16,18 @@ use Rattle.sdb_model.specs.declared.answer.Answer.TheVariants as answer
 use Rattle.sdb_model.specs.declared.event.Event.{Event}
 use Rattle.sdb_model.specs.declared.statement.Statement.{Statement}
 use Rattle.sdb_model.specs.declared.statement.Statement.TheVariants as statement
-use Rattle.sdb_model.specs.Calls.{Made, calls_after, calls_before, calls_of, decision_learned, is_fault, is_of_row, is_read, records_read}
-use Rattle.sdb_model.specs.Causes.{HasReply, IsBusy, IsCaused, IsCommitOf, IsCounted, IsDecided, IsTurnedAway, PutsRow, is_open, removes}
-use Rattle.sdb_model.specs.Sql.{reads_commit}
+use Rattle.sdb_model.specs.Calls.{Made, calls_after, calls_before, calls_of, decision_learned, is_fault, is_of_row, is_read, records_read, records_shown}
+use Rattle.sdb_model.specs.Causes.{HasReply, IsBad, IsBusy, IsCaused, IsCommitOf, IsCounted, IsDecided, IsTurnedAway, MayPassMost, PutsRow, is_misfit, is_open, removes}
+use Rattle.sdb_model.specs.Noted.{reads_rows}
+use Rattle.sdb_model.specs.Sql.{reads_commit, reads_vacuum}
 use Rattle.sdb_model.specs.Transactions.{Said, client_of, ends, from_begin, ordinal_of, rest_of, said}
-use Rattle.sdb_types.proofs.Basics.{clash, none_some, some_is}
-use Rattle.sdb_causes.specs.Tied.{IsAnswered, IsWaiting, is_caused}
+use Rattle.sdb_types.proofs.Basics.{none_some, some_is}
+use Rattle.sdb_causes.specs.Tied.{CanTell, IsAnswered, IsWaiting}
 use Rattle.sdb_causes.proofs.Lists.{ending_front, ending_stays, kept_in}
+use Rattle.sdb_causes.proofs.Passing.{Grows, pass_stays}
 use Rattle.sdb_causes.proofs.Calls.{before_same, calls_stay, calls_of_within, clock_same, within_more}
 
 ---- the COMMIT of a transaction
-
--- what a client said, by an event more: nothing, a statement more, or the last one, which waited, with its answer
-abbrev pub Grows : List Said → List Said → Type 0
-Grows ss ts = (ts ≡ ss) ⊎ ((x : Said) × (ts ≡ ss ++ x ∷ [])) ⊎ ((front : List Said) × (w : Said) × (x : Said) × (ss ≡ front ++ w ∷ []) × (w.answer ≡ None) × (ts ≡ front ++ x ∷ []))
 
 abbrev ending_in : ℕ → List Said → Option Said
 ending_in n ss = find ends (rest_of (from_begin n ss))
@@ -69,6 +68,7 @@ record IsPast (c : ℕ) (events : List Event) (e : Event) (s : Said) (a : Answer
   taken : s.taken ≤ length events
   answered : s.answered ≤ length events
   commit : (id : TxId) → IsCommitOf events c s id → IsCommitOf (events ++ e ∷ []) c s id
+  passes : MayPassMost events c s → MayPassMost (events ++ e ∷ []) c s
 
 counted_stays : (c : ℕ) (events : List Event) (e : Event) (s : Said) (st : Statement) (n : ℕ) → calls_of (events ++ e ∷ []) c s ≡ calls_of events c s → IsCounted events c s st n → IsCounted (events ++ e ∷ []) c s st n
 counted_stays c events e s (statement.Insert i) n same h = h
@@ -81,7 +81,13 @@ counted_stays c events e s statement.Commit n same h = h
 counted_stays c events e s statement.Rollback n same h = h
 counted_stays c events e s statement.Vacuum n same h = h ∙ ap (λ (ms : List Made). count_by removes ms) (sym same)
 
-caused_stays : (catalog : List Table) (c : ℕ) (events : List Event) (e : Event) (s : Said) (a : Answer) → IsPast c events e s a → is_caused a ≡ true → IsCaused catalog events c s a → IsCaused catalog (events ++ e ∷ []) c s a
+-- a record of that key among these calls is bad, or doesn't fit
+abbrev BadIn : List Table → Said → Key → List Made → Type 0
+BadIn catalog s key calls =
+    (m : Made) × (r : Record) × Contains calls m × Contains (records_shown m.reply) r × (r.key ≡ key)
+    × (IsBad r ⊎ ((reads_commit s.text ≡ false) × (reads_vacuum s.text ≡ false) × (reads_rows m ≡ true) × (is_misfit catalog calls r ≡ true)))
+
+caused_stays : (catalog : List Table) (c : ℕ) (events : List Event) (e : Event) (s : Said) (a : Answer) → IsPast c events e s a → CanTell (calls_of events c s) s.text a → IsCaused catalog events c s a → IsCaused catalog (events ++ e ∷ []) c s a
 caused_stays catalog c events e s (answer.Rows rows) k t h = (h.0, h.1, h.2, ap (λ es. is_open es c) (before_same s events e k.taken) ∙ h.3)
 caused_stays catalog c events e s (answer.Count n) k t h = (h.0, h.1, counted_stays c events e s h.0 n (calls_stay c events e s (answer.Count n) k.is k.answered) h.2)
 caused_stays catalog c events e s answer.Done k t h = h
@@ -107,7 +113,7 @@ caused_stays catalog c events e s (answer.Busy key id at) k t h = busy (sym (cal
         early = ap (is_expired at) (clock_same events e h.early.asked.at within) ∙ h.early.early;
       };
     }
-caused_stays catalog c events e s (answer.Conflict key found) k t h = clash (sym t)
+caused_stays catalog c events e s (answer.Conflict key found) k t h = absurd t
 caused_stays catalog c events e s (answer.Expired id) k t h = record {
   commit = k.commit id h.commit;
   call = h.call;
@@ -123,15 +129,12 @@ caused_stays catalog c events e s (answer.Unknown id) k t h = record {
   deciding = subst (λ ms. Contains ms h.put × PutsRow id decision.Committed h.put × (h.put.reply ≡ reply.Fault)) (sym (calls_stay c events e s (answer.Unknown id) k.is k.answered)) h.deciding;
   failed = subst (λ ms. Contains (calls_after h.put.at ms) h.later × (is_of_row id h.later.request ≡ true) × ((h.later.reply ≡ reply.Fault) ⊎ (h.later.reply ≡ reply.NoMemory))) (sym (calls_stay c events e s (answer.Unknown id) k.is k.answered)) h.failed;
 }
-caused_stays catalog c events e s (answer.BadRecord key) k t h = clash (sym t)
+caused_stays catalog c events e s (answer.BadRecord key) k t h = subst (BadIn catalog s key) (sym (calls_stay c events e s (answer.BadRecord key) k.is k.answered)) h
 caused_stays catalog c events e s (answer.Refused r) k t h = by h
   where
-    low : (n : ℕ) → nat_lt n 15 ≡ true → n ≡ 15 → ⊥
-    low n l z = grind (arith, nat_tests)
-
     by : IsCaused catalog events c s (answer.Refused r) → IsCaused catalog (events ++ e ∷ []) c s (answer.Refused r)
     by (inl x) = inl (subst (λ es. IsTurnedAway catalog es c s.text (answer.Refused r)) (sym (before_same s events e k.taken)) x)
-    by (inr x) = absurd (low r.kind t x.0)
+    by (inr x) = inr (x.0, x.1, k.passes x.2)
 caused_stays catalog c events e s answer.Vacuuming k t h = subst (λ es. IsTurnedAway catalog es c s.text answer.Vacuuming) (sym (before_same s events e k.taken)) h
 caused_stays catalog c events e s answer.OpenTransactions k t h = subst (λ es. IsTurnedAway catalog es c s.text answer.OpenTransactions) (sym (before_same s events e k.taken)) h
 caused_stays catalog c events e s answer.NoMemory k t h = tt
@@ -144,7 +147,7 @@ answered_one catalog c events e s grows k = record {
   is = k.is;
   taken = within_more s.taken events e k.taken;
   answered = within_more s.answered events e k.answered;
-  caused = λ t. caused_stays catalog c events e s k.given (record { is = k.is; taken = k.taken; answered = k.answered; commit = λ id h. commit_stays c events (events ++ e ∷ []) s k.given id grows k.is h }) t (k.caused t);
+  caused = λ t. let told : CanTell (calls_of events c s) s.text k.given = subst (λ ms. CanTell ms s.text k.given) (calls_stay c events e s k.given k.is k.answered) t in caused_stays catalog c events e s k.given (record { is = k.is; taken = k.taken; answered = k.answered; commit = λ id h. commit_stays c events (events ++ e ∷ []) s k.given id grows k.is h; passes = pass_stays c events e s k.given grows k.is }) told (k.caused told);
   turned_away = λ a h. k.turned_away a (subst (λ es. IsTurnedAway catalog es c s.text a) (before_same s events e k.taken) h);
 }
 
@@ -152,8 +155,8 @@ pub answered_stay : (catalog : List Table) (c : ℕ) (events : List Event) (e : 
 answered_stay catalog c events e [] grows all = tt
 answered_stay catalog c events e (s ∷ ss) grows all = (answered_one catalog c events e s grows all.0, answered_stay catalog c events e ss grows all.1)
 
-pub waiting_stays : (catalog : List Table) (c : ℕ) (events : List Event) (e : Event) (w : Said) → IsWaiting catalog events c w → IsWaiting catalog (events ++ e ∷ []) c w
-waiting_stays catalog c events e w k = record {
+pub waiting_stays : (catalog : List Table) (c : ℕ) (events : List Event) (e : Event) (sweeps : Bool) (w : Said) → IsWaiting catalog events c sweeps w → IsWaiting catalog (events ++ e ∷ []) c sweeps w
+waiting_stays catalog c events e sweeps w k = record {
   unanswered = k.unanswered;
   taken = within_more w.taken events e k.taken;
   begin = k.begin;

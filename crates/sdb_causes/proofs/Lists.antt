@@ -1,9 +1,9 @@
 -- Lists of what was said: where a transaction begins and ends among them, as they grow.
 use Rattle.std.proofs.Common.{◌≡◌, ◌+◌, ◌==◌, ◌⊎◌, inl, inr, ℕ, zero, suc, Bool, true, false, List, [], ◌∷◌, ◌++◌, Option, Some, None, refl, sym, ap, ◌∙◌, arith}
-use Rattle.std.specs.Prelude.{if◌then◌else◌, filter, find, Contains, All}
+use Rattle.std.specs.Prelude.{if◌then◌else◌, filter, find, Contains}
 use Rattle.std.specs.List.{AllByRecursion}
 use Rattle.std.proofs.lemmas.Bool.Decides.{nat_tests}
-use Rattle.std.proofs.lemmas.List.Elements.{All-contains, All-contains_itself, All-from_recursion, filter_passes, recursion_from_All}
+use Rattle.std.proofs.lemmas.List.Elements.{All-contains, All-contains_itself, All-from_recursion, recursion_from_All}
 use Rattle.sdb_model.specs.Transactions.{Said, begins, ends, from_begin, rest_of}
 use Rattle.sdb_types.proofs.Basics.{none_some}
 use Rattle.sdb_causes.specs.Tied.{begun_in}
@@ -49,10 +49,6 @@ each_kept P p (x ∷ xs) all = by (p x) (each_kept P p xs all.1)
 -- what a filter keeps stood there
 pub kept_in : {X : Type 0} (p : X → Bool) (xs : List X) (x : X) → Contains (filter p xs) x → Contains xs x
 kept_in p xs x has = each_in (Contains xs) (filter p xs) x (each_kept (Contains xs) p xs (recursion_from_All (Contains xs) xs (All-contains_itself xs))) has
-
--- and passes
-pub kept_passes : {X : Type 0} (p : X → Bool) (xs : List X) (x : X) → Contains (filter p xs) x → p x ≡ true
-kept_passes p xs x has = All-contains (λ y. p y ≡ true) (filter p xs) x (filter_passes p xs) has
 
 ---- where a transaction begins
 

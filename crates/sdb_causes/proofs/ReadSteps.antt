@@ -1,5 +1,5 @@
 -- Each call of a read keeps what the calls say of where it stands.
-use Rattle.std.proofs.Common.{◌≡◌, ◌<◌, ◌+◌, ℕ, ℤ, Bool, true, false, not, cond, List, [], ◌∷◌, ◌++◌, Some, None, Result, Ok, Err, refl, sym, ap, subst, ◌∙◌, arith}
+use Rattle.std.proofs.Common.{◌≡◌, ◌<◌, ℕ, ℤ, Bool, true, false, not, cond, List, [], ◌∷◌, ◌++◌, Some, None, Result, Ok, Err, refl, sym, ap, subst, ◌∙◌, arith}
 use Rattle.std.specs.Prelude.{if◌then◌else◌, ◌&&◌, MatchBool, is_ok, codes, find, Contains}
 use Rattle.std.specs.List.{AllByRecursion, list_all, list_any}
 use Rattle.std.specs.Ordering.{is_eq}
@@ -26,7 +26,6 @@ use Rattle.sdb_record.specs.declared.coordinator.Decision.TheVariants as decisio
 use Rattle.sdb_record.specs.declared.meta.Meta.{Meta}
 use Rattle.sdb_record.specs.Coordinator.{coordinator_key_of, decision_in, is_coordinator_table, is_expired}
 use Rattle.sdb_record.specs.Meta.{checked, checked_before, checked_part, is_committed, is_in, is_misnamed, is_taken, is_unresolved, moment_in, refuse, with_before}
-use Rattle.sdb_record.specs.Names.{tx_prepared_at}
 use Rattle.sdb_record.specs.Parts.{before_part, is_before_pair}
 use Rattle.sdb_record.proofs.Fine.{refuse-ok, taken}
 use Rattle.sdb_record.proofs.ImageLaws.{row-key}
@@ -53,7 +52,7 @@ IsDataTable t = not (is_coordinator_table t) ≡ true
 ---- what a record is
 
 -- a record that is no record of a transaction
-bad_is : (r : Record) → kind_of r ≡ Bad → is_taken r ≡ false
+pub bad_is : (r : Record) → kind_of r ≡ Bad → is_taken r ≡ false
 bad_is r e = by_test (is_taken r) (λ t. absurd (taken_kind t)) (λ f. f)
   where
     by_ok : (o : Result Meta (List ℕ)) → is_ok o ≡ true → opened o ≡ Bad → ⊥
@@ -68,7 +67,7 @@ bad_is r e = by_test (is_taken r) (λ t. absurd (taken_kind t)) (λ f. f)
     taken_kind t = by_state (is_in state.Committed r.columns) (and_parts _ (is_ok (checked r.columns)) t).1 (sym (ap (λ b. if b then (if is_in state.Committed r.columns then Firm else opened (checked r.columns)) else Bad) t) ∙ e)
 
 -- an unresolved one, with its metadata
-open_is : (r : Record) (meta : Meta) → kind_of r ≡ Open meta → (is_unresolved r ≡ true) × (checked r.columns ≡ Ok meta)
+pub open_is : (r : Record) (meta : Meta) → kind_of r ≡ Open meta → (is_unresolved r ≡ true) × (checked r.columns ≡ Ok meta)
 open_is r meta e = by (is_taken r) (is_in state.Committed r.columns) (checked r.columns) refl refl refl e
   where
     by : (t s : Bool) (o : Result Meta (List ℕ)) → is_taken r ≡ t → is_in state.Committed r.columns ≡ s → checked r.columns ≡ o → (if t then (if s then Firm else opened o) else Bad) ≡ Open meta → (is_unresolved r ≡ true) × (checked r.columns ≡ Ok meta)
@@ -88,10 +87,10 @@ final_moment ps m y h = by (list_any is_before_pair ps) h
     by true k = before_moment m (checked_part is_committed (before_part ps)) y (refuse-ok (find is_misnamed ps) (with_before m (checked_part is_committed (before_part ps))) y k).1
     by false k = let e : m ≡ y = cc in ap (λ (x : Meta). x.prepared_at) e
 
-prepared_moment : (r : Record) (m : Meta) → checked r.columns ≡ Ok m → moment_in r.columns (codes "tx_prepared_at") ≡ Some m.prepared_at
+pub prepared_moment : (r : Record) (m : Meta) → checked r.columns ≡ Ok m → moment_in r.columns (codes "tx_prepared_at") ≡ Some m.prepared_at
 prepared_moment r m says = let t = taken r.columns m says in t.1.says.prepared_at ∙ ap Some (final_moment r.columns t.0 m t.2)
 
-shown_read : (r : Reply) (x : Record) → Contains (records_read r) x → Contains (records_shown r) x
+pub shown_read : (r : Reply) (x : Record) → Contains (records_read r) x → Contains (records_shown r) x
 shown_read (reply.Found None) x h = h
 shown_read (reply.Found (Some y)) x h = h
 shown_read (reply.Rows rows) x h = h
@@ -104,7 +103,7 @@ shown_read (reply.NotMet (Some y)) x h = absurd (none h)
 shown_read reply.Fault x h = h
 shown_read reply.NoMemory x h = h
 
-rows_data : (span : Span) (rows : List Record) → IsDataTable span.table → are_rows_of span rows ≡ true → AllByRecursion (λ r. IsDataTable r.key.table) rows
+pub rows_data : (span : Span) (rows : List Record) → IsDataTable span.table → are_rows_of span rows ≡ true → AllByRecursion (λ r. IsDataTable r.key.table) rows
 rows_data span rows is h = each rows (and_parts (rise rows) (list_all (λ (r : Record). in_span span r.key) rows) h).1
   where
     one : (r : Record) → in_span span r.key ≡ true → IsDataTable r.key.table
@@ -121,7 +120,7 @@ read_asked (access.Scan span) = refl
 ---- one call more
 
 module _ (events : List Event) (calls : List Made) (m : Made) (older : AllByRecursion (λ x. x.at < m.at) calls) (now : ℤ) (clock : clock_at events m.at ≡ now) where
-  abbrev more : List Made
+  abbrev pub more : List Made
   more = calls ++ m ∷ []
 
   -- rows that were found are settled
@@ -143,7 +142,7 @@ module _ (events : List Event) (calls : List Made) (m : Made) (older : AllByRecu
 
   ---- the rows
 
-  found_rows : (a : Access) (r : Reply) → m.request ≡ request_of a → m.reply ≡ r → IsFoundBy more (records_read r)
+  pub found_rows : (a : Access) (r : Reply) → m.request ≡ request_of a → m.reply ≡ r → IsFoundBy more (records_read r)
   found_rows a r e f = record {
     read = m;
     among = Contains-push calls m;
@@ -169,11 +168,11 @@ module _ (events : List Event) (calls : List Made) (m : Made) (older : AllByRecu
   ---- the recovery of a record
 
   module _ (rec : Record) (meta : Meta) (left : List Record) (p : RecoverPhase) (before : ResolvesBy calls rec meta p left) where
-    found_more : IsFoundBy more (rec ∷ left)
+    pub found_more : IsFoundBy more (rec ∷ left)
     found_more = record { read = before.found.read; among = Contains-append_left calls (m ∷ []) before.found.read before.found.among; reads = before.found.reads; found = before.found.found }
 
     -- what a recovery comes to
-    abbrev ComesTo : RecoverPhase × RecoverStep → Type 0
+    abbrev pub ComesTo : RecoverPhase × RecoverStep → Type 0
     ComesTo (q, steps.More) = IsPhaseBy more q
     ComesTo (q, steps.Image o) = Unit {0}
     ComesTo (q, steps.Busy id at) = IsBusyBy events more rec.key id at
@@ -218,7 +217,7 @@ module _ (events : List Event) (calls : List Made) (m : Made) (older : AllByRecu
     faulted_now : m.reply ≡ reply.Fault → HasReply is_fault more
     faulted_now f = reply_now is_fault calls m reply.Fault f refl
 
-  recovered_is : (rec : Record) (meta : Meta) (left : List Record) (p : RecoverPhase) (before : ResolvesBy calls rec meta p left) (r : Reply) → recover_request_at rec meta p ≡ Some m.request → m.reply ≡ r → CanAnswer m.request m.reply → ComesTo rec meta left p before (recover_next rec meta p now r)
+  pub recovered_is : (rec : Record) (meta : Meta) (left : List Record) (p : RecoverPhase) (before : ResolvesBy calls rec meta p left) (r : Reply) → recover_request_at rec meta p ≡ Some m.request → m.reply ≡ r → CanAnswer m.request m.reply → ComesTo rec meta left p before (recover_next rec meta p now r)
   recovered_is rec meta left phase.Look b (reply.Found None) e f can = undecided_is rec meta left phase.Look b (asked_at rec meta left phase.Look b (look_of meta.id) e) f
   recovered_is rec meta left phase.Look b (reply.Found (Some row)) e f can = rolled_is rec meta left phase.Look b row (can_at rec meta left phase.Look b (look_of meta.id) (reply.Found (Some row)) (asked_at rec meta left phase.Look b (look_of meta.id) e) f can) (ap records_shown f)
   recovered_is rec meta left phase.Look b (reply.Rows rows) e f can = tt

@@ -1,157 +1,107 @@
 -- A client that gets the reply to its call keeps what ties the events to it.
-use Rattle.std.proofs.Common.{◌≡◌, ◌≤◌, ◌<◌, ◌^◌, ◌+◌, ◌*◌, ◌⊎◌, inl, inr, ℕ, ℤ, true, false, List, [], ◌∷◌, ◌++◌, length, Option, Some, None, refl, sym, ap, subst, ◌∙◌, arith}
-use Rattle.std.specs.Prelude.{if◌then◌else◌, ◌&&◌, ◌||◌, find, is_some, nat_lt, slice_get, IfSome}
-use Rattle.std.specs.List.{AllByRecursion}
-use Rattle.std.specs.Option.{option_and_then}
+use Rattle.std.proofs.Common.{◌≡◌, ◌≤◌, ◌<◌, ◌^◌, ◌+◌, ◌⊎◌, inl, inr, ℕ, ℤ, true, false, not, List, [], ◌∷◌, ◌++◌, length, Option, Some, None, refl, sym, ap, subst, ◌∙◌, arith}
+use Rattle.std.specs.Prelude.{◌&&◌, ◌||◌, is_some, IfSome, nat_le, nat_lt, MatchBool, Contains}
+use Rattle.std.specs.List.{AllByRecursion, count_by}
 use Rattle.std.proofs.lemmas.List.{append-nil}
-use Rattle.std.proofs.lemmas.Nat.{div-mul-add, mod-mul-add}
 use Rattle.sdb_types.specs.declared.key.Key.{Key}
 use Rattle.sdb_types.specs.declared.key.TableName.{TableName}
 use Rattle.sdb_types.specs.declared.record.Record.{Record}
 use Rattle.sdb_types.specs.declared.record.Request.{Request}
-use Rattle.sdb_types.specs.declared.record.Reply.{Reply}
+use Rattle.sdb_types.specs.declared.record.Request.TheVariants as ask
 use Rattle.sdb_types.specs.declared.txid.TxId.{TxId}
-use Rattle.sdb_types.proofs.Basics.{clash, none_some, some_is}
+use Rattle.sdb_types.proofs.Basics.{clash, some_is}
 use Rattle.sdb_record.specs.declared.access.Access.{Access}
 use Rattle.sdb_record.specs.declared.access.Access.TheVariants as access
 use Rattle.sdb_record.specs.declared.access.Read.{Read}
 use Rattle.sdb_record.specs.declared.coordinator.Decision.TheVariants as decision
 use Rattle.sdb_record.specs.declared.write.Write.{Write}
+use Rattle.sdb_record.specs.Coordinator.{is_coordinator_table}
 use Rattle.sdb_record.specs.Meta.{is_moment}
 use Rattle.sdb_schema.specs.declared.table.Table.{Table}
+use Rattle.sdb_schema.specs.Catalog.{is_catalog}
 use Rattle.sdb_model.specs.declared.answer.Answer.{Answer}
 use Rattle.sdb_model.specs.declared.answer.Answer.TheVariants as answer
 use Rattle.sdb_model.specs.declared.event.Event.{Event}
-use Rattle.sdb_model.specs.Calls.{Made, calls_of, clock_at, decision_learned, is_fault}
-use Rattle.sdb_model.specs.Causes.{HasReply, IsBusy, IsCaused, IsCommitOf, IsDecided, IsTurnedAway, before, is_open, is_open_after}
-use Rattle.sdb_model.specs.Exec.{find_table}
-use Rattle.sdb_model.specs.Sql.{reads_commit, reads_rollback}
-use Rattle.sdb_model.specs.Transactions.{Said, begins, client_of, commit_of, ends, from_begin, id_of, is_conflict, is_done, ordinal_of, rest_of, said}
-use Rattle.sdb_exec.specs.Plans.{Planned}
+use Rattle.sdb_model.specs.Calls.{Made, calls_of, clock_at, decision_learned, is_fault, calls_by, end_of}
+use Rattle.sdb_model.specs.Causes.{ConflictsAtCommit, HasMoved, HasReply, IsBadRecord, IsBusy, IsCaused, IsCommitOf, IsDecided, IsTurnedAway, MayPassMost, before, is_open, is_open_after, records_found, removes, is_misfit}
+use Rattle.sdb_model.specs.declared.statement.Statement.TheVariants as statement
+use Rattle.sdb_model.specs.Exec.{find_table, table_of}
+use Rattle.sdb_sqltext.proofs.OneWord.{vacuum_read}
+use Rattle.sdb_steps.proofs.Taken.{other_no_commit}
+use Rattle.sdb_model.specs.Sql.{Reads, reads_commit, reads_rollback, reads_vacuum}
+use Rattle.sdb_model.specs.Transactions.{Said, begins, changes_nothing, is_answered_from_rows, ends, from_begin, id_of, is_conflict, is_done, rest_of, said}
+use Rattle.sdb_exec.specs.Plans.{Planned, changes_on, first_unfit}
 use Rattle.sdb_commit.specs.Phases.{CommitAt, IsNext, ended_at}
-use Rattle.sdb_validate.specs.Inside.{Judges}
 use Rattle.sdb_phases.specs.declared.step.Outcome.{Outcome}
 use Rattle.sdb_phases.specs.declared.step.Outcome.TheVariants as outcome
-use Rattle.sdb_phases.specs.declared.step.ValidateStep.{ValidateStep}
-use Rattle.sdb_phases.specs.declared.step.ValidateStep.TheVariants as validate
-use Rattle.sdb_phases.specs.Checks.{checks}
-use Rattle.sdb_phases.specs.Commit.{Stage, Preparing, Checking, Deciding, Forward, Stopping, Back, Over, after_check, pending as commit_pending, starved as starved_stage, step as commit_step}
-use Rattle.sdb_phases.specs.Steps.{validate_step}
+use Rattle.sdb_phases.specs.Commit.{Stage, Over, pending as commit_pending, step as commit_step}
 use Rattle.sdb_phases.specs.Work.{Work}
 use Rattle.sdb_read.specs.declared.read.ReadStep.TheVariants as step
 use Rattle.sdb_read.specs.Read.{Asking, Ended, ReadAt, ReadStage, Resolving, read_pending_at, read_result, read_step, request_of}
-use Rattle.sdb_snapshot.specs.Seen.{overlay}
+use Rattle.sdb_model.specs.Noted.{Note, notes_in}
+use Rattle.sdb_snapshot.specs.Seen.{Seen, overlay}
 use Rattle.sdb_txn.specs.declared.progress.Progress.TheVariants as progress
 use Rattle.sdb_txn.specs.declared.txn.Doing.{Doing}
 use Rattle.sdb_txn.specs.declared.txn.Doing.TheVariants as doing
 use Rattle.sdb_txn.specs.Txn.{IsCommitting as GoesOn, TxnAt, idle, pending_in, progress_of}
 use Rattle.sdb_client.specs.declared.next.Next.{Next}
 use Rattle.sdb_client.specs.declared.next.Next.TheVariants as next
-use Rattle.sdb_client.specs.Client.{CallTold, ClientAt as Client, CommitNext, ImagesTold, NextTold, ReplyTold, StageTold, after, answer_in, given_answer, given_left, gives, holding, next_of, noting, pending_of, resting}
+use Rattle.sdb_vacuum.specs.declared.work.VacuumStep.{VacuumStep}
+use Rattle.sdb_vacuum.specs.declared.work.VacuumStep.TheVariants as sweep
+use Rattle.sdb_vacuum.specs.Vacuum as Sweeping
+use Rattle.sdb_vacuum.specs.Vacuum.{Gives, Removing, Scanning, VacuumAt, VacuumStage, vacuum_step}
+use Rattle.sdb_client.specs.Client.{CallTold, ClientAt as Client, CommitNext, ImagesTold, IsMovedAt, NextTold, OpenTold, ReplyTold, StageTold, SweepTold, after, answer_in, answer_of, given_answer, given_left, gives, holding, next_of, noting, pending_by, pending_of, resting, too_many, vacuum_left}
 use Rattle.sdb_laws.specs.Lawful.{is_data}
-use Rattle.sdb_steps.specs.About.{IsDoingIn, IsIn, IsOfTables, IsReadIn, IsRecordIn, IsStageIn, IsWorkIn}
-use Rattle.sdb_steps.specs.Hands.{Hand, IsAskedBy, IsCalled, IsUsing, IsUsingTxn}
+use Rattle.sdb_steps.specs.About.{IsDoingIn, IsIn, IsOfTables, IsReadIn, IsRecordIn, IsStageIn, IsSweepIn, IsVacuumIn, IsWorkIn}
+use Rattle.sdb_steps.specs.Hands.{Hand, IsAskedBy, IsCalled, IsFittedBy, IsUsing, IsUsingTxn}
 use Rattle.sdb_steps.proofs.Fitted.{by_next}
 use Rattle.sdb_steps.proofs.InTables.{access_table, own_table}
+use Rattle.sdb_steps.proofs.RowsFit.{found_itself}
 use Rattle.sdb_story.specs.Telling.{answered_said, waiting_of}
 use Rattle.sdb_turns.proofs.Lists.{each_any, each_more}
 use Rattle.sdb_turns.specs.System.{ClientCall, answer_of_outcome, call_event}
-use Rattle.sdb_causes.specs.Commits.{EndsBy, HasFailed, IsGivenUp, StandsBy}
-use Rattle.sdb_causes.specs.Tied.{IsAnswered, IsCommitting, IsDoing, AreTied, IsOpenAs, IsReading, IsWaiting, Knows, StandsIn, begun_in, is_caused, open_after}
+use Rattle.sdb_causes.specs.Commits.{EndsBy, HasFailed, IsGivenUp, ShowsBad, StandsBy}
+use Rattle.sdb_causes.specs.Tied.{IsAnswered, IsCommitting, IsDoing, AreTied, IsNoting, IsReading, IsSweeping, IsWaiting, Knows, StandsIn, StandsOn, begun_in, is_caused, open_after, CanTell}
+use Rattle.sdb_causes.specs.Unfit.{IsFit, SeesFit, SeesFitIn, ShowStored, shows_stored}
+use Rattle.sdb_causes.specs.Conflicts.{ChecksBy, ConflictBy}
+use Rattle.sdb_causes.specs.Counts.{CommitCounted, CommitFits, DoingCounted, IsCountedBy, NotedBy, NotedDoing, NotesAre, OpenCounted, ReadCounted, SweepCounted, WaitCounted, notes_since}
+use Rattle.sdb_causes.proofs.CountsCommit.{commit_more, commit_over, commit_starved}
+use Rattle.sdb_causes.proofs.CountsNotes.{none_noted, noted_idle as notes_idle, noted_read, since_open, since_same, since_stay}
+use Rattle.sdb_record.specs.Rolls.{IsWrite}
+use Rattle.sdb_causes.proofs.Counting.{call_counted, counts_end, counts_on}
+use Rattle.sdb_causes.proofs.Counts.{read_more, sweep_more}
+use Rattle.sdb_causes.specs.Filled.{IsFilled, IsFilledBy, IsFilledIn, counted_told, found_told}
+use Rattle.sdb_causes.specs.Moves.{AllTellOne, HasRead, IsMovedIn, MovesAtScan, MovesBy, SeenBy, ShowsAt, TellOne, WorkBy, notes_told}
+use Rattle.sdb_causes.proofs.Conflicts.{checks_on, starved_checks}
 use Rattle.sdb_causes.specs.Reads.{IsBusyBy, LedBy, ReadsBy}
-use Rattle.sdb_causes.proofs.Calls.{before_same, call_said, calls_open, clock_more, end_answered, end_waiting, later_calls, later_more, later_within, length_more, made_at, own_made, silent_said, within_more}
-use Rattle.sdb_causes.proofs.Given.{IsMiddle, given_caused, given_middle}
+use Rattle.sdb_causes.specs.Sweeps.{SweptBy, VacuumBy}
+use Rattle.sdb_causes.proofs.SweepSteps.{IfMore, SweepLed, SweepsData, step_led}
+use Rattle.sdb_causes.proofs.Moving.{IsTold, differs_moved, noting_id, noting_idle, scan_shows}
+use Rattle.sdb_causes.proofs.Noting.{each_front, each_last, moved_all, moved_still, noted_more, noted_still, notes_more, notes_one, notes_stay, seen_same, since_all, tell_back, unmoved}
+use Rattle.sdb_causes.proofs.Settling.{read_noted, data_read}
+use Rattle.sdb_causes.proofs.Showing.{IsOpenAt, shows_on}
+use Rattle.sdb_causes.proofs.Ends.{next_by, ended_is, told_end, conflict_of, commit_is, id_fits, first_in}
+use Rattle.sdb_causes.proofs.Calls.{before_same, call_said, calls_open, clock_more, end_answered, end_waiting, later_calls, later_more, later_within, length_more, made_at, own_made, silent_said, within_more, one_made}
+use Rattle.sdb_causes.proofs.Filling.{filled_few, filled_found, filled_given, filled_idle, filled_more, filled_noting, filled_stays, images_few, least, passes_given}
+use Rattle.sdb_causes.proofs.Passing.{pass_now}
+use Rattle.sdb_causes.proofs.Unfit.{fits_now, given_fits, misfit_read, shown_bad}
+use Rattle.sdb_causes.proofs.Given.{IsMiddle, given_caused, given_middle, gives_rows, left_by, unfit_data}
 use Rattle.sdb_causes.proofs.Knowing.{after_end, after_more, after_plain, open_more}
 use Rattle.sdb_causes.proofs.Later.{answered_stay, waiting_stays}
-use Rattle.sdb_causes.proofs.Lists.{begun_same, ends_last, since_more}
-use Rattle.sdb_causes.proofs.ReadSteps.{IsDataTable, LeavesData, reads_on}
+use Rattle.sdb_causes.proofs.Lists.{begun_same, since_more, each_kept}
+use Rattle.sdb_causes.proofs.ReadSteps.{IsDataTable, LeavesData, reads_on, shown_read}
 use Rattle.sdb_causes.proofs.Stages.{IsOfData, stands_on, starved_stands}
+use Rattle.sdb_causes.proofs.Rows.{bad_is_bad}
+use Rattle.sdb_causes.specs.Rolled.{DoingRolls, ReadRolls, RolledBut, SweepRolls, WaitRolls}
+use Rattle.sdb_causes.proofs.Rolled.{outcome_rows, reads_so_far, rolls_end, rolls_on, sweeps_so_far}
+use Rattle.sdb_causes.proofs.RolledSteps.{SweepsTo, read_rolls, sweep_rolls}
 use Rattle.sdb_causes.proofs.Takings.{left_id, left_idle, middle_ends}
-
----- where a COMMIT goes
-
--- want of memory stands in place of a conflict alone
-verdict : (p : Work) (i : ℕ) (want v : ValidateStep) → Judges want v → (after_check p i v ≡ after_check p i want) ⊎ (after_check p i v ≡ starved_stage (after_check p i want))
-verdict p i (validate.Conflict key found) validate.NoMemory h = inr refl
-verdict p i validate.NoMemory validate.NoMemory h = inl refl
-verdict p i validate.More validate.NoMemory h = absurd (cc)
-verdict p i validate.Valid validate.NoMemory h = absurd (cc)
-verdict p i validate.Faulted validate.NoMemory h = absurd (cc)
-verdict p i want validate.More h = inl (ap (after_check p i) h)
-verdict p i want validate.Valid h = inl (ap (after_check p i) h)
-verdict p i want (validate.Conflict key found) h = inl (ap (after_check p i) h)
-verdict p i want validate.Faulted h = inl (ap (after_check p i) h)
-
--- the next stage is that of the protocol, or it is out of memory there
-next_stage : (p : Work) (s : Stage) (r : Reply) (m : Stage) → IsNext p s r m → (m ≡ commit_step p s r) ⊎ (m ≡ starved_stage (commit_step p s r))
-next_stage p (Preparing i) r m h = inl h
-next_stage p (Checking i) r m h = as_verdict (verdict p i (validate_step (nat_lt (i + 1) (length (checks p))) (slice_get (checks p) i) r) h.0 h.1)
-  where
-    as_verdict : (after_check p i h.0 ≡ commit_step p (Checking i) r) ⊎ (after_check p i h.0 ≡ starved_stage (commit_step p (Checking i) r)) → (m ≡ commit_step p (Checking i) r) ⊎ (m ≡ starved_stage (commit_step p (Checking i) r))
-    as_verdict (inl e) = inl (h.2 ∙ e)
-    as_verdict (inr e) = inr (h.2 ∙ e)
-next_stage p (Deciding d) r m h = inl h
-next_stage p (Forward i) r m h = inl h
-next_stage p (Stopping a n) r m h = inl h
-next_stage p (Back a n i) r m h = inl h
-next_stage p (Over a) r m h = inl h
-
-ended_is : (s : Stage) (a : Outcome) → ended_at s ≡ Some a → s ≡ Over a
-ended_is (Preparing i) a e = none_some a e
-ended_is (Checking i) a e = none_some a e
-ended_is (Deciding d) a e = none_some a e
-ended_is (Forward i) a e = none_some a e
-ended_is (Stopping b n) a e = none_some a e
-ended_is (Back b n i) a e = none_some a e
-ended_is (Over b) a e = ap Over (some_is b a e)
-
--- the answer that it ends with
-told_end : (a : Outcome) → next_of (progress_of (Some a)) ≡ next.End (answer_of_outcome a)
-told_end outcome.Committed = refl
-told_end (outcome.Conflict key found) = refl
-told_end (outcome.Expired id) = refl
-told_end outcome.Faulted = refl
-told_end (outcome.Unknown id) = refl
-told_end (outcome.BadRecord key) = refl
-told_end outcome.NoMemory = refl
-
-outcome_undone : (a : Outcome) → is_done (Some (answer_of_outcome a)) ≡ false
-outcome_undone outcome.Committed = refl
-outcome_undone (outcome.Conflict key found) = refl
-outcome_undone (outcome.Expired id) = refl
-outcome_undone outcome.Faulted = refl
-outcome_undone (outcome.Unknown id) = refl
-outcome_undone (outcome.BadRecord key) = refl
-outcome_undone outcome.NoMemory = refl
-
----- the COMMIT of a transaction
-
-client_is : (c n : ℕ) → n < 2 ^ 64 → client_of (id_of c n) ≡ c
-client_is c n l = div-mul-add c (2 ^ 64) n l
-
-ordinal_is : (c n : ℕ) → n < 2 ^ 64 → ordinal_of (id_of c n) ≡ n
-ordinal_is c n l = mod-mul-add c (2 ^ 64) n l
-
--- what ends the open transaction and reads as COMMIT is its COMMIT
-commit_is : (events : List Event) (c n : ℕ) (told : List Said) (w : Said) (t : TxnAt) → n < 2 ^ 64 → said c events ≡ told ++ w ∷ [] → reads_commit w.text ≡ true → ends w ≡ true → IsOpenAs c n told t → IsCommitOf events c w t.id
-commit_is events c n told w t small same commit over o = subst (IsCommitOf events c w) (sym o.id) (client_is c n small, ends_it)
-  where
-    since : from_begin (ordinal_of (id_of c n)) (said (client_of (id_of c n)) events) ≡ o.begin ∷ (o.body ++ w ∷ [])
-    since = ap (λ d. from_begin (ordinal_of (id_of c n)) (said d events)) (client_is c n small) ∙ ap (λ k. from_begin k (said c events)) (ordinal_is c n small) ∙ ap (from_begin n) same ∙ since_more n told w o.begin o.body o.since
-
-    ends_it : commit_of events (id_of c n) ≡ Some w
-    ends_it =
-        ap (λ ss. option_and_then (λ (s : Said). if reads_commit s.text then Some s else None) (find ends (rest_of ss))) since
-        ∙ ap (λ (o : Option Said). option_and_then (λ (s : Said). if reads_commit s.text then Some s else None) o) (ends_last o.body w o.goes_on over)
-        ∙ ap (λ b. if b then Some w else None) commit
-
-id_fits : (c n : ℕ) → c < 2 ^ 64 → n < 2 ^ 64 → c * 2 ^ 64 + n < 2 ^ 128
-id_fits c n a b = omega arith
 
 ---- the call
 
 module _ (catalog : List Table) (events : List Event) (hands : ℕ → Hand) (y : ClientCall) (ex : AreTied catalog events y.now hands) (called : IsCalled catalog hands y) (about : IsOfTables catalog (hands y.client).client)
-    (apart : (k : Key) → is_some (find_table catalog k.table) ≡ true → is_data k ≡ true) where
+    (apart : (k : Key) → is_some (find_table catalog k.table) ≡ true → is_data k ≡ true)
+    (sound : (hands y.client).client.vacuum ≡ None → (t : TxnAt) (a : Access) (x : ReadAt) → (hands y.client).client.txn ≡ Some t → t.doing ≡ doing.Read a x → IsTold t.seen) (is_fine : is_catalog catalog ≡ true) (stored : shows_stored y.reply ≡ true) where
   abbrev c : ℕ
   c = y.client
 
@@ -180,8 +130,19 @@ module _ (catalog : List Table) (events : List Event) (hands : ℕ → Hand) (y 
   clock_now : (result : Option Answer) → clock_at (E result) made.at ≡ y.now
   clock_now result = ap (clock_at (E result)) (sym (long result)) ∙ clock_more events (call_event y result) ∙ ex.clock
 
+  -- what its transaction has noted so far
+  abbrev so_id : TxId
+  so_id = id_of c h.begun
+
+  abbrev so_noted : List Note
+  so_noted = notes_since events c h.begun k.told
+
   data_table : (t : TableName) → is_some (find_table catalog t) ≡ true → IsDataTable t
   data_table t listed = apart (record { table = t; partition = []; clustering = [] }) listed
+
+  -- each call so far shows records as they are held
+  all_stored : (result : Option Answer) → ShowStored (calls_by (E result) c)
+  all_stored result = subst ShowStored (sym (one_made c events (call_event y result) made (own_made c events y.store y.request y.how y.reply result))) (each_more (λ (m : Made). shows_stored m.reply ≡ true) (calls_by events c) made k.stored stored)
 
   ---- a statement that waits
 
@@ -189,8 +150,8 @@ module _ (catalog : List Table) (events : List Event) (hands : ℕ → Hand) (y 
     abbrev ms : List Made
     ms = calls_of events c w
 
-    waits : IsWaiting catalog events c w
-    waits = subst (λ (o : Option Said). IfSome o (IsWaiting catalog events c)) waiting k.waits
+    waits : IsWaiting catalog events c (is_some h.vacuum) w
+    waits = subst (λ (o : Option Said). IfSome o (IsWaiting catalog events c (is_some h.vacuum))) waiting k.waits
 
     said_told : said c events ≡ k.told ++ w ∷ []
     said_told = k.same ∙ ap (λ o. k.told ++ waiting_of o) waiting
@@ -222,9 +183,27 @@ module _ (catalog : List Table) (events : List Event) (hands : ℕ → Hand) (y 
     begun_done : (b : Answer) → h.begun ≡ begun_in (k.told ++ done b ∷ [])
     begun_done b = k.begun ∙ sym (begun_same k.told (done b) (begins_none b))
 
+    -- its calls are counted, and with this one
+    counted_now : WaitCounted catalog w.text so_id so_noted ms h.vacuum h.txn
+    counted_now = subst (λ (o : Option Said). IfSome o (λ x. WaitCounted catalog x.text so_id so_noted (calls_of events c x) h.vacuum h.txn)) waiting k.counted.waits
+
+    counted_then : IsCountedBy catalog w.text (ms ++ made ∷ [])
+    counted_then = call_counted catalog w.text ms made h.vacuum h.txn so_id so_noted waits.vacuum called.waiting.pending counted_now
+
+    -- and what was found is dealt with
+    rolls_now : WaitRolls events (reads_vacuum w.text) ms h.vacuum h.txn
+    rolls_now = subst (λ (o : Option Said). IfSome o (λ x. WaitRolls events (reads_vacuum x.text) (calls_of events c x) h.vacuum h.txn)) waiting k.rolled.waits
+
+    abbrev RollsThen : Answer → Type 0
+    RollsThen b = is_answered_from_rows b ≡ true → RolledBut (E (Some b)) (reads_vacuum w.text) (ms ++ made ∷ []) []
+
+    -- what its calls come to where it is answered, and what its transaction has then noted
+    abbrev CountsThen : Answer → Client → Type 0
+    CountsThen b d = (reads_commit w.text ≡ true → CommitFits so_noted so_id (Some b) (ms ++ made ∷ [])) × NotedBy (notes_since (E (Some b)) c d.begun (k.told ++ done b ∷ [])) d.txn
+
     -- it is answered
-    answers : (b : Answer) (d : Client) → (is_caused b ≡ true → IsCaused catalog (E (Some b)) c (done b) b) → d.number ≡ h.number → d.begun ≡ h.begun → StandsIn (E (Some b)) c d.begun (k.told ++ done b ∷ []) None d.plan d.txn → So (Some b) d
-    answers b d caused number begun stands = record {
+    answers : (b : Answer) (d : Client) → (CanTell (calls_of (E (Some b)) c (done b)) w.text b → IsCaused catalog (E (Some b)) c (done b) b) → (AllTellOne (E (Some b)) c (k.told ++ done b ∷ []) → (key : Key) (found : Option Record) → Some b ≡ Some (answer.Conflict key found) → IsMovedIn (E (Some b)) c (k.told ++ done b ∷ []) (done b) key found) → d.number ≡ h.number → d.begun ≡ h.begun → StandsOn (E (Some b)) c d.begun (k.told ++ done b ∷ []) None d.plan d.txn d.vacuum → CountsThen b d → IfSome d.txn (IsFilled (E (Some b)) c (rest_of (from_begin d.begun (k.told ++ done b ∷ [])))) → IfSome d.txn (IsFit catalog) → RollsThen b → So (Some b) d
+    answers b d caused moves number begun stands counts filled fits rolls = record {
       told = k.told ++ done b ∷ [];
       waiting = None;
       same = said_done b ∙ sym (append-nil (k.told ++ done b ∷ []));
@@ -237,60 +216,109 @@ module _ (catalog : List Table) (events : List Event) (hands : ℕ → Hand) (y 
         turned_away = λ a t. absurd (waits.stays a (subst (λ es. IsTurnedAway catalog es c w.text a) (before_same w events (call_event y (Some b)) waits.taken) t));
       });
       waits = tt;
+      moved = moved_all catalog events (call_event y (Some b)) c k.told (done b) k.answered k.moved moves;
       number = number ∙ k.number;
       begun = begun ∙ begun_done b;
       small = subst (λ n. n < 2 ^ 64) (sym begun) k.small;
       stands = stands;
+      counted = counts_end catalog c events (call_event y (Some b)) k.told k.waiting h k.answered k.counted (done b) d (ms ++ made ∷ []) k.begun (calls_done b) counted_then (λ t. clash (sym t ∙ begins_none b)) (λ t opened. counts.0 t) counts.1;
+      filled = filled;
+      fits = fits;
+      stored = all_stored (Some b);
+      rolled = rolls_end catalog c events (call_event y (Some b)) k.told k.waiting h k.answered k.rolled (done b) d (ms ++ made ∷ []) (calls_done b) (λ a e rows. rolls (ap is_answered_from_rows (some_is b a e) ∙ rows));
     }
       where
         last : length (E (Some b)) ≡ 1 + length events → 1 + length events ≤ length (E (Some b))
         last e = omega arith
 
     -- it goes on
-    goes_on : (d : Client) → d.number ≡ h.number → d.begun ≡ h.begun → StandsIn (E None) c d.begun k.told (Some w) d.plan d.txn → So None d
-    goes_on d number begun stands = record {
+    goes_on : (d : Client) → d.number ≡ h.number → d.begun ≡ h.begun → is_some d.vacuum ≡ is_some h.vacuum → StandsOn (E None) c d.begun k.told (Some w) d.plan d.txn d.vacuum → NotedBy so_noted d.txn × WaitCounted catalog w.text so_id so_noted (ms ++ made ∷ []) d.vacuum d.txn → IfSome d.txn (IsFilled (E None) c (rest_of (from_begin d.begun k.told))) → IfSome d.txn (IsFit catalog) → WaitRolls (E None) (reads_vacuum w.text) (ms ++ made ∷ []) d.vacuum d.txn → So None d
+    goes_on d number begun sweeps stands counts filled fits rolls = record {
       told = k.told;
       waiting = Some w;
       same = silent_said c events y.store y.request y.how y.reply ∙ said_told;
       answered = answered_stay catalog c events (call_event y None) k.told (inl (silent_said c events y.store y.request y.how y.reply)) k.answered;
-      waits = waiting_stays catalog c events (call_event y None) w waits;
+      waits = subst (λ b. IsWaiting catalog (E None) c b w) (sym sweeps) (waiting_stays catalog c events (call_event y None) (is_some h.vacuum) w waits);
+      moved = λ one. moved_still catalog events (call_event y None) c k.told k.told k.answered (k.moved (tell_back catalog events (call_event y None) c k.told k.answered one));
       number = number ∙ k.number;
       begun = begun ∙ k.begun;
       small = subst (λ n. n < 2 ^ 64) (sym begun) k.small;
       stands = stands;
+      counted = counts_on catalog c events (call_event y None) k.told k.waiting h k.answered k.counted w d (ms ++ made ∷ []) begun calls_on counts.0 counts.1;
+      filled = filled;
+      fits = fits;
+      stored = all_stored None;
+      rolled = rolls_on catalog c events (call_event y None) k.told k.waiting h k.answered k.rolled w d (ms ++ made ∷ []) calls_on rolls;
     }
+
+    calls_stored : (b : Answer) → ShowStored (calls_of (E (Some b)) c (done b))
+    calls_stored b = each_kept (λ (m : Made). shows_stored m.reply ≡ true) (λ m. nat_lt (done b).taken m.at && nat_le m.at (end_of (E (Some b)) (done b))) (calls_by (E (Some b)) c) (all_stored (Some b))
+
+    -- what isn't taken as a record of a transaction is of no form of records
+    bad_caused : (key : Key) → ShowsBad (ms ++ made ∷ []) key → IsBadRecord catalog (E (Some (answer.BadRecord key))) c (done (answer.BadRecord key)) key
+    bad_caused key b =
+        let g : ShowsBad (calls_of (E (Some (answer.BadRecord key))) c (done (answer.BadRecord key))) key = subst (λ cs. ShowsBad cs key) (sym (calls_done (answer.BadRecord key))) b in
+        (g.call, g.found, g.among, g.shown, g.same, inl (shown_bad (calls_of (E (Some (answer.BadRecord key))) c (done (answer.BadRecord key))) key (calls_stored (answer.BadRecord key)) g))
 
     ---- where it stands then
 
-    module _ (t : TxnAt) (some : h.txn ≡ Some t) where
-      stands_open : (open_after k.told ≡ true) × IsOpenAs c h.begun k.told t
-      stands_open = let s = subst (StandsIn events c h.begun k.told k.waiting h.plan) some k.stands in (s.0, s.1)
+    module _ (t : TxnAt) (some : h.txn ≡ Some t) (free : h.vacuum ≡ None) where
+      stands_open : StandsIn events c h.begun k.told k.waiting h.plan (Some t)
+      stands_open = subst (StandsIn events c h.begun k.told k.waiting h.plan) some (subst (StandsOn events c h.begun k.told k.waiting h.plan h.txn) free k.stands)
+
+      -- it runs no VACUUM
+      stands_free : (result : Option Answer) (n : ℕ) (told : List Said) (v : Option Said) (p : Option Planned) (o : Option TxnAt) → StandsIn (E result) c n told v p o → StandsOn (E result) c n told v p o h.vacuum
+      stands_free result n told v p o = subst (StandsOn (E result) c n told v p o) (sym free)
+
+      waits_open : (cs : List Made) (o : Option TxnAt) → OpenCounted w.text so_id so_noted cs o → WaitCounted catalog w.text so_id so_noted cs h.vacuum o
+      waits_open cs o = subst (λ v. WaitCounted catalog w.text so_id so_noted cs v o) (sym free)
+
+      rolls_open : (o : Option TxnAt) → WaitRolls (E None) (reads_vacuum w.text) (ms ++ made ∷ []) None o → WaitRolls (E None) (reads_vacuum w.text) (ms ++ made ∷ []) h.vacuum o
+      rolls_open o = subst (λ v. WaitRolls (E None) (reads_vacuum w.text) (ms ++ made ∷ []) v o) (sym free)
+
+      open_counted : DoingCounted w.text so_id so_noted ms t.doing
+      open_counted = subst (OpenCounted w.text so_id so_noted ms) some (subst (λ v. WaitCounted catalog w.text so_id so_noted ms v h.txn) free counted_now)
+
+      open_noted : NotedDoing so_noted t.seen t.doing
+      open_noted = subst (NotedBy so_noted) some k.counted.noted
+
+      -- one that notes nothing
+      notes_as_before : (b : Answer) → changes_nothing b ≡ true → notes_since (E (Some b)) c h.begun (k.told ++ done b ∷ []) ≡ so_noted
+      notes_as_before b nothing = since_same (E (Some b)) c h.begun k.told (done b) (none_noted (E (Some b)) c (done b) (ap not nothing)) ∙ since_stay catalog events (call_event y (Some b)) c h.begun k.told k.answered
+
+      -- an answer that is no Conflict
+      stays : (b : Answer) → is_conflict (Some b) ≡ false → AllTellOne (E (Some b)) c (k.told ++ done b ∷ []) → (key : Key) (found : Option Record) → Some b ≡ Some (answer.Conflict key found) → IsMovedIn (E (Some b)) c (k.told ++ done b ∷ []) (done b) key found
+      stays b f one = unmoved (E (Some b)) c (k.told ++ done b ∷ []) (done b) b refl f
 
       -- the transaction stays open, and does nothing
-      held : (b : Answer) (u : TxnAt) → IsMiddle b → reads_commit w.text ≡ false → u.id ≡ t.id → u.doing ≡ doing.Idle → StandsIn (E (Some b)) c h.begun (k.told ++ done b ∷ []) None None (Some u)
-      held b u m no_commit same idles = (
+      held : (b : Answer) (u : TxnAt) → IsMiddle b → reads_commit w.text ≡ false → u.id ≡ t.id → u.doing ≡ doing.Idle → (AllTellOne (E (Some b)) c (k.told ++ done b ∷ []) → SeenBy (notes_told (E (Some b)) c (stands_open.1.body ++ done b ∷ [])) u.seen) → StandsOn (E (Some b)) c h.begun (k.told ++ done b ∷ []) None None (Some u) h.vacuum
+      held b u m no_commit same idles noted = stands_free (Some b) h.begun (k.told ++ done b ∷ []) None None (Some u) (
         after_more k.told (done b) ∙ ap (λ x. is_open_after x (done b)) stands_open.0 ∙ after_plain true (done b) (begins_none b) (λ e. middle_ends (done b) b refl m no_commit),
         open_more c h.begun k.told t u (done b) same (middle_ends (done b) b refl m no_commit) stands_open.1,
         subst (IsDoing (E (Some b)) c u None None) (sym idles) refl,
+        subst (λ d. IsNoting (E (Some b)) c (k.told ++ done b ∷ []) (stands_open.1.body ++ done b ∷ []) u d None) (sym idles) noted,
       )
 
       -- it ends
-      ended : (b : Answer) → ends (done b) ≡ true → StandsIn (E (Some b)) c h.begun (k.told ++ done b ∷ []) None None None
-      ended b over = (refl, after_more k.told (done b) ∙ after_end (open_after k.told) (done b) b (begins_none b) over refl)
+      ended : (b : Answer) → ends (done b) ≡ true → StandsOn (E (Some b)) c h.begun (k.told ++ done b ∷ []) None None None h.vacuum
+      ended b over = stands_free (Some b) h.begun (k.told ++ done b ∷ []) None None None (refl, after_more k.told (done b) ∙ after_end (open_after k.told) (done b) b (begins_none b) over refl)
 
       -- it goes on, with the statement
-      further : (u : TxnAt) (p : Option Planned) → u.id ≡ t.id → IsDoing (E None) c u p (Some w) u.doing → StandsIn (E None) c h.begun k.told (Some w) p (Some u)
-      further u p same does = (stands_open.0, record { begin = stands_open.1.begin; body = stands_open.1.body; since = stands_open.1.since; goes_on = stands_open.1.goes_on; id = same ∙ stands_open.1.id; client = stands_open.1.client }, does)
+      further : (u : TxnAt) (p : Option Planned) → u.id ≡ t.id → IsDoing (E None) c u p (Some w) u.doing → IsNoting (E None) c k.told stands_open.1.body u u.doing (Some w) → StandsOn (E None) c h.begun k.told (Some w) p (Some u) h.vacuum
+      further u p same does noted = stands_free None h.begun k.told (Some w) p (Some u) (stands_open.0, record { begin = stands_open.1.begin; body = stands_open.1.body; since = stands_open.1.since; goes_on = stands_open.1.goes_on; id = same ∙ stands_open.1.id; client = stands_open.1.client }, does, noted)
+
+      pends_txn : pending_of h.txn ≡ Some y.request
+      pends_txn = subst (λ (v : Option VacuumAt). pending_by v h.txn ≡ Some y.request) free called.waiting.pending
 
       open_before : (b : Answer) → is_open (before (done b) (E (Some b))) c ≡ true
-      open_before b = ap (λ es. is_open es c) (before_same w events (call_event y (Some b)) waits.taken) ∙ waits.opened
+      open_before b = ap (λ es. is_open es c) (before_same w events (call_event y (Some b)) waits.taken) ∙ waits.opened ∙ ap (λ o. not (is_some o)) free
 
       ---- a read
 
       module _ (p : Planned) (a : Access) (x : ReadAt) (plan : h.plan ≡ Some p) (reads : t.doing ≡ doing.Read a x) (asked : IsAskedBy catalog p a x) (is : IsReading events c w p x) where
         read_in : IsReadIn catalog p a x
         read_in =
-            let d : IsDoingIn catalog t.seen t.doing h.plan = subst (λ (o : Option TxnAt). IfSome o (λ u. IsDoingIn catalog u.seen u.doing h.plan)) some about in
+            let d : IsDoingIn catalog t.seen t.doing h.plan = subst (λ (o : Option TxnAt). IfSome o (λ u. IsDoingIn catalog u.seen u.doing h.plan)) some about.txn in
             (subst (IsDoingIn catalog t.seen (doing.Read a x)) plan (subst (λ z. IsDoingIn catalog t.seen z h.plan) reads d)).1
 
         own : IsDataTable (access_table a)
@@ -303,12 +331,54 @@ module _ (catalog : List Table) (events : List Event) (hands : ℕ → Hand) (y 
 
         pends : read_pending_at (request_of a) x.stage ≡ Some made.request
         pends =
-            let open_txn : pending_in t.doing ≡ Some y.request = subst (λ (o : Option TxnAt). pending_of o ≡ Some y.request) some called.waiting.pending in
+            let open_txn : pending_in t.doing ≡ Some y.request = subst (λ (o : Option TxnAt). pending_of o ≡ Some y.request) some pends_txn in
             let read : read_pending_at x.request x.stage ≡ Some y.request = subst (λ (d : Doing). pending_in d ≡ Some y.request) reads open_txn in
             subst (λ (q : Request). read_pending_at q x.stage ≡ Some y.request) asked.request read
 
+        noting_now : AllTellOne events c k.told → SeenBy (notes_told events c stands_open.1.body) t.seen
+        noting_now = subst (λ d. IsNoting events c k.told stands_open.1.body t d k.waiting) reads stands_open.3
+
+        filled_reading : IsFilledBy (counted_told (rest_of (from_begin h.begun k.told))) (found_told events c (rest_of (from_begin h.begun k.told))) t.seen
+        filled_reading = subst (IsFilledIn events c (rest_of (from_begin h.begun k.told)) t.seen) reads (subst (λ (o : Option TxnAt). IfSome o (IsFilled events c (rest_of (from_begin h.begun k.told)))) some k.filled)
+
+        filled_now : IsFilledBy (counted_told stands_open.1.body) (found_told events c stands_open.1.body) t.seen
+        filled_now = subst (λ r. IsFilledBy (counted_told (rest_of r)) (found_told events c (rest_of r)) t.seen) stands_open.1.since filled_reading
+
+        -- what it sees fits
+        fit_now : SeesFit catalog t.seen
+        fit_now = subst (SeesFitIn catalog t.seen) reads (subst (λ (o : Option TxnAt). IfSome o (IsFit catalog)) some k.fits)
+
+        listed : find_table catalog p.table.name ≡ Some p.table
+        listed = found_itself catalog (table_of p.statement) p.table asked.named
+
+        of_table : access_table a ≡ p.table.name
+        of_table = ap access_table asked.access ∙ own_table p.table p.statement
+
+        open_at : (s : ReadStage) → ReadsBy ms s → IsOpenAt x.request ms made y.now called.moment s
+        open_at Asking i = tt
+        open_at (Resolving images rec meta q left) i = i.is_open
+        open_at (Ended s) i = absurd i
+
+        shown : ShowsAt x.request (ms ++ made ∷ []) (read_step x.stage y.now y.reply)
+        shown = shows_on x.request ms made y.now called.moment a x.stage asked.request (open_at x.stage is.stage) is.shows (subst (λ (q : Request). read_pending_at q x.stage ≡ Some made.request) (sym asked.request) pends) called.can
+
         leads : (result : Option Answer) → LedBy (E result) (ms ++ made ∷ []) (read_step x.stage y.now y.reply)
         leads result = reads_on (E result) ms made older y.now (clock_now result) a x.stage own (leaves x.stage read_in.stage) is.stage pends called.can
+
+        counted_read : ReadCounted (ms ++ made ∷ []) (read_step x.stage y.now y.reply)
+        counted_read = let d : DoingCounted w.text so_id so_noted ms (doing.Read a x) = subst (DoingCounted w.text so_id so_noted ms) reads open_counted in read_more ms made a x.stage y.now own d.1 pends
+
+        rolled_read : (result : Option Answer) → ReadRolls (E result) (reads_vacuum w.text) (ms ++ made ∷ []) (read_step x.stage y.now y.reply)
+        rolled_read result =
+            let so : ReadRolls events (reads_vacuum w.text) ms x.stage = subst (DoingRolls events (reads_vacuum w.text) ms) reads (subst (WaitRolls events (reads_vacuum w.text) ms None) some (subst (λ v. WaitRolls events (reads_vacuum w.text) ms v h.txn) free rolls_now)) in
+            read_rolls (E result) (reads_vacuum w.text) ms made older y.now (clock_now result) called.moment (request_of a) x.stage (reads_so_far c events (call_event y result) w x.stage so) pends
+
+        -- what it has noted
+        read_so : NotesAre so_noted t.seen.reads t.seen.scans
+        read_so = subst (NotedDoing so_noted t.seen) reads open_noted
+
+        no_fit : (b : Answer) → reads_commit w.text ≡ true → CommitFits so_noted so_id (Some b) (ms ++ made ∷ [])
+        no_fit b e = clash (sym e ∙ is.inner.commit)
 
         -- where it leads
         abbrev Left : Next → TxnAt → Type 0
@@ -318,43 +388,146 @@ module _ (catalog : List Table) (events : List Event) (hands : ℕ → Hand) (y 
         as_left n m u v e f s = subst (λ (z : Next). Left z u) (sym e) (subst (λ (z : TxnAt). Left m z) (sym f) s)
 
         -- the statement is answered, and nothing is noted
-        fails : (b : Answer) → IsMiddle b → (is_caused b ≡ true → IsCaused catalog (E (Some b)) c (done b) b) → Left (next.Answer b) (idle t)
-        fails b m caused = answers b (holding h (idle t)) caused refl refl (held b (idle t) m is.inner.commit refl refl)
+        fails : (b : Answer) → changes_nothing b ≡ true → is_answered_from_rows b ≡ false → IsMiddle b → (CanTell (calls_of (E (Some b)) c (done b)) w.text b → IsCaused catalog (E (Some b)) c (done b) b) → Left (next.Answer b) (idle t)
+        fails b nothing no_rows m caused =
+            answers b (holding h (idle t)) caused (stays b m.agrees) refl refl
+            (held b (idle t) m is.inner.commit refl refl (noted_more catalog events (call_event y (Some b)) c h.begun k.told t stands_open.1 k.answered (done b) t.seen t.seen refl refl noting_now))
+            (no_fit b, subst (λ ns. NotesAre ns t.seen.reads t.seen.scans) (sym (notes_as_before b nothing)) read_so)
+            (filled_idle (E (Some b)) c h.begun k.told (done b) stands_open.1.begin stands_open.1.body (idle t) stands_open.1.since refl (filled_more events (call_event y (Some b)) c stands_open.1.body (done b) t.seen filled_now)) fit_now (λ z. clash (sym z ∙ no_rows))
 
-        reads_further : (s : ReadStage) → ReadsBy (ms ++ made ∷ []) s → Left next.Call (record t { doing = doing.Read a (record x { stage = s }) })
-        reads_further s i =
-            goes_on (record h { txn = Some (record t { doing = doing.Read a (record x { stage = s }) }) }) refl refl
+        reads_further : (s : ReadStage) → ReadsBy (ms ++ made ∷ []) s → ShowsAt x.request (ms ++ made ∷ []) s → ReadCounted (ms ++ made ∷ []) s → ReadRolls (E None) (reads_vacuum w.text) (ms ++ made ∷ []) s → Left next.Call (record t { doing = doing.Read a (record x { stage = s }) })
+        reads_further s i j n r =
+            goes_on (record h { txn = Some (record t { doing = doing.Read a (record x { stage = s }) }) }) refl refl refl
             (further (record t { doing = doing.Read a (record x { stage = s }) }) h.plan refl
             (subst (λ (o : Option Planned). IsDoing (E None) c (record t { doing = doing.Read a (record x { stage = s }) }) o (Some w) (doing.Read a (record x { stage = s }))) (sym plan)
-            (record { text = is.text; inner = is.inner; stage = subst (λ cs. ReadsBy cs s) (sym calls_on) i })))
+            (record { text = is.text; inner = is.inner; stage = subst (λ cs. ReadsBy cs s) (sym calls_on) i; shows = subst (λ cs. ShowsAt x.request cs s) (sym calls_on) j }))
+            (noted_still catalog events (call_event y None) c h.begun k.told t stands_open.1 k.answered t.seen noting_now))
+            (read_so, waits_open (ms ++ made ∷ []) (Some (record t { doing = doing.Read a (record x { stage = s }) })) (is.inner.commit, n))
+            (filled_stays events (call_event y None) c (rest_of (from_begin h.begun k.told)) (Some (record t { doing = doing.Read a (record x { stage = s }) })) filled_reading)
+            fit_now (rolls_open (Some (record t { doing = doing.Read a (record x { stage = s }) })) r)
 
-        noted_id : (images : List Record) → (noting t a images).id ≡ t.id
-        noted_id images = by a
-          where
-            by : (z : Access) → (noting t z images).id ≡ t.id
-            by (access.Get key) = refl
-            by (access.Scan span) = refl
+        -- the read, where it is done
+        has_read : (images : List Record) → read_step x.stage y.now y.reply ≡ Ended (step.Images images) → HasRead (request_of a) (ms ++ made ∷ []) images []
+        has_read images e = subst (λ (q : Request). HasRead q (ms ++ made ∷ []) images []) asked.request (subst (ShowsAt x.request (ms ++ made ∷ [])) e shown)
 
-        noted_idle : (images : List Record) → (noting t a images).doing ≡ doing.Idle
-        noted_idle images = by a
-          where
-            by : (z : Access) → (noting t z images).doing ≡ doing.Idle
-            by (access.Get key) = refl
-            by (access.Scan span) = refl
+        -- what the transaction has then noted
+        noted_then : (images : List Record) (z : Answer) (u : TxnAt) → read_step x.stage y.now y.reply ≡ Ended (step.Images images)
+            → ((changes_nothing z ≡ true) × (u.seen ≡ t.seen)) ⊎ ((changes_nothing z ≡ false) × (u.seen.reads ≡ (noting t a images).seen.reads) × (u.seen.scans ≡ (noting t a images).seen.scans)) → (changes_nothing z ≡ false → is_answered_from_rows z ≡ true)
+            → AllTellOne (E (Some z)) c (k.told ++ done z ∷ []) → SeenBy (notes_told (E (Some z)) c (stands_open.1.body ++ done z ∷ [])) u.seen
+        noted_then images z u e (inl s) rows one = noted_more catalog events (call_event y (Some z)) c h.begun k.told t stands_open.1 k.answered (done z) t.seen u.seen (ap (λ (v : Seen). v.reads) s.1) (ap (λ (v : Seen). v.scans) s.1) noting_now one
+        noted_then images z u e (inr s) rows one =
+            let front : SeenBy (notes_told (E (Some z)) c stands_open.1.body) t.seen = noted_still catalog events (call_event y (Some z)) c h.begun k.told t stands_open.1 k.answered t.seen noting_now (each_front (λ v. TellOne (calls_of (E (Some z)) c v)) k.told (done z) one) in
+            let tells_one : TellOne (ms ++ made ∷ []) = subst TellOne (calls_done z) (each_last (λ v. TellOne (calls_of (E (Some z)) c v)) k.told (done z) one) in
+            let now_seen : SeenBy (notes_told (E (Some z)) c stands_open.1.body ++ notes_in (ms ++ made ∷ [])) (noting t a images).seen = read_noted a (ms ++ made ∷ []) images (notes_told (E (Some z)) c stands_open.1.body) t (has_read images e) tells_one own front in
+            let last : notes_told (E (Some z)) c (done z ∷ []) ≡ notes_in (ms ++ made ∷ []) = notes_one (E (Some z)) c (done z) (ap not s.0) (rows s.0) ∙ ap notes_in (calls_done z) in
+            let whole : notes_told (E (Some z)) c (stands_open.1.body ++ done z ∷ []) ≡ notes_told (E (Some z)) c stands_open.1.body ++ notes_in (ms ++ made ∷ []) = notes_more (E (Some z)) c stands_open.1.body (done z) ∙ ap (λ ns. notes_told (E (Some z)) c stands_open.1.body ++ ns) last in
+            subst (λ ns. SeenBy ns u.seen) (sym whole) (seen_same (notes_told (E (Some z)) c stands_open.1.body ++ notes_in (ms ++ made ∷ [])) (noting t a images).seen u.seen s.1 s.2 now_seen)
 
-        tells : (images : List Record) → Left (next.Answer (given_answer (noting t a images) (gives p a (noting t a images)))) (given_left (idle t) (noting t a images) (gives p a (noting t a images)))
-        tells images =
+        -- and as what that is counted
+        told_noted : (images : List Record) (z : Answer) (u : TxnAt) → read_step x.stage y.now y.reply ≡ Ended (step.Images images) → ((changes_nothing z ≡ true) × (u.seen ≡ t.seen)) ⊎ ((changes_nothing z ≡ false) × (u.seen.reads ≡ (noting t a images).seen.reads) × (u.seen.scans ≡ (noting t a images).seen.scans)) → (changes_nothing z ≡ false → is_answered_from_rows z ≡ true)
+            → u.doing ≡ doing.Idle → NotedDoing (notes_since (E (Some z)) c h.begun (k.told ++ done z ∷ [])) u.seen u.doing
+        told_noted images z u e (inl s) rows idles = subst (λ ns. NotedDoing ns u.seen u.doing) (sym (notes_as_before z s.0)) (notes_idle so_noted u.seen u.doing idles (subst (λ (v : Seen). NotesAre so_noted v.reads v.scans) (sym s.1) read_so))
+        told_noted images z u e (inr s) rows idles =
+            let now_so : NotesAre (so_noted ++ notes_in (ms ++ made ∷ [])) (noting t a images).seen.reads (noting t a images).seen.scans = noted_read a (ms ++ made ∷ []) images so_noted t (has_read images e) own read_so in
+            let last : notes_told (E (Some z)) c (done z ∷ []) ≡ notes_in (ms ++ made ∷ []) = notes_one (E (Some z)) c (done z) (ap not s.0) (rows s.0) ∙ ap notes_in (calls_done z) in
+            let whole : notes_since (E (Some z)) c h.begun (k.told ++ done z ∷ []) ≡ so_noted ++ notes_in (ms ++ made ∷ []) =
+            since_open (E (Some z)) c h.begun k.told (done z) stands_open.1.begin stands_open.1.body stands_open.1.since ∙ ap (λ ns. ns ++ notes_told (E (Some z)) c (done z ∷ [])) (since_stay catalog events (call_event y (Some z)) c h.begun k.told k.answered) ∙ ap (λ ns. so_noted ++ ns) last in
+            subst (λ ns. NotedDoing ns u.seen u.doing) (sym whole) (notes_idle (so_noted ++ notes_in (ms ++ made ∷ [])) u.seen u.doing idles (subst (λ rs. NotesAre (so_noted ++ notes_in (ms ++ made ∷ [])) rs u.seen.scans) (sym s.1) (subst (NotesAre (so_noted ++ notes_in (ms ++ made ∷ [])) (noting t a images).seen.reads) (sym s.2) now_so)))
+
+        -- with the images no more is noted than found
+        filled_with : (images : List Record) → read_step x.stage y.now y.reply ≡ Ended (step.Images images) → IsFilledBy (counted_told stands_open.1.body) (found_told events c stands_open.1.body + records_found (ms ++ made ∷ [])) (noting t a images).seen
+        filled_with images e = filled_few (counted_told stands_open.1.body) (found_told events c stands_open.1.body) (length images) (records_found (ms ++ made ∷ [])) (noting t a images).seen (images_few a (ms ++ made ∷ []) images (has_read images e) own) (filled_noting (counted_told stands_open.1.body) (found_told events c stands_open.1.body) t a images filled_now)
+
+        found_done : (b : Answer) → records_found (ms ++ made ∷ []) ≤ records_found (calls_of (E (Some b)) c (done b))
+        found_done b = subst (λ cs. records_found (ms ++ made ∷ []) ≤ records_found cs) (sym (calls_done b)) (least (records_found (ms ++ made ∷ [])))
+
+        -- the changes may be too many
+        passes_then : (images : List Record) → read_step x.stage y.now y.reply ≡ Ended (step.Images images) → (b : Answer) → too_many (noting t a images) (changes_on p.table p.statement (overlay a (noting t a images).seen)) ≡ true → MayPassMost (E (Some b)) c (done b)
+        passes_then images e b many =
+            pass_now c h.begun (E (Some b)) k.told stands_open.1.begin (done b) stands_open.1.body p.statement k.small (said_done b) stands_open.1.since stands_open.1.goes_on is.text
+            (passes_given (counted_told stands_open.1.body) (found_told (E (Some b)) c stands_open.1.body + records_found (calls_of (E (Some b)) c (done b))) (noting t a images) a p.table p.statement
+            (filled_found events (call_event y (Some b)) c stands_open.1.body (records_found (ms ++ made ∷ [])) (records_found (calls_of (E (Some b)) c (done b))) (noting t a images).seen (found_done b) (filled_with images e)) many)
+
+        -- a row that doesn't fit its table was read
+        misfit_caused : (images : List Record) → read_step x.stage y.now y.reply ≡ Ended (step.Images images) → (b : Answer) (key : Key) → first_unfit p.table (overlay a (noting t a images).seen) ≡ Some key → CanTell (calls_of (E (Some b)) c (done b)) w.text (answer.BadRecord key) → IsBadRecord catalog (E (Some b)) c (done b) key
+        misfit_caused images e b key f z =
+            let no_vacuum : reads_vacuum w.text ≡ false = waits.vacuum ∙ ap is_some free in
+            let untold : is_caused w.text (answer.BadRecord key) ≡ false = ap (λ u. u || reads_vacuum w.text || is_coordinator_table key.table) is.inner.commit ∙ ap (λ u. false || u || is_coordinator_table key.table) no_vacuum ∙ ap (λ u. false || false || u) (unfit_data a (noting t a images).seen p.table key own f) in
+            let tells_one : TellOne (ms ++ made ∷ []) = subst TellOne (calls_done b) (subst (λ u. MatchBool u (Unit {0}) (TellOne (calls_of (E (Some b)) c (done b)))) untold z) in
+            let h = has_read images e in
+            let r = misfit_read catalog p a listed of_table (ms ++ made ∷ []) t images h fit_now key tells_one own f in (
+              h.first,
+              r.0,
+              subst (λ cs. Contains cs h.first) (sym (calls_done b)) (first_in h.first h.rest (ms ++ made ∷ []) h.calls_are),
+              shown_read h.first.reply r.0 r.1,
+              r.2,
+              inr (is.inner.commit, no_vacuum, data_read a own h.first h.request, subst (λ cs. is_misfit catalog cs r.0 ≡ true) (sym (calls_done b)) r.3),
+            )
+
+        tells : (images : List Record) → read_step x.stage y.now y.reply ≡ Ended (step.Images images) → Left (next.Answer (given_answer (noting t a images) (gives p a (noting t a images)))) (given_left (idle t) (noting t a images) (gives p a (noting t a images)))
+        tells images e =
             let v = noting t a images in
             let m = given_middle p (overlay a v.seen) v in
             answers (given_answer v (gives p a v)) (holding h (given_left (idle t) v (gives p a v)))
-            (given_caused catalog (E (Some (given_answer v (gives p a v)))) c (done (given_answer v (gives p a v))) p (overlay a v.seen) v is.text asked.named asked.asked (open_before (given_answer v (gives p a v)))) refl refl
-            (held (given_answer v (gives p a v)) (given_left (idle t) v (gives p a v)) m is.inner.commit (left_id (idle t) v (gives p a v) (sym (noted_id images)) ∙ noted_id images) (left_idle (idle t) v (gives p a v) refl (noted_idle images)))
+            (given_caused catalog (E (Some (given_answer v (gives p a v)))) c (done (given_answer v (gives p a v))) p (overlay a v.seen) v is.text asked.named asked.asked (open_before (given_answer v (gives p a v))) (misfit_caused images e (given_answer v (gives p a v))) (passes_then images e (given_answer v (gives p a v)))) (stays (given_answer v (gives p a v)) m.agrees) refl refl
+            (held (given_answer v (gives p a v)) (given_left (idle t) v (gives p a v)) m is.inner.commit (left_id (idle t) v (gives p a v) (sym (noting_id t a images)) ∙ noting_id t a images) (left_idle (idle t) v (gives p a v) refl (noting_idle t a images))
+            (noted_then images (given_answer v (gives p a v)) (given_left (idle t) v (gives p a v)) e (left_by (idle t) v (gives p a v)) (gives_rows p (overlay a v.seen) v)))
+            (no_fit (given_answer v (gives p a v)), told_noted images (given_answer v (gives p a v)) (given_left (idle t) v (gives p a v)) e (left_by (idle t) v (gives p a v)) (gives_rows p (overlay a v.seen) v) (left_idle (idle t) v (gives p a v) refl (noting_idle t a images)))
+            (filled_idle (E (Some (given_answer v (gives p a v)))) c h.begun k.told (done (given_answer v (gives p a v))) stands_open.1.begin stands_open.1.body (given_left (idle t) v (gives p a v)) stands_open.1.since (left_idle (idle t) v (gives p a v) refl (noting_idle t a images))
+            (filled_given events (call_event y (Some (given_answer v (gives p a v)))) c stands_open.1.body (done (given_answer v (gives p a v))) p (overlay a v.seen) (idle t) v (records_found (ms ++ made ∷ [])) refl (found_done (given_answer v (gives p a v))) filled_now (filled_with images e)))
+            (subst (SeesFitIn catalog (given_left (idle t) v (gives p a v)).seen) (sym (left_idle (idle t) v (gives p a v) refl (noting_idle t a images)))
+            (given_fits catalog p a listed of_table is_fine asked.named asked.asked asked.taken asked.literals asked.access (idle t) v fit_now (fits_now catalog p a listed of_table (ms ++ made ∷ []) t images (has_read images e) fit_now)))
+            (λ z. subst (ReadRolls (E (Some (given_answer v (gives p a v)))) (reads_vacuum w.text) (ms ++ made ∷ [])) e (rolled_read (Some (given_answer v (gives p a v)))))
 
-        images_case : (images : List Record) (n : Next) (u : TxnAt) → ImagesTold t p a images n u → Left n u
-        images_case images (next.Answer z) u e = as_left (next.Answer z) (next.Answer (given_answer (noting t a images) (gives p a (noting t a images)))) u _ (ap next.Answer e.1) e.2 (tells images)
-        images_case images (next.End (answer.Conflict key found)) u e =
-            answers (answer.Conflict key found) (resting h) (λ z. clash (sym z)) refl refl (ended (answer.Conflict key found) (ap (λ b. b || true || (reads_rollback w.text && false)) is.inner.commit))
-        images_case images n u e = absurd e
+        -- a key that was read differs
+        moves_now : (images : List Record) (key : Key) (found : Option Record) → read_step x.stage y.now y.reply ≡ Ended (step.Images images) → (z : Access) → a ≡ z → IsMovedAt t z images key found → TellOne (ms ++ made ∷ []) → SeenBy (notes_told events c stands_open.1.body) t.seen
+            → MovesAtScan (ms ++ made ∷ []) (notes_told events c stands_open.1.body) key found
+        moves_now images key found e (access.Get k) is_it moved one by_notes = absurd moved
+        moves_now images key found e (access.Scan span) is_it moved one by_notes =
+            let r : HasRead (request_of a) (ms ++ made ∷ []) images [] = has_read images e in
+            let s : HasRead (ask.Scan span) (ms ++ made ∷ []) images [] = subst (λ (v : Access). HasRead (request_of v) (ms ++ made ∷ []) images []) is_it r in
+            let shows = scan_shows (ms ++ made ∷ []) span images key s one in (
+              s.first,
+              span,
+              shows.0,
+              first_in s.first s.rest (ms ++ made ∷ []) s.calls_are,
+              s.request,
+              shows.1,
+              moved.inside,
+              moved.stands ∙ sym shows.2,
+              subst (HasMoved (notes_told events c stands_open.1.body) key) (sym moved.stands) (differs_moved (notes_told events c stands_open.1.body) t.seen images key by_notes (sound free t a x some reads) moved.moved),
+            )
+
+        moved_now : (images : List Record) (key : Key) (found : Option Record) → read_step x.stage y.now y.reply ≡ Ended (step.Images images) → IsMovedAt t a images key found → ends (done (answer.Conflict key found)) ≡ true
+            → AllTellOne (E (Some (answer.Conflict key found))) c (k.told ++ done (answer.Conflict key found) ∷ []) → (other : Key) (others : Option Record) → Some (answer.Conflict key found) ≡ Some (answer.Conflict other others)
+            → IsMovedIn (E (Some (answer.Conflict key found))) c (k.told ++ done (answer.Conflict key found) ∷ []) (done (answer.Conflict key found)) other others
+        moved_now images key found e moved over one other others same =
+            let b : Answer = answer.Conflict key found in
+            let tells_one : TellOne (ms ++ made ∷ []) = subst TellOne (calls_done b) (each_last (λ v. TellOne (calls_of (E (Some b)) c v)) k.told (done b) one) in
+            let before_it : AllTellOne events c k.told = tell_back catalog events (call_event y (Some b)) c k.told k.answered (each_front (λ v. TellOne (calls_of (E (Some b)) c v)) k.told (done b) one) in
+            let here : MovesAtScan (ms ++ made ∷ []) (notes_told events c stands_open.1.body) key found = moves_now images key found e a refl moved tells_one (noting_now before_it) in
+            let keys : key ≡ other = cc in
+            let founds : found ≡ others = cc in
+            record {
+              n = h.begun;
+              begin = stands_open.1.begin;
+              body = stands_open.1.body;
+              tail = [];
+              since = since_more h.begun k.told (done b) stands_open.1.begin stands_open.1.body stands_open.1.since;
+              goes_on = stands_open.1.goes_on;
+              over = over;
+              small = k.small;
+              why = subst (λ v. MovesBy v (id_of c h.begun) (calls_of (E (Some b)) c (done b)) (notes_told (E (Some b)) c stands_open.1.body) other others) (sym is.inner.commit) (subst (λ ns. MovesAtScan (calls_of (E (Some b)) c (done b)) ns other others) (sym (notes_stay catalog events (call_event y (Some b)) c stands_open.1.body (since_all (IsAnswered catalog events c) h.begun k.told stands_open.1.begin stands_open.1.body k.answered stands_open.1.since)))
+                  (subst (λ cs. MovesAtScan cs (notes_told events c stands_open.1.body) other others) (sym (calls_done b))
+                  (subst (λ (z : Key). MovesAtScan (ms ++ made ∷ []) (notes_told events c stands_open.1.body) z others) keys (subst (λ (z : Option Record). MovesAtScan (ms ++ made ∷ []) (notes_told events c stands_open.1.body) key z) founds here))));
+            }
+
+        images_case : (images : List Record) → read_step x.stage y.now y.reply ≡ Ended (step.Images images) → (n : Next) (u : TxnAt) → ImagesTold t p a images n u → Left n u
+        images_case images ends_at (next.Answer z) u e = as_left (next.Answer z) (next.Answer (given_answer (noting t a images) (gives p a (noting t a images)))) u _ (ap next.Answer e.1) e.2 (tells images ends_at)
+        images_case images ends_at (next.End (answer.Conflict key found)) u e =
+            let over : ends (done (answer.Conflict key found)) ≡ true = ap (λ b. b || true || (reads_rollback w.text && false)) is.inner.commit in
+            answers (answer.Conflict key found) (resting h) (λ z. absurd z) (moved_now images key found ends_at e over) refl refl (ended (answer.Conflict key found) over) (no_fit (answer.Conflict key found), tt) tt tt (λ z. clash (sym z))
+        images_case images ends_at n u e = absurd e
 
         busy_caused : (key : Key) (id : TxId) (at : ℤ) → IsBusyBy (E (Some (answer.Busy key id at))) (ms ++ made ∷ []) key id at → IsBusy (E (Some (answer.Busy key id at))) c (done (answer.Busy key id at)) key id at
         busy_caused key id at b =
@@ -363,23 +536,23 @@ module _ (catalog : List Table) (events : List Event) (hands : ℕ → Hand) (y 
             record { read = z.read; found = z.found; reads = z.reads; early = z.early }
 
         stage_case : (s : ReadStage) → read_step x.stage y.now y.reply ≡ s → (n : Next) (u : TxnAt) → StageTold t p a x s (read_result s) n u → Left n u
-        stage_case Asking e n u z = as_left n next.Call u _ z.0 z.1 (reads_further Asking tt)
-        stage_case (Resolving images rec meta q left) e n u z = as_left n next.Call u _ z.0 z.1 (reads_further (Resolving images rec meta q left) (subst (LedBy (E None) (ms ++ made ∷ [])) e (leads None)))
+        stage_case Asking e n u z = as_left n next.Call u _ z.0 z.1 (reads_further Asking tt (subst (ShowsAt x.request (ms ++ made ∷ [])) e shown) (subst (ReadCounted (ms ++ made ∷ [])) e counted_read) (subst (ReadRolls (E None) (reads_vacuum w.text) (ms ++ made ∷ [])) e (rolled_read None)))
+        stage_case (Resolving images rec meta q left) e n u z = as_left n next.Call u _ z.0 z.1 (reads_further (Resolving images rec meta q left) (subst (LedBy (E None) (ms ++ made ∷ [])) e (leads None)) (subst (ShowsAt x.request (ms ++ made ∷ [])) e shown) (subst (ReadCounted (ms ++ made ∷ [])) e counted_read) (subst (ReadRolls (E None) (reads_vacuum w.text) (ms ++ made ∷ [])) e (rolled_read None)))
         stage_case (Ended step.More) e n u z = absurd (subst (LedBy (E None) (ms ++ made ∷ [])) e (leads None))
-        stage_case (Ended (step.Images images)) e n u z = images_case images n u z
+        stage_case (Ended (step.Images images)) e n u z = images_case images e n u z
         stage_case (Ended (step.Busy key id at)) e n u z =
             as_left n (next.Answer (answer.Busy key id at)) u (idle t) z.0 z.1
-            (fails (answer.Busy key id at) (record { undone = refl; agrees = refl }) (λ g. busy_caused key id at (subst (LedBy (E (Some (answer.Busy key id at))) (ms ++ made ∷ [])) e (leads (Some (answer.Busy key id at))))))
+            (fails (answer.Busy key id at) refl refl (record { undone = refl; agrees = refl }) (λ g. busy_caused key id at (subst (LedBy (E (Some (answer.Busy key id at))) (ms ++ made ∷ [])) e (leads (Some (answer.Busy key id at))))))
         stage_case (Ended step.Faulted) e n u z =
             as_left n (next.Answer answer.Faulted) u (idle t) z.0 z.1
-            (fails answer.Faulted (record { undone = refl; agrees = refl }) (λ g. subst (HasReply is_fault) (sym (calls_done answer.Faulted)) (subst (LedBy (E (Some answer.Faulted)) (ms ++ made ∷ [])) e (leads (Some answer.Faulted)))))
-        stage_case (Ended (step.BadRecord key)) e n u z = as_left n (next.Answer (answer.BadRecord key)) u (idle t) z.0 z.1 (fails (answer.BadRecord key) (record { undone = refl; agrees = refl }) (λ g. clash (sym g)))
+            (fails answer.Faulted refl refl (record { undone = refl; agrees = refl }) (λ g. subst (HasReply is_fault) (sym (calls_done answer.Faulted)) (subst (LedBy (E (Some answer.Faulted)) (ms ++ made ∷ [])) e (leads (Some answer.Faulted)))))
+        stage_case (Ended (step.BadRecord key)) e n u z = as_left n (next.Answer (answer.BadRecord key)) u (idle t) z.0 z.1 (fails (answer.BadRecord key) refl refl (record { undone = refl; agrees = refl }) (λ g. bad_caused key (subst (LedBy (E (Some (answer.BadRecord key))) (ms ++ made ∷ [])) e (leads (Some (answer.BadRecord key))))))
         stage_case (Ended step.NoMemory) e n u z = absurd z
 
         read_case : (n : Next) (u : TxnAt) → CallTold t p a x y.reply y.now n u → Left n u
         read_case n u z =
             by_next n
-            (λ e. as_left n (next.Answer answer.NoMemory) u (idle t) e (z.memory e) (fails answer.NoMemory (record { undone = refl; agrees = refl }) (λ g. tt)))
+            (λ e. as_left n (next.Answer answer.NoMemory) u (idle t) e (z.memory e) (fails answer.NoMemory refl refl (record { undone = refl; agrees = refl }) (λ g. tt)))
             (λ e. stage_case (read_step x.stage y.now y.reply) refl n u (z.told e))
 
       ---- a COMMIT
@@ -387,7 +560,7 @@ module _ (catalog : List Table) (events : List Event) (hands : ℕ → Hand) (y 
       module _ (j : CommitAt) (plan : h.plan ≡ None) (commits : t.doing ≡ doing.Commit j) (is : IsCommitting events c w t j) where
         work_in : IsWorkIn catalog j.work
         work_in =
-            let d : IsDoingIn catalog t.seen t.doing h.plan = subst (λ (o : Option TxnAt). IfSome o (λ u. IsDoingIn catalog u.seen u.doing h.plan)) some about in
+            let d : IsDoingIn catalog t.seen t.doing h.plan = subst (λ (o : Option TxnAt). IfSome o (λ u. IsDoingIn catalog u.seen u.doing h.plan)) some about.txn in
             subst (λ z. IsDoingIn catalog t.seen z h.plan) commits d
 
         of_data : IsOfData j.work
@@ -399,13 +572,23 @@ module _ (catalog : List Table) (events : List Event) (hands : ℕ → Hand) (y 
         }
 
         pends_commit : commit_pending j.work j.stage ≡ Some made.request
-        pends_commit = subst (λ (d : Doing). pending_in d ≡ Some y.request) commits (subst (λ (o : Option TxnAt). pending_of o ≡ Some y.request) some called.waiting.pending)
+        pends_commit = subst (λ (d : Doing). pending_in d ≡ Some y.request) commits (subst (λ (o : Option TxnAt). pending_of o ≡ Some y.request) some pends_txn)
 
         abbrev then_at : Stage
         then_at = commit_step j.work j.stage y.reply
 
         then_stands : StandsBy j.work (ms ++ made ∷ []) then_at
         then_stands = stands_on j.work of_data ms made older j.stage is.stage pends_commit called.can
+
+        -- how many calls it has made
+        commit_noted : NotesAre so_noted j.work.reads j.work.scans
+        commit_noted = subst (NotedDoing so_noted t.seen) commits open_noted
+
+        commit_so : DoingCounted w.text so_id so_noted ms (doing.Commit j)
+        commit_so = subst (DoingCounted w.text so_id so_noted ms) commits open_counted
+
+        counted_commit : CommitCounted so_noted j.work (ms ++ made ∷ []) then_at
+        counted_commit = commit_more so_noted j.work commit_noted commit_so.2 ms made j.stage commit_so.3 pends_commit
 
         abbrev Led : Next → TxnAt → Type 0
         Led n u = So (answer_in n) (after h n u)
@@ -417,9 +600,9 @@ module _ (catalog : List Table) (events : List Event) (hands : ℕ → Hand) (y 
         commit_done b = subst (IsCommitOf (E (Some b)) c (done b)) (sym is.same) (commit_is (E (Some b)) c h.begun k.told (done b) t k.small (said_done b) is.text (over_done b) stands_open.1)
 
         -- why it ends so
-        end_caused : (a : Outcome) → EndsBy j.work.id (ms ++ made ∷ []) a → is_caused (answer_of_outcome a) ≡ true → IsCaused catalog (E (Some (answer_of_outcome a))) c (done (answer_of_outcome a)) (answer_of_outcome a)
+        end_caused : (a : Outcome) → EndsBy j.work.id (ms ++ made ∷ []) a → CanTell (calls_of (E (Some (answer_of_outcome a))) c (done (answer_of_outcome a))) w.text (answer_of_outcome a) → IsCaused catalog (E (Some (answer_of_outcome a))) c (done (answer_of_outcome a)) (answer_of_outcome a)
         end_caused outcome.Committed e z = (j.work.id, commit_done answer.Committed, subst (λ cs. IsDecided decision.Committed (decision_learned cs j.work.id)) (sym (calls_done answer.Committed)) e)
-        end_caused (outcome.Conflict key found) e z = clash (sym z)
+        end_caused (outcome.Conflict key found) e z = absurd z
         end_caused (outcome.Expired u) e z =
             let g = subst (λ cs. EndsBy j.work.id cs (outcome.Expired u)) (sym (calls_done (answer.Expired u))) e in
             let b = subst (λ (i : TxId). IsGivenUp i (calls_of (E (Some (answer.Expired u))) c (done (answer.Expired u)))) (sym g.0) g.1 in
@@ -429,33 +612,83 @@ module _ (catalog : List Table) (events : List Event) (hands : ℕ → Hand) (y 
             let g = subst (λ cs. EndsBy j.work.id cs (outcome.Unknown u)) (sym (calls_done (answer.Unknown u))) e in
             let b = subst (λ (i : TxId). HasFailed i (calls_of (E (Some (answer.Unknown u))) c (done (answer.Unknown u)))) (sym g.0) g.1 in
             record { commit = subst (IsCommitOf (E (Some (answer.Unknown u))) c (done (answer.Unknown u))) (sym g.0) (commit_done (answer.Unknown u)); put = b.put; later = b.later; deciding = b.deciding; failed = b.failed }
-        end_caused (outcome.BadRecord key) e z = clash (sym z)
+        end_caused (outcome.BadRecord key) e z =
+            let g = subst (λ cs. EndsBy j.work.id cs (outcome.BadRecord key)) (sym (calls_done (answer.BadRecord key))) e in
+            (g.1.call, g.1.found, g.1.among, g.1.shown, g.1.same, inl (bad_is_bad j.work.id g.1.found (g.1.same ∙ g.0) g.1.bad))
         end_caused outcome.NoMemory e z = tt
+
+        -- an end of the transaction, of which a COMMIT's cause is told elsewhere
+        checks_now : AllTellOne events c k.told → WorkBy (notes_told events c stands_open.1.body) j.work × ChecksBy (notes_told events c stands_open.1.body) j.work ms j.stage
+        checks_now = subst (λ d. IsNoting events c k.told stands_open.1.body t d (Some w)) commits (subst (λ v. IsNoting events c k.told stands_open.1.body t t.doing v) waiting stands_open.3)
+
+        checks_then : AllTellOne events c k.told → WorkBy (notes_told events c stands_open.1.body) j.work × ChecksBy (notes_told events c stands_open.1.body) j.work (ms ++ made ∷ []) then_at
+        checks_then one = let z = checks_now one in (z.0, checks_on j.work (notes_told events c stands_open.1.body) z.0 ms made j.stage z.1 pends_commit called.can)
+
+        body_notes : (result : Option Answer) → notes_told events c stands_open.1.body ≡ notes_told (E result) c stands_open.1.body
+        body_notes result = sym (notes_stay catalog events (call_event y result) c stands_open.1.body (since_all (IsAnswered catalog events c) h.begun k.told stands_open.1.begin stands_open.1.body k.answered stands_open.1.since))
+
+        ends_moved : (a : Outcome) → then_at ≡ Over a → AllTellOne (E (Some (answer_of_outcome a))) c (k.told ++ done (answer_of_outcome a) ∷ []) → (key : Key) (found : Option Record) → Some (answer_of_outcome a) ≡ Some (answer.Conflict key found)
+            → IsMovedIn (E (Some (answer_of_outcome a))) c (k.told ++ done (answer_of_outcome a) ∷ []) (done (answer_of_outcome a)) key found
+        ends_moved a at_end one key found e =
+            let b : Answer = answer_of_outcome a in
+            let before_it : AllTellOne events c k.told = tell_back catalog events (call_event y (Some b)) c k.told k.answered (each_front (λ v. TellOne (calls_of (E (Some b)) c v)) k.told (done b) one) in
+            let ended_by : ConflictBy (notes_told events c stands_open.1.body) j.work (ms ++ made ∷ []) a = subst (ChecksBy (notes_told events c stands_open.1.body) j.work (ms ++ made ∷ [])) at_end (checks_then before_it).1 in
+            let here : ConflictsAtCommit (ms ++ made ∷ []) (notes_told events c stands_open.1.body) j.work.id key found = conflict_of (notes_told events c stands_open.1.body) j.work (ms ++ made ∷ []) a key found (some_is b (answer.Conflict key found) e) ended_by in
+            record {
+              n = h.begun;
+              begin = stands_open.1.begin;
+              body = stands_open.1.body;
+              tail = [];
+              since = since_more h.begun k.told (done b) stands_open.1.begin stands_open.1.body stands_open.1.since;
+              goes_on = stands_open.1.goes_on;
+              over = over_done b;
+              small = k.small;
+              why = subst (λ v. MovesBy v (id_of c h.begun) (calls_of (E (Some b)) c (done b)) (notes_told (E (Some b)) c stands_open.1.body) key found) (sym is.text)
+                  (subst (λ ns. ConflictsAtCommit (calls_of (E (Some b)) c (done b)) ns (id_of c h.begun) key found) (body_notes (Some b))
+                  (subst (λ cs. ConflictsAtCommit cs (notes_told events c stands_open.1.body) (id_of c h.begun) key found) (sym (calls_done b))
+                  (subst (λ (i : TxId). ConflictsAtCommit (ms ++ made ∷ []) (notes_told events c stands_open.1.body) i key found) (is.same ∙ stands_open.1.id) here)));
+            }
 
         is_over : (a : Outcome) → then_at ≡ Over a → So (Some (answer_of_outcome a)) (resting h)
         is_over a e =
-            answers (answer_of_outcome a) (resting h) (end_caused a (subst (StandsBy j.work (ms ++ made ∷ [])) e then_stands)) refl refl (ended (answer_of_outcome a) (over_done (answer_of_outcome a)))
+            answers (answer_of_outcome a) (resting h) (end_caused a (subst (StandsBy j.work (ms ++ made ∷ [])) e then_stands)) (ends_moved a e) refl refl (ended (answer_of_outcome a) (over_done (answer_of_outcome a)))
+            (λ z. subst (λ (i : TxId). CommitFits so_noted i (Some (answer_of_outcome a)) (ms ++ made ∷ [])) commit_so.1 (commit_over so_noted j.work (ms ++ made ∷ []) a (subst (CommitCounted so_noted j.work (ms ++ made ∷ [])) e counted_commit)), tt) tt tt (λ z. clash (sym z ∙ outcome_rows a))
 
-        commits_on : (u : TxnAt) (m : CommitAt) → u.id ≡ t.id → u.doing ≡ doing.Commit m → m.work ≡ j.work → StandsBy j.work (ms ++ made ∷ []) m.stage → So None (record h { txn = Some u })
-        commits_on u m same does work stands =
-            goes_on (record h { txn = Some u }) refl refl
+        commits_on : (u : TxnAt) (m : CommitAt) → u.id ≡ t.id → u.doing ≡ doing.Commit m → m.work ≡ j.work → StandsBy j.work (ms ++ made ∷ []) m.stage → ((ns : List Note) → ChecksBy ns j.work (ms ++ made ∷ []) then_at → ChecksBy ns j.work (ms ++ made ∷ []) m.stage) → CommitCounted so_noted j.work (ms ++ made ∷ []) m.stage → So None (record h { txn = Some u })
+        commits_on u m same does work stands checked counts =
+            goes_on (record h { txn = Some u }) refl refl refl
             (further u h.plan same
             (subst (IsDoing (E None) c u h.plan (Some w)) (sym does) (record {
               text = is.text;
               same = ap (λ (z : Work). z.id) work ∙ is.same ∙ sym same;
               moment = subst (λ (z : Work). is_moment z.now ≡ true) (sym work) is.moment;
               stage = subst (λ (z : Work). StandsBy z (calls_of (E None) c w) m.stage) (sym work) (subst (λ cs. StandsBy j.work cs m.stage) (sym calls_on) stands);
-            })))
+            }))
+            (subst (λ d. IsNoting (E None) c k.told stands_open.1.body u d (Some w)) (sym does) (λ one.
+            let before_it : AllTellOne events c k.told = tell_back catalog events (call_event y None) c k.told k.answered one in
+            let z = checks_then before_it in (
+              subst (λ (v : Work). WorkBy (notes_told (E None) c stands_open.1.body) v) (sym work) (subst (λ ns. WorkBy ns j.work) (body_notes None) z.0),
+              subst (λ (v : Work). ChecksBy (notes_told (E None) c stands_open.1.body) v (calls_of (E None) c w) m.stage) (sym work)
+                  (subst (λ cs. ChecksBy (notes_told (E None) c stands_open.1.body) j.work cs m.stage) (sym calls_on)
+                  (subst (λ ns. ChecksBy ns j.work (ms ++ made ∷ []) m.stage) (body_notes None) (checked (notes_told events c stands_open.1.body) z.1))),
+            )))) (
+              subst (NotedDoing so_noted u.seen) (sym does) (subst (λ (z : Work). NotesAre so_noted z.reads z.scans) (sym work) commit_noted),
+              waits_open (ms ++ made ∷ []) (Some u) (subst (DoingCounted w.text so_id so_noted (ms ++ made ∷ [])) (sym does)
+                  (is.text, ap (λ (z : Work). z.id) work ∙ commit_so.1, subst (λ (z : Work). AllByRecursion IsWrite z.writes) (sym work) commit_so.2, subst (λ (z : Work). CommitCounted so_noted z (ms ++ made ∷ []) m.stage) (sym work) counts)),
+            )
+            (subst (IsFilledIn (E None) c (rest_of (from_begin h.begun k.told)) u.seen) (sym does) tt) (subst (SeesFitIn catalog u.seen) (sym does) tt) (rolls_open (Some u) (subst (DoingRolls (E None) (reads_vacuum w.text) (ms ++ made ∷ [])) (sym does) tt))
 
         by_stage : (m : Stage) → IsNext j.work j.stage y.reply m → StandsBy j.work (ms ++ made ∷ []) m
-        by_stage m z = either (next_stage j.work j.stage y.reply m z)
-          where
-            either : (m ≡ then_at) ⊎ (m ≡ starved_stage then_at) → StandsBy j.work (ms ++ made ∷ []) m
-            either (inl e) = subst (StandsBy j.work (ms ++ made ∷ [])) (sym e) then_stands
-            either (inr e) = subst (StandsBy j.work (ms ++ made ∷ [])) (sym e) (starved_stands j.work (ms ++ made ∷ []) then_at then_stands)
+        by_stage m z = next_by (StandsBy j.work (ms ++ made ∷ [])) j.work j.stage y.reply m z then_stands (starved_stands j.work (ms ++ made ∷ []) then_at then_stands)
+
+        by_counts : (m : Stage) → IsNext j.work j.stage y.reply m → CommitCounted so_noted j.work (ms ++ made ∷ []) m
+        by_counts m z = next_by (CommitCounted so_noted j.work (ms ++ made ∷ [])) j.work j.stage y.reply m z counted_commit (commit_starved so_noted j.work (ms ++ made ∷ []) then_at counted_commit)
+
+        by_checks : (m : Stage) → IsNext j.work j.stage y.reply m → (ns : List Note) → ChecksBy ns j.work (ms ++ made ∷ []) then_at → ChecksBy ns j.work (ms ++ made ∷ []) m
+        by_checks m z ns v = next_by (ChecksBy ns j.work (ms ++ made ∷ [])) j.work j.stage y.reply m z v (starved_checks ns j.work (ms ++ made ∷ []) then_at v)
 
         by_doing : (u : TxnAt) (d : Doing) → u.id ≡ t.id → u.doing ≡ d → GoesOn d (λ m. (m.work ≡ j.work) × IsNext j.work j.stage y.reply m.stage) → Led next.Call u
-        by_doing u (doing.Commit m) same e z = commits_on u m same e z.0 (by_stage m.stage z.1)
+        by_doing u (doing.Commit m) same e z = commits_on u m same e z.0 (by_stage m.stage z.1) (by_checks m.stage z.1) (by_counts m.stage z.1)
         by_doing u doing.Idle same e z = absurd z
         by_doing u (doing.Read a x) same e z = absurd z
         by_doing u doing.Over same e z = absurd z
@@ -469,22 +702,95 @@ module _ (catalog : List Table) (events : List Event) (hands : ℕ → Hand) (y 
                 subst (λ (x : Next). Led x u) (sym (z.next ∙ ap next_of more)) (by_doing u u.doing z.told.same refl (z.told.next more))
             by_end (Some a) e = subst (λ (x : Next). Led x u) (sym (z.next ∙ ap next_of (z.told.answer ∙ ap progress_of e) ∙ told_end a)) (is_over a (ended_is then_at a e))
 
+    ---- a VACUUM
+
+    module _ (v : VacuumAt) (runs : h.vacuum ≡ Some v) (is : IsSweeping events c k.told (Some w) h.txn v) where
+      reads_it : Reads w.text statement.Vacuum
+      reads_it = (vacuum_read w.text).0 (waits.vacuum ∙ ap is_some runs)
+
+      no_commit : reads_commit w.text ≡ false
+      no_commit = other_no_commit w.text statement.Vacuum reads_it (λ e. cc)
+
+      sweeps_data : SweepsData v.stage
+      sweeps_data = by v.stage (subst (λ (o : Option VacuumAt). IfSome o (IsVacuumIn catalog)) runs about.vacuum).0
+        where
+          rows : (left : List Record) → AllByRecursion (λ (r : Record). IsIn catalog r.key) left → AllByRecursion (λ (r : Record). IsDataTable r.key.table) left
+          rows left h = each_any (λ (r : Record). IsIn catalog r.key) (λ (r : Record). IsDataTable r.key.table) left (λ r z. apart r.key z) h
+
+          by : (s : VacuumStage) → IsSweepIn catalog s → SweepsData s
+          by (Scanning span) i = data_table span.table i
+          by (Sweeping.Resolving rec meta p left) i = rows left i.1
+          by (Removing b left) i = rows left i.1
+          by Sweeping.Over i = tt
+
+      led : SweepLed (E None) ms made older y.now (clock_now None) (vacuum_step v y.now y.reply)
+      led = step_led (E None) ms made older y.now (clock_now None) v.spans v.removed v.stage sweeps_data is.2.0 is.2.1 (subst (λ (o : Option VacuumAt). pending_by o h.txn ≡ Some y.request) runs called.waiting.pending) called.can
+
+      counted_sweep : SweepCounted catalog (ms ++ made ∷ []) (vacuum_step v y.now y.reply).0
+      counted_sweep = sweep_more catalog ms made v y.now sweeps_data (subst (λ o. WaitCounted catalog w.text so_id so_noted ms o h.txn) runs counted_now) (subst (λ (o : Option VacuumAt). pending_by o h.txn ≡ Some y.request) runs called.waiting.pending)
+
+      abbrev RolledTo : Option Answer → VacuumStep → Type 0
+      RolledTo result s = SweepsTo (E result) (reads_vacuum w.text) ms made older s (vacuum_step v y.now y.reply).0
+
+      rolled_sweep : (result : Option Answer) → RolledTo result (vacuum_step v y.now y.reply).1
+      rolled_sweep result = sweep_rolls (E result) (reads_vacuum w.text) ms made older y.now (clock_now result) called.moment (waits.vacuum ∙ ap is_some runs) v.spans v.removed v.stage (sweeps_so_far c events (call_event y result) w v.stage (subst (λ o. WaitRolls events (reads_vacuum w.text) ms o h.txn) runs rolls_now)) (subst (λ (o : Option VacuumAt). pending_by o h.txn ≡ Some y.request) runs called.waiting.pending)
+
+      -- another call is pending
+      sweeps_on : (left : VacuumAt) → VacuumBy (ms ++ made ∷ []) left → SweepCounted catalog (ms ++ made ∷ []) left → SweepRolls (E None) (reads_vacuum w.text) (ms ++ made ∷ []) left.stage → So None (record h { vacuum = Some left })
+      sweeps_on left by counts rolls = goes_on (record h { vacuum = Some left }) refl refl (sym (ap is_some runs)) (is.0, is.1, subst (λ cs. VacuumBy cs left) (sym calls_on) by) (k.counted.noted, counts) (subst (λ (o : Option TxnAt). IfSome o (IsFilled (E None) c (rest_of (from_begin h.begun k.told)))) (sym is.0) tt) (subst (λ (o : Option TxnAt). IfSome o (IsFit catalog)) (sym is.0) tt) rolls
+
+      -- it is answered
+      sweep_ends : (b : Answer) → IsMiddle b → (CanTell (calls_of (E (Some b)) c (done b)) w.text b → IsCaused catalog (E (Some b)) c (done b) b) → RollsThen b → So (Some b) (record h { vacuum = None })
+      sweep_ends b m caused rolls =
+          answers b (record h { vacuum = None }) caused (λ one. unmoved (E (Some b)) c (k.told ++ done b ∷ []) (done b) b refl m.agrees) refl refl
+          (subst (StandsIn (E (Some b)) c h.begun (k.told ++ done b ∷ []) None h.plan) (sym is.0) (refl, after_more k.told (done b) ∙ ap (λ x. is_open_after x (done b)) is.1 ∙ after_plain false (done b) (begins_none b) (λ e. clash (sym e))))
+          (λ e. clash (sym e ∙ no_commit), subst (NotedBy (notes_since (E (Some b)) c h.begun (k.told ++ done b ∷ []))) (sym is.0) tt)
+          (subst (λ (o : Option TxnAt). IfSome o (IsFilled (E (Some b)) c (rest_of (from_begin h.begun (k.told ++ done b ∷ []))))) (sym is.0) tt) (subst (λ (o : Option TxnAt). IfSome o (IsFit catalog)) (sym is.0) tt) rolls
+
+      as_swept : (r result : Option Answer) (x o : Option VacuumAt) → result ≡ r → o ≡ x → So r (record h { vacuum = x }) → So result (record h { vacuum = o })
+      as_swept r result x o e f g = subst (λ (z : Option Answer). So z (record h { vacuum = o })) (sym e) (subst (λ (z : Option VacuumAt). So r (record h { vacuum = z })) (sym f) g)
+
+      sweeps_told : (s : VacuumStep) (left : VacuumAt) (result : Option Answer) (o : Option VacuumAt) → Gives (vacuum_step v y.now y.reply) left s → result ≡ answer_of s → o ≡ vacuum_left s left → So result (record h { vacuum = o })
+      sweeps_told sweep.More left result o g a e =
+          as_swept None result (Some left) o a e (sweeps_on left (subst (VacuumBy (ms ++ made ∷ [])) (sym g.0) (subst (λ (z : VacuumStep). IfMore z (VacuumBy (ms ++ made ∷ []) (vacuum_step v y.now y.reply).0)) (sym g.1) led.0)) (subst (SweepCounted catalog (ms ++ made ∷ [])) (sym g.0) counted_sweep) (subst (λ (u : VacuumAt). SweepRolls (E None) (reads_vacuum w.text) (ms ++ made ∷ []) u.stage) (sym g.0) (subst (RolledTo None) (sym g.1) (rolled_sweep None))))
+      sweeps_told (sweep.Count n) left result o g a e =
+          as_swept (Some (answer.Count n)) result None o a e
+          (sweep_ends (answer.Count n) (record { undone = refl; agrees = refl }) (λ t. (statement.Vacuum, reads_it, subst (λ cs. n ≡ count_by removes cs) (sym (calls_done (answer.Count n))) (subst (SweptBy (ms ++ made ∷ [])) (sym g.1) led.1))) (λ z. subst (RolledTo (Some (answer.Count n))) (sym g.1) (rolled_sweep (Some (answer.Count n)))))
+      sweeps_told sweep.Faulted left result o g a e =
+          as_swept (Some answer.Faulted) result None o a e
+          (sweep_ends answer.Faulted (record { undone = refl; agrees = refl }) (λ t. subst (HasReply is_fault) (sym (calls_done answer.Faulted)) (subst (SweptBy (ms ++ made ∷ [])) (sym g.1) led.1)) (λ z. clash (sym z)))
+      sweeps_told (sweep.BadRecord key) left result o g a e =
+          as_swept (Some (answer.BadRecord key)) result None o a e
+          (sweep_ends (answer.BadRecord key) (record { undone = refl; agrees = refl }) (λ t. bad_caused key (subst (SweptBy (ms ++ made ∷ [])) (sym g.1) led.1)) (λ z. clash (sym z)))
+      sweeps_told sweep.NoMemory left result o g a e = as_swept (Some answer.NoMemory) result None o a e (sweep_ends answer.NoMemory (record { undone = refl; agrees = refl }) (λ t. tt) (λ z. clash (sym z)))
+
+      sweeps_case : (result : Option Answer) (o : Option VacuumAt) → SweepTold v y.reply y.now result o → So result (record h { vacuum = o })
+      sweeps_case result o z = sweeps_told z.step z.left result o z.told z.answer z.goes
+
   ---- whatever it does
 
-  next_case : (t : TxnAt) (d : Doing) (o : Option Planned) (v : Option Said) (n : Next) (u : TxnAt) → h.txn ≡ Some t → t.doing ≡ d → h.plan ≡ o → k.waiting ≡ v → IsUsing catalog d o → IsDoing events c t o v d → NextTold t d o y.reply y.now n u → So (answer_in n) (after h n u)
-  next_case t (doing.Read a x) (Some p) (Some w) n u some does plan waiting asked is z = read_case w waiting t some p a x plan does asked is n u z
-  next_case t (doing.Read a x) (Some p) None n u some does plan waiting asked is z = absurd is
-  next_case t (doing.Read a x) None v n u some does plan waiting asked is z = absurd z
-  next_case t (doing.Commit j) None (Some w) n u some does plan waiting asked is z = commit_case w waiting t some j plan does is n u z
-  next_case t (doing.Commit j) None None n u some does plan waiting asked is z = absurd is
-  next_case t (doing.Commit j) (Some p) v n u some does plan waiting asked is z = absurd z
-  next_case t doing.Idle o v n u some does plan waiting asked is z = absurd z
-  next_case t doing.Over o v n u some does plan waiting asked is z = absurd z
+  next_case : (t : TxnAt) (d : Doing) (o : Option Planned) (v : Option Said) (n : Next) (u : TxnAt) → h.vacuum ≡ None → h.txn ≡ Some t → t.doing ≡ d → h.plan ≡ o → k.waiting ≡ v → IsUsing catalog d o → IsDoing events c t o v d → NextTold t d o y.reply y.now n u → So (answer_in n) (after h n u)
+  next_case t (doing.Read a x) (Some p) (Some w) n u free some does plan waiting asked is z = read_case w waiting t some free p a x plan does asked is n u z
+  next_case t (doing.Read a x) (Some p) None n u free some does plan waiting asked is z = absurd is
+  next_case t (doing.Read a x) None v n u free some does plan waiting asked is z = absurd z
+  next_case t (doing.Commit j) None (Some w) n u free some does plan waiting asked is z = commit_case w waiting t some free j plan does is n u z
+  next_case t (doing.Commit j) None None n u free some does plan waiting asked is z = absurd is
+  next_case t (doing.Commit j) (Some p) v n u free some does plan waiting asked is z = absurd z
+  next_case t doing.Idle o v n u free some does plan waiting asked is z = absurd z
+  next_case t doing.Over o v n u free some does plan waiting asked is z = absurd z
 
-  txn_case : (o : Option TxnAt) (result : Option Answer) (d : Client) → h.txn ≡ o → IsUsingTxn catalog o h.plan → StandsIn events c h.begun k.told k.waiting h.plan o → ReplyTold h o y.reply y.now result d → So result d
-  txn_case None result d e fitted is z = absurd z
-  txn_case (Some t) result d e fitted is z =
-      subst (λ (r : Option Answer). So r d) (sym z.answer) (subst (λ (x : Client). So (answer_in z.next) x) (sym z.client) (next_case t t.doing h.plan k.waiting z.next z.left e refl refl refl fitted is.2 z.told))
+  txn_case : (o : Option TxnAt) (result : Option Answer) (d : Client) → h.vacuum ≡ None → h.txn ≡ o → IsUsingTxn catalog o h.plan → StandsIn events c h.begun k.told k.waiting h.plan o → OpenTold h o y.reply y.now result d → So result d
+  txn_case None result d free e fitted is z = absurd z
+  txn_case (Some t) result d free e fitted is z =
+      subst (λ (r : Option Answer). So r d) (sym z.answer) (subst (λ (x : Client). So (answer_in z.next) x) (sym z.client) (next_case t t.doing h.plan k.waiting z.next z.left free e refl refl refl fitted is.2 z.told))
 
-  pub replies_known : (result : Option Answer) (d : Client) → ReplyTold h h.txn y.reply y.now result d → So result d
-  replies_known result d z = txn_case h.txn result d refl called.waiting.fitted k.stands z
+  sweep_case : (v : VacuumAt) (o : Option Said) (result : Option Answer) (d : Client) → h.vacuum ≡ Some v → k.waiting ≡ o → IsSweeping events c k.told o h.txn v → SweepTold v y.reply y.now result d.vacuum → d ≡ record h { vacuum = d.vacuum } → So result d
+  sweep_case v None result d runs waiting is z same = absurd is
+  sweep_case v (Some w) result d runs waiting is z same = subst (λ (x : Client). So result x) (sym same) (sweeps_case w waiting v runs is result d.vacuum z)
+
+  vacuum_case : (o : Option VacuumAt) (result : Option Answer) (d : Client) → h.vacuum ≡ o → ReplyTold h o y.reply y.now result d → So result d
+  vacuum_case None result d free z = txn_case h.txn result d free refl (subst (λ (o : Option VacuumAt). IsFittedBy catalog o h) free called.waiting.fitted) (subst (StandsOn events c h.begun k.told k.waiting h.plan h.txn) free k.stands) z
+  vacuum_case (Some v) result d runs z = sweep_case v k.waiting result d runs refl (subst (StandsOn events c h.begun k.told k.waiting h.plan h.txn) runs k.stands) z.0 z.1
+
+  pub replies_known : (result : Option Answer) (d : Client) → ReplyTold h h.vacuum y.reply y.now result d → So result d
+  replies_known result d z = vacuum_case h.vacuum result d refl z

@@ -1,5 +1,5 @@
 -- Calls for the row of a transaction, and what they show of its decision, as calls come.
-use Rattle.std.proofs.Common.{◌≡◌, ◌≤◌, ◌<◌, ◌+◌, ℕ, Bool, true, false, not, List, [], ◌∷◌, ◌++◌, Option, Some, None, Ok, Err, refl, sym, ap, subst, ◌∙◌, arith}
+use Rattle.std.proofs.Common.{◌≡◌, ◌≤◌, ◌<◌, ℕ, Bool, true, false, not, List, [], ◌∷◌, ◌++◌, Option, Some, None, Ok, Err, refl, sym, ap, subst, ◌∙◌, arith}
 use Rattle.std.specs.Prelude.{if◌then◌else◌, filter, nat_lt, is_some, All, Contains, MatchBool}
 use Rattle.std.specs.List.{AllByRecursion}
 use Rattle.std.specs.Option.{option_and_then, option_map_or}
@@ -13,7 +13,6 @@ use Rattle.sdb_types.specs.declared.txid.TxId.{TxId}
 use Rattle.sdb_types.specs.declared.key.Key.{Key}
 use Rattle.sdb_types.specs.declared.record.Record.{Record}
 use Rattle.sdb_types.specs.declared.record.Reply.{Reply}
-use Rattle.sdb_types.specs.declared.record.Reply.TheVariants as reply
 use Rattle.sdb_types.specs.declared.record.Request.{Request}
 use Rattle.sdb_types.specs.Exact.{equal_of}
 use Rattle.sdb_types.specs.Order.{key_cmp}
@@ -23,9 +22,9 @@ use Rattle.sdb_record.specs.declared.coordinator.Decided.{Decided}
 use Rattle.sdb_record.specs.declared.coordinator.Decision.{Decision}
 use Rattle.sdb_record.specs.declared.coordinator.Decision.TheVariants as decision
 use Rattle.sdb_record.specs.Coordinator.{coordinator_key_of, decision_in, is_coordinator_table}
-use Rattle.sdb_record.specs.Meta.{is_taken}
+use Rattle.sdb_record.specs.Meta.{checked, is_taken}
 use Rattle.sdb_model.specs.Calls.{Made, calls_after, calls_before, decision_found, decision_learned, decision_said, decision_shown, is_of_row, key_asked, records_shown, standing_said}
-use Rattle.sdb_model.specs.Causes.{HasReply, IsDecided, PutsRow}
+use Rattle.sdb_model.specs.Causes.{HasReply, IsBad, IsDecided, PutsRow}
 use Rattle.sdb_laws.specs.Lawful.{is_data}
 use Rattle.sdb_turns.proofs.Lists.{each_any}
 use Rattle.sdb_causes.specs.Commits.{IsBadRow, IsGivenUp, NoneOfRow, ShowsBad}
@@ -155,6 +154,17 @@ none_puts id d calls none = each_any (λ (m : Made). is_of_row id m.request ≡ 
 
 pub bad_row : (id : TxId) (row : Record) (name : List ℕ) → row.key ≡ coordinator_key_of id → decision_in row ≡ Err name → IsBadRow row
 bad_row id row name same e = subst (λ b. MatchBool b ((x : List ℕ) × (decision_in row ≡ Err x)) (is_taken row ≡ false)) (sym (ap (λ (k : Key). is_coordinator_table k.table) same ∙ row_table id)) (name, e)
+
+-- and is of no form of records
+pub bad_of_row : (row : Record) → is_coordinator_table row.key.table ≡ true → IsBadRow row → IsBad row
+bad_of_row row t h = by (is_coordinator_table row.key.table) t h
+  where
+    by : (b : Bool) → b ≡ true → MatchBool b ((name : List ℕ) × (decision_in row ≡ Err name)) (is_taken row ≡ false) → (name : List ℕ) × MatchBool b (decision_in row ≡ Err name) (checked row.columns ≡ Err name)
+    by true e k = (k.0, k.1)
+    by false e k = clash (sym e)
+
+pub bad_is_bad : (id : TxId) (row : Record) → row.key ≡ coordinator_key_of id → IsBadRow row → IsBad row
+bad_is_bad id row same h = bad_of_row row (ap (λ (k : Key). is_coordinator_table k.table) same ∙ row_table id) h
 
 pub shows_bad_row : (id : TxId) (calls : List Made) (m : Made) (row : Record) (name : List ℕ) → records_shown m.reply ≡ row ∷ [] → row.key ≡ coordinator_key_of id → decision_in row ≡ Err name → ShowsBad (calls ++ m ∷ []) (coordinator_key_of id)
 shows_bad_row id calls m row name shown same e = record { call = m; found = row; among = Contains-push calls m; shown = subst (λ rs. Contains rs row) (sym shown) (Contains-push [] row); same = same; bad = bad_row id row name same e }

@@ -1,6 +1,6 @@
 -- Each call of a COMMIT keeps what the calls say of where it stands.
 use Rattle.std.proofs.Common.{◌≡◌, ◌<◌, ◌^◌, ◌+◌, ◌⊎◌, inl, inr, ℕ, Bool, true, false, not, cond, List, [], ◌∷◌, ◌++◌, map, length, Option, Some, None, Result, Ok, Err, refl, sym, ap, subst, ◌∙◌}
-use Rattle.std.specs.Prelude.{if◌then◌else◌, filter, nat_lt, slice_get, Contains}
+use Rattle.std.specs.Prelude.{if◌then◌else◌, filter, nat_lt, slice_get}
 use Rattle.std.specs.List.{AllByRecursion}
 use Rattle.std.specs.Option.{option_and_then, option_map}
 use Rattle.std.specs.Result.{result_ok}
@@ -94,7 +94,7 @@ module _ (p : Work) (is : IsOfData p) where
     ends_more (outcome.Expired u) h = (h.0, given_up_stays p.id calls m older h.1)
     ends_more outcome.Faulted h = reply_stays is_fault calls m h
     ends_more (outcome.Unknown u) h = (h.0, failed_more h.1)
-    ends_more (outcome.BadRecord key) h = bad_stays calls m key h
+    ends_more (outcome.BadRecord key) h = (h.0, bad_stays calls m key h.1)
     ends_more outcome.NoMemory h = tt
 
     ---- stages without a call
@@ -155,7 +155,7 @@ module _ (p : Work) (is : IsOfData p) where
         by_decision d decision.Aborted e w = given d e w
 
         by : (v : Result Decided (List ℕ)) → decision_in row ≡ v → StandsBy p more (decided p (phase.Ended, told p.id aborted v))
-        by (Err name) e = shows_bad_row p.id calls m row name shown same e
+        by (Err name) e = (refl, shows_bad_row p.id calls m row name shown same e)
         by (Ok d) e = by_decision d d.decision e refl
 
     -- it is given up where none before has put ABORTED

@@ -1,12 +1,13 @@
 -- A client that takes a statement keeps what ties the events to it.
-use Rattle.std.proofs.Common.{◌≡◌, ◌≢◌, ◌≤◌, ◌<◌, ◌^◌, ◌+◌, ◌==◌, ◌⊎◌, inl, inr, ℕ, suc, Bool, true, false, List, [], ◌∷◌, ◌++◌, length, Option, Some, None, Ok, Err, refl, sym, ap, subst, ◌∙◌, arith}
+use Rattle.std.proofs.Common.{◌≡◌, ◌≢◌, ◌≤◌, ◌<◌, ◌^◌, ◌+◌, ◌==◌, ◌⊎◌, inl, inr, ℕ, suc, Bool, true, false, not, List, [], ◌∷◌, ◌++◌, length, Option, Some, None, Ok, Err, refl, sym, ap, subst, ◌∙◌, arith}
 use Rattle.std.specs.Prelude.{if◌then◌else◌, ◌&&◌, ◌||◌, filter, is_some, nat_lt, IfSome}
-use Rattle.std.specs.List.{AllByRecursion}
+use Rattle.std.specs.List.{AllByRecursion, count_by}
 use Rattle.std.proofs.lemmas.Bool.{eqb-false, eqb-true}
 use Rattle.std.proofs.lemmas.Bool.Decides.{nat_tests}
 use Rattle.std.proofs.lemmas.List.{append-nil}
 use Rattle.sdb_record.specs.Meta.{is_moment}
 use Rattle.sdb_schema.specs.declared.table.Table.{Table}
+use Rattle.sdb_schema.specs.Catalog.{is_catalog}
 use Rattle.sdb_model.specs.declared.answer.Answer.{Answer}
 use Rattle.sdb_model.specs.declared.answer.Answer.TheVariants as answer
 use Rattle.sdb_model.specs.declared.answer.Refusal.{Refusal}
@@ -14,40 +15,69 @@ use Rattle.sdb_model.specs.declared.event.Event.{Event}
 use Rattle.sdb_model.specs.declared.event.Event.TheVariants as event
 use Rattle.sdb_model.specs.declared.statement.Statement.{Statement}
 use Rattle.sdb_model.specs.declared.statement.Statement.TheVariants as statement
-use Rattle.sdb_model.specs.Calls.{Made, calls_by, calls_of}
-use Rattle.sdb_model.specs.Causes.{IsCaused, IsTurnedAway, NeedsTransaction, SomeClient, before, is_open, is_open_after, refused}
-use Rattle.sdb_model.specs.Exec.{named_table, table_of}
+use Rattle.sdb_model.specs.Calls.{Made, calls_by, calls_of, end_of}
+use Rattle.sdb_model.specs.Causes.{IsCaused, IsTurnedAway, MayPassMost, NeedsTransaction, SomeClient, before, is_open, is_open_after, records_found, refused, removes, runs_vacuum}
+use Rattle.sdb_model.specs.Exec.{find_table, named_table, table_of}
 use Rattle.sdb_model.specs.Follows.{has_stopped}
 use Rattle.sdb_model.specs.Refused.{refusal_by, refusal_of}
 use Rattle.sdb_model.specs.Sql.{Reads, reads_begin, reads_commit, reads_rollback, reads_vacuum}
-use Rattle.sdb_model.specs.Transactions.{Said, begins, changes_nothing, ends, from_begin, id_of, is_conflict, is_done, said}
+use Rattle.sdb_model.specs.Transactions.{Said, begins, changes_nothing, ends, from_begin, id_of, is_conflict, is_done, rest_of, said}
 use Rattle.sdb_sqltext.proofs.Clauses.{not_both, one_refusal, one_statement}
 use Rattle.sdb_sqltext.proofs.OneWord.{begin_read, commit_read, rollback_read, vacuum_read}
 use Rattle.sdb_exec.specs.declared.plan.PlanStep.{PlanStep}
 use Rattle.sdb_exec.specs.declared.plan.PlanStep.TheVariants.{Finished, Read as Wants}
-use Rattle.sdb_exec.specs.Plans.{Planned}
+use Rattle.sdb_exec.specs.Plans.{Planned, changes_on}
 use Rattle.sdb_exec.specs.Reads.{access_of}
 use Rattle.sdb_phases.specs.Commit.{preparing}
 use Rattle.sdb_txn.specs.declared.txn.Doing.{Doing}
 use Rattle.sdb_txn.specs.declared.txn.Doing.TheVariants as doing
 use Rattle.sdb_txn.specs.Txn.{TxnAt, begun, committing, reading, work_of}
-use Rattle.sdb_client.specs.Client.{AskTold, BeginTold, ClientAt as Client, CommitTaken, GateTold, IsTold, RollbackTold, RowsTold, StatementTold, TableTold, Taking, TextTold, VacuumTold, given_answer, given_left, gives, holding, is_covered, next_id, plan_of, resting, starved, with_begun, written}
+use Rattle.sdb_vacuum.specs.Vacuum.{begun as begins_sweep}
+use Rattle.sdb_client.specs.Client.{AskTold, BeginTold, ClientAt as Client, CommitTaken, GateTold, IsTold, RollbackTold, RowsTold, StatementTold, TableTold, Taking, TextTold, VacuumTold, given_answer, given_left, gives, holding, is_covered, next_id, plan_of, resting, starved, too_many, with_begun, written}
 use Rattle.sdb_linked.specs.Going.{IsInner}
 use Rattle.sdb_snapshot.specs.Seen.{overlay}
 use Rattle.sdb_steps.specs.Hands.{Hand, IsReady, Takes}
 use Rattle.sdb_steps.proofs.Taken.{other_no_begin, other_no_commit, refused_no_commit}
-use Rattle.sdb_steps.proofs.Whole.{by_memory}
+use Rattle.sdb_laws.specs.Lawful.{is_data}
+use Rattle.sdb_steps.proofs.InTables.{own_table}
+use Rattle.sdb_steps.proofs.RowsFit.{found_itself}
+use Rattle.sdb_steps.proofs.Whole.{by_memory, literals_read}
+use Rattle.sdb_types.specs.declared.key.Key.{Key}
 use Rattle.sdb_story.specs.Telling.{taken_said, waiting_of}
 use Rattle.sdb_turns.proofs.Lists.{each_more}
-use Rattle.sdb_types.proofs.Basics.{by_test, clash, none_some}
+use Rattle.sdb_types.proofs.Basics.{by_test, clash, none_some, some_is}
 use Rattle.sdb_causes.specs.Commits.{StandsBy}
-use Rattle.sdb_causes.specs.Tied.{IsAnswered, IsDoing, AreTied, IsGate, IsOpenAs, Knows, StandsIn, begun_in, is_caused, open_after}
-use Rattle.sdb_causes.proofs.Calls.{before_taken, calls_open, calls_within, end_waiting, later_same, length_more, take_said}
+use Rattle.sdb_causes.specs.Conflicts.{ChecksBy}
+use Rattle.sdb_causes.specs.Filled.{IsFilled, IsFilledBy, IsFilledIn, counted_told, found_told}
+use Rattle.sdb_causes.specs.Moves.{AllTellOne, SeenBy, notes_told}
+use Rattle.sdb_causes.proofs.Conflicts.{begins_checked}
+use Rattle.sdb_causes.proofs.Moving.{IsTaken, work_by}
+use Rattle.sdb_causes.proofs.Noting.{moved_all, moved_still, noted_more, noted_still, tell_back, unmoved}
+use Rattle.sdb_causes.specs.Tied.{IsAnswered, IsDoing, AreTied, IsGate, IsNoting, IsOpenAs, Knows, SomeSweeps, StandsIn, StandsOn, begun_in, open_after, CanTell}
+use Rattle.sdb_causes.specs.Unfit.{IsFit, SeesFit, SeesFitIn, ShowStored}
+use Rattle.sdb_causes.proofs.Calls.{before_taken, calls_open, calls_within, end_answered, end_waiting, later_same, length_more, take_said, none_made}
+use Rattle.sdb_causes.proofs.Filling.{filled_found, filled_given, filled_idle, filled_more, filled_nothing, filled_stays, filled_up, further, least, passes_given, zero_least}
+use Rattle.sdb_causes.proofs.Passing.{pass_now}
+use Rattle.sdb_causes.proofs.Unfit.{fit_nothing, given_fits, none_unfits}
 use Rattle.sdb_causes.proofs.Given.{IsMiddle, given_caused, given_middle}
-use Rattle.sdb_causes.proofs.Knowing.{after_begin, after_end, after_more, after_plain, no_vacuum, open_more, open_now}
+use Rattle.sdb_causes.proofs.Knowing.{after_begin, after_end, after_more, after_plain, open_more, open_now, sweeps_now}
 use Rattle.sdb_causes.proofs.Later.{answered_stay}
 use Rattle.sdb_causes.proofs.Lists.{begun_more, begun_same, since_new}
 use Rattle.sdb_causes.proofs.Stages.{begins_standing}
+use Rattle.sdb_causes.specs.Counts.{CommitFits, NotedBy, NotedDoing, NotesAre, OpenCounted, SweepCounted, WaitCounted, notes_since}
+use Rattle.sdb_causes.proofs.Counting.{counts_end, counts_on, none_counted}
+use Rattle.sdb_causes.proofs.Counts.{sweep_begins}
+use Rattle.sdb_causes.specs.Rolled.{WaitRolls}
+use Rattle.sdb_causes.proofs.Rolled.{none_found, rolls_end, rolls_on}
+use Rattle.sdb_causes.proofs.CountsCommit.{commit_begins, commit_none}
+use Rattle.sdb_causes.proofs.CountsNotes.{idle_noted, none_called, noted_idle, since_same, since_stay}
+use Rattle.sdb_model.specs.Calls.{decision_learned}
+use Rattle.sdb_model.specs.Causes.{IsDecided}
+use Rattle.sdb_model.specs.Noted.{Note}
+use Rattle.sdb_model.specs.Transactions.{rest_of}
+use Rattle.sdb_record.specs.declared.coordinator.Decision.TheVariants as decision
+use Rattle.sdb_types.specs.declared.txid.TxId.{TxId}
+use Rattle.std.proofs.lemmas.Bool.{and_parts}
 
 ---- texts
 
@@ -83,15 +113,28 @@ pub left_id : (was t : TxnAt) (s : PlanStep) → was.id ≡ t.id → (given_left
 left_id was t (Finished a ks) h = elim (changes_nothing (given_answer t (Finished a ks))) as (λ b. (if b then was else written t ks).id ≡ t.id) [ true ↦ h | false ↦ refl ]
 left_id was t (Wants a) h = h
 
+-- and has read what it had
+pub left_reads : (was t : TxnAt) (s : PlanStep) → was.seen.reads ≡ t.seen.reads → was.seen.scans ≡ t.seen.scans → ((given_left was t s).seen.reads ≡ t.seen.reads) × ((given_left was t s).seen.scans ≡ t.seen.scans)
+left_reads was t (Finished a ks) r x = elim (changes_nothing (given_answer t (Finished a ks))) as (λ b. ((if b then was else written t ks).seen.reads ≡ t.seen.reads) × ((if b then was else written t ks).seen.scans ≡ t.seen.scans)) [ true ↦ (r, x) | false ↦ (refl, refl) ]
+left_reads was t (Wants a) r x = (r, x)
+
 none_kept : {X : Type 0} (p : X → Bool) (xs : List X) → AllByRecursion (λ x. p x ≡ false) xs → filter p xs ≡ []
 none_kept p [] all = refl
 none_kept p (x ∷ xs) all = ap (λ b. if b then x ∷ filter p xs else filter p xs) all.0 ∙ none_kept p xs all.1
 
+-- it ends where the events end
+taken_ends : (c : ℕ) (events : List Event) (text : List ℕ) (result : Option Answer) → end_of (events ++ event.Take c text result ∷ []) (taken_said events text result) ≡ length (events ++ event.Take c text result ∷ [])
+taken_ends c events text None = end_waiting (events ++ event.Take c text None ∷ []) (taken_said events text None) refl
+taken_ends c events text (Some a) = end_answered (events ++ event.Take c text (Some a) ∷ []) (taken_said events text (Some a)) a refl ∙ plus (length events) ∙ sym (length_more events (event.Take c text (Some a)))
+  where
+    plus : (n : ℕ) → 1 + n ≡ n + 1
+    plus n = omega arith
+
 -- a statement that is taken has made no call
-pub none_yet : (c : ℕ) (events : List Event) (text : List ℕ) → calls_of (events ++ event.Take c text None ∷ []) c (taken_said events text None) ≡ []
-none_yet c events text =
-    calls_open c (events ++ event.Take c text None ∷ []) (taken_said events text None) (end_waiting (events ++ event.Take c text None ∷ []) (taken_said events text None) refl)
-    ∙ later_same c events (event.Take c text None) (1 + length events) refl
+pub none_yet : (c : ℕ) (events : List Event) (text : List ℕ) (result : Option Answer) → calls_of (events ++ event.Take c text result ∷ []) c (taken_said events text result) ≡ []
+none_yet c events text result =
+    calls_open c (events ++ event.Take c text result ∷ []) (taken_said events text result) (taken_ends c events text result)
+    ∙ later_same c events (event.Take c text result) (1 + length events) refl
     ∙ none_kept (λ m. nat_lt (1 + length events) m.at) (calls_by events c) (each (calls_by events c) (calls_within c events))
   where
     low : (k n : ℕ) → k < 1 + n → nat_lt (1 + n) k ≡ false
@@ -103,7 +146,8 @@ none_yet c events text =
 
 ---- the taking
 
-module _ (q : Taking) (events : List Event) (hands : ℕ → Hand) (ex : AreTied q.catalog events q.now hands) (c : ℕ) (ready : IsReady hands c) (gate : IsGate hands c q.gate) (moment : is_moment q.now ≡ true) (text : List ℕ) where
+module _ (q : Taking) (events : List Event) (hands : ℕ → Hand) (ex : AreTied q.catalog events q.now hands) (c : ℕ) (ready : IsReady hands c) (gate : IsGate hands c q.gate) (moment : is_moment q.now ≡ true) (is : is_catalog q.catalog ≡ true)
+    (sound : (t : TxnAt) → (hands c).client.txn ≡ Some t → IsTaken t.seen) (apart : (x : Key) → is_some (find_table q.catalog x.table) ≡ true → is_data x ≡ true) (text : List ℕ) where
   abbrev h : Client
   h = (hands c).client
 
@@ -117,8 +161,11 @@ module _ (q : Taking) (events : List Event) (hands : ℕ → Hand) (ex : AreTied
   abbrev pub Turned : Option Answer → Type 0
   Turned result = (b : Answer) → IsTurnedAway q.catalog events c text b → (result ≡ Some b) ⊎ (result ≡ Some answer.NoMemory)
 
+  stands_free : StandsIn events c h.begun k.told k.waiting h.plan h.txn
+  stands_free = subst (StandsOn events c h.begun k.told k.waiting h.plan h.txn) ready.idle.free k.stands
+
   waits_none : k.waiting ≡ None
-  waits_none = by h.txn k.stands ready.idle
+  waits_none = by h.txn stands_free ready.idle.still
     where
       by_doing : (t : TxnAt) (d : Doing) → d ≡ doing.Idle → IsDoing events c t h.plan k.waiting d → k.waiting ≡ None
       by_doing t d e s = subst (IsDoing events c t h.plan k.waiting) e s
@@ -132,6 +179,9 @@ module _ (q : Taking) (events : List Event) (hands : ℕ → Hand) (ex : AreTied
 
   opened : (d : ℕ) → is_open events d ≡ is_some (hands d).client.txn
   opened d = open_now q.catalog events d (hands d).client (ex.each d)
+
+  sweeping : (d : ℕ) → runs_vacuum events d ≡ is_some (hands d).client.vacuum
+  sweeping d = sweeps_now q.catalog events d (hands d).client (ex.each d)
 
   goes_on : has_stopped c events ≡ false
   goes_on = ex.stopped c ∙ ready.goes_on
@@ -194,9 +244,25 @@ module _ (q : Taking) (events : List Event) (hands : ℕ → Hand) (ex : AreTied
           either (is_some h.txn) q.gate.open_elsewhere
           (by_test q.gate.open_elsewhere (λ t. t) (λ f. clash (sym (sym (opened d) ∙ is) ∙ gate.none f d (eqb-false d c e) (sym (ex.stopped d) ∙ goes))))
 
-  vacuum_turned : (b : Bool) (result : Option Answer) (d : Client) → b ≡ true → VacuumTold b h result d → result ≡ Some answer.OpenTransactions
-  vacuum_turned true result d e x = x.answer
-  vacuum_turned false result d e x = absurd x
+  vacuum_turned : (b : Bool) (catalog : List Table) (result : Option Answer) (d : Client) → b ≡ true → VacuumTold b catalog h result d → result ≡ Some answer.OpenTransactions
+  vacuum_turned true catalog result d e x = x.answer
+  vacuum_turned false catalog result d e x = clash (sym e)
+
+  -- a client that goes on runs VACUUM: another one, since this one waits for a statement
+  meets_sweep : SomeClient runs_vacuum events → q.gate.vacuum_runs ≡ true
+  meets_sweep (d, goes, is) = by (d == c) refl
+    where
+      by : (b : Bool) → (d == c) ≡ b → q.gate.vacuum_runs ≡ true
+      by true e = clash (sym (sym (sweeping d) ∙ is) ∙ ap is_some (ap (λ n. (hands n).client.vacuum) (eqb-true d c e) ∙ ready.idle.free))
+      by false e = by_test q.gate.vacuum_runs (λ t. t) (λ f. clash (sym (sym (sweeping d) ∙ is) ∙ gate.rests f d (eqb-false d c e) (sym (ex.stopped d) ∙ goes)))
+
+  gate_turned : (b : Bool) (result : Option Answer) (d : Client) → b ≡ true → GateTold b h result d → result ≡ Some answer.Vacuuming
+  gate_turned true result d e x = x.answer
+  gate_turned false result d e x = clash (sym e)
+
+  turns_sweep : (o : Option TxnAt) (result : Option Answer) (d : Client) → is_some o ≡ false → q.gate.vacuum_runs ≡ true → BeginTold q.gate h o result d → result ≡ Some answer.Vacuuming
+  turns_sweep (Some t) result d e f x = clash e
+  turns_sweep None result d e f x = gate_turned q.gate.vacuum_runs result d f x
 
   -- it is turned away where it is to be
   turned_told : (result : Option Answer) (d : Client) → TextTold q text h result d → Turned result
@@ -213,9 +279,10 @@ module _ (q : Taking) (events : List Event) (hands : ℕ → Hand) (ex : AreTied
       inl (turns_outside y.0 result d y.2 (sym (opened c) ∙ y.3) (subst (λ z. StatementTold q z h result d) (one_statement text st y.0 reads y.1) x) ∙ ap Some (sym y.4))
   turned_told result d (Ok st, reads, x) b (inr (inr (inr (inl y)))) =
       inl (turns_unfit y.0 y.1 result d y.4 (sym (opened c) ∙ y.3) y.5 (subst (λ z. StatementTold q z h result d) (one_statement text st y.0 reads y.2) x) ∙ ap Some (sym y.6))
-  turned_told result d (Ok st, reads, x) b (inr (inr (inr (inr (inl y))))) = clash (sym y.2.2 ∙ no_vacuum q.catalog events y.2.0 (hands y.2.0).client (ex.each y.2.0))
+  turned_told result d (Ok st, reads, x) b (inr (inr (inr (inr (inl y))))) =
+      inl (turns_sweep h.txn result d (sym (opened c) ∙ y.1) (meets_sweep y.2) (subst (λ z. StatementTold q z h result d) (one_statement text st statement.Begin reads y.0) x) ∙ ap Some (sym y.3))
   turned_told result d (Ok st, reads, x) b (inr (inr (inr (inr (inr y))))) =
-      inl (vacuum_turned (is_some h.txn || q.gate.open_elsewhere) result d (meets y.1) (subst (λ z. StatementTold q z h result d) (one_statement text st statement.Vacuum reads y.0) x) ∙ ap Some (sym y.2))
+      inl (vacuum_turned (is_some h.txn || q.gate.open_elsewhere) q.catalog result d (meets y.1) (subst (λ z. StatementTold q z h result d) (one_statement text st statement.Vacuum reads y.0) x) ∙ ap Some (sym y.2))
 
   ---- where the client is then known
 
@@ -228,6 +295,9 @@ module _ (q : Taking) (events : List Event) (hands : ℕ → Hand) (ex : AreTied
   abbrev one : Option Answer → Said
   one result = taken_said events text result
 
+  still_stored : (result : Option Answer) → ShowStored (calls_by (E result) c)
+  still_stored result = subst ShowStored (sym (none_made c events (event.Take c text result) refl)) k.stored
+
   within_now : (result : Option Answer) → 1 + length events ≤ length (E result)
   within_now result = let e : length (E result) ≡ length events + 1 = length_more events (event.Take c text result) in omega arith
 
@@ -236,15 +306,42 @@ module _ (q : Taking) (events : List Event) (hands : ℕ → Hand) (ex : AreTied
 
   -- why it is answered so
   abbrev Caused : Answer → Type 0
-  Caused b = is_caused b ≡ true → IsCaused q.catalog (E (Some b)) c (one (Some b)) b
+  Caused b = CanTell (calls_of (E (Some b)) c (one (Some b))) text b → IsCaused q.catalog (E (Some b)) c (one (Some b)) b
 
   by_turning : (b : Answer) → IsTurnedAway q.catalog events c text b → IsTurnedAway q.catalog (before (one (Some b)) (E (Some b))) c text b
   by_turning b = subst (λ es. IsTurnedAway q.catalog es c text b) (sym (before_taken events (event.Take c text (Some b)) text (Some b)))
 
+  -- a BEGIN is answered Done where no transaction is open
+  pairs_once : (b : Answer) → Turned (Some b) → begins (one (Some b)) ≡ true → open_after k.told ≡ false
+  pairs_once b turned begins_it = by_test (open_after k.told) (λ t. absurd (undone (turned (refused 4) (inr (inl ((begin_read text).0 both.0, ap open_after said_told ∙ t, refl)))))) (λ f. f)
+    where
+      both : (reads_begin text ≡ true) × (is_done (Some b) ≡ true)
+      both = and_parts (reads_begin text) (is_done (Some b)) begins_it
+
+      undone : (◌≡◌ {A = Option Answer} (Some b) (Some (refused 4))) ⊎ (◌≡◌ {A = Option Answer} (Some b) (Some answer.NoMemory)) → ⊥
+      undone (inl e) = clash (sym both.1 ∙ ap is_done e)
+      undone (inr e) = clash (sym both.1 ∙ ap is_done e)
+
+  -- one that makes no call isn't answered Committed
+  fits_once : (b : Answer) → Caused b → reads_commit text ≡ true → open_after k.told ≡ true → CommitFits (notes_since events c h.begun k.told) (id_of c h.begun) (Some b) []
+  fits_once b caused reads opened = commit_none (notes_since events c h.begun k.told) (id_of c h.begun) (Some b) (λ e. absurd (uncommitted (some_is b answer.Committed e)))
+    where
+      undecided : (calls : List Made) (id : TxId) → calls ≡ [] → IsDecided decision.Committed (decision_learned calls id) → ⊥
+      undecided calls id none h = subst (λ ms. IsDecided decision.Committed (decision_learned ms id)) none h
+
+      uncommitted : b ≡ answer.Committed → ⊥
+      uncommitted e =
+          let z : IsCaused q.catalog (E (Some b)) c (one (Some b)) answer.Committed = subst (λ a. CanTell (calls_of (E (Some b)) c (one (Some b))) text a → IsCaused q.catalog (E (Some b)) c (one (Some b)) a) e caused tt in
+          undecided (calls_of (E (Some b)) c (one (Some b))) z.0 (none_yet c events text (Some b)) z.2
+
+  -- what its transaction has then noted
+  abbrev NotedThen : Option Answer → Client → Type 0
+  NotedThen result d = NotedBy (notes_since (E result) c d.begun (k.told ++ one result ∷ [])) d.txn
+
   -- it is answered at once
-  at_once : (b : Answer) (d : Client) → Caused b → Turned (Some b) → d.number ≡ h.number → d.begun ≡ begun_in (k.told ++ one (Some b) ∷ []) → d.begun < 2 ^ 64
-      → StandsIn (E (Some b)) c d.begun (k.told ++ one (Some b) ∷ []) None d.plan d.txn → So (Some b) d
-  at_once b d caused turned number begun small stands = record {
+  at_once : (b : Answer) (d : Client) → is_conflict (Some b) ≡ false → Caused b → Turned (Some b) → d.number ≡ h.number → d.begun ≡ begun_in (k.told ++ one (Some b) ∷ []) → d.begun < 2 ^ 64
+      → StandsOn (E (Some b)) c d.begun (k.told ++ one (Some b) ∷ []) None d.plan d.txn d.vacuum → NotedThen (Some b) d → IfSome d.txn (IsFilled (E (Some b)) c (rest_of (from_begin d.begun (k.told ++ one (Some b) ∷ [])))) → IfSome d.txn (IsFit q.catalog) → So (Some b) d
+  at_once b d agrees caused turned number begun small stands noted filled fits = record {
     told = k.told ++ one (Some b) ∷ [];
     waiting = None;
     same = said_more ∙ sym (append-nil (k.told ++ one (Some b) ∷ []));
@@ -257,10 +354,16 @@ module _ (q : Taking) (events : List Event) (hands : ℕ → Hand) (ex : AreTied
       turned_away = λ a t. (refl, turned a (away (Some b) a t));
     });
     waits = tt;
+    moved = moved_all q.catalog events (event.Take c text (Some b)) c k.told (one (Some b)) k.answered k.moved (λ one_each. unmoved (E (Some b)) c (k.told ++ one (Some b) ∷ []) (one (Some b)) b refl agrees);
     number = number ∙ k.number;
     begun = begun;
     small = small;
     stands = stands;
+    counted = counts_end q.catalog c events (event.Take c text (Some b)) k.told k.waiting h k.answered k.counted (one (Some b)) d [] k.begun (none_yet c events text (Some b)) (none_counted q.catalog text [] refl) (pairs_once b turned) (fits_once b caused) noted;
+    filled = filled;
+    fits = fits;
+    stored = still_stored (Some b);
+    rolled = rolls_end q.catalog c events (event.Take c text (Some b)) k.told k.waiting h k.answered k.rolled (one (Some b)) d [] (none_yet c events text (Some b)) (λ a e rows. none_found (E (Some b)) (reads_vacuum text));
   }
     where
       said_now : said c (E (Some b)) ≡ said c events ++ one (Some b) ∷ []
@@ -269,10 +372,17 @@ module _ (q : Taking) (events : List Event) (hands : ℕ → Hand) (ex : AreTied
       said_more : said c (E (Some b)) ≡ k.told ++ one (Some b) ∷ []
       said_more = said_now ∙ ap (λ ss. ss ++ one (Some b) ∷ []) said_told
 
+  -- what its transaction has noted so far
+  abbrev so_id : TxId
+  so_id = id_of c h.begun
+
+  abbrev so_noted : List Note
+  so_noted = notes_since events c h.begun k.told
+
   -- it waits
-  waits : (d : Client) → Turned None → reads_begin text ≡ false → reads_vacuum text ≡ false → is_some h.txn ≡ true → d.number ≡ h.number → d.begun ≡ h.begun
-      → StandsIn (E None) c d.begun k.told (Some (one None)) d.plan d.txn → So None d
-  waits d turned no_begin no_vacuum open_txn number begun stands = record {
+  waits : (d : Client) → Turned None → reads_begin text ≡ false → reads_vacuum text ≡ is_some d.vacuum → is_some h.txn ≡ not (is_some d.vacuum) → d.number ≡ h.number → d.begun ≡ h.begun
+      → StandsOn (E None) c d.begun k.told (Some (one None)) d.plan d.txn d.vacuum → NotedBy so_noted d.txn × WaitCounted q.catalog text so_id so_noted [] d.vacuum d.txn → IfSome d.txn (IsFilled (E None) c (rest_of (from_begin d.begun k.told))) → IfSome d.txn (IsFit q.catalog) → WaitRolls (E None) (reads_vacuum text) [] d.vacuum d.txn → So None d
+  waits d turned no_begin sweeps open_txn number begun stands begins_counted filled fits rolls = record {
     told = k.told;
     waiting = Some (one None);
     same = take_said c events text None ∙ ap (λ ss. ss ++ one None ∷ []) said_told;
@@ -281,21 +391,38 @@ module _ (q : Taking) (events : List Event) (hands : ℕ → Hand) (ex : AreTied
       unanswered = refl;
       taken = within_now None;
       begin = no_begin;
-      vacuum = no_vacuum;
+      vacuum = sweeps;
       opened = ap (λ es. is_open es c) (before_taken events (event.Take c text None) text None) ∙ opened c ∙ open_txn;
       stays = λ a t. none (turned a (away None a t));
     };
+    moved = λ one_each. moved_still q.catalog events (event.Take c text None) c k.told k.told k.answered (k.moved (tell_back q.catalog events (event.Take c text None) c k.told k.answered one_each));
     number = number ∙ k.number;
     begun = begun ∙ k.begun;
     small = subst (λ n. n < 2 ^ 64) (sym begun) k.small;
     stands = stands;
+    counted = counts_on q.catalog c events (event.Take c text None) k.told k.waiting h k.answered k.counted (one None) d [] begun (none_yet c events text None) begins_counted.0 begins_counted.1;
+    filled = filled;
+    fits = fits;
+    stored = still_stored None;
+    rolled = rolls_on q.catalog c events (event.Take c text None) k.told k.waiting h k.answered k.rolled (one None) d [] (none_yet c events text None) rolls;
   }
     where
       none : {b : Answer} → (◌≡◌ {A = Option Answer} None (Some b)) ⊎ (◌≡◌ {A = Option Answer} None (Some answer.NoMemory)) → ⊥
       none (inl e) = none_some _ e
       none (inr e) = none_some _ e
 
+  -- and its transaction is open
+  waits_open : (d : Client) → Turned None → reads_begin text ≡ false → reads_vacuum text ≡ false → is_some h.txn ≡ true → d.number ≡ h.number → d.begun ≡ h.begun → d.vacuum ≡ h.vacuum
+      → StandsIn (E None) c d.begun k.told (Some (one None)) d.plan d.txn → NotedBy so_noted d.txn × OpenCounted text so_id so_noted [] d.txn → IfSome d.txn (IsFilled (E None) c (rest_of (from_begin d.begun k.told))) → IfSome d.txn (IsFit q.catalog) → WaitRolls (E None) (reads_vacuum text) [] None d.txn → So None d
+  waits_open d turned no_begin no_vacuum open_txn number begun same stands begins_counted filled fits rolls =
+      let free : d.vacuum ≡ None = same ∙ ready.idle.free in
+      waits d turned no_begin (no_vacuum ∙ sym (ap is_some free)) (open_txn ∙ sym (ap (λ o. not (is_some o)) free)) number begun (subst (StandsOn (E None) c d.begun k.told (Some (one None)) d.plan d.txn) (sym free) stands) (begins_counted.0, subst (λ v. WaitCounted q.catalog text so_id so_noted [] v d.txn) (sym free) begins_counted.1) filled fits (subst (λ v. WaitRolls (E None) (reads_vacuum text) [] v d.txn) (sym free) rolls)
+
   ---- where it stands then
+
+  -- it runs no VACUUM
+  on_free : (result : Option Answer) (n : ℕ) (told : List Said) (w : Option Said) (p : Option Planned) (o : Option TxnAt) → StandsIn (E result) c n told w p o → StandsOn (E result) c n told w p o h.vacuum
+  on_free result n told w p o = subst (StandsOn (E result) c n told w p o) (sym ready.idle.free)
 
   begun_plain : (b : Answer) → is_done (Some b) ≡ false → h.begun ≡ begun_in (k.told ++ one (Some b) ∷ [])
   begun_plain b d = k.begun ∙ sym (begun_same k.told (one (Some b)) (undone_begins (one (Some b)) b refl d))
@@ -304,29 +431,60 @@ module _ (q : Taking) (events : List Event) (hands : ℕ → Hand) (ex : AreTied
   stands_none b p d f = (refl, after_more k.told (one (Some b)) ∙ ap (λ w. is_open_after w (one (Some b))) f ∙ after_plain false (one (Some b)) (undone_begins (one (Some b)) b refl d) (λ e. clash (sym e)))
 
   -- the open transaction, which does nothing, goes on
-  stands_held : (b : Answer) (p : Option Planned) (t u : TxnAt) → IsMiddle b → reads_commit text ≡ false → u.id ≡ t.id → u.doing ≡ doing.Idle → open_after k.told ≡ true → IsOpenAs c h.begun k.told t → StandsIn (E (Some b)) c h.begun (k.told ++ one (Some b) ∷ []) None p (Some u)
-  stands_held b p t u m no_commit same idle is o = (
+  stands_held : (b : Answer) (p : Option Planned) (t u : TxnAt) → IsMiddle b → reads_commit text ≡ false → u.id ≡ t.id → u.doing ≡ doing.Idle → open_after k.told ≡ true → (o : IsOpenAs c h.begun k.told t) → (AllTellOne events c k.told → SeenBy (notes_told events c o.body) t.seen) → u.seen.reads ≡ t.seen.reads → u.seen.scans ≡ t.seen.scans → StandsIn (E (Some b)) c h.begun (k.told ++ one (Some b) ∷ []) None p (Some u)
+  stands_held b p t u m no_commit same idle is o noting r x = (
     after_more k.told (one (Some b)) ∙ ap (λ w. is_open_after w (one (Some b))) is ∙ after_plain true (one (Some b)) (undone_begins (one (Some b)) b refl m.undone) (λ e. middle_ends (one (Some b)) b refl m no_commit),
     open_more c h.begun k.told t u (one (Some b)) same (middle_ends (one (Some b)) b refl m no_commit) o,
     subst (IsDoing (E (Some b)) c u p None) (sym idle) refl,
+    subst (λ d. IsNoting (E (Some b)) c (k.told ++ one (Some b) ∷ []) (o.body ++ one (Some b) ∷ []) u d None) (sym idle) (noted_more q.catalog events (event.Take c text (Some b)) c h.begun k.told t o k.answered (one (Some b)) t.seen u.seen r x noting),
   )
 
-  stands_open : (t : TxnAt) → h.txn ≡ Some t → (open_after k.told ≡ true) × IsOpenAs c h.begun k.told t
-  stands_open t e = let s = subst (StandsIn events c h.begun k.told k.waiting h.plan) e k.stands in (s.0, s.1)
+  idle_of : (t : TxnAt) → h.txn ≡ Some t → t.doing ≡ doing.Idle
+  idle_of t e = subst (λ (o : Option TxnAt). IfSome o (λ u. u.doing ≡ doing.Idle)) e ready.idle.still
+
+  stands_open : (t : TxnAt) → h.txn ≡ Some t → (open_after k.told ≡ true) × (o : IsOpenAs c h.begun k.told t) × (AllTellOne events c k.told → SeenBy (notes_told events c o.body) t.seen)
+  stands_open t e = let s = subst (StandsIn events c h.begun k.told k.waiting h.plan) e stands_free in (s.0, s.1, subst (λ d. IsNoting events c k.told s.1.body t d k.waiting) (idle_of t e) s.3)
+
+  noted_open : (t : TxnAt) → h.txn ≡ Some t → NotesAre so_noted t.seen.reads t.seen.scans
+  noted_open t e = idle_noted so_noted t.seen t.doing (idle_of t e) (subst (NotedBy so_noted) e k.counted.noted)
+
+  -- it makes no call, and notes nothing
+  noted_at_once : (result : Option Answer) → notes_since (E result) c h.begun (k.told ++ one result ∷ []) ≡ so_noted
+  noted_at_once result = since_same (E result) c h.begun k.told (one result) (none_called (E result) c (one result) (none_yet c events text result)) ∙ since_stay q.catalog events (event.Take c text result) c h.begun k.told k.answered
+
+  -- no more keys are written than rows counted
+  filled_open : (t : TxnAt) (e : h.txn ≡ Some t) → IsFilledBy (counted_told (stands_open t e).1.body) (found_told events c (stands_open t e).1.body) t.seen
+  filled_open t e =
+      let s : IsFilledIn events c (rest_of (from_begin h.begun k.told)) t.seen t.doing = subst (λ (o : Option TxnAt). IfSome o (IsFilled events c (rest_of (from_begin h.begun k.told)))) e k.filled in
+      subst (λ r. IsFilledIn events c (rest_of r) t.seen doing.Idle) (stands_open t e).1.since (subst (IsFilledIn events c (rest_of (from_begin h.begun k.told)) t.seen) (idle_of t e) s)
+
+  filled_reading : (t : TxnAt) → h.txn ≡ Some t → IsFilledBy (counted_told (rest_of (from_begin h.begun k.told))) (found_told (E None) c (rest_of (from_begin h.begun k.told))) t.seen
+  filled_reading t e = subst (IsFilledIn (E None) c (rest_of (from_begin h.begun k.told)) t.seen) (idle_of t e) (filled_stays events (event.Take c text None) c (rest_of (from_begin h.begun k.told)) (Some t) (subst (λ (o : Option TxnAt). IfSome o (IsFilled events c (rest_of (from_begin h.begun k.told)))) e k.filled))
+
+  -- what it sees fits
+  fit_open : (t : TxnAt) → h.txn ≡ Some t → SeesFit q.catalog t.seen
+  fit_open t e = subst (SeesFitIn q.catalog t.seen) (idle_of t e) (subst (λ (o : Option TxnAt). IfSome o (IsFit q.catalog)) e k.fits)
+
+  -- what it said then
+  said_then : (b : Answer) → said c (E (Some b)) ≡ k.told ++ one (Some b) ∷ []
+  said_then b = take_said c events text (Some b) ∙ ap (λ ss. ss ++ one (Some b) ∷ []) said_told
 
   stands_closed : h.txn ≡ None → open_after k.told ≡ false
-  stands_closed e = (subst (StandsIn events c h.begun k.told k.waiting h.plan) e k.stands).1
-
-  idle_of : (t : TxnAt) → h.txn ≡ Some t → t.doing ≡ doing.Idle
-  idle_of t e = subst (λ (o : Option TxnAt). IfSome o (λ u. u.doing ≡ doing.Idle)) e ready.idle
+  stands_closed e = (subst (StandsIn events c h.begun k.told k.waiting h.plan) e stands_free).1
 
   -- as it was
   same : (b : Answer) → IsMiddle b → (is_some h.txn ≡ true → reads_commit text ≡ false) → Caused b → Turned (Some b) → So (Some b) h
-  same b m no_commit caused turned = at_once b h caused turned refl (begun_plain b m.undone) k.small (by h.txn refl)
+  same b m no_commit caused turned = at_once b h m.agrees caused turned refl (begun_plain b m.undone) k.small (on_free (Some b) h.begun (k.told ++ one (Some b) ∷ []) None h.plan h.txn (by h.txn refl)) (subst (λ ns. NotedBy ns h.txn) (sym (noted_at_once (Some b))) k.counted.noted) (filled_by h.txn refl) k.fits
     where
       by : (o : Option TxnAt) → h.txn ≡ o → StandsIn (E (Some b)) c h.begun (k.told ++ one (Some b) ∷ []) None h.plan o
       by None e = stands_none b h.plan m.undone (stands_closed e)
-      by (Some t) e = let s = stands_open t e in stands_held b h.plan t t m (no_commit (ap is_some e)) refl (idle_of t e) s.0 s.1
+      by (Some t) e = let s = stands_open t e in stands_held b h.plan t t m (no_commit (ap is_some e)) refl (idle_of t e) s.0 s.1 s.2 refl refl
+
+      filled_by : (o : Option TxnAt) → h.txn ≡ o → IfSome o (IsFilled (E (Some b)) c (rest_of (from_begin h.begun (k.told ++ one (Some b) ∷ []))))
+      filled_by None e = tt
+      filled_by (Some t) e =
+          let o = (stands_open t e).1 in
+          filled_idle (E (Some b)) c h.begun k.told (one (Some b)) o.begin o.body t o.since (idle_of t e) (filled_more events (event.Take c text (Some b)) c o.body (one (Some b)) t.seen (filled_open t e))
 
   as_told : (b : Answer) (result : Option Answer) (d : Client) → IsMiddle b → (is_some h.txn ≡ true → reads_commit text ≡ false) → IsTold h b result d → Caused b → Turned result → So result d
   as_told b result d m no_commit x caused turned = as_so (Some b) result h d x.answer x.same (same b m no_commit caused (subst Turned x.answer turned))
@@ -344,13 +502,13 @@ module _ (q : Taking) (events : List Event) (hands : ℕ → Hand) (ex : AreTied
   ---- each statement
 
   -- ended with its transaction
-  at_end : (b : Answer) → Caused b → Turned (Some b) → begins (one (Some b)) ≡ false → ends (one (Some b)) ≡ true → So (Some b) (resting h)
-  at_end b caused turned no_begin over =
-      at_once b (resting h) caused turned refl (k.begun ∙ sym (begun_same k.told (one (Some b)) no_begin)) k.small (refl, after_more k.told (one (Some b)) ∙ after_end (open_after k.told) (one (Some b)) b no_begin over refl)
+  at_end : (b : Answer) → is_conflict (Some b) ≡ false → Caused b → Turned (Some b) → begins (one (Some b)) ≡ false → ends (one (Some b)) ≡ true → So (Some b) (resting h)
+  at_end b agrees caused turned no_begin over =
+      at_once b (resting h) agrees caused turned refl (k.begun ∙ sym (begun_same k.told (one (Some b)) no_begin)) k.small (on_free (Some b) h.begun (k.told ++ one (Some b) ∷ []) None None None (refl, after_more k.told (one (Some b)) ∙ after_end (open_after k.told) (one (Some b)) b no_begin over refl)) tt tt tt
 
   begin_case : (o : Option TxnAt) (result : Option Answer) (d : Client) → h.txn ≡ o → Reads text statement.Begin → d.begun < 2 ^ 64 → Turned result → BeginTold q.gate h o result d → So result d
   begin_case (Some t) result d e reads few turned x = as_refused (record { kind = 4; place = 0 }) result d (λ z. other_no_commit text statement.Begin reads (λ y. cc)) x (inr (inl (reads, opened c ∙ ap is_some e, refl))) turned
-  begin_case None result d e reads few turned x = by q.gate.vacuum_runs gate.vacuum x
+  begin_case None result d e reads few turned x = by q.gate.vacuum_runs refl x
     where
       begun_now : begins (one (Some answer.Done)) ≡ true
       begun_now = ap (λ b. b && true) ((begin_read text).1 reads)
@@ -368,39 +526,70 @@ module _ (q : Taking) (events : List Event) (hands : ℕ → Hand) (ex : AreTied
         client = ready.small;
       }
 
-      by : (b : Bool) → b ≡ false → GateTold b h result d → So result d
-      by true f y = clash f
+      by : (b : Bool) → q.gate.vacuum_runs ≡ b → GateTold b h result d → So result d
+      by true f y =
+          let other : SomeSweeps hands c = gate.sweeps f in
+          as_told answer.Vacuuming result d (record { undone = refl; agrees = refl }) (λ z. other_no_commit text statement.Begin reads (λ w. cc)) y (λ z. by_turning answer.Vacuuming (inr (inr (inr (inr (inl (reads, opened c ∙ ap is_some e, (other.0, ex.stopped other.0 ∙ other.2, sweeping other.0 ∙ other.3), refl))))))) turned
       by false f y =
           as_so (Some answer.Done) result (with_begun h) d y.0 y.1
-          (at_once answer.Done (with_begun h) (λ z. inl reads) (subst Turned y.0 turned) refl (ap (λ n. n + 1) k.begun ∙ sym (begun_more k.told (one (Some answer.Done)) begun_now)) (subst (λ (x : Client). x.begun < 2 ^ 64) y.1 few)
-          (after_more k.told (one (Some answer.Done)) ∙ after_begin (open_after k.told) (one (Some answer.Done)) begun_now, opens, refl))
+          (at_once answer.Done (with_begun h) refl (λ z. inl reads) (subst Turned y.0 turned) refl (ap (λ n. n + 1) k.begun ∙ sym (begun_more k.told (one (Some answer.Done)) begun_now)) (subst (λ (x : Client). x.begun < 2 ^ 64) y.1 few)
+          (after_more k.told (one (Some answer.Done)) ∙ after_begin (open_after k.told) (one (Some answer.Done)) begun_now, opens, refl, λ one_each. record { reads = tt; scans = tt }) (subst (λ ss. NotesAre (notes_told (E (Some answer.Done)) c (rest_of ss)) [] []) (sym opens.since) (record { reads = refl; scans = refl }))
+          (filled_nothing (counted_told (rest_of (from_begin (h.begun + 1) (k.told ++ one (Some answer.Done) ∷ [])))) (found_told (E (Some answer.Done)) c (rest_of (from_begin (h.begun + 1) (k.told ++ one (Some answer.Done) ∷ []))))) (fit_nothing q.catalog))
 
   commit_case : (o : Option TxnAt) (result : Option Answer) (d : Client) → h.txn ≡ o → Reads text statement.Commit → Turned result → CommitTaken q.now h o result d → So result d
   commit_case None result d e reads turned x = as_refused (record { kind = 5; place = 0 }) result d (λ z. clash (sym z ∙ ap is_some e)) x (outside statement.Commit reads ((λ y. cc), (λ y. cc)) e) turned
   commit_case (Some t) result d e reads turned x =
       let s = stands_open t e in
       as_so None result (holding h (committing t q.now)) d x.0 x.1
-      (waits (holding h (committing t q.now)) (subst Turned x.0 turned) (other_no_begin text statement.Commit reads (λ y. cc)) (no_sweep text statement.Commit reads (λ y. cc)) (ap is_some e) refl refl (
+      (waits_open (holding h (committing t q.now)) (subst Turned x.0 turned) (other_no_begin text statement.Commit reads (λ y. cc)) (no_sweep text statement.Commit reads (λ y. cc)) (ap is_some e) refl refl refl (
         s.0,
         record { begin = s.1.begin; body = s.1.body; since = s.1.since; goes_on = s.1.goes_on; id = s.1.id; client = s.1.client },
-        record { text = (commit_read text).1 reads; same = refl; moment = moment; stage = subst (λ ms. StandsBy (work_of t q.now) ms (preparing (work_of t q.now) 0)) (sym (none_yet c events text)) (begins_standing (work_of t q.now)) },
-      ))
+        record { text = (commit_read text).1 reads; same = refl; moment = moment; stage = subst (λ ms. StandsBy (work_of t q.now) ms (preparing (work_of t q.now) 0)) (sym (none_yet c events text None)) (begins_standing (work_of t q.now)) },
+        λ one_each.
+            let seen : SeenBy (notes_told (E None) c s.1.body) t.seen = noted_still q.catalog events (event.Take c text None) c h.begun k.told t s.1 k.answered t.seen s.2 one_each in
+            (work_by (notes_told (E None) c s.1.body) t q.now seen (sound t e), subst (λ ms. ChecksBy (notes_told (E None) c s.1.body) (work_of t q.now) ms (preparing (work_of t q.now) 0)) (sym (none_yet c events text None)) (begins_checked (notes_told (E None) c s.1.body) (work_of t q.now))),
+      ) (noted_open t e, ((commit_read text).1 reads, s.1.id, (sound t e).kept.fine, commit_begins so_noted (work_of t q.now))) tt tt tt)
 
   rollback_case : (o : Option TxnAt) (result : Option Answer) (d : Client) → h.txn ≡ o → Reads text statement.Rollback → Turned result → RollbackTold h o result d → So result d
   rollback_case None result d e reads turned x = as_refused (record { kind = 5; place = 0 }) result d (λ z. clash (sym z ∙ ap is_some e)) x (outside statement.Rollback reads ((λ y. cc), (λ y. cc)) e) turned
   rollback_case (Some t) result d e reads turned x =
       as_so (Some answer.Done) result (resting h) d x.0 x.1
-      (at_end answer.Done (λ z. inr reads) (subst Turned x.0 turned) (ap (λ b. b && true) (other_no_begin text statement.Rollback reads (λ y. cc)))
+      (at_end answer.Done refl (λ z. inr reads) (subst Turned x.0 turned) (ap (λ b. b && true) (other_no_begin text statement.Rollback reads (λ y. cc)))
       (ap (λ b. b || false || (reads_rollback text && true)) (other_no_commit text statement.Rollback reads (λ y. cc)) ∙ ap (λ b. false || false || (b && true)) ((rollback_read text).1 reads)))
 
-  vacuum_case : (b : Bool) (result : Option Answer) (d : Client) → (is_some h.txn || q.gate.open_elsewhere) ≡ b → Reads text statement.Vacuum → Turned result → VacuumTold b h result d → So result d
-  vacuum_case true result d e reads turned x =
+  -- no transaction is open
+  none_open : (is_some h.txn || q.gate.open_elsewhere) ≡ false → is_some h.txn ≡ false
+  none_open e = by (is_some h.txn) e
+    where
+      by : (b : Bool) → (b || q.gate.open_elsewhere) ≡ false → b ≡ false
+      by true f = f
+      by false f = refl
+
+  no_txn : (o : Option TxnAt) → is_some o ≡ false → o ≡ None
+  no_txn None f = refl
+  no_txn (Some t) f = clash f
+
+  vacuum_case : (b : Bool) (catalog : List Table) (result : Option Answer) (d : Client) → (is_some h.txn || q.gate.open_elsewhere) ≡ b → Reads text statement.Vacuum → Turned result → VacuumTold b catalog h result d → catalog ≡ q.catalog → So result d
+  vacuum_case true catalog result d e reads turned x of_it =
       as_told answer.OpenTransactions result d (record { undone = refl; agrees = refl }) (λ z. other_no_commit text statement.Vacuum reads (λ y. cc)) x (λ z. by_turning answer.OpenTransactions (inr (inr (inr (inr (inr (reads, some (is_some h.txn) refl e, refl))))))) turned
     where
       some : (b : Bool) → is_some h.txn ≡ b → (b || q.gate.open_elsewhere) ≡ true → SomeClient is_open events
       some true f z = (c, goes_on, opened c ∙ f)
       some false f z = let y = gate.some z in (y.0, ex.stopped y.0 ∙ y.2, opened y.0 ∙ y.3)
-  vacuum_case false result d e reads turned x = absurd x
+  vacuum_case false [] result d e reads turned x of_it =
+      as_told (answer.Count 0) result d (record { undone = refl; agrees = refl }) (λ z. other_no_commit text statement.Vacuum reads (λ y. cc)) x
+      (λ z. (statement.Vacuum, reads, sym (ap (count_by removes) (none_yet c events text (Some (answer.Count 0)))))) turned
+  vacuum_case false (t ∷ ts) result d e reads turned x of_it =
+      let shut : h.txn ≡ None = no_txn h.txn (none_open e) in
+      as_so None result (record h { vacuum = Some (begins_sweep (t ∷ ts)) }) d x.0 x.1
+      (waits (record h { vacuum = Some (begins_sweep (t ∷ ts)) }) (subst Turned x.0 turned) (other_no_begin text statement.Vacuum reads (λ y. cc)) ((vacuum_read text).1 reads) (none_open e) refl refl (
+        shut,
+        stands_closed shut,
+        (sym (ap (count_by removes) (none_yet c events text None)), tt),
+      ) (k.counted.noted, subst (λ (catalog : List Table). SweepCounted catalog [] (begins_sweep (t ∷ ts))) of_it (sweep_begins t ts)) (subst (λ (o : Option TxnAt). IfSome o (IsFilled (E None) c (rest_of (from_begin h.begun k.told)))) (sym shut) tt) (subst (λ (o : Option TxnAt). IfSome o (IsFit q.catalog)) (sym shut) tt) (none_found (E None) (reads_vacuum text)))
+
+  abbrev given_now : Table → Statement → TxnAt → Answer
+  given_now table st t = given_answer t (gives (plan_of table st) (access_of table st) t)
 
   rows_case : (st : Statement) (t : TxnAt) (result : Option Answer) (d : Client) (table : Table) → h.txn ≡ Some t → Reads text st → IsInner text → reads_vacuum text ≡ false → refusal_of q.catalog st ≡ None → named_table q.catalog st ≡ Some table → Turned result
       → RowsTold (plan_of table st) (access_of table st) h t result d → So result d
@@ -409,25 +598,57 @@ module _ (q : Taking) (events : List Event) (hands : ℕ → Hand) (ex : AreTied
       (λ b. let r = x.known b in as_so (Some (given_answer t (gives (plan_of table st) (access_of table st) t))) result (holding h (given_left t t (gives (plan_of table st) (access_of table st) t))) d r.0 r.1 (known (subst Turned r.0 turned)))
       (λ b. let r = x.unknown b in as_so None result (record h { txn = Some (reading t (access_of table st)); plan = Some (plan_of table st) }) d r.0 r.1 (unknown (subst Turned r.0 turned)))
     where
-      s : (open_after k.told ≡ true) × IsOpenAs c h.begun k.told t
+      s : (open_after k.told ≡ true) × (o : IsOpenAs c h.begun k.told t) × (AllTellOne events c k.told → SeenBy (notes_told events c o.body) t.seen)
       s = stands_open t e
 
       idle : t.doing ≡ doing.Idle
       idle = idle_of t e
 
+      listed : find_table q.catalog table.name ≡ Some table
+      listed = found_itself q.catalog (table_of st) table named
+
       open_before : is_open (before (one (Some (given_answer t (gives (plan_of table st) (access_of table st) t)))) (E (Some (given_answer t (gives (plan_of table st) (access_of table st) t))))) c ≡ true
       open_before = ap (λ es. is_open es c) (before_taken events (event.Take c text (Some (given_answer t (gives (plan_of table st) (access_of table st) t)))) text (Some (given_answer t (gives (plan_of table st) (access_of table st) t)))) ∙ opened c ∙ ap is_some e
+
+      known_noted : (u : TxnAt) → (u.seen.reads ≡ t.seen.reads) × (u.seen.scans ≡ t.seen.scans) → u.doing ≡ doing.Idle → NotedThen (Some (given_answer t (gives (plan_of table st) (access_of table st) t))) (holding h u)
+      known_noted u same idles =
+          subst (λ ns. NotedDoing ns u.seen u.doing) (sym (noted_at_once (Some (given_answer t (gives (plan_of table st) (access_of table st) t)))))
+          (noted_idle so_noted u.seen u.doing idles (subst (λ rs. NotesAre so_noted rs u.seen.scans) (sym same.0) (subst (NotesAre so_noted t.seen.reads) (sym same.1) (noted_open t e))))
+
+      filled_now : IsFilledBy (counted_told s.1.body) (found_told events c s.1.body + 0) t.seen
+      filled_now = filled_up (counted_told s.1.body) (counted_told s.1.body) (found_told events c s.1.body) (found_told events c s.1.body + 0) t.seen (least (counted_told s.1.body)) (further (found_told events c s.1.body) 0) (filled_open t e)
+
+      -- the changes may be too many
+      passes : too_many t (changes_on table st (overlay (access_of table st) t.seen)) ≡ true → MayPassMost (E (Some (given_now table st t))) c (one (Some (given_now table st t)))
+      passes many =
+          pass_now c h.begun (E (Some (given_now table st t))) k.told s.1.begin (one (Some (given_now table st t))) s.1.body st k.small (said_then (given_now table st t)) s.1.since s.1.goes_on reads
+          (passes_given (counted_told s.1.body) (found_told (E (Some (given_now table st t))) c s.1.body + records_found (calls_of (E (Some (given_now table st t))) c (one (Some (given_now table st t))))) t (access_of table st) table st (filled_found events (event.Take c text (Some (given_now table st t))) c s.1.body 0 (records_found (calls_of (E (Some (given_now table st t))) c (one (Some (given_now table st t))))) t.seen (zero_least (records_found (calls_of (E (Some (given_now table st t))) c (one (Some (given_now table st t)))))) filled_now) many)
+
+      left_filled : IsFilled (E (Some (given_now table st t))) c (rest_of (from_begin h.begun (k.told ++ one (Some (given_now table st t)) ∷ []))) (given_left t t (gives (plan_of table st) (access_of table st) t))
+      left_filled =
+          filled_idle (E (Some (given_now table st t))) c h.begun k.told (one (Some (given_now table st t))) s.1.begin s.1.body (given_left t t (gives (plan_of table st) (access_of table st) t)) s.1.since (left_idle t t (gives (plan_of table st) (access_of table st) t) idle idle)
+          (filled_given events (event.Take c text (Some (given_now table st t))) c s.1.body (one (Some (given_now table st t))) (plan_of table st) (overlay (access_of table st) t.seen) t t 0 refl (zero_least (records_found (calls_of (E (Some (given_now table st t))) c (one (Some (given_now table st t)))))) (filled_open t e) filled_now)
+
+      left_fits : SeesFitIn q.catalog (given_left t t (gives (plan_of table st) (access_of table st) t)).seen (given_left t t (gives (plan_of table st) (access_of table st) t)).doing
+      left_fits =
+          subst (SeesFitIn q.catalog (given_left t t (gives (plan_of table st) (access_of table st) t)).seen) (sym (left_idle t t (gives (plan_of table st) (access_of table st) t) idle idle))
+          (given_fits q.catalog (plan_of table st) (access_of table st) listed (own_table table st) is named refl taken (literals_read text st reads) refl t t (fit_open t e) (λ n. fit_open t e))
 
       known : Turned (Some (given_answer t (gives (plan_of table st) (access_of table st) t))) → So (Some (given_answer t (gives (plan_of table st) (access_of table st) t))) (holding h (given_left t t (gives (plan_of table st) (access_of table st) t)))
       known turned =
           let m = given_middle (plan_of table st) (overlay (access_of table st) t.seen) t in
-          at_once (given_answer t (gives (plan_of table st) (access_of table st) t)) (holding h (given_left t t (gives (plan_of table st) (access_of table st) t))) (given_caused q.catalog (E (Some (given_answer t (gives (plan_of table st) (access_of table st) t)))) c (one (Some (given_answer t (gives (plan_of table st) (access_of table st) t)))) (plan_of table st) (overlay (access_of table st) t.seen) t reads named refl open_before) turned refl (begun_plain (given_answer t (gives (plan_of table st) (access_of table st) t)) m.undone) k.small
-          (stands_held (given_answer t (gives (plan_of table st) (access_of table st) t)) None t (given_left t t (gives (plan_of table st) (access_of table st) t)) m inner.commit (left_id t t (gives (plan_of table st) (access_of table st) t) refl) (left_idle t t (gives (plan_of table st) (access_of table st) t) idle idle) s.0 s.1)
+          at_once (given_answer t (gives (plan_of table st) (access_of table st) t)) (holding h (given_left t t (gives (plan_of table st) (access_of table st) t))) m.agrees (given_caused q.catalog (E (Some (given_answer t (gives (plan_of table st) (access_of table st) t)))) c (one (Some (given_answer t (gives (plan_of table st) (access_of table st) t)))) (plan_of table st) (overlay (access_of table st) t.seen) t reads named refl open_before (λ key f z. absurd (none_unfits q.catalog (plan_of table st) (access_of table st) listed (own_table table st) t.seen key (fit_open t e) f)) passes) turned refl (begun_plain (given_answer t (gives (plan_of table st) (access_of table st) t)) m.undone) k.small
+          (on_free (Some (given_answer t (gives (plan_of table st) (access_of table st) t))) h.begun (k.told ++ one (Some (given_answer t (gives (plan_of table st) (access_of table st) t))) ∷ []) None None (Some (given_left t t (gives (plan_of table st) (access_of table st) t))) (stands_held (given_answer t (gives (plan_of table st) (access_of table st) t)) None t (given_left t t (gives (plan_of table st) (access_of table st) t)) m inner.commit (left_id t t (gives (plan_of table st) (access_of table st) t) refl) (left_idle t t (gives (plan_of table st) (access_of table st) t) idle idle) s.0 s.1 s.2 (left_reads t t (gives (plan_of table st) (access_of table st) t) refl refl).0 (left_reads t t (gives (plan_of table st) (access_of table st) t) refl refl).1))
+          (known_noted (given_left t t (gives (plan_of table st) (access_of table st) t)) (left_reads t t (gives (plan_of table st) (access_of table st) t) refl refl) (left_idle t t (gives (plan_of table st) (access_of table st) t) idle idle)) left_filled left_fits
 
       unknown : Turned None → So None (record h { txn = Some (reading t (access_of table st)); plan = Some (plan_of table st) })
       unknown turned =
-          waits (record h { txn = Some (reading t (access_of table st)); plan = Some (plan_of table st) }) turned inner.begin no_sweep (ap is_some e) refl refl
-          (s.0, record { begin = s.1.begin; body = s.1.body; since = s.1.since; goes_on = s.1.goes_on; id = s.1.id; client = s.1.client }, record { text = reads; inner = inner; stage = tt })
+          waits_open (record h { txn = Some (reading t (access_of table st)); plan = Some (plan_of table st) }) turned inner.begin no_sweep (ap is_some e) refl refl refl (
+            s.0,
+            record { begin = s.1.begin; body = s.1.body; since = s.1.since; goes_on = s.1.goes_on; id = s.1.id; client = s.1.client },
+            record { text = reads; inner = inner; stage = tt; shows = none_yet c events text None },
+            noted_still q.catalog events (event.Take c text None) c h.begun k.told t s.1 k.answered t.seen s.2,
+          ) (noted_open t e, (inner.commit, refl)) (filled_reading t e) (fit_open t e) (none_found (E None) (reads_vacuum text))
 
   table_case : (st : Statement) (t : TxnAt) (result : Option Answer) (d : Client) → h.txn ≡ Some t → Reads text st → IsInner text → reads_vacuum text ≡ false → is_some (table_of st) ≡ true → Turned result → TableTold q st h t result d → So result d
   table_case st t result d e reads inner no_sweep on turned x = by_refusal (refusal_of q.catalog st) refl
@@ -448,7 +669,7 @@ module _ (q : Taking) (events : List Event) (hands : ℕ → Hand) (ex : AreTied
   statement_case statement.Begin result d reads few turned x = begin_case h.txn result d refl reads few turned x
   statement_case statement.Commit result d reads few turned x = commit_case h.txn result d refl reads turned x
   statement_case statement.Rollback result d reads few turned x = rollback_case h.txn result d refl reads turned x
-  statement_case statement.Vacuum result d reads few turned x = vacuum_case (is_some h.txn || q.gate.open_elsewhere) result d refl reads turned x
+  statement_case statement.Vacuum result d reads few turned x = vacuum_case (is_some h.txn || q.gate.open_elsewhere) q.catalog result d refl reads turned x refl
   statement_case (statement.Insert s) result d reads few turned x = ask_case (statement.Insert s) h.txn result d refl reads (record { begin = other_no_begin text (statement.Insert s) reads (λ e. cc); commit = other_no_commit text (statement.Insert s) reads (λ e. cc); rollback = no_rollback text (statement.Insert s) reads (λ e. cc) }) (no_sweep text (statement.Insert s) reads (λ e. cc)) refl ((λ e. cc), (λ e. cc)) turned x
   statement_case (statement.Upsert s) result d reads few turned x = ask_case (statement.Upsert s) h.txn result d refl reads (record { begin = other_no_begin text (statement.Upsert s) reads (λ e. cc); commit = other_no_commit text (statement.Upsert s) reads (λ e. cc); rollback = no_rollback text (statement.Upsert s) reads (λ e. cc) }) (no_sweep text (statement.Upsert s) reads (λ e. cc)) refl ((λ e. cc), (λ e. cc)) turned x
   statement_case (statement.Update s) result d reads few turned x = ask_case (statement.Update s) h.txn result d refl reads (record { begin = other_no_begin text (statement.Update s) reads (λ e. cc); commit = other_no_commit text (statement.Update s) reads (λ e. cc); rollback = no_rollback text (statement.Update s) reads (λ e. cc) }) (no_sweep text (statement.Update s) reads (λ e. cc)) refl ((λ e. cc), (λ e. cc)) turned x
@@ -470,7 +691,7 @@ module _ (q : Taking) (events : List Event) (hands : ℕ → Hand) (ex : AreTied
       no_begin = undone_begins (one (Some answer.NoMemory)) answer.NoMemory refl refl
 
       commits : reads_commit text ≡ true → So (Some answer.NoMemory) (resting h)
-      commits t = at_end answer.NoMemory (λ z. tt) (λ b z. inr refl) no_begin (ap (λ b. b || false || (reads_rollback text && false)) t)
+      commits t = at_end answer.NoMemory refl (λ z. tt) (λ b z. inr refl) no_begin (ap (λ b. b || false || (reads_rollback text && false)) t)
 
   pub takes_known : (result : Option Answer) (d : Client) → d.begun < 2 ^ 64 → Takes q text h result d → So result d
   takes_known result d few x =

@@ -1,38 +1,60 @@
 -- Whatever event comes, what ties the events to all clients is kept; and what follows of it.
-use Rattle.std.proofs.Common.{◌≡◌, ◌<◌, ◌^◌, ◌+◌, ◌==◌, ◌⊎◌, inl, inr, ℕ, ℤ, Bool, true, false, List, [], ◌∷◌, ◌++◌, length, Option, Some, None, refl, sym, ap, subst, ◌∙◌, arith}
-use Rattle.std.specs.Prelude.{if◌then◌else◌, ◌||◌, is_some, pos, IfSome, Contains}
+use Rattle.std.proofs.Common.{◌≡◌, ◌<◌, ◌^◌, ◌+◌, ◌==◌, ◌⊎◌, inl, inr, ℕ, zero, suc, ℤ, Bool, true, false, List, [], ◌∷◌, ◌++◌, length, Option, Some, None, refl, sym, ap, subst, ◌∙◌, arith}
+use Rattle.std.specs.Prelude.{if◌then◌else◌, ◌||◌, find, is_some, pos, IfSome, Contains, MatchBool}
+use Rattle.std.specs.List.{AllByRecursion}
+use Rattle.std.specs.Option.{option_and_then}
 use Rattle.std.proofs.lemmas.Bool.{eqb-false, eqb-true, ne_eqb}
-use Rattle.std.proofs.lemmas.List.Elements.{Contains-append_cases, Contains-push_cases}
+use Rattle.std.proofs.lemmas.List.{append-nil, append_assoc}
+use Rattle.std.proofs.lemmas.List.Elements.{All-contains_itself, Contains-append_cases, Contains-append_left, Contains-append_right, Contains-push, Contains-push_cases, recursion_from_All}
 use Rattle.sdb_types.specs.declared.key.Key.{Key}
+use Rattle.sdb_types.specs.declared.record.Record.{Record}
 use Rattle.sdb_types.specs.declared.record.Reply.{Reply}
 use Rattle.sdb_types.specs.declared.record.Request.{Request}
 use Rattle.sdb_record.specs.Meta.{is_moment}
 use Rattle.sdb_schema.specs.declared.table.Table.{Table}
+use Rattle.sdb_schema.specs.Catalog.{is_catalog}
 use Rattle.sdb_model.specs.declared.answer.Answer.{Answer}
 use Rattle.sdb_model.specs.declared.answer.Answer.TheVariants as answer
 use Rattle.sdb_model.specs.declared.event.Event.{Event}
 use Rattle.sdb_model.specs.declared.event.Event.TheVariants as event
 use Rattle.sdb_model.specs.declared.event.How.{How}
 use Rattle.sdb_model.specs.Rows.{Name}
-use Rattle.sdb_model.specs.Calls.{made_by}
-use Rattle.sdb_model.specs.Causes.{IsCaused, IsTurnedAway, before}
-use Rattle.sdb_model.specs.Exec.{find_table}
+use Rattle.sdb_model.specs.Calls.{calls_of, made_by, Made}
+use Rattle.sdb_model.specs.Noted.{noted_in}
+use Rattle.sdb_model.specs.Sql.{reads_commit}
+use Rattle.sdb_model.specs.Causes.{ConflictsAtCommit, IsCaused, IsCommitOf, IsConflict, IsTurnedAway, before}
+use Rattle.sdb_model.specs.Exec.{Tables, find_table}
 use Rattle.sdb_model.specs.Follows.{has_stopped, stops}
-use Rattle.sdb_model.specs.Transactions.{Said, said, with_answer}
+use Rattle.sdb_model.specs.Transactions.{Said, ends, from_begin, id_of, ordinal_of, rest_of, said, statements_of, through_end, with_answer}
 use Rattle.sdb_client.specs.Client.{ClientAt as Client, ReplyTold, Taking, nothing_done}
-use Rattle.sdb_laws.specs.History.{at}
 use Rattle.sdb_laws.specs.Lawful.{is_data}
 use Rattle.sdb_steps.specs.About.{IsOfTables}
-use Rattle.sdb_steps.specs.Hands.{Hand, IsCalled, IsReady, Takes, with_hand}
+use Rattle.sdb_steps.specs.Hands.{Hand, IsCalled, IsReady, Takes, doing_of, system_of, with_hand}
 use Rattle.sdb_story.specs.Telling.{taken_said, waiting_of}
 use Rattle.sdb_story.proofs.Tellings.{said_more}
-use Rattle.sdb_turns.specs.System.{ClientCall, call_event}
-use Rattle.sdb_types.proofs.Basics.{none_some, some_is}
-use Rattle.sdb_causes.specs.Tied.{AnswersHaveCauses, IsAnswered, AreTied, IsGate, IsWaiting, Knows, is_caused, with_stopped}
+use Rattle.sdb_turns.specs.Machine.{stands_at}
+use Rattle.sdb_turns.specs.System.{ClientCall, ClientOk, Open, Reading, call_event}
+use Rattle.sdb_turns.specs.Noted.{IsScanOk}
+use Rattle.sdb_validate.specs.Rescan.{reads_rise}
+use Rattle.sdb_turns.proofs.Lists.{each_any}
+use Rattle.sdb_linked.specs.Going.{IsGoing}
+use Rattle.sdb_read.specs.Read.{ReadAt}
+use Rattle.sdb_record.specs.declared.access.Access.{Access}
+use Rattle.sdb_txn.specs.declared.txn.Doing.TheVariants as doing
+use Rattle.sdb_txn.specs.Txn.{TxnAt}
+use Rattle.sdb_types.proofs.Basics.{none_some, some_is, clash}
+use Rattle.sdb_causes.specs.Tied.{AnswersHaveCauses, ConflictsHaveCauses, IsAnswered, AreTied, IsGate, IsWaiting, Knows, is_caused, with_stopped, CanTell}
+use Rattle.sdb_causes.specs.Unfit.{shows_stored}
 use Rattle.sdb_causes.proofs.Calls.{clock_more, itself}
 use Rattle.sdb_causes.proofs.Knowing.{knows_still}
-use Rattle.sdb_causes.proofs.Lists.{each_in}
+use Rattle.sdb_causes.specs.Counts.{CommitsFit}
+use Rattle.sdb_causes.specs.Moves.{AllTellOne, IsMovedIn, MovesAtScan, MovesBy, TellOne, notes_told}
+use Rattle.sdb_causes.proofs.Counting.{calls_counted}
+use Rattle.sdb_causes.proofs.Lists.{each_in, since_more}
+use Rattle.sdb_causes.proofs.Moving.{IsTaken, IsTold}
+use Rattle.sdb_causes.proofs.Noting.{client_is, noted_since, ordinal_is, take_ends, take_open}
 use Rattle.sdb_causes.proofs.Replyings.{replies_known}
+use Rattle.sdb_causes.proofs.Rolled.{records_rolled}
 use Rattle.sdb_causes.proofs.Takings.{takes_known}
 
 ---- who has stopped
@@ -90,20 +112,43 @@ module _ (catalog : List Table) (events : List Event) (e : Event) (hands : ℕ �
       by true t = all x ∙ ap (λ n. (hands n).stopped) (eqb-true x c t) ∙ goes
       by false f = all x
 
-pub takes_all : (q : Taking) (events : List Event) (hands : ℕ → Hand) (c : ℕ) (text : List ℕ) (result : Option Answer) (d : Client) → AreTied q.catalog events q.now hands → IsReady hands c → IsGate hands c q.gate → is_moment q.now ≡ true → d.begun < 2 ^ 64 → Takes q text (hands c).client result d
+-- what an open transaction has read and written is what its COMMIT goes by
+going_taken : (catalog : List Table) (fit : Tables → Bool) (es : List Event) (hands : ℕ → Hand) (g : IsGoing catalog fit es (system_of hands) (doing_of hands)) (c : ℕ) → IsReady hands c → (t : TxnAt) → (hands c).client.txn ≡ Some t → IsTaken t.seen
+going_taken catalog fit es hands g c ready t some = record { told = record { reads = ok.1.reads; found = ok.1.found; noted = ok.1.noted }; kept = ok.1.kept; rises = each_any (IsScanOk g.past) (λ x. reads_rise x.found ≡ true) t.seen.scans (λ x h. h.0) ok.1.scans }
+  where
+    idle : t.doing ≡ doing.Idle
+    idle = subst (λ (o : Option TxnAt). IfSome o (λ u. u.doing ≡ doing.Idle)) some ready.idle.still
+
+    here : (system_of hands).clients c ≡ Open t.id t.seen
+    here = rw (ready.goes_on, ready.idle.free, some, idle) refl
+
+    ok : ClientOk g.plan g.past c (Open t.id t.seen)
+    ok = subst (ClientOk g.plan g.past c) here (g.system.each c)
+
+pub takes_all : (q : Taking) (events : List Event) (hands : ℕ → Hand) (c : ℕ) (text : List ℕ) (result : Option Answer) (d : Client) → AreTied q.catalog events q.now hands → IsReady hands c → IsGate hands c q.gate → is_moment q.now ≡ true → is_catalog q.catalog ≡ true → (es : List Event) (fit : Tables → Bool) → IsGoing q.catalog fit es (system_of hands) (doing_of hands) → ((x : Key) → is_some (find_table q.catalog x.table) ≡ true → is_data x ≡ true) → d.begun < 2 ^ 64 → Takes q text (hands c).client result d
     → AreTied q.catalog (events ++ event.Take c text result ∷ []) q.now (with_hand hands c d)
-takes_all q events hands c text result d ex ready gate moment few x = record {
+takes_all q events hands c text result d ex ready gate moment is es fit g apart few x = record {
   clock = clock_more events (event.Take c text result) ∙ ex.clock;
   stopped = none_stops q.catalog events (event.Take c text result) hands c d ex.stopped ready.goes_on (λ n. refl);
-  each = moved_all q.catalog events (event.Take c text result) hands c d ex.each (takes_known q events hands ex c ready gate moment text result d few x) (λ n apart. take_apart n c events text result apart) (λ n apart. refl);
+  each = moved_all q.catalog events (event.Take c text result) hands c d ex.each (takes_known q events hands ex c ready gate moment is (λ t some. going_taken q.catalog fit es hands g c ready t some) apart text result d few x) (λ n apart. take_apart n c events text result apart) (λ n apart. refl);
 }
 
-pub replies_all : (catalog : List Table) (events : List Event) (hands : ℕ → Hand) (y : ClientCall) (result : Option Answer) (d : Client) → ((k : Key) → is_some (find_table catalog k.table) ≡ true → is_data k ≡ true) → IsCalled catalog hands y → IsOfTables catalog (hands y.client).client → AreTied catalog events y.now hands
-    → ReplyTold (hands y.client).client (hands y.client).client.txn y.reply y.now result d → AreTied catalog (events ++ call_event y result ∷ []) y.now (with_hand hands y.client d)
-replies_all catalog events hands y result d apart called about ex x = record {
+-- what a client that reads has read tells what is noted
+going_told : (catalog : List Table) (fit : Tables → Bool) (es : List Event) (hands : ℕ → Hand) (g : IsGoing catalog fit es (system_of hands) (doing_of hands)) (c : ℕ) → (hands c).stopped ≡ false → (hands c).client.vacuum ≡ None → (t : TxnAt) (a : Access) (x : ReadAt) → (hands c).client.txn ≡ Some t → t.doing ≡ doing.Read a x → IsTold t.seen
+going_told catalog fit es hands g c goes_on free t a x some reads = record { reads = ok.1.reads; found = ok.1.found; noted = ok.1.noted }
+  where
+    here : (system_of hands).clients c ≡ Reading t.id t.seen a (stands_at x.stage)
+    here = rw (goes_on, free, some, reads) refl
+
+    ok : ClientOk g.plan g.past c (Reading t.id t.seen a (stands_at x.stage))
+    ok = subst (ClientOk g.plan g.past c) here (g.system.each c)
+
+pub replies_all : (catalog : List Table) (events : List Event) (hands : ℕ → Hand) (y : ClientCall) (result : Option Answer) (d : Client) → is_catalog catalog ≡ true → ((k : Key) → is_some (find_table catalog k.table) ≡ true → is_data k ≡ true) → IsCalled catalog hands y → shows_stored y.reply ≡ true → IsOfTables catalog (hands y.client).client → (es : List Event) (fit : Tables → Bool) → IsGoing catalog fit es (system_of hands) (doing_of hands) → AreTied catalog events y.now hands
+    → ReplyTold (hands y.client).client (hands y.client).client.vacuum y.reply y.now result d → AreTied catalog (events ++ call_event y result ∷ []) y.now (with_hand hands y.client d)
+replies_all catalog events hands y result d is apart called stored about es fit g ex x = record {
   clock = clock_more events (call_event y result) ∙ ex.clock;
   stopped = none_stops catalog events (call_event y result) hands y.client d ex.stopped called.waiting.goes_on (λ n. refl);
-  each = moved_all catalog events (call_event y result) hands y.client d ex.each (replies_known catalog events hands y ex called about apart result d x) (λ n other. call_apart n y.client events y.store y.request y.how y.reply result other) (λ n other. call_unmade n y.client (1 + length events) y.store y.request y.how y.reply result other);
+  each = moved_all catalog events (call_event y result) hands y.client d ex.each (replies_known catalog events hands y ex called about apart (going_told catalog fit es hands g y.client called.waiting.goes_on) is stored result d x) (λ n other. call_apart n y.client events y.store y.request y.how y.reply result other) (λ n other. call_unmade n y.client (1 + length events) y.store y.request y.how y.reply result other);
 }
 
 ---- the other events
@@ -160,15 +205,22 @@ starts_all catalog hands fresh = record {
     positive : 0 < 2 ^ 64
     positive = omega arith
 
+    none_begins : (n : ℕ) → from_begin n [] ≡ []
+    none_begins zero = refl
+    none_begins (suc k) = refl
+
+    no_commits : (c : ℕ) → CommitsFit [] c []
+    no_commits c n begin body s tail since goes reads = absurd (let e : [] ≡ begin ∷ (body ++ s ∷ tail) = sym (none_begins n) ∙ since in cc)
+
     nothing : (c : ℕ) → Knows catalog [] c (nothing_done c)
-    nothing c = record { told = []; waiting = None; same = refl; answered = tt; waits = tt; number = refl; begun = refl; small = positive; stands = (refl, refl) }
+    nothing c = record { told = []; waiting = None; same = refl; answered = tt; waits = tt; moved = λ one. tt; number = refl; begun = refl; small = positive; stands = (refl, refl); counted = record { answered = tt; commits = no_commits c; paired = tt; noted = tt; waits = tt }; filled = tt; fits = tt; stored = tt; rolled = record { answered = tt; waits = tt } }
 
 ---- what follows
 
-answered_said : (catalog : List Table) (events : List Event) (c : ℕ) (h : Client) (k : Knows catalog events c h) (s : Said) → Contains (said c events) s → IsAnswered catalog events c s ⊎ IsWaiting catalog events c s
+answered_said : (catalog : List Table) (events : List Event) (c : ℕ) (h : Client) (k : Knows catalog events c h) (s : Said) → Contains (said c events) s → IsAnswered catalog events c s ⊎ IsWaiting catalog events c (is_some h.vacuum) s
 answered_said catalog events c h k s has = either (Contains-append_cases k.told (waiting_of k.waiting) s (subst (λ ss. Contains ss s) k.same has))
   where
-    last : (o : Option Said) → IfSome o (IsWaiting catalog events c) → Contains (waiting_of o) s → IsWaiting catalog events c s
+    last : (o : Option Said) → IfSome o (IsWaiting catalog events c (is_some h.vacuum)) → Contains (waiting_of o) s → IsWaiting catalog events c (is_some h.vacuum) s
     last None w x = absurd (none x)
       where
         none : Contains {X = Said} [] s → ⊥
@@ -178,26 +230,129 @@ answered_said catalog events c h k s has = either (Contains-append_cases k.told 
         none : Contains {X = Said} [] s → ⊥
         none y = absurd (omega (arith, y.1))
 
-        only : Contains [] s ⊎ (w ≡ s) → IsWaiting catalog events c s
+        only : Contains [] s ⊎ (w ≡ s) → IsWaiting catalog events c (is_some h.vacuum) s
         only (inl y) = absurd (none y)
-        only (inr e) = subst (IsWaiting catalog events c) e waits
+        only (inr e) = subst (IsWaiting catalog events c (is_some h.vacuum)) e waits
 
-    either : Contains k.told s ⊎ Contains (waiting_of k.waiting) s → IsAnswered catalog events c s ⊎ IsWaiting catalog events c s
+    either : Contains k.told s ⊎ Contains (waiting_of k.waiting) s → IsAnswered catalog events c s ⊎ IsWaiting catalog events c (is_some h.vacuum) s
     either (inl x) = inl (each_in (IsAnswered catalog events c) k.told s k.answered x)
     either (inr x) = inr (last k.waiting k.waits x)
 
+---- scans that were answered Conflict
+
+ends_first : (body : List Said) (s : Said) (tail : List Said) → AllByRecursion (λ x. ends x ≡ false) body → ends s ≡ true → find ends (body ++ s ∷ tail) ≡ Some s
+ends_first [] s tail all over = ap (λ b. if b then Some s else find ends tail) over
+ends_first (x ∷ xs) s tail all over = ap (λ b. if b then Some x else find ends (xs ++ s ∷ tail)) all.0 ∙ ends_first xs s tail all.1 over
+
+through_last : (body : List Said) (s : Said) (tail : List Said) → AllByRecursion (λ x. ends x ≡ false) body → ends s ≡ true → through_end (body ++ s ∷ tail) ≡ body ++ s ∷ []
+through_last [] s tail all over = ap (λ b. if b then s ∷ [] else s ∷ through_end tail) over
+through_last (x ∷ xs) s tail all over = ap (λ b. if b then x ∷ [] else x ∷ through_end (xs ++ s ∷ tail)) all.0 ∙ ap (λ r. x ∷ r) (through_last xs s tail all.1 over)
+
+module _ (catalog : List Table) (events : List Event) (c : ℕ) (h : Client) (k : Knows catalog events c h) (s : Said) (key : Key) (found : Option Record) (m : IsMovedIn events c k.told s key found) where
+  -- since its BEGIN, with the statement that waits
+  since_all_said : (tail : List Said) × (from_begin m.n (said c events) ≡ m.begin ∷ (m.body ++ s ∷ tail))
+  since_all_said = by k.waiting (ap (from_begin m.n) k.same)
+    where
+      by : (o : Option Said) → from_begin m.n (said c events) ≡ from_begin m.n (k.told ++ waiting_of o) → (tail : List Said) × (from_begin m.n (said c events) ≡ m.begin ∷ (m.body ++ s ∷ tail))
+      by None e = (m.tail, e ∙ ap (from_begin m.n) (append-nil k.told) ∙ m.since)
+      by (Some w) e = (m.tail ++ w ∷ [], e ∙ since_more m.n k.told w m.begin (m.body ++ s ∷ m.tail) m.since ∙ ap (λ r. m.begin ∷ r) (append_assoc m.body (s ∷ m.tail) (w ∷ [])))
+
+  noted_is : noted_in events (id_of c m.n) ≡ notes_told events c m.body
+  noted_is =
+      noted_since events c m.n m.begin (m.body ++ s ∷ since_all_said.0) m.small since_all_said.1
+      ∙ ap (notes_told events c) (take_open m.body (s ∷ since_all_said.0) m.goes_on ∙ ap (λ r. m.body ++ r) (take_ends s since_all_said.0 m.over) ∙ append-nil m.body)
+
+  is_in : Contains (statements_of events (id_of c m.n)) s
+  is_in = subst (λ ss. Contains ss s) (sym statements) (Contains-append_right m.body (s ∷ []) s (Contains-push [] s))
+    where
+      statements : statements_of events (id_of c m.n) ≡ m.body ++ s ∷ []
+      statements =
+          ap (λ d. through_end (rest_of (from_begin (ordinal_of (id_of c m.n)) (said d events)))) (client_is c m.n m.small)
+          ∙ ap (λ i. through_end (rest_of (from_begin i (said c events)))) (ordinal_is c m.n m.small)
+          ∙ ap (λ ss. through_end (rest_of ss)) since_all_said.1
+          ∙ through_last m.body s since_all_said.0 m.goes_on m.over
+
+  commit_is : reads_commit s.text ≡ true → IsCommitOf events c s (id_of c m.n)
+  commit_is t = (
+    client_is c m.n m.small,
+    ap (λ ss. option_and_then (λ (x : Said). if reads_commit x.text then Some x else None) (find ends (rest_of ss))) (ap (λ d. from_begin (ordinal_of (id_of c m.n)) (said d events)) (client_is c m.n m.small) ∙ ap (λ i. from_begin i (said c events)) (ordinal_is c m.n m.small) ∙ since_all_said.1)
+        ∙ ap (option_and_then (λ (x : Said). if reads_commit x.text then Some x else None)) (ends_first m.body s since_all_said.0 m.goes_on m.over)
+        ∙ ap (λ b. if b then Some s else None) t,
+  )
+
+  moved_by : (b : Bool) → reads_commit s.text ≡ b → MovesBy b (id_of c m.n) (calls_of events c s) (notes_told events c m.body) key found → IsConflict events c s key found
+  moved_by true e h = (id_of c m.n, inl (commit_is e, subst (λ ns. ConflictsAtCommit (calls_of events c s) ns (id_of c m.n) key found) (sym noted_is) h))
+  moved_by false e h = (id_of c m.n, inr ((client_is c m.n m.small, is_in), e, subst (λ ns. MovesAtScan (calls_of events c s) ns key found) (sym noted_is) h))
+
+  moved_is : IsConflict events c s key found
+  moved_is = moved_by (reads_commit s.text) refl m.why
+
+scans_moved : (catalog : List Table) (events : List Event) (now : ℤ) (hands : ℕ → Hand) → AreTied catalog events now hands → ConflictsHaveCauses events
+scans_moved catalog events now hands ex c tell s key found has is = by (answered_or (Contains-append_cases k.told (waiting_of k.waiting) s (subst (λ ss. Contains ss s) k.same has)))
+  where
+    k : Knows catalog events c (hands c).client
+    k = ex.each c
+
+    one : AllTellOne events c k.told
+    one = each_any (Contains k.told) (λ x. TellOne (calls_of events c x)) k.told (λ x z. tell x (subst (λ ss. Contains ss x) (sym k.same) (Contains-append_left k.told (waiting_of k.waiting) x z))) (recursion_from_All (Contains k.told) k.told (All-contains_itself k.told))
+
+    unanswered : (o : Option Said) → IfSome o (IsWaiting catalog events c (is_some (hands c).client.vacuum)) → Contains (waiting_of o) s → ⊥
+    unanswered None w x = absurd (omega (arith, x.1))
+    unanswered (Some w) waits x = only (Contains-push_cases [] w s x)
+      where
+        only : Contains [] s ⊎ (w ≡ s) → ⊥
+        only (inl y) = absurd (omega (arith, y.1))
+        only (inr e) = none_some (answer.Conflict key found) (sym waits.unanswered ∙ ap (λ (y : Said). y.answer) e ∙ is)
+
+    answered_or : Contains k.told s ⊎ Contains (waiting_of k.waiting) s → Contains k.told s
+    answered_or (inl x) = x
+    answered_or (inr x) = absurd (unanswered k.waiting k.waits x)
+
+    by : Contains k.told s → IsConflict events c s key found
+    by x = moved_is catalog events c (hands c).client k s key found (each_in (λ y. (z : Key) (f : Option Record) → y.answer ≡ Some (answer.Conflict z f) → IsMovedIn events c k.told y z f) k.told s (k.moved one) x key found is)
+
+---- all answers
+
+can_tell : (calls : List Made) (text : List ℕ) (a : Answer) → is_caused text a ≡ true → CanTell calls text a
+can_tell calls text (answer.Rows rows) t = tt
+can_tell calls text (answer.Count n) t = tt
+can_tell calls text answer.Done t = tt
+can_tell calls text answer.Committed t = tt
+can_tell calls text (answer.Duplicate key) t = tt
+can_tell calls text (answer.Busy key id at) t = tt
+can_tell calls text (answer.Conflict key found) t = clash (sym t)
+can_tell calls text (answer.Expired id) t = tt
+can_tell calls text answer.Faulted t = tt
+can_tell calls text (answer.Unknown id) t = tt
+can_tell calls text (answer.BadRecord key) t = subst (λ b. MatchBool b (Unit {0}) (TellOne calls)) (sym t) tt
+can_tell calls text (answer.Refused r) t = tt
+can_tell calls text answer.Vacuuming t = tt
+can_tell calls text answer.OpenTransactions t = tt
+can_tell calls text answer.NoMemory t = tt
+
+tells_bad : (calls : List Made) (text : List ℕ) (key : Key) → TellOne calls → CanTell calls text (answer.BadRecord key)
+tells_bad calls text key one = by (is_caused text (answer.BadRecord key))
+  where
+    by : (b : Bool) → MatchBool b (Unit {0}) (TellOne calls)
+    by true = tt
+    by false = one
+
 pub explained : (catalog : List Table) (events : List Event) (now : ℤ) (hands : ℕ → Hand) → AreTied catalog events now hands → AnswersHaveCauses catalog events
 explained catalog events now hands ex = record {
-  caused = λ c s a has is t. caused_by c s a is t (answered_said catalog events c (hands c).client (ex.each c) s has);
+  caused = λ c s a has is t. caused_by c s a is (can_tell (calls_of events c s) s.text a t) (answered_said catalog events c (hands c).client (ex.each c) s has);
   turned_away = λ c s a has away. turned_by c s a away (answered_said catalog events c (hands c).client (ex.each c) s has);
+  conflicts = scans_moved catalog events now hands ex;
+  counted = calls_counted catalog events now hands ex;
+  rolled = records_rolled catalog events now hands ex;
+  bad_records = λ c s key has is one. caused_by c s (answer.BadRecord key) is (tells_bad (calls_of events c s) s.text key one) (answered_said catalog events c (hands c).client (ex.each c) s has);
 }
   where
-    caused_by : (c : ℕ) (s : Said) (a : Answer) → s.answer ≡ Some a → is_caused a ≡ true → IsAnswered catalog events c s ⊎ IsWaiting catalog events c s → IsCaused catalog events c s a
+    caused_by : (c : ℕ) (s : Said) (a : Answer) → s.answer ≡ Some a → CanTell (calls_of events c s) s.text a → IsAnswered catalog events c s ⊎ IsWaiting catalog events c (is_some (hands c).client.vacuum) s → IsCaused catalog events c s a
     caused_by c s a is t (inl k) =
         let same : k.given ≡ a = some_is k.given a (sym k.is ∙ is) in
-        subst (IsCaused catalog events c s) same (k.caused (ap is_caused same ∙ t))
+        subst (IsCaused catalog events c s) same (k.caused (subst (CanTell (calls_of events c s) s.text) (sym same) t))
     caused_by c s a is t (inr w) = none_some a (sym w.unanswered ∙ is)
 
-    turned_by : (c : ℕ) (s : Said) (a : Answer) → IsTurnedAway catalog (before s events) c s.text a → IsAnswered catalog events c s ⊎ IsWaiting catalog events c s → (s.answered ≡ s.taken) × ((s.answer ≡ Some a) ⊎ (s.answer ≡ Some answer.NoMemory))
+    turned_by : (c : ℕ) (s : Said) (a : Answer) → IsTurnedAway catalog (before s events) c s.text a → IsAnswered catalog events c s ⊎ IsWaiting catalog events c (is_some (hands c).client.vacuum) s → (s.answered ≡ s.taken) × ((s.answer ≡ Some a) ⊎ (s.answer ≡ Some answer.NoMemory))
     turned_by c s a away (inl k) = k.turned_away a away
     turned_by c s a away (inr w) = absurd (w.stays a away)

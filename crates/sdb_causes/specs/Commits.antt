@@ -6,7 +6,7 @@ use Rattle.sdb_types.specs.declared.key.Key.{Key}
 use Rattle.sdb_types.specs.declared.record.Record.{Record}
 use Rattle.sdb_types.specs.declared.record.Reply.TheVariants as reply
 use Rattle.sdb_record.specs.declared.coordinator.Decision.TheVariants as decision
-use Rattle.sdb_record.specs.Coordinator.{decision_in, is_coordinator_table}
+use Rattle.sdb_record.specs.Coordinator.{coordinator_key_of, decision_in, is_coordinator_table}
 use Rattle.sdb_record.specs.Meta.{is_taken}
 use Rattle.sdb_model.specs.Calls.{Made, calls_after, calls_before, decision_found, decision_learned, is_fault, is_of_row, records_shown}
 use Rattle.sdb_model.specs.Causes.{HasReply, IsDecided, PutsRow}
@@ -70,7 +70,7 @@ EndsBy id calls (outcome.Conflict key found) = Unit {0}
 EndsBy id calls (outcome.Expired u) = (u ≡ id) × IsGivenUp id calls
 EndsBy id calls outcome.Faulted = HasReply is_fault calls
 EndsBy id calls (outcome.Unknown u) = (u ≡ id) × HasFailed id calls
-EndsBy id calls (outcome.BadRecord key) = ShowsBad calls key
+EndsBy id calls (outcome.BadRecord key) = (key ≡ coordinator_key_of id) × ShowsBad calls key
 EndsBy id calls outcome.NoMemory = Unit {0}
 
 -- What the calls say where it stands.

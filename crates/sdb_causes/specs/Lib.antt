@@ -1,3 +1,10 @@
 pub mod Commits
 pub mod Reads
+pub mod Sweeps
 pub mod Tied
+pub mod Moves
+pub mod Conflicts
+pub mod Counts
+pub mod Filled
+pub mod Unfit
+pub mod Rolled

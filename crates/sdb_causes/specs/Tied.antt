@@ -1,38 +1,55 @@
 -- What ties the events of a run to its clients, so that each answer has its cause: what a client said, why each statement was answered
 -- so, and what the calls of the statement that waits say of where the client stands.
-use Rattle.std.specs.Prelude.{◌≡◌, ◌≢◌, ◌⊎◌, ◌<◌, ◌≤◌, ◌^◌, ℕ, suc, ℤ, nat_lt, if◌then◌else◌, Bool, true, false, List, [], ◌∷◌, ◌++◌, length, fold, Option, Some, None, IfSome, is_some, Contains}
+use Rattle.std.specs.Prelude.{◌≡◌, ◌≢◌, ◌⊎◌, ◌<◌, ◌≤◌, ◌^◌, ℕ, suc, ℤ, not, if◌then◌else◌, ◌||◌, Bool, true, false, List, [], ◌∷◌, ◌++◌, length, fold, Option, Some, None, IfSome, is_some, MatchBool, Contains}
 use Rattle.std.specs.List.{AllByRecursion}
+use Rattle.sdb_types.specs.declared.key.Key.{Key}
+use Rattle.sdb_types.specs.declared.record.Record.{Record}
 use Rattle.sdb_schema.specs.declared.table.Table.{Table}
 use Rattle.sdb_model.specs.declared.answer.Answer.{Answer}
 use Rattle.sdb_model.specs.declared.answer.Answer.TheVariants as answer
 use Rattle.sdb_model.specs.declared.event.Event.{Event}
-use Rattle.sdb_model.specs.Calls.{calls_of, clock_at}
-use Rattle.sdb_model.specs.Causes.{IsCaused, IsTurnedAway, before, is_open, is_open_after}
+use Rattle.sdb_model.specs.Calls.{Made, calls_by, calls_of, clock_at}
+use Rattle.sdb_model.specs.Causes.{IsBadRecord, IsCaused, IsConflict, IsTurnedAway, before, is_open, is_open_after}
 use Rattle.sdb_model.specs.Follows.{has_stopped}
 use Rattle.sdb_model.specs.Sql.{Reads, reads_begin, reads_commit, reads_vacuum}
-use Rattle.sdb_model.specs.Transactions.{Said, begins, ends, from_begin, id_of, said}
+use Rattle.sdb_model.specs.Transactions.{Said, begins, ends, from_begin, id_of, rest_of, said}
 use Rattle.sdb_exec.specs.Plans.{Planned}
 use Rattle.sdb_laws.specs.History.{at}
+use Rattle.sdb_record.specs.Coordinator.{is_coordinator_table}
 use Rattle.sdb_record.specs.Meta.{is_moment}
 use Rattle.sdb_commit.specs.Phases.{CommitAt}
 use Rattle.sdb_read.specs.Read.{ReadAt}
 use Rattle.sdb_txn.specs.declared.txn.Doing.{Doing}
 use Rattle.sdb_txn.specs.declared.txn.Doing.TheVariants as doing
 use Rattle.sdb_txn.specs.Txn.{TxnAt}
+use Rattle.sdb_vacuum.specs.Vacuum.{VacuumAt}
 use Rattle.sdb_client.specs.Client.{ClientAt}
 use Rattle.sdb_client.specs.declared.gate.Gate.{Gate}
 use Rattle.sdb_linked.specs.Going.{IsInner}
 use Rattle.sdb_steps.specs.Hands.{Hand}
 use Rattle.sdb_story.specs.Telling.{waiting_of}
 use Rattle.sdb_causes.specs.Commits.{StandsBy}
+use Rattle.sdb_causes.specs.Conflicts.{ChecksBy}
+use Rattle.sdb_causes.specs.Counts.{CallsAreCounted, CountsBy}
+use Rattle.sdb_causes.specs.Filled.{IsFilled}
+use Rattle.sdb_causes.specs.Moves.{AllTellOne, AreMoved, SeenBy, ShowsAt, TellOne, WorkBy, notes_told}
 use Rattle.sdb_causes.specs.Reads.{ReadsBy}
+use Rattle.sdb_causes.specs.Rolled.{RecordsAreRolled, RollsBy}
+use Rattle.sdb_causes.specs.Sweeps.{VacuumBy}
+use Rattle.sdb_causes.specs.Unfit.{IsFit, ShowStored}
 
--- The answers whose causes are proved: all but Conflict, BadRecord and the refusal of too many keys.
-abbrev pub is_caused : Answer → Bool
-is_caused (answer.Conflict key found) = false
-is_caused (answer.BadRecord key) = false
-is_caused (answer.Refused r) = nat_lt r.kind 15
-is_caused a = true
+-- The answers to a text of which the cause is told over whatever replies: all but Conflict, and BadRecord of a record of a table to a
+-- statement that is no COMMIT and no VACUUM.
+abbrev pub is_caused : List ℕ → Answer → Bool
+is_caused text (answer.Conflict key found) = false
+is_caused text (answer.BadRecord key) = reads_commit text || reads_vacuum text || is_coordinator_table key.table
+is_caused text a = true
+
+-- Of such a BadRecord too, where no two calls of the statement show different decisions on a transaction.
+abbrev pub CanTell : List Made → List ℕ → Answer → Type 0
+CanTell calls text (answer.Conflict key found) = ⊥
+CanTell calls text (answer.BadRecord key) = MatchBool (is_caused text (answer.BadRecord key)) (Unit {0}) (TellOne calls)
+CanTell calls text a = Unit {0}
 
 ---- one client
 
@@ -42,16 +59,17 @@ pub record IsAnswered (catalog : List Table) (events : List Event) (c : ℕ) (s 
   pub is : s.answer ≡ Some given
   pub taken : s.taken ≤ length events
   pub answered : s.answered ≤ length events
-  pub caused : is_caused given ≡ true → IsCaused catalog events c s given
+  pub caused : CanTell (calls_of events c s) s.text given → IsCaused catalog events c s given
   pub turned_away : (a : Answer) → IsTurnedAway catalog (before s events) c s.text a → (s.answered ≡ s.taken) × ((s.answer ≡ Some a) ⊎ (s.answer ≡ Some answer.NoMemory))
 
--- A statement that waits for its answer: its transaction was open when it was taken, and it was not to be turned away.
-pub record IsWaiting (catalog : List Table) (events : List Event) (c : ℕ) (w : Said) : Type 0 where
+-- A statement that waits for its answer: it is a VACUUM that was taken outside of transactions, or its transaction was open when it was
+-- taken, and it was not to be turned away.
+pub record IsWaiting (catalog : List Table) (events : List Event) (c : ℕ) (sweeps : Bool) (w : Said) : Type 0 where
   pub unanswered : w.answer ≡ None
   pub taken : w.taken ≤ length events
   pub begin : reads_begin w.text ≡ false
-  pub vacuum : reads_vacuum w.text ≡ false
-  pub opened : is_open (before w events) c ≡ true
+  pub vacuum : reads_vacuum w.text ≡ sweeps
+  pub opened : is_open (before w events) c ≡ not sweeps
   pub stays : (a : Answer) → IsTurnedAway catalog (before w events) c w.text a → ⊥
 
 -- how many transactions began
@@ -77,6 +95,7 @@ pub record IsReading (events : List Event) (c : ℕ) (w : Said) (p : Planned) (x
   pub text : Reads w.text p.statement
   pub inner : IsInner w.text
   pub stage : ReadsBy (calls_of events c w) x.stage
+  pub shows : ShowsAt x.request (calls_of events c w) x.stage
 
 -- it is the COMMIT of this transaction
 pub record IsCommitting (events : List Event) (c : ℕ) (w : Said) (t : TxnAt) (k : CommitAt) : Type 0 where
@@ -92,10 +111,28 @@ IsDoing events c t (Some p) (Some w) (doing.Read a x) = IsReading events c w p x
 IsDoing events c t p (Some w) (doing.Commit k) = IsCommitting events c w t k
 IsDoing events c t p w d = ⊥
 
+-- What was noted is what the transaction has read, where no statement's calls showed two decisions on a transaction; and so it is with what
+-- its COMMIT takes, prepares and checks.
+abbrev pub IsNoting : List Event → ℕ → List Said → List Said → TxnAt → Doing → Option Said → Type 0
+IsNoting events c told body t (doing.Commit k) None = Unit {0}
+IsNoting events c told body t (doing.Commit k) (Some w) =
+    AllTellOne events c told → WorkBy (notes_told events c body) k.work × ChecksBy (notes_told events c body) k.work (calls_of events c w) k.stage
+IsNoting events c told body t d w = AllTellOne events c told → SeenBy (notes_told events c body) t.seen
+
 -- where a client stands, by what it said
 abbrev pub StandsIn : List Event → ℕ → ℕ → List Said → Option Said → Option Planned → Option TxnAt → Type 0
 StandsIn events c n told w p None = (w ≡ None) × (open_after told ≡ false)
-StandsIn events c n told w p (Some t) = (open_after told ≡ true) × IsOpenAs c n told t × IsDoing events c t p w t.doing
+StandsIn events c n told w p (Some t) = (open_after told ≡ true) × (o : IsOpenAs c n told t) × IsDoing events c t p w t.doing × IsNoting events c told o.body t t.doing w
+
+-- it is a VACUUM, which stands where its calls say
+abbrev pub IsSweeping : List Event → ℕ → List Said → Option Said → Option TxnAt → VacuumAt → Type 0
+IsSweeping events c told None o v = ⊥
+IsSweeping events c told (Some w) o v = (o ≡ None) × (open_after told ≡ false) × VacuumBy (calls_of events c w) v
+
+-- by the VACUUM that it runs, or else its open transaction
+abbrev pub StandsOn : List Event → ℕ → ℕ → List Said → Option Said → Option Planned → Option TxnAt → Option VacuumAt → Type 0
+StandsOn events c n told w p o None = StandsIn events c n told w p o
+StandsOn events c n told w p o (Some v) = IsSweeping events c told w o v
 
 -- What is so of a client: what it said and was answered, and where it stands.
 pub record Knows (catalog : List Table) (events : List Event) (c : ℕ) (h : ClientAt) : Type 0 where
@@ -103,11 +140,17 @@ pub record Knows (catalog : List Table) (events : List Event) (c : ℕ) (h : Cli
   pub waiting : Option Said
   pub same : said c events ≡ told ++ waiting_of waiting
   pub answered : AllByRecursion (IsAnswered catalog events c) told
-  pub waits : IfSome waiting (IsWaiting catalog events c)
+  pub waits : IfSome waiting (IsWaiting catalog events c (is_some h.vacuum))
+  pub moved : AllTellOne events c told → AreMoved events c told told
   pub number : h.number ≡ c
   pub begun : h.begun ≡ begun_in told
   pub small : h.begun < 2 ^ 64
-  pub stands : StandsIn events c h.begun told waiting h.plan h.txn
+  pub stands : StandsOn events c h.begun told waiting h.plan h.txn h.vacuum
+  pub counted : CountsBy catalog events c told waiting h
+  pub filled : IfSome h.txn (IsFilled events c (rest_of (from_begin h.begun told)))
+  pub fits : IfSome h.txn (IsFit catalog)
+  pub stored : ShowStored (calls_by events c)
+  pub rolled : RollsBy events c told waiting h
 
 ---- all clients
 
@@ -129,15 +172,38 @@ NoneElsewhere hands c = (d : ℕ) → d ≢ c → (hands d).stopped ≡ false �
 abbrev pub SomeElsewhere : (ℕ → Hand) → ℕ → Type 0
 SomeElsewhere hands c = (d : ℕ) × (d ≢ c) × ((hands d).stopped ≡ false) × (is_some (hands d).client.txn ≡ true)
 
--- A gate says what the other clients do: no client runs VACUUM, and whether one that goes on has a transaction open.
+-- no client that goes on, but this one, runs VACUUM
+abbrev pub NoneSweeps : (ℕ → Hand) → ℕ → Type 0
+NoneSweeps hands c = (d : ℕ) → d ≢ c → (hands d).stopped ≡ false → is_some (hands d).client.vacuum ≡ false
+
+-- one does
+abbrev pub SomeSweeps : (ℕ → Hand) → ℕ → Type 0
+SomeSweeps hands c = (d : ℕ) × (d ≢ c) × ((hands d).stopped ≡ false) × (is_some (hands d).client.vacuum ≡ true)
+
+-- A gate says what the other clients do: whether one that goes on runs VACUUM, and whether one has a transaction open.
 pub record IsGate (hands : ℕ → Hand) (c : ℕ) (g : Gate) : Type 0 where
-  pub vacuum : g.vacuum_runs ≡ false
+  pub sweeps : g.vacuum_runs ≡ true → SomeSweeps hands c
+  pub rests : g.vacuum_runs ≡ false → NoneSweeps hands c
   pub some : g.open_elsewhere ≡ true → SomeElsewhere hands c
   pub none : g.open_elsewhere ≡ false → NoneElsewhere hands c
 
 ---- what follows of the events
 
--- Each such answer of a run has its cause, and a statement that is to be turned away is, unless memory ran out.
+-- Each Conflict of a client has its cause.
+abbrev pub ConflictsOf : List Event → ℕ → Type 0
+ConflictsOf events c = (s : Said) (key : Key) (found : Option Record) → Contains (said c events) s → s.answer ≡ Some (answer.Conflict key found) → IsConflict events c s key found
+
+-- So it is where the calls of no statement of the client show two decisions on a transaction.
+abbrev pub ConflictsHaveCauses : List Event → Type 0
+ConflictsHaveCauses events = (c : ℕ) → ((s : Said) → Contains (said c events) s → TellOne (calls_of events c s)) → ConflictsOf events c
+
+-- Each such answer of a run has its cause, a statement that is to be turned away is, unless memory ran out, each Conflict has its cause
+-- where no statement's calls show two decisions on a transaction, and each BadRecord where those of its statement show none; the
+-- calls of all statements are counted; and the unresolved records that were found were rolled first.
 pub record AnswersHaveCauses (catalog : List Table) (events : List Event) : Type 0 where
-  pub caused : (c : ℕ) (s : Said) (a : Answer) → Contains (said c events) s → s.answer ≡ Some a → is_caused a ≡ true → IsCaused catalog events c s a
+  pub caused : (c : ℕ) (s : Said) (a : Answer) → Contains (said c events) s → s.answer ≡ Some a → is_caused s.text a ≡ true → IsCaused catalog events c s a
   pub turned_away : (c : ℕ) (s : Said) (a : Answer) → Contains (said c events) s → IsTurnedAway catalog (before s events) c s.text a → (s.answered ≡ s.taken) × ((s.answer ≡ Some a) ⊎ (s.answer ≡ Some answer.NoMemory))
+  pub conflicts : ConflictsHaveCauses events
+  pub bad_records : (c : ℕ) (s : Said) (key : Key) → Contains (said c events) s → s.answer ≡ Some (answer.BadRecord key) → TellOne (calls_of events c s) → IsBadRecord catalog events c s key
+  pub counted : CallsAreCounted catalog events
+  pub rolled : RecordsAreRolled events

@@ -4,6 +4,9 @@ ghost use Rattle.sdb_schema.specs.declared.table.Table.{Table};
 ghost use Rattle.sdb_model.specs.declared.event.Event.{Event};
 ghost use Rattle.sdb_client.specs.Client.{nothing_done};
 ghost use Rattle.sdb_steps.specs.Hands.{Hand};
+ghost use Rattle.sdb_model.specs.Counted.{AreCounted, AreResolved};
+ghost use Rattle.sdb_causes.specs.Counts.{CallsAreCounted, SeenAreNoFaults};
+ghost use Rattle.sdb_causes.specs.Rolled.{AnsweredWereSeen, RecordsAreRolled};
 ghost use Rattle.sdb_causes.specs.Tied.{AnswersHaveCauses, AreTied};
 
 /// It is so before any event, where no client has done anything and the clock shows 0.
@@ -11,7 +14,20 @@ pub fn starts()
     ensures { (catalog : List Table) (hands : ℕ → Hand) → ((c : ℕ) → hands c ≡ record { client = nothing_done c; stopped = false }) → AreTied catalog [] (pos 0) hands }
 {}
 
-/// Then the answers have their causes, and what is to be turned away is.
+/// Then the answers have their causes, and what is to be turned away is; and so does each Conflict, where the calls of no
+/// statement of its client show two decisions on a transaction, and each BadRecord, where those of its own statement show none.
 pub fn answers_are_explained()
     ensures { (catalog : List Table) (events : List Event) (now : ℤ) (hands : ℕ → Hand) → AreTied catalog events now hands → AnswersHaveCauses catalog events }
+{}
+
+/// And the calls of all statements are counted; so they are by what was seen, where no call that was seen was answered a fault.
+pub fn calls_are_counted()
+    ensures fits { (catalog : List Table) (events : List Event) (now : ℤ) (hands : ℕ → Hand) → AreTied catalog events now hands → CallsAreCounted catalog events }
+    ensures seen { (catalog : List Table) (events : List Event) → CallsAreCounted catalog events → SeenAreNoFaults events → AreCounted catalog events }
+{}
+
+/// And the unresolved records that were found were rolled first; so they are by what was seen, where each call that was answered was seen.
+pub fn records_are_rolled()
+    ensures rolled { (catalog : List Table) (events : List Event) (now : ℤ) (hands : ℕ → Hand) → AreTied catalog events now hands → RecordsAreRolled events }
+    ensures seen { (events : List Event) → RecordsAreRolled events → AnsweredWereSeen events → AreResolved events }
 {}

@@ -16,7 +16,7 @@ use Rattle.sdb_txn.specs.declared.txn.Doing.TheVariants as doing
 use Rattle.sdb_txn.specs.Txn.{IfReading, TxnAt, idle, CommitTold, IfCommitting, IsCommitting, pending_in, progress_of}
 use Rattle.sdb_client.specs.declared.next.Next.{Next}
 use Rattle.sdb_client.specs.declared.next.Next.TheVariants as next
-use Rattle.sdb_client.specs.Client.{CallTold, ClientAt, ReplyTold, StageTold, after, answer_in, gives, given_answer, given_left, noting, written, next_of}
+use Rattle.sdb_client.specs.Client.{CallTold, ClientAt, OpenTold, StageTold, after, answer_in, gives, given_answer, given_left, noting, written, next_of}
 use Rattle.sdb_client.specs.Inside.{IsLeft, IsReadOf, IsUnder, OpenNext, plan_after, txn_after, IsGoing}
 use Rattle.sdb_client.proofs.Calls.{noting_idle}
 use Rattle.sdb_client.proofs.Taken.{memory_or}
@@ -125,7 +125,7 @@ after_is c next.Call u q same = ap (λ (p : Option Planned). record c { txn = So
 after_is c (next.Answer z) u q same = refl
 after_is c (next.End z) u q same = refl
 
-pub reply_told : (c d : ClientAt) (t o : Option TxnAt) (q : Option Planned) (r : Reply) (now : ℤ) (n : Next) (result : Option Answer) → OpenNext t c.plan r now n o → (n ≡ next.Call → q ≡ c.plan) → result ≡ answer_in n → d ≡ record c { txn = txn_after o n; plan = plan_after q n } → ReplyTold c t r now result d
+pub reply_told : (c d : ClientAt) (t o : Option TxnAt) (q : Option Planned) (r : Reply) (now : ℤ) (n : Next) (result : Option Answer) → OpenNext t c.plan r now n o → (n ≡ next.Call → q ≡ c.plan) → result ≡ answer_in n → d ≡ record c { txn = txn_after o n; plan = plan_after q n } → OpenTold c t r now result d
 reply_told c d None o q r now n result h same answers is = absurd h
 reply_told c d (Some t) None q r now n result h same answers is = absurd h
 reply_told c d (Some t) (Some u) q r now n result h same answers is = record { next = n; left = u; told = h; answer = answers; client = is ∙ after_is c n u q same }

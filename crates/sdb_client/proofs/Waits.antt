@@ -6,8 +6,9 @@ use Rattle.sdb_exec.specs.Plans.{Planned}
 use Rattle.sdb_txn.specs.declared.txn.Doing.{Doing}
 use Rattle.sdb_txn.specs.declared.txn.Doing.TheVariants as doing
 use Rattle.sdb_txn.specs.Txn.{TxnAt, pending_in}
-use Rattle.sdb_client.specs.Client.{pending_of}
-use Rattle.sdb_client.specs.Inside.{IsClient, IsUnder}
+use Rattle.sdb_vacuum.specs.Vacuum.{VacuumAt}
+use Rattle.sdb_client.specs.Client.{ClientAt, IsIdle, client_pending, pending_by, pending_of}
+use Rattle.sdb_client.specs.Inside.{IsClient, IsUnder, IsWhole}
 use Rattle.sdb_client.proofs.Pending.{going_asks}
 
 none_asked : (o : Option Request) → IsSome o → o ≡ None → ⊥
@@ -21,6 +22,13 @@ is_idle (doing.Read a x) None under e = absurd under
 is_idle (doing.Commit k) (Some p) under e = absurd under
 is_idle doing.Over p under e = absurd under
 
-pub client_waits : (t : Option TxnAt) (p : Option Planned) → IsClient t p → pending_of t ≡ None → IfSome t (λ u. u.doing ≡ doing.Idle)
-client_waits None p h e = tt
-client_waits (Some t) p h e = is_idle t.doing p h e
+txn_waits : (t : Option TxnAt) (p : Option Planned) → IsClient t p → pending_of t ≡ None → IfSome t (λ u. u.doing ≡ doing.Idle)
+txn_waits None p h e = tt
+txn_waits (Some t) p h e = is_idle t.doing p h e
+
+pub client_waits : (c : ClientAt) → IsWhole c.vacuum c.txn c.plan → client_pending c ≡ None → IsIdle c
+client_waits c h e = by c.vacuum refl h e
+  where
+    by : (v : Option VacuumAt) → c.vacuum ≡ v → IsWhole v c.txn c.plan → pending_by v c.txn ≡ None → IsIdle c
+    by None is h e = record { free = is; still = txn_waits c.txn c.plan h e }
+    by (Some v) is h e = absurd (none_asked _ h.2 e)

@@ -1,5 +1,5 @@
 -- A client, and where each statement and each reply leads it.
-use Rattle.std.specs.Prelude.{◌≡◌, ◌≢◌, ℕ, ℤ, ◌+◌, nat_lt, Bool, true, false, not, ◌&&◌, ◌||◌, if◌then◌else◌, List, [], ◌∷◌, length, Option, Some, None, IfSome, IsSomeAnd, is_some, Result, Ok, Err, slice_get}
+use Rattle.std.specs.Prelude.{◌≡◌, ◌≢◌, ℕ, ℤ, ◌+◌, nat_lt, Bool, true, false, not, ◌&&◌, ◌||◌, if◌then◌else◌, List, [], ◌∷◌, length, Option, Some, None, IfSome, IsSome, IsSomeAnd, ◌⊎◌, is_some, Result, Ok, Err, slice_get}
 use Rattle.sdb_types.specs.declared.txid.TxId.{TxId}
 use Rattle.sdb_types.specs.declared.key.Key.{Key}
 use Rattle.sdb_types.specs.declared.record.Record.{Record}
@@ -35,36 +35,47 @@ use Rattle.sdb_txn.specs.declared.progress.Progress.TheVariants as progress
 use Rattle.sdb_txn.specs.declared.txn.Doing.{Doing}
 use Rattle.sdb_txn.specs.declared.txn.Doing.TheVariants as doing
 use Rattle.sdb_txn.specs.Txn.{TxnAt, CommitTold, begun, committing, idle, pending, reading}
+use Rattle.sdb_vacuum.specs.declared.work.VacuumStep.{VacuumStep}
+use Rattle.sdb_vacuum.specs.declared.work.VacuumStep.TheVariants as sweep
+use Rattle.sdb_vacuum.specs.Vacuum.{VacuumAt, Gives, begun as sweeping, vacuum_pending, vacuum_step}
 use Rattle.sdb_client.specs.declared.gate.Gate.{Gate}
 use Rattle.sdb_client.specs.declared.next.Next.{Next}
 use Rattle.sdb_client.specs.declared.next.Next.TheVariants as next
 
--- A client: its number, how many transactions it has begun, the one that is open, and the plan of the statement that reads.
+-- A client: its number, how many transactions it has begun, the one that is open, the plan of the statement that reads, and the VACUUM
+-- that it runs.
 pub record ClientAt : Type 0 where
   pub number : ℕ
   pub begun : ℕ
   pub txn : Option TxnAt
   pub plan : Option Planned
+  pub vacuum : Option VacuumAt
 
 -- it has done nothing
 abbrev pub nothing_done : ℕ → ClientAt
-nothing_done number = record { number = number; begun = 0; txn = None; plan = None }
+nothing_done number = record { number = number; begun = 0; txn = None; plan = None; vacuum = None }
 
 abbrev pub pending_of : Option TxnAt → Option Request
 pending_of None = None
 pending_of (Some t) = pending t
 
+-- a VACUUM's call, or else a transaction's
+abbrev pub pending_by : Option VacuumAt → Option TxnAt → Option Request
+pending_by (Some v) t = vacuum_pending v
+pending_by None t = pending_of t
+
 -- the call that is pending
 abbrev pub client_pending : ClientAt → Option Request
-client_pending c = pending_of c.txn
+client_pending c = pending_by c.vacuum c.txn
 
--- It waits for a statement: no transaction is open, or the open one does nothing.
-abbrev pub IsIdle : ClientAt → Type 0
-IsIdle c = IfSome c.txn (λ t. t.doing ≡ doing.Idle)
+-- It waits for a statement: it runs no VACUUM, and no transaction is open, or the open one does nothing.
+pub record IsIdle (c : ClientAt) : Type 0 where
+  pub free : c.vacuum ≡ None
+  pub still : IfSome c.txn (λ t. t.doing ≡ doing.Idle)
 
 -- it waits for a reply
 abbrev pub IsBusy : ClientAt → Type 0
-IsBusy c = IsSomeAnd c.txn (λ t. t.doing ≢ doing.Idle)
+IsBusy c = IsSomeAnd c.txn (λ t. t.doing ≢ doing.Idle) ⊎ IsSome c.vacuum
 
 -- no transaction is open
 abbrev pub resting : ClientAt → ClientAt
@@ -128,7 +139,7 @@ next_id c = id_of c.number (c.begun + 1)
 
 -- its next transaction is open
 abbrev pub with_begun : ClientAt → ClientAt
-with_begun c = record { number = c.number; begun = c.begun + 1; txn = Some (begun (next_id c)); plan = None }
+with_begun c = record { number = c.number; begun = c.begun + 1; txn = Some (begun (next_id c)); plan = None; vacuum = None }
 
 abbrev pub GateTold : Bool → ClientAt → Option Answer → ClientAt → Type 0
 GateTold true c result d = IsTold c answer.Vacuuming result d
@@ -149,10 +160,11 @@ abbrev pub RollbackTold : ClientAt → Option TxnAt → Option Answer → Client
 RollbackTold c None result d = IsTold c (refused 5) result d
 RollbackTold c (Some t) result d = (result ≡ Some answer.Done) × (d ≡ resting c)
 
--- VACUUM is turned away where a transaction is open. Else it isn't built: it is answered as out of memory alone.
-abbrev pub VacuumTold : Bool → ClientAt → Option Answer → ClientAt → Type 0
-VacuumTold true c result d = IsTold c answer.OpenTransactions result d
-VacuumTold false c result d = ⊥
+-- VACUUM is turned away where a transaction is open. Over an empty catalog it has nothing to do; else its first call is pending.
+abbrev pub VacuumTold : Bool → List Table → ClientAt → Option Answer → ClientAt → Type 0
+VacuumTold true catalog c result d = IsTold c answer.OpenTransactions result d
+VacuumTold false [] c result d = IsTold c (answer.Count 0) result d
+VacuumTold false (t ∷ ts) c result d = (result ≡ None) × (d ≡ record c { vacuum = Some (sweeping (t ∷ ts)) })
 
 -- A statement reads: from what was read before it is answered at once; else the call for its rows is pending.
 pub record RowsTold (p : Planned) (a : Access) (c : ClientAt) (t : TxnAt) (result : Option Answer) (d : ClientAt) : Type 0 where
@@ -174,7 +186,7 @@ abbrev pub StatementTold : Taking → Statement → ClientAt → Option Answer �
 StatementTold q statement.Begin c result d = BeginTold q.gate c c.txn result d
 StatementTold q statement.Commit c result d = CommitTaken q.now c c.txn result d
 StatementTold q statement.Rollback c result d = RollbackTold c c.txn result d
-StatementTold q statement.Vacuum c result d = VacuumTold (is_some c.txn || q.gate.open_elsewhere) c result d
+StatementTold q statement.Vacuum c result d = VacuumTold (is_some c.txn || q.gate.open_elsewhere) q.catalog c result d
 StatementTold q st c result d = AskTold q st c c.txn result d
 
 -- what a text says: the statement that it is read as, or what it is refused for
@@ -277,6 +289,32 @@ pub record TxnTold (c : ClientAt) (t : TxnAt) (r : Reply) (now : ℤ) (result : 
   pub answer : result ≡ answer_in next
   pub client : d ≡ after c next left
 
-abbrev pub ReplyTold : ClientAt → Option TxnAt → Reply → ℤ → Option Answer → ClientAt → Type 0
-ReplyTold c None r now result d = ⊥
-ReplyTold c (Some t) r now result d = TxnTold c t r now result d
+abbrev pub OpenTold : ClientAt → Option TxnAt → Reply → ℤ → Option Answer → ClientAt → Type 0
+OpenTold c None r now result d = ⊥
+OpenTold c (Some t) r now result d = TxnTold c t r now result d
+
+-- what a VACUUM's call is answered; none where another is pending
+abbrev pub answer_of : VacuumStep → Option Answer
+answer_of sweep.More = None
+answer_of (sweep.Count n) = Some (answer.Count n)
+answer_of sweep.Faulted = Some answer.Faulted
+answer_of (sweep.BadRecord key) = Some (answer.BadRecord key)
+answer_of sweep.NoMemory = Some answer.NoMemory
+
+-- the VACUUM that goes on
+abbrev pub vacuum_left : VacuumStep → VacuumAt → Option VacuumAt
+vacuum_left sweep.More v = Some v
+vacuum_left s v = None
+
+-- A reply leads a VACUUM where its definition says; or it is out of memory. Its answer ends it.
+pub record SweepTold (v : VacuumAt) (r : Reply) (now : ℤ) (result : Option Answer) (w : Option VacuumAt) : Type 0 where
+  pub step : VacuumStep
+  pub left : VacuumAt
+  pub told : Gives (vacuum_step v now r) left step
+  pub answer : result ≡ answer_of step
+  pub goes : w ≡ vacuum_left step left
+
+-- A reply leads the VACUUM that the client runs, or else its open transaction.
+abbrev pub ReplyTold : ClientAt → Option VacuumAt → Reply → ℤ → Option Answer → ClientAt → Type 0
+ReplyTold c (Some v) r now result d = SweepTold v r now result d.vacuum × (d ≡ record c { vacuum = d.vacuum })
+ReplyTold c None r now result d = OpenTold c c.txn r now result d

@@ -1,6 +1,7 @@
 -- What a client is inside.
 use Rattle.std.specs.Prelude.{◌≡◌, ◌<◌, ◌≤◌, ℤ, length, IsSome, IsSomeAnd, true, false, List, Option, Some, None}
 use Rattle.sdb_types.specs.declared.record.Reply.{Reply}
+use Rattle.sdb_types.specs.declared.record.Request.{Request}
 use Rattle.sdb_schema.specs.declared.table.Table.{Table}
 use Rattle.sdb_schema.specs.Table.{is_table}
 use Rattle.sdb_model.specs.declared.statement.Statement.{Statement}
@@ -29,6 +30,7 @@ use Rattle.sdb_model.specs.declared.answer.Answer.{Answer}
 use Rattle.sdb_model.specs.declared.statement.Statement.TheVariants as statement
 use Rattle.sdb_client.specs.declared.next.Next.{Next}
 use Rattle.sdb_client.specs.declared.next.Next.TheVariants as next
+use Rattle.sdb_vacuum.specs.Vacuum.{VacuumAt, vacuum_pending}
 use Rattle.sdb_client.specs.Client.{ClientAt, NextTold, given_answer, given_left, gives, is_covered, resting}
 
 -- A plan that was asked for its rows, of a statement that its table doesn't refuse.
@@ -76,6 +78,16 @@ abbrev pub IsClient : Option TxnAt → Option Planned → Type 0
 IsClient None None = Unit {0}
 IsClient None (Some p) = ⊥
 IsClient (Some t) p = IsUnder t.doing p
+
+-- A client that runs VACUUM has no transaction open, and a call of the VACUUM is pending.
+abbrev pub IsWhole : Option VacuumAt → Option TxnAt → Option Planned → Type 0
+IsWhole None t p = IsClient t p
+IsWhole (Some v) t p = (t ≡ None) × (p ≡ None) × IsSome (vacuum_pending v)
+
+-- the call of the VACUUM that is run
+abbrev pub vacuum_asked : Option VacuumAt → Option Request
+vacuum_asked None = None
+vacuum_asked (Some v) = vacuum_pending v
 
 -- it does the read of an access, by a plan that is fine
 abbrev pub IsReadOf : Doing → Planned → Type 0

@@ -2,24 +2,18 @@
 ghost use Rattle.std.specs.Prelude.{◌≡◌, true, false};
 ghost use Rattle.sdb_model.specs.Causes.{refused as refused_lem};
 ghost use Rattle.sdb_model.specs.Transactions.{changes_nothing as changes_nothing_lem};
-ghost use Rattle.sdb_client.specs.Client.{next_of as next_of_lem};
+ghost use Rattle.sdb_client.specs.Client.{answer_of as answer_of_lem, next_of as next_of_lem};
 
 use crate::next::Next;
 use sdb_model::{Answer, Refusal};
 use sdb_txn::Progress;
+use sdb_vacuum::VacuumStep;
 
 /// A refusal of a whole statement.
 pub fn refused(kind: u8) -> Answer
     ensures { result ≡ refused_lem kind }
 {
     Answer::Refused(Refusal { kind, place: 0 })
-}
-
-/// What VACUUM is answered while it isn't built: the one answer that needs no cause.
-pub fn not_built() -> Answer
-    ensures { result ≡ Answer.NoMemory }
-{
-    Answer::NoMemory
 }
 
 /// Whether a statement that is answered so changed nothing of its transaction, and left it open.
@@ -51,5 +45,18 @@ pub fn next_of(progress: Progress) -> Next
         Progress::Committed => Next::End(Answer::Committed),
         Progress::Expired(id) => Next::End(Answer::Expired(id)),
         Progress::Unknown(id) => Next::End(Answer::Unknown(id)),
+    }
+}
+
+/// What a call of a VACUUM is answered; nothing where another is pending.
+pub fn answer_of(step: VacuumStep) -> Option<Answer>
+    ensures { result ≡ answer_of_lem step }
+{
+    match step {
+        VacuumStep::More => None,
+        VacuumStep::Count(n) => Some(Answer::Count(n)),
+        VacuumStep::Faulted => Some(Answer::Faulted),
+        VacuumStep::BadRecord(key) => Some(Answer::BadRecord(key)),
+        VacuumStep::NoMemory => Some(Answer::NoMemory),
     }
 }

@@ -5,14 +5,15 @@ ghost use Rattle.sdb_model.specs.Transactions.{id_of as id_of_lem};
 ghost use Rattle.sdb_model.specs.declared.answer.Answer.TheVariants as answer;
 ghost use Rattle.sdb_exec.specs.Plans.{has_all_literals};
 ghost use Rattle.sdb_phases.specs.Steps.{CanGet};
-ghost use Rattle.sdb_client.specs.Client.{AskTold, BeginTold, CommitTaken, IsBusy, IsIdle, ReplyTold, RollbackTold, StatementTold, TextTold, VacuumTold, client_pending, nothing_done, resting, starved};
+ghost use Rattle.sdb_client.specs.Client.{AskTold, BeginTold, CommitTaken, IsBusy, IsIdle, OpenTold, ReplyTold, RollbackTold, StatementTold, TextTold, VacuumTold, client_pending, nothing_done, pending_of, resting, starved};
 ghost use Rattle.sdb_sqltext.specs.Answers.{refusal_of};
 ghost use Rattle.sdb_client.specs.Inside.{left_by};
 
-use crate::answers::{not_built, refused};
+use crate::answers::refused;
 use crate::call::{leave, take_reply};
 use crate::gate::Gate;
 use crate::plan::ask;
+use crate::sweep::vacuum_took;
 use sdb_exec::Plan;
 use sdb_model::{Answer, Statement};
 use sdb_schema::Catalog;
@@ -20,6 +21,7 @@ use sdb_sqltext::{ParseRefused, parse_statement};
 use sdb_sqltokens::reads_commit;
 use sdb_txn::{Progress, Txn};
 use sdb_types::{Reply, Request, TxId, Txt};
+use sdb_vacuum::Vacuum;
 use std::alloc::Global;
 use std::marker::Model;
 
@@ -30,6 +32,7 @@ pub struct Client {
     begun: u64,
     txn: Option<Txn>,
     plan: Option<Plan>,
+    vacuum: Option<Vacuum>,
 }
 
 // By hand: each drop is then one call, where a derived one stands at each place with a call for each field.
@@ -41,19 +44,20 @@ impl Drop for Client {
             begun: _,
             txn: _,
             plan: _,
+            vacuum: _,
         } = self;
     }
 }
 
 impl Model for Client {
     ghost use Rattle.sdb_client.specs.Client.{ClientAt};
-    ghost use Rattle.sdb_client.specs.Inside.{IsClient};
+    ghost use Rattle.sdb_client.specs.Inside.{IsWhole};
 
     ghost Value = { ClientAt };
 
-    ghost view = { λ c. record { number = c.number; begun = c.begun; txn = c.txn; plan = c.plan } };
+    ghost view = { λ c. record { number = c.number; begun = c.begun; txn = c.txn; plan = c.plan; vacuum = c.vacuum } };
 
-    ghost invariant = { λ c. IsClient c.txn c.plan };
+    ghost invariant = { λ c. IsWhole c.vacuum c.txn c.plan };
 }
 
 // The id of a client's transaction.
@@ -74,6 +78,7 @@ impl Client {
             begun: 0,
             txn: None,
             plan: None,
+            vacuum: None,
         }
     }
 
@@ -84,14 +89,23 @@ impl Client {
         self.txn.is_some()
     }
 
-    /// Whether it waits for a statement: no transaction of it is open, or the open one makes no call. Takes no memory.
+    /// Whether it runs VACUUM. Takes no memory.
+    pub fn runs_vacuum(&self) -> bool
+        ensures { result ≡ is_some self.now.vacuum }
+    {
+        self.vacuum.is_some()
+    }
+
+    /// Whether it waits for a statement: it runs no VACUUM, and no transaction of it is open, or the open one makes no call. Takes no
+    /// memory.
     pub fn is_idle(&self) -> bool
         ensures idle { result ≡ true → IsIdle self.now }
         ensures busy { result ≡ false → IsBusy self.now }
     {
-        match &self.txn {
-            Some(txn) => txn.is_idle(),
-            None => true,
+        match (&self.vacuum, &self.txn) {
+            (Some(_), _) => false,
+            (None, Some(txn)) => txn.is_idle(),
+            (None, None) => true,
         }
     }
 
@@ -108,9 +122,10 @@ impl Client {
         ensures pending { option_copied result ≡ client_pending self.now }
         ensures idle { client_pending self.now ≡ None → IsIdle self.now }
     {
-        match &self.txn {
-            Some(txn) => txn.pending(),
-            None => None,
+        match (&self.vacuum, &self.txn) {
+            (Some(vacuum), _) => vacuum.pending(),
+            (None, Some(txn)) => txn.pending(),
+            (None, None) => None,
         }
     }
 
@@ -163,7 +178,7 @@ impl Client {
             Statement::Begin => Some(self.begin(gate)),
             Statement::Commit => self.commit(now),
             Statement::Rollback => Some(self.rollback()),
-            Statement::Vacuum => Some(self.vacuum(gate)),
+            Statement::Vacuum => self.vacuum(catalog, gate),
             _ => self.ask(catalog, statement, now, gate),
         }
     }
@@ -222,14 +237,35 @@ impl Client {
         }
     }
 
-    // VACUUM isn't built: where no transaction is open it is answered as out of memory.
-    fn vacuum(&self, gate: Gate) -> Answer
-        ensures told { result ≢ answer.NoMemory → VacuumTold (is_some self.now.txn || gate.open_elsewhere) self.now (Some result) self.now }
+    // Takes a VACUUM. Over an empty catalog it makes no call.
+    fn vacuum(&mut self, catalog: &Catalog, gate: Gate) -> Option<Answer>
+        requires idle { IsIdle self.old }
+        ensures memory { result ≡ Some answer.NoMemory → self.new ≡ self.old }
+        ensures told { result ≢ Some answer.NoMemory → VacuumTold (is_some self.old.txn || gate.open_elsewhere) catalog.now self.old result self.new }
     {
         if self.is_open() || gate.open_elsewhere {
-            return Answer::OpenTransactions;
+            return Some(Answer::OpenTransactions);
         }
-        not_built()
+        self.sweep(catalog)
+    }
+
+    // Begins a VACUUM.
+    fn sweep(&mut self, catalog: &Catalog) -> Option<Answer>
+        requires idle { IsIdle self.old }
+        requires closed { self.old.txn ≡ None }
+        ensures memory { result ≡ Some answer.NoMemory → self.new ≡ self.old }
+        ensures told { result ≢ Some answer.NoMemory → VacuumTold false catalog.now self.old result self.new }
+    {
+        if catalog.len() == 0 {
+            return Some(Answer::Count(0));
+        }
+        match Vacuum::new(self.alloc, catalog) {
+            Ok(vacuum) => {
+                self.vacuum = Some(vacuum);
+                None
+            }
+            Err(_) => Some(Answer::NoMemory),
+        }
     }
 
     // Takes a statement on a table.
@@ -256,7 +292,21 @@ impl Client {
     pub fn advance(&mut self, reply: Reply, now: i64) -> Option<Answer>
         requires pending { IsSome (client_pending self.old) }
         requires reply { CanGet (client_pending self.old) reply }
-        ensures { ReplyTold self.old self.old.txn reply now result self.new }
+        ensures { ReplyTold self.old self.old.vacuum reply now result self.new }
+    {
+        if self.vacuum.is_some() {
+            vacuum_took(&mut self.vacuum, reply, now)
+        } else {
+            self.txn_took(reply, now)
+        }
+    }
+
+    // Takes the reply to the pending call of its open transaction.
+    fn txn_took(&mut self, reply: Reply, now: i64) -> Option<Answer>
+        requires free { self.old.vacuum ≡ None }
+        requires pending { IsSome (pending_of self.old.txn) }
+        requires reply { CanGet (pending_of self.old.txn) reply }
+        ensures { OpenTold self.old self.old.txn reply now result self.new }
     {
         let next = take_reply(&mut self.txn, &mut self.plan, reply, now);
         leave(&mut self.txn, &mut self.plan, next)

@@ -8,6 +8,7 @@ mod finish;
 mod gate;
 mod next;
 mod plan;
+mod sweep;
 
 pub use client::Client;
 pub use gate::Gate;

@@ -1,6 +1,7 @@
--- Which records stand at every moment of several stores, and which events put them there, by what is so of the one store.
-use Rattle.std.proofs.Common.{◌≡◌, ℕ, suc, ◌<◌, ◌≤◌, Bool, true, false, List, [], ◌∷◌, ◌++◌, length, Option, None, inl, inr, refl, sym, ap, subst, ◌∙◌}
-use Rattle.std.specs.Prelude.{IsSomeAnd, is_some}
+-- Which records stand at every moment of several stores, which events put them there, and that reads are current, by what is so of the one
+-- store.
+use Rattle.std.proofs.Common.{◌≡◌, ℕ, suc, ◌<◌, ◌≤◌, Bool, true, false, List, [], ◌∷◌, ◌++◌, length, Option, Some, None, inl, inr, refl, sym, ap, subst, ◌∙◌}
+use Rattle.std.specs.Prelude.{Contains, IsSomeAnd, is_some}
 use Rattle.std.specs.Option.{option_and_then}
 use Rattle.std.specs.Result.{result_ok}
 use Rattle.std.specs.FinMap.{empty}
@@ -28,24 +29,26 @@ use Rattle.sdb_model.specs.declared.script.Place.{Place}
 use Rattle.sdb_model.specs.declared.statement.Statement.{Statement}
 use Rattle.sdb_model.specs.Events.{IsTrace, Shelf, moment, standing, table_asked}
 use Rattle.sdb_model.specs.Exec.{Tables, find_table}
-use Rattle.sdb_model.specs.Explained.{IsLeftBy, IsOfOrLater, IsPreparedAfter, IsTableKey, IsWriter, StandingExplained, closing_of}
+use Rattle.sdb_model.specs.Explained.{Explained, IsCurrent, IsLastBefore, IsLeftBy, IsOfOrLater, IsPreparedAfter, IsTableKey, IsWriter, ReadsCurrent, StandingExplained, closing_of}
 use Rattle.sdb_model.specs.Images.{decision_at, image_at}
+use Rattle.sdb_model.specs.Noted.{Note}
 use Rattle.sdb_model.specs.Rows.{Name}
 use Rattle.sdb_model.specs.Transactions.{Recorded, point}
-use Rattle.sdb_laws.proofs.Current.{stand_at, unchanged_at}
+use Rattle.sdb_laws.proofs.Current.{current_at, stand_at, unchanged_at}
 use Rattle.sdb_laws.proofs.Moments.{committed_at, gone_at, rows_at, stands_at, unresolved_at}
 use Rattle.sdb_turns.specs.System.{SystemAt}
 use Rattle.sdb_linked.specs.Going.{IsGoing}
 use Rattle.sdb_spread.specs.Spread.{AreAbout, HoldAs, IsAbout, is_played, moved_event, moved_events, one_shelf}
-use Rattle.sdb_spread.proofs.Moved.{moved_more, point_moved}
+use Rattle.sdb_spread.proofs.Moved.{begun_moved, moved_more, point_moved}
 use Rattle.sdb_endings.proofs.Ended.{or_true, starts_empty}
 use Rattle.sdb_endings.proofs.Moments.{Alone, alone}
+use Rattle.sdb_endings.proofs.Noted.{calls_agree, noted_moved}
 use Rattle.sdb_endings.proofs.Runs.{IsLawfulRun, lawful_run}
 
 ---- a run of the laws
 
-by_run : (catalog : List Table) (places : List Place) (events : List Event) (opening : List Shelf) (moments : List (List Shelf)) → find_table catalog coordinator_table ≡ None → IsLawfulRun places events opening moments → StandingExplained catalog places events opening moments
-by_run catalog places events opening moments none b =
+standing_by_run : (catalog : List Table) (places : List Place) (events : List Event) (opening : List Shelf) (moments : List (List Shelf)) → find_table catalog coordinator_table ≡ None → IsLawfulRun places events opening moments → StandingExplained catalog places events opening moments
+standing_by_run catalog places events opening moments none b =
     subst (λ (es : List Event). StandingExplained catalog places es opening moments) (sym b.same) (record {
       committed_recorded = λ n low. committed_at b.plan places opening b.played moments catalog n b.run none low;
       unresolved_prepared = λ n low. unresolved_at b.plan places opening b.played moments catalog n b.run none low;
@@ -55,6 +58,12 @@ by_run catalog places events opening moments none b =
       rows_final = λ early late order low. rows_at b.plan places opening b.played moments early late b.run order low;
       unchanged_resolved = unchanged_at b.plan places opening b.played moments catalog b.run none;
     })
+
+-- what each recorded transaction noted is current
+reads_by_run : (catalog : List Table) (places : List Place) (events : List Event) (opening closing : List Shelf) (moments : List (List Shelf)) → find_table catalog coordinator_table ≡ None → IsTrace places events opening moments closing → IsLawfulRun places events opening moments → ReadsCurrent catalog places events opening moments
+reads_by_run catalog places events opening closing moments none trace b =
+    let agree = calls_agree places events opening closing moments trace (standing_by_run catalog places events opening moments none b).rows_final in
+    subst (λ (es : List Event). ReadsCurrent catalog places es opening moments) (sym b.same) (current_at b.plan places opening b.played moments catalog b.run none b.faithful (b.noted agree))
 
 ---- calls among events
 
@@ -231,8 +240,8 @@ module _ (catalog : List Table) (name : Name) (places : List Place) (events : Li
     left = subst (λ (o : Option Record). IsLeftBy l.u l.writer.r o) (ap (λ (n : ℕ). image_at [] (one n) key) (long events) ∙ sym (image (length events) key table)) l.left;
   }
 
-  explained_back : StandingExplained catalog [] (moved events) (one_shelf name m) a.singles → StandingExplained catalog places events opening moments
-  explained_back s = record {
+  standing_back : StandingExplained catalog [] (moved events) (one_shelf name m) a.singles → StandingExplained catalog places events opening moments
+  standing_back s = record {
     committed_recorded = λ n low key r table at committed.
         let c = s.committed_recorded n (within n low) key r table (sym (at_key n key table) ∙ at) committed in
         (c.0, c.1, recorded_back n c.0 c.2);
@@ -253,13 +262,46 @@ module _ (catalog : List Table) (name : Name) (places : List Place) (events : Li
         (ap (λ (n : ℕ). standing [] (one n) (coordinator_key_of id)) (long front) ∙ sym (at_row (length front) id) ∙ none);
   }
 
+  ---- what was noted
+
+  -- an event was before another also where calls are moved
+  earlier_on : (id u : TxId) → point events u < point events id → point (moved events) u < point (moved events) id
+  earlier_on id u less = subst (λ (n : ℕ). n < point (moved events) id) (sym (point_moved (λ ns. name) events u)) (subst (λ (n : ℕ). point events u < n) (sym (point_moved (λ ns. name) events id)) less)
+
+  earlier_back : (id u : TxId) → point (moved events) u < point (moved events) id → point events u < point events id
+  earlier_back id u less = subst (λ (n : ℕ). n < point events id) (point_moved (λ ns. name) events u) (subst (λ (n : ℕ). point (moved events) u < n) (point_moved (λ ns. name) events id) less)
+
+  abbrev last_back : (key : Key) (id u : TxId) → IsLastBefore [] (moved events) (one_shelf name m) a.singles key id u → IsLastBefore places events opening moments key id u
+  last_back key id u l = record {
+    writer = writer_back key u l.writer;
+    before = earlier_back id u l.before;
+    last = λ v w less. elim (l.last v (writer_on key v w) (earlier_on id v less)) [ inl same ↦ inl same | inr later ↦ inr (earlier_back u v later) ];
+  }
+
+  current_back : (key : Key) (id : TxId) (version : Option TxId) → IsCurrent [] (moved events) (one_shelf name m) a.singles key id version → IsCurrent places events opening moments key id version
+  current_back key id (Some u) l = last_back key id u l
+  current_back key id None (inl none) = inl (λ v w less. none v (writer_on key v w) (earlier_on id v less))
+  current_back key id None (inr d) = inr (record {
+    u = d.u;
+    last = last_back key id d.u d.last;
+    deleted = d.deleted;
+    recorded = λ n b. recorded_back n d.u (d.recorded n (begun_moved (λ ns. name) events id ∙ b));
+  })
+
+  reads_back : ReadsCurrent catalog [] (moved events) (one_shelf name m) a.singles → ReadsCurrent catalog places events opening moments
+  reads_back r id note key version fits recorded among says table =
+      current_back key id version (r id note key version fits (subst (λ (n : ℕ). Recorded [] (one n) id) (sym (long events)) (recorded_on (length events) id recorded))
+      (subst (λ (ns : List Note). Contains ns note) (sym (noted_moved (λ ns. name) events id)) among) says table)
+
 ---- the whole
 
 pub going_is_explained : (catalog : List Table) (places : List Place) (name : Name) (fit : Tables → Bool) (events : List Event) (sys : SystemAt) (doing : ℕ → Option Statement) (opening closing : List Shelf) (moments : List (List Shelf))
     → IsGoing catalog fit (moved_events (λ ns. name) events) sys doing → find_table catalog coordinator_table ≡ None → IsTrace places events opening moments closing → AreAbout catalog events → HoldAs catalog places opening empty
-    → StandingExplained catalog places events opening moments
+    → Explained catalog places events opening moments
 going_is_explained catalog places name fit events sys doing opening closing moments g none t about h =
     let a = alone catalog name places events opening moments closing empty t about h in
-    explained_back catalog name places events opening moments empty about a
-    (by_run catalog [] (moved_events (λ ns. name) events) (one_shelf name empty) a.singles none
-    (lawful_run catalog fit (moved_events (λ ns. name) events) sys doing [] (one_shelf name empty) a.last a.singles g a.traced (starts_empty name)))
+    let run = lawful_run catalog fit (moved_events (λ ns. name) events) sys doing [] (one_shelf name empty) a.last a.singles g a.traced (starts_empty name) in
+    record {
+      standing = standing_back catalog name places events opening moments empty about a (standing_by_run catalog [] (moved_events (λ ns. name) events) (one_shelf name empty) a.singles none run);
+      reads_current = reads_back catalog name places events opening moments empty about a (reads_by_run catalog [] (moved_events (λ ns. name) events) (one_shelf name empty) a.last a.singles none a.traced run);
+    }

@@ -7,3 +7,5 @@ pub mod Ordered
 pub mod OnStores
 pub mod Moments
 pub mod Explains
+pub mod Agreeing
+pub mod Noted

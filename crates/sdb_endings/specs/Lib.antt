@@ -2,3 +2,4 @@ pub mod Ending
 pub mod Order
 pub mod Points
 pub mod Stores
+pub mod Decisions

@@ -4,6 +4,7 @@
 //! Each law is the contract of a function with an empty body.
 #![tactic(auto)]
 
+pub mod decisions;
 pub mod ending;
 pub mod explained;
 pub mod order;

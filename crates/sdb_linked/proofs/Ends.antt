@@ -17,9 +17,11 @@ use Rattle.sdb_model.specs.Events.{IsTrace, Shelf}
 use Rattle.sdb_model.specs.Exec.{Tables}
 use Rattle.sdb_model.specs.Follows.{Follows}
 use Rattle.sdb_model.specs.Told.{IsRun}
-use Rattle.sdb_model.specs.Transactions.{IsOrder, Recorded, Said, begins, body, client_of, ends, id_of, is_effective, ordinal_of, said}
+use Rattle.sdb_model.specs.Transactions.{IsOrder, Recorded, Said, begins, body, client_of, is_effective, ordinal_of, said}
 use Rattle.sdb_model.specs.Sql.{reads_begin, reads_commit}
+use Rattle.sdb_model.specs.Calls.{calls_by}
 use Rattle.sdb_laws.specs.Explained.{IsRunOf, events_of, newest_first}
+use Rattle.sdb_laws.specs.Faithful.{AreNoted}
 use Rattle.sdb_record.specs.declared.coordinator.Decision.TheVariants.{Committed}
 use Rattle.sdb_laws.specs.History.{History}
 use Rattle.sdb_laws.specs.Lawful.{Played, id, talk}
@@ -29,18 +31,23 @@ use Rattle.sdb_laws.proofs.Derived.{recorded_row}
 use Rattle.sdb_laws.proofs.Times.{traced_of, whole_of}
 use Rattle.sdb_turns.specs.System.{SystemAt}
 use Rattle.sdb_turns.proofs.Begin.{taken_begun}
+use Rattle.sdb_turns.specs.Noted.{work_of}
+use Rattle.sdb_story.specs.Calls.{AgreeOn}
 use Rattle.sdb_story.specs.Filed.{number}
 use Rattle.sdb_story.specs.Left.{Execution, ExecutionOk, BodyIsSaid, IsFitting, numbers_of}
 use Rattle.sdb_story.specs.Linked.{IsLinked}
 use Rattle.sdb_story.specs.Story.{Closed, Finished, IsStory, MayCome, Opened, Rest, all_of, finished_at, said_of, saids_of, settle}
-use Rattle.sdb_story.specs.Telling.{OpenFiled, StoryOk, Telling, all_told, begun_in, count_of, waiting_of}
+use Rattle.sdb_story.specs.Telling.{OpenFiled, StoryOk, Telling, begun_in, count_of, waiting_of}
 use Rattle.sdb_story.proofs.Answered.{commit_ends}
+use Rattle.sdb_story.proofs.Bodily.{noted_whole}
 use Rattle.sdb_story.proofs.Faith.{beyond}
 use Rattle.sdb_story.proofs.Files.{taken_counts}
+use Rattle.sdb_story.proofs.Notes.{are_noted}
 use Rattle.sdb_story.proofs.Places.{finished_body, story_kept, story_same}
 use Rattle.sdb_story.proofs.Run.{linked_run}
 use Rattle.sdb_story.proofs.Turns.{body_is_said}
 use Rattle.sdb_linked.specs.Going.{IsGoing, OpenedOk, RanOk}
+use Rattle.sdb_linked.specs.Noted.{InsideNoted, OpenedNoted}
 use Rattle.sdb_linked.proofs.Mild.{no_second}
 use Rattle.sdb_linked.proofs.Own.{finished, over}
 use Rattle.sdb_types.proofs.Basics.{none_some}
@@ -71,6 +78,7 @@ pub record Ran (catalog : List Table) (fit : Tables → Bool) (plan : ℕ → Pl
   pub inside : List Said
   pub body : body events (id t) ≡ filter is_effective inside
   pub ok : RanOk catalog fit plan past t inside r
+  pub noted : InsideNoted events (client_of (id t)) inside r.seen
 
 module _ (catalog : List Table) (fit : Tables → Bool) (events : List Event) (sys : SystemAt) (doing : ℕ → Option Statement) (g : IsGoing catalog fit events sys doing) where
   -- of a client's transaction whose COMMIT was taken
@@ -95,6 +103,7 @@ module _ (catalog : List Table) (fit : Tables → Bool) (events : List Event) (s
         inside = inside;
         body = finished_body events (id (number c k)) (x.whole ++ f ∷ []) [] (length x.whole) f (told (x.whole ++ f ∷ []) [] all) (ordinal ∙ ap suc at) kept.whole (last_at x.whole f);
         ok = subst (λ j. RanOk catalog fit g.plan g.past (number c j) inside (g.ran c j)) (sym at) (subst (λ r. OpenedOk catalog fit g.plan g.past (number c (length x.whole)) r (g.ran c (length x.whole))) e (g.clients c).opened);
+        noted = subst (λ d. InsideNoted events d inside (g.ran c k).seen) (sym client) (subst (λ j. InsideNoted events c inside (g.ran c j).seen) (sym at) (subst (λ r. OpenedNoted events c r (g.ran c (length x.whole))) e (g.noted c).opened));
       }
         where
           w : (w : Said) × (x.waiting ≡ Some w) × (reads_commit w.text ≡ true) × (w.taken ≡ (talk g.past).taken_at (number c (length x.whole)))
@@ -136,6 +145,7 @@ module _ (catalog : List Table) (fit : Tables → Bool) (events : List Event) (s
         inside = f.body;
         body = finished_body events (id (number c k)) x.whole (said_of x.rest ++ waiting_of x.waiting) k f (told x.whole (said_of x.rest ++ waiting_of x.waiting) (story.same ∙ append_assoc (saids_of x.whole) (said_of x.rest) (waiting_of x.waiting))) ordinal story.ok e;
         ok = (g.clients c).ended k f e;
+        noted = subst (λ d. InsideNoted events d f.body (g.ran c k).seen) (sym client) ((g.noted c).ended k f e);
       }
       by None e = open_one x.rest refl (beyond x.whole k e) counts
 
@@ -162,6 +172,12 @@ module _ (catalog : List Table) (fit : Tables → Bool) (events : List Event) (s
   done t taken =
       let r = ran_at t taken in
       (record { seen = r.ok.inside.seen; planned = r.ok.planned taken; body = r.ok.inside.body }, body_is_said events t r.inside (ran_of t) r.body r.ok.inside.said)
+
+  -- where what each client's calls showed of each row agrees, the plans' notes are what the statements noted
+  pub going_is_noted : ((c : ℕ) → AgreeOn (calls_by events c)) → AreNoted g.plan events g.past
+  going_is_noted agree = are_noted g.plan events g.past (λ t. work_of (id t) (ran_of t).now (ran_of t).seen) (λ t taken.
+      let r = ran_at t taken in
+      noted_whole g.plan events (client_of (id t)) t (ran_of t).now r.inside (ran_of t).seen refl r.body (r.ok.planned taken) (r.noted.noted (agree (client_of (id t)))))
 
 ---- points
 

@@ -1,5 +1,5 @@
 -- A turn of one client leaves what is so of the others, and of its transactions that ended.
-use Rattle.std.proofs.Common.{◌≡◌, ◌≢◌, ℕ, Bool, true, false, List, [], ◌∷◌, ◌++◌, length, Option, Some, refl, sym, ap, ◌∙◌, subst, arith}
+use Rattle.std.proofs.Common.{◌≡◌, ◌≢◌, ℕ, Bool, true, false, List, [], ◌∷◌, ◌++◌, ◌+◌, length, Option, Some, refl, sym, ap, ◌∙◌, subst, arith}
 use Rattle.std.specs.Prelude.{◌==◌, fold, if◌then◌else◌}
 use Rattle.std.proofs.lemmas.Bool.Decides.{nat_tests}
 use Rattle.sdb_schema.specs.declared.table.Table.{Table}
@@ -20,6 +20,8 @@ use Rattle.sdb_story.specs.Telling.{IsApart, IsOpened, OthersStand, StoryOk, Tel
 use Rattle.sdb_story.proofs.Tellings.{SameOf, apart_at, opened_counts, others_apart, within}
 use Rattle.sdb_story.proofs.Turns.{stories_turn}
 use Rattle.sdb_linked.specs.Going.{ClientGoes, EndedOk, HandOk, InsideOk, IsGoing, OpenedOk, RanOk}
+use Rattle.sdb_linked.specs.Noted.{ClientNoted}
+use Rattle.sdb_linked.proofs.Noting.{noted_stays, other_call}
 
 ---- lists of events
 
@@ -65,7 +67,7 @@ kept_apart catalog fit plan next events past sys q c x ran same story apart ende
 
 ---- a turn
 
--- What one turn of a client owes: the rules and what all know, its story, and its own transactions.
+-- What one turn of a client owes: the rules and what all know, its story, its own transactions, and what these have read.
 pub record Turn (catalog : List Table) (fit : Tables → Bool) (events : List Event) (sys next : SystemAt) (doing : ℕ → Option Statement) (g : IsGoing catalog fit events sys doing) (c : ℕ) (d : Option Statement) (q : Played) : Type 0 where
   pub plan : ℕ → Plan
   pub x : Telling
@@ -76,6 +78,7 @@ pub record Turn (catalog : List Table) (fit : Tables → Bool) (events : List Ev
   pub others : OthersStand c sys next
   pub story : TellsOn events g.past q next c x
   pub own : ClientGoes catalog fit plan (q ∷ g.past) c d (next.clients c) x ran
+  pub noted : ClientNoted (events ++ q.event ∷ []) c (next.clients c) x ran
 
 pub turned : (catalog : List Table) (fit : Tables → Bool) (events : List Event) (sys next : SystemAt) (doing : ℕ → Option Statement) (g : IsGoing catalog fit events sys doing) (c : ℕ) (d : Option Statement) (q : Played) → Turn catalog fit events sys next doing g c d q → IsGoing catalog fit (events ++ q.event ∷ []) next (at doing c d)
 turned catalog fit events sys next doing g c d q t = record {
@@ -89,6 +92,7 @@ turned catalog fit events sys next doing g c d q t = record {
   system = t.system;
   stories = stories_turn t.plan events g.past sys next c q g.told t.x t.system t.by t.others g.stories t.story;
   clients = λ e. on e (e == c) refl;
+  noted = λ e. noted_on e (e == c) refl;
 }
   where
     is : (e c : ℕ) → (e == c) ≡ true → c ≡ e
@@ -106,3 +110,7 @@ turned catalog fit events sys next doing g c d q t = record {
     on : (e : ℕ) (b : Bool) → (e == c) ≡ b → ClientGoes catalog fit t.plan (q ∷ g.past) e (if b then d else doing e) (next.clients e) (if b then t.x else g.told e) (if b then t.ran else g.ran e)
     on e true h = subst (λ z. ClientGoes catalog fit t.plan (q ∷ g.past) z d (next.clients z) t.x t.ran) (is e c h) t.own
     on e false h = other e (isnt e c h)
+
+    noted_on : (e : ℕ) (b : Bool) → (e == c) ≡ b → ClientNoted (events ++ q.event ∷ []) e (next.clients e) (if b then t.x else g.told e) (if b then t.ran else g.ran e)
+    noted_on e true h = subst (λ z. ClientNoted (events ++ q.event ∷ []) z (next.clients z) t.x t.ran) (is e c h) t.noted
+    noted_on e false h = subst (λ z. ClientNoted (events ++ q.event ∷ []) e z (g.told e) (g.ran e)) (sym (t.others.clients e (isnt e c h))) (noted_stays events e q.event (sys.clients e) (g.told e) (g.ran e) (other_call e c (1 + length events) q.event (λ k. isnt e c h (sym k)) t.by) (g.noted e))

@@ -1,5 +1,6 @@
 pub mod Goings
 pub mod Own
+pub mod Noting
 pub mod Mild
 pub mod Small
 pub mod Steps

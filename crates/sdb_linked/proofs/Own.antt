@@ -3,6 +3,8 @@ use Rattle.std.proofs.Common.{◌≡◌, ◌<◌, ◌+◌, ℕ, Bool, true, fals
 use Rattle.std.specs.Prelude.{◌==◌, if◌then◌else◌}
 use Rattle.std.proofs.lemmas.Bool.Decides.{nat_tests}
 use Rattle.sdb_types.specs.declared.record.Record.{Record}
+use Rattle.sdb_types.specs.declared.txid.TxId.{TxId}
+use Rattle.sdb_record.specs.Meta.{id_in}
 use Rattle.sdb_types.specs.declared.record.Reply.{Reply}
 use Rattle.sdb_record.specs.declared.meta.Meta.{Meta}
 use Rattle.sdb_record.specs.declared.write.Write.{Write}
@@ -25,6 +27,7 @@ use Rattle.std.specs.Prelude.{slice_get}
 use Rattle.sdb_turns.specs.Owner.{prepare_role, role_of, roll_role}
 use Rattle.sdb_turns.specs.Reader.{recover_role}
 use Rattle.sdb_turns.specs.ReadAt.{ReadAt, Asking, Done, Failed, Resolving, read_role}
+use Rattle.sdb_turns.specs.Sweep.{SweepAt, Scanning, Resolving as Resolves, Removing, Between, removes_role, sweep_role}
 use Rattle.sdb_turns.specs.System.{ClientAt}
 use Rattle.sdb_story.specs.Filed.{number}
 use Rattle.sdb_story.specs.Left.{Execution}
@@ -85,6 +88,16 @@ read_plain Asking r = tt
 read_plain (Resolving images rec meta p left) r = recover_plain rec meta p r
 read_plain (Done images) r = tt
 read_plain Failed r = tt
+
+removes_plain : (b : Record) (o : Option TxId) → IsPlainRole (removes_role b o)
+removes_plain b None = tt
+removes_plain b (Some i) = tt
+
+pub sweep_plain : (v : SweepAt) (r : Reply) → IsPlainRole (sweep_role v r)
+sweep_plain (Scanning span) r = tt
+sweep_plain (Resolves rec meta p left) r = recover_plain rec meta p r
+sweep_plain (Removing b left) r = removes_plain b (id_in b.columns)
+sweep_plain Between r = tt
 
 pub commit_plain : (p : Work) (s : Stage) (r : Reply) → IsPlainRole (role_of p s r)
 commit_plain p (Preparing i) r = by (slice_get p.writes i)

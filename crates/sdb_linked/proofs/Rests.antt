@@ -5,7 +5,7 @@ use Rattle.sdb_phases.specs.Work.{Work}
 use Rattle.sdb_phases.specs.Commit.{Stage, starved}
 use Rattle.sdb_turns.proofs.Commit.{starved_commit}
 use Rattle.sdb_story.specs.Filed.{number}
-use Rattle.std.proofs.Common.{◌≡◌, ℕ, pos, Bool, List, [], ◌∷◌, ◌++◌, Option, Some, None, true, false, length, arith, subst, refl, sym, ap, ◌∙◌}
+use Rattle.std.proofs.Common.{◌≡◌, ◌+◌, ℕ, pos, Bool, List, [], ◌∷◌, ◌++◌, Option, Some, None, true, false, length, arith, subst, refl, sym, ap, ◌∙◌}
 use Rattle.sdb_schema.specs.declared.table.Table.{Table}
 use Rattle.sdb_model.specs.declared.answer.Answer.{Answer}
 use Rattle.sdb_model.specs.declared.answer.Answer.TheVariants as answer
@@ -27,7 +27,9 @@ use Rattle.sdb_story.specs.Telling.{IsOpened, nothing_yet}
 use Rattle.sdb_story.proofs.Files.{story_starts}
 use Rattle.sdb_story.proofs.Tellings.{said_more, story_stays}
 use Rattle.sdb_linked.specs.Going.{HandOk, IsGoing, IsSilent}
+use Rattle.sdb_linked.specs.Noted.{IsMadeSince}
 use Rattle.sdb_linked.proofs.Goings.{events_more, kept_apart, newest_more}
+use Rattle.sdb_linked.proofs.Noting.{noted_stays, silent_call}
 use Rattle.sdb_linked.proofs.Own.{plain_apart}
 use Rattle.sdb_linked.proofs.Small.{nothing_ran}
 
@@ -46,6 +48,7 @@ module _ (catalog : List Table) (fit : Tables → Bool) where
     system = system_begins plan;
     stories = λ c. story_starts c;
     clients = λ c. record { ended = λ k f e. absurd (cc (e)); opened = tt; hand = (tt, refl) };
+    noted = λ c. record { ended = λ k f e. absurd (cc (e)); opened = tt; taken = tt; made = tt };
   }
     where
       plan : ℕ → Plan
@@ -63,6 +66,7 @@ module _ (catalog : List Table) (fit : Tables → Bool) where
     system = quiet_turn g.plan g.past sys e g.system (quiet e silent_one);
     stories = λ c. story_stays events g.past sys sys c (g.told c) q (g.stories c) tt (plain_apart g.past c Other tt) (record { begun = refl; hold = λ u h. h }) (unsaid c e silent_one);
     clients = λ c. let kept = kept_apart catalog fit g.plan g.plan events g.past sys q c (g.told c) (g.ran c) (λ t h. refl) (g.stories c) (plain_apart g.past c Other tt) (g.clients c).ended (g.clients c).opened in record { ended = kept.0; opened = kept.1; hand = (g.clients c).hand };
+    noted = λ c. noted_stays events c e (sys.clients c) (g.told c) (g.ran c) (silent_call c (1 + length events) e silent_one) (g.noted c);
   }
     where
       q : Played
@@ -115,4 +119,5 @@ module _ (catalog : List Table) (fit : Tables → Bool) where
       system = starved_commit g.plan g.past sys c p s (record { ok = g.system; at = at_commit });
       stories = λ d. let story = g.stories d in record { now = story.now; same = story.same; ok = story.ok; rest_ok = story.rest_ok; waits = story.waits; count = story.count; alive = story.alive; filed = story.filed; opened = story.opened; hold = by_client (λ k y. (u : ℕ) → Has y u → IsOpened (g.told k).rest × (u ≡ number k (length (g.told k).whole))) (λ h. h) (λ k. (g.stories k).hold) d };
       clients = λ d. let was = g.clients d in record { ended = was.ended; opened = was.opened; hand = by_client (λ k y. HandOk (doing k) (g.told k) (g.ran k (length (g.told k).whole)) y) (λ h. h) (λ k. (g.clients k).hand) d };
+      noted = λ d. let was = g.noted d in record { ended = was.ended; opened = was.opened; taken = was.taken; made = by_client (λ k y. IsMadeSince events k (g.told k).waiting y) (λ h. h) (λ k. (g.noted k).made) d };
     }

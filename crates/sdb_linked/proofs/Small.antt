@@ -10,7 +10,7 @@ use Rattle.sdb_snapshot.specs.Seen.{nothing}
 use Rattle.sdb_turns.specs.System.{ClientAt, SystemAt, with_client}
 use Rattle.sdb_story.specs.Filed.{number}
 use Rattle.sdb_story.specs.Left.{Execution}
-use Rattle.sdb_linked.specs.Going.{IsCommitting, IsInner, IsRunning}
+use Rattle.sdb_linked.specs.Going.{IsCommitting, IsInner, IsRunning, IsWaiting}
 
 pub same_number : (n : ℕ) → (n == n) ≡ true
 same_number n = grind (arith, nat_tests)
@@ -40,6 +40,10 @@ takes_taken h t = grind (arith, nat_tests)
 pub committing_as : (o : Option Said) → IsCommitting o → (w : Said) × (o ≡ Some w) × (reads_commit w.text ≡ true)
 committing_as None h = absurd h
 committing_as (Some w) h = (w, refl, h)
+
+pub waiting_as : (o : Option Said) → IsWaiting o → (w : Said) × (o ≡ Some w)
+waiting_as None h = absurd h
+waiting_as (Some w) h = (w, refl)
 
 pub running_as : (st : Statement) (o : Option Said) → IsRunning (Some st) o → (w : Said) × (o ≡ Some w) × Reads w.text st × IsInner w.text
 running_as st None h = absurd h

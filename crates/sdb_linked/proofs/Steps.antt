@@ -1,12 +1,14 @@
 -- Each turn of a client, over what ties the events to the clients.
-use Rattle.std.proofs.Common.{◌≡◌, ◌≢◌, ◌<◌, ◌+◌, ◌^◌, ℕ, ℤ, suc, Bool, true, false, List, [], ◌∷◌, ◌++◌, length, Option, Some, None, refl, sym, ap, ◌∙◌, subst, arith, inl, inr}
-use Rattle.std.specs.Prelude.{◌==◌, ◌&&◌, ◌||◌, nat_lt, if◌then◌else◌}
+use Rattle.std.proofs.Common.{◌≡◌, ◌≢◌, ◌<◌, ◌≤◌, ◌+◌, ◌^◌, ℕ, ℤ, suc, Bool, true, false, List, [], ◌∷◌, ◌++◌, length, Option, Some, None, IfSome, refl, sym, ap, ◌∙◌, subst, arith, inl, inr}
+use Rattle.std.specs.Prelude.{◌==◌, ◌&&◌, ◌||◌, is_some, nat_lt, if◌then◌else◌}
 use Rattle.std.proofs.lemmas.Bool.Decides.{nat_tests}
 use Rattle.sdb_types.specs.declared.record.Record.{Record}
 use Rattle.sdb_types.specs.declared.record.Reply.{Reply}
 use Rattle.sdb_types.specs.declared.record.Request.{Request}
+use Rattle.sdb_types.specs.declared.record.Span.{Span}
 use Rattle.sdb_types.specs.declared.txid.TxId.{TxId}
 use Rattle.sdb_record.specs.declared.access.Access.{Access}
+use Rattle.sdb_record.specs.declared.access.Access.TheVariants as access
 use Rattle.sdb_record.specs.declared.write.Keyed.{Keyed}
 use Rattle.sdb_schema.specs.declared.table.Table.{Table}
 use Rattle.sdb_model.specs.declared.answer.Answer.{Answer}
@@ -18,7 +20,7 @@ use Rattle.sdb_model.specs.Rows.{Name}
 use Rattle.sdb_model.specs.declared.statement.Statement.{Statement}
 use Rattle.sdb_model.specs.Exec.{Tables}
 use Rattle.sdb_model.specs.Sql.{Reads, reads_begin, reads_commit, reads_rollback}
-use Rattle.sdb_model.specs.Transactions.{Said, begins, changes_nothing, ends, id_of, is_answered_from_rows, is_conflict, is_done, is_effective, said}
+use Rattle.sdb_model.specs.Transactions.{Said, begins, changes_nothing, ends, id_of, is_answered_from_rows, is_conflict, is_done, said}
 use Rattle.sdb_laws.specs.History.{Begins, Other, Stops, Takes, at}
 use Rattle.sdb_laws.specs.Lawful.{Played, id, talk}
 use Rattle.sdb_laws.specs.Plan.{Plan}
@@ -32,14 +34,17 @@ use Rattle.sdb_snapshot.specs.Written.{AreChanges}
 use Rattle.sdb_turns.specs.Noted.{MayNote, SeenOk, with_read, work_of}
 use Rattle.sdb_turns.specs.Owner.{StageOk, plan_of, role_of}
 use Rattle.sdb_turns.specs.ReadAt.{AreKinds, Asking, Done, IsOfData, Kind, ReadAt, read_pending, read_role, read_step}
-use Rattle.sdb_turns.specs.System.{ClientAt, ClientCall, ClientOk, Has, IsBegin, IsCommit, IsQuiet, IsReplyTo, NoneSweeps, Open, Committing, Reading, Resting, SamePlans, StandsAt, Stopped, SystemAt, SystemOk, answer_at, answer_of_outcome, begin_played, call_event, commit_begun, commit_left, ending_at, ends_with, idle, next_id, plays, take_played, with_begun, with_client, with_plan}
+use Rattle.sdb_turns.specs.Sweep.{SweepAt, Scanning, sweep_pending, sweep_role, sweep_step}
+use Rattle.sdb_turns.specs.System.{ClientAt, ClientCall, ClientOk, Has, IsBegin, IsCommit, IsQuiet, IsReplyTo, NoneOpen, NoneSweeps, Open, Committing, Reading, Resting, Sweeping, SamePlans, StandsAt, Stopped, SystemAt, SystemOk, answer_at, answer_of_outcome, begin_played, call_event, commit_begun, commit_left, ending_at, ends_with, idle, next_id, plays, take_played, with_begun, with_client, with_plan}
 use Rattle.sdb_turns.proofs.Begin.{begin_turn, untaken}
-use Rattle.sdb_turns.proofs.Calls.{read_turn, read_ends_turn}
+use Rattle.sdb_turns.proofs.Calls.{read_turn, read_ends_turn, vacuum_turn}
 use Rattle.sdb_turns.proofs.Commit.{commit_turn, own_kept}
-use Rattle.sdb_turns.proofs.Quiet.{asks, gives_up, leave_turn, notes, quiet_turn, stop_turn, writes}
+use Rattle.sdb_turns.proofs.Quiet.{asks, gives_up, leave_turn, notes, quiet_turn, stop_turn, sweep_ends, sweep_goes, sweep_starts, writes}
 use Rattle.sdb_turns.proofs.Seen.{seen_nothing}
 use Rattle.sdb_turns.proofs.Take.{take_turn}
 use Rattle.sdb_story.specs.Body.{AnswersOn, BodyOk, IsCovered}
+use Rattle.sdb_model.specs.Calls.{calls_by}
+use Rattle.sdb_story.specs.Calls.{AgreeOn, NotesRead, ReadMade, calls_since}
 use Rattle.sdb_story.specs.Filed.{number}
 use Rattle.sdb_story.specs.Left.{Execution}
 use Rattle.sdb_story.specs.Story.{Closed, Finished, MayCome, Opened, Rest, finished_at}
@@ -48,11 +53,13 @@ use Rattle.sdb_story.proofs.Answered.{commit_ends, said_at_once, said_later, sto
 use Rattle.sdb_story.proofs.Bodies.{body_begins, body_read, body_step}
 use Rattle.sdb_story.proofs.Tellings.{SameOf, said_more, same_of, story_stays}
 use Rattle.sdb_story.proofs.Turns.{begun_stands, client_stands, said_nothing_more, said_one_more}
-use Rattle.sdb_linked.specs.Going.{ClientGoes, EndedOk, HandOk, InsideOk, IsClosed, IsCommitting, IsGoing, IsInner, IsMild, IsRunning, LeavesAtOnce, OpenedOk, RanOk}
+use Rattle.sdb_linked.specs.Going.{ClientGoes, EndedOk, HandOk, InsideOk, IsClosed, IsCommitting, IsGoing, IsInner, IsMild, IsRunning, IsWaiting, LeavesAtOnce, OpenedOk, RanOk}
+use Rattle.sdb_linked.specs.Noted.{ClientNoted, InsideNoted, IsMadeSince}
 use Rattle.sdb_linked.proofs.Goings.{ended_later, inside_later, kept_apart, turned}
 use Rattle.sdb_linked.proofs.Mild.{effective_by, mild_begins, mild_ends, no_second, nothing_mild, rows_mild, uncommitted}
-use Rattle.sdb_linked.proofs.Small.{same_number, numbers_same, less_apart, nothing_ran, begins_untaken, committing_as, running_as, twice}
-use Rattle.sdb_linked.proofs.Own.{IsPlainRole, begun, below, closed_as, commit_plain, ended_at, goes_begun, goes_gap, goes_inside, goes_over, gone, inside, opened_as, over, plain_apart, plain_counts, plain_not, ran_here, read_plain, telling_of}
+use Rattle.sdb_linked.proofs.Noting.{IsJustAnswered, at_once, commit_made, inside_nothing, inside_read, made_reads, none_since, noted_asks, noted_begun, noted_commits, noted_elsewhere, noted_gap, noted_inside, noted_over, notes_read, open_noted, since_read, written_noted}
+use Rattle.sdb_linked.proofs.Small.{same_number, numbers_same, less_apart, nothing_ran, begins_untaken, committing_as, running_as, twice, waiting_as}
+use Rattle.sdb_linked.proofs.Own.{IsPlainRole, begun, below, closed_as, commit_plain, ended_at, goes_begun, goes_gap, goes_inside, goes_over, gone, inside, opened_as, over, plain_apart, plain_counts, plain_not, ran_here, read_plain, sweep_plain, telling_of}
 use Rattle.sdb_types.proofs.Basics.{clash, some_is}
 
 ---- one client
@@ -168,6 +175,7 @@ module _ (catalog : List Table) (fit : Tables → Bool) (events : List Event) (s
           (ended_later catalog fit g.plan g.plan g.past q c x.whole ran same before was.ended)
           (record { inside = record { seen = seen_nothing (q ∷ g.past); body = body_begins catalog fit; said = record { read = tt; told = refl } }; planned = λ h. clash (still_untaken h) })
           (subst (HandOk None (telling_of (begun x gap s)) nothing_ran) (sym next_here) (tt, refl, refl));
+      noted = noted_begun events c q.event (sys.clients c) x ran (g.noted c) (next.clients c) s gap nothing_ran closed starts refl;
     })
 
   ---- a client's event that says nothing more
@@ -264,6 +272,7 @@ module _ (catalog : List Table) (fit : Tables → Bool) (events : List Event) (s
         opened = subst (OpenedOk catalog fit plan (q_taken ∷ g.past) (number c n) x.rest) (sym (ran_here ran n run)) (opened x.rest refl was.opened);
         hand = subst (λ z. HandOk None (with_waiting x s_taken) z (next_taken.clients c)) (sym (ran_here ran n run)) (subst (HandOk None (with_waiting x s_taken) run) (sym (here (commit_left p (preparing p 0)))) (begins_at (nat_lt 0 (length p.writes)) (nat_lt 0 (length (checks p)))));
       };
+      noted = noted_commits events c q_taken.event (sys.clients c) x ran (g.noted c) (next_taken.clients c) s_taken run refl refl (subst (IsMadeSince (events ++ q_taken.event ∷ []) c (Some s_taken)) (sym (here (commit_left p (preparing p 0)))) (commit_made (events ++ q_taken.event ∷ []) c (Some s_taken) p (preparing p 0)));
     })
 
   ---- a statement begins to read
@@ -280,6 +289,7 @@ module _ (catalog : List Table) (fit : Tables → Bool) (events : List Event) (s
       others = client_stands sys c (Reading i seen a Asking);
       story = story_asks events g.past sys (with_client sys c (Reading i seen a Asking)) c x q text story here_now.1 refl tt (plain_apart g.past c Other tt) (keeps (Open i seen) (Reading i seen a Asking) at_open (λ u h. h));
       own = record { ended = (kept q tt).0; opened = (kept q tt).1; hand = subst (HandOk (Some st) (with_waiting x s) (ran n)) (sym (here (Reading i seen a Asking))) (here_now.0, (reads, inner), here_now.2) };
+      noted = noted_asks events c q.event (sys.clients c) x ran (g.noted c) ((with_client sys c (Reading i seen a Asking)).clients c) s refl (subst (IsMadeSince (events ++ q.event ∷ []) c (Some s)) (sym (here (Reading i seen a Asking))) (none_since events c q.event));
     })
       where
         none_some : ◌≡◌ {A = Option Answer} None (Some answer.Committed) → ⊥
@@ -293,6 +303,35 @@ module _ (catalog : List Table) (fit : Tables → Bool) (events : List Event) (s
 
         here_now : IsOpened x.rest × (x.waiting ≡ None) × ((ran n).seen ≡ seen)
         here_now = hand_at (Open i seen) at_open
+
+  ---- VACUUM is taken
+
+  module _ (text : List ℕ) (span : Span) (at_rest : sys.clients c ≡ Resting) (none : NoneOpen sys) (tables : IsOfData (access.Scan span)) where
+    pub going_vacuums : IsGoing catalog fit (events ++ event.Take c text None ∷ []) (with_client sys c (Sweeping (Scanning span))) (at doing c None)
+    going_vacuums = turned catalog fit events sys (with_client sys c (Sweeping (Scanning span))) doing g c None q (record {
+      plan = g.plan;
+      x = with_waiting x s;
+      ran = ran;
+      same = same;
+      system = sweep_starts g.plan (q ∷ g.past) sys c span (record { ok = quiet_turn g.plan g.past sys q.event g.system (record { quiet = refl; other = λ e. none_some e }); at = at_rest }) none tables;
+      by = refl;
+      others = client_stands sys c (Sweeping (Scanning span));
+      story = story_asks events g.past sys (with_client sys c (Sweeping (Scanning span))) c x q text story here_now.1 refl tt (plain_apart g.past c Other tt) (keeps Resting (Sweeping (Scanning span)) at_rest (λ u h. h));
+      own = record { ended = (kept q tt).0; opened = (kept q tt).1; hand = subst (HandOk None (with_waiting x s) (ran n)) (sym (here (Sweeping (Scanning span)))) (here_now.0, tt) };
+      noted = noted_asks events c q.event (sys.clients c) x ran (g.noted c) ((with_client sys c (Sweeping (Scanning span))).clients c) s refl (subst (IsMadeSince (events ++ q.event ∷ []) c (Some s)) (sym (here (Sweeping (Scanning span)))) tt);
+    })
+      where
+        none_some : ◌≡◌ {A = Option Answer} None (Some answer.Committed) → ⊥
+        none_some e = cc
+
+        q : Played
+        q = plays Other (event.Take c text None)
+
+        s : Said
+        s = taken_said events text None
+
+        here_now : IsClosed x.rest × (x.waiting ≡ None)
+        here_now = hand_at Resting at_rest
 
   ---- answered as it is taken
 
@@ -318,6 +357,7 @@ module _ (catalog : List Table) (fit : Tables → Bool) (events : List Event) (s
       others = record { clients = λ d h. refl; begun = λ d h. refl };
       story = story_answers events g.past sys sys c x q answered story (said_at_once events g.past sys c x q text b story now_here.1 refl) (subst (λ r. MayCome r answered) (sym closed.1) (uncommitted (Some b) b refl m)) (subst (λ r. IsOrdinary r answered) (sym closed.1) plain) tt (plain_apart g.past c Other tt) (record { begun = refl; hold = λ u h. h });
       own = goes_gap catalog fit g.plan (q ∷ g.past) c None (sys.clients c) x ran answered closed.0 closed.1 plain (kept q tt).0 (subst (HandOk None (telling_of (gone x closed.0 answered)) (ran n)) (sym at_rest) (tt, refl));
+      noted = noted_gap events c q.event (sys.clients c) x ran (g.noted c) (sys.clients c) answered closed.0 closed.1 plain;
     })
       where
         q : Played
@@ -351,6 +391,33 @@ module _ (catalog : List Table) (fit : Tables → Bool) (events : List Event) (s
 
     before_it : RanOk catalog fit g.plan (q ∷ g.past) (number c n) parts.2 (ran n)
     before_it = open_ran q plain parts.0 parts.1 parts.2 parts.3
+
+    -- with what that noted
+    inside_noted : (r : Execution) (z : Seen) → InsideNoted (events ++ q.event ∷ []) c (parts.2 ++ s ∷ []) r.seen → ClientNoted (events ++ q.event ∷ []) c ((with_client sys c (Open i z)).clients c) (with_answered x s) (at ran n r)
+    inside_noted r z ok = noted_inside events c q.event (sys.clients c) x ran (g.noted c) ((with_client sys c (Open i z)).clients c) s parts.0 parts.1 parts.2 r parts.3 goes_on ok
+
+    noted_before : InsideNoted events c parts.2 (ran n).seen
+    noted_before = open_noted events c q.event (sys.clients c) x ran (g.noted c) parts.0 parts.1 parts.2 parts.3
+
+    just : IsJustAnswered events s
+    just = (ap is_some said_so, is.answered ∙ by (length events))
+      where
+        by : (m : ℕ) → m + 1 ≡ 1 + m
+        by m = omega arith
+
+    idle_noted : changes_nothing b ≡ true → ClientNoted (events ++ q.event ∷ []) c ((with_client sys c (Open i seen)).clients c) (with_answered x s) (at ran n (ran n))
+    idle_noted idle = inside_noted (ran n) seen (inside_nothing events c q.event parts.2 (ran n).seen s just (inl (effective_by s b true said_so idle)) noted_before)
+
+    -- it was answered from rows that were read before
+    rows_noted : (r : Execution) (changes : List Keyed) → (ran n).seen ≡ seen → s.taken ≡ 1 + length events → r.seen ≡ with_written seen changes → ClientNoted (events ++ q.event ∷ []) c ((with_client sys c (Open i (with_written seen changes))).clients c) (with_answered x s) (at ran n r)
+    rows_noted r changes e now same = inside_noted r (with_written seen changes) (subst (InsideNoted (events ++ q.event ∷ []) c (parts.2 ++ s ∷ [])) (sym same) (written_noted (events ++ q.event ∷ []) c (parts.2 ++ s ∷ []) seen changes
+        (subst (InsideNoted (events ++ q.event ∷ []) c (parts.2 ++ s ∷ [])) e (inside_nothing events c q.event parts.2 (ran n).seen s just (at_once events c q.event s just now) noted_before))))
+
+    -- or from those of its own read
+    read_noted : (r : Execution) (a : Access) (images : List Record) (changes : List Keyed) → (ran n).seen ≡ seen → (AgreeOn (calls_by (events ++ q.event ∷ []) c) → NotesRead (events ++ q.event ∷ []) c s a images) → r.seen ≡ with_written (with_read seen a images) changes
+        → ClientNoted (events ++ q.event ∷ []) c ((with_client sys c (Open i (with_written (with_read seen a images) changes))).clients c) (with_answered x s) (at ran n r)
+    read_noted r a images changes e reads same = inside_noted r (with_written (with_read seen a images) changes) (subst (InsideNoted (events ++ q.event ∷ []) c (parts.2 ++ s ∷ [])) (sym same) (written_noted (events ++ q.event ∷ []) c (parts.2 ++ s ∷ []) (with_read seen a images) changes
+        (inside_read events c q.event parts.2 seen s a images just reads (subst (InsideNoted events c parts.2) e noted_before))))
 
     -- it changed nothing
     idle_own : (changes_nothing b ≡ true) → (ran n).seen ≡ seen → ClientGoes catalog fit g.plan (q ∷ g.past) c None ((with_client sys c (Open i seen)).clients c) (with_answered x s) (at ran n (ran n))
@@ -430,6 +497,7 @@ module _ (catalog : List Table) (fit : Tables → Bool) (events : List Event) (s
         others = client_stands sys c (Open i seen);
         story = inside_story played tt said_of_it b refl (nothing_mild b idle) no_commit is_said held.0 i seen (Open i seen) at_open unmoved seen;
         own = idle_own played tt said_of_it b refl (nothing_mild b idle) no_commit is_said held.0 i seen (Open i seen) at_open unmoved idle held.2;
+        noted = idle_noted played tt said_of_it b refl (nothing_mild b idle) no_commit is_said held.0 i seen (Open i seen) at_open unmoved idle;
       })
 
       -- a statement that is answered from what was read before
@@ -449,6 +517,7 @@ module _ (catalog : List Table) (fit : Tables → Bool) (events : List Event) (s
             (subst (ClientOk g.plan (played ∷ g.past) c) (here (Open i (with_written seen changes))) (system.each c)).1
             (subst (BodyOk catalog fit (ran n).body (ran n).answers) held.2 (before_it played tt said_of_it b refl m.0 no_commit is_said held.0 i seen (Open i seen) at_open unmoved).inside.body)
             covered answers reads m.1 not_taken;
+        noted = rows_noted played tt said_of_it b refl m.0 no_commit is_said held.0 i seen (Open i seen) at_open unmoved (record { seen = with_written seen changes; now = (ran n).now; body = (ran n).body ++ st ∷ []; answers = (ran n).answers ++ b ∷ [] }) changes held.2 refl refl;
       })
         where
           m : IsMild b × (changes_nothing b ≡ false)
@@ -472,6 +541,7 @@ module _ (catalog : List Table) (fit : Tables → Bool) (events : List Event) (s
         others = client_stands sys c Resting;
         story = story_ends events g.past sys (with_client sys c Resting) c x q said_of_it parts.0 parts.1 parts.2 story parts.3 (said_at_once events g.past sys c x q text b story held.1 refl) plain last (ap Some its_id) (λ u e. clash (known u (some_is b (answer.Unknown u) e))) tt (plain_apart g.past c Other tt) (record { begun = refl; hold = λ u h. subst (λ w. Has w u) (here Resting) h });
         own = goes_over catalog fit g.plan (q ∷ g.past) c None ((with_client sys c Resting).clients c) x ran said_of_it parts.0 parts.1 parts.2 parts.3 last (kept q tt).0 (open_ran q tt parts.0 parts.1 parts.2 parts.3) (λ r. subst (HandOk None (telling_of (over x parts.0 parts.1 parts.2 said_of_it)) r) (sym (here Resting)) (tt, refl));
+        noted = noted_over events c q.event (sys.clients c) x ran (g.noted c) ((with_client sys c Resting).clients c) said_of_it parts.0 parts.1 parts.2 parts.3 last;
       })
         where
           q : Played
@@ -537,6 +607,7 @@ module _ (catalog : List Table) (fit : Tables → Bool) (events : List Event) (s
         others = client_stands sys c (commit_left p t);
         story = story_stays events g.past sys (with_client sys c (commit_left p t)) c x q story (plain_counts q.role plain) (plain_apart g.past c q.role plain) (keeps (Committing p s) (commit_left p t) at_commit (λ u h. subst (λ w. Has w u) left h)) call_silent;
         own = record { ended = (kept q plain).0; opened = (kept q plain).1; hand = subst (HandOk None x (ran n)) (sym (here (commit_left p t) ∙ left)) held_then };
+        noted = noted_elsewhere events c q.event (sys.clients c) x ran (g.noted c) ((with_client sys c (commit_left p t)).clients c) (subst (IsMadeSince (events ++ q.event ∷ []) c x.waiting) (sym (here (commit_left p t))) (commit_made (events ++ q.event ∷ []) c x.waiting p t));
       }))
         where
           q : Played
@@ -582,6 +653,7 @@ module _ (catalog : List Table) (fit : Tables → Bool) (events : List Event) (s
         others = client_stands sys c Resting;
         story = story_ends events g.past sys (with_client sys c Resting) c x q s_now parts.0 parts.1 parts.2 story parts.3 (said_later events g.past sys c x q w.0 store request how reply (answer_of_outcome a) story w.1 refl) begins_no (commit_ends s_now w.2) (ap Some commit_id) (λ u h. names_it a e u (some_is (answer_of_outcome a) (answer.Unknown u) h)) (plain_counts q.role plain) (plain_apart g.past c q.role plain) (record { begun = refl; hold = λ u h. subst (λ z. Has z u) (here Resting) h });
         own = goes_over catalog fit g.plan (q ∷ g.past) c None ((with_client sys c Resting).clients c) x ran s_now parts.0 parts.1 parts.2 parts.3 (commit_ends s_now w.2) (kept q plain).0 (open_ran q plain parts.0 parts.1 parts.2 parts.3) (λ r. subst (HandOk None (telling_of (over x parts.0 parts.1 parts.2 s_now)) r) (sym (here Resting)) (tt, refl));
+        noted = noted_over events c q.event (sys.clients c) x ran (g.noted c) ((with_client sys c Resting).clients c) s_now parts.0 parts.1 parts.2 parts.3 (commit_ends s_now w.2);
       })
         where
           q : Played
@@ -629,6 +701,9 @@ module _ (catalog : List Table) (fit : Tables → Bool) (events : List Event) (s
       abbrev next_read : ReadAt
       next_read = read_step kind s now reply
 
+      made_then : IsMadeSince events c x.waiting (Reading i seen a s)
+      made_then = subst (IsMadeSince events c x.waiting) at_read (g.noted c).made
+
       -- the read goes on
       pub going_reads : IsGoing catalog fit (events ++ call_event y None ∷ []) (with_client sys c (Reading i seen a next_read)) (at doing c (doing c))
       going_reads = turned catalog fit events sys (with_client sys c (Reading i seen a next_read)) doing g c (doing c) q (record {
@@ -641,6 +716,8 @@ module _ (catalog : List Table) (fit : Tables → Bool) (events : List Event) (s
         others = client_stands sys c (Reading i seen a next_read);
         story = story_stays events g.past sys (with_client sys c (Reading i seen a next_read)) c x q story (plain_counts q.role plain) (plain_apart g.past c q.role plain) (keeps (Reading i seen a s) (Reading i seen a next_read) at_read (λ u h. h)) call_silent;
         own = record { ended = (kept q plain).0; opened = (kept q plain).1; hand = subst (HandOk (doing c) x (ran n)) (sym (here (Reading i seen a next_read))) held_then_read };
+        noted = noted_elsewhere events c q.event (sys.clients c) x ran (g.noted c) ((with_client sys c (Reading i seen a next_read)).clients c) (subst (IsMadeSince (events ++ q.event ∷ []) c x.waiting) (sym (here (Reading i seen a next_read)))
+            (made_reads kind g.past events c x.waiting i seen a s store request how reply now None kinds (client_at (Reading i seen a s) at_read).3 (g.noted c).taken made_then asked.asked asked.can));
       })
         where
           none_some : ◌≡◌ {A = Option Answer} None (Some answer.Committed) → ⊥
@@ -684,6 +761,7 @@ module _ (catalog : List Table) (fit : Tables → Bool) (events : List Event) (s
           others = client_stands sys c (Open i seen);
           story = inside_story answered_q plain s_now b refl m w.3.commit is_said_read held_then_read.0 i seen (Reading i seen a s) at_read (λ u h. h) seen;
           own = idle_own answered_q plain s_now b refl m w.3.commit is_said_read held_then_read.0 i seen (Reading i seen a s) at_read (λ u h. h) idle held_then_read.2;
+          noted = idle_noted answered_q plain s_now b refl m w.3.commit is_said_read held_then_read.0 i seen (Reading i seen a s) at_read (λ u h. h) idle;
         })
           where
             m : IsMild b
@@ -709,8 +787,17 @@ module _ (catalog : List Table) (fit : Tables → Bool) (events : List Event) (s
               (subst (ClientOk g.plan (answered_q ∷ g.past) c) (here (Open i written)) (system_written.each c)).1
               (body_read (answered_q ∷ g.past) catalog fit (ran n).body (ran n).answers seen a images (subst (SeenOk (answered_q ∷ g.past)) held_then_read.2 inside_now.seen) (subst (BodyOk catalog fit (ran n).body (ran n).answers) held_then_read.2 inside_now.body))
               covered answers w.2 m.1 read_untaken;
+          noted = read_noted answered_q plain s_now b refl m.0 w.3.commit is_said_read held_then_read.0 i seen (Reading i seen a s) at_read (λ u h. h)
+              (record { seen = written; now = (ran n).now; body = (ran n).body ++ st ∷ []; answers = (ran n).answers ++ b ∷ [] }) a images changes held_then_read.2
+              (notes_read events c answered_q.event s_now a images (refl, refl) (effective_by s_now b false refl m.1) rows (client_at (Reading i seen a s) at_read).2 (subst (ReadMade (calls_since (events ++ answered_q.event ∷ []) c w.0.taken) a) done made_now)) refl;
         })
           where
+            taken_before : w.0.taken ≤ length events
+            taken_before = subst (λ o. IfSome o (λ (w : Said). w.taken ≤ length events)) w.1 (g.noted c).taken
+
+            made_now : ReadMade (calls_since (events ++ answered_q.event ∷ []) c w.0.taken) a next_read
+            made_now = since_read kind g.past events c w.0.taken a s store request how reply now (Some b) kinds (client_at (Reading i seen a s) at_read).3 taken_before (subst (λ o. IsMadeSince events c o (Reading i seen a s)) w.1 made_then) asked.asked asked.can
+
             m : IsMild b × (changes_nothing b ≡ false)
             m = rows_mild b rows
 
@@ -747,6 +834,7 @@ module _ (catalog : List Table) (fit : Tables → Bool) (events : List Event) (s
           others = client_stands sys c Resting;
           story = story_ends events g.past sys (with_client sys c Resting) c x q s_now parts.0 parts.1 parts.2 story parts.3 (said_later events g.past sys c x q w.0 store request how reply b story w.1 refl) begins_no over_now (ap Some read_id) (λ u e. clash (sym conflict ∙ ap is_conflict e)) (plain_counts q.role plain) (plain_apart g.past c q.role plain) (record { begun = refl; hold = λ u h. subst (λ z. Has z u) (here Resting) h });
           own = goes_over catalog fit g.plan (q ∷ g.past) c None ((with_client sys c Resting).clients c) x ran s_now parts.0 parts.1 parts.2 parts.3 over_now (kept q plain).0 (open_ran q plain parts.0 parts.1 parts.2 parts.3) (λ r. subst (HandOk None (telling_of (over x parts.0 parts.1 parts.2 s_now)) r) (sym (here Resting)) (tt, refl));
+          noted = noted_over events c q.event (sys.clients c) x ran (g.noted c) ((with_client sys c Resting).clients c) s_now parts.0 parts.1 parts.2 parts.3 over_now;
         })
           where
             q : Played
@@ -771,6 +859,89 @@ module _ (catalog : List Table) (fit : Tables → Bool) (events : List Event) (s
                 second true r = refl
                 second false r = refl
 
+    ---- a call of a VACUUM
+
+    module _ (kind : Record → Kind) (kinds : AreKinds kind) (v : SweepAt) (at_sweep : sys.clients c ≡ Sweeping v) (asked : IsReplyTo (sweep_pending v) y) where
+      held_then_sweep : IsClosed x.rest × IsWaiting x.waiting
+      held_then_sweep = hand_at (Sweeping v) at_sweep
+
+      abbrev next_sweep : SweepAt
+      next_sweep = sweep_step kind v now reply
+
+      abbrev swept : Option Answer → Played
+      swept a = plays (sweep_role v reply) (call_event y a)
+
+      system_swept : (a : Option Answer) → (a ≡ Some answer.Committed → ⊥) → SystemOk g.plan (swept a ∷ g.past) (with_client sys c (Sweeping next_sweep))
+      system_swept a other = vacuum_turn kind g.plan g.past sys y v a kinds (stands (Sweeping v) at_sweep) asked other
+
+      stands_swept : (a : Option Answer) → (a ≡ Some answer.Committed → ⊥) → StandsAt g.plan (swept a ∷ g.past) (with_client sys c (Sweeping next_sweep)) c (Sweeping next_sweep)
+      stands_swept a other = record { ok = system_swept a other; at = here (Sweeping next_sweep) }
+
+      none_some_swept : ◌≡◌ {A = Option Answer} None (Some answer.Committed) → ⊥
+      none_some_swept e = cc
+
+      -- it goes on, and makes a further call, wherever it then stands
+      swept_on : (w : SweepAt) → SystemOk g.plan (swept None ∷ g.past) (with_client sys c (Sweeping w)) → IsGoing catalog fit (events ++ call_event y None ∷ []) (with_client sys c (Sweeping w)) (at doing c None)
+      swept_on w system = turned catalog fit events sys (with_client sys c (Sweeping w)) doing g c None q (record {
+        plan = g.plan;
+        x = x;
+        ran = ran;
+        same = same;
+        system = system;
+        by = refl;
+        others = client_stands sys c (Sweeping w);
+        story = story_stays events g.past sys (with_client sys c (Sweeping w)) c x q story (plain_counts q.role plain) (plain_apart g.past c q.role plain) (keeps (Sweeping v) (Sweeping w) at_sweep (λ u h. h)) call_silent;
+        own = record { ended = (kept q plain).0; opened = (kept q plain).1; hand = subst (HandOk None x (ran n)) (sym (here (Sweeping w))) held_then_sweep };
+        noted = noted_elsewhere events c q.event (sys.clients c) x ran (g.noted c) ((with_client sys c (Sweeping w)).clients c) (subst (IsMadeSince (events ++ q.event ∷ []) c x.waiting) (sym (here (Sweeping w))) tt);
+      })
+        where
+          q : Played
+          q = swept None
+
+          plain : IsPlainRole q.role
+          plain = sweep_plain v reply
+
+      -- with the rows of the table
+      pub going_sweeps : IsGoing catalog fit (events ++ call_event y None ∷ []) (with_client sys c (Sweeping next_sweep)) (at doing c None)
+      going_sweeps = swept_on next_sweep (system_swept None none_some_swept)
+
+      -- with a further table
+      pub going_scans : (span : Span) → IsOfData (access.Scan span) → IsGoing catalog fit (events ++ call_event y None ∷ []) (with_client sys c (Sweeping (Scanning span))) (at doing c None)
+      going_scans span tables = swept_on (Scanning span) (subst (SystemOk g.plan (swept None ∷ g.past)) (twice sys c (Sweeping next_sweep) (Sweeping (Scanning span))) (sweep_goes g.plan (swept None ∷ g.past) (with_client sys c (Sweeping next_sweep)) c next_sweep span (stands_swept None none_some_swept) tables))
+
+      -- it is answered
+      pub going_swept : (b : Answer) → IsMild b → IsGoing catalog fit (events ++ call_event y (Some b) ∷ []) (with_client sys c Resting) (at doing c None)
+      going_swept b m = turned catalog fit events sys (with_client sys c Resting) doing g c None q (record {
+        plan = g.plan;
+        x = with_answered x s_now;
+        ran = ran;
+        same = same;
+        system = subst (SystemOk g.plan (q ∷ g.past)) (twice sys c (Sweeping next_sweep) Resting) (sweep_ends g.plan (q ∷ g.past) (with_client sys c (Sweeping next_sweep)) c next_sweep (stands_swept (Some b) (uncommitted (Some b) b refl m)));
+        by = refl;
+        others = client_stands sys c Resting;
+        story = story_answers events g.past sys (with_client sys c Resting) c x q s_now story (said_later events g.past sys c x q w.0 store request how reply b story w.1 refl) (subst (λ r. MayCome r s_now) (sym closed.1) (uncommitted (Some b) b refl m)) (subst (λ r. IsOrdinary r s_now) (sym closed.1) begins_no) (plain_counts q.role plain) (plain_apart g.past c q.role plain) (keeps (Sweeping v) Resting at_sweep (λ u h. h));
+        own = goes_gap catalog fit g.plan (q ∷ g.past) c None ((with_client sys c Resting).clients c) x ran s_now closed.0 closed.1 begins_no (kept q plain).0 (subst (HandOk None (telling_of (gone x closed.0 s_now)) (ran n)) (sym (here Resting)) (tt, refl));
+        noted = noted_gap events c q.event (sys.clients c) x ran (g.noted c) ((with_client sys c Resting).clients c) s_now closed.0 closed.1 begins_no;
+      })
+        where
+          q : Played
+          q = swept (Some b)
+
+          plain : IsPlainRole q.role
+          plain = sweep_plain v reply
+
+          w : (w : Said) × (x.waiting ≡ Some w)
+          w = waiting_as x.waiting held_then_sweep.1
+
+          s_now : Said
+          s_now = answered_said events w.0 b
+
+          closed : (gap : List Said) × (x.rest ≡ Closed gap)
+          closed = closed_as x.rest held_then_sweep.0
+
+          begins_no : begins s_now ≡ false
+          begins_no = mild_begins s_now b refl m
+
   ---- a client stops
 
   pub going_stops : IsGoing catalog fit (events ++ event.Stop c ∷ []) (with_client sys c Stopped) (at doing c None)
@@ -784,6 +955,7 @@ module _ (catalog : List Table) (fit : Tables → Bool) (events : List Event) (s
     others = client_stands sys c Stopped;
     story = story_stays events g.past sys (with_client sys c Stopped) c x q story tt (plain_apart g.past c q.role tt) (record { begun = refl; hold = λ u h. absurd (subst (λ z. Has z u) (here Stopped) h) }) (silent q.event (λ ss k. refl));
     own = record { ended = (kept q tt).0; opened = (kept q tt).1; hand = subst (HandOk None x (ran n)) (sym (here Stopped)) tt };
+    noted = noted_elsewhere events c q.event (sys.clients c) x ran (g.noted c) ((with_client sys c Stopped).clients c) (subst (IsMadeSince (events ++ q.event ∷ []) c x.waiting) (sym (here Stopped)) tt);
   })
     where
       q : Played

@@ -22,6 +22,7 @@ use Rattle.sdb_story.specs.Filed.{number}
 use Rattle.sdb_story.specs.Left.{Execution}
 use Rattle.sdb_story.specs.Story.{Closed, Finished, Opened, Rest, finished_at}
 use Rattle.sdb_story.specs.Telling.{AllStories, IsOpened, Telling}
+use Rattle.sdb_linked.specs.Noted.{ClientNoted}
 
 ---- one transaction
 
@@ -72,13 +73,18 @@ abbrev pub IsCommitting : Option Said → Type 0
 IsCommitting None = ⊥
 IsCommitting (Some w) = reads_commit w.text ≡ true
 
+-- a statement waits
+abbrev pub IsWaiting : Option Said → Type 0
+IsWaiting None = ⊥
+IsWaiting (Some w) = Unit {0}
+
 -- Where a client stands, what it runs is its open transaction.
 abbrev pub HandOk : Option Statement → Telling → Execution → ClientAt → Type 0
 HandOk doing x r Resting = IsClosed x.rest × (x.waiting ≡ None)
 HandOk doing x r (Open i seen) = IsOpened x.rest × (x.waiting ≡ None) × (r.seen ≡ seen)
 HandOk doing x r (Reading i seen a s) = IsOpened x.rest × IsRunning doing x.waiting × (r.seen ≡ seen)
 HandOk doing x r (Committing p s) = IsOpened x.rest × IsCommitting x.waiting
-HandOk doing x r (Sweeping v) = IsClosed x.rest
+HandOk doing x r (Sweeping v) = IsClosed x.rest × IsWaiting x.waiting
 HandOk doing x r Stopped = Unit {0}
 
 -- What is so of a client: of each of its transactions, with what each ran, the first at 0, and where it stands.
@@ -89,7 +95,8 @@ pub record ClientGoes (catalog : List Table) (fit : Tables → Bool) (plan : ℕ
 
 ---- all clients
 
--- The events so far, with parts that keep the rules, tied to the clients where they stand and to the statements that they run.
+-- The events so far, with parts that keep the rules, tied to the clients where they stand, to the statements that they run, and to what
+-- these read.
 pub record IsGoing (catalog : List Table) (fit : Tables → Bool) (events : List Event) (sys : SystemAt) (doing : ℕ → Option Statement) : Type 0 where
   pub plan : ℕ → Plan
   pub played : List Played
@@ -101,6 +108,7 @@ pub record IsGoing (catalog : List Table) (fit : Tables → Bool) (events : List
   pub system : SystemOk plan past sys
   pub stories : AllStories events past sys told
   pub clients : (c : ℕ) → ClientGoes catalog fit plan past c (doing c) (sys.clients c) (told c) (ran c)
+  pub noted : (c : ℕ) → ClientNoted events c (sys.clients c) (told c) (ran c)
 
 ---- events
 

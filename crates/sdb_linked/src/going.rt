@@ -1,8 +1,10 @@
 //! Each event keeps what ties the events to the clients.
 ghost use Rattle.std.specs.Prelude.{◌≡◌, ◌<◌, ◌^◌, All, ℕ, ℤ, Bool, true, false, List, ◌∷◌, ◌++◌, [], Option, Some, None};
 ghost use Rattle.sdb_types.specs.declared.record.Record.{Record};
+ghost use Rattle.sdb_types.specs.declared.record.Span.{Span};
 ghost use Rattle.sdb_types.specs.declared.txid.TxId.{TxId};
 ghost use Rattle.sdb_record.specs.declared.access.Access.{Access};
+ghost use Rattle.sdb_record.specs.declared.access.Access.TheVariants as access;
 ghost use Rattle.sdb_record.specs.declared.write.Keyed.{Keyed};
 ghost use Rattle.sdb_schema.specs.declared.table.Table.{Table};
 ghost use Rattle.sdb_model.specs.declared.answer.Answer.{Answer};
@@ -14,11 +16,13 @@ ghost use Rattle.sdb_model.specs.declared.event.TableDump.{TableDump};
 ghost use Rattle.sdb_model.specs.declared.script.Script.{Script};
 ghost use Rattle.sdb_model.specs.declared.statement.Statement.{Statement};
 ghost use Rattle.sdb_model.specs.Events.{IsTrace, Shelf};
+ghost use Rattle.sdb_model.specs.Calls.{calls_by};
 ghost use Rattle.sdb_model.specs.Follows.{Follows};
 ghost use Rattle.sdb_model.specs.Told.{IsRun};
 ghost use Rattle.sdb_model.specs.Exec.{Tables};
 ghost use Rattle.sdb_model.specs.Sql.{Reads, reads_commit};
 ghost use Rattle.sdb_model.specs.Transactions.{IsOrder, changes_nothing, is_answered_from_rows, is_conflict};
+ghost use Rattle.sdb_laws.specs.Faithful.{AreNoted};
 ghost use Rattle.sdb_laws.specs.History.{at};
 ghost use Rattle.sdb_laws.specs.Trace.{StartsEmpty};
 ghost use Rattle.sdb_phases.specs.Work.{Work};
@@ -27,8 +31,10 @@ ghost use Rattle.sdb_snapshot.specs.Seen.{Seen, nothing, with_written};
 ghost use Rattle.sdb_snapshot.specs.Written.{AreChanges};
 ghost use Rattle.sdb_turns.specs.Noted.{MayNote, with_read, work_of};
 ghost use Rattle.sdb_turns.specs.ReadAt.{AreKinds, Asking, Done, IsOfData, Kind, ReadAt, read_pending, read_step};
-ghost use Rattle.sdb_turns.specs.System.{ClientCall, Committing, IsBegin, IsCommit, IsReplyTo, NoneSweeps, Open, Reading, Resting, Stopped, SystemAt, answer_at, call_event, commit_begun, commit_left, idle, next_id, with_begun, with_client};
+ghost use Rattle.sdb_turns.specs.Sweep.{Scanning, SweepAt, sweep_pending, sweep_step};
+ghost use Rattle.sdb_turns.specs.System.{ClientCall, Committing, IsBegin, IsCommit, IsReplyTo, NoneOpen, NoneSweeps, Open, Reading, Resting, Stopped, Sweeping, SystemAt, answer_at, call_event, commit_begun, commit_left, idle, next_id, with_begun, with_client};
 ghost use Rattle.sdb_story.specs.Body.{AnswersOn, IsCovered};
+ghost use Rattle.sdb_story.specs.Calls.{AgreeOn};
 ghost use Rattle.sdb_story.specs.Left.{IsFitting};
 ghost use Rattle.sdb_linked.specs.Going.{IsGoing, IsInner, IsMild, IsSilent, LeavesAtOnce};
 
@@ -88,10 +94,29 @@ pub fn reads()
         → IsGoing catalog fit (events ++ call_event y (Some b) ∷ []) (with_client sys y.client Resting) (at doing y.client None) }
 {}
 
+/// VACUUM is taken while no client that goes on has an open transaction; whatever call of it is pending and whatever its reply, it goes
+/// on, by the rows of its table or by a further table; and it is answered.
+pub fn sweeps()
+    ensures taken { (catalog : List Table) (fit : Tables → Bool) (events : List Event) (sys : SystemAt) (doing : ℕ → Option Statement) (c : ℕ) (text : List ℕ) (span : Span) → IsGoing catalog fit events sys doing → sys.clients c ≡ Resting → NoneOpen sys → IsOfData (access.Scan span)
+        → IsGoing catalog fit (events ++ event.Take c text None ∷ []) (with_client sys c (Sweeping (Scanning span))) (at doing c None) }
+    ensures goes_on { (kind : Record → Kind) (catalog : List Table) (fit : Tables → Bool) (events : List Event) (sys : SystemAt) (doing : ℕ → Option Statement) (y : ClientCall) (v : SweepAt) → AreKinds kind → IsGoing catalog fit events sys doing → sys.clients y.client ≡ Sweeping v → IsReplyTo (sweep_pending v) y
+        → IsGoing catalog fit (events ++ call_event y None ∷ []) (with_client sys y.client (Sweeping (sweep_step kind v y.now y.reply))) (at doing y.client None) }
+    ensures scans { (kind : Record → Kind) (catalog : List Table) (fit : Tables → Bool) (events : List Event) (sys : SystemAt) (doing : ℕ → Option Statement) (y : ClientCall) (v : SweepAt) (span : Span) → AreKinds kind → IsGoing catalog fit events sys doing → sys.clients y.client ≡ Sweeping v → IsReplyTo (sweep_pending v) y → IsOfData (access.Scan span)
+        → IsGoing catalog fit (events ++ call_event y None ∷ []) (with_client sys y.client (Sweeping (Scanning span))) (at doing y.client None) }
+    ensures ends { (kind : Record → Kind) (catalog : List Table) (fit : Tables → Bool) (events : List Event) (sys : SystemAt) (doing : ℕ → Option Statement) (y : ClientCall) (v : SweepAt) (b : Answer) → AreKinds kind → IsGoing catalog fit events sys doing → sys.clients y.client ≡ Sweeping v → IsReplyTo (sweep_pending v) y → IsMild b
+        → IsGoing catalog fit (events ++ call_event y (Some b) ∷ []) (with_client sys y.client Resting) (at doing y.client None) }
+{}
+
 /// Where the events end: events of any number of clients that are tied to them, follow a script's moves, and agree with stores whose
 /// tables began empty, are a run of the script, with some tables to print.
 pub fn going_is_run()
     ensures { (script : Script) (fit : Tables → Bool) (events : List Event) (sys : SystemAt) (doing : ℕ → Option Statement) (opening end : List Shelf) (moments : List (List Shelf)) (order : List Point) → IsFitting script.catalog fit → IsGoing script.catalog fit events sys doing → Follows script.clients script.moves events
         → IsTrace script.places events opening moments end → StartsEmpty script.places opening → IsOrder script.places events end order → All (λ (p : Point). p.id.0 < 2 ^ 128) order
         → (tables : List TableDump) × IsRun script opening end (record { events = events; order = order; tables = tables }) }
+{}
+
+/// Where what each client's calls showed of each row agrees, the notes of each transaction whose COMMIT was taken are what its statements
+/// noted.
+pub fn going_is_noted()
+    ensures { (catalog : List Table) (fit : Tables → Bool) (events : List Event) (sys : SystemAt) (doing : ℕ → Option Statement) (g : IsGoing catalog fit events sys doing) → ((c : ℕ) → AgreeOn (calls_by events c)) → AreNoted g.plan events g.past }
 {}

@@ -95,7 +95,7 @@ module _ (catalog : List Table) (events : List Event) (hands : ℕ → Hand) (g 
   -- it changes nothing
   as_it_was : (b : Answer) → changes_nothing b ≡ true → IsSo catalog (tables_fit catalog) hands c (holding now t) (taken_so (Some b))
   as_it_was b nothing =
-      moved catalog (tables_fit catalog) hands c (holding now t) (taken_so (Some b)) refl
+      moved catalog (tables_fit catalog) hands c (holding now t) (taken_so (Some b)) ready.idle.free refl
       (subst (λ (x : ClientAt). IsGoing catalog (tables_fit catalog) (taken_so (Some b)) (with_client (system_of hands) c x) (at (doing_of hands) c None)) (sym by_doing)
       (going_idle catalog (tables_fit catalog) events (system_of hands) (doing_of hands) g c t.id t.seen here text b nothing k.no_commit))
     where
@@ -106,7 +106,7 @@ module _ (catalog : List Table) (events : List Event) (hands : ℕ → Hand) (g 
   from_before : (b : Answer) (ks : List Keyed) → is_covered t.seen a ≡ true → step_of p (overlay a t.seen) ≡ Finished b ks → is_answered_from_rows b ≡ true → IsSo catalog (tables_fit catalog) hands c (holding now (written t ks)) (taken_so (Some b))
   from_before b ks covered step rows =
       let changes : AreChanges t.seen.notes ks = subst (MayWrite t.seen.notes) step (may_write t.seen p fine kept (key_read t.seen a covered)) in
-      moved catalog (tables_fit catalog) hands c (holding now (written t ks)) (taken_so (Some b)) refl
+      moved catalog (tables_fit catalog) hands c (holding now (written t ks)) (taken_so (Some b)) ready.idle.free refl
       (subst (λ (x : ClientAt). IsGoing catalog (tables_fit catalog) (taken_so (Some b)) (with_client (system_of hands) c x) (at (doing_of hands) c None)) (sym by_doing)
       (going_answers catalog (tables_fit catalog) events (system_of hands) (doing_of hands) g c t.id t.seen here text b st a ks rows k.no_commit k.reads (covered_is t.seen a covered)
       (answers_on catalog p t.seen b ks k.is k.named refl k.taken k.literals step) changes))
@@ -138,5 +138,5 @@ module _ (catalog : List Table) (events : List Event) (hands : ℕ → Hand) (g 
   -- The call for its rows is pending.
   pub told_unknown : IsOfData a → IsInner text → IsSo catalog (tables_fit catalog) hands c (record now { txn = Some (reading t a); plan = Some p }) (taken_so None)
   told_unknown tables inner =
-      moved catalog (tables_fit catalog) hands c (record now { txn = Some (reading t a); plan = Some p }) (taken_so None) refl
+      moved catalog (tables_fit catalog) hands c (record now { txn = Some (reading t a); plan = Some p }) (taken_so None) ready.idle.free refl
       (going_asks catalog (tables_fit catalog) events (system_of hands) (doing_of hands) g c text st t.id t.seen a here tables k.reads inner)

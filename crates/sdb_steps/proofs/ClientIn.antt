@@ -1,5 +1,5 @@
 -- A client stays on tables of the catalog, whatever it takes and is answered.
-use Rattle.std.proofs.Common.{◌≡◌, ℕ, ℤ, Bool, true, false, cond, ◌||◌, List, Option, Some, None, IfSome, Ok, Err, refl, sym, ap, subst, ◌∙◌}
+use Rattle.std.proofs.Common.{◌≡◌, ℕ, ℤ, Bool, true, false, cond, ◌||◌, List, [], ◌∷◌, Option, Some, None, IfSome, Ok, Err, refl, sym, ap, subst, ◌∙◌}
 use Rattle.std.specs.Prelude.{is_some}
 use Rattle.sdb_types.specs.declared.record.Record.{Record}
 use Rattle.sdb_types.specs.declared.record.Reply.{Reply}
@@ -29,13 +29,17 @@ use Rattle.sdb_txn.specs.declared.progress.Progress.TheVariants as progress
 use Rattle.sdb_txn.specs.declared.txn.Doing.{Doing}
 use Rattle.sdb_txn.specs.declared.txn.Doing.TheVariants as doing
 use Rattle.sdb_txn.specs.Txn.{IsCommitting, TxnAt, idle, pending_in}
+use Rattle.sdb_vacuum.specs.declared.work.VacuumStep.{VacuumStep}
+use Rattle.sdb_vacuum.specs.declared.work.VacuumStep.TheVariants as sweep
+use Rattle.sdb_vacuum.specs.Vacuum.{Gives, VacuumAt, begun, vacuum_step}
 use Rattle.sdb_client.specs.declared.next.Next.{Next}
 use Rattle.sdb_client.specs.declared.next.Next.TheVariants as next
-use Rattle.sdb_client.specs.Client.{AskTold, BeginTold, CallTold, ClientAt as Client, CommitNext, CommitTaken, GateTold, ImagesTold, IsIdle, IsTold, NextTold, ReplyTold, RollbackTold, RowsTold, StageTold, StatementTold, TableTold, Taking, TextTold, VacuumTold, after, client_pending, given_answer, given_left, gives, holding, is_covered, next_of, noting, pending_of, plan_of, resting, starved, written}
-use Rattle.sdb_steps.specs.About.{AreRecordsIn, IsDoingIn, IsListed, IsOfTables, IsReadIn, IsSeenIn, IsStageIn, IsWorkIn}
+use Rattle.sdb_client.specs.Client.{AskTold, BeginTold, CallTold, ClientAt as Client, CommitNext, CommitTaken, GateTold, ImagesTold, IsIdle, IsTold, NextTold, OpenTold, ReplyTold, RollbackTold, RowsTold, StageTold, StatementTold, TableTold, Taking, TextTold, VacuumTold, after, client_pending, given_answer, given_left, gives, holding, is_covered, next_of, noting, pending_by, pending_of, plan_of, resting, starved, vacuum_left, written}
+use Rattle.sdb_steps.specs.About.{AreRecordsIn, IsDoingIn, IsListed, IsOfTables, IsReadIn, IsSeenIn, IsStageIn, IsVacuumIn, IsWorkIn}
 use Rattle.sdb_steps.specs.Hands.{Takes}
-use Rattle.sdb_steps.proofs.InTables.{GivesIn, IsPlayed, access_in, access_table, commit_played, get_in, gives_in, read_played, scan_in, stepped_in, written_in}
+use Rattle.sdb_steps.proofs.InTables.{GivesIn, IsPlayed, access_in, access_table, commit_played, get_in, gives_in, read_played, scan_in, stepped_in, swept_in, sweep_played, written_in}
 use Rattle.sdb_steps.proofs.RowsFit.{by_test, found_itself}
+use Rattle.sdb_steps.proofs.Sweeps.{begun_in}
 use Rattle.sdb_steps.proofs.Whole.{by_memory}
 
 module _ (catalog : List Table) where
@@ -43,7 +47,7 @@ module _ (catalog : List Table) where
   Of c = IsOfTables catalog c
 
   open_in : (c : Client) (t : TxnAt) → c.txn ≡ Some t → Of c → IsDoingIn catalog t.seen t.doing c.plan
-  open_in c t e h = subst (λ (o : Option TxnAt). IfSome o (λ u. IsDoingIn catalog u.seen u.doing c.plan)) e h
+  open_in c t e h = subst (λ (o : Option TxnAt). IfSome o (λ u. IsDoingIn catalog u.seen u.doing c.plan)) e h.txn
 
   -- an open transaction that does nothing
   abbrev IsIdleIn : TxnAt → Type 0
@@ -51,11 +55,18 @@ module _ (catalog : List Table) where
 
   idle_in : (c : Client) (t : TxnAt) → c.txn ≡ Some t → IsIdle c → Of c → IsIdleIn t
   idle_in c t e i h =
-      let still : t.doing ≡ doing.Idle = subst (λ (o : Option TxnAt). IfSome o (λ u. u.doing ≡ doing.Idle)) e i in
+      let still : t.doing ≡ doing.Idle = subst (λ (o : Option TxnAt). IfSome o (λ u. u.doing ≡ doing.Idle)) e i.still in
       (still, subst (λ (x : Doing). IsDoingIn catalog t.seen x c.plan) still (open_in c t e h))
 
-  held_in : (c : Client) (u : TxnAt) → IsIdleIn u → Of (holding c u)
-  held_in c u h = subst (λ (x : Doing). IsDoingIn catalog u.seen x None) (sym h.0) h.1
+  -- the VACUUM that a client runs
+  abbrev Sweeps : Client → Type 0
+  Sweeps c = IfSome c.vacuum (IsVacuumIn catalog)
+
+  held_in : (c : Client) (u : TxnAt) → Sweeps c → IsIdleIn u → Of (holding c u)
+  held_in c u v h = record { txn = subst (λ (x : Doing). IsDoingIn catalog u.seen x None) (sym h.0) h.1; vacuum = v }
+
+  rests_in : (c : Client) → Sweeps c → Of (resting c)
+  rests_in c v = record { txn = tt; vacuum = v }
 
   left_in : (was t : TxnAt) (s : PlanStep) → IsIdleIn was → IsIdleIn t → GivesIn catalog s → IsIdleIn (given_left was t s)
   left_in was t (Wants a) w h g = w
@@ -74,19 +85,20 @@ module _ (catalog : List Table) where
       where
         by_gate : (b : Bool) → GateTold b c result d → Of d
         by_gate true k = same_in c d _ result k h
-        by_gate false k = subst Of (sym k.1) (record { notes = tt; reads = tt; scans = tt; writes = tt })
+        by_gate false k = subst Of (sym k.1) (record { txn = record { notes = tt; reads = tt; scans = tt; writes = tt }; vacuum = tt })
 
     commit_in : (o : Option TxnAt) → c.txn ≡ o → CommitTaken q.now c o result d → Of d
     commit_in None e k = same_in c d _ result k h
-    commit_in (Some t) e k = let seen = (idle_in c t e waits h).1 in subst Of (sym k.1) (record { writes = seen.writes; reads = seen.reads; scans = seen.scans })
+    commit_in (Some t) e k = let seen = (idle_in c t e waits h).1 in subst Of (sym k.1) (record { txn = record { writes = seen.writes; reads = seen.reads; scans = seen.scans }; vacuum = h.vacuum })
 
     rollback_in : (o : Option TxnAt) → RollbackTold c o result d → Of d
     rollback_in None k = same_in c d _ result k h
-    rollback_in (Some t) k = subst Of (sym k.1) tt
+    rollback_in (Some t) k = subst Of (sym k.1) (rests_in c h.vacuum)
 
-    vacuum_in : (b : Bool) → VacuumTold b c result d → Of d
-    vacuum_in true k = same_in c d _ result k h
-    vacuum_in false k = absurd k
+    vacuum_in : (b : Bool) (ts : List Table) → catalog ≡ ts → VacuumTold b ts c result d → Of d
+    vacuum_in true ts e k = same_in c d _ result k h
+    vacuum_in false [] e k = same_in c d _ result k h
+    vacuum_in false (t ∷ ts) e k = subst Of (sym k.1) (record { txn = h.txn; vacuum = subst (λ (xs : List Table). IsVacuumIn xs (begun (t ∷ ts))) (sym e) (begun_in t ts) })
 
     rows_in : (st : Statement) (t : TxnAt) (table : Table) → c.txn ≡ Some t → IsListed catalog table.name → RowsTold (plan_of table st) (access_of table st) c t result d → Of d
     rows_in st t table e listed k =
@@ -94,8 +106,8 @@ module _ (catalog : List Table) where
         let p : Planned = plan_of table st in
         let a : Access = access_of table st in
         by_test (is_covered t.seen a)
-        (λ b. subst Of (sym (k.known b).1) (held_in c (given_left t t (gives p a t)) (left_in t t (gives p a t) i i (gives_in catalog p a t.seen listed refl))))
-        (λ b. subst Of (sym (k.unknown b).1) (i.1, record { table = listed; access = refl; asked = refl; stage = tt }))
+        (λ b. subst Of (sym (k.known b).1) (held_in c (given_left t t (gives p a t)) h.vacuum (left_in t t (gives p a t) i i (gives_in catalog p a t.seen listed refl))))
+        (λ b. subst Of (sym (k.unknown b).1) (record { txn = (i.1, record { table = listed; access = refl; asked = refl; stage = tt }); vacuum = h.vacuum }))
 
     table_in : (st : Statement) (t : TxnAt) → c.txn ≡ Some t → TableTold q st c t result d → Of d
     table_in st t e k = by_refusal (refusal_of q.catalog st) refl
@@ -119,7 +131,7 @@ module _ (catalog : List Table) where
     statement_in statement.Begin k = begin_in c.txn k
     statement_in statement.Commit k = commit_in c.txn refl k
     statement_in statement.Rollback k = rollback_in c.txn k
-    statement_in statement.Vacuum k = vacuum_in (is_some c.txn || q.gate.open_elsewhere) k
+    statement_in statement.Vacuum k = vacuum_in (is_some c.txn || q.gate.open_elsewhere) q.catalog (sym here) k
     statement_in (statement.Insert s) k = ask_in (statement.Insert s) c.txn refl k
     statement_in (statement.Upsert s) k = ask_in (statement.Upsert s) c.txn refl k
     statement_in (statement.Update s) k = ask_in (statement.Update s) c.txn refl k
@@ -131,7 +143,7 @@ module _ (catalog : List Table) where
     text_in text (Err r, refuses, k) = same_in c d _ result k h
 
   starved_in : (text : List ℕ) (c : Client) → Of c → Of (starved text c)
-  starved_in text c h = elim (reads_commit text) as (λ b. Of (cond b (resting c) c)) [ true ↦ tt | false ↦ h ]
+  starved_in text c h = elim (reads_commit text) as (λ b. Of (cond b (resting c) c)) [ true ↦ rests_in c h.vacuum | false ↦ h ]
 
   ---- a reply that is taken
 
@@ -141,10 +153,10 @@ module _ (catalog : List Table) where
   IsAfterIn (next.Answer a) u p = IsIdleIn u
   IsAfterIn (next.End a) u p = Unit {0}
 
-  after_in : (c : Client) (n : Next) (u : TxnAt) → IsAfterIn n u c.plan → Of (after c n u)
-  after_in c next.Call u h = h
-  after_in c (next.Answer a) u h = held_in c u h
-  after_in c (next.End a) u h = tt
+  after_in : (c : Client) (n : Next) (u : TxnAt) → Sweeps c → IsAfterIn n u c.plan → Of (after c n u)
+  after_in c next.Call u v h = record { txn = h; vacuum = v }
+  after_in c (next.Answer a) u v h = held_in c u v h
+  after_in c (next.End a) u v h = rests_in c v
 
   noting_in : (t : TxnAt) (a : Access) (images : List Record) → IsListed catalog (access_table a) → AreRecordsIn catalog images → IsSeenIn catalog t.seen → IsIdleIn (noting t a images)
   noting_in t (access.Get key) images k h g = (refl, get_in catalog t.seen key images k h g)
@@ -224,12 +236,27 @@ module _ (catalog : List Table) where
   next_so t u (doing.Commit j) (Some p) q r now n h e can k = absurd k
   next_so t u doing.Over p q r now n h e can k = absurd k
 
-  pub replies_in : (c d : Client) (q : Request) (r : Reply) (now : ℤ) (result : Option Answer) → client_pending c ≡ Some q → CanAnswer q r → Of c → ReplyTold c c.txn r now result d → Of d
-  replies_in c d q r now result asked can h told = by_txn c.txn refl asked told
+  -- the VACUUM after a call
+  swept_so : (v w : VacuumAt) (e : VacuumStep) (r : Reply) (now : ℤ) → Gives (vacuum_step v now r) w e → IsVacuumIn catalog (vacuum_step v now r).0 → IfSome (vacuum_left e w) (IsVacuumIn catalog)
+  swept_so v w sweep.More r now g h = subst (IsVacuumIn catalog) (sym g.0) h
+  swept_so v w (sweep.Count n) r now g h = tt
+  swept_so v w sweep.Faulted r now g h = tt
+  swept_so v w (sweep.BadRecord key) r now g h = tt
+  swept_so v w sweep.NoMemory r now g h = tt
+
+  pub replies_in : (c d : Client) (q : Request) (r : Reply) (now : ℤ) (result : Option Answer) → client_pending c ≡ Some q → CanAnswer q r → Of c → ReplyTold c c.vacuum r now result d → Of d
+  replies_in c d q r now result asked can h told = by_vacuum c.vacuum refl asked told
     where
-      by_txn : (o : Option TxnAt) → c.txn ≡ o → pending_of o ≡ Some q → ReplyTold c o r now result d → Of d
+      by_txn : (o : Option TxnAt) → c.txn ≡ o → pending_of o ≡ Some q → OpenTold c o r now result d → Of d
       by_txn None e pends k = absurd k
-      by_txn (Some t) e pends k = subst Of (sym k.client) (after_in c k.next k.left (next_so t k.left t.doing c.plan q r now k.next (open_in c t e h) pends can k.told))
+      by_txn (Some t) e pends k = subst Of (sym k.client) (after_in c k.next k.left h.vacuum (next_so t k.left t.doing c.plan q r now k.next (open_in c t e h) pends can k.told))
+
+      by_vacuum : (v : Option VacuumAt) → c.vacuum ≡ v → pending_by v c.txn ≡ Some q → ReplyTold c v r now result d → Of d
+      by_vacuum None e pends k = by_txn c.txn refl pends k
+      by_vacuum (Some v) e pends k =
+          let is : IsVacuumIn catalog v = subst (λ (o : Option VacuumAt). IfSome o (IsVacuumIn catalog)) e h.vacuum in
+          let left = swept_so v k.0.left k.0.step r now k.0.told (swept_in catalog v.spans v.removed v.stage q now r is.0 is.1 pends can) in
+          subst Of (sym k.1) (record { txn = h.txn; vacuum = subst (λ (o : Option VacuumAt). IfSome o (IsVacuumIn catalog)) (sym k.0.goes) left })
 
   ---- the call that is pending
 
@@ -241,11 +268,15 @@ module _ (catalog : List Table) where
   doing_asks t doing.Over p q h e = absurd (cc)
 
   pub asks_in : (c : Client) (q : Request) → Of c → client_pending c ≡ Some q → IsPlayed catalog q
-  asks_in c q h asked = by_txn c.txn refl asked
+  asks_in c q h asked = by_vacuum c.vacuum refl asked
     where
       by_txn : (o : Option TxnAt) → c.txn ≡ o → pending_of o ≡ Some q → IsPlayed catalog q
       by_txn None e k = absurd (cc)
       by_txn (Some t) e k = doing_asks t t.doing c.plan q (open_in c t e h) k
+
+      by_vacuum : (v : Option VacuumAt) → c.vacuum ≡ v → pending_by v c.txn ≡ Some q → IsPlayed catalog q
+      by_vacuum None e k = by_txn c.txn refl k
+      by_vacuum (Some v) e k = sweep_played catalog v.stage q (subst (λ (o : Option VacuumAt). IfSome o (IsVacuumIn catalog)) e h.vacuum).0 k
 
 pub takes_in : (q : Taking) (text : List ℕ) (c d : Client) (result : Option Answer) → IsIdle c → IsOfTables q.catalog c → Takes q text c result d → IsOfTables q.catalog d
 takes_in q text c d result waits h k =

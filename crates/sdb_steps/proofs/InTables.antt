@@ -1,5 +1,5 @@
 -- What a transaction has read and written, and what a read and a COMMIT do, is of tables of the catalog.
-use Rattle.std.proofs.Common.{◌≡◌, ℕ, ℤ, zero, suc, Bool, true, false, cond, ◌||◌, List, [], ◌∷◌, ◌++◌, map, filter, slice_get, Option, Some, None, IfSome, Result, Ok, Err, refl, sym, ap, subst, ◌∙◌}
+use Rattle.std.proofs.Common.{◌≡◌, ℕ, ℤ, zero, suc, ◌+◌, Bool, true, false, cond, ◌||◌, List, [], ◌∷◌, ◌++◌, map, filter, slice_get, Option, Some, None, IfSome, Result, Ok, Err, refl, sym, ap, subst, ◌∙◌}
 use Rattle.std.specs.Prelude.{is_some, not}
 use Rattle.std.specs.Option.{option_and_then, option_map}
 use Rattle.std.specs.List.{AllByRecursion, list_all}
@@ -15,6 +15,9 @@ use Rattle.sdb_types.specs.declared.record.Record.{Record}
 use Rattle.sdb_types.specs.declared.record.Reply.{Reply}
 use Rattle.sdb_types.specs.declared.record.Reply.TheVariants as reply
 use Rattle.sdb_types.specs.declared.record.Request.{Request}
+use Rattle.sdb_types.specs.declared.record.Request.TheVariants as ask
+use Rattle.sdb_types.specs.declared.record.Condition.TheVariants as condition
+use Rattle.sdb_types.specs.declared.record.State.TheVariants as state
 use Rattle.sdb_types.specs.declared.record.Span.{Span}
 use Rattle.sdb_types.specs.Contents.{CanAnswer, are_rows_of, in_span, rise}
 use Rattle.sdb_types.specs.Order.{table_cmp}
@@ -35,7 +38,8 @@ use Rattle.sdb_record.specs.declared.write.Write.{Write}
 use Rattle.sdb_record.specs.Coordinator.{coordinator_key_of, coordinator_row_of, coordinator_table, decision_in, is_coordinator_table, is_expired}
 use Rattle.sdb_record.specs.Moved.{version_of}
 use Rattle.sdb_record.specs.Parts.{before_part, before_record, record_with}
-use Rattle.sdb_record.specs.Rolls.{forward_record, prepared_record}
+use Rattle.sdb_record.specs.Meta.{id_in}
+use Rattle.sdb_record.specs.Rolls.{forward_record, is_tombstone, prepared_record}
 use Rattle.sdb_record.proofs.RollLaws.{forward-key}
 use Rattle.sdb_record.proofs.TakenLaws.{prepared-key}
 use Rattle.sdb_schema.specs.declared.table.Table.{Table}
@@ -65,7 +69,9 @@ use Rattle.sdb_snapshot.specs.Noted.{Note, base_at, is_noted, reads_of, with_ima
 use Rattle.sdb_snapshot.specs.Seen.{Seen, overlay, tables_seen, with_get, with_scan, with_written}
 use Rattle.sdb_snapshot.specs.Written.{with_change_of, with_write, with_writes, write_of}
 use Rattle.sdb_spread.specs.Spread.{is_played}
-use Rattle.sdb_steps.specs.About.{AreNotesIn, AreRecordsIn, AreWritesIn, IsIn, IsListed, IsRecordIn, IsSeenIn, IsStageIn, IsWorkIn}
+use Rattle.sdb_vacuum.specs.declared.work.VacuumStep.{VacuumStep}
+use Rattle.sdb_vacuum.specs.Vacuum.{First, Malformed, Nothing, Over as Ends, Removing, Resolving as Resolves, Scanning as Scans, Tombstone, Unresolved, VacuumAt, VacuumStage, answered as sweep_answered, first_of, first_one, goes_on, going, next_table, pending_at, removal_answered, resolved as sweep_resolved, step_at as swept_at, tombstone_or}
+use Rattle.sdb_steps.specs.About.{AreListed, AreNotesIn, AreRecordsIn, AreWritesIn, IsIn, IsListed, IsRecordIn, IsSeenIn, IsStageIn, IsSweepIn, IsVacuumIn, IsWorkIn}
 use Rattle.sdb_types.specs.Exact.{equal_of}
 
 ---- the keys of an access
@@ -93,7 +99,7 @@ own_table t statement.Commit = for_own t []
 own_table t statement.Rollback = for_own t []
 own_table t statement.Vacuum = for_own t []
 
-inside_span : (span : Span) (q : Key) → in_span span q ≡ true → span.table ≡ q.table
+pub inside_span : (span : Span) (q : Key) → in_span span q ≡ true → span.table ≡ q.table
 inside_span span q h = table_exact span.table q.table (equal_of _ (and_parts (is_eq (table_cmp span.table q.table)) _ h).0)
 
 inside : (a : Access) (q : Key) → in_access a q ≡ true → access_table a ≡ q.table
@@ -454,3 +460,89 @@ module _ (catalog : List Table) where
   commit_played p (Stopping a n) q h e = some_is IsPlayed (abort_of p.id p.now) q (abort_played p.id p.now) e
   commit_played p (Back a n i) q h e = one_of IsPlayed (backs p) i q (map_all IsWriteIn IsPlayed (back_of p.id) p.writes (back_played p.id) h.writes) e
   commit_played p (Over a) q h e = absurd (cc)
+
+  ---- the stages of a VACUUM
+
+  abbrev AreSweptIn : VacuumAt × VacuumStep → Type 0
+  AreSweptIn x = IsVacuumIn catalog x.0
+
+  abbrev IsFirstIn : First → Type 0
+  IsFirstIn Nothing = Unit {0}
+  IsFirstIn (Tombstone b left) = IsIn catalog b.key × AreRecordsIn catalog left
+  IsFirstIn (Unresolved r meta left) = IsIn catalog r.key × AreRecordsIn catalog left
+  IsFirstIn (Malformed key) = Unit {0}
+
+  first_row_in : (left : List Record) → AreRecordsIn catalog left → IsFirstIn (first_of left)
+  first_row_in [] h = tt
+  first_row_in (r ∷ left) h = by_kind (kind_of r) (first_row_in left h.1)
+    where
+      by_mark : (b : Bool) → IsFirstIn (first_of left) → IsFirstIn (cond b (Tombstone r left) (first_of left))
+      by_mark true rest = (h.0, h.1)
+      by_mark false rest = rest
+
+      by_kind : (k : Kind) → IsFirstIn (first_of left) → IsFirstIn (first_one k r left (first_of left))
+      by_kind Firm rest = by_mark (is_tombstone r) rest
+      by_kind (Open meta) rest = (h.0, h.1)
+      by_kind Bad rest = tt
+
+  next_table_in : (ss : List Span) (n : ℕ) → AreListed catalog ss → AreSweptIn (next_table ss n)
+  next_table_in [] n h = (tt, tt)
+  next_table_in (s ∷ ss) n h = (h.0, h.1)
+
+  going_in : (ss : List Span) (n : ℕ) (f : First) → AreListed catalog ss → IsFirstIn f → AreSweptIn (going ss n f)
+  going_in ss n Nothing h g = next_table_in ss n h
+  going_in ss n (Tombstone b left) h g = ((g.0, g.1), h)
+  going_in ss n (Unresolved r meta left) h g = ((g.0, g.1), h)
+  going_in ss n (Malformed key) h g = (tt, h)
+
+  goes_in : (ss : List Span) (n : ℕ) (left : List Record) → AreListed catalog ss → AreRecordsIn catalog left → AreSweptIn (going ss n (first_of left))
+  goes_in ss n left h g = going_in ss n (first_of left) h (first_row_in left g)
+
+  sweep_rows_in : (ss : List Span) (n : ℕ) (span : Span) (r : Reply) → AreListed catalog ss → IsListed catalog span.table → CanAnswer (ask.Scan span) r → AreSweptIn (sweep_answered ss n r)
+  sweep_rows_in ss n span (reply.Rows rows) h k can = goes_in ss n rows h (rows_of span rows k can)
+  sweep_rows_in ss n span (reply.Found found) h k can = (tt, h)
+  sweep_rows_in ss n span reply.Applied h k can = (tt, h)
+  sweep_rows_in ss n span (reply.NotMet found) h k can = (tt, h)
+  sweep_rows_in ss n span reply.Fault h k can = (tt, h)
+  sweep_rows_in ss n span reply.NoMemory h k can = (tt, h)
+
+  image_swept_in : (ss : List Span) (n : ℕ) (left : List Record) (b : Record) → AreListed catalog ss → AreRecordsIn catalog left → IsIn catalog b.key → AreSweptIn (tombstone_or ss n left b)
+  image_swept_in ss n left b h g k = by_mark (is_tombstone b)
+    where
+      by_mark : (t : Bool) → AreSweptIn (cond t (goes_on ss n (Removing b left)) (going ss n (first_of left)))
+      by_mark true = ((k, g), h)
+      by_mark false = goes_in ss n left h g
+
+  resolved_swept_in : (ss : List Span) (n : ℕ) (rec : Record) (meta : Meta) (left : List Record) (x : RecoverPhase × RecoverStep) → AreListed catalog ss → IsIn catalog rec.key → AreRecordsIn catalog left → FoundIn x → AreSweptIn (sweep_resolved ss n rec meta left x)
+  resolved_swept_in ss n rec meta left (p, steps.More) h k g i = ((k, g), h)
+  resolved_swept_in ss n rec meta left (p, steps.Image None) h k g i = goes_in ss n left h g
+  resolved_swept_in ss n rec meta left (p, steps.Image (Some b)) h k g i = image_swept_in ss n left b h g i
+  resolved_swept_in ss n rec meta left (p, steps.Busy id at) h k g i = goes_in ss n left h g
+  resolved_swept_in ss n rec meta left (p, steps.Faulted) h k g i = (tt, h)
+  resolved_swept_in ss n rec meta left (p, steps.BadRecord key) h k g i = (tt, h)
+  resolved_swept_in ss n rec meta left (p, steps.NoMemory) h k g i = (tt, h)
+
+  removal_in : (ss : List Span) (n : ℕ) (left : List Record) (r : Reply) → AreListed catalog ss → AreRecordsIn catalog left → AreSweptIn (removal_answered ss n left r)
+  removal_in ss n left reply.Applied h g = goes_in ss (n + 1) left h g
+  removal_in ss n left (reply.NotMet found) h g = goes_in ss n left h g
+  removal_in ss n left (reply.Found found) h g = (tt, h)
+  removal_in ss n left (reply.Rows rows) h g = (tt, h)
+  removal_in ss n left reply.Fault h g = (tt, h)
+  removal_in ss n left reply.NoMemory h g = (tt, h)
+
+  -- where a reply that the pending call can get leads a VACUUM
+  pub swept_in : (ss : List Span) (n : ℕ) (s : VacuumStage) (q : Request) (now : ℤ) (r : Reply) → IsSweepIn catalog s → AreListed catalog ss → pending_at s ≡ Some q → CanAnswer q r → AreSweptIn (swept_at ss n s now r)
+  swept_in ss n (Scans span) q now r h g e can = sweep_rows_in ss n span r g h (let same : q ≡ ask.Scan span = cc in subst (λ (x : Request). CanAnswer x r) same can)
+  swept_in ss n (Resolves rec meta p left) q now r h g e can = resolved_swept_in ss n rec meta left (recover_next rec meta p now r) g h.0 h.1 (recovered_in rec meta p now r h.0)
+  swept_in ss n (Removing b left) q now r h g e can = removal_in ss n left r g h.1
+  swept_in ss n Ends q now r h g e can = absurd (cc)
+
+  pub sweep_played : (s : VacuumStage) (q : Request) → IsSweepIn catalog s → pending_at s ≡ Some q → IsPlayed q
+  sweep_played (Scans span) q h e = some_is IsPlayed (ask.Scan span) q (listed_played span.table h) e
+  sweep_played (Resolves rec meta p left) q h e = recover_played rec meta p q h.0 e
+  sweep_played (Removing b left) q h e = by_id (id_in b.columns) e
+    where
+      by_id : (o : Option TxId) → option_map (λ (id : TxId). ask.DeleteIf b.key (condition.Version id state.Committed)) o ≡ Some q → IsPlayed q
+      by_id None e = absurd (cc)
+      by_id (Some id) e = some_is IsPlayed (ask.DeleteIf b.key (condition.Version id state.Committed)) q (listed_played b.key.table h.0) e
+  sweep_played Ends q h e = absurd (cc)

@@ -6,4 +6,5 @@ pub mod Fitted
 pub mod ReadReplies
 pub mod Replied
 pub mod InTables
+pub mod Sweeps
 pub mod ClientIn

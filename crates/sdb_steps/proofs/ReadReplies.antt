@@ -37,7 +37,8 @@ use Rattle.sdb_txn.specs.declared.txn.Doing.TheVariants as doing
 use Rattle.sdb_txn.specs.Txn.{TxnAt, idle as idle_of, pending, pending_in}
 use Rattle.sdb_client.specs.declared.next.Next.{Next}
 use Rattle.sdb_client.specs.declared.next.Next.TheVariants as next
-use Rattle.sdb_client.specs.Client.{CallTold, ClientAt as Client, ImagesTold, IsAsRead, StageTold, after, answer_in, gives, given_answer, given_left, holding, noting, pending_of, resting, too_many, written}
+use Rattle.sdb_vacuum.specs.Vacuum.{VacuumAt}
+use Rattle.sdb_client.specs.Client.{CallTold, ClientAt as Client, ImagesTold, IsAsRead, StageTold, after, answer_in, gives, given_answer, given_left, holding, noting, pending_by, pending_of, resting, too_many, written}
 use Rattle.sdb_client.specs.Inside.{IsFine, IsKeyRead, MayWrite}
 use Rattle.sdb_client.proofs.Writable.{may_write}
 use Rattle.sdb_turns.specs.Machine.{machine_kind, stands_at}
@@ -116,13 +117,14 @@ module _ (catalog : List Table) (events : List Event) (hands : ℕ → Hand) (g 
   pub as_led : (n m : Next) (u v : TxnAt) → n ≡ m → u ≡ v → LedSo m v → LedSo n u
   as_led n m u v e k s = subst (λ (x : Next). LedSo x u) (sym e) (subst (λ (x : TxnAt). LedSo m x) (sym k) s)
 
-  module _ (t : TxnAt) (p : Planned) (a : Access) (x : ReadAt) (some : now.txn ≡ Some t) (reads : t.doing ≡ doing.Read a x) (plan : now.plan ≡ Some p) (k : IsAskedBy catalog p a x) where
+  module _ (t : TxnAt) (p : Planned) (a : Access) (x : ReadAt) (free : now.vacuum ≡ None) (some : now.txn ≡ Some t) (reads : t.doing ≡ doing.Read a x) (plan : now.plan ≡ Some p) (k : IsAskedBy catalog p a x) where
     here : (system_of hands).clients y.client ≡ Reading t.id t.seen a (stands_at x.stage)
-    here = rw (called.waiting.goes_on, some, reads) refl
+    here = rw (called.waiting.goes_on, free, some, reads) refl
 
     pends : read_pending_at (request_of a) x.stage ≡ Some y.request
     pends =
-        let open_txn : pending t ≡ Some y.request = subst (λ (o : Option TxnAt). pending_of o ≡ Some y.request) some called.waiting.pending in
+        let by_txn : pending_of now.txn ≡ Some y.request = subst (λ (v : Option VacuumAt). pending_by v now.txn ≡ Some y.request) free called.waiting.pending in
+        let open_txn : pending t ≡ Some y.request = subst (λ (o : Option TxnAt). pending_of o ≡ Some y.request) some by_txn in
         let read : read_pending_at x.request x.stage ≡ Some y.request = subst (λ (d : Doing). pending_in d ≡ Some y.request) reads open_txn in
         subst (λ (q : Request). read_pending_at q x.stage ≡ Some y.request) k.request read
 
@@ -144,20 +146,20 @@ module _ (catalog : List Table) (events : List Event) (hands : ℕ → Hand) (g 
 
     reads_on : (s : ReadStage) → read_step x.stage y.now y.reply ≡ s → RepliedSo None (record now { txn = Some (record t { doing = doing.Read a (record x { stage = s }) }) })
     reads_on s e =
-        moved catalog (tables_fit catalog) hands y.client (record now { txn = Some (record t { doing = doing.Read a (record x { stage = s }) }) }) (events ++ call_event y None ∷ []) refl
+        moved catalog (tables_fit catalog) hands y.client (record now { txn = Some (record t { doing = doing.Read a (record x { stage = s }) }) }) (events ++ call_event y None ∷ []) free refl
         (subst (λ (z : laws.ReadAt). IsGoing catalog (tables_fit catalog) (events ++ call_event y None ∷ []) (with_client (system_of hands) y.client (Reading t.id t.seen a z)) (at (doing_of hands) y.client (doing_of hands y.client)))
         (sym (machine_steps x.stage y.now y.reply) ∙ ap stands_at e) going)
 
     -- it is answered as one that changes nothing
     fails : (b : Answer) → changes_nothing b ≡ true → RepliedSo (Some b) (holding now (idle_of t))
     fails b nothing =
-        moved catalog (tables_fit catalog) hands y.client (holding now (idle_of t)) (events ++ call_event y (Some b) ∷ []) refl
+        moved catalog (tables_fit catalog) hands y.client (holding now (idle_of t)) (events ++ call_event y (Some b) ∷ []) free refl
         (going_fails catalog (tables_fit catalog) events (system_of hands) (doing_of hands) g y.client y.store y.request y.how y.reply y.now machine_kind machine_kinds t.id t.seen a (stands_at x.stage) here asked b p.statement runs_it nothing)
 
     -- a key that was read differs
     differs : (key : Key) (found : Option Record) → RepliedSo (Some (answer.Conflict key found)) (resting now)
     differs key found =
-        moved catalog (tables_fit catalog) hands y.client (resting now) (events ++ call_event y (Some (answer.Conflict key found)) ∷ []) refl
+        moved catalog (tables_fit catalog) hands y.client (resting now) (events ++ call_event y (Some (answer.Conflict key found)) ∷ []) free refl
         (going_differs catalog (tables_fit catalog) events (system_of hands) (doing_of hands) g y.client y.store y.request y.how y.reply y.now machine_kind machine_kinds t.id t.seen a (stands_at x.stage) here asked (answer.Conflict key found) p.statement runs_it refl)
 
     -- the read is done
@@ -187,7 +189,7 @@ module _ (catalog : List Table) (events : List Event) (hands : ℕ → Hand) (g 
           let h : step_of p (overlay (access_of p.table p.statement) seen) ≡ Finished b ks = step_seen v b ks n gave in
           let changes : AreChanges seen.notes ks = subst (MayWrite seen.notes) h (may_write seen p fine kept (subst (IsKeyRead seen.notes) k.access (key_read_now t.seen a images))) in
           let answers : AnswersOn catalog (tables_fit catalog) seen p.statement a b ks = subst (λ (q : Access). AnswersOn catalog (tables_fit catalog) seen p.statement q b ks) (sym k.access) (answers_on catalog p seen b ks is k.named k.asked k.taken k.literals h) in
-          moved catalog (tables_fit catalog) hands y.client (holding now (written v ks)) (events ++ call_event y (Some b) ∷ []) refl
+          moved catalog (tables_fit catalog) hands y.client (holding now (written v ks)) (events ++ call_event y (Some b) ∷ []) free refl
           (subst (λ (z : ClientAt). IsGoing catalog (tables_fit catalog) (events ++ call_event y (Some b) ∷ []) (with_client (system_of hands) y.client z) (at (doing_of hands) y.client None)) (sym by_doing)
           (going_tells catalog (tables_fit catalog) events (system_of hands) (doing_of hands) g y.client y.store y.request y.how y.reply y.now machine_kind machine_kinds t.id t.seen a (stands_at x.stage) here asked b p.statement runs_it images ks
           rows done (may_note t a images as_read) (covered_now t.seen a images) answers changes))

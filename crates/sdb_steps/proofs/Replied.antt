@@ -1,15 +1,20 @@
 -- Whatever reply a client's call gets, it keeps what ties the events to the clients.
 use Rattle.std.proofs.Common.{◌≡◌, ℕ, ◌+◌, true, length, List, [], ◌∷◌, ◌++◌, Option, Some, None, refl, sym, ap, subst, ◌∙◌, ◌⊎◌, inl, inr}
-use Rattle.std.specs.Prelude.{nat_lt, slice_get}
+use Rattle.std.specs.Prelude.{is_some, nat_lt, slice_get}
 use Rattle.std.specs.Option.{option_map}
+use Rattle.sdb_types.specs.declared.key.Key.{Key}
 use Rattle.sdb_types.specs.declared.record.Reply.{Reply}
+use Rattle.sdb_types.specs.declared.record.Span.{Span}
 use Rattle.sdb_schema.specs.declared.table.Table.{Table}
 use Rattle.sdb_schema.specs.Catalog.{is_catalog}
 use Rattle.sdb_model.specs.declared.answer.Answer.{Answer}
+use Rattle.sdb_model.specs.declared.answer.Answer.TheVariants as answer
+use Rattle.sdb_model.specs.Exec.{find_table}
 use Rattle.sdb_model.specs.declared.event.Event.{Event}
 use Rattle.sdb_model.specs.declared.statement.Statement.{Statement}
 use Rattle.sdb_exec.specs.Plans.{Planned}
 use Rattle.sdb_laws.specs.History.{at}
+use Rattle.sdb_laws.specs.Lawful.{is_data}
 use Rattle.sdb_phases.specs.declared.step.Outcome.{Outcome}
 use Rattle.sdb_phases.specs.declared.step.Outcome.TheVariants as outcome
 use Rattle.sdb_phases.specs.declared.step.ValidateStep.{ValidateStep}
@@ -26,16 +31,25 @@ use Rattle.sdb_txn.specs.declared.txn.Doing.TheVariants as doing
 use Rattle.sdb_txn.specs.Txn.{IsCommitting, TxnAt, pending_in, progress_of}
 use Rattle.sdb_client.specs.declared.next.Next.{Next}
 use Rattle.sdb_client.specs.declared.next.Next.TheVariants as next
-use Rattle.sdb_client.specs.Client.{ClientAt as Client, CommitNext, NextTold, ReplyTold, answer_in, next_of, pending_of, resting}
-use Rattle.sdb_turns.specs.System.{ClientAt, ClientCall, Committing, IsReplyTo, answer_at, answer_of_outcome, call_event, commit_left, with_client}
-use Rattle.sdb_linked.specs.Going.{IsGoing}
+use Rattle.sdb_vacuum.specs.declared.work.VacuumStep.{VacuumStep}
+use Rattle.sdb_vacuum.specs.declared.work.VacuumStep.TheVariants as step
+use Rattle.sdb_vacuum.specs.Vacuum.{Gives, VacuumAt, VacuumStage, vacuum_step}
+use Rattle.sdb_client.specs.Client.{ClientAt as Client, CommitNext, NextTold, OpenTold, ReplyTold, SweepTold, answer_in, answer_of, next_of, pending_by, pending_of, resting, vacuum_left}
+use Rattle.sdb_turns.specs.Machine.{machine_kind}
+use Rattle.sdb_turns.specs.Sweep.{Scanning, SweepAt, sweep_pending, sweep_step}
+use Rattle.sdb_turns.proofs.Machine.{machine_kinds}
+use Rattle.sdb_turns.specs.System.{ClientAt, ClientCall, Committing, IsReplyTo, Resting, Sweeping, answer_at, answer_of_outcome, call_event, commit_left, with_client}
+use Rattle.sdb_linked.specs.Going.{IsGoing, IsMild}
 use Rattle.sdb_linked.proofs.Rests.{going_starves}
 use Rattle.sdb_linked.proofs.Small.{twice}
-use Rattle.sdb_linked.proofs.Steps.{going_commit_calls}
+use Rattle.sdb_linked.proofs.Steps.{going_commit_calls, going_scans, going_sweeps, going_swept}
 use Rattle.sdb_steps.specs.Fitting.{tables_fit}
-use Rattle.sdb_steps.specs.Hands.{Hand, IsCalled, IsUsing, IsUsingTxn, doing_of, stands_doing, system_of}
+use Rattle.sdb_steps.specs.About.{AreListed, IsListed}
+use Rattle.sdb_steps.specs.Hands.{Hand, IsCalled, IsFittedBy, IsUsing, IsUsingTxn, doing_of, stands_doing, stands_txn, system_of}
+use Rattle.sdb_steps.specs.Sweeps.{sweep_at}
 use Rattle.sdb_steps.proofs.ReadReplies.{LedSo, RepliedSo, at_itself, replied_read}
-use Rattle.sdb_steps.proofs.Taken.{moved}
+use Rattle.sdb_steps.proofs.Sweeps.{Leads, scan_data, step_leads, sweep_asks}
+use Rattle.sdb_steps.proofs.Taken.{moved, moved_so}
 
 ---- where a COMMIT goes
 
@@ -94,13 +108,13 @@ module _ (catalog : List Table) (events : List Event) (hands : ℕ → Hand) (g 
   abbrev Led : Next → TxnAt → Type 0
   Led n u = LedSo catalog events hands g y is called n u
 
-  module _ (t : TxnAt) (k : CommitAt) (some : now.txn ≡ Some t) (commits : t.doing ≡ doing.Commit k) (none : now.plan ≡ None) where
+  module _ (t : TxnAt) (k : CommitAt) (free : now.vacuum ≡ None) (some : now.txn ≡ Some t) (commits : t.doing ≡ doing.Commit k) (none : now.plan ≡ None) where
     here : (system_of hands).clients y.client ≡ Committing k.work k.stage
-    here = rw (called.waiting.goes_on, some, commits) refl
+    here = rw (called.waiting.goes_on, free, some, commits) refl
 
     asked : IsReplyTo (commit_pending k.work k.stage) y
     asked = record {
-      asked = subst (λ (d : Doing). pending_in d ≡ Some y.request) commits (subst (λ (o : Option TxnAt). pending_of o ≡ Some y.request) some called.waiting.pending);
+      asked = subst (λ (d : Doing). pending_in d ≡ Some y.request) commits (subst (λ (o : Option TxnAt). pending_of o ≡ Some y.request) some (subst (λ (v : Option VacuumAt). pending_by v now.txn ≡ Some y.request) free called.waiting.pending));
       can = called.can;
       moment = called.moment;
     }
@@ -117,7 +131,7 @@ module _ (catalog : List Table) (events : List Event) (hands : ℕ → Hand) (g 
 
     is_over : (a : Outcome) → then_at ≡ Over a → Replied (Some (answer_of_outcome a)) (resting now)
     is_over a e =
-        moved catalog (tables_fit catalog) hands y.client (resting now) (events ++ call_event y (Some (answer_of_outcome a)) ∷ []) refl
+        moved catalog (tables_fit catalog) hands y.client (resting now) (events ++ call_event y (Some (answer_of_outcome a)) ∷ []) free refl
         (subst (λ (s : Stage). Goes (answer_at s) (commit_left k.work s)) e goes)
 
     further : (s : Stage) → then_at ≡ s → ended_at s ≡ None → Goes None (Committing k.work s)
@@ -148,7 +162,7 @@ module _ (catalog : List Table) (events : List Event) (hands : ℕ → Hand) (g 
 
     goes_on : (u : TxnAt) (m : CommitAt) → u.doing ≡ doing.Commit m → m.work ≡ k.work → IsNext k.work k.stage y.reply m.stage → ended_at then_at ≡ None → Replied None (record now { txn = Some u })
     goes_on u m doing_it same h n =
-        moved catalog (tables_fit catalog) hands y.client (record now { txn = Some u }) (events ++ call_event y None ∷ []) refl
+        moved catalog (tables_fit catalog) hands y.client (record now { txn = Some u }) (events ++ call_event y None ∷ []) free refl
         (subst (λ (o : Option Statement). IsGoing catalog (tables_fit catalog) (events ++ call_event y None ∷ []) (with_client (system_of hands) y.client (stands_doing u u.doing)) (at (doing_of hands) y.client o)) (sym no_run)
         (subst (λ (d : Doing). Goes None (stands_doing u d)) (sym doing_it) (subst (λ (p : Work). Goes None (Committing p m.stage)) (sym same) (goes_there m.stage n h))))
 
@@ -167,18 +181,88 @@ module _ (catalog : List Table) (events : List Event) (hands : ℕ → Hand) (g 
             subst (λ (x : Next). Led x u) (sym (h.next ∙ ap next_of more)) (by_doing u u.doing refl (h.told.next more) e)
         by_end (Some a) e = subst (λ (x : Next). Led x u) (sym (h.next ∙ ap next_of (h.told.answer ∙ ap progress_of e) ∙ told_end a)) (is_over a (ended_is then_at a e))
 
-  next_case : (t : TxnAt) (d : Doing) (o : Option Planned) (n : Next) (u : TxnAt) → now.txn ≡ Some t → t.doing ≡ d → now.plan ≡ o → IsUsing catalog d o → NextTold t d o y.reply y.now n u → Led n u
-  next_case t (doing.Read a x) (Some p) n u some does plan fitted h = replied_read catalog events hands g y is called t p a x some does plan fitted n u h
-  next_case t (doing.Commit k) None n u some does plan fitted h = replied_commit t k some does plan n u h
-  next_case t (doing.Read a x) None n u some does plan fitted h = absurd h
-  next_case t (doing.Commit k) (Some p) n u some does plan fitted h = absurd h
-  next_case t doing.Idle o n u some does plan fitted h = absurd h
-  next_case t doing.Over o n u some does plan fitted h = absurd h
+  next_case : (t : TxnAt) (d : Doing) (o : Option Planned) (n : Next) (u : TxnAt) → now.vacuum ≡ None → now.txn ≡ Some t → t.doing ≡ d → now.plan ≡ o → IsUsing catalog d o → NextTold t d o y.reply y.now n u → Led n u
+  next_case t (doing.Read a x) (Some p) n u free some does plan fitted h = replied_read catalog events hands g y is called t p a x free some does plan fitted n u h
+  next_case t (doing.Commit k) None n u free some does plan fitted h = replied_commit t k free some does plan n u h
+  next_case t (doing.Read a x) None n u free some does plan fitted h = absurd h
+  next_case t (doing.Commit k) (Some p) n u free some does plan fitted h = absurd h
+  next_case t doing.Idle o n u free some does plan fitted h = absurd h
+  next_case t doing.Over o n u free some does plan fitted h = absurd h
 
-  txn_case : (o : Option TxnAt) (result : Option Answer) (d : Client) → now.txn ≡ o → IsUsingTxn catalog o now.plan → ReplyTold now o y.reply y.now result d → Replied result d
-  txn_case None result d e fitted h = absurd h
-  txn_case (Some t) result d e fitted h =
-      subst (λ (r : Option Answer). Replied r d) (sym h.answer) (subst (λ (x : Client). Replied (answer_in h.next) x) (sym h.client) (next_case t t.doing now.plan h.next h.left e refl refl fitted h.told))
+  txn_case : (o : Option TxnAt) (result : Option Answer) (d : Client) → now.vacuum ≡ None → now.txn ≡ o → IsUsingTxn catalog o now.plan → OpenTold now o y.reply y.now result d → Replied result d
+  txn_case None result d free e fitted h = absurd h
+  txn_case (Some t) result d free e fitted h =
+      subst (λ (r : Option Answer). Replied r d) (sym h.answer) (subst (λ (x : Client). Replied (answer_in h.next) x) (sym h.client) (next_case t t.doing now.plan h.next h.left free e refl refl fitted h.told))
 
-  pub replies_so : (result : Option Answer) (d : Client) → ReplyTold now now.txn y.reply y.now result d → Replied result d
-  replies_so result d h = txn_case now.txn result d refl called.waiting.fitted h
+  ---- a call of a VACUUM
+
+  module _ (apart : (k : Key) → is_some (find_table catalog k.table) ≡ true → is_data k ≡ true) (v : VacuumAt) (runs_it : now.vacuum ≡ Some v) (none : now.txn ≡ None) (free : now.plan ≡ None) (listed : AreListed catalog v.spans) where
+    here_sweeps : (system_of hands).clients y.client ≡ Sweeping (sweep_at v.stage)
+    here_sweeps = rw (called.waiting.goes_on, runs_it) refl
+
+    asked_sweep : IsReplyTo (sweep_pending (sweep_at v.stage)) y
+    asked_sweep = record {
+      asked = sym (sweep_asks v.stage) ∙ subst (λ (o : Option VacuumAt). pending_by o now.txn ≡ Some y.request) runs_it called.waiting.pending;
+      can = called.can;
+      moment = called.moment;
+    }
+
+    no_statement : option_map (λ (p : Planned). p.statement) now.plan ≡ None
+    no_statement = ap (λ (o : Option Planned). option_map (λ (p : Planned). p.statement) o) free
+
+    -- where the machine then stands
+    abbrev then_machine : VacuumAt × VacuumStep
+    then_machine = vacuum_step v y.now y.reply
+
+    abbrev SweepsTo : SweepAt → Type 0
+    SweepsTo w = IsGoing catalog (tables_fit catalog) (events ++ call_event y None ∷ []) (with_client (system_of hands) y.client (Sweeping w)) (at (doing_of hands) y.client None)
+
+    goes_sweep : SweepsTo (sweep_step machine_kind (sweep_at v.stage) y.now y.reply)
+    goes_sweep = going_sweeps catalog (tables_fit catalog) events (system_of hands) (doing_of hands) g y.client y.store y.request y.how y.reply y.now machine_kind machine_kinds (sweep_at v.stage) here_sweeps asked_sweep
+
+    scans_next : (span : Span) → IsListed catalog span.table → SweepsTo (Scanning span)
+    scans_next span is_listed = going_scans catalog (tables_fit catalog) events (system_of hands) (doing_of hands) g y.client y.store y.request y.how y.reply y.now machine_kind machine_kinds (sweep_at v.stage) here_sweeps asked_sweep span (scan_data catalog span is_listed apart)
+
+    -- another call is pending
+    sweeps_on : (w : VacuumAt) → SweepsTo (sweep_at w.stage) → Replied None (record now { vacuum = Some w })
+    sweeps_on w h =
+        moved_so catalog (tables_fit catalog) hands y.client (record now { vacuum = Some w }) (events ++ call_event y None ∷ []) refl
+        (subst (λ (o : Option Statement). IsGoing catalog (tables_fit catalog) (events ++ call_event y None ∷ []) (with_client (system_of hands) y.client (Sweeping (sweep_at w.stage))) (at (doing_of hands) y.client o)) (sym no_statement) h)
+
+    first_listed : (ss : List Span) (span : Span) (rest : List Span) → ss ≡ span ∷ rest → AreListed catalog ss → IsListed catalog span.table
+    first_listed ss span rest e h = (subst (AreListed catalog) e h).0
+
+    more_case : (n : VacuumAt × VacuumStep) → n.1 ≡ step.More → Leads v.spans (sweep_step machine_kind (sweep_at v.stage) y.now y.reply) n → SweepsTo (sweep_at n.0.stage)
+    more_case (w, step.More) e (inl h) = subst SweepsTo (sym h.0) goes_sweep
+    more_case (w, step.More) e (inr (span, at_span, rest)) = subst (λ (s : VacuumStage). SweepsTo (sweep_at s)) (sym at_span) (scans_next span (first_listed v.spans span w.spans rest listed))
+    more_case (w, step.Count n) e h = absurd (cc)
+    more_case (w, step.Faulted) e h = absurd (cc)
+    more_case (w, step.BadRecord key) e h = absurd (cc)
+    more_case (w, step.NoMemory) e h = absurd (cc)
+
+    -- it is answered
+    swept_so : (b : Answer) → IsMild b → Replied (Some b) (record now { vacuum = None })
+    swept_so b mild =
+        moved catalog (tables_fit catalog) hands y.client (record now { vacuum = None }) (events ++ call_event y (Some b) ∷ []) refl refl
+        (subst (λ (o : Option TxnAt). IsGoing catalog (tables_fit catalog) (events ++ call_event y (Some b) ∷ []) (with_client (system_of hands) y.client (stands_txn o)) (at (doing_of hands) y.client (option_map (λ (p : Planned). p.statement) now.plan))) (sym none)
+        (subst (λ (o : Option Statement). IsGoing catalog (tables_fit catalog) (events ++ call_event y (Some b) ∷ []) (with_client (system_of hands) y.client Resting) (at (doing_of hands) y.client o)) (sym no_statement)
+        (going_swept catalog (tables_fit catalog) events (system_of hands) (doing_of hands) g y.client y.store y.request y.how y.reply y.now machine_kind machine_kinds (sweep_at v.stage) here_sweeps asked_sweep b mild)))
+
+    swept_case : (e : VacuumStep) (w : VacuumAt) → Gives then_machine w e → Replied (answer_of e) (record now { vacuum = vacuum_left e w })
+    swept_case step.More w h = sweeps_on w (subst (λ (x : VacuumAt). SweepsTo (sweep_at x.stage)) (sym h.0) (more_case then_machine (sym h.1) (step_leads v.spans v.removed v.stage y.now y.reply)))
+    swept_case (step.Count n) w h = swept_so (answer.Count n) (record { undone = refl; agrees = refl; other = λ e. cc })
+    swept_case step.Faulted w h = swept_so answer.Faulted (record { undone = refl; agrees = refl; other = λ e. cc })
+    swept_case (step.BadRecord key) w h = swept_so (answer.BadRecord key) (record { undone = refl; agrees = refl; other = λ e. cc })
+    swept_case step.NoMemory w h = swept_so answer.NoMemory (record { undone = refl; agrees = refl; other = λ e. cc })
+
+    sweep_case : (result : Option Answer) (d : Client) → SweepTold v y.reply y.now result d.vacuum → d ≡ record now { vacuum = d.vacuum } → Replied result d
+    sweep_case result d h is_so =
+        subst (λ (r : Option Answer). Replied r d) (sym h.answer)
+        (subst (λ (x : Client). Replied (answer_of h.step) x) (sym (is_so ∙ ap (λ (o : Option VacuumAt). record now { vacuum = o }) h.goes)) (swept_case h.step h.left h.told))
+
+  pub replies_so : ((k : Key) → is_some (find_table catalog k.table) ≡ true → is_data k ≡ true) → (result : Option Answer) (d : Client) → ReplyTold now now.vacuum y.reply y.now result d → Replied result d
+  replies_so apart result d h = by now.vacuum refl called.waiting.fitted h
+    where
+      by : (o : Option VacuumAt) → now.vacuum ≡ o → IsFittedBy catalog o now → ReplyTold now o y.reply y.now result d → Replied result d
+      by None e fitted h = txn_case now.txn result d e refl fitted h
+      by (Some v) e fitted h = sweep_case apart v e fitted.0 fitted.1 fitted.2 result d h.0 h.1

@@ -5,8 +5,6 @@ use Rattle.std.specs.Option.{option_map_or}
 use Rattle.std.specs.List.{list_all}
 use Rattle.std.specs.Ordering.{is_eq, is_lt}
 use Rattle.std.specs.Cmp.{tied_itself}
-use Rattle.std.specs.declared.cmp.Ordering.{Ordering}
-use Rattle.std.specs.declared.cmp.Ordering.TheVariants.{Less, Equal, Greater}
 use Rattle.std.specs.FinMap.{empty, entries, entries_sorted, find as find_key, get, get-empty, get-entries, is_sorted}
 use Rattle.std.specs.FinMap.Entries.{below_all}
 use Rattle.std.proofs.lemmas.Bool.{and_parts}

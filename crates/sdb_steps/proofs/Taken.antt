@@ -1,7 +1,7 @@
 -- A client that takes a statement which makes no call keeps what ties the events to the clients.
 use Rattle.std.proofs.Common.{◌≡◌, ◌≢◌, ℕ, ℤ, ◌+◌, ◌^◌, ◌<◌, ◌==◌, inl, inr, length, Bool, true, false, List, [], ◌∷◌, ◌++◌, Option, Some, None, refl, sym, ap, subst, ◌∙◌}
 use Rattle.std.specs.Prelude.{IfSome, if◌then◌else◌, nat_lt}
-use Rattle.std.proofs.lemmas.Bool.{eqb-true}
+use Rattle.std.proofs.lemmas.Bool.{eqb-false, eqb-true}
 use Rattle.sdb_schema.specs.declared.table.Table.{Table}
 use Rattle.sdb_model.specs.declared.answer.Answer.{Answer}
 use Rattle.sdb_model.specs.declared.answer.Answer.TheVariants as answer
@@ -15,6 +15,7 @@ use Rattle.sdb_model.specs.Sql.{Reads, Refuses, reads_begin, reads_commit}
 use Rattle.sdb_model.specs.Transactions.{changes_nothing}
 use Rattle.sdb_laws.specs.History.{at}
 use Rattle.sdb_sqltext.proofs.Clauses.{not_both, one_statement}
+use Rattle.sdb_record.specs.declared.access.Access.TheVariants as access
 use Rattle.sdb_record.specs.Meta.{is_moment}
 use Rattle.sdb_phases.specs.Work.{Work}
 use Rattle.sdb_phases.specs.Checks.{checks}
@@ -26,11 +27,15 @@ use Rattle.sdb_sqltext.proofs.OneWord.{begin_read, commit_read, rollback_read}
 use Rattle.sdb_txn.specs.declared.txn.Doing.{Doing}
 use Rattle.sdb_txn.specs.declared.txn.Doing.TheVariants as doing
 use Rattle.sdb_txn.specs.Txn.{TxnAt, committing, work_of as txn_work}
+use Rattle.sdb_vacuum.specs.Vacuum.{VacuumAt, begun, whole}
+use Rattle.sdb_client.specs.declared.gate.Gate.{Gate}
 use Rattle.sdb_client.specs.Client.{ClientAt as Client, holding, resting as client_resting, starved, with_begun as client_begun}
-use Rattle.sdb_turns.specs.System.{ClientAt, Committing, NoneSweeps, Open, Resting, SystemAt, commit_left, next_id, sweeps, with_begun, with_client}
+use Rattle.sdb_turns.specs.ReadAt.{IsOfData}
+use Rattle.sdb_turns.specs.Sweep.{Scanning}
+use Rattle.sdb_turns.specs.System.{ClientAt, Committing, NoneOpen, NoneSweeps, Open, Resting, Sweeping, SystemAt, commit_left, has_open, next_id, sweeps, with_begun, with_client}
 use Rattle.sdb_linked.specs.Going.{IsGoing, IsMild, LeavesAtOnce}
-use Rattle.sdb_linked.proofs.Steps.{going_begins, going_commits, going_idle, going_leaves_so, going_outside}
-use Rattle.sdb_steps.specs.Hands.{Hand, IsPlainAnswer, IsReady, doing_of, runs, stands, stands_doing, stands_txn, system_of, with_hand}
+use Rattle.sdb_linked.proofs.Steps.{going_begins, going_commits, going_idle, going_leaves_so, going_outside, going_vacuums}
+use Rattle.sdb_steps.specs.Hands.{Hand, IsGated, IsPlainAnswer, IsReady, doing_of, runs, stands, stands_by, stands_doing, stands_txn, system_of, with_hand}
 use Rattle.sdb_steps.proofs.RowsFit.{by_test}
 
 ---- one client elsewhere
@@ -55,13 +60,17 @@ module _ (catalog : List Table) (fit : Tables → Bool) (hands : ℕ → Hand) (
       subst (λ ds. IsGoing catalog fit events (system_of (with_hand hands c d)) ds) (λ i k. doing k i) (subst (λ (y : SystemAt). IsGoing catalog fit events y does) (λ i. record { clients = λ k. here k i; begun = λ k. begun k i }) g)
 
   -- one client stands elsewhere, and has begun as many transactions
-  pub moved : d.begun ≡ (hands c).client.begun → IsGoing catalog fit events (with_client (system_of hands) c (stands_txn d.txn)) (at (doing_of hands) c (runs d)) → IsSo
-  moved same g =
-      placed (with_client (system_of hands) c (stands_txn d.txn)) (at (doing_of hands) c (runs d)) g (mapped_at stands hands c (hand_of d)) (kept_at (λ (h : Hand). h.client.begun) hands c (hand_of d) same)
+  pub moved_so : d.begun ≡ (hands c).client.begun → IsGoing catalog fit events (with_client (system_of hands) c (stands_by d.vacuum d.txn)) (at (doing_of hands) c (runs d)) → IsSo
+  moved_so same g =
+      placed (with_client (system_of hands) c (stands_by d.vacuum d.txn)) (at (doing_of hands) c (runs d)) g (mapped_at stands hands c (hand_of d)) (kept_at (λ (h : Hand). h.client.begun) hands c (hand_of d) same)
       (mapped_at (λ (h : Hand). runs h.client) hands c (hand_of d))
 
+  -- it runs no VACUUM
+  pub moved : d.vacuum ≡ None → d.begun ≡ (hands c).client.begun → IsGoing catalog fit events (with_client (system_of hands) c (stands_txn d.txn)) (at (doing_of hands) c (runs d)) → IsSo
+  moved free same g = moved_so same (subst (λ (v : Option VacuumAt). IsGoing catalog fit events (with_client (system_of hands) c (stands_by v d.txn)) (at (doing_of hands) c (runs d))) (sym free) g)
+
   -- one client stands as it stood
-  pub unmoved : d.begun ≡ (hands c).client.begun → stands_txn d.txn ≡ stands (hands c) → runs d ≡ None → IsGoing catalog fit events (system_of hands) (at (doing_of hands) c None) → IsSo
+  pub unmoved : d.begun ≡ (hands c).client.begun → stands_by d.vacuum d.txn ≡ stands (hands c) → runs d ≡ None → IsGoing catalog fit events (system_of hands) (at (doing_of hands) c None) → IsSo
   unmoved same as_before none g =
       placed (system_of hands) (at (doing_of hands) c None) g (kept_at stands hands c (hand_of d) as_before) (kept_at (λ (h : Hand). h.client.begun) hands c (hand_of d) same)
       (λ e. ap (λ (o : Option Statement). at (doing_of hands) c o e) (sym none) ∙ mapped_at (λ (h : Hand). runs h.client) hands c (hand_of d) e)
@@ -70,15 +79,18 @@ module _ (catalog : List Table) (fit : Tables → Bool) (hands : ℕ → Hand) (
 
 module _ (catalog : List Table) (fit : Tables → Bool) (events : List Event) (hands : ℕ → Hand) (g : IsGoing catalog fit events (system_of hands) (doing_of hands)) (c : ℕ) (ready : IsReady hands c) where
   at_rest : (hands c).client.txn ≡ None → (system_of hands).clients c ≡ Resting
-  at_rest none = rw (ready.goes_on, none) refl
+  at_rest none = rw (ready.goes_on, ready.idle.free, none) refl
 
   pub at_open : (t : TxnAt) → (hands c).client.txn ≡ Some t → (system_of hands).clients c ≡ Open t.id t.seen
   at_open t some =
-      let idle : t.doing ≡ doing.Idle = subst (λ (o : Option TxnAt). IfSome o (λ u. u.doing ≡ doing.Idle)) some ready.idle in
-      rw (ready.goes_on, some, idle) refl
+      let idle : t.doing ≡ doing.Idle = subst (λ (o : Option TxnAt). IfSome o (λ u. u.doing ≡ doing.Idle)) some ready.idle.still in
+      rw (ready.goes_on, ready.idle.free, some, idle) refl
 
-  as_stands : stands_txn (hands c).client.txn ≡ stands (hands c)
+  as_stands : stands_by (hands c).client.vacuum (hands c).client.txn ≡ stands (hands c)
   as_stands = rw ready.goes_on refl
+
+  txn_stands : stands_txn (hands c).client.txn ≡ stands (hands c)
+  txn_stands = rw (ready.goes_on, ready.idle.free) refl
 
   no_plan : runs (hands c).client ≡ None
   no_plan = rw ready.free refl
@@ -92,9 +104,9 @@ module _ (catalog : List Table) (fit : Tables → Bool) (events : List Event) (h
   -- inside of one, where nothing is changed
   pub told_idle : (text : List ℕ) (b : Answer) (t : TxnAt) → (hands c).client.txn ≡ Some t → changes_nothing b ≡ true → reads_commit text ≡ false → IsSo catalog fit hands c (hands c).client (events ++ event.Take c text (Some b) ∷ [])
   told_idle text b t some idle no_commit =
-      let here : stands_txn (hands c).client.txn ≡ Open t.id t.seen = as_stands ∙ at_open t some in
+      let here : stands_txn (hands c).client.txn ≡ Open t.id t.seen = txn_stands ∙ at_open t some in
       let e : List Event = events ++ event.Take c text (Some b) ∷ [] in
-      moved catalog fit hands c (hands c).client e refl
+      moved catalog fit hands c (hands c).client e ready.idle.free refl
       (subst (λ (x : ClientAt). IsGoing catalog fit e (with_client (system_of hands) c x) (at (doing_of hands) c (runs (hands c).client))) (sym here)
       (subst (λ (o : Option Statement). IsGoing catalog fit e (with_client (system_of hands) c (Open t.id t.seen)) (at (doing_of hands) c o)) (sym no_plan)
       (going_idle catalog fit events (system_of hands) (doing_of hands) g c t.id t.seen (at_open t some) text b idle no_commit)))
@@ -130,8 +142,24 @@ sweeps_txn : (o : Option TxnAt) → sweeps (stands_txn o) ≡ false
 sweeps_txn None = refl
 sweeps_txn (Some t) = sweeps_doing t t.doing
 
-none_sweeps : (hands : ℕ → Hand) → NoneSweeps (system_of hands)
-none_sweeps hands e = by_test ((hands e).stopped) (λ t. rw t refl) (λ t. rw t (sweeps_txn (hands e).client.txn))
+-- of the others the gate says so
+none_sweeps : (gate : Gate) (hands : ℕ → Hand) (c : ℕ) → IsReady hands c → IsGated gate hands c → gate.vacuum_runs ≡ false → NoneSweeps (system_of hands)
+none_sweeps gate hands c ready gated shut e =
+    by_test ((hands e).stopped) (λ t. rw t refl)
+    (λ t. by_test (e == c)
+    (λ s. rw (t, ap (λ (k : ℕ). (hands k).client.vacuum) (eqb-true e c s) ∙ ready.idle.free) (sweeps_txn (hands e).client.txn))
+    (λ s. rw (t, gated.sweeps shut e (λ k. eqb-false e c s k) t) (sweeps_txn (hands e).client.txn)))
+
+none_opens : (gate : Gate) (hands : ℕ → Hand) (c : ℕ) → IsReady hands c → IsGated gate hands c → gate.open_elsewhere ≡ false → (hands c).client.txn ≡ None → NoneOpen (system_of hands)
+none_opens gate hands c ready gated shut none e =
+    by_test ((hands e).stopped) (λ t. rw t refl)
+    (λ t. by_test (e == c)
+    (λ s. rw (t, ap (λ (k : ℕ). (hands k).client.txn) (eqb-true e c s) ∙ none) (closed (hands e).client.vacuum))
+    (λ s. rw (t, gated.opens shut e (λ k. eqb-false e c s k) t) (closed (hands e).client.vacuum)))
+  where
+    closed : (v : Option VacuumAt) → has_open (stands_by v None) ≡ false
+    closed None = refl
+    closed (Some v) = refl
 
 pub other_no_begin : (text : List ℕ) (st : Statement) → Reads text st → st ≢ statement.Begin → reads_begin text ≡ false
 other_no_begin text st h other = by_test (reads_begin text) (λ t. absurd (other (one_statement text st statement.Begin h ((begin_read text).0 t)))) (λ t. t)
@@ -145,11 +173,11 @@ module _ (catalog : List Table) (fit : Tables → Bool) (events : List Event) (h
   abbrev now : Client
   now = (hands c).client
 
-  pub told_begun : (text : List ℕ) → now.txn ≡ None → Reads text statement.Begin → now.begun + 1 < 2 ^ 64 → IsSo catalog fit hands c (client_begun now) (events ++ event.Take c text (Some answer.Done) ∷ [])
-  told_begun text none reads few =
+  pub told_begun : (gate : Gate) (text : List ℕ) → IsGated gate hands c → gate.vacuum_runs ≡ false → now.txn ≡ None → Reads text statement.Begin → now.begun + 1 < 2 ^ 64 → IsSo catalog fit hands c (client_begun now) (events ++ event.Take c text (Some answer.Done) ∷ [])
+  told_begun gate text gated shut none reads few =
       let id_same : Open (next_id (system_of hands) c) nothing ≡ stands_txn (client_begun now).txn = ap (λ (n : ℕ). Open (id_of n (now.begun + 1)) nothing) (sym ready.number) in
       let e : List Event = events ++ event.Take c text (Some answer.Done) ∷ [] in
-      let begun_so = going_begins catalog fit events (system_of hands) (doing_of hands) g c text (at_rest catalog fit events hands g c ready none) (record { reads = (begin_read text).1 reads; client = ready.small; ordinal = few }) (none_sweeps hands) in
+      let begun_so = going_begins catalog fit events (system_of hands) (doing_of hands) g c text (at_rest catalog fit events hands g c ready none) (record { reads = (begin_read text).1 reads; client = ready.small; ordinal = few }) (none_sweeps gate hands c ready gated shut) in
       placed catalog fit hands c (client_begun now) e (with_begun (system_of hands) c (stands_txn (client_begun now).txn)) (at (doing_of hands) c None)
       (subst (λ (x : ClientAt). IsGoing catalog fit e (with_begun (system_of hands) c x) (at (doing_of hands) c None)) id_same begun_so)
       (mapped_at stands hands c (hand_of (client_begun now))) (mapped_at (λ (h : Hand). h.client.begun) hands c (hand_of (client_begun now))) (mapped_at (λ (h : Hand). runs h.client) hands c (hand_of (client_begun now)))
@@ -159,13 +187,20 @@ module _ (catalog : List Table) (fit : Tables → Bool) (events : List Event) (h
       let p = txn_work t moment in
       let e : List Event = events ++ event.Take c text None ∷ [] in
       let taken = going_commits catalog fit events (system_of hands) (doing_of hands) g c text t.id t.seen moment (at_open catalog fit events hands g c ready t some) (record { reads = reads; moment = is }) in
-      moved catalog fit hands c (holding now (committing t moment)) e refl
+      moved catalog fit hands c (holding now (committing t moment)) e ready.idle.free refl
       (subst (λ (x : ClientAt). IsGoing catalog fit e (with_client (system_of hands) c x) (at (doing_of hands) c None)) (going_stages p (nat_lt 0 (length p.writes)) (nat_lt 0 (length (checks p)))) taken)
+
+  -- a VACUUM begins with its first table
+  pub told_vacuum : (gate : Gate) (text : List ℕ) (t : Table) (ts : List Table) → IsGated gate hands c → gate.open_elsewhere ≡ false → now.txn ≡ None → IsOfData (access.Scan (whole t)) → IsSo catalog fit hands c (record now { vacuum = Some (begun (t ∷ ts)) }) (events ++ event.Take c text None ∷ [])
+  told_vacuum gate text t ts gated shut none tables =
+      moved_so catalog fit hands c (record now { vacuum = Some (begun (t ∷ ts)) }) (events ++ event.Take c text None ∷ []) refl
+      (subst (λ (o : Option Statement). IsGoing catalog fit (events ++ event.Take c text None ∷ []) (with_client (system_of hands) c (Sweeping (Scanning (whole t)))) (at (doing_of hands) c o)) (sym (no_plan catalog fit events hands g c ready))
+      (going_vacuums catalog fit events (system_of hands) (doing_of hands) g c text (whole t) (at_rest catalog fit events hands g c ready none) (none_opens gate hands c ready gated shut none) tables))
 
   -- a statement ends its transaction without a call
   pub told_left : (text : List ℕ) (t : TxnAt) (b : Answer) → now.txn ≡ Some t → LeavesAtOnce text b → IsSo catalog fit hands c (client_resting now) (events ++ event.Take c text (Some b) ∷ [])
   told_left text t b some leaves =
-      moved catalog fit hands c (client_resting now) (events ++ event.Take c text (Some b) ∷ []) refl
+      moved catalog fit hands c (client_resting now) (events ++ event.Take c text (Some b) ∷ []) ready.idle.free refl
       (going_leaves_so catalog fit events (system_of hands) (doing_of hands) g c t.id t.seen (at_open catalog fit events hands g c ready t some) text b leaves)
 
   pub told_rollback : (text : List ℕ) (t : TxnAt) → now.txn ≡ Some t → Reads text statement.Rollback → IsSo catalog fit hands c (client_resting now) (events ++ event.Take c text (Some answer.Done) ∷ [])
@@ -174,13 +209,16 @@ module _ (catalog : List Table) (fit : Tables → Bool) (events : List Event) (h
   memory_plain : IsPlainAnswer answer.NoMemory
   memory_plain = record { idle = refl; mild = record { undone = refl; agrees = refl; other = λ e. cc } }
 
+  rests : now.txn ≡ None → stands_by (client_resting now).vacuum (client_resting now).txn ≡ stands (hands c)
+  rests k = rw (ready.goes_on, ready.idle.free, k) refl
+
   -- out of memory
   pub told_starved : (text : List ℕ) → IsSo catalog fit hands c (starved text now) (events ++ event.Take c text (Some answer.NoMemory) ∷ [])
   told_starved text =
       by_test (reads_commit text)
       (λ q. rw q (elim (now.txn) as (λ o. now.txn ≡ o → IsSo catalog fit hands c (client_resting now) (events ++ event.Take c text (Some answer.NoMemory) ∷ [])) [
         | None ↦ λ k.
-            unmoved catalog fit hands c (client_resting now) (events ++ event.Take c text (Some answer.NoMemory) ∷ []) refl (sym (at_rest catalog fit events hands g c ready k)) refl
+            unmoved catalog fit hands c (client_resting now) (events ++ event.Take c text (Some answer.NoMemory) ∷ []) refl (rests k) refl
             (going_outside catalog fit events (system_of hands) (doing_of hands) g c text answer.NoMemory (at_rest catalog fit events hands g c ready k) memory_plain.mild)
         | Some t ↦ λ k. told_left text t answer.NoMemory k (inr (refl, q))
       ] refl))

@@ -36,11 +36,14 @@ use Rattle.sdb_client.specs.Client.{AskTold, BeginTold, ClientAt as Client, Comm
 use Rattle.sdb_turns.specs.ReadAt.{IsOfData}
 use Rattle.sdb_turns.specs.System.{ClientOk}
 use Rattle.sdb_linked.specs.Going.{IsGoing, IsInner, IsMild}
+use Rattle.sdb_vacuum.specs.Vacuum.{whole}
+use Rattle.sdb_steps.specs.About.{IsListed}
 use Rattle.sdb_steps.specs.Fitting.{tables_fit}
-use Rattle.sdb_steps.specs.Hands.{Hand, IsPlainAnswer, IsReady, Takes, doing_of, system_of}
+use Rattle.sdb_steps.specs.Hands.{Hand, IsGated, IsPlainAnswer, IsReady, Takes, doing_of, system_of}
 use Rattle.sdb_steps.proofs.RowsFit.{by_test, found_itself}
 use Rattle.sdb_steps.proofs.Asked.{IsAsked, told_known, told_unknown}
-use Rattle.sdb_steps.proofs.Taken.{IsSo, at_open, other_no_begin, other_no_commit, refused_no_commit, refused_plain, told_begun, told_commit, told_outside, told_rollback, told_same, told_starved}
+use Rattle.sdb_steps.proofs.Taken.{IsSo, at_open, other_no_begin, other_no_commit, refused_no_commit, refused_plain, told_begun, told_commit, told_outside, told_rollback, told_same, told_starved, told_vacuum}
+use Rattle.sdb_steps.proofs.Sweeps.{begun_in, scan_data}
 use Rattle.sdb_types.specs.Exact.{equal_of}
 
 ---- the keys of an access are of its table
@@ -122,7 +125,7 @@ by_memory (Some answer.NoMemory) a b = a refl
 ---- the whole
 
 module _ (q : Taking) (events : List Event) (hands : ℕ → Hand) (g : IsGoing q.catalog (tables_fit q.catalog) events (system_of hands) (doing_of hands)) (c : ℕ) (ready : IsReady hands c) (text : List ℕ) (is : is_catalog q.catalog ≡ true)
-    (apart : (k : Key) → is_some (find_table q.catalog k.table) ≡ true → is_data k ≡ true) (moment : is_moment q.now ≡ true) where
+    (apart : (k : Key) → is_some (find_table q.catalog k.table) ≡ true → is_data k ≡ true) (moment : is_moment q.now ≡ true) (gated : IsGated q.gate hands c) where
   abbrev now : Client
   now = (hands c).client
 
@@ -152,11 +155,11 @@ module _ (q : Taking) (events : List Event) (hands : ℕ → Hand) (g : IsGoing 
 
   begin_case : (o : Option TxnAt) (result : Option Answer) (d : Client) → now.txn ≡ o → Reads text statement.Begin → d.begun < 2 ^ 64 → BeginTold q.gate now o result d → So result d
   begin_case (Some t) result d e reads few h = as_told (refused 4) result d h (same (refused 4) (refused_plain _) (other_no_commit text statement.Begin reads (λ k. cc)))
-  begin_case None result d e reads few h = by_gate q.gate.vacuum_runs h
+  begin_case None result d e reads few h = by_gate q.gate.vacuum_runs refl h
     where
-      by_gate : (b : Bool) → GateTold b now result d → So result d
-      by_gate true k = as_told answer.Vacuuming result d k (outside answer.Vacuuming e vacuuming_mild)
-      by_gate false k = as_so (Some answer.Done) result _ d k.0 k.1 (told_begun q.catalog (tables_fit q.catalog) events hands g c ready text e reads (subst (λ (x : Client). x.begun < 2 ^ 64) k.1 few))
+      by_gate : (b : Bool) → q.gate.vacuum_runs ≡ b → GateTold b now result d → So result d
+      by_gate true shut k = as_told answer.Vacuuming result d k (outside answer.Vacuuming e vacuuming_mild)
+      by_gate false shut k = as_so (Some answer.Done) result _ d k.0 k.1 (told_begun q.catalog (tables_fit q.catalog) events hands g c ready q.gate text gated shut e reads (subst (λ (x : Client). x.begun < 2 ^ 64) k.1 few))
 
   commit_case : (o : Option TxnAt) (result : Option Answer) (d : Client) → now.txn ≡ o → Reads text statement.Commit → CommitTaken q.now now o result d → So result d
   commit_case None result d e reads h = as_told (refused 5) result d h (outside (refused 5) e (refused_plain _).mild)
@@ -166,14 +169,26 @@ module _ (q : Taking) (events : List Event) (hands : ℕ → Hand) (g : IsGoing 
   rollback_case None result d e reads h = as_told (refused 5) result d h (outside (refused 5) e (refused_plain _).mild)
   rollback_case (Some t) result d e reads h = as_so (Some answer.Done) result _ d h.0 h.1 (told_rollback q.catalog (tables_fit q.catalog) events hands g c ready text t e reads)
 
-  vacuum_case : (b : Bool) (result : Option Answer) (d : Client) → Reads text statement.Vacuum → VacuumTold b now result d → So result d
-  vacuum_case true result d reads h = as_told answer.OpenTransactions result d h (same answer.OpenTransactions open_plain (other_no_commit text statement.Vacuum reads (λ k. cc)))
-  vacuum_case false result d reads h = absurd h
+  -- no transaction is open, of the client or of another that goes on
+  none_open : (o : Option TxnAt) (elsewhere : Bool) → now.txn ≡ o → (is_some o || elsewhere) ≡ false → (now.txn ≡ None) × (elsewhere ≡ false)
+  none_open None elsewhere e k = (e, k)
+  none_open (Some t) elsewhere e k = absurd (cc)
+
+  counted_mild : (n : ℕ) → IsMild (answer.Count n)
+  counted_mild n = record { undone = refl; agrees = refl; other = λ e. cc }
+
+  vacuum_case : (b : Bool) (ts : List Table) (result : Option Answer) (d : Client) → (is_some now.txn || q.gate.open_elsewhere) ≡ b → q.catalog ≡ ts → Reads text statement.Vacuum → VacuumTold b ts now result d → So result d
+  vacuum_case true ts result d e k reads h = as_told answer.OpenTransactions result d h (same answer.OpenTransactions open_plain (other_no_commit text statement.Vacuum reads (λ k. cc)))
+  vacuum_case false [] result d e k reads h = as_told (answer.Count 0) result d h (outside (answer.Count 0) (none_open now.txn q.gate.open_elsewhere refl e).0 (counted_mild 0))
+  vacuum_case false (t ∷ ts) result d e k reads h =
+      let none = none_open now.txn q.gate.open_elsewhere refl e in
+      let listed : IsListed q.catalog t.name = subst (λ (xs : List Table). IsListed xs t.name) (sym k) (begun_in t ts).0 in
+      as_so None result _ d h.0 h.1 (told_vacuum q.catalog (tables_fit q.catalog) events hands g c ready q.gate text t ts gated none.1 none.0 (scan_data q.catalog (whole t) listed apart))
 
   rows_case : (st : Statement) (t : TxnAt) (result : Option Answer) (d : Client) (table : Table) → now.txn ≡ Some t → Reads text st → IsOnTable st → refusal_of q.catalog st ≡ None → named_table q.catalog st ≡ Some table → RowsTold (plan_of table st) (access_of table st) now t result d → So result d
   rows_case st t result d table e reads on taken named h =
       let k : IsAsked q.catalog text st table = record { is = is; named = named; taken = taken; literals = literals_read text st reads; reads = reads; no_commit = other_no_commit text st reads on.commit } in
-      let idle : t.doing ≡ doing.Idle = subst (λ (o : Option TxnAt). IfSome o (λ u. u.doing ≡ doing.Idle)) e ready.idle in
+      let idle : t.doing ≡ doing.Idle = subst (λ (o : Option TxnAt). IfSome o (λ u. u.doing ≡ doing.Idle)) e ready.idle.still in
       by_test (is_covered t.seen (access_of table st))
       (λ b. let r = h.known b in as_so _ result _ d r.0 r.1 (told_known q.catalog events hands g c ready text st table k t e idle (kept t e) b))
       (λ b. let r = h.unknown b in as_so _ result _ d r.0 r.1 (told_unknown q.catalog events hands g c ready text st table k t e idle (kept t e) (reads_data q.catalog st table named apart) (inner_read text st reads on)))
@@ -197,7 +212,7 @@ module _ (q : Taking) (events : List Event) (hands : ℕ → Hand) (g : IsGoing 
   statement_case statement.Begin result d reads few h = begin_case now.txn result d refl reads few h
   statement_case statement.Commit result d reads few h = commit_case now.txn result d refl reads h
   statement_case statement.Rollback result d reads few h = rollback_case now.txn result d refl reads h
-  statement_case statement.Vacuum result d reads few h = vacuum_case (is_some now.txn || q.gate.open_elsewhere) result d reads h
+  statement_case statement.Vacuum result d reads few h = vacuum_case (is_some now.txn || q.gate.open_elsewhere) q.catalog result d refl refl reads h
   statement_case (statement.Insert s) result d reads few h = ask_case (statement.Insert s) now.txn result d refl reads (record { begin = λ e. cc; commit = λ e. cc; rollback = λ e. cc }) h
   statement_case (statement.Upsert s) result d reads few h = ask_case (statement.Upsert s) now.txn result d refl reads (record { begin = λ e. cc; commit = λ e. cc; rollback = λ e. cc }) h
   statement_case (statement.Update s) result d reads few h = ask_case (statement.Update s) now.txn result d refl reads (record { begin = λ e. cc; commit = λ e. cc; rollback = λ e. cc }) h

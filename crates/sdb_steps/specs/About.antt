@@ -4,6 +4,7 @@ use Rattle.std.specs.List.{AllByRecursion}
 use Rattle.sdb_types.specs.declared.key.Key.{Key}
 use Rattle.sdb_types.specs.declared.key.TableName.{TableName}
 use Rattle.sdb_types.specs.declared.record.Record.{Record}
+use Rattle.sdb_types.specs.declared.record.Span.{Span}
 use Rattle.sdb_record.specs.declared.access.Access.{Access}
 use Rattle.sdb_record.specs.declared.access.Read.{Read}
 use Rattle.sdb_record.specs.declared.access.Scan.{Scan}
@@ -20,6 +21,7 @@ use Rattle.sdb_snapshot.specs.Noted.{Note}
 use Rattle.sdb_snapshot.specs.Seen.{Seen}
 use Rattle.sdb_txn.specs.declared.txn.Doing.{Doing}
 use Rattle.sdb_txn.specs.declared.txn.Doing.TheVariants as doing
+use Rattle.sdb_vacuum.specs.Vacuum.{Over, Removing, Resolving as Resolves, Scanning, VacuumAt, VacuumStage}
 use Rattle.sdb_client.specs.Client.{ClientAt as Client}
 
 -- the catalog has a table of that name
@@ -88,6 +90,22 @@ IsDoingIn catalog s (doing.Read a x) (Some p) = IsSeenIn catalog s × IsReadIn c
 IsDoingIn catalog s (doing.Commit k) p = IsWorkIn catalog k.work
 IsDoingIn catalog s doing.Over p = Unit {0}
 
--- A client stands on tables of the catalog: all that its open transaction has read, found, written and does is of them.
-abbrev pub IsOfTables : List Table → Client → Type 0
-IsOfTables catalog c = IfSome c.txn (λ t. IsDoingIn catalog t.seen t.doing c.plan)
+-- spans of tables of the catalog
+abbrev pub AreListed : List Table → List Span → Type 0
+AreListed catalog spans = AllByRecursion (λ s. IsListed catalog s.table) spans
+
+-- the record in hand and the rows left of a VACUUM
+abbrev pub IsSweepIn : List Table → VacuumStage → Type 0
+IsSweepIn catalog (Scanning span) = IsListed catalog span.table
+IsSweepIn catalog (Resolves rec meta phase left) = IsIn catalog rec.key × AreRecordsIn catalog left
+IsSweepIn catalog (Removing b left) = IsIn catalog b.key × AreRecordsIn catalog left
+IsSweepIn catalog Over = Unit {0}
+
+abbrev pub IsVacuumIn : List Table → VacuumAt → Type 0
+IsVacuumIn catalog v = IsSweepIn catalog v.stage × AreListed catalog v.spans
+
+-- A client stands on tables of the catalog: all that its open transaction has read, found, written and does is of them, and so is what
+-- its VACUUM scans, resolves and removes.
+pub record IsOfTables (catalog : List Table) (c : Client) : Type 0 where
+  pub txn : IfSome c.txn (λ t. IsDoingIn catalog t.seen t.doing c.plan)
+  pub vacuum : IfSome c.vacuum (IsVacuumIn catalog)

@@ -18,11 +18,15 @@ use Rattle.sdb_read.specs.Read.{ReadAt, request_of}
 use Rattle.sdb_txn.specs.declared.txn.Doing.{Doing}
 use Rattle.sdb_txn.specs.declared.txn.Doing.TheVariants as doing
 use Rattle.sdb_txn.specs.Txn.{TxnAt}
+use Rattle.sdb_vacuum.specs.Vacuum.{VacuumAt}
 use Rattle.sdb_client.specs.Client.{ClientAt as Client, IsBusy, IsIdle, Taking, TextTold, client_pending, starved}
+use Rattle.sdb_client.specs.declared.gate.Gate.{Gate}
 use Rattle.sdb_model.specs.Transactions.{changes_nothing}
 use Rattle.sdb_linked.specs.Going.{IsMild}
 use Rattle.sdb_turns.specs.Machine.{stands_at}
-use Rattle.sdb_turns.specs.System.{ClientAt, ClientCall, Committing, Open, Reading, Resting, Stopped, SystemAt}
+use Rattle.sdb_turns.specs.System.{ClientAt, ClientCall, Committing, Open, Reading, Resting, Stopped, Sweeping, SystemAt}
+use Rattle.sdb_steps.specs.About.{AreListed}
+use Rattle.sdb_steps.specs.Sweeps.{sweep_at}
 
 -- A client, and whether it has stopped.
 pub record Hand : Type 0 where
@@ -40,8 +44,13 @@ abbrev pub stands_txn : Option TxnAt → ClientAt
 stands_txn None = Resting
 stands_txn (Some t) = stands_doing t t.doing
 
+-- by the VACUUM that it runs, or else its open transaction
+abbrev pub stands_by : Option VacuumAt → Option TxnAt → ClientAt
+stands_by (Some v) o = Sweeping (sweep_at v.stage)
+stands_by None o = stands_txn o
+
 abbrev pub stands : Hand → ClientAt
-stands h = if h.stopped then Stopped else stands_txn h.client.txn
+stands h = if h.stopped then Stopped else stands_by h.client.vacuum h.client.txn
 
 -- where all stand, and how many transactions each has begun
 abbrev pub system_of : (ℕ → Hand) → SystemAt
@@ -65,6 +74,11 @@ pub record IsReady (hands : ℕ → Hand) (c : ℕ) : Type 0 where
   pub small : c < 2 ^ 64
   pub idle : IsIdle (hands c).client
   pub free : (hands c).client.plan ≡ None
+
+-- The gate says what other clients that go on do: where it is open, none of them runs VACUUM, or none has a transaction open.
+pub record IsGated (gate : Gate) (hands : ℕ → Hand) (c : ℕ) : Type 0 where
+  pub sweeps : gate.vacuum_runs ≡ false → (d : ℕ) → d ≢ c → (hands d).stopped ≡ false → (hands d).client.vacuum ≡ None
+  pub opens : gate.open_elsewhere ≡ false → (d : ℕ) → d ≢ c → (hands d).stopped ≡ false → (hands d).client.txn ≡ None
 
 -- What the taking of a text by a client comes to: that, or out of memory.
 pub record Takes (q : Taking) (text : List ℕ) (c : Client) (result : Option Answer) (d : Client) : Type 0 where
@@ -98,9 +112,14 @@ abbrev pub IsUsingTxn : List Table → Option TxnAt → Option Planned → Type 
 IsUsingTxn catalog None p = p ≡ None
 IsUsingTxn catalog (Some t) p = IsUsing catalog t.doing p
 
+-- A client that runs VACUUM has no transaction open, and scans tables of the catalog.
+abbrev pub IsFittedBy : List Table → Option VacuumAt → Client → Type 0
+IsFittedBy catalog None c = IsUsingTxn catalog c.txn c.plan
+IsFittedBy catalog (Some v) c = (c.txn ≡ None) × (c.plan ≡ None) × AreListed catalog v.spans
+
 -- what a client reads is of a statement that the catalog takes
 abbrev pub IsFitted : List Table → Client → Type 0
-IsFitted catalog c = IsUsingTxn catalog c.txn c.plan
+IsFitted catalog c = IsFittedBy catalog c.vacuum c
 
 -- a client waits for the reply to a call
 pub record IsWaiting (catalog : List Table) (hands : ℕ → Hand) (c : ℕ) (q : Request) : Type 0 where

@@ -1,3 +1,4 @@
 pub mod Fitting
-pub mod Hands
 pub mod About
+pub mod Sweeps
+pub mod Hands

@@ -16,6 +16,6 @@ ghost use Rattle.sdb_steps.specs.Hands.{Takes};
 pub fn calls_are_about_tables()
     ensures starts { (catalog : List Table) (number : ℕ) → IsOfTables catalog (nothing_done number) }
     ensures takes { (q : Taking) (text : List ℕ) (c d : Client) (result : Option Answer) → IsIdle c → IsOfTables q.catalog c → Takes q text c result d → IsOfTables q.catalog d }
-    ensures replies { (catalog : List Table) (c d : Client) (q : Request) (r : Reply) (now : ℤ) (result : Option Answer) → client_pending c ≡ Some q → CanAnswer q r → IsOfTables catalog c → ReplyTold c c.txn r now result d → IsOfTables catalog d }
+    ensures replies { (catalog : List Table) (c d : Client) (q : Request) (r : Reply) (now : ℤ) (result : Option Answer) → client_pending c ≡ Some q → CanAnswer q r → IsOfTables catalog c → ReplyTold c c.vacuum r now result d → IsOfTables catalog d }
     ensures asked { (catalog : List Table) (c : Client) (q : Request) → IsOfTables catalog c → client_pending c ≡ Some q → is_played catalog (table_asked q) ≡ true }
 {}

@@ -11,5 +11,5 @@ ghost use Rattle.sdb_steps.specs.Hands.{IsAfter, IsFitted, Takes};
 /// the catalog takes. It waits for a reply where it answered nothing, and for a statement where it did.
 pub fn clients_stay_fitted()
     ensures takes { (q : Taking) (text : List ℕ) (c d : Client) (result : Option Answer) → IsIdle c → IsFitted q.catalog c → Takes q text c result d → IsAfter q.catalog c result d }
-    ensures replies { (catalog : List Table) (c d : Client) (q : Request) (r : Reply) (now : ℤ) (result : Option Answer) → client_pending c ≡ Some q → IsFitted catalog c → ReplyTold c c.txn r now result d → IsAfter catalog c result d }
+    ensures replies { (catalog : List Table) (c d : Client) (q : Request) (r : Reply) (now : ℤ) (result : Option Answer) → client_pending c ≡ Some q → IsFitted catalog c → ReplyTold c c.vacuum r now result d → IsAfter catalog c result d }
 {}

@@ -14,7 +14,10 @@ use Rattle.sdb_types.specs.declared.record.Reply.{Reply}
 use Rattle.sdb_types.specs.declared.record.Reply.TheVariants as reply
 use Rattle.sdb_types.specs.declared.record.Request.{Request}
 use Rattle.sdb_types.specs.declared.record.State.TheVariants as state
-use Rattle.sdb_types.specs.Contents.{CanAnswer}
+use Rattle.sdb_types.specs.declared.value.Value.{Value}
+use Rattle.sdb_types.specs.declared.value.Value.TheVariants as value
+use Rattle.sdb_types.specs.Columns.{column}
+use Rattle.sdb_types.specs.Contents.{CanAnswer, tx_id}
 use Rattle.sdb_types.specs.Order.{key_cmp}
 use Rattle.sdb_types.proofs.KeyOrder.{key_total}
 use Rattle.sdb_record.specs.declared.access.Access.{Access}
@@ -25,19 +28,20 @@ use Rattle.sdb_record.specs.declared.coordinator.Decision.{Decision}
 use Rattle.sdb_record.specs.declared.coordinator.Decision.TheVariants as decision
 use Rattle.sdb_record.specs.declared.meta.Meta.{Meta}
 use Rattle.sdb_record.specs.Coordinator.{coordinator_key_of, coordinator_row_of, decision_in, is_coordinator_table}
-use Rattle.sdb_record.specs.Meta.{id_in, is_in, is_moment}
+use Rattle.sdb_record.specs.Meta.{id_in, id_in_value, is_in, is_moment}
 use Rattle.sdb_record.specs.Moved.{version_of}
 use Rattle.sdb_record.specs.Parts.{before_part, before_record, record_with}
 use Rattle.sdb_types.specs.declared.pair.Pair.{Pair}
 use Rattle.sdb_laws.specs.Lawful.{Played}
 use Rattle.sdb_turns.specs.Reader.{PhaseOk}
 use Rattle.sdb_record.specs.Rolls.{forward_record, image_of, image_under}
+use Rattle.sdb_record.proofs.IdLemmas.{id_of_text-is}
 use Rattle.sdb_record.proofs.ImageLaws.{row-key, row-decision, image-open, image-settled}
 use Rattle.sdb_record.proofs.RollLaws.{forward-key, forward-writer}
 use Rattle.sdb_model.specs.Calls.{Made, decision_shown, decision_said, decision_learned, is_read, key_asked}
 use Rattle.sdb_model.specs.Events.{table_asked}
 use Rattle.sdb_model.specs.Noted as noted
-use Rattle.sdb_model.specs.Noted.{Note, Got, Scanned, reads_rows, resolved, note_of, notes_in}
+use Rattle.sdb_model.specs.Noted.{Got, Scanned, reads_rows, resolved, note_of, notes_in}
 use Rattle.sdb_snapshot.specs.Noted.{reads_of}
 use Rattle.sdb_turns.specs.Noted.{first_image}
 use Rattle.sdb_phases.specs.declared.step.RecoverStep.{RecoverStep}
@@ -363,8 +367,17 @@ learned_first (m ∷ ms) id d h = by (decision_shown id m) refl h (λ l. learned
     by None e (inl l) ih = absurd (none_is l.0 (sym e ∙ l.1))
     by None e (inr l) ih = let x = ih l in (x.0, ap (λ o. if is_some o then o else decision_learned ms id) e ∙ x.1, inr x.2)
 
-learned_is : (ms : List Made) (id : TxId) (d : Decision) → AgreeOn ms → Learned ms id d → (x : Decided) × (decision_learned ms id ≡ Some x) × (x.decision ≡ d)
-learned_is ms id d agree l = let x = learned_first ms id d l in (x.0, x.1, agree id x.0.decision d x.2 l)
+learned_is : (ms : List Made) (id : TxId) (d : Decision) → AgreeOn ms → id.0 < 2 ^ 128 → Learned ms id d → (x : Decided) × (decision_learned ms id ≡ Some x) × (x.decision ≡ d)
+learned_is ms id d agree fits l = let x = learned_first ms id d l in (x.0, x.1, agree id x.0.decision d fits x.2 l)
+
+-- the id that a record names has 128 bits
+writer_fits : (r : Record) (id : TxId) → id_in r.columns ≡ Some id → id.0 < 2 ^ 128
+writer_fits r id e = by (column r.columns tx_id) e
+  where
+    by : (o : Option Value) → id_in_value o ≡ Some id → id.0 < 2 ^ 128
+    by None h = absurd (cc)
+    by (Some (value.Text text)) h = (id_of_text-is text id h).0
+    by (Some v) h = absurd (cc)
 
 -- a record as a scan's read of it
 abbrev read_as : Record → Read
@@ -394,14 +407,14 @@ under_is r d c n e = ap (λ y. image_under r (Some (record { decision = y; creat
 read_is : (ms : List Made) (r : Record) (o : Option Record) → AgreeOn ms → ImageBy ms r o → read_by ms r ≡ option_map read_as o
 read_is ms r o agree (Itself firm same) = ap (option_map (λ (image : Record). noted.read_of r.key (Some image))) (image-settled r (option_and_then (decision_learned ms) (id_in r.columns)) firm) ∙ ap (option_map read_as) (sym same)
 read_is ms r o agree (Forward id m held learned same) =
-    let x = learned_is ms id decision.Committed agree learned in
+    let x = learned_is ms id decision.Committed agree (writer_fits r id held.writer) learned in
     ap (option_map (λ (image : Record). noted.read_of r.key (Some image))) (resolved_under ms r id x.0 held x.1 ∙ under_is r decision.Committed x.0.decision x.0.created_at x.2)
     ∙ ap (λ v. Some (record { key = r.key; version = v })) (forward-writer r x.0.created_at)
     ∙ ap (λ v. Some (record { key = r.key; version = v })) (sym (forward-writer r m))
     ∙ ap (λ k. Some (record { key = k; version = id_in (forward_record r m).columns })) (sym (forward-key r m))
     ∙ ap (option_map read_as) (sym same)
 read_is ms r o agree (Back id held learned same) =
-    let x = learned_is ms id decision.Aborted agree learned in
+    let x = learned_is ms id decision.Aborted agree (writer_fits r id held.writer) learned in
     ap (option_map (λ (image : Record). noted.read_of r.key (Some image))) (resolved_under ms r id x.0 held x.1 ∙ under_is r decision.Aborted x.0.decision x.0.created_at x.2)
     ∙ by (before_record r) refl
     ∙ ap (option_map read_as) (sym same)

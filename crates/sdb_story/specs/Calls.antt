@@ -1,5 +1,5 @@
 -- What the calls of a read showed of the records that it found.
-use Rattle.std.specs.Prelude.{◌≡◌, ◌⊎◌, ℤ, true, false, List, [], ◌∷◌, ◌++◌, Option, Some, None, ℕ, ◌≤◌, filter, nat_lt, length, is_some, Bool, Contains, ◌↔◌, map}
+use Rattle.std.specs.Prelude.{◌≡◌, ◌⊎◌, ◌<◌, ◌^◌, ℤ, true, false, List, [], ◌∷◌, ◌++◌, Option, Some, None, ℕ, ◌≤◌, filter, nat_lt, length, is_some, Bool, Contains, ◌↔◌, map}
 use Rattle.std.specs.List.{AllByRecursion, cons_option, flat_map}
 use Rattle.std.specs.Option.{option_map_or}
 use Rattle.sdb_types.specs.declared.txid.TxId.{TxId}
@@ -95,7 +95,7 @@ ReadMade ms a Failed = Unit {0}
 
 -- what the calls showed of one row agrees
 abbrev pub AgreeOn : List Made → Type 0
-AgreeOn ms = (id : TxId) (c d : Decision) → Learned ms id c → Learned ms id d → c ≡ d
+AgreeOn ms = (id : TxId) (c d : Decision) → id.0 < 2 ^ 128 → Learned ms id c → Learned ms id d → c ≡ d
 
 -- the note of a read that is done with these images
 abbrev pub note_with : Access → List Record → Note

@@ -21,7 +21,8 @@ use Rattle.sdb_client.specs.Client.{ClientAt, IsBusy, IsIdle, Taking, client_pen
 use Rattle.sdb_txn.specs.declared.txn.Doing.{Doing}
 use Rattle.sdb_txn.specs.declared.txn.Doing.TheVariants as doing
 use Rattle.sdb_txn.specs.Txn.{TxnAt}
-use Rattle.sdb_steps.specs.Hands.{Hand, IsFitted, IsReady, IsUsing, IsUsingTxn, IsWaiting}
+use Rattle.sdb_vacuum.specs.Vacuum.{VacuumAt}
+use Rattle.sdb_steps.specs.Hands.{Hand, IsFitted, IsFittedBy, IsReady, IsUsing, IsUsingTxn, IsWaiting}
 use Rattle.sdb_steps.proofs.ClientIn.{asks_in, replies_in, takes_in}
 use Rattle.sdb_steps.proofs.Fitted.{replies_fitted, takes_fitted}
 use Rattle.sdb_world.specs.declared.seat.Seat.{Seat}
@@ -32,7 +33,8 @@ use Rattle.sdb_world.specs.Step.{HasCalled, HasCome, HasStopped, HasTaken, IsHow
 use Rattle.sdb_world.proofs.Ties.{call_apart, clock_apart, idle_apart, stop_apart, take_apart}
 use Rattle.sdb_world.proofs.Kept.{seat_calls, seat_stops, seat_takes, world_moves, world_stays, world_ticks}
 use Rattle.sdb_world.proofs.Linked.{linked_calls, linked_rests, linked_stops, linked_takes}
-use Rattle.sdb_world.proofs.Causing.{caused_calls, caused_idles, caused_stops, caused_takes, caused_ticks}
+use Rattle.sdb_world.proofs.Causing.{caused_calls, caused_idles, caused_stops, caused_takes, caused_ticks, gated_by}
+use Rattle.sdb_world.proofs.Gates.{gated_at}
 use Rattle.sdb_world.proofs.Goes.{gone_one}
 use Rattle.sdb_world.proofs.Works.{not_both}
 
@@ -63,7 +65,7 @@ step_call clients c allowed past e works busy h =
 ---- a client waits for one thing
 
 free_plan : (catalog : List Table) (c : ClientAt) → IsIdle c → IsFitted catalog c → c.plan ≡ None
-free_plan catalog c idle fitted = by c.txn idle fitted
+free_plan catalog c idle fitted = by c.txn idle.still (subst (λ (v : Option VacuumAt). IsFittedBy catalog v c) idle.free fitted)
   where
     by : (o : Option TxnAt) → IfSome o (λ t. t.doing ≡ doing.Idle) → IsUsingTxn catalog o c.plan → c.plan ≡ None
     by None i h = h
@@ -105,7 +107,7 @@ acts_idle fit places now w v c way h none same =
       record {
         es = event.Idle c ∷ [];
         so = record { event = event.Idle c; lone = refl; acted = acted_of w.script.clients way c w.events (event.Idle c) (step_idle w.script.clients c (IsHowOf way) w.events none) };
-        gone = gone_one fit places now now w (with_event w (event.Idle c)) (event.Idle c) refl refl (linked_rests w (event.Idle c) tt) (caused_idles w c) (λ f. refl);
+        gone = gone_one fit places now now w (with_event w (event.Idle c)) (event.Idle c) refl refl (linked_rests w (event.Idle c) tt) (λ l. caused_idles w c) (λ f. refl);
       },
     )
 
@@ -134,7 +136,8 @@ acts_take fit places now w v i way h works idle_at t =
       record {
         es = e ∷ [];
         so = record { event = e; lone = refl; acted = acted_of w.script.clients way (suc i) w.events e (step_take w.script.clients (suc i) (IsHowOf way) w.events e works pends (refl, ap (λ (n : ℕ). slice_get (texts_of w.script.clients (suc i)) n) (sym seat.taken) ∙ t.next)) };
-        gone = gone_one fit places now now w (with_event (with_seat w i (moved_seat s 1 t.client)) e) e refl refl (linked_takes w i s q t.text t.answer t.client h.playable refl t.at goes ready t.takes t.begun h.moment) (caused_takes w i s t.gate t.text t.answer t.client t.at goes ready t.gated h.moment t.begun t.takes) (λ f. refl);
+        gone = gone_one fit places now now w (with_event (with_seat w i (moved_seat s 1 t.client)) e) e refl refl (linked_takes w i s q t.text t.answer t.client h.playable refl t.at goes ready (gated_at t.gate w.seats i t.gated) t.takes t.begun h.moment)
+            (caused_takes w i s t.gate t.text t.answer t.client h.playable t.at goes ready (gated_by t.gate w.seats i t.gated) h.moment t.begun t.takes) (λ f. refl);
       },
     )
   where
@@ -165,7 +168,7 @@ acts_call fit places before now w v i way h works busy_at t =
         es = e ∷ [];
         so = record { event = e; lone = refl; acted = acted_of w.script.clients way (suc i) w.events e (step_call w.script.clients (suc i) (IsHowOf way) w.events e works pends (refl, t.allowed)) };
         gone = gone_one fit places before now w (with_event (with_seat w i (moved_seat s 0 t.client)) e) e refl refl (linked_calls w i s t.store t.how t.request t.reply t.answer t.client h.playable t.at goes waiting t.can t.told h.moment)
-            (caused_calls w i s t.store t.how t.request t.reply t.answer t.client h.playable t.at goes waiting seat.about t.can t.told h.moment)
+            (caused_calls w i s t.store t.how t.request t.reply t.answer t.client h.playable t.at goes waiting seat.about t.can t.stored t.told h.moment)
             (λ f. let m = t.made f asked in subst (λ (n : Name). IsCall places n t.request t.how t.reply before now) (sym m.0) m.1);
       },
     )
@@ -186,7 +189,7 @@ acts_stop fit places now w v c h t =
       record {
         es = e ∷ [];
         so = record { event = e; lone = refl; acted = refl };
-        gone = gone_one fit places now now w (with_event (with_seat w i (stopped_seat s)) e) e refl refl (linked_stops w i s t.at) (caused_stops w i s t.at) (λ f. refl);
+        gone = gone_one fit places now now w (with_event (with_seat w i (stopped_seat s)) e) e refl refl (linked_stops w i s t.at) (λ l. caused_stops w i s t.at) (λ f. refl);
       },
     ))
   where
@@ -200,6 +203,6 @@ acts_clock fit places now w v m h is same =
       record {
         es = event.Clock m ∷ [];
         so = record { event = event.Clock m; lone = refl; acted = refl };
-        gone = gone_one fit places now now w (with_event (at_moment w m) (event.Clock m)) (event.Clock m) refl refl (linked_rests w (event.Clock m) tt) (caused_ticks w m) (λ f. refl);
+        gone = gone_one fit places now now w (with_event (at_moment w m) (event.Clock m)) (event.Clock m) refl refl (linked_rests w (event.Clock m) tt) (λ l. caused_ticks w m) (λ f. refl);
       },
     )

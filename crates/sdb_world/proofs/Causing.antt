@@ -1,7 +1,6 @@
 -- The causes of answers are kept by each step of a world.
-use Rattle.std.proofs.Common.{◌≡◌, ◌≢◌, ℕ, zero, suc, ℤ, ◌<◌, ◌^◌, ◌+◌, Bool, true, false, List, [], ◌∷◌, ◌++◌, length, Option, Some, None, IfSome, refl, sym, ap, subst, ◌∙◌, get_or, arith}
+use Rattle.std.proofs.Common.{◌≡◌, ℕ, suc, ℤ, ◌<◌, ◌^◌, ◌+◌, Bool, true, false, List, [], ◌∷◌, ◌++◌, Option, Some, None, sym, ap, subst}
 use Rattle.std.specs.Prelude.{IsSomeAnd, is_some, pos, slice_get, slice_set}
-use Rattle.std.proofs.lemmas.Option.{slice_get_within}
 use Rattle.sdb_types.specs.declared.record.Reply.{Reply}
 use Rattle.sdb_types.specs.declared.record.Request.{Request}
 use Rattle.sdb_types.specs.Contents.{CanAnswer}
@@ -17,16 +16,18 @@ use Rattle.sdb_client.specs.Client.{ClientAt as Client, ReplyTold}
 use Rattle.sdb_client.specs.declared.gate.Gate.{Gate}
 use Rattle.sdb_laws.specs.History.{at}
 use Rattle.sdb_steps.specs.About.{IsOfTables}
+use Rattle.sdb_steps.specs.Fitting.{tables_fit}
 use Rattle.sdb_steps.specs.Hands.{Hand, IsReady, IsWaiting, Takes}
 use Rattle.sdb_causes.specs.Tied.{AnswersHaveCauses, AreTied, IsGate, with_stopped}
+use Rattle.sdb_causes.specs.Unfit.{shows_stored}
 use Rattle.sdb_causes.proofs.Whole.{clock_all, explained, idles_all, replies_all, starts_all, stops_all, takes_all}
 use Rattle.sdb_world.specs.declared.seat.Seat.{Seat}
 use Rattle.sdb_world.specs.World.{IsPlayable, WorldAt, at_moment, hand_in, hands_of, with_event, with_seat}
-use Rattle.sdb_world.specs.Linked.{HaveCauses}
-use Rattle.sdb_world.specs.Step.{AreFresh, IsOpenAt, IsShutAt, NoneOpen, SomeOpen, moved_seat, stopped_seat}
+use Rattle.sdb_world.specs.Linked.{HaveCauses, IsLinked, on_one}
+use Rattle.sdb_world.specs.Step.{AreFresh, IsGateAt, moved_seat, stopped_seat}
 use Rattle.sdb_world.proofs.Linked.{fresh_hand}
 use Rattle.sdb_world.proofs.Seats.{hands_moved}
-use Rattle.sdb_world.proofs.Takings.{read_there}
+use Rattle.sdb_world.proofs.Gates.{gated_at}
 
 -- what is so of clients that stand the same
 same_kept : (catalog : List Table) (events : List Event) (moment : ℤ) (f g : ℕ → Hand) → ((c : ℕ) → f c ≡ g c) → AreTied catalog events moment f → AreTied catalog events moment g
@@ -49,21 +50,21 @@ on_hand P seats i s here p = subst (λ (o : Option Seat). P (hand_in o (suc i)))
 caused_by : (w : WorldAt) (i : ℕ) (s t : Seat) (e : Event) → slice_get w.seats i ≡ Some s → AreTied w.script.catalog (w.events ++ e ∷ []) w.clock (at (hands_of w.seats) (suc i) (record { client = t.client; stopped = t.stopped })) → HaveCauses (with_event (with_seat w i t) e)
 caused_by w i s t e here h = same_kept w.script.catalog (w.events ++ e ∷ []) w.clock (at (hands_of w.seats) (suc i) (record { client = t.client; stopped = t.stopped })) (hands_of (slice_set w.seats i t)) (λ c. sym (hands_moved w.seats i s t c here)) h
 
-pub caused_takes : (w : WorldAt) (i : ℕ) (s : Seat) (gate : Gate) (text : List ℕ) (a : Option Answer) (d : Client) → slice_get w.seats i ≡ Some s → s.stopped ≡ false → IsReady (hands_of w.seats) (suc i) → IsGate (hands_of w.seats) (suc i) gate → is_moment w.clock ≡ true → d.begun < 2 ^ 64
-    → Takes (record { catalog = w.script.catalog; now = w.clock; gate = gate }) text s.client a d → HaveCauses w → HaveCauses (with_event (with_seat w i (moved_seat s 1 d)) (event.Take (suc i) text a))
-caused_takes w i s gate text a d here goes ready gated moment begun takes h =
+pub caused_takes : (w : WorldAt) (i : ℕ) (s : Seat) (gate : Gate) (text : List ℕ) (a : Option Answer) (d : Client) → IsPlayable w.script → slice_get w.seats i ≡ Some s → s.stopped ≡ false → IsReady (hands_of w.seats) (suc i) → IsGate (hands_of w.seats) (suc i) gate → is_moment w.clock ≡ true → d.begun < 2 ^ 64
+    → Takes (record { catalog = w.script.catalog; now = w.clock; gate = gate }) text s.client a d → IsLinked w → HaveCauses w → HaveCauses (with_event (with_seat w i (moved_seat s 1 d)) (event.Take (suc i) text a))
+caused_takes w i s gate text a d playable here goes ready gated moment begun takes linked h =
     caused_by w i s (moved_seat s 1 d) (event.Take (suc i) text a) here
     (subst (λ (b : Bool). AreTied w.script.catalog (w.events ++ event.Take (suc i) text a ∷ []) w.clock (at (hands_of w.seats) (suc i) (record { client = d; stopped = b }))) (sym goes)
-    (takes_all (record { catalog = w.script.catalog; now = w.clock; gate = gate }) w.events (hands_of w.seats) (suc i) text a d h ready gated moment begun
+    (takes_all (record { catalog = w.script.catalog; now = w.clock; gate = gate }) w.events (hands_of w.seats) (suc i) text a d h ready gated moment playable.catalog (on_one w.events) (tables_fit w.script.catalog) linked playable.apart begun
     (on_hand (λ (x : Hand). Takes (record { catalog = w.script.catalog; now = w.clock; gate = gate }) text x.client a d) w.seats i s here takes)))
 
-pub caused_calls : (w : WorldAt) (i : ℕ) (s : Seat) (store : Name) (how : How) (q : Request) (r : Reply) (a : Option Answer) (d : Client) → IsPlayable w.script → slice_get w.seats i ≡ Some s → s.stopped ≡ false → IsWaiting w.script.catalog (hands_of w.seats) (suc i) q → IsOfTables w.script.catalog s.client → CanAnswer q r → ReplyTold s.client s.client.txn r w.clock a d → is_moment w.clock ≡ true
-    → HaveCauses w → HaveCauses (with_event (with_seat w i (moved_seat s 0 d)) (event.Call (suc i) store q how r a))
-caused_calls w i s store how q r a d playable here goes waiting about can told moment h =
+pub caused_calls : (w : WorldAt) (i : ℕ) (s : Seat) (store : Name) (how : How) (q : Request) (r : Reply) (a : Option Answer) (d : Client) → IsPlayable w.script → slice_get w.seats i ≡ Some s → s.stopped ≡ false → IsWaiting w.script.catalog (hands_of w.seats) (suc i) q → IsOfTables w.script.catalog s.client → CanAnswer q r → shows_stored r ≡ true → ReplyTold s.client s.client.vacuum r w.clock a d → is_moment w.clock ≡ true
+    → IsLinked w → HaveCauses w → HaveCauses (with_event (with_seat w i (moved_seat s 0 d)) (event.Call (suc i) store q how r a))
+caused_calls w i s store how q r a d playable here goes waiting about can stored told moment linked h =
     caused_by w i s (moved_seat s 0 d) (event.Call (suc i) store q how r a) here
     (subst (λ (b : Bool). AreTied w.script.catalog (w.events ++ event.Call (suc i) store q how r a ∷ []) w.clock (at (hands_of w.seats) (suc i) (record { client = d; stopped = b }))) (sym goes)
-    (replies_all w.script.catalog w.events (hands_of w.seats) (record { client = suc i; store = store; request = q; how = how; reply = r; now = w.clock }) a d playable.apart (record { waiting = waiting; can = can; moment = moment })
-    (on_hand (λ (x : Hand). IsOfTables w.script.catalog x.client) w.seats i s here about) h (on_hand (λ (x : Hand). ReplyTold x.client x.client.txn r w.clock a d) w.seats i s here told)))
+    (replies_all w.script.catalog w.events (hands_of w.seats) (record { client = suc i; store = store; request = q; how = how; reply = r; now = w.clock }) a d playable.catalog playable.apart (record { waiting = waiting; can = can; moment = moment }) stored
+    (on_hand (λ (x : Hand). IsOfTables w.script.catalog x.client) w.seats i s here about) (on_one w.events) (tables_fit w.script.catalog) linked h (on_hand (λ (x : Hand). ReplyTold x.client x.client.vacuum r w.clock a d) w.seats i s here told)))
 
 pub caused_stops : (w : WorldAt) (i : ℕ) (s : Seat) → slice_get w.seats i ≡ Some s → HaveCauses w → HaveCauses (with_event (with_seat w i (stopped_seat s)) (event.Stop (suc i)))
 caused_stops w i s here h =
@@ -83,53 +84,18 @@ open_hand : (o : Option Seat) (c : ℕ) → IsSomeAnd o (λ s. (s.stopped ≡ fa
 open_hand None c h = absurd h
 open_hand (Some s) c h = h
 
-shut_hand : (o : Option Seat) (c : ℕ) → IfSome o (λ s. s.stopped ≡ false → is_some s.client.txn ≡ false) → (hand_in o c).stopped ≡ false → is_some (hand_in o c).client.txn ≡ false
-shut_hand None c h goes = refl
-shut_hand (Some s) c h goes = h goes
+sweeping_hand : (o : Option Seat) (c : ℕ) → IsSomeAnd o (λ s. (s.stopped ≡ false) × (is_some s.client.vacuum ≡ true)) → ((hand_in o c).stopped ≡ false) × (is_some (hand_in o c).client.vacuum ≡ true)
+sweeping_hand None c h = absurd h
+sweeping_hand (Some s) c h = h
 
 -- What is so of the others by their places is so of them by their numbers.
-pub gated_by : (seats : List Seat) (at : ℕ) (gate : Gate) → gate.vacuum_runs ≡ false → (gate.open_elsewhere ≡ true → SomeOpen seats at) → (gate.open_elsewhere ≡ false → NoneOpen seats at) → IsGate (hands_of seats) (suc at) gate
-gated_by seats at gate none opens shuts = record { vacuum = none; some = some; none = shut }
+pub gated_by : (gate : Gate) (seats : List Seat) (i : ℕ) → IsGateAt gate seats i → IsGate (hands_of seats) (suc i) gate
+gated_by gate seats i h = record {
+  sweeps = λ e. let x = h.swept e in let k = sweeping_hand (slice_get seats x.0) (suc x.0) x.2 in (suc x.0, (λ n. x.1 (suc_is x.0 i n)), k.0, k.1);
+  rests = λ e d n goes. ap is_some ((gated_at gate seats i h).sweeps e d n goes);
+  some = λ e. let x = h.opened e in let k = open_hand (slice_get seats x.0) (suc x.0) x.2 in (suc x.0, (λ n. x.1 (suc_is x.0 i n)), k.0, k.1);
+  none = λ e d n goes. ap is_some ((gated_at gate seats i h).opens e d n goes);
+}
   where
     suc_is : (i j : ℕ) → suc i ≡ suc j → i ≡ j
     suc_is i j e = cc
-
-    some : gate.open_elsewhere ≡ true → (d : ℕ) × (d ≢ suc at) × ((hands_of seats d).stopped ≡ false) × (is_some (hands_of seats d).client.txn ≡ true)
-    some e = let x = opens e in let h = open_hand (slice_get seats x.0) (suc x.0) x.2 in (suc x.0, (λ k. x.1 (suc_is x.0 at k)), h.0, h.1)
-
-    shut : gate.open_elsewhere ≡ false → (d : ℕ) → d ≢ suc at → (hands_of seats d).stopped ≡ false → is_some (hands_of seats d).client.txn ≡ false
-    shut e zero n goes = refl
-    shut e (suc j) n goes = shut_hand (slice_get seats j) (suc j) (shuts e j (λ k. n (ap suc k))) goes
-
--- one that was read
-pub open_read : (seats : List Seat) (i : ℕ) (s : Seat) (stopped opened : Bool) → i < length seats → s ≡ get_or seats i s → s.stopped ≡ false → opened ≡ is_some s.client.txn → opened ≡ true → IsOpenAt seats i
-open_read seats i s stopped opened low read goes is e = subst (λ (o : Option Seat). IsSomeAnd o (λ s. (s.stopped ≡ false) × (is_some s.client.txn ≡ true))) (sym (read_there seats i s low read)) (goes, sym is ∙ e)
-
-pub shut_read : (seats : List Seat) (i : ℕ) (s : Seat) → i < length seats → s ≡ get_or seats i s → (s.stopped ≡ false → is_some s.client.txn ≡ false) → IsShutAt seats i
-shut_read seats i s low read h = subst (λ (o : Option Seat). IfSome o (λ s. s.stopped ≡ false → is_some s.client.txn ≡ false)) (sym (read_there seats i s low read)) h
-
----- one after the other
-
-last_or : {G : Type 0} (j i : ℕ) → j < i + 1 → (j < i → G) → (j ≡ i → G) → G
-last_or j zero low a b = b (omega arith)
-last_or zero (suc i) low a b = a (omega arith)
-last_or (suc j) (suc i) low a b = last_or j i (omega arith) (λ h. a (omega arith)) (λ e. b (ap suc e))
-
--- no client before a place, but one, goes on with a transaction open
-abbrev pub NoneBefore : List Seat → (at i : ℕ) → Type 0
-NoneBefore seats at i = (j : ℕ) → j < i → j ≢ at → IsShutAt seats j
-
-pub before_none : (seats : List Seat) (at : ℕ) → NoneBefore seats at 0
-before_none seats at j low n = absurd (omega arith)
-
-pub before_more : (seats : List Seat) (at i : ℕ) → NoneBefore seats at i → (i ≢ at → IsShutAt seats i) → NoneBefore seats at (i + 1)
-before_more seats at i h p j low n = last_or j i low (λ l. h j l n) (λ e. subst (IsShutAt seats) (sym e) (p (λ k. n (e ∙ k))))
-
-pub none_of : (seats : List Seat) (at n : ℕ) → n ≡ length seats → NoneBefore seats at n → NoneOpen seats at
-none_of seats at n size h j other = by (slice_get seats j) refl
-  where
-    by : (o : Option Seat) → slice_get seats j ≡ o → IfSome o (λ s. s.stopped ≡ false → is_some s.client.txn ≡ false)
-    by None e = tt
-    by (Some s) e =
-        let low : j < length seats = slice_get_within seats j s e in
-        subst (λ (o : Option Seat). IfSome o (λ s. s.stopped ≡ false → is_some s.client.txn ≡ false)) e (h j (subst (λ (m : ℕ). j < m) (sym size) low) other)

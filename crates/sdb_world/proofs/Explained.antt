@@ -11,7 +11,7 @@ use Rattle.sdb_model.specs.declared.script.Place.{Place}
 use Rattle.sdb_model.specs.declared.script.Script.{Script}
 use Rattle.sdb_model.specs.Events.{Effect, IsTrace, Shelf}
 use Rattle.sdb_model.specs.Exec.{find_table}
-use Rattle.sdb_model.specs.Explained.{StandingExplained}
+use Rattle.sdb_model.specs.Explained.{Explained}
 use Rattle.sdb_spread.specs.Spread.{HoldAs}
 use Rattle.sdb_steps.specs.Fitting.{tables_fit}
 use Rattle.sdb_steps.specs.Hands.{doing_of, system_of}
@@ -33,14 +33,14 @@ no_coordinator script p = by (find_table script.catalog coordinator_table) refl
     by None e = e
     by (Some t) e = clash (sym (p.apart (record { table = coordinator_table; partition = []; clustering = [] }) (ap is_some e)))
 
-pub world_explained : (w : WorldAt) → IsWorld w → IsLinked w → (places : List Place) (opening closing : List Shelf) (moments : List (List Shelf)) → HoldAs w.script.catalog places opening empty → IsTrace places w.events opening moments closing → StandingExplained w.script.catalog places w.events opening moments
+pub world_explained : (w : WorldAt) → IsWorld w → IsLinked w → (places : List Place) (opening closing : List Shelf) (moments : List (List Shelf)) → HoldAs w.script.catalog places opening empty → IsTrace places w.events opening moments closing → Explained w.script.catalog places w.events opening moments
 world_explained w h g places opening closing moments nothing traced =
     going_is_explained w.script.catalog places one_name (tables_fit w.script.catalog) w.events (system_of (hands_of w.seats)) (doing_of (hands_of w.seats)) opening closing moments g (no_coordinator w.script h.playable) traced h.about nothing
 
 -- a world that has played its script
 pub played_explained : (w : WorldAt) → IsWorld w → (events : List Event) → events ≡ w.events → (opening closing : List Shelf) → HasPlayed w opening closing → IsExplained w.script events opening
 played_explained w h events same opening closing p moments end traced =
-    subst (λ (es : List Event). StandingExplained w.script.catalog w.script.places es opening moments) (sym same)
+    subst (λ (es : List Event). Explained w.script.catalog w.script.places es opening moments) (sym same)
     (world_explained w h p.linked w.script.places opening end moments p.nothing (subst (λ (es : List Event). IsTrace w.script.places es opening moments end) same traced))
 
 -- one event more
@@ -54,7 +54,7 @@ came_explained fit places before now w v a (h, c) f g opening moments nothing tr
     subst (λ (es : List Event). IsTrace places es opening (moments ++ now ∷ []) now) (sym events) (traces_on places w.events (e ∷ []) opening before now moments (now ∷ []) traced (effect, refl)) in
     record {
       traced = on;
-      standing = world_explained v h (c.gone.linked g) places opening now (moments ++ now ∷ []) (subst (λ (x : Script). HoldAs x.catalog places opening empty) (sym c.gone.script) nothing) on;
+      explained = world_explained v h (c.gone.linked g) places opening now (moments ++ now ∷ []) (subst (λ (x : Script). HoldAs x.catalog places opening empty) (sym c.gone.script) nothing) on;
     }
 
 pub on_explained : {T E : Type 0} (r : Result T E) (fit : Type 0) (places : List Place) (before now : List Shelf) (w v : WorldAt) (a : Act) → OnOk r (IsWorld v) → OnOk r (HasCome (IsOne w.script.clients a w.events) fit places before now w v) → OnOk r (IsExplainedAfter fit places before now w v)

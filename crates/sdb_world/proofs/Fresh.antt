@@ -31,11 +31,11 @@ seat_first : (script : Script) (i : ℕ) → IsSeat script [] i (fresh_seat i)
 seat_first script i = record {
   number = refl;
   fitted = refl;
-  about = tt;
+  about = record { txn = tt; vacuum = tt };
   taken = refl;
   stopped = refl;
   busy = λ e. absurd (cc);
-  idle = λ e. tt;
+  idle = λ e. record { free = refl; still = tt };
 }
 
 -- before the first statement

@@ -20,10 +20,10 @@ traces_on places (e ∷ es) more a b c (m ∷ ms) ns h k = (h.0, traces_on place
 
 -- nothing came
 pub gone_none : (fit : Type 0) (places : List Place) (now : List Shelf) (w : WorldAt) → HasGone fit places now now w w []
-gone_none fit places now w = record { script = refl; events = sym (append-nil w.events); linked = λ g. g; caused = λ g. g; traced = λ f. ([], refl) }
+gone_none fit places now w = record { script = refl; events = sym (append-nil w.events); linked = λ g. g; caused = λ g h. h; traced = λ f. ([], refl) }
 
 -- one event came
-pub gone_one : (fit : Type 0) (places : List Place) (before now : List Shelf) (w v : WorldAt) (e : Event) → v.script ≡ w.script → v.events ≡ w.events ++ e ∷ [] → (IsLinked w → IsLinked v) → (HaveCauses w → HaveCauses v) → (fit → Effect places e before now) → HasGone fit places before now w v (e ∷ [])
+pub gone_one : (fit : Type 0) (places : List Place) (before now : List Shelf) (w v : WorldAt) (e : Event) → v.script ≡ w.script → v.events ≡ w.events ++ e ∷ [] → (IsLinked w → IsLinked v) → (IsLinked w → HaveCauses w → HaveCauses v) → (fit → Effect places e before now) → HasGone fit places before now w v (e ∷ [])
 gone_one fit places before now w v e script events linked caused effect = record { script = script; events = events; linked = linked; caused = caused; traced = λ f. (now ∷ [], (effect f, refl)) }
 
 -- and more
@@ -32,7 +32,7 @@ gone_more fit later places a b c u v w es more g on h = record {
   script = h.script ∙ g.script;
   events = h.events ∙ ap (λ (xs : List Event). xs ++ more) g.events ∙ append_assoc u.events es more;
   linked = λ l. h.linked (g.linked l);
-  caused = λ l. h.caused (g.caused l);
+  caused = λ l k. h.caused (g.linked l) (g.caused l k);
   traced = λ f. let s = g.traced f in let t = h.traced (on f) in (s.0 ++ t.0, traces_on places es more a b c s.0 t.0 s.1 t.1);
 }
 

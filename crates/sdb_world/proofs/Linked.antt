@@ -23,7 +23,7 @@ use Rattle.sdb_linked.specs.Going.{ClientGoes, HandOk, IsGoing, IsSilent}
 use Rattle.sdb_linked.proofs.Rests.{going_rests, going_starts}
 use Rattle.sdb_linked.proofs.Steps.{going_stops}
 use Rattle.sdb_steps.specs.Fitting.{tables_fit}
-use Rattle.sdb_steps.specs.Hands.{Hand, IsReady, IsWaiting, Takes, doing_of, stands, system_of, with_hand}
+use Rattle.sdb_steps.specs.Hands.{Hand, IsGated, IsReady, IsWaiting, Takes, doing_of, stands, system_of, with_hand}
 use Rattle.sdb_steps.proofs.Replied.{replies_so}
 use Rattle.sdb_steps.proofs.Taken.{kept_at, mapped_at}
 use Rattle.sdb_steps.proofs.Whole.{takes_so}
@@ -76,22 +76,22 @@ linked_by w i s t e here g =
 on_hand : (P : Hand → Type 0) (seats : List Seat) (i : ℕ) (s : Seat) → slice_get seats i ≡ Some s → P (record { client = s.client; stopped = s.stopped }) → P (hands_of seats (suc i))
 on_hand P seats i s here p = subst (λ (o : Option Seat). P (hand_in o (suc i))) (sym here) p
 
-pub linked_takes : (w : WorldAt) (i : ℕ) (s : Seat) (q : Taking) (text : List ℕ) (a : Option Answer) (d : Client) → IsPlayable w.script → q.catalog ≡ w.script.catalog → slice_get w.seats i ≡ Some s → s.stopped ≡ false → IsReady (hands_of w.seats) (suc i) → Takes q text s.client a d → d.begun < 2 ^ 64 → is_moment q.now ≡ true
+pub linked_takes : (w : WorldAt) (i : ℕ) (s : Seat) (q : Taking) (text : List ℕ) (a : Option Answer) (d : Client) → IsPlayable w.script → q.catalog ≡ w.script.catalog → slice_get w.seats i ≡ Some s → s.stopped ≡ false → IsReady (hands_of w.seats) (suc i) → IsGated q.gate (hands_of w.seats) (suc i) → Takes q text s.client a d → d.begun < 2 ^ 64 → is_moment q.now ≡ true
     → IsLinked w → IsLinked (with_event (with_seat w i (moved_seat s 1 d)) (event.Take (suc i) text a))
-linked_takes w i s q text a d playable same here goes ready takes begun moment g =
+linked_takes w i s q text a d playable same here goes ready gated takes begun moment g =
     linked_by w i s (moved_seat s 1 d) (event.Take (suc i) text a) here
     (subst (λ (b : Bool). IsGoing w.script.catalog (tables_fit w.script.catalog) (on_one w.events ++ event.Take (suc i) text a ∷ []) (system_of (at (hands_of w.seats) (suc i) (record { client = d; stopped = b }))) (doing_of (at (hands_of w.seats) (suc i) (record { client = d; stopped = b })))) (sym goes) so)
   where
     so : IsGoing w.script.catalog (tables_fit w.script.catalog) (on_one w.events ++ event.Take (suc i) text a ∷ []) (system_of (with_hand (hands_of w.seats) (suc i) d)) (doing_of (with_hand (hands_of w.seats) (suc i) d))
-    so = takes_so (record { catalog = w.script.catalog; now = q.now; gate = q.gate }) (on_one w.events) (hands_of w.seats) g (suc i) ready text playable.catalog playable.apart moment a d begun
+    so = takes_so (record { catalog = w.script.catalog; now = q.now; gate = q.gate }) (on_one w.events) (hands_of w.seats) g (suc i) ready text playable.catalog playable.apart moment gated a d begun
         (subst (λ (c : List Table). Takes (record { catalog = c; now = q.now; gate = q.gate }) text (hands_of w.seats (suc i)).client a d) same (on_hand (λ (h : Hand). Takes q text h.client a d) w.seats i s here takes))
 
-pub linked_calls : (w : WorldAt) (i : ℕ) (s : Seat) (store : Name) (how : How) (q : Request) (r : Reply) (a : Option Answer) (d : Client) → IsPlayable w.script → slice_get w.seats i ≡ Some s → s.stopped ≡ false → IsWaiting w.script.catalog (hands_of w.seats) (suc i) q → CanAnswer q r → ReplyTold s.client s.client.txn r w.clock a d → is_moment w.clock ≡ true
+pub linked_calls : (w : WorldAt) (i : ℕ) (s : Seat) (store : Name) (how : How) (q : Request) (r : Reply) (a : Option Answer) (d : Client) → IsPlayable w.script → slice_get w.seats i ≡ Some s → s.stopped ≡ false → IsWaiting w.script.catalog (hands_of w.seats) (suc i) q → CanAnswer q r → ReplyTold s.client s.client.vacuum r w.clock a d → is_moment w.clock ≡ true
     → IsLinked w → IsLinked (with_event (with_seat w i (moved_seat s 0 d)) (event.Call (suc i) store q how r a))
 linked_calls w i s store how q r a d playable here goes waiting can told moment g =
     linked_by w i s (moved_seat s 0 d) (event.Call (suc i) store q how r a) here
     (subst (λ (b : Bool). IsGoing w.script.catalog (tables_fit w.script.catalog) (on_one w.events ++ event.Call (suc i) one_name q how r a ∷ []) (system_of (at (hands_of w.seats) (suc i) (record { client = d; stopped = b }))) (doing_of (at (hands_of w.seats) (suc i) (record { client = d; stopped = b })))) (sym goes)
-    (replies_so w.script.catalog (on_one w.events) (hands_of w.seats) g (record { client = suc i; store = one_name; request = q; how = how; reply = r; now = w.clock }) playable.catalog (record { waiting = waiting; can = can; moment = moment }) a d (on_hand (λ (h : Hand). ReplyTold h.client h.client.txn r w.clock a d) w.seats i s here told)))
+    (replies_so w.script.catalog (on_one w.events) (hands_of w.seats) g (record { client = suc i; store = one_name; request = q; how = how; reply = r; now = w.clock }) playable.catalog (record { waiting = waiting; can = can; moment = moment }) playable.apart a d (on_hand (λ (h : Hand). ReplyTold h.client h.client.vacuum r w.clock a d) w.seats i s here told)))
 
 ---- a client stops
 
@@ -108,6 +108,7 @@ free_doing catalog fit events sys doing other c stopped same g = record {
   system = g.system;
   stories = g.stories;
   clients = λ e. by e (e == c) refl;
+  noted = g.noted;
 }
   where
     by : (e : ℕ) (b : Bool) → (e == c) ≡ b → ClientGoes catalog fit g.plan g.past e (other e) (sys.clients e) (g.told e) (g.ran e)

@@ -27,9 +27,9 @@ use Rattle.sdb_board.proofs.Shelves.{named_home}
 use Rattle.sdb_steps.specs.Hands.{Takes}
 use Rattle.sdb_world.specs.declared.seat.Seat.{Seat}
 use Rattle.sdb_world.specs.declared.way.Way.{Way}
-use Rattle.sdb_causes.specs.Tied.{IsGate}
-use Rattle.sdb_world.specs.World.{IsWorld, WorldAt, hands_of}
-use Rattle.sdb_world.specs.Step.{HasCalled, HasLeft, HasTaken, IsHowOf, IsPendingAt}
+use Rattle.sdb_causes.specs.Unfit.{shows_stored}
+use Rattle.sdb_world.specs.World.{IsWorld, WorldAt}
+use Rattle.sdb_world.specs.Step.{HasCalled, HasLeft, HasTaken, IsGateAt, IsHowOf, IsPendingAt}
 use Rattle.sdb_types.proofs.Basics.{some_is}
 
 -- the client that was read at a place stands there
@@ -57,8 +57,8 @@ after_taking u i s d es = record { script = u.script; seats = slice_set u.seats 
 
 -- A client took its next text.
 pub took : (u w : WorldAt) → u ≡ w → (i : ℕ) (s : Seat) (text : List ℕ) (gate : Gate) (a : Option Answer) (d : ClientAt) (es : List Event) → i < length w.seats → s ≡ get_or w.seats i s → IsNextText w i text
-    → Takes (record { catalog = u.script.catalog; now = u.clock; gate = gate }) text s.client a d → d.begun < 2 ^ 64 → IsGate (hands_of w.seats) (suc i) gate → es ≡ u.events ++ event.Take (i + 1) text a ∷ [] → HasTaken w i (after_taking u i s d es)
-took u w same i s text gate a d es low read next takes begun gated came =
+    → Takes (record { catalog = u.script.catalog; now = u.clock; gate = gate }) text s.client a d → IsGateAt gate w.seats i → d.begun < 2 ^ 64 → es ≡ u.events ++ event.Take (i + 1) text a ∷ [] → HasTaken w i (after_taking u i s d es)
+took u w same i s text gate a d es low read next takes gated begun came =
     subst (λ (x : WorldAt). HasTaken w i (after_taking x i s d es)) (sym same)
     (record {
       seat = s;
@@ -69,8 +69,8 @@ took u w same i s text gate a d es low read next takes begun gated came =
       at = read_there w.seats i s low read;
       next = at_read (λ (x : Seat). slice_get (texts_of w.script.clients (suc i)) x.taken ≡ Some text) w.seats i s low read next;
       takes = subst (λ (x : WorldAt). Takes (record { catalog = x.script.catalog; now = x.clock; gate = gate }) text s.client a d) same takes;
-      begun = begun;
       gated = gated;
+      begun = begun;
       left = λ k. record { script = w.script; seats = slice_set w.seats i (record { client = d; taken = s.taken + 1; stopped = s.stopped }); events = here k; clock = w.clock };
     })
   where
@@ -87,10 +87,10 @@ named_store ps shelves q table store same found fit =
     (sym found ∙ named_home ps shelves table.ns fit.some (fit.homed table.ns) ∙ ap (λ (t : TableName). Some (store_of (placed ps) (shown shelves) t.ns)) (same ∙ asked q))
 
 -- A client's call was made.
-pub called : (fit : Type 0) (places : List Place) (before now : List Shelf) (u w : WorldAt) → u ≡ w → (i : ℕ) (s : Seat) (way : Way) (store : Name) (q : Request) (how : How) (r : Reply) (a : Option Answer) (d : ClientAt) (es : List Event) → i < length w.seats → s ≡ get_or w.seats i s → IsPendingAt w i q → CanAnswer q r → IsHowOf way how r
-    → ReplyTold s.client s.client.txn r u.clock a d → (fit → is_played w.script.catalog (table_asked q) ≡ true → (store ≡ store_of places before (table_asked q).ns) × IsMade places q how r before now) → es ≡ u.events ++ event.Call (i + 1) store q how r a ∷ []
+pub called : (fit : Type 0) (places : List Place) (before now : List Shelf) (u w : WorldAt) → u ≡ w → (i : ℕ) (s : Seat) (way : Way) (store : Name) (q : Request) (how : How) (r : Reply) (a : Option Answer) (d : ClientAt) (es : List Event) → i < length w.seats → s ≡ get_or w.seats i s → IsPendingAt w i q → CanAnswer q r → IsHowOf way how r → shows_stored r ≡ true
+    → ReplyTold s.client s.client.vacuum r u.clock a d → (fit → is_played w.script.catalog (table_asked q) ≡ true → (store ≡ store_of places before (table_asked q).ns) × IsMade places q how r before now) → es ≡ u.events ++ event.Call (i + 1) store q how r a ∷ []
     → HasCalled fit places before now w i way (after_calling u i s d es)
-called fit places before now u w same i s way store q how r a d es low read pends can allowed told made came =
+called fit places before now u w same i s way store q how r a d es low read pends can allowed stored told made came =
     subst (λ (x : WorldAt). HasCalled fit places before now w i way (after_calling x i s d es)) (sym same)
     (record {
       seat = s;
@@ -104,7 +104,8 @@ called fit places before now u w same i s way store q how r a d es low read pend
       pending = at_read (λ (x : Seat). client_pending x.client ≡ Some q) w.seats i s low read pends;
       can = can;
       allowed = allowed;
-      told = subst (λ (x : WorldAt). ReplyTold s.client s.client.txn r x.clock a d) same told;
+      stored = stored;
+      told = subst (λ (x : WorldAt). ReplyTold s.client s.client.vacuum r x.clock a d) same told;
       made = made;
       left = λ k. record { script = w.script; seats = slice_set w.seats i (record { client = d; taken = sym (add-zero s.taken) k; stopped = s.stopped }); events = here k; clock = w.clock };
     })

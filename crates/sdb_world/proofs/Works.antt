@@ -1,21 +1,30 @@
 -- Which client has work, by where it stands.
-use Rattle.std.proofs.Common.{◌≡◌, ◌≢◌, ℕ, suc, ◌<◌, Bool, true, false, length, Option, Some, None, IfSome, refl, sym, ap, ◌∙◌, get_or}
-use Rattle.std.specs.Prelude.{◌&&◌, ◌||◌, not, nat_lt, IsSomeAnd, slice_get}
+use Rattle.std.proofs.Common.{◌≡◌, ◌≢◌, ℕ, suc, ◌<◌, Bool, true, false, length, Option, Some, None, IfSome, refl, sym, ap, ◌∙◌, ◌⊎◌, inl, inr, get_or}
+use Rattle.std.specs.Prelude.{◌&&◌, ◌||◌, not, nat_lt, IsSome, IsSomeAnd, slice_get}
 use Rattle.std.proofs.lemmas.Option.{slice_get_read}
 use Rattle.sdb_model.specs.Follows.{has_work, is_pending, taken_by, texts_of}
 use Rattle.sdb_client.specs.Client.{ClientAt, IsBusy, IsIdle}
 use Rattle.sdb_txn.specs.declared.txn.Doing.TheVariants as doing
 use Rattle.sdb_txn.specs.Txn.{TxnAt}
+use Rattle.sdb_vacuum.specs.Vacuum.{VacuumAt}
 use Rattle.sdb_world.specs.declared.seat.Seat.{Seat}
 use Rattle.sdb_world.specs.World.{IsSeat, IsWorld, WorldAt}
 
 -- a client waits for one thing
 pub not_both : (c : ClientAt) → IsIdle c → IsBusy c → ⊥
-not_both c idle busy = by c.txn idle busy
+not_both c idle busy = at busy
   where
     by : (o : Option TxnAt) → IfSome o (λ t. t.doing ≡ doing.Idle) → IsSomeAnd o (λ t. t.doing ≢ doing.Idle) → ⊥
     by None i b = b
     by (Some t) i b = b i
+
+    sweeps : (o : Option VacuumAt) → o ≡ None → IsSome o → ⊥
+    sweeps None e s = cc
+    sweeps (Some v) e s = cc
+
+    at : IsSomeAnd c.txn (λ t. t.doing ≢ doing.Idle) ⊎ IsSome c.vacuum → ⊥
+    at (inl b) = by c.txn idle.still b
+    at (inr b) = sweeps c.vacuum idle.free b
 
 -- a call is pending exactly where a client isn't idle
 pends_is : (w : WorldAt) (i : ℕ) (s : Seat) (idle : Bool) → IsSeat w.script w.events i s → (idle ≡ true → IsIdle s.client) → (idle ≡ false → IsBusy s.client) → is_pending (suc i) w.events ≡ not idle

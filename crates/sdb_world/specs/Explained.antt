@@ -1,24 +1,25 @@
--- Which records stand at every moment of what a world does, and which events put them there.
+-- Which records stand at every moment of what a world does, which events put them there, and that reads are current.
 use Rattle.std.specs.Prelude.{List, [], ◌∷◌, ◌++◌}
 use Rattle.std.specs.FinMap.{empty}
 use Rattle.sdb_model.specs.declared.event.Event.{Event}
 use Rattle.sdb_model.specs.declared.script.Place.{Place}
 use Rattle.sdb_model.specs.declared.script.Script.{Script}
 use Rattle.sdb_model.specs.Events.{IsTrace, Shelf}
-use Rattle.sdb_model.specs.Explained.{StandingExplained}
+use Rattle.sdb_model.specs.Explained.{Explained}
 use Rattle.sdb_spread.specs.Spread.{HoldAs}
 use Rattle.sdb_world.specs.World.{WorldAt}
 use Rattle.sdb_world.specs.Linked.{IsLinked}
 
--- Whatever the stores held after each event of a script's run, what stood at each moment is explained by the events.
+-- Whatever the stores held after each event of a script's run, what stood at each moment is explained by the events, and what each
+-- recorded transaction noted is current at its point.
 abbrev pub IsExplained : Script → List Event → List Shelf → Type 0
-IsExplained script events opening = (moments : List (List Shelf)) (closing : List Shelf) → IsTrace script.places events opening moments closing → StandingExplained script.catalog script.places events opening moments
+IsExplained script events opening = (moments : List (List Shelf)) (closing : List Shelf) → IsTrace script.places events opening moments closing → Explained script.catalog script.places events opening moments
 
--- Stores, as they are now, end a trace that goes on from these moments and agrees with a world's events, and what stood at each moment
--- is explained by them.
+-- Stores, as they are now, end a trace that goes on from these moments and agrees with a world's events, and by these what stood at each
+-- moment is explained, and what was noted is current.
 pub record GoesOnExplained (places : List Place) (v : WorldAt) (opening : List Shelf) (moments : List (List Shelf)) (now : List Shelf) : Type 0 where
   pub traced : IsTrace places v.events opening (moments ++ now ∷ []) now
-  pub standing : StandingExplained v.script.catalog places v.events opening (moments ++ now ∷ [])
+  pub explained : Explained v.script.catalog places v.events opening (moments ++ now ∷ [])
 
 -- A world came to another by one event. On stores that are fit for it, each trace of the events before goes on explained, where it began
 -- with stores that held nothing of the script's tables and ended as the stores were before the event.

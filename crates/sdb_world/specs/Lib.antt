@@ -3,3 +3,4 @@ pub mod Step
 pub mod Linked
 pub mod Played
 pub mod Explained
+pub mod Broken

@@ -1,5 +1,5 @@
 -- The steps of a world, and what they do to the stores.
-use Rattle.std.specs.Prelude.{◌≡◌, ◌≢◌, ℕ, suc, ◌+◌, ◌≤◌, ◌<◌, ◌^◌, true, false, List, [], ◌∷◌, ◌++◌, length, Option, Some, IfSome, IsSomeAnd, is_some, slice_get}
+use Rattle.std.specs.Prelude.{◌≡◌, ◌≢◌, ℕ, suc, ◌+◌, ◌≤◌, ◌<◌, ◌^◌, true, false, List, [], ◌∷◌, ◌++◌, length, Option, Some, None, IfSome, IsSomeAnd, is_some, slice_get}
 use Rattle.std.specs.List.{AllByRecursion}
 use Rattle.sdb_types.specs.declared.record.Reply.{Reply}
 use Rattle.sdb_types.specs.declared.record.Request.{Request}
@@ -23,12 +23,12 @@ use Rattle.sdb_client.specs.Client.{ClientAt, IsBusy, IsIdle, ReplyTold, client_
 use Rattle.sdb_client.specs.declared.gate.Gate.{Gate}
 use Rattle.sdb_spread.specs.Spread.{is_played}
 use Rattle.sdb_board.specs.Board.{IsMade}
+use Rattle.sdb_causes.specs.Unfit.{shows_stored}
 use Rattle.sdb_steps.specs.Hands.{Takes}
 use Rattle.sdb_world.specs.declared.seat.Seat.{Seat}
 use Rattle.sdb_world.specs.declared.way.Way.{Way}
 use Rattle.sdb_world.specs.declared.way.Way.TheVariants as way
-use Rattle.sdb_causes.specs.Tied.{IsGate}
-use Rattle.sdb_world.specs.World.{WorldAt, hands_of, with_event, with_seat}
+use Rattle.sdb_world.specs.World.{WorldAt, with_event, with_seat}
 use Rattle.sdb_world.specs.Linked.{HaveCauses, IsLinked}
 
 -- a client has that number
@@ -63,24 +63,36 @@ IsBusyAt w i = IfSome (slice_get w.seats i) (λ s. IsBusy s.client)
 abbrev pub HasLeft : WorldAt → ℕ → Type 0
 HasLeft w i = IfSome (slice_get w.seats i) (λ s. s.taken < length (texts_of w.script.clients (suc i)))
 
--- that call of it is pending
-abbrev pub IsPendingAt : WorldAt → ℕ → Request → Type 0
-IsPendingAt w i q = IfSome (slice_get w.seats i) (λ s. client_pending s.client ≡ Some q)
+-- it has stopped, or runs no VACUUM
+abbrev pub IsUnswept : List Seat → ℕ → Type 0
+IsUnswept seats i = IfSome (slice_get seats i) (λ s. s.stopped ≡ false → s.client.vacuum ≡ None)
+
+-- it has stopped, or has no transaction open
+abbrev pub IsUnopened : List Seat → ℕ → Type 0
+IsUnopened seats i = IfSome (slice_get seats i) (λ s. s.stopped ≡ false → s.client.txn ≡ None)
+
+-- it goes on, and runs VACUUM
+abbrev pub IsSweepingAt : List Seat → ℕ → Type 0
+IsSweepingAt seats i = IsSomeAnd (slice_get seats i) (λ s. (s.stopped ≡ false) × (is_some s.client.vacuum ≡ true))
 
 -- it goes on, and has a transaction open
 abbrev pub IsOpenAt : List Seat → ℕ → Type 0
 IsOpenAt seats i = IsSomeAnd (slice_get seats i) (λ s. (s.stopped ≡ false) × (is_some s.client.txn ≡ true))
 
--- it has stopped, or has none open
-abbrev pub IsShutAt : List Seat → ℕ → Type 0
-IsShutAt seats i = IfSome (slice_get seats i) (λ s. s.stopped ≡ false → is_some s.client.txn ≡ false)
+-- A client at another place is so.
+abbrev pub SomeAt : (List Seat → ℕ → Type 0) → List Seat → ℕ → Type 0
+SomeAt P seats i = (j : ℕ) × (j ≢ i) × P seats j
 
--- some other client, or no other one, goes on with a transaction open
-abbrev pub SomeOpen : List Seat → ℕ → Type 0
-SomeOpen seats at = (j : ℕ) × (j ≢ at) × IsOpenAt seats j
+-- A gate says whether a client at another place that goes on runs VACUUM, and whether one has a transaction open.
+pub record IsGateAt (gate : Gate) (seats : List Seat) (i : ℕ) : Type 0 where
+  pub sweeps : gate.vacuum_runs ≡ false → (j : ℕ) → j ≢ i → IsUnswept seats j
+  pub opens : gate.open_elsewhere ≡ false → (j : ℕ) → j ≢ i → IsUnopened seats j
+  pub swept : gate.vacuum_runs ≡ true → SomeAt IsSweepingAt seats i
+  pub opened : gate.open_elsewhere ≡ true → SomeAt IsOpenAt seats i
 
-abbrev pub NoneOpen : List Seat → ℕ → Type 0
-NoneOpen seats at = (j : ℕ) → j ≢ at → IsShutAt seats j
+-- that call of it is pending
+abbrev pub IsPendingAt : WorldAt → ℕ → Request → Type 0
+IsPendingAt w i q = IfSome (slice_get w.seats i) (λ s. client_pending s.client ≡ Some q)
 
 ---- one step of one client
 
@@ -98,8 +110,8 @@ pub record HasTaken (w : WorldAt) (i : ℕ) (v : WorldAt) : Type 0 where
   pub at : slice_get w.seats i ≡ Some seat
   pub next : slice_get (texts_of w.script.clients (suc i)) seat.taken ≡ Some text
   pub takes : Takes (record { catalog = w.script.catalog; now = w.clock; gate = gate }) text seat.client answer client
+  pub gated : IsGateAt gate w.seats i
   pub begun : client.begun < 2 ^ 64
-  pub gated : IsGate (hands_of w.seats) (suc i) gate
   pub left : v ≡ with_event (with_seat w i (moved_seat seat 1 client)) (event.Take (suc i) text answer)
 
 -- A client's pending call is made in some way, and the client has the reply.
@@ -115,7 +127,8 @@ pub record HasCalled (fit : Type 0) (places : List Place) (before now : List She
   pub pending : client_pending seat.client ≡ Some request
   pub can : CanAnswer request reply
   pub allowed : IsHowOf way how reply
-  pub told : ReplyTold seat.client seat.client.txn reply w.clock answer client
+  pub stored : shows_stored reply ≡ true
+  pub told : ReplyTold seat.client seat.client.vacuum reply w.clock answer client
   pub made : fit → is_played w.script.catalog (table_asked request) ≡ true → (store ≡ store_of places before (table_asked request).ns) × IsMade places request how reply before now
   pub left : v ≡ with_event (with_seat w i (moved_seat seat 0 client)) (event.Call (suc i) store request how reply answer)
 
@@ -148,14 +161,13 @@ act_of way.Discard c = act.Discard c
 
 ---- events, and the stores
 
--- Events came to a world and to these stores: the script stays, what ties events to clients and the causes of answers are kept whatever
--- the replies, and where
--- the stores are fit for the run a trace of them agrees with the events.
+-- Events came to a world and to these stores: the script stays, what ties events to clients is kept whatever the replies, and with it the
+-- causes of answers; and where the stores are fit for the run a trace of them agrees with the events.
 pub record HasGone (fit : Type 0) (places : List Place) (before now : List Shelf) (w v : WorldAt) (es : List Event) : Type 0 where
   pub script : v.script ≡ w.script
   pub events : v.events ≡ w.events ++ es
   pub linked : IsLinked w → IsLinked v
-  pub caused : HaveCauses w → HaveCauses v
+  pub caused : IsLinked w → HaveCauses w → HaveCauses v
   pub traced : fit → (moments : List (List Shelf)) × IsTrace places es before moments now
 
 -- Events came, and they are so.

@@ -4,6 +4,7 @@
 mod ending;
 mod perform;
 mod seat;
+mod stored;
 mod turns;
 mod way;
 mod world;

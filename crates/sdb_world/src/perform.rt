@@ -2,6 +2,7 @@
 ghost use Rattle.std.specs.Prelude.{◌≡◌, ◌<◌, List, length, true};
 ghost use Rattle.sdb_types.specs.Contents.{CanAnswer};
 ghost use Rattle.sdb_schema.specs.declared.table.Table.{Table};
+ghost use Rattle.sdb_stores.specs.Shelf.{HaveRisen};
 ghost use Rattle.sdb_model.specs.Events.{table_asked};
 ghost use Rattle.sdb_spread.specs.Spread.{is_played};
 ghost use Rattle.sdb_board.specs.Board.{AreFit, GoOn, IsMade, how_lost as how_lost_lem, how_seen as how_seen_lem, placed, reply_lost as reply_lost_lem, shown};
@@ -47,6 +48,7 @@ pub fn perform<R: Registry>(stores: &mut R, request: &Request, way: Way) -> (How
     ensures made { (catalog : List Table) → AreFit catalog (R.places stores.old) (R.shelves stores.old) (R.tells stores.old) → is_played catalog (table_asked request.now) ≡ true → IsMade (placed (R.places stores.old)) request.now result.0 result.1 (shown (R.shelves stores.old)) (shown (R.shelves stores.new)) }
     ensures lawful { CanAnswer request.now result.1 }
     ensures allowed { IsHowOf way result.0 result.1 }
+    ensures broken { result.0 ≡ How.Broken → HaveRisen (R.shelves stores.old) (R.shelves stores.new) }
     ensures goes { GoOn (R.places stores.old) (R.places stores.new) (R.shelves stores.old) (R.shelves stores.new) (R.tells stores.old) (R.tells stores.new) }
 {
     match way {

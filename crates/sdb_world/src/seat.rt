@@ -1,12 +1,7 @@
 //! A client of a script, and how far it is.
-ghost use Rattle.std.specs.Prelude.{◌≡◌, ◌<◌, ◌+◌, ◌^◌, length, true, Some};
-ghost use Rattle.sdb_client.specs.Client.{IsBusy, IsIdle};
-ghost use Rattle.sdb_steps.specs.Hands.{Takes};
+ghost use Rattle.std.specs.Prelude.{◌≡◌, ◌&&◌, ◌||◌, not, is_some};
 
 use sdb_client::{Client, Gate};
-use sdb_model::Answer;
-use sdb_schema::Catalog;
-use sdb_types::Txt;
 
 /// A client, with how many of its statements it has taken.
 pub struct Seat {
@@ -23,5 +18,19 @@ impl Drop for Seat {
             taken: _,
             stopped: _,
         } = self;
+    }
+}
+
+impl Seat {
+    /// A gate with what the client adds to it: where it goes on, whether it runs VACUUM, and whether it has a transaction open. Takes no
+    /// memory.
+    pub fn joined(&self, gate: Gate) -> Gate
+        ensures sweeps { result.vacuum_runs ≡ (gate.vacuum_runs || (not self.now.stopped && is_some self.now.client.vacuum)) }
+        ensures opens { result.open_elsewhere ≡ (gate.open_elsewhere || (not self.now.stopped && is_some self.now.client.txn)) }
+    {
+        Gate {
+            vacuum_runs: gate.vacuum_runs || (!self.stopped && self.client.runs_vacuum()),
+            open_elsewhere: gate.open_elsewhere || (!self.stopped && self.client.is_open()),
+        }
     }
 }

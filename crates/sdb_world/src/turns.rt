@@ -3,6 +3,7 @@ ghost use Rattle.std.specs.Prelude.{◌≡◌, ◌<◌, ◌≤◌, length, Some,
 ghost use Rattle.sdb_model.specs.Follows.{AllIdle, AreMoved, IsMoved, IsRest, IsTurn, end_of};
 ghost use Rattle.sdb_board.specs.Board.{AreFit, GoOn, placed, shown};
 ghost use Rattle.sdb_world.specs.World.{IsWorld};
+ghost use Rattle.sdb_world.specs.Broken.{BreaksWithin};
 ghost use Rattle.sdb_world.specs.Step.{AreSteps, CanFollow, CanMove, HasCome, IsFirst, IsNumber};
 
 use crate::way::Way;
@@ -57,6 +58,7 @@ impl World {
         requires client { IsNumber self.old.script client }
         ensures world { OnOk result (IsWorld self.new) }
         ensures come { OnOk result (HasCome (AreSteps self.old.script.clients client times self.old.events) (AreFit self.old.script.catalog (R.places stores.old) (R.shelves stores.old) (R.tells stores.old)) (placed (R.places stores.old)) (shown (R.shelves stores.old)) (shown (R.shelves stores.new)) self.old self.new) }
+        ensures broken { OnOk result (BreaksWithin self.old.events self.new.events (R.shelves stores.old) (R.shelves stores.new)) }
         ensures goes { GoOn (R.places stores.old) (R.places stores.new) (R.shelves stores.old) (R.shelves stores.new) (R.tells stores.old) (R.tells stores.new) }
     {
         for _ in 0..times {
@@ -72,6 +74,7 @@ impl World {
         requires world { IsWorld self.old }
         ensures world { OnOk result (IsWorld self.new) }
         ensures come { OnOk result (HasCome (IsRest self.old.script.clients 1 self.old.events) (AreFit self.old.script.catalog (R.places stores.old) (R.shelves stores.old) (R.tells stores.old)) (placed (R.places stores.old)) (shown (R.shelves stores.old)) (shown (R.shelves stores.new)) self.old self.new) }
+        ensures broken { OnOk result (BreaksWithin self.old.events self.new.events (R.shelves stores.old) (R.shelves stores.new)) }
         ensures goes { GoOn (R.places stores.old) (R.places stores.new) (R.shelves stores.old) (R.shelves stores.new) (R.tells stores.old) (R.tells stores.new) }
     {
         let mut from = 1;
@@ -94,6 +97,7 @@ impl World {
         requires can { CanMove self.old.script made }
         ensures world { OnOk result (IsWorld self.new) }
         ensures come { OnOk result (HasCome (IsMoved self.old.script.clients made self.old.events) (AreFit self.old.script.catalog (R.places stores.old) (R.shelves stores.old) (R.tells stores.old)) (placed (R.places stores.old)) (shown (R.shelves stores.old)) (shown (R.shelves stores.new)) self.old self.new) }
+        ensures broken { OnOk result (BreaksWithin self.old.events self.new.events (R.shelves stores.old) (R.shelves stores.new)) }
         ensures goes { GoOn (R.places stores.old) (R.places stores.new) (R.shelves stores.old) (R.shelves stores.new) (R.tells stores.old) (R.tells stores.new) }
     {
         match made {
@@ -121,6 +125,7 @@ impl World {
         requires can { CanFollow self.old.script }
         ensures world { OnOk result (IsWorld self.new) }
         ensures come { OnOk result (HasCome (AreMoved self.old.script.clients self.old.script.moves self.old.events) (AreFit self.old.script.catalog (R.places stores.old) (R.shelves stores.old) (R.tells stores.old)) (placed (R.places stores.old)) (shown (R.shelves stores.old)) (shown (R.shelves stores.new)) self.old self.new) }
+        ensures broken { OnOk result (BreaksWithin self.old.events self.new.events (R.shelves stores.old) (R.shelves stores.new)) }
         ensures goes { GoOn (R.places stores.old) (R.places stores.new) (R.shelves stores.old) (R.shelves stores.new) (R.tells stores.old) (R.tells stores.new) }
     {
         for i in 0..self.script().moves.len() {

@@ -1,14 +1,16 @@
 //! A world: the clients of a script, and what has happened.
-ghost use Rattle.std.specs.Prelude.{◌≡◌, ◌<◌, ◌≤◌, ◌-◌, [], ◌^◌, suc, true, false, length, Some, IfOk, OnOk, IfSome, slice_get};
+ghost use Rattle.std.specs.Prelude.{◌≡◌, ◌≢◌, ◌⊎◌, ◌<◌, ◌≤◌, ◌-◌, [], ◌^◌, suc, true, false, length, Some, IfOk, OnOk, IfSome, slice_get};
 ghost use Rattle.sdb_model.specs.Follows.{has_work as has_work_lem, texts_of};
 ghost use Rattle.sdb_board.specs.Board.{AreFit, GoOn, placed, shown};
 ghost use Rattle.sdb_world.specs.World.{IsPlayable, IsWorld};
+ghost use Rattle.sdb_world.specs.Broken.{BreaksWithin};
 ghost use Rattle.sdb_world.specs.Explained.{IsExplainedAfter};
 ghost use Rattle.sdb_world.specs.Linked.{HaveCauses, IsLinked};
-ghost use Rattle.sdb_world.specs.Step.{AreFresh, CanAct, HasCalled, HasCome, HasLeft, HasStopped, HasTaken, IsBusyAt, IsIdleAt, IsNumber, IsOne, IsOpenAt, IsPendingAt, IsShutAt, NoneOpen, SomeOpen, act_of};
+ghost use Rattle.sdb_world.specs.Step.{AreFresh, CanAct, HasCalled, HasCome, HasLeft, HasStopped, HasTaken, IsBusyAt, IsGateAt, IsIdleAt, IsNumber, IsOne, IsOpenAt, IsPendingAt, IsSweepingAt, IsUnopened, IsUnswept, act_of};
 
 use crate::perform::perform;
 use crate::seat::Seat;
+use crate::stored::show_order;
 use crate::way::Way;
 use sdb_client::{Client, Gate};
 use sdb_model::{Act, Event, Events, Script, Texts};
@@ -129,27 +131,32 @@ impl World {
         !seat.stopped && (!seat.client.is_idle() || seat.taken < self.statements(at).len())
     }
 
-    // Whether a client goes on and has a transaction open.
-    fn is_open_at(&self, i: usize) -> bool
-        requires { i < length self.now.seats }
-        ensures some { result ≡ true → IsOpenAt self.now.seats i }
-        ensures none { result ≡ false → IsShutAt self.now.seats i }
+    // A gate with what a client adds to it, where that is another than the one at a place.
+    fn gate_with(&self, gate: Gate, i: usize, at: usize) -> Gate
+        requires i { i < length self.now.seats }
+        ensures sweeps { result.vacuum_runs ≡ false → (gate.vacuum_runs ≡ false) × (i ≢ at → IsUnswept self.now.seats i) }
+        ensures opens { result.open_elsewhere ≡ false → (gate.open_elsewhere ≡ false) × (i ≢ at → IsUnopened self.now.seats i) }
+        ensures swept { result.vacuum_runs ≡ true → (gate.vacuum_runs ≡ true) ⊎ ((i ≢ at) × IsSweepingAt self.now.seats i) }
+        ensures opened { result.open_elsewhere ≡ true → (gate.open_elsewhere ≡ true) ⊎ ((i ≢ at) × IsOpenAt self.now.seats i) }
     {
-        let seat = &self.seats[i];
-        !seat.stopped && seat.client.is_open()
+        if i == at {
+            return gate;
+        }
+        self.seats[i].joined(gate)
     }
 
-    // Whether another client goes on and has a transaction open.
-    fn is_open_elsewhere(&self, at: usize) -> bool
-        ensures some { result ≡ true → SomeOpen self.now.seats at }
-        ensures none { result ≡ false → NoneOpen self.now.seats at }
+    // What the other clients do that go on.
+    fn gate(&self, at: usize) -> Gate
+        ensures { IsGateAt result self.now.seats at }
     {
+        let mut gate = Gate {
+            vacuum_runs: false,
+            open_elsewhere: false,
+        };
         for i in 0..self.seats.len() {
-            if i != at && self.is_open_at(i) {
-                return true;
-            }
+            gate = self.gate_with(gate, i, at);
         }
-        false
+        gate
     }
 
     // The text of a client's next statement.
@@ -175,10 +182,7 @@ impl World {
     {
         let _left = self.statements(at).len();
         let text = self.next_text(at)?;
-        let gate = Gate {
-            vacuum_runs: false,
-            open_elsewhere: self.is_open_elsewhere(at),
-        };
+        let gate = self.gate(at);
         let seat = &mut self.seats[at];
         let answer = seat
             .client
@@ -208,11 +212,13 @@ impl World {
         requires at { at < length self.old.seats }
         requires busy { IsBusyAt self.old at }
         ensures called { OnOk result (HasCalled (AreFit self.old.script.catalog (R.places stores.old) (R.shelves stores.old) (R.tells stores.old)) (placed (R.places stores.old)) (shown (R.shelves stores.old)) (shown (R.shelves stores.new)) self.old at way self.new) }
+        ensures broken { OnOk result (BreaksWithin self.old.events self.new.events (R.shelves stores.old) (R.shelves stores.new)) }
         ensures goes { GoOn (R.places stores.old) (R.places stores.new) (R.shelves stores.old) (R.shelves stores.new) (R.tells stores.old) (R.tells stores.new) }
     {
         let request = self.request(at)?;
         let store = stores.store_of(table_of(&request)).copy()?;
         let (how, reply) = perform(stores, &request, way);
+        show_order(&reply);
         let told = reply.copy()?;
         let answer = self.seats[at].client.advance(reply, self.clock);
         self.events.push(Event::Call(at as u32 + 1, store, request, how, told, answer))?;
@@ -231,6 +237,7 @@ impl World {
         requires client { IsNumber self.old.script client }
         ensures world { OnOk result (IsWorld self.new) }
         ensures acted { OnOk result (HasCome (IsOne self.old.script.clients (act_of way client) self.old.events) (AreFit self.old.script.catalog (R.places stores.old) (R.shelves stores.old) (R.tells stores.old)) (placed (R.places stores.old)) (shown (R.shelves stores.old)) (shown (R.shelves stores.new)) self.old self.new) }
+        ensures broken { OnOk result (BreaksWithin self.old.events self.new.events (R.shelves stores.old) (R.shelves stores.new)) }
         ensures goes { GoOn (R.places stores.old) (R.places stores.new) (R.shelves stores.old) (R.shelves stores.new) (R.tells stores.old) (R.tells stores.new) }
     {
         let at = client as usize - 1;
@@ -257,7 +264,8 @@ impl World {
 
     /// Does one act, which gives exactly one event: a step of a client, whose call is made on the store of its table and may be lost
     /// or discarded; a stop; a move of the clock. On stores that are fit for the run, and that held nothing of the script's tables when it
-    /// began, what stands at each moment is explained by the events. After out of memory the world isn't used again.
+    /// began, what stands at each moment is explained by the events, and what each recorded transaction noted is current at its point.
+    /// After out of memory the world isn't used again.
     pub fn step<R: Registry>(&mut self, stores: &mut R, act: Act) -> Result<(), NoMemory>
         requires some { 0 < length (R.shelves stores.old) }
         requires world { IsWorld self.old }
@@ -265,6 +273,7 @@ impl World {
         ensures world { OnOk result (IsWorld self.new) }
         ensures acted { OnOk result (HasCome (IsOne self.old.script.clients act self.old.events) (AreFit self.old.script.catalog (R.places stores.old) (R.shelves stores.old) (R.tells stores.old)) (placed (R.places stores.old)) (shown (R.shelves stores.old)) (shown (R.shelves stores.new)) self.old self.new) }
         ensures explained { OnOk result (IsExplainedAfter (AreFit self.old.script.catalog (R.places stores.old) (R.shelves stores.old) (R.tells stores.old)) (placed (R.places stores.old)) (shown (R.shelves stores.old)) (shown (R.shelves stores.new)) self.old self.new) }
+        ensures broken { OnOk result (BreaksWithin self.old.events self.new.events (R.shelves stores.old) (R.shelves stores.new)) }
         ensures goes { GoOn (R.places stores.old) (R.places stores.new) (R.shelves stores.old) (R.shelves stores.new) (R.tells stores.old) (R.tells stores.new) }
     {
         match act {

@@ -1,7 +1,7 @@
 use Rattle.sdb_board.specs.Board.{shown}
 use Rattle.sdb_board.proofs.GoesOn.{goes_more}
 use Rattle.sdb_app.proofs.Headline.{stops_after}
-use Rattle.sdb_app.proofs.Playing.{caused_played, err_then, explained_played, none_played, ok_then, run_played}
+use Rattle.sdb_app.proofs.Playing.{broken_played, caused_played, err_then, explained_played, none_played, ok_then, run_played}
 use Rattle.sdb_app.proofs.replay.play.Goals as goal
 
 pub returns-clause-run : goal.returns-clause-run
@@ -34,6 +34,13 @@ returns-clause-caused g c =
     let old = g.R.Registry.shelves c.args.stores.now in
     let mid = g.R.Registry.shelves c.follow.new.stores in
     ok_then _ _ c.ended.result (λ o. caused_played c.args.script c.in_ok-world.world c.follow.new.self ps qs old mid before.script before.events before.linked made.come made.goes before.caused o.events) c.ended.ensures.caused
+
+pub returns-clause-broken : goal.returns-clause-broken
+returns-clause-broken g c =
+    let old = g.R.Registry.shelves c.args.stores.now in
+    let mid = g.R.Registry.shelves c.follow.new.stores in
+    let new = g.R.Registry.shelves c.ended.new.stores in
+    ok_then _ _ c.ended.result (λ o. broken_played c.in_ok-world.world c.follow.new.self (g.R.Registry.places c.follow.new.stores) _ old mid new o.events c.in_ok-world.ensures.events c.in_ok-follow.ensures.broken c.ended.ensures.goes) c.ended.ensures.events
 
 pub returns-clause-goes : goal.returns-clause-goes
 returns-clause-goes g c = goes_more _ _ _ _ _ _ c.in_ok-follow.ensures.goes c.ended.ensures.goes

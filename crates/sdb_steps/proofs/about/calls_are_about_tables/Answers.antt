@@ -2,4 +2,4 @@ use Rattle.sdb_steps.proofs.ClientIn.{asks_in, replies_in, takes_in}
 use Rattle.sdb_steps.proofs.about.calls_are_about_tables.Goals as goal
 
 pub returns : goal.returns
-returns x = record { starts = λ catalog number. tt; takes = takes_in; replies = replies_in; asked = asks_in }
+returns x = record { starts = λ catalog number. record { txn = tt; vacuum = tt }; takes = takes_in; replies = replies_in; asked = asks_in }

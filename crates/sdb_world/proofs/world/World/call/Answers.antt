@@ -6,6 +6,7 @@ use Rattle.sdb_model.specs.declared.event.Event.TheVariants as event
 use Rattle.sdb_board.specs.Board.{AreFit, placed, shown}
 use Rattle.sdb_world.specs.World.{WorldAt}
 use Rattle.sdb_world.proofs.Takings.{called, named_store}
+use Rattle.sdb_world.proofs.Broken.{breaks_called}
 use Rattle.sdb_world.proofs.world.World.call.Goals as goal
 
 pub returns-clause-called : goal.returns-clause-called
@@ -16,9 +17,15 @@ returns-clause-called g c =
     let seat = c.index_mut.result.now in
     let read : seat ≡ get_or c.args.self.now.seats c.args.at seat = c.index_mut.ensures.value ∙ ap (λ (w : WorldAt). get_or w.seats c.args.at seat) c.self.view_is in
     let now : to_z w64 (of_z w64 c.self.inside.clock) ≡ c.self.inside.clock = search rules in
-    let told = subst (λ (z : ℤ). ReplyTold seat.client seat.client.txn c.perform-how.result.1 z c.advance-answer.result c.advance-answer.new.self) now c.advance-answer.ensures in
+    let told = subst (λ (z : ℤ). ReplyTold seat.client seat.client.vacuum c.perform-how.result.1 z c.advance-answer.result c.advance-answer.new.self) now c.advance-answer.ensures in
     let came = c.in_ok-push.ensures.ok ∙ ap (λ (r : Reply). c.self.inside.events ++ event.Call (c.args.at + 1) c.in_ok-store.store c.in_ok-request.request c.perform-how.result.0 r c.advance-answer.result ∷ []) c.in_ok-told.ensures in
     called fit (placed ps) (shown old) (shown (g.R.Registry.shelves c.perform-how.new.stores)) _ c.args.self.now c.self.view_is c.args.at seat c.args.way c.in_ok-store.store c.in_ok-request.request c.perform-how.result.0 c.perform-how.result.1 c.advance-answer.result c.advance-answer.new.self c.push.new.self
-    c.requires.at read c.in_ok-request.ensures c.perform-how.ensures.lawful c.perform-how.ensures.allowed told
+    c.requires.at read c.in_ok-request.ensures c.perform-how.ensures.lawful c.perform-how.ensures.allowed c.show_order.ensures told
     (λ f about. (c.in_ok-store.ensures ∙ named_store ps old c.in_ok-request.request c.table_of.result.now c.store_of.result.now c.table_of.ensures c.store_of.ensures f, c.perform-how.ensures.made _ f about))
     came
+
+pub returns-clause-broken : goal.returns-clause-broken
+returns-clause-broken g c =
+    let made = c.perform-how.ensures in
+    let came = c.in_ok-push.ensures.ok ∙ ap (λ (r : Reply). c.self.inside.events ++ event.Call (c.args.at + 1) c.in_ok-store.store c.in_ok-request.request c.perform-how.result.0 r c.advance-answer.result ∷ []) c.in_ok-told.ensures in
+    breaks_called _ c.args.self.now c.self.view_is c.push.new.self (c.args.at + 1) c.in_ok-store.store c.in_ok-request.request c.perform-how.result.0 c.perform-how.result.1 c.advance-answer.result (g.R.Registry.shelves c.args.stores.now) (g.R.Registry.shelves c.perform-how.new.stores) came made.broken made.goes.counted

@@ -1,10 +1,12 @@
-use Rattle.std.proofs.Common.{◌≡◌, ◌-◌, ◌∙◌, ap, get_or, sym}
+use Rattle.std.proofs.Common.{◌≡◌, ◌-◌, ◌∙◌, ap, get_or, refl, sym}
 use Rattle.sdb_board.specs.Board.{AreFit, placed, shown}
 use Rattle.sdb_client.specs.Client.{IsBusy, IsIdle}
 use Rattle.sdb_world.specs.declared.seat.Seat.{Seat}
 use Rattle.sdb_world.specs.World.{WorldAt}
 use Rattle.sdb_world.proofs.Goings.{at_write, goes_call, goes_idle, goes_take, left_of, place_low}
 use Rattle.sdb_world.proofs.Takings.{on_ok}
+use Rattle.sdb_model.specs.declared.event.Event.TheVariants as event
+use Rattle.sdb_world.proofs.Broken.{breaks_pushed, breaks_take}
 use Rattle.sdb_world.proofs.world.World.go.Goals as goal
 
 pub returns-then-not-has_work-clause-world : goal.returns-then-not-has_work-clause-world
@@ -66,3 +68,9 @@ returns-else-is_idle-clause-acted g c =
     let read : seat ≡ get_or c.args.self.now.seats (c.args.client - 1) seat = c.index.ensures ∙ ap (λ (w : WorldAt). get_or w.seats (c.args.client - 1) seat) c.self.view_is in
     let busy = at_write (λ (s : Seat). IsBusy s.client) c.args.self.now.seats (c.args.client - 1) seat (place_low c.args.self.now c.args.client c.requires.world c.requires.client) read (c.is_idle.ensures.busy c.if-is_idle.false) in
     on_ok c.call.result c.call.ensures.called (λ t. (goes_call fit (placed (g.R.Registry.places c.args.stores.now)) c.args.self.now c.args.client c.args.way c.requires.world c.requires.client c.has_work.result c.has_work.ensures (shown (g.R.Registry.shelves c.args.stores.now)) (shown (g.R.Registry.shelves c.call.new.stores)) c.call.new.self c.if-not-has_work.false busy t).1)
+
+pub returns-then-not-has_work-clause-broken : goal.returns-then-not-has_work-clause-broken
+returns-then-not-has_work-clause-broken g c = breaks_pushed _ c.args.self.now c.self.view_is c.push.new.self (event.Idle c.args.client) (g.R.Registry.shelves c.args.stores.now) c.in_ok-push.ensures.ok refl
+
+pub returns-then-is_idle-clause-broken : goal.returns-then-is_idle-clause-broken
+returns-then-is_idle-clause-broken g c = on_ok c.take.result c.take.ensures (λ t. breaks_take c.args.self.now c.take.new.self (c.args.client - 1) (g.R.Registry.shelves c.args.stores.now) t)

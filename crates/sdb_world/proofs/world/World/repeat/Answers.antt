@@ -4,6 +4,7 @@ use Rattle.sdb_model.specs.declared.script.Script.{Script}
 use Rattle.sdb_board.specs.Board.{AreFit, placed, shown}
 use Rattle.sdb_board.proofs.GoesOn.{goes_more, goes_none, some_more}
 use Rattle.sdb_world.specs.Step.{AreSteps, HasCome, IsNumber, IsOne}
+use Rattle.sdb_world.proofs.Broken.{breaks_more, breaks_none}
 use Rattle.sdb_world.proofs.Goes.{come_more, come_none}
 use Rattle.sdb_world.proofs.Rounds.{steps_more}
 use Rattle.sdb_world.proofs.world.World.repeat.Goals as goal
@@ -13,6 +14,7 @@ loop-init g c = record {
   some = c.requires.some;
   world = c.requires.world;
   goes = goes_none (g.R.Registry.places c.args.stores.now) (g.R.Registry.shelves c.args.stores.now);
+  broken = breaks_none c.args.self.now.events (g.R.Registry.shelves c.args.stores.now);
   come = come_none (AreSteps c.args.self.now.script.clients c.args.client 0 c.args.self.now.events) (AreFit c.args.self.now.script.catalog (g.R.Registry.places c.args.stores.now) (g.R.Registry.shelves c.args.stores.now) (g.R.Registry.tells c.args.stores.now)) (placed (g.R.Registry.places c.args.stores.now)) (shown (g.R.Registry.shelves c.args.stores.now)) c.args.self.now (record { count = refl; steps = tt });
 }
 
@@ -35,6 +37,7 @@ loop-preserved g c =
       some = some_more _ _ done.goes.names before.some;
       world = done.world;
       goes = goes_more _ _ _ _ _ _ before.goes done.goes;
+      broken = breaks_more c.args.self.now.events c.loop.self.events c.go.new.self.events (g.R.Registry.places c.loop.stores) (g.R.Registry.places c.go.new.stores) (g.R.Registry.shelves c.args.stores.now) (g.R.Registry.shelves c.loop.stores) (g.R.Registry.shelves c.go.new.stores) before.broken done.goes done.broken;
       come = come_more (AreSteps script.clients c.args.client c.loop.counter past) (IsOne later.clients (act.Step c.args.client) now) (AreSteps script.clients c.args.client (c.loop.counter + 1) past) (g.R.Registry.tells c.args.stores.now) (g.R.Registry.tells c.loop.stores) (g.R.Registry.places c.args.stores.now) (g.R.Registry.places c.loop.stores) (g.R.Registry.shelves c.args.stores.now) (g.R.Registry.shelves c.loop.stores) (shown (g.R.Registry.shelves c.go.new.stores))
           c.args.self.now c.loop.self c.go.new.self before.goes before.come done.acted
           (λ es more at h k. steps_more script.clients later.clients c.args.client c.loop.counter past now es more (ap (λ (x : Script). x.clients) same) at h k);

@@ -6,6 +6,7 @@ use Rattle.sdb_model.specs.Follows.{IsRest, end_of}
 use Rattle.sdb_board.specs.Board.{AreFit, placed, shown}
 use Rattle.sdb_board.proofs.GoesOn.{goes_more, some_more}
 use Rattle.sdb_world.specs.Step.{IsOne}
+use Rattle.sdb_world.proofs.Broken.{breaks_more}
 use Rattle.sdb_world.proofs.Goes.{come_as, come_more}
 use Rattle.sdb_world.proofs.Rounds.{Rests, rests_all, rests_on, turn_number}
 use Rattle.sdb_world.proofs.world.World.rest.Goals as goal
@@ -21,6 +22,9 @@ returns-in-None-clause-come g c =
     come_as (λ (es : List Event). Rests script.clients past es c.loop.from) (IsRest script.clients 1 past)
     (AreFit c.args.self.now.script.catalog (g.R.Registry.places c.args.stores.now) (g.R.Registry.shelves c.args.stores.now) (g.R.Registry.tells c.args.stores.now)) (placed (g.R.Registry.places c.args.stores.now)) (shown (g.R.Registry.shelves c.args.stores.now)) (shown (g.R.Registry.shelves c.loop.stores)) c.args.self.now c.loop.self before.come
     (λ es at h. rests_all script.clients later.clients c.loop.from past now es (ap (λ (x : Script). x.clients) same) at h c.in-None.ensures.none)
+
+pub returns-in_err-go-in-Some-clause-goes : goal.returns-in_err-go-in-Some-clause-goes
+returns-in_err-go-in-Some-clause-goes g c = goes_more _ _ _ _ _ _ c.loop.invariant.goes c.in_err-go-in-Some.ensures.goes
 
 pub loop-preserved : goal.loop-preserved
 loop-preserved g c =
@@ -40,6 +44,7 @@ loop-preserved g c =
       low = omega arith;
       high = subst (λ (x : Script). client + 1 ≤ end_of x.clients) (sym done.acted.gone.script) (omega (arith, number.1));
       goes = goes_more _ _ _ _ _ _ before.goes done.goes;
+      broken = breaks_more c.args.self.now.events c.loop.self.events c.go.new.self.events (g.R.Registry.places c.loop.stores) (g.R.Registry.places c.go.new.stores) (g.R.Registry.shelves c.args.stores.now) (g.R.Registry.shelves c.loop.stores) (g.R.Registry.shelves c.go.new.stores) before.broken done.goes done.broken;
       come = come_more (λ (es : List Event). Rests script.clients past es c.loop.from) (IsOne later.clients (act.Step client) now) (λ (es : List Event). Rests script.clients past es (client + 1))
           (g.R.Registry.tells c.args.stores.now) (g.R.Registry.tells c.loop.stores) (g.R.Registry.places c.args.stores.now) (g.R.Registry.places c.loop.stores) (g.R.Registry.shelves c.args.stores.now) (g.R.Registry.shelves c.loop.stores) (shown (g.R.Registry.shelves c.go.new.stores))
           c.args.self.now c.loop.self c.go.new.self before.goes before.come done.acted

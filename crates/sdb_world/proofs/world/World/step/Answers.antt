@@ -1,5 +1,5 @@
 use mir.Val.{of_z, to_z}
-use Rattle.std.proofs.Common.{rules, ◌≡◌, ◌∙◌, ◌++◌, ◌∷◌, [], ℤ, ap, subst, sym, w64}
+use Rattle.std.proofs.Common.{rules, ◌≡◌, ◌∙◌, ◌++◌, ◌∷◌, [], ℤ, ap, refl, subst, sym, w64}
 use Rattle.sdb_model.specs.declared.event.Event.TheVariants as event
 use Rattle.sdb_model.specs.declared.script.Act.{Act}
 use Rattle.sdb_model.specs.declared.script.Act.TheVariants as act
@@ -9,6 +9,7 @@ use Rattle.sdb_world.proofs.Acts.{Came, acts_stop}
 use Rattle.sdb_world.proofs.Explained.{came_explained, on_explained}
 use Rattle.sdb_world.proofs.Goings.{goes_clock}
 use Rattle.sdb_world.proofs.Takings.{on_ok}
+use Rattle.sdb_world.proofs.Broken.{breaks_pushed, breaks_stop}
 use Rattle.sdb_world.proofs.world.World.step.Goals as goal
 
 pub returns-in-Stop-clause-world : goal.returns-in-Stop-clause-world
@@ -77,3 +78,12 @@ returns-in_ok-push-in-Clock-clause-explained g c =
     came_explained fit ps held held c.args.self.now _ c.args.act
     (subst (λ (z : ℤ). Came fit ps held held c.args.self.now c.args.act (record { script = c.self.inside.script; seats = c.self.inside.seats.items; events = c.push.new.self; clock = z })) (sym same)
     (goes_clock fit ps held _ c.args.self.now c.self.view_is c.push.new.self c.args.act c.in-Clock.moment c.requires.world c.in-Clock.is c.requires.act came))
+
+pub returns-in-Stop-clause-broken : goal.returns-in-Stop-clause-broken
+returns-in-Stop-clause-broken g c = on_ok c.stop.result c.stop.ensures (λ h. breaks_stop c.args.self.now c.stop.new.self c.in-Stop.client (g.R.Registry.shelves c.args.stores.now) h)
+
+pub returns-in_ok-push-in-Clock-clause-broken : goal.returns-in_ok-push-in-Clock-clause-broken
+returns-in_ok-push-in-Clock-clause-broken g c =
+    let same : to_z w64 (of_z w64 c.in-Clock.moment) ≡ c.in-Clock.moment = search rules in
+    let came = c.in_ok-push-in-Clock.ensures.ok ∙ ap (λ (m : ℤ). c.self.inside.events ++ event.Clock m ∷ []) same in
+    breaks_pushed _ c.args.self.now c.self.view_is c.push.new.self (event.Clock c.in-Clock.moment) (g.R.Registry.shelves c.args.stores.now) came refl

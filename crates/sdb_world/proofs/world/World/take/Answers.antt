@@ -1,11 +1,10 @@
 use mir.Val.{of_z, to_z}
-use Rattle.std.proofs.Common.{rules, ◌≡◌, ◌≢◌, ◌∙◌, ◌<◌, ◌^◌, ℤ, suc, Some, ap, arith, false, get_or, length, refl, subst, w64}
+use Rattle.std.proofs.Common.{rules, ◌≡◌, ◌≢◌, ◌∙◌, ◌<◌, ◌^◌, ℤ, suc, Some, ap, arith, get_or, length, subst, w64}
 use Rattle.sdb_model.specs.declared.answer.Answer.TheVariants as answer
 use Rattle.sdb_client.specs.Client.{TextTold}
 use Rattle.sdb_client.specs.declared.gate.Gate.{Gate}
 use Rattle.sdb_model.specs.Follows.{texts_of}
 use Rattle.sdb_world.specs.World.{WorldAt}
-use Rattle.sdb_world.proofs.Causing.{gated_by}
 use Rattle.sdb_world.proofs.Takings.{next_short, some_left, took}
 use Rattle.sdb_world.proofs.world.World.take.Goals as goal
 
@@ -28,8 +27,8 @@ pub returns : goal.returns
 returns c =
     let seat = c.index_mut-seat.result.now in
     let read : seat ≡ get_or c.args.self.now.seats c.args.at seat = c.index_mut-seat.ensures.value ∙ ap (λ (w : WorldAt). get_or w.seats c.args.at seat) c.self.view_is in
-    let gate : Gate = record { vacuum_runs = false; open_elsewhere = c.is_open_elsewhere.result } in
+    let gate : Gate = c.gate-gate.result in
     let now : to_z w64 (of_z w64 c.self.inside.clock) ≡ c.self.inside.clock = search rules in
     let told = subst (λ (z : ℤ). c.take-answer.result ≢ Some answer.NoMemory → TextTold (record { catalog = c.self.inside.script.catalog; now = z; gate = gate }) c.in_ok-text.text seat.client c.take-answer.result c.take-answer.new.self) now c.take-answer.ensures.told in
-    took _ c.args.self.now c.self.view_is c.args.at seat c.in_ok-text.text gate c.take-answer.result c.take-answer.new.self c.push.new.self c.requires.at read c.in_ok-text.ensures (record { memory = c.take-answer.ensures.memory; told = told })
-    (subst (λ n. n < 2 ^ 64) c.begun-begun.ensures c.begun-begun.type_inv) (gated_by c.args.self.now.seats c.args.at gate refl c.is_open_elsewhere.ensures.some c.is_open_elsewhere.ensures.none) c.in_ok-push.ensures.ok
+    took _ c.args.self.now c.self.view_is c.args.at seat c.in_ok-text.text gate c.take-answer.result c.take-answer.new.self c.push.new.self c.requires.at read c.in_ok-text.ensures (record { memory = c.take-answer.ensures.memory; told = told }) c.gate-gate.ensures
+    (subst (λ n. n < 2 ^ 64) c.begun-begun.ensures c.begun-begun.type_inv) c.in_ok-push.ensures.ok

@@ -1,0 +1,124 @@
+-- Where a COMMIT goes, what it ends with, and which transaction it ends.
+use Rattle.std.proofs.Common.{◌≡◌, ◌<◌, ◌^◌, ◌+◌, ◌*◌, ◌⊎◌, inl, inr, ℕ, true, List, [], ◌∷◌, ◌++◌, length, Option, Some, None, refl, sym, ap, subst, ◌∙◌, arith}
+use Rattle.std.specs.Prelude.{if◌then◌else◌, find, nat_lt, slice_get, Contains}
+use Rattle.std.specs.Option.{option_and_then}
+use Rattle.std.proofs.lemmas.List.Elements.{Contains-append_left, Contains-push}
+use Rattle.sdb_types.specs.declared.key.Key.{Key}
+use Rattle.sdb_types.specs.declared.record.Record.{Record}
+use Rattle.sdb_types.specs.declared.record.Reply.{Reply}
+use Rattle.sdb_types.proofs.Basics.{none_some, some_is}
+use Rattle.sdb_model.specs.declared.answer.Answer.TheVariants as answer
+use Rattle.sdb_model.specs.declared.event.Event.{Event}
+use Rattle.sdb_model.specs.Calls.{Made}
+use Rattle.sdb_model.specs.Causes.{ConflictsAtCommit, IsCommitOf}
+use Rattle.sdb_model.specs.Sql.{reads_commit}
+use Rattle.sdb_model.specs.Transactions.{Said, client_of, commit_of, ends, from_begin, id_of, ordinal_of, rest_of, said}
+use Rattle.sdb_commit.specs.Phases.{IsNext, ended_at}
+use Rattle.sdb_validate.specs.Inside.{Judges}
+use Rattle.sdb_phases.specs.declared.step.Outcome.{Outcome}
+use Rattle.sdb_phases.specs.declared.step.Outcome.TheVariants as outcome
+use Rattle.sdb_phases.specs.declared.step.ValidateStep.{ValidateStep}
+use Rattle.sdb_phases.specs.declared.step.ValidateStep.TheVariants as validate
+use Rattle.sdb_phases.specs.Checks.{checks}
+use Rattle.sdb_phases.specs.Commit.{Stage, Preparing, Checking, Deciding, Forward, Stopping, Back, Over, after_check, starved as starved_stage, step as commit_step}
+use Rattle.sdb_phases.specs.Steps.{validate_step}
+use Rattle.sdb_phases.specs.Work.{Work}
+use Rattle.sdb_model.specs.Noted.{Note}
+use Rattle.sdb_txn.specs.Txn.{TxnAt, progress_of}
+use Rattle.sdb_client.specs.declared.next.Next.TheVariants as next
+use Rattle.sdb_client.specs.Client.{next_of}
+use Rattle.sdb_turns.specs.System.{answer_of_outcome}
+use Rattle.sdb_causes.specs.Tied.{IsOpenAs}
+use Rattle.sdb_causes.specs.Conflicts.{ConflictBy}
+use Rattle.sdb_causes.proofs.Noting.{client_is, ordinal_is}
+use Rattle.sdb_causes.proofs.Lists.{ends_last, since_more}
+
+---- where a COMMIT goes
+
+-- want of memory stands in place of a conflict alone
+verdict : (p : Work) (i : ℕ) (want v : ValidateStep) → Judges want v → (after_check p i v ≡ after_check p i want) ⊎ (after_check p i v ≡ starved_stage (after_check p i want))
+verdict p i (validate.Conflict key found) validate.NoMemory h = inr refl
+verdict p i validate.NoMemory validate.NoMemory h = inl refl
+verdict p i validate.More validate.NoMemory h = absurd (cc)
+verdict p i validate.Valid validate.NoMemory h = absurd (cc)
+verdict p i validate.Faulted validate.NoMemory h = absurd (cc)
+verdict p i want validate.More h = inl (ap (after_check p i) h)
+verdict p i want validate.Valid h = inl (ap (after_check p i) h)
+verdict p i want (validate.Conflict key found) h = inl (ap (after_check p i) h)
+verdict p i want validate.Faulted h = inl (ap (after_check p i) h)
+
+-- the next stage is that of the protocol, or it is out of memory there
+next_stage : (p : Work) (s : Stage) (r : Reply) (m : Stage) → IsNext p s r m → (m ≡ commit_step p s r) ⊎ (m ≡ starved_stage (commit_step p s r))
+next_stage p (Preparing i) r m h = inl h
+next_stage p (Checking i) r m h = as_verdict (verdict p i (validate_step (nat_lt (i + 1) (length (checks p))) (slice_get (checks p) i) r) h.0 h.1)
+  where
+    as_verdict : (after_check p i h.0 ≡ commit_step p (Checking i) r) ⊎ (after_check p i h.0 ≡ starved_stage (commit_step p (Checking i) r)) → (m ≡ commit_step p (Checking i) r) ⊎ (m ≡ starved_stage (commit_step p (Checking i) r))
+    as_verdict (inl e) = inl (h.2 ∙ e)
+    as_verdict (inr e) = inr (h.2 ∙ e)
+next_stage p (Deciding d) r m h = inl h
+next_stage p (Forward i) r m h = inl h
+next_stage p (Stopping a n) r m h = inl h
+next_stage p (Back a n i) r m h = inl h
+next_stage p (Over a) r m h = inl h
+
+-- what is so of both is so of it
+pub next_by : (P : Stage → Type 0) (p : Work) (s : Stage) (r : Reply) (m : Stage) → IsNext p s r m → P (commit_step p s r) → P (starved_stage (commit_step p s r)) → P m
+next_by P p s r m z h k = either (next_stage p s r m z)
+  where
+    either : (m ≡ commit_step p s r) ⊎ (m ≡ starved_stage (commit_step p s r)) → P m
+    either (inl e) = subst P (sym e) h
+    either (inr e) = subst P (sym e) k
+
+pub ended_is : (s : Stage) (a : Outcome) → ended_at s ≡ Some a → s ≡ Over a
+ended_is (Preparing i) a e = none_some a e
+ended_is (Checking i) a e = none_some a e
+ended_is (Deciding d) a e = none_some a e
+ended_is (Forward i) a e = none_some a e
+ended_is (Stopping b n) a e = none_some a e
+ended_is (Back b n i) a e = none_some a e
+ended_is (Over b) a e = ap Over (some_is b a e)
+
+-- the answer that it ends with
+pub told_end : (a : Outcome) → next_of (progress_of (Some a)) ≡ next.End (answer_of_outcome a)
+told_end outcome.Committed = refl
+told_end (outcome.Conflict key found) = refl
+told_end (outcome.Expired id) = refl
+told_end outcome.Faulted = refl
+told_end (outcome.Unknown id) = refl
+told_end (outcome.BadRecord key) = refl
+told_end outcome.NoMemory = refl
+
+-- the conflict that a COMMIT ends with
+pub conflict_of : (notes : List Note) (p : Work) (calls : List Made) (a : Outcome) (key : Key) (found : Option Record) → answer_of_outcome a ≡ answer.Conflict key found → ConflictBy notes p calls a → ConflictsAtCommit calls notes p.id key found
+conflict_of notes p calls outcome.Committed key found e h = absurd (cc)
+conflict_of notes p calls (outcome.Conflict k f) key found e h =
+    let keys : k ≡ key = cc in
+    let founds : f ≡ found = cc in
+    subst (λ (z : Key). ConflictsAtCommit calls notes p.id z found) keys (subst (λ (z : Option Record). ConflictsAtCommit calls notes p.id k z) founds h)
+conflict_of notes p calls (outcome.Expired id) key found e h = absurd (cc)
+conflict_of notes p calls outcome.Faulted key found e h = absurd (cc)
+conflict_of notes p calls (outcome.Unknown id) key found e h = absurd (cc)
+conflict_of notes p calls (outcome.BadRecord k) key found e h = absurd (cc)
+conflict_of notes p calls outcome.NoMemory key found e h = absurd (cc)
+
+---- the COMMIT of a transaction
+
+-- what ends the open transaction and reads as COMMIT is its COMMIT
+pub commit_is : (events : List Event) (c n : ℕ) (told : List Said) (w : Said) (t : TxnAt) → n < 2 ^ 64 → said c events ≡ told ++ w ∷ [] → reads_commit w.text ≡ true → ends w ≡ true → IsOpenAs c n told t → IsCommitOf events c w t.id
+commit_is events c n told w t small same commit over o = subst (IsCommitOf events c w) (sym o.id) (client_is c n small, ends_it)
+  where
+    since : from_begin (ordinal_of (id_of c n)) (said (client_of (id_of c n)) events) ≡ o.begin ∷ (o.body ++ w ∷ [])
+    since = ap (λ d. from_begin (ordinal_of (id_of c n)) (said d events)) (client_is c n small) ∙ ap (λ k. from_begin k (said c events)) (ordinal_is c n small) ∙ ap (from_begin n) same ∙ since_more n told w o.begin o.body o.since
+
+    ends_it : commit_of events (id_of c n) ≡ Some w
+    ends_it =
+        ap (λ ss. option_and_then (λ (s : Said). if reads_commit s.text then Some s else None) (find ends (rest_of ss))) since
+        ∙ ap (λ (o : Option Said). option_and_then (λ (s : Said). if reads_commit s.text then Some s else None) o) (ends_last o.body w o.goes_on over)
+        ∙ ap (λ b. if b then Some w else None) commit
+
+pub id_fits : (c n : ℕ) → c < 2 ^ 64 → n < 2 ^ 64 → c * 2 ^ 64 + n < 2 ^ 128
+id_fits c n a b = omega arith
+
+-- the first of a statement's calls is one of them
+pub first_in : (m : Made) (rest calls : List Made) → calls ≡ m ∷ rest → Contains calls m
+first_in m rest calls e = subst (λ ms. Contains ms m) (sym e) (Contains-append_left (m ∷ []) rest m (Contains-push [] m))

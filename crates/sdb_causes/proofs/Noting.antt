@@ -1,0 +1,204 @@
+-- What the statements of an open transaction have noted, as statements come.
+use Rattle.std.proofs.Common.{◌≡◌, ◌<◌, ◌^◌, ℕ, zero, suc, Bool, true, false, not, cond, List, [], ◌∷◌, ◌++◌, Option, Some, refl, sym, ap, subst, ◌∙◌}
+use Rattle.std.specs.Prelude.{if◌then◌else◌, ◌==◌, filter, take_while, Contains}
+use Rattle.std.specs.List.{AllByRecursion, flat_map, list_all}
+use Rattle.std.proofs.lemmas.List.{append-nil, append_assoc}
+use Rattle.std.proofs.lemmas.List.Concat.{flat_map-append}
+use Rattle.std.proofs.lemmas.List.Elements.{Contains-append_left, filter-append}
+use Rattle.std.proofs.lemmas.List.Sums.{take_while-cons}
+use Rattle.std.proofs.lemmas.Nat.{div-mul-add, mod-mul-add}
+use Rattle.sdb_types.specs.declared.key.Key.{Key}
+use Rattle.sdb_types.specs.declared.record.Record.{Record}
+use Rattle.sdb_types.specs.Contents.{in_span}
+use Rattle.sdb_schema.specs.declared.table.Table.{Table}
+use Rattle.sdb_record.specs.declared.access.Read.{Read}
+use Rattle.sdb_record.specs.declared.access.Scan.{Scan}
+use Rattle.sdb_model.specs.declared.answer.Answer.{Answer}
+use Rattle.sdb_model.specs.declared.answer.Answer.TheVariants as answer
+use Rattle.sdb_model.specs.declared.event.Event.{Event}
+use Rattle.sdb_model.specs.Calls.{calls_of}
+use Rattle.sdb_model.specs.Noted.{Got, Note, Scanned, noted_in, notes_in}
+use Rattle.sdb_model.specs.Sql.{reads_commit}
+use Rattle.sdb_model.specs.Transactions.{Said, begins, body, client_of, ends, from_begin, id_of, is_conflict, is_effective, ordinal_of, rest_of, said}
+use Rattle.sdb_snapshot.specs.Seen.{Seen}
+use Rattle.sdb_txn.specs.Txn.{TxnAt}
+use Rattle.sdb_turns.proofs.Lists.{each_any, each_more}
+use Rattle.sdb_types.proofs.Basics.{clash}
+use Rattle.sdb_causes.specs.Tied.{IsAnswered, IsOpenAs}
+use Rattle.sdb_causes.specs.Moves.{AllTellOne, AreMoved, IsMovedIn, MovesBy, SeenBy, TellOne, is_told, notes_told}
+use Rattle.sdb_causes.proofs.Calls.{calls_stay}
+use Rattle.sdb_causes.proofs.Lists.{since_more}
+
+---- numbers
+
+pub client_is : (c n : ℕ) → n < 2 ^ 64 → client_of (id_of c n) ≡ c
+client_is c n l = div-mul-add c (2 ^ 64) n l
+
+pub ordinal_is : (c n : ℕ) → n < 2 ^ 64 → ordinal_of (id_of c n) ≡ n
+ordinal_is c n l = mod-mul-add c (2 ^ 64) n l
+
+---- the statements since a BEGIN
+
+-- what is so of all statements is so of those since a BEGIN
+pub since_all : (P : Said → Type 0) (n : ℕ) (ss : List Said) (b : Said) (rest : List Said) → AllByRecursion P ss → from_begin n ss ≡ b ∷ rest → AllByRecursion P rest
+since_all P zero ss b rest all e = absurd (cc)
+since_all P (suc k) [] b rest all e = absurd (cc)
+since_all P (suc k) (x ∷ xs) b rest all e = by (begins x) (k == 0) (λ h. since_all P k xs b rest all.1 h) (λ h. since_all P (suc k) xs b rest all.1 h) e
+  where
+    by : (t z : Bool) → (from_begin k xs ≡ b ∷ rest → AllByRecursion P rest) → (from_begin (suc k) xs ≡ b ∷ rest → AllByRecursion P rest) → (if t then (if z then x ∷ xs else from_begin k xs) else from_begin (suc k) xs) ≡ b ∷ rest → AllByRecursion P rest
+    by true true i j h = let same : xs ≡ rest = cc in subst (AllByRecursion P) same all.1
+    by true false i j h = i h
+    by false z i j h = j h
+
+-- up to what ends the transaction
+pub take_open : (ss more : List Said) → AllByRecursion (λ s. ends s ≡ false) ss → take_while (λ s. not (ends s)) (ss ++ more) ≡ ss ++ take_while (λ s. not (ends s)) more
+take_open [] more all = refl
+take_open (x ∷ xs) more all =
+    take_while-cons (λ s. not (ends s)) x (xs ++ more)
+    ∙ ap (λ b. cond (not b) (x ∷ take_while (λ s. not (ends s)) (xs ++ more)) []) all.0
+    ∙ ap (λ r. x ∷ r) (take_open xs more all.1)
+
+pub take_ends : (s : Said) (more : List Said) → ends s ≡ true → take_while (λ x. not (ends x)) (s ∷ more) ≡ []
+take_ends s more e = take_while-cons (λ x. not (ends x)) s more ∙ ap (λ b. cond (not b) (s ∷ take_while (λ x. not (ends x)) more) []) e
+
+-- what a transaction noted, whose statements since its BEGIN these are
+pub noted_since : (events : List Event) (c n : ℕ) (b : Said) (rest : List Said) → n < 2 ^ 64 → from_begin n (said c events) ≡ b ∷ rest → noted_in events (id_of c n) ≡ notes_told events c (take_while (λ s. not (ends s)) rest)
+noted_since events c n b rest small since =
+    ap (λ d. flat_map (λ s. notes_in (calls_of events d s)) (filter is_told (body events (id_of c n)))) (client_is c n small)
+    ∙ ap (λ ss. flat_map (λ s. notes_in (calls_of events c s)) (filter is_told (filter is_effective (take_while (λ s. not (ends s)) (rest_of ss)))))
+    (ap (λ d. from_begin (ordinal_of (id_of c n)) (said d events)) (client_is c n small) ∙ ap (λ k. from_begin k (said c events)) (ordinal_is c n small) ∙ since)
+
+---- as events come
+
+told_stay : (catalog : List Table) (events : List Event) (e : Event) (c : ℕ) (ss : List Said) → AllByRecursion (IsAnswered catalog events c) ss → flat_map (λ s. notes_in (calls_of (events ++ e ∷ []) c s)) (filter is_told (filter is_effective ss)) ≡ flat_map (λ s. notes_in (calls_of events c s)) (filter is_told (filter is_effective ss))
+told_stay catalog events e c [] all = refl
+told_stay catalog events e c (s ∷ ss) all = by (is_effective s) (is_told s) (told_stay catalog events e c ss all.1)
+  where
+    same : notes_in (calls_of (events ++ e ∷ []) c s) ≡ notes_in (calls_of events c s)
+    same = ap notes_in (calls_stay c events e s all.0.given all.0.is all.0.answered)
+
+    by_told : (t : Bool) → flat_map (λ x. notes_in (calls_of (events ++ e ∷ []) c x)) (filter is_told (filter is_effective ss)) ≡ flat_map (λ x. notes_in (calls_of events c x)) (filter is_told (filter is_effective ss))
+        → flat_map (λ x. notes_in (calls_of (events ++ e ∷ []) c x)) (if t then s ∷ filter is_told (filter is_effective ss) else filter is_told (filter is_effective ss)) ≡ flat_map (λ x. notes_in (calls_of events c x)) (if t then s ∷ filter is_told (filter is_effective ss) else filter is_told (filter is_effective ss))
+    by_told true ih = ap (λ ns. ns ++ flat_map (λ x. notes_in (calls_of (events ++ e ∷ []) c x)) (filter is_told (filter is_effective ss))) same ∙ ap (λ ns. notes_in (calls_of events c s) ++ ns) ih
+    by_told false ih = ih
+
+    by : (f t : Bool) → flat_map (λ x. notes_in (calls_of (events ++ e ∷ []) c x)) (filter is_told (filter is_effective ss)) ≡ flat_map (λ x. notes_in (calls_of events c x)) (filter is_told (filter is_effective ss))
+        → flat_map (λ x. notes_in (calls_of (events ++ e ∷ []) c x)) (filter is_told (if f then s ∷ filter is_effective ss else filter is_effective ss)) ≡ flat_map (λ x. notes_in (calls_of events c x)) (filter is_told (if f then s ∷ filter is_effective ss else filter is_effective ss))
+    by true t ih = by_told (is_told s) ih
+    by false t ih = ih
+
+-- what was noted stays
+pub notes_stay : (catalog : List Table) (events : List Event) (e : Event) (c : ℕ) (ss : List Said) → AllByRecursion (IsAnswered catalog events c) ss → notes_told (events ++ e ∷ []) c ss ≡ notes_told events c ss
+notes_stay catalog events e c ss all = told_stay catalog events e c ss all
+
+-- the calls that showed no two decisions still do
+pub tell_back : (catalog : List Table) (events : List Event) (e : Event) (c : ℕ) (ss : List Said) → AllByRecursion (IsAnswered catalog events c) ss → AllTellOne (events ++ e ∷ []) c ss → AllTellOne events c ss
+tell_back catalog events e c [] all one = tt
+tell_back catalog events e c (s ∷ ss) all one = (subst TellOne (calls_stay c events e s all.0.given all.0.is all.0.answered) one.0, tell_back catalog events e c ss all.1 one.1)
+
+pub each_front : (P : Said → Type 0) (ss : List Said) (s : Said) → AllByRecursion P (ss ++ s ∷ []) → AllByRecursion P ss
+each_front P [] s all = tt
+each_front P (x ∷ ss) s all = (all.0, each_front P ss s all.1)
+
+pub each_last : (P : Said → Type 0) (ss : List Said) (s : Said) → AllByRecursion P (ss ++ s ∷ []) → P s
+each_last P [] s all = all.0
+each_last P (x ∷ ss) s all = each_last P ss s all.1
+
+---- one statement more
+
+-- what it noted stands behind what was noted
+pub notes_more : (events : List Event) (c : ℕ) (ss : List Said) (s : Said) → notes_told events c (ss ++ s ∷ []) ≡ notes_told events c ss ++ notes_told events c (s ∷ [])
+notes_more events c ss s =
+    ap (λ xs. flat_map (λ x. notes_in (calls_of events c x)) (filter is_told xs)) (filter-append is_effective ss (s ∷ []))
+    ∙ ap (flat_map (λ x. notes_in (calls_of events c x))) (filter-append is_told (filter is_effective ss) (filter is_effective (s ∷ [])))
+    ∙ flat_map-append (λ x. notes_in (calls_of events c x)) (filter is_told (filter is_effective ss)) (filter is_told (filter is_effective (s ∷ [])))
+
+-- of one that was answered from rows that is what its calls noted
+pub notes_one : (events : List Event) (c : ℕ) (s : Said) → is_effective s ≡ true → is_told s ≡ true → notes_told events c (s ∷ []) ≡ notes_in (calls_of events c s)
+notes_one events c s e t =
+    ap (λ b. flat_map (λ x. notes_in (calls_of events c x)) (filter is_told (if b then s ∷ [] else []))) e
+    ∙ ap (λ b. flat_map (λ x. notes_in (calls_of events c x)) (if b then s ∷ [] else [])) t
+    ∙ append-nil (notes_in (calls_of events c s))
+
+-- what was read and scanned is still noted
+pub seen_more : (notes more : List Note) (s u : Seen) → u.reads ≡ s.reads → u.scans ≡ s.scans → SeenBy notes s → SeenBy (notes ++ more) u
+seen_more notes more s u r x h = record {
+  reads = subst (AllByRecursion (λ (y : Read). Contains (notes ++ more) (Got y))) (sym r) (each_any (λ (y : Read). Contains notes (Got y)) (λ (y : Read). Contains (notes ++ more) (Got y)) s.reads (λ y k. Contains-append_left notes more (Got y) k) h.reads);
+  scans = subst (AllByRecursion (λ (y : Scan). Contains (notes ++ more) (Scanned y) × (list_all (λ z. in_span y.span z.key) y.found ≡ true))) (sym x)
+      (each_any (λ (y : Scan). Contains notes (Scanned y) × (list_all (λ z. in_span y.span z.key) y.found ≡ true)) (λ (y : Scan). Contains (notes ++ more) (Scanned y) × (list_all (λ z. in_span y.span z.key) y.found ≡ true)) s.scans (λ y k. (Contains-append_left notes more (Scanned y) k.0, k.1)) h.scans);
+}
+
+pub seen_same : (notes : List Note) (s u : Seen) → u.reads ≡ s.reads → u.scans ≡ s.scans → SeenBy notes s → SeenBy notes u
+seen_same notes s u r x h = record {
+  reads = subst (AllByRecursion (λ (y : Read). Contains notes (Got y))) (sym r) h.reads;
+  scans = subst (AllByRecursion (λ (y : Scan). Contains notes (Scanned y) × (list_all (λ z. in_span y.span z.key) y.found ≡ true))) (sym x) h.scans;
+}
+
+---- an open transaction
+
+module _ (catalog : List Table) (events : List Event) (e : Event) (c n : ℕ) (told : List Said) (t : TxnAt) (o : IsOpenAs c n told t) (all : AllByRecursion (IsAnswered catalog events c) told) where
+  pub body_answered : AllByRecursion (IsAnswered catalog events c) o.body
+  body_answered = since_all (IsAnswered catalog events c) n told o.begin o.body all o.since
+
+  pub noted_still : (s : Seen) → (AllTellOne events c told → SeenBy (notes_told events c o.body) s) → AllTellOne (events ++ e ∷ []) c told → SeenBy (notes_told (events ++ e ∷ []) c o.body) s
+  noted_still s h one = subst (λ ns. SeenBy ns s) (sym (notes_stay catalog events e c o.body body_answered)) (h (tell_back catalog events e c told all one))
+
+  -- with one statement more, that read nothing
+  pub noted_more : (x : Said) (s u : Seen) → u.reads ≡ s.reads → u.scans ≡ s.scans → (AllTellOne events c told → SeenBy (notes_told events c o.body) s) → AllTellOne (events ++ e ∷ []) c (told ++ x ∷ []) → SeenBy (notes_told (events ++ e ∷ []) c (o.body ++ x ∷ [])) u
+  noted_more x s u r y h one =
+      subst (λ ns. SeenBy ns u) (sym (notes_more (events ++ e ∷ []) c o.body x))
+      (seen_more (notes_told (events ++ e ∷ []) c o.body) (notes_told (events ++ e ∷ []) c (x ∷ [])) s u r y (noted_still s h (each_front (λ z. TellOne (calls_of (events ++ e ∷ []) c z)) told x one)))
+
+---- statements that were answered Conflict
+
+pub each_left : (P : Said → Type 0) (xs ys : List Said) → AllByRecursion P (xs ++ ys) → AllByRecursion P xs
+each_left P [] ys all = tt
+each_left P (x ∷ xs) ys all = (all.0, each_left P xs ys all.1)
+
+pub each_middle : (P : Said → Type 0) (xs ys : List Said) (y : Said) → AllByRecursion P (xs ++ y ∷ ys) → P y
+each_middle P [] ys y all = all.0
+each_middle P (x ∷ xs) ys y all = each_middle P xs ys y all.1
+
+moves_still : (catalog : List Table) (events : List Event) (e : Event) (c : ℕ) (told later : List Said) (s : Said) (key : Key) (found : Option Record) (m : IsMovedIn events c told s key found) (tail : List Said) → AllByRecursion (IsAnswered catalog events c) told → from_begin m.n later ≡ m.begin ∷ (m.body ++ s ∷ tail)
+    → IsMovedIn (events ++ e ∷ []) c later s key found
+moves_still catalog events e c told later s key found m tail all since = record {
+  n = m.n;
+  begin = m.begin;
+  body = m.body;
+  tail = tail;
+  since = since;
+  goes_on = m.goes_on;
+  over = m.over;
+  small = m.small;
+  why = subst (λ ns. MovesBy (reads_commit s.text) (id_of c m.n) (calls_of (events ++ e ∷ []) c s) ns key found) (sym (notes_stay catalog events e c m.body (each_left (IsAnswered catalog events c) m.body (s ∷ m.tail) whole)))
+      (subst (λ ms. MovesBy (reads_commit s.text) (id_of c m.n) ms (notes_told events c m.body) key found) (sym (calls_stay c events e s here.given here.is here.answered)) m.why);
+}
+  where
+    whole : AllByRecursion (IsAnswered catalog events c) (m.body ++ s ∷ m.tail)
+    whole = since_all (IsAnswered catalog events c) m.n told m.begin (m.body ++ s ∷ m.tail) all m.since
+
+    here : IsAnswered catalog events c s
+    here = each_middle (IsAnswered catalog events c) m.body m.tail s whole
+
+pub moved_still : (catalog : List Table) (events : List Event) (e : Event) (c : ℕ) (told ss : List Said) → AllByRecursion (IsAnswered catalog events c) told → AreMoved events c told ss → AreMoved (events ++ e ∷ []) c told ss
+moved_still catalog events e c told [] all m = tt
+moved_still catalog events e c told (s ∷ ss) all m = ((λ key found is. let x = m.0 key found is in moves_still catalog events e c told told s key found x x.tail all x.since), moved_still catalog events e c told ss all m.1)
+
+pub moved_more : (catalog : List Table) (events : List Event) (e : Event) (c : ℕ) (told ss : List Said) (y : Said) → AllByRecursion (IsAnswered catalog events c) told → AreMoved events c told ss → AreMoved (events ++ e ∷ []) c (told ++ y ∷ []) ss
+moved_more catalog events e c told [] y all m = tt
+moved_more catalog events e c told (s ∷ ss) y all m = (
+  (λ key found is. let x = m.0 key found is in moves_still catalog events e c told (told ++ y ∷ []) s key found x (x.tail ++ y ∷ []) all (since_more x.n told y x.begin (x.body ++ s ∷ x.tail) x.since ∙ ap (λ r. x.begin ∷ r) (append_assoc x.body (s ∷ x.tail) (y ∷ [])))),
+  moved_more catalog events e c told ss y all m.1,
+)
+
+-- an answer that is no Conflict has not moved
+pub unmoved : (events : List Event) (c : ℕ) (told : List Said) (s : Said) (b : Answer) → s.answer ≡ Some b → is_conflict (Some b) ≡ false → (key : Key) (found : Option Record) → s.answer ≡ Some (answer.Conflict key found) → IsMovedIn events c told s key found
+unmoved events c told s b is f key found e = clash (sym (ap is_conflict (sym is ∙ e)) ∙ f)
+
+-- all of a client's, with one statement more
+pub moved_all : (catalog : List Table) (events : List Event) (e : Event) (c : ℕ) (told : List Said) (y : Said) → AllByRecursion (IsAnswered catalog events c) told → (AllTellOne events c told → AreMoved events c told told)
+    → (AllTellOne (events ++ e ∷ []) c (told ++ y ∷ []) → (key : Key) (found : Option Record) → y.answer ≡ Some (answer.Conflict key found) → IsMovedIn (events ++ e ∷ []) c (told ++ y ∷ []) y key found)
+    → AllTellOne (events ++ e ∷ []) c (told ++ y ∷ []) → AreMoved (events ++ e ∷ []) c (told ++ y ∷ []) (told ++ y ∷ [])
+moved_all catalog events e c told y all m last one =
+    each_more (λ s. (key : Key) (found : Option Record) → s.answer ≡ Some (answer.Conflict key found) → IsMovedIn (events ++ e ∷ []) c (told ++ y ∷ []) s key found) told y
+    (moved_more catalog events e c told told y all (m (tell_back catalog events e c told all (each_front (λ z. TellOne (calls_of (events ++ e ∷ []) c z)) told y one)))) (last one)

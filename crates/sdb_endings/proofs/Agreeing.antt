@@ -1,0 +1,214 @@
+-- All calls of clients show one decision on a transaction, where its row stays in the stores.
+use Rattle.std.proofs.Common.{◌≡◌, ◌⊎◌, inl, inr, ℕ, suc, ◌+◌, ◌<◌, ◌≤◌, ◌^◌, Bool, true, false, List, [], ◌∷◌, length, Option, Some, None, refl, sym, ap, subst, ◌∙◌, arith}
+use Rattle.std.specs.Prelude.{◌==◌, if◌then◌else◌, Contains}
+use Rattle.std.specs.List.{cons_option, enumerate_from, filter_map}
+use Rattle.std.specs.Option.{option_map_or}
+use Rattle.std.specs.Ordering.{is_eq}
+use Rattle.std.specs.Result.{result_ok}
+use Rattle.std.proofs.lemmas.Bool.{cases_lt}
+use Rattle.std.proofs.lemmas.List.Elements.{Contains-append_cases, Contains-push_cases}
+use Rattle.sdb_types.specs.declared.txid.TxId.{TxId}
+use Rattle.sdb_types.specs.declared.key.Key.{Key}
+use Rattle.sdb_types.specs.declared.record.Record.{Record}
+use Rattle.sdb_types.specs.declared.record.Request.{Request}
+use Rattle.sdb_types.specs.declared.record.Request.TheVariants as ask
+use Rattle.sdb_types.specs.declared.record.Reply.{Reply}
+use Rattle.sdb_types.specs.declared.record.Reply.TheVariants as reply
+use Rattle.sdb_types.specs.Contents.{Contents, after, holds, put_reply, record_at, reply_to}
+use Rattle.sdb_types.specs.Exact.{equal_of}
+use Rattle.sdb_types.specs.Order.{key_cmp}
+use Rattle.sdb_types.proofs.Basics.{clash, none_some, some_is}
+use Rattle.sdb_types.proofs.KeyOrder.{key_exact}
+use Rattle.sdb_record.specs.declared.coordinator.Decided.{Decided}
+use Rattle.sdb_record.specs.Coordinator.{coordinator_key_of, decision_in}
+use Rattle.sdb_model.specs.declared.event.Event.{Event}
+use Rattle.sdb_model.specs.declared.event.Event.TheVariants as event
+use Rattle.sdb_model.specs.declared.script.Place.{Place}
+use Rattle.sdb_model.specs.Calls.{Made, calls_by, decision_said, decision_shown, is_of_row, key_asked, made_by}
+use Rattle.sdb_model.specs.Events.{Effect, IsTrace, Shelf, moment, standing, table_asked}
+use Rattle.sdb_model.specs.Explained.{RowsFinal}
+use Rattle.sdb_laws.proofs.Effects.{AtCall, after_delete, after_put, at_call}
+use Rattle.sdb_laws.proofs.Keys.{same_key_self}
+
+---- one call
+
+-- the row from which a decision was read stands at a key
+record Stands (at : Option Record) (d : Decided) : Type 0 where
+  row : Record
+  stands : at ≡ Some row
+  decided : result_ok (decision_in row) ≡ Some d
+
+-- the decision of a reply that shows a record, or none
+of_found : (q : Request) (o : Option Record) (d : Decided) → decision_said q (reply.NotMet o) ≡ Some d → Stands o d
+of_found q None d h = none_some d h
+of_found q (Some row) d h = record { row = row; stands = refl; decided = h }
+
+of_get : (q : Request) (o : Option Record) (d : Decided) → decision_said q (reply.Found o) ≡ Some d → Stands o d
+of_get q None d h = none_some d h
+of_get q (Some row) d h = record { row = row; stands = refl; decided = h }
+
+-- what a reply of a store shows of a decision is what then stands at the key that was asked
+said_stands : (q : Request) (k : Key) (m : Contents) (d : Decided) → key_asked q ≡ Some k → decision_said q (reply_to q m) ≡ Some d → Stands (record_at (after q m) k) d
+said_stands (ask.Get key) k m d asked h = subst (λ (x : Key). Stands (record_at m x) d) (some_is key k asked) (of_get (ask.Get key) (record_at m key) d h)
+said_stands (ask.Scan span) k m d asked h = none_some k asked
+said_stands (ask.PutIf rec c) k m d asked h = subst (λ (x : Key). Stands (record_at (after (ask.PutIf rec c) m) x) d) (some_is rec.key k asked) (by (holds c (record_at m rec.key)) refl h)
+  where
+    left : (b : Bool) → holds c (record_at m rec.key) ≡ b → record_at (after (ask.PutIf rec c) m) rec.key ≡ (if b then Some rec else record_at m rec.key)
+    left true e = after_put rec c m rec.key ∙ rw e (rw (same_key_self rec.key) refl)
+    left false e = after_put rec c m rec.key ∙ rw e refl
+
+    by : (b : Bool) → holds c (record_at m rec.key) ≡ b → decision_said (ask.PutIf rec c) (put_reply c (record_at m rec.key)) ≡ Some d → Stands (record_at (after (ask.PutIf rec c) m) rec.key) d
+    by true e said = record { row = rec; stands = left true e; decided = sym (ap (λ (b : Bool). decision_said (ask.PutIf rec c) (if b then reply.Applied else reply.NotMet (record_at m rec.key))) e) ∙ said }
+    by false e said =
+        subst (λ (o : Option Record). Stands o d) (sym (left false e))
+        (of_found (ask.PutIf rec c) (record_at m rec.key) d (sym (ap (λ (b : Bool). decision_said (ask.PutIf rec c) (if b then reply.Applied else reply.NotMet (record_at m rec.key))) e) ∙ said))
+said_stands (ask.DeleteIf key c) k m d asked h = subst (λ (x : Key). Stands (record_at (after (ask.DeleteIf key c) m) x) d) (some_is key k asked) (by (holds c (record_at m key)) refl h)
+  where
+    left : holds c (record_at m key) ≡ false → record_at (after (ask.DeleteIf key c) m) key ≡ record_at m key
+    left e = after_delete key c m key ∙ rw e refl
+
+    by : (b : Bool) → holds c (record_at m key) ≡ b → decision_said (ask.DeleteIf key c) (put_reply c (record_at m key)) ≡ Some d → Stands (record_at (after (ask.DeleteIf key c) m) key) d
+    by true e said = none_some d (sym (ap (λ (b : Bool). decision_said (ask.DeleteIf key c) (if b then reply.Applied else reply.NotMet (record_at m key))) e) ∙ said)
+    by false e said =
+        subst (λ (o : Option Record). Stands o d) (sym (left e))
+        (of_found (ask.DeleteIf key c) (record_at m key) d (sym (ap (λ (b : Bool). decision_said (ask.DeleteIf key c) (if b then reply.Applied else reply.NotMet (record_at m key))) e) ∙ said))
+
+-- a fault shows none, nor does want of memory
+fault_says : (q : Request) (r : Reply) (d : Decided) → (r ≡ reply.NoMemory) ⊎ (r ≡ reply.Fault) → decision_said q r ≡ Some d → ⊥
+fault_says q r d (inl e) h = no q (sym (ap (decision_said q) e) ∙ h)
+  where
+    no : (q : Request) → decision_said q reply.NoMemory ≡ Some d → ⊥
+    no (ask.Get key) h = none_some d h
+    no (ask.Scan span) h = none_some d h
+    no (ask.PutIf rec c) h = none_some d h
+    no (ask.DeleteIf key c) h = none_some d h
+fault_says q r d (inr e) h = no q (sym (ap (decision_said q) e) ∙ h)
+  where
+    no : (q : Request) → decision_said q reply.Fault ≡ Some d → ⊥
+    no (ask.Get key) h = none_some d h
+    no (ask.Scan span) h = none_some d h
+    no (ask.PutIf rec c) h = none_some d h
+    no (ask.DeleteIf key c) h = none_some d h
+
+key_table : (q : Request) (k : Key) → key_asked q ≡ Some k → k.table.ns ≡ (table_asked q).ns
+key_table (ask.Get key) k e = ap (λ (x : Key). x.table.ns) (sym (some_is key k e))
+key_table (ask.Scan span) k e = none_some k e
+key_table (ask.PutIf rec c) k e = ap (λ (x : Key). x.table.ns) (sym (some_is rec.key k e))
+key_table (ask.DeleteIf key c) k e = ap (λ (x : Key). x.table.ns) (sym (some_is key k e))
+
+-- after a call that showed a decision the row stands with it
+call_stands : (places : List Place) (q : Request) (r : Reply) (before now : List Shelf) (k : Key) (d : Decided) → AtCall places q r before now → key_asked q ≡ Some k → decision_said q r ≡ Some d → Stands (standing places now k) d
+call_stands places q r before now k d a asked h = by a.moved
+  where
+    here : standing places now k ≡ record_at a.left k
+    here = (a.here k (key_table q k asked)).1
+
+    by : ((a.left ≡ after q a.held) × ((r ≡ reply_to q a.held) ⊎ (r ≡ reply.Fault))) ⊎ ((a.left ≡ a.held) × ((r ≡ reply.NoMemory) ⊎ (r ≡ reply.Fault))) → Stands (standing places now k) d
+    by (inl (left, inl said)) =
+        subst (λ (o : Option Record). Stands o d) (sym (here ∙ ap (λ (m : Contents). record_at m k) left)) (said_stands q k a.held d asked (sym (ap (decision_said q) said) ∙ h))
+    by (inl (left, inr fault)) = absurd (fault_says q r d (inr fault) h)
+    by (inr (left, none)) = absurd (fault_says q r d none h)
+
+---- a call of a transaction's row
+
+row_asked : (id : TxId) (q : Request) → is_of_row id q ≡ true → key_asked q ≡ Some (coordinator_key_of id)
+row_asked id q h = by (key_asked q) h
+  where
+    by : (o : Option Key) → option_map_or (λ (k : Key). is_eq (key_cmp k (coordinator_key_of id))) o false ≡ true → o ≡ Some (coordinator_key_of id)
+    by (Some k) t = ap Some (key_exact k (coordinator_key_of id) (equal_of _ t))
+    by None t = clash (sym t)
+
+shown_said : (id : TxId) (m : Made) (d : Decided) → decision_shown id m ≡ Some d → (is_of_row id m.request ≡ true) × (decision_said m.request m.reply ≡ Some d)
+shown_said id m d h = by (is_of_row id m.request) refl h
+  where
+    by : (b : Bool) → is_of_row id m.request ≡ b → (if b then decision_said m.request m.reply else None) ≡ Some d → (is_of_row id m.request ≡ true) × (decision_said m.request m.reply ≡ Some d)
+    by true e k = (e, k)
+    by false e k = none_some d k
+
+---- calls among events
+
+one_of : {X : Type 0} (x y : X) (xs : List X) → Contains (x ∷ xs) y → (x ≡ y) ⊎ Contains xs y
+one_of {X = X} x y xs has = by (Contains-append_cases (x ∷ []) xs y has)
+  where
+    none : Contains {X = X} [] y → ⊥
+    none h = absurd (omega (arith, h.1))
+
+    first : Contains [] y ⊎ (x ≡ y) → (x ≡ y) ⊎ Contains xs y
+    first (inl h) = absurd (none h)
+    first (inr h) = inl h
+
+    by : Contains (x ∷ []) y ⊎ Contains xs y → (x ≡ y) ⊎ Contains xs y
+    by (inl h) = first (Contains-push_cases [] x y h)
+    by (inr h) = inr h
+
+-- after one of the events the row of a transaction stands with a decision
+record HasStood (places : List Place) (opening : List Shelf) (moments : List (List Shelf)) (id : TxId) (d : Decided) : Type 0 where
+  at : ℕ
+  within : at ≤ length moments
+  row : Stands (standing places (moment opening moments at) (coordinator_key_of id)) d
+
+-- the event of a call
+event_stands : (places : List Place) (id : TxId) (d : Decided) (c n : ℕ) (e : Event) (before now : List Shelf) (m : Made) → Effect places e before now → made_by c (n, e) ≡ Some m → decision_shown id m ≡ Some d → Stands (standing places now (coordinator_key_of id)) d
+event_stands places id d c n (event.Take x text a) before now m effect made shown = none_some m made
+event_stands places id d c n (event.Call x store q how r a) before now m effect made shown = by (x == c) made
+  where
+    same : record { at = n; store = store; request = q; how = how; reply = r } ≡ m → Stands (standing places now (coordinator_key_of id)) d
+    same is =
+        let s = shown_said id m d shown in
+        let asked : key_asked q ≡ Some (coordinator_key_of id) = row_asked id q (ap (λ (y : Made). is_of_row id y.request) is ∙ s.0) in
+        call_stands places q r before now (coordinator_key_of id) d (at_call places store q how r before now effect) asked (ap (λ (y : Made). decision_said y.request y.reply) is ∙ s.1)
+
+    by : (t : Bool) → (if t then Some (record { at = n; store = store; request = q; how = how; reply = r }) else None) ≡ Some m → Stands (standing places now (coordinator_key_of id)) d
+    by true k = same (some_is _ m k)
+    by false k = none_some m k
+event_stands places id d c n (event.Stop x) before now m effect made shown = none_some m made
+event_stands places id d c n (event.Clock moment) before now m effect made shown = none_some m made
+event_stands places id d c n (event.Idle x) before now m effect made shown = none_some m made
+
+shown_stood : (places : List Place) (id : TxId) (d : Decided) (c n : ℕ) (es : List Event) (opening : List Shelf) (moments : List (List Shelf)) (closing : List Shelf) (m : Made) → IsTrace places es opening moments closing → Contains (filter_map (made_by c) (enumerate_from n es)) m → decision_shown id m ≡ Some d
+    → HasStood places opening moments id d
+shown_stood places id d c n [] opening moments closing m trace has shown = absurd (omega (arith, has.1))
+shown_stood places id d c n (e ∷ es) opening [] closing m trace has shown = absurd trace
+shown_stood places id d c n (e ∷ es) opening (s ∷ ss) closing m trace has shown = by (made_by c (n, e)) refl has (shown_stood places id d c (n + 1) es s ss closing m trace.1)
+  where
+    later : HasStood places s ss id d → HasStood places opening (s ∷ ss) id d
+    later h = record { at = suc h.at; within = more h.at (length ss) h.within; row = h.row }
+      where
+        more : (a b : ℕ) → a ≤ b → suc a ≤ suc b
+        more a b l = omega arith
+
+    here : Stands (standing places s (coordinator_key_of id)) d → HasStood places opening (s ∷ ss) id d
+    here h = record { at = 1; within = low (length ss); row = h }
+      where
+        low : (b : ℕ) → 1 ≤ suc b
+        low b = omega arith
+
+    by : (o : Option Made) → made_by c (n, e) ≡ o → Contains (cons_option o (filter_map (made_by c) (enumerate_from (n + 1) es))) m → (Contains (filter_map (made_by c) (enumerate_from (n + 1) es)) m → decision_shown id m ≡ Some d → HasStood places s ss id d) → HasStood places opening (s ∷ ss) id d
+    by None k h rest = later (rest h shown)
+    by (Some x) k h rest = first (one_of x m (filter_map (made_by c) (enumerate_from (n + 1) es)) h)
+      where
+        first : (x ≡ m) ⊎ Contains (filter_map (made_by c) (enumerate_from (n + 1) es)) m → HasStood places opening (s ∷ ss) id d
+        first (inl same) = here (event_stands places id d c n e opening s m trace.0 (k ∙ ap Some same) shown)
+        first (inr among) = later (rest among shown)
+
+---- two calls
+
+one_row : (a b : Decided) (x y : Record) → x ≡ y → result_ok (decision_in x) ≡ Some a → result_ok (decision_in y) ≡ Some b → a ≡ b
+one_row a b x y same is was = some_is a b (sym is ∙ ap (λ (r : Record). result_ok (decision_in r)) same ∙ was)
+
+pub decisions_agree : (places : List Place) (events : List Event) (opening closing : List Shelf) (moments : List (List Shelf)) → IsTrace places events opening moments closing → ((early late : ℕ) → early ≤ late → late ≤ length moments → RowsFinal places (moment opening moments early) (moment opening moments late))
+    → (c d : ℕ) (id : TxId) (m x : Made) (a b : Decided) → id.0 < 2 ^ 128 → Contains (calls_by events c) m → Contains (calls_by events d) x → decision_shown id m ≡ Some a → decision_shown id x ≡ Some b → a ≡ b
+decisions_agree places events opening closing moments trace final c d id m x a b fits in_c in_d shown said = by (cases_lt first.at last.at)
+  where
+    first : HasStood places opening moments id a
+    first = shown_stood places id a c 1 events opening moments closing m trace in_c shown
+
+    last : HasStood places opening moments id b
+    last = shown_stood places id b d 1 events opening moments closing x trace in_d said
+
+    below : (n k : ℕ) → n < k → n ≤ k
+    below n k l = omega arith
+
+    by : (first.at < last.at) ⊎ (last.at ≤ first.at) → a ≡ b
+    by (inl l) = one_row a b first.row.row last.row.row (some_is _ _ (sym (final first.at last.at (below first.at last.at l) last.within id first.row.row fits first.row.stands) ∙ last.row.stands)) first.row.decided last.row.decided
+    by (inr l) = sym (one_row b a last.row.row first.row.row (some_is _ _ (sym (final last.at first.at l first.within id last.row.row fits last.row.stands) ∙ first.row.stands)) last.row.decided first.row.decided)

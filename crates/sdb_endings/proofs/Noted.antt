@@ -1,0 +1,137 @@
+-- What calls show of decisions agrees, and what statements noted is the same where calls are moved to other stores.
+use Rattle.std.proofs.Common.{◌≡◌, inl, inr, ℕ, ◌+◌, ◌≤◌, Bool, true, false, List, [], ◌∷◌, length, map, Option, Some, None, refl, sym, ap, ◌∙◌}
+use Rattle.std.specs.Prelude.{◌==◌, ◌&&◌, Contains, filter, if◌then◌else◌, is_some, nat_le, nat_lt}
+use Rattle.std.specs.List.{cons_option, enumerate_from, filter_map, flat_map}
+use Rattle.std.specs.Option.{option_and_then, option_map, option_map_or}
+use Rattle.std.proofs.lemmas.List.{length-map}
+use Rattle.std.proofs.lemmas.List.Elements.{Contains-append_left, Contains-append_right, Contains-push}
+use Rattle.sdb_types.specs.declared.txid.TxId.{TxId}
+use Rattle.sdb_types.specs.declared.record.Record.{Record}
+use Rattle.sdb_types.specs.declared.record.Reply.{Reply}
+use Rattle.sdb_types.specs.declared.record.Reply.TheVariants as reply
+use Rattle.sdb_types.specs.declared.record.Request.{Request}
+use Rattle.sdb_types.specs.declared.record.Request.TheVariants as ask
+use Rattle.sdb_record.specs.declared.coordinator.Decided.{Decided}
+use Rattle.sdb_record.specs.declared.coordinator.Decision.{Decision}
+use Rattle.sdb_record.specs.Meta.{id_in}
+use Rattle.sdb_record.specs.Rolls.{image_of}
+use Rattle.sdb_model.specs.declared.event.Event.{Event}
+use Rattle.sdb_model.specs.declared.event.Event.TheVariants as event
+use Rattle.sdb_model.specs.declared.script.Place.{Place}
+use Rattle.sdb_model.specs.Calls.{Made, calls_by, calls_of, decision_learned, decision_shown, end_of, made_by}
+use Rattle.sdb_model.specs.Events.{IsTrace, Shelf, moment, table_asked}
+use Rattle.sdb_model.specs.Explained.{RowsFinal}
+use Rattle.sdb_model.specs.Noted.{Got, Note, Scanned, note_of, read_of, noted_in, notes_in, reads_rows}
+use Rattle.sdb_model.specs.Rows.{Name}
+use Rattle.sdb_model.specs.Transactions.{Said, body, client_of, is_answered_from_rows}
+use Rattle.sdb_story.specs.Calls.{AgreeOn, Learned}
+use Rattle.sdb_spread.specs.Spread.{moved_event, moved_events}
+use Rattle.sdb_spread.proofs.Moved.{body_moved}
+use Rattle.sdb_endings.proofs.Agreeing.{decisions_agree}
+
+---- what calls show of decisions agrees
+
+-- one of some calls showed that decision in a transaction's row
+record WasShown (ms : List Made) (id : TxId) (d : Decision) : Type 0 where
+  made : Made
+  decided : Decided
+  among : Contains ms made
+  shown : decision_shown id made ≡ Some decided
+  is : decided.decision ≡ d
+
+was_shown : (ms : List Made) (id : TxId) (d : Decision) → Learned ms id d → WasShown ms id d
+was_shown [] id d h = absurd h
+was_shown (m ∷ ms) id d (inl h) = record { made = m; decided = h.0; among = Contains-append_left (m ∷ []) ms m (Contains-push [] m); shown = h.1; is = h.2 }
+was_shown (m ∷ ms) id d (inr h) = let w = was_shown ms id d h in record { made = w.made; decided = w.decided; among = Contains-append_right (m ∷ []) ms w.made w.among; shown = w.shown; is = w.is }
+
+-- Where a trace agrees with the events and no row changes, what each client's calls showed of each row agrees.
+pub calls_agree : (places : List Place) (events : List Event) (opening closing : List Shelf) (moments : List (List Shelf)) → IsTrace places events opening moments closing → ((early late : ℕ) → early ≤ late → late ≤ length moments → RowsFinal places (moment opening moments early) (moment opening moments late))
+    → (c : ℕ) → AgreeOn (calls_by events c)
+calls_agree places events opening closing moments trace final c id a b fits h k =
+    let m = was_shown (calls_by events c) id a h in
+    let x = was_shown (calls_by events c) id b k in
+    sym m.is ∙ ap (λ (d : Decided). d.decision) (decisions_agree places events opening closing moments trace final c c id m.made x.made m.decided x.decided fits m.among x.among m.shown x.shown) ∙ x.is
+
+---- calls that are moved to other stores
+
+-- a note, by the decisions that were learned
+abbrev noted_under : (TxId → Option Decided) → Request → Reply → Option Note
+noted_under learned (ask.Get key) (reply.Found found) = Some (Got (read_of key (option_and_then (λ r. image_of r (option_and_then learned (id_in r.columns))) found)))
+noted_under learned (ask.Scan span) (reply.Rows rows) = Some (Scanned (record { span = span; found = filter_map (λ r. option_map (λ (image : Record). read_of r.key (Some image)) (image_of r (option_and_then learned (id_in r.columns)))) rows }))
+noted_under learned q r = None
+
+noted_by_learned : (ms : List Made) (q : Request) (r : Reply) → note_of ms q r ≡ noted_under (decision_learned ms) q r
+noted_by_learned ms (ask.Get key) (reply.Found found) = refl
+noted_by_learned ms (ask.Get key) reply.Applied = refl
+noted_by_learned ms (ask.Get key) (reply.NotMet found) = refl
+noted_by_learned ms (ask.Get key) (reply.Rows rows) = refl
+noted_by_learned ms (ask.Get key) reply.Fault = refl
+noted_by_learned ms (ask.Get key) reply.NoMemory = refl
+noted_by_learned ms (ask.Scan span) (reply.Rows rows) = refl
+noted_by_learned ms (ask.Scan span) reply.Applied = refl
+noted_by_learned ms (ask.Scan span) (reply.NotMet found) = refl
+noted_by_learned ms (ask.Scan span) (reply.Found found) = refl
+noted_by_learned ms (ask.Scan span) reply.Fault = refl
+noted_by_learned ms (ask.Scan span) reply.NoMemory = refl
+noted_by_learned ms (ask.PutIf rec condition) r = refl
+noted_by_learned ms (ask.DeleteIf key condition) r = refl
+
+module _ (at : Name → Name) where
+  abbrev moved_made : Made → Made
+  moved_made m = record { at = m.at; store = at (table_asked m.request).ns; request = m.request; how = m.how; reply = m.reply }
+
+  made_moved : (c n : ℕ) (e : Event) (ms : List Made) → cons_option (made_by c (n, moved_event at e)) (map moved_made ms) ≡ map moved_made (cons_option (made_by c (n, e)) ms)
+  made_moved c n (event.Call d store q how r a) ms = by (d == c)
+    where
+      by : (b : Bool) → cons_option (if b then Some (record { at = n; store = at (table_asked q).ns; request = q; how = how; reply = r }) else None) (map moved_made ms) ≡ map moved_made (cons_option (if b then Some (record { at = n; store = store; request = q; how = how; reply = r }) else None) ms)
+      by true = refl
+      by false = refl
+  made_moved c n (event.Take d text a) ms = refl
+  made_moved c n (event.Stop d) ms = refl
+  made_moved c n (event.Clock m) ms = refl
+  made_moved c n (event.Idle d) ms = refl
+
+  calls_from : (c n : ℕ) (es : List Event) → filter_map (made_by c) (enumerate_from n (moved_events at es)) ≡ map moved_made (filter_map (made_by c) (enumerate_from n es))
+  calls_from c n [] = refl
+  calls_from c n (e ∷ es) = ap (cons_option (made_by c (n, moved_event at e))) (calls_from c (n + 1) es) ∙ made_moved c n e (filter_map (made_by c) (enumerate_from (n + 1) es))
+
+  -- a test that asks nothing of stores keeps the same
+  kept_moved : (t : Made → Bool) → ((m : Made) → t (moved_made m) ≡ t m) → (ms : List Made) → filter t (map moved_made ms) ≡ map moved_made (filter t ms)
+  kept_moved t same [] = refl
+  kept_moved t same (m ∷ ms) = ap (λ b. if b then moved_made m ∷ filter t (map moved_made ms) else filter t (map moved_made ms)) (same m) ∙ by (t m) (kept_moved t same ms)
+    where
+      by : (b : Bool) → filter t (map moved_made ms) ≡ map moved_made (filter t ms) → (if b then moved_made m ∷ filter t (map moved_made ms) else filter t (map moved_made ms)) ≡ map moved_made (if b then m ∷ filter t ms else filter t ms)
+      by true ih = ap (λ xs. moved_made m ∷ xs) ih
+      by false ih = ih
+
+  end_moved : (events : List Event) (s : Said) → end_of (moved_events at events) s ≡ end_of events s
+  end_moved events s = ap (λ n. if is_some s.answer then s.answered else n) (length-map events (moved_event at))
+
+  of_moved : (events : List Event) (c : ℕ) (s : Said) → calls_of (moved_events at events) c s ≡ map moved_made (calls_of events c s)
+  of_moved events c s =
+      ap (λ n. filter (λ m. nat_lt s.taken m.at && nat_le m.at n) (calls_by (moved_events at events) c)) (end_moved events s)
+      ∙ ap (filter (λ m. nat_lt s.taken m.at && nat_le m.at (end_of events s))) (calls_from c 1 events)
+      ∙ kept_moved (λ m. nat_lt s.taken m.at && nat_le m.at (end_of events s)) (λ m. refl) (calls_by events c)
+
+  learned_moved : (ms : List Made) (id : TxId) → decision_learned (map moved_made ms) id ≡ decision_learned ms id
+  learned_moved [] id = refl
+  learned_moved (m ∷ ms) id = ap (λ o. if is_some (decision_shown id m) then decision_shown id m else o) (learned_moved ms id)
+
+  note_moved : (ms : List Made) (q : Request) (r : Reply) → note_of (map moved_made ms) q r ≡ note_of ms q r
+  note_moved ms q r = noted_by_learned (map moved_made ms) q r ∙ (λ k. noted_under (λ id. learned_moved ms id k) q r) ∙ sym (noted_by_learned ms q r)
+
+  each_moved : (calls ms : List Made) → filter_map (λ m. note_of (map moved_made calls) m.request m.reply) (map moved_made ms) ≡ filter_map (λ m. note_of calls m.request m.reply) ms
+  each_moved calls [] = refl
+  each_moved calls (m ∷ ms) = ap (λ o. cons_option o (filter_map (λ m. note_of (map moved_made calls) m.request m.reply) (map moved_made ms))) (note_moved calls m.request m.reply) ∙ ap (cons_option (note_of calls m.request m.reply)) (each_moved calls ms)
+
+  notes_moved : (ms : List Made) → notes_in (map moved_made ms) ≡ notes_in ms
+  notes_moved ms = ap (filter_map (λ m. note_of (map moved_made ms) m.request m.reply)) (kept_moved reads_rows (λ m. refl) ms) ∙ each_moved ms (filter reads_rows ms)
+
+  flat_same : (f g : Said → List Note) → ((s : Said) → f s ≡ g s) → (ss : List Said) → flat_map f ss ≡ flat_map g ss
+  flat_same f g same ss = λ k. flat_map (λ s. same s k) ss
+
+  -- What the statements of a transaction noted is the same where calls are moved to other stores.
+  pub noted_moved : (events : List Event) (id : TxId) → noted_in (moved_events at events) id ≡ noted_in events id
+  noted_moved events id =
+      ap (λ ss. flat_map (λ s. notes_in (calls_of (moved_events at events) (client_of id) s)) (filter (λ s. option_map_or is_answered_from_rows s.answer false) ss)) (body_moved at events id)
+      ∙ flat_same (λ s. notes_in (calls_of (moved_events at events) (client_of id) s)) (λ s. notes_in (calls_of events (client_of id) s)) (λ s. ap notes_in (of_moved events (client_of id) s) ∙ notes_moved (calls_of events (client_of id) s)) (filter (λ s. option_map_or is_answered_from_rows s.answer false) (body events id))

@@ -1,0 +1,5 @@
+use Rattle.sdb_vacuum.proofs.Fine.{after_fine}
+use Rattle.sdb_vacuum.proofs.laws.removes_tombstones_alone.Goals as goal
+
+pub returns : goal.returns
+returns c = after_fine

@@ -1,0 +1,8 @@
+use Rattle.sdb_vacuum.proofs.Counts.{exact_calls, most_calls}
+use Rattle.sdb_vacuum.proofs.laws.vacuum_calls.Goals as goal
+
+pub returns-clause-most : goal.returns-clause-most
+returns-clause-most c = most_calls
+
+pub returns-clause-exact : goal.returns-clause-exact
+returns-clause-exact c = exact_calls

@@ -1,0 +1,8 @@
+use Rattle.sdb_vacuum.proofs.Ends.{bad_row, faulted_fault}
+use Rattle.sdb_vacuum.proofs.laws.vacuum_ends.Goals as goal
+
+pub returns-clause-faulted : goal.returns-clause-faulted
+returns-clause-faulted c = faulted_fault
+
+pub returns-clause-bad : goal.returns-clause-bad
+returns-clause-bad c = bad_row

@@ -1,0 +1,82 @@
+-- How many calls come out Broken, event by event.
+use Rattle.std.proofs.Common.{◌≡◌, inl, inr, ℕ, suc, ◌+◌, ◌≤◌, false, cond, List, [], ◌∷◌, ◌++◌, Option, refl, sym, ap, subst, ◌∙◌, arith}
+use Rattle.std.proofs.lemmas.List.Sums.{sum_by_push}
+use Rattle.sdb_types.specs.declared.record.Reply.{Reply}
+use Rattle.sdb_types.specs.declared.record.Request.{Request}
+use Rattle.sdb_stores.specs.Shelf.{Shelf, HaveRisen, total_faults}
+use Rattle.sdb_stores.specs.declared.place.Place.{Place}
+use Rattle.sdb_model.specs.declared.answer.Answer.{Answer}
+use Rattle.sdb_model.specs.declared.event.Event.{Event}
+use Rattle.sdb_model.specs.declared.event.Event.TheVariants as event
+use Rattle.sdb_model.specs.declared.event.How.{How}
+use Rattle.sdb_model.specs.declared.event.How.TheVariants as how
+use Rattle.sdb_model.specs.Rows.{Name}
+use Rattle.sdb_model.specs.Counted.{broken_in, is_broken}
+use Rattle.sdb_board.specs.Board.{GoOn}
+use Rattle.sdb_world.specs.World.{WorldAt}
+use Rattle.sdb_world.specs.Step.{HasStopped, HasTaken}
+use Rattle.sdb_world.specs.Broken.{BreaksWithin}
+
+broken_more : (es : List Event) (e : Event) → broken_in (es ++ e ∷ []) ≡ broken_in es + cond (is_broken e) 1 0
+broken_more es e = sum_by_push (λ (x : Event). cond (is_broken x) 1 0) es e
+
+-- nothing came
+pub breaks_none : (es : List Event) (a : List Shelf) → BreaksWithin es es a a
+breaks_none es a = inl (omega arith)
+
+-- nothing came, and the stores went on
+pub breaks_still : {t u : ℕ → Type 0} (es : List Event) (p q : List Place) (a b : List Shelf) → GoOn p q a b t u → BreaksWithin es es a b
+breaks_still es p q a b goes = inl (omega (arith, goes.counted))
+
+-- more came, on stores that went on
+pub breaks_more : {t u : ℕ → Type 0} (before mid now : List Event) (p q : List Place) (a b c : List Shelf) → BreaksWithin before mid a b → GoOn p q b c t u → BreaksWithin mid now b c → BreaksWithin before now a c
+breaks_more before mid now p q a b c h goes k = elim h [
+  | inl few ↦ elim k [
+    | inl more ↦ inl (omega (arith, few, more))
+    | inr full ↦ inr full
+  ]
+  | inr full ↦ inr (goes.full full)
+]
+
+-- more came on stores that had gone on
+pub breaks_after : {t u : ℕ → Type 0} (before now : List Event) (p q : List Place) (a b c : List Shelf) → GoOn p q a b t u → BreaksWithin before now b c → BreaksWithin before now a c
+breaks_after before now p q a b c goes h = elim h [
+  | inl few ↦ inl (omega (arith, few, goes.counted))
+  | inr full ↦ inr full
+]
+
+---- one event
+
+-- one that isn't Broken
+pub breaks_other : (es more : List Event) (e : Event) (a : List Shelf) → more ≡ es ++ e ∷ [] → is_broken e ≡ false → BreaksWithin es more a a
+breaks_other es more e a came whole =
+    let one : broken_in more ≡ broken_in es + 0 = ap broken_in came ∙ broken_more es e ∙ ap (λ b. broken_in es + cond b 1 0) whole in
+    inl (omega (arith, one))
+
+-- a world's, as it was pushed
+pub breaks_pushed : (u w : WorldAt) → u ≡ w → (more : List Event) (e : Event) (a : List Shelf) → more ≡ u.events ++ e ∷ [] → is_broken e ≡ false → BreaksWithin w.events more a a
+breaks_pushed u w same more e a came whole = breaks_other w.events more e a (came ∙ ap (λ (x : WorldAt). x.events ++ e ∷ []) same) whole
+
+pub breaks_take : (w v : WorldAt) (i : ℕ) (a : List Shelf) → HasTaken w i v → BreaksWithin w.events v.events a a
+breaks_take w v i a t = breaks_other w.events v.events (event.Take (suc i) t.text t.answer) a (ap (λ (x : WorldAt). x.events) t.left) refl
+
+pub breaks_stop : (w v : WorldAt) (c : ℕ) (a : List Shelf) → HasStopped w c v → BreaksWithin w.events v.events a a
+breaks_stop w v c a t = breaks_other w.events v.events (event.Stop c) a (ap (λ (x : WorldAt). x.events) t.left) refl
+
+-- a call, which is Broken only where a count rose
+pub breaks_call : (es more : List Event) (c : ℕ) (store : Name) (q : Request) (h : How) (r : Reply) (answer : Option Answer) (a b : List Shelf) → more ≡ es ++ event.Call c store q h r answer ∷ [] → (h ≡ how.Broken → HaveRisen a b) → total_faults a ≤ total_faults b → BreaksWithin es more a b
+breaks_call es more c store q h r answer a b came cause counted = subst (λ (xs : List Event). BreaksWithin es xs a b) (sym came) (by h cause)
+  where
+    by : (h : How) → (h ≡ how.Broken → HaveRisen a b) → BreaksWithin es (es ++ event.Call c store q h r answer ∷ []) a b
+    by how.Broken risen = elim (risen refl) [
+      | inl rose ↦ inl (omega (arith, broken_more es (event.Call c store q how.Broken r answer), rose))
+      | inr full ↦ inr full
+    ]
+    by how.Seen risen = inl (omega (arith, broken_more es (event.Call c store q how.Seen r answer), counted))
+    by how.Lost risen = inl (omega (arith, broken_more es (event.Call c store q how.Lost r answer), counted))
+    by how.Discarded risen = inl (omega (arith, broken_more es (event.Call c store q how.Discarded r answer), counted))
+
+-- the same of a world's
+pub breaks_called : (u w : WorldAt) → u ≡ w → (more : List Event) (c : ℕ) (store : Name) (q : Request) (h : How) (r : Reply) (answer : Option Answer) (a b : List Shelf) → more ≡ u.events ++ event.Call c store q h r answer ∷ [] → (h ≡ how.Broken → HaveRisen a b) → total_faults a ≤ total_faults b → BreaksWithin w.events more a b
+breaks_called u w same more c store q h r answer a b came cause counted =
+    breaks_call w.events more c store q h r answer a b (came ∙ ap (λ (x : WorldAt). x.events ++ event.Call c store q h r answer ∷ []) same) cause counted
