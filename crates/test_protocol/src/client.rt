@@ -290,7 +290,40 @@ const OUTSIDE: &[Step] = &[
     ("ROLLBACK", &[], "done"),
 ];
 
-static SCRIPTS: [Script; 7] = [
+// VACUUM outside of transactions: an empty table, a scan that faults or is out of memory; it leaves the client idle.
+const VACUUMS: &[Step] = &[
+    ("VACUUM", &[("scan bank.account", Answer::NoRow)], "count 0"),
+    (
+        "vacuum;",
+        &[("scan bank.account", Answer::Fault)],
+        "faulted",
+    ),
+    (
+        "VACUUM",
+        &[("scan bank.account", Answer::Starved)],
+        "nomemory",
+    ),
+    BEGIN,
+    ("VACUUM", &[], "opentransactions"),
+    ("ROLLBACK", &[], "done"),
+];
+
+// VACUUM of a catalog without tables makes no call.
+const NO_TABLES: &[Step] = &[("VACUUM", &[], "count 0")];
+
+static SCRIPTS: [Script; 9] = [
+    Script {
+        schema: BANK,
+        steps: VACUUMS,
+        open: false,
+        begun: 1,
+    },
+    Script {
+        schema: b"{}",
+        steps: NO_TABLES,
+        open: false,
+        begun: 0,
+    },
     Script {
         schema: BANK,
         steps: FIRST,
