@@ -61,6 +61,8 @@ played_on_own stores tells left old_input new_input old_output new_output own h 
         made = record {
           follows = it.made.follows;
           caused = it.made.caused;
+          counted = it.made.counted;
+          resolved = it.made.resolved;
           broken = it.made.broken;
           played = λ _. it.made.played (λ at store table here about named. own.telling at (slice_get_within own_stores at store here));
         };

@@ -1,9 +1,14 @@
 -- A script that was read and played is a run of the headline.
-use Rattle.std.proofs.Common.{◌≡◌, ◌∙◌, refl, Result, Ok, Err, IfErr, ℕ, ◌≤◌, ◌<◌, true, List, [], Option, Some, None, length, take, sym, ap, subst}
+use Rattle.std.proofs.Common.{◌≡◌, ◌∙◌, refl, Result, Ok, Err, IfErr, ℕ, ◌≤◌, ◌<◌, true, false, List, [], Option, Some, None, length, take, sym, ap, subst}
 use Rattle.std.specs.FinMap.{empty}
 use Rattle.std.specs.Prelude.{Contains, slice_get, IsErrAnd, nat_le, nat_lt, ◌&&◌}
+use Rattle.std.specs.Option.{option_map_or}
 use Rattle.sdb_types.specs.declared.key.Key.{Key}
+use Rattle.sdb_types.specs.declared.pair.Pair.{Pair}
 use Rattle.sdb_types.specs.Bytes.{Appends}
+use Rattle.sdb_types.proofs.Basics.{clash}
+use Rattle.sdb_record.specs.Coordinator.{coordinator_table}
+use Rattle.sdb_model.specs.declared.event.Event.{Event}
 use Rattle.sdb_stores.specs.Shelf.{Shelf as Counted, AreDistinct, names_of}
 use Rattle.sdb_stores.specs.declared.place.Place.{Place as Placed}
 use Rattle.sdb_model.specs.declared.event.Outcome.{Outcome}
@@ -13,12 +18,14 @@ use Rattle.sdb_model.specs.declared.answer.Answer.{Answer}
 use Rattle.sdb_model.specs.declared.answer.Answer.TheVariants as answer
 use Rattle.sdb_model.specs.Calls.{Made, calls_by, calls_of, end_of}
 use Rattle.sdb_model.specs.Causes.{AreCaused, IsCaused}
-use Rattle.sdb_model.specs.Events.{Shelf, store_of}
+use Rattle.sdb_model.specs.Counted.{AreResolved}
+use Rattle.sdb_model.specs.Events.{IsTrace, Shelf, store_of}
+use Rattle.sdb_model.specs.Exec.{find_table}
 use Rattle.sdb_model.specs.Report.{report_text_of}
 use Rattle.sdb_model.specs.Rows.{Name}
 use Rattle.sdb_model.specs.Follows.{Follows}
 use Rattle.sdb_model.specs.Told.{IsRun}
-use Rattle.sdb_model.specs.Transactions.{Said, said}
+use Rattle.sdb_model.specs.Transactions.{Said, is_answered_from_rows, said}
 use Rattle.sdb_spread.specs.Spread.{HoldAs}
 use Rattle.sdb_board.specs.Board.{AreFit, GoOn, placed, shown}
 use Rattle.sdb_board.specs.Opening.{first_key, opening_records}
@@ -28,19 +35,23 @@ use Rattle.sdb_board.proofs.GoesOn.{refused_after}
 use Rattle.sdb_causes.specs.Moves.{TellOne}
 use Rattle.sdb_causes.specs.Tied.{AnswersHaveCauses}
 use Rattle.sdb_causes.proofs.Counting.{all_counted}
+use Rattle.sdb_causes.proofs.Faults.{answered_seen, seen_no_faults}
 use Rattle.sdb_causes.proofs.Lists.{kept_in}
 use Rattle.sdb_causes.proofs.Rolled.{all_resolved}
+use Rattle.sdb_causes.specs.Shows.{WasRead}
+use Rattle.sdb_causes.proofs.ShowsWhole.{answers_own}
 use Rattle.sdb_endings.specs.Decisions.{ShowOne}
+use Rattle.sdb_endings.specs.Shown.{IsReader, ReadBy}
 use Rattle.sdb_endings.proofs.Agreeing.{decisions_agree}
+use Rattle.sdb_endings.proofs.Finding.{answers_as, answers_committed}
 use Rattle.sdb_world.specs.Broken.{BreaksWithin}
-use Rattle.sdb_world.specs.Explained.{IsExplained}
+use Rattle.sdb_world.specs.Explained.{IsExplained, IsShown}
 use Rattle.sdb_world.proofs.Broken.{breaks_after}
 use Rattle.sdb_app.specs.declared.status.Status.{Status}
 use Rattle.sdb_app.specs.declared.status.Status.TheVariants as status
 use Rattle.sdb_app.specs.Run.{AreReady, TellOf, IsFirstFound, IsOutcome, IsPlayed, IsPrefixWritten, IsReadAnd, IsReplayed, IsReported, IsScriptRead, Stops, is_unplayed}
 use Rattle.sdb_script.specs.Begun.{ArePlaces}
 use Rattle.sdb_app.proofs.Placing.{fit_for}
-use Rattle.sdb_app.proofs.Seeing.{answered_seen, seen_fine}
 
 ---- why it stopped
 
@@ -97,18 +108,38 @@ ready_after script ps qs mid then same goes fit none quiet = record {
   nothing = subst (λ (ss : List Shelf). HoldAs script.catalog script.places ss empty) (sym quiet) (subst (λ (xs : List Place). HoldAs script.catalog xs (shown mid) empty) same (no_record script.catalog (placed ps) (shown mid) none));
 }
 
--- Stores that tell show one decision on each transaction, so each answer has its cause.
+---- where the stores tell
+
+-- stores that tell show one decision on each transaction
+tell_one : (script : Script) (opening closing : List Shelf) (moments : List (List Shelf)) (events : List Event) → IsTrace script.places events opening moments closing → IsExplained script events opening → (c : ℕ) (s : Said) → TellOne (calls_of events c s)
+tell_one script opening closing moments events traced explained c s id m x a b fits in_m in_x = one c c id m x a b fits (within m in_m) (within x in_x)
+  where
+    one : ShowOne events
+    one = decisions_agree script.places events opening closing moments traced (explained moments closing traced).explained.standing.rows_final
+
+    within : (y : Made) → Contains (calls_of events c s) y → Contains (calls_by events c) y
+    within y = kept_in (λ (z : Made). nat_lt s.taken z.at && nat_le z.at (end_of events s)) (calls_by events c) y
+
+-- so each row that is shown was its transaction's own or committed
+shown_of : (script : Script) (opening : List Shelf) (events : List Event) → find_table script.catalog coordinator_table ≡ None → AnswersHaveCauses script.catalog events → AreResolved events → IsExplained script events opening → IsShown script events opening
+shown_of script opening events none caused resolved explained moments end traced =
+    let at = explained moments end traced in
+    answers_committed script.catalog script.places events opening end moments none traced at.explained.standing at.taken resolved
+    (answers_as script.catalog (WasRead script.catalog events) (ReadBy script.catalog events) events read (answers_own script.catalog events caused.shown (λ c s has. tell_one script opening end moments events traced explained c s)))
+  where
+    read : (c : ℕ) (s : Said) (key : Key) (row : Option (List Pair)) → WasRead script.catalog events c s key row → ReadBy script.catalog events c s key row
+    read c s key row w = (by s.answer refl w.1.told, w.1.table, w.1.found)
+      where
+        by : (o : Option Answer) → s.answer ≡ o → option_map_or is_answered_from_rows o false ≡ true → IsReader events c s
+        by None e h = clash (sym h)
+        by (Some a) e h = record { among = w.0; a = a; answer = e; from_rows = h; no_vacuum = w.1.no_vacuum }
+
+-- and each answer has its cause
 causes_of : (script : Script) (opening closing : List Shelf) (o : Outcome) → AnswersHaveCauses script.catalog o.events → IsRun script opening closing o → IsExplained script o.events opening → AreCaused script.catalog o.events
 causes_of script opening closing o caused run explained = record { caused = each; turned_away = caused.turned_away }
   where
-    one : ShowOne o.events
-    one = decisions_agree script.places o.events opening closing run.moments run.consistent (explained run.moments closing run.consistent).standing.rows_final
-
-    within : (c : ℕ) (s : Said) (m : Made) → Contains (calls_of o.events c s) m → Contains (calls_by o.events c) m
-    within c s m = kept_in (λ (x : Made). nat_lt s.taken x.at && nat_le x.at (end_of o.events s)) (calls_by o.events c) m
-
     tells : (c : ℕ) (s : Said) → TellOne (calls_of o.events c s)
-    tells c s id m x a b fits in_m in_x = one c c id m x a b fits (within c s m in_m) (within c s x in_x)
+    tells = tell_one script opening closing run.moments o.events run.consistent explained
 
     each : (c : ℕ) (s : Said) (a : Answer) → Contains (said c o.events) s → s.answer ≡ Some a → IsCaused script.catalog o.events c s a
     each c s (answer.Rows rows) has is = caused.caused c s (answer.Rows rows) has is refl
@@ -128,14 +159,13 @@ causes_of script opening closing o caused run explained = record { caused = each
     each c s answer.NoMemory has is = caused.caused c s answer.NoMemory has is refl
 
 played_on : {u v : ℕ → Type 0} (script : Script) (ps qs : List Placed) (old mid then : List Counted) (new : List Shelf) (o : Outcome) → placed ps ≡ script.places → mid ≡ old → GoOn ps qs mid then u v → AreFit script.catalog ps mid u
-    → first_key (opening_records script.catalog (placed ps) (shown mid)) ≡ None → shown then ≡ shown mid → (AreReady script qs then v → IsRun script (shown then) new o) → (AreReady script qs then v → IsExplained script o.events (shown then)) → AnswersHaveCauses script.catalog o.events → IsPlayed script (shown old) new o
-played_on script ps qs old mid then new o same still goes fit none quiet run explained caused = record {
+    → first_key (opening_records script.catalog (placed ps) (shown mid)) ≡ None → shown then ≡ shown mid → (AreReady script qs then v → IsRun script (shown then) new o) → (AreReady script qs then v → IsExplained script o.events (shown then)) → AnswersHaveCauses script.catalog o.events → find_table script.catalog coordinator_table ≡ None → AreResolved o.events → IsPlayed script (shown old) new o
+played_on script ps qs old mid then new o same still goes fit none quiet run explained caused apart resolved = record {
   empty = sym (ap (λ (ss : List Shelf). first_key (opening_records script.catalog script.places ss)) (ap shown still)) ∙ sym (ap (λ (xs : List Place). first_key (opening_records script.catalog xs (shown mid))) same) ∙ none;
   run = run_now;
   explained = explained_now;
   caused = causes_of script (shown old) new o caused run_now explained_now;
-  counted = all_counted script.catalog o.events caused.counted (seen_fine script.places o.events (shown old) new run_now.moments run_now.consistent);
-  resolved = all_resolved o.events caused.rolled (answered_seen script.places o.events (shown old) new run_now.moments run_now.consistent);
+  shown = shown_of script (shown old) o.events apart caused resolved explained_now;
 }
   where
     run_now : IsRun script (shown old) new o
@@ -146,17 +176,22 @@ played_on script ps qs old mid then new o same still goes fit none quiet run exp
 
 pub reported : {t u v : ℕ → Type 0} (script : Script) (ps qs : List Placed) (old mid then new : List Counted) (o : Outcome) (text : List ℕ) → placed ps ≡ script.places → mid ≡ old → GoOn ps qs mid then u v → (TellOf script old t → AreFit script.catalog ps mid u)
     → (AreFit script.catalog ps mid u → first_key (opening_records script.catalog (placed ps) (shown mid)) ≡ None) → (AreFit script.catalog ps mid u → shown then ≡ shown mid)
-    → Follows script.clients script.moves o.events → AnswersHaveCauses script.catalog o.events → BreaksWithin [] o.events then new → (AreReady script qs then v → IsRun script (shown then) (shown new) o) → (AreReady script qs then v → IsExplained script o.events (shown then)) → text ≡ report_text_of o → IsReported (TellOf script old t) script old new text
-reported script ps qs old mid then new o text same still goes fit none quiet follows caused broken run explained is = record {
+    → Follows script.clients script.moves o.events → AnswersHaveCauses script.catalog o.events → BreaksWithin [] o.events then new → (AreReady script qs then v → IsRun script (shown then) (shown new) o) → (AreReady script qs then v → IsExplained script o.events (shown then)) → find_table script.catalog coordinator_table ≡ None → text ≡ report_text_of o → IsReported (TellOf script old t) script old new text
+reported script ps qs old mid then new o text same still goes fit none quiet follows caused broken run explained apart is = record {
   outcome = o;
   text = is;
   made = record {
     follows = follows;
     caused = caused;
+    counted = all_counted script.catalog o.events caused.counted (seen_no_faults script.clients script.moves o.events follows);
+    resolved = resolved;
     broken = subst (λ (ss : List Counted). BreaksWithin [] o.events ss new) still (breaks_after [] o.events ps qs mid then new goes broken);
-    played = λ all. played_on script ps qs old mid then (shown new) o same still goes (fit all) (none (fit all)) (quiet (fit all)) run explained caused;
+    played = λ all. played_on script ps qs old mid then (shown new) o same still goes (fit all) (none (fit all)) (quiet (fit all)) run explained caused apart resolved;
   };
 }
+  where
+    resolved : AreResolved o.events
+    resolved = all_resolved o.events caused.rolled (answered_seen script.clients script.moves o.events follows)
 
 -- stores that all tell stop nothing
 pub never_foreign : {u v : ℕ → Type 0} (script : Script) (ps qs : List Placed) (mid then : List Counted) → placed ps ≡ script.places → GoOn ps qs mid then u v → AreFit script.catalog ps mid u → first_key (opening_records script.catalog (placed ps) (shown mid)) ≡ None → shown then ≡ shown mid → (AreReady script qs then v → ⊥) → ⊥
@@ -182,6 +217,8 @@ made_of : {t u : ℕ → Type 0} (script : Script) (before mid new : List Counte
 made_of script before mid new o same telling made = record {
   follows = made.follows;
   caused = made.caused;
+  counted = made.counted;
+  resolved = made.resolved;
   broken = subst (λ (ss : List Counted). BreaksWithin [] o.events ss new) same made.broken;
   played = λ all. subst (λ (ss : List Counted). IsPlayed script (shown ss) (shown new) o) same (made.played (tell_on script before mid same telling all));
 }

@@ -1,5 +1,5 @@
 -- The places of a script, once its namespaces are placed.
-use Rattle.std.proofs.Common.{◌≡◌, ◌≢◌, ◌∙◌, ℕ, zero, suc, ◌+◌, ◌<◌, ◌≤◌, Bool, true, cond, List, [], ◌∷◌, ◌++◌, length, map, take, Option, Some, None, IfSome, refl, sym, ap, subst, arith, get_or}
+use Rattle.std.proofs.Common.{◌≡◌, ◌≢◌, ◌∙◌, ℕ, zero, suc, ◌+◌, ◌<◌, Bool, true, cond, List, [], ◌∷◌, ◌++◌, length, map, take, Option, Some, None, IfSome, refl, sym, ap, subst, arith, get_or}
 use Rattle.std.specs.Prelude.{slice_get, IsSome, find, is_some}
 use Rattle.std.specs.List.{Contains}
 use Rattle.std.specs.Option.{option_map}
@@ -20,6 +20,7 @@ use Rattle.sdb_spread.specs.Spread.{is_played}
 use Rattle.sdb_board.specs.Board.{AreFit, placed, shown}
 use Rattle.sdb_board.proofs.Shelves.{named_home}
 use Rattle.sdb_types.proofs.Basics.{by_test, none_some, some_is}
+use Rattle.sdb_board.proofs.Lists.{take_suc}
 
 ---- the stores of places
 
@@ -99,18 +100,7 @@ free_at ps names places i p h same here =
     let t = taken_at places i k q (ap (λ (xs : List Place). slice_get xs k) (sym same) ∙ e) in
     λ alike. h.once k i p.ns t.0 (name_within places i p here) (name_at places k q p.ns t.1 ∙ alike ∙ sym (name_at places i p p.ns here)))
 
-take_suc : {A : Type 0} (xs : List A) (i : ℕ) (x : A) → slice_get xs i ≡ Some x → take (suc i) xs ≡ take i xs ++ x ∷ []
-take_suc [] i x e = absurd (none_some x e)
-take_suc (y ∷ ys) zero x e = ap (λ z. z ∷ []) (some_is y x e)
-take_suc (y ∷ ys) (suc i) x e = ap (λ zs. y ∷ zs) (take_suc ys i x e)
-
 -- and then it has one
 pub placed_more : (ps qs : List Placed) (places : List Place) (i : ℕ) (p : Place) → slice_get places i ≡ Some p → placed ps ≡ take i places → placed qs ≡ placed ps ++ p ∷ [] → placed qs ≡ take (i + 1) places
 placed_more ps qs places i p here same more =
     more ∙ ap (λ (xs : List Place). xs ++ p ∷ []) same ∙ sym (ap (λ (k : ℕ). take k places) (add-one i) ∙ take_suc places i p here)
-
-pub all_placed : {A : Type 0} (xs : List A) (i : ℕ) → length xs ≤ i → take i xs ≡ xs
-all_placed [] zero h = refl
-all_placed [] (suc i) h = refl
-all_placed (x ∷ xs) zero h = absurd (omega arith)
-all_placed (x ∷ xs) (suc i) h = ap (λ ys. x ∷ ys) (all_placed xs i (omega arith))

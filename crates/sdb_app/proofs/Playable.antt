@@ -4,7 +4,6 @@ use Rattle.std.specs.Prelude.{nat_le, is_some, slice_get, All}
 use Rattle.std.specs.List.{list_all, AllByRecursion}
 use Rattle.std.specs.Option.{option_map_or}
 use Rattle.std.specs.Ordering.{is_eq}
-use Rattle.std.proofs.lemmas.Bool.Decides.{nat_tests}
 use Rattle.std.proofs.lemmas.List.Folds.{list_all-append}
 use Rattle.sdb_types.specs.declared.key.TableName.{TableName}
 use Rattle.sdb_types.specs.Exact.{equal_of}
@@ -34,7 +33,7 @@ use Rattle.sdb_script.proofs.Pieces.{no_some}
 use Rattle.sdb_world.specs.World.{IsPlayable}
 use Rattle.sdb_world.specs.Step.{CanAct, CanFollow, CanMove}
 use Rattle.sdb_app.proofs.CatalogRead.{catalog_read}
-use Rattle.sdb_types.proofs.Basics.{by_test, some_is}
+use Rattle.sdb_types.proofs.Basics.{by_test, some_is, nat_at_most as at_most}
 
 ---- its catalog
 
@@ -67,9 +66,6 @@ both_lines : (xs ys : List (List ℕ)) → list_all is_line (xs ++ ys) ≡ true 
 both_lines xs ys h =
     let e : (list_all is_line xs && list_all is_line ys) ≡ true = sym (list_all-append is_line xs ys) ∙ h in
     (and_first (list_all is_line xs) (list_all is_line ys) e, and_second (list_all is_line xs) (list_all is_line ys) e)
-
-at_most : (a b : ℕ) → nat_le a b ≡ true → a ≤ b
-at_most a b h = grind (arith, nat_tests)
 
 text_short : (text : List ℕ) → is_line (text_line text) ≡ true → length text < 2 ^ 32
 text_short text h =

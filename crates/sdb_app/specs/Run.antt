@@ -26,7 +26,7 @@ use Rattle.sdb_dump.specs.declared.refused.ClosingRefused.{ClosingRefused}
 use Rattle.sdb_dump.specs.declared.refused.ClosingRefused.TheVariants as closing
 use Rattle.sdb_causes.specs.Tied.{AnswersHaveCauses}
 use Rattle.sdb_world.specs.Broken.{BreaksWithin}
-use Rattle.sdb_world.specs.Explained.{IsExplained}
+use Rattle.sdb_world.specs.Explained.{IsExplained, IsShown}
 use Rattle.sdb_world.specs.World.{WorldAt}
 use Rattle.sdb_world.specs.Played.{HasPlayed}
 use Rattle.sdb_app.specs.declared.status.InputFault.TheVariants.{Line}
@@ -56,21 +56,23 @@ TellOf script shelves tells =
 
 -- The tables of a script were empty, and one outcome is that of a run that follows it, from what the stores held at the entry
 -- to what they hold at the exit; what stood in the stores at each moment is explained by its events, and what each recorded transaction
--- noted is current at its point; each answer has its cause; the calls of all statements are counted by what was seen; and whoever was
--- answered from rows had each unresolved record that was found rolled first.
+-- noted is current at its point; each answer has its cause; and no transaction, recorded or not, was shown a row that was neither its own
+-- nor committed when it was read.
 pub record IsPlayed (script : Script) (opening closing : List Shelf) (outcome : Outcome) : Type 0 where
   pub empty : first_key (opening_records script.catalog script.places opening) ≡ None
   pub run : IsRun script opening closing outcome
   pub explained : IsExplained script outcome.events opening
   pub caused : AreCaused script.catalog outcome.events
-  pub counted : AreCounted script.catalog outcome.events
-  pub resolved : AreResolved outcome.events
+  pub shown : IsShown script outcome.events opening
 
--- One outcome of a script on any stores: its events follow the script's moves, the answers have their causes among them, and no more calls
--- are Broken than the stores failed; and where the stores tell what they hold, it is that of a run of the script, whose tables were empty.
+-- One outcome of a script on any stores: its events follow the script's moves, the answers have their causes among them, the calls are
+-- counted, whoever was answered from rows had each unresolved record that it found rolled first, and no more calls are Broken than the
+-- stores failed; and where the stores tell what they hold, it is that of a run of the script, whose tables were empty.
 pub record IsOutcome (telling : Type 0) (script : Script) (old new : List Counted) (outcome : Outcome) : Type 0 where
   pub follows : Follows script.clients script.moves outcome.events
   pub caused : AnswersHaveCauses script.catalog outcome.events
+  pub counted : AreCounted script.catalog outcome.events
+  pub resolved : AreResolved outcome.events
   pub broken : BreaksWithin [] outcome.events old new
   pub played : telling → IsPlayed script (shown old) (shown new) outcome
 

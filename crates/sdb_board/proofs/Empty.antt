@@ -28,11 +28,11 @@ use Rattle.sdb_model.specs.Events.{Shelf, held_by, store_of}
 use Rattle.sdb_spread.specs.Spread.{HoldAs, is_played}
 use Rattle.sdb_board.specs.Board.{AreFit, GoOn, IsCalled, placed, shown}
 use Rattle.sdb_board.specs.Opening.{records_of, run_tables, opening_records, first_key, whole}
-use Rattle.sdb_board.proofs.Lists.{all_at, taken_up}
+use Rattle.sdb_board.proofs.Lists.{all_at}
 use Rattle.sdb_board.proofs.RunTables.{names_played, of_played}
-use Rattle.sdb_types.proofs.Basics.{none_some, some_is}
+use Rattle.sdb_types.proofs.Basics.{none_some, some_is, take_all as taken_up}
 
-nothing_at : (key : Key) → record_at empty key ≡ None
+pub nothing_at : (key : Key) → record_at empty key ≡ None
 nothing_at key = ap (option_map (λ columns. record_of (key, columns))) (get-empty key_cmp key)
 
 inside : (key : Key) → in_span (whole key.table) key ≡ true

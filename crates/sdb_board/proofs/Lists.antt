@@ -1,5 +1,5 @@
 -- Lists, place by place.
-use Rattle.std.proofs.Common.{◌≡◌, ℕ, zero, suc, ◌≤◌, List, [], ◌∷◌, ◌++◌, length, take, Some, refl, ap, subst, arith}
+use Rattle.std.proofs.Common.{◌≡◌, ℕ, zero, suc, List, [], ◌∷◌, ◌++◌, take, Some, ap, subst}
 use Rattle.std.specs.Prelude.{slice_get}
 use Rattle.std.specs.List.{AllByRecursion}
 use Rattle.sdb_types.proofs.Basics.{none_some, some_is}
@@ -8,12 +8,6 @@ pub take_suc : {A : Type 0} (xs : List A) (i : ℕ) (x : A) → slice_get xs i �
 take_suc [] i x e = absurd (none_some x e)
 take_suc (y ∷ ys) zero x e = ap (λ z. z ∷ []) (some_is y x e)
 take_suc (y ∷ ys) (suc i) x e = ap (λ zs. y ∷ zs) (take_suc ys i x e)
-
-pub taken_up : {A : Type 0} (xs : List A) (i : ℕ) → length xs ≤ i → take i xs ≡ xs
-taken_up [] zero h = refl
-taken_up [] (suc i) h = refl
-taken_up (x ∷ xs) zero h = absurd (omega arith)
-taken_up (x ∷ xs) (suc i) h = ap (λ ys. x ∷ ys) (taken_up xs i (omega arith))
 
 -- what is so of each is so of the i-th
 pub all_at : {A : Type 0} (P : A → Type 0) (xs : List A) (i : ℕ) (x : A) → AllByRecursion P xs → slice_get xs i ≡ Some x → P x

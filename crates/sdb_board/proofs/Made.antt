@@ -18,9 +18,10 @@ use Rattle.sdb_model.specs.declared.script.Place.{Place}
 use Rattle.sdb_model.specs.Rows.{Name}
 use Rattle.sdb_model.specs.Events.{Shelf, IsPerformed, held_by, with_contents, store_of, table_asked}
 use Rattle.sdb_spread.specs.Spread.{is_played}
-use Rattle.sdb_board.specs.Board.{AreFit, IsCalled, IsMade, how_lost, how_seen, is_read, reply_lost, shown, placed}
+use Rattle.sdb_board.specs.Board.{AreFit, IsCalled, IsMade, how_lost, how_seen, reply_lost, shown, placed}
 use Rattle.sdb_board.proofs.Shelves.{held_at, set_there, set_still, named_home}
 use Rattle.sdb_types.proofs.Basics.{some_is}
+use Rattle.sdb_model.specs.Calls.{is_read}
 
 pub asked : (q : Request) → table_of q ≡ table_asked q
 asked (ask.Get key) = refl

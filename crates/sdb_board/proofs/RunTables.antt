@@ -1,5 +1,5 @@
 -- The tables of a run, by their names.
-use Rattle.std.proofs.Common.{◌≡◌, ◌∙◌, ◌⊎◌, inl, inr, ℕ, zero, suc, ◌+◌, Bool, true, false, cond, List, [], ◌∷◌, ◌++◌, length, take, Some, refl, sym, ap, subst}
+use Rattle.std.proofs.Common.{◌≡◌, ◌∙◌, inl, inr, ℕ, zero, suc, ◌+◌, Bool, true, false, cond, List, [], ◌∷◌, ◌++◌, length, take, Some, refl, sym, ap, subst}
 use Rattle.std.specs.Prelude.{◌||◌, is_some, insert, slice_get, take_while}
 use Rattle.std.specs.List.{AllByRecursion}
 use Rattle.std.specs.Ordering.{is_eq, is_lt}
@@ -18,11 +18,7 @@ use Rattle.sdb_model.specs.Exec.{find_table}
 use Rattle.sdb_spread.specs.Spread.{is_played}
 use Rattle.sdb_board.specs.Opening.{run_tables, table_names}
 use Rattle.sdb_board.proofs.Lists.{take_suc}
-use Rattle.sdb_types.proofs.Basics.{by_test, or_second}
-
-or_cases : (a b : Bool) → (a || b) ≡ true → (a ≡ true) ⊎ (b ≡ true)
-or_cases true b e = inl refl
-or_cases false b e = inr e
+use Rattle.sdb_types.proofs.Basics.{by_test, or_second, all_each, either as or_cases}
 
 or_first : (a b : Bool) → a ≡ true → (a || b) ≡ true
 or_first a b e = ap (λ (x : Bool). x || b) e
@@ -31,10 +27,6 @@ false_true : {G : Type 0} → false ≡ true → G
 false_true e = absurd (let f = e in cc)
 
 ---- lists
-
-pub all_each : {A : Type 0} (P Q : A → Type 0) (xs : List A) → ((x : A) → P x → Q x) → AllByRecursion P xs → AllByRecursion Q xs
-all_each P Q [] f h = tt
-all_each P Q (x ∷ xs) f h = (f x h.0, all_each P Q xs f h.1)
 
 -- what is so of each name is so of each table's
 all_names : (P : TableName → Type 0) (ts : List Table) → AllByRecursion (λ (t : Table). P t.name) ts → AllByRecursion P (table_names ts)
@@ -91,7 +83,7 @@ names_played catalog =
     (all_names (λ (n : TableName). is_played catalog n ≡ true) catalog (each_played catalog))
 
 -- the coordinator's table is the one of its name
-coordinator_is : (table : TableName) → is_coordinator_table table ≡ true → table ≡ coordinator_table
+pub coordinator_is : (table : TableName) → is_coordinator_table table ≡ true → table ≡ coordinator_table
 coordinator_is table c = λ i. record { ns = same_name-true table.ns coordinator_table.ns (and_first _ _ c) i; table = same_name-true table.table coordinator_table.table (and_second _ _ c) i }
 
 -- what is so of each table of a catalog is so of one that is found there

@@ -15,10 +15,7 @@ use Rattle.sdb_model.specs.declared.script.Place.{Place}
 use Rattle.sdb_model.specs.Rows.{Name, same_name}
 use Rattle.sdb_model.specs.Events.{held_by, with_contents, first_name, store_of}
 use Rattle.sdb_board.specs.Board.{shown, placed}
-use Rattle.sdb_types.proofs.Basics.{by_test, some_is}
-
-true_false : {G : Type 0} → true ≡ false → G
-true_false e = absurd (let f = e in cc)
+use Rattle.sdb_types.proofs.Basics.{by_test, some_is, clash as true_false}
 
 ---- names
 

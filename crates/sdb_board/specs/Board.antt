@@ -1,8 +1,7 @@
 -- The stores that a run is played on, and what its calls do to them.
-use Rattle.std.specs.Prelude.{◌≡◌, ℕ, ◌<◌, ◌≤◌, ◌-◌, ◌^◌, Bool, true, false, List, length, map, Any, IfSome, IsSome}
+use Rattle.std.specs.Prelude.{◌≡◌, ℕ, ◌<◌, ◌≤◌, ◌-◌, ◌^◌, true, List, length, map, Any, IfSome, IsSome}
 use Rattle.sdb_types.specs.declared.key.TableName.{TableName}
 use Rattle.sdb_types.specs.declared.record.Request.{Request}
-use Rattle.sdb_types.specs.declared.record.Request.TheVariants as ask
 use Rattle.sdb_types.specs.declared.record.Reply.{Reply}
 use Rattle.sdb_types.specs.declared.record.Reply.TheVariants as reply
 use Rattle.sdb_schema.specs.declared.table.Table.{Table}
@@ -56,13 +55,6 @@ Refuses old new refused.StoreFault = HaveRisen old new
 Refuses old new refused.NoMemory = Unit {0}
 
 ---- one call, as an event has it
-
--- a request that changes nothing
-abbrev pub is_read : Request → Bool
-is_read (ask.Get key) = true
-is_read (ask.Scan span) = true
-is_read (ask.PutIf rec condition) = false
-is_read (ask.DeleteIf key condition) = false
 
 -- a call whose reply is handed on: where that is a fault, the store itself failed
 abbrev pub how_seen : Reply → How

@@ -1,11 +1,12 @@
 //! One call on the stores.
+ghost use Rattle.sdb_model.specs.Calls.{is_read};
 ghost use Rattle.std.specs.Prelude.{◌≡◌, ◌<◌, List, length, true};
 ghost use Rattle.sdb_types.specs.Contents.{CanAnswer};
 ghost use Rattle.sdb_schema.specs.declared.table.Table.{Table};
 ghost use Rattle.sdb_stores.specs.Shelf.{HaveCause};
 ghost use Rattle.sdb_model.specs.Events.{table_asked};
 ghost use Rattle.sdb_spread.specs.Spread.{is_played};
-ghost use Rattle.sdb_board.specs.Board.{AreFit, GoOn, IsCalled, is_read, placed, shown};
+ghost use Rattle.sdb_board.specs.Board.{AreFit, GoOn, IsCalled, placed, shown};
 
 use sdb_stores::Registry;
 use sdb_types::{Reply, Request};

@@ -15,7 +15,7 @@ use Rattle.sdb_record.specs.Parts.{before_part, before_record, record_with}
 use Rattle.sdb_model.specs.declared.event.Event.{Event}
 use Rattle.sdb_model.specs.Calls as calls
 use Rattle.sdb_model.specs.Calls.{calls_of, decision_learned}
-use Rattle.sdb_model.specs.Noted.{Note, note_of, notes_in, reads_rows}
+use Rattle.sdb_model.specs.Noted.{Note, note_of, notes_in, reads_rows, is_from_rows}
 use Rattle.sdb_model.specs.Transactions.{Said, is_effective}
 use Rattle.sdb_plain.specs.declared.points.Said as plain
 use Rattle.sdb_plain.specs.Points.{all_said, said_of}
@@ -23,7 +23,7 @@ use Rattle.sdb_said.specs.Shown.{keeps_none, kept_writer}
 use Rattle.sdb_said.proofs.Lists.{not_both}
 use Rattle.sdb_said.proofs.ShownLaws.{kept_writer_is, keeps_none_is, is_keeps_none}
 use Rattle.sdb_calls.specs.declared.made.Made.{Made}
-use Rattle.sdb_calls.specs.Values.{all_made, decision_at, decision_learned_at, is_from_rows, notes_by, said_notes}
+use Rattle.sdb_calls.specs.Values.{all_made, decision_at, decision_learned_at, notes_by, said_notes}
 
 pub taken_again : {X : Type 0} (n : ℕ) (xs : List X) → take (length (take n xs)) xs ≡ take n xs
 taken_again zero [] = refl

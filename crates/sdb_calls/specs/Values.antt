@@ -10,8 +10,8 @@ use Rattle.sdb_record.specs.declared.coordinator.Decided.{Decided}
 use Rattle.sdb_model.specs.Calls as calls
 use Rattle.sdb_model.specs.Calls.{calls_of, key_asked, decision_said, standing_said}
 use Rattle.sdb_model.specs.Noted as noted
-use Rattle.sdb_model.specs.Noted.{notes_in, reads_rows}
-use Rattle.sdb_model.specs.Transactions.{Said, ends, from_begin, is_answered_from_rows, is_effective, rest_of}
+use Rattle.sdb_model.specs.Noted.{notes_in, reads_rows, is_from_rows}
+use Rattle.sdb_model.specs.Transactions.{Said, ends, from_begin, is_effective, rest_of}
 use Rattle.sdb_record.specs.Coordinator.{decision_in}
 use Rattle.std.specs.Result.{result_ok}
 use Rattle.sdb_said.specs.declared.plan.Note.{Note}
@@ -62,9 +62,6 @@ decision_learned_at ms row = option_and_then (decision_at row) (find (λ m. is_s
 -- its statements up to its end, that one left out
 abbrev pub inside_among : List Said → ℕ → List Said
 inside_among ss k = take_while (λ s. not (ends s)) (rest_of (from_begin k ss))
-
-abbrev pub is_from_rows : Said → Bool
-is_from_rows s = option_map_or is_answered_from_rows s.answer false
 
 ---- what one client does, and another has to wait for
 

@@ -59,7 +59,7 @@ pub fn end_of(events: &[Event], said: &Said) -> u64
     ensures { result ≡ end_of_lem events.now (said_of said.now) }
 {
     match said.answer {
-        Some(_) => said.answered,
+        Some(_) => said.reached,
         None => events.len() as u64,
     }
 }

@@ -27,9 +27,7 @@ use Rattle.sdb_loader.specs.Described.{described_table, described_tables, refusa
 use Rattle.sdb_loader.proofs.WordLaws.{order_named-behind}
 use Rattle.sdb_catalog.proofs.Texts.{read_again}
 use Rattle.sdb_catalog.specs.Definition.{columns_data, definition_of, definition_text, direction_text, kind_text, order_text}
-
-false_true : {X : Type 0} → false ≡ true → X
-false_true h = absurd (let e : false ≡ true = h in cc)
+use Rattle.sdb_types.proofs.Basics.{false_true}
 
 ---- single texts
 

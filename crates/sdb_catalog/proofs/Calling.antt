@@ -2,9 +2,7 @@
 use Rattle.std.proofs.Common.{◌≡◌, ◌⊎◌, true, false, cond, Some, None, ℕ, ◌≤◌, List, [], ◌∷◌, drop, slice_set, inl, inr, refl, sym, ap, subst, ◌∙◌, arith}
 use Rattle.std.specs.Prelude.{slice_get}
 use Rattle.std.specs.FinMap.{insert, get-insert}
-use Rattle.std.specs.declared.cmp.Ordering.{Ordering}
-use Rattle.std.specs.declared.cmp.Ordering.TheVariants.{Less, Equal, Greater}
-use Rattle.std.specs.Ordering.{eq_by_cmp, is_eq}
+use Rattle.std.specs.Ordering.{eq_by_cmp}
 use Rattle.sdb_types.specs.declared.key.Key.{Key}
 use Rattle.sdb_types.specs.declared.pair.Pair.{Pair}
 use Rattle.sdb_types.specs.declared.record.Record.{Record}
@@ -24,6 +22,7 @@ use Rattle.sdb_catalog.specs.declared.refused.CatalogRefused.{CatalogRefused}
 use Rattle.sdb_catalog.specs.declared.refused.CatalogRefused.TheVariants as refused
 use Rattle.sdb_catalog.specs.Calls.{Called, GoOn, IsStopped, IsUnread, adds, first_contents}
 use Rattle.sdb_types.specs.Exact.{equal_of}
+use Rattle.sdb_types.proofs.Basics.{none_some as no_some}
 
 -- without places each namespace belongs to the first store
 pub at_first : {told tells : ℕ → Type 0} (places : List Place) (ns : List ℕ) (q : Request) (r : Reply) (old new : List Shelf) → places ≡ [] → IsCallAt (home ns places (names_of old)) q r old new told tells → IsCallAt 0 q r old new told tells
@@ -50,9 +49,6 @@ others_stay [] s = refl
 others_stay (x ∷ xs) s = refl
 
 ---- records stay
-
-no_some : {A X : Type 0} (x : A) → None ≡ Some x → X
-no_some x e = absurd (let f : None ≡ Some x = e in cc)
 
 put_beside : (m : Contents) (k : Key) (v : List Pair) (q : Key) (found : Record) → record_at m k ≡ None → record_at m q ≡ Some found → record_at (insert m k v) q ≡ Some found
 put_beside m k v q found none h =

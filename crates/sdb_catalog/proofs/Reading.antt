@@ -25,10 +25,7 @@ use Rattle.sdb_catalog.specs.Rows.{MayHaveRow, Texts, coordinators, metadata_key
 use Rattle.sdb_catalog.specs.Opened.{is_attached}
 use Rattle.sdb_catalog.specs.Shown.{shown}
 use Rattle.sdb_catalog.proofs.Again.{definition_again, rising_columns}
-use Rattle.sdb_types.proofs.Basics.{some_is}
-
-pub none_some : {A X : Type 0} (x : A) → None ≡ Some x → X
-none_some x e = absurd (let f : None ≡ Some x = e in cc)
+use Rattle.sdb_types.proofs.Basics.{some_is, none_some}
 
 ---- tables
 

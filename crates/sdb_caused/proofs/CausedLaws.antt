@@ -9,14 +9,15 @@ use Rattle.sdb_model.specs.declared.answer.Answer.TheVariants as answer
 use Rattle.sdb_model.specs.declared.event.Event.{Event}
 use Rattle.sdb_model.specs.Causes.{AreCaused, IsTurnedAway, before}
 use Rattle.sdb_model.specs.Transactions.{Said, said}
-use Rattle.sdb_said.proofs.Lists.{none_some, left, right, both, either, In}
+use Rattle.sdb_said.proofs.Lists.{none_some, right, both, In}
 use Rattle.sdb_said.proofs.ShownLaws.{number_is, is_number}
 use Rattle.sdb_calls.specs.Values.{taker}
 use Rattle.sdb_caused.specs.Tests.{IsAnsweredWith, IsTurned, IsTurnedIfDue, answered_with, is_no_memory, same_answer, AreTakersWell, IsWellAnswered}
 use Rattle.sdb_caused.proofs.Finds.{in_contains, contains_in}
 use Rattle.sdb_caused.proofs.SameLaws.{answer_is, is_answer}
 use Rattle.sdb_caused.proofs.TurnedLaws.{taken_by}
-use Rattle.sdb_types.proofs.Basics.{clash, or_second as or_right, some_is}
+use Rattle.sdb_types.proofs.Basics.{clash, or_second as or_right, some_is, either}
+use Rattle.sdb_types.proofs.Bools.{and_first as left}
 
 by_in : {X : Type 0} (P : X → Type 0) (xs : List X) (x : X) → AllByRecursion P xs → In xs x → P x
 by_in P [] x all i = absurd i
@@ -70,7 +71,7 @@ no_memory_is answer.OpenTransactions h = clash (sym h)
 no_memory_is answer.NoMemory h = refl
 
 answered_is : (s : Said) (a : Answer) → answered_with s a ≡ true → IsAnsweredWith s a
-answered_is s a h = (number_is s.answered s.taken (left (s.answered == s.taken) rest h), by s.answer refl (right (s.answered == s.taken) rest h))
+answered_is s a h = (number_is s.reached s.taken (left (s.reached == s.taken) rest h), by s.answer refl (right (s.reached == s.taken) rest h))
   where
     rest : Bool
     rest = option_map_or (λ x. is_no_memory x || same_answer x a) s.answer false
@@ -80,7 +81,7 @@ answered_is s a h = (number_is s.answered s.taken (left (s.answered == s.taken) 
     by (Some x) e h = elim (either (is_no_memory x) (same_answer x a) h) [ inl n ↦ inr (e ∙ ap Some (no_memory_is x n)) | inr k ↦ inl (e ∙ ap Some (answer_is x a k)) ]
 
 is_answered_of : (s : Said) (a : Answer) → IsAnsweredWith s a → answered_with s a ≡ true
-is_answered_of s a (t, w) = both (s.answered == s.taken) (option_map_or (λ x. is_no_memory x || same_answer x a) s.answer false) (is_number s.answered s.taken t) (by w)
+is_answered_of s a (t, w) = both (s.reached == s.taken) (option_map_or (λ x. is_no_memory x || same_answer x a) s.answer false) (is_number s.reached s.taken t) (by w)
   where
     by : (s.answer ≡ Some a) ⊎ (s.answer ≡ Some answer.NoMemory) → option_map_or (λ x. is_no_memory x || same_answer x a) s.answer false ≡ true
     by (inl e) = ap (λ o. option_map_or (λ x. is_no_memory x || same_answer x a) o false) e ∙ or_right (is_no_memory a) (same_answer a a) (is_answer a a refl)

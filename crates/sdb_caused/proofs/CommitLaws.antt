@@ -18,13 +18,15 @@ use Rattle.sdb_model.specs.Calls as calls
 use Rattle.sdb_model.specs.Calls.{calls_of, decision_learned, is_of_row, put_by}
 use Rattle.sdb_model.specs.Causes.{IsCommitOf, IsDecided, IsExpired, IsOfCommit, IsUnknown, PutsRow}
 use Rattle.sdb_model.specs.Transactions.{Said}
-use Rattle.sdb_said.proofs.Lists.{left, right, both, not_true, true_not, decide, not_both, In, any_some, some_any}
+use Rattle.sdb_said.proofs.Lists.{right, both, not_true, true_not, not_both, In, any_some, some_any}
 use Rattle.sdb_calls.specs.declared.made.Made.{Made}
 use Rattle.sdb_calls.specs.Values.{all_made, asks_row, decision_found_at, made_of}
-use Rattle.sdb_caused.specs.Tests.{any_id, commits_as, is_commit_of, expired_among, fails_later, found_aborted, has_failed, is_decided, is_fault, is_lost_put, put_before, puts_row, same_decision, unknown_among}
+use Rattle.sdb_caused.specs.Tests.{any_id, commits_as, is_commit_of, expired_among, fails_later, found_aborted, has_failed, is_decided, is_lost_put, put_before, puts_row, same_decision, unknown_among}
 use Rattle.sdb_caused.proofs.IdLaws.{commit_found, commit_is, id_some, is_commit}
 use Rattle.sdb_caused.proofs.Finds.{in_contains, contains_in, kept_in, in_kept, made_in, in_made, made_contained, contained_made}
-use Rattle.sdb_types.proofs.Basics.{clash}
+use Rattle.sdb_types.proofs.Basics.{clash, decides as decide}
+use Rattle.sdb_types.proofs.Bools.{and_first as left}
+use Rattle.sdb_types.specs.Replies.{is_fault}
 
 decision_is : (a b : Decision) → same_decision a b ≡ true → a ≡ b
 decision_is decision.Committed decision.Committed h = refl

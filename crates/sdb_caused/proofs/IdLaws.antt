@@ -9,12 +9,13 @@ use Rattle.sdb_types.specs.declared.txid.TxId.{TxId}
 use Rattle.sdb_model.specs.declared.event.Event.{Event}
 use Rattle.sdb_model.specs.Causes.{IsCommitOf, IsIn}
 use Rattle.sdb_model.specs.Transactions.{Said, begins, ends, rest_of, through_end, client_of, commit_of, from_begin, id_of, ordinal_of, said, statements_of}
-use Rattle.sdb_said.proofs.Lists.{decide, none_some, left, right, both, either, or_left, In, any_some, some_any}
+use Rattle.sdb_said.proofs.Lists.{none_some, right, both, or_left, In, any_some, some_any}
 use Rattle.sdb_said.proofs.ShownLaws.{number_is, is_number}
 use Rattle.sdb_caused.specs.Tests.{any_id, any_upto, is_commit_of, is_in, is_said, same_said}
 use Rattle.sdb_caused.proofs.Finds.{in_contains, contains_in}
 use Rattle.sdb_caused.proofs.SameLaws.{said_is, said_itself, some_said, is_said_of}
-use Rattle.sdb_types.proofs.Basics.{clash, or_second as or_right}
+use Rattle.sdb_types.proofs.Basics.{clash, or_second as or_right, decides as decide, either}
+use Rattle.sdb_types.proofs.Bools.{and_first as left}
 
 ---- numbers up to one
 

@@ -16,10 +16,11 @@ use Rattle.sdb_model.specs.contracts.answer.RefusalPartialEq.TheImpl as refusal_
 use Rattle.sdb_model.specs.Rows.{same_name}
 use Rattle.sdb_model.specs.Transactions.{Said}
 use Rattle.sdb_record.proofs.NameLemmas.{same_name-itself, same_name-true}
-use Rattle.sdb_said.proofs.Lists.{left, right, both}
+use Rattle.sdb_said.proofs.Lists.{right, both}
 use Rattle.sdb_said.proofs.ShownLaws.{number_is, is_number}
 use Rattle.sdb_caused.specs.Tests.{answered_alike, same_answer, same_said, is_said}
 use Rattle.sdb_types.proofs.Basics.{clash}
+use Rattle.sdb_types.proofs.Bools.{and_first as left}
 
 refusal_tells : TellsApart (refusal_eq.ghosts).eq
 refusal_tells a b =
@@ -79,21 +80,21 @@ alike_itself (Some a) = is_answer a a refl
 pub said_is : (a b : Said) → same_said a b ≡ true → a ≡ b
 said_is a b h =
     let w = a.taken == b.taken in
-    let x = a.answered == b.answered in
+    let x = a.reached == b.reached in
     let y = same_name a.text b.text in
     let z = answered_alike a.answer b.answer in
     let rest = right w (x && (y && z)) h in
     let last = right x (y && z) rest in
     let n = number_is a.taken b.taken (left w (x && (y && z)) h) in
-    let m = number_is a.answered b.answered (left x (y && z) rest) in
+    let m = number_is a.reached b.reached (left x (y && z) rest) in
     let t = same_name-true a.text b.text (left y z last) in
     let o = alike_is a.answer b.answer (right y z last) in
-    λ i. record { taken = n i; text = t i; answer = o i; answered = m i }
+    λ i. record { taken = n i; text = t i; answer = o i; reached = m i }
 
 pub said_itself : (a : Said) → same_said a a ≡ true
 said_itself a =
-    both (a.taken == a.taken) ((a.answered == a.answered) && (same_name a.text a.text && answered_alike a.answer a.answer)) (is_number a.taken a.taken refl)
-    (both (a.answered == a.answered) (same_name a.text a.text && answered_alike a.answer a.answer) (is_number a.answered a.answered refl)
+    both (a.taken == a.taken) ((a.reached == a.reached) && (same_name a.text a.text && answered_alike a.answer a.answer)) (is_number a.taken a.taken refl)
+    (both (a.reached == a.reached) (same_name a.text a.text && answered_alike a.answer a.answer) (is_number a.reached a.reached refl)
     (both (same_name a.text a.text) (answered_alike a.answer a.answer) (same_name-itself a.text) (alike_itself a.answer)))
 
 pub some_said : (o : Option Said) (s : Said) → is_said o s ≡ true → o ≡ Some s

@@ -17,13 +17,14 @@ use Rattle.sdb_model.specs.Refused.{refusal_of}
 use Rattle.sdb_model.specs.Follows.{has_stopped}
 use Rattle.sdb_model.specs.Transactions.{Said, said, said_after}
 use Rattle.sdb_model.specs.Causes.{IsTurnedAway, NeedsTransaction, is_open, is_open_after, refused, runs_vacuum}
-use Rattle.sdb_said.proofs.Lists.{none_some, left, right, both, either, not_true, true_not, decide, In, any_some, some_any}
+use Rattle.sdb_said.proofs.Lists.{none_some, right, both, not_true, true_not, In, any_some, some_any}
 use Rattle.sdb_said.proofs.ShownLaws.{number_is}
 use Rattle.sdb_calls.specs.declared.open.Work.{Work}
 use Rattle.sdb_calls.specs.declared.open.Work.TheVariants as work
 use Rattle.sdb_calls.specs.Values.{is_client_doing, is_doing, someone_does, taker}
 use Rattle.sdb_caused.specs.Tests.{IsTurned, inside_turned, refusal_met, turned_by}
-use Rattle.sdb_types.proofs.Basics.{clash, some_is}
+use Rattle.sdb_types.proofs.Basics.{clash, some_is, either, decides as decide}
+use Rattle.sdb_types.proofs.Bools.{and_first as left}
 
 ---- clients that take statements
 
@@ -31,7 +32,7 @@ abbrev takes : ℕ → Event → Bool
 takes client e = option_map_or (λ c. c == client) (taker e) false
 
 untaken : (client : ℕ) (n : ℕ) (e : Event) → takes client e ≡ false → said_after client [] (n, e) ≡ []
-untaken client n (event.Take c text a) h = ap (λ b. if b then record { taken = n; text = text; answer = a; answered = n } ∷ [] else []) h
+untaken client n (event.Take c text a) h = ap (λ b. if b then record { taken = n; text = text; answer = a; reached = n } ∷ [] else []) h
 untaken client n (event.Call c store q how r None) h = refl
 untaken client n (event.Call c store q how r (Some a)) h = by (c == client)
   where

@@ -40,6 +40,7 @@ use Rattle.sdb_said.specs.Values.{same_record}
 use Rattle.sdb_calls.specs.declared.made.Made.{Made}
 use Rattle.sdb_calls.specs.declared.open.Work.TheVariants as work
 use Rattle.sdb_calls.specs.Values.{all_made, asks_row, decision_found_at, inside_among, made_of, someone_does, taker}
+use Rattle.sdb_types.specs.Replies.{is_fault}
 
 ---- equality
 
@@ -53,7 +54,7 @@ answered_alike (Some a) None = false
 answered_alike (Some a) (Some b) = same_answer a b
 
 abbrev pub same_said : Said → Said → Bool
-same_said a b = (a.taken == b.taken) && ((a.answered == b.answered) && (same_name a.text b.text && answered_alike a.answer b.answer))
+same_said a b = (a.taken == b.taken) && ((a.reached == b.reached) && (same_name a.text b.text && answered_alike a.answer b.answer))
 
 abbrev pub same_found : Option Record → Option Record → Bool
 same_found None None = true
@@ -135,10 +136,6 @@ found_aborted ms row m = is_decided decision.Aborted (decision_found_at row m) &
 
 abbrev pub expired_among : List Made → Key → Bool
 expired_among ms row = list_any (found_aborted ms row) ms
-
-abbrev pub is_fault : Reply → Bool
-is_fault reply.Fault = true
-is_fault r = false
 
 abbrev pub has_failed : Reply → Bool
 has_failed reply.Fault = true
@@ -368,14 +365,14 @@ abbrev pub IsAnswerCaused : List Table → List Event → ℕ → Said → Type 
 IsAnswerCaused catalog events client s = (a : Answer) → s.answer ≡ Some a → IsCaused catalog events client s a
 
 abbrev pub IsAnsweredWith : Said → Answer → Type 0
-IsAnsweredWith s a = (s.answered ≡ s.taken) × ((s.answer ≡ Some a) ⊎ (s.answer ≡ Some answer.NoMemory))
+IsAnsweredWith s a = (s.reached ≡ s.taken) × ((s.answer ≡ Some a) ⊎ (s.answer ≡ Some answer.NoMemory))
 
 abbrev pub is_no_memory : Answer → Bool
 is_no_memory answer.NoMemory = true
 is_no_memory a = false
 
 abbrev pub answered_with : Said → Answer → Bool
-answered_with s a = (s.answered == s.taken) && option_map_or (λ x. is_no_memory x || same_answer x a) s.answer false
+answered_with s a = (s.reached == s.taken) && option_map_or (λ x. is_no_memory x || same_answer x a) s.answer false
 
 abbrev pub IsTurnedIfDue : List Table → List Event → ℕ → Said → Type 0
 IsTurnedIfDue catalog events client s = (a : Answer) → IsTurnedAway catalog (before s events) client s.text a → IsAnsweredWith s a

@@ -131,7 +131,7 @@ fn is_answer(answer: &Answer, turned: &Answer) -> bool
 fn is_answered_with(said: &Said, turned: &Answer) -> bool
     ensures { result ≡ answered_with (said_of said.now) turned.now }
 {
-    if said.answered != said.taken {
+    if said.reached != said.taken {
         return false;
     }
     match &said.answer {

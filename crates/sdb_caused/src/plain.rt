@@ -1,8 +1,9 @@
 //! The causes that stand in the text of a statement, or in its replies alone.
+ghost use Rattle.sdb_types.specs.Replies.{is_fault as is_fault_lem};
 ghost use Rattle.std.specs.Prelude.{◌≡◌, IfOk, IsTrue, ◌↔◌, ◌≤◌, false, length};
 ghost use Rattle.std.specs.Option.{option_map_or};
 ghost use Rattle.std.specs.List.{list_any};
-ghost use Rattle.sdb_model.specs.Calls.{calls_of as calls_of_lem, is_fault as is_fault_lem};
+ghost use Rattle.sdb_model.specs.Calls.{calls_of as calls_of_lem};
 ghost use Rattle.sdb_model.specs.Causes.{HasReply, before as before_lem, is_select as is_select_lem, removes as removes_lem};
 ghost use Rattle.sdb_plain.specs.Points.{said_of};
 ghost use Rattle.sdb_calls.specs.Values.{made_of};

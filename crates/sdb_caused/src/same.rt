@@ -39,7 +39,7 @@ pub fn is_same_said(a: &Said, b: &Said) -> bool
     ensures { result ≡ same_said (said_of a.now) (said_of b.now) }
 {
     a.taken == b.taken
-        && (a.answered == b.answered
+        && (a.reached == b.reached
             && (is_same_text(&a.text, &b.text) && is_answered_alike(&a.answer, &b.answer)))
 }
 

@@ -38,7 +38,7 @@ within_more n xs x l = let e : length (xs ++ x ∷ []) ≡ length xs + 1 = lengt
 pub take_said : (c : ℕ) (events : List Event) (text : List ℕ) (a : Option Answer) → said c (events ++ event.Take c text a ∷ []) ≡ said c events ++ taken_said events text a ∷ []
 take_said c events text a = said_more c events (event.Take c text a) ∙ ap (λ t. if t then said c events ++ taken_said events text a ∷ [] else said c events) (itself c)
 
-answer_last : (front : List Said) (w : Said) (n : ℕ) (a : Answer) → with_answer (front ++ w ∷ []) n a ≡ front ++ record { taken = w.taken; text = w.text; answer = Some a; answered = n } ∷ []
+answer_last : (front : List Said) (w : Said) (n : ℕ) (a : Answer) → with_answer (front ++ w ∷ []) n a ≡ front ++ record { taken = w.taken; text = w.text; answer = Some a; reached = n } ∷ []
 answer_last [] w n a = refl
 answer_last (s ∷ []) w n a = refl
 answer_last (s ∷ t ∷ ss) w n a = ap (λ r. s ∷ r) (answer_last (t ∷ ss) w n a)
@@ -147,10 +147,10 @@ calls_open c events s e =
     each (x ∷ xs) a = (same s.taken x.at (length events) a.0, each xs a.1)
 
 pub end_waiting : (events : List Event) (s : Said) → s.answer ≡ None → end_of events s ≡ length events
-end_waiting events s e = ap (λ o. if is_some o then s.answered else length events) e
+end_waiting events s e = ap (λ o. if is_some o then s.reached else length events) e
 
-pub end_answered : (events : List Event) (s : Said) (a : Answer) → s.answer ≡ Some a → end_of events s ≡ s.answered
-end_answered events s a e = ap (λ o. if is_some o then s.answered else length events) e
+pub end_answered : (events : List Event) (s : Said) (a : Answer) → s.answer ≡ Some a → end_of events s ≡ s.reached
+end_answered events s a e = ap (λ o. if is_some o then s.reached else length events) e
 
 -- a call more of its client
 pub later_more : (c : ℕ) (events : List Event) (e : Event) (taken : ℕ) (m : Made) → taken ≤ length events → m.at ≡ 1 + length events → made_by c (1 + length events, e) ≡ Some m → later_calls (events ++ e ∷ []) c taken ≡ later_calls events c taken ++ m ∷ []
@@ -166,10 +166,10 @@ pub later_same : (c : ℕ) (events : List Event) (e : Event) (taken : ℕ) → m
 later_same c events e taken none = ap (filter (λ m. nat_lt taken m.at)) (none_made c events e none)
 
 abbrev within_said : Said → Made → Bool
-within_said s m = nat_lt s.taken m.at && nat_le m.at s.answered
+within_said s m = nat_lt s.taken m.at && nat_le m.at s.reached
 
 -- The calls of a statement that was answered stay.
-pub calls_stay : (c : ℕ) (events : List Event) (e : Event) (s : Said) (a : Answer) → s.answer ≡ Some a → s.answered ≤ length events → calls_of (events ++ e ∷ []) c s ≡ calls_of events c s
+pub calls_stay : (c : ℕ) (events : List Event) (e : Event) (s : Said) (a : Answer) → s.answer ≡ Some a → s.reached ≤ length events → calls_of (events ++ e ∷ []) c s ≡ calls_of events c s
 calls_stay c events e s a is l =
     ap (λ n. filter (λ m. nat_lt s.taken m.at && nat_le m.at n) (calls_by (events ++ e ∷ []) c)) (end_answered (events ++ e ∷ []) s a is)
     ∙ by (made_by c (1 + length events, e)) refl
@@ -183,11 +183,11 @@ calls_stay c events e s a is l =
     by (Some m) k =
         ap (filter (within_said s)) (one_made c events e m k)
         ∙ filter-append (within_said s) (calls_by events c) (m ∷ [])
-        ∙ ap (λ b. filter (within_said s) (calls_by events c) ++ (if b then m ∷ [] else [])) (past s.taken m.at (length events) s.answered l (numbered_made c (1 + length events) e m k))
+        ∙ ap (λ b. filter (within_said s) (calls_by events c) ++ (if b then m ∷ [] else [])) (past s.taken m.at (length events) s.reached l (numbered_made c (1 + length events) e m k))
         ∙ append-nil (filter (within_said s) (calls_by events c))
 
 -- each of them is within the events
-pub calls_of_within : (c : ℕ) (events : List Event) (s : Said) (a : Answer) → s.answer ≡ Some a → s.answered ≤ length events → (m : Made) → Contains (calls_of events c s) m → m.at ≤ length events
+pub calls_of_within : (c : ℕ) (events : List Event) (s : Said) (a : Answer) → s.answer ≡ Some a → s.reached ≤ length events → (m : Made) → Contains (calls_of events c s) m → m.at ≤ length events
 calls_of_within c events s a is l m has = bound (each_in (λ (x : Made). x.at < 1 + length events) (calls_by events c) m (calls_within c events) (kept_in (λ (x : Made). nat_lt s.taken x.at && nat_le x.at (end_of events s)) (calls_by events c) m has))
   where
     bound : m.at < 1 + length events → m.at ≤ length events

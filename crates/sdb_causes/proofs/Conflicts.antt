@@ -23,7 +23,7 @@ use Rattle.sdb_types.specs.Columns.{column}
 use Rattle.sdb_types.specs.TxId.{id_text}
 use Rattle.sdb_types.specs.Contents.{CanAnswer, are_rows_of, has_value, in_span, is_version, rise, state_number, tx_id, tx_state}
 use Rattle.sdb_types.specs.Order.{key_cmp}
-use Rattle.sdb_types.proofs.Basics.{by_test, clash, none_some, some_is}
+use Rattle.sdb_types.proofs.Basics.{by_test, clash, none_some, some_is, all_each as each_any, append_all as each_append}
 use Rattle.sdb_types.proofs.KeyOrder.{key_total}
 use Rattle.sdb_record.specs.declared.access.Read.{Read}
 use Rattle.sdb_record.specs.declared.access.Scan.{Scan}
@@ -56,7 +56,7 @@ use Rattle.sdb_phases.specs.Work.{Work, abort_of, back_of, backs, prepare_of, un
 use Rattle.sdb_phases.specs.Work as work
 use Rattle.sdb_validate.specs.Rescan.{IsFirstLost, is_kept, kept_by, reads_rise}
 use Rattle.sdb_validate.proofs.Rescans.{first_lost}
-use Rattle.sdb_turns.proofs.Lists.{each_any, each_append, each_at, each_filter, each_map, each_more}
+use Rattle.sdb_turns.proofs.Lists.{each_at, each_filter, each_map, each_more}
 use Rattle.sdb_causes.specs.Conflicts.{ChecksBy, ConflictBy, HasPrepared, PreparesOnly}
 use Rattle.sdb_causes.specs.Moves.{IsNotedAt, WorkBy}
 

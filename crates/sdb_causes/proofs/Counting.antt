@@ -7,11 +7,11 @@ use Rattle.std.proofs.lemmas.List.{append-nil}
 use Rattle.std.proofs.lemmas.Nat.{div-add-mod'}
 use Rattle.std.proofs.lemmas.List.Elements.{All-contains_itself, All-contains, Contains-append_cases, Contains-append_left, Contains-append_right, Contains-push, Contains-push_cases, recursion_from_All}
 use Rattle.sdb_types.specs.declared.txid.TxId.{TxId}
-use Rattle.sdb_types.proofs.Basics.{clash, none_some, some_is}
+use Rattle.sdb_types.proofs.Basics.{clash, none_some, some_is, all_each as each_any}
 use Rattle.sdb_schema.specs.declared.table.Table.{Table}
 use Rattle.sdb_model.specs.declared.answer.Answer.{Answer}
 use Rattle.sdb_model.specs.declared.event.Event.{Event}
-use Rattle.sdb_model.specs.Calls.{Made, calls_of, is_fault}
+use Rattle.sdb_model.specs.Calls.{Made, calls_of}
 use Rattle.sdb_model.specs.Counted.{AreCounted, is_seen}
 use Rattle.sdb_model.specs.Noted.{Note, noted_in}
 use Rattle.sdb_model.specs.Sql.{reads_commit, reads_vacuum}
@@ -21,7 +21,7 @@ use Rattle.sdb_steps.proofs.Taken.{other_no_commit}
 use Rattle.sdb_model.specs.Transactions.{Said, begins, client_of, commit_of, ends, from_begin, id_of, ordinal_of, rest_of, said}
 use Rattle.sdb_story.specs.Telling.{waiting_of}
 use Rattle.sdb_steps.specs.Hands.{Hand}
-use Rattle.sdb_turns.proofs.Lists.{each_any, each_more}
+use Rattle.sdb_turns.proofs.Lists.{each_more}
 use Rattle.sdb_txn.specs.declared.txn.Doing.{Doing}
 use Rattle.sdb_txn.specs.declared.txn.Doing.TheVariants as doing
 use Rattle.sdb_txn.specs.Txn.{TxnAt, pending_in}
@@ -36,6 +36,7 @@ use Rattle.sdb_causes.proofs.CountsCommit.{commit_so_far}
 use Rattle.sdb_causes.proofs.CountsNotes.{commits_more, commits_still, paired_more, since_stay}
 use Rattle.sdb_causes.proofs.Lists.{each_in}
 use Rattle.sdb_causes.proofs.Noting.{noted_since, since_all, take_ends, take_open}
+use Rattle.sdb_types.specs.Replies.{is_fault}
 
 ---- one statement
 

@@ -1,5 +1,5 @@
 -- How many calls a COMMIT has made, one call after the other.
-use Rattle.std.proofs.Common.{◌≡◌, ◌≢◌, ◌≤◌, ◌<◌, ◌+◌, ◌*◌, ℕ, ℤ, zero, suc, Bool, true, false, not, List, [], ◌∷◌, ◌++◌, length, map, take, Option, Some, None, Result, Ok, Err, refl, sym, ap, ◌∙◌, arith}
+use Rattle.std.proofs.Common.{subst, ◌≡◌, ◌≢◌, ◌≤◌, ◌<◌, ◌+◌, ◌*◌, ℕ, ℤ, zero, suc, Bool, true, false, not, List, [], ◌∷◌, ◌++◌, length, map, take, Option, Some, None, Result, Ok, Err, refl, sym, ap, ◌∙◌, arith}
 use Rattle.std.specs.Prelude.{if◌then◌else◌, ◌&&◌, ◌||◌, filter, nat_lt, slice_get}
 use Rattle.std.specs.List.{AllByRecursion, count_by, list_any}
 use Rattle.std.specs.Option.{option_map, option_map_or}
@@ -24,7 +24,7 @@ use Rattle.sdb_types.specs.Columns.{column}
 use Rattle.sdb_types.specs.TxId.{id_text}
 use Rattle.sdb_types.specs.Contents.{has_value, is_version, state_number, tx_id}
 use Rattle.sdb_types.specs.Order.{key_cmp}
-use Rattle.sdb_types.proofs.Basics.{clash, none_some, some_is}
+use Rattle.sdb_types.proofs.Basics.{clash, none_some, some_is, append_all as each_append}
 use Rattle.sdb_record.specs.declared.access.Read.{Read}
 use Rattle.sdb_record.specs.declared.access.Scan.{Scan}
 use Rattle.sdb_record.specs.declared.coordinator.Decided.{Decided}
@@ -36,7 +36,7 @@ use Rattle.sdb_record.proofs.RollLaws.{forward-state}
 use Rattle.sdb_record.proofs.TakenLaws.{prepared-key}
 use Rattle.sdb_model.specs.declared.answer.Answer.{Answer}
 use Rattle.sdb_model.specs.declared.answer.Answer.TheVariants as answer
-use Rattle.sdb_model.specs.Calls.{Made, is_fault, key_asked}
+use Rattle.sdb_model.specs.Calls.{Made, key_asked}
 use Rattle.sdb_model.specs.Counted.{is_checked_get, is_key_of, is_scan, prepares_in}
 use Rattle.sdb_model.specs.Noted.{Got, Note, Scanned}
 use Rattle.sdb_model.specs.Transactions.{prepares}
@@ -52,10 +52,12 @@ use Rattle.sdb_phases.specs.Commit.{Stage, Preparing, Checking, Deciding, Forwar
 use Rattle.sdb_phases.specs.Steps.{decide_next, decide_request_at, judged, prepare_step, refused, told, touched_after, validate_step}
 use Rattle.sdb_phases.specs.Work.{Work, abort_of, back_of, backs, decide_of, forward_of, forwards, look_of, prepare_of}
 use Rattle.sdb_phases.specs.Work as work
-use Rattle.sdb_turns.proofs.Lists.{each_append, each_at, each_map}
+use Rattle.sdb_turns.proofs.Lists.{each_at, each_map}
 use Rattle.sdb_turns.specs.System.{answer_of_outcome}
+use Rattle.sdb_causes.specs.Commits.{EndsBy}
 use Rattle.sdb_causes.specs.Counts.{AllPut, CommitCounted, CommitFits, HasPut, NoneFaulted, NotesAre, decides, keys_got, later_by, wanted_by}
 use Rattle.sdb_causes.proofs.Conflicts.{key_turned, mapped_at, prepared_is, row_unprepared, undo_unprepared}
+use Rattle.sdb_types.specs.Replies.{is_fault}
 
 calls_more : (calls : List Made) (m : Made) → length (calls ++ m ∷ []) ≡ length calls + 1
 calls_more calls m = length-append calls (m ∷ [])
@@ -665,12 +667,21 @@ most_now notes p calls (Over a) noted h = h.0
 
 -- of one that waits
 pub commit_so_far : (notes : List Note) (p : Work) (calls : List Made) (s : Stage) → NotesAre notes p.reads p.scans → CommitCounted notes p calls s → CommitFits notes p.id None calls
-commit_so_far notes p calls s noted h = record { exact = λ e. none_some answer.Committed e; most = most_now notes p calls s noted h }
+commit_so_far notes p calls s noted h = record { exact = λ e. none_some answer.Committed e; most = most_now notes p calls s noted h; starved = λ e. none_some answer.NoMemory e }
 
 -- of one that is answered
-pub commit_over : (notes : List Note) (p : Work) (calls : List Made) (a : Outcome) → CommitCounted notes p calls (Over a) → CommitFits notes p.id (Some (answer_of_outcome a)) calls
-commit_over notes p calls a h = record { exact = λ e. h.1 (won a e); most = h.0 }
+pub commit_over : (notes : List Note) (p : Work) (calls : List Made) (a : Outcome) → CommitCounted notes p calls (Over a) → EndsBy p.id calls a → CommitFits notes p.id (Some (answer_of_outcome a)) calls
+commit_over notes p calls a h ends = record { exact = λ e. h.1 (won a e); most = h.0; starved = λ e. subst (EndsBy p.id calls) (starved a e) ends }
   where
+    starved : (x : Outcome) → Some (answer_of_outcome x) ≡ Some answer.NoMemory → x ≡ outcome.NoMemory
+    starved outcome.Committed e = absurd (cc)
+    starved (outcome.Conflict key found) e = absurd (cc)
+    starved (outcome.Expired u) e = absurd (cc)
+    starved outcome.Faulted e = absurd (cc)
+    starved (outcome.Unknown u) e = absurd (cc)
+    starved (outcome.BadRecord key) e = absurd (cc)
+    starved outcome.NoMemory e = refl
+
     won : (x : Outcome) → Some (answer_of_outcome x) ≡ Some answer.Committed → x ≡ outcome.Committed
     won outcome.Committed e = refl
     won (outcome.Conflict key found) e = absurd (cc)
@@ -682,7 +693,7 @@ commit_over notes p calls a h = record { exact = λ e. h.1 (won a e); most = h.0
 
 -- of one that makes no call, and isn't answered Committed
 pub commit_none : (notes : List Note) (id : TxId) (o : Option Answer) → (o ≢ Some answer.Committed) → CommitFits notes id o []
-commit_none notes id o other = record { exact = λ e. absurd (other e); most = few (wanted_by notes id []) }
+commit_none notes id o other = record { exact = λ e. absurd (other e); most = few (wanted_by notes id []); starved = λ e. tt }
   where
     few : (x : ℕ) → 0 ≤ x + 4
     few x = omega arith

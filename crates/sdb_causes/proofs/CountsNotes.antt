@@ -201,7 +201,7 @@ paired_more (x ∷ xs) was s pairs h = (pairs.0, paired_more xs (is_open_after w
 ---- COMMITs
 
 -- the last of some statements, or one before it
-last_or : (xs : List Said) (z : Said) (body : List Said) (s : Said) (tail : List Said) → xs ++ z ∷ [] ≡ body ++ s ∷ tail → ((xs ≡ body) × (z ≡ s)) ⊎ ((front : List Said) × (xs ≡ body ++ s ∷ front))
+pub last_or : (xs : List Said) (z : Said) (body : List Said) (s : Said) (tail : List Said) → xs ++ z ∷ [] ≡ body ++ s ∷ tail → ((xs ≡ body) × (z ≡ s)) ⊎ ((front : List Said) × (xs ≡ body ++ s ∷ front))
 last_or [] z [] s tail e = let same : z ≡ s = cc in inl (refl, same)
 last_or (x ∷ xs) z [] s tail e = let same : x ≡ s = cc in inr (xs, ap (λ (y : Said). y ∷ xs) same)
 last_or [] z (y ∷ body) s tail e = absurd (none body (let rest : [] ≡ body ++ s ∷ tail = cc in rest))

@@ -6,11 +6,13 @@ use Rattle.std.proofs.lemmas.List.Elements.{Contains-append_left, Contains-push}
 use Rattle.sdb_types.specs.declared.key.Key.{Key}
 use Rattle.sdb_types.specs.declared.record.Record.{Record}
 use Rattle.sdb_types.specs.declared.record.Reply.{Reply}
+use Rattle.sdb_types.specs.declared.txid.TxId.{TxId}
+use Rattle.sdb_schema.specs.declared.table.Table.{Table}
 use Rattle.sdb_types.proofs.Basics.{none_some, some_is}
 use Rattle.sdb_model.specs.declared.answer.Answer.TheVariants as answer
 use Rattle.sdb_model.specs.declared.event.Event.{Event}
-use Rattle.sdb_model.specs.Calls.{Made}
-use Rattle.sdb_model.specs.Causes.{ConflictsAtCommit, IsCommitOf}
+use Rattle.sdb_model.specs.Calls.{Made, calls_of}
+use Rattle.sdb_model.specs.Causes.{ConflictsAtCommit, IsCaused, IsCommitOf}
 use Rattle.sdb_model.specs.Sql.{reads_commit}
 use Rattle.sdb_model.specs.Transactions.{Said, client_of, commit_of, ends, from_begin, id_of, ordinal_of, rest_of, said}
 use Rattle.sdb_commit.specs.Phases.{IsNext, ended_at}
@@ -28,10 +30,13 @@ use Rattle.sdb_txn.specs.Txn.{TxnAt, progress_of}
 use Rattle.sdb_client.specs.declared.next.Next.TheVariants as next
 use Rattle.sdb_client.specs.Client.{next_of}
 use Rattle.sdb_turns.specs.System.{answer_of_outcome}
-use Rattle.sdb_causes.specs.Tied.{IsOpenAs}
+use Rattle.sdb_causes.specs.Commits.{EndsBy, HasFailed, IsGivenUp}
+use Rattle.sdb_causes.specs.Shows.{GivesOwn}
+use Rattle.sdb_causes.specs.Tied.{CanTell, IsOpenAs}
 use Rattle.sdb_causes.specs.Conflicts.{ConflictBy}
 use Rattle.sdb_causes.proofs.Noting.{client_is, ordinal_is}
 use Rattle.sdb_causes.proofs.Lists.{ends_last, since_more}
+use Rattle.sdb_causes.proofs.Rows.{bad_is_bad}
 
 ---- where a COMMIT goes
 
@@ -100,6 +105,30 @@ conflict_of notes p calls outcome.Faulted key found e h = absurd (cc)
 conflict_of notes p calls (outcome.Unknown id) key found e h = absurd (cc)
 conflict_of notes p calls (outcome.BadRecord k) key found e h = absurd (cc)
 conflict_of notes p calls outcome.NoMemory key found e h = absurd (cc)
+
+-- a COMMIT's answer shows no row
+pub outcome_tells : (catalog : List Table) (events : List Event) (c : ℕ) (body : List Said) (s : Said) (a : Outcome) → GivesOwn catalog events c body s (answer_of_outcome a)
+outcome_tells catalog events c body s outcome.Committed = tt
+outcome_tells catalog events c body s (outcome.Conflict key found) = tt
+outcome_tells catalog events c body s (outcome.Expired id) = tt
+outcome_tells catalog events c body s outcome.Faulted = tt
+outcome_tells catalog events c body s (outcome.Unknown id) = tt
+outcome_tells catalog events c body s (outcome.BadRecord key) = tt
+outcome_tells catalog events c body s outcome.NoMemory = tt
+
+-- and has its cause
+pub outcome_caused : (catalog : List Table) (events : List Event) (c : ℕ) (s : Said) (id : TxId) (a : Outcome) → IsCommitOf events c s id → EndsBy id (calls_of events c s) a → CanTell (calls_of events c s) s.text (answer_of_outcome a) → IsCaused catalog events c s (answer_of_outcome a)
+outcome_caused catalog events c s id outcome.Committed commit e z = (id, commit, e)
+outcome_caused catalog events c s id (outcome.Conflict key found) commit e z = absurd z
+outcome_caused catalog events c s id (outcome.Expired u) commit e z =
+    let b = subst (λ (i : TxId). IsGivenUp i (calls_of events c s)) (sym e.0) e.1 in
+    record { commit = subst (IsCommitOf events c s) (sym e.0) commit; call = b.call; among = b.among; aborted = b.aborted; not_own = b.not_own }
+outcome_caused catalog events c s id outcome.Faulted commit e z = e
+outcome_caused catalog events c s id (outcome.Unknown u) commit e z =
+    let b = subst (λ (i : TxId). HasFailed i (calls_of events c s)) (sym e.0) e.1 in
+    record { commit = subst (IsCommitOf events c s) (sym e.0) commit; put = b.put; later = b.later; deciding = b.deciding; failed = b.failed }
+outcome_caused catalog events c s id (outcome.BadRecord key) commit e z = (e.1.call, e.1.found, e.1.among, e.1.shown, e.1.same, inl (bad_is_bad id e.1.found (e.1.same ∙ e.0) e.1.bad))
+outcome_caused catalog events c s id outcome.NoMemory commit e z = tt
 
 ---- the COMMIT of a transaction
 

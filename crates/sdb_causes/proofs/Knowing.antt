@@ -34,6 +34,7 @@ use Rattle.sdb_causes.proofs.Calls.{calls_open, end_waiting, later_same, none_ma
 use Rattle.sdb_causes.proofs.Later.{answered_stay, waiting_stays}
 use Rattle.sdb_causes.proofs.Counting.{counts_stay}
 use Rattle.sdb_causes.proofs.Rolled.{rolls_stay}
+use Rattle.sdb_causes.proofs.ShowsTold.{shows_stay}
 
 ---- one statement more
 
@@ -179,6 +180,7 @@ knows_still catalog c events e h nothing none k = record {
   fits = k.fits;
   stored = subst ShowStored (sym (none_made c events e none)) k.stored;
   rolled = rolls_stay catalog c events e k.told k.waiting h k.answered k.rolled (λ x is. calls_wait catalog c events e x none (unanswered k.waiting k.waits x is));
+  shows = shows_stay catalog c events e k.told k.answered h k.shows;
 }
   where
     waits : (o : Option Said) → IfSome o (IsWaiting catalog events c (is_some h.vacuum)) → IfSome o (IsWaiting catalog (events ++ e ∷ []) c (is_some h.vacuum))

@@ -16,7 +16,7 @@ use Rattle.sdb_model.specs.declared.answer.Answer.TheVariants as answer
 use Rattle.sdb_model.specs.declared.event.Event.{Event}
 use Rattle.sdb_model.specs.declared.statement.Statement.{Statement}
 use Rattle.sdb_model.specs.declared.statement.Statement.TheVariants as statement
-use Rattle.sdb_model.specs.Calls.{Made, calls_after, calls_before, calls_of, decision_learned, is_fault, is_of_row, is_read, records_read, records_shown}
+use Rattle.sdb_model.specs.Calls.{Made, calls_after, calls_before, calls_of, decision_learned, is_of_row, is_read, records_read, records_shown}
 use Rattle.sdb_model.specs.Causes.{HasReply, IsBad, IsBusy, IsCaused, IsCommitOf, IsCounted, IsDecided, IsTurnedAway, MayPassMost, PutsRow, is_misfit, is_open, removes}
 use Rattle.sdb_model.specs.Noted.{reads_rows}
 use Rattle.sdb_model.specs.Sql.{reads_commit, reads_vacuum}
@@ -26,6 +26,7 @@ use Rattle.sdb_causes.specs.Tied.{CanTell, IsAnswered, IsWaiting}
 use Rattle.sdb_causes.proofs.Lists.{ending_front, ending_stays, kept_in}
 use Rattle.sdb_causes.proofs.Passing.{Grows, pass_stays}
 use Rattle.sdb_causes.proofs.Calls.{before_same, calls_stay, calls_of_within, clock_same, within_more}
+use Rattle.sdb_types.specs.Replies.{is_fault}
 
 ---- the COMMIT of a transaction
 
@@ -66,7 +67,7 @@ commit_stays c events later s a id grows is h = (
 record IsPast (c : ℕ) (events : List Event) (e : Event) (s : Said) (a : Answer) : Type 0 where
   is : s.answer ≡ Some a
   taken : s.taken ≤ length events
-  answered : s.answered ≤ length events
+  answered : s.reached ≤ length events
   commit : (id : TxId) → IsCommitOf events c s id → IsCommitOf (events ++ e ∷ []) c s id
   passes : MayPassMost events c s → MayPassMost (events ++ e ∷ []) c s
 
@@ -146,7 +147,7 @@ answered_one catalog c events e s grows k = record {
   given = k.given;
   is = k.is;
   taken = within_more s.taken events e k.taken;
-  answered = within_more s.answered events e k.answered;
+  answered = within_more s.reached events e k.answered;
   caused = λ t. let told : CanTell (calls_of events c s) s.text k.given = subst (λ ms. CanTell ms s.text k.given) (calls_stay c events e s k.given k.is k.answered) t in caused_stays catalog c events e s k.given (record { is = k.is; taken = k.taken; answered = k.answered; commit = λ id h. commit_stays c events (events ++ e ∷ []) s k.given id grows k.is h; passes = pass_stays c events e s k.given grows k.is }) told (k.caused told);
   turned_away = λ a h. k.turned_away a (subst (λ es. IsTurnedAway catalog es c s.text a) (before_same s events e k.taken) h);
 }

@@ -26,3 +26,11 @@ pub mod Filling
 pub mod Unfit
 pub mod RolledSteps
 pub mod Rolled
+pub mod OneRow
+pub mod Shows
+pub mod ShowsTold
+pub mod ShowsRead
+pub mod ShowsGiven
+pub mod ShowsTurn
+pub mod ShowsWhole
+pub mod Faults

@@ -21,7 +21,7 @@ use Rattle.sdb_types.specs.Columns.{column}
 use Rattle.sdb_types.specs.Contents.{CanAnswer, holds, in_span, is_version, rise, starts_after, tx_id}
 use Rattle.sdb_types.specs.Exact.{equal_of}
 use Rattle.sdb_types.specs.Order.{key_cmp}
-use Rattle.sdb_types.proofs.Basics.{by_test, clash, less_of}
+use Rattle.sdb_types.proofs.Basics.{by_test, clash, less_of, all_each as each_any}
 use Rattle.sdb_types.proofs.KeyOrder.{key_exact, key_total}
 use Rattle.sdb_keyed.specs.Entries as keyed
 use Rattle.sdb_record.specs.declared.access.Access.{Access}
@@ -42,7 +42,7 @@ use Rattle.sdb_snapshot.proofs.Keys.{same_exact, same_is, same_itself}
 use Rattle.sdb_turns.specs.Noted.{IsFoundOk, IsReadOk, is_found, was_found, was_read}
 use Rattle.sdb_record.specs.declared.write.Write.{Write}
 use Rattle.sdb_snapshot.specs.Held.{AreKept}
-use Rattle.sdb_turns.proofs.Lists.{each_any, each_both}
+use Rattle.sdb_turns.proofs.Lists.{each_both}
 use Rattle.sdb_txn.specs.declared.txn.Doing.TheVariants as doing
 use Rattle.sdb_txn.specs.Txn.{TxnAt, work_of}
 use Rattle.sdb_client.specs.Client.{noting}

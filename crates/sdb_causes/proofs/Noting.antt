@@ -22,8 +22,8 @@ use Rattle.sdb_model.specs.Sql.{reads_commit}
 use Rattle.sdb_model.specs.Transactions.{Said, begins, body, client_of, ends, from_begin, id_of, is_conflict, is_effective, ordinal_of, rest_of, said}
 use Rattle.sdb_snapshot.specs.Seen.{Seen}
 use Rattle.sdb_txn.specs.Txn.{TxnAt}
-use Rattle.sdb_turns.proofs.Lists.{each_any, each_more}
-use Rattle.sdb_types.proofs.Basics.{clash}
+use Rattle.sdb_turns.proofs.Lists.{each_more}
+use Rattle.sdb_types.proofs.Basics.{clash, all_each as each_any}
 use Rattle.sdb_causes.specs.Tied.{IsAnswered, IsOpenAs}
 use Rattle.sdb_causes.specs.Moves.{AllTellOne, AreMoved, IsMovedIn, MovesBy, SeenBy, TellOne, is_told, notes_told}
 use Rattle.sdb_causes.proofs.Calls.{calls_stay}

@@ -57,7 +57,7 @@ rises_answered (s ∷ []) n a r = (tt, tt)
 rises_answered (s ∷ t ∷ ss) n a r = (answer_all (λ k. s.taken < k) (t ∷ ss) n a r.0, rises_answered (t ∷ ss) n a r.1)
 
 abbrev said_at : ℕ → List ℕ → Option Answer → Said
-said_at n text a = record { taken = n; text = text; answer = a; answered = n }
+said_at n text a = record { taken = n; text = text; answer = a; reached = n }
 
 rises_one : (c n : ℕ) (ss : List Said) (e : Event) → Rises ss → AreBelow n ss → Rises (said_after c ss (n, e)) × AreBelow (n + 1) (said_after c ss (n, e))
 rises_one c n ss (event.Take d text a) r all = by (d == c)
@@ -248,11 +248,11 @@ calls_grow c events e b = by b.answer refl
   where
     by : (o : Option Answer) → b.answer ≡ o → (more : List Made) × (calls_of (events ++ e ∷ []) c b ≡ calls_of events c b ++ more)
     by (Some a) is = (
-      filter (λ m. nat_lt b.taken m.at && nat_le m.at b.answered) (call_in c events e),
+      filter (λ m. nat_lt b.taken m.at && nat_le m.at b.reached) (call_in c events e),
       ap (λ n. filter (λ m. nat_lt b.taken m.at && nat_le m.at n) (calls_by (events ++ e ∷ []) c)) (end_answered (events ++ e ∷ []) b a is)
-          ∙ ap (filter (λ m. nat_lt b.taken m.at && nat_le m.at b.answered)) (made_more c events e)
-          ∙ filter-append (λ m. nat_lt b.taken m.at && nat_le m.at b.answered) (calls_by events c) (call_in c events e)
-          ∙ ap (λ n. filter (λ m. nat_lt b.taken m.at && nat_le m.at n) (calls_by events c) ++ filter (λ m. nat_lt b.taken m.at && nat_le m.at b.answered) (call_in c events e)) (sym (end_answered events b a is)),
+          ∙ ap (filter (λ m. nat_lt b.taken m.at && nat_le m.at b.reached)) (made_more c events e)
+          ∙ filter-append (λ m. nat_lt b.taken m.at && nat_le m.at b.reached) (calls_by events c) (call_in c events e)
+          ∙ ap (λ n. filter (λ m. nat_lt b.taken m.at && nat_le m.at n) (calls_by events c) ++ filter (λ m. nat_lt b.taken m.at && nat_le m.at b.reached) (call_in c events e)) (sym (end_answered events b a is)),
     )
     by None is = (
       filter (λ m. nat_lt b.taken m.at) (call_in c events e),

@@ -6,6 +6,7 @@ use Rattle.std.specs.Ordering.{is_eq}
 use Rattle.std.proofs.lemmas.Bool.{and_parts}
 use Rattle.std.proofs.lemmas.List.Elements.{All-contains_itself, Contains-append_left, Contains-push, recursion_from_All}
 use Rattle.sdb_types.specs.declared.key.Key.{Key}
+use Rattle.sdb_types.specs.declared.txid.TxId.{TxId}
 use Rattle.sdb_types.specs.declared.key.TableName.{TableName}
 use Rattle.sdb_types.specs.declared.pair.Pair.{Pair}
 use Rattle.sdb_types.specs.declared.record.Record.{Record}
@@ -30,8 +31,9 @@ use Rattle.sdb_record.specs.Parts.{before_part, is_before_pair}
 use Rattle.sdb_record.proofs.Fine.{refuse-ok, taken}
 use Rattle.sdb_record.proofs.ImageLaws.{row-key}
 use Rattle.sdb_model.specs.declared.event.Event.{Event}
-use Rattle.sdb_model.specs.Calls.{Made, clock_at, is_fault, is_read, records_read, records_shown}
-use Rattle.sdb_model.specs.Causes.{HasReply}
+use Rattle.sdb_model.specs.Calls.{Made, calls_of, clock_at, is_read, records_read, records_shown}
+use Rattle.sdb_model.specs.Causes.{HasReply, IsBusy}
+use Rattle.sdb_model.specs.Transactions.{Said}
 use Rattle.sdb_phases.specs.declared.step.RecoverPhase.{RecoverPhase}
 use Rattle.sdb_phases.specs.declared.step.RecoverPhase.TheVariants as phase
 use Rattle.sdb_phases.specs.declared.step.RecoverStep.{RecoverStep}
@@ -44,6 +46,7 @@ use Rattle.sdb_steps.proofs.InTables.{access_table}
 use Rattle.sdb_causes.specs.Commits.{IsBadRow, ShowsBad}
 use Rattle.sdb_causes.specs.Reads.{IsBusyBy, IsFoundBy, IsPhaseBy, LedBy, ReadsBy, ResolvesBy}
 use Rattle.sdb_causes.proofs.Rows.{after_last, reply_now, reply_stays, shows_bad_row}
+use Rattle.sdb_types.specs.Replies.{is_fault}
 
 -- a table holds records of transactions
 abbrev pub IsDataTable : TableName → Type 0
@@ -280,3 +283,7 @@ module _ (events : List Event) (calls : List Made) (m : Made) (older : AllByRecu
   reads_on a Asking k l h e can = let same : m.request ≡ request_of a = sym (some_is (request_of a) m.request e) in answered_is a m.reply k same refl (subst (λ (x : Request). CanAnswer x m.reply) same can)
   reads_on a (Resolving images rec meta p left) k l h e can = resolved_is images rec meta left p h (recover_next rec meta p now m.reply) l (recovered_is rec meta left p h m.reply e refl can)
   reads_on a (Ended s) k l h e can = absurd h
+
+-- a read that ends so has its cause
+pub busy_caused : (events : List Event) (c : ℕ) (s : Said) (key : Key) (id : TxId) (at : ℤ) → IsBusyBy events (calls_of events c s) key id at → IsBusy events c s key id at
+busy_caused events c s key id at b = record { read = b.read; found = b.found; reads = b.reads; early = b.early }

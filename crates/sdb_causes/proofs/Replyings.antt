@@ -1,5 +1,5 @@
 -- A client that gets the reply to its call keeps what ties the events to it.
-use Rattle.std.proofs.Common.{◌≡◌, ◌≤◌, ◌<◌, ◌^◌, ◌+◌, ◌⊎◌, inl, inr, ℕ, ℤ, true, false, not, List, [], ◌∷◌, ◌++◌, length, Option, Some, None, refl, sym, ap, subst, ◌∙◌, arith}
+use Rattle.std.proofs.Common.{◌≡◌, ◌≤◌, ◌<◌, ◌^◌, ◌+◌, ◌⊎◌, inl, inr, ℕ, true, false, not, List, [], ◌∷◌, ◌++◌, length, Option, Some, None, refl, sym, ap, subst, ◌∙◌, arith}
 use Rattle.std.specs.Prelude.{◌&&◌, ◌||◌, is_some, IfSome, nat_le, nat_lt, MatchBool, Contains}
 use Rattle.std.specs.List.{AllByRecursion, count_by}
 use Rattle.std.proofs.lemmas.List.{append-nil}
@@ -9,11 +9,10 @@ use Rattle.sdb_types.specs.declared.record.Record.{Record}
 use Rattle.sdb_types.specs.declared.record.Request.{Request}
 use Rattle.sdb_types.specs.declared.record.Request.TheVariants as ask
 use Rattle.sdb_types.specs.declared.txid.TxId.{TxId}
-use Rattle.sdb_types.proofs.Basics.{clash, some_is}
+use Rattle.sdb_types.proofs.Basics.{clash, some_is, all_each as each_any}
 use Rattle.sdb_record.specs.declared.access.Access.{Access}
 use Rattle.sdb_record.specs.declared.access.Access.TheVariants as access
 use Rattle.sdb_record.specs.declared.access.Read.{Read}
-use Rattle.sdb_record.specs.declared.coordinator.Decision.TheVariants as decision
 use Rattle.sdb_record.specs.declared.write.Write.{Write}
 use Rattle.sdb_record.specs.Coordinator.{is_coordinator_table}
 use Rattle.sdb_record.specs.Meta.{is_moment}
@@ -22,8 +21,8 @@ use Rattle.sdb_schema.specs.Catalog.{is_catalog}
 use Rattle.sdb_model.specs.declared.answer.Answer.{Answer}
 use Rattle.sdb_model.specs.declared.answer.Answer.TheVariants as answer
 use Rattle.sdb_model.specs.declared.event.Event.{Event}
-use Rattle.sdb_model.specs.Calls.{Made, calls_of, clock_at, decision_learned, is_fault, calls_by, end_of}
-use Rattle.sdb_model.specs.Causes.{ConflictsAtCommit, HasMoved, HasReply, IsBadRecord, IsBusy, IsCaused, IsCommitOf, IsDecided, IsTurnedAway, MayPassMost, before, is_open, is_open_after, records_found, removes, is_misfit}
+use Rattle.sdb_model.specs.Calls.{Made, calls_of, clock_at, calls_by, end_of}
+use Rattle.sdb_model.specs.Causes.{ConflictsAtCommit, HasMoved, HasReply, IsBadRecord, IsCaused, IsCommitOf, IsTurnedAway, MayPassMost, before, is_open, is_open_after, records_found, removes, is_misfit}
 use Rattle.sdb_model.specs.declared.statement.Statement.TheVariants as statement
 use Rattle.sdb_model.specs.Exec.{find_table, table_of}
 use Rattle.sdb_sqltext.proofs.OneWord.{vacuum_read}
@@ -33,12 +32,12 @@ use Rattle.sdb_model.specs.Transactions.{Said, begins, changes_nothing, is_answe
 use Rattle.sdb_exec.specs.Plans.{Planned, changes_on, first_unfit}
 use Rattle.sdb_commit.specs.Phases.{CommitAt, IsNext, ended_at}
 use Rattle.sdb_phases.specs.declared.step.Outcome.{Outcome}
-use Rattle.sdb_phases.specs.declared.step.Outcome.TheVariants as outcome
 use Rattle.sdb_phases.specs.Commit.{Stage, Over, pending as commit_pending, step as commit_step}
 use Rattle.sdb_phases.specs.Work.{Work}
 use Rattle.sdb_read.specs.declared.read.ReadStep.TheVariants as step
 use Rattle.sdb_read.specs.Read.{Asking, Ended, ReadAt, ReadStage, Resolving, read_pending_at, read_result, read_step, request_of}
 use Rattle.sdb_model.specs.Noted.{Note, notes_in}
+use Rattle.sdb_snapshot.specs.Held.{WereRead}
 use Rattle.sdb_snapshot.specs.Seen.{Seen, overlay}
 use Rattle.sdb_txn.specs.declared.progress.Progress.TheVariants as progress
 use Rattle.sdb_txn.specs.declared.txn.Doing.{Doing}
@@ -58,9 +57,9 @@ use Rattle.sdb_steps.proofs.Fitted.{by_next}
 use Rattle.sdb_steps.proofs.InTables.{access_table, own_table}
 use Rattle.sdb_steps.proofs.RowsFit.{found_itself}
 use Rattle.sdb_story.specs.Telling.{answered_said, waiting_of}
-use Rattle.sdb_turns.proofs.Lists.{each_any, each_more}
+use Rattle.sdb_turns.proofs.Lists.{each_more}
 use Rattle.sdb_turns.specs.System.{ClientCall, answer_of_outcome, call_event}
-use Rattle.sdb_causes.specs.Commits.{EndsBy, HasFailed, IsGivenUp, ShowsBad, StandsBy}
+use Rattle.sdb_causes.specs.Commits.{EndsBy, ShowsBad, StandsBy}
 use Rattle.sdb_causes.specs.Tied.{IsAnswered, IsCommitting, IsDoing, AreTied, IsNoting, IsReading, IsSweeping, IsWaiting, Knows, StandsIn, StandsOn, begun_in, is_caused, open_after, CanTell}
 use Rattle.sdb_causes.specs.Unfit.{IsFit, SeesFit, SeesFitIn, ShowStored, shows_stored}
 use Rattle.sdb_causes.specs.Conflicts.{ChecksBy, ConflictBy}
@@ -80,7 +79,7 @@ use Rattle.sdb_causes.proofs.Moving.{IsTold, differs_moved, noting_id, noting_id
 use Rattle.sdb_causes.proofs.Noting.{each_front, each_last, moved_all, moved_still, noted_more, noted_still, notes_more, notes_one, notes_stay, seen_same, since_all, tell_back, unmoved}
 use Rattle.sdb_causes.proofs.Settling.{read_noted, data_read}
 use Rattle.sdb_causes.proofs.Showing.{IsOpenAt, shows_on}
-use Rattle.sdb_causes.proofs.Ends.{next_by, ended_is, told_end, conflict_of, commit_is, id_fits, first_in}
+use Rattle.sdb_causes.proofs.Ends.{next_by, ended_is, told_end, conflict_of, commit_is, id_fits, first_in, outcome_caused, outcome_tells}
 use Rattle.sdb_causes.proofs.Calls.{before_same, call_said, calls_open, clock_more, end_answered, end_waiting, later_calls, later_more, later_within, length_more, made_at, own_made, silent_said, within_more, one_made}
 use Rattle.sdb_causes.proofs.Filling.{filled_few, filled_found, filled_given, filled_idle, filled_more, filled_noting, filled_stays, images_few, least, passes_given}
 use Rattle.sdb_causes.proofs.Passing.{pass_now}
@@ -89,19 +88,22 @@ use Rattle.sdb_causes.proofs.Given.{IsMiddle, given_caused, given_middle, gives_
 use Rattle.sdb_causes.proofs.Knowing.{after_end, after_more, after_plain, open_more}
 use Rattle.sdb_causes.proofs.Later.{answered_stay, waiting_stays}
 use Rattle.sdb_causes.proofs.Lists.{begun_same, since_more, each_kept}
-use Rattle.sdb_causes.proofs.ReadSteps.{IsDataTable, LeavesData, reads_on, shown_read}
+use Rattle.sdb_causes.proofs.ReadSteps.{IsDataTable, LeavesData, busy_caused, reads_on, shown_read}
 use Rattle.sdb_causes.proofs.Stages.{IsOfData, stands_on, starved_stands}
-use Rattle.sdb_causes.proofs.Rows.{bad_is_bad}
 use Rattle.sdb_causes.specs.Rolled.{DoingRolls, ReadRolls, RolledBut, SweepRolls, WaitRolls}
 use Rattle.sdb_causes.proofs.Rolled.{outcome_rows, reads_so_far, rolls_end, rolls_on, sweeps_so_far}
 use Rattle.sdb_causes.proofs.RolledSteps.{SweepsTo, read_rolls, sweep_rolls}
+use Rattle.sdb_causes.specs.Shows.{IsShowing, SeesOwn, SeesOwnIn, ShowsBy}
+use Rattle.sdb_causes.proofs.ShowsTold.{ShowsNext, next_same, showing_stays, shows_end, shows_further}
+use Rattle.sdb_causes.proofs.ShowsTurn.{read_next}
 use Rattle.sdb_causes.proofs.Takings.{left_id, left_idle, middle_ends}
+use Rattle.sdb_types.specs.Replies.{is_fault}
 
 ---- the call
 
 module _ (catalog : List Table) (events : List Event) (hands : ℕ → Hand) (y : ClientCall) (ex : AreTied catalog events y.now hands) (called : IsCalled catalog hands y) (about : IsOfTables catalog (hands y.client).client)
     (apart : (k : Key) → is_some (find_table catalog k.table) ≡ true → is_data k ≡ true)
-    (sound : (hands y.client).client.vacuum ≡ None → (t : TxnAt) (a : Access) (x : ReadAt) → (hands y.client).client.txn ≡ Some t → t.doing ≡ doing.Read a x → IsTold t.seen) (is_fine : is_catalog catalog ≡ true) (stored : shows_stored y.reply ≡ true) where
+    (sound : (hands y.client).client.vacuum ≡ None → (t : TxnAt) (a : Access) (x : ReadAt) → (hands y.client).client.txn ≡ Some t → t.doing ≡ doing.Read a x → IsTold t.seen × WereRead t.seen.notes t.seen.writes) (is_fine : is_catalog catalog ≡ true) (stored : shows_stored y.reply ≡ true) where
   abbrev c : ℕ
   c = y.client
 
@@ -202,8 +204,8 @@ module _ (catalog : List Table) (events : List Event) (hands : ℕ → Hand) (y 
     CountsThen b d = (reads_commit w.text ≡ true → CommitFits so_noted so_id (Some b) (ms ++ made ∷ [])) × NotedBy (notes_since (E (Some b)) c d.begun (k.told ++ done b ∷ [])) d.txn
 
     -- it is answered
-    answers : (b : Answer) (d : Client) → (CanTell (calls_of (E (Some b)) c (done b)) w.text b → IsCaused catalog (E (Some b)) c (done b) b) → (AllTellOne (E (Some b)) c (k.told ++ done b ∷ []) → (key : Key) (found : Option Record) → Some b ≡ Some (answer.Conflict key found) → IsMovedIn (E (Some b)) c (k.told ++ done b ∷ []) (done b) key found) → d.number ≡ h.number → d.begun ≡ h.begun → StandsOn (E (Some b)) c d.begun (k.told ++ done b ∷ []) None d.plan d.txn d.vacuum → CountsThen b d → IfSome d.txn (IsFilled (E (Some b)) c (rest_of (from_begin d.begun (k.told ++ done b ∷ [])))) → IfSome d.txn (IsFit catalog) → RollsThen b → So (Some b) d
-    answers b d caused moves number begun stands counts filled fits rolls = record {
+    answers : (b : Answer) (d : Client) → (CanTell (calls_of (E (Some b)) c (done b)) w.text b → IsCaused catalog (E (Some b)) c (done b) b) → (AllTellOne (E (Some b)) c (k.told ++ done b ∷ []) → (key : Key) (found : Option Record) → Some b ≡ Some (answer.Conflict key found) → IsMovedIn (E (Some b)) c (k.told ++ done b ∷ []) (done b) key found) → d.number ≡ h.number → d.begun ≡ h.begun → StandsOn (E (Some b)) c d.begun (k.told ++ done b ∷ []) None d.plan d.txn d.vacuum → CountsThen b d → IfSome d.txn (IsFilled (E (Some b)) c (rest_of (from_begin d.begun (k.told ++ done b ∷ [])))) → IfSome d.txn (IsFit catalog) → RollsThen b → ShowsNext catalog (E (Some b)) c k.told (done b) b d → So (Some b) d
+    answers b d caused moves number begun stands counts filled fits rolls shows = record {
       told = k.told ++ done b ∷ [];
       waiting = None;
       same = said_done b ∙ sym (append-nil (k.told ++ done b ∷ []));
@@ -226,14 +228,15 @@ module _ (catalog : List Table) (events : List Event) (hands : ℕ → Hand) (y 
       fits = fits;
       stored = all_stored (Some b);
       rolled = rolls_end catalog c events (call_event y (Some b)) k.told k.waiting h k.answered k.rolled (done b) d (ms ++ made ∷ []) (calls_done b) (λ a e rows. rolls (ap is_answered_from_rows (some_is b a e) ∙ rows));
+      shows = shows_end catalog c events (call_event y (Some b)) k.told k.answered h k.shows k.counted.paired (done b) b d refl shows;
     }
       where
         last : length (E (Some b)) ≡ 1 + length events → 1 + length events ≤ length (E (Some b))
         last e = omega arith
 
     -- it goes on
-    goes_on : (d : Client) → d.number ≡ h.number → d.begun ≡ h.begun → is_some d.vacuum ≡ is_some h.vacuum → StandsOn (E None) c d.begun k.told (Some w) d.plan d.txn d.vacuum → NotedBy so_noted d.txn × WaitCounted catalog w.text so_id so_noted (ms ++ made ∷ []) d.vacuum d.txn → IfSome d.txn (IsFilled (E None) c (rest_of (from_begin d.begun k.told))) → IfSome d.txn (IsFit catalog) → WaitRolls (E None) (reads_vacuum w.text) (ms ++ made ∷ []) d.vacuum d.txn → So None d
-    goes_on d number begun sweeps stands counts filled fits rolls = record {
+    goes_on : (d : Client) → d.number ≡ h.number → d.begun ≡ h.begun → is_some d.vacuum ≡ is_some h.vacuum → StandsOn (E None) c d.begun k.told (Some w) d.plan d.txn d.vacuum → NotedBy so_noted d.txn × WaitCounted catalog w.text so_id so_noted (ms ++ made ∷ []) d.vacuum d.txn → IfSome d.txn (IsFilled (E None) c (rest_of (from_begin d.begun k.told))) → IfSome d.txn (IsFit catalog) → WaitRolls (E None) (reads_vacuum w.text) (ms ++ made ∷ []) d.vacuum d.txn → (ShowsBy catalog events c k.told h → IfSome d.txn (IsShowing catalog (E None) c (rest_of (from_begin d.begun k.told)))) → So None d
+    goes_on d number begun sweeps stands counts filled fits rolls sees = record {
       told = k.told;
       waiting = Some w;
       same = silent_said c events y.store y.request y.how y.reply ∙ said_told;
@@ -249,6 +252,7 @@ module _ (catalog : List Table) (events : List Event) (hands : ℕ → Hand) (y 
       fits = fits;
       stored = all_stored None;
       rolled = rolls_on catalog c events (call_event y None) k.told k.waiting h k.answered k.rolled w d (ms ++ made ∷ []) calls_on rolls;
+      shows = shows_further catalog c events (call_event y None) k.told k.answered h k.shows d sees;
     }
 
     calls_stored : (b : Answer) → ShowStored (calls_of (E (Some b)) c (done b))
@@ -348,6 +352,13 @@ module _ (catalog : List Table) (events : List Event) (hands : ℕ → Hand) (y 
         fit_now : SeesFit catalog t.seen
         fit_now = subst (SeesFitIn catalog t.seen) reads (subst (λ (o : Option TxnAt). IfSome o (IsFit catalog)) some k.fits)
 
+        -- what it sees it has
+        sees_reading : (result : Option Answer) → ShowsBy catalog events c k.told h → SeesOwn catalog (E result) c (rest_of (from_begin h.begun k.told)) t.seen
+        sees_reading result z = subst (SeesOwnIn catalog (E result) c (rest_of (from_begin h.begun k.told)) t.seen) reads (showing_stays catalog events (call_event y result) c h.begun k.told (Some t) k.answered (subst (λ (o : Option TxnAt). IfSome o (IsShowing catalog events c (rest_of (from_begin h.begun k.told)))) some z.sees_own))
+
+        sees_now : AllTellOne events c k.told → SeesOwn catalog events c stands_open.1.body t.seen
+        sees_now one = subst (λ r. SeesOwn catalog events c (rest_of r) t.seen) stands_open.1.since (subst (SeesOwnIn catalog events c (rest_of (from_begin h.begun k.told)) t.seen) reads (subst (λ (o : Option TxnAt). IfSome o (IsShowing catalog events c (rest_of (from_begin h.begun k.told)))) some (k.shows one).sees_own))
+
         listed : find_table catalog p.table.name ≡ Some p.table
         listed = found_itself catalog (table_of p.statement) p.table asked.named
 
@@ -394,6 +405,7 @@ module _ (catalog : List Table) (events : List Event) (hands : ℕ → Hand) (y 
             (held b (idle t) m is.inner.commit refl refl (noted_more catalog events (call_event y (Some b)) c h.begun k.told t stands_open.1 k.answered (done b) t.seen t.seen refl refl noting_now))
             (no_fit b, subst (λ ns. NotesAre ns t.seen.reads t.seen.scans) (sym (notes_as_before b nothing)) read_so)
             (filled_idle (E (Some b)) c h.begun k.told (done b) stands_open.1.begin stands_open.1.body (idle t) stands_open.1.since refl (filled_more events (call_event y (Some b)) c stands_open.1.body (done b) t.seen filled_now)) fit_now (λ z. clash (sym z ∙ no_rows))
+            (next_same catalog c events (call_event y (Some b)) k.told k.answered h.begun stands_open.1.begin stands_open.1.body stands_open.1.since t.seen sees_now (done b) b (idle t) refl nothing refl refl)
 
         reads_further : (s : ReadStage) → ReadsBy (ms ++ made ∷ []) s → ShowsAt x.request (ms ++ made ∷ []) s → ReadCounted (ms ++ made ∷ []) s → ReadRolls (E None) (reads_vacuum w.text) (ms ++ made ∷ []) s → Left next.Call (record t { doing = doing.Read a (record x { stage = s }) })
         reads_further s i j n r =
@@ -404,7 +416,7 @@ module _ (catalog : List Table) (events : List Event) (hands : ℕ → Hand) (y 
             (noted_still catalog events (call_event y None) c h.begun k.told t stands_open.1 k.answered t.seen noting_now))
             (read_so, waits_open (ms ++ made ∷ []) (Some (record t { doing = doing.Read a (record x { stage = s }) })) (is.inner.commit, n))
             (filled_stays events (call_event y None) c (rest_of (from_begin h.begun k.told)) (Some (record t { doing = doing.Read a (record x { stage = s }) })) filled_reading)
-            fit_now (rolls_open (Some (record t { doing = doing.Read a (record x { stage = s }) })) r)
+            fit_now (rolls_open (Some (record t { doing = doing.Read a (record x { stage = s }) })) r) (sees_reading None)
 
         -- the read, where it is done
         has_read : (images : List Record) → read_step x.stage y.now y.reply ≡ Ended (step.Images images) → HasRead (request_of a) (ms ++ made ∷ []) images []
@@ -464,6 +476,13 @@ module _ (catalog : List Table) (events : List Event) (hands : ℕ → Hand) (y 
               inr (is.inner.commit, no_vacuum, data_read a own h.first h.request, subst (λ cs. is_misfit catalog cs r.0 ≡ true) (sym (calls_done b)) r.3),
             )
 
+        -- what it shows, and what its transaction then sees
+        shows_then : (images : List Record) → read_step x.stage y.now y.reply ≡ Ended (step.Images images) → ShowsNext catalog (E (Some (given_answer (noting t a images) (gives p a (noting t a images))))) c k.told (done (given_answer (noting t a images) (gives p a (noting t a images)))) (given_answer (noting t a images) (gives p a (noting t a images))) (holding h (given_left (idle t) (noting t a images) (gives p a (noting t a images))))
+        shows_then images e =
+            let b : Answer = given_answer (noting t a images) (gives p a (noting t a images)) in
+            read_next catalog c events (call_event y (Some b)) k.told k.answered h.begun stands_open.1.begin stands_open.1.body stands_open.1.since k.begun t sees_now (sound free t a x some reads).1 (done b) p a (ms ++ made ∷ []) images (calls_done b) (has_read images e) is_fine is.text (waits.vacuum ∙ ap is_some free) asked.named asked.asked asked.access refl
+            (fits_now catalog p a listed of_table (ms ++ made ∷ []) t images (has_read images e) fit_now)
+
         tells : (images : List Record) → read_step x.stage y.now y.reply ≡ Ended (step.Images images) → Left (next.Answer (given_answer (noting t a images) (gives p a (noting t a images)))) (given_left (idle t) (noting t a images) (gives p a (noting t a images)))
         tells images e =
             let v = noting t a images in
@@ -477,7 +496,7 @@ module _ (catalog : List Table) (events : List Event) (hands : ℕ → Hand) (y 
             (filled_given events (call_event y (Some (given_answer v (gives p a v)))) c stands_open.1.body (done (given_answer v (gives p a v))) p (overlay a v.seen) (idle t) v (records_found (ms ++ made ∷ [])) refl (found_done (given_answer v (gives p a v))) filled_now (filled_with images e)))
             (subst (SeesFitIn catalog (given_left (idle t) v (gives p a v)).seen) (sym (left_idle (idle t) v (gives p a v) refl (noting_idle t a images)))
             (given_fits catalog p a listed of_table is_fine asked.named asked.asked asked.taken asked.literals asked.access (idle t) v fit_now (fits_now catalog p a listed of_table (ms ++ made ∷ []) t images (has_read images e) fit_now)))
-            (λ z. subst (ReadRolls (E (Some (given_answer v (gives p a v)))) (reads_vacuum w.text) (ms ++ made ∷ [])) e (rolled_read (Some (given_answer v (gives p a v)))))
+            (λ z. subst (ReadRolls (E (Some (given_answer v (gives p a v)))) (reads_vacuum w.text) (ms ++ made ∷ [])) e (rolled_read (Some (given_answer v (gives p a v))))) (shows_then images e)
 
         -- a key that was read differs
         moves_now : (images : List Record) (key : Key) (found : Option Record) → read_step x.stage y.now y.reply ≡ Ended (step.Images images) → (z : Access) → a ≡ z → IsMovedAt t z images key found → TellOne (ms ++ made ∷ []) → SeenBy (notes_told events c stands_open.1.body) t.seen
@@ -495,7 +514,7 @@ module _ (catalog : List Table) (events : List Event) (hands : ℕ → Hand) (y 
               shows.1,
               moved.inside,
               moved.stands ∙ sym shows.2,
-              subst (HasMoved (notes_told events c stands_open.1.body) key) (sym moved.stands) (differs_moved (notes_told events c stands_open.1.body) t.seen images key by_notes (sound free t a x some reads) moved.moved),
+              subst (HasMoved (notes_told events c stands_open.1.body) key) (sym moved.stands) (differs_moved (notes_told events c stands_open.1.body) t.seen images key by_notes (sound free t a x some reads).0 moved.moved),
             )
 
         moved_now : (images : List Record) (key : Key) (found : Option Record) → read_step x.stage y.now y.reply ≡ Ended (step.Images images) → IsMovedAt t a images key found → ends (done (answer.Conflict key found)) ≡ true
@@ -526,14 +545,8 @@ module _ (catalog : List Table) (events : List Event) (hands : ℕ → Hand) (y 
         images_case images ends_at (next.Answer z) u e = as_left (next.Answer z) (next.Answer (given_answer (noting t a images) (gives p a (noting t a images)))) u _ (ap next.Answer e.1) e.2 (tells images ends_at)
         images_case images ends_at (next.End (answer.Conflict key found)) u e =
             let over : ends (done (answer.Conflict key found)) ≡ true = ap (λ b. b || true || (reads_rollback w.text && false)) is.inner.commit in
-            answers (answer.Conflict key found) (resting h) (λ z. absurd z) (moved_now images key found ends_at e over) refl refl (ended (answer.Conflict key found) over) (no_fit (answer.Conflict key found), tt) tt tt (λ z. clash (sym z))
+            answers (answer.Conflict key found) (resting h) (λ z. absurd z) (moved_now images key found ends_at e over) refl refl (ended (answer.Conflict key found) over) (no_fit (answer.Conflict key found), tt) tt tt (λ z. clash (sym z)) (λ one. ((λ was. tt), tt))
         images_case images ends_at n u e = absurd e
-
-        busy_caused : (key : Key) (id : TxId) (at : ℤ) → IsBusyBy (E (Some (answer.Busy key id at))) (ms ++ made ∷ []) key id at → IsBusy (E (Some (answer.Busy key id at))) c (done (answer.Busy key id at)) key id at
-        busy_caused key id at b =
-            let e : ms ++ made ∷ [] ≡ calls_of (E (Some (answer.Busy key id at))) c (done (answer.Busy key id at)) = sym (calls_done (answer.Busy key id at)) in
-            let z : IsBusyBy (E (Some (answer.Busy key id at))) (calls_of (E (Some (answer.Busy key id at))) c (done (answer.Busy key id at))) key id at = subst (λ cs. IsBusyBy (E (Some (answer.Busy key id at))) cs key id at) e b in
-            record { read = z.read; found = z.found; reads = z.reads; early = z.early }
 
         stage_case : (s : ReadStage) → read_step x.stage y.now y.reply ≡ s → (n : Next) (u : TxnAt) → StageTold t p a x s (read_result s) n u → Left n u
         stage_case Asking e n u z = as_left n next.Call u _ z.0 z.1 (reads_further Asking tt (subst (ShowsAt x.request (ms ++ made ∷ [])) e shown) (subst (ReadCounted (ms ++ made ∷ [])) e counted_read) (subst (ReadRolls (E None) (reads_vacuum w.text) (ms ++ made ∷ [])) e (rolled_read None)))
@@ -542,7 +555,7 @@ module _ (catalog : List Table) (events : List Event) (hands : ℕ → Hand) (y 
         stage_case (Ended (step.Images images)) e n u z = images_case images e n u z
         stage_case (Ended (step.Busy key id at)) e n u z =
             as_left n (next.Answer (answer.Busy key id at)) u (idle t) z.0 z.1
-            (fails (answer.Busy key id at) refl refl (record { undone = refl; agrees = refl }) (λ g. busy_caused key id at (subst (LedBy (E (Some (answer.Busy key id at))) (ms ++ made ∷ [])) e (leads (Some (answer.Busy key id at))))))
+            (fails (answer.Busy key id at) refl refl (record { undone = refl; agrees = refl }) (λ g. busy_caused (E (Some (answer.Busy key id at))) c (done (answer.Busy key id at)) key id at (subst (λ cs. IsBusyBy (E (Some (answer.Busy key id at))) cs key id at) (sym (calls_done (answer.Busy key id at))) (subst (LedBy (E (Some (answer.Busy key id at))) (ms ++ made ∷ [])) e (leads (Some (answer.Busy key id at)))))))
         stage_case (Ended step.Faulted) e n u z =
             as_left n (next.Answer answer.Faulted) u (idle t) z.0 z.1
             (fails answer.Faulted refl refl (record { undone = refl; agrees = refl }) (λ g. subst (HasReply is_fault) (sym (calls_done answer.Faulted)) (subst (LedBy (E (Some answer.Faulted)) (ms ++ made ∷ [])) e (leads (Some answer.Faulted)))))
@@ -577,15 +590,15 @@ module _ (catalog : List Table) (events : List Event) (hands : ℕ → Hand) (y 
         abbrev then_at : Stage
         then_at = commit_step j.work j.stage y.reply
 
-        then_stands : StandsBy j.work (ms ++ made ∷ []) then_at
-        then_stands = stands_on j.work of_data ms made older j.stage is.stage pends_commit called.can
-
         -- how many calls it has made
         commit_noted : NotesAre so_noted j.work.reads j.work.scans
         commit_noted = subst (NotedDoing so_noted t.seen) commits open_noted
 
         commit_so : DoingCounted w.text so_id so_noted ms (doing.Commit j)
         commit_so = subst (DoingCounted w.text so_id so_noted ms) commits open_counted
+
+        then_stands : StandsBy j.work (ms ++ made ∷ []) then_at
+        then_stands = stands_on j.work of_data ms made older commit_so.2 j.stage is.stage pends_commit called.can
 
         counted_commit : CommitCounted so_noted j.work (ms ++ made ∷ []) then_at
         counted_commit = commit_more so_noted j.work commit_noted commit_so.2 ms made j.stage commit_so.3 pends_commit
@@ -601,21 +614,7 @@ module _ (catalog : List Table) (events : List Event) (hands : ℕ → Hand) (y 
 
         -- why it ends so
         end_caused : (a : Outcome) → EndsBy j.work.id (ms ++ made ∷ []) a → CanTell (calls_of (E (Some (answer_of_outcome a))) c (done (answer_of_outcome a))) w.text (answer_of_outcome a) → IsCaused catalog (E (Some (answer_of_outcome a))) c (done (answer_of_outcome a)) (answer_of_outcome a)
-        end_caused outcome.Committed e z = (j.work.id, commit_done answer.Committed, subst (λ cs. IsDecided decision.Committed (decision_learned cs j.work.id)) (sym (calls_done answer.Committed)) e)
-        end_caused (outcome.Conflict key found) e z = absurd z
-        end_caused (outcome.Expired u) e z =
-            let g = subst (λ cs. EndsBy j.work.id cs (outcome.Expired u)) (sym (calls_done (answer.Expired u))) e in
-            let b = subst (λ (i : TxId). IsGivenUp i (calls_of (E (Some (answer.Expired u))) c (done (answer.Expired u)))) (sym g.0) g.1 in
-            record { commit = subst (IsCommitOf (E (Some (answer.Expired u))) c (done (answer.Expired u))) (sym g.0) (commit_done (answer.Expired u)); call = b.call; among = b.among; aborted = b.aborted; not_own = b.not_own }
-        end_caused outcome.Faulted e z = subst (HasReply is_fault) (sym (calls_done answer.Faulted)) e
-        end_caused (outcome.Unknown u) e z =
-            let g = subst (λ cs. EndsBy j.work.id cs (outcome.Unknown u)) (sym (calls_done (answer.Unknown u))) e in
-            let b = subst (λ (i : TxId). HasFailed i (calls_of (E (Some (answer.Unknown u))) c (done (answer.Unknown u)))) (sym g.0) g.1 in
-            record { commit = subst (IsCommitOf (E (Some (answer.Unknown u))) c (done (answer.Unknown u))) (sym g.0) (commit_done (answer.Unknown u)); put = b.put; later = b.later; deciding = b.deciding; failed = b.failed }
-        end_caused (outcome.BadRecord key) e z =
-            let g = subst (λ cs. EndsBy j.work.id cs (outcome.BadRecord key)) (sym (calls_done (answer.BadRecord key))) e in
-            (g.1.call, g.1.found, g.1.among, g.1.shown, g.1.same, inl (bad_is_bad j.work.id g.1.found (g.1.same ∙ g.0) g.1.bad))
-        end_caused outcome.NoMemory e z = tt
+        end_caused a e = outcome_caused catalog (E (Some (answer_of_outcome a))) c (done (answer_of_outcome a)) j.work.id a (commit_done (answer_of_outcome a)) (subst (λ cs. EndsBy j.work.id cs a) (sym (calls_done (answer_of_outcome a))) e)
 
         -- an end of the transaction, of which a COMMIT's cause is told elsewhere
         checks_now : AllTellOne events c k.told → WorkBy (notes_told events c stands_open.1.body) j.work × ChecksBy (notes_told events c stands_open.1.body) j.work ms j.stage
@@ -652,7 +651,8 @@ module _ (catalog : List Table) (events : List Event) (hands : ℕ → Hand) (y 
         is_over : (a : Outcome) → then_at ≡ Over a → So (Some (answer_of_outcome a)) (resting h)
         is_over a e =
             answers (answer_of_outcome a) (resting h) (end_caused a (subst (StandsBy j.work (ms ++ made ∷ [])) e then_stands)) (ends_moved a e) refl refl (ended (answer_of_outcome a) (over_done (answer_of_outcome a)))
-            (λ z. subst (λ (i : TxId). CommitFits so_noted i (Some (answer_of_outcome a)) (ms ++ made ∷ [])) commit_so.1 (commit_over so_noted j.work (ms ++ made ∷ []) a (subst (CommitCounted so_noted j.work (ms ++ made ∷ [])) e counted_commit)), tt) tt tt (λ z. clash (sym z ∙ outcome_rows a))
+            (λ z. subst (λ (i : TxId). CommitFits so_noted i (Some (answer_of_outcome a)) (ms ++ made ∷ [])) commit_so.1 (commit_over so_noted j.work (ms ++ made ∷ []) a (subst (CommitCounted so_noted j.work (ms ++ made ∷ [])) e counted_commit) (subst (StandsBy j.work (ms ++ made ∷ [])) e then_stands)), tt) tt tt (λ z. clash (sym z ∙ outcome_rows a))
+            (λ one. ((λ was. outcome_tells catalog (E (Some (answer_of_outcome a))) c (rest_of (from_begin (begun_in k.told) k.told)) (done (answer_of_outcome a)) a), tt))
 
         commits_on : (u : TxnAt) (m : CommitAt) → u.id ≡ t.id → u.doing ≡ doing.Commit m → m.work ≡ j.work → StandsBy j.work (ms ++ made ∷ []) m.stage → ((ns : List Note) → ChecksBy ns j.work (ms ++ made ∷ []) then_at → ChecksBy ns j.work (ms ++ made ∷ []) m.stage) → CommitCounted so_noted j.work (ms ++ made ∷ []) m.stage → So None (record h { txn = Some u })
         commits_on u m same does work stands checked counts =
@@ -676,7 +676,7 @@ module _ (catalog : List Table) (events : List Event) (hands : ℕ → Hand) (y 
               waits_open (ms ++ made ∷ []) (Some u) (subst (DoingCounted w.text so_id so_noted (ms ++ made ∷ [])) (sym does)
                   (is.text, ap (λ (z : Work). z.id) work ∙ commit_so.1, subst (λ (z : Work). AllByRecursion IsWrite z.writes) (sym work) commit_so.2, subst (λ (z : Work). CommitCounted so_noted z (ms ++ made ∷ []) m.stage) (sym work) counts)),
             )
-            (subst (IsFilledIn (E None) c (rest_of (from_begin h.begun k.told)) u.seen) (sym does) tt) (subst (SeesFitIn catalog u.seen) (sym does) tt) (rolls_open (Some u) (subst (DoingRolls (E None) (reads_vacuum w.text) (ms ++ made ∷ [])) (sym does) tt))
+            (subst (IsFilledIn (E None) c (rest_of (from_begin h.begun k.told)) u.seen) (sym does) tt) (subst (SeesFitIn catalog u.seen) (sym does) tt) (rolls_open (Some u) (subst (DoingRolls (E None) (reads_vacuum w.text) (ms ++ made ∷ [])) (sym does) tt)) (λ z. subst (SeesOwnIn catalog (E None) c (rest_of (from_begin h.begun k.told)) u.seen) (sym does) tt)
 
         by_stage : (m : Stage) → IsNext j.work j.stage y.reply m → StandsBy j.work (ms ++ made ∷ []) m
         by_stage m z = next_by (StandsBy j.work (ms ++ made ∷ [])) j.work j.stage y.reply m z then_stands (starved_stands j.work (ms ++ made ∷ []) then_at then_stands)
@@ -737,7 +737,7 @@ module _ (catalog : List Table) (events : List Event) (hands : ℕ → Hand) (y 
 
       -- another call is pending
       sweeps_on : (left : VacuumAt) → VacuumBy (ms ++ made ∷ []) left → SweepCounted catalog (ms ++ made ∷ []) left → SweepRolls (E None) (reads_vacuum w.text) (ms ++ made ∷ []) left.stage → So None (record h { vacuum = Some left })
-      sweeps_on left by counts rolls = goes_on (record h { vacuum = Some left }) refl refl (sym (ap is_some runs)) (is.0, is.1, subst (λ cs. VacuumBy cs left) (sym calls_on) by) (k.counted.noted, counts) (subst (λ (o : Option TxnAt). IfSome o (IsFilled (E None) c (rest_of (from_begin h.begun k.told)))) (sym is.0) tt) (subst (λ (o : Option TxnAt). IfSome o (IsFit catalog)) (sym is.0) tt) rolls
+      sweeps_on left by counts rolls = goes_on (record h { vacuum = Some left }) refl refl (sym (ap is_some runs)) (is.0, is.1, subst (λ cs. VacuumBy cs left) (sym calls_on) by) (k.counted.noted, counts) (subst (λ (o : Option TxnAt). IfSome o (IsFilled (E None) c (rest_of (from_begin h.begun k.told)))) (sym is.0) tt) (subst (λ (o : Option TxnAt). IfSome o (IsFit catalog)) (sym is.0) tt) rolls (λ z. subst (λ (o : Option TxnAt). IfSome o (IsShowing catalog (E None) c (rest_of (from_begin h.begun k.told)))) (sym is.0) tt)
 
       -- it is answered
       sweep_ends : (b : Answer) → IsMiddle b → (CanTell (calls_of (E (Some b)) c (done b)) w.text b → IsCaused catalog (E (Some b)) c (done b) b) → RollsThen b → So (Some b) (record h { vacuum = None })
@@ -745,7 +745,7 @@ module _ (catalog : List Table) (events : List Event) (hands : ℕ → Hand) (y 
           answers b (record h { vacuum = None }) caused (λ one. unmoved (E (Some b)) c (k.told ++ done b ∷ []) (done b) b refl m.agrees) refl refl
           (subst (StandsIn (E (Some b)) c h.begun (k.told ++ done b ∷ []) None h.plan) (sym is.0) (refl, after_more k.told (done b) ∙ ap (λ x. is_open_after x (done b)) is.1 ∙ after_plain false (done b) (begins_none b) (λ e. clash (sym e))))
           (λ e. clash (sym e ∙ no_commit), subst (NotedBy (notes_since (E (Some b)) c h.begun (k.told ++ done b ∷ []))) (sym is.0) tt)
-          (subst (λ (o : Option TxnAt). IfSome o (IsFilled (E (Some b)) c (rest_of (from_begin h.begun (k.told ++ done b ∷ []))))) (sym is.0) tt) (subst (λ (o : Option TxnAt). IfSome o (IsFit catalog)) (sym is.0) tt) rolls
+          (subst (λ (o : Option TxnAt). IfSome o (IsFilled (E (Some b)) c (rest_of (from_begin h.begun (k.told ++ done b ∷ []))))) (sym is.0) tt) (subst (λ (o : Option TxnAt). IfSome o (IsFit catalog)) (sym is.0) tt) rolls (λ one. ((λ was. clash (sym was ∙ is.1)), subst (λ (o : Option TxnAt). IfSome o (IsShowing catalog (E (Some b)) c (rest_of (from_begin h.begun (k.told ++ done b ∷ []))))) (sym is.0) tt))
 
       as_swept : (r result : Option Answer) (x o : Option VacuumAt) → result ≡ r → o ≡ x → So r (record h { vacuum = x }) → So result (record h { vacuum = o })
       as_swept r result x o e f g = subst (λ (z : Option Answer). So z (record h { vacuum = o })) (sym e) (subst (λ (z : Option VacuumAt). So r (record h { vacuum = z })) (sym f) g)

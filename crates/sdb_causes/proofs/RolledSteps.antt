@@ -29,7 +29,7 @@ use Rattle.sdb_record.proofs.ImageLaws.{row-decision, row-key}
 use Rattle.sdb_model.specs.declared.event.Event.{Event}
 use Rattle.sdb_model.specs.Calls.{Made, clock_at, decision_said, is_of_row, is_read, records_read}
 use Rattle.sdb_model.specs.Causes.{IsEarly}
-use Rattle.sdb_model.specs.Counted.{is_answered, request_of_back, roll_by}
+use Rattle.sdb_model.specs.Counted.{request_of_back, roll_by}
 use Rattle.sdb_model.specs.Counted as counted
 use Rattle.sdb_model.specs.Noted.{reads_rows}
 use Rattle.sdb_phases.specs.declared.step.RecoverPhase.{RecoverPhase}
@@ -49,6 +49,7 @@ use Rattle.sdb_causes.proofs.ReadSteps.{open_is, prepared_moment}
 use Rattle.sdb_causes.proofs.Rows.{after_last, after_more, asks_row, shown_is}
 use Rattle.sdb_causes.proofs.Settling.{one_of}
 use Rattle.sdb_causes.proofs.Showing.{firm_is, look_rows, undo_unread, unread_rows}
+use Rattle.sdb_types.specs.Replies.{is_answered}
 
 ---- what rolls a record
 

@@ -16,7 +16,7 @@ use Rattle.sdb_types.specs.declared.record.Reply.{Reply}
 use Rattle.sdb_types.specs.declared.record.Request.{Request}
 use Rattle.sdb_types.specs.Exact.{equal_of}
 use Rattle.sdb_types.specs.Order.{key_cmp}
-use Rattle.sdb_types.proofs.Basics.{by_test, clash, none_some}
+use Rattle.sdb_types.proofs.Basics.{by_test, clash, none_some, all_each as each_any}
 use Rattle.sdb_types.proofs.KeyOrder.{key_exact, key_total}
 use Rattle.sdb_record.specs.declared.coordinator.Decided.{Decided}
 use Rattle.sdb_record.specs.declared.coordinator.Decision.{Decision}
@@ -26,7 +26,6 @@ use Rattle.sdb_record.specs.Meta.{checked, is_taken}
 use Rattle.sdb_model.specs.Calls.{Made, calls_after, calls_before, decision_found, decision_learned, decision_said, decision_shown, is_of_row, key_asked, records_shown, standing_said}
 use Rattle.sdb_model.specs.Causes.{HasReply, IsBad, IsDecided, PutsRow}
 use Rattle.sdb_laws.specs.Lawful.{is_data}
-use Rattle.sdb_turns.proofs.Lists.{each_any}
 use Rattle.sdb_causes.specs.Commits.{IsBadRow, IsGivenUp, NoneOfRow, ShowsBad}
 use Rattle.sdb_causes.proofs.Lists.{each_in, each_kept}
 

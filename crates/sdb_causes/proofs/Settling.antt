@@ -19,7 +19,7 @@ use Rattle.sdb_types.specs.declared.value.Value.{Value}
 use Rattle.sdb_types.specs.declared.value.Value.TheVariants as value
 use Rattle.sdb_types.specs.Columns.{column}
 use Rattle.sdb_types.specs.Contents.{CanAnswer, in_span, rise, tx_id}
-use Rattle.sdb_types.proofs.Basics.{clash, none_some}
+use Rattle.sdb_types.proofs.Basics.{clash, none_some, all_each as each_any}
 use Rattle.sdb_record.specs.declared.access.Access.{Access}
 use Rattle.sdb_record.specs.declared.access.Access.TheVariants as access
 use Rattle.sdb_record.specs.declared.access.Read.{Read}
@@ -38,7 +38,7 @@ use Rattle.sdb_read.specs.Read.{request_of}
 use Rattle.sdb_snapshot.specs.Noted as snapshot
 use Rattle.sdb_steps.proofs.InTables.{access_table}
 use Rattle.sdb_client.specs.Client.{noting}
-use Rattle.sdb_turns.proofs.Lists.{each_any, each_more}
+use Rattle.sdb_turns.proofs.Lists.{each_more}
 use Rattle.sdb_txn.specs.Txn.{TxnAt}
 use Rattle.sdb_causes.specs.Moves.{HasRead, HasShown, IsRolledAs, IsRows, IsSettledAs, SeenBy, TellOne}
 use Rattle.sdb_causes.proofs.ReadSteps.{IsDataTable}
@@ -123,7 +123,7 @@ read_notes a calls images left h is =
 
 module _ (calls : List Made) (one : TellOne calls) where
   -- the record that a get found, settled
-  got_image : (es : List (Record × Option Record)) (found : Option Record) → AllByRecursion (IsSettledAs calls) es → records_read (reply.Found found) ≡ map (λ e. e.0) es → option_and_then (resolved calls) found ≡ slice_get (filter_map (λ (e : Record × Option Record). e.1) es) 0
+  pub got_image : (es : List (Record × Option Record)) (found : Option Record) → AllByRecursion (IsSettledAs calls) es → records_read (reply.Found found) ≡ map (λ e. e.0) es → option_and_then (resolved calls) found ≡ slice_get (filter_map (λ (e : Record × Option Record). e.1) es) 0
   got_image [] None all e = refl
   got_image (x ∷ es) None all e = absurd (cc)
   got_image [] (Some r) all e = absurd (cc)

@@ -1,6 +1,6 @@
 -- Each call of a COMMIT keeps what the calls say of where it stands.
 use Rattle.std.proofs.Common.{◌≡◌, ◌<◌, ◌^◌, ◌+◌, ◌⊎◌, inl, inr, ℕ, Bool, true, false, not, cond, List, [], ◌∷◌, ◌++◌, map, length, Option, Some, None, Result, Ok, Err, refl, sym, ap, subst, ◌∙◌}
-use Rattle.std.specs.Prelude.{if◌then◌else◌, filter, nat_lt, slice_get}
+use Rattle.std.specs.Prelude.{if◌then◌else◌, filter, nat_lt, slice_get, IfSome}
 use Rattle.std.specs.List.{AllByRecursion}
 use Rattle.std.specs.Option.{option_and_then, option_map}
 use Rattle.std.specs.Result.{result_ok}
@@ -14,7 +14,7 @@ use Rattle.sdb_types.specs.declared.record.Reply.TheVariants as reply
 use Rattle.sdb_types.specs.declared.record.Request.{Request}
 use Rattle.sdb_types.specs.declared.record.Request.TheVariants as ask
 use Rattle.sdb_types.specs.Contents.{CanAnswer}
-use Rattle.sdb_types.proofs.Basics.{clash, none_some, some_is}
+use Rattle.sdb_types.proofs.Basics.{clash, none_some, some_is, all_each as each_any, append_all as each_append}
 use Rattle.sdb_record.specs.declared.access.Read.{Read}
 use Rattle.sdb_record.specs.declared.access.Scan.{Scan}
 use Rattle.sdb_record.specs.declared.coordinator.Decided.{Decided}
@@ -23,9 +23,10 @@ use Rattle.sdb_record.specs.declared.coordinator.Decision.TheVariants as decisio
 use Rattle.sdb_record.specs.declared.write.Write.{Write}
 use Rattle.sdb_record.specs.Coordinator.{coordinator_key_of, coordinator_row_of, decision_in}
 use Rattle.sdb_record.specs.Meta.{is_moment}
+use Rattle.sdb_record.specs.Rolls.{IsBaseOf, IsWrite}
 use Rattle.sdb_record.proofs.ImageLaws.{row-decision, row-key}
 use Rattle.sdb_record.proofs.TakenLaws.{prepared-key}
-use Rattle.sdb_model.specs.Calls.{Made, decision_learned, decision_said, is_fault, is_of_row, put_by, records_shown, standing_said}
+use Rattle.sdb_model.specs.Calls.{Made, decision_learned, decision_said, is_of_row, key_asked, put_by, records_shown, standing_said}
 use Rattle.sdb_model.specs.Causes.{HasReply, IsDecided, PutsRow}
 use Rattle.sdb_laws.specs.Lawful.{is_data}
 use Rattle.sdb_phases.specs.declared.check.Check.{Check}
@@ -37,10 +38,11 @@ use Rattle.sdb_phases.specs.declared.step.Outcome.TheVariants as outcome
 use Rattle.sdb_phases.specs.Checks.{check_of_read, check_of_scan, checks, difference_in, is_written}
 use Rattle.sdb_phases.specs.Commit.{Stage, Preparing, Checking, Deciding, Forward, Stopping, Back, Over, after_abort, after_check, after_prepare, back, checking, decided, forward, pending, preparing, starved, starved_answer, step}
 use Rattle.sdb_phases.specs.Steps.{decide_next, judged, prepare_step, refused, told, touched_after, validate_step}
-use Rattle.sdb_phases.specs.Work.{Work, abort_of, decide_of, look_of, prepare_of, prepares}
-use Rattle.sdb_turns.proofs.Lists.{each_any, each_append, each_at, each_filter, each_map, each_more}
-use Rattle.sdb_causes.specs.Commits.{EndsBy, HasFailed, HasFaulted, IsFailing, IsUndecided, NoneOfRow, StandsBy}
+use Rattle.sdb_phases.specs.Work.{Work, abort_of, back_of, backs, decide_of, look_of, prepare_of, prepares, stands_prepared, undo}
+use Rattle.sdb_turns.proofs.Lists.{each_at, each_filter, each_map, each_more}
+use Rattle.sdb_causes.specs.Commits.{EndsBy, HasFailed, HasFaulted, IsFailing, IsUndecided, NoneDecides, NoneOfRow, PutsStarved, StandsBy}
 use Rattle.sdb_causes.proofs.Rows.{after_last, after_more, asks_data, asks_row, bad_stays, decided_stays, found_now, given_up_now, given_up_stays, learned_now, none_learned, none_puts, reply_now, reply_stays, shown_is, shows_bad_row}
+use Rattle.sdb_types.specs.Replies.{is_fault}
 
 -- A COMMIT of records of tables, with an id and a moment in range.
 pub record IsOfData (p : Work) : Type 0 where
@@ -48,6 +50,15 @@ pub record IsOfData (p : Work) : Type 0 where
   pub moment : is_moment p.now ≡ true
   pub writes : AllByRecursion (λ w. is_data w.key ≡ true) p.writes
   pub reads : AllByRecursion (λ r. is_data r.key ≡ true) p.reads
+
+-- a call can't put both decisions
+one_decision : (o : Option Decided) → IsDecided decision.Committed o → IsDecided decision.Aborted o → ⊥
+one_decision None a b = absurd a
+one_decision (Some d) a b = let z : decision.Committed ≡ decision.Aborted = sym a ∙ b in absurd (cc)
+
+-- where no call put the row COMMITTED, each that did was out of memory
+starves : (id : TxId) (calls : List Made) → NoneDecides id calls → PutsStarved id calls
+starves id calls none = each_any (λ (m : Made). PutsRow id decision.Committed m → ⊥) (λ (m : Made). PutsRow id decision.Committed m → m.reply ≡ reply.NoMemory) calls (λ m never puts. absurd (never puts)) none
 
 module _ (p : Work) (is : IsOfData p) where
   ---- where no call is for the row
@@ -57,6 +68,17 @@ module _ (p : Work) (is : IsOfData p) where
       each_map (λ q. is_of_row p.id q ≡ false) (prepare_of p.id p.now) p.writes
       (each_any (λ (w : Write). is_data w.key ≡ true) (λ (w : Write). is_of_row p.id (prepare_of p.id p.now w) ≡ false) p.writes
       (λ w h. asks_data p.id (prepare_of p.id p.now w) w.key (ap Some (prepared-key w p.id p.now)) h) is.writes)
+
+  backs_data : AllByRecursion IsWrite p.writes → AllByRecursion (λ q. is_of_row p.id q ≡ false) (backs p)
+  backs_data fine = each_map (λ q. is_of_row p.id q ≡ false) (back_of p.id) p.writes (all p.writes is.writes fine)
+    where
+      key_of : (w : Write) (o : Option Record) → IfSome o (IsBaseOf w.key) → key_asked (undo (stands_prepared p.id w) w.key o) ≡ Some w.key
+      key_of w None h = refl
+      key_of w (Some b) h = ap Some h.0
+
+      all : (ws : List Write) → AllByRecursion (λ w. is_data w.key ≡ true) ws → AllByRecursion IsWrite ws → AllByRecursion (λ w. is_of_row p.id (back_of p.id w) ≡ false) ws
+      all [] h g = tt
+      all (w ∷ ws) h g = (asks_data p.id (back_of p.id w) w.key (key_of w w.base g.0.base) h.0, all ws h.1 g.1)
 
   checks_data : AllByRecursion (λ c. is_of_row p.id c.request ≡ false) (checks p)
   checks_data =
@@ -88,14 +110,21 @@ module _ (p : Work) (is : IsOfData p) where
     }
 
     -- why it ends so stays
-    pub ends_more : (a : Outcome) → EndsBy p.id calls a → EndsBy p.id more a
-    ends_more outcome.Committed h = decided_stays p.id decision.Committed calls m h
-    ends_more (outcome.Conflict key found) h = tt
-    ends_more (outcome.Expired u) h = (h.0, given_up_stays p.id calls m older h.1)
-    ends_more outcome.Faulted h = reply_stays is_fault calls m h
-    ends_more (outcome.Unknown u) h = (h.0, failed_more h.1)
-    ends_more (outcome.BadRecord key) h = (h.0, bad_stays calls m key h.1)
-    ends_more outcome.NoMemory h = tt
+    ends_more : (a : Outcome) → (PutsRow p.id decision.Committed m → ⊥) → EndsBy p.id calls a → EndsBy p.id more a
+    ends_more outcome.Committed other h = decided_stays p.id decision.Committed calls m h
+    ends_more (outcome.Conflict key found) other h = each_more (λ (x : Made). PutsRow p.id decision.Committed x → ⊥) calls m h other
+    ends_more (outcome.Expired u) other h = (h.0, given_up_stays p.id calls m older h.1)
+    ends_more outcome.Faulted other h = reply_stays is_fault calls m h
+    ends_more (outcome.Unknown u) other h = (h.0, failed_more h.1)
+    ends_more (outcome.BadRecord key) other h = (h.0, bad_stays calls m key h.1)
+    ends_more outcome.NoMemory other h = each_more (λ (x : Made). PutsRow p.id decision.Committed x → x.reply ≡ reply.NoMemory) calls m h (λ puts. absurd (other puts))
+
+    -- no call so far is for the row: a conflict, or out of memory
+    moved_now : NoneOfRow p.id more → NoneDecides p.id more
+    moved_now none = none_puts p.id decision.Committed more none
+
+    starved_now : NoneOfRow p.id more → PutsStarved p.id more
+    starved_now none = starves p.id more (moved_now none)
 
     ---- stages without a call
 
@@ -110,34 +139,34 @@ module _ (p : Work) (is : IsOfData p) where
 
     ---- prepares and checks
 
-    refused_is : (i n : ℕ) (o : Option Request) (found : Option Record) → StandsBy p more (after_prepare p i n (refused o found))
-    refused_is i n None found = tt
-    refused_is i n (Some (ask.PutIf rec c)) found = tt
-    refused_is i n (Some (ask.Get key)) found = tt
-    refused_is i n (Some (ask.Scan span)) found = tt
-    refused_is i n (Some (ask.DeleteIf key c)) found = tt
+    refused_is : (i n : ℕ) (o : Option Request) (found : Option Record) → NoneOfRow p.id more → StandsBy p more (after_prepare p i n (refused o found))
+    refused_is i n None found none = starved_now none
+    refused_is i n (Some (ask.PutIf rec c)) found none = moved_now none
+    refused_is i n (Some (ask.Get key)) found none = starved_now none
+    refused_is i n (Some (ask.Scan span)) found none = starved_now none
+    refused_is i n (Some (ask.DeleteIf key c)) found none = starved_now none
 
     prepared_is : (b : Bool) (i n : ℕ) (o : Option Request) (r : Reply) → NoneOfRow p.id more → m.reply ≡ r → StandsBy p more (after_prepare p i n (prepare_step b o r))
     prepared_is true i n o reply.Applied none e = none
     prepared_is false i n o reply.Applied none e = checking_is 0 none
-    prepared_is b i n o (reply.NotMet found) none e = refused_is i n o found
+    prepared_is b i n o (reply.NotMet found) none e = refused_is i n o found none
     prepared_is b i n o reply.Fault none e = reply_now is_fault calls m reply.Fault e refl
-    prepared_is b i n o (reply.Found found) none e = tt
-    prepared_is b i n o (reply.Rows rows) none e = tt
-    prepared_is b i n o reply.NoMemory none e = tt
+    prepared_is b i n o (reply.Found found) none e = starved_now none
+    prepared_is b i n o (reply.Rows rows) none e = starved_now none
+    prepared_is b i n o reply.NoMemory none e = starved_now none
 
     judged_is : (b : Bool) (i : ℕ) (o : Option (Key × Option Record)) → NoneOfRow p.id more → StandsBy p more (after_check p i (judged b o))
     judged_is true i None none = none
     judged_is false i None none = none
-    judged_is b i (Some d) none = tt
+    judged_is b i (Some d) none = moved_now none
 
     checked_is : (b : Bool) (i : ℕ) (o : Option Check) (r : Reply) → NoneOfRow p.id more → m.reply ≡ r → StandsBy p more (after_check p i (validate_step b o r))
     checked_is b i o reply.Fault none e = reply_now is_fault calls m reply.Fault e refl
-    checked_is b i o reply.NoMemory none e = tt
-    checked_is b i None reply.Applied none e = tt
-    checked_is b i None (reply.NotMet found) none e = tt
-    checked_is b i None (reply.Found found) none e = tt
-    checked_is b i None (reply.Rows rows) none e = tt
+    checked_is b i o reply.NoMemory none e = starved_now none
+    checked_is b i None reply.Applied none e = starved_now none
+    checked_is b i None (reply.NotMet found) none e = starved_now none
+    checked_is b i None (reply.Found found) none e = starved_now none
+    checked_is b i None (reply.Rows rows) none e = starved_now none
     checked_is b i (Some c) reply.Applied none e = judged_is b i (difference_in c reply.Applied) none
     checked_is b i (Some c) (reply.NotMet found) none e = judged_is b i (difference_in c (reply.NotMet found)) none
     checked_is b i (Some c) (reply.Found found) none e = judged_is b i (difference_in c (reply.Found found)) none
@@ -224,7 +253,7 @@ module _ (p : Work) (is : IsOfData p) where
     put_is (reply.NotMet (Some row)) none e f can =
         followed_is (decide.Expired p.id) row (put_row decision.Committed e) (unmet_key decision.Committed row e f can) (ap records_shown f) (said_unmet decision.Committed row e f) (none_learned p.id calls none)
         (expires_is row (put_row decision.Committed e) (ap standing_said f) (none_puts p.id decision.Aborted calls none))
-    put_is (reply.NotMet None) none e f can = tt
+    put_is (reply.NotMet None) none e f can = absurd (unmet_none decision.Committed e f can)
     put_is reply.Fault none e f can = record {
       put = m;
       deciding = (Contains-push calls m, puts_it decision.Committed e, f);
@@ -232,15 +261,12 @@ module _ (p : Work) (is : IsOfData p) where
       not_own = each_more (λ (x : Made). PutsRow p.id decision.Aborted x → ⊥) calls m (none_puts p.id decision.Aborted calls none) (λ puts. committed (puts_it decision.Committed e).1 puts.1);
     }
       where
-        both : (o : Option Decided) → IsDecided decision.Committed o → IsDecided decision.Aborted o → ⊥
-        both None a b = absurd a
-        both (Some d) a b = let z : decision.Committed ≡ decision.Aborted = sym a ∙ b in absurd (cc)
-
         committed : IsDecided decision.Committed (option_and_then (λ (row : Record). result_ok (decision_in row)) (put_by m.request)) → IsDecided decision.Aborted (option_and_then (λ (row : Record). result_ok (decision_in row)) (put_by m.request)) → ⊥
-        committed a b = both (option_and_then (λ (row : Record). result_ok (decision_in row)) (put_by m.request)) a b
-    put_is (reply.Found found) none e f can = tt
-    put_is (reply.Rows rows) none e f can = tt
-    put_is reply.NoMemory none e f can = tt
+        committed a b = one_decision (option_and_then (λ (row : Record). result_ok (decision_in row)) (put_by m.request)) a b
+    put_is (reply.Found found) none e f can = absurd (no_answer (decide_of p.id p.now) (reply.Found found) e f (λ k. k) can)
+    put_is (reply.Rows rows) none e f can = absurd (no_answer (decide_of p.id p.now) (reply.Rows rows) e f (λ k. k) can)
+    put_is reply.NoMemory none e f can =
+        each_more (λ (x : Made). PutsRow p.id decision.Committed x → x.reply ≡ reply.NoMemory) calls m (starves p.id calls (none_puts p.id decision.Committed calls none)) (λ puts. f)
 
     look_is : (r : Reply) → IsUndecided p.id calls → m.request ≡ look_of p.id → m.reply ≡ r → CanAnswer m.request m.reply → StandsBy p more (decided p (decide_next p.id phase.Look r))
     look_is (reply.Found None) u e f can = record {
@@ -307,23 +333,29 @@ module _ (p : Work) (is : IsOfData p) where
     decision_asked : (q : Request) → Some q ≡ Some m.request → m.request ≡ q
     decision_asked q e = sym (some_is q m.request e)
 
-    pub stands_on : (s : Stage) → StandsBy p calls s → pending p s ≡ Some m.request → CanAnswer m.request m.reply → StandsBy p more (step p s m.reply)
-    stands_on (Preparing i) h e can = prepared_is (nat_lt (i + 1) (length p.writes)) i (touched_after i m.reply) (slice_get (prepares p) i) m.reply (none_more h (prepare_asked i e)) refl
-    stands_on (Checking i) h e can = checked_is (nat_lt (i + 1) (length (checks p))) i (slice_get (checks p) i) m.reply (none_more h (check_asked i e)) refl
-    stands_on (Deciding phase.Put) h e can = put_is m.reply h (decision_asked (decide_of p.id p.now) e) refl can
-    stands_on (Deciding phase.Look) h e can = look_is m.reply h (decision_asked (look_of p.id) e) refl can
-    stands_on (Deciding phase.Abort) h e can = abort_is m.reply h (decision_asked (abort_of p.id p.now) e) refl can
-    stands_on (Deciding phase.Again) h e can = again_is m.reply h (decision_asked (look_of p.id) e) refl can
-    stands_on (Deciding phase.Ended) h e can = absurd h
-    stands_on (Forward i) h e can = forward_is (i + 1) (ends_more outcome.Committed h)
-    stands_on (Stopping a n) h e can = stop_is a n m.reply (ends_more a h)
-    stands_on (Back a n i) h e can = back_is a n (i + 1) (ends_more a h)
-    stands_on (Over a) h e can = ends_more a h
+    back_asked : AllByRecursion IsWrite p.writes → (i : ℕ) → slice_get (backs p) i ≡ Some m.request → PutsRow p.id decision.Committed m → ⊥
+    back_asked fine i e puts = clash (sym puts.0 ∙ each_at (λ q. is_of_row p.id q ≡ false) (backs p) i m.request (backs_data fine) e)
+
+    abort_asked : m.request ≡ abort_of p.id p.now → PutsRow p.id decision.Committed m → ⊥
+    abort_asked e puts = one_decision (option_and_then (λ (row : Record). result_ok (decision_in row)) (put_by m.request)) puts.1 (puts_it decision.Aborted e).1
+
+    pub stands_on : AllByRecursion IsWrite p.writes → (s : Stage) → StandsBy p calls s → pending p s ≡ Some m.request → CanAnswer m.request m.reply → StandsBy p more (step p s m.reply)
+    stands_on fine (Preparing i) h e can = prepared_is (nat_lt (i + 1) (length p.writes)) i (touched_after i m.reply) (slice_get (prepares p) i) m.reply (none_more h (prepare_asked i e)) refl
+    stands_on fine (Checking i) h e can = checked_is (nat_lt (i + 1) (length (checks p))) i (slice_get (checks p) i) m.reply (none_more h (check_asked i e)) refl
+    stands_on fine (Deciding phase.Put) h e can = put_is m.reply h (decision_asked (decide_of p.id p.now) e) refl can
+    stands_on fine (Deciding phase.Look) h e can = look_is m.reply h (decision_asked (look_of p.id) e) refl can
+    stands_on fine (Deciding phase.Abort) h e can = abort_is m.reply h (decision_asked (abort_of p.id p.now) e) refl can
+    stands_on fine (Deciding phase.Again) h e can = again_is m.reply h (decision_asked (look_of p.id) e) refl can
+    stands_on fine (Deciding phase.Ended) h e can = absurd h
+    stands_on fine (Forward i) h e can = forward_is (i + 1) (decided_stays p.id decision.Committed calls m h)
+    stands_on fine (Stopping a n) h e can = stop_is a n m.reply (ends_more a (abort_asked (decision_asked (abort_of p.id p.now) e)) h)
+    stands_on fine (Back a n i) h e can = back_is a n (i + 1) (ends_more a (back_asked fine i e) h)
+    stands_on fine (Over a) h e can = none_some m.request e
 
 -- want of memory in place of a conflict changes nothing
 starved_ends : (id : TxId) (calls : List Made) (a : Outcome) → EndsBy id calls a → EndsBy id calls (starved_answer a)
 starved_ends id calls outcome.Committed h = h
-starved_ends id calls (outcome.Conflict key found) h = tt
+starved_ends id calls (outcome.Conflict key found) h = starves id calls h
 starved_ends id calls (outcome.Expired u) h = h
 starved_ends id calls outcome.Faulted h = h
 starved_ends id calls (outcome.Unknown u) h = h

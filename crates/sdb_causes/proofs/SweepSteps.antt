@@ -26,7 +26,7 @@ use Rattle.sdb_record.specs.Parts.{before_record}
 use Rattle.sdb_record.specs.Rolls.{is_tombstone}
 use Rattle.sdb_record.proofs.ImageLaws.{checked-state}
 use Rattle.sdb_model.specs.declared.event.Event.{Event}
-use Rattle.sdb_model.specs.Calls.{Made, clock_at, is_applied, is_fault, is_removal}
+use Rattle.sdb_model.specs.Calls.{Made, clock_at, is_removal}
 use Rattle.sdb_model.specs.Causes.{HasReply, removes}
 use Rattle.sdb_phases.specs.declared.step.RecoverPhase.{RecoverPhase}
 use Rattle.sdb_phases.specs.declared.step.RecoverPhase.TheVariants as phase
@@ -43,6 +43,7 @@ use Rattle.sdb_causes.specs.Reads.{IsFoundBy, ResolvesBy}
 use Rattle.sdb_causes.specs.Sweeps.{SweepsBy, SweptBy, VacuumBy}
 use Rattle.sdb_causes.proofs.ReadSteps.{ComesTo, IsDataTable, bad_is, found_more, found_rows, open_is, recovered_is, rows_data, shown_read}
 use Rattle.sdb_causes.proofs.Rows.{reply_now}
+use Rattle.sdb_types.specs.Replies.{is_applied, is_fault}
 
 ---- deletes of committed records
 

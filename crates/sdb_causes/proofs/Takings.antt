@@ -35,7 +35,7 @@ use Rattle.sdb_txn.specs.Txn.{TxnAt, begun, committing, reading, work_of}
 use Rattle.sdb_vacuum.specs.Vacuum.{begun as begins_sweep}
 use Rattle.sdb_client.specs.Client.{AskTold, BeginTold, ClientAt as Client, CommitTaken, GateTold, IsTold, RollbackTold, RowsTold, StatementTold, TableTold, Taking, TextTold, VacuumTold, given_answer, given_left, gives, holding, is_covered, next_id, plan_of, resting, starved, too_many, with_begun, written}
 use Rattle.sdb_linked.specs.Going.{IsInner}
-use Rattle.sdb_snapshot.specs.Seen.{overlay}
+use Rattle.sdb_snapshot.specs.Seen.{overlay, row_seen}
 use Rattle.sdb_steps.specs.Hands.{Hand, IsReady, Takes}
 use Rattle.sdb_steps.proofs.Taken.{other_no_begin, other_no_commit, refused_no_commit}
 use Rattle.sdb_laws.specs.Lawful.{is_data}
@@ -71,6 +71,10 @@ use Rattle.sdb_causes.specs.Rolled.{WaitRolls}
 use Rattle.sdb_causes.proofs.Rolled.{none_found, rolls_end, rolls_on}
 use Rattle.sdb_causes.proofs.CountsCommit.{commit_begins, commit_none}
 use Rattle.sdb_causes.proofs.CountsNotes.{idle_noted, none_called, noted_idle, since_same, since_stay}
+use Rattle.sdb_causes.specs.Shows.{IsShowing, SeesOwn, SeesOwnIn, ShowsBy, GivesOwn}
+use Rattle.sdb_causes.proofs.Shows.{has_before}
+use Rattle.sdb_causes.proofs.ShowsGiven.{next_given}
+use Rattle.sdb_causes.proofs.ShowsTold.{ShowsNext, next_same, sees_then, showing_stays, shows_end, shows_further}
 use Rattle.sdb_model.specs.Calls.{decision_learned}
 use Rattle.sdb_model.specs.Causes.{IsDecided}
 use Rattle.sdb_model.specs.Noted.{Note}
@@ -340,8 +344,8 @@ module _ (q : Taking) (events : List Event) (hands : ℕ → Hand) (ex : AreTied
 
   -- it is answered at once
   at_once : (b : Answer) (d : Client) → is_conflict (Some b) ≡ false → Caused b → Turned (Some b) → d.number ≡ h.number → d.begun ≡ begun_in (k.told ++ one (Some b) ∷ []) → d.begun < 2 ^ 64
-      → StandsOn (E (Some b)) c d.begun (k.told ++ one (Some b) ∷ []) None d.plan d.txn d.vacuum → NotedThen (Some b) d → IfSome d.txn (IsFilled (E (Some b)) c (rest_of (from_begin d.begun (k.told ++ one (Some b) ∷ [])))) → IfSome d.txn (IsFit q.catalog) → So (Some b) d
-  at_once b d agrees caused turned number begun small stands noted filled fits = record {
+      → StandsOn (E (Some b)) c d.begun (k.told ++ one (Some b) ∷ []) None d.plan d.txn d.vacuum → NotedThen (Some b) d → IfSome d.txn (IsFilled (E (Some b)) c (rest_of (from_begin d.begun (k.told ++ one (Some b) ∷ [])))) → IfSome d.txn (IsFit q.catalog) → ShowsNext q.catalog (E (Some b)) c k.told (one (Some b)) b d → So (Some b) d
+  at_once b d agrees caused turned number begun small stands noted filled fits shows = record {
     told = k.told ++ one (Some b) ∷ [];
     waiting = None;
     same = said_more ∙ sym (append-nil (k.told ++ one (Some b) ∷ []));
@@ -364,6 +368,7 @@ module _ (q : Taking) (events : List Event) (hands : ℕ → Hand) (ex : AreTied
     fits = fits;
     stored = still_stored (Some b);
     rolled = rolls_end q.catalog c events (event.Take c text (Some b)) k.told k.waiting h k.answered k.rolled (one (Some b)) d [] (none_yet c events text (Some b)) (λ a e rows. none_found (E (Some b)) (reads_vacuum text));
+    shows = shows_end q.catalog c events (event.Take c text (Some b)) k.told k.answered h k.shows k.counted.paired (one (Some b)) b d refl shows;
   }
     where
       said_now : said c (E (Some b)) ≡ said c events ++ one (Some b) ∷ []
@@ -379,10 +384,14 @@ module _ (q : Taking) (events : List Event) (hands : ℕ → Hand) (ex : AreTied
   abbrev so_noted : List Note
   so_noted = notes_since events c h.begun k.told
 
+  -- what it then sees
+  abbrev SeesThen : Client → Type 0
+  SeesThen d = ShowsBy q.catalog events c k.told h → IfSome d.txn (IsShowing q.catalog (E None) c (rest_of (from_begin d.begun k.told)))
+
   -- it waits
   waits : (d : Client) → Turned None → reads_begin text ≡ false → reads_vacuum text ≡ is_some d.vacuum → is_some h.txn ≡ not (is_some d.vacuum) → d.number ≡ h.number → d.begun ≡ h.begun
-      → StandsOn (E None) c d.begun k.told (Some (one None)) d.plan d.txn d.vacuum → NotedBy so_noted d.txn × WaitCounted q.catalog text so_id so_noted [] d.vacuum d.txn → IfSome d.txn (IsFilled (E None) c (rest_of (from_begin d.begun k.told))) → IfSome d.txn (IsFit q.catalog) → WaitRolls (E None) (reads_vacuum text) [] d.vacuum d.txn → So None d
-  waits d turned no_begin sweeps open_txn number begun stands begins_counted filled fits rolls = record {
+      → StandsOn (E None) c d.begun k.told (Some (one None)) d.plan d.txn d.vacuum → NotedBy so_noted d.txn × WaitCounted q.catalog text so_id so_noted [] d.vacuum d.txn → IfSome d.txn (IsFilled (E None) c (rest_of (from_begin d.begun k.told))) → IfSome d.txn (IsFit q.catalog) → WaitRolls (E None) (reads_vacuum text) [] d.vacuum d.txn → SeesThen d → So None d
+  waits d turned no_begin sweeps open_txn number begun stands begins_counted filled fits rolls sees = record {
     told = k.told;
     waiting = Some (one None);
     same = take_said c events text None ∙ ap (λ ss. ss ++ one None ∷ []) said_told;
@@ -405,6 +414,7 @@ module _ (q : Taking) (events : List Event) (hands : ℕ → Hand) (ex : AreTied
     fits = fits;
     stored = still_stored None;
     rolled = rolls_on q.catalog c events (event.Take c text None) k.told k.waiting h k.answered k.rolled (one None) d [] (none_yet c events text None) rolls;
+    shows = shows_further q.catalog c events (event.Take c text None) k.told k.answered h k.shows d sees;
   }
     where
       none : {b : Answer} → (◌≡◌ {A = Option Answer} None (Some b)) ⊎ (◌≡◌ {A = Option Answer} None (Some answer.NoMemory)) → ⊥
@@ -413,10 +423,10 @@ module _ (q : Taking) (events : List Event) (hands : ℕ → Hand) (ex : AreTied
 
   -- and its transaction is open
   waits_open : (d : Client) → Turned None → reads_begin text ≡ false → reads_vacuum text ≡ false → is_some h.txn ≡ true → d.number ≡ h.number → d.begun ≡ h.begun → d.vacuum ≡ h.vacuum
-      → StandsIn (E None) c d.begun k.told (Some (one None)) d.plan d.txn → NotedBy so_noted d.txn × OpenCounted text so_id so_noted [] d.txn → IfSome d.txn (IsFilled (E None) c (rest_of (from_begin d.begun k.told))) → IfSome d.txn (IsFit q.catalog) → WaitRolls (E None) (reads_vacuum text) [] None d.txn → So None d
-  waits_open d turned no_begin no_vacuum open_txn number begun same stands begins_counted filled fits rolls =
+      → StandsIn (E None) c d.begun k.told (Some (one None)) d.plan d.txn → NotedBy so_noted d.txn × OpenCounted text so_id so_noted [] d.txn → IfSome d.txn (IsFilled (E None) c (rest_of (from_begin d.begun k.told))) → IfSome d.txn (IsFit q.catalog) → WaitRolls (E None) (reads_vacuum text) [] None d.txn → SeesThen d → So None d
+  waits_open d turned no_begin no_vacuum open_txn number begun same stands begins_counted filled fits rolls sees =
       let free : d.vacuum ≡ None = same ∙ ready.idle.free in
-      waits d turned no_begin (no_vacuum ∙ sym (ap is_some free)) (open_txn ∙ sym (ap (λ o. not (is_some o)) free)) number begun (subst (StandsOn (E None) c d.begun k.told (Some (one None)) d.plan d.txn) (sym free) stands) (begins_counted.0, subst (λ v. WaitCounted q.catalog text so_id so_noted [] v d.txn) (sym free) begins_counted.1) filled fits (subst (λ v. WaitRolls (E None) (reads_vacuum text) [] v d.txn) (sym free) rolls)
+      waits d turned no_begin (no_vacuum ∙ sym (ap is_some free)) (open_txn ∙ sym (ap (λ o. not (is_some o)) free)) number begun (subst (StandsOn (E None) c d.begun k.told (Some (one None)) d.plan d.txn) (sym free) stands) (begins_counted.0, subst (λ v. WaitCounted q.catalog text so_id so_noted [] v d.txn) (sym free) begins_counted.1) filled fits (subst (λ v. WaitRolls (E None) (reads_vacuum text) [] v d.txn) (sym free) rolls) sees
 
   ---- where it stands then
 
@@ -465,6 +475,15 @@ module _ (q : Taking) (events : List Event) (hands : ℕ → Hand) (ex : AreTied
   fit_open : (t : TxnAt) → h.txn ≡ Some t → SeesFit q.catalog t.seen
   fit_open t e = subst (SeesFitIn q.catalog t.seen) (idle_of t e) (subst (λ (o : Option TxnAt). IfSome o (IsFit q.catalog)) e k.fits)
 
+  -- what it sees it has
+  sees_open : (t : TxnAt) (e : h.txn ≡ Some t) → AllTellOne events c k.told → SeesOwn q.catalog events c (stands_open t e).1.body t.seen
+  sees_open t e one_each =
+      let s : SeesOwnIn q.catalog events c (rest_of (from_begin h.begun k.told)) t.seen t.doing = subst (λ (o : Option TxnAt). IfSome o (IsShowing q.catalog events c (rest_of (from_begin h.begun k.told)))) e (k.shows one_each).sees_own in
+      subst (λ r. SeesOwnIn q.catalog events c (rest_of r) t.seen doing.Idle) (stands_open t e).1.since (subst (SeesOwnIn q.catalog events c (rest_of (from_begin h.begun k.told)) t.seen) (idle_of t e) s)
+
+  sees_reading : (t : TxnAt) → h.txn ≡ Some t → ShowsBy q.catalog events c k.told h → SeesOwn q.catalog (E None) c (rest_of (from_begin h.begun k.told)) t.seen
+  sees_reading t e x = subst (SeesOwnIn q.catalog (E None) c (rest_of (from_begin h.begun k.told)) t.seen) (idle_of t e) (showing_stays q.catalog events (event.Take c text None) c h.begun k.told (Some t) k.answered (subst (λ (o : Option TxnAt). IfSome o (IsShowing q.catalog events c (rest_of (from_begin h.begun k.told)))) e x.sees_own))
+
   -- what it said then
   said_then : (b : Answer) → said c (E (Some b)) ≡ k.told ++ one (Some b) ∷ []
   said_then b = take_said c events text (Some b) ∙ ap (λ ss. ss ++ one (Some b) ∷ []) said_told
@@ -473,8 +492,8 @@ module _ (q : Taking) (events : List Event) (hands : ℕ → Hand) (ex : AreTied
   stands_closed e = (subst (StandsIn events c h.begun k.told k.waiting h.plan) e stands_free).1
 
   -- as it was
-  same : (b : Answer) → IsMiddle b → (is_some h.txn ≡ true → reads_commit text ≡ false) → Caused b → Turned (Some b) → So (Some b) h
-  same b m no_commit caused turned = at_once b h m.agrees caused turned refl (begun_plain b m.undone) k.small (on_free (Some b) h.begun (k.told ++ one (Some b) ∷ []) None h.plan h.txn (by h.txn refl)) (subst (λ ns. NotedBy ns h.txn) (sym (noted_at_once (Some b))) k.counted.noted) (filled_by h.txn refl) k.fits
+  same : (b : Answer) → IsMiddle b → (is_some h.txn ≡ true → reads_commit text ≡ false) → (is_some h.txn ≡ true → changes_nothing b ≡ true) → Caused b → Turned (Some b) → So (Some b) h
+  same b m no_commit idles caused turned = at_once b h m.agrees caused turned refl (begun_plain b m.undone) k.small (on_free (Some b) h.begun (k.told ++ one (Some b) ∷ []) None h.plan h.txn (by h.txn refl)) (subst (λ ns. NotedBy ns h.txn) (sym (noted_at_once (Some b))) k.counted.noted) (filled_by h.txn refl) k.fits (shows_by h.txn refl)
     where
       by : (o : Option TxnAt) → h.txn ≡ o → StandsIn (E (Some b)) c h.begun (k.told ++ one (Some b) ∷ []) None h.plan o
       by None e = stands_none b h.plan m.undone (stands_closed e)
@@ -486,15 +505,21 @@ module _ (q : Taking) (events : List Event) (hands : ℕ → Hand) (ex : AreTied
           let o = (stands_open t e).1 in
           filled_idle (E (Some b)) c h.begun k.told (one (Some b)) o.begin o.body t o.since (idle_of t e) (filled_more events (event.Take c text (Some b)) c o.body (one (Some b)) t.seen (filled_open t e))
 
-  as_told : (b : Answer) (result : Option Answer) (d : Client) → IsMiddle b → (is_some h.txn ≡ true → reads_commit text ≡ false) → IsTold h b result d → Caused b → Turned result → So result d
-  as_told b result d m no_commit x caused turned = as_so (Some b) result h d x.answer x.same (same b m no_commit caused (subst Turned x.answer turned))
+      shows_by : (o : Option TxnAt) → h.txn ≡ o → AllTellOne (E (Some b)) c (k.told ++ one (Some b) ∷ []) → (open_after k.told ≡ true → GivesOwn q.catalog (E (Some b)) c (rest_of (from_begin (begun_in k.told) k.told)) (one (Some b)) b) × IfSome o (IsShowing q.catalog (E (Some b)) c (rest_of (from_begin h.begun (k.told ++ one (Some b) ∷ []))))
+      shows_by None e one_each = ((λ opens. clash (sym opens ∙ stands_closed e)), tt)
+      shows_by (Some t) e one_each =
+          let o = (stands_open t e).1 in
+          next_same q.catalog c events (event.Take c text (Some b)) k.told k.answered h.begun o.begin o.body o.since t.seen (sees_open t e) (one (Some b)) b t refl (idles (ap is_some e)) (idle_of t e) refl one_each
+
+  as_told : (b : Answer) (result : Option Answer) (d : Client) → IsMiddle b → (is_some h.txn ≡ true → reads_commit text ≡ false) → (is_some h.txn ≡ true → changes_nothing b ≡ true) → IsTold h b result d → Caused b → Turned result → So result d
+  as_told b result d m no_commit idles x caused turned = as_so (Some b) result h d x.answer x.same (same b m no_commit idles caused (subst Turned x.answer turned))
 
   refused_middle : (r : Refusal) → IsMiddle (answer.Refused r)
   refused_middle r = record { undone = refl; agrees = refl }
 
   -- it is refused
   as_refused : (r : Refusal) (result : Option Answer) (d : Client) → (is_some h.txn ≡ true → reads_commit text ≡ false) → IsTold h (answer.Refused r) result d → IsTurnedAway q.catalog events c text (answer.Refused r) → Turned result → So result d
-  as_refused r result d no_commit x why turned = as_told (answer.Refused r) result d (refused_middle r) no_commit x (λ e. inl (by_turning (answer.Refused r) why)) turned
+  as_refused r result d no_commit x why turned = as_told (answer.Refused r) result d (refused_middle r) no_commit (λ z. refl) x (λ e. inl (by_turning (answer.Refused r) why)) turned
 
   outside : (st : Statement) → Reads text st → NeedsTransaction st → h.txn ≡ None → IsTurnedAway q.catalog events c text (refused 5)
   outside st reads needs e = inr (inr (inl (st, reads, needs, opened c ∙ ap is_some e, refl)))
@@ -502,9 +527,9 @@ module _ (q : Taking) (events : List Event) (hands : ℕ → Hand) (ex : AreTied
   ---- each statement
 
   -- ended with its transaction
-  at_end : (b : Answer) → is_conflict (Some b) ≡ false → Caused b → Turned (Some b) → begins (one (Some b)) ≡ false → ends (one (Some b)) ≡ true → So (Some b) (resting h)
-  at_end b agrees caused turned no_begin over =
-      at_once b (resting h) agrees caused turned refl (k.begun ∙ sym (begun_same k.told (one (Some b)) no_begin)) k.small (on_free (Some b) h.begun (k.told ++ one (Some b) ∷ []) None None None (refl, after_more k.told (one (Some b)) ∙ after_end (open_after k.told) (one (Some b)) b no_begin over refl)) tt tt tt
+  at_end : (b : Answer) → is_conflict (Some b) ≡ false → Caused b → Turned (Some b) → begins (one (Some b)) ≡ false → ends (one (Some b)) ≡ true → ((body : List Said) → GivesOwn q.catalog (E (Some b)) c body (one (Some b)) b) → So (Some b) (resting h)
+  at_end b agrees caused turned no_begin over tells =
+      at_once b (resting h) agrees caused turned refl (k.begun ∙ sym (begun_same k.told (one (Some b)) no_begin)) k.small (on_free (Some b) h.begun (k.told ++ one (Some b) ∷ []) None None None (refl, after_more k.told (one (Some b)) ∙ after_end (open_after k.told) (one (Some b)) b no_begin over refl)) tt tt tt (λ one_each. ((λ opens. tells (rest_of (from_begin (begun_in k.told) k.told))), tt))
 
   begin_case : (o : Option TxnAt) (result : Option Answer) (d : Client) → h.txn ≡ o → Reads text statement.Begin → d.begun < 2 ^ 64 → Turned result → BeginTold q.gate h o result d → So result d
   begin_case (Some t) result d e reads few turned x = as_refused (record { kind = 4; place = 0 }) result d (λ z. other_no_commit text statement.Begin reads (λ y. cc)) x (inr (inl (reads, opened c ∙ ap is_some e, refl))) turned
@@ -529,12 +554,12 @@ module _ (q : Taking) (events : List Event) (hands : ℕ → Hand) (ex : AreTied
       by : (b : Bool) → q.gate.vacuum_runs ≡ b → GateTold b h result d → So result d
       by true f y =
           let other : SomeSweeps hands c = gate.sweeps f in
-          as_told answer.Vacuuming result d (record { undone = refl; agrees = refl }) (λ z. other_no_commit text statement.Begin reads (λ w. cc)) y (λ z. by_turning answer.Vacuuming (inr (inr (inr (inr (inl (reads, opened c ∙ ap is_some e, (other.0, ex.stopped other.0 ∙ other.2, sweeping other.0 ∙ other.3), refl))))))) turned
+          as_told answer.Vacuuming result d (record { undone = refl; agrees = refl }) (λ z. other_no_commit text statement.Begin reads (λ w. cc)) (λ z. clash (sym z ∙ ap is_some e)) y (λ z. by_turning answer.Vacuuming (inr (inr (inr (inr (inl (reads, opened c ∙ ap is_some e, (other.0, ex.stopped other.0 ∙ other.2, sweeping other.0 ∙ other.3), refl))))))) turned
       by false f y =
           as_so (Some answer.Done) result (with_begun h) d y.0 y.1
           (at_once answer.Done (with_begun h) refl (λ z. inl reads) (subst Turned y.0 turned) refl (ap (λ n. n + 1) k.begun ∙ sym (begun_more k.told (one (Some answer.Done)) begun_now)) (subst (λ (x : Client). x.begun < 2 ^ 64) y.1 few)
           (after_more k.told (one (Some answer.Done)) ∙ after_begin (open_after k.told) (one (Some answer.Done)) begun_now, opens, refl, λ one_each. record { reads = tt; scans = tt }) (subst (λ ss. NotesAre (notes_told (E (Some answer.Done)) c (rest_of ss)) [] []) (sym opens.since) (record { reads = refl; scans = refl }))
-          (filled_nothing (counted_told (rest_of (from_begin (h.begun + 1) (k.told ++ one (Some answer.Done) ∷ [])))) (found_told (E (Some answer.Done)) c (rest_of (from_begin (h.begun + 1) (k.told ++ one (Some answer.Done) ∷ []))))) (fit_nothing q.catalog))
+          (filled_nothing (counted_told (rest_of (from_begin (h.begun + 1) (k.told ++ one (Some answer.Done) ∷ [])))) (found_told (E (Some answer.Done)) c (rest_of (from_begin (h.begun + 1) (k.told ++ one (Some answer.Done) ∷ []))))) (fit_nothing q.catalog) (λ one_each. ((λ was. tt), (λ key noted. clash (sym noted)))))
 
   commit_case : (o : Option TxnAt) (result : Option Answer) (d : Client) → h.txn ≡ o → Reads text statement.Commit → Turned result → CommitTaken q.now h o result d → So result d
   commit_case None result d e reads turned x = as_refused (record { kind = 5; place = 0 }) result d (λ z. clash (sym z ∙ ap is_some e)) x (outside statement.Commit reads ((λ y. cc), (λ y. cc)) e) turned
@@ -548,14 +573,14 @@ module _ (q : Taking) (events : List Event) (hands : ℕ → Hand) (ex : AreTied
         λ one_each.
             let seen : SeenBy (notes_told (E None) c s.1.body) t.seen = noted_still q.catalog events (event.Take c text None) c h.begun k.told t s.1 k.answered t.seen s.2 one_each in
             (work_by (notes_told (E None) c s.1.body) t q.now seen (sound t e), subst (λ ms. ChecksBy (notes_told (E None) c s.1.body) (work_of t q.now) ms (preparing (work_of t q.now) 0)) (sym (none_yet c events text None)) (begins_checked (notes_told (E None) c s.1.body) (work_of t q.now))),
-      ) (noted_open t e, ((commit_read text).1 reads, s.1.id, (sound t e).kept.fine, commit_begins so_noted (work_of t q.now))) tt tt tt)
+      ) (noted_open t e, ((commit_read text).1 reads, s.1.id, (sound t e).kept.fine, commit_begins so_noted (work_of t q.now))) tt tt tt (λ z. tt))
 
   rollback_case : (o : Option TxnAt) (result : Option Answer) (d : Client) → h.txn ≡ o → Reads text statement.Rollback → Turned result → RollbackTold h o result d → So result d
   rollback_case None result d e reads turned x = as_refused (record { kind = 5; place = 0 }) result d (λ z. clash (sym z ∙ ap is_some e)) x (outside statement.Rollback reads ((λ y. cc), (λ y. cc)) e) turned
   rollback_case (Some t) result d e reads turned x =
       as_so (Some answer.Done) result (resting h) d x.0 x.1
       (at_end answer.Done refl (λ z. inr reads) (subst Turned x.0 turned) (ap (λ b. b && true) (other_no_begin text statement.Rollback reads (λ y. cc)))
-      (ap (λ b. b || false || (reads_rollback text && true)) (other_no_commit text statement.Rollback reads (λ y. cc)) ∙ ap (λ b. false || false || (b && true)) ((rollback_read text).1 reads)))
+      (ap (λ b. b || false || (reads_rollback text && true)) (other_no_commit text statement.Rollback reads (λ y. cc)) ∙ ap (λ b. false || false || (b && true)) ((rollback_read text).1 reads)) (λ body. tt))
 
   -- no transaction is open
   none_open : (is_some h.txn || q.gate.open_elsewhere) ≡ false → is_some h.txn ≡ false
@@ -571,13 +596,13 @@ module _ (q : Taking) (events : List Event) (hands : ℕ → Hand) (ex : AreTied
 
   vacuum_case : (b : Bool) (catalog : List Table) (result : Option Answer) (d : Client) → (is_some h.txn || q.gate.open_elsewhere) ≡ b → Reads text statement.Vacuum → Turned result → VacuumTold b catalog h result d → catalog ≡ q.catalog → So result d
   vacuum_case true catalog result d e reads turned x of_it =
-      as_told answer.OpenTransactions result d (record { undone = refl; agrees = refl }) (λ z. other_no_commit text statement.Vacuum reads (λ y. cc)) x (λ z. by_turning answer.OpenTransactions (inr (inr (inr (inr (inr (reads, some (is_some h.txn) refl e, refl))))))) turned
+      as_told answer.OpenTransactions result d (record { undone = refl; agrees = refl }) (λ z. other_no_commit text statement.Vacuum reads (λ y. cc)) (λ z. refl) x (λ z. by_turning answer.OpenTransactions (inr (inr (inr (inr (inr (reads, some (is_some h.txn) refl e, refl))))))) turned
     where
       some : (b : Bool) → is_some h.txn ≡ b → (b || q.gate.open_elsewhere) ≡ true → SomeClient is_open events
       some true f z = (c, goes_on, opened c ∙ f)
       some false f z = let y = gate.some z in (y.0, ex.stopped y.0 ∙ y.2, opened y.0 ∙ y.3)
   vacuum_case false [] result d e reads turned x of_it =
-      as_told (answer.Count 0) result d (record { undone = refl; agrees = refl }) (λ z. other_no_commit text statement.Vacuum reads (λ y. cc)) x
+      as_told (answer.Count 0) result d (record { undone = refl; agrees = refl }) (λ z. other_no_commit text statement.Vacuum reads (λ y. cc)) (λ z. clash (sym z ∙ none_open e)) x
       (λ z. (statement.Vacuum, reads, sym (ap (count_by removes) (none_yet c events text (Some (answer.Count 0)))))) turned
   vacuum_case false (t ∷ ts) result d e reads turned x of_it =
       let shut : h.txn ≡ None = no_txn h.txn (none_open e) in
@@ -586,7 +611,7 @@ module _ (q : Taking) (events : List Event) (hands : ℕ → Hand) (ex : AreTied
         shut,
         stands_closed shut,
         (sym (ap (count_by removes) (none_yet c events text None)), tt),
-      ) (k.counted.noted, subst (λ (catalog : List Table). SweepCounted catalog [] (begins_sweep (t ∷ ts))) of_it (sweep_begins t ts)) (subst (λ (o : Option TxnAt). IfSome o (IsFilled (E None) c (rest_of (from_begin h.begun k.told)))) (sym shut) tt) (subst (λ (o : Option TxnAt). IfSome o (IsFit q.catalog)) (sym shut) tt) (none_found (E None) (reads_vacuum text)))
+      ) (k.counted.noted, subst (λ (catalog : List Table). SweepCounted catalog [] (begins_sweep (t ∷ ts))) of_it (sweep_begins t ts)) (subst (λ (o : Option TxnAt). IfSome o (IsFilled (E None) c (rest_of (from_begin h.begun k.told)))) (sym shut) tt) (subst (λ (o : Option TxnAt). IfSome o (IsFit q.catalog)) (sym shut) tt) (none_found (E None) (reads_vacuum text)) (λ z. subst (λ (o : Option TxnAt). IfSome o (IsShowing q.catalog (E None) c (rest_of (from_begin h.begun k.told)))) (sym shut) tt))
 
   abbrev given_now : Table → Statement → TxnAt → Answer
   given_now table st t = given_answer t (gives (plan_of table st) (access_of table st) t)
@@ -634,12 +659,18 @@ module _ (q : Taking) (events : List Event) (hands : ℕ → Hand) (ex : AreTied
           subst (SeesFitIn q.catalog (given_left t t (gives (plan_of table st) (access_of table st) t)).seen) (sym (left_idle t t (gives (plan_of table st) (access_of table st) t) idle idle))
           (given_fits q.catalog (plan_of table st) (access_of table st) listed (own_table table st) is named refl taken (literals_read text st reads) refl t t (fit_open t e) (λ n. fit_open t e))
 
+      shows_known : ShowsNext q.catalog (E (Some (given_now table st t))) c k.told (one (Some (given_now table st t))) (given_now table st t) (holding h (given_left t t (gives (plan_of table st) (access_of table st) t)))
+      shows_known one_each =
+          let before : SeesOwn q.catalog (E (Some (given_now table st t))) c s.1.body t.seen = sees_then q.catalog c events (event.Take c text (Some (given_now table st t))) k.told k.answered h.begun s.1.begin s.1.body s.1.since t.seen (sees_open t e) (one (Some (given_now table st t))) one_each in
+          next_given q.catalog (E (Some (given_now table st t))) c h.begun k.told (one (Some (given_now table st t))) s.1.begin s.1.body (plan_of table st) (access_of table st) t t s.1.since k.begun is reads named refl refl refl (left_idle t t (gives (plan_of table st) (access_of table st) t) idle idle) (sound t e).kept.read (λ n. fit_open t e) before
+          (λ told key noted. has_before q.catalog (E (Some (given_now table st t))) c s.1.body (one (Some (given_now table st t))) key (row_seen t.seen.notes t.seen.writes key) (before key noted))
+
       known : Turned (Some (given_answer t (gives (plan_of table st) (access_of table st) t))) → So (Some (given_answer t (gives (plan_of table st) (access_of table st) t))) (holding h (given_left t t (gives (plan_of table st) (access_of table st) t)))
       known turned =
           let m = given_middle (plan_of table st) (overlay (access_of table st) t.seen) t in
           at_once (given_answer t (gives (plan_of table st) (access_of table st) t)) (holding h (given_left t t (gives (plan_of table st) (access_of table st) t))) m.agrees (given_caused q.catalog (E (Some (given_answer t (gives (plan_of table st) (access_of table st) t)))) c (one (Some (given_answer t (gives (plan_of table st) (access_of table st) t)))) (plan_of table st) (overlay (access_of table st) t.seen) t reads named refl open_before (λ key f z. absurd (none_unfits q.catalog (plan_of table st) (access_of table st) listed (own_table table st) t.seen key (fit_open t e) f)) passes) turned refl (begun_plain (given_answer t (gives (plan_of table st) (access_of table st) t)) m.undone) k.small
           (on_free (Some (given_answer t (gives (plan_of table st) (access_of table st) t))) h.begun (k.told ++ one (Some (given_answer t (gives (plan_of table st) (access_of table st) t))) ∷ []) None None (Some (given_left t t (gives (plan_of table st) (access_of table st) t))) (stands_held (given_answer t (gives (plan_of table st) (access_of table st) t)) None t (given_left t t (gives (plan_of table st) (access_of table st) t)) m inner.commit (left_id t t (gives (plan_of table st) (access_of table st) t) refl) (left_idle t t (gives (plan_of table st) (access_of table st) t) idle idle) s.0 s.1 s.2 (left_reads t t (gives (plan_of table st) (access_of table st) t) refl refl).0 (left_reads t t (gives (plan_of table st) (access_of table st) t) refl refl).1))
-          (known_noted (given_left t t (gives (plan_of table st) (access_of table st) t)) (left_reads t t (gives (plan_of table st) (access_of table st) t) refl refl) (left_idle t t (gives (plan_of table st) (access_of table st) t) idle idle)) left_filled left_fits
+          (known_noted (given_left t t (gives (plan_of table st) (access_of table st) t)) (left_reads t t (gives (plan_of table st) (access_of table st) t) refl refl) (left_idle t t (gives (plan_of table st) (access_of table st) t) idle idle)) left_filled left_fits shows_known
 
       unknown : Turned None → So None (record h { txn = Some (reading t (access_of table st)); plan = Some (plan_of table st) })
       unknown turned =
@@ -648,7 +679,7 @@ module _ (q : Taking) (events : List Event) (hands : ℕ → Hand) (ex : AreTied
             record { begin = s.1.begin; body = s.1.body; since = s.1.since; goes_on = s.1.goes_on; id = s.1.id; client = s.1.client },
             record { text = reads; inner = inner; stage = tt; shows = none_yet c events text None },
             noted_still q.catalog events (event.Take c text None) c h.begun k.told t s.1 k.answered t.seen s.2,
-          ) (noted_open t e, (inner.commit, refl)) (filled_reading t e) (fit_open t e) (none_found (E None) (reads_vacuum text))
+          ) (noted_open t e, (inner.commit, refl)) (filled_reading t e) (fit_open t e) (none_found (E None) (reads_vacuum text)) (sees_reading t e)
 
   table_case : (st : Statement) (t : TxnAt) (result : Option Answer) (d : Client) → h.txn ≡ Some t → Reads text st → IsInner text → reads_vacuum text ≡ false → is_some (table_of st) ≡ true → Turned result → TableTold q st h t result d → So result d
   table_case st t result d e reads inner no_sweep on turned x = by_refusal (refusal_of q.catalog st) refl
@@ -685,13 +716,13 @@ module _ (q : Taking) (events : List Event) (hands : ℕ → Hand) (ex : AreTied
 
   -- out of memory
   so_starved : So (Some answer.NoMemory) (starved text h)
-  so_starved = by_test (reads_commit text) (λ t. rw t (commits t)) (λ f. rw f (same answer.NoMemory memory_middle (λ z. f) (λ z. tt) (λ b z. inr refl)))
+  so_starved = by_test (reads_commit text) (λ t. rw t (commits t)) (λ f. rw f (same answer.NoMemory memory_middle (λ z. f) (λ z. refl) (λ z. tt) (λ b z. inr refl)))
     where
       no_begin : begins (one (Some answer.NoMemory)) ≡ false
       no_begin = undone_begins (one (Some answer.NoMemory)) answer.NoMemory refl refl
 
       commits : reads_commit text ≡ true → So (Some answer.NoMemory) (resting h)
-      commits t = at_end answer.NoMemory refl (λ z. tt) (λ b z. inr refl) no_begin (ap (λ b. b || false || (reads_rollback text && false)) t)
+      commits t = at_end answer.NoMemory refl (λ z. tt) (λ b z. inr refl) no_begin (ap (λ b. b || false || (reads_rollback text && false)) t) (λ body. tt)
 
   pub takes_known : (result : Option Answer) (d : Client) → d.begun < 2 ^ 64 → Takes q text h result d → So result d
   takes_known result d few x =

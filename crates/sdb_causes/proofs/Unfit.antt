@@ -18,7 +18,7 @@ use Rattle.sdb_types.specs.declared.record.Reply.TheVariants as reply
 use Rattle.sdb_types.specs.Contents.{CanAnswer, in_span, rise}
 use Rattle.sdb_types.specs.Exact.{equal_of}
 use Rattle.sdb_types.specs.Order.{key_cmp}
-use Rattle.sdb_types.proofs.Basics.{clash, none_some, some_is, truth}
+use Rattle.sdb_types.proofs.Basics.{clash, none_some, some_is, truth, or_else}
 use Rattle.sdb_types.proofs.KeyOrder.{key_exact, key_total}
 use Rattle.sdb_keyed.specs.Entries.{same_key, value_at}
 use Rattle.sdb_record.specs.declared.access.Access.{Access}
@@ -52,7 +52,7 @@ use Rattle.sdb_snapshot.specs.Rows.{tables_of_notes}
 use Rattle.sdb_snapshot.specs.Seen.{Seen, nothing, overlay, row_seen, row_with, tables_seen, with_written}
 use Rattle.sdb_snapshot.specs.Written.{write_at}
 use Rattle.sdb_snapshot.proofs.Differences.{noted_images}
-use Rattle.sdb_snapshot.proofs.Keys.{or_else, same_exact, value_last}
+use Rattle.sdb_snapshot.proofs.Keys.{same_exact, value_last}
 use Rattle.sdb_snapshot.proofs.Shown.{get_seen, own_is}
 use Rattle.sdb_txn.specs.Txn.{TxnAt}
 use Rattle.sdb_client.specs.Client.{given_answer, given_left, gives, noting, written}
@@ -104,7 +104,7 @@ at_entry P (e ∷ es) q cs all found =
     (λ t k. at_entry P es q cs all.1 k)
     found
 
-all_true : (p : Image → Bool) (rs : List Image) → AllByRecursion (λ r. p r ≡ true) rs → list_all p rs ≡ true
+pub all_true : (p : Image → Bool) (rs : List Image) → AllByRecursion (λ r. p r ≡ true) rs → list_all p rs ≡ true
 all_true p [] all = refl
 all_true p (r ∷ rs) all = ap (λ b. b && list_all p rs) all.0 ∙ all_true p rs all.1
 
@@ -113,7 +113,7 @@ true_all p [] h = tt
 true_all p (r ∷ rs) h = let parts = and_parts (p r) (list_all p rs) h in (parts.0, true_all p rs parts.1)
 
 -- each row of tables is one that they have at its key
-rows_there : (P : Key → List Pair → Type 0) (d : Tables) → ((q : Key) (cs : List Pair) → get d q ≡ Some cs → P q cs) → AllByRecursion (λ (r : Image). P r.key r.columns) (all_rows d)
+pub rows_there : (P : Key → List Pair → Type 0) (d : Tables) → ((q : Key) (cs : List Pair) → get d q ≡ Some cs → P q cs) → AllByRecursion (λ (r : Image). P r.key r.columns) (all_rows d)
 rows_there P d each = found_all P (entries d) (truth _ (entries_sorted d)) (λ q cs found. each q cs (get-entries d q ∙ found))
 
 -- what a transaction sees fits where its tables do
@@ -129,19 +129,19 @@ fit_nothing catalog q cs e = none_some cs e
 ---- what a read adds
 
 -- what it found at a key
-abbrev found_new : Access → List Record → Key → Option (Option Record)
+abbrev pub found_new : Access → List Record → Key → Option (Option Record)
 found_new (access.Get k) images q = cond (same_key q k) (Some (slice_get images 0)) None
 found_new (access.Scan span) images q = option_map Some (record_in images q)
 
-noted_now : (t : TxnAt) (a : Access) (images : List Record) (q : Key) → value_at (noting t a images).seen.notes q ≡ or_else (value_at t.seen.notes q) (found_new a images q)
+pub noted_now : (t : TxnAt) (a : Access) (images : List Record) (q : Key) → value_at (noting t a images).seen.notes q ≡ or_else (value_at t.seen.notes q) (found_new a images q)
 noted_now t (access.Get k) images q = value_last t.seen.notes k (slice_get images 0) q
 noted_now t (access.Scan span) images q = noted_images t.seen.notes images q
 
-same_writes : (t : TxnAt) (a : Access) (images : List Record) → (noting t a images).seen.writes ≡ t.seen.writes
+pub same_writes : (t : TxnAt) (a : Access) (images : List Record) → (noting t a images).seen.writes ≡ t.seen.writes
 same_writes t (access.Get k) images = refl
 same_writes t (access.Scan span) images = refl
 
-abbrev at_note : Option (Option Record) → Option Record
+abbrev pub at_note : Option (Option Record) → Option Record
 at_note o = option_and_then (λ (x : Option Record). x) o
 
 -- a row that is seen then was seen before, or is that of an image
@@ -244,7 +244,7 @@ module _ (calls : List Made) (a : Access) (images : List Record) (h : HasRead (r
   read_by : (q : Key) (b : Record) (s : IsStepAt h.steps b) → s.step.0.key ≡ q → IsReadAt calls h.first a q b
   read_by q b s e = record { found = s.step.0; settled = step_settled b s; shown = step_shown b s; key = e; inside = subst (λ (k : Key). in_access a k ≡ true) e (step_inside b s) }
 
-new_read : (calls : List Made) (a : Access) (images : List Record) (h : HasRead (request_of a) calls images []) (q : Key) (b : Record) → found_new a images q ≡ Some (Some b) → IsReadAt calls h.first a q b
+pub new_read : (calls : List Made) (a : Access) (images : List Record) (h : HasRead (request_of a) calls images []) (q : Key) (b : Record) → found_new a images q ≡ Some (Some b) → IsReadAt calls h.first a q b
 new_read calls (access.Get k) images h q b e = by (same_key q k) refl e
   where
     by : (t : Bool) → same_key q k ≡ t → cond t (Some (slice_get images 0)) None ≡ Some (Some b) → IsReadAt calls h.first (access.Get k) q b
@@ -277,7 +277,7 @@ none_unfit t p (r ∷ rs) h = by (p r) refl (λ k. none_unfit t p rs k) h
     by true e ih k = here (fits_table t r.key r.columns) refl ih k
     by false e ih k = ((λ z. clash (sym z ∙ e)), ih k)
 
-find_true : (p : Image → Bool) (xs : List Image) (x : Image) → find p xs ≡ Some x → p x ≡ true
+pub find_true : (p : Image → Bool) (xs : List Image) (x : Image) → find p xs ≡ Some x → p x ≡ true
 find_true p [] x e = none_some x e
 find_true p (y ∷ xs) x e = by (p y) refl (λ k. find_true p xs x k) e
   where
@@ -314,7 +314,7 @@ unfit_row t a s key e = by (find (is_unfit t) (overlay a s)) refl e
 ---- a statement's plan on its access
 
 module _ (catalog : List Table) (p : Planned) (a : Access) (listed : find_table catalog p.table.name ≡ Some p.table) (own : access_table a ≡ p.table.name) where
-  table_at : (q : Key) → in_access a q ≡ true → find_table catalog q.table ≡ Some p.table
+  pub table_at : (q : Key) → in_access a q ≡ true → find_table catalog q.table ≡ Some p.table
   table_at q inside = ap (find_table catalog) (inside_access a q inside ∙ own) ∙ listed
 
   row_at : (q : Key) (cs : List Pair) → in_access a q ≡ true → row_fits catalog q cs ≡ fits_table p.table q cs

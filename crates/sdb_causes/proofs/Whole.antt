@@ -27,6 +27,7 @@ use Rattle.sdb_model.specs.Exec.{Tables, find_table}
 use Rattle.sdb_model.specs.Follows.{has_stopped, stops}
 use Rattle.sdb_model.specs.Transactions.{Said, ends, from_begin, id_of, ordinal_of, rest_of, said, statements_of, through_end, with_answer}
 use Rattle.sdb_client.specs.Client.{ClientAt as Client, ReplyTold, Taking, nothing_done}
+use Rattle.sdb_snapshot.specs.Held.{WereRead}
 use Rattle.sdb_laws.specs.Lawful.{is_data}
 use Rattle.sdb_steps.specs.About.{IsOfTables}
 use Rattle.sdb_steps.specs.Hands.{Hand, IsCalled, IsReady, Takes, doing_of, system_of, with_hand}
@@ -36,18 +37,18 @@ use Rattle.sdb_turns.specs.Machine.{stands_at}
 use Rattle.sdb_turns.specs.System.{ClientCall, ClientOk, Open, Reading, call_event}
 use Rattle.sdb_turns.specs.Noted.{IsScanOk}
 use Rattle.sdb_validate.specs.Rescan.{reads_rise}
-use Rattle.sdb_turns.proofs.Lists.{each_any}
 use Rattle.sdb_linked.specs.Going.{IsGoing}
 use Rattle.sdb_read.specs.Read.{ReadAt}
 use Rattle.sdb_record.specs.declared.access.Access.{Access}
 use Rattle.sdb_txn.specs.declared.txn.Doing.TheVariants as doing
 use Rattle.sdb_txn.specs.Txn.{TxnAt}
-use Rattle.sdb_types.proofs.Basics.{none_some, some_is, clash}
+use Rattle.sdb_types.proofs.Basics.{none_some, some_is, clash, all_each as each_any}
 use Rattle.sdb_causes.specs.Tied.{AnswersHaveCauses, ConflictsHaveCauses, IsAnswered, AreTied, IsGate, IsWaiting, Knows, is_caused, with_stopped, CanTell}
 use Rattle.sdb_causes.specs.Unfit.{shows_stored}
 use Rattle.sdb_causes.proofs.Calls.{clock_more, itself}
 use Rattle.sdb_causes.proofs.Knowing.{knows_still}
 use Rattle.sdb_causes.specs.Counts.{CommitsFit}
+use Rattle.sdb_causes.specs.Shows.{AllGiveOwn}
 use Rattle.sdb_causes.specs.Moves.{AllTellOne, IsMovedIn, MovesAtScan, MovesBy, TellOne, notes_told}
 use Rattle.sdb_causes.proofs.Counting.{calls_counted}
 use Rattle.sdb_causes.proofs.Lists.{each_in, since_more}
@@ -55,6 +56,7 @@ use Rattle.sdb_causes.proofs.Moving.{IsTaken, IsTold}
 use Rattle.sdb_causes.proofs.Noting.{client_is, noted_since, ordinal_is, take_ends, take_open}
 use Rattle.sdb_causes.proofs.Replyings.{replies_known}
 use Rattle.sdb_causes.proofs.Rolled.{records_rolled}
+use Rattle.sdb_causes.proofs.ShowsWhole.{rows_shown}
 use Rattle.sdb_causes.proofs.Takings.{takes_known}
 
 ---- who has stopped
@@ -133,9 +135,9 @@ takes_all q events hands c text result d ex ready gate moment is es fit g apart 
   each = moved_all q.catalog events (event.Take c text result) hands c d ex.each (takes_known q events hands ex c ready gate moment is (λ t some. going_taken q.catalog fit es hands g c ready t some) apart text result d few x) (λ n apart. take_apart n c events text result apart) (λ n apart. refl);
 }
 
--- what a client that reads has read tells what is noted
-going_told : (catalog : List Table) (fit : Tables → Bool) (es : List Event) (hands : ℕ → Hand) (g : IsGoing catalog fit es (system_of hands) (doing_of hands)) (c : ℕ) → (hands c).stopped ≡ false → (hands c).client.vacuum ≡ None → (t : TxnAt) (a : Access) (x : ReadAt) → (hands c).client.txn ≡ Some t → t.doing ≡ doing.Read a x → IsTold t.seen
-going_told catalog fit es hands g c goes_on free t a x some reads = record { reads = ok.1.reads; found = ok.1.found; noted = ok.1.noted }
+-- what a client that reads has read tells what is noted, and it had read what it wrote
+going_told : (catalog : List Table) (fit : Tables → Bool) (es : List Event) (hands : ℕ → Hand) (g : IsGoing catalog fit es (system_of hands) (doing_of hands)) (c : ℕ) → (hands c).stopped ≡ false → (hands c).client.vacuum ≡ None → (t : TxnAt) (a : Access) (x : ReadAt) → (hands c).client.txn ≡ Some t → t.doing ≡ doing.Read a x → IsTold t.seen × WereRead t.seen.notes t.seen.writes
+going_told catalog fit es hands g c goes_on free t a x some reads = (record { reads = ok.1.reads; found = ok.1.found; noted = ok.1.noted }, ok.1.kept.read)
   where
     here : (system_of hands).clients c ≡ Reading t.id t.seen a (stands_at x.stage)
     here = rw (goes_on, free, some, reads) refl
@@ -212,8 +214,11 @@ starts_all catalog hands fresh = record {
     no_commits : (c : ℕ) → CommitsFit [] c []
     no_commits c n begin body s tail since goes reads = absurd (let e : [] ≡ begin ∷ (body ++ s ∷ tail) = sym (none_begins n) ∙ since in cc)
 
+    none_told : (c : ℕ) → AllGiveOwn catalog [] c []
+    none_told c n begin body s tail a since goes is = absurd (let e : [] ≡ begin ∷ (body ++ s ∷ tail) = sym (none_begins n) ∙ since in cc)
+
     nothing : (c : ℕ) → Knows catalog [] c (nothing_done c)
-    nothing c = record { told = []; waiting = None; same = refl; answered = tt; waits = tt; moved = λ one. tt; number = refl; begun = refl; small = positive; stands = (refl, refl); counted = record { answered = tt; commits = no_commits c; paired = tt; noted = tt; waits = tt }; filled = tt; fits = tt; stored = tt; rolled = record { answered = tt; waits = tt } }
+    nothing c = record { told = []; waiting = None; same = refl; answered = tt; waits = tt; moved = λ one. tt; number = refl; begun = refl; small = positive; stands = (refl, refl); counted = record { answered = tt; commits = no_commits c; paired = tt; noted = tt; waits = tt }; filled = tt; fits = tt; stored = tt; rolled = record { answered = tt; waits = tt }; shows = λ one. record { told_own = none_told c; sees_own = tt } }
 
 ---- what follows
 
@@ -344,6 +349,7 @@ explained catalog events now hands ex = record {
   conflicts = scans_moved catalog events now hands ex;
   counted = calls_counted catalog events now hands ex;
   rolled = records_rolled catalog events now hands ex;
+  shown = rows_shown catalog events now hands ex;
   bad_records = λ c s key has is one. caused_by c s (answer.BadRecord key) is (tells_bad (calls_of events c s) s.text key one) (answered_said catalog events c (hands c).client (ex.each c) s has);
 }
   where
@@ -353,6 +359,6 @@ explained catalog events now hands ex = record {
         subst (IsCaused catalog events c s) same (k.caused (subst (CanTell (calls_of events c s) s.text) (sym same) t))
     caused_by c s a is t (inr w) = none_some a (sym w.unanswered ∙ is)
 
-    turned_by : (c : ℕ) (s : Said) (a : Answer) → IsTurnedAway catalog (before s events) c s.text a → IsAnswered catalog events c s ⊎ IsWaiting catalog events c (is_some (hands c).client.vacuum) s → (s.answered ≡ s.taken) × ((s.answer ≡ Some a) ⊎ (s.answer ≡ Some answer.NoMemory))
+    turned_by : (c : ℕ) (s : Said) (a : Answer) → IsTurnedAway catalog (before s events) c s.text a → IsAnswered catalog events c s ⊎ IsWaiting catalog events c (is_some (hands c).client.vacuum) s → (s.reached ≡ s.taken) × ((s.answer ≡ Some a) ⊎ (s.answer ≡ Some answer.NoMemory))
     turned_by c s a away (inl k) = k.turned_away a away
     turned_by c s a away (inr w) = absurd (w.stays a away)

@@ -8,13 +8,14 @@ use Rattle.sdb_types.specs.declared.record.Reply.TheVariants as reply
 use Rattle.sdb_record.specs.declared.coordinator.Decision.TheVariants as decision
 use Rattle.sdb_record.specs.Coordinator.{coordinator_key_of, decision_in, is_coordinator_table}
 use Rattle.sdb_record.specs.Meta.{is_taken}
-use Rattle.sdb_model.specs.Calls.{Made, calls_after, calls_before, decision_found, decision_learned, is_fault, is_of_row, records_shown}
+use Rattle.sdb_model.specs.Calls.{Made, calls_after, calls_before, decision_found, decision_learned, is_of_row, records_shown}
 use Rattle.sdb_model.specs.Causes.{HasReply, IsDecided, PutsRow}
 use Rattle.sdb_phases.specs.declared.step.DecidePhase.TheVariants as phase
 use Rattle.sdb_phases.specs.declared.step.Outcome.{Outcome}
 use Rattle.sdb_phases.specs.declared.step.Outcome.TheVariants as outcome
 use Rattle.sdb_phases.specs.Work.{Work}
 use Rattle.sdb_phases.specs.Commit.{Stage, Preparing, Checking, Deciding, Forward, Stopping, Back, Over}
+use Rattle.sdb_types.specs.Replies.{is_fault}
 
 -- no call was for a transaction's row
 abbrev pub NoneOfRow : TxId → List Made → Type 0
@@ -63,15 +64,23 @@ pub record ShowsBad (calls : List Made) (key : Key) : Type 0 where
   pub same : found.key ≡ key
   pub bad : IsBadRow found
 
+-- no call put the row COMMITTED
+abbrev pub NoneDecides : TxId → List Made → Type 0
+NoneDecides id calls = AllByRecursion (λ m. PutsRow id decision.Committed m → ⊥) calls
+
+-- each call that put it so was out of memory
+abbrev pub PutsStarved : TxId → List Made → Type 0
+PutsStarved id calls = AllByRecursion (λ m. PutsRow id decision.Committed m → m.reply ≡ reply.NoMemory) calls
+
 -- Why a COMMIT ends so.
 abbrev pub EndsBy : TxId → List Made → Outcome → Type 0
 EndsBy id calls outcome.Committed = IsDecided decision.Committed (decision_learned calls id)
-EndsBy id calls (outcome.Conflict key found) = Unit {0}
+EndsBy id calls (outcome.Conflict key found) = NoneDecides id calls
 EndsBy id calls (outcome.Expired u) = (u ≡ id) × IsGivenUp id calls
 EndsBy id calls outcome.Faulted = HasReply is_fault calls
 EndsBy id calls (outcome.Unknown u) = (u ≡ id) × HasFailed id calls
 EndsBy id calls (outcome.BadRecord key) = (key ≡ coordinator_key_of id) × ShowsBad calls key
-EndsBy id calls outcome.NoMemory = Unit {0}
+EndsBy id calls outcome.NoMemory = PutsStarved id calls
 
 -- What the calls say where it stands.
 abbrev pub StandsBy : Work → List Made → Stage → Type 0

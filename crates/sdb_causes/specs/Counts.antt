@@ -12,7 +12,7 @@ use Rattle.sdb_schema.specs.declared.table.Table.{Table}
 use Rattle.sdb_model.specs.declared.answer.Answer.{Answer}
 use Rattle.sdb_model.specs.declared.answer.Answer.TheVariants as answer
 use Rattle.sdb_model.specs.declared.event.Event.{Event}
-use Rattle.sdb_model.specs.Calls.{Made, calls_of, is_fault}
+use Rattle.sdb_model.specs.Calls.{Made, calls_of}
 use Rattle.sdb_model.specs.Causes.{is_open_after}
 use Rattle.sdb_model.specs.Counted.{IsReadCounted, IsVacuumCounted, is_checked_get, is_scan, is_seen, prepares_in, removals_in, unresolved_in}
 use Rattle.sdb_model.specs.Noted.{Got, Note, Scanned, noted_in}
@@ -21,6 +21,7 @@ use Rattle.sdb_model.specs.Transactions.{Said, begins, client_of, commit_of, end
 use Rattle.sdb_phases.specs.declared.step.DecidePhase.{DecidePhase}
 use Rattle.sdb_phases.specs.declared.step.DecidePhase.TheVariants as decide
 use Rattle.sdb_phases.specs.declared.step.Outcome.TheVariants as outcome
+use Rattle.sdb_causes.specs.Commits.{PutsStarved}
 use Rattle.sdb_phases.specs.declared.step.RecoverPhase.{RecoverPhase}
 use Rattle.sdb_phases.specs.declared.step.RecoverPhase.TheVariants as phase
 use Rattle.sdb_phases.specs.Checks.{checks}
@@ -35,6 +36,7 @@ use Rattle.sdb_vacuum.specs.Vacuum as vacuum
 use Rattle.sdb_vacuum.specs.Vacuum.{VacuumAt, VacuumStage}
 use Rattle.sdb_client.specs.Client.{ClientAt}
 use Rattle.sdb_causes.specs.Moves.{notes_told}
+use Rattle.sdb_types.specs.Replies.{is_fault}
 
 ---- a statement that reads
 
@@ -90,10 +92,12 @@ wanted_by notes id calls = 2 * length (prepares_in id calls) + (count_by (is_che
 abbrev pub NoneFaulted : List Made → Type 0
 NoneFaulted calls = AllByRecursion (λ m. is_fault m.reply ≡ false) calls
 
--- One that was answered Committed, none of whose calls faulted, made one call more than that, and any other at most four more.
+-- One that was answered Committed, none of whose calls faulted, made one call more than that, and any other at most four more. One that
+-- is answered that it was out of memory put its row COMMITTED only where that put was out of memory.
 pub record CommitFits (notes : List Note) (id : TxId) (given : Option Answer) (calls : List Made) : Type 0 where
   pub exact : given ≡ Some answer.Committed → NoneFaulted calls → length calls ≡ wanted_by notes id calls + 1
   pub most : length calls ≤ wanted_by notes id calls + 4
+  pub starved : given ≡ Some answer.NoMemory → PutsStarved id calls
 
 -- so many of the writes were prepared, from the first
 abbrev pub HasPut : Work → ℕ → List Made → Type 0

@@ -8,3 +8,4 @@ pub mod Counts
 pub mod Filled
 pub mod Unfit
 pub mod Rolled
+pub mod Shows

@@ -6,7 +6,7 @@ use Rattle.sdb_types.specs.declared.key.Key.{Key}
 use Rattle.sdb_types.specs.declared.record.Record.{Record}
 use Rattle.sdb_record.specs.declared.meta.Meta.{Meta}
 use Rattle.sdb_model.specs.declared.event.Event.{Event}
-use Rattle.sdb_model.specs.Calls.{Made, is_fault, is_read, records_read}
+use Rattle.sdb_model.specs.Calls.{Made, is_read, records_read}
 use Rattle.sdb_model.specs.Causes.{HasReply, IsEarly}
 use Rattle.sdb_phases.specs.declared.step.RecoverPhase.{RecoverPhase}
 use Rattle.sdb_phases.specs.declared.step.RecoverPhase.TheVariants as phase
@@ -14,6 +14,7 @@ use Rattle.sdb_read.specs.declared.read.ReadStep.{ReadStep}
 use Rattle.sdb_read.specs.declared.read.ReadStep.TheVariants as step
 use Rattle.sdb_read.specs.Read.{Asking, Ended, Open, ReadStage, Resolving, kind_of}
 use Rattle.sdb_causes.specs.Commits.{ShowsBad}
+use Rattle.sdb_types.specs.Replies.{is_fault}
 
 -- a read among the calls found these records
 pub record IsFoundBy (calls : List Made) (rows : List Record) : Type 0 where

@@ -13,7 +13,7 @@ use Rattle.sdb_model.specs.declared.event.Event.{Event}
 use Rattle.sdb_model.specs.declared.event.How.TheVariants.{Seen}
 use Rattle.sdb_model.specs.Calls.{Made, calls_after, calls_of, decision_shown, records_read}
 use Rattle.sdb_model.specs.Causes.{IsEarly}
-use Rattle.sdb_model.specs.Counted.{IsPassedOver, is_answered, roll_by}
+use Rattle.sdb_model.specs.Counted.{IsPassedOver, roll_by}
 use Rattle.sdb_model.specs.Noted.{reads_rows}
 use Rattle.sdb_model.specs.Sql.{reads_vacuum}
 use Rattle.sdb_model.specs.Transactions.{Said, is_answered_from_rows, said}
@@ -28,6 +28,7 @@ use Rattle.sdb_txn.specs.Txn.{TxnAt}
 use Rattle.sdb_vacuum.specs.Vacuum as vacuum
 use Rattle.sdb_vacuum.specs.Vacuum.{VacuumAt, VacuumStage}
 use Rattle.sdb_client.specs.Client.{ClientAt}
+use Rattle.sdb_types.specs.Replies.{is_answered}
 
 -- A call showed the decision on a record's transaction after the read that found it, and a later one asked for what that decision
 -- makes of the record, on condition of what was found, and was answered.

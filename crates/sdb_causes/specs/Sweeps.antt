@@ -1,13 +1,14 @@
 -- What the calls of a VACUUM say of where it stands, and why it ends so.
 use Rattle.std.specs.Prelude.{◌≡◌, List}
 use Rattle.std.specs.List.{count_by}
-use Rattle.sdb_model.specs.Calls.{Made, is_fault}
+use Rattle.sdb_model.specs.Calls.{Made}
 use Rattle.sdb_model.specs.Causes.{HasReply, removes}
 use Rattle.sdb_vacuum.specs.declared.work.VacuumStep.{VacuumStep}
 use Rattle.sdb_vacuum.specs.declared.work.VacuumStep.TheVariants as step
 use Rattle.sdb_vacuum.specs.Vacuum.{VacuumAt, VacuumStage, Scanning, Resolving, Removing, Over}
 use Rattle.sdb_causes.specs.Commits.{ShowsBad}
 use Rattle.sdb_causes.specs.Reads.{IsFoundBy, ResolvesBy}
+use Rattle.sdb_types.specs.Replies.{is_fault}
 
 -- The rows that are left were found by a read among the calls, and so was the record that is resolved.
 abbrev pub SweepsBy : List Made → VacuumStage → Type 0

@@ -35,6 +35,7 @@ use Rattle.sdb_causes.specs.Filled.{IsFilled}
 use Rattle.sdb_causes.specs.Moves.{AllTellOne, AreMoved, SeenBy, ShowsAt, TellOne, WorkBy, notes_told}
 use Rattle.sdb_causes.specs.Reads.{ReadsBy}
 use Rattle.sdb_causes.specs.Rolled.{RecordsAreRolled, RollsBy}
+use Rattle.sdb_causes.specs.Shows.{RowsAreShown, ShowsBy}
 use Rattle.sdb_causes.specs.Sweeps.{VacuumBy}
 use Rattle.sdb_causes.specs.Unfit.{IsFit, ShowStored}
 
@@ -58,9 +59,9 @@ pub record IsAnswered (catalog : List Table) (events : List Event) (c : ℕ) (s 
   pub given : Answer
   pub is : s.answer ≡ Some given
   pub taken : s.taken ≤ length events
-  pub answered : s.answered ≤ length events
+  pub answered : s.reached ≤ length events
   pub caused : CanTell (calls_of events c s) s.text given → IsCaused catalog events c s given
-  pub turned_away : (a : Answer) → IsTurnedAway catalog (before s events) c s.text a → (s.answered ≡ s.taken) × ((s.answer ≡ Some a) ⊎ (s.answer ≡ Some answer.NoMemory))
+  pub turned_away : (a : Answer) → IsTurnedAway catalog (before s events) c s.text a → (s.reached ≡ s.taken) × ((s.answer ≡ Some a) ⊎ (s.answer ≡ Some answer.NoMemory))
 
 -- A statement that waits for its answer: it is a VACUUM that was taken outside of transactions, or its transaction was open when it was
 -- taken, and it was not to be turned away.
@@ -151,6 +152,7 @@ pub record Knows (catalog : List Table) (events : List Event) (c : ℕ) (h : Cli
   pub fits : IfSome h.txn (IsFit catalog)
   pub stored : ShowStored (calls_by events c)
   pub rolled : RollsBy events c told waiting h
+  pub shows : AllTellOne events c told → ShowsBy catalog events c told h
 
 ---- all clients
 
@@ -199,11 +201,13 @@ ConflictsHaveCauses events = (c : ℕ) → ((s : Said) → Contains (said c even
 
 -- Each such answer of a run has its cause, a statement that is to be turned away is, unless memory ran out, each Conflict has its cause
 -- where no statement's calls show two decisions on a transaction, and each BadRecord where those of its statement show none; the
--- calls of all statements are counted; and the unresolved records that were found were rolled first.
+-- calls of all statements are counted; the unresolved records that were found were rolled first; and, where no statement's calls show two
+-- decisions on a transaction, rows that are shown are rows that their transactions have.
 pub record AnswersHaveCauses (catalog : List Table) (events : List Event) : Type 0 where
   pub caused : (c : ℕ) (s : Said) (a : Answer) → Contains (said c events) s → s.answer ≡ Some a → is_caused s.text a ≡ true → IsCaused catalog events c s a
-  pub turned_away : (c : ℕ) (s : Said) (a : Answer) → Contains (said c events) s → IsTurnedAway catalog (before s events) c s.text a → (s.answered ≡ s.taken) × ((s.answer ≡ Some a) ⊎ (s.answer ≡ Some answer.NoMemory))
+  pub turned_away : (c : ℕ) (s : Said) (a : Answer) → Contains (said c events) s → IsTurnedAway catalog (before s events) c s.text a → (s.reached ≡ s.taken) × ((s.answer ≡ Some a) ⊎ (s.answer ≡ Some answer.NoMemory))
   pub conflicts : ConflictsHaveCauses events
   pub bad_records : (c : ℕ) (s : Said) (key : Key) → Contains (said c events) s → s.answer ≡ Some (answer.BadRecord key) → TellOne (calls_of events c s) → IsBadRecord catalog events c s key
   pub counted : CallsAreCounted catalog events
   pub rolled : RecordsAreRolled events
+  pub shown : RowsAreShown catalog events

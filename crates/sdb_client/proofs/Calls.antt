@@ -14,7 +14,7 @@ use Rattle.sdb_read.specs.declared.read.ReadStep.{ReadStep}
 use Rattle.sdb_read.specs.declared.read.ReadStep.TheVariants as step
 use Rattle.sdb_read.specs.Read.{ReadAt, ReadStage, read_result, read_step}
 use Rattle.sdb_keyed.specs.Entries.{same_key, value_at}
-use Rattle.sdb_snapshot.proofs.Keys.{or_else, same_itself, value_last}
+use Rattle.sdb_snapshot.proofs.Keys.{same_itself, value_last}
 use Rattle.sdb_snapshot.specs.Noted.{Note, is_noted}
 use Rattle.sdb_snapshot.specs.declared.snapshot.Mark.{Mark}
 use Rattle.sdb_snapshot.specs.Held.{AreKept}
@@ -31,6 +31,7 @@ use Rattle.sdb_txn.specs.Txn.{IfReading, ImagesTold as ImagesEnd, ReadTold, Step
 use Rattle.sdb_client.specs.declared.next.Next.{Next}
 use Rattle.sdb_client.specs.declared.next.Next.TheVariants as next
 use Rattle.sdb_client.specs.Client.{CallTold, IsAsRead, IsMovedAt, StageTold, gives, given_answer, given_left, noting}
+use Rattle.sdb_types.proofs.Basics.{or_else}
 
 -- neither rows nor a conflict
 abbrev pub IsPlain : Progress → Type 0

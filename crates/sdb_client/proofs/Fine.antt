@@ -3,16 +3,13 @@ use Rattle.std.proofs.Common.{◌≡◌, ℕ, Bool, true, false, not, ◌&&◌, 
 use Rattle.std.specs.Prelude.{find, is_ok, Result}
 use Rattle.std.specs.Option.{option_map, option_map_or}
 use Rattle.std.specs.List.{list_all}
-use Rattle.sdb_types.specs.Exact.{equal_of}
 use Rattle.std.proofs.lemmas.Bool.{and_parts}
-use Rattle.sdb_types.specs.Order.{name_cmp}
 use Rattle.sdb_types.specs.declared.pair.Pair.{Pair}
 use Rattle.sdb_types.specs.declared.key.Key.{Key}
 use Rattle.sdb_types.specs.declared.value.Value.{Value}
 use Rattle.sdb_types.specs.Columns.{are_columns, with_column}
 use Rattle.sdb_types.proofs.Bools.{and_both}
 use Rattle.sdb_types.proofs.ColumnLemmas.{with_column-are_columns}
-use Rattle.sdb_types.proofs.KeyOrder.{name_exact}
 use Rattle.sdb_record.specs.Names.{is_user, same_name}
 use Rattle.sdb_record.specs.Parts.{are_user_columns, is_column_name, is_user_pair}
 use Rattle.sdb_schema.specs.declared.table.Column.{Column}
@@ -22,6 +19,7 @@ use Rattle.sdb_schema.specs.Table.{refuse, none_of, first_unknown, first_listed_
 use Rattle.sdb_schema.specs.Rows.{fits_table, is_of_column, is_stored_in, is_value_of}
 use Rattle.sdb_model.specs.Rows.{Name, is_key_column, literal_at}
 use Rattle.sdb_model.specs.Exec.{with_named, with_sets}
+use Rattle.sdb_record.proofs.NameLemmas.{same_name-true as same}
 
 ---- user columns
 
@@ -55,9 +53,6 @@ users (c ∷ cs) n r =
       | true ↦ λ k. and_both (is_column_name c.name) (are_users cs) parts.0 (users cs parts.1 k)
       | false ↦ λ k. absurd (cc)
     ] r
-
-same : (a b : List ℕ) → same_name a b ≡ true → a ≡ b
-same a b h = name_exact a b (equal_of (name_cmp a b) h)
 
 of_column : (cs : List Column) (name : List ℕ) (v : Value) → are_users cs ≡ true → is_of_column cs name v ≡ true → (is_user name && is_column_name name) ≡ true
 of_column [] name v u h = absurd (cc)

@@ -32,7 +32,7 @@ use Rattle.sdb_read.specs.Read.{read_pending_at}
 
 ---- reads
 
-given_idle : (was t : TxnAt) (s : PlanStep) → was.doing ≡ doing.Idle → t.doing ≡ doing.Idle → (given_left was t s).doing ≡ doing.Idle
+pub given_idle : (was t : TxnAt) (s : PlanStep) → was.doing ≡ doing.Idle → t.doing ≡ doing.Idle → (given_left was t s).doing ≡ doing.Idle
 given_idle was t (Finished a ks) h k = elim (changes_nothing (given_answer t (Finished a ks))) as (λ b. (cond b was (written t ks)).doing ≡ doing.Idle) [ true ↦ h | false ↦ k ]
 given_idle was t (Wants a) h k = h
 

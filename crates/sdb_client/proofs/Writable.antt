@@ -4,7 +4,7 @@ use Rattle.std.specs.Prelude.{filter, find, is_some, unwrap_or}
 use Rattle.std.specs.Option.{option_map}
 use Rattle.std.specs.Ordering.{is_eq}
 use Rattle.std.specs.List.{AllByRecursion, list_all}
-use Rattle.std.proofs.lemmas.Bool.{and_parts, not-false as unnot}
+use Rattle.std.proofs.lemmas.Bool.{and_parts}
 use Rattle.sdb_types.specs.declared.key.Key.{Key}
 use Rattle.sdb_types.specs.declared.pair.Pair.{Pair}
 use Rattle.sdb_types.specs.Order.{key_cmp}
@@ -22,7 +22,7 @@ use Rattle.sdb_schema.specs.Rows.{fits_table}
 use Rattle.sdb_model.specs.declared.statement.Statement.{Statement}
 use Rattle.sdb_model.specs.declared.statement.Statement.TheVariants as statement
 use Rattle.sdb_model.specs.Exec.{key_of, passes, with_sets}
-use Rattle.sdb_exec.specs.Plans.{Planned, change_fits, changes_on, columns_at, finished, first_unfit, has_all_literals, is_unfit, put_row, step_at, step_of}
+use Rattle.sdb_exec.specs.Plans.{Planned, change_fits, changes_on, columns_at, finished, first_unfit, is_unfit, put_row, step_at, step_of}
 use Rattle.sdb_exec.specs.Reads.{access_of}
 use Rattle.sdb_exec.proofs.Fits.{changes_fit}
 use Rattle.sdb_snapshot.specs.Noted.{Note, is_noted}

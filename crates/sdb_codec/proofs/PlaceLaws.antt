@@ -19,9 +19,10 @@ use Rattle.sdb_codec.specs.declared.refused.ReadRefused.TheVariants as refused
 use Rattle.sdb_codec.specs.Spelling.{sized_bytes, value_bytes, ValueFitsField}
 use Rattle.sdb_codec.specs.Reading.{◌>>=◌, number_at, sized_at, text_at, bool_at, value_of, value_at, items_at, values_at, name_of, dot_split, names_of, table_at, key_at, is_above, column_name_at, column_value_at, pair_at, columns_at, format_at, record_at, whole, from_front, record_in, key_in, Reads}
 use Rattle.sdb_codec.specs.Places.{Field, Format, Table, Count, Item, ColumnCount, Name, field_bytes, Due, FormatDue, TableDue, CountDue, ItemDue, ColumnCountDue, NameDue, CellDue, key_due, record_due, columns_due, due_after, IsText, stands_above, HasForm, Leads, IsWrong, IsFirstWrong, IsRefusedAt}
-use Rattle.sdb_codec.proofs.FieldLaws.{IsBytes, IsBytes-rest, bind_ok, guard_ok, passed_ok, ok_is, done, IsWide, wide16, wide32, wide64, number_takes, number_again, sized_again, text_again, value_takes}
+use Rattle.sdb_codec.proofs.FieldLaws.{IsBytes, IsBytes-rest, bind_ok, guard_ok, passed_ok, ok_is, IsWide, wide16, wide32, wide64, number_takes, number_again, sized_again, text_again, value_takes}
 use Rattle.sdb_codec.proofs.ItemLaws.{values_after, values_take}
 use Rattle.sdb_codec.proofs.RecordLaws.{name_length, table_takes, table_again, column_name_takes, column_value_takes, key_takes, format_takes}
+use Rattle.sdb_types.proofs.Basics.{done}
 
 ---- fields one after another
 

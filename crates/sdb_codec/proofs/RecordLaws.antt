@@ -23,6 +23,7 @@ use Rattle.sdb_codec.specs.Spelling.{sized_bytes, value_bytes, values_bytes, key
 use Rattle.sdb_codec.specs.Reading.{◌>>=◌, number_at, sized_at, value_at, values_at, name_of, dot_split, names_of, table_at, key_at, is_above, column_name_at, column_value_at, pair_at, items_at, columns_at, format_at, record_at, whole, from_front, record_in, key_in, Reads}
 use Rattle.sdb_codec.proofs.FieldLaws.{IsBytes, IsBytes-rest, bind_ok, guard_ok, passed_ok, ok_is, Takes, Takes-then, Takes-after, TakesValue, wide16, number_takes, number_again, sized_takes, sized_again, value_takes, value_again}
 use Rattle.sdb_codec.proofs.ItemLaws.{Chain, Chain-all, items_take, items_again, values_take, values_again}
+use Rattle.sdb_types.proofs.Basics.{onto}
 
 ---- tables
 
@@ -34,9 +35,6 @@ some_is x y e = cc
 
 abbrev Joined : List ℕ → List ℕ × List ℕ → Type 0
 Joined text p = text ≡ p.0 ++ 46 ∷ p.1
-
-abbrev onto : ℕ → List ℕ × List ℕ → List ℕ × List ℕ
-onto c p = (c ∷ p.0, p.1)
 
 onward : (c : ℕ) (cs : List ℕ) (o : Option (List ℕ × List ℕ)) (p : List ℕ × List ℕ) → ((q : List ℕ × List ℕ) → o ≡ Some q → Joined cs q) → option_map (onto c) o ≡ Some p → Joined (c ∷ cs) p
 onward c cs None p each e = absurd cc

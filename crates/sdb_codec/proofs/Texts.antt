@@ -4,11 +4,12 @@ use Rattle.std.specs.List.{list_all, position, prefix_len}
 use Rattle.std.specs.Str.{is_utf8}
 use Rattle.std.proofs.lemmas.Str.{IsUtf8-from_ascii, IsUtf8-from_is_utf8}
 use Rattle.std.proofs.lemmas.Bool.{cases_lt, lt-ltb, le-ltb, ltb-true}
-use Rattle.std.proofs.lemmas.Bool.Decides.{nat_tests}
-use Rattle.sdb_types.specs.Identifier.{is_start, is_part, is_name}
+use Rattle.sdb_types.specs.Identifier.{is_part, is_name}
 use Rattle.sdb_types.proofs.Bools.{and_first, and_second}
 use Rattle.sdb_types.proofs.KeyOrder.{parts}
 use Rattle.sdb_codec.specs.Reading.{dot_split}
+use Rattle.sdb_types.proofs.Basics.{onto}
+use Rattle.sdb_types.proofs.Words.{part_small}
 
 -- no text
 pub not_utf8 : (bs : List ℕ) → (IsUtf8 bs → ⊥) → is_utf8 bs ≡ false
@@ -17,12 +18,6 @@ not_utf8 bs h =
       | true ↦ λ q. absurd (h (IsUtf8-from_is_utf8 bs q))
       | false ↦ λ q. refl
     ] refl
-
-part_small : (c : ℕ) → is_part c ≡ true → c < 128
-part_small c h = grind (arith, nat_tests)
-
-start_small : (c : ℕ) → is_start c ≡ true → c < 128
-start_small c h = grind (arith, nat_tests)
 
 parts_small : (cs : List ℕ) → list_all is_part cs ≡ true → IsAscii cs
 parts_small [] h i = omega arith
@@ -46,9 +41,6 @@ round text n = (take n text, drop (suc n) text)
 
 abbrev Parts : Type 0
 Parts = Option (List ℕ × List ℕ)
-
-abbrev onto : ℕ → List ℕ × List ℕ → List ℕ × List ℕ
-onto c p = (c ∷ p.0, p.1)
 
 -- the parts round the first dot, by its place
 dot_at : (text : List ℕ) (n : ℕ) → n ≡ prefix_len (λ b. not (b == 46)) text → dot_split text ≡ cond {A = Parts} (ltb n (length text)) (Some (round text n)) None

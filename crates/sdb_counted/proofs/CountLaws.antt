@@ -17,7 +17,7 @@ use Rattle.sdb_model.specs.Counted.{IsCommitCounted, IsReadCounted, IsVacuumCoun
 use Rattle.sdb_model.specs.Noted.{Note, Got, Scanned, noted_in, reads_rows}
 use Rattle.sdb_model.specs.Sql.{reads_commit, reads_vacuum}
 use Rattle.sdb_model.specs.Transactions.{Said, id_of, prepares, said}
-use Rattle.sdb_said.proofs.Lists.{In, left, right, both, either, or_left, not_true, true_not, decide, not_both, all_each, each_all}
+use Rattle.sdb_said.proofs.Lists.{In, right, both, or_left, not_true, true_not, not_both, all_each, each_all}
 use Rattle.sdb_said.proofs.ShownLaws.{number_is, is_number}
 use Rattle.sdb_calls.specs.declared.made.Made.{Made}
 use Rattle.sdb_calls.specs.Values.{all_made, made_of}
@@ -26,7 +26,8 @@ use Rattle.sdb_caused.proofs.Finds.{in_made, made_in, in_contains}
 use Rattle.sdb_caused.proofs.IdLaws.{commit_found, commit_is, is_commit, id_some, upto_step}
 use Rattle.sdb_counted.specs.Tests.{IsSaidCounted, all_seen, commit_counted, covered, is_check, is_told_committed, miscounted, others_counted, read_counted, unresolved_by, vacuum_counted, wanted}
 use Rattle.sdb_counted.proofs.Maps.{any_kept, count_both, count_mapped, filter_count, kept_count}
-use Rattle.sdb_types.proofs.Basics.{clash, or_second as or_right}
+use Rattle.sdb_types.proofs.Basics.{clash, or_second as or_right, either, decides as decide}
+use Rattle.sdb_types.proofs.Bools.{and_first as left}
 
 le_is : (a b : ℕ) → nat_le a b ≡ true → a ≤ b
 le_is a b h = grind (arith, nat_tests, h)

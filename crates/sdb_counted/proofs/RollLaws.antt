@@ -16,29 +16,23 @@ use Rattle.sdb_model.specs.declared.event.How.{How}
 use Rattle.sdb_model.specs.declared.event.How.TheVariants.{Seen, Lost, Discarded, Broken}
 use Rattle.sdb_model.specs.Calls as calls
 use Rattle.sdb_model.specs.Calls.{calls_after, calls_of, decision_shown, records_read}
-use Rattle.sdb_model.specs.Counted.{IsPassedOver, IsResolved, is_answered, is_seen, roll_by}
-use Rattle.sdb_model.specs.Noted.{reads_rows}
+use Rattle.sdb_model.specs.Counted.{IsPassedOver, IsResolved, is_seen, roll_by}
+use Rattle.sdb_model.specs.Noted.{reads_rows, is_from_rows}
 use Rattle.sdb_model.specs.Sql.{reads_vacuum}
 use Rattle.sdb_model.specs.Transactions.{Said, is_answered_from_rows}
 use Rattle.sdb_said.specs.Values.{same_request}
-use Rattle.sdb_said.proofs.Lists.{In, left, right, both, either, or_left, not_true, true_not, decide, not_both, all_each, each_all, any_some, some_any}
-use Rattle.sdb_types.specs.Exactness.{request_tells}
+use Rattle.sdb_said.proofs.Lists.{In, right, both, or_left, not_true, true_not, not_both, all_each, each_all, any_some, some_any}
 use Rattle.sdb_calls.specs.declared.made.Made.{Made}
-use Rattle.sdb_calls.specs.Values.{all_made, decision_at, is_from_rows, made_of}
+use Rattle.sdb_calls.specs.Values.{all_made, decision_at, made_of}
 use Rattle.sdb_caused.specs.Tests.{is_early, prepared_moment}
 use Rattle.sdb_caused.proofs.BusyLaws.{early_is, is_early_of}
 use Rattle.sdb_caused.proofs.Finds.{contains_in, in_contains, in_kept, kept_in, in_made, made_in}
 use Rattle.sdb_counted.specs.Tests.{IsSaidResolved, are_well_left, is_early_then, is_passed_over, is_roll, is_rolled, is_rolled_by, is_rolled_in, is_well_left, is_well_read, rolled_after}
 use Rattle.sdb_counted.proofs.Maps.{of_some, some_of}
-use Rattle.sdb_types.proofs.Basics.{clash, or_second as or_right}
-
-request_is : (a b : Request) → same_request a b ≡ true → a ≡ b
-unfolding same_request
-request_is a b h = (request_tells a b).0 h
-
-is_request : (a b : Request) → a ≡ b → same_request a b ≡ true
-unfolding same_request
-is_request a b e = (request_tells a b).1 e
+use Rattle.sdb_types.proofs.Basics.{clash, or_second as or_right, either, decides as decide}
+use Rattle.sdb_types.proofs.Bools.{and_first as left}
+use Rattle.sdb_said.proofs.Requests.{request_is, is_request}
+use Rattle.sdb_types.specs.Replies.{is_answered}
 
 seen_how : (h : How) → is_seen h ≡ true → h ≡ Seen
 seen_how Seen e = refl

@@ -17,7 +17,7 @@ use Rattle.sdb_model.specs.declared.event.Event.{Event}
 use Rattle.sdb_model.specs.Calls.{calls_of, is_removal, records_read}
 use Rattle.sdb_model.specs.Calls as calls
 use Rattle.sdb_model.specs.Causes.{IsCommitOf}
-use Rattle.sdb_model.specs.Counted.{IsCommitCounted, IsPassedOver, IsReadCounted, IsResolved, IsVacuumCounted, is_answered, is_seen, roll_by}
+use Rattle.sdb_model.specs.Counted.{IsCommitCounted, IsPassedOver, IsReadCounted, IsResolved, IsVacuumCounted, is_seen, roll_by}
 use Rattle.sdb_model.specs.Noted.{Note, Got, Scanned, noted_in, reads_rows}
 use Rattle.sdb_model.specs.Sql.{reads_commit, reads_vacuum}
 use Rattle.sdb_model.specs.Transactions.{Said, is_answered_from_rows, prepares}
@@ -25,6 +25,7 @@ use Rattle.sdb_said.specs.Values.{same_request}
 use Rattle.sdb_calls.specs.declared.made.Made.{Made}
 use Rattle.sdb_calls.specs.Values.{asks_row, decision_at, made_of}
 use Rattle.sdb_caused.specs.Tests.{is_commit_of, is_early, prepared_moment}
+use Rattle.sdb_types.specs.Replies.{is_answered}
 
 ---- the calls of a COMMIT
 

@@ -1,10 +1,11 @@
 //! How unresolved records are rolled.
+ghost use Rattle.sdb_types.specs.Replies.{is_answered as is_answered_lem};
 ghost use Rattle.std.specs.Prelude.{◌≡◌, ◌↔◌, true, IfOk, IsTrue};
 ghost use Rattle.std.specs.List.{list_all, list_any};
 ghost use Rattle.sdb_record.specs.Meta.{is_unresolved as is_unresolved_lem, numbered_state, state_in};
 ghost use Rattle.sdb_record.specs.Coordinator.{coordinator_key_of};
 ghost use Rattle.sdb_record.specs.Rolls.{back_of};
-ghost use Rattle.sdb_model.specs.Counted.{is_answered as is_answered_lem, request_of_back, roll_by as roll_by_lem};
+ghost use Rattle.sdb_model.specs.Counted.{request_of_back, roll_by as roll_by_lem};
 ghost use Rattle.sdb_plain.specs.Points.{said_of};
 ghost use Rattle.sdb_counted.specs.Tests.{IsSaidResolved, are_well_left as are_well_left_lem, is_passed_over as is_passed_over_lem, is_roll as is_roll_lem, is_rolled as is_rolled_lem, is_rolled_by as is_rolled_by_lem, is_well_left as is_well_left_lem, is_well_read as is_well_read_lem, rolled_after as rolled_after_lem};
 

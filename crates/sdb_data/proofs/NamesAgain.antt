@@ -3,8 +3,6 @@ use Rattle.std.proofs.Common.{◌≡◌, ◌<◌, ◌+◌, ℕ, zero, suc, List,
 use Rattle.std.specs.Prelude.{find, position, nat_le, nat_lt, is_ok, Result}
 use Rattle.std.specs.Option.{option_map_or}
 use Rattle.std.specs.List.{list_all, filter_map, position_or_len}
-use Rattle.std.specs.declared.cmp.Ordering.{Ordering}
-use Rattle.std.specs.declared.cmp.Ordering.TheVariants.{Less, Equal, Greater}
 use Rattle.std.specs.Ordering.{is_lt, is_eq}
 use Rattle.std.specs.Str.{is_utf8, IsAscii}
 use Rattle.std.proofs.lemmas.List.{map-append}
@@ -29,6 +27,7 @@ use Rattle.sdb_data.specs.Tables.{header_fault, is_named, named_at, names_fault,
 use Rattle.sdb_data.specs.Printed.{can_load}
 use Rattle.sdb_data.proofs.FieldsAgain.{ascii-utf8}
 use Rattle.sdb_types.proofs.Basics.{less_of, one_more}
+use Rattle.sdb_types.proofs.Words.{part_small as part-small, start_part as start-part}
 
 ---- columns whose names rise
 
@@ -160,16 +159,10 @@ names-fine t m h l =
 
 ---- names are UTF-8
 
-part-small : (c : ℕ) → is_part c ≡ true → c < 128
-part-small c h = grind (arith, nat_tests)
-
 parts-ascii : (cs : List ℕ) → list_all is_part cs ≡ true → IsAscii cs
 parts-ascii [] h i = omega arith
 parts-ascii (c ∷ cs) h zero = part-small c (and_first (is_part c) (list_all is_part cs) h)
 parts-ascii (c ∷ cs) h (suc i) = parts-ascii cs (and_second (is_part c) (list_all is_part cs) h) i
-
-start-part : (c : ℕ) → is_start c ≡ true → is_part c ≡ true
-start-part c h = rw h refl
 
 name-utf8 : (name : List ℕ) → is_column_name name ≡ true → is_utf8 name ≡ true
 name-utf8 [] h = cc h

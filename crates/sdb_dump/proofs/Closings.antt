@@ -1,6 +1,6 @@
 -- The closing dump, scan by scan.
-use Rattle.std.proofs.Common.{◌≡◌, ◌≢◌, ◌∙◌, ℕ, ◌+◌, ◌<◌, ◌^◌, Bool, true, false, List, [], ◌∷◌, ◌++◌, take, Option, Some, None, refl, sym, ap, subst}
-use Rattle.std.specs.Prelude.{◌||◌, ◌↔◌, AllPairs, Contains, IsSomeAnd, is_some, map, slice_get}
+use Rattle.std.proofs.Common.{◌≡◌, ◌≢◌, ◌∙◌, ℕ, ◌+◌, ◌<◌, ◌^◌, true, List, [], ◌∷◌, ◌++◌, take, Option, Some, None, refl, sym, ap, subst}
+use Rattle.std.specs.Prelude.{◌↔◌, AllPairs, Contains, IsSomeAnd, is_some, map, slice_get}
 use Rattle.std.specs.List.{flat_map}
 use Rattle.std.proofs.Math.Numerals.{add-one}
 use Rattle.std.proofs.lemmas.List.{map-append}

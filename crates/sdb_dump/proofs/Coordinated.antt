@@ -11,7 +11,6 @@ use Rattle.std.specs.declared.cmp.Ordering.TheVariants.{Less, Equal, Greater}
 use Rattle.std.proofs.lemmas.Bool.Decides.{nat_tests}
 use Rattle.std.proofs.lemmas.List.Elements.{filter_map-append}
 use Rattle.sdb_types.specs.declared.key.Key.{Key}
-use Rattle.sdb_types.specs.declared.key.TableName.{TableName}
 use Rattle.sdb_types.specs.declared.txid.TxId.{TxId}
 use Rattle.sdb_types.specs.declared.value.Value.{Value}
 use Rattle.sdb_types.specs.declared.value.Value.TheVariants as value
@@ -25,28 +24,25 @@ use Rattle.sdb_types.proofs.KeyOrder.{key_exact, key_total}
 use Rattle.sdb_record.specs.declared.coordinator.Decided.{Decided}
 use Rattle.sdb_record.specs.declared.coordinator.Decision.{Decision}
 use Rattle.sdb_record.specs.declared.coordinator.Decision.TheVariants as decision
-use Rattle.sdb_record.specs.Coordinator.{coordinator_key_of, coordinator_table, decision_in, id_in_values, id_of_key, if_empty, is_coordinator_table}
+use Rattle.sdb_record.specs.Coordinator.{coordinator_key_of, decision_in, id_in_values, id_of_key, if_empty, is_coordinator_table}
 use Rattle.sdb_record.specs.Refused.{Refuses as MetaRefuses}
 use Rattle.sdb_record.specs.declared.meta.MetaRefused.{MetaRefused}
 use Rattle.sdb_record.specs.declared.meta.MetaRefused.TheVariants.{BadMeta, NoMemory}
 use Rattle.sdb_record.proofs.IdLemmas.{id_of_text-is}
 use Rattle.sdb_record.proofs.ImageLaws.{key-of-id}
-use Rattle.sdb_record.proofs.NameLemmas.{same_name-true}
 use Rattle.sdb_model.specs.Noted.{same_key}
 use Rattle.sdb_laws.specs.Lawful.{row_among}
 use Rattle.sdb_dump.specs.Decided.{committed_one, decision_among, is_decided, recorded_among, recorded_by, recorded_in}
-use Rattle.sdb_dump.proofs.Lists.{err_is, first_or_later, here_in, kept_from, kept_in, later_in, none_in, pairs_more, true_false}
-use Rattle.sdb_types.proofs.Basics.{by_test, none_some, some_is}
+use Rattle.sdb_dump.proofs.Lists.{err_is, first_or_later, here_in, kept_from, kept_in, later_in, none_in, pairs_more}
+use Rattle.sdb_types.proofs.Basics.{by_test, none_some, some_is, clash as true_false}
+use Rattle.sdb_laws.proofs.Keys.{same_key_self as same_itself}
+use Rattle.sdb_board.proofs.RunTables.{coordinator_is}
 
 ---- the transaction of a row
 
 values_are : (vs : List Value) (id : TxId) → id_in_values vs ≡ Some id → (id.0 < 2 ^ 128) × (vs ≡ value.Text (id_text id.0) ∷ [])
 values_are (value.Text text ∷ []) id h = let w = id_of_text-is text id h in (w.0, ap (λ (t : List ℕ). value.Text t ∷ []) w.1)
 values_are _ id h = absurd (none_some id h)
-
--- the coordinator's table is the one of its name
-pub coordinator_is : (table : TableName) → is_coordinator_table table ≡ true → table ≡ coordinator_table
-coordinator_is table c = λ i. record { ns = same_name-true table.ns coordinator_table.ns (and_first _ _ c) i; table = same_name-true table.table coordinator_table.table (and_second _ _ c) i }
 
 key_with : (key : Key) (id : TxId) (b : Bool) (cs : List Value) → is_coordinator_table key.table ≡ b → key.clustering ≡ cs → cond b (if_empty cs (id_in_values key.partition)) None ≡ Some id → (id.0 < 2 ^ 128) × (key ≡ coordinator_key_of id)
 unfolding coordinator_key_of
@@ -72,10 +68,6 @@ below_then a b c p q = ap is_lt (key_total.trans a b c (less_is (key_cmp a b) p)
 apart : (low high : Key) → is_lt (key_cmp low high) ≡ true → same_key low high ≡ false
 unfolding same_key
 apart low high h = ap is_eq (less_is (key_cmp low high) h)
-
-same_itself : (k : Key) → same_key k k ≡ true
-unfolding same_key
-same_itself k = ap is_eq (tied_itself key_total k)
 
 same_is : (a b : Key) → same_key a b ≡ true → a ≡ b
 unfolding same_key

@@ -4,7 +4,7 @@ use Rattle.std.specs.Prelude.{filter, map, is_some}
 use Rattle.std.specs.FinMap.{empty, entries, entries_sorted, get, get-empty, get-entries}
 use Rattle.std.specs.FinMap.Entries.{same_entries}
 use Rattle.std.specs.List.{AllByRecursion, filter_map, list_all}
-use Rattle.std.specs.Option.{option_and_then, option_map, option_map_or}
+use Rattle.std.specs.Option.{option_and_then, option_map_or}
 use Rattle.std.specs.Ordering.{is_eq}
 use Rattle.std.specs.Result.{result_ok}
 use Rattle.sdb_types.specs.declared.key.Key.{Key}
@@ -15,7 +15,7 @@ use Rattle.sdb_types.specs.declared.value.Value.{Value}
 use Rattle.sdb_types.specs.declared.value.Value.TheVariants as value
 use Rattle.sdb_types.specs.declared.record.Record.{Record}
 use Rattle.sdb_types.specs.Columns.{column}
-use Rattle.sdb_types.specs.Contents.{Contents, in_span, record_at, record_of, rise, rows_among, rows_in, tx_id}
+use Rattle.sdb_types.specs.Contents.{Contents, in_span, record_at, rise, rows_among, rows_in, tx_id}
 use Rattle.sdb_types.specs.Exact.{equal_of}
 use Rattle.sdb_types.specs.Order.{key_cmp, table_cmp}
 use Rattle.sdb_types.proofs.Bools.{and_first}
@@ -40,7 +40,8 @@ use Rattle.sdb_board.proofs.RunTables.{each_found}
 use Rattle.sdb_dump.specs.Decided.{decision_among}
 use Rattle.sdb_dump.specs.Dumped.{dump_by, image_by, row_by}
 use Rattle.sdb_dump.proofs.Tables.{of_table, table_rows}
-use Rattle.sdb_types.proofs.Basics.{none_some}
+use Rattle.sdb_types.proofs.Basics.{none_some, all_each}
+use Rattle.sdb_board.proofs.Empty.{nothing_at}
 
 ---- decisions
 
@@ -85,9 +86,6 @@ records_rise places shelves table = by (held_by shelves (store_of places shelves
 nothing : entries (empty {K = Key} {X = List Pair} {R = key_cmp}) ≡ []
 nothing = same_entries key_cmp key_total key_exact (entries empty) [] (entries_sorted empty) tt (λ q. sym (get-entries empty q) ∙ get-empty key_cmp q)
 
-nothing_at : (key : Key) → record_at empty key ≡ None
-nothing_at key = ap (option_map (λ columns. record_of (key, columns))) (get-empty key_cmp key)
-
 name_of : (t : Table) (key : Key) → of_table t key ≡ true → t.name ≡ key.table
 name_of t key h = table_exact t.name key.table (equal_of (table_cmp t.name key.table) (and_first (is_eq (table_cmp t.name key.table)) true h))
 
@@ -112,10 +110,6 @@ table_dump catalog places shelves decide d t known are images =
 each_dump : {A B : Type 0} (f g : A → B) (xs : List A) → AllByRecursion (λ x. f x ≡ g x) xs → map f xs ≡ map g xs
 each_dump f g [] h = refl
 each_dump f g (x ∷ xs) h = let rest = each_dump f g xs h.1 in let here = h.0 in λ i. here i ∷ rest i
-
-all_each : {A : Type 0} (P Q : A → Type 0) (xs : List A) → ((x : A) → P x → Q x) → AllByRecursion P xs → AllByRecursion Q xs
-all_each P Q [] f h = tt
-all_each P Q (x ∷ xs) f h = (f x h.0, all_each P Q xs f h.1)
 
 -- what is printed of the stores' records is what the plain tables hold
 pub dumps_are : (catalog : List Table) (places : List Place) (shelves : List Shelf) (decide : TxId → Option Decided) (d : Tables) → AreDecisions places shelves decide → AreImages catalog places shelves d

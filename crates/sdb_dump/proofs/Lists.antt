@@ -6,9 +6,6 @@ use Rattle.std.specs.Result.{result_ok}
 use Rattle.std.proofs.lemmas.List.Elements.{Contains-get_or}
 use Rattle.sdb_types.proofs.Basics.{by_test, none_some, some_is}
 
-pub true_false : {G : Type 0} → true ≡ false → G
-true_false e = absurd (let f = e in cc)
-
 -- what is so of a success
 pub ok_is : {A E : Type 0} (P : A → Type 0) (r : Result A E) (x : A) → IfOk r P → Some x ≡ result_ok r → P x
 ok_is P (Ok y) x h e = subst P (sym (some_is x y e)) h

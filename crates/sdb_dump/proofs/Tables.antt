@@ -1,6 +1,6 @@
 -- The rows of records are those of plain tables.
 use Rattle.std.proofs.Common.{◌≡◌, ◌∙◌, Bool, true, false, cond, List, [], ◌∷◌, Option, Some, None, refl, sym, ap, subst}
-use Rattle.std.specs.Prelude.{◌&&◌, T, filter, map}
+use Rattle.std.specs.Prelude.{T, filter, map}
 use Rattle.std.specs.FinMap.{entries, entries_sorted, find, get, get-entries}
 use Rattle.std.specs.FinMap.Entries.{below_all, find-where_key, is_sorted, is_sorted-where_key, same_entries, where_key}
 use Rattle.std.specs.List.{cons_option, filter_map}
@@ -13,7 +13,6 @@ use Rattle.sdb_types.specs.declared.key.Key.{Key}
 use Rattle.sdb_types.specs.declared.key.TableName.{TableName}
 use Rattle.sdb_types.specs.declared.pair.Pair.{Pair}
 use Rattle.sdb_types.specs.declared.record.Record.{Record}
-use Rattle.sdb_types.specs.declared.record.Span.{Span}
 use Rattle.sdb_types.specs.Contents.{Contents, in_span, record_at, record_of, rows_in}
 use Rattle.sdb_types.specs.Exact.{equal_of}
 use Rattle.sdb_types.specs.Order.{key_cmp, table_cmp}
@@ -21,31 +20,15 @@ use Rattle.sdb_types.proofs.KeyOrder.{key_exact, key_total, table_exact, table_t
 use Rattle.sdb_record.specs.declared.access.Image.{Image}
 use Rattle.sdb_schema.specs.declared.table.Table.{Table}
 use Rattle.sdb_model.specs.Exec.{Tables, all_rows, is_row_of, row_of_entry}
-use Rattle.sdb_dump.proofs.Lists.{true_false}
-use Rattle.sdb_types.proofs.Basics.{by_test}
+use Rattle.sdb_types.proofs.Basics.{by_test, and_true as inside_is, first_t, second_t, both_t, clash as true_false}
+use Rattle.sdb_board.specs.Opening.{whole}
 
 abbrev pub Entry : Type 0
 Entry = Key × List Pair
 
--- a whole table
-abbrev pub whole : TableName → Span
-whole table = record { table = table; partition = None }
-
 -- a key of the table
 abbrev pub of_table : Table → Key → Bool
 of_table t key = in_span (whole t.name) key
-
-first_t : (a b : Bool) → T (a && b) → T a
-first_t true b p = tt
-first_t false b p = p
-
-second_t : (a b : Bool) → T (a && b) → T b
-second_t true b p = p
-second_t false b p = absurd p
-
-both_t : (a b : Bool) → T a → T b → T (a && b)
-both_t true b p q = q
-both_t false b p q = p
 
 same_key : (a b : Key) → eq_by_cmp key_cmp a b ≡ true → a ≡ b
 same_key a b t = key_exact a b (equal_of (key_cmp a b) t)
@@ -71,10 +54,6 @@ turned a b =
     by_test (is_eq (table_cmp a b))
     (λ t. let same = table_exact a b (equal_of (table_cmp a b) t) in t ∙ sym (ap (λ (x : TableName). is_eq (table_cmp b x)) same ∙ ap is_eq (tied_itself table_total b)))
     (λ t. t ∙ sym (by_test (is_eq (table_cmp b a)) (λ u. true_false (sym (sym (ap (λ (x : TableName). is_eq (table_cmp x b)) (table_exact b a (equal_of (table_cmp b a) u)) ∙ t) ∙ ap is_eq (tied_itself table_total b)))) (λ u. u)))
-
-inside_is : (b : Bool) → (b && true) ≡ b
-inside_is true = refl
-inside_is false = refl
 
 rows_of_table : (t : Table) (es : List Entry) → filter (is_row_of t) (map row_of_entry es) ≡ map row_of_entry (entries_of t es)
 rows_of_table t [] = refl

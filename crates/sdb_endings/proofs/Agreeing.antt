@@ -1,12 +1,10 @@
 -- All calls of clients show one decision on a transaction, where its row stays in the stores.
-use Rattle.std.proofs.Common.{◌≡◌, ◌⊎◌, inl, inr, ℕ, suc, ◌+◌, ◌<◌, ◌≤◌, ◌^◌, Bool, true, false, List, [], ◌∷◌, length, Option, Some, None, refl, sym, ap, subst, ◌∙◌, arith}
-use Rattle.std.specs.Prelude.{◌==◌, if◌then◌else◌, Contains}
-use Rattle.std.specs.List.{cons_option, enumerate_from, filter_map}
+use Rattle.std.proofs.Common.{◌≡◌, ◌⊎◌, inl, inr, ℕ, suc, ◌<◌, ◌≤◌, ◌^◌, Bool, true, false, List, length, Option, Some, None, refl, sym, ap, subst, ◌∙◌, arith}
+use Rattle.std.specs.Prelude.{if◌then◌else◌, Contains}
 use Rattle.std.specs.Option.{option_map_or}
 use Rattle.std.specs.Ordering.{is_eq}
 use Rattle.std.specs.Result.{result_ok}
 use Rattle.std.proofs.lemmas.Bool.{cases_lt}
-use Rattle.std.proofs.lemmas.List.Elements.{Contains-append_cases, Contains-push_cases}
 use Rattle.sdb_types.specs.declared.txid.TxId.{TxId}
 use Rattle.sdb_types.specs.declared.key.Key.{Key}
 use Rattle.sdb_types.specs.declared.record.Record.{Record}
@@ -22,21 +20,21 @@ use Rattle.sdb_types.proofs.KeyOrder.{key_exact}
 use Rattle.sdb_record.specs.declared.coordinator.Decided.{Decided}
 use Rattle.sdb_record.specs.Coordinator.{coordinator_key_of, decision_in}
 use Rattle.sdb_model.specs.declared.event.Event.{Event}
-use Rattle.sdb_model.specs.declared.event.Event.TheVariants as event
 use Rattle.sdb_model.specs.declared.script.Place.{Place}
-use Rattle.sdb_model.specs.Calls.{Made, calls_by, decision_said, decision_shown, is_of_row, key_asked, made_by}
-use Rattle.sdb_model.specs.Events.{Effect, IsTrace, Shelf, moment, standing, table_asked}
+use Rattle.sdb_model.specs.Calls.{Made, calls_by, decision_said, decision_shown, is_of_row, key_asked}
+use Rattle.sdb_model.specs.Events.{IsTrace, Shelf, moment, standing, table_asked}
 use Rattle.sdb_model.specs.Explained.{RowsFinal}
-use Rattle.sdb_laws.proofs.Effects.{AtCall, after_delete, after_put, at_call}
+use Rattle.sdb_laws.proofs.Effects.{AtCall, after_delete, after_put}
 use Rattle.sdb_laws.proofs.Keys.{same_key_self}
+use Rattle.sdb_endings.proofs.Calls.{IsAt, call_at}
 
 ---- one call
 
 -- the row from which a decision was read stands at a key
-record Stands (at : Option Record) (d : Decided) : Type 0 where
-  row : Record
-  stands : at ≡ Some row
-  decided : result_ok (decision_in row) ≡ Some d
+pub record Stands (at : Option Record) (d : Decided) : Type 0 where
+  pub row : Record
+  pub stands : at ≡ Some row
+  pub decided : result_ok (decision_in row) ≡ Some d
 
 -- the decision of a reply that shows a record, or none
 of_found : (q : Request) (o : Option Record) (d : Decided) → decision_said q (reply.NotMet o) ≡ Some d → Stands o d
@@ -125,90 +123,39 @@ shown_said id m d h = by (is_of_row id m.request) refl h
     by true e k = (e, k)
     by false e k = none_some d k
 
----- calls among events
-
-one_of : {X : Type 0} (x y : X) (xs : List X) → Contains (x ∷ xs) y → (x ≡ y) ⊎ Contains xs y
-one_of {X = X} x y xs has = by (Contains-append_cases (x ∷ []) xs y has)
-  where
-    none : Contains {X = X} [] y → ⊥
-    none h = absurd (omega (arith, h.1))
-
-    first : Contains [] y ⊎ (x ≡ y) → (x ≡ y) ⊎ Contains xs y
-    first (inl h) = absurd (none h)
-    first (inr h) = inl h
-
-    by : Contains (x ∷ []) y ⊎ Contains xs y → (x ≡ y) ⊎ Contains xs y
-    by (inl h) = first (Contains-push_cases [] x y h)
-    by (inr h) = inr h
-
--- after one of the events the row of a transaction stands with a decision
-record HasStood (places : List Place) (opening : List Shelf) (moments : List (List Shelf)) (id : TxId) (d : Decided) : Type 0 where
-  at : ℕ
-  within : at ≤ length moments
-  row : Stands (standing places (moment opening moments at) (coordinator_key_of id)) d
-
--- the event of a call
-event_stands : (places : List Place) (id : TxId) (d : Decided) (c n : ℕ) (e : Event) (before now : List Shelf) (m : Made) → Effect places e before now → made_by c (n, e) ≡ Some m → decision_shown id m ≡ Some d → Stands (standing places now (coordinator_key_of id)) d
-event_stands places id d c n (event.Take x text a) before now m effect made shown = none_some m made
-event_stands places id d c n (event.Call x store q how r a) before now m effect made shown = by (x == c) made
-  where
-    same : record { at = n; store = store; request = q; how = how; reply = r } ≡ m → Stands (standing places now (coordinator_key_of id)) d
-    same is =
-        let s = shown_said id m d shown in
-        let asked : key_asked q ≡ Some (coordinator_key_of id) = row_asked id q (ap (λ (y : Made). is_of_row id y.request) is ∙ s.0) in
-        call_stands places q r before now (coordinator_key_of id) d (at_call places store q how r before now effect) asked (ap (λ (y : Made). decision_said y.request y.reply) is ∙ s.1)
-
-    by : (t : Bool) → (if t then Some (record { at = n; store = store; request = q; how = how; reply = r }) else None) ≡ Some m → Stands (standing places now (coordinator_key_of id)) d
-    by true k = same (some_is _ m k)
-    by false k = none_some m k
-event_stands places id d c n (event.Stop x) before now m effect made shown = none_some m made
-event_stands places id d c n (event.Clock moment) before now m effect made shown = none_some m made
-event_stands places id d c n (event.Idle x) before now m effect made shown = none_some m made
-
-shown_stood : (places : List Place) (id : TxId) (d : Decided) (c n : ℕ) (es : List Event) (opening : List Shelf) (moments : List (List Shelf)) (closing : List Shelf) (m : Made) → IsTrace places es opening moments closing → Contains (filter_map (made_by c) (enumerate_from n es)) m → decision_shown id m ≡ Some d
-    → HasStood places opening moments id d
-shown_stood places id d c n [] opening moments closing m trace has shown = absurd (omega (arith, has.1))
-shown_stood places id d c n (e ∷ es) opening [] closing m trace has shown = absurd trace
-shown_stood places id d c n (e ∷ es) opening (s ∷ ss) closing m trace has shown = by (made_by c (n, e)) refl has (shown_stood places id d c (n + 1) es s ss closing m trace.1)
-  where
-    later : HasStood places s ss id d → HasStood places opening (s ∷ ss) id d
-    later h = record { at = suc h.at; within = more h.at (length ss) h.within; row = h.row }
-      where
-        more : (a b : ℕ) → a ≤ b → suc a ≤ suc b
-        more a b l = omega arith
-
-    here : Stands (standing places s (coordinator_key_of id)) d → HasStood places opening (s ∷ ss) id d
-    here h = record { at = 1; within = low (length ss); row = h }
-      where
-        low : (b : ℕ) → 1 ≤ suc b
-        low b = omega arith
-
-    by : (o : Option Made) → made_by c (n, e) ≡ o → Contains (cons_option o (filter_map (made_by c) (enumerate_from (n + 1) es))) m → (Contains (filter_map (made_by c) (enumerate_from (n + 1) es)) m → decision_shown id m ≡ Some d → HasStood places s ss id d) → HasStood places opening (s ∷ ss) id d
-    by None k h rest = later (rest h shown)
-    by (Some x) k h rest = first (one_of x m (filter_map (made_by c) (enumerate_from (n + 1) es)) h)
-      where
-        first : (x ≡ m) ⊎ Contains (filter_map (made_by c) (enumerate_from (n + 1) es)) m → HasStood places opening (s ∷ ss) id d
-        first (inl same) = here (event_stands places id d c n e opening s m trace.0 (k ∙ ap Some same) shown)
-        first (inr among) = later (rest among shown)
+-- after a call that showed a decision the row stands with it
+pub shown_stands : (places : List Place) (opening : List Shelf) (moments : List (List Shelf)) (first : ℕ) (id : TxId) (m : Made) (d : Decided) (p : IsAt places opening moments first m) → decision_shown id m ≡ Some d → Stands (standing places (moment opening moments (suc p.n)) (coordinator_key_of id)) d
+shown_stands places opening moments first id m d p shown =
+    let s = shown_said id m d shown in
+    call_stands places m.request m.reply (moment opening moments p.n) (moment opening moments (suc p.n)) (coordinator_key_of id) d p.did (row_asked id m.request s.0) s.1
 
 ---- two calls
 
-one_row : (a b : Decided) (x y : Record) → x ≡ y → result_ok (decision_in x) ≡ Some a → result_ok (decision_in y) ≡ Some b → a ≡ b
-one_row a b x y same is was = some_is a b (sym is ∙ ap (λ (r : Record). result_ok (decision_in r)) same ∙ was)
-
-pub decisions_agree : (places : List Place) (events : List Event) (opening closing : List Shelf) (moments : List (List Shelf)) → IsTrace places events opening moments closing → ((early late : ℕ) → early ≤ late → late ≤ length moments → RowsFinal places (moment opening moments early) (moment opening moments late))
-    → (c d : ℕ) (id : TxId) (m x : Made) (a b : Decided) → id.0 < 2 ^ 128 → Contains (calls_by events c) m → Contains (calls_by events d) x → decision_shown id m ≡ Some a → decision_shown id x ≡ Some b → a ≡ b
-decisions_agree places events opening closing moments trace final c d id m x a b fits in_c in_d shown said = by (cases_lt first.at last.at)
+-- the row of a transaction is the same at each two moments
+pub same_row : (places : List Place) (opening : List Shelf) (moments : List (List Shelf)) → ((early late : ℕ) → early ≤ late → late ≤ length moments → RowsFinal places (moment opening moments early) (moment opening moments late))
+    → (id : TxId) (a b : ℕ) (x y : Record) → id.0 < 2 ^ 128 → a ≤ length moments → b ≤ length moments → standing places (moment opening moments a) (coordinator_key_of id) ≡ Some x → standing places (moment opening moments b) (coordinator_key_of id) ≡ Some y → x ≡ y
+same_row places opening moments final id a b x y fits in_a in_b at_a at_b = by (cases_lt a b)
   where
-    first : HasStood places opening moments id a
-    first = shown_stood places id a c 1 events opening moments closing m trace in_c shown
-
-    last : HasStood places opening moments id b
-    last = shown_stood places id b d 1 events opening moments closing x trace in_d said
-
     below : (n k : ℕ) → n < k → n ≤ k
     below n k l = omega arith
 
-    by : (first.at < last.at) ⊎ (last.at ≤ first.at) → a ≡ b
-    by (inl l) = one_row a b first.row.row last.row.row (some_is _ _ (sym (final first.at last.at (below first.at last.at l) last.within id first.row.row fits first.row.stands) ∙ last.row.stands)) first.row.decided last.row.decided
-    by (inr l) = sym (one_row b a last.row.row first.row.row (some_is _ _ (sym (final last.at first.at l first.within id last.row.row fits last.row.stands) ∙ first.row.stands)) last.row.decided first.row.decided)
+    by : (a < b) ⊎ (b ≤ a) → x ≡ y
+    by (inl l) = some_is x y (sym (final a b (below a b l) in_b id x fits at_a) ∙ at_b)
+    by (inr l) = sym (some_is y x (sym (final b a l in_a id y fits at_b) ∙ at_a))
+
+pub decisions_agree : (places : List Place) (events : List Event) (opening closing : List Shelf) (moments : List (List Shelf)) → IsTrace places events opening moments closing → ((early late : ℕ) → early ≤ late → late ≤ length moments → RowsFinal places (moment opening moments early) (moment opening moments late))
+    → (c d : ℕ) (id : TxId) (m x : Made) (a b : Decided) → id.0 < 2 ^ 128 → Contains (calls_by events c) m → Contains (calls_by events d) x → decision_shown id m ≡ Some a → decision_shown id x ≡ Some b → a ≡ b
+decisions_agree places events opening closing moments trace final c d id m x a b fits in_c in_d shown said =
+    some_is a b (sym first.decided ∙ ap (λ (r : Record). result_ok (decision_in r)) (same_row places opening moments final id (suc p.n) (suc q.n) first.row last.row fits p.within q.within first.stands last.stands) ∙ last.decided)
+  where
+    p : IsAt places opening moments 1 m
+    p = call_at places events opening closing moments c m trace in_c
+
+    q : IsAt places opening moments 1 x
+    q = call_at places events opening closing moments d x trace in_d
+
+    first : Stands (standing places (moment opening moments (suc p.n)) (coordinator_key_of id)) a
+    first = shown_stands places opening moments 1 id m a p shown
+
+    last : Stands (standing places (moment opening moments (suc q.n)) (coordinator_key_of id)) b
+    last = shown_stands places opening moments 1 id x b q said

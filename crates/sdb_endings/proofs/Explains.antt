@@ -43,7 +43,9 @@ use Rattle.sdb_spread.proofs.Moved.{begun_moved, moved_more, point_moved}
 use Rattle.sdb_endings.proofs.Ended.{or_true, starts_empty}
 use Rattle.sdb_endings.proofs.Moments.{Alone, alone}
 use Rattle.sdb_endings.proofs.Noted.{calls_agree, noted_moved}
+use Rattle.sdb_endings.specs.Stores.{AreTaken}
 use Rattle.sdb_endings.proofs.Runs.{IsLawfulRun, lawful_run}
+use Rattle.sdb_endings.proofs.Standing.{taken_at}
 
 ---- a run of the laws
 
@@ -293,15 +295,34 @@ module _ (catalog : List Table) (name : Name) (places : List Place) (events : Li
       current_back key id version (r id note key version fits (subst (λ (n : ℕ). Recorded [] (one n) id) (sym (long events)) (recorded_on (length events) id recorded))
       (subst (λ (ns : List Note). Contains ns note) (sym (noted_moved (λ ns. name) events id)) among) says table)
 
+  taken_back : AreTaken catalog [] (one_shelf name m) a.singles → AreTaken catalog places opening moments
+  taken_back all n key r low table at = all n key r (within n low) table (sym (at_key n key table) ∙ at)
+
 ---- the whole
+
+-- the one store's moments, and the run that events make of them
+abbrev Beside : List Table → List Place → Name → List Event → List Shelf → List (List Shelf) → Type 0
+Beside catalog places name events opening moments = (a : Alone catalog name places events opening moments empty) × IsLawfulRun [] (moved_events (λ ns. name) events) (one_shelf name empty) a.singles
+
+beside : (catalog : List Table) (places : List Place) (name : Name) (fit : Tables → Bool) (events : List Event) (sys : SystemAt) (doing : ℕ → Option Statement) (opening closing : List Shelf) (moments : List (List Shelf))
+    → IsGoing catalog fit (moved_events (λ ns. name) events) sys doing → IsTrace places events opening moments closing → AreAbout catalog events → HoldAs catalog places opening empty → Beside catalog places name events opening moments
+beside catalog places name fit events sys doing opening closing moments g t about h =
+    let a = alone catalog name places events opening moments closing empty t about h in
+    (a, lawful_run catalog fit (moved_events (λ ns. name) events) sys doing [] (one_shelf name empty) a.last a.singles g a.traced (starts_empty name))
 
 pub going_is_explained : (catalog : List Table) (places : List Place) (name : Name) (fit : Tables → Bool) (events : List Event) (sys : SystemAt) (doing : ℕ → Option Statement) (opening closing : List Shelf) (moments : List (List Shelf))
     → IsGoing catalog fit (moved_events (λ ns. name) events) sys doing → find_table catalog coordinator_table ≡ None → IsTrace places events opening moments closing → AreAbout catalog events → HoldAs catalog places opening empty
     → Explained catalog places events opening moments
 going_is_explained catalog places name fit events sys doing opening closing moments g none t about h =
-    let a = alone catalog name places events opening moments closing empty t about h in
-    let run = lawful_run catalog fit (moved_events (λ ns. name) events) sys doing [] (one_shelf name empty) a.last a.singles g a.traced (starts_empty name) in
+    let b = beside catalog places name fit events sys doing opening closing moments g t about h in
     record {
-      standing = standing_back catalog name places events opening moments empty about a (standing_by_run catalog [] (moved_events (λ ns. name) events) (one_shelf name empty) a.singles none run);
-      reads_current = reads_back catalog name places events opening moments empty about a (reads_by_run catalog [] (moved_events (λ ns. name) events) (one_shelf name empty) a.last a.singles none a.traced run);
+      standing = standing_back catalog name places events opening moments empty about b.0 (standing_by_run catalog [] (moved_events (λ ns. name) events) (one_shelf name empty) b.0.singles none b.1);
+      reads_current = reads_back catalog name places events opening moments empty about b.0 (reads_by_run catalog [] (moved_events (λ ns. name) events) (one_shelf name empty) b.0.last b.0.singles none b.0.traced b.1);
     }
+
+pub going_is_taken : (catalog : List Table) (places : List Place) (name : Name) (fit : Tables → Bool) (events : List Event) (sys : SystemAt) (doing : ℕ → Option Statement) (opening closing : List Shelf) (moments : List (List Shelf))
+    → IsGoing catalog fit (moved_events (λ ns. name) events) sys doing → find_table catalog coordinator_table ≡ None → IsTrace places events opening moments closing → AreAbout catalog events → HoldAs catalog places opening empty
+    → AreTaken catalog places opening moments
+going_is_taken catalog places name fit events sys doing opening closing moments g none t about h =
+    let b = beside catalog places name fit events sys doing opening closing moments g t about h in
+    taken_back catalog name places events opening moments empty about b.0 (taken_at b.1.plan [] (one_shelf name empty) b.1.played b.0.singles catalog b.1.run none)

@@ -9,3 +9,5 @@ pub mod Moments
 pub mod Explains
 pub mod Agreeing
 pub mod Noted
+pub mod Calls
+pub mod Finding

@@ -105,7 +105,7 @@ module _ (at : Name → Name) where
       by false ih = ih
 
   end_moved : (events : List Event) (s : Said) → end_of (moved_events at events) s ≡ end_of events s
-  end_moved events s = ap (λ n. if is_some s.answer then s.answered else n) (length-map events (moved_event at))
+  end_moved events s = ap (λ n. if is_some s.answer then s.reached else n) (length-map events (moved_event at))
 
   of_moved : (events : List Event) (c : ℕ) (s : Said) → calls_of (moved_events at events) c s ≡ map moved_made (calls_of events c s)
   of_moved events c s =

@@ -39,13 +39,13 @@ pub record IsRowKey (k : Key) : Type 0 where
 
 ---- what stands at a key stood there before the event, or the event puts it there
 
-abbrev PutsBy : Request → Key → Type 0
+abbrev pub PutsBy : Request → Key → Type 0
 PutsBy (ask.Get key) k = ⊥
 PutsBy (ask.Scan span) k = ⊥
 PutsBy (ask.PutIf rec condition) k = rec.key ≡ k
 PutsBy (ask.DeleteIf key condition) k = ⊥
 
-abbrev PutsAt : Event → Key → Type 0
+abbrev pub PutsAt : Event → Key → Type 0
 PutsAt (event.Take client text answer) k = ⊥
 PutsAt (event.Call client store q how r answer) k = PutsBy q k
 PutsAt (event.Stop client) k = ⊥
@@ -77,7 +77,7 @@ call_left_or_put places q r before now k row a h = elim (a.there k) [
   | inr x ↦ inl (sym x.0 ∙ h)
 ]
 
-stood_or_put : (places : List Place) (e : Event) (before now : List Shelf) (k : Key) (row : Record) → Effect places e before now → standing places now k ≡ Some row → (standing places before k ≡ Some row) ⊎ PutsAt e k
+pub stood_or_put : (places : List Place) (e : Event) (before now : List Shelf) (k : Key) (row : Record) → Effect places e before now → standing places now k ≡ Some row → (standing places before k ≡ Some row) ⊎ PutsAt e k
 stood_or_put places (event.Take client text answer) before now k row same h = inl (ap (λ s. standing places s k) (sym same) ∙ h)
 stood_or_put places (event.Call client store q how r answer) before now k row c h = call_left_or_put places q r before now k row (at_call places store q how r before now c) h
 stood_or_put places (event.Stop client) before now k row same h = inl (ap (λ s. standing places s k) (sym same) ∙ h)

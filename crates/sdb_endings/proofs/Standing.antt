@@ -1,13 +1,14 @@
 -- What stands at the keys of tables are transactional records, and what stands in the coordinator's table are well formed rows.
-use Rattle.std.proofs.Common.{◌≡◌, ◌≢◌, ◌<◌, ◌^◌, ℕ, Bool, true, false, List, Option, Some, None, refl, sym, ap, ◌∙◌, subst}
+use Rattle.std.proofs.Common.{◌≡◌, ◌≢◌, ◌<◌, ◌^◌, ℕ, Bool, true, false, List, take, drop, Option, Some, None, refl, sym, ap, ◌∙◌, subst}
 use Rattle.std.specs.Prelude.{◌&&◌, not, IsOk, Result, Ok, Err, is_ok}
 use Rattle.std.specs.Option.{option_map}
 use Rattle.sdb_types.specs.declared.key.Key.{Key}
 use Rattle.sdb_types.specs.declared.record.Record.{Record}
 use Rattle.sdb_types.specs.declared.record.State.TheVariants.{Committed}
+use Rattle.sdb_schema.specs.declared.table.Table.{Table}
 use Rattle.sdb_record.specs.declared.coordinator.Decided.{Decided}
 use Rattle.sdb_record.specs.declared.coordinator.Decision.{Decision}
-use Rattle.sdb_record.specs.Coordinator.{coordinator_key_of, coordinator_row_of, decision_in, is_coordinator_table}
+use Rattle.sdb_record.specs.Coordinator.{coordinator_key_of, coordinator_row_of, coordinator_table, decision_in, is_coordinator_table}
 use Rattle.sdb_record.specs.Meta.{checked, is_in, is_taken, is_unresolved}
 use Rattle.sdb_record.specs.Parts.{are_stored}
 use Rattle.sdb_record.proofs.ImageLaws.{prepared-unresolved, row-decision}
@@ -15,16 +16,19 @@ use Rattle.sdb_record.proofs.RollLaws.{forward-taken}
 use Rattle.sdb_model.specs.declared.event.Event.{Event}
 use Rattle.sdb_model.specs.declared.script.Place.{Place}
 use Rattle.sdb_model.specs.Events.{Shelf, standing}
-use Rattle.sdb_laws.specs.Explained.{newest_first}
+use Rattle.sdb_model.specs.Exec.{find_table}
+use Rattle.sdb_laws.specs.Explained.{IsRunOf, newest_first}
 use Rattle.sdb_laws.specs.History.{Firm, Held, History, Standing}
-use Rattle.sdb_laws.specs.Lawful.{id, is_data}
+use Rattle.sdb_laws.specs.Lawful.{Played, id, is_data}
 use Rattle.sdb_laws.specs.Plan.{Plan, written}
 use Rattle.sdb_laws.specs.Records.{firm_record, held_record, record_for, write_there}
 use Rattle.sdb_laws.specs.Trace.{closing, history}
 use Rattle.sdb_laws.proofs.Known.{IsPlanned, taken_fits, took_is_taken, writer_taken, writes_it}
+use Rattle.sdb_laws.proofs.Moments.{apart_from, at_cut, cut, early_run}
 use Rattle.sdb_laws.proofs.Times.{whole_of}
 use Rattle.sdb_laws.proofs.Whole.{Whole}
 use Rattle.sdb_endings.specs.Points.{AreKnown}
+use Rattle.sdb_endings.specs.Stores.{AreTaken}
 use Rattle.sdb_endings.proofs.Others.{only_rows}
 use Rattle.sdb_endings.proofs.Runs.{ByLaws}
 
@@ -59,27 +63,36 @@ meta_ok r h = ok_of (checked r.columns) (right (are_stored r.columns) (is_ok (ch
 some_is : (x y : Record) → Some x ≡ Some y → x ≡ y
 some_is x y e = cc
 
+-- Each record that stands passes the checks.
+taken_held : (plan : ℕ → Plan) (places : List Place) (w : History) (past : List Played) (shelves : List Shelf) → Whole plan places w past shelves → (k : Key) (r : Record) → is_data k ≡ true → standing places shelves k ≡ Some r → is_taken r ≡ true
+taken_held plan places w past shelves i k r outside at = by (w.rows k) refl (sym (i.held.records k outside) ∙ at)
+  where
+    by : (s : Option Standing) → w.rows k ≡ s → option_map (record_for plan k) s ≡ Some r → is_taken r ≡ true
+    by None e h = absurd (cc)
+    by (Some (Firm t)) e h =
+        let writer = i.all.one.firm k t e in
+        let taken = writer_taken plan w k t i.all.one.taken writer in
+        subst (λ x. is_taken x ≡ true) (some_is (firm_record plan t k) r h) (firm_taken plan t k (i.knows.planned t taken) (taken_fits w t i.all.one.begun i.knows.fits taken) writer.1)
+    by (Some (Held t)) e h =
+        let took = i.all.one.held k t e in
+        let taken = took_is_taken w t k i.all.one.taken took in
+        let asked = ((i.all.one.took t k).0 took).0 in
+        subst (λ x. is_taken x ≡ true) (some_is (held_record plan t k) r h) (held_taken (held_record plan t k) (held_unresolved plan t k (i.knows.planned t taken) (taken_fits w t i.all.one.begun i.knows.fits taken) (i.all.one.asked t k asked)))
+
+-- also at each moment before
+pub taken_at : (plan : ℕ → Plan) (places : List Place) (opening : List Shelf) (played : List Played) (moments : List (List Shelf)) (catalog : List Table) → IsRunOf plan places opening (newest_first played) (newest_first moments) → find_table catalog coordinator_table ≡ None → AreTaken catalog places opening moments
+taken_at plan places opening played moments catalog run none n key r low table at =
+    let c = cut plan places opening played moments n run low in
+    let first = early_run plan places opening (take n played) (drop n played) (take n moments) (drop n moments) c.same c.whole in
+    taken_held plan places (history plan places opening (newest_first (take n played)) (newest_first (take n moments))) (newest_first (take n played)) (closing opening (newest_first (take n moments)))
+    (whole_of plan places opening (newest_first (take n played)) (newest_first (take n moments)) first) key r ((apart_from catalog none).outside key table) (ap (λ s. standing places s key) (sym (at_cut opening moments n c.size)) ∙ at)
+
 module _ (places : List Place) (events : List Event) (opening end : List Shelf) (b : ByLaws places events opening end) where
   whole : Whole b.plan places (history b.plan places opening (newest_first b.played) b.held) (newest_first b.played) (closing opening b.held)
   whole = whole_of b.plan places opening (newest_first b.played) b.held b.run
 
   record_taken : (k : Key) (r : Record) → is_data k ≡ true → standing places end k ≡ Some r → is_taken r ≡ true
-  record_taken k r outside at = by ((history b.plan places opening (newest_first b.played) b.held).rows k) refl (sym (whole.held.records k outside) ∙ ap (λ s. standing places s k) b.end_is ∙ at)
-    where
-      w : History
-      w = history b.plan places opening (newest_first b.played) b.held
-
-      by : (s : Option Standing) → (history b.plan places opening (newest_first b.played) b.held).rows k ≡ s → option_map (record_for b.plan k) s ≡ Some r → is_taken r ≡ true
-      by None e h = absurd (cc)
-      by (Some (Firm t)) e h =
-          let writer = whole.all.one.firm k t e in
-          let taken = writer_taken b.plan w k t whole.all.one.taken writer in
-          subst (λ x. is_taken x ≡ true) (some_is (firm_record b.plan t k) r h) (firm_taken b.plan t k (whole.knows.planned t taken) (taken_fits w t whole.all.one.begun whole.knows.fits taken) writer.1)
-      by (Some (Held t)) e h =
-          let took = whole.all.one.held k t e in
-          let taken = took_is_taken w t k whole.all.one.taken took in
-          let asked = ((whole.all.one.took t k).0 took).0 in
-          subst (λ x. is_taken x ≡ true) (some_is (held_record b.plan t k) r h) (held_taken (held_record b.plan t k) (held_unresolved b.plan t k (whole.knows.planned t taken) (taken_fits w t whole.all.one.begun whole.knows.fits taken) (whole.all.one.asked t k asked)))
+  record_taken k r outside at = taken_held b.plan places (history b.plan places opening (newest_first b.played) b.held) (newest_first b.played) (closing opening b.held) whole k r outside (ap (λ s. standing places s k) b.end_is ∙ at)
 
   row_ok : (t : ℕ) (row : Record) → t < 2 ^ 128 → standing places end (coordinator_key_of (id t)) ≡ Some row → IsOk (decision_in row)
   row_ok t row fits at = by ((history b.plan places opening (newest_first b.played) b.held).row t) refl (sym (whole.held.rows t fits) ∙ ap (λ s. standing places s (coordinator_key_of (id t))) b.end_is ∙ at)

@@ -3,3 +3,4 @@ pub mod Order
 pub mod Points
 pub mod Stores
 pub mod Decisions
+pub mod Shown

@@ -10,4 +10,5 @@ pub mod explained;
 pub mod order;
 pub mod points;
 pub mod records;
+pub mod shown;
 pub mod stores;

@@ -1,6 +1,6 @@
 -- The rows that a statement writes fit its table, where it isn't refused and the rows that it read fit.
-use Rattle.std.proofs.Common.{◌≡◌, ℕ, suc, ◌+◌, ◌<◌, List, [], ◌∷◌, ◌++◌, Bool, true, false, not, ◌&&◌, ◌||◌, ◌==◌, cond, map, length, Option, Some, None, refl, sym, ap, ◌∙◌, arith, append_assoc}
-use Rattle.std.specs.Prelude.{filter, find, is_some, nat_lt, nat_eq, position, unwrap_or, ℤ, pos, negsuc}
+use Rattle.std.proofs.Common.{◌≡◌, ℕ, ◌+◌, List, [], ◌∷◌, ◌++◌, Bool, true, false, not, ◌&&◌, ◌||◌, cond, map, length, Option, Some, None, refl, sym, ap, ◌∙◌, arith, append_assoc}
+use Rattle.std.specs.Prelude.{filter, find, is_some, nat_lt, unwrap_or}
 use Rattle.std.specs.Option.{option_map, option_map_or}
 use Rattle.std.specs.List.{list_all, list_any, position_or_len}
 use Rattle.std.specs.Ordering.{is_eq}
@@ -22,11 +22,10 @@ use Rattle.sdb_schema.specs.declared.table.Kind.TheVariants as kind
 use Rattle.sdb_schema.specs.declared.table.Column.{Column}
 use Rattle.sdb_schema.specs.declared.table.Order.{Order}
 use Rattle.sdb_schema.specs.declared.table.Table.{Table}
-use Rattle.sdb_schema.specs.Table.{has_column, kind_in, key_names, is_key_column as is_listed_key}
-use Rattle.sdb_schema.specs.Rows.{is_of_kind, is_in_range, is_of_column, is_value_of, are_values_of, is_stored_in, fits_table}
+use Rattle.sdb_schema.specs.Table.{has_column, key_names, is_key_column as is_listed_key}
+use Rattle.sdb_schema.specs.Rows.{is_of_kind, is_in_range, is_value_of, are_values_of, is_stored_in, fits_table}
 use Rattle.sdb_model.specs.Rows.{Name, same_name, at_kind, fits_int, kind_of_column, literal_at, is_key_column, order_names, value_in}
 use Rattle.sdb_record.specs.declared.access.Image.{Image}
-use Rattle.sdb_record.specs.declared.write.Change.{Change}
 use Rattle.sdb_record.specs.declared.write.Change.TheVariants as change
 use Rattle.sdb_model.specs.declared.statement.Insert.{Insert}
 use Rattle.sdb_model.specs.declared.statement.Statement.{Statement}
@@ -136,7 +135,7 @@ null_kept kind.Int (value.BigInt n) = elim (fits_int n) as (λ b. is_null (cond 
 null_kept kind.Int (value.Text t) = refl
 null_kept kind.Int (value.Blob b) = refl
 
-same_turned : (m n : Name) → same_name m n ≡ same_name n m
+pub same_turned : (m n : Name) → same_name m n ≡ same_name n m
 same_turned m n = (eq_by_cmp_equiv name_total).symm m n
 
 among_turned : (name : Name) (ns : List Name) → list_any (λ n. same_name n name) ns ≡ list_any (λ n. same_name name n) ns
@@ -240,7 +239,7 @@ values_fit t ns vs (key ∷ keys) l h k f =
     let rest : are_values_of t.columns keys (map (λ name. literal_at t name (value_in ns vs name value.Null)) keys) ≡ true = values_fit t ns vs keys l a.1 b.1 f in
     rw (first, rest) refl
 
-same_self : (n : Name) → same_name n n ≡ true
+pub same_self : (n : Name) → same_name n n ≡ true
 same_self n = ap is_eq (tied_itself name_total n)
 
 -- each of the names stands among those of which they are the end

@@ -1,5 +1,5 @@
 -- The mentions of an insert, gathered one after the other.
-use Rattle.std.proofs.Common.{◌≡◌, List, [], ◌∷◌, ◌++◌, Some, None, refl, ap, sym, ◌∙◌, append_assoc}
+use Rattle.std.proofs.Common.{◌≡◌, List, [], ◌∷◌, ◌++◌, Some, sym, ◌∙◌, append_assoc}
 use Rattle.std.proofs.lemmas.List.{append-nil}
 use Rattle.sdb_types.specs.declared.value.Value.{Value}
 use Rattle.sdb_model.specs.Rows.{Name}

@@ -1,10 +1,9 @@
 -- Changes laid over tables, key by key.
-use Rattle.std.proofs.Common.{◌≡◌, ℕ, List, [], ◌∷◌, ◌++◌, Bool, true, false, not, ◌&&◌, cond, map, length, Option, Some, None, refl, sym, ap, ◌∙◌, subst}
-use Rattle.std.specs.Prelude.{filter, T}
-use Rattle.std.specs.declared.cmp.Ordering.{Ordering}
+use Rattle.std.proofs.Common.{◌≡◌, List, [], ◌∷◌, Bool, true, false, cond, map, Option, Some, None, refl, sym, ap, ◌∙◌}
+use Rattle.std.specs.Prelude.{filter}
 use Rattle.std.specs.declared.cmp.Ordering.TheVariants.{Less, Equal, Greater}
 use Rattle.std.specs.Ordering.{is_eq, is_lt}
-use Rattle.std.specs.FinMap.{FinMap, get, insert, remove, entries, entries_sorted, from_entries, find, is_sorted, get-entries, get-insert, get-remove, get-from_entries, same_map}
+use Rattle.std.specs.FinMap.{get, find, is_sorted, get-insert, get-remove}
 use Rattle.std.specs.FinMap.Entries.{below_all}
 use Rattle.std.proofs.lemmas.Bool.{and_parts}
 use Rattle.sdb_types.specs.declared.key.Key.{Key}
@@ -18,7 +17,7 @@ use Rattle.sdb_record.specs.declared.access.Image.{Image}
 use Rattle.sdb_model.specs.Exec.{Tables, row_of_entry, entry_of_row}
 use Rattle.sdb_record.specs.Rolls.{row_of_change}
 use Rattle.sdb_model.specs.Access.{with_row, with_changes}
-use Rattle.sdb_types.proofs.Basics.{less_of as less, truth as true_from_T}
+use Rattle.sdb_types.proofs.Basics.{less_of as less}
 
 apart : (x : Key) (es : List (Key × List Pair)) → below_all key_cmp x es ≡ true → find key_cmp x es ≡ None
 apart x [] h = refl

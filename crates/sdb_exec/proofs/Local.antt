@@ -1,13 +1,12 @@
 -- A statement's answer and changes are those that it has on the rows of its access.
-use Rattle.std.proofs.Common.{◌≡◌, ℕ, List, [], ◌∷◌, ◌++◌, Bool, true, false, not, ◌&&◌, ◌||◌, cond, map, length, Option, Some, None, refl, sym, ap, ◌∙◌, subst}
+use Rattle.std.proofs.Common.{◌≡◌, List, [], ◌∷◌, Bool, true, false, not, ◌||◌, cond, map, length, Option, Some, None, refl, sym, ap, ◌∙◌}
 use Rattle.std.specs.Prelude.{filter, is_some, unwrap_or}
-use Rattle.std.specs.List.{list_all}
 use Rattle.std.specs.Ordering.{is_eq}
-use Rattle.std.specs.FinMap.{FinMap, get, insert, remove, entries, entries_sorted, from_entries, find, is_sorted, get-entries, get-insert, get-remove, get-from_entries, get-from_sorted, entries-from_sorted, from_sorted, same_map}
+use Rattle.std.specs.FinMap.{get, insert, entries, entries_sorted, find, is_sorted, get-entries, get-from_entries, get-from_sorted, entries-from_sorted, from_sorted, same_map}
 use Rattle.std.specs.FinMap.Entries.{where_key, is_sorted-where_key, find-where_key}
 use Rattle.sdb_types.specs.declared.key.Key.{Key}
 use Rattle.sdb_types.specs.declared.pair.Pair.{Pair}
-use Rattle.sdb_types.specs.Order.{key_cmp, table_cmp}
+use Rattle.sdb_types.specs.Order.{key_cmp}
 use Rattle.sdb_types.proofs.KeyOrder.{key_exact, key_total}
 use Rattle.sdb_schema.specs.declared.table.Table.{Table}
 use Rattle.sdb_model.specs.declared.statement.Test.{Test}
@@ -15,23 +14,20 @@ use Rattle.sdb_model.specs.declared.statement.Statement.{Statement}
 use Rattle.sdb_model.specs.declared.statement.Statement.TheVariants as statement
 use Rattle.sdb_record.specs.declared.access.Access.{Access}
 use Rattle.sdb_record.specs.declared.access.Access.TheVariants as access
-use Rattle.sdb_model.specs.declared.answer.Answer.{Answer}
 use Rattle.sdb_model.specs.declared.answer.Answer.TheVariants as answer
-use Rattle.sdb_record.specs.declared.write.Change.{Change}
 use Rattle.sdb_record.specs.declared.write.Change.TheVariants as change
-use Rattle.sdb_record.specs.declared.write.Keyed.{Keyed}
 use Rattle.sdb_model.specs.declared.statement.Update.{Update}
 use Rattle.sdb_model.specs.declared.statement.Delete.{Delete}
 use Rattle.sdb_model.specs.declared.statement.Insert.{Insert}
 use Rattle.sdb_record.specs.declared.access.Image.{Image}
 use Rattle.sdb_schema.specs.Table.{is_table}
-use Rattle.sdb_model.specs.Exec.{Tables, all_rows, row_of_entry, entry_of_row, tables_of_rows, is_row_of, passes, updated, with_sets, key_of, with_named, answer_of, left_by, shown, cut, sorted}
+use Rattle.sdb_model.specs.Exec.{Tables, all_rows, row_of_entry, tables_of_rows, is_row_of, passes, with_sets, key_of, with_named, answer_of, left_by, shown, cut, sorted}
 use Rattle.sdb_exec.specs.Reads.{access_for, access_of}
-use Rattle.sdb_model.specs.Access.{in_access, rows_at, with_row, with_changes}
+use Rattle.sdb_model.specs.Access.{in_access, rows_at, with_changes}
 use Rattle.sdb_exec.specs.Plans.{has_shape, are_shaped, put_row, columns_at, answer_on, changes_on}
 use Rattle.sdb_exec.proofs.Narrow.{narrow, tests_imply_access}
 use Rattle.sdb_exec.proofs.Laid.{outcome, keyed, laid, mapped_at, find-mapped, sieved_at, find-sieved}
-use Rattle.sdb_types.proofs.Basics.{truth as true_from_T}
+use Rattle.sdb_types.proofs.Basics.{truth as true_from_T, cond_some as each}
 
 -- the rows that pass are found among those of the access
 pub passing : (t : Table) (ts : List Test) (d : Tables) → is_table t ≡ true → are_shaped t (all_rows d) ≡ true → filter (passes t ts) (all_rows d) ≡ filter (passes t ts) (rows_at (access_for t ts) d)
@@ -137,10 +133,6 @@ get-part p d q =
     get-from_sorted key_cmp _ q (is_sorted-where_key key_cmp p (entries d) (entries_sorted d))
     ∙ find-where_key key_cmp p q (λ x e. ap p (sym (key_exact q x e))) (entries d)
     ∙ ap (λ o. cond (p q) o None) (sym (get-entries d q))
-
-pub each : {X : Type 0} (b : Bool) (x y : Option X) → (b ≡ true → x ≡ y) → cond b x None ≡ cond b y None
-each true x y e = e refl
-each false x y e = refl
 
 pub agree_rows : (a : Access) (d e : Tables) → ((q : Key) → in_access a q ≡ true → get d q ≡ get e q) → rows_at a d ≡ rows_at a e
 agree_rows a d e h =

@@ -1,9 +1,8 @@
 -- A row that passes the tests lies in their access.
-use Rattle.std.proofs.Common.{◌≡◌, ℕ, ◌+◌, List, [], ◌∷◌, ◌++◌, Bool, true, false, not, ◌&&◌, ◌||◌, ◌==◌, cond, map, length, Option, Some, None, refl, sym, ap, ◌∙◌, arith, subst}
+use Rattle.std.proofs.Common.{◌≡◌, ◌+◌, List, [], ◌∷◌, ◌++◌, Bool, true, false, not, ◌&&◌, ◌||◌, ◌==◌, cond, map, length, Option, Some, None, refl, sym, ap, ◌∙◌, arith, subst}
 use Rattle.std.specs.Prelude.{filter}
 use Rattle.std.specs.List.{list_all, list_any}
-use Rattle.std.specs.declared.cmp.Ordering.{Ordering}
-use Rattle.std.specs.declared.cmp.Ordering.TheVariants.{Less, Equal, Greater}
+use Rattle.std.specs.declared.cmp.Ordering.TheVariants.{Equal}
 use Rattle.std.specs.Ordering.{is_eq}
 use Rattle.std.specs.Cmp.Lexicographic.{slice_cmp, lists_total}
 use Rattle.std.specs.Cmp.{tied_itself, eq_by_cmp_equiv}
@@ -12,28 +11,24 @@ use Rattle.std.proofs.lemmas.List.{length-map}
 use Rattle.std.proofs.lemmas.List.Folds.{list_any-append}
 use Rattle.sdb_types.specs.declared.key.Key.{Key}
 use Rattle.sdb_types.specs.declared.key.TableName.{TableName}
-use Rattle.sdb_types.specs.declared.record.Span.{Span}
 use Rattle.sdb_types.specs.declared.value.Value.{Value}
-use Rattle.sdb_types.specs.declared.value.Value.TheVariants as value
-use Rattle.sdb_types.specs.Order.{key_cmp, table_cmp, value_cmp, name_cmp}
+use Rattle.sdb_types.specs.Order.{key_cmp, table_cmp, value_cmp}
 use Rattle.sdb_types.specs.ValueLaws.{value_exact, value_total}
-use Rattle.sdb_types.proofs.KeyOrder.{name_exact, name_total, table_exact, table_total, key_exact, key_total}
+use Rattle.sdb_types.proofs.KeyOrder.{name_exact, table_exact, table_total, key_total}
 use Rattle.sdb_schema.specs.declared.table.Table.{Table}
 use Rattle.sdb_schema.specs.Table.{is_table, first_repeated, is_among, key_names}
-use Rattle.sdb_record.specs.declared.access.Access.{Access}
-use Rattle.sdb_record.specs.declared.access.Access.TheVariants as access
 use Rattle.sdb_record.specs.declared.access.Image.{Image}
-use Rattle.sdb_model.specs.declared.statement.Comparison.{Comparison}
 use Rattle.sdb_model.specs.declared.statement.Comparison.TheVariants.{Eq, Ne, Lt, Le, Gt, Ge}
 use Rattle.sdb_model.specs.declared.statement.Test.{Test}
 use Rattle.sdb_model.specs.declared.statement.Test.TheVariants.{Compare, IsNull, NotNull}
 use Rattle.sdb_model.specs.Rows.{Name, same_name, order_names, value_of, value_in, literal_at}
 use Rattle.sdb_model.specs.Exec.{passes_test, passes, is_row_of}
-use Rattle.sdb_exec.specs.Reads.{is_equals, fixed, joined, all_fixed, access_by, access_for}
+use Rattle.sdb_exec.specs.Reads.{fixed, joined, all_fixed, access_by, access_for}
 use Rattle.sdb_model.specs.Access.{in_access}
 use Rattle.sdb_exec.specs.Plans.{has_shape}
 use Rattle.sdb_exec.proofs.Places.{sound}
 use Rattle.sdb_types.specs.Exact.{equal_of as equal}
+use Rattle.sdb_exec.proofs.Fits.{same_turned, same_self}
 
 -- filters
 
@@ -54,9 +49,6 @@ narrow p s ok h (x ∷ xs) all =
 abbrev are_distinct : List Name → Bool
 are_distinct [] = true
 are_distinct (n ∷ ns) = not (list_any (same_name n) ns) && are_distinct ns
-
-same_turned : (m n : Name) → same_name m n ≡ same_name n m
-same_turned m n = (eq_by_cmp_equiv name_total).symm m n
 
 -- none of the names is n, where n is among those passed
 not_again : (n : Name) (passed ns : List Name) → ((m : Name) → same_name m n ≡ true → is_among passed m ≡ true) → first_repeated passed ns ≡ None → list_any (same_name n) ns ≡ false
@@ -91,9 +83,6 @@ distinct : (t : Table) → is_table t ≡ true → are_distinct (t.partition ++ 
 distinct t h = distinct_from [] (key_names t) (sound t h).0
 
 -- the values of the key's columns
-
-same_self : (n : Name) → same_name n n ≡ true
-same_self n = ap is_eq (tied_itself name_total n)
 
 skipped : (n : Name) (v : Value) (f : Name → Value) (ms : List Name) → list_any (same_name n) ms ≡ false → map (λ m. cond (same_name n m) v (f m)) ms ≡ map f ms
 skipped n v f [] h = refl

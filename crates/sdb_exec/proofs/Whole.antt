@@ -1,12 +1,9 @@
 -- A plan on the rows of its access finishes as its statement does on the whole tables.
-use Rattle.std.proofs.Common.{◌≡◌, ℕ, ◌+◌, List, [], ◌∷◌, Bool, true, false, not, ◌&&◌, ◌||◌, ◌==◌, cond, map, length, Option, Some, None, refl, sym, ap, ◌∙◌, subst, arith}
-use Rattle.std.specs.Prelude.{filter, find}
+use Rattle.std.proofs.Common.{◌≡◌, List, [], ◌∷◌, Bool, true, false, not, ◌||◌, cond, length, Option, Some, None, refl, sym, ap, ◌∙◌, arith}
+use Rattle.std.specs.Prelude.{filter}
 use Rattle.std.specs.List.{list_all}
 use Rattle.std.specs.Ordering.{is_eq}
-use Rattle.std.specs.declared.cmp.Ordering.{Ordering}
-use Rattle.std.specs.declared.cmp.Ordering.TheVariants.{Less, Equal, Greater}
 use Rattle.std.specs.Cmp.{tied_itself, eq_by_cmp_equiv}
-use Rattle.std.specs.FinMap.{get}
 use Rattle.std.proofs.lemmas.Bool.{and_parts, and_from, eq-eqb}
 use Rattle.std.proofs.lemmas.List.{length-map}
 use Rattle.sdb_types.specs.declared.key.Key.{Key}
@@ -19,9 +16,6 @@ use Rattle.sdb_schema.specs.declared.table.Column.{Column}
 use Rattle.sdb_schema.specs.declared.table.Table.{Table}
 use Rattle.sdb_schema.specs.Table.{is_table, order_names}
 use Rattle.sdb_schema.specs.Rows.{fits_table, are_values_of, is_value_of, is_stored_in}
-use Rattle.sdb_schema.specs.Catalog.{is_catalog, rises}
-use Rattle.sdb_record.specs.declared.access.Access.{Access}
-use Rattle.sdb_record.specs.declared.access.Access.TheVariants as access
 use Rattle.sdb_record.specs.declared.access.Image.{Image}
 use Rattle.sdb_model.specs.Rows.{Name}
 use Rattle.sdb_model.specs.declared.statement.Statement.{Statement}
@@ -29,8 +23,8 @@ use Rattle.sdb_model.specs.declared.statement.Statement.TheVariants as statement
 use Rattle.sdb_model.specs.Exec.{Tables, all_rows, is_row_of, exec, exec_in, named_table, answer_of, left_by, key_of}
 use Rattle.sdb_exec.specs.Reads.{access_of, access_by}
 use Rattle.sdb_model.specs.Access.{in_access, rows_at, with_changes}
-use Rattle.sdb_exec.specs.Plans.{Planned, is_unfit, first_unfit, has_shape, are_shaped, all_fit, answer_on, changes_on, finished, step_at, step_of, IsExec}
-use Rattle.sdb_exec.proofs.Local.{same_answer, same_after, agree_rows}
+use Rattle.sdb_exec.specs.Plans.{Planned, first_unfit, has_shape, are_shaped, all_fit, answer_on, changes_on, step_of, IsExec}
+use Rattle.sdb_exec.proofs.Local.{same_answer, same_after}
 use Rattle.sdb_types.specs.Exact.{equal_of as equal}
 
 ---- rows that fit have the shape of their table
@@ -69,7 +63,7 @@ get_own k q h =
     let same : k ≡ q = key_exact k q (equal _ h) in
     ap (λ x. is_eq (table_cmp x.table k.table)) (sym same) ∙ ap is_eq (tied_itself table_total k.table)
 
-turned : (t : TableName) (q : Key) → is_eq (table_cmp t q.table) ≡ true → is_eq (table_cmp q.table t) ≡ true
+pub turned : (t : TableName) (q : Key) → is_eq (table_cmp t q.table) ≡ true → is_eq (table_cmp q.table t) ≡ true
 turned t q h = (eq_by_cmp_equiv table_total).symm q.table t ∙ h
 
 by_own : (t : TableName) (a b : Option (List Value)) (q : Key) → in_access (access_by t a b) q ≡ true → is_eq (table_cmp q.table t) ≡ true

@@ -18,10 +18,7 @@ use Rattle.sdb_hashed.specs.declared.section.Section.{Section}
 use Rattle.sdb_hashed.specs.Section.{section_of, section_eq}
 use Rattle.sdb_hashed.specs.Gathered.{gathered, held, bucket_of, HasOwnKeys}
 use Rattle.sdb_hashed.proofs.Sections.{section_same, section_own, section_turned, other_key}
-
-abbrev pub or_else : {X : Type 0} → Option X → Option X → Option X
-or_else None o = o
-or_else (Some x) o = Some x
+use Rattle.sdb_types.proofs.Basics.{or_else}
 
 or_none : {X : Type 0} (o : Option X) → or_else o None ≡ o
 or_none None = refl

@@ -1,5 +1,5 @@
 -- Equal partitions.
-use Rattle.std.proofs.Common.{◌≡◌, List, Bool, true, false, refl, sym, ap, subst, ◌∙◌}
+use Rattle.std.proofs.Common.{◌≡◌, List, true, false, refl, sym, ap, subst, ◌∙◌}
 use Rattle.std.specs.Prelude.{◌&&◌}
 use Rattle.std.specs.Ordering.{eq_by_cmp}
 use Rattle.std.specs.Str.{bytes_eq}
@@ -14,6 +14,7 @@ use Rattle.sdb_types.proofs.Bools.{and_first, and_second, and_both}
 use Rattle.sdb_types.proofs.KeyOrder.{key_exact}
 use Rattle.sdb_hashed.specs.declared.section.Section.{Section}
 use Rattle.sdb_hashed.specs.Section.{section_of, section_eq}
+use Rattle.sdb_types.proofs.Basics.{false_by as false_from}
 
 values : (xs ys : List Value) → (pointwise (eq_by_cmp value_cmp) xs ys ≡ true → xs ≡ ys) × (xs ≡ ys → pointwise (eq_by_cmp value_cmp) xs ys ≡ true)
 values = pointwise_decides (order_decides value_total value_exact)
@@ -34,10 +35,6 @@ section_own a =
 
 pub section_is : (a b : Section) → a ≡ b → section_eq a b ≡ true
 section_is a b e = subst (λ (x : Section). section_eq a x ≡ true) e (section_own a)
-
-false_from : (b : Bool) → (b ≡ true → ⊥) → b ≡ false
-false_from true h = absurd (h refl)
-false_from false h = refl
 
 pub section_turned : (a b : Section) → section_eq a b ≡ false → section_eq b a ≡ false
 section_turned a b h = false_from (section_eq b a) (λ e. let t : section_eq a b ≡ true = section_is a b (sym (section_same b a e)) in let u : true ≡ false = sym t ∙ h in cc)

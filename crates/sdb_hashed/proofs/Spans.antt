@@ -32,8 +32,9 @@ use Rattle.sdb_types.proofs.KeyOrder.{table_exact}
 use Rattle.sdb_hashed.specs.declared.section.Section.{Section}
 use Rattle.sdb_hashed.specs.Section.{section_of, section_eq}
 use Rattle.sdb_hashed.specs.Gathered.{gathered, held, HasOwnKeys}
-use Rattle.sdb_hashed.proofs.Gather.{or_else, find_append, in_bucket, held_get, find_gathered}
+use Rattle.sdb_hashed.proofs.Gather.{find_append, in_bucket, held_get, find_gathered}
 use Rattle.std.proofs.lemmas.List.{append-nil as append_nil}
+use Rattle.sdb_types.proofs.Basics.{or_else}
 
 alike : (span : Span) (q x : Key) → key_cmp q x ≡ Equal → in_span span x ≡ in_span span q
 alike span q x e = ap (in_span span) (sym (key_exact q x e))

@@ -1,8 +1,8 @@
 -- The tests of prepares, checks, decisions and aborts decide their rules.
-use Rattle.std.proofs.Common.{◌≡◌, ◌≢◌, ℕ, suc, ◌+◌, ◌<◌, ◌^◌, Bool, true, false, List, [], ◌∷◌, ◌++◌, length, Option, Some, None, ◌⊎◌, inl, inr, refl, sym, ap, subst, ◌∙◌, arith}
-use Rattle.std.specs.Prelude.{ℤ, ◌&&◌, ◌||◌, ◌==◌, not, is_some, nat_lt, slice_get, map, if◌then◌else◌}
-use Rattle.std.specs.Option.{option_map_or, option_map, option_and_then}
-use Rattle.std.specs.List.{list_any, list_all, enumerate_from}
+use Rattle.std.proofs.Common.{◌≡◌, ◌≢◌, ℕ, suc, ◌+◌, ◌<◌, ◌^◌, Bool, true, false, List, [], ◌∷◌, ◌++◌, length, Option, Some, None, inl, inr, refl, sym, ap, subst, ◌∙◌, arith}
+use Rattle.std.specs.Prelude.{ℤ, ◌&&◌, ◌||◌, ◌==◌, not, is_some, nat_lt, slice_get, if◌then◌else◌}
+use Rattle.std.specs.Option.{option_map_or, option_map}
+use Rattle.std.specs.List.{list_all, enumerate_from}
 use Rattle.std.proofs.lemmas.Bool.{ltb-true, lt-ltb}
 use Rattle.std.proofs.lemmas.List.{length-append}
 use Rattle.sdb_types.specs.declared.key.Key.{Key}
@@ -17,7 +17,7 @@ use Rattle.sdb_types.specs.declared.record.Request.TheVariants as ask
 use Rattle.sdb_types.specs.declared.record.Reply.{Reply}
 use Rattle.sdb_types.specs.declared.record.Reply.TheVariants as reply
 use Rattle.sdb_types.specs.Contents.{in_span}
-use Rattle.sdb_types.specs.Exactness.{request_tells, span_tells}
+use Rattle.sdb_types.specs.Exactness.{span_tells}
 use Rattle.sdb_record.specs.declared.access.Read.{Read}
 use Rattle.sdb_record.specs.declared.access.Scan.{Scan}
 use Rattle.sdb_record.specs.declared.coordinator.Decision.TheVariants as decision
@@ -28,12 +28,10 @@ use Rattle.sdb_record.specs.Moved.{version_of, condition_of, is_unchanged, same_
 use Rattle.sdb_record.specs.Rolls.{IsWrite, prepared_record}
 use Rattle.sdb_model.specs.declared.event.Event.{Event}
 use Rattle.sdb_model.specs.declared.event.Event.TheVariants as event
-use Rattle.sdb_laws.specs.Plan as law
-use Rattle.sdb_laws.specs.Plan.{write_at, written, noted, number_of}
+use Rattle.sdb_laws.specs.Plan.{written, noted, number_of}
 use Rattle.sdb_model.specs.Noted.{same_key, version_among, version_noted}
-use Rattle.sdb_laws.specs.History.{Talk, Stage, Preparing, Checking, Deciding, IsPrepared}
-use Rattle.sdb_laws.specs.History as part
-use Rattle.sdb_laws.specs.Lawful.{id, talk, row_among, word_of as reply_word, IsCallOf, InCommit, IsUnchanged, MayPrepare, MayCheck, MayDecide, MayAbort}
+use Rattle.sdb_laws.specs.History.{Stage, Preparing, Checking, Deciding, IsPrepared}
+use Rattle.sdb_laws.specs.Lawful.{id, talk, row_among, word_of as reply_word, InCommit, IsUnchanged, MayPrepare, MayCheck, MayDecide, MayAbort}
 use Rattle.sdb_said.specs.declared.plan.Plan.{Plan}
 use Rattle.sdb_said.specs.declared.plan.Note.{Note}
 use Rattle.sdb_said.specs.declared.plan.Note.TheVariants as note
@@ -42,23 +40,17 @@ use Rattle.sdb_said.specs.declared.played.Word.TheVariants as word
 use Rattle.sdb_said.specs.declared.played.Played.{Played}
 use Rattle.sdb_said.specs.Values.{word_of, all_played, note_of, plan_in, writes_in, notes_in, moment_in, write_in, same_request, same_span}
 use Rattle.sdb_said.specs.Said.{taken_in, open_in, owner_of, stopped_in, staged_in, deciding_in, asked_in, told_in, checked_in}
-use Rattle.sdb_lawful.specs.Rules.{is_sound, fits_reply, in_commit, is_put, puts_write, prepares_well, is_as_noted, are_as_noted, finds_noted, checks_well, same_noted, agrees_at, agrees, is_note_checked, is_ready, decides_well, aborts_well}
-use Rattle.sdb_said.proofs.Lists.{none_some, left, right, both, either, or_left, not_true, true_not, decide, not_both, In, all_each, each_all, found_some, got_in, in_got, got_map, placed_each, each_placed}
+use Rattle.sdb_lawful.specs.Rules.{is_sound, fits_reply, in_commit, is_put, puts_write, prepares_well, is_as_noted, are_as_noted, finds_noted, checks_well, same_noted, agrees_at, agrees, is_note_checked, decides_well, aborts_well}
+use Rattle.sdb_said.proofs.Lists.{none_some, right, both, or_left, not_true, true_not, not_both, In, all_each, each_all, found_some, got_in, in_got, got_map, placed_each, each_placed}
 use Rattle.sdb_said.proofs.SaidLaws.{is_deciding, is_later, taken_is, open_is, owner_is, stopped_is, staged_is, deciding_is, asked_is, told_is, checked_is}
 use Rattle.sdb_said.proofs.ShownLaws.{number_is, is_number, key_is, is_key}
-use Rattle.sdb_lawful.proofs.PlanLaws.{sound_is, is_sound_of, write_is, write_in_is, write_own, written_at, Says, noted_says, says_noted, got_says, says_got, scan_says, says_scan, among_is}
+use Rattle.sdb_lawful.proofs.PlanLaws.{is_sound_of, write_is, write_in_is, write_own, written_at, noted_says, says_noted, got_says, says_got, says_scan, among_is}
 use Rattle.sdb_lawful.proofs.TakeLaws.{key_within, is_within}
-use Rattle.sdb_types.proofs.Basics.{clash, or_second as or_right, some_is}
+use Rattle.sdb_types.proofs.Basics.{clash, or_second as or_right, some_is, either, decides as decide}
+use Rattle.sdb_types.proofs.Bools.{and_first as left}
+use Rattle.sdb_said.proofs.Requests.{request_is, is_request}
 
 ---- calls
-
-pub request_is : (a b : Request) → same_request a b ≡ true → a ≡ b
-unfolding same_request
-request_is a b h = (request_tells a b).0 h
-
-pub is_request : (a b : Request) → a ≡ b → same_request a b ≡ true
-unfolding same_request
-is_request a b e = (request_tells a b).1 e
 
 span_is : (a b : Span) → same_span a b ≡ true → a ≡ b
 unfolding same_span

@@ -1,16 +1,15 @@
 -- What is known of a transaction, and what it has prepared, as the tests tell them; and what a lawful list has checked before.
-use Rattle.std.proofs.Common.{◌≡◌, ◌≢◌, ℕ, Bool, true, false, List, [], ◌∷◌, ◌++◌, Option, Some, None, ◌⊎◌, inl, inr, refl, sym, ap, subst, ◌∙◌}
+use Rattle.std.proofs.Common.{◌≡◌, ℕ, Bool, true, false, List, [], ◌∷◌, ◌++◌, Option, Some, None, inl, inr, refl, sym, ap, subst, ◌∙◌}
 use Rattle.std.specs.Prelude.{ℤ, ◌&&◌, ◌||◌, ◌==◌, not, if◌then◌else◌}
-use Rattle.std.specs.Option.{option_map_or, option_map}
+use Rattle.std.specs.Option.{option_map}
 use Rattle.sdb_types.specs.declared.key.Key.{Key}
 use Rattle.sdb_types.specs.declared.record.Record.{Record}
-use Rattle.sdb_record.specs.declared.coordinator.Decision.TheVariants as decision
 use Rattle.sdb_record.specs.declared.write.Write.{Write}
 use Rattle.sdb_record.specs.Coordinator.{coordinator_key_of}
 use Rattle.sdb_record.specs.Rolls.{IsWrite, prepared_record}
 use Rattle.sdb_laws.specs.Plan.{write_at}
 use Rattle.sdb_model.specs.Noted.{same_key}
-use Rattle.sdb_laws.specs.Lawful.{id, talk, IsRowShown, IsKnownCommitted, IsKnownAborted, prepared_at, IsLawful, MayPlay}
+use Rattle.sdb_laws.specs.Lawful.{id, talk, IsKnownCommitted, IsKnownAborted, prepared_at, IsLawful, MayPlay}
 use Rattle.sdb_said.specs.declared.plan.Plan.{Plan}
 use Rattle.sdb_said.specs.declared.played.Role.{Role}
 use Rattle.sdb_said.specs.declared.played.Role.TheVariants as role
@@ -19,11 +18,12 @@ use Rattle.sdb_said.specs.Values.{all_played, role_of, plan_in, writes_in, momen
 use Rattle.sdb_said.specs.Said.{is_take_of, is_prepare_of, taken_in, asked_in, risked_in, won_in, dead_in, met_in}
 use Rattle.sdb_said.specs.Shown.{shown, moments, shows_commit, shows_abort}
 use Rattle.sdb_lawful.specs.Rules.{is_sound, is_known_committed, is_known_aborted, prepared_by, own, with_own, has_own_moment, known_moments}
-use Rattle.sdb_said.proofs.Lists.{none_some, left, right, both, either, or_left, not_true, true_not, decide, not_both, In}
+use Rattle.sdb_said.proofs.Lists.{none_some, right, both, or_left, not_true, true_not, In}
 use Rattle.sdb_said.proofs.SaidLaws.{taken_is, asked_is, won_is, dead_is, met_is, risked_is}
-use Rattle.sdb_said.proofs.ShownLaws.{in_more, more_in, last_in, number_is, key_is, commit_shown, shows_commit_of, abort_shown, shows_abort_of, moment_shown, shown_moment}
-use Rattle.sdb_lawful.proofs.PlanLaws.{sound_is, is_sound_of, write_is}
-use Rattle.sdb_types.proofs.Basics.{clash, or_second as or_right, some_is}
+use Rattle.sdb_said.proofs.ShownLaws.{in_more, more_in, last_in, number_is, commit_shown, shows_commit_of, abort_shown, shows_abort_of, moment_shown, shown_moment}
+use Rattle.sdb_lawful.proofs.PlanLaws.{is_sound_of, write_is}
+use Rattle.sdb_types.proofs.Basics.{clash, or_second as or_right, some_is, either}
+use Rattle.sdb_types.proofs.Bools.{and_first as left}
 
 ---- decisions that are known
 

@@ -1,8 +1,7 @@
 -- What the tests of writes and notes tell of a plan.
-use Rattle.std.proofs.Common.{◌≡◌, ◌≢◌, ℕ, Bool, true, false, List, [], ◌∷◌, Option, Some, None, ◌⊎◌, inl, inr, refl, sym, ap, subst, ◌∙◌}
-use Rattle.std.specs.Prelude.{ℤ, ◌&&◌, ◌||◌, ◌==◌, not, is_some, find, map, slice_get, if◌then◌else◌, IfSome}
+use Rattle.std.proofs.Common.{◌≡◌, ℕ, Bool, true, false, List, Option, Some, None, refl, sym, ap, subst, ◌∙◌}
+use Rattle.std.specs.Prelude.{◌&&◌, find, slice_get, if◌then◌else◌, IfSome}
 use Rattle.std.specs.Option.{option_map_or, option_map, option_and_then}
-use Rattle.std.specs.List.{list_any, list_all}
 use Rattle.sdb_types.specs.declared.key.Key.{Key}
 use Rattle.sdb_types.specs.declared.txid.TxId.{TxId}
 use Rattle.sdb_types.specs.declared.record.Record.{Record}
@@ -16,15 +15,15 @@ use Rattle.sdb_record.specs.Moved.{version_of}
 use Rattle.sdb_record.specs.Rolls.{IsWrite, IsBaseOf, is_change}
 use Rattle.sdb_laws.specs.Plan.{write_at, written, noted, number_of}
 use Rattle.sdb_model.specs.Noted.{same_key, version_noted, version_among}
-use Rattle.sdb_laws.specs.Plan as law
 use Rattle.sdb_said.specs.declared.plan.Plan.{Plan}
 use Rattle.sdb_said.specs.declared.plan.Note.{Note}
 use Rattle.sdb_said.specs.declared.plan.Note.TheVariants as note
 use Rattle.sdb_said.specs.Values.{note_of, plan_in, writes_in, notes_in, write_in}
 use Rattle.sdb_lawful.specs.Rules.{is_base, is_sound}
-use Rattle.sdb_said.proofs.Lists.{none_some, left, right, both, either, In, found_in, got_in, in_got, got_map}
+use Rattle.sdb_said.proofs.Lists.{none_some, right, both, In, found_in, got_map}
 use Rattle.sdb_said.proofs.ShownLaws.{key_is, is_key}
-use Rattle.sdb_types.proofs.Basics.{clash, some_is}
+use Rattle.sdb_types.proofs.Basics.{some_is}
+use Rattle.sdb_types.proofs.Bools.{and_first as left}
 
 ---- writes
 

@@ -1,10 +1,9 @@
 -- The tests of rolls and of removals decide their rules.
-use Rattle.std.proofs.Common.{◌≡◌, ◌≢◌, ℕ, Bool, true, false, List, [], ◌∷◌, Option, Some, None, ◌⊎◌, inl, inr, refl, sym, ap, subst, ◌∙◌}
-use Rattle.std.specs.Prelude.{ℤ, ◌&&◌, ◌||◌, ◌==◌, not, find}
+use Rattle.std.proofs.Common.{◌≡◌, ℕ, Bool, true, false, List, Option, Some, None, inl, inr, refl, sym, ap, ◌∙◌}
+use Rattle.std.specs.Prelude.{◌&&◌, ◌||◌, ◌==◌, not, find}
 use Rattle.std.specs.Option.{option_map_or}
-use Rattle.std.specs.List.{list_any, list_all}
+use Rattle.std.specs.List.{list_any}
 use Rattle.sdb_types.specs.declared.key.Key.{Key}
-use Rattle.sdb_types.specs.declared.txid.TxId.{TxId}
 use Rattle.sdb_types.specs.declared.record.Record.{Record}
 use Rattle.sdb_types.specs.declared.record.State.{State}
 use Rattle.sdb_types.specs.declared.record.State.TheVariants as state
@@ -25,7 +24,7 @@ use Rattle.sdb_model.specs.declared.event.Event.TheVariants as event
 use Rattle.sdb_model.specs.declared.event.How.{How}
 use Rattle.sdb_model.specs.Rows.{Name}
 use Rattle.sdb_laws.specs.Plan.{write_at}
-use Rattle.sdb_laws.specs.Lawful.{id, is_data, talk, IsPreparedThere, prepared_at, back_request, MayRoll, MayRollForward, MayRollBack, MayRollBy, MayRemove}
+use Rattle.sdb_laws.specs.Lawful.{id, is_data, talk, IsPreparedThere, back_request, MayRollForward, MayRollBack, MayRollBy, MayRemove}
 use Rattle.sdb_said.specs.declared.plan.Plan.{Plan}
 use Rattle.sdb_said.specs.declared.played.Role.{Role}
 use Rattle.sdb_said.specs.declared.played.Role.TheVariants as role
@@ -33,13 +32,14 @@ use Rattle.sdb_said.specs.declared.played.Played.{Played}
 use Rattle.sdb_said.specs.Values.{all_played, plan_in}
 use Rattle.sdb_said.specs.Said.{is_begin_of, touches, opens, ends_with, open_in, owner_of, stopped_in}
 use Rattle.sdb_said.specs.Shown.{shown, is_held_by, is_kept_in, keeps_none, is_forward, settles_gone}
-use Rattle.sdb_lawful.specs.Rules.{own, known_moments, any_held_forward, is_rolled_forward, rolls_open, rolls_forward, is_put_back, is_taken_back, undoes, rolls_back, rolls_well, is_left, is_shut, are_shut, removes_version, removes_well, is_known_aborted}
-use Rattle.sdb_said.proofs.Lists.{none_some, left, right, both, either, or_left, not_true, true_not, decide, not_both, In, any_some, some_any, all_each, each_all, found_in}
+use Rattle.sdb_lawful.specs.Rules.{own, known_moments, is_rolled_forward, rolls_open, rolls_forward, is_put_back, is_taken_back, undoes, rolls_back, rolls_well, is_left, is_shut, are_shut, removes_version, removes_well, is_known_aborted}
+use Rattle.sdb_said.proofs.Lists.{right, both, or_left, not_true, true_not, not_both, any_some, some_any, all_each, each_all, found_in}
 use Rattle.sdb_said.proofs.SaidLaws.{open_is, owner_is, stopped_is}
 use Rattle.sdb_said.proofs.ShownLaws.{number_is, is_number, key_is, is_key, is_shown, forward_is, is_forward_at, kept_is, is_kept_of, keeps_none_is, is_keeps_none}
-use Rattle.sdb_said.proofs.SettledLaws.{held_by, is_held_by_of, HasGone, gone_is, gone_of}
+use Rattle.sdb_said.proofs.SettledLaws.{held_by, is_held_by_of, gone_is, gone_of}
 use Rattle.sdb_lawful.proofs.KnownLaws.{moment_known, known_moment, aborted_is, is_aborted, own_is, is_own}
-use Rattle.sdb_types.proofs.Basics.{clash, or_second as or_right, some_is}
+use Rattle.sdb_types.proofs.Basics.{clash, or_second as or_right, either, decides as decide}
+use Rattle.sdb_types.proofs.Bools.{and_first as left}
 
 -- each write of a key that it has asked to prepare has the form of records
 abbrev pub Sound : List Played → List Plan → ℕ → Key → Type 0

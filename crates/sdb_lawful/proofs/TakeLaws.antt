@@ -1,25 +1,23 @@
 -- The tests of BEGIN and of the taking of a COMMIT decide their rules.
-use Rattle.std.proofs.Common.{◌≡◌, ◌≢◌, ℕ, ◌<◌, ◌^◌, Bool, true, false, List, [], ◌∷◌, Option, Some, None, ◌⊎◌, inl, inr, refl, sym, ap, subst, ◌∙◌}
-use Rattle.std.specs.Prelude.{ℤ, ◌&&◌, ◌||◌, ◌==◌, not, is_some, nat_lt, slice_get, codes}
+use Rattle.std.proofs.Common.{◌≡◌, ℕ, ◌^◌, Bool, true, false, List, [], Option, Some, None, inl, inr, refl, sym, ap, subst, ◌∙◌}
+use Rattle.std.specs.Prelude.{◌&&◌, ◌==◌, not, nat_lt, slice_get}
 use Rattle.std.specs.Option.{option_map_or}
 use Rattle.std.specs.Ordering.{is_eq}
 use Rattle.std.specs.declared.cmp.Ordering.{Ordering}
 use Rattle.std.specs.declared.cmp.Ordering.TheVariants.{Less, Equal, Greater}
 use Rattle.std.specs.Cmp.{tied_itself}
-use Rattle.std.specs.Cmp.Lexicographic.{slice_cmp, lists_total}
-use Rattle.std.specs.List.{list_any, list_all}
+use Rattle.std.specs.Cmp.Lexicographic.{lists_total}
+use Rattle.std.specs.List.{list_all}
 use Rattle.std.proofs.lemmas.Bool.{ltb-true, lt-ltb}
 use Rattle.sdb_types.specs.declared.key.Key.{Key}
 use Rattle.sdb_types.specs.declared.txid.TxId.{TxId}
 use Rattle.sdb_types.specs.declared.value.Value.{Value}
 use Rattle.sdb_types.specs.declared.record.Record.{Record}
 use Rattle.sdb_types.specs.declared.record.Span.{Span}
-use Rattle.sdb_types.specs.Order.{table_cmp, value_cmp}
+use Rattle.sdb_types.specs.Order.{table_cmp}
 use Rattle.sdb_types.specs.Contents.{in_span, is_partition}
 use Rattle.sdb_types.specs.ValueLaws.{value_total}
 use Rattle.sdb_types.proofs.KeyOrder.{table_exact, table_total}
-use Rattle.sdb_record.specs.declared.access.Read.{Read}
-use Rattle.sdb_record.specs.declared.access.Scan.{Scan}
 use Rattle.sdb_record.specs.declared.write.Write.{Write}
 use Rattle.sdb_record.specs.Coordinator.{is_coordinator_table}
 use Rattle.sdb_record.specs.Meta.{id_in, is_moment}
@@ -31,7 +29,6 @@ use Rattle.sdb_model.specs.declared.event.Event.TheVariants as event
 use Rattle.sdb_model.specs.Sql.{reads_begin, reads_commit}
 use Rattle.sdb_laws.specs.Plan.{write_at, noted, number_of}
 use Rattle.sdb_model.specs.Noted.{version_among, version_noted}
-use Rattle.sdb_laws.specs.History.{Talk}
 use Rattle.sdb_laws.specs.Lawful.{id, is_data, talk, IsSettled, MayBegin, MayTake}
 use Rattle.sdb_said.specs.declared.plan.Plan.{Plan}
 use Rattle.sdb_said.specs.declared.plan.Note.{Note}
@@ -39,14 +36,16 @@ use Rattle.sdb_said.specs.declared.plan.Note.TheVariants as note
 use Rattle.sdb_said.specs.declared.played.Played.{Played}
 use Rattle.sdb_said.specs.Values.{all_played, note_of, plan_in, writes_in, notes_in, moment_in, write_in}
 use Rattle.sdb_said.specs.Said.{begun_in, taken_in, open_in, owner_of, stopped_in}
-use Rattle.sdb_said.specs.Shown.{shown, is_settled, settles}
-use Rattle.sdb_lawful.specs.Rules.{is_sound, is_fine_write, is_fine_key, are_fine_writes, is_fine_version, is_fine_found, is_fine_note, is_done, begins_well, commits_well, takes_well}
-use Rattle.sdb_said.proofs.Lists.{none_some, left, right, both, either, or_left, not_true, true_not, decide, not_both, In, all_each, each_all, got_in, in_got}
+use Rattle.sdb_said.specs.Shown.{shown, is_settled}
+use Rattle.sdb_lawful.specs.Rules.{is_sound, is_fine_write, is_fine_key, are_fine_writes, is_fine_version, is_fine_found, is_fine_note, begins_well, takes_well}
+use Rattle.sdb_said.proofs.Lists.{none_some, right, both, or_left, not_true, true_not, not_both, all_each, each_all, got_in, in_got}
 use Rattle.sdb_said.proofs.SaidLaws.{is_zero, zero_is, begun_is, taken_is, open_is, owner_is, stopped_is}
 use Rattle.sdb_said.proofs.ShownLaws.{number_is, is_number}
 use Rattle.sdb_said.proofs.SettledLaws.{settled_is, is_settled_of, HasSettled, settles_is, settles_of}
-use Rattle.sdb_lawful.proofs.PlanLaws.{sound_is, is_sound_of, write_is, write_in_is, write_own, Says, noted_says, says_noted, got_says, says_got, scan_says, says_scan, among_is}
-use Rattle.sdb_types.proofs.Basics.{clash, or_second as or_right, some_is}
+use Rattle.sdb_lawful.proofs.PlanLaws.{sound_is, is_sound_of, write_is, write_in_is, write_own, noted_says, says_noted, got_says, says_got, scan_says, says_scan, among_is}
+use Rattle.sdb_types.proofs.Basics.{clash, or_second as or_right, some_is, either, decides as decide}
+use Rattle.sdb_types.proofs.Bools.{and_first as left}
+use Rattle.sdb_model.specs.Transactions.{is_done}
 
 ---- BEGIN
 

@@ -1,17 +1,14 @@
 -- A list passes the tests exactly where it is lawful.
-use Rattle.std.proofs.Common.{◌≡◌, ◌≢◌, ℕ, Bool, true, false, List, [], ◌∷◌, Option, Some, None, ◌⊎◌, inl, inr, refl, sym, ap, subst, ◌∙◌}
-use Rattle.std.specs.Prelude.{ℤ, ◌&&◌, ◌||◌, ◌==◌, ◌↔◌, not, Result, Ok, Err, IfOk, IsTrue}
-use Rattle.std.specs.Option.{option_map_or, option_map}
+use Rattle.std.proofs.Common.{◌≡◌, ℕ, Bool, true, false, List, [], ◌∷◌, Option, Some, None, ◌⊎◌, inl, inr, refl, sym, ap, subst, ◌∙◌}
+use Rattle.std.specs.Prelude.{◌&&◌, ◌||◌, ◌↔◌, not, Result, Ok, Err, IfOk, IsTrue}
+use Rattle.std.specs.Option.{option_map}
 use Rattle.sdb_types.specs.declared.key.Key.{Key}
 use Rattle.sdb_types.specs.declared.txid.TxId.{TxId}
-use Rattle.sdb_record.specs.declared.write.Write.{Write}
 use Rattle.sdb_record.specs.Coordinator.{coordinator_key_of}
-use Rattle.sdb_record.specs.Rolls.{IsWrite}
 use Rattle.sdb_model.specs.declared.answer.Answer.{Answer}
 use Rattle.sdb_model.specs.declared.answer.Answer.TheVariants as answer
 use Rattle.sdb_model.specs.declared.event.Event.{Event}
 use Rattle.sdb_model.specs.declared.event.Event.TheVariants as event
-use Rattle.sdb_laws.specs.Plan.{write_at}
 use Rattle.sdb_laws.specs.Lawful.{id, talk, answer_of, is_denial, MayPlay, MayTell, MayDeny, IsKnownAborted, IsBadRow, IsLawful}
 use Rattle.sdb_said.specs.declared.plan.Plan.{Plan}
 use Rattle.sdb_said.specs.declared.played.Role.{Role}
@@ -20,15 +17,16 @@ use Rattle.sdb_said.specs.declared.played.Played.{Played}
 use Rattle.sdb_said.specs.Values.{all_played, played_of, role_of, plan_in}
 use Rattle.sdb_said.specs.Said.{taken_in, risked_in}
 use Rattle.sdb_said.specs.Shown.{shown, shows_bad_row}
-use Rattle.sdb_lawful.specs.Rules.{plays_well, stops_well, is_committed_answer, denies, may_tell, may_deny, answers_well, is_known_committed, is_known_aborted, keeps_rules}
-use Rattle.sdb_said.proofs.Lists.{none_some, left, right, both, either, or_left, not_true, true_not, decide, not_both}
+use Rattle.sdb_lawful.specs.Rules.{plays_well, stops_well, is_committed_answer, denies, may_tell, may_deny, is_known_committed, is_known_aborted, keeps_rules}
+use Rattle.sdb_said.proofs.Lists.{none_some, right, both, or_left, not_true, true_not, not_both}
 use Rattle.sdb_said.proofs.SaidLaws.{taken_is, asked_is, risked_is}
 use Rattle.sdb_said.proofs.ShownLaws.{number_is, is_number, bad_row_shown, shows_bad_row_of}
 use Rattle.sdb_lawful.proofs.TakeLaws.{begin_is, is_begin, take_is, is_take}
 use Rattle.sdb_lawful.proofs.CallLaws.{prepare_is, is_prepare, check_is, is_check, decide_is, is_decide, abort_is, is_abort}
 use Rattle.sdb_lawful.proofs.KnownLaws.{known_is, is_known, aborted_is, is_aborted, lawful_sound, lawful_asked}
 use Rattle.sdb_lawful.proofs.RollLaws.{Sound, roll_is, is_roll, remove_is, is_remove}
-use Rattle.sdb_types.proofs.Basics.{clash, or_second as or_right, some_is}
+use Rattle.sdb_types.proofs.Basics.{clash, or_second as or_right, some_is, either, decides as decide}
+use Rattle.sdb_types.proofs.Bools.{and_first as left}
 
 ---- parts
 

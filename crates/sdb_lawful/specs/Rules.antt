@@ -40,6 +40,7 @@ use Rattle.sdb_said.specs.declared.played.Played.{Played}
 use Rattle.sdb_said.specs.Values.{note_of, writes_in, notes_in, moment_in, write_in, same_request, same_span}
 use Rattle.sdb_said.specs.Said.{taken_in, begun_in, asked_in, told_in, checked_in, staged_in, deciding_in, risked_in, won_in, dead_in, met_in, stopped_in, owner_of, open_in}
 use Rattle.sdb_said.specs.Shown.{shown, is_held_by, is_kept_in, keeps_none, is_forward, moments, shows_commit, shows_abort, shows_bad_row, is_settled, settles, settles_gone}
+use Rattle.sdb_model.specs.Transactions.{is_done}
 
 ---- writes and notes
 
@@ -86,10 +87,6 @@ abbrev pub in_commit : List Played → ℕ → ℕ → Bool
 in_commit past client t = taken_in past t && (open_in past t && (owner_of past t == client && not (stopped_in past client)))
 
 ---- the rules
-
-abbrev pub is_done : Option Answer → Bool
-is_done (Some answer.Done) = true
-is_done _ = false
 
 abbrev pub begins_well : List Played → Event → ℕ → ℕ → Bool
 begins_well past (event.Take client text answered) t c = client == c && (reads_begin text && (is_done answered && (not (begun_in past t) && nat_lt t (2 ^ 128))))

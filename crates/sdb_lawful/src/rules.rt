@@ -1,4 +1,5 @@
 //! The rules of the protocol, each decided.
+ghost use Rattle.sdb_model.specs.Transactions.{is_done as is_done_lem};
 ghost use Rattle.std.specs.Prelude.{◌≡◌, ◌&&◌, not, IfOk, is_some, slice_get, false, nat_lt, ◌^◌, ◌||◌};
 ghost use Rattle.std.specs.Option.{option_copied, option_map_or};
 ghost use Rattle.std.specs.List.{list_any, list_all, enumerate_from};
@@ -12,7 +13,7 @@ ghost use Rattle.sdb_laws.specs.Lawful.{is_quiet as is_quiet_lem};
 ghost use Rattle.sdb_model.specs.Noted.{version_noted as version_noted_lem};
 ghost use Rattle.sdb_said.specs.Values.{note_of, same_request};
 ghost use Rattle.sdb_said.specs.Said.{told_in, open_in, stopped_in, owner_of};
-ghost use Rattle.sdb_lawful.specs.Rules.{fits_reply as fits_reply_lem, in_commit as in_commit_lem, is_done as is_done_lem, begins_well, commits_well as commits_well_lem, takes_well, is_put as is_put_lem, puts_write as puts_write_lem, prepares_well, is_as_noted as is_as_noted_lem, are_as_noted as are_as_noted_lem, finds_noted as finds_noted_lem, checks_well, same_noted as same_noted_lem, agrees_at as agrees_at_lem, agrees as agrees_lem, is_note_checked as is_note_checked_lem, is_ready as is_ready_lem, decides_well, aborts_well, stops_well, are_shut as are_shut_lem, is_shut as is_shut_lem, is_left as is_left_lem};
+ghost use Rattle.sdb_lawful.specs.Rules.{fits_reply as fits_reply_lem, in_commit as in_commit_lem, begins_well, commits_well as commits_well_lem, takes_well, is_put as is_put_lem, puts_write as puts_write_lem, prepares_well, is_as_noted as is_as_noted_lem, are_as_noted as are_as_noted_lem, finds_noted as finds_noted_lem, checks_well, same_noted as same_noted_lem, agrees_at as agrees_at_lem, agrees as agrees_lem, is_note_checked as is_note_checked_lem, is_ready as is_ready_lem, decides_well, aborts_well, stops_well, are_shut as are_shut_lem, is_shut as is_shut_lem, is_left as is_left_lem};
 
 use crate::commit::{are_fine_notes, are_fine_writes, is_in_span, prepared_by, version_among};
 use sdb_model::{Answer, Event, Keyword};

@@ -218,7 +218,7 @@ ticks plan past e (Ends t) m = absurd m
 ticks plan past e (Stops c) m = refl
 
 -- the law's clock counts the events
-now_is : (plan : ℕ → Plan) (past : List Played) → IsLawful plan past → (talk past).now ≡ length past
+pub now_is : (plan : ℕ → Plan) (past : List Played) → IsLawful plan past → (talk past).now ≡ length past
 now_is plan [] l = refl
 now_is plan (p ∷ past) l = over p.ends (next (ticks plan past p.event p.role l.1) (now_is plan past l.0))
   where
@@ -301,7 +301,7 @@ module _ (plan : ℕ → Plan) (places : List Place) (opening : List Shelf) (pla
               (subst (λ y. DecidedAfter (history plan places opening (newest_first (take n played ++ drop n played)) (newest_first y)) u n) (take-append-drop n moments)
               (subst (λ y. DecidedAfter (history plan places opening y (newest_first (take n moments ++ drop n moments))) u n) (sym (turned_append (take n played) (drop n played)))
               (subst (λ y. DecidedAfter (history plan places opening (newest_first (drop n played) ++ newest_first (take n played)) y) u n) (sym (turned_append (take n moments) (drop n moments)))
-              (lasts plan places opening (newest_first (drop n played)) (newest_first (take n played)) (newest_first (drop n moments)) (newest_first (take n moments)) (λ x. DecidedAfter x u n) (after_kept plan u n) (turned_length (drop n played) ∙ c.same ∙ sym (turned_length (drop n moments))) turned (λ h. absurd (none h), same now)))))
+              (lasts plan places opening (newest_first (drop n played)) (newest_first (take n played)) (newest_first (drop n moments)) (newest_first (take n moments)) (λ x. DecidedAfter x u n) (after_kept plan u n) (λ w v h. h) (turned_length (drop n played) ∙ c.same ∙ sym (turned_length (drop n moments))) turned (λ h. absurd (none h), same now)))))
             where
               same : {m : ℕ} → m ≡ n → n ≤ m
               same e = omega (arith, e)

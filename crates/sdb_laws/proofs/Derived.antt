@@ -21,13 +21,12 @@ use Rattle.sdb_model.specs.Transactions.{Recorded}
 use Rattle.sdb_laws.specs.Plan.{Plan, written, noted}
 use Rattle.sdb_laws.specs.History.{History, Standing, Firm, Held, Talk, base_of, image_in, image, or_else, shadow, is_recorded, IsWriter, Covers}
 use Rattle.sdb_laws.specs.Lawful.{Played, id, is_data}
-use Rattle.sdb_laws.specs.Records.{held_record, firm_record, record_for, row_for, IsHeld}
-use Rattle.sdb_laws.specs.Explained.{RecordedIsPut, IsPreparedRecord, UnresolvedPrepared, IsCommittedRecord, CommittedIsCanon, PreparedStands, AbortedGone, IsLastWriter, IsNeverWritten, IsRemoved, ImageOf, ImageIsLastWriter, WritersInOrder, PointsDiffer, IsAsFound, SawLast, CheckSaw, PrepareSaw, IsCurrent, ReadsCurrent, Middle}
+use Rattle.sdb_laws.specs.Records.{held_record, firm_record, record_for}
+use Rattle.sdb_laws.specs.Explained.{RecordedIsPut, IsPreparedRecord, UnresolvedPrepared, IsCommittedRecord, CommittedIsCanon, PreparedStands, AbortedGone, IsLastWriter, IsNeverWritten, IsRemoved, ImageOf, ImageIsLastWriter, WritersInOrder, PointsDiffer, IsAsFound, SawLast, CheckSaw, PrepareSaw, IsCurrent, ReadsCurrent, Middle, IsAsFound as Saw}
 use Rattle.sdb_laws.proofs.Cover.{Inv}
-use Rattle.sdb_laws.proofs.Shadow.{Saw}
 use Rattle.sdb_laws.proofs.Seen.{All, IsSeen}
 use Rattle.sdb_laws.proofs.Canon.{held_writer, held_open, firm_writer, firm_committed, same_writer}
-use Rattle.sdb_laws.proofs.Known.{AreMoments, held_before, taken_fits, writer_taken, took_is_taken}
+use Rattle.sdb_laws.proofs.Known.{held_before, taken_fits, took_is_taken}
 use Rattle.sdb_laws.proofs.Settled.{Knows, forward_at}
 use Rattle.sdb_laws.proofs.Moves.{writer_fits}
 use Rattle.sdb_laws.proofs.Whole.{Whole}

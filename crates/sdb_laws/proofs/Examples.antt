@@ -1,6 +1,6 @@
 -- The worked runs are lawful, and runs that leave the protocol are not.
 use Rattle.std.proofs.Common.{◌≡◌, ◌≢◌, ℕ, zero, suc, ◌<◌, ◌^◌, Bool, true, false, List, [], ◌∷◌, Option, Some, None, ◌⊎◌, inl, inr, refl, sym, ap, subst, ◌∙◌, arith}
-use Rattle.std.specs.Prelude.{pos, slice_get, codes, Ok, IfSome, ◌==◌, if◌then◌else◌}
+use Rattle.std.specs.Prelude.{pos, slice_get, codes, Ok, ◌==◌, if◌then◌else◌}
 use Rattle.std.specs.Option.{option_map, option_map_or}
 use Rattle.sdb_types.specs.declared.key.Key.{Key}
 use Rattle.sdb_types.specs.declared.record.Record.{Record}

@@ -1,17 +1,15 @@
 -- A COMMIT that is nobody's is answered Committed in no run.
-use Rattle.std.proofs.Common.{◌≡◌, ℕ, zero, suc, ◌<◌, ◌^◌, Bool, true, false, List, [], ◌∷◌, Option, Some, None, refl, sym, ap, subst, ◌∙◌, arith}
-use Rattle.std.specs.Prelude.{◌==◌, ◌&&◌, codes, find, Contains, if◌then◌else◌}
+use Rattle.std.proofs.Common.{◌≡◌, ℕ, zero, suc, Bool, true, false, List, Option, Some, None, refl, sym, ap, ◌∙◌, arith}
+use Rattle.std.specs.Prelude.{◌==◌, ◌&&◌, codes, find, if◌then◌else◌}
 use Rattle.std.proofs.lemmas.Bool.Decides.{nat_tests}
 use Rattle.std.specs.Option.{option_and_then}
-use Rattle.sdb_types.specs.declared.txid.TxId.{TxId}
 use Rattle.sdb_model.specs.declared.answer.Answer.TheVariants as answer
-use Rattle.sdb_model.specs.declared.event.Event.{Event}
 use Rattle.sdb_model.specs.declared.event.Point.{Point}
 use Rattle.sdb_model.specs.declared.event.TableDump.{TableDump}
 use Rattle.sdb_model.specs.declared.script.Script.{Script}
 use Rattle.sdb_model.specs.Sql.{reads_begin, reads_commit}
 use Rattle.sdb_model.specs.Events.{Shelf}
-use Rattle.sdb_model.specs.Transactions.{Said, said, begins, ends, from_begin, rest_of, client_of, ordinal_of, commit_of}
+use Rattle.sdb_model.specs.Transactions.{Said, said, ends, from_begin, rest_of, ordinal_of}
 use Rattle.sdb_model.specs.Told.{IsRun}
 use Rattle.sdb_laws.specs.Forged.{liar, twice}
 use Rattle.sdb_laws.proofs.Texts.{begin_begins, commit_begins_not, rollback_begins_not, rollback_commits_not, rollback_rolls}
@@ -33,7 +31,7 @@ liar_none (suc n) = rw (not_done (reads_begin (codes "BEGIN")), not_done (reads_
 
 pub liar_is_no_run : (script : Script) (opening closing : List Shelf) (order : List Point) (tables : List TableDump) → IsRun script opening closing (record { events = liar; order = order; tables = tables }) → ⊥
 liar_is_no_run script opening closing order tables run =
-    let o = run.told.owned 1 (record { taken = 3; text = codes "COMMIT"; answer = Some answer.Committed; answered = 3 }) (2, omega arith, refl) refl in
+    let o = run.told.owned 1 (record { taken = 3; text = codes "COMMIT"; answer = Some answer.Committed; reached = 3 }) (2, omega arith, refl) refl in
     no_some _ (sym (ap (λ c. commit_among (ordinal_of o.id) (said c liar)) o.owner ∙ liar_none (ordinal_of o.id)) ∙ o.commit)
 
 twice_none : (n : ℕ) → commit_among n (said 1 twice) ≡ None
@@ -46,5 +44,5 @@ twice_none (suc (suc n)) = rw (begin_begins, apart n, rollback_begins_not, commi
 
 pub twice_is_no_run : (script : Script) (opening closing : List Shelf) (order : List Point) (tables : List TableDump) → IsRun script opening closing (record { events = twice; order = order; tables = tables }) → ⊥
 twice_is_no_run script opening closing order tables run =
-    let o = run.told.owned 1 (record { taken = 3; text = codes "COMMIT"; answer = Some answer.Committed; answered = 3 }) (2, omega arith, refl) refl in
+    let o = run.told.owned 1 (record { taken = 3; text = codes "COMMIT"; answer = Some answer.Committed; reached = 3 }) (2, omega arith, refl) refl in
     no_some _ (sym (ap (λ c. commit_among (ordinal_of o.id) (said c twice)) o.owner ∙ twice_none (ordinal_of o.id)) ∙ o.commit)

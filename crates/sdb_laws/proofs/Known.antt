@@ -22,6 +22,7 @@ use Rattle.sdb_laws.specs.Plan.{Plan, write_at, written, number_of, noted}
 use Rattle.sdb_model.specs.Noted.{same_key}
 use Rattle.sdb_laws.specs.History.{Role, History, Standing, Firm, Held, base_of, happens, IsWriter}
 use Rattle.sdb_laws.specs.Lawful.{Played, id, is_data, IsShown, IsRowShown}
+use Rattle.sdb_laws.specs.Trace.{after_end}
 use Rattle.sdb_laws.specs.Records.{write_there, held_record, firm_record, record_for, row_for, IsHeld}
 use Rattle.sdb_laws.proofs.Keys.{tests, same_key_tells}
 use Rattle.sdb_laws.proofs.Allowed.{Allowed}
@@ -132,6 +133,16 @@ known_kept plan w r done x i a known = record {
     | inr h ↦ inr (record { t = h.t; same = h.same; took = took_stays plan w r done h.t x.key i.took a h.took; fits = h.fits })
   ];
   row = λ t fits e. row_stays w (happens plan w r done) t x (moment_stays plan w r done t a) (known.row t fits e);
+}
+
+-- and where an event goes on to end a transaction
+pub known_closed : (plan : ℕ → Plan) (w : History) (t : ℕ) (x : Record) → Known plan w x → Known plan (after_end plan w (Some t)) x
+known_closed plan w t x known = record {
+  put = λ outside. elim (known.put outside) [
+    | inl f ↦ inl (record { t = f.t; same = f.same; writer = f.writer; fits = f.fits })
+    | inr h ↦ inr (record { t = h.t; same = h.same; took = h.took; fits = h.fits })
+  ];
+  row = known.row;
 }
 
 ---- it is known when it is shown

@@ -1,7 +1,7 @@
 -- Real time in the words of the model.
 use Rattle.std.proofs.Common.{◌≡◌, ◌≢◌, ℕ, zero, suc, ◌+◌, ◌<◌, ◌≤◌, ◌^◌, Bool, true, List, [], ◌∷◌, ◌++◌, length, map, Some, None, ◌⊎◌, inl, inr, refl, sym, ap, subst, ◌∙◌, arith, Option, false}
 use Rattle.std.specs.Prelude.{slice_index, slice_index_or, All, Contains, unwrap_or}
-use Rattle.std.specs.Option.{option_map_or, option_and_then}
+use Rattle.std.specs.Option.{option_map, option_map_or, option_and_then}
 use Rattle.std.specs.List.Sorted.{IsStrictlyIncreasing}
 use Rattle.sdb_types.specs.declared.txid.TxId.{TxId}
 use Rattle.sdb_record.specs.declared.coordinator.Decision.TheVariants.{Committed}
@@ -53,7 +53,7 @@ told_decided plan places opening (p ∷ past) (s ∷ ss) t n r (inl h) =
         apart : Some Committed ≡ None → ⊥
         apart x = absurd (cc)
 told_decided plan places opening (p ∷ past) (s ∷ ss) t n r (inr h) =
-    one_more plan places opening p past s ss (λ w. (w.row t ≡ Some Committed) × (w.decided_at t ≤ n)) (decided_by plan t n) r (told_decided plan places opening past ss t n (earlier_run plan places opening p past s ss r) h)
+    one_more plan places opening p past s ss (λ w. (w.row t ≡ Some Committed) × (w.decided_at t ≤ n)) (decided_by plan t n) (λ w u h. h) r (told_decided plan places opening past ss t n (earlier_run plan places opening p past s ss r) h)
 
 ---- lists of points
 
@@ -138,7 +138,7 @@ point_of plan places opening played ss t r faithful fits taken =
     ap (unwrap_or (last_prepare (events_of played) (id t))) (faithful.taken t taken) ∙ sym (point_is_last plan places opening played ss t r fits taken)
 
 pub keeps_real_time : (plan : ℕ → Plan) (places : List Place) (opening : List Shelf) (played : List Played) (ss : List (List Shelf)) (order : List Point) → IsRunOf plan places opening (newest_first played) ss → IsFaithful (events_of played) (newest_first played) → IsOrder places (events_of played) (closing opening ss) order → TransactionsInRealTime places (events_of played) (closing opening ss) order
-keeps_real_time plan places opening played ss order r faithful o early late fits_early fits_late s commit told recorded n begun lt =
+keeps_real_time plan places opening played ss order r faithful o early late fits_early fits_late s commit told recorded m n ended begun lt =
     stands (point (events_of played)) order early late (are_at (point (events_of played)) order o.points) (rises order o.rising)
     (among early fits_early (row_recorded plan places w past end early.0 i fits_early decided.0)) (among late fits_late recorded)
     (less (point_of plan places opening played ss early.0 r faithful fits_early (taken early.0 decided.0)) (point_of plan places opening played ss late.0 r faithful fits_late (taken late.0 row)) below)
@@ -155,8 +155,11 @@ keeps_real_time plan places opening played ss order r faithful o early late fits
     i : Whole plan places (history plan places opening (newest_first played) ss) (newest_first played) (closing opening ss)
     i = whole_of plan places opening (newest_first played) ss r
 
-    decided : ((history plan places opening (newest_first played) ss).row early.0 ≡ Some Committed) × ((history plan places opening (newest_first played) ss).decided_at early.0 ≤ s.answered)
-    decided = told_decided plan places opening (newest_first played) ss early.0 s.answered r (faithful.told early.0 s fits_early commit told)
+    decided : ((history plan places opening (newest_first played) ss).row early.0 ≡ Some Committed) × ((history plan places opening (newest_first played) ss).decided_at early.0 ≤ s.reached)
+    decided = told_decided plan places opening (newest_first played) ss early.0 s.reached r (faithful.told early.0 s fits_early commit told)
+
+    reached : s.reached ≡ m
+    reached = ap (λ (o : Option ℕ). unwrap_or o 0) (ap (option_map (λ (a : Answer). s.reached)) (sym told) ∙ ended)
 
     row : (history plan places opening (newest_first played) ss).row late.0 ≡ Some Committed
     row = recorded_row plan places (history plan places opening (newest_first played) ss) (newest_first played) (closing opening ss) late.0 i fits_late recorded
@@ -174,10 +177,10 @@ keeps_real_time plan places opening played ss order r faithful o early late fits
     began = faithful.begun late.0 n fits_late begun
 
     below : (talk (newest_first played)).point early.0 < (talk (newest_first played)).point late.0
-    below = subst (λ (x : Talk). x.point early.0 < x.point late.0) (sym i.knows.talks) (chain (i.all.one.decided early.0 decided.0).point decided.1 (subst (λ (x : Talk). x.begun late.0 ≡ n) i.knows.talks began) ((i.all.one.begun late.0).1 (subst (λ (x : Talk). x.taken late.0 ≡ true) i.knows.talks (taken late.0 row))).1)
+    below = subst (λ (x : Talk). x.point early.0 < x.point late.0) (sym i.knows.talks) (chain (i.all.one.decided early.0 decided.0).point decided.1 reached (subst (λ (x : Talk). x.begun late.0 ≡ n) i.knows.talks began) ((i.all.one.begun late.0).1 (subst (λ (x : Talk). x.taken late.0 ≡ true) i.knows.talks (taken late.0 row))).1)
       where
-        chain : {a b c d : ℕ} → a < b → b ≤ s.answered → c ≡ n → c < d → a < d
-        chain x y z u = omega arith
+        chain : {a b c d k : ℕ} → a < b → b ≤ k → k ≡ m → c ≡ n → c < d → a < d
+        chain x y r z u = omega arith
 
     less : {a b x y : ℕ} → a ≡ x → b ≡ y → x < y → a < b
     less e f l = omega arith
@@ -284,7 +287,7 @@ answers_true plan places opening played ss r faithful = record {
 
     committed : (t : TxId) → t.0 < 2 ^ 128 → (o : Option Said) → commit_of (events_of played) t ≡ o → option_and_then (λ (x : Said). x.answer) o ≡ Some answer.Committed → Recorded places (closing opening ss) t
     committed t fits None e f = absurd (cc)
-    committed t fits (Some x) e f = row_recorded plan places (history plan places opening (newest_first played) ss) (newest_first played) (closing opening ss) t.0 i fits (told_decided plan places opening (newest_first played) ss t.0 x.answered r (faithful.told t.0 x fits e f)).0
+    committed t fits (Some x) e f = row_recorded plan places (history plan places opening (newest_first played) ss) (newest_first played) (closing opening ss) t.0 i fits (told_decided plan places opening (newest_first played) ss t.0 x.reached r (faithful.told t.0 x fits e f)).0
 
     answered : (t : TxId) → t.0 < 2 ^ 128 → (history plan places opening (newest_first played) ss).row t.0 ≡ Some Committed → (x : Said) → commit_of (events_of played) t ≡ Some x → (a : Option Answer) → x.answer ≡ a → (d : Bool) → option_map_or is_denial a false ≡ d → (a ≡ Some answer.Committed) ⊎ (a ≡ Some (answer.Unknown t)) ⊎ (a ≡ None)
     answered t fits row x e None f d g = inr (inr refl)

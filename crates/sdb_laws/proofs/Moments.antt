@@ -377,7 +377,7 @@ took_by plan places opening early later es ls t r c same run fits outside prepar
     now = subst (λ x. IsRunOf plan places opening x (newest_first ls ++ newest_first es)) (turned_append early later) (subst (λ x. IsRunOf plan places opening (newest_first (early ++ later)) x) (turned_append es ls) run)
 
     lasting : (history plan places opening (newest_first later ++ newest_first early) (newest_first ls ++ newest_first es)).took u.t r.key ≡ true
-    lasting = lasts plan places opening (newest_first later) (newest_first early) (newest_first ls) (newest_first es) (λ w. w.took u.t r.key ≡ true) (λ w x done i a y. took_stays plan w x done u.t r.key i.one.took a y) (turned_length later ∙ same ∙ sym (turned_length ls)) now u.took
+    lasting = lasts plan places opening (newest_first later) (newest_first early) (newest_first ls) (newest_first es) (λ w. w.took u.t r.key ≡ true) (λ w x done i a y. took_stays plan w x done u.t r.key i.one.took a y) (λ w v h. h) (turned_length later ∙ same ∙ sym (turned_length ls)) now u.took
 
     still : (history plan places opening (newest_first (early ++ later)) (newest_first (es ++ ls))).took t.0 r.key ≡ true
     still = subst (λ n. (history plan places opening (newest_first (early ++ later)) (newest_first (es ++ ls))).took n r.key ≡ true) number

@@ -26,7 +26,7 @@ use Rattle.sdb_model.specs.declared.script.Place.{Place}
 use Rattle.sdb_model.specs.Events.{Shelf, Effect, standing}
 use Rattle.sdb_laws.specs.Plan.{Plan, write_at, written}
 use Rattle.sdb_model.specs.Noted.{same_key}
-use Rattle.sdb_laws.specs.History.{Role, Other, Begins, Takes, Prepares, Checks, Decides, Aborts, Rolls, Removes, Ends, Stops, Word, Yes, No, Silence, Wanting, is_yes, is_met, is_wanting, Talk, History, Standing, Firm, Held, base_of, firm_of, has_version, happens, with_row, IsLive, IsWriter, IsPrepared}
+use Rattle.sdb_laws.specs.History.{Role, Prepares, Decides, Aborts, Word, is_yes, is_met, is_wanting, Talk, History, Standing, Firm, Held, base_of, has_version, happens, with_row, IsLive, IsWriter, IsPrepared}
 use Rattle.sdb_laws.specs.Lawful.{Played, talk, id, word_of, InCommit, IsCallOf, MayPrepare, MayDecide, MayAbort}
 use Rattle.sdb_laws.specs.Records.{held_record, firm_record, record_for, row_for, IsHeld}
 use Rattle.sdb_laws.specs.Trace.{took_at, has_effect}

@@ -1,6 +1,6 @@
 -- The order by points is serial, key by key.
 use Rattle.std.proofs.Common.{◌≡◌, ◌≢◌, ℕ, ◌<◌, true, false, List, [], ◌∷◌, ◌++◌, Option, Some, None, ◌⊎◌, inl, inr, refl, sym, ap, subst, ◌∙◌, arith}
-use Rattle.std.specs.Option.{option_map, option_map_or, option_and_then}
+use Rattle.std.specs.Option.{option_map_or, option_and_then}
 use Rattle.sdb_types.specs.declared.key.Key.{Key}
 use Rattle.sdb_types.specs.declared.record.Record.{Record}
 use Rattle.sdb_record.specs.declared.coordinator.Decision.TheVariants.{Committed}
@@ -17,7 +17,7 @@ use Rattle.sdb_laws.specs.Lawful.{Played}
 use Rattle.sdb_laws.specs.Records.{write_there}
 use Rattle.sdb_laws.specs.Explained.{IsLastWriter, IsNeverWritten, ImageOf, IsAsFound}
 use Rattle.sdb_laws.specs.Serial.{IsIn, AllAbove, IsRising, IsOrdered, if_written, last_writer, row_left, ReadsSerial, RowsSerial}
-use Rattle.sdb_laws.proofs.Known.{IsPlanned, writes_it, writer_taken}
+use Rattle.sdb_laws.proofs.Known.{writes_it, writer_taken}
 use Rattle.sdb_laws.proofs.Rolling.{firm_row}
 use Rattle.sdb_laws.proofs.Derived.{image_is_last_writer, reads_current}
 use Rattle.sdb_laws.proofs.Whole.{Whole}

@@ -1,16 +1,20 @@
 -- What a check or a prepare saw at a key: whoever had prepared it had a row, and what was shown was of the last recorded
 -- writer.
-use Rattle.std.proofs.Common.{◌≡◌, ◌≢◌, ℕ, ◌+◌, ◌<◌, ◌≤◌, Bool, true, Option, Some, None, ◌⊎◌, inl, inr, refl, sym, subst, ◌∙◌, arith}
+use Rattle.std.proofs.Common.{◌≡◌, ◌≢◌, ℕ, ◌+◌, ◌<◌, ◌≤◌, Bool, true, false, Option, Some, None, ◌⊎◌, inl, inr, refl, sym, subst, ◌∙◌, arith}
+use Rattle.std.specs.Prelude.{◌==◌, if◌then◌else◌}
 use Rattle.sdb_types.specs.declared.key.Key.{Key}
 use Rattle.sdb_record.specs.declared.coordinator.Decision.{Decision}
 use Rattle.sdb_record.specs.declared.coordinator.Decision.TheVariants.{Committed}
 use Rattle.sdb_laws.specs.Plan.{Plan, written, noted}
-use Rattle.sdb_laws.specs.History.{Role, Other, Begins, Takes, Prepares, Checks, Decides, Aborts, Rolls, Removes, Ends, Stops, Word, Preparing, History, start, Held, base_of, has_version, happens, shadow, IsWriter, IsLive, Covers}
+use Rattle.sdb_laws.specs.History.{Role, Other, Begins, Takes, Prepares, Checks, Decides, Aborts, Rolls, Removes, Ends, Stops, Word, Preparing, History, start, at, Held, base_of, has_version, happens, shadow, IsWriter, IsLive, Covers}
+use Rattle.sdb_laws.specs.Trace.{after_end}
+use Rattle.sdb_types.proofs.Basics.{clash}
 use Rattle.sdb_laws.proofs.Keys.{tests}
 use Rattle.sdb_laws.proofs.Allowed.{Allowed}
-use Rattle.sdb_laws.proofs.Small.{PointOk, TookOk, decided_kept, writer_kept, point_fixed}
-use Rattle.sdb_laws.proofs.Shadow.{Saw, saw_same, saw_now, at_prepare, begun_stays, took_taken}
+use Rattle.sdb_laws.proofs.Small.{IsDecided, PointOk, TookOk, decided_kept, writer_kept, point_fixed}
+use Rattle.sdb_laws.proofs.Shadow.{saw_same, saw_now, at_prepare, begun_stays, took_taken}
 use Rattle.sdb_laws.proofs.Cover.{Inv, inv_kept, inv_start, writer_of, covers_same}
+use Rattle.sdb_laws.specs.Explained.{IsAsFound as Saw}
 
 -- a check comes after the point, and before whatever comes now
 abbrev pub CheckedOk : History → Type 0
@@ -161,6 +165,61 @@ all_kept plan w r done i a = record {
   reads = reads_kept plan w r done i.one i.reads i.checked a;
   writes = writes_kept plan w r done i.one i.writes a;
   distinct = distinct_kept plan w r done i.distinct i.one.took;
+}
+
+---- the end of a transaction, said by a further part of an event
+
+pub closed_still : (f : ℕ → Bool) (u t : ℕ) → f t ≡ false → at f u false t ≡ false
+closed_still f u t h = by (t == u)
+  where
+    by : (b : Bool) → (if b then false else f t) ≡ false
+    by true = refl
+    by false = h
+
+pub open_before : (f : ℕ → Bool) (u t : ℕ) → at f u false t ≡ true → f t ≡ true
+open_before f u t = by (t == u)
+  where
+    by : (b : Bool) → (if b then false else f t) ≡ true → f t ≡ true
+    by true h = clash (sym h)
+    by false h = h
+
+decided_closed : (plan : ℕ → Plan) (w : History) (t u : ℕ) → IsDecided plan w u → IsDecided plan (after_end plan w (Some t)) u
+decided_closed plan w t u d = record { stage = d.stage; risked = d.risked; told = d.told; checked = d.checked; agrees = d.agrees; point = d.point }
+
+seen_closed : (plan : ℕ → Plan) (w : History) (t u : ℕ) (k : Key) (found : Option ℕ) (n : ℕ) (x : Option ℕ) → IsSeen plan w u k found n x → IsSeen plan (after_end plan w (Some t)) u k found n x
+seen_closed plan w t u k found n x s = record { saw = s.saw; writer = s.writer; early = s.early; last = s.last }
+
+inv_closed : (plan : ℕ → Plan) (w : History) (t : ℕ) → Inv plan w → Inv plan (after_end plan w (Some t))
+inv_closed plan w t i = record {
+  point = i.point;
+  taken = i.taken;
+  asked = i.asked;
+  took = i.took;
+  begun = λ u. (λ live. (i.begun u).0 (open_before w.talk.is_open t u live), (i.begun u).1);
+  apart = i.apart;
+  decided = λ u h. decided_closed plan w t u (i.decided u h);
+  heard = i.heard;
+  firm = i.firm;
+  held = i.held;
+  base = i.base;
+  noted = i.noted;
+  gone = i.gone;
+  stands = i.stands;
+  earlier = i.earlier;
+  removed = λ u k v gone live. i.removed u k v gone (open_before w.talk.is_open t u live.0, live.1);
+  under = i.under;
+  over = i.over;
+  saw = i.saw;
+  cover = i.cover;
+}
+
+pub all_closed : (plan : ℕ → Plan) (w : History) (t : ℕ) → All plan w → All plan (after_end plan w (Some t))
+all_closed plan w t i = record {
+  one = inv_closed plan w t i.one;
+  checked = i.checked;
+  reads = λ u j k found c n o. seen_closed plan w t u k found (w.checked_at u j) (w.basis u j k) (i.reads u j k found c n o);
+  writes = λ u k h. seen_closed plan w t u k (base_of (written (plan u) k)) (w.prepared_at u k) (w.under u k) (i.writes u k h);
+  distinct = i.distinct;
 }
 
 pub all_start : (plan : ℕ → Plan) → All plan start

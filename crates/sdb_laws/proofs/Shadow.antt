@@ -3,11 +3,12 @@ use Rattle.std.proofs.Common.{◌≡◌, ◌≢◌, ℕ, ℤ, ◌+◌, ◌<◌, 
 use Rattle.sdb_types.specs.declared.key.Key.{Key}
 use Rattle.sdb_record.specs.declared.coordinator.Decision.{Decision}
 use Rattle.sdb_record.specs.declared.coordinator.Decision.TheVariants.{Committed}
-use Rattle.sdb_laws.specs.Plan.{Plan, written, deletes}
+use Rattle.sdb_laws.specs.Plan.{Plan, written}
 use Rattle.sdb_laws.specs.History.{Role, Other, Begins, Takes, Prepares, Checks, Decides, Aborts, Rolls, Removes, Ends, Stops, Word, Deciding, History, Firm, Held, base_of, has_version, happens, Standing, image_in, or_else, shadow, IsLive, IsWriter}
 use Rattle.sdb_laws.proofs.Keys.{tests}
 use Rattle.sdb_laws.proofs.Allowed.{Allowed}
 use Rattle.sdb_laws.proofs.Small.{writer_kept, decided_kept, TakenOk, AskedOk, TookOk, BegunOk, HeardOk, FirmOk, HeldOk, BaseOk, GoneOk, StandsOk, RemovedOk}
+use Rattle.sdb_laws.specs.Explained.{IsAsFound as Saw}
 
 held_taken : (plan : ℕ → Plan) (w : History) (k : Key) (t : ℕ) → HeldOk w → TookOk w → TakenOk w → AskedOk plan w → w.rows k ≡ Some (Held t) → (w.talk.taken t ≡ true) × (written (plan t) k ≢ None)
 held_taken plan w k t held took taken asked h = grind (arith, held k t, took t k, taken t k 0, asked t k)
@@ -61,13 +62,6 @@ under_kept plan w (Takes t) done ok firm base taken stands stage a = ok
 under_kept plan w (Checks t i) done ok firm base taken stands stage a = ok
 under_kept plan w (Ends t) done ok firm base taken stands stage a = ok
 under_kept plan w (Stops c) done ok firm base taken stands stage a = ok
-
--- What was found at a key, against what was shown there: the same writer; or nothing, where nothing was shown, or a
--- tombstone that was removed and whose writer was recorded before the finder began.
-abbrev pub Saw : (ℕ → Plan) → History → ℕ → Key → Option ℕ → Option ℕ → Type 0
-Saw plan w t k (Some u) x = x ≡ Some u
-Saw plan w t k None None = Unit {0}
-Saw plan w t k None (Some u) = (deletes (plan u) k ≡ true) × (w.decided_at u < w.talk.begun t)
 
 pub saw_now : (plan : ℕ → Plan) (w : History) (t : ℕ) (k : Key) (found : Option ℕ) → GoneOk plan w → RemovedOk w → IsLive w.talk t → has_version (w.rows k) found ≡ true → Saw plan w t k found (shadow plan w k)
 saw_now plan w t k found gone removed live h = grind (arith, tests, gone k, removed t k)

@@ -14,15 +14,15 @@ use Rattle.sdb_record.specs.declared.coordinator.Decision.TheVariants.{Committed
 use Rattle.sdb_model.specs.declared.script.Place.{Place}
 use Rattle.sdb_model.specs.Events.{Shelf, IsTrace}
 use Rattle.sdb_laws.specs.Plan.{Plan, written}
-use Rattle.sdb_laws.specs.History.{Role, Begins, Prepares, Ends, Word, Talk, History, Standing, Firm, Held, base_of, firm_of, has_version, happens, IsLive, IsWriter}
-use Rattle.sdb_laws.specs.Lawful.{Played, talk, id, answer_of, is_denial, IsBadRow, IsKnownAborted, MayTell, IsLawful}
+use Rattle.sdb_laws.specs.History.{Role, Begins, Prepares, Ends, Word, Talk, History, Standing, Firm, Held, base_of, firm_of, has_version, happens}
+use Rattle.sdb_laws.specs.Lawful.{Played, talk, id, answer_of, is_denial, IsBadRow, IsKnownAborted, MayTell}
 use Rattle.sdb_laws.specs.Trace.{closing, IsTraced, has_effect, after_end, history}
-use Rattle.sdb_laws.specs.Records.{held_record, firm_record, record_for, row_for}
+use Rattle.sdb_laws.specs.Records.{firm_record, record_for, row_for}
 use Rattle.sdb_laws.specs.Explained.{IsRunOf, RowsFinal, IsTold, IsDenied, StoodBefore, newest_first, events_of}
 use Rattle.sdb_laws.proofs.Keys.{tests}
 use Rattle.sdb_laws.proofs.Allowed.{Allowed}
 use Rattle.sdb_laws.proofs.Small.{row_kept, point_fixed}
-use Rattle.sdb_laws.proofs.Seen.{All, all_kept}
+use Rattle.sdb_laws.proofs.Seen.{All, all_kept, closed_still}
 use Rattle.sdb_laws.proofs.Known.{held_before, moment_stays, row_stays, taken_fits}
 use Rattle.sdb_laws.proofs.Settled.{Knows, committed_of, aborted_of}
 use Rattle.sdb_laws.proofs.Moves.{Moves}
@@ -34,8 +34,9 @@ whole_of plan places opening past ss r = whole plan places opening past ss r.emp
 -- what each part keeps, each event keeps
 pub one_more : (plan : ℕ → Plan) (places : List Place) (opening : List Shelf) (p : Played) (past : List Played) (s : List Shelf) (ss : List (List Shelf)) (P : History → Type 0)
     → ((w : History) (r : Role) (done : Bool) → All plan w → Allowed plan w r done → P w → P (happens plan w r done))
+    → ((w : History) (t : ℕ) → P w → P (after_end plan w (Some t)))
     → IsRunOf plan places opening (p ∷ past) (s ∷ ss) → P (history plan places opening past ss) → P (history plan places opening (p ∷ past) (s ∷ ss))
-one_more plan places opening p past s ss P stable r h = over p.ends
+one_more plan places opening p past s ss P stable closes r h = over p.ends
   where
     i : Whole plan places (history plan places opening past ss) past (closing opening ss)
     i = whole plan places opening past ss r.empty r.lawful.0 r.traced.0
@@ -51,19 +52,20 @@ one_more plan places opening p past s ss P stable r h = over p.ends
 
     over : (ends : Option ℕ) → P (after_end plan (happens plan (history plan places opening past ss) p.role (has_effect places p.event (closing opening ss) s)) ends)
     over None = next
-    over (Some t) = stable (happens plan (history plan places opening past ss) p.role (has_effect places p.event (closing opening ss) s)) (Ends t) false (all_kept plan (history plan places opening past ss) p.role (has_effect places p.event (closing opening ss) s) i.all m.allowed) tt next
+    over (Some t) = closes (happens plan (history plan places opening past ss) p.role (has_effect places p.event (closing opening ss) s)) t next
 
 pub earlier_run : (plan : ℕ → Plan) (places : List Place) (opening : List Shelf) (p : Played) (past : List Played) (s : List Shelf) (ss : List (List Shelf)) → IsRunOf plan places opening (p ∷ past) (s ∷ ss) → IsRunOf plan places opening past ss
 earlier_run plan places opening p past s ss r = record { empty = r.empty; lawful = r.lawful.0; traced = r.traced.0 }
 
 pub lasts : (plan : ℕ → Plan) (places : List Place) (opening : List Shelf) (later past : List Played) (more ss : List (List Shelf)) (P : History → Type 0)
     → ((w : History) (r : Role) (done : Bool) → All plan w → Allowed plan w r done → P w → P (happens plan w r done))
+    → ((w : History) (t : ℕ) → P w → P (after_end plan w (Some t)))
     → length later ≡ length more → IsRunOf plan places opening (later ++ past) (more ++ ss) → P (history plan places opening past ss) → P (history plan places opening (later ++ past) (more ++ ss))
-lasts plan places opening [] past [] ss P stable e r h = h
-lasts plan places opening [] past (s ∷ more) ss P stable e r h = absurd (omega arith)
-lasts plan places opening (p ∷ later) past [] ss P stable e r h = absurd (omega arith)
-lasts plan places opening (p ∷ later) past (s ∷ more) ss P stable e r h =
-    one_more plan places opening p (later ++ past) s (more ++ ss) P stable r (lasts plan places opening later past more ss P stable (omega arith) (earlier_run plan places opening p (later ++ past) s (more ++ ss) r) h)
+lasts plan places opening [] past [] ss P stable closes e r h = h
+lasts plan places opening [] past (s ∷ more) ss P stable closes e r h = absurd (omega arith)
+lasts plan places opening (p ∷ later) past [] ss P stable closes e r h = absurd (omega arith)
+lasts plan places opening (p ∷ later) past (s ∷ more) ss P stable closes e r h =
+    one_more plan places opening p (later ++ past) s (more ++ ss) P stable closes r (lasts plan places opening later past more ss P stable closes (omega arith) (earlier_run plan places opening p (later ++ past) s (more ++ ss) r) h)
 
 pub front_run : (plan : ℕ → Plan) (places : List Place) (opening : List Shelf) (later past : List Played) (more ss : List (List Shelf)) → length later ≡ length more → IsRunOf plan places opening (later ++ past) (more ++ ss) → IsRunOf plan places opening past ss
 front_run plan places opening [] past [] ss e r = r
@@ -77,7 +79,7 @@ pub rows_final : (plan : ℕ → Plan) (places : List Place) (opening : List She
 rows_final plan places opening later past more ss e r t row fits h =
     let before = whole_of plan places opening past ss (front_run plan places opening later past more ss e r) in
     let now = whole_of plan places opening (later ++ past) (more ++ ss) r in
-    now.held.rows t fits ∙ lasts plan places opening later past more ss (λ w. row_for w t ≡ Some row) (λ w x done i a y. row_stays w (happens plan w x done) t row (moment_stays plan w x done t a) y) e r (sym (before.held.rows t fits) ∙ h)
+    now.held.rows t fits ∙ lasts plan places opening later past more ss (λ w. row_for w t ≡ Some row) (λ w x done i a y. row_stays w (happens plan w x done) t row (moment_stays plan w x done t a) y) (λ w u h. h) e r (sym (before.held.rows t fits) ∙ h)
 
 ---- what clients are told
 
@@ -94,7 +96,7 @@ told_recorded plan places opening (p ∷ past) (s ∷ ss) t r (inl h) =
     some_is : (a b : ℕ) → Some a ≡ Some b → a ≡ b
     some_is a b e = ap (λ o. Rattle.std.specs.Prelude.unwrap_or o 0) e
 told_recorded plan places opening (p ∷ past) (s ∷ ss) t r (inr h) =
-    one_more plan places opening p past s ss (λ w. w.row t ≡ Some Committed) (λ w x done i a y. row_kept plan w x done t Committed a y) r (told_recorded plan places opening past ss t (earlier_run plan places opening p past s ss r) h)
+    one_more plan places opening p past s ss (λ w. w.row t ≡ Some Committed) (λ w x done i a y. row_kept plan w x done t Committed a y) (λ w u h. h) r (told_recorded plan places opening past ss t (earlier_run plan places opening p past s ss r) h)
 
 -- recorded before another began
 abbrev Before : History → ℕ → ℕ → Type 0
@@ -117,7 +119,7 @@ at_begin plan w t u c done (Some e) i h = grind (arith, tests, i.one.point t)
 pub real_time : (plan : ℕ → Plan) (places : List Place) (opening : List Shelf) (later past : List Played) (p : Played) (more ss : List (List Shelf)) (s : List Shelf) (t u c : ℕ) → length later ≡ length more → IsRunOf plan places opening (later ++ p ∷ past) (more ++ s ∷ ss)
     → IsTold past t → p.role ≡ Begins u c → (history plan places opening (later ++ p ∷ past) (more ++ s ∷ ss)).row u ≡ Some Committed
     → (history plan places opening (later ++ p ∷ past) (more ++ s ∷ ss)).talk.point t < (history plan places opening (later ++ p ∷ past) (more ++ s ∷ ss)).talk.point u
-real_time plan places opening later past p more ss s t u c e r told begins row = order (history plan places opening (later ++ p ∷ past) (more ++ s ∷ ss)) (whole_of plan places opening (later ++ p ∷ past) (more ++ s ∷ ss) r).all row (lasts plan places opening later (p ∷ past) more (s ∷ ss) (λ w. Before w t u) (before_kept plan t u) e r here)
+real_time plan places opening later past p more ss s t u c e r told begins row = order (history plan places opening (later ++ p ∷ past) (more ++ s ∷ ss)) (whole_of plan places opening (later ++ p ∷ past) (more ++ s ∷ ss) r).all row (lasts plan places opening later (p ∷ past) more (s ∷ ss) (λ w. Before w t u) (before_kept plan t u) (λ w v h. h) e r here)
   where
     at : IsRunOf plan places opening (p ∷ past) (s ∷ ss)
     at = front_run plan places opening later (p ∷ past) more (s ∷ ss) e r
@@ -186,6 +188,10 @@ lost_kept plan t w r done i a (inr h) = inr (closed h.0 h.1 h.2 h.3)
     closed : w.talk.taken t ≡ true → w.talk.is_open t ≡ false → w.talk.risked t ≡ false → w.row t ≢ Some Committed → ((happens plan w r done).talk.taken t ≡ true) × ((happens plan w r done).talk.is_open t ≡ false) × ((happens plan w r done).talk.risked t ≡ false) × ((happens plan w r done).row t ≢ Some Committed)
     closed taken is_closed risked row = grind (arith, tests, a, i.one.begun t)
 
+lost_closed : (plan : ℕ → Plan) (t : ℕ) (w : History) (u : ℕ) → Lost w t → Lost (after_end plan w (Some u)) t
+lost_closed plan t w u (inl h) = inl h
+lost_closed plan t w u (inr h) = inr (h.0, closed_still w.talk.is_open u t h.1, h.2, h.3)
+
 lost_row : (w : History) (t : ℕ) → Lost w t → w.row t ≢ Some Committed
 lost_row w t (inl h) e = absurd (grind arith)
 lost_row w t (inr h) e = h.3 e
@@ -251,7 +257,7 @@ denied_is_lost plan places opening (p ∷ past) (s ∷ ss) t r (inl h) = denied_
     why : (o : Option Answer) → answer_of p.event ≡ o → option_map_or is_denial o false ≡ true → (IsKnownAborted (p ∷ past) t ⊎ ((talk (p ∷ past)).risked t ≡ false) ⊎ IsBadRow (p ∷ past) t)
     why None e d = absurd (cc)
     why (Some a) e d = r.lawful.3 a e d t h.1 h.2
-denied_is_lost plan places opening (p ∷ past) (s ∷ ss) t r (inr h) = one_more plan places opening p past s ss (λ w. Lost w t) (lost_kept plan t) r (denied_is_lost plan places opening past ss t (earlier_run plan places opening p past s ss r) h)
+denied_is_lost plan places opening (p ∷ past) (s ∷ ss) t r (inr h) = one_more plan places opening p past s ss (λ w. Lost w t) (lost_kept plan t) (lost_closed plan t) r (denied_is_lost plan places opening past ss t (earlier_run plan places opening p past s ss r) h)
 
 pub denied_never_recorded : (plan : ℕ → Plan) (places : List Place) (opening : List Shelf) (past : List Played) (ss : List (List Shelf)) (t : ℕ) → IsRunOf plan places opening past ss → IsDenied past t → (history plan places opening past ss).row t ≢ Some Committed
 denied_never_recorded plan places opening past ss t r d = lost_row (history plan places opening past ss) t (denied_is_lost plan places opening past ss t r d)

@@ -39,7 +39,7 @@ through_one s = by (ends s) refl
     by false e = rw e refl
 
 abbrev selected : Said
-selected = record { taken = 2; text = codes "SELECT balance FROM bank.account WHERE id = 1"; answer = Some (answer.Rows ((value.Int (pos 42) ∷ []) ∷ [])); answered = 2 }
+selected = record { taken = 2; text = codes "SELECT balance FROM bank.account WHERE id = 1"; answer = Some (answer.Rows ((value.Int (pos 42) ∷ []) ∷ [])); reached = 2 }
 
 is_taken : statements_of oracle (id_of 1 1) ≡ selected ∷ []
 is_taken = rw begin_begins (through_one selected)
@@ -51,12 +51,12 @@ no_image f row (i ∷ is) e all never = never i all.0
 pub oracle_not_shown : (catalog : List Table) (places : List Place) (opening : List Shelf) (moments : List (List Shelf)) → AreShown catalog places oracle opening moments → ⊥
 oracle_not_shown catalog places opening moments shown =
     let s = shown (id_of 1 1) selected (answer.Rows ((value.Int (pos 42) ∷ []) ∷ [])) (subst (λ ss. Contains ss selected) (sym is_taken) (0, omega arith, refl)) refl in
-    no_image _ (value.Int (pos 42) ∷ []) s.2 s.5 s.6 (λ image has. in_none has.committed.call has.committed.read.0)
+    no_image _ (value.Int (pos 42) ∷ []) s.2 s.5 s.6 (λ image has. in_none has.shown.call has.shown.read.0)
 
 ---- answers without a call
 
 abbrev ended : Said
-ended = record { taken = 2; text = codes "COMMIT"; answer = Some (answer.Conflict account None); answered = 2 }
+ended = record { taken = 2; text = codes "COMMIT"; answer = Some (answer.Conflict account None); reached = 2 }
 
 pub accused_not_caused : (catalog : List Table) → AreCaused catalog accused → ⊥
 accused_not_caused catalog all =
@@ -70,7 +70,7 @@ accused_not_caused catalog all =
     ]
 
 abbrev failed : Said
-failed = record { taken = 1; text = codes "BEGIN"; answer = Some answer.Faulted; answered = 1 }
+failed = record { taken = 1; text = codes "BEGIN"; answer = Some answer.Faulted; reached = 1 }
 
 pub broken_not_caused : (catalog : List Table) → AreCaused catalog broken → ⊥
 broken_not_caused catalog all = let c = all.caused 1 failed answer.Faulted (0, omega arith, refl) refl in in_none c.0 c.1
@@ -110,7 +110,7 @@ vacuum_first st (ps, lexes, whole, spells) = elim spells [
     first = ap first_word tokens
 
 abbrev counted : Said
-counted = record { taken = 1; text = codes "VACUUM"; answer = Some (answer.Count 7); answered = 1 }
+counted = record { taken = 1; text = codes "VACUUM"; answer = Some (answer.Count 7); reached = 1 }
 
 pub counting_not_caused : (catalog : List Table) → AreCaused catalog counting → ⊥
 counting_not_caused catalog all =

@@ -8,15 +8,15 @@ use Rattle.sdb_model.specs.declared.event.Event.{Event}
 use Rattle.sdb_model.specs.declared.script.Place.{Place}
 use Rattle.sdb_model.specs.Events.{Shelf, Effect}
 use Rattle.sdb_laws.specs.Plan.{Plan}
-use Rattle.sdb_laws.specs.History.{Role, Other, Begins, Takes, Prepares, Checks, Decides, Aborts, Rolls, Removes, Ends, Stops, Talk, History, start, heard, happens, with_row}
+use Rattle.sdb_laws.specs.History.{Role, Other, Begins, Takes, Prepares, Checks, Decides, Aborts, Rolls, Removes, Ends, Stops, Talk, History, start, heard, says, happens, with_row}
 use Rattle.sdb_laws.specs.Lawful.{Played, MayPlay, IsLawful}
 use Rattle.sdb_laws.specs.Records.{IsHeld}
 use Rattle.sdb_laws.specs.Trace.{closing, IsTraced, StartsEmpty, has_effect, after_end, history}
 use Rattle.sdb_laws.proofs.Keys.{tests}
 use Rattle.sdb_laws.proofs.Allowed.{Allowed}
-use Rattle.sdb_laws.proofs.Seen.{All, all_kept, all_start}
+use Rattle.sdb_laws.proofs.Seen.{All, all_closed, all_kept, all_start}
 use Rattle.sdb_laws.proofs.Shown.{stood}
-use Rattle.sdb_laws.proofs.Known.{IsPlanned, AreMoments, known_kept, known_now}
+use Rattle.sdb_laws.proofs.Known.{IsPlanned, AreMoments, known_closed, known_kept, known_now}
 use Rattle.sdb_laws.proofs.Settled.{Knows}
 use Rattle.sdb_laws.proofs.Moves.{Moves, prepare_moves, decide_moves, abort_moves}
 use Rattle.sdb_laws.proofs.Rolling.{forward_moves, back_moves, remove_moves}
@@ -163,16 +163,16 @@ played plan places w past p before now done i effect is m =
 with_end : (plan : ℕ → Plan) (places : List Place) (w : History) (past : List Played) (p : Played) (now : List Shelf) (ends : Option ℕ) → Whole plan places w (record p { ends = None } ∷ past) now → Whole plan places (after_end plan w ends) (record p { ends = ends } ∷ past) now
 with_end plan places w past p now None i = i
 with_end plan places w past p now (Some t) i =
-    let all = all_kept plan w (Ends t) false i.all tt in
+    let all = all_closed plan w t i.all in
     record {
       all = all;
       knows = record {
         inv = all.one;
-        talks = ap (λ h. heard h (Ends t)) i.knows.talks;
-        shown = λ r s. known_kept plan w (Ends t) false r i.knows.inv tt (i.knows.shown r s);
+        talks = ap (λ h. says h (Ends t)) i.knows.talks;
+        shown = λ r s. known_closed plan w t r (i.knows.shown r s);
         fits = i.knows.fits;
         planned = i.knows.planned;
-        moments = λ u. moments_same plan w (happens plan w (Ends t) false) u refl refl (i.knows.moments u);
+        moments = λ u. moments_same plan w (after_end plan w (Some t)) u refl refl (i.knows.moments u);
       };
       held = record { records = i.held.records; rows = i.held.rows };
     }

@@ -35,7 +35,7 @@ AreNoted plan events past = (t : ℕ) → (talk past).taken t ≡ true → (note
 pub record IsFaithful (events : List Event) (past : List Played) : Type 0 where
   pub begun : (t n : ℕ) → t < 2 ^ 128 → begun events (id t) ≡ Some n → (talk past).begun t ≡ n
   pub taken : (t : ℕ) → (talk past).taken t ≡ true → option_map_or (λ s. s.taken) (commit_of events (id t)) 0 ≡ (talk past).taken_at t
-  pub told : (t : ℕ) (s : Said) → t < 2 ^ 128 → commit_of events (id t) ≡ Some s → s.answer ≡ Some answer.Committed → IsToldAt past t s.answered
+  pub told : (t : ℕ) (s : Said) → t < 2 ^ 128 → commit_of events (id t) ≡ Some s → s.answer ≡ Some answer.Committed → IsToldAt past t s.reached
   pub denied : (t : ℕ) (s : Said) (a : Answer) → t < 2 ^ 128 → commit_of events (id t) ≡ Some s → s.answer ≡ Some a → is_denial a ≡ true → (talk past).taken t ≡ true → IsDenied past t
   pub owned : (client : ℕ) (s : Said) → Contains (said client events) s → s.answer ≡ Some answer.Committed → IsCommitOf events client s
   pub unknown : (t : ℕ) (s : Said) (u : TxId) → commit_of events (id t) ≡ Some s → s.answer ≡ Some (answer.Unknown u) → u ≡ id t

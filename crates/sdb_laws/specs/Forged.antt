@@ -7,8 +7,8 @@ use Rattle.sdb_model.specs.declared.event.Event.TheVariants as event
 use Rattle.sdb_types.specs.declared.record.Request.TheVariants as ask
 use Rattle.sdb_types.specs.declared.record.Reply.TheVariants as reply
 use Rattle.sdb_laws.specs.History.{Other, Begins, Takes, Decides, Yes}
-use Rattle.sdb_laws.specs.Lawful.{Played}
-use Rattle.sdb_laws.specs.Worked.{account, call, ending, one, plays, put_row, taken}
+use Rattle.sdb_laws.specs.Lawful.{Played, ends_with as ending, plays}
+use Rattle.sdb_laws.specs.Worked.{account, call, one, put_row, taken}
 
 -- BEGIN is refused, and what follows is answered as if it were not: no call is made, and nothing is stored.
 abbrev pub liar : List Event

@@ -127,34 +127,39 @@ silence = record {
   point = λ t. 0;
 }
 
--- what was said, after one more part
-abbrev pub heard : Talk → Role → Talk
-heard h Other = record h { now = h.now + 1 }
-heard h (Begins t c) = record h { now = h.now + 1; begun = at h.begun t (h.now + 1); owner = at h.owner t c; is_open = at h.is_open t true }
-heard h (Takes t) = record h { now = h.now + 1; taken = at h.taken t true; taken_at = at h.taken_at t (h.now + 1); point = at h.point t (h.now + 1) }
-heard h (Prepares t k word) = record h {
-  now = h.now + 1;
+-- one event more: the clock shows its number
+abbrev pub ticked : Talk → Talk
+ticked h = record h { now = h.now + 1 }
+
+-- what was said, after one more part of the event whose number the clock shows
+abbrev pub says : Talk → Role → Talk
+says h Other = h
+says h (Begins t c) = record h { begun = at h.begun t h.now; owner = at h.owner t c; is_open = at h.is_open t true }
+says h (Takes t) = record h { taken = at h.taken t true; taken_at = at h.taken_at t h.now; point = at h.point t h.now }
+says h (Prepares t k word) = record h {
   asked = at2 h.asked t k true;
   told = at2 h.told t k (is_yes word);
-  point = if is_yes word then at h.point t (h.now + 1) else h.point;
+  point = if is_yes word then at h.point t h.now else h.point;
 }
-heard h (Checks t i) = record h { now = h.now + 1; stage = at h.stage t Checking; checked = at_note h.checked t i true }
-heard h (Decides t word) = record h {
-  now = h.now + 1;
+says h (Checks t i) = record h { stage = at h.stage t Checking; checked = at_note h.checked t i true }
+says h (Decides t word) = record h {
   stage = at h.stage t Deciding;
   risked = if is_wanting word then h.risked else at h.risked t true;
   won = if is_yes word then at h.won t true else h.won;
   met = if is_met word then at h.met t true else h.met;
 }
-heard h (Aborts t moment word) = record h {
-  now = h.now + 1;
+says h (Aborts t moment word) = record h {
   dead = if is_yes word then at h.dead t true else h.dead;
   met = if is_met word then at h.met t true else h.met;
 }
-heard h (Rolls t k decision) = record h { now = h.now + 1 }
-heard h (Removes k t) = record h { now = h.now + 1 }
-heard h (Ends t) = record h { is_open = at h.is_open t false }
-heard h (Stops c) = record h { now = h.now + 1; stopped = at h.stopped c true }
+says h (Rolls t k decision) = h
+says h (Removes k t) = h
+says h (Ends t) = record h { is_open = at h.is_open t false }
+says h (Stops c) = record h { stopped = at h.stopped c true }
+
+-- what was said, after one more event, by its first part
+abbrev pub heard : Talk → Role → Talk
+heard h r = says (ticked h) r
 
 ---- what was done
 

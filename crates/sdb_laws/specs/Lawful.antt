@@ -31,7 +31,7 @@ use Rattle.sdb_model.specs.Sql.{reads_begin, reads_commit}
 use Rattle.sdb_model.specs.Rows.{Name}
 use Rattle.sdb_laws.specs.Plan.{Plan, write_at, written, noted}
 use Rattle.sdb_model.specs.Noted.{Note, Got, Scanned, same_key, version_among}
-use Rattle.sdb_laws.specs.History.{Role, Other, Begins, Takes, Prepares, Checks, Decides, Aborts, Rolls, Removes, Ends, Stops, Word, Yes, No, Silence, Wanting, Talk, Preparing, Deciding, silence, heard, IsPrepared}
+use Rattle.sdb_laws.specs.History.{Role, Other, Begins, Takes, Prepares, Checks, Decides, Aborts, Rolls, Removes, Ends, Stops, Word, Yes, No, Silence, Wanting, Talk, Preparing, Deciding, silence, heard, says, IsPrepared}
 
 -- An event, the part that it plays, and the transaction that its answer ends, if one is ended.
 pub record Played : Type 0 where
@@ -41,7 +41,7 @@ pub record Played : Type 0 where
 
 abbrev pub ended : Talk → Option ℕ → Talk
 ended h None = h
-ended h (Some t) = heard h (Ends t)
+ended h (Some t) = says h (Ends t)
 
 -- what the events so far have said
 abbrev pub talk : List Played → Talk
@@ -354,3 +354,11 @@ IsLawful plan (p ∷ past) =
     IsLawful plan past × MayPlay plan past p.event p.role
     × (answer_of p.event ≡ Some answer.Committed → MayTell plan past p)
     × ((a : Answer) → answer_of p.event ≡ Some a → is_denial a ≡ true → MayDeny past p)
+
+-- an event that plays a part, and ends no transaction
+abbrev pub plays : Role → Event → Played
+plays role e = record { event = e; role = role; ends = None }
+
+-- one whose answer ends a transaction
+abbrev pub ends_with : ℕ → Role → Event → Played
+ends_with t role e = record { event = e; role = role; ends = Some t }

@@ -10,7 +10,7 @@ use Rattle.sdb_model.specs.declared.event.Event.TheVariants as event
 use Rattle.sdb_model.specs.declared.script.Place.{Place}
 use Rattle.sdb_model.specs.Events.{Shelf, Effect, standing}
 use Rattle.sdb_laws.specs.Plan.{Plan}
-use Rattle.sdb_laws.specs.History.{Ends, History, start, happens}
+use Rattle.sdb_laws.specs.History.{Ends, History, start, happens, says}
 use Rattle.sdb_laws.specs.Lawful.{Played}
 
 -- what the stores held last
@@ -46,7 +46,7 @@ has_effect places _ before now = false
 
 abbrev pub after_end : (ℕ → Plan) → History → Option ℕ → History
 after_end plan w None = w
-after_end plan w (Some t) = happens plan w (Ends t) false
+after_end plan w (Some t) = record w { talk = says w.talk (Ends t) }
 
 -- what the events did, over a trace
 abbrev pub history : (ℕ → Plan) → List Place → List Shelf → List Played → List (List Shelf) → History

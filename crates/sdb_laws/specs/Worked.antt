@@ -28,8 +28,8 @@ use Rattle.sdb_types.specs.Contents.{Contents, after}
 use Rattle.sdb_model.specs.Events.{Shelf}
 use Rattle.sdb_laws.specs.Plan.{Plan}
 use Rattle.sdb_model.specs.Noted.{Got}
-use Rattle.sdb_laws.specs.History.{Role, Other, Begins, Takes, Prepares, Checks, Decides, Rolls, Removes, Stops, Yes, Silence}
-use Rattle.sdb_laws.specs.Lawful.{Played, id}
+use Rattle.sdb_laws.specs.History.{Other, Begins, Takes, Prepares, Checks, Decides, Rolls, Removes, Stops, Yes, Silence}
+use Rattle.sdb_laws.specs.Lawful.{Played, id, plays, ends_with as ending}
 
 -- the account with id 1
 abbrev pub account : Key
@@ -82,12 +82,6 @@ plan_with w t =
     else nothing
 
 ---- events
-
-abbrev pub plays : Role → Event → Played
-plays role e = record { event = e; role = role; ends = None }
-
-abbrev pub ending : ℕ → Role → Event → Played
-ending t role e = record { event = e; role = role; ends = Some t }
 
 abbrev pub taken : ℕ → List ℕ → Option Answer → Event
 taken client text answer = event.Take client text answer

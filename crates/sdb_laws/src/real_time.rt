@@ -1,5 +1,5 @@
 //! Laws in the words of the model, where the parts that are played are those that the texts of the events tell.
-ghost use Rattle.std.specs.Prelude.{◌≡◌, ◌<◌, ◌≤◌, ◌^◌, ℕ, List, All, Some, map};
+ghost use Rattle.std.specs.Prelude.{◌≡◌, ◌<◌, ◌≤◌, ◌^◌, ℕ, List, All, Some, length, map};
 ghost use Rattle.sdb_record.specs.declared.coordinator.Decision.TheVariants.{Committed};
 ghost use Rattle.sdb_model.specs.declared.event.Point.{Point};
 ghost use Rattle.sdb_model.specs.declared.script.Place.{Place};
@@ -7,11 +7,16 @@ ghost use Rattle.sdb_model.specs.Events.{Shelf};
 ghost use Rattle.sdb_model.specs.Transactions.{IsOrder};
 ghost use Rattle.sdb_model.specs.Told.{TransactionsInRealTime};
 ghost use Rattle.sdb_laws.specs.Plan.{Plan};
-ghost use Rattle.sdb_laws.specs.Lawful.{Played};
+ghost use Rattle.sdb_laws.specs.Lawful.{IsLawful, Played, talk};
 ghost use Rattle.sdb_laws.specs.Trace.{closing, history};
 ghost use Rattle.sdb_laws.specs.Explained.{IsRunOf, newest_first, events_of};
 ghost use Rattle.sdb_laws.specs.Faithful.{AnswersAreTrue, IsToldAt, IsFaithful};
 ghost use Rattle.sdb_laws.specs.Serial.{IsOrdered};
+
+/// The clock of what was said counts events, and not the parts that they play.
+pub fn clock_counts_events()
+    ensures { (plan : ℕ → Plan) (past : List Played) → IsLawful plan past → (talk past).now ≡ length past }
+{}
 
 /// Who was told Committed by an event was recorded by then.
 pub fn told_was_decided()

@@ -48,9 +48,8 @@ use Rattle.sdb_story.proofs.Run.{linked_run}
 use Rattle.sdb_story.proofs.Turns.{body_is_said}
 use Rattle.sdb_linked.specs.Going.{IsGoing, OpenedOk, RanOk}
 use Rattle.sdb_linked.specs.Noted.{InsideNoted, OpenedNoted}
-use Rattle.sdb_linked.proofs.Mild.{no_second}
 use Rattle.sdb_linked.proofs.Own.{finished, over}
-use Rattle.sdb_types.proofs.Basics.{none_some}
+use Rattle.sdb_types.proofs.Basics.{none_some, and_false as no_second}
 
 ---- a recorded transaction's COMMIT was taken
 

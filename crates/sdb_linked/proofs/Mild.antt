@@ -7,7 +7,7 @@ use Rattle.sdb_model.specs.declared.answer.Answer.TheVariants as answer
 use Rattle.sdb_model.specs.Sql.{reads_begin, reads_commit, reads_rollback}
 use Rattle.sdb_model.specs.Transactions.{Said, begins, changes_nothing, ends, is_answered_from_rows, is_conflict, is_done, is_effective}
 use Rattle.sdb_linked.specs.Going.{IsMild}
-use Rattle.sdb_types.proofs.Basics.{clash, some_is}
+use Rattle.sdb_types.proofs.Basics.{clash, some_is, and_false as no_second}
 
 ---- answers that neither begin nor end a transaction
 
@@ -47,10 +47,6 @@ rows_mild (answer.Conflict key found) n = clash (sym n)
 rows_mild (answer.Expired i) n = clash (sym n)
 rows_mild (answer.Unknown i) n = clash (sym n)
 rows_mild answer.Vacuuming n = clash (sym n)
-
-pub no_second : (b : Bool) → (b && false) ≡ false
-no_second true = refl
-no_second false = refl
 
 pub mild_begins : (s : Said) (a : Answer) → s.answer ≡ Some a → IsMild a → begins s ≡ false
 mild_begins s a e m = ap (λ o. reads_begin s.text && is_done o) e ∙ ap (λ b. reads_begin s.text && b) m.undone ∙ no_second (reads_begin s.text)

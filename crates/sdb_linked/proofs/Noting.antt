@@ -3,11 +3,10 @@ use Rattle.std.proofs.Common.{◌≡◌, ◌≢◌, ◌≤◌, ◌+◌, ℕ, ℤ
 use Rattle.std.specs.Prelude.{◌==◌, ◌&&◌, filter, if◌then◌else◌, is_some, nat_lt, not}
 use Rattle.std.specs.Cmp.{tied_itself}
 use Rattle.std.specs.Cmp.Lexicographic.{lists_total}
-use Rattle.std.specs.List.{cons_option, filter_map}
+use Rattle.std.specs.List.{cons_option}
 use Rattle.std.specs.Ordering.{is_eq}
 use Rattle.std.proofs.lemmas.Bool.Decides.{nat_tests}
 use Rattle.std.proofs.lemmas.List.{append-nil, length-append}
-use Rattle.std.proofs.lemmas.List.Elements.{filter_map-append}
 use Rattle.sdb_types.specs.declared.key.Key.{Key}
 use Rattle.sdb_types.specs.declared.record.Record.{Record}
 use Rattle.sdb_types.specs.declared.record.Reply.{Reply}
@@ -26,11 +25,11 @@ use Rattle.sdb_model.specs.declared.answer.Answer.{Answer}
 use Rattle.sdb_model.specs.declared.event.Event.{Event}
 use Rattle.sdb_model.specs.declared.event.Event.TheVariants as event
 use Rattle.sdb_model.specs.declared.event.How.{How}
-use Rattle.sdb_model.specs.Calls.{Made, calls_by, end_of, made_by}
+use Rattle.sdb_model.specs.Calls.{Made, calls_by, end_of}
 use Rattle.sdb_model.specs.Events.{table_asked}
-use Rattle.sdb_model.specs.Noted.{notes_in}
+use Rattle.sdb_model.specs.Noted.{notes_in, is_from_rows as from_rows}
 use Rattle.sdb_model.specs.Rows.{Name}
-use Rattle.sdb_model.specs.Transactions.{Said, begins, ends, is_effective, numbered}
+use Rattle.sdb_model.specs.Transactions.{Said, begins, ends, is_effective}
 use Rattle.sdb_laws.specs.History.{at}
 use Rattle.sdb_laws.specs.Lawful.{Played}
 use Rattle.sdb_phases.specs.Commit.{Stage, Preparing, Checking, Deciding, Forward, Stopping, Back, Over}
@@ -39,19 +38,19 @@ use Rattle.sdb_snapshot.specs.Seen.{Seen, nothing, with_written}
 use Rattle.sdb_turns.specs.Noted.{with_read}
 use Rattle.sdb_turns.specs.ReadAt.{AreKinds, Done, IsOfData, Kind, ReadAt, ReadOk, read_pending, read_step, request_of}
 use Rattle.sdb_turns.specs.System.{ClientAt, Committing, IsBy, Open, Reading, Resting, Stopped, Sweeping, commit_left}
-use Rattle.sdb_turns.proofs.Lists.{each_any, each_more}
-use Rattle.sdb_story.specs.Calls.{AgreeOn, Learned, NotesNothing, NotesRead, ReadMade, WasAnswered, call_made, calls_since, from_rows}
+use Rattle.sdb_turns.proofs.Lists.{each_more}
+use Rattle.sdb_story.specs.Calls.{AgreeOn, Learned, NotesNothing, NotesRead, ReadMade, WasAnswered, call_made, calls_since}
 use Rattle.sdb_story.specs.Left.{Execution}
 use Rattle.sdb_story.specs.Story.{Closed, Finished, Opened, Rest, finished_at}
 use Rattle.sdb_story.specs.Telling.{Telling, with_answered}
 use Rattle.sdb_story.proofs.Answered.{one_more}
 use Rattle.sdb_story.proofs.Bodily.{noted_later, noted_nothing, noted_read, noted_starts}
 use Rattle.sdb_story.proofs.Noting.{read_made, read_notes}
-use Rattle.sdb_story.proofs.Since.{calls_just, since_more, since_now}
-use Rattle.sdb_story.proofs.Tellings.{numbers_more}
+use Rattle.sdb_story.proofs.Since.{calls_just, since_more, since_now, calls_more}
 use Rattle.sdb_linked.specs.Going.{IsSilent}
 use Rattle.sdb_linked.specs.Noted.{ClientNoted, EndedNoted, InsideNoted, IsMadeSince, OpenedNoted}
 use Rattle.sdb_linked.proofs.Own.{below, finished, ran_before, ran_here, settled_begin, settled_gap, settled_inside, settled_over}
+use Rattle.sdb_types.proofs.Basics.{all_each as each_any}
 
 ---- what was learned
 
@@ -72,9 +71,6 @@ learned_kept t (m ∷ ms) id d h = by (t m) (learned_kept t ms id d) h
 -- what some calls among these showed agrees too
 pub agree_among : (t : Made → Bool) (ms : List Made) → AgreeOn ms → AgreeOn (filter t ms)
 agree_among t ms agree id a b fits h k = agree id a b fits (learned_kept t ms id a h) (learned_kept t ms id b k)
-
-calls_more : (events : List Event) (c : ℕ) (e : Event) → calls_by (events ++ e ∷ []) c ≡ calls_by events c ++ call_made c (1 + length events) e
-calls_more events c e = ap (filter_map (made_by c)) (numbers_more 1 events e) ∙ filter_map-append (made_by c) (numbered events) ((1 + length events, e) ∷ [])
 
 agree_before : (events : List Event) (c : ℕ) (e : Event) → AgreeOn (calls_by (events ++ e ∷ []) c) → AgreeOn (calls_by events c)
 agree_before events c e agree id a b fits h k = agree id a b fits (later a h) (later b k)
@@ -106,7 +102,7 @@ just_now events e = subst (λ m. 1 + length events ≤ m) (sym (long events e)) 
 
 pub inside_noted_later : (events : List Event) (c : ℕ) (e : Event) (inside : List Said) (seen : Seen) → InsideNoted events c inside seen → InsideNoted (events ++ e ∷ []) c inside seen
 inside_noted_later events c e inside seen ok = record {
-  answered = each_any (WasAnswered events) (WasAnswered (events ++ e ∷ [])) inside (λ s was. record { answered = was.answered; before = later_at events e s.answered was.before }) ok.answered;
+  answered = each_any (WasAnswered events) (WasAnswered (events ++ e ∷ [])) inside (λ s was. record { answered = was.answered; before = later_at events e s.reached was.before }) ok.answered;
   noted = λ agree. noted_later events c inside seen e ok.answered (ok.noted (agree_before events c e agree));
 }
 
@@ -119,7 +115,7 @@ written_noted events c inside seen changes ok = record { answered = ok.answered;
 
 -- a statement that is answered by the last event
 abbrev pub IsJustAnswered : List Event → Said → Type 0
-IsJustAnswered events s = (is_some s.answer ≡ true) × (s.answered ≡ 1 + length events)
+IsJustAnswered events s = (is_some s.answer ≡ true) × (s.reached ≡ 1 + length events)
 
 was_just : (events : List Event) (e : Event) (s : Said) → IsJustAnswered events s → WasAnswered (events ++ e ∷ []) s
 was_just events e s is = record { answered = is.0; before = subst (λ n. n ≤ length (events ++ e ∷ [])) (sym is.1) (just_now events e) }
@@ -354,7 +350,7 @@ notes_read events c e s a images is effective rows tables made agree = record {
 }
   where
     ended : end_of (events ++ e ∷ []) s ≡ length (events ++ e ∷ [])
-    ended = ap (λ b. if b then s.answered else length (events ++ e ∷ [])) is.0 ∙ is.1 ∙ sym (long events e)
+    ended = ap (λ b. if b then s.reached else length (events ++ e ∷ [])) is.0 ∙ is.1 ∙ sym (long events e)
 
 -- after its own taking a statement has made no call
 pub none_since : (events : List Event) (c : ℕ) (e : Event) → calls_since (events ++ e ∷ []) c (1 + length events) ≡ []
@@ -368,4 +364,4 @@ pub at_once : (events : List Event) (c : ℕ) (e : Event) (s : Said) → IsJustA
 at_once events c e s is now = inr (inr (ap notes_in (calls_just (events ++ e ∷ []) c s ended ∙ ap (calls_since (events ++ e ∷ []) c) now ∙ none_since events c e)))
   where
     ended : end_of (events ++ e ∷ []) s ≡ length (events ++ e ∷ [])
-    ended = ap (λ b. if b then s.answered else length (events ++ e ∷ [])) is.0 ∙ is.1 ∙ sym (long events e)
+    ended = ap (λ b. if b then s.reached else length (events ++ e ∷ [])) is.0 ∙ is.1 ∙ sym (long events e)

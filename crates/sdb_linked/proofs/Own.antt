@@ -33,9 +33,10 @@ use Rattle.sdb_story.specs.Filed.{number}
 use Rattle.sdb_story.specs.Left.{Execution}
 use Rattle.sdb_story.specs.Story.{Closed, Finished, Opened, Rest, Story, finished_at, settle}
 use Rattle.sdb_story.specs.Telling.{IsApart, IsCounted, IsNotOf, IsOpened, Telling, with_answered}
-use Rattle.sdb_story.proofs.Answered.{one_more}
+use Rattle.sdb_story.proofs.Answered.{one_more, telling_of}
 use Rattle.sdb_story.proofs.Tellings.{within}
 use Rattle.sdb_linked.specs.Going.{ClientGoes, EndedOk, HandOk, IsClosed, RanOk}
+use Rattle.sdb_types.proofs.Basics.{itself as same_number}
 
 ---- parts that begin and take nothing
 
@@ -130,9 +131,6 @@ commit_plain p (Over a) r = tt
 
 ---- what each transaction ran
 
-same_number : (n : ℕ) → (n == n) ≡ true
-same_number n = grind (arith, nat_tests)
-
 less_differs : (k n : ℕ) → k < n → (k == n) ≡ false
 less_differs k n l = grind (arith, nat_tests)
 
@@ -161,9 +159,6 @@ opened_as (Opened gap b body) o = (gap, b, body, refl)
 pub closed_as : (r : Rest) → IsClosed r → (gap : List Said) × (r ≡ Closed gap)
 closed_as (Closed gap) o = (gap, refl)
 closed_as (Opened gap b body) o = absurd o
-
-abbrev pub telling_of : Story → Telling
-telling_of t = record { whole = t.whole; rest = t.rest; waiting = None }
 
 abbrev pub inside : Telling → List Said → Said → List Said → Said → Story
 inside x gap b body s = record { whole = x.whole; rest = Opened gap b (body ++ s ∷ []) }

@@ -15,12 +15,12 @@ use Rattle.sdb_model.specs.declared.statement.Statement.{Statement}
 use Rattle.sdb_model.specs.Exec.{Tables}
 use Rattle.sdb_model.specs.Transactions.{said}
 use Rattle.sdb_laws.specs.History.{Other}
-use Rattle.sdb_laws.specs.Lawful.{Played, id}
+use Rattle.sdb_laws.specs.Lawful.{Played, id, plays}
 use Rattle.sdb_laws.specs.Plan.{Plan}
 use Rattle.sdb_snapshot.specs.Seen.{nothing}
 use Rattle.sdb_turns.specs.Noted.{work_of}
 use Rattle.sdb_turns.specs.Owner.{plan_of}
-use Rattle.sdb_turns.specs.System.{ClientAt, Committing, Has, IsQuiet, SystemAt, idle, plays, with_client}
+use Rattle.sdb_turns.specs.System.{ClientAt, Committing, Has, IsQuiet, SystemAt, idle, with_client}
 use Rattle.sdb_turns.proofs.Begin.{begins as system_begins}
 use Rattle.sdb_turns.proofs.Quiet.{quiet_turn}
 use Rattle.sdb_story.specs.Telling.{IsOpened, nothing_yet}

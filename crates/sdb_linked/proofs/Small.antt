@@ -5,15 +5,12 @@ use Rattle.std.proofs.lemmas.Bool.Decides.{nat_tests}
 use Rattle.sdb_model.specs.declared.statement.Statement.{Statement}
 use Rattle.sdb_model.specs.Sql.{Reads, reads_commit}
 use Rattle.sdb_model.specs.Transactions.{Said}
-use Rattle.sdb_laws.specs.History.{Begins, Takes, Talk, heard}
+use Rattle.sdb_laws.specs.History.{Begins, Talk, heard}
 use Rattle.sdb_snapshot.specs.Seen.{nothing}
 use Rattle.sdb_turns.specs.System.{ClientAt, SystemAt, with_client}
 use Rattle.sdb_story.specs.Filed.{number}
 use Rattle.sdb_story.specs.Left.{Execution}
 use Rattle.sdb_linked.specs.Going.{IsCommitting, IsInner, IsRunning, IsWaiting}
-
-pub same_number : (n : ℕ) → (n == n) ≡ true
-same_number n = grind (arith, nat_tests)
 
 -- no two transactions of a client have one number
 pub numbers_same : (c j k : ℕ) → number c j ≡ number c k → j ≡ k
@@ -31,9 +28,6 @@ nothing_ran = record { seen = nothing; now = pos 0; body = []; answers = [] }
 
 pub begins_untaken : (h : Talk) (t c : ℕ) → (heard h (Begins t c)).taken t ≡ h.taken t
 begins_untaken h t c = grind (arith, nat_tests)
-
-pub takes_taken : (h : Talk) (t : ℕ) → (heard h (Takes t)).taken t ≡ true
-takes_taken h t = grind (arith, nat_tests)
 
 ---- the statement that waits
 

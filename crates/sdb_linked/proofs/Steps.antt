@@ -22,7 +22,7 @@ use Rattle.sdb_model.specs.Exec.{Tables}
 use Rattle.sdb_model.specs.Sql.{Reads, reads_begin, reads_commit, reads_rollback}
 use Rattle.sdb_model.specs.Transactions.{Said, begins, changes_nothing, ends, id_of, is_answered_from_rows, is_conflict, is_done, said}
 use Rattle.sdb_laws.specs.History.{Begins, Other, Stops, Takes, at}
-use Rattle.sdb_laws.specs.Lawful.{Played, id, talk}
+use Rattle.sdb_laws.specs.Lawful.{Played, id, talk, ends_with, plays}
 use Rattle.sdb_laws.specs.Plan.{Plan}
 use Rattle.sdb_phases.specs.declared.step.Outcome.{Outcome}
 use Rattle.sdb_phases.specs.declared.step.Outcome.TheVariants as outcome
@@ -35,7 +35,7 @@ use Rattle.sdb_turns.specs.Noted.{MayNote, SeenOk, with_read, work_of}
 use Rattle.sdb_turns.specs.Owner.{StageOk, plan_of, role_of}
 use Rattle.sdb_turns.specs.ReadAt.{AreKinds, Asking, Done, IsOfData, Kind, ReadAt, read_pending, read_role, read_step}
 use Rattle.sdb_turns.specs.Sweep.{SweepAt, Scanning, sweep_pending, sweep_role, sweep_step}
-use Rattle.sdb_turns.specs.System.{ClientAt, ClientCall, ClientOk, Has, IsBegin, IsCommit, IsQuiet, IsReplyTo, NoneOpen, NoneSweeps, Open, Committing, Reading, Resting, Sweeping, SamePlans, StandsAt, Stopped, SystemAt, SystemOk, answer_at, answer_of_outcome, begin_played, call_event, commit_begun, commit_left, ending_at, ends_with, idle, next_id, plays, take_played, with_begun, with_client, with_plan}
+use Rattle.sdb_turns.specs.System.{ClientAt, ClientCall, ClientOk, Has, IsBegin, IsCommit, IsQuiet, IsReplyTo, NoneOpen, NoneSweeps, Open, Committing, Reading, Resting, Sweeping, SamePlans, StandsAt, Stopped, SystemAt, SystemOk, answer_at, answer_of_outcome, begin_played, call_event, commit_begun, commit_left, ending_at, idle, next_id, take_played, with_begun, with_client, with_plan}
 use Rattle.sdb_turns.proofs.Begin.{begin_turn, untaken}
 use Rattle.sdb_turns.proofs.Calls.{read_turn, read_ends_turn, vacuum_turn}
 use Rattle.sdb_turns.proofs.Commit.{commit_turn, own_kept}
@@ -49,18 +49,18 @@ use Rattle.sdb_story.specs.Filed.{number}
 use Rattle.sdb_story.specs.Left.{Execution}
 use Rattle.sdb_story.specs.Story.{Closed, Finished, MayCome, Opened, Rest, finished_at}
 use Rattle.sdb_story.specs.Telling.{BeginsHold, IsOpened, IsOrdinary, IsSaid, KeepsHold, StoryOk, Telling, TellsOn, answered_said, begun_in, taken_said, with_answered, with_waiting}
-use Rattle.sdb_story.proofs.Answered.{commit_ends, said_at_once, said_later, story_answers, story_asks, story_begins, story_ends, story_takes}
+use Rattle.sdb_story.proofs.Answered.{commit_ends, said_at_once, said_later, story_answers, story_asks, story_begins, story_ends, story_takes, telling_of}
 use Rattle.sdb_story.proofs.Bodies.{body_begins, body_read, body_step}
 use Rattle.sdb_story.proofs.Tellings.{SameOf, said_more, same_of, story_stays}
 use Rattle.sdb_story.proofs.Turns.{begun_stands, client_stands, said_nothing_more, said_one_more}
 use Rattle.sdb_linked.specs.Going.{ClientGoes, EndedOk, HandOk, InsideOk, IsClosed, IsCommitting, IsGoing, IsInner, IsMild, IsRunning, IsWaiting, LeavesAtOnce, OpenedOk, RanOk}
 use Rattle.sdb_linked.specs.Noted.{ClientNoted, InsideNoted, IsMadeSince}
 use Rattle.sdb_linked.proofs.Goings.{ended_later, inside_later, kept_apart, turned}
-use Rattle.sdb_linked.proofs.Mild.{effective_by, mild_begins, mild_ends, no_second, nothing_mild, rows_mild, uncommitted}
+use Rattle.sdb_linked.proofs.Mild.{effective_by, mild_begins, mild_ends, nothing_mild, rows_mild, uncommitted}
 use Rattle.sdb_linked.proofs.Noting.{IsJustAnswered, at_once, commit_made, inside_nothing, inside_read, made_reads, none_since, noted_asks, noted_begun, noted_commits, noted_elsewhere, noted_gap, noted_inside, noted_over, notes_read, open_noted, since_read, written_noted}
-use Rattle.sdb_linked.proofs.Small.{same_number, numbers_same, less_apart, nothing_ran, begins_untaken, committing_as, running_as, twice, waiting_as}
-use Rattle.sdb_linked.proofs.Own.{IsPlainRole, begun, below, closed_as, commit_plain, ended_at, goes_begun, goes_gap, goes_inside, goes_over, gone, inside, opened_as, over, plain_apart, plain_counts, plain_not, ran_here, read_plain, sweep_plain, telling_of}
-use Rattle.sdb_types.proofs.Basics.{clash, some_is}
+use Rattle.sdb_linked.proofs.Small.{numbers_same, less_apart, nothing_ran, begins_untaken, committing_as, running_as, twice, waiting_as}
+use Rattle.sdb_linked.proofs.Own.{IsPlainRole, begun, below, closed_as, commit_plain, ended_at, goes_begun, goes_gap, goes_inside, goes_over, gone, inside, opened_as, over, plain_apart, plain_counts, plain_not, ran_here, read_plain, sweep_plain}
+use Rattle.sdb_types.proofs.Basics.{clash, some_is, and_false as no_second, itself as same_number}
 
 ---- one client
 

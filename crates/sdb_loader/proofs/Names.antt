@@ -1,5 +1,5 @@
 -- The tables that a schema names: their names are the members', in order.
-use Rattle.std.proofs.Common.{◌≡◌, ℕ, ◌<◌, List, [], ◌∷◌, ◌++◌, length, map, true, false, ◌&&◌, ◌==◌, cond, refl, sym, ap, ◌∙◌, arith, Some, None, is_some, Global, String, string_bytes}
+use Rattle.std.proofs.Common.{◌≡◌, ℕ, List, [], ◌∷◌, length, map, true, false, ◌&&◌, ◌==◌, cond, refl, sym, ap, ◌∙◌, Some, None, is_some, Global, String, string_bytes}
 use Rattle.std.specs.Prelude.{nat_lt, nat_le}
 use Rattle.std.specs.Option.{option_and_then}
 use Rattle.std.specs.List.{before_first, after_first, position_or_len, AllByRecursion}
@@ -9,8 +9,6 @@ use Rattle.std.specs.Ordering.{is_lt, nat_cmp}
 use Rattle.std.specs.Cmp.Lexicographic.{slice_cmp}
 use Rattle.std.specs.String.{string_cmp}
 use Rattle.std.proofs.lemmas.Map.Keys.{sorted_head, sorted_tail}
-use Rattle.std.proofs.lemmas.List.Sums.{split_at_first, passes_at_first}
-use Rattle.std.proofs.lemmas.Bool.Decides.{nat_tests}
 use Rattle.serde_json.specs.Data.{Data, Members, member}
 use Rattle.serde_json.specs.View.{view, members_view}
 use Rattle.serde_json.specs.declared.value.Value.{Value}
@@ -23,26 +21,13 @@ use Rattle.sdb_record.specs.Parts.{is_column_name}
 use Rattle.sdb_schema.specs.Catalog.{rises, stands_above}
 use Rattle.sdb_loader.specs.Words.{is_open, names_table, table_named}
 use Rattle.sdb_loader.specs.Described.{bad_name, named, table_of}
-use Rattle.sdb_types.proofs.Basics.{lt_of, some_is}
-
--- a name of 64 bytes is one of 71
-longer : (n : ℕ) → nat_le n 64 ≡ true → nat_le n 71 ≡ true
-longer n h = grind (arith, nat_tests)
+use Rattle.sdb_types.proofs.Basics.{some_is, longer, at_byte}
 
 pub name_of_column : (text : List ℕ) → is_column_name text ≡ true → is_name text ≡ true
 name_of_column text h = and_both (nat_le (length text) 71) _ (longer (length text) (and_first (nat_le (length text) 64) (is_identifier text) h)) (and_second (nat_le (length text) 64) (is_identifier text) h)
 
 none_is : (t : TableName) → None ≡ Some t → ⊥
 none_is t h = cc
-
-eq_of : (a b : ℕ) → (a == b) ≡ true → a ≡ b
-eq_of a b h = grind (arith, nat_tests)
-
--- a text is what stands before its first byte c, that byte, and what stands behind it
-pub at_byte : (c : ℕ) (text : List ℕ) → nat_lt (position_or_len (λ b. b == c) text) (length text) ≡ true → text ≡ before_first (λ b. b == c) text ++ (c ∷ after_first (λ b. b == c) text)
-at_byte c text q =
-    let h = lt_of _ _ q in
-    split_at_first (λ b. b == c) text 0 h ∙ ap (λ (b : ℕ). before_first (λ b. b == c) text ++ (b ∷ after_first (λ b. b == c) text)) (eq_of _ c (passes_at_first (λ b. b == c) text 0 h))
 
 -- the text of the table that a text names
 pub record IsTextOf (text : List ℕ) (t : TableName) : Type 0 where

@@ -1,70 +1,38 @@
 -- The texts of tables and of clustering columns.
-use Rattle.std.proofs.Common.{◌≡◌, ℕ, suc, ◌+◌, ◌<◌, List, [], ◌∷◌, ◌++◌, length, take, drop, Bool, true, false, not, ◌&&◌, ◌==◌, inl, inr, cond, refl, sym, ap, ◌∙◌, arith, Option, Some, None, length-append}
+use Rattle.std.proofs.Common.{◌≡◌, ℕ, ◌+◌, List, [], ◌∷◌, ◌++◌, length, take, drop, Bool, true, false, not, ◌&&◌, ◌==◌, inl, inr, cond, refl, sym, ap, ◌∙◌, arith, Option, Some, None}
 use Rattle.std.specs.Prelude.{nat_lt}
 use Rattle.std.specs.Option.{option_map, option_and_then}
-use Rattle.std.specs.List.{list_all, before_first, after_first, position_or_len}
-use Rattle.std.proofs.Math.Seq.{take-append_seam, drop-append-add}
+use Rattle.std.specs.List.{before_first, after_first, position_or_len}
 use Rattle.std.proofs.lemmas.Bool.Decides.{nat_tests}
 use Rattle.sdb_types.specs.declared.key.TableName.{TableName}
 use Rattle.sdb_types.specs.Identifier.{is_part}
 use Rattle.sdb_types.specs.Order.{table_text}
-use Rattle.sdb_types.proofs.Bools.{and_first, and_second, and_both}
+use Rattle.sdb_types.proofs.Bools.{and_first, and_second}
 use Rattle.sdb_types.proofs.KeyOrder.{parts}
 use Rattle.sdb_record.specs.Parts.{is_column_name}
 use Rattle.sdb_schema.specs.declared.table.Direction.{Direction}
 use Rattle.sdb_schema.specs.declared.table.Direction.TheVariants.{Asc}
 use Rattle.sdb_schema.specs.declared.table.Order.{Order}
-use Rattle.sdb_loader.specs.Words.{around, is_open, names_table, table_named, direction_named, ordered_by, order_around, order_named, IsOrderText}
-use Rattle.sdb_loader.proofs.Names.{name_of_column, at_byte}
+use Rattle.sdb_loader.specs.Words.{is_open, names_table, table_named, direction_named, ordered_by, order_around, order_named, IsOrderText}
+use Rattle.sdb_loader.proofs.Names.{name_of_column}
+use Rattle.sdb_types.proofs.Basics.{lacks, suc_of as one_more, around_at, all_lack, place_behind, around_at-seam, at_byte}
+use Rattle.sdb_types.proofs.Words.{no_dot}
+use Rattle.sdb_types.specs.NameText.{around}
 
 ---- bytes that no name has
-
-abbrev lacks : ℕ → List ℕ → Bool
-lacks c text = list_all (λ b. not (b == c)) text
-
-no_dot : (b : ℕ) → is_part b ≡ true → not (b == 46) ≡ true
-no_dot b h = grind (arith, nat_tests)
 
 no_space : (b : ℕ) → is_part b ≡ true → not (b == 32) ≡ true
 no_space b h = grind (arith, nat_tests)
 
-all_lack : (c : ℕ) (each : (b : ℕ) → is_part b ≡ true → not (b == c) ≡ true) (text : List ℕ) → list_all is_part text ≡ true → lacks c text ≡ true
-all_lack c each [] h = refl
-all_lack c each (b ∷ bs) h = and_both (not (b == c)) (lacks c bs) (each b (and_first (is_part b) (list_all is_part bs) h)) (all_lack c each bs (and_second (is_part b) (list_all is_part bs) h))
-
 ---- the parts round the first byte
-
-one_more : (n m : ℕ) → n ≡ m → 1 + n ≡ suc m
-one_more n m h = omega arith
-
-place_behind : (c : ℕ) (front back : List ℕ) → (c == c) ≡ true → lacks c front ≡ true → position_or_len (λ b. b == c) (front ++ c ∷ back) ≡ length front
-place_behind c [] back r h = simp r refl
-place_behind c (x ∷ xs) back r h =
-    simp (and_first (not (x == c)) (lacks c xs) h) (one_more _ _ (place_behind c xs back r (and_second (not (x == c)) (lacks c xs) h)))
 
 place_nowhere : (c : ℕ) (text : List ℕ) → lacks c text ≡ true → position_or_len (λ b. b == c) text ≡ length text
 place_nowhere c [] h = refl
 place_nowhere c (x ∷ xs) h =
     simp (and_first (not (x == c)) (lacks c xs) h) (one_more _ _ (place_nowhere c xs (and_second (not (x == c)) (lacks c xs) h)))
 
-below : (n m : ℕ) → n < m → nat_lt n m ≡ true
-below n m h = grind (arith, nat_tests)
-
 not_below : (n : ℕ) → nat_lt n n ≡ false
 not_below n = grind (arith, nat_tests)
-
-within : (front : List ℕ) (c : ℕ) (back : List ℕ) → length front < length (front ++ c ∷ back)
-within front c back = omega (arith, length-append front (c ∷ back))
-
-abbrev around_at : ℕ → List ℕ → Option (List ℕ × List ℕ)
-around_at n text = cond (nat_lt n (length text)) (Some (take n text, drop (n + 1) text)) None
-
-around_at-seam : (front : List ℕ) (c : ℕ) (back : List ℕ) → around_at (length front) (front ++ c ∷ back) ≡ Some (front, back)
-around_at-seam front c back =
-    let first = take-append_seam front (c ∷ back) in
-    let second : drop (length front + 1) (front ++ c ∷ back) ≡ back = drop-append-add front (c ∷ back) 1 in
-    ap (λ (b : Bool). cond b (Some (take (length front) (front ++ c ∷ back), drop (length front + 1) (front ++ c ∷ back))) None) (below _ _ (within front c back))
-    ∙ ap (λ (x : List ℕ). Some (x, drop (length front + 1) (front ++ c ∷ back))) first ∙ ap (λ (y : List ℕ). Some (front, y)) second
 
 around_behind : (c : ℕ) (front back : List ℕ) → (c == c) ≡ true → lacks c front ≡ true → around c (front ++ c ∷ back) ≡ Some (front, back)
 around_behind c front back r h = ap (λ n. around_at n (front ++ c ∷ back)) (place_behind c front back r h) ∙ around_at-seam front c back

@@ -1,9 +1,8 @@
 -- The texts of a schema: names of tables and columns, kinds and directions.
-use Rattle.std.specs.Prelude.{◌≡◌, ◌⊎◌, ◌∷◌, ◌++◌, ℕ, Bool, true, not, ◌&&◌, ◌==◌, nat_lt, if◌then◌else◌, List, length, map, codes, Option, Some, None}
+use Rattle.std.specs.Prelude.{◌≡◌, ◌⊎◌, ◌∷◌, ◌++◌, ℕ, Bool, true, not, ◌&&◌, if◌then◌else◌, List, map, codes, Option, Some, None}
 use Rattle.std.specs.Option.{option_map, option_and_then}
 use Rattle.std.specs.Char.{to_ascii_lowercase}
 use Rattle.std.specs.Str.{bytes_eq}
-use Rattle.std.specs.List.{position_or_len, before_first, after_first}
 use Rattle.sdb_types.specs.declared.key.TableName.{TableName}
 use Rattle.sdb_record.specs.Parts.{is_column_name}
 use Rattle.sdb_schema.specs.declared.table.Kind.{Kind}
@@ -11,13 +10,7 @@ use Rattle.sdb_schema.specs.declared.table.Kind.TheVariants as kind
 use Rattle.sdb_schema.specs.declared.table.Direction.{Direction}
 use Rattle.sdb_schema.specs.declared.table.Direction.TheVariants.{Asc, Desc}
 use Rattle.sdb_schema.specs.declared.table.Order.{Order}
-
--- the parts of a text before and behind its first byte c, where it has one
-abbrev pub around : ℕ → List ℕ → Option (List ℕ × List ℕ)
-around c text =
-    if nat_lt (position_or_len (λ b. b == c) text) (length text)
-    then Some (before_first (λ b. b == c) text, after_first (λ b. b == c) text)
-    else None
+use Rattle.sdb_types.specs.NameText.{around}
 
 -- a text is a word, in any case
 abbrev pub is_spelled : List ℕ → List ℕ → Bool

@@ -1,8 +1,9 @@
 //! The texts of a schema: names, kinds and directions.
+ghost use Rattle.sdb_types.specs.NameText.{around};
 ghost use Rattle.std.specs.Prelude.{◌≡◌, ◌&&◌, true, Some, None, IfOk, is_some};
 ghost use Rattle.std.specs.Option.{option_map};
 ghost use Rattle.sdb_record.specs.Parts.{is_column_name};
-ghost use Rattle.sdb_loader.specs.Words.{around, is_spelled as is_spelled_lem, is_open as is_open_lem, names_table as names_table_lem, table_named as table_named_lem, column_named as column_named_lem, kind_named as kind_named_lem, direction_named as direction_named_lem, ordered_by as ordered_by_lem, order_named as order_named_lem};
+ghost use Rattle.sdb_loader.specs.Words.{is_spelled as is_spelled_lem, is_open as is_open_lem, names_table as names_table_lem, table_named as table_named_lem, column_named as column_named_lem, kind_named as kind_named_lem, direction_named as direction_named_lem, ordered_by as ordered_by_lem, order_named as order_named_lem};
 
 use sdb_schema::{Direction, Kind, Order};
 use sdb_types::{Name, NameRefused, NoMemory, TableName, is_identifier_text};

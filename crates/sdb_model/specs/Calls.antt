@@ -42,7 +42,7 @@ calls_by events client = filter_map (made_by client) (numbered events)
 
 -- the number of the event that answered a statement, or of the last event where none did
 abbrev pub end_of : List Event → Said → ℕ
-end_of events s = if is_some s.answer then s.answered else length events
+end_of events s = if is_some s.answer then s.reached else length events
 
 -- A statement's calls: its client's after its Take, up to its answer, or to the end where it has none.
 abbrev pub calls_of : List Event → ℕ → Said → List Made
@@ -135,11 +135,3 @@ decision_found id m = if is_of_row id m.request then option_and_then (λ found. 
 abbrev pub decision_learned : List Made → TxId → Option Decided
 decision_learned [] id = None
 decision_learned (m ∷ ms) id = if is_some (decision_shown id m) then decision_shown id m else decision_learned ms id
-
-abbrev pub is_fault : Reply → Bool
-is_fault reply.Fault = true
-is_fault r = false
-
-abbrev pub is_applied : Reply → Bool
-is_applied reply.Applied = true
-is_applied r = false

@@ -35,8 +35,9 @@ use Rattle.sdb_model.specs.Exec.{find_table, key_of, table_of}
 use Rattle.sdb_model.specs.Refused.{refusal_of}
 use Rattle.sdb_model.specs.Follows.{has_stopped}
 use Rattle.sdb_model.specs.Transactions.{Said, said, begins, ends, body, client_of, commit_of, statements_of, prepares}
-use Rattle.sdb_model.specs.Calls.{Made, calls_of, calls_after, calls_before, clock_at, decision_found, decision_learned, is_applied, is_fault, is_of_row, is_read, is_removal, key_asked, put_by, record_among, records_read, records_shown}
+use Rattle.sdb_model.specs.Calls.{Made, calls_of, calls_after, calls_before, clock_at, decision_found, decision_learned, is_of_row, is_read, is_removal, key_asked, put_by, record_among, records_read, records_shown}
 use Rattle.sdb_model.specs.Noted.{Note, Scanned, noted_in, reads_rows, resolved, same_key, version_among, version_noted}
+use Rattle.sdb_types.specs.Replies.{is_applied, is_fault}
 
 -- the events before a statement was taken
 abbrev pub before : Said → List Event → List Event
@@ -310,4 +311,4 @@ IsCaused catalog events client s answer.NoMemory = Unit {0}
 -- Every answer of a run has its cause; and a statement that is to be turned away is, unless memory ran out.
 pub record AreCaused (catalog : List Table) (events : List Event) : Type 0 where
   pub caused : (client : ℕ) (s : Said) (a : Answer) → Contains (said client events) s → s.answer ≡ Some a → IsCaused catalog events client s a
-  pub turned_away : (client : ℕ) (s : Said) (a : Answer) → Contains (said client events) s → IsTurnedAway catalog (before s events) client s.text a → (s.answered ≡ s.taken) × ((s.answer ≡ Some a) ⊎ (s.answer ≡ Some answer.NoMemory))
+  pub turned_away : (client : ℕ) (s : Said) (a : Answer) → Contains (said client events) s → IsTurnedAway catalog (before s events) client s.text a → (s.reached ≡ s.taken) × ((s.answer ≡ Some a) ⊎ (s.answer ≡ Some answer.NoMemory))

@@ -1,5 +1,5 @@
 -- How many calls statements make, how unresolved records are rolled, and how many calls stores may fail.
-use Rattle.std.specs.Prelude.{◌≡◌, ◌⊎◌, ◌≤◌, ℕ, ℤ, ◌+◌, ◌*◌, Bool, true, false, not, ◌&&◌, if◌then◌else◌, List, [], ◌∷◌, filter, length, Option, Some, None, Contains, All}
+use Rattle.std.specs.Prelude.{◌≡◌, ◌⊎◌, ◌≤◌, ℕ, ℤ, ◌+◌, ◌*◌, Bool, true, false, not, if◌then◌else◌, List, filter, length, Some, Contains, All}
 use Rattle.std.specs.Option.{option_map_or}
 use Rattle.std.specs.List.{count_by, flat_map, list_any}
 use Rattle.std.specs.Ordering.{is_eq}
@@ -10,13 +10,10 @@ use Rattle.sdb_types.specs.declared.record.Condition.TheVariants as condition
 use Rattle.sdb_types.specs.declared.record.Record.{Record}
 use Rattle.sdb_types.specs.declared.record.Request.{Request}
 use Rattle.sdb_types.specs.declared.record.Request.TheVariants as ask
-use Rattle.sdb_types.specs.declared.record.Reply.{Reply}
 use Rattle.sdb_types.specs.declared.record.Reply.TheVariants as reply
 use Rattle.sdb_types.specs.declared.record.State.{State}
-use Rattle.sdb_types.specs.declared.record.Span.{Span}
 use Rattle.sdb_types.specs.Order.{key_cmp}
 use Rattle.sdb_schema.specs.declared.table.Table.{Table}
-use Rattle.sdb_record.specs.declared.access.Read.{Read}
 use Rattle.sdb_record.specs.declared.coordinator.Decided.{Decided}
 use Rattle.sdb_record.specs.declared.coordinator.Decision.{Decision}
 use Rattle.sdb_record.specs.declared.coordinator.Decision.TheVariants as decision
@@ -32,9 +29,10 @@ use Rattle.sdb_model.specs.declared.event.How.{How}
 use Rattle.sdb_model.specs.declared.event.How.TheVariants.{Seen, Lost, Discarded, Broken}
 use Rattle.sdb_model.specs.Sql.{reads_commit, reads_vacuum}
 use Rattle.sdb_model.specs.Transactions.{Said, said, client_of, commit_of, is_answered_from_rows, prepares}
-use Rattle.sdb_model.specs.Calls.{Made, calls_of, calls_after, decision_shown, is_applied, is_removal, key_asked, records_read}
+use Rattle.sdb_model.specs.Calls.{Made, calls_of, calls_after, decision_shown, is_removal, key_asked, records_read}
 use Rattle.sdb_model.specs.Noted.{Note, Got, Scanned, noted_in, reads_rows}
 use Rattle.sdb_model.specs.Causes.{IsEarly}
+use Rattle.sdb_types.specs.Replies.{is_answered}
 
 ---- the calls of a COMMIT
 
@@ -107,12 +105,6 @@ request_of_back (back.Remove key) found = ask.DeleteIf key found
 -- what rolls a record by the decision on its transaction, on condition of what was found
 abbrev pub roll_by : Record → Condition → Decided → Request
 roll_by r found d = if is_committed d.decision then ask.PutIf (forward_record r d.created_at) found else request_of_back (back_of r) found
-
--- the store said that the roll took effect, or that the record was rolled before
-abbrev pub is_answered : Reply → Bool
-is_answered reply.Applied = true
-is_answered (reply.NotMet found) = true
-is_answered r = false
 
 -- A read that was answered from an unresolved record had it rolled: a call showed the decision on its transaction, and a later one
 -- put what that decision makes of the record, on condition of what was found, and was seen and answered.

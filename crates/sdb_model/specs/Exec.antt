@@ -1,17 +1,17 @@
 -- Plain tables, and what a statement answers and leaves on them.
-use Rattle.std.specs.Prelude.{◌≡◌, ℕ, ℤ, pos, negsuc, Bool, true, false, not, ◌&&◌, ◌==◌, if◌then◌else◌, List, [], ◌∷◌, ◌++◌, map, filter, take, length, Option, Some, None, is_some, unwrap_or, take_while, fold, find, insert as list_insert}
-use Rattle.std.specs.Option.{option_map, option_map_or}
+use Rattle.std.specs.Prelude.{ℕ, ℤ, pos, negsuc, Bool, not, ◌&&◌, if◌then◌else◌, List, [], ◌∷◌, map, filter, take, length, Option, Some, None, is_some, unwrap_or, take_while, fold, find, insert as list_insert}
+use Rattle.std.specs.Option.{option_map_or}
 use Rattle.std.specs.List.{list_all}
 use Rattle.std.specs.declared.cmp.Ordering.{Ordering}
 use Rattle.std.specs.Ordering.{is_eq, is_ne, is_lt, is_le, is_gt, is_ge}
-use Rattle.std.specs.FinMap.{FinMap, get, insert, remove, entries, from_entries}
+use Rattle.std.specs.FinMap.{FinMap, get, insert, entries, from_entries}
 use Rattle.sdb_types.specs.declared.key.Key.{Key}
 use Rattle.sdb_types.specs.declared.key.TableName.{TableName}
 use Rattle.sdb_types.specs.declared.pair.Pair.{Pair}
 use Rattle.sdb_types.specs.declared.value.Value.{Value}
 use Rattle.sdb_types.specs.declared.value.Value.TheVariants as value
 use Rattle.sdb_types.specs.Order.{key_cmp, table_cmp, value_cmp}
-use Rattle.sdb_types.specs.Columns.{column, is_null, with_column}
+use Rattle.sdb_types.specs.Columns.{is_null, with_column}
 use Rattle.sdb_schema.specs.declared.table.Table.{Table}
 use Rattle.sdb_schema.specs.Order.{row_key_cmp}
 use Rattle.sdb_record.specs.declared.access.Image.{Image}
@@ -27,7 +27,7 @@ use Rattle.sdb_model.specs.declared.statement.Statement.{Statement}
 use Rattle.sdb_model.specs.declared.statement.Statement.TheVariants as statement
 use Rattle.sdb_model.specs.declared.answer.Answer.{Answer}
 use Rattle.sdb_model.specs.declared.answer.Answer.TheVariants as answer
-use Rattle.sdb_model.specs.Rows.{Name, same_name, order_names, value_of, value_in, column_names, is_key_column, literal_at}
+use Rattle.sdb_model.specs.Rows.{Name, order_names, value_of, value_in, column_names, is_key_column, literal_at}
 
 -- The rows of all tables of a catalog: one finite map from a row's key, which names its table, to its user columns. So
 -- the rows of a table have distinct keys, and tables with the same rows are equal. A column that isn't there is NULL.

@@ -1,11 +1,9 @@
 -- Which events a script allows.
-use Rattle.std.specs.Prelude.{◌≡◌, ◌⊎◌, ℕ, zero, suc, ◌+◌, ◌-◌, ◌≤◌, ◌<◌, Bool, true, false, not, ◌&&◌, ◌||◌, ◌==◌, nat_lt, nat_le, if◌then◌else◌, MatchBool, List, [], ◌∷◌, ◌++◌, length, Option, Some, None, is_none, is_some, fold, slice_get, unwrap_or}
+use Rattle.std.specs.Prelude.{◌≡◌, ◌⊎◌, ℕ, zero, suc, ◌+◌, ◌≤◌, ◌<◌, Bool, true, false, not, ◌&&◌, ◌||◌, ◌==◌, nat_lt, if◌then◌else◌, MatchBool, List, [], ◌∷◌, ◌++◌, length, Some, is_none, fold, slice_get}
 use Rattle.std.specs.Option.{option_map_or}
 use Rattle.std.specs.List.{list_any, count_by}
 use Rattle.sdb_types.specs.declared.record.Reply.{Reply}
 use Rattle.sdb_types.specs.declared.record.Reply.TheVariants as reply
-use Rattle.sdb_types.specs.declared.record.Request.{Request}
-use Rattle.sdb_model.specs.declared.answer.Answer.{Answer}
 use Rattle.sdb_model.specs.declared.event.Event.{Event}
 use Rattle.sdb_model.specs.declared.event.Event.TheVariants as event
 use Rattle.sdb_model.specs.declared.event.How.{How}
@@ -15,7 +13,7 @@ use Rattle.sdb_model.specs.declared.script.Act.TheVariants as act
 use Rattle.sdb_model.specs.declared.script.Move.{Move}
 use Rattle.sdb_model.specs.declared.script.Move.TheVariants as move
 use Rattle.sdb_model.specs.declared.script.ScriptClient.{ScriptClient}
-use Rattle.sdb_model.specs.Rows.{Name}
+use Rattle.sdb_types.specs.Replies.{is_fault}
 
 ---- where a client stands after the events so far
 
@@ -55,22 +53,23 @@ has_work clients client past = not (has_stopped client past) && (is_pending clie
 
 ---- one step
 
--- Which hows a call of an act may have. A step's reply is seen, unless the store itself fails; a lost reply is lost, unless
--- the store itself fails or wants memory; a discarded call is never made.
+-- Which hows a call of an act may have, and with which replies. A step's reply is seen, unless it is a fault: then the store
+-- itself failed. A lost reply is lost, and its client has a fault, unless the store itself fails or wants memory. A discarded
+-- call is never made, and its client has a fault.
 abbrev pub IsHowOfStep : How → Reply → Type 0
-IsHowOfStep Seen r = Unit {0}
-IsHowOfStep Broken r = Unit {0}
+IsHowOfStep Seen r = is_fault r ≡ false
+IsHowOfStep Broken r = r ≡ reply.Fault
 IsHowOfStep Lost r = ⊥
 IsHowOfStep Discarded r = ⊥
 
 abbrev pub IsHowOfLose : How → Reply → Type 0
-IsHowOfLose Lost r = Unit {0}
-IsHowOfLose Broken r = Unit {0}
+IsHowOfLose Lost r = r ≡ reply.Fault
+IsHowOfLose Broken r = r ≡ reply.Fault
 IsHowOfLose Seen r = r ≡ reply.NoMemory
 IsHowOfLose Discarded r = ⊥
 
 abbrev pub IsHowOfDiscard : How → Reply → Type 0
-IsHowOfDiscard how r = how ≡ Discarded
+IsHowOfDiscard how r = (how ≡ Discarded) × (r ≡ reply.Fault)
 
 -- The event is one call of the client, with a how that is allowed.
 abbrev pub IsCallOf : ℕ → (How → Reply → Type 0) → Event → Type 0

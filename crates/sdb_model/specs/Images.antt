@@ -1,5 +1,5 @@
 -- The committed images of what the stores hold, under the coordinator's rows.
-use Rattle.std.specs.Prelude.{List, Option, Some, None}
+use Rattle.std.specs.Prelude.{List, Option}
 use Rattle.std.specs.Option.{option_and_then}
 use Rattle.std.specs.Result.{result_ok}
 use Rattle.sdb_types.specs.declared.txid.TxId.{TxId}

@@ -1,5 +1,5 @@
 -- What the statements of a transaction noted: the records that they read, resolved, with the versions found.
-use Rattle.std.specs.Prelude.{ℕ, Bool, true, false, List, [], ◌∷◌, ◌++◌, map, filter, Option, Some, None, find, if◌then◌else◌}
+use Rattle.std.specs.Prelude.{Bool, false, List, filter, Option, Some, None, find, if◌then◌else◌}
 use Rattle.std.specs.Option.{option_and_then, option_map, option_map_or}
 use Rattle.std.specs.List.{filter_map, flat_map}
 use Rattle.std.specs.Ordering.{is_eq}
@@ -18,7 +18,6 @@ use Rattle.sdb_record.specs.Coordinator.{is_coordinator_table}
 use Rattle.sdb_record.specs.Meta.{id_in}
 use Rattle.sdb_record.specs.Moved.{version_of}
 use Rattle.sdb_record.specs.Rolls.{image_of}
-use Rattle.sdb_model.specs.declared.answer.Answer.{Answer}
 use Rattle.sdb_model.specs.declared.answer.Answer.TheVariants as answer
 use Rattle.sdb_model.specs.declared.event.Event.{Event}
 use Rattle.sdb_model.specs.Events.{table_asked}
@@ -68,7 +67,11 @@ reads_rows m = if is_coordinator_table (table_asked m.request) then false else i
 abbrev pub notes_in : List Made → List Note
 notes_in calls = filter_map (λ m. note_of calls m.request m.reply) (filter reads_rows calls)
 
+-- a statement was answered from rows
+abbrev pub is_from_rows : Said → Bool
+is_from_rows s = option_map_or is_answered_from_rows s.answer false
+
 -- What the statements of a transaction noted, in order. A statement notes what it read where it was answered Rows, Count or
 -- Duplicate, and nothing else.
 abbrev pub noted_in : List Event → TxId → List Note
-noted_in events id = flat_map (λ s. notes_in (calls_of events (client_of id) s)) (filter (λ s. option_map_or is_answered_from_rows s.answer false) (body events id))
+noted_in events id = flat_map (λ s. notes_in (calls_of events (client_of id) s)) (filter is_from_rows (body events id))

@@ -1,6 +1,7 @@
 -- Which rows a client may be shown: a row is its transaction's own, or it was committed while the statement that read it was
 -- answered.
 use Rattle.std.specs.Prelude.{◌≡◌, ◌≤◌, ◌<◌, ℕ, true, List, [], ◌∷◌, ◌++◌, map, filter, fold, Option, Some, None, Contains}
+use Rattle.std.specs.Option.{option_and_then}
 use Rattle.std.specs.List.{AllByRecursion}
 use Rattle.std.specs.FinMap.{get, insert, empty}
 use Rattle.sdb_types.specs.declared.txid.TxId.{TxId}
@@ -9,10 +10,11 @@ use Rattle.sdb_types.specs.declared.pair.Pair.{Pair}
 use Rattle.sdb_types.specs.declared.value.Value.{Value}
 use Rattle.sdb_types.specs.declared.record.Request.{Request}
 use Rattle.sdb_types.specs.declared.record.Request.TheVariants as ask
-use Rattle.sdb_types.specs.declared.record.Span.{Span}
 use Rattle.sdb_types.specs.Contents.{in_span}
 use Rattle.sdb_schema.specs.declared.table.Table.{Table}
+use Rattle.sdb_types.specs.declared.record.Record.{Record}
 use Rattle.sdb_record.specs.declared.access.Image.{Image}
+use Rattle.sdb_record.specs.Rolls.{row_of_image}
 use Rattle.sdb_model.specs.declared.answer.Answer.{Answer}
 use Rattle.sdb_model.specs.declared.answer.Answer.TheVariants as answer
 use Rattle.sdb_model.specs.declared.event.Event.{Event}
@@ -23,7 +25,9 @@ use Rattle.sdb_model.specs.declared.statement.Statement.TheVariants as statement
 use Rattle.sdb_model.specs.Sql.{Reads}
 use Rattle.sdb_model.specs.Exec.{Tables, exec, find_table, shown}
 use Rattle.sdb_model.specs.Events.{Shelf, moment}
+use Rattle.sdb_model.specs.Explained.{Shows}
 use Rattle.sdb_model.specs.Images.{row_at}
+use Rattle.sdb_model.specs.Noted.{resolved}
 use Rattle.sdb_model.specs.Transactions.{Said, client_of, is_effective, statements_of}
 use Rattle.sdb_model.specs.Told.{AreRead}
 use Rattle.sdb_model.specs.Calls.{Made, calls_of, end_of}
@@ -45,6 +49,23 @@ pub record WasCommitted (places : List Place) (events : List Event) (opening : L
   pub within : (s.taken ≤ at) × (at < end_of events s)
   pub image : row_at places (moment opening moments at) key ≡ row
 
+-- A statement's calls showed a row at a key: one of them read the key, and what it found there stands for this row, by what these calls
+-- showed of its transaction.
+pub record WasFound (calls : List Made) (key : Key) (row : Option (List Pair)) : Type 0 where
+  pub call : Made
+  pub found : Option Record
+  pub among : Contains calls call
+  pub shows : Shows call.request call.reply key found
+  pub stands : row ≡ option_and_then row_of_image (option_and_then (resolved calls) found)
+
+-- a statement's own calls did
+abbrev pub FoundBy : List Event → ℕ → Said → Key → Option (List Pair) → Type 0
+FoundBy events client s key row = WasFound (calls_of events client s) key row
+
+-- a statement was shown the committed row
+abbrev pub CommittedBy : List Place → List Event → List Shelf → List (List Shelf) → ℕ → Said → Key → Option (List Pair) → Type 0
+CommittedBy places events opening moments client s key row = WasCommitted places events opening moments client s key row
+
 ---- what a transaction made of it
 
 -- tables with one row at most
@@ -60,9 +81,9 @@ abbrev pub StartsWith : Said → List Said → Type 0
 StartsWith s [] = ⊥
 StartsWith s (x ∷ xs) = s ≡ x
 
--- A transaction has a row at a key when it takes a statement: an effective statement of it, this one or one before, was shown the
--- committed row, and the effective statements from that one on made this of it.
-pub record HasRow (catalog : List Table) (places : List Place) (events : List Event) (opening : List Shelf) (moments : List (List Shelf)) (client : ℕ) (id : TxId) (s : Said) (key : Key) (row : Option (List Pair)) : Type 0 where
+-- A transaction has a row at a key when it takes a statement: an effective statement of it, this one or one before, was shown a
+-- row there, in some way, and the effective statements from that one on made this of it.
+pub record HasRow (catalog : List Table) (was : Said → Key → Option (List Pair) → Type 0) (events : List Event) (id : TxId) (s : Said) (key : Key) (row : Option (List Pair)) : Type 0 where
   pub first : Said
   pub earlier : List Said
   pub changing : List Said
@@ -71,27 +92,31 @@ pub record HasRow (catalog : List Table) (places : List Place) (events : List Ev
   pub base : Option (List Pair)
   pub parts : filter is_effective (statements_of events id) ≡ earlier ++ changing ++ s ∷ later
   pub begins : StartsWith first (changing ++ s ∷ [])
-  pub committed : WasCommitted places events opening moments client first key base
+  pub shown : was first key base
   pub read : AreRead changing sts
   pub made : row ≡ fold (λ r st. row_left catalog st key r) base sts
 
 ---- what answers show
 
 -- Rows that a SELECT is answered are rows that its transaction has.
-abbrev pub ShowsRows : List Table → List Place → List Event → List Shelf → List (List Shelf) → ℕ → TxId → Said → List (List Value) → Type 0
-ShowsRows catalog places events opening moments client id s rows =
+abbrev pub ShowsRows : List Table → (Said → Key → Option (List Pair) → Type 0) → List Event → TxId → Said → List (List Value) → Type 0
+ShowsRows catalog was events id s rows =
     (t : Table) × (select : Select) × (images : List Image) × Reads s.text (statement.Select select) × (find_table catalog select.table ≡ Some t) × (rows ≡ map (shown t select.columns) images)
-    × AllByRecursion (λ image. HasRow catalog places events opening moments client id s image.key (Some image.columns)) images
+    × AllByRecursion (λ image. HasRow catalog was events id s image.key (Some image.columns)) images
 
 -- The key of a Duplicate has a row.
-abbrev pub ShowsKey : List Table → List Place → List Event → List Shelf → List (List Shelf) → ℕ → TxId → Said → Key → Type 0
-ShowsKey catalog places events opening moments client id s key = (columns : List Pair) × HasRow catalog places events opening moments client id s key (Some columns)
+abbrev pub ShowsKey : List Table → (Said → Key → Option (List Pair) → Type 0) → List Event → TxId → Said → Key → Type 0
+ShowsKey catalog was events id s key = (columns : List Pair) × HasRow catalog was events id s key (Some columns)
 
-abbrev pub ShowsOwn : List Table → List Place → List Event → List Shelf → List (List Shelf) → ℕ → TxId → Said → Answer → Type 0
-ShowsOwn catalog places events opening moments client id s (answer.Rows rows) = ShowsRows catalog places events opening moments client id s rows
-ShowsOwn catalog places events opening moments client id s (answer.Duplicate key) = ShowsKey catalog places events opening moments client id s key
-ShowsOwn catalog places events opening moments client id s a = Unit {0}
+abbrev pub ShowsOwn : List Table → (Said → Key → Option (List Pair) → Type 0) → List Event → TxId → Said → Answer → Type 0
+ShowsOwn catalog was events id s (answer.Rows rows) = ShowsRows catalog was events id s rows
+ShowsOwn catalog was events id s (answer.Duplicate key) = ShowsKey catalog was events id s key
+ShowsOwn catalog was events id s a = Unit {0}
+
+-- The rows that answers show are rows that their transactions have, where each read showed rows in that way.
+abbrev pub AnswersShow : List Table → (ℕ → Said → Key → Option (List Pair) → Type 0) → List Event → Type 0
+AnswersShow catalog was events = (id : TxId) (s : Said) (a : Answer) → Contains (statements_of events id) s → s.answer ≡ Some a → ShowsOwn catalog (was (client_of id)) events id s a
 
 -- No transaction, recorded or not, was shown a row that was neither its own nor committed when it was read.
 abbrev pub AreShown : List Table → List Place → List Event → List Shelf → List (List Shelf) → Type 0
-AreShown catalog places events opening moments = (id : TxId) (s : Said) (a : Answer) → Contains (statements_of events id) s → s.answer ≡ Some a → ShowsOwn catalog places events opening moments (client_of id) id s a
+AreShown catalog places events opening moments = AnswersShow catalog (CommittedBy places events opening moments) events

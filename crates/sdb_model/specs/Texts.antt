@@ -1,5 +1,5 @@
 -- The texts of values, keys, spans, columns, records, rows and answers.
-use Rattle.std.specs.Prelude.{ℕ, ℤ, Bool, true, false, ◌==◌, if◌then◌else◌, List, [], ◌∷◌, ◌++◌, length, codes, Option, None, Some, decimal}
+use Rattle.std.specs.Prelude.{ℕ, ℤ, Bool, true, false, ◌==◌, if◌then◌else◌, List, [], ◌∷◌, ◌++◌, length, codes, Option, None, Some, decimal, ◌+◌}
 use Rattle.std.specs.List.{flat_map, join_by}
 use Rattle.std.specs.Fmt.{signed_decimal}
 use Rattle.hex.specs.Hex.{encode_upper}
@@ -116,3 +116,7 @@ answer_text_of (answer.Refused refusal) = refusal_text_of refusal
 answer_text_of answer.Vacuuming = codes "vacuuming"
 answer_text_of answer.OpenTransactions = codes "opentransactions"
 answer_text_of answer.NoMemory = codes "nomemory"
+
+-- a line, ended
+abbrev pub with_lf : List ℕ → List ℕ
+with_lf line = line ++ codes "\n"

@@ -1,11 +1,10 @@
 -- What a run owes its clients: whole transactions, run one after the other on plain tables in the order of their points,
 -- give the answers that were told and the final rows.
-use Rattle.std.specs.Prelude.{◌≡◌, ◌⊎◌, ℕ, ◌<◌, ◌^◌, Bool, true, false, if◌then◌else◌, List, [], ◌∷◌, ◌++◌, map, filter, Option, Some, None, is_some, Contains}
+use Rattle.std.specs.Prelude.{◌≡◌, ◌⊎◌, ℕ, ◌<◌, ◌^◌, if◌then◌else◌, List, [], ◌∷◌, ◌++◌, map, filter, Option, Some, None, is_some, Contains}
 use Rattle.std.specs.Option.{option_and_then}
 use Rattle.std.specs.FinMap.{get, empty}
 use Rattle.sdb_types.specs.declared.txid.TxId.{TxId}
 use Rattle.sdb_types.specs.declared.key.Key.{Key}
-use Rattle.sdb_types.specs.declared.value.Value.{Value}
 use Rattle.sdb_schema.specs.declared.table.Table.{Table}
 use Rattle.sdb_model.specs.declared.answer.Answer.{Answer}
 use Rattle.sdb_model.specs.declared.answer.Answer.TheVariants as answer
@@ -21,7 +20,7 @@ use Rattle.sdb_model.specs.Exec.{Tables, exec, find_table, all_rows, is_row_of, 
 use Rattle.sdb_model.specs.Events.{Shelf, IsTrace}
 use Rattle.sdb_model.specs.Images.{row_at}
 use Rattle.sdb_model.specs.Follows.{Follows}
-use Rattle.sdb_model.specs.Transactions.{Said, said, begun, client_of, commit_of, body, Recorded, IsOrder}
+use Rattle.sdb_model.specs.Transactions.{Said, answered, said, begun, client_of, commit_of, body, Recorded, IsOrder}
 
 ---- serial runs
 
@@ -115,7 +114,7 @@ abbrev pub TransactionsInRealTime : List Place → List Event → List Shelf →
 TransactionsInRealTime places events closing order =
     (early late : TxId) → early.0 < 2 ^ 128 → late.0 < 2 ^ 128
     → (s : Said) → commit_of events early ≡ Some s → s.answer ≡ Some answer.Committed
-    → Recorded places closing late → (n : ℕ) → begun events late ≡ Some n → s.answered < n
+    → Recorded places closing late → (m n : ℕ) → answered s ≡ Some m → begun events late ≡ Some n → m < n
     → StandsBefore order early late
 
 -- The same of what clients see: whatever statement was answered Committed, a recorded transaction that began after that answer
@@ -123,7 +122,7 @@ TransactionsInRealTime places events closing order =
 abbrev pub KeepsRealTime : List Place → List Event → List Shelf → List Point → Type 0
 KeepsRealTime places events closing order =
     (client : ℕ) (s : Said) → Contains (said client events) s → s.answer ≡ Some answer.Committed
-    → (late : TxId) → late.0 < 2 ^ 128 → Recorded places closing late → (n : ℕ) → begun events late ≡ Some n → s.answered < n
+    → (late : TxId) → late.0 < 2 ^ 128 → Recorded places closing late → (m n : ℕ) → answered s ≡ Some m → begun events late ≡ Some n → m < n
     → (early : TxId) × (commit_of events early ≡ Some s) × StandsBefore order early late
 
 ---- the headline

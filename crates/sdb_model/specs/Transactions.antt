@@ -1,24 +1,19 @@
 -- Transactions: where one begins and ends among the events, what its body is, which are recorded, and their order.
-use Rattle.std.specs.Prelude.{◌≡◌, ◌⊎◌, ℕ, zero, suc, ◌+◌, ◌-◌, ◌*◌, ◌/◌, ◌%◌, ◌^◌, ◌<◌, Bool, true, false, not, ◌&&◌, ◌||◌, ◌==◌, if◌then◌else◌, List, [], ◌∷◌, ◌++◌, map, filter, fold, find, length, Option, Some, None, is_some, IsSome, IsSomeAnd, unwrap_or, take_while, All, Contains, ◌↔◌}
+use Rattle.std.specs.Prelude.{◌≡◌, ℕ, zero, suc, ◌+◌, ◌*◌, ◌/◌, ◌%◌, ◌^◌, ◌<◌, Bool, true, false, not, ◌&&◌, ◌||◌, ◌==◌, if◌then◌else◌, List, [], ◌∷◌, ◌++◌, map, filter, fold, find, Option, Some, None, IsSome, IsSomeAnd, unwrap_or, take_while, All, Contains, ◌↔◌}
 use Rattle.std.specs.Option.{option_map, option_map_or, option_and_then}
 use Rattle.std.specs.List.{enumerate_from}
 use Rattle.std.specs.List.Sorted.{IsStrictlyIncreasing}
 use Rattle.sdb_types.specs.declared.txid.TxId.{TxId}
-use Rattle.sdb_types.specs.declared.key.Key.{Key}
-use Rattle.sdb_types.specs.declared.record.Record.{Record}
 use Rattle.sdb_types.specs.declared.record.State.TheVariants.{Prepared, Deleted}
-use Rattle.sdb_types.specs.declared.record.Condition.{Condition}
 use Rattle.sdb_types.specs.declared.record.Request.{Request}
 use Rattle.sdb_types.specs.declared.record.Request.TheVariants as ask
-use Rattle.sdb_types.specs.declared.record.Reply.{Reply}
 use Rattle.sdb_types.specs.declared.record.Reply.TheVariants as reply
 use Rattle.sdb_types.specs.Contents.{is_version}
 use Rattle.sdb_model.specs.declared.answer.Answer.{Answer}
 use Rattle.sdb_model.specs.declared.answer.Answer.TheVariants as answer
 use Rattle.sdb_model.specs.declared.event.Event.{Event}
 use Rattle.sdb_model.specs.declared.event.Event.TheVariants as event
-use Rattle.sdb_model.specs.declared.event.How.{How}
-use Rattle.sdb_model.specs.declared.event.How.TheVariants.{Seen, Lost, Discarded, Broken}
+use Rattle.sdb_model.specs.declared.event.How.TheVariants.{Seen}
 use Rattle.sdb_model.specs.declared.event.Point.{Point}
 use Rattle.sdb_model.specs.declared.script.Place.{Place}
 use Rattle.sdb_model.specs.Events.{Shelf}
@@ -33,21 +28,25 @@ numbered events = enumerate_from 1 events
 ---- the statements of a client
 
 -- A statement that a client took: the number of its Take, its text, its answer, if it has one, and the number of the event
--- that gave the answer.
+-- that it has reached: of its answer, or of its Take where it has none.
 pub record Said : Type 0 where
   pub taken : ℕ
   pub text : List ℕ
   pub answer : Option Answer
-  pub answered : ℕ
+  pub reached : ℕ
+
+-- the number of the event that answered a statement: none without an answer
+abbrev pub answered : Said → Option ℕ
+answered s = option_map (λ a. s.reached) s.answer
 
 -- the last statement, answered by an event
 abbrev pub with_answer : List Said → ℕ → Answer → List Said
 with_answer [] n a = []
-with_answer (s ∷ []) n a = record { taken = s.taken; text = s.text; answer = Some a; answered = n } ∷ []
+with_answer (s ∷ []) n a = record { taken = s.taken; text = s.text; answer = Some a; reached = n } ∷ []
 with_answer (s ∷ t ∷ ss) n a = s ∷ with_answer (t ∷ ss) n a
 
 abbrev pub said_after : ℕ → List Said → ℕ × Event → List Said
-said_after client ss (n, event.Take c text answer) = if c == client then ss ++ record { taken = n; text = text; answer = answer; answered = n } ∷ [] else ss
+said_after client ss (n, event.Take c text answer) = if c == client then ss ++ record { taken = n; text = text; answer = answer; reached = n } ∷ [] else ss
 said_after client ss (n, event.Call c store q how r (Some a)) = if c == client then with_answer ss n a else ss
 said_after client ss _ = ss
 

@@ -7,7 +7,7 @@ use Rattle.sdb_order.specs.declared.said.Said.{Said}
 use Rattle.sdb_order.specs.Commits.{said_of, all_said}
 
 answered_at : (ss : List Said) (k : ℕ) (s : Said) (n : ℕ) (a : Answer) → suc k ≡ length ss → slice_get ss k ≡ Some s
-    → all_said (slice_set ss k (record { taken = s.taken; text = s.text; answer = Some a; answered = n })) ≡ with_answer (all_said ss) n a
+    → all_said (slice_set ss k (record { taken = s.taken; text = s.text; answer = Some a; reached = n })) ≡ with_answer (all_said ss) n a
 answered_at [] k s n a e h = absurd (omega (arith, e))
 answered_at (t ∷ []) zero s n a e h = let same : t ≡ s = cc in rw same refl
 answered_at (t ∷ []) (suc k) s n a e h = absurd (omega (arith, e))
@@ -20,7 +20,7 @@ one_less (t ∷ ts) s h = omega arith
 
 -- the last statement is answered
 pub last_answered : (ss : List Said) (s : Said) (n : ℕ) (a : Answer) → Some s ≡ slice_get ss (length ss - 1)
-    → all_said (slice_set ss (length ss - 1) (record { taken = s.taken; text = s.text; answer = Some a; answered = n })) ≡ with_answer (all_said ss) n a
+    → all_said (slice_set ss (length ss - 1) (record { taken = s.taken; text = s.text; answer = Some a; reached = n })) ≡ with_answer (all_said ss) n a
 last_answered ss s n a h = answered_at ss (length ss - 1) s n a (one_less ss s h) (sym h)
 
 got : (ss : List Said) (k : ℕ) → suc k ≡ length ss → ◌≡◌ {A = Option Said} None (slice_get ss k) → ⊥

@@ -32,6 +32,7 @@ use Rattle.sdb_types.specs.Contents.{Contents, rows_in}
 use Rattle.sdb_types.proofs.KeyOrder.{key_total}
 use Rattle.sdb_ordered.proofs.TreeLemmas.{in_order as entries_in_order}
 use Rattle.sdb_ordered.specs.Start.{span_start, partition_or_none}
+use Rattle.sdb_types.proofs.Basics.{first_t, second_t}
 
 ---- orders
 
@@ -153,14 +154,6 @@ kept_all s (x ∷ xs) = elim (s x) as (λ b. s x ≡ b → AllByRecursion (λ y.
 both_t : (a b : Bool) → T a → T b → T (a && b)
 both_t true b p q = q
 both_t false b p q = p
-
-first_t : (a b : Bool) → T (a && b) → T a
-first_t true b p = tt
-first_t false b p = p
-
-second_t : (a b : Bool) → T (a && b) → T b
-second_t true b p = p
-second_t false b p = absurd p
 
 below : (x : Key) (es : List (Key × List Pair)) → AllByRecursion (λ y. key_cmp x y ≡ Less) (keys_of es) → T (below_all key_cmp x es)
 below x [] h = tt

@@ -1,5 +1,5 @@
 -- What a recovery answers, what the replies said.
-use Rattle.std.proofs.Common.{◌≡◌, ◌<◌, ◌≤◌, ◌^◌, ℕ, ℤ, List, [], ◌∷◌, length, arith, Option, Some, None, Result, Ok, Err, is_err, refl, true, false, not, cond, ◌∙◌, ap, subst, sym}
+use Rattle.std.proofs.Common.{◌≡◌, ◌<◌, ◌^◌, ℕ, ℤ, List, [], ◌∷◌, length, arith, Option, Some, None, Result, Ok, Err, is_err, refl, true, false, not, cond, ◌∙◌, ap, subst, sym}
 use Rattle.std.specs.Prelude.{Bool}
 use Rattle.sdb_types.specs.declared.key.Key.{Key}
 use Rattle.sdb_types.specs.declared.txid.TxId.{TxId}
@@ -19,12 +19,11 @@ use Rattle.sdb_phases.specs.declared.step.RecoverStep.TheVariants as steps
 use Rattle.sdb_phases.specs.declared.step.RecoverPhase.{RecoverPhase}
 use Rattle.sdb_phases.specs.declared.step.RecoverPhase.TheVariants as phase
 use Rattle.sdb_phases.specs.Steps.{CanGet}
-use Rattle.sdb_phases.specs.CommitLaws.{is_malformed, holds_malformed, is_fault}
+use Rattle.sdb_phases.specs.CommitLaws.{is_malformed, holds_malformed}
 use Rattle.sdb_phases.specs.Recover.{Heard, RecoverPlayed, recover_after, recover_answer, recover_request_at, recover_next, roll_to}
 use Rattle.sdb_phases.specs.RecoverLaws.{RecoverStands, RecoverEnds, WasRolled, RollsTo, found_pending, heard_fault, heard_malformed}
 use Rattle.sdb_phases.proofs.Stands.{row_malformed}
 use Rattle.sdb_phases.proofs.RecoverStands.{recover_stands}
-use Rattle.sdb_types.proofs.Basics.{or_second as right}
 
 -- a row that was found is followed, or isn't well formed
 follow_ends : (rec : Record) (meta : Meta) (past : List Heard) (v : Result Decided (List ℕ)) → (is_err v ≡ true → heard_malformed meta past ≡ true) → RecoverEnds rec meta past (roll_to meta v).1

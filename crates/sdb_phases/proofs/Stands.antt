@@ -29,10 +29,11 @@ use Rattle.sdb_phases.specs.declared.step.DecidePhase.TheVariants as phase
 use Rattle.sdb_phases.specs.Work.{Work, prepares}
 use Rattle.sdb_phases.specs.Checks.{checks, same_key, difference_in}
 use Rattle.sdb_phases.specs.Steps as small
-use Rattle.sdb_phases.specs.Steps.{CanGet, decide_next, told}
+use Rattle.sdb_phases.specs.Steps.{CanGet, told}
 use Rattle.sdb_phases.specs.Commit.{Stage, Preparing, Checking, Deciding, Forward, Stopping, Back, Over, pending, step, after, preparing, checking, forward, back, after_prepare, after_check, after_decide}
-use Rattle.sdb_phases.specs.CommitLaws.{IsWork, Seen, seen, note, nothing_seen, Played, Stands, IsCaused, is_unrecorded, may_undo, without_effect, is_more, is_fault, is_decision, same_decision, says, tells, is_malformed, holds_malformed, writes_of, reads_of, most_calls}
-use Rattle.sdb_types.proofs.Basics.{or_second as right}
+use Rattle.sdb_phases.specs.CommitLaws.{IsWork, Seen, seen, note, nothing_seen, Played, Stands, IsCaused, is_unrecorded, may_undo, without_effect, is_more, is_decision, same_decision, says, tells, is_malformed, holds_malformed, writes_of, reads_of, most_calls}
+use Rattle.sdb_types.proofs.Basics.{or_second as right, fails_second}
+use Rattle.sdb_types.specs.Replies.{is_fault}
 
 ---- tests
 
@@ -48,17 +49,13 @@ fails_first : (a b : Bool) → a ≡ false → (a && b) ≡ false
 fails_first true b h = cc
 fails_first false b h = refl
 
-fails_second : (a b : Bool) → b ≡ false → (a && b) ≡ false
-fails_second true b h = h
-fails_second false b h = refl
-
 by_test : (p : Work) (h : Seen) (b : Bool) (x y : Stage) → (b ≡ true → Stands p h x) → (b ≡ false → Stands p h y) → Stands p h (cond b x y)
 by_test p h true x y t f = t refl
 by_test p h false x y t f = f refl
 
 ---- rows
 
-same_key_itself : (k : Key) → same_key k k ≡ true
+pub same_key_itself : (k : Key) → same_key k k ≡ true
 same_key_itself k = ap is_eq (tied_itself key_total k)
 
 pub at_key : (r : Record) (id : TxId) → r.key ≡ coordinator_key_of id → same_key r.key (coordinator_key_of id) ≡ true

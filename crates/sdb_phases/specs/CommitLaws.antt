@@ -20,6 +20,7 @@ use Rattle.sdb_phases.specs.Work.{Work}
 use Rattle.sdb_phases.specs.Checks.{checks, same_key}
 use Rattle.sdb_phases.specs.Steps.{CanGet, validate_step}
 use Rattle.sdb_phases.specs.Commit.{Stage, Preparing, Checking, Deciding, Forward, Stopping, Back, Over, pending, after}
+use Rattle.sdb_types.specs.Replies.{is_fault, is_applied}
 
 -- ids have 128 bits, and moments are from 0 to 2^53
 pub record IsWork (p : Work) : Type 0 where
@@ -85,14 +86,6 @@ pub record Seen : Type 0 where
   pub failed : Bool
   -- the newest holds a record at the coordinator key that isn't a well formed row
   pub malformed : Bool
-
-abbrev pub is_applied : Reply → Bool
-is_applied reply.Applied = true
-is_applied r = false
-
-abbrev pub is_fault : Reply → Bool
-is_fault reply.Fault = true
-is_fault r = false
 
 abbrev pub is_more : ValidateStep → Bool
 is_more validate.More = true

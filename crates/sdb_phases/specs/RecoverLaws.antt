@@ -19,7 +19,8 @@ use Rattle.sdb_phases.specs.declared.step.RecoverStep.TheVariants as steps
 use Rattle.sdb_phases.specs.declared.step.RecoverPhase.{RecoverPhase}
 use Rattle.sdb_phases.specs.declared.step.RecoverPhase.TheVariants as phase
 use Rattle.sdb_phases.specs.Recover.{Heard, recover_pending, recover_after}
-use Rattle.sdb_phases.specs.CommitLaws.{tells, holds_malformed, is_fault}
+use Rattle.sdb_phases.specs.CommitLaws.{tells, holds_malformed}
+use Rattle.sdb_types.specs.Replies.{is_answered as is_done, is_fault}
 
 -- the row says COMMITTED, made at that moment
 abbrev pub was_committed_at : ℤ → Result Decided (List ℕ) → Bool
@@ -65,11 +66,6 @@ heard_fault past = list_any (λ c. is_fault c.reply) past
 abbrev pub heard_malformed : Meta → List Heard → Bool
 heard_malformed meta [] = false
 heard_malformed meta (c ∷ past) = holds_malformed meta.id c.reply
-
-abbrev pub is_done : Reply → Bool
-is_done reply.Applied = true
-is_done (reply.NotMet found) = true
-is_done r = false
 
 -- The image is what a roll leaves: forward, the committed record of the moment of the row that was learned; back, what stood
 -- there before, and ABORTED was learned.

@@ -10,7 +10,7 @@ use Rattle.sdb_plain.specs.declared.points.Said.{Said}
 
 -- a statement that was said, as the definitions have it
 abbrev pub said_of : Said → SaidOf
-said_of s = record { taken = s.taken; text = s.text; answer = s.answer; answered = s.answered }
+said_of s = record { taken = s.taken; text = s.text; answer = s.answer; reached = s.reached }
 
 abbrev pub all_said : List Said → List SaidOf
 all_said = map said_of

@@ -11,13 +11,13 @@ use sdb_types::{Duplicate, NoMemory, Reply, Request, Seq, State, TxId, Txt};
 use std::alloc::Global;
 
 /// A statement that a client took: the number of its Take, its text, its answer, if it has one, and the number of the event
-/// that gave the answer.
+/// that it has reached: of its answer, or of its Take where it has none.
 #[derive(Debug)]
 pub struct Said {
     pub taken: u64,
     pub text: Txt,
     pub answer: Option<Answer>,
-    pub answered: u64,
+    pub reached: u64,
 }
 
 // By hand: each drop is then one call, where a derived one stands at each place with a call for each field.
@@ -27,7 +27,7 @@ impl Drop for Said {
             taken: _,
             text: _,
             answer: _,
-            answered: _,
+            reached: _,
         } = self;
     }
 }
@@ -70,13 +70,13 @@ pub fn last_prepare(events: &[Event], id: TxId) -> Option<u64>
 
 // The last statement, with its answer.
 fn answered(last: &Said, number: u64, answer: &Answer) -> Result<Said, NoMemory>
-    ensures { IfOk result (λ s. s ≡ record { taken = last.now.taken; text = last.now.text; answer = Some answer.now; answered = number }) }
+    ensures { IfOk result (λ s. s ≡ record { taken = last.now.taken; text = last.now.text; answer = Some answer.now; reached = number }) }
 {
     Ok(Said {
         taken: last.taken,
         text: last.text.copy()?,
         answer: Some(answer.copy()?),
-        answered: number,
+        reached: number,
     })
 }
 
@@ -104,7 +104,7 @@ fn note(said: &mut Seq<Said>, client: u64, number: u64, event: &Event) -> Result
                     taken: number,
                     text: text.copy()?,
                     answer: answer.copy()?,
-                    answered: number,
+                    reached: number,
                 })?;
             }
             Ok(())

@@ -9,12 +9,12 @@ use Rattle.sdb_read.specs.declared.rows.Sort.TheVariants as sort
 use Rattle.sdb_read.specs.Read.{Kind, Firm, Open, Bad, kind_of, opened}
 use Rattle.sdb_read.specs.Rows.{sort_of}
 
-unresolved_by : (taken committed : Bool) (k : Kind) → sort_of (if taken then (if committed then Firm else k) else Bad) ≡ sort.Open → (taken && not committed) ≡ true
+pub unresolved_by : (taken committed : Bool) (k : Kind) → sort_of (if taken then (if committed then Firm else k) else Bad) ≡ sort.Open → (taken && not committed) ≡ true
 unresolved_by true true k h = cc
 unresolved_by true false k h = refl
 unresolved_by false committed k h = cc
 
-kind_by : (taken committed : Bool) (k : Kind) → sort_of (if taken then (if committed then Firm else k) else Bad) ≡ sort.Open → (if taken then (if committed then Firm else k) else Bad) ≡ k
+pub kind_by : (taken committed : Bool) (k : Kind) → sort_of (if taken then (if committed then Firm else k) else Bad) ≡ sort.Open → (if taken then (if committed then Firm else k) else Bad) ≡ k
 kind_by true true k h = cc
 kind_by true false k h = refl
 kind_by false committed k h = cc

@@ -12,18 +12,16 @@ use Rattle.sdb_record.specs.declared.coordinator.Decided.{Decided}
 use Rattle.sdb_record.specs.declared.coordinator.Decision.TheVariants as decision
 use Rattle.sdb_record.specs.Names.{tx_created_at}
 use Rattle.sdb_record.specs.Coordinator.{id_of_key, decision_in, decision_in_value}
-use Rattle.sdb_record.specs.Meta.{is_in, is_moment, moment_in, moment_in_value, is_taken, is_unresolved, need}
+use Rattle.sdb_record.specs.Meta.{is_in, is_moment, moment_in, moment_in_value, is_taken, is_unresolved}
 use Rattle.sdb_record.specs.Parts.{before_record}
 use Rattle.sdb_record.specs.Rolls.{IsBaseOf, forward_record}
 use Rattle.sdb_record.proofs.ImageLaws.{image-open, image-is}
+use Rattle.sdb_record.proofs.Fine.{need-ok as need_ok}
+use Rattle.sdb_types.proofs.Basics.{not_true}
 
 ---- a row's moment
 
-need_ok : {A B : Type 0} (o : Option A) (name : List ℕ) (next : A → Result B (List ℕ)) (y : B) → need o name next ≡ Ok y → (x : A) × (o ≡ Some x) × (next x ≡ Ok y)
-need_ok None name next y h = absurd (cc)
-need_ok (Some x) name next y h = (x, refl, h)
-
-moment_is : (o : Option Value) (n : ℤ) → moment_in_value o ≡ Some n → is_moment n ≡ true
+pub moment_is : (o : Option Value) (n : ℤ) → moment_in_value o ≡ Some n → is_moment n ≡ true
 moment_is None n h = absurd (cc)
 moment_is (Some (value.BigInt m)) n h = by (is_moment m) refl h
   where
@@ -48,10 +46,6 @@ decided_at row d says =
     ok_is x e = cc
 
 ---- images
-
-not_true : (b : Bool) → not b ≡ true → b ≡ false
-not_true true e = absurd (cc)
-not_true false e = refl
 
 held_of : (r : Record) → is_unresolved r ≡ true → is_in Committed r.columns ≡ false
 held_of r h = not_true (is_in Committed r.columns) (and_second (is_taken r) (not (is_in Committed r.columns)) h)

@@ -35,13 +35,13 @@ firm_more (x ∷ xs) b f g = (f.0, firm_more xs b f.1 g)
 
 ---- what a row is
 
-firm_by : (taken committed : Bool) (k : Result Meta (List ℕ)) → (if taken then (if committed then Firm else opened k) else Bad) ≡ Firm → (taken ≡ true) × (committed ≡ true)
+pub firm_by : (taken committed : Bool) (k : Result Meta (List ℕ)) → (if taken then (if committed then Firm else opened k) else Bad) ≡ Firm → (taken ≡ true) × (committed ≡ true)
 firm_by true true k h = (refl, refl)
 firm_by true false (Ok meta) h = absurd (cc)
 firm_by true false (Err column) h = absurd (cc)
 firm_by false committed k h = absurd (cc)
 
-open_by : (taken committed : Bool) (k : Result Meta (List ℕ)) (meta : Meta) → (if taken then (if committed then Firm else opened k) else Bad) ≡ Open meta → k ≡ Ok meta
+pub open_by : (taken committed : Bool) (k : Result Meta (List ℕ)) (meta : Meta) → (if taken then (if committed then Firm else opened k) else Bad) ≡ Open meta → k ≡ Ok meta
 open_by true true k meta h = absurd (cc)
 open_by true false (Ok m) meta h = let e : m ≡ meta = cc in ap Ok e
 open_by true false (Err column) meta h = absurd (cc)

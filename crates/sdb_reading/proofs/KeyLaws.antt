@@ -21,7 +21,7 @@ use Rattle.sdb_types.proofs.ColumnMap.{tail_above, tail_columns}
 use Rattle.sdb_model.specs.Plain.{table_fits, span_fits, values_fit}
 use Rattle.sdb_model.specs.Texts.{value_text_of, values_text_of, row_text_of, clustering_text_of, key_text_of, partition_text_of, span_text_of, pair_text_of, columns_text_of, record_text_of}
 use Rattle.sdb_reading.specs.Reading.{◌>>=◌, after, name_at, value_at, many, some_values_at, values_at, row_at, table_at, clustering_at, key_at, partition_at, span_at, last_of, is_above, is_next_column, column_of, pair_at, next_pair_at, some_pairs_at, pairs_at, columns_at, record_at}
-use Rattle.sdb_reading.proofs.WordLaws.{bind_some, case_some, join, Says, Sound, Again, after_is, stops_at, name_sound, name_again}
+use Rattle.sdb_reading.proofs.WordLaws.{case_some, join, Says, Sound, Again, after_is, stops_at, name_sound, name_again, bind_some}
 use Rattle.sdb_reading.proofs.Lists.{Each, Each-all, many_is, many_again, count_le}
 use Rattle.sdb_reading.proofs.ValueLaws.{value_sound, value_again, ends_value, some_values_sound, some_values_again, values_sound, values_again, ends_values, row_sound, row_again}
 

@@ -31,7 +31,7 @@ use Rattle.uuid.specs.Text.{hex_digit, lower, nibble}
 use Rattle.uuid.proofs.TextLemmas.{by_index_at}
 use Rattle.sdb_types.specs.declared.txid.TxId.{TxId}
 use Rattle.sdb_reading.proofs.NumberLaws.{id_long}
-use Rattle.sdb_reading.proofs.WordLaws.{bind_some, case_some, join, Says, Sound, after_is}
+use Rattle.sdb_reading.proofs.WordLaws.{case_some, join, Says, Sound, after_is, bind_some}
 use Rattle.sdb_reading.proofs.NumberLaws.{id_text_of, id_sound, id_again}
 use Rattle.sdb_reading.proofs.KeyLaws.{key_sound, key_again, span_sound, span_again, record_sound, record_again}
 use Rattle.sdb_reading.proofs.AnswerLaws.{behind_sound, made_sound, word_sound, join_space, CountedFit, items_sound, items_again, EndsDigits}

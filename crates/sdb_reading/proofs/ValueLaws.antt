@@ -1,5 +1,5 @@
 -- Values and rows: what is read stands there, and what stands there is read.
-use Rattle.std.proofs.Common.{◌≡◌, ℕ, zero, suc, ◌^◌, ◌<◌, Bool, true, false, cond, ltb, ◌==◌, ◌&&◌, ◌||◌, List, [], ◌∷◌, ◌++◌, length, take, Option, Some, None, Result, Ok, Err, refl, sym, ap, subst, ◌∙◌, append_assoc, arith, ℤ, pos, negsuc, inl, inr, flat_map, ◌/◌, ◌%◌}
+use Rattle.std.proofs.Common.{◌≡◌, ℕ, zero, suc, ◌^◌, ◌<◌, Bool, true, false, cond, ltb, ◌==◌, ◌||◌, List, [], ◌∷◌, ◌++◌, length, take, Option, Some, None, Result, Ok, Err, refl, sym, ap, subst, ◌∙◌, append_assoc, arith, ℤ, pos, negsuc, inl, inr, flat_map, ◌/◌, ◌%◌}
 use Rattle.std.specs.Prelude.{FitsSigned, codes, slice_index}
 use Rattle.std.specs.Char.{is_ascii_digit}
 use Rattle.std.specs.Fmt.{decimal, signed_decimal}
@@ -22,7 +22,7 @@ use Rattle.sdb_types.specs.declared.value.Value.TheVariants as value
 use Rattle.sdb_model.specs.Texts.{doubled, quoted, value_text_of, values_text_of, row_text_of}
 use Rattle.sdb_model.specs.Plain.{values_fit}
 use Rattle.sdb_reading.specs.Reading.{◌>>=◌, case_of, after, text_of, integer_at, int_of, begins_number, numeral_at, quoted_on, text_at, is_unquoted, blob_at, value_at, many, next_value_at, some_values_at, values_at, row_at}
-use Rattle.sdb_reading.proofs.WordLaws.{bind_some, case_some, join, Says, Sound, Again, after_is, after_again, stops_at, front_again}
+use Rattle.sdb_reading.proofs.WordLaws.{case_some, join, Says, Sound, Again, after_is, after_again, stops_at, front_again, bind_some}
 use Rattle.sdb_reading.proofs.NumberLaws.{digits_go, begins_digit, integer_sound, integer_again, IsLong}
 use Rattle.sdb_reading.proofs.Lists.{Each-all, Each-from_all, many_is, many_again, count_le}
 use lib.Utf8.{scalar, scalars, encode, encodes, next, scalar_cases}

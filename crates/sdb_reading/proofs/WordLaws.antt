@@ -1,5 +1,5 @@
 -- Words and names: what is read stands there, and what stands there is read.
-use Rattle.std.proofs.Common.{◌≡◌, ℕ, suc, ◌+◌, ◌<◌, Bool, true, false, cond, ◌==◌, List, [], ◌∷◌, ◌++◌, length, take, drop, Option, Some, None, refl, sym, ap, subst, ◌∙◌, append_assoc, arith}
+use Rattle.std.proofs.Common.{◌≡◌, ℕ, ◌+◌, ◌<◌, Bool, true, false, cond, ◌==◌, List, [], ◌∷◌, ◌++◌, length, take, drop, Option, Some, None, refl, sym, ap, subst, ◌∙◌, append_assoc, arith}
 use Rattle.std.specs.List.{list_all, prefix_len}
 use Rattle.std.specs.Str.{is_utf8, IsUtf8}
 use Rattle.std.proofs.lemmas.Bool.{eqb-true}
@@ -14,11 +14,11 @@ use Rattle.sdb_types.proofs.KeyOrder.{parts}
 use Rattle.sdb_reading.specs.Reading.{Read, ◌>>=◌, case_of, after, name_of, name_at}
 use Rattle.sdb_types.proofs.Basics.{by_test, one_more}
 
----- steps
-
 pub bind_some : {A B : Type 0} (r : Option A) (f : A → Option B) (y : B) → (r >>= f) ≡ Some y → (x : A) × (r ≡ Some x) × (f x ≡ Some y)
 bind_some (Some x) f y e = (x, refl, e)
 bind_some None f y e = absurd cc
+
+---- steps
 
 pub case_some : {A B G : Type 0} (o : Option A) (f : A → B) (d y : B) → case_of o f d ≡ y → ((x : A) → o ≡ Some x → f x ≡ y → G) → (o ≡ None → d ≡ y → G) → G
 case_some (Some x) f d y e there other = there x refl e
@@ -59,10 +59,6 @@ after_short ws [] i h short = rw (drop_more ws i 0 h) refl
 after_short ws (b ∷ bs) i h short = absurd (omega arith)
 
 ---- fronts
-
-pub front_passes : (p : ℕ → Bool) (bs : List ℕ) → list_all p (take (prefix_len p bs) bs) ≡ true
-front_passes p [] = refl
-front_passes p (b ∷ bs) = by_test (p b) (λ e. rw (e, one_more, e) (front_passes p bs)) (λ e. rw e refl)
 
 -- a byte is at the start that the test refuses, or none
 abbrev pub stops_at : (ℕ → Bool) → List ℕ → Bool

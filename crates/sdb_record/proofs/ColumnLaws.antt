@@ -2,9 +2,8 @@
 use Rattle.std.proofs.Common.{◌≡◌, ℕ, List, [], ◌∷◌, ◌++◌, Bool, true, false, not, ◌&&◌, cond, refl, sym, ap, ◌∙◌, subst, append_assoc, Some, None}
 use Rattle.std.specs.Prelude.{filter}
 use Rattle.std.specs.List.{list_all}
-use Rattle.std.specs.declared.cmp.Ordering.{Ordering}
-use Rattle.std.specs.declared.cmp.Ordering.TheVariants.{Less, Equal, Greater}
-use Rattle.std.specs.Ordering.{is_lt, ordering_reverse}
+use Rattle.std.specs.declared.cmp.Ordering.TheVariants.{Less, Greater}
+use Rattle.std.specs.Ordering.{is_lt}
 use Rattle.sdb_types.specs.declared.pair.Pair.{Pair}
 use Rattle.sdb_types.specs.Order.{name_cmp}
 use Rattle.sdb_types.specs.Columns.{is_null, starts_above, are_columns, put_pair, with_column}
@@ -18,9 +17,7 @@ use Rattle.sdb_record.specs.Parts.{with_columns, before_pair, before_part, are_u
 use Rattle.sdb_record.proofs.NameLemmas.{base_name-before_name, base_name-is}
 use Rattle.sdb_types.proofs.Basics.{less_of}
 use Rattle.std.proofs.lemmas.Bool.{not-true}
-
-pub swapped : (a b : List ℕ) (r : Ordering) → name_cmp a b ≡ r → name_cmp b a ≡ ordering_reverse r
-swapped a b r q = name_total.antisymm b a ∙ ap ordering_reverse q
+use Rattle.sdb_types.proofs.ColumnMap.{turned as swapped}
 
 less_less : (a b c : List ℕ) → name_cmp a b ≡ Less → name_cmp b c ≡ Less → name_cmp a c ≡ Less
 less_less a b c = name_total.trans a b c

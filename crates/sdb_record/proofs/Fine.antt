@@ -21,10 +21,11 @@ use Rattle.sdb_record.proofs.NameLemmas.{same_name-true}
 use Rattle.sdb_record.specs.Names.{tx_version, tx_prepared_at, tx_committed_at, tx_tombstone, base_name, is_before, is_meta, same_name}
 use Rattle.sdb_record.specs.Parts.{before_part, is_before_pair, are_short, are_stored}
 use Rattle.sdb_record.specs.Meta.{id_in, state_in, state_in_value, version_in, moment_in, committed_at_in, tombstone_in, is_stray, is_early, is_committed, is_deleted, is_misnamed, is_in, need, refuse, then_check, only_if, meta_in, checked_columns, checked_part, checked_before, checked, any_state, with_before, keep_identifiers, kept_badly, is_taken}
+use Rattle.sdb_types.proofs.Basics.{or_neither as or-false}
 
 ---- steps that went on
 
-need-ok : {A B : Type 0} (o : Option A) (name : List ℕ) (next : A → Result B (List ℕ)) (y : B) → need o name next ≡ Ok y → (x : A) × (o ≡ Some x) × (next x ≡ Ok y)
+pub need-ok : {A B : Type 0} (o : Option A) (name : List ℕ) (next : A → Result B (List ℕ)) (y : B) → need o name next ≡ Ok y → (x : A) × (o ≡ Some x) × (next x ≡ Ok y)
 need-ok None name next y h = absurd (cc)
 need-ok (Some x) name next y h = (x, refl, h)
 
@@ -148,10 +149,6 @@ none-make t x xs h k = ap (λ b. cond b (Some x) (find t xs)) h ∙ k
 pub all-none : {X : Type 0} (t : X → Bool) (xs : List X) → find t xs ≡ None → list_all (λ x. not (t x)) xs ≡ true
 all-none t [] h = refl
 all-none t (x ∷ xs) h = and_both (not (t x)) _ (ap not (none-first t x xs h)) (all-none t xs (none-rest t x xs h))
-
-pub or-false : (a b : Bool) → (a || b) ≡ false → (a ≡ false) × (b ≡ false)
-or-false true b h = absurd (cc)
-or-false false b h = (refl, h)
 
 ---- a before image
 

@@ -36,7 +36,7 @@ use Rattle.sdb_record.proofs.Fine.{taken, has_value-is, refuse-ok, need-some}
 use Rattle.sdb_record.proofs.States.{state_value, is_in-says, says-committed}
 use Rattle.sdb_record.proofs.RollLaws.{has_int, forward-id, forward-in, forward-tombstone, forward-user, forward-taken, forward-committed, forward-key, before-kept, mark_value}
 use Rattle.sdb_record.proofs.WriteLaws.{marked-id, marked-state, marked-other, marked-user, with_base, row-kept, fitting, no-column}
-use Rattle.sdb_record.proofs.TakenLaws.{prepared-columns, prepared-key, prepared-base, left-taken, other-meta, absent-column}
+use Rattle.sdb_record.proofs.TakenLaws.{prepared-columns, prepared-key, prepared-base, left-taken, other-meta, absent-column, time-fits as moment-of}
 
 ---- what a transaction left
 
@@ -176,9 +176,6 @@ key-of-id id small = id_of_text-id_text id.0 small
 decided : (d : Decision) → decision_in_value (Some (value.Int (decision_number d))) ≡ Some d
 decided decision.Committed = refl
 decided decision.Aborted = refl
-
-moment-of : (n : ℤ) → is_moment n ≡ true → moment_in_value (Some (value.BigInt n)) ≡ Some n
-moment-of n h = simp h refl
 
 pub row-decision : (id : TxId) (d : Decision) (n : ℤ) → id.0 < 2 ^ 128 → is_moment n ≡ true → decision_in (coordinator_row_of id d n) ≡ Ok (record { decision = d; created_at = n })
 unfolding decision_in coordinator_row_of

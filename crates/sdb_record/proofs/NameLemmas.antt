@@ -3,7 +3,6 @@ use Rattle.std.proofs.Common.{◌≡◌, ℕ, List, [], ◌∷◌, ◌++◌, dro
 use Rattle.std.proofs.lemmas.Bool.Decides.{Decides-eqb}
 use Rattle.std.proofs.Common.{◌+◌, ◌≤◌, length-append}
 use Rattle.std.specs.Prelude.{nat_le}
-use Rattle.std.proofs.lemmas.Bool.Decides.{nat_tests}
 use Rattle.sdb_types.specs.Identifier.{is_identifier, is_name, is_start, is_part}
 use Rattle.std.specs.List.{list_all}
 use Rattle.sdb_types.proofs.Bools.{and_first, and_second, and_both, or_first}
@@ -18,6 +17,7 @@ use Rattle.sdb_types.specs.Exact.{equal_of}
 use Rattle.sdb_types.specs.Order.{name_cmp}
 use Rattle.sdb_types.proofs.KeyOrder.{name_exact, name_total}
 use Rattle.sdb_record.specs.Names.{before_prefix, before_name, after_front, base_name, same_name}
+use Rattle.sdb_types.proofs.Basics.{nat_at_most, at_most_nat}
 
 -- what follows a front in a text that begins with it
 pub after_front-append : (front rest : List ℕ) → after_front front (front ++ rest) ≡ Some rest
@@ -67,12 +67,6 @@ same_name-true a b h = name_exact a b (equal_of (name_cmp a b) h)
 
 pub same_name-itself : (a : List ℕ) → same_name a a ≡ true
 same_name-itself a = ap is_eq (tied_itself name_total a)
-
-pub nat_at_most : (m n : ℕ) → nat_le m n ≡ true → m ≤ n
-nat_at_most m n h = grind (arith, nat_tests)
-
-pub at_most_nat : (m n : ℕ) → m ≤ n → nat_le m n ≡ true
-at_most_nat m n h = grind (arith, nat_tests)
 
 -- what a name of a before image keeps is a name, where it is an identifier
 pub kept-is_name : (text name : List ℕ) → is_name text ≡ true → base_name text ≡ Some name → is_identifier name ≡ true → is_name name ≡ true

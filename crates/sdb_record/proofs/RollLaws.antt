@@ -25,11 +25,12 @@ use Rattle.sdb_record.specs.Names.{tx_version, tx_prepared_at, tx_committed_at, 
 use Rattle.sdb_record.specs.Parts.{with_columns, own_columns, user_columns, is_before_pair, is_user_pair, are_stored, before_part, before_record, record_with}
 use Rattle.sdb_record.specs.Meta.{id_in, id_in_value, state_in_value, version_in_value, moment_in_value, is_moment, is_in, is_committed, is_deleted, is_stray, any_state, checked, checked_before, is_taken, is_unresolved, present, tombstone_in_value, refuse, is_misnamed, with_before, checked_part, keep_identifiers}
 use Rattle.sdb_record.specs.Rolls.{forward_columns, forward_record, tombstone_mark}
-use Rattle.sdb_record.proofs.Fine.{Says, Fine, taken, ok-of, checked-fine, none-first, none-rest, or-false, taken-keep, keeps_here, fine, fine-any, refuse-ok}
+use Rattle.sdb_record.proofs.Fine.{Says, Fine, taken, ok-of, checked-fine, none-first, none-rest, taken-keep, keeps_here, fine, fine-any, refuse-ok}
 use Rattle.sdb_record.proofs.States.{is_in-says, says-committed, says-deleted, no-tombstone, state_value}
 use Rattle.sdb_record.proofs.ColumnLaws.{not_before, are_columns-filter, are_columns-before_part}
 use Rattle.sdb_record.proofs.Settings.{column-put-same, column-put-other, none-put, none-filter, all-put, all-filter, filter-put, column-filter}
 use Rattle.std.proofs.lemmas.Bool.{not-true as not-not}
+use Rattle.sdb_types.proofs.Basics.{and_true as and-true, or_false as or-right, or_neither as or-false}
 
 ---- the columns
 
@@ -181,10 +182,6 @@ marked-says false o h = ap (tombstone_in_value true) h
 not_user-stray : (p : Pair) (b : Bool) → is_user p.name ≡ false → (is_user_pair p && b) ≡ false
 not_user-stray p b h = ap (λ c. c && b) h
 
-or-right : (b : Bool) → (b || false) ≡ b
-or-right true = refl
-or-right false = refl
-
 -- the ninth check where there is a before image
 abbrev pub refuse_before : List Pair → Meta → Result Meta (List ℕ)
 refuse_before ps m = refuse (find is_misnamed ps) (with_before m (checked_part is_committed (before_part ps)))
@@ -276,10 +273,6 @@ forward-writer r n = ap id_in_value (forward-id r.columns n)
 pub forward-key : (r : Record) (n : ℤ) → (forward_record r n).key ≡ r.key
 unfolding forward_record
 forward-key r n = refl
-
-and-true : (b : Bool) → (b && true) ≡ b
-and-true true = refl
-and-true false = refl
 
 pub forward-version_of : (r : Record) (n : ℤ) (id : TxId) → is_version id Committed (forward_record r n) ≡ has_value (column r.columns tx_id) (value.Text (id_text id.0))
 unfolding forward_record

@@ -35,6 +35,7 @@ use Rattle.sdb_record.proofs.Settings.{none-with_columns, misses, all-with_colum
 use Rattle.sdb_record.proofs.Fine.{Says, Fine, taken, fine-committed, checked-fine, checked_part-fine, committed-state, ok-of, none-make}
 use Rattle.sdb_record.proofs.RollLaws.{any-none, before_part-any, refuse_before}
 use Rattle.sdb_record.proofs.WriteLaws.{Fitting, fitting, with_base, base-kept, no-column, marked, marked-id, marked-state, marked-version, marked-time, marked-other, marked-before, marked-in-order, all-user, kept-user}
+use Rattle.sdb_types.proofs.Basics.{longer as wider, and_false as and-no}
 
 ---- the base
 
@@ -111,7 +112,7 @@ version-left key (Some b) h =
 version-fits : (n : ℤ) → int_le (pos 1) n ≡ true → version_in_value (Some (value.Int n)) ≡ Some n
 version-fits n h = simp h refl
 
-time-fits : (n : ℤ) → is_moment n ≡ true → moment_in_value (Some (value.BigInt n)) ≡ Some n
+pub time-fits : (n : ℤ) → is_moment n ≡ true → moment_in_value (Some (value.BigInt n)) ≡ Some n
 time-fits n h = simp h refl
 
 open-time : (s : State) (ps : List Pair) → is_committed s ≡ false → column ps tx_committed_at ≡ None → committed_at_in s ps ≡ Some None
@@ -157,10 +158,6 @@ module _ (w : Write) (id : TxId) (now : ℤ) (h : IsWrite w) (small : id.0 < 2 ^
 
 ---- the other checks
 
-and-no : (b : Bool) → (b && false) ≡ false
-and-no true = refl
-and-no false = refl
-
 at-most : (n : ℕ) → nat_le n 64 ≡ true → nat_lt 64 n ≡ false
 at-most n h = grind (arith, nat_tests)
 
@@ -174,9 +171,6 @@ no-long (p ∷ ps) h =
 no-stray-row : (c : Change) → is_change c ≡ true → find (is_stray (state_of_change c) false) (new_columns c) ≡ None
 no-stray-row change.Delete h = refl
 no-stray-row (change.Row columns) h = no-long columns (and_second (are_columns columns) (are_user_columns columns) h)
-
-wider : (n : ℕ) → nat_le n 64 ≡ true → nat_le n 71 ≡ true
-wider n h = grind (arith, nat_tests)
 
 column-is_name : (name : List ℕ) → is_column_name name ≡ true → is_name name ≡ true
 column-is_name name h =

@@ -1,5 +1,5 @@
 -- What a transaction's record of a write says and keeps.
-use Rattle.std.proofs.Common.{◌≡◌, ℕ, ℤ, List, [], ◌∷◌, Bool, true, false, not, ◌&&◌, refl, sym, ap, ◌∙◌, map, Option, Some, None, IfSome}
+use Rattle.std.proofs.Common.{◌≡◌, ℕ, ℤ, List, [], ◌∷◌, true, false, not, ◌&&◌, refl, sym, ap, ◌∙◌, map, Option, Some, None, IfSome}
 use Rattle.std.specs.Prelude.{find, is_ok}
 use Rattle.std.specs.List.{list_all}
 use Rattle.sdb_types.specs.declared.value.Value.TheVariants as value
@@ -23,6 +23,7 @@ use Rattle.sdb_record.proofs.PreparedLaws.{change-user, change-columns}
 use Rattle.sdb_record.proofs.ColumnLaws.{stays, leaves, not_before, with_columns-apart, with_columns-none, are_columns-kept, leaves-kept, stays-user, is_before-kept, columns-full, columns-rest}
 use Rattle.sdb_record.proofs.Settings.{column-put-same, column-put-other, none-with_columns, misses, filter-with_columns, filter-all, before_part-with_columns, before_part-kept, other_name}
 use Rattle.sdb_record.proofs.Fine.{none-make}
+use Rattle.sdb_types.proofs.Basics.{and_false as and-false}
 
 ---- the parts that make it
 
@@ -53,10 +54,6 @@ base-first row base f =
 pub base-kept : (row base : List Pair) → Fitting row base → before_part (with_base row base) ≡ base
 base-kept row base f =
     ap before_part (base-first row base f) ∙ before_part-with_columns row (map before_pair base) (stays-user row f.row_columns f.row_user) ∙ before_part-kept base
-
-and-false : (b : Bool) → (b && false) ≡ false
-and-false true = refl
-and-false false = refl
 
 pub kept-user : (name : List ℕ) → is_user (before_name name) ≡ false
 kept-user name = ap (λ b. not (is_meta (before_name name)) && not b) (is_before-kept name) ∙ and-false (not (is_meta (before_name name)))

@@ -16,7 +16,7 @@ use Rattle.sdb_model.specs.declared.event.Point.{Point}
 use Rattle.sdb_model.specs.declared.event.TableDump.{TableDump}
 use Rattle.sdb_reading.specs.Reading.{◌>>=◌, after, natural_at, row_at, table_at, id_at}
 use Rattle.sdb_reading.specs.Lines.{whole, numbered_event_of}
-use Rattle.sdb_reading.proofs.WordLaws.{bind_some, join, after_is, after_again}
+use Rattle.sdb_reading.proofs.WordLaws.{join, after_is, after_again, bind_some}
 use Rattle.sdb_reading.proofs.NumberLaws.{natural_sound, natural_again, id_text_of, id_sound, id_again}
 use Rattle.sdb_reading.proofs.ValueLaws.{row_sound, row_again}
 use Rattle.sdb_reading.proofs.KeyLaws.{table_sound, table_again}

@@ -1,5 +1,5 @@
 -- Of the tables of an outcome whose report begins with the lines before a bad line, those that the lines show rise.
-use Rattle.std.proofs.Common.{◌≡◌, ◌⊎◌, inl, inr, ℕ, suc, ◌+◌, ◌-◌, ◌^◌, ◌<◌, Bool, true, false, cond, List, [], ◌∷◌, ◌++◌, length, take, drop, All, Option, Some, None, Result, Ok, Err, IfErr, refl, sym, ap, subst, ◌∙◌, append_assoc, arith, flat_map}
+use Rattle.std.proofs.Common.{◌≡◌, ◌⊎◌, inl, inr, ℕ, suc, ◌+◌, ◌-◌, ◌^◌, ◌<◌, true, false, List, [], ◌∷◌, ◌++◌, length, take, drop, Option, Some, None, Result, Ok, Err, IfErr, refl, sym, ap, subst, ◌∙◌, append_assoc, arith, flat_map}
 use Rattle.std.specs.Prelude.{codes}
 use Rattle.std.specs.Fmt.{decimal}
 use Rattle.std.specs.List.{AllByRecursion, count_by}
@@ -15,17 +15,17 @@ use Rattle.sdb_model.specs.declared.event.TableDump.{TableDump}
 use Rattle.sdb_reading.specs.Reading.{last_of}
 use Rattle.sdb_reading.proofs.KeyLaws.{table_again}
 use Rattle.sdb_reading.proofs.Lists.{Each}
-use Rattle.sdb_report.specs.Reading.{Placed, then_read, cut_line, line_at, lines_at, fixed_of, heading_of, is_after, table_of, dump_at, tables_at, places_at, parts_at, body_at, report_at, all_of, report_in}
+use Rattle.sdb_report.specs.Reading.{Placed, then_read, cut_line, lines_at, fixed_of, heading_of, is_after, table_of, dump_at, tables_at, places_at, parts_at, body_at, report_at, all_of, report_in}
 use Rattle.sdb_report.specs.Reports.{is_lf, Reads as ReadsAs, text_of_lines, IsLoose, Begins, IsFirstBad, IsRefusedAt}
 use Rattle.sdb_report.specs.declared.refused.ReportRefused.{ReportRefused}
 use Rattle.sdb_report.specs.declared.refused.ReportRefused.TheVariants as refused
 use Rattle.sdb_report.proofs.Cuts.{cut_again}
-use Rattle.sdb_report.proofs.Readers.{done, with_lf, line_reads}
+use Rattle.sdb_report.proofs.Readers.{with_lf, line_reads}
 use Rattle.sdb_report.proofs.Forms.{itself, IsWord, fixed_form, heading_form, Headed, headed_text, table_form}
 use Rattle.sdb_report.proofs.PartLaws.{DumpAfter, dump_reads, each_rising, events_read, order_read, places_text, parts_text, title, pieces}
 use Rattle.sdb_report.proofs.Stops.{AreLines, SameLine, Stop, err_is, failed}
-use Rattle.sdb_report.proofs.StopLaws.{Opens, Halt, halted, report_stopping, dead_of, count_lines}
-use Rattle.sdb_types.proofs.Basics.{by_test}
+use Rattle.sdb_report.proofs.StopLaws.{Halt, halted, report_stopping, dead_of, count_lines}
+use Rattle.sdb_types.proofs.Basics.{by_test, done}
 
 ---- the first table that doesn't stand after the one before
 

@@ -7,7 +7,8 @@ use Rattle.sdb_model.specs.Plain.{is_one_line}
 use Rattle.sdb_reading.specs.Reading.{case_of}
 use Rattle.sdb_report.specs.Reading.{Placed, then_read, both, cut_line, line_at, lines_at}
 use Rattle.sdb_report.specs.Reports.{text_of_lines}
-use Rattle.sdb_report.proofs.Readers.{done, Reads, HasForm, with_lf, IsMade, texts, Items}
+use Rattle.sdb_report.proofs.Readers.{Reads, HasForm, with_lf, IsMade, texts, Items}
+use Rattle.sdb_types.proofs.Basics.{done}
 
 ---- lines
 

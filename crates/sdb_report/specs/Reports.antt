@@ -10,6 +10,7 @@ use Rattle.sdb_report.specs.declared.refused.ReportRefused.{ReportRefused}
 use Rattle.sdb_report.specs.declared.refused.ReportRefused.TheVariants as refused
 use Rattle.sdb_report.specs.declared.refused.Stopped.{Stopped}
 use Rattle.sdb_report.specs.declared.refused.Stopped.TheVariants as stopped
+use Rattle.sdb_model.specs.Texts.{with_lf}
 
 abbrev pub is_lf : ℕ → Bool
 is_lf b = b == 10
@@ -32,9 +33,6 @@ Answers (Err refused.NoMemory) o = Unit {0}
 Answers (Err (refused.BadLine n)) o = ⊥
 
 ---- the first bad line
-
-abbrev pub with_lf : List ℕ → List ℕ
-with_lf line = line ++ codes "\n"
 
 abbrev pub text_of_lines : List (List ℕ) → List ℕ
 text_of_lines lines = flat_map with_lf lines

@@ -2,3 +2,4 @@ pub mod Lists
 pub mod SaidLaws
 pub mod ShownLaws
 pub mod SettledLaws
+pub mod Requests

@@ -1,18 +1,15 @@
 -- Lemmas on tests, and on tests of lists.
-use Rattle.std.proofs.Common.{◌≡◌, ◌≢◌, ℕ, zero, suc, ◌+◌, Bool, true, false, List, [], ◌∷◌, Option, Some, None, ◌⊎◌, inl, inr, refl, sym, ap, ◌∙◌, arith}
+use Rattle.std.proofs.Common.{◌≡◌, ℕ, zero, suc, ◌+◌, Bool, true, false, List, [], ◌∷◌, Option, Some, None, ◌⊎◌, inl, inr, refl, sym, ap, ◌∙◌, arith}
 use Rattle.std.specs.Prelude.{◌&&◌, ◌||◌, not, find, map, slice_get, if◌then◌else◌}
-use Rattle.std.specs.Option.{option_map_or, option_map}
+use Rattle.std.specs.Option.{option_map}
 use Rattle.std.specs.List.{list_any, list_all, enumerate_from}
-use Rattle.sdb_types.proofs.Basics.{clash, or_second as or_right, some_is}
+use Rattle.sdb_types.proofs.Basics.{clash, or_second as or_right, some_is, either}
+use Rattle.sdb_types.proofs.Bools.{and_first as left}
 
 ---- tests
 
 pub none_some : {A B : Type 0} {x : A} → ◌≡◌ {A = Option A} None (Some x) → B
 none_some e = absurd (cc)
-
-pub left : (a b : Bool) → (a && b) ≡ true → a ≡ true
-left true b h = refl
-left false b h = h
 
 pub right : (a b : Bool) → (a && b) ≡ true → b ≡ true
 right true b h = h
@@ -20,10 +17,6 @@ right false b h = clash (sym h)
 
 pub both : (a b : Bool) → a ≡ true → b ≡ true → (a && b) ≡ true
 both a b h k = λ i. h i && k i
-
-pub either : (a b : Bool) → (a || b) ≡ true → (a ≡ true) ⊎ (b ≡ true)
-either true b h = inl refl
-either false b h = inr h
 
 pub or_left : (a b : Bool) → a ≡ true → (a || b) ≡ true
 or_left a b h = λ i. h i || b
@@ -34,10 +27,6 @@ not_true false h = refl
 
 pub true_not : (a : Bool) → a ≡ false → not a ≡ true
 true_not a h = ap not h
-
-pub decide : (a : Bool) → (a ≡ true) ⊎ (a ≡ false)
-decide true = inl refl
-decide false = inr refl
 
 pub not_both : {A : Type 0} (a : Bool) → a ≡ true → a ≡ false → A
 not_both a h k = clash (sym h ∙ k)

@@ -1,20 +1,19 @@
 -- The tests on events tell the fields of `Talk`.
-use Rattle.std.proofs.Common.{◌≡◌, ◌≢◌, ℕ, zero, suc, ◌+◌, Bool, true, false, List, [], ◌∷◌, Option, Some, None, ◌⊎◌, inl, inr, refl, sym, ap, ◌∙◌, arith}
+use Rattle.std.proofs.Common.{◌≡◌, ◌≢◌, ℕ, zero, suc, ◌+◌, Bool, true, false, List, [], ◌∷◌, Option, Some, None, refl, sym, ap, ◌∙◌, arith}
 use Rattle.std.specs.Prelude.{◌&&◌, ◌||◌, ◌==◌, ◌↔◌, not, find, if◌then◌else◌}
 use Rattle.std.specs.Option.{option_map_or, option_map}
-use Rattle.std.specs.List.{list_any}
 use Rattle.sdb_types.specs.declared.key.Key.{Key}
 use Rattle.sdb_types.specs.declared.txid.TxId.{TxId}
 use Rattle.sdb_model.specs.Noted.{same_key}
-use Rattle.sdb_laws.specs.History.{Talk, heard, Stage, Preparing, Checking, Deciding, is_yes, is_met, is_wanting}
+use Rattle.sdb_laws.specs.History.{Talk, heard, Stage, Preparing, Checking, Deciding, is_yes, is_met, is_wanting, says}
 use Rattle.sdb_laws.specs.Lawful.{talk, ended}
 use Rattle.sdb_said.specs.declared.played.Role.{Role}
 use Rattle.sdb_said.specs.declared.played.Role.TheVariants as role
 use Rattle.sdb_said.specs.declared.played.Played.{Played}
 use Rattle.sdb_said.specs.Values.{role_of, all_played, word_of}
-use Rattle.sdb_said.specs.Said.{is_begin_of, owner_in, is_take_of, is_prepare_of, is_applied, is_check_of, is_stage_of, is_decision, is_risk_of, is_win_of, is_death_of, is_meeting_of, is_stop_of, is_end_of, ends_with, touches, opens, begun_in, owner_of, open_in, stopped_in, taken_in, asked_in, told_in, checked_in, staged_in, deciding_in, risked_in, won_in, dead_in, met_in}
-use Rattle.sdb_said.proofs.Lists.{if_or, either, or_left, left, right, both, decide, not_both}
-use Rattle.sdb_types.proofs.Basics.{clash, or_second as or_right}
+use Rattle.sdb_said.specs.Said.{is_begin_of, owner_in, is_take_of, is_prepare_of, is_applied, is_check_of, is_stage_of, is_decision, is_risk_of, is_win_of, is_death_of, is_meeting_of, is_stop_of, is_end_of, touches, opens, begun_in, owner_of, open_in, stopped_in, taken_in, asked_in, told_in, checked_in, staged_in, deciding_in, risked_in, won_in, dead_in, met_in}
+use Rattle.sdb_said.proofs.Lists.{if_or}
+use Rattle.sdb_types.proofs.Basics.{clash}
 
 -- a test of a pair of conditions
 and_or : (a b x : Bool) → (if a && b then true else x) ≡ ((a && b) || x)
@@ -30,7 +29,7 @@ none_end false x = refl
 
 ---- fields that an end leaves as they were
 
-module _ {X : Type 0} (field : Talk → X) (still : (h : Talk) (t : ℕ) → field (heard h (Rattle.sdb_laws.specs.History.Ends t)) ≡ field h) where
+module _ {X : Type 0} (field : Talk → X) (still : (h : Talk) (t : ℕ) → field (says h (Rattle.sdb_laws.specs.History.Ends t)) ≡ field h) where
   pub past_end : (h : Talk) (o : Option ℕ) → field (ended h o) ≡ field h
   past_end h None = refl
   past_end h (Some t) = still h t

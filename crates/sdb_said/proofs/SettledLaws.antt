@@ -1,10 +1,9 @@
 -- The tests of what a read comes to decide what the law calls settled.
-use Rattle.std.proofs.Common.{◌≡◌, ◌≢◌, ℕ, Bool, true, false, List, [], ◌∷◌, Option, Some, None, ◌⊎◌, inl, inr, refl, sym, ap, subst, ◌∙◌}
-use Rattle.std.specs.Prelude.{ℤ, ◌&&◌, ◌||◌, ◌==◌, not, is_some}
+use Rattle.std.proofs.Common.{◌≡◌, ℕ, Bool, true, false, List, Option, Some, None, inl, inr, refl, sym, ap, subst, ◌∙◌}
+use Rattle.std.specs.Prelude.{ℤ, ◌&&◌, ◌||◌, not, is_some}
 use Rattle.std.specs.Option.{option_map_or}
 use Rattle.std.specs.List.{list_any}
 use Rattle.sdb_types.specs.declared.key.Key.{Key}
-use Rattle.sdb_types.specs.declared.pair.Pair.{Pair}
 use Rattle.sdb_types.specs.declared.txid.TxId.{TxId}
 use Rattle.sdb_types.specs.declared.value.Value.{Value}
 use Rattle.sdb_types.specs.declared.value.Value.TheVariants as value
@@ -12,22 +11,22 @@ use Rattle.sdb_types.specs.declared.record.Record.{Record}
 use Rattle.sdb_types.specs.declared.record.State.TheVariants as state
 use Rattle.sdb_types.specs.Contents.{has_value}
 use Rattle.sdb_types.specs.Columns.{column}
-use Rattle.sdb_record.specs.declared.coordinator.Decision.TheVariants as decision
 use Rattle.sdb_record.specs.Coordinator.{coordinator_key_of}
 use Rattle.sdb_record.specs.Names.{tx_tombstone}
-use Rattle.sdb_record.specs.Parts.{before_record, before_part}
+use Rattle.sdb_record.specs.Parts.{before_record}
 use Rattle.sdb_record.specs.Meta.{id_in, is_in}
 use Rattle.sdb_record.specs.Rolls.{forward_record, is_tombstone}
 use Rattle.sdb_record.proofs.RollLaws.{forward-writer, forward-tombstone, mark_value}
 use Rattle.sdb_record.proofs.Within.{column-before_part}
 use Rattle.sdb_model.specs.Noted.{same_key}
-use Rattle.sdb_laws.specs.Lawful.{id, IsShown, IsRowShown, IsHeldShown, IsSettled, Itself, Forward, Back}
+use Rattle.sdb_laws.specs.Lawful.{id, IsHeldShown, IsSettled, Itself, Forward, Back}
 use Rattle.sdb_said.specs.declared.played.Played.{Played}
 use Rattle.sdb_said.specs.Values.{all_played, same_record}
 use Rattle.sdb_said.specs.Shown.{shown, writer_is, kept_writer, keeps_tombstone, is_kept_in, is_held, is_held_by, shows_commit, moments, is_forward, is_itself, is_back, forward_from, is_settled, settles, settles_gone}
-use Rattle.sdb_said.proofs.Lists.{none_some, left, right, both, either, or_left, not_true, true_not, decide, not_both, In, any_some, some_any}
+use Rattle.sdb_said.proofs.Lists.{right, both, or_left, not_true, true_not, In, any_some, some_any}
 use Rattle.sdb_said.proofs.ShownLaws.{key_is, is_key, record_is, is_record, number_is, is_number, shown_is, is_shown, commit_shown, shows_commit_of, moment_shown, shown_moment, forward_is, is_forward_at, kept_is, is_kept_of, kept_writer_is, kept_some, before_columns}
-use Rattle.sdb_types.proofs.Basics.{clash, or_second as or_right, some_is}
+use Rattle.sdb_types.proofs.Basics.{clash, or_second as or_right, either}
+use Rattle.sdb_types.proofs.Bools.{and_first as left}
 
 ---- writers
 

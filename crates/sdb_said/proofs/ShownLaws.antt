@@ -1,10 +1,10 @@
 -- The records that are gathered are those that the law calls shown; and what the tests on records tell.
-use Rattle.std.proofs.Common.{◌≡◌, ◌≢◌, ℕ, zero, suc, ◌+◌, Bool, true, false, List, [], ◌∷◌, ◌++◌, Option, Some, None, ◌⊎◌, inl, inr, refl, sym, ap, subst, ◌∙◌, arith}
-use Rattle.std.specs.Prelude.{ℤ, ◌&&◌, ◌||◌, ◌==◌, not, find, if◌then◌else◌, is_some, is_none, Result, Ok, Err}
+use Rattle.std.proofs.Common.{◌≡◌, ℕ, ◌+◌, Bool, true, false, List, [], ◌∷◌, ◌++◌, Option, Some, None, ◌⊎◌, inl, inr, refl, sym, ap, subst, ◌∙◌}
+use Rattle.std.specs.Prelude.{ℤ, ◌&&◌, ◌||◌, ◌==◌, not, if◌then◌else◌, is_some, is_none, Result, Ok, Err}
 use Rattle.std.specs.Option.{option_map_or, option_map}
 use Rattle.std.specs.Result.{result_ok}
 use Rattle.std.specs.Ordering.{is_eq}
-use Rattle.std.specs.List.{list_any, list_all, filter_map, cons_option}
+use Rattle.std.specs.List.{list_any, filter_map, cons_option}
 use Rattle.std.specs.Cmp.{unsigned_Decides}
 use Rattle.sdb_types.specs.declared.key.Key.{Key}
 use Rattle.sdb_types.specs.declared.pair.Pair.{Pair}
@@ -21,8 +21,8 @@ use Rattle.sdb_record.specs.declared.coordinator.Decided.{Decided}
 use Rattle.sdb_record.specs.declared.coordinator.Decision.{Decision}
 use Rattle.sdb_record.specs.declared.coordinator.Decision.TheVariants as decision
 use Rattle.sdb_record.specs.Coordinator.{coordinator_key_of, decision_in}
-use Rattle.sdb_record.specs.Names.{before_name, base_name, same_name}
-use Rattle.sdb_record.specs.Parts.{before_part, before_record, is_before_pair, base_pair, record_with}
+use Rattle.sdb_record.specs.Names.{base_name, same_name}
+use Rattle.sdb_record.specs.Parts.{before_part, before_record, is_before_pair, record_with}
 use Rattle.sdb_record.specs.Meta.{id_in, id_in_value}
 use Rattle.sdb_record.specs.Rolls.{forward_record}
 use Rattle.sdb_record.proofs.NameLemmas.{same_name-true, same_name-itself}
@@ -35,9 +35,11 @@ use Rattle.sdb_laws.specs.Lawful.{row_among, id, InReply, InEvent, IsShown, IsRo
 use Rattle.sdb_laws.proofs.Keys.{same_key_self, same_key_tells}
 use Rattle.sdb_said.specs.declared.played.Played.{Played}
 use Rattle.sdb_said.specs.Values.{all_played, same_record}
-use Rattle.sdb_said.specs.Shown.{is_first, with_rows, with_found, with_reply, with_event, gathered, shown, writer_is, kept_writer, no_more, keeps_next, keeps, is_kept_in, keeps_none, decided, is_commit, commits, aborts, commit_moment, row_moment, shows_commit, shows_abort, shows_bad_row, moments, is_forward}
-use Rattle.sdb_said.proofs.Lists.{none_some, left, right, both, either, or_left, not_true, true_not, decide, not_both, In, any_some, some_any, found_in}
-use Rattle.sdb_types.proofs.Basics.{clash, or_second as or_right, some_is}
+use Rattle.sdb_said.specs.Shown.{is_first, with_rows, with_reply, with_event, gathered, shown, kept_writer, no_more, keeps_next, keeps, is_kept_in, keeps_none, decided, commits, aborts, commit_moment, row_moment, shows_commit, shows_abort, shows_bad_row, moments, is_forward}
+use Rattle.sdb_said.proofs.Lists.{none_some, right, both, not_true, true_not, not_both, In, any_some, some_any, found_in}
+use Rattle.sdb_types.proofs.Basics.{clash, some_is}
+use Rattle.sdb_types.proofs.Bools.{and_first as left}
+use Rattle.sdb_model.specs.Counted.{is_committed as is_commit}
 
 ---- equality
 

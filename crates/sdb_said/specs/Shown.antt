@@ -1,5 +1,5 @@
 -- What the replies showed: the records, and tests on them.
-use Rattle.std.specs.Prelude.{ℕ, ℤ, pos, Bool, true, false, not, ◌&&◌, ◌||◌, ◌==◌, if◌then◌else◌, List, [], ◌∷◌, ◌++◌, Option, Some, None, is_some, is_none}
+use Rattle.std.specs.Prelude.{ℕ, ℤ, Bool, true, false, not, ◌&&◌, ◌||◌, ◌==◌, if◌then◌else◌, List, [], ◌∷◌, ◌++◌, Option, Some, None, is_some, is_none}
 use Rattle.std.specs.Option.{option_map_or}
 use Rattle.std.specs.Result.{result_ok}
 use Rattle.std.specs.Ordering.{is_eq}
@@ -17,7 +17,6 @@ use Rattle.sdb_types.specs.Columns.{column}
 use Rattle.sdb_types.specs.Contents.{tx_id, has_value}
 use Rattle.sdb_types.specs.Order.{value_cmp}
 use Rattle.sdb_record.specs.declared.coordinator.Decided.{Decided}
-use Rattle.sdb_record.specs.declared.coordinator.Decision.{Decision}
 use Rattle.sdb_record.specs.declared.coordinator.Decision.TheVariants as decision
 use Rattle.sdb_record.specs.Coordinator.{coordinator_key_of, decision_in}
 use Rattle.sdb_record.specs.Meta.{id_in, id_in_value, is_in}
@@ -30,6 +29,7 @@ use Rattle.sdb_model.specs.Noted.{same_key}
 use Rattle.sdb_laws.specs.Lawful.{row_among, id}
 use Rattle.sdb_said.specs.Values.{same_record}
 use Rattle.sdb_said.specs.declared.played.Played.{Played}
+use Rattle.sdb_model.specs.Counted.{is_committed as is_commit}
 
 ---- the records shown
 
@@ -113,10 +113,6 @@ is_held_by u k r = is_held k r && writer_is u (id_in r.columns)
 
 abbrev pub decided : Record → Option Decided
 decided r = result_ok (decision_in r)
-
-abbrev pub is_commit : Decision → Bool
-is_commit decision.Committed = true
-is_commit decision.Aborted = false
 
 abbrev pub commits : Option Decided → Bool
 commits d = option_map_or (λ x. is_commit x.decision) d false

@@ -1,5 +1,5 @@
 -- What the values stand for in the words of the law.
-use Rattle.std.specs.Prelude.{ℕ, ℤ, pos, Bool, ◌==◌, List, [], map, Option, Some, None, find}
+use Rattle.std.specs.Prelude.{ℕ, ℤ, pos, Bool, ◌==◌, List, [], map, Option, find}
 use Rattle.std.specs.Option.{option_map, option_map_or}
 use Rattle.sdb_types.specs.declared.key.Key.{Key}
 use Rattle.sdb_types.specs.declared.record.Record.{Record}

@@ -1,5 +1,5 @@
 -- Tables put in order.
-use Rattle.std.proofs.Common.{◌≡◌, ℕ, suc, ◌+◌, ◌<◌, List, [], ◌∷◌, length, Bool, true, false, ◌&&◌, ◌||◌, cond, refl, ap, ◌∙◌, arith, Result, Ok, Err, OnOk, OnErr}
+use Rattle.std.proofs.Common.{◌≡◌, ℕ, suc, ◌<◌, List, [], ◌∷◌, length, Bool, true, false, ◌&&◌, cond, refl, ap, ◌∙◌, arith, Result, Ok, Err, OnOk, OnErr}
 use Rattle.std.specs.Prelude.{take_while, insert, nat_le}
 use Rattle.std.specs.List.{list_all}
 use Rattle.std.specs.declared.cmp.Ordering.{Ordering}
@@ -14,7 +14,7 @@ use Rattle.sdb_schema.specs.declared.table.Table.{Table}
 use Rattle.sdb_schema.specs.declared.catalog.AddRefused.{AddRefused}
 use Rattle.sdb_schema.specs.Table.{is_table}
 use Rattle.sdb_schema.specs.Catalog.{is_called, has_table, with_table, stands_above, rises, is_catalog}
-use Rattle.sdb_types.proofs.Basics.{one_more}
+use Rattle.sdb_types.proofs.Basics.{one_more, or_neither as or-false}
 
 abbrev pub below : Table → Table → Bool
 below t u = is_lt (table_cmp u.name t.name)
@@ -26,10 +26,6 @@ with_table-is t (u ∷ us) =
       | true ↦ λ q. simp (q, one_more) (ap (λ l. u ∷ l) (with_table-is t us))
       | false ↦ λ q. simp q refl
     ] refl
-
-or-false : (a b : Bool) → (a || b) ≡ false → (a ≡ false) × (b ≡ false)
-or-false true b h = absurd (cc)
-or-false false b h = (refl, h)
 
 above-of : (r s : Ordering) → s ≡ ordering_reverse r → is_lt r ≡ false → is_eq r ≡ false → is_lt s ≡ true
 above-of Less s e h k = absurd (cc)

@@ -1,8 +1,8 @@
 -- The JSON that is printed of a catalog describes the catalog.
-use Rattle.std.proofs.Common.{◌≡◌, ℕ, ◌+◌, ◌≤◌, Bool, true, false, not, ◌&&◌, ◌==◌, List, [], ◌∷◌, ◌++◌, length, map, flat_map, Option, Some, None, Result, Ok, Err, refl, sym, ap, subst, ◌∙◌, append_assoc, arith, codes, IsUtf8}
+use Rattle.std.proofs.Common.{◌≡◌, ℕ, ◌+◌, ◌≤◌, Bool, true, not, ◌&&◌, ◌==◌, List, [], ◌∷◌, ◌++◌, length, map, flat_map, Option, Some, None, Ok, refl, sym, ap, subst, ◌∙◌, append_assoc, arith, codes, IsUtf8}
 use Rattle.std.specs.Prelude.{nat_le, max}
 use Rattle.std.specs.List.{list_all}
-use Rattle.std.specs.Option.{option_map, option_map_or}
+use Rattle.std.specs.Option.{option_map}
 use Rattle.std.specs.Ordering.{is_lt}
 use Rattle.std.specs.Str.{is_utf8}
 use Rattle.std.proofs.lemmas.Bool.Decides.{nat_tests}
@@ -12,8 +12,8 @@ use Rattle.json.specs.Print.{escape, escape_byte, quoted}
 use Rattle.json.specs.Tree as tree
 use Rattle.json.proofs.Printed.Strings.{escape_byte_plain}
 use Rattle.json.proofs.Printed.Utf8.{IsUtf8-are_ascii}
-use Rattle.serde_json.specs.Data.{Data, string, object, Members, no_members, member}
-use Rattle.serde_json.specs.Read.{read, max_depth, of_json}
+use Rattle.serde_json.specs.Data.{Data, string, object, Members}
+use Rattle.serde_json.specs.Read.{read, max_depth}
 use Rattle.serde_json.specs.View.{items_of}
 use Rattle.serde_json.specs.Written.{outline, members_outline, compact_text, members_text}
 use Rattle.serde_json.proofs.Texts.{print-outline}
@@ -31,17 +31,15 @@ use Rattle.sdb_schema.specs.declared.table.Kind.{Kind}
 use Rattle.sdb_schema.specs.declared.table.Kind.TheVariants as kind
 use Rattle.sdb_schema.specs.declared.table.Order.{Order}
 use Rattle.sdb_schema.specs.declared.table.Table.{Table}
-use Rattle.sdb_schema.specs.Table.{is_table, checked_table}
-use Rattle.sdb_schema.specs.Catalog.{is_catalog, rises, stands_above}
+use Rattle.sdb_schema.specs.Table.{is_table}
+use Rattle.sdb_schema.specs.Catalog.{is_catalog, rises}
 use Rattle.sdb_loader.specs.Words.{is_open, names_table, table_named}
-use Rattle.sdb_loader.specs.Described.{bad_name, bad_field, bad_table, unknown_type, untransactional, first_said, named, table_of, within_limit, described, described_members, described_tables, catalog_in, json_of}
-use Rattle.sdb_loader.specs.declared.fault.SchemaFault.{SchemaFault}
-use Rattle.sdb_loader.specs.declared.fault.SchemaFault.TheVariants as schema
+use Rattle.sdb_loader.specs.Described.{bad_name, bad_field, bad_table, unknown_type, untransactional, first_said, named, table_of, described_members, described_tables, catalog_in}
 use Rattle.sdb_loader.proofs.Names.{name_of_column}
 use Rattle.sdb_loader.proofs.WordLaws.{table_named-text}
 use Rattle.sdb_catalog.specs.Definition.{columns_data, definition_of, definition_text, direction_text, kind_text, order_text}
-use Rattle.sdb_catalog.proofs.Again.{IsSound, defined, fields_again, kinds_again, refused_none, rising_columns, sound, table_again}
-use Rattle.sdb_catalog.proofs.Members.{AreRead, is_under, keys_rise, members_of, members_read}
+use Rattle.sdb_catalog.proofs.Again.{defined, fields_again, kinds_again, refused_none, rising_columns, sound, table_again}
+use Rattle.sdb_catalog.proofs.Members.{AreRead, keys_rise, members_of, members_read}
 use Rattle.sdb_catalog.proofs.Texts.{all_numbered, outline_read, printed_read, shallow}
 use Rattle.sdb_script.specs.Printed.{catalog_text, member_text}
 use Rattle.sdb_script.proofs.JsonUtf8.{AreTexts, ItemsAreTexts, MembersAreTexts, compact_utf8}

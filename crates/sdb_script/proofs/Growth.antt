@@ -25,7 +25,7 @@ use Rattle.sdb_script.proofs.Pieces.{itself}
 use Rattle.sdb_script.proofs.MoveLines.{move_text}
 use Rattle.sdb_script.proofs.Apart.{none_apart, more_apart, attached_of}
 use Rattle.sdb_script.proofs.Steps.{past}
-use Rattle.sdb_types.proofs.Basics.{by_test}
+use Rattle.sdb_types.proofs.Basics.{by_test, not_true}
 
 abbrev Lines : Type 0
 Lines = List (List ℕ)
@@ -35,10 +35,6 @@ ok_is h = cc
 
 err_ok : {G : Type 0} (r : LineRefused) (e : Draft) → ◌≡◌ {A = Result Draft LineRefused} (Err r) (Ok e) → G
 err_ok r e h = absurd cc
-
-not_true : (b : Bool) → not b ≡ true → b ≡ false
-not_true true h = absurd (let k : false ≡ true = h in cc)
-not_true false h = refl
 
 not_so : (b : Bool) → (not b && false) ≡ true → ⊥
 not_so true h = cc

@@ -8,7 +8,6 @@ use Rattle.std.proofs.lemmas.Bool.Decides.{nat_tests}
 use Rattle.sdb_types.proofs.Bools.{and_first, and_second, and_both}
 use Rattle.sdb_record.specs.Names.{after_front}
 use Rattle.sdb_record.proofs.NameLemmas.{is_front}
-use Rattle.sdb_loader.specs.Words.{around}
 use Rattle.sdb_model.specs.declared.script.Act.{Act}
 use Rattle.sdb_model.specs.declared.script.Act.TheVariants as act
 use Rattle.sdb_model.specs.declared.script.Move.{Move}
@@ -19,6 +18,7 @@ use Rattle.sdb_script.specs.Told.{client_in, act_in, repeat_of, step_in, clock_o
 use Rattle.sdb_script.proofs.Pieces.{same_bytes, no_some, map_is, bind_is, map_or_is}
 use Rattle.sdb_script.proofs.Numerals.{numeral_no_space, around_again, around_none, around_is, counted_is, counted_again, text_counts, counts_text}
 use Rattle.sdb_types.proofs.Basics.{by_test, some_is}
+use Rattle.sdb_types.specs.NameText.{around}
 
 abbrev Says : ℕ → List ℕ → Move → Type 0
 Says n line m = SaysMove line m × (is_move n m ≡ true)

@@ -10,13 +10,12 @@ use Rattle.std.proofs.lemmas.List.{length-append}
 use Rattle.std.proofs.Math.Seq.{take-append_seam, drop-append-add}
 use Rattle.sdb_types.specs.Identifier.{is_start, is_part, is_identifier}
 use Rattle.sdb_types.proofs.Bools.{and_first, and_second, and_both}
-use Rattle.sdb_loader.specs.Words.{around}
-use Rattle.sdb_loader.proofs.Names.{at_byte}
 use Rattle.sdb_model.specs.SqlTokens.{is_digit, digits_value}
 use Rattle.sdb_model.specs.Form.{is_client_name}
 use Rattle.sdb_script.specs.Words.{is_numeral, Counts, numeral_in}
 use Rattle.sdb_script.proofs.Pieces.{no_some}
-use Rattle.sdb_types.proofs.Basics.{by_test, some_is}
+use Rattle.sdb_types.proofs.Basics.{by_test, some_is, at_byte}
+use Rattle.sdb_types.specs.NameText.{around}
 
 ---- words before a space
 

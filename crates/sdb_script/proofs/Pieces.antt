@@ -1,5 +1,5 @@
 -- Words at the start of a line, and what follows them.
-use Rattle.std.proofs.Common.{◌≡◌, ◌⊎◌, inl, inr, ℕ, Bool, true, false, List, ◌++◌, drop, Option, Some, None, refl, sym, ap, ◌∙◌, MatchOption}
+use Rattle.std.proofs.Common.{◌≡◌, ◌⊎◌, inl, inr, ℕ, true, false, List, ◌++◌, drop, Option, Some, None, refl, sym, ap, ◌∙◌, MatchOption}
 use Rattle.std.specs.Borrow.{Bor}
 use Rattle.std.specs.Option.{option_copied, option_map, option_map_or, option_and_then}
 use Rattle.std.specs.Str.{is_utf8, IsUtf8, bytes_eq}

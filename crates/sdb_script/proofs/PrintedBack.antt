@@ -18,10 +18,11 @@ use Rattle.sdb_model.specs.Form.{lines_of, onto_first, client_line}
 use Rattle.sdb_script.specs.Lines.{most_bytes, most_line, place_line, schema_line, text_line, client_lines, move_line, is_line}
 use Rattle.sdb_script.specs.Begun.{IsBegun, IsSchema, run_lines}
 use Rattle.sdb_script.specs.Whole.{whole, IsScript}
-use Rattle.sdb_script.specs.Printed.{with_lf, catalog_text, schema_text, place_text, client_text, script_text_of, schema_lines, keeps_line}
+use Rattle.sdb_script.specs.Printed.{catalog_text, schema_text, place_text, client_text, script_text_of, schema_lines, keeps_line}
 use Rattle.sdb_script.proofs.CatalogBack.{catalog_again}
 use Rattle.sdb_script.proofs.OneLine.{is_single, json_single, json_may, may_name}
 use Rattle.sdb_types.proofs.Basics.{by_test}
+use Rattle.sdb_model.specs.Texts.{with_lf}
 
 abbrev Lines : Type 0
 Lines = List (List ℕ)

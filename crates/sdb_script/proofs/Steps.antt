@@ -8,7 +8,6 @@ use Rattle.sdb_types.proofs.Bools.{and_first, and_second, and_both}
 use Rattle.sdb_record.specs.Names.{after_front}
 use Rattle.sdb_record.proofs.NameLemmas.{is_front}
 use Rattle.sdb_schema.specs.declared.table.Table.{Table}
-use Rattle.sdb_loader.specs.Words.{around}
 use Rattle.sdb_loader.specs.Described.{catalog_in}
 use Rattle.sdb_loader.specs.declared.fault.SchemaFault.{SchemaFault}
 use Rattle.sdb_model.specs.declared.script.Which.TheVariants as which
@@ -22,7 +21,8 @@ use Rattle.sdb_script.specs.Told.{move_in, form, with_place, with_words, take_pl
 use Rattle.sdb_script.proofs.Pieces.{same_bytes}
 use Rattle.sdb_script.proofs.Numerals.{name_no_space, around_again, around_is}
 use Rattle.sdb_script.proofs.MoveLines.{move_is, move_again}
-use Rattle.sdb_types.proofs.Basics.{by_test}
+use Rattle.sdb_types.proofs.Basics.{by_test, not_true}
+use Rattle.sdb_types.specs.NameText.{around}
 
 -- what comes of something that may come next
 abbrev pub past : List (List ℕ) → Draft → Said → Result Draft LineRefused
@@ -32,10 +32,6 @@ past stores d (ClientOf name) = with_client d name
 past stores d (StatementOf text) = with_text d text
 past stores d Runs = Ok (run_of d)
 past stores d (MoveOf m) = with_move d m
-
-not_true : (b : Bool) → not b ≡ true → b ≡ false
-not_true true h = absurd (let k : false ≡ true = h in cc)
-not_true false h = refl
 
 ---- what may come is taken
 

@@ -10,10 +10,7 @@ use Rattle.sdb_model.specs.declared.script.ScriptClient.{ScriptClient}
 use Rattle.sdb_model.specs.declared.script.Script.{Script}
 use Rattle.sdb_model.specs.Form.{client_line}
 use Rattle.sdb_script.specs.Lines.{most_line, place_line, schema_line, text_line, move_line}
-
--- a line with its LF
-abbrev pub with_lf : List ℕ → List ℕ
-with_lf line = line ++ codes "\n"
+use Rattle.sdb_model.specs.Texts.{with_lf}
 
 -- a table as a member of a schema: its name in quotes, and its definition
 abbrev pub member_text : Table → List ℕ

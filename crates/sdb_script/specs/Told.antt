@@ -4,7 +4,6 @@ use Rattle.std.specs.Option.{option_map, option_map_or, option_and_then}
 use Rattle.std.specs.Str.{bytes_eq, is_utf8}
 use Rattle.sdb_record.specs.Names.{after_front}
 use Rattle.sdb_schema.specs.declared.table.Table.{Table}
-use Rattle.sdb_loader.specs.Words.{around}
 use Rattle.sdb_loader.specs.Described.{catalog_in}
 use Rattle.sdb_loader.specs.declared.fault.SchemaFault.{SchemaFault}
 use Rattle.sdb_model.specs.declared.script.Act.{Act}
@@ -24,6 +23,7 @@ use Rattle.sdb_script.specs.Words.{numeral_in}
 use Rattle.sdb_script.specs.Lines.{most_bytes, most_line, most_clients, most_statements, most_moves, is_client, turns, turns_of}
 use Rattle.sdb_script.specs.Begun.{Draft, nothing, is_first, is_known, may_stand, last_count}
 use Rattle.sdb_script.specs.Whole.{last_line}
+use Rattle.sdb_types.specs.NameText.{around}
 
 ---- moves
 

@@ -1,10 +1,10 @@
 //! Words of a line: what follows one, numerals and names.
+ghost use Rattle.sdb_types.specs.NameText.{around};
 ghost use Rattle.std.specs.Prelude.{◌≡◌, ◌-◌, ◌^◌, min, true, IfOk};
 ghost use Rattle.std.specs.List.{list_all};
 ghost use Rattle.std.specs.Option.{option_copied, option_map};
 ghost use Rattle.std.specs.Str.{is_utf8};
 ghost use Rattle.sdb_record.specs.Names.{after_front};
-ghost use Rattle.sdb_loader.specs.Words.{around};
 ghost use Rattle.sdb_model.specs.Form.{is_client_name};
 ghost use Rattle.sdb_model.specs.SqlTokens.{is_digit, digits_value as digits_value_lem};
 ghost use Rattle.sdb_script.specs.Words as spec;

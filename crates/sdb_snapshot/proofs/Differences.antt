@@ -2,10 +2,9 @@
 use Rattle.std.proofs.Common.{◌≡◌, Bool, true, false, ◌||◌, cond, List, [], ◌∷◌, ◌++◌, Option, Some, None, IfSome, refl, sym, ap, subst, ◌∙◌}
 use Rattle.std.specs.Prelude.{is_some, find}
 use Rattle.std.specs.Option.{option_map, option_and_then}
-use Rattle.std.specs.List.{AllByRecursion, list_all}
-use Rattle.std.specs.declared.cmp.Ordering.{Ordering}
-use Rattle.std.specs.declared.cmp.Ordering.TheVariants.{Less, Equal, Greater}
-use Rattle.std.specs.Ordering.{is_eq, is_lt, is_le}
+use Rattle.std.specs.List.{list_all}
+use Rattle.std.specs.declared.cmp.Ordering.TheVariants.{Less}
+use Rattle.std.specs.Ordering.{is_eq, is_le}
 use Rattle.std.specs.Cmp.{tied_itself}
 use Rattle.sdb_types.specs.declared.key.Key.{Key}
 use Rattle.sdb_types.specs.declared.record.Record.{Record}
@@ -22,8 +21,8 @@ use Rattle.sdb_record.specs.Rolls.{IsBaseOf, IsWrite}
 use Rattle.sdb_snapshot.specs.Noted.{Note, is_noted, base_at, with_note, with_images, has_key, record_in, has_moved, differs, IsFirstDifference, IsUnmoved, AreKeysOf, AreBases, AreCommitted}
 use Rattle.sdb_snapshot.specs.Written.{write_at, with_write, with_writes, with_change_of, write_of, AreWrites, AreChanges}
 use Rattle.sdb_snapshot.specs.Held.{WereRead, differs_from}
-use Rattle.sdb_snapshot.proofs.Keys.{same_exact, value_last, or_else}
-use Rattle.sdb_types.proofs.Basics.{by_test, less_of, some_is}
+use Rattle.sdb_snapshot.proofs.Keys.{same_exact, value_last}
+use Rattle.sdb_types.proofs.Basics.{by_test, less_of, some_is, all_last, or_else}
 
 ---- what is noted of a scan
 
@@ -164,10 +163,6 @@ none_told notes seen now span images ks view keys is at =
     subst (λ (ns : List Note). IsUnmoved ns span images) view (none_differs notes span images ks keys (sym (find_moved_is notes now images ks is) ∙ sym at))
 
 ---- what is kept is fine
-
-all_last : {A : Type 0} (P : A → Type 0) (xs : List A) (x : A) → AllByRecursion P xs → P x → AllByRecursion P (xs ++ x ∷ [])
-all_last P [] x h p = (p, tt)
-all_last P (y ∷ ys) x h p = (h.0, all_last P ys x h.1 p)
 
 pub bases_last : (notes : List Note) (k : Key) (f : Option Record) → AreBases notes → IfSome f (IsBaseOf k) → AreBases (notes ++ (k, f) ∷ [])
 bases_last notes k f h g = all_last (λ (e : Note). IfSome e.1 (IsBaseOf e.0)) notes (k, f) h g

@@ -10,7 +10,7 @@ use Rattle.sdb_types.specs.Exact.{equal_of}
 use Rattle.sdb_types.specs.Exactness.{key_tells}
 use Rattle.sdb_types.proofs.KeyOrder.{key_total, key_exact}
 use Rattle.sdb_keyed.specs.Entries.{same_key, value_at, with_value}
-use Rattle.sdb_types.proofs.Basics.{by_test}
+use Rattle.sdb_types.proofs.Basics.{by_test, or_else}
 
 pub same_itself : (a : Key) → same_key a a ≡ true
 same_itself a = (key_tells a a).1 refl
@@ -48,10 +48,6 @@ put_new (e ∷ es) key v h =
     by_test (same_key key e.0)
     (λ t. absurd (some_none (same_key key e.0) e.1 (value_at es key) h t))
     (λ t. ap (λ (b : Bool). cond b ((e.0, v) ∷ es) (e ∷ with_value es key v)) t ∙ ap (λ xs. e ∷ xs) (put_new es key v (later_none (same_key key e.0) e.1 (value_at es key) h)))
-
-abbrev pub or_else : {A : Type 0} → Option A → Option A → Option A
-or_else None o = o
-or_else (Some x) o = Some x
 
 or_step : {A : Type 0} (b : Bool) (x : A) (o p q : Option A) → q ≡ or_else o p → cond b (Some x) q ≡ or_else (cond b (Some x) o) p
 or_step true x o p q h = refl

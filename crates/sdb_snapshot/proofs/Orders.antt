@@ -18,8 +18,8 @@ use Rattle.sdb_snapshot.specs.Noted.{Note, is_noted, has_key, AreKeysOf}
 use Rattle.sdb_snapshot.specs.Noted.{with_note}
 use Rattle.sdb_snapshot.specs.Held.{StartsWith}
 use Rattle.sdb_snapshot.proofs.Fronts.{starts_more}
-use Rattle.sdb_snapshot.proofs.Keys.{same_is, value_last, value_take, put_new, or_else}
-use Rattle.sdb_types.proofs.Basics.{by_test}
+use Rattle.sdb_snapshot.proofs.Keys.{same_is, value_last, value_take, put_new}
+use Rattle.sdb_types.proofs.Basics.{by_test, or_else}
 
 pub nothing_noted : (m : Contents) → InOrder [] m
 nothing_noted m q h = absurd (cc)

@@ -1,10 +1,8 @@
 -- The rows that a transaction sees are the rows of tables.
-use Rattle.std.proofs.Common.{◌≡◌, Bool, true, false, ◌&&◌, ◌||◌, cond, List, [], ◌∷◌, ◌++◌, map, Option, Some, None, refl, sym, ap, subst, ◌∙◌}
+use Rattle.std.proofs.Common.{◌≡◌, Bool, true, false, ◌||◌, cond, List, [], ◌∷◌, ◌++◌, map, Option, Some, None, refl, sym, ap, subst, ◌∙◌}
 use Rattle.std.specs.Prelude.{is_some, filter, T}
 use Rattle.std.specs.List.{list_all}
 use Rattle.std.specs.Option.{option_and_then}
-use Rattle.std.specs.declared.cmp.Ordering.{Ordering}
-use Rattle.std.specs.declared.cmp.Ordering.TheVariants.{Less, Equal, Greater}
 use Rattle.std.specs.Ordering.{is_eq, is_lt}
 use Rattle.std.specs.Cmp.{eq_by_cmp_equiv}
 use Rattle.std.specs.FinMap.{get, entries, entries_sorted, find, is_sorted, get-entries, get-empty, get-insert, get-remove, same_map}
@@ -17,7 +15,7 @@ use Rattle.sdb_types.specs.Order.{key_cmp}
 use Rattle.sdb_types.specs.Exact.{equal_of}
 use Rattle.sdb_types.specs.Contents.{in_span, starts_after, rise, are_rows_of}
 use Rattle.sdb_types.proofs.Bools.{and_first, and_second}
-use Rattle.sdb_types.proofs.KeyOrder.{key_total, key_exact}
+use Rattle.sdb_types.proofs.KeyOrder.{key_total, key_exact, starts_trans}
 use Rattle.sdb_keyed.specs.Entries.{same_key, value_at}
 use Rattle.sdb_record.specs.declared.access.Access.{Access}
 use Rattle.sdb_record.specs.declared.access.Access.TheVariants as access
@@ -33,7 +31,7 @@ use Rattle.sdb_snapshot.specs.Rows.{with_own, row_found, tables_of_notes}
 use Rattle.sdb_snapshot.specs.Held.{WereRead}
 use Rattle.sdb_snapshot.specs.Seen.{Seen, tables_seen, overlay, Agrees, row_with, row_seen, images_with, images_at}
 use Rattle.sdb_snapshot.proofs.Keys.{same_is, same_exact}
-use Rattle.sdb_types.proofs.Basics.{by_test, less_of}
+use Rattle.sdb_types.proofs.Basics.{by_test, less_of, t_both, both_t as t_two, cond_some as each}
 
 ---- what tables have at a key
 
@@ -93,10 +91,6 @@ entries_at p d es sorted h =
     ap (map row_of_entry) (same_entries key_cmp key_total key_exact es (where_key key_cmp p (entries d)) sorted (is_sorted-where_key key_cmp p (entries d) (entries_sorted d)) (λ q. h q ∙ sym (find_at p d q)))
     ∙ sym (where_rows p (entries d))
 
-each : {X : Type 0} (b : Bool) (x y : Option X) → (b ≡ true → x ≡ y) → cond b x None ≡ cond b y None
-each true x y e = e refl
-each false x y e = refl
-
 -- tables that agree at the keys of an access have the same rows there
 pub agree_rows : (a : Access) (d e : Tables) → ((q : Key) → in_access a q ≡ true → get d q ≡ get e q) → rows_at a d ≡ rows_at a e
 agree_rows a d e h =
@@ -138,14 +132,6 @@ find_pairs f [] q = refl
 find_pairs f (r ∷ rs) q =
     find_step (is_eq (key_cmp q r.key)) (f r.key) r.key q (pairs_at f rs) (has_key rs q) (f q) refl (λ t. ap f (key_exact q r.key (equal_of (key_cmp q r.key) t))) (find_pairs f rs q)
 
-starts_trans : (k l : Key) (rs : List Record) → key_cmp k l ≡ Less → starts_after l rs ≡ true → starts_after k rs ≡ true
-starts_trans k l [] h g = refl
-starts_trans k l (r ∷ rs) h g = ap is_lt (key_total.trans k l r.key h (less_of (key_cmp l r.key) g))
-
-t_both : (a b : Bool) → a ≡ true → T b → T (a && b)
-t_both true b h g = g
-t_both false b h g = absurd (cc)
-
 below_step : (x k : Key) (o : Option (List Pair)) (ps : List (Key × List Pair)) → is_lt (key_cmp x k) ≡ true → T (below_all key_cmp x ps) → T (below_all key_cmp x (pairs_with k o ++ ps))
 below_step x k None ps h g = g
 below_step x k (Some c) ps h g = t_both (is_lt (key_cmp x k)) (below_all key_cmp x ps) h g
@@ -155,10 +141,6 @@ below_pairs f x [] h g = tt
 below_pairs f x (r ∷ rs) h g =
     below_step x r.key (f r.key) (pairs_at f rs) h
     (below_pairs f x rs (starts_trans x r.key rs (less_of (key_cmp x r.key) h) (and_first (starts_after r.key rs) (rise rs) g)) (and_second (starts_after r.key rs) (rise rs) g))
-
-t_two : (a b : Bool) → T a → T b → T (a && b)
-t_two true b h g = g
-t_two false b h g = absurd h
 
 sorted_step : (k : Key) (o : Option (List Pair)) (ps : List (Key × List Pair)) → T (below_all key_cmp k ps) → T (is_sorted key_cmp ps) → T (is_sorted key_cmp (pairs_with k o ++ ps))
 sorted_step k None ps h g = g

@@ -26,6 +26,7 @@ use Rattle.sdb_model.specs.Noted.{same_key}
 use Rattle.sdb_laws.proofs.Keys.{same_key_tells}
 use Rattle.sdb_laws.proofs.Effects.{after_put, after_delete, stands_in_store, stands_anywhere}
 use Rattle.sdb_spread.specs.Spread.{is_played, HoldAs}
+use Rattle.sdb_types.proofs.Basics.{and_false}
 
 ---- contents that agree on a table
 
@@ -63,10 +64,6 @@ same_after (ask.DeleteIf key condition) h m s k e =
     ∙ ap (λ (o : Option Record). if holds condition (record_at m key) && same_key k key then None else o) e
     ∙ sym (after_delete key condition m k)
 
-and_false : (b : Bool) → (b && false) ≡ false
-and_false true = refl
-and_false false = refl
-
 key_apart : (k other : Key) → k.table.ns ≢ other.table.ns → same_key k other ≡ false
 key_apart k other n = elim (same_key_tells k other) [ inl e ↦ absurd (n (ap (λ (x : Key). x.table.ns) e.1)) | inr f ↦ f.0 ]
 
@@ -85,7 +82,7 @@ left_apart (ask.DeleteIf key condition) m k n =
 
 ---- one call
 
-about_key : (catalog : List Table) (table : TableName) (k : Key) → k.table ≡ table → is_played catalog table ≡ true → is_played catalog k.table ≡ true
+pub about_key : (catalog : List Table) (table : TableName) (k : Key) → k.table ≡ table → is_played catalog table ≡ true → is_played catalog k.table ≡ true
 about_key catalog table k e t = ap (is_played catalog) e ∙ t
 
 -- what becomes of the stores, where their store's contents changed as those of the one store

@@ -34,15 +34,12 @@ use Rattle.sdb_model.specs.Form.{placed_script}
 use Rattle.sdb_spread.specs.Spread.{one_shelf, moved_events, moved_outcome, is_played, HoldAs}
 use Rattle.sdb_spread.proofs.Moved.{begun_moved, body_moved, commit_moved, point_moved, said_moved}
 use Rattle.sdb_spread.proofs.Followed.{follows_moved}
+use Rattle.sdb_types.proofs.Basics.{or_true}
 
 ---- what stands
 
 pub one_standing : (name : Name) (m : Contents) (key : Key) → standing [] (one_shelf name m) key ≡ record_at m key
 one_standing name m key = rw (same_name-itself name) refl
-
-or_true : (b : Bool) → (b || true) ≡ true
-or_true true = refl
-or_true false = refl
 
 -- Several stores and the one say the same of each key that the run is about, and of each decision.
 record Alike (catalog : List Table) (places : List Place) (closing : List Shelf) (name : Name) (m : Contents) : Type 0 where
@@ -129,8 +126,8 @@ told_moved at catalog places closing name m events order tables a t = record {
 
 time_moved : (at : Name → Name) (catalog : List Table) (places : List Place) (closing : List Shelf) (name : Name) (m : Contents) (events : List Event) (order : List Point) → Alike catalog places closing name m
     → KeepsRealTime [] events (one_shelf name m) order → KeepsRealTime places (moved_events at events) closing order
-time_moved at catalog places closing name m events order a k client s among told late large recorded n began behind =
-    let e = k client s (subst (λ (ss : List Said). Contains ss s) (said_moved at client events) among) told late large (subst Says (a.decides late) recorded) n (sym (begun_moved at events late) ∙ began) behind in
+time_moved at catalog places closing name m events order a k client s among told late large recorded by n ended began behind =
+    let e = k client s (subst (λ (ss : List Said). Contains ss s) (said_moved at client events) among) told late large (subst Says (a.decides late) recorded) by n ended (sym (begun_moved at events late) ∙ began) behind in
     (e.0, commit_moved at events e.0 ∙ e.1, e.2)
 
 ---- the whole

@@ -21,18 +21,13 @@ use Rattle.sdb_laws.proofs.Effects.{store_same, held_there, held_elsewhere}
 use Rattle.sdb_spread.specs.Spread.{one_shelf, moved_event, moved_events, is_played, AreAbout, HoldAs, AreShelved}
 use Rattle.sdb_spread.proofs.Calls.{SameOf, same_reply, same_after, left_apart, held_as}
 use Rattle.sdb_types.proofs.Basics.{some_is as some_same}
+use Rattle.sdb_spread.proofs.Single.{one_held, one_left}
 
 ---- the one store
 
 abbrev contents_of : List Shelf → Contents
 contents_of [] = empty
 contents_of (s ∷ ss) = s.contents
-
-one_held : (name : Name) (m : Contents) → held_by (one_shelf name m) name ≡ Some m
-one_held name m = rw (same_name-itself name) refl
-
-one_left : (name : Name) (m left : Contents) → with_contents (one_shelf name m) name left ≡ one_shelf name left
-one_left name m left = rw (same_name-itself name) refl
 
 -- a call on the one store: what it leaves there
 record OneCall (name : Name) (q : Request) (how : How) (r : Reply) (m : Contents) (now : List Shelf) : Type 0 where

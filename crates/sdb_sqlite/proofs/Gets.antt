@@ -1,6 +1,6 @@
 -- A get and a scan answer as the map that the rows hold.
-use Rattle.std.proofs.Common.{◌≡◌, inl, inr, ◌≤◌, List, [], ◌∷◌, map, filter, length, Bool, true, false, cond, Some, Option, option_map, slice_get, Ok, Err, Result, IfOk, refl, sym, ap, subst, ◌∙◌, IsPermutation, is_eq}
-use Rattle.std.specs.Prelude.{◌&&◌, IsTrue, MatchResult}
+use Rattle.std.proofs.Common.{◌≡◌, inl, inr, ◌≤◌, List, [], ◌∷◌, map, filter, length, true, false, cond, Some, Option, option_map, slice_get, Ok, Err, Result, IfOk, refl, sym, ap, subst, ◌∙◌, IsPermutation, is_eq}
+use Rattle.std.specs.Prelude.{IsTrue, MatchResult}
 use Rattle.std.specs.List.{AllByRecursion}
 use Rattle.std.specs.FinMap.{find, get, get-from_entries}
 use Rattle.std.proofs.lemmas.List.{length-map}
@@ -40,15 +40,12 @@ use Rattle.sdb_sqlite.proofs.Texts.{by_k, body_shown, get_is, get_plain}
 use Rattle.sdb_sqlite.proofs.Keys.{same_key}
 use Rattle.sdb_sqlite.proofs.Lists.{filter_same, weaker, passed, few_permutation}
 use Rattle.sdb_sqlite.proofs.Queries.{passes, blobs_test, answered, query_keeps}
+use Rattle.sdb_types.proofs.Basics.{and_true}
 
 ---- the connection is open and returns what was written
 
 abbrev pub IsSure : {S : Type 0} → Ghosts S → Connected S → Type 0
 IsSure g h = IsTrue (g.view h.store).is_open × (doubt (g.view h.store).is_clean ≡ 0)
-
-and_true : (b : Bool) → (b && true) ≡ b
-and_true true = refl
-and_true false = refl
 
 ---- rows and their keys
 

@@ -1,5 +1,5 @@
 -- The records that rows give, one after another.
-use Rattle.std.proofs.Common.{◌≡◌, inl, inr, ℕ, List, [], ◌∷◌, ◌++◌, drop, Ok, Err, Result, refl, sym, ap, ◌∙◌, append-nil, append_assoc, suc, ◌<◌, ◌+◌, length, get_or, drop-cons, add-one}
+use Rattle.std.proofs.Common.{◌≡◌, inl, inr, List, [], ◌∷◌, ◌++◌, Ok, Err, Result, refl, sym, ap, ◌∙◌, append-nil, append_assoc, ◌+◌}
 use Rattle.sqlite.specs.Order.{Row}
 use Rattle.sdb_types.specs.declared.record.Record.{Record}
 use Rattle.sdb_types.specs.declared.record.Span.{Span}
@@ -42,7 +42,3 @@ pub one_refused : (span : Span) (xs : List Record) (row : Row) (s : Stopped) (ro
 one_refused span xs row s rows left more next (inl e) told =
     inl (ap (λ (d : Result Record Stopped). onto xs (then_records d (rows_records span more))) e ∙ ap (λ ls. onto xs (rows_records span ls)) (sym next) ∙ told)
 one_refused span xs row s rows left more next (inr e) told = inr (let same : s ≡ stopped.NoMemory = cc in ap Err same)
-
--- what is left begins with the item at its place
-pub drop_next : {A : Type 0} (xs : List A) (i : ℕ) (x : A) → i < length xs → x ≡ get_or xs i x → drop i xs ≡ x ∷ drop (i + 1) xs
-drop_next xs i x h is = drop-cons xs i x h ∙ ap (λ y. y ∷ drop (suc i) xs) (sym is) ∙ ap (λ n. x ∷ drop n xs) (sym (add-one i))

@@ -2,8 +2,7 @@
 use Rattle.std.proofs.Common.{◌≡◌, inl, inr, ℕ, ◌≤◌, List, [], ◌∷◌, map, filter, length, Bool, true, false, cond, None, Some, Option, option_map, slice_get, Ok, Err, Result, IfOk, refl, sym, ap, subst, ◌∙◌, IsPermutation, is_eq, arith}
 use Rattle.std.specs.Prelude.{◌&&◌, T, MatchResult}
 use Rattle.std.specs.List.{AllByRecursion}
-use Rattle.std.specs.declared.cmp.Ordering.{Ordering}
-use Rattle.std.specs.declared.cmp.Ordering.TheVariants.{Less, Equal, Greater}
+use Rattle.std.specs.declared.cmp.Ordering.TheVariants.{Equal}
 use Rattle.std.specs.Ordering.{is_lt}
 use Rattle.std.specs.FinMap.{find, entries, entries_sorted, is_sorted, get-entries, get-from_entries}
 use Rattle.std.specs.FinMap.Entries.{below_all, where_key, is_sorted-where_key, find-where_key, same_entries}
@@ -31,7 +30,7 @@ use Rattle.sdb_types.specs.declared.record.Reply.TheVariants as reply
 use Rattle.sdb_types.specs.Order.{key_cmp, table_text}
 use Rattle.sdb_types.specs.Contents.{record_of, rows_in, in_span, rise, starts_after}
 use Rattle.sdb_types.proofs.Bools.{and_first, and_second}
-use Rattle.sdb_types.proofs.KeyOrder.{key_exact, key_total}
+use Rattle.sdb_types.proofs.KeyOrder.{key_exact, key_total, starts_trans}
 use Rattle.sdb_codec.specs.Spelling.{key_bytes, KeyFitsFields}
 use Rattle.sdb_codec.specs.Reading.{key_in}
 use Rattle.sdb_codec.proofs.RecordLaws.{key_round_trip}
@@ -50,7 +49,7 @@ use Rattle.sdb_sqlite.proofs.Lists.{filter_same, weaker, passed, few_permutation
 use Rattle.sdb_sqlite.proofs.Queries.{passes, blobs_test, texts_test, answered, query_keeps}
 use Rattle.sdb_sqlite.proofs.Gets.{IsSure, tied_key, stopped_performs}
 use Rattle.sdb_sqlite.proofs.Lawful.{due_stops}
-use Rattle.sdb_types.proofs.Basics.{less_of}
+use Rattle.sdb_types.proofs.Basics.{less_of, and_true, t_both, both_t as t_two}
 
 ---- the rows that the query of a span passes
 
@@ -59,10 +58,6 @@ span_of table part = record { table = table; partition = part }
 
 abbrev projected : Row → Row
 projected r = column r 1 ∷ column r 4 ∷ []
-
-and_true : (b : Bool) → (b && true) ≡ b
-and_true true = refl
-and_true false = refl
 
 passes_table : (t : TableName) → span_fits (span_of t None) → (row : Row) → IsTied row → passes by_t (Text (table_text t) ∷ []) row ≡ in_span (span_of t None) (row_key row)
 passes_table t known row it =
@@ -119,18 +114,6 @@ all_given span [] all = refl
 all_given span (row ∷ rows) (one, all) = λ i. then_records (one i) (all_given span rows all i)
 
 ---- the order of the records
-
-starts_trans : (k l : Key) (rs : List Record) → key_cmp k l ≡ Less → starts_after l rs ≡ true → starts_after k rs ≡ true
-starts_trans k l [] h g = refl
-starts_trans k l (r ∷ rs) h g = ap is_lt (key_total.trans k l r.key h (less_of (key_cmp l r.key) g))
-
-t_both : (a b : Bool) → a ≡ true → T b → T (a && b)
-t_both true b h g = g
-t_both false b h g = absurd (cc)
-
-t_two : (a b : Bool) → T a → T b → T (a && b)
-t_two true b h g = g
-t_two false b h g = absurd h
 
 abbrev pair_of : Record → Key × List Pair
 pair_of r = (r.key, r.columns)

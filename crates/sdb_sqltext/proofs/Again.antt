@@ -17,8 +17,9 @@ use Rattle.sdb_sqltext.specs.States.{State}
 use Rattle.sdb_sqltext.specs.States as state
 use Rattle.sdb_sqltext.specs.Machine.{is_select, step}
 use Rattle.sdb_sqltext.specs.Parsing.{finish}
-use Rattle.sdb_sqltext.proofs.Told.{bind_some}
 use Rattle.sdb_sqltext.proofs.Complete.{run, whole_reads}
+use Rattle.sdb_types.proofs.Basics.{none_some}
+use Rattle.sdb_sqltext.proofs.Told.{bind_some}
 
 -- ---- no statement has an overlong token
 
@@ -63,9 +64,6 @@ no_overlong (state.TestEnd f) = no_limit f.head _
 no_overlong (state.Limit f) = refl
 no_overlong (state.Ended st) = refl
 no_overlong (state.Closed st) = refl
-
-none_some : {A G : Type 0} (x : A) → None ≡ Some x → G
-none_some x e = absurd cc
 
 can_spell : (s : State) (t : Token) (n : State) → step s t ≡ Some n → IsSpelled t → CanSpell t
 can_spell s t n e (inl can) = can

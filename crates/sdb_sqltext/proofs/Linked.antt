@@ -12,11 +12,7 @@ use Rattle.sdb_sqltext.specs.Machine.{◌>>=◌, on_word, on_sign, step}
 use Rattle.sdb_sqltext.specs.Parsing.{finish, or_at, then as and_then, parse_from}
 use Rattle.sdb_sqltext.specs.Readers.{Read, next_word, next_sign, after_word, after_sign, part_at, choose, items_on, list_at}
 use Rattle.sdb_sqltext.proofs.Told.{chosen, word_is, sign_is}
-use Rattle.sdb_types.proofs.Basics.{by_test as by_bool, some_is}
-
-pub by_option : {A G : Type 0} (r : Option A) → ((x : A) → r ≡ Some x → G) → (r ≡ None → G) → G
-by_option (Some x) f g = f x refl
-by_option None f g = g refl
+use Rattle.sdb_types.proofs.Basics.{some_is, by_option}
 
 -- ---- one after the other
 

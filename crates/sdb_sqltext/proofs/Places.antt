@@ -14,10 +14,10 @@ use Rattle.sdb_sqltext.specs.States.{State}
 use Rattle.sdb_sqltext.specs.States as state
 use Rattle.sdb_sqltext.specs.Machine.{◌>>=◌, untested, filtered, step}
 use Rattle.sdb_sqltext.specs.Parsing.{finish, or_at, then, parse_from}
-use Rattle.sdb_sqltext.proofs.Told.{so_far, Fine, told, bind_some, filter_is, whole_filter}
+use Rattle.sdb_sqltext.proofs.Told.{so_far, Fine, told, filter_is, whole_filter, bind_some}
 use Rattle.sdb_sqltext.proofs.Complete.{run, run_append, spelled_reads, open_insert, open_insert_run, open_insert_is, draft}
 use Rattle.sdb_sqltext.proofs.Viable.{viable}
-use Rattle.sdb_types.proofs.Basics.{some_is}
+use Rattle.sdb_types.proofs.Basics.{some_is, none_some}
 
 pub run_so : (ts : Tokens) (s n : State) → Fine s → run s ts ≡ Some n → (so_far n ≡ so_far s ++ ts) × Fine n
 run_so [] s n fine h = subst (λ (m : State). (so_far m ≡ so_far s ++ []) × Fine m) (some_is s n h) (sym (append-nil (so_far s)), fine)
@@ -84,9 +84,6 @@ stops (p ∷ ps) s end at h =
       | None ↦ λ e h. inl ([], p, ps, s, refl, let same : at ≡ p.at = cc in same, refl, e)
     ] in
     cases (step s p.token) refl h
-
-none_some : {A G : Type 0} (x : A) → None ≡ Some x → G
-none_some x e = absurd cc
 
 pub begins_at : (ts : Tokens) (n : State) → run state.Start ts ≡ Some n → Begins ts
 begins_at ts n h = let so = run_so ts state.Start n tt h in subst Begins so.0 (viable n so.1)

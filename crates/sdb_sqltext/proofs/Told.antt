@@ -1,9 +1,8 @@
 -- The tokens that a state of the reader was reached by, and what holds of a state that is reached.
-use Rattle.std.proofs.Common.{◌≡◌, ℕ, ℤ, pos, negsuc, Bool, true, false, cond, ◌&&◌, List, [], ◌∷◌, ◌++◌, length, Option, Some, None, refl, sym, ap, subst, ◌∙◌, append_assoc, ◌⊎◌, inl, inr, ◌==◌, rules, arith}
+use Rattle.std.proofs.Common.{◌≡◌, ℕ, ℤ, pos, negsuc, Bool, true, false, cond, ◌&&◌, List, [], ◌∷◌, ◌++◌, length, Option, Some, None, refl, sym, ap, subst, ◌∙◌, append_assoc, ◌⊎◌, inl, inr, ◌==◌, rules}
 use Rattle.std.specs.Prelude.{IfSome}
 use Rattle.std.specs.List.{AllByRecursion}
 use Rattle.std.proofs.lemmas.List.{append-nil, flat_map_more}
-use Rattle.std.proofs.lemmas.Bool.Decides.{nat_tests}
 use denote.Enum.Bare.{same_true}
 use Rattle.sdb_types.specs.declared.key.TableName.{TableName}
 use Rattle.sdb_types.specs.declared.pair.Pair.{Pair}
@@ -32,7 +31,11 @@ use Rattle.sdb_sqltext.specs.States.{Filter}
 use Rattle.sdb_sqltext.specs.States.{State}
 use Rattle.sdb_sqltext.specs.States as state
 use Rattle.sdb_sqltext.specs.Machine.{◌>>=◌, on_sign, name_of, word_value, value_of, literal_of, limit_of, sign_comparison, comparison_of, with_name, with_literal, with_test, inserted, filtered, filtered_by, is_select, begun, ending, more_sets, untested, with_set, step}
-use Rattle.sdb_types.proofs.Basics.{and_parts as and_both, some_is}
+use Rattle.sdb_types.proofs.Basics.{and_parts as and_both, some_is, eq_of as same_length, all_last as all_more}
+
+pub bind_some : {A B : Type 0} (r : Option A) (f : A → Option B) (y : B) → (r >>= f) ≡ Some y → (x : A) × (r ≡ Some x) × (f x ≡ Some y)
+bind_some (Some x) f y e = (x, refl, e)
+bind_some None f y e = absurd cc
 
 -- ---- the tokens so far
 
@@ -176,10 +179,6 @@ pub chosen : {A : Type 0} (b : Bool) (x y z : A) → cond b x y ≡ z → ((b �
 chosen true x y z e = inl (refl, e)
 chosen false x y z e = inr (refl, e)
 
-pub bind_some : {A B : Type 0} (r : Option A) (f : A → Option B) (y : B) → (r >>= f) ≡ Some y → (x : A) × (r ≡ Some x) × (f x ≡ Some y)
-bind_some (Some x) f y e = (x, refl, e)
-bind_some None f y e = absurd cc
-
 pub word_is : (k : Keyword) (t : Token) → is_word k t ≡ true → t ≡ Word k
 word_is k (Word w) h = ap Word (same_true keyword_type.the_type (search rules) w k h)
 word_is k (Name n) h = absurd cc
@@ -314,18 +313,11 @@ comparison_back (Word w) x h = absurd cc
 comparison_back (Text n) x h = absurd cc
 comparison_back (Blob n) x h = absurd cc
 
-same_length : (a b : ℕ) → (a == b) ≡ true → a ≡ b
-same_length a b h = grind (arith, nat_tests)
-
 -- ---- lists
 
 items_more : {X : Type 0} (xs : List X) (x : X) → HasItems (xs ++ x ∷ [])
 items_more [] x = tt
 items_more (y ∷ ys) x = tt
-
-all_more : {X : Type 0} (P : X → Type 0) (xs : List X) (x : X) → AllByRecursion P xs → P x → AllByRecursion P (xs ++ x ∷ [])
-all_more P [] x h p = (p, tt)
-all_more P (y ∷ ys) x h p = (h.0, all_more P ys x h.1 p)
 
 all_none : {X : Type 0} (P : X → Type 0) (xs : List X) → xs ≡ [] → AllByRecursion P xs
 all_none P [] h = tt

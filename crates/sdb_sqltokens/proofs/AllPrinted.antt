@@ -21,7 +21,7 @@ use Rattle.sdb_sqltokens.specs.Printed.{GivesAll}
 use Rattle.sdb_sqltokens.specs.declared.fault.LexRefused.{LexRefused}
 use Rattle.sdb_sqltokens.specs.declared.fault.LexRefused.TheVariants as refused
 use Rattle.sdb_sqltokens.proofs.Lexing.{gap_turn, token_turn}
-use Rattle.sdb_sqltokens.proofs.Printed.{clear, Again, keyword_identifier, by_keyword, word_read, name_read, sign_read, number_read, text_read, blob_read, drop_seam}
+use Rattle.sdb_sqltokens.proofs.Printed.{clear, Again, keyword_identifier, by_keyword, word_read, name_read, sign_read, number_read, text_read, blob_read, drop_seam, begins_more}
 use Rattle.sdb_types.proofs.Basics.{by_test}
 
 is_bytes : (bs : List ℕ) → AllByRecursion (λ b. b < 256) bs → IsBytes bs
@@ -56,10 +56,6 @@ start_solid b h = grind (arith, nat_tests)
 identifier_solid : (w : List ℕ) → is_identifier w ≡ true → begins solid w ≡ true
 identifier_solid [] h = absurd cc
 identifier_solid (b ∷ bs) h = start_solid b (by_test (is_start b) (λ e. e) (λ e. let k = rw e at h in absurd cc))
-
-begins_more : (p : ℕ → Bool) (ds rest : List ℕ) → begins p ds ≡ true → begins p (ds ++ rest) ≡ true
-begins_more p [] rest h = absurd cc
-begins_more p (d ∷ ds) rest h = h
 
 digit_solid : (d : ℕ) → solid (48 + d) ≡ true
 digit_solid d = grind (arith, nat_tests)

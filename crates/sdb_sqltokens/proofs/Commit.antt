@@ -19,8 +19,8 @@ use Rattle.sdb_model.specs.Sql.{is_lexed_word, is_sign, is_word, reads_commit}
 use Rattle.sdb_model.specs.SqlTokens.{Lexed, Lexeme, Bad, Wide, minus, begins, begins_blob, behind, blob_in, blob_token, closes, enclosed, first_token, digits_len, is_digit, is_gap, is_single_quote, keyword_of, letter_at, lexed, name_token, negative_at, number_at, number_of, or_word, quote_place, quoted_name_at, sign_of, sign_text, sign_token, signs, text_at, text_token, token_at, tokens_from, word_at, word_len, word_or_name}
 use Rattle.sdb_sqltokens.specs.OneWord.{behind_gaps, ends_text, is_commit, is_commit_at, is_end, spells_commit}
 use Rattle.sdb_sqltokens.proofs.Lexing.{gap_turn, token_turn}
-use Rattle.sdb_sqltokens.proofs.Words.{start_is_part}
-use Rattle.sdb_types.proofs.Basics.{by_test, one_more}
+use Rattle.sdb_types.proofs.Basics.{by_test, one_more, cond_by as either}
+use Rattle.sdb_types.proofs.Words.{start_part as start_is_part}
 
 both_pass : (a b c : Bool) → a ≡ true → b ≡ true → (a && (b && c)) ≡ c
 both_pass a b c s h = rw (s, h) refl
@@ -35,11 +35,6 @@ second_fails false b c h = refl
 -- what begins with a byte that is no blank begins with a token
 solid : (place b : ℕ) (bs : List ℕ) → is_gap b ≡ false → tokens_from place 0 (b ∷ bs) ≡ first_token place (token_at (b ∷ bs)) (λ n. tokens_from (place + 1) (n - 1) bs)
 solid place b bs g = rw g refl
-
--- both branches of a test
-either : {X : Type 0} (P : X → Type 0) (b : Bool) (x y : X) → (b ≡ true → P x) → (b ≡ false → P y) → P (cond b x y)
-either P true x y f g = f refl
-either P false x y f g = g refl
 
 ---- tokens that a test of words or signs doesn't pass
 

@@ -1,5 +1,5 @@
 -- Each token's text is read as that token, whatever clear end follows it.
-use Rattle.std.proofs.Common.{◌≡◌, ℕ, suc, ◌+◌, ◌-◌, ◌*◌, ◌/◌, ◌%◌, ◌^◌, ◌<◌, ◌≤◌, ℤ, pos, negsuc, Bool, true, false, ◌&&◌, ◌||◌, ◌==◌, eqb, List, [], ◌∷◌, ◌++◌, length, drop, Option, Some, None, Ok, refl, ap, subst, ◌∙◌, arith, append_assoc, ◌⊎◌, inl, inr}
+use Rattle.std.proofs.Common.{◌≡◌, ℕ, suc, ◌+◌, ◌-◌, ◌*◌, ◌/◌, ◌%◌, ◌^◌, ◌<◌, ◌≤◌, ℤ, pos, negsuc, Bool, true, false, ◌||◌, ◌==◌, eqb, List, [], ◌∷◌, ◌++◌, length, drop, Option, Some, None, Ok, refl, ap, subst, ◌∙◌, arith, append_assoc, ◌⊎◌, inl, inr}
 use Rattle.std.specs.Prelude.{slice_index, codes, nat_le, nat_lt, decimal}
 use Rattle.std.specs.List.{list_all, prefix_len, flat_map}
 use Rattle.std.specs.Str.{is_utf8}
@@ -22,7 +22,8 @@ use Rattle.sdb_model.specs.declared.token.Sign.TheVariants as sign
 use Rattle.sdb_model.specs.declared.token.Token.{Token}
 use Rattle.sdb_model.specs.declared.token.Token.TheVariants.{Word, Name, Number, Text, Blob, Sign as Mark}
 use Rattle.sdb_sqltokens.proofs.Enclosed.{encloses_none, encloses_byte, encloses_quote}
-use Rattle.sdb_types.proofs.Basics.{and_parts as and_true, by_test, one_more}
+use Rattle.sdb_types.proofs.Basics.{and_parts as and_true, by_test, one_more, fails_second as and_false}
+use Rattle.sdb_types.proofs.Words.{start_part as start_is_part}
 
 -- ---- what ends a token: the end of the text, a space, `,` `)` or `.`
 
@@ -60,9 +61,6 @@ drop_seam (x ∷ xs) ys = drop_seam xs ys
 
 -- ---- words and names
 
-start_is_part : (b : ℕ) → is_start b ≡ true → is_part b ≡ true
-start_is_part b h = rw h refl
-
 all_parts : (w : List ℕ) → is_identifier w ≡ true → list_all is_part w ≡ true
 all_parts [] h = absurd cc
 all_parts (b ∷ bs) h =
@@ -84,10 +82,6 @@ second_no_quote : (w rest : List ℕ) → is_identifier w ≡ true → list_all 
 second_no_quote [] rest i h e = absurd cc
 second_no_quote (b ∷ []) rest i h e = e
 second_no_quote (b ∷ c ∷ cs) rest i h e = part_no_quote c (and_true (is_part c) (list_all is_part cs) (and_true (is_part b) (list_all is_part (c ∷ cs)) h).1).0
-
-and_false : (a b : Bool) → b ≡ false → (a && b) ≡ false
-and_false true b h = h
-and_false false b h = refl
 
 pub letters_again : (w rest : List ℕ) → is_identifier w ≡ true → clear rest ≡ true → token_at (w ++ rest) ≡ Ok (word_or_name w (keyword_of w), length w)
 unfolding token_at letter_at
@@ -227,7 +221,7 @@ all_more p (c ∷ cs) d h k =
 abbrev Digits : ℕ → List ℕ → Type 0
 Digits n ds = (list_all is_digit ds ≡ true) × (begins is_digit ds ≡ true) × (digits_value ds ≡ n)
 
-begins_more : (p : ℕ → Bool) (ds rest : List ℕ) → begins p ds ≡ true → begins p (ds ++ rest) ≡ true
+pub begins_more : (p : ℕ → Bool) (ds rest : List ℕ) → begins p ds ≡ true → begins p (ds ++ rest) ≡ true
 begins_more p [] rest h = absurd cc
 begins_more p (d ∷ ds) rest h = h
 

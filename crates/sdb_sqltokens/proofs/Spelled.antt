@@ -1,5 +1,5 @@
 -- A text can spell each token that a text has, but for overlong ones.
-use Rattle.std.proofs.Common.{◌≡◌, ℕ, zero, suc, ◌+◌, ◌-◌, ◌<◌, ◌^◌, pos, Bool, true, false, cond, ◌&&◌, ◌==◌, List, [], ◌∷◌, length, take, drop, Option, Some, None, Result, Ok, Err, refl, subst, arith, inl, inr}
+use Rattle.std.proofs.Common.{◌≡◌, ℕ, zero, suc, ◌+◌, ◌-◌, ◌<◌, ◌^◌, pos, Bool, true, false, ◌&&◌, ◌==◌, List, [], ◌∷◌, length, take, drop, Option, Some, None, Result, Ok, Err, refl, subst, arith, inl, inr}
 use Rattle.std.specs.Prelude.{nat_le, nat_lt, FitsSigned}
 use Rattle.std.specs.Int.{w64}
 use Rattle.std.specs.List.{AllByRecursion}
@@ -19,7 +19,7 @@ use Rattle.sdb_model.specs.declared.token.Token.{Token}
 use Rattle.sdb_model.specs.declared.token.Token.TheVariants.{Name, Overlong, Number, Text}
 use Rattle.sdb_sqltokens.specs.Spelled.{IsSpelled}
 use Rattle.sdb_sqltokens.proofs.Words.{front_is_identifier}
-use Rattle.sdb_types.proofs.Basics.{by_test}
+use Rattle.sdb_types.proofs.Basics.{by_test, cond_by as either}
 
 abbrev Fine : Lexeme → Type 0
 Fine (Ok p) = IsSpelled p.0
@@ -28,11 +28,6 @@ Fine (Err f) = Unit {0}
 abbrev FineIf : Option (Token × ℕ) → Type 0
 FineIf (Some p) = IsSpelled p.0
 FineIf None = Unit {0}
-
--- both branches of a test
-either : {X : Type 0} (P : X → Type 0) (b : Bool) (x y : X) → (b ≡ true → P x) → (b ≡ false → P y) → P (cond b x y)
-either P true x y f g = f refl
-either P false x y f g = g refl
 
 and_left : (a b : Bool) → (a && b) ≡ true → a ≡ true
 and_left true b h = refl

@@ -1,31 +1,18 @@
 -- What letters, digits and `_` at the front make.
-use Rattle.std.proofs.Common.{◌≡◌, ℕ, zero, suc, ◌+◌, ◌<◌, Bool, true, false, ◌&&◌, List, [], ◌∷◌, take, refl, arith}
-use Rattle.std.specs.List.{list_all, prefix_len}
+use Rattle.std.proofs.Common.{◌≡◌, ℕ, zero, suc, true, false, List, [], ◌∷◌, take, arith}
+use Rattle.std.specs.List.{list_all}
 use Rattle.std.specs.Str.{IsAscii, IsUtf8, is_utf8}
-use Rattle.std.proofs.lemmas.Bool.Decides.{nat_tests}
 use Rattle.std.proofs.lemmas.Str.{IsUtf8-from_ascii, IsUtf8-from_is_utf8}
 use Rattle.sdb_types.specs.Identifier.{is_start, is_part, is_identifier}
 use Rattle.sdb_model.specs.SqlTokens.{begins, word_len}
-use Rattle.sdb_types.proofs.Basics.{and_parts as and_true, by_test, one_more}
-
-all_pass : (p : ℕ → Bool) (bs : List ℕ) → list_all p (take (prefix_len p bs) bs) ≡ true
-all_pass p [] = refl
-all_pass p (b ∷ bs) = by_test (p b) (λ e. rw (e, one_more, e) (all_pass p bs)) (λ e. rw e refl)
-
-pub start_is_part : (b : ℕ) → is_start b ≡ true → is_part b ≡ true
-start_is_part b h = rw h refl
+use Rattle.sdb_types.proofs.Basics.{and_parts as and_true, by_test, one_more, front_passes as all_pass}
+use Rattle.sdb_types.proofs.Words.{part_small, start_part as start_is_part}
 
 pub front_is_identifier : (bs : List ℕ) → begins is_start bs ≡ true → is_identifier (take (word_len bs) bs) ≡ true
 front_is_identifier [] h = absurd cc
 front_is_identifier (b ∷ bs) h =
     let p = start_is_part b h in
     rw (p, one_more, h) (all_pass is_part bs)
-
-start_small : (b : ℕ) → is_start b ≡ true → b < 128
-start_small b h = grind (arith, nat_tests)
-
-part_small : (b : ℕ) → is_part b ≡ true → b < 128
-part_small b h = grind (arith, nat_tests)
 
 all_small : (bs : List ℕ) → list_all is_part bs ≡ true → IsAscii bs
 all_small [] h i = omega arith

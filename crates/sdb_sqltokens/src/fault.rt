@@ -51,6 +51,14 @@ pub enum LexRefused {
     NoMemory,
 }
 
+impl From<AllocError> for LexRefused {
+    ghost from_gives = { λ _ e. e ≡ RefusedNoMemory };
+
+    fn from(_e: AllocError) -> LexRefused {
+        LexRefused::NoMemory
+    }
+}
+
 impl From<NoMemory> for LexRefused {
     ghost from_gives = { λ _ e. e ≡ RefusedNoMemory };
 

@@ -252,7 +252,8 @@ pub fn is_gap(b: u8) -> bool
 fn read_tokens(alloc: Global, bytes: &[u8]) -> Result<Seq<Placed>, LexRefused>
     ensures { GivesTokens result (spec.lexed bytes.now) }
 {
-    let mut placed = Seq::new(alloc);
+    // With the gap behind it, a token takes three bytes or more in most statements.
+    let mut placed = Seq::from_vec(Vec::with_capacity(alloc, bytes.len() / 3 + 1)?);
     let mut rest = bytes;
     while let [first, more @ ..] = rest {
         if is_gap(*first) {

@@ -1,5 +1,5 @@
 //! Kinds of bytes, and how many of a kind stand at the front.
-ghost use Rattle.std.specs.Prelude.{◌≡◌, ◌==◌, ◌≤◌, ◌<◌, ◌^◌, true, IsTrue, IfSome, ◌-◌, length, min, find};
+ghost use Rattle.std.specs.Prelude.{ℕ, List, ◌∷◌, ◌≡◌, ◌==◌, ◌≤◌, ◌<◌, ◌^◌, true, IsTrue, IfSome, ◌-◌, length, min, find};
 ghost use Rattle.std.specs.List.{starts_with};
 ghost use Rattle.std.specs.Str.{bytes_eq};
 ghost use Rattle.sdb_types.specs.Identifier as identifier;
@@ -7,46 +7,6 @@ ghost use Rattle.sdb_model.specs.SqlTokens as spec;
 ghost use Rattle.sdb_model.specs.SqlTokens.{lower, keyword_text, sign_text};
 
 use sdb_model::{Keyword, Sign};
-
-const KEYWORDS: [Keyword; 21] = [
-    Keyword::Begin,
-    Keyword::Commit,
-    Keyword::Rollback,
-    Keyword::Vacuum,
-    Keyword::Insert,
-    Keyword::Upsert,
-    Keyword::Into,
-    Keyword::Values,
-    Keyword::Update,
-    Keyword::Set,
-    Keyword::Where,
-    Keyword::Delete,
-    Keyword::From,
-    Keyword::Select,
-    Keyword::Limit,
-    Keyword::And,
-    Keyword::Is,
-    Keyword::Not,
-    Keyword::Null,
-    Keyword::True,
-    Keyword::False,
-];
-
-// Each before those that are its front.
-const SIGNS: [Sign; 12] = [
-    Sign::NotEqual,
-    Sign::LessOrEqual,
-    Sign::GreaterOrEqual,
-    Sign::Less,
-    Sign::Greater,
-    Sign::Equal,
-    Sign::Dot,
-    Sign::Comma,
-    Sign::Open,
-    Sign::Close,
-    Sign::Star,
-    Sign::Semicolon,
-];
 
 pub fn is_start(b: u8) -> bool
     ensures { result ≡ identifier.is_start b }
@@ -142,31 +102,39 @@ fn find_keyword(keywords: &[Keyword], word: &[u8]) -> Option<Keyword>
     None
 }
 
+// The keywords that begin with a letter, in any case.
+#[tactic(auto, unfolding(sdb_model::specs::SqlTokens::keyword_of))]
+fn keywords_from(letter: u8) -> &'static [Keyword]
+    ensures { (more : List ℕ) → find (λ k. bytes_eq (lower (letter ∷ more)) (lower (keyword_text k))) result.now ≡ spec.keyword_of (letter ∷ more) }
+{
+    match letter {
+        b'A' | b'a' => &[Keyword::And],
+        b'B' | b'b' => &[Keyword::Begin],
+        b'C' | b'c' => &[Keyword::Commit],
+        b'D' | b'd' => &[Keyword::Delete],
+        b'F' | b'f' => &[Keyword::From, Keyword::False],
+        b'I' | b'i' => &[Keyword::Insert, Keyword::Into, Keyword::Is],
+        b'L' | b'l' => &[Keyword::Limit],
+        b'N' | b'n' => &[Keyword::Not, Keyword::Null],
+        b'R' | b'r' => &[Keyword::Rollback],
+        b'S' | b's' => &[Keyword::Set, Keyword::Select],
+        b'T' | b't' => &[Keyword::True],
+        b'U' | b'u' => &[Keyword::Upsert, Keyword::Update],
+        b'V' | b'v' => &[Keyword::Vacuum, Keyword::Values],
+        b'W' | b'w' => &[Keyword::Where],
+        _ => &[],
+    }
+}
+
 /// The keyword that a word spells, in any case.
 #[tactic(auto, unfolding(sdb_model::specs::SqlTokens::keyword_of))]
 pub fn keyword_of(word: &[u8]) -> Option<Keyword>
     ensures { result ≡ spec.keyword_of word.now }
 {
-    find_keyword(&KEYWORDS, word)
-}
-
-fn begins_sign(bytes: &[u8], sign: Sign) -> bool
-    ensures value { result ≡ starts_with ◌==◌ bytes.now (sign_text sign) }
-    ensures fits { IsTrue result → length (sign_text sign) ≤ length bytes.now }
-{
-    bytes.starts_with(sign.text().as_bytes())
-}
-
-fn find_sign(signs: &[Sign], bytes: &[u8]) -> Option<Sign>
-    ensures value { result ≡ find (λ s. starts_with ◌==◌ bytes.now (sign_text s)) signs.now }
-    ensures fits { IfSome result (λ s. length (sign_text s) ≤ length bytes.now) }
-{
-    for sign in signs {
-        if begins_sign(bytes, *sign) {
-            return Some(*sign);
-        }
+    match word.split_first() {
+        Some((first, _)) => find_keyword(keywords_from(*first), word),
+        None => None,
     }
-    None
 }
 
 /// The longest sign at the front.
@@ -175,7 +143,21 @@ pub fn sign_of(bytes: &[u8]) -> Option<Sign>
     ensures value { result ≡ spec.sign_of bytes.now }
     ensures fits { IfSome result (λ s. length (sign_text s) ≤ length bytes.now) }
 {
-    find_sign(&SIGNS, bytes)
+    match bytes {
+        [b'<', b'>', ..] => Some(Sign::NotEqual),
+        [b'<', b'=', ..] => Some(Sign::LessOrEqual),
+        [b'>', b'=', ..] => Some(Sign::GreaterOrEqual),
+        [b'<', ..] => Some(Sign::Less),
+        [b'>', ..] => Some(Sign::Greater),
+        [b'=', ..] => Some(Sign::Equal),
+        [b'.', ..] => Some(Sign::Dot),
+        [b',', ..] => Some(Sign::Comma),
+        [b'(', ..] => Some(Sign::Open),
+        [b')', ..] => Some(Sign::Close),
+        [b'*', ..] => Some(Sign::Star),
+        [b';', ..] => Some(Sign::Semicolon),
+        _ => None,
+    }
 }
 
 /// Where the next quote stands, or the length.

@@ -40,8 +40,9 @@ use Rattle.sdb_linked.specs.Going.{IsGoing, IsInner}
 use Rattle.sdb_linked.proofs.Steps.{going_answers, going_asks, going_idle}
 use Rattle.sdb_steps.specs.Fitting.{tables_fit}
 use Rattle.sdb_steps.specs.Hands.{Hand, IsReady, doing_of, stands_txn, system_of}
-use Rattle.sdb_steps.proofs.RowsFit.{answers_on, by_test}
+use Rattle.sdb_steps.proofs.RowsFit.{answers_on}
 use Rattle.sdb_steps.proofs.Taken.{IsSo, at_open, moved}
+use Rattle.sdb_types.proofs.Basics.{by_test}
 
 covered_is : (s : Seen) (a : Access) → is_covered s a ≡ true → IsCovered s a
 covered_is s (access.Get key) h = h

@@ -38,9 +38,10 @@ use Rattle.sdb_client.specs.Client.{AskTold, BeginTold, CallTold, ClientAt as Cl
 use Rattle.sdb_steps.specs.About.{AreRecordsIn, IsDoingIn, IsListed, IsOfTables, IsReadIn, IsSeenIn, IsStageIn, IsVacuumIn, IsWorkIn}
 use Rattle.sdb_steps.specs.Hands.{Takes}
 use Rattle.sdb_steps.proofs.InTables.{GivesIn, IsPlayed, access_in, access_table, commit_played, get_in, gives_in, read_played, scan_in, stepped_in, swept_in, sweep_played, written_in}
-use Rattle.sdb_steps.proofs.RowsFit.{by_test, found_itself}
+use Rattle.sdb_steps.proofs.RowsFit.{found_itself}
 use Rattle.sdb_steps.proofs.Sweeps.{begun_in}
 use Rattle.sdb_steps.proofs.Whole.{by_memory}
+use Rattle.sdb_types.proofs.Basics.{by_test}
 
 module _ (catalog : List Table) where
   abbrev Of : Client → Type 0

@@ -1,5 +1,5 @@
 -- Whatever a client takes and whatever reply it gets, what it reads then is of a statement that the catalog takes.
-use Rattle.std.proofs.Common.{◌≡◌, ◌≢◌, ℕ, ℤ, Bool, true, false, cond, ◌||◌, List, [], ◌∷◌, Option, Some, None, Ok, Err, refl, sym, ap, subst, ◌∙◌, inl, inr}
+use Rattle.std.proofs.Common.{◌≡◌, ◌≢◌, ℕ, ℤ, Bool, true, false, ◌||◌, List, [], ◌∷◌, Option, Some, None, Ok, Err, refl, sym, ap, subst, ◌∙◌, inl, inr}
 use Rattle.std.specs.Prelude.{IfSome, is_some}
 use Rattle.sdb_types.specs.declared.record.Reply.{Reply}
 use Rattle.sdb_types.specs.declared.record.Span.{Span}
@@ -16,9 +16,6 @@ use Rattle.sdb_model.specs.Causes.{refused}
 use Rattle.sdb_model.specs.Exec.{named_table}
 use Rattle.sdb_model.specs.Refused.{refusal_by, refusal_of}
 use Rattle.sdb_model.specs.Sql.{Reads, reads_commit}
-use Rattle.sdb_model.specs.Transactions.{changes_nothing}
-use Rattle.sdb_exec.specs.declared.plan.PlanStep.{PlanStep}
-use Rattle.sdb_exec.specs.declared.plan.PlanStep.TheVariants.{Finished, Read as Wants}
 use Rattle.sdb_exec.specs.Plans.{Planned}
 use Rattle.sdb_exec.specs.Reads.{access_of}
 use Rattle.sdb_phases.specs.Commit.{preparing}
@@ -36,12 +33,13 @@ use Rattle.sdb_vacuum.specs.declared.work.VacuumStep.TheVariants as sweep
 use Rattle.sdb_vacuum.specs.Vacuum.{Gives, VacuumAt, begun, vacuum_step}
 use Rattle.sdb_client.specs.declared.next.Next.{Next}
 use Rattle.sdb_client.specs.declared.next.Next.TheVariants as next
-use Rattle.sdb_client.specs.Client.{AskTold, BeginTold, CallTold, ClientAt as Client, CommitNext, CommitTaken, GateTold, ImagesTold, IsIdle, IsTold, NextTold, OpenTold, ReplyTold, RollbackTold, RowsTold, StageTold, StatementTold, SweepTold, TableTold, Taking, TextTold, VacuumTold, after, answer_in, answer_of, gives, given_answer, given_left, holding, is_covered, next_of, noting, plan_of, resting, starved, vacuum_left, with_begun, written}
+use Rattle.sdb_client.specs.Client.{AskTold, BeginTold, CallTold, ClientAt as Client, CommitNext, CommitTaken, GateTold, ImagesTold, IsIdle, IsTold, NextTold, OpenTold, ReplyTold, RollbackTold, RowsTold, StageTold, StatementTold, SweepTold, TableTold, Taking, TextTold, VacuumTold, after, answer_in, answer_of, gives, holding, is_covered, next_of, noting, plan_of, resting, starved, vacuum_left, with_begun}
 use Rattle.sdb_steps.specs.About.{AreListed, IsListed}
 use Rattle.sdb_steps.specs.Hands.{IsAfter, IsAskedBy, IsFitted, IsFittedBy, IsUsing, IsUsingTxn, Takes}
-use Rattle.sdb_steps.proofs.RowsFit.{by_test}
 use Rattle.sdb_steps.proofs.Sweeps.{begun_in, step_are}
 use Rattle.sdb_steps.proofs.Whole.{by_memory, literals_read}
+use Rattle.sdb_client.proofs.Left.{given_idle as left_idle}
+use Rattle.sdb_types.proofs.Basics.{by_test}
 
 ---- a client that is so after it
 
@@ -96,11 +94,6 @@ module _ (catalog : List Table) (c : Client) where
     where
       no_idle : (k : CommitAt) → doing.Commit k ≡ doing.Idle → ⊥
       no_idle k e = cc
-
--- what a plan leaves does nothing
-left_idle : (was t : TxnAt) (s : PlanStep) → was.doing ≡ doing.Idle → t.doing ≡ doing.Idle → (given_left was t s).doing ≡ doing.Idle
-left_idle was t (Finished a ks) h k = elim (changes_nothing (given_answer t (Finished a ks))) as (λ b. (cond b was (written t ks)).doing ≡ doing.Idle) [ true ↦ h | false ↦ k ]
-left_idle was t (Wants a) h k = h
 
 ---- statements
 

@@ -73,6 +73,7 @@ use Rattle.sdb_vacuum.specs.declared.work.VacuumStep.{VacuumStep}
 use Rattle.sdb_vacuum.specs.Vacuum.{First, Malformed, Nothing, Over as Ends, Removing, Resolving as Resolves, Scanning as Scans, Tombstone, Unresolved, VacuumAt, VacuumStage, answered as sweep_answered, first_of, first_one, goes_on, going, next_table, pending_at, removal_answered, resolved as sweep_resolved, step_at as swept_at, tombstone_or}
 use Rattle.sdb_steps.specs.About.{AreListed, AreNotesIn, AreRecordsIn, AreWritesIn, IsIn, IsListed, IsRecordIn, IsSeenIn, IsStageIn, IsSweepIn, IsVacuumIn, IsWorkIn}
 use Rattle.sdb_types.specs.Exact.{equal_of}
+use Rattle.sdb_types.proofs.Basics.{append_all}
 
 ---- the keys of an access
 
@@ -107,10 +108,6 @@ inside (access.Get key) q h = ap (λ (k : Key). k.table) (key_exact key q (equal
 inside (access.Scan span) q h = inside_span span q h
 
 ---- lists
-
-append_all : {A : Type 0} (P : A → Type 0) (xs ys : List A) → AllByRecursion P xs → AllByRecursion P ys → AllByRecursion P (xs ++ ys)
-append_all P [] ys h g = g
-append_all P (x ∷ xs) ys h g = (h.0, append_all P xs ys h.1 g)
 
 map_all : {A B : Type 0} (P : A → Type 0) (Q : B → Type 0) (f : A → B) (xs : List A) → ((x : A) → P x → Q (f x)) → AllByRecursion P xs → AllByRecursion Q (map f xs)
 map_all P Q f [] g h = tt

@@ -31,7 +31,7 @@ use Rattle.sdb_snapshot.specs.Held.{AreKept}
 use Rattle.sdb_snapshot.specs.Noted.{Note, is_noted, reads_of}
 use Rattle.sdb_snapshot.specs.Seen.{Seen, is_scanned, overlay, same_span, with_written}
 use Rattle.sdb_snapshot.specs.Written.{AreChanges}
-use Rattle.sdb_snapshot.proofs.Keys.{or_else, same_itself, value_last}
+use Rattle.sdb_snapshot.proofs.Keys.{same_itself, value_last}
 use Rattle.sdb_txn.specs.declared.txn.Doing.{Doing}
 use Rattle.sdb_txn.specs.declared.txn.Doing.TheVariants as doing
 use Rattle.sdb_txn.specs.Txn.{TxnAt, idle as idle_of, pending, pending_in}
@@ -50,15 +50,14 @@ use Rattle.sdb_turns.proofs.Machine.{machine_asks, machine_kinds, machine_steps}
 use Rattle.sdb_turns.proofs.Quiet.{notes}
 use Rattle.sdb_story.specs.Body.{AnswersOn, IsCovered}
 use Rattle.sdb_linked.specs.Going.{IsGoing}
-use Rattle.sdb_linked.proofs.Small.{same_number}
 use Rattle.sdb_linked.proofs.Steps.{going_differs, going_fails, going_reads, going_tells}
 use Rattle.sdb_steps.specs.Fitting.{tables_fit}
 use Rattle.sdb_steps.specs.Hands.{Hand, IsAskedBy, IsCalled, doing_of, stands_txn, system_of}
-use Rattle.sdb_steps.proofs.RowsFit.{answers_on, by_test}
+use Rattle.sdb_steps.proofs.RowsFit.{answers_on}
 use Rattle.sdb_steps.proofs.Asked.{from_rows}
 use Rattle.sdb_steps.proofs.Fitted.{by_next}
 use Rattle.sdb_steps.proofs.Taken.{IsSo, moved}
-use Rattle.sdb_types.proofs.Basics.{or_second as or_so}
+use Rattle.sdb_types.proofs.Basics.{or_second as or_so, or_else, itself as same_number, by_test}
 
 ---- what a read has noted
 

@@ -41,12 +41,8 @@ use Rattle.sdb_snapshot.specs.Seen.{Seen, overlay}
 use Rattle.sdb_story.specs.Body.{AnswersOn}
 use Rattle.sdb_story.specs.Left.{IsFitting}
 use Rattle.sdb_steps.specs.Fitting.{row_fits, tables_fit}
-use Rattle.sdb_types.proofs.Basics.{less_of, truth as true_from_T}
+use Rattle.sdb_types.proofs.Basics.{less_of, truth as true_from_T, by_test}
 use Rattle.sdb_types.specs.Exact.{equal_of}
-
-pub by_test : {G : Type 0} (b : Bool) → (b ≡ true → G) → (b ≡ false → G) → G
-by_test true a b = a refl
-by_test false a b = b refl
 
 ---- rows of tables, by their keys
 

@@ -36,7 +36,7 @@ use Rattle.sdb_turns.specs.System.{ClientAt, Committing, NoneOpen, NoneSweeps, O
 use Rattle.sdb_linked.specs.Going.{IsGoing, IsMild, LeavesAtOnce}
 use Rattle.sdb_linked.proofs.Steps.{going_begins, going_commits, going_idle, going_leaves_so, going_outside, going_vacuums}
 use Rattle.sdb_steps.specs.Hands.{Hand, IsGated, IsPlainAnswer, IsReady, doing_of, runs, stands, stands_by, stands_doing, stands_txn, system_of, with_hand}
-use Rattle.sdb_steps.proofs.RowsFit.{by_test}
+use Rattle.sdb_types.proofs.Basics.{by_test}
 
 ---- one client elsewhere
 

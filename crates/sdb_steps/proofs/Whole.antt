@@ -2,7 +2,7 @@
 use Rattle.std.proofs.Common.{◌≡◌, ◌≢◌, ℕ, ◌^◌, ◌<◌, Bool, true, false, ◌||◌, List, [], ◌∷◌, ◌++◌, Option, Some, None, Ok, Err, refl, sym, ap, subst, ◌∙◌}
 use Rattle.std.specs.Prelude.{IfSome, is_some}
 use Rattle.std.specs.Ordering.{is_eq}
-use Rattle.std.specs.Cmp.{eq_by_cmp_equiv, tied_itself}
+use Rattle.std.specs.Cmp.{tied_itself}
 use Rattle.std.proofs.lemmas.Bool.{and_parts, eq-eqb}
 use Rattle.sdb_types.specs.declared.key.Key.{Key}
 use Rattle.sdb_types.specs.declared.key.TableName.{TableName}
@@ -40,11 +40,13 @@ use Rattle.sdb_vacuum.specs.Vacuum.{whole}
 use Rattle.sdb_steps.specs.About.{IsListed}
 use Rattle.sdb_steps.specs.Fitting.{tables_fit}
 use Rattle.sdb_steps.specs.Hands.{Hand, IsGated, IsPlainAnswer, IsReady, Takes, doing_of, system_of}
-use Rattle.sdb_steps.proofs.RowsFit.{by_test, found_itself}
+use Rattle.sdb_steps.proofs.RowsFit.{found_itself}
 use Rattle.sdb_steps.proofs.Asked.{IsAsked, told_known, told_unknown}
 use Rattle.sdb_steps.proofs.Taken.{IsSo, at_open, other_no_begin, other_no_commit, refused_no_commit, refused_plain, told_begun, told_commit, told_outside, told_rollback, told_same, told_starved, told_vacuum}
 use Rattle.sdb_steps.proofs.Sweeps.{begun_in, scan_data}
 use Rattle.sdb_types.specs.Exact.{equal_of}
+use Rattle.sdb_exec.proofs.Whole.{turned}
+use Rattle.sdb_types.proofs.Basics.{by_test}
 
 ---- the keys of an access are of its table
 
@@ -52,9 +54,6 @@ get_own : (k q : Key) → is_eq (key_cmp k q) ≡ true → is_eq (table_cmp q.ta
 get_own k q h =
     let same : k ≡ q = key_exact k q (equal_of _ h) in
     ap (λ x. is_eq (table_cmp x.table k.table)) (sym same) ∙ ap is_eq (tied_itself table_total k.table)
-
-turned : (t : TableName) (q : Key) → is_eq (table_cmp t q.table) ≡ true → is_eq (table_cmp q.table t) ≡ true
-turned t q h = (eq_by_cmp_equiv table_total).symm q.table t ∙ h
 
 by_own : (t : TableName) (a b : Option (List Value)) (q : Key) → in_access (access_by t a b) q ≡ true → is_eq (table_cmp q.table t) ≡ true
 by_own t None b q h = turned t q (and_parts (is_eq (table_cmp t q.table)) true h).0

@@ -8,10 +8,7 @@ use Rattle.sdb_store.specs.declared.fail.Fail.{Fail}
 use Rattle.sdb_store.specs.declared.fail.Fate.{Fate}
 use Rattle.sdb_store.specs.declared.fail.Fate.TheVariants as fate
 use Rattle.sdb_store.specs.Store.{Answers}
-
--- the number of calls after one more, which stops at the greatest of its type
-abbrev pub next_number : ℕ → ℕ
-next_number made = if nat_lt made (2 ^ 64 - 1) then made + 1 else made
+use Rattle.sdb_types.specs.Draws.{counted as next_number}
 
 abbrev pub listed_fate : Option Fail → Fate
 listed_fate None = fate.Answers

@@ -1,7 +1,8 @@
 //! Calls that fail as listed.
+ghost use Rattle.sdb_types.specs.Draws.{counted as next_number};
 ghost use Rattle.std.specs.Prelude.{◌≡◌, ◌≢◌, ◌+◌, ◌<◌, ◌≤◌, find, ◌==◌};
 ghost use Rattle.std.specs.Option.{option_copied};
-ghost use Rattle.sdb_store.specs.Fate.{fate_of, listed_fate, next_number};
+ghost use Rattle.sdb_store.specs.Fate.{fate_of, listed_fate};
 
 use sdb_types::{Duplicate, NoMemory, Reply, Seq};
 

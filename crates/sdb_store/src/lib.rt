@@ -7,7 +7,7 @@ mod memory;
 mod rows;
 mod store;
 
-pub use condition::holds;
+pub use condition::{holds, holds_of_columns};
 pub use fail::{Fail, Fails};
 pub use memory::Memory;
 pub use rows::Rows;

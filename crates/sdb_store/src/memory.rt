@@ -1,16 +1,15 @@
 //! A store that keeps its records in memory, and whose calls fail as listed.
-ghost use Rattle.std.specs.Prelude.{◌≡◌, ◌≤◌, IfOk, OnErr, MatchResult};
+ghost use Rattle.std.specs.Prelude.{◌≡◌, ◌≤◌, IfOk, MatchResult};
 ghost use Rattle.std.specs.FinMap as map;
 ghost use Rattle.sdb_types.specs.declared.record.Request.TheVariants.{Get, Scan, PutIf, DeleteIf};
-ghost use Rattle.sdb_types.specs.Contents.{CanAnswer, holds as holds_lem};
+ghost use Rattle.sdb_types.specs.Contents.{CanAnswer};
 ghost use Rattle.sdb_store.specs.Store.{Answers, Performs, HasCause};
 ghost use Rattle.sdb_store.specs.Fate.{Serves};
 
-use crate::condition::holds;
 use crate::fail::{Calls, Fails, Fate};
 use crate::rows::Rows;
 use crate::store::Store;
-use sdb_types::{Condition, Duplicate, Key, NoMemory, Record, Reply, Span};
+use sdb_types::{Condition, Key, NoMemory, Record, Reply, Span};
 use std::alloc::Global;
 use std::marker::Model;
 
@@ -62,32 +61,6 @@ fn listed<R: Rows>(rows: &R, span: &Span) -> Result<Reply, NoMemory>
     ensures { IfOk result (λ reply. Answers (Scan span.now) reply (R.contents rows.now) (R.contents rows.now)) }
 {
     Ok(Reply::Rows(rows.list(span)?))
-}
-
-// A put that does not fail.
-fn put<R: Rows>(rows: &mut R, rec: &Record, condition: &Condition) -> Result<Reply, NoMemory>
-    ensures ok { IfOk result (λ reply. Answers (PutIf rec.now condition.now) reply (R.contents rows.old) (R.contents rows.new)) }
-    ensures err { OnErr result (R.contents rows.new ≡ R.contents rows.old) }
-{
-    let found = rows.find(&rec.key)?;
-    if !holds(condition, found.as_ref()) {
-        return Ok(Reply::NotMet(found));
-    }
-    rows.insert(rec.copy()?)?;
-    Ok(Reply::Applied)
-}
-
-// A delete that does not fail.
-fn delete<R: Rows>(rows: &mut R, key: &Key, condition: &Condition) -> Result<Reply, NoMemory>
-    ensures ok { IfOk result (λ reply. Answers (DeleteIf key.now condition.now) reply (R.contents rows.old) (R.contents rows.new)) }
-    ensures err { OnErr result (R.contents rows.new ≡ R.contents rows.old) }
-{
-    let found = rows.find(key)?;
-    if !holds(condition, found.as_ref()) {
-        return Ok(Reply::NotMet(found));
-    }
-    rows.remove(key)?;
-    Ok(Reply::Applied)
 }
 
 fn reply_of(answer: Result<Reply, NoMemory>) -> Reply
@@ -152,9 +125,9 @@ impl<R: Rows> Store for Memory<R> {
         ensures exact { Serves (PutIf rec.now condition.now) result self.old self.new }
     {
         match self.calls.next() {
-            Fate::Answers => reply_of(put(&mut self.rows, rec, condition)),
+            Fate::Answers => reply_of(self.rows.put(rec, condition)),
             Fate::FailsBefore => self.calls.fail(),
-            Fate::FailsAfter => match put(&mut self.rows, rec, condition) {
+            Fate::FailsAfter => match self.rows.put(rec, condition) {
                 Ok(_) => self.calls.fail(),
                 Err(NoMemory) => Reply::NoMemory,
             },
@@ -170,9 +143,9 @@ impl<R: Rows> Store for Memory<R> {
         ensures exact { Serves (DeleteIf key.now condition.now) result self.old self.new }
     {
         match self.calls.next() {
-            Fate::Answers => reply_of(delete(&mut self.rows, key, condition)),
+            Fate::Answers => reply_of(self.rows.delete(key, condition)),
             Fate::FailsBefore => self.calls.fail(),
-            Fate::FailsAfter => match delete(&mut self.rows, key, condition) {
+            Fate::FailsAfter => match self.rows.delete(key, condition) {
                 Ok(_) => self.calls.fail(),
                 Err(NoMemory) => Reply::NoMemory,
             },

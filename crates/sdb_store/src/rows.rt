@@ -1,9 +1,12 @@
 //! Records in memory.
 ghost use Rattle.std.specs.Prelude.{◌≡◌, IfOk, OnOk, OnErr};
 ghost use Rattle.std.specs.FinMap as map;
+ghost use Rattle.sdb_types.specs.declared.record.Request.TheVariants.{PutIf, DeleteIf};
 ghost use Rattle.sdb_types.specs.Contents.{Contents, record_at, rows_in};
+ghost use Rattle.sdb_store.specs.Store.{Answers};
 
-use sdb_types::{Key, NoMemory, Record, Records, Span};
+use crate::condition::holds;
+use sdb_types::{Condition, Duplicate, Key, NoMemory, Record, Records, Reply, Span};
 use std::alloc::Global;
 
 /// Records by key, kept in memory.
@@ -32,4 +35,30 @@ pub trait Rows: Drop {
     fn remove(&mut self, key: &Key) -> Result<(), NoMemory>
         ensures ok { OnOk result (contents self.new ≡ map.remove (contents self.old) key.now) }
         ensures err { OnErr result (contents self.new ≡ contents self.old) };
+
+    /// Puts a record at its key, where the condition holds of what stands there.
+    fn put(&mut self, rec: &Record, condition: &Condition) -> Result<Reply, NoMemory>
+        ensures ok { IfOk result (λ reply. Answers (PutIf rec.now condition.now) reply (contents self.old) (contents self.new)) }
+        ensures err { OnErr result (contents self.new ≡ contents self.old) }
+    {
+        let found = self.find(&rec.key)?;
+        if !holds(condition, found.as_ref()) {
+            return Ok(Reply::NotMet(found));
+        }
+        self.insert(rec.copy()?)?;
+        Ok(Reply::Applied)
+    }
+
+    /// Takes the record at a key out, where the condition holds of what stands there.
+    fn delete(&mut self, key: &Key, condition: &Condition) -> Result<Reply, NoMemory>
+        ensures ok { IfOk result (λ reply. Answers (DeleteIf key.now condition.now) reply (contents self.old) (contents self.new)) }
+        ensures err { OnErr result (contents self.new ≡ contents self.old) }
+    {
+        let found = self.find(key)?;
+        if !holds(condition, found.as_ref()) {
+            return Ok(Reply::NotMet(found));
+        }
+        self.remove(key)?;
+        Ok(Reply::Applied)
+    }
 }

@@ -1,28 +1,21 @@
 -- Names that stay distinct when a store comes, goes or is called.
-use Rattle.std.proofs.Common.{◌≡◌, ◌≢◌, ℕ, zero, suc, ◌+◌, ◌<◌, ◌≤◌, List, [], ◌∷◌, ◌++◌, length, map, slice_set, Bool, true, false, Option, Some, None, refl, sym, ap, subst, ◌∙◌, arith, get_or}
-use Rattle.std.specs.Prelude.{slice_get, remove, is_some, if◌then◌else◌, position, IsSomeAnd}
-use Rattle.std.specs.List.{position_or_len}
+use Rattle.std.proofs.Common.{◌≡◌, ◌≢◌, ℕ, zero, suc, ◌+◌, ◌<◌, List, [], ◌∷◌, ◌++◌, length, map, slice_set, Bool, true, false, Option, Some, None, refl, sym, ap, subst, ◌∙◌, get_or}
+use Rattle.std.specs.Prelude.{slice_get, remove, is_some, if◌then◌else◌, IsSomeAnd}
 use Rattle.std.specs.Option.{option_map}
 use Rattle.std.specs.Str.{bytes_eq}
-use Rattle.std.proofs.lemmas.Grind.{common_steps}
 use Rattle.std.proofs.lemmas.List.{map-set, map-append, length-map}
-use Rattle.std.proofs.lemmas.List.Sums.{fails_before_first}
 use Rattle.std.proofs.lemmas.List.Quantifiers.{all_pairs_push, all_pairs_remove}
 use Rattle.std.proofs.lemmas.Option.{slice_get-map, slice_get-get_or}
 use Rattle.std.proofs.lemmas.Slice.Eq.{bytes_eq-Decides}
 use Rattle.sdb_stores.specs.Shelf.{Shelf, AreDistinct, names_of, place_of}
 use Rattle.sdb_stores.proofs.Called.{names_of-map, map-remove, set_same}
+use Rattle.sdb_types.proofs.Basics.{none_before}
 
 -- names that are distinct among the items are so among what they show
 pub shown : {A : Type 0} (shelf : A → Shelf) (xs : List A) → AreDistinct (map (λ a. (shelf a).name) xs) → AreDistinct (names_of (map shelf xs))
 shown shelf xs h = subst AreDistinct (sym (names_of-map shelf xs)) h
 
 ---- one more
-
-none_before : {A : Type 0} (p : A → Bool) (xs : List A) (d : A) → position p xs ≡ None → (k : ℕ) → k < length xs → p (get_or xs k d) ≡ false
-none_before p xs d e k inside =
-    let n : length xs ≤ position_or_len p xs = grind (arith, common_steps) in
-    fails_before_first p xs k d (omega (arith, n))
 
 -- no name is one that has no place among them
 pub apart : (name : List ℕ) (names : List (List ℕ)) → place_of name names ≡ None → (k : ℕ) (d : List ℕ) → k < length names → get_or names k d ≢ name

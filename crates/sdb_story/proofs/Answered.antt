@@ -1,6 +1,6 @@
 -- Statements that are taken and answered keep a client's story.
 use Rattle.std.proofs.Common.{◌≡◌, ◌≢◌, ◌<◌, ◌+◌, ◌*◌, ◌^◌, ℕ, zero, suc, true, false, List, [], ◌∷◌, ◌++◌, length, Option, Some, None, refl, sym, ap, subst, ◌∙◌, arith, ◌⊎◌, inl, inr}
-use Rattle.std.specs.Prelude.{if◌then◌else◌, ◌==◌, ◌&&◌, ◌||◌}
+use Rattle.std.specs.Prelude.{if◌then◌else◌, ◌&&◌, ◌||◌}
 use Rattle.std.specs.Option.{option_map_or}
 use Rattle.std.proofs.lemmas.List.{append-nil}
 use Rattle.std.proofs.lemmas.Bool.Decides.{nat_tests}
@@ -15,17 +15,15 @@ use Rattle.sdb_model.specs.Transactions.{Said, said, with_answer, begins, ends, 
 use Rattle.sdb_types.specs.declared.record.Reply.{Reply}
 use Rattle.sdb_types.specs.declared.record.Request.{Request}
 use Rattle.sdb_laws.specs.History.{Begins, Takes, Talk, heard}
-use Rattle.sdb_laws.specs.Lawful.{Played, answer_of, is_denial, talk}
-use Rattle.sdb_turns.specs.System.{SystemAt, Has, plays}
+use Rattle.sdb_laws.specs.Lawful.{Played, answer_of, is_denial, talk, plays}
+use Rattle.sdb_turns.specs.System.{SystemAt, Has}
 use Rattle.sdb_story.specs.Story.{Finished, Rest, Closed, Opened, Story, settle, saids_of, said_of, all_of, MayCome, IsStory, finished_at}
 use Rattle.sdb_story.specs.Filed.{number, IsFiledAt}
 use Rattle.sdb_story.specs.Telling.{Telling, waiting_of, all_told, with_waiting, with_answered, begun_in, count_of, OpenFiled, IsOpened, HasBegun, StoryOk, IsApart, KeepsHold, IsSaid, IsOrdinary, BeginsHold, EndsHold, IsCounted, NamesIt, taken_said, answered_said}
 use Rattle.sdb_story.proofs.Places.{story_same, story_kept}
 use Rattle.sdb_story.proofs.Tellings.{said_more, now_more, SameOf, same_of, filed_later, begun_later, within, apart_at, opened_counts}
-use Rattle.sdb_types.proofs.Basics.{clash, none_some, some_is}
-
-itself : (c : ℕ) → (c == c) ≡ true
-itself c = grind (arith, nat_tests)
+use Rattle.sdb_types.proofs.Basics.{clash, none_some, some_is, itself}
+use Rattle.sdb_turns.proofs.Begin.{here_owner as begins_owner}
 
 plus_one : (n : ℕ) → 1 + n ≡ n + 1
 plus_one n = omega arith
@@ -47,7 +45,7 @@ said_at_once events past sys c x q text a story none e = record {
   waited = λ w h. none_some w (sym none ∙ h);
 }
 
-answer_last : (front : List Said) (w : Said) (n : ℕ) (a : Answer) → with_answer (front ++ w ∷ []) n a ≡ front ++ record { taken = w.taken; text = w.text; answer = Some a; answered = n } ∷ []
+answer_last : (front : List Said) (w : Said) (n : ℕ) (a : Answer) → with_answer (front ++ w ∷ []) n a ≡ front ++ record { taken = w.taken; text = w.text; answer = Some a; reached = n } ∷ []
 answer_last [] w n a = refl
 answer_last (s ∷ []) w n a = refl
 answer_last (s ∷ t ∷ ss) w n a = ap (λ r. s ∷ r) (answer_last (t ∷ ss) w n a)
@@ -136,7 +134,7 @@ story_takes events past sys next c x text story none commit keeps = record {
 ---- a statement that is answered
 
 -- a story in which no statement waits
-abbrev telling_of : Story → Telling
+abbrev pub telling_of : Story → Telling
 telling_of t = record { whole = t.whole; rest = t.rest; waiting = None }
 
 -- a COMMIT ends a transaction
@@ -191,9 +189,6 @@ story_answers events past sys next c x q s story is may plain counts apart keeps
 
 begins_at : (h : Talk) (t c : ℕ) → (heard h (Begins t c)).begun t ≡ h.now + 1
 begins_at h t c = grind (arith, nat_tests)
-
-begins_owner : (h : Talk) (t c : ℕ) → (heard h (Begins t c)).owner t ≡ c
-begins_owner h t c = grind (arith, nat_tests)
 
 -- A BEGIN is answered Done where no transaction is open.
 pub story_begins : (events : List Event) (past : List Played) (sys next : SystemAt) (c : ℕ) (x : Telling) (gap : List Said) (text : List ℕ) → StoryOk events past sys c x → x.waiting ≡ None → x.rest ≡ Closed gap → begins (taken_said events text (Some answer.Done)) ≡ true → c < 2 ^ 64 → suc (length x.whole) < 2 ^ 64 → (talk past).taken (number c (length x.whole)) ≡ false → BeginsHold c sys next (number c (length x.whole))

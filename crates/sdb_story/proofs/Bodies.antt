@@ -34,6 +34,7 @@ use Rattle.sdb_laws.specs.Lawful.{Played}
 use Rattle.sdb_turns.specs.Noted.{IsFoundOk, IsReadOk, SeenOk, first_image, is_found, was_found, was_read, with_read}
 use Rattle.sdb_turns.proofs.Lists.{each_both}
 use Rattle.sdb_story.specs.Body.{ReadAgrees, ScanAgrees, AgreesAll, BodyOk, IsCovered}
+use Rattle.sdb_snapshot.proofs.Owned.{Keeps}
 
 ---- what was read tells the rows of tables that agree
 
@@ -124,10 +125,6 @@ pub body_begins : (catalog : List Table) (fit : Tables → Bool) → BodyOk cata
 body_begins catalog fit = record { runs = λ d f all. refl; fits = λ d f all. f }
 
 ---- one read more
-
--- later notes that keep what was noted
-abbrev Keeps : List Note → List Note → Type 0
-Keeps notes later = (q : Key) → is_noted notes q ≡ true → value_at later q ≡ value_at notes q
 
 kept_base : (notes later : List Note) (q : Key) → Keeps notes later → is_noted notes q ≡ true → base_at later q ≡ base_at notes q
 kept_base notes later q keeps n = ap (option_and_then (λ (f : Option Record). f)) (keeps q n)

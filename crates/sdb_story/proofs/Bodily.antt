@@ -7,22 +7,19 @@ use Rattle.sdb_types.specs.declared.record.Record.{Record}
 use Rattle.sdb_record.specs.declared.access.Access.{Access}
 use Rattle.sdb_model.specs.declared.event.Event.{Event}
 use Rattle.sdb_model.specs.Calls.{calls_of}
-use Rattle.sdb_model.specs.Noted.{Note, Got, Scanned, noted_in, notes_in}
+use Rattle.sdb_model.specs.Noted.{Note, Got, Scanned, noted_in, notes_in, is_from_rows as from_rows}
 use Rattle.sdb_model.specs.Transactions.{Said, body, client_of, is_effective}
 use Rattle.sdb_laws.specs.Plan.{Plan}
 use Rattle.sdb_laws.specs.Lawful.{id}
 use Rattle.sdb_snapshot.specs.Seen.{Seen, nothing}
 use Rattle.sdb_turns.specs.Noted.{with_read, work_of}
 use Rattle.sdb_turns.specs.Owner.{plan_of}
-use Rattle.sdb_story.specs.Calls.{IsNotedSo, NotesNothing, NotesRead, WasAnswered, from_rows, note_with, noted_by}
+use Rattle.sdb_story.specs.Calls.{IsNotedSo, NotesNothing, NotesRead, WasAnswered, note_with, noted_by}
 use Rattle.sdb_story.specs.Left.{AreReads, reads_and_scans}
 use Rattle.sdb_story.proofs.Notes.{last_cases, read_adds}
 use Rattle.sdb_story.proofs.Since.{calls_stay}
 use Rattle.std.proofs.lemmas.List.{append-nil as no_more}
-
-assoc : {A : Type 0} (xs ys zs : List A) → (xs ++ ys) ++ zs ≡ xs ++ (ys ++ zs)
-assoc [] ys zs = refl
-assoc (x ∷ xs) ys zs = ap (λ r. x ∷ r) (assoc xs ys zs)
+use Rattle.sdb_types.proofs.Basics.{assoc}
 
 -- what one statement noted
 abbrev one_noted : List Event → ℕ → Said → List Note

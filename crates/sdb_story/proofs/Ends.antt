@@ -20,9 +20,9 @@ use Rattle.sdb_laws.specs.Trace.{closing}
 use Rattle.sdb_laws.specs.Explained.{IsRunOf, newest_first, events_of}
 use Rattle.sdb_laws.specs.Faithful.{IsFaithful}
 use Rattle.sdb_laws.proofs.ModelTime.{answers_true, keeps_real_time, ordered_of}
-use Rattle.sdb_turns.proofs.Lists.{each_any}
 use Rattle.sdb_story.specs.Left.{Execution, ExecutionOk, BodyIsSaid, AllBodiesSaid, IsFitting, RunsWhole, ShowsTables, numbers_of}
 use Rattle.sdb_story.proofs.Wholes.{order_runs}
+use Rattle.sdb_types.proofs.Basics.{all_each as each_any}
 
 -- the bodies of an order
 bodies_read : (catalog : List Table) (fit : Tables → Bool) (plan : ℕ → Plan) (events : List Event) (past : List Played) (ran : ℕ → Execution) (order : List Point) → AllBodiesSaid catalog fit plan events past ran (numbers_of order) → AreBodies events order (map (λ t. (ran t).body) (numbers_of order))
@@ -44,9 +44,9 @@ images_are catalog fit places shelves e fitting f shows k = by (is_some (find_ta
 
 -- An order that keeps real time among transactions keeps it as clients see it.
 clients_see : (places : List Place) (events : List Event) (shelves : List Shelf) (order : List Point) → TransactionsInRealTime places events shelves order → CommittedIsOwned places events shelves → KeepsRealTime places events shelves order
-clients_see places events shelves order real owned client s within told late fits recorded n began less =
+clients_see places events shelves order real owned client s within told late fits recorded m n at began less =
     let r = owned client s within told in
-    (r.id, r.commit, real r.id late r.fits fits s r.commit told recorded n began less)
+    (r.id, r.commit, real r.id late r.fits fits s r.commit told recorded m n at began less)
 
 pub run_told : (catalog : List Table) (fit : Tables → Bool) (plan : ℕ → Plan) (places : List Place) (opening : List Shelf) (played : List Played) (ss : List (List Shelf)) (ran : ℕ → Execution) (order : List Point)
     → IsRunOf plan places opening (newest_first played) ss → IsFaithful (events_of played) (newest_first played) → IsOrder places (events_of played) (closing opening ss) order → All (λ (p : Point). p.id.0 < 2 ^ 128) order → IsFitting catalog fit → AllBodiesSaid catalog fit plan (events_of played) (newest_first played) ran (numbers_of order)

@@ -3,7 +3,6 @@ use Rattle.std.proofs.Common.{◌≡◌, ◌≤◌, ◌<◌, ◌+◌, ◌*◌, �
 use Rattle.std.specs.Prelude.{if◌then◌else◌, ◌&&◌, ◌||◌, Contains}
 use Rattle.std.specs.List.{AllByRecursion}
 use Rattle.std.proofs.lemmas.List.Elements.{All-contains, All-from_recursion}
-use Rattle.sdb_turns.proofs.Lists.{each_any, each_append}
 use Rattle.std.specs.Option.{option_map, option_map_or, option_and_then}
 use Rattle.std.proofs.lemmas.Bool.Decides.{nat_tests}
 use Rattle.sdb_types.specs.declared.txid.TxId.{TxId}
@@ -18,7 +17,7 @@ use Rattle.sdb_laws.specs.Explained.{IsDenied}
 use Rattle.sdb_story.specs.Filed.{number, IsFiledAt, IsOpenAt, Filed}
 use Rattle.sdb_story.specs.Story.{Finished, Rest, Closed, Opened, saids_of, said_of, IsPlain, IsInside, IsFinished, IsRest, finished_at, commit_in}
 use Rattle.sdb_story.proofs.Places.{finished_is, finished_ok, open_is, none_is}
-use Rattle.sdb_types.proofs.Basics.{none_some, some_is}
+use Rattle.sdb_types.proofs.Basics.{none_some, some_is, all_each as each_any, append_all as each_append}
 
 ---- one transaction
 
@@ -34,7 +33,7 @@ beyond (f ∷ fs) (suc k) e = more (length fs) k (beyond fs k e)
 pub record Says (events : List Event) (past : List Played) (t : ℕ) : Type 0 where
   pub begun : (n : ℕ) → begun events (id t) ≡ Some n → (talk past).begun t ≡ n
   pub taken : (talk past).taken t ≡ true → option_map_or (λ s. s.taken) (commit_of events (id t)) 0 ≡ (talk past).taken_at t
-  pub told : (s : Said) → commit_of events (id t) ≡ Some s → s.answer ≡ Some answer.Committed → IsToldAt past t s.answered
+  pub told : (s : Said) → commit_of events (id t) ≡ Some s → s.answer ≡ Some answer.Committed → IsToldAt past t s.reached
   pub denied : (s : Said) (a : Answer) → commit_of events (id t) ≡ Some s → s.answer ≡ Some a → is_denial a ≡ true → (talk past).taken t ≡ true → IsDenied past t
   pub unknown : (s : Said) (u : TxId) → commit_of events (id t) ≡ Some s → s.answer ≡ Some (answer.Unknown u) → u ≡ id t
 
@@ -49,7 +48,7 @@ finished_says : (events : List Event) (past : List Played) (t : ℕ) (f : Finish
 finished_says events past t f began commit filed = record {
   begun = λ n e. filed.begun ∙ some_is f.begin.taken n (sym began ∙ e);
   taken = λ h. let x = filed.taken h in ap (λ o. option_map_or (λ (s : Said). s.taken) o 0) (commit ∙ ap (λ b. if b then Some f.last else None) x.0) ∙ x.1;
-  told = λ s e a. let same = commit_is f.last s (sym commit ∙ e) in subst (λ (x : Said). IsToldAt past t x.answered) same (filed.told (ap (λ (x : Said). x.answer) same ∙ a));
+  told = λ s e a. let same = commit_is f.last s (sym commit ∙ e) in subst (λ (x : Said). IsToldAt past t x.reached) same (filed.told (ap (λ (x : Said). x.answer) same ∙ a));
   denied = λ s a e said denial taken. filed.denied a (ap (λ (x : Said). x.answer) (commit_is f.last s (sym commit ∙ e)) ∙ said) denial taken;
   unknown = λ s u e a. filed.unknown u (ap (λ (x : Said). x.answer) (commit_is f.last s (sym commit ∙ e)) ∙ a);
 }

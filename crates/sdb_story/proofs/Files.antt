@@ -19,11 +19,7 @@ use Rattle.sdb_turns.proofs.Begin.{taken_begun}
 use Rattle.sdb_story.proofs.Faith.{beyond, faithful}
 use Rattle.sdb_story.proofs.Tellings.{within}
 use Rattle.sdb_story.proofs.Answered.{commit_ends, one_more}
-use Rattle.sdb_types.proofs.Basics.{clash, none_some, some_is}
-
-not_true : (b : Bool) → (b ≡ true → ⊥) → b ≡ false
-not_true true f = absurd (f refl)
-not_true false f = refl
+use Rattle.sdb_types.proofs.Basics.{clash, none_some, some_is, false_by as not_true}
 
 -- a COMMIT was taken of none but those that have begun
 pub taken_counts : (plan : ℕ → Plan) (past : List Played) (sys : SystemAt) (c k : ℕ) → SystemOk plan past sys → suc k < 2 ^ 64 → (talk past).taken (number c k) ≡ true → k < sys.begun c

@@ -1,5 +1,5 @@
 -- The notes of a plan are the reads and the scans of what its COMMIT took.
-use Rattle.std.proofs.Common.{ℤ, ◌≡◌, ℕ, Bool, true, false, List, [], ◌∷◌, ◌++◌, map, refl, sym, ap, subst, ◌⊎◌, inl, inr}
+use Rattle.std.proofs.Common.{ℤ, ◌≡◌, ℕ, Bool, true, false, List, [], ◌∷◌, ◌++◌, map, refl, sym, subst, ◌⊎◌, inl, inr}
 use Rattle.std.specs.Prelude.{Contains, ◌↔◌, filter, not, if◌then◌else◌}
 use Rattle.std.proofs.lemmas.List.Elements.{Contains-append_left, Contains-append_right, Contains-append_cases, Contains-push, Contains-push_cases}
 use Rattle.sdb_types.specs.declared.txid.TxId.{TxId}
@@ -23,8 +23,8 @@ use Rattle.sdb_phases.specs.Checks.{is_written}
 use Rattle.sdb_turns.specs.Owner.{notes_of, checked_notes, own_notes}
 use Rattle.std.specs.List.{AllByRecursion}
 use Rattle.std.proofs.lemmas.List.Elements.{All-contains, All-from_recursion}
-use Rattle.sdb_turns.proofs.Lists.{each_any}
 use Rattle.sdb_story.specs.Left.{AreReads, reads_and_scans}
+use Rattle.sdb_types.proofs.Basics.{map_last, all_each as each_any}
 
 ---- elements
 
@@ -105,10 +105,6 @@ are_noted plan events past works all t taken n = let x = all t taken in (
 )
 
 ---- one read more
-
-map_last : {A B : Type 0} (f : A → B) (xs : List A) (x : A) → map f (xs ++ x ∷ []) ≡ map f xs ++ f x ∷ []
-map_last f [] x = refl
-map_last f (y ∷ xs) x = ap (λ r. f y ∷ r) (map_last f xs x)
 
 pub last_cases : (xs : List Note) (x n : Note) → Contains (xs ++ x ∷ []) n → Contains xs n ⊎ (n ≡ x)
 last_cases xs x n h = by (Contains-push_cases xs x n h)

@@ -54,6 +54,7 @@ use Rattle.sdb_turns.specs.ReadAt.{Kind, Firm, Open, Bad, AreKinds, IsKind, Read
 use Rattle.sdb_turns.proofs.Lists.{each_more}
 use Rattle.sdb_turns.proofs.Meta.{meta_of, held_of}
 use Rattle.sdb_story.specs.Calls.{Learned, IsHeldBy, ImageBy, Itself, Forward, Back, AreImagesBy, somes, rows_of, PhaseLearned, RowsMade, ReadMade, AgreeOn, IsMade, note_with}
+use Rattle.sdb_turns.proofs.Reading.{waited}
 
 ---- what was learned stays
 
@@ -160,9 +161,6 @@ row_learned ms m meta row shown = by (decision_in row) refl
 
 some_is : {A : Type 0} (x y : A) → Some x ≡ Some y → y ≡ x
 some_is x y e = cc
-
-abbrev waited : Meta → ℤ → Bool → RecoverPhase × RecoverStep
-waited meta now b = if b then (phase.Abort now, steps.More) else (phase.Ended, steps.Busy meta.id meta.prepared_at)
 
 phase_learned : (ms : List Made) (m : Made) (rec : Record) (meta : Meta) (p : RecoverPhase) (now : ℤ) (q : Request) (r : Reply) → meta.id.0 < 2 ^ 128 → ((n : ℤ) → p ≡ phase.Abort n → is_moment n ≡ true) → recover_request_at rec meta p ≡ Some q → IsMade m q r → PhaseLearned (ms ++ m ∷ []) meta.id (recover_next rec meta p now r).0
 phase_learned ms m rec meta phase.Look now q (reply.Found (Some row)) fits moment e made = row_learned ms m meta row (λ d says. look_shown m meta.id row d (made.request ∙ some_is (look_of meta.id) q e) made.reply says)

@@ -11,12 +11,9 @@ use Rattle.std.specs.List.{AllByRecursion}
 use Rattle.sdb_turns.proofs.Lists.{each_more}
 use Rattle.sdb_story.specs.Story.{Finished, Rest, Closed, Opened, settle, saids_of, said_of, all_of, IsPlain, IsInside, IsFinished, IsRest, IsStory, MayCome, finished_at, commit_in}
 use Rattle.std.proofs.lemmas.List.{append-nil as no_more}
+use Rattle.sdb_types.proofs.Basics.{assoc}
 
 ---- lists
-
-assoc : {A : Type 0} (xs ys zs : List A) → (xs ++ ys) ++ zs ≡ xs ++ (ys ++ zs)
-assoc [] ys zs = refl
-assoc (x ∷ xs) ys zs = ap (λ r. x ∷ r) (assoc xs ys zs)
 
 saids_more : (fs : List Finished) (f : Finished) → saids_of (fs ++ f ∷ []) ≡ saids_of fs ++ (f.gap ++ f.begin ∷ (f.body ++ f.last ∷ []))
 saids_more [] f = refl

@@ -8,13 +8,13 @@ use Rattle.sdb_model.specs.declared.event.Event.{Event}
 use Rattle.sdb_model.specs.declared.event.Event.TheVariants as event
 use Rattle.sdb_model.specs.Calls.{Made, calls_by, calls_of, made_by, end_of}
 use Rattle.sdb_model.specs.Transactions.{Said, numbered}
-use Rattle.sdb_turns.proofs.Lists.{each_any}
 use Rattle.sdb_story.specs.Calls.{WasAnswered, call_made, calls_since}
 use Rattle.sdb_story.proofs.Tellings.{numbers_more}
 use Rattle.std.proofs.lemmas.List.{append-nil as no_more}
+use Rattle.sdb_types.proofs.Basics.{below as is_after, at_most_nat as within_end, fails_second as both_false, all_each as each_any}
 
 -- one event more
-calls_more : (events : List Event) (c : ℕ) (e : Event) → calls_by (events ++ e ∷ []) c ≡ calls_by events c ++ call_made c (1 + length events) e
+pub calls_more : (events : List Event) (c : ℕ) (e : Event) → calls_by (events ++ e ∷ []) c ≡ calls_by events c ++ call_made c (1 + length events) e
 calls_more events c e = ap (filter_map (made_by c)) (numbers_more 1 events e) ∙ filter_map-append (made_by c) (numbered events) ((1 + length events, e) ∷ [])
 
 -- each call has a number of its event
@@ -77,9 +77,6 @@ filter_none t (x ∷ xs) h = ap (λ b. if b then x ∷ filter t xs else filter t
 not_after : (n at : ℕ) → at ≤ n → nat_lt n at ≡ false
 not_after n at l = grind (arith, nat_tests)
 
-is_after : (n at : ℕ) → n < at → nat_lt n at ≡ true
-is_after n at l = grind (arith, nat_tests)
-
 ---- since
 
 -- After its own event nothing has been called.
@@ -116,37 +113,30 @@ both_true : (a b : Bool) → b ≡ true → (a && b) ≡ a
 both_true true b e = e
 both_true false b e = refl
 
-within_end : (at n : ℕ) → at ≤ n → nat_le at n ≡ true
-within_end at n l = grind (arith, nat_tests)
-
 -- The calls of a statement that was just answered, or that waits, are all since its Take.
 pub calls_just : (events : List Event) (c : ℕ) (s : Said) → end_of events s ≡ length events → calls_of events c s ≡ calls_since events c s.taken
 calls_just events c s e = filter_same (λ m. nat_lt s.taken m.at && nat_le m.at (end_of events s)) (λ m. nat_lt s.taken m.at) (calls_by events c) (each_any (IsWithin (length events)) (λ m. (nat_lt s.taken m.at && nat_le m.at (end_of events s)) ≡ nat_lt s.taken m.at) (calls_by events c) (λ m w. both_true (nat_lt s.taken m.at) (nat_le m.at (end_of events s)) (ap (nat_le m.at) e ∙ within_end m.at (length events) w)) (all_within events c))
 
-both_false : (a b : Bool) → b ≡ false → (a && b) ≡ false
-both_false true b e = e
-both_false false b e = refl
-
 -- And those of one that was answered before stay.
 pub calls_stay : (events : List Event) (c : ℕ) (s : Said) (e : Event) → WasAnswered events s → calls_of (events ++ e ∷ []) c s ≡ calls_of events c s
 calls_stay events c s e was = ap (λ n. filter (λ m. nat_lt s.taken m.at && nat_le m.at n) (calls_by (events ++ e ∷ []) c)) (end_is (events ++ e ∷ []))
-    ∙ ap (filter (λ m. nat_lt s.taken m.at && nat_le m.at s.answered)) (calls_more events c e)
-    ∙ filter_append (λ m. nat_lt s.taken m.at && nat_le m.at s.answered) (calls_by events c) (call_made c (1 + length events) e)
-    ∙ ap (λ xs. filter (λ m. nat_lt s.taken m.at && nat_le m.at s.answered) (calls_by events c) ++ xs) (filter_none (λ m. nat_lt s.taken m.at && nat_le m.at s.answered) (call_made c (1 + length events) e) (beyond e))
-    ∙ no_more (filter (λ m. nat_lt s.taken m.at && nat_le m.at s.answered) (calls_by events c))
+    ∙ ap (filter (λ m. nat_lt s.taken m.at && nat_le m.at s.reached)) (calls_more events c e)
+    ∙ filter_append (λ m. nat_lt s.taken m.at && nat_le m.at s.reached) (calls_by events c) (call_made c (1 + length events) e)
+    ∙ ap (λ xs. filter (λ m. nat_lt s.taken m.at && nat_le m.at s.reached) (calls_by events c) ++ xs) (filter_none (λ m. nat_lt s.taken m.at && nat_le m.at s.reached) (call_made c (1 + length events) e) (beyond e))
+    ∙ no_more (filter (λ m. nat_lt s.taken m.at && nat_le m.at s.reached) (calls_by events c))
     ∙ ap (λ n. filter (λ m. nat_lt s.taken m.at && nat_le m.at n) (calls_by events c)) (sym (end_is events))
   where
-    end_is : (es : List Event) → end_of es s ≡ s.answered
-    end_is es = ap (λ b. if b then s.answered else length es) was.answered
+    end_is : (es : List Event) → end_of es s ≡ s.reached
+    end_is es = ap (λ b. if b then s.reached else length es) was.answered
 
     over : (a n : ℕ) → a ≤ n → nat_le (1 + n) a ≡ false
     over a n l = grind (arith, nat_tests)
 
-    beyond : (e : Event) → AllByRecursion (λ (m : Made). (nat_lt s.taken m.at && nat_le m.at s.answered) ≡ false) (call_made c (1 + length events) e)
+    beyond : (e : Event) → AllByRecursion (λ (m : Made). (nat_lt s.taken m.at && nat_le m.at s.reached) ≡ false) (call_made c (1 + length events) e)
     beyond (event.Call d store q how r a) = by (d == c)
       where
-        by : (b : Bool) → AllByRecursion (λ (m : Made). (nat_lt s.taken m.at && nat_le m.at s.answered) ≡ false) (cons_option (if b then Some (record { at = 1 + length events; store = store; request = q; how = how; reply = r }) else None) [])
-        by true = (both_false (nat_lt s.taken (1 + length events)) (nat_le (1 + length events) s.answered) (over s.answered (length events) was.before), tt)
+        by : (b : Bool) → AllByRecursion (λ (m : Made). (nat_lt s.taken m.at && nat_le m.at s.reached) ≡ false) (cons_option (if b then Some (record { at = 1 + length events; store = store; request = q; how = how; reply = r }) else None) [])
+        by true = (both_false (nat_lt s.taken (1 + length events)) (nat_le (1 + length events) s.reached) (over s.reached (length events) was.before), tt)
         by false = tt
     beyond (event.Take d text a) = tt
     beyond (event.Stop d) = tt

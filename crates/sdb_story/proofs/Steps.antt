@@ -33,10 +33,10 @@ use Rattle.sdb_phases.specs.Checks.{is_written}
 use Rattle.sdb_turns.specs.Owner.{plan_of, notes_of, checked_notes, own_notes}
 use Rattle.sdb_laws.specs.Lawful.{Played}
 use Rattle.sdb_turns.specs.Noted.{IsFoundOk, IsReadOk, SeenOk}
-use Rattle.sdb_turns.proofs.Lists.{each_any}
 use Rattle.sdb_story.specs.Body.{ReadAgrees, ScanAgrees, AgreesAll}
 use Rattle.sdb_turns.proofs.Work.{same_turned}
 use Rattle.sdb_story.specs.Left.{AreLeft, AreAfter}
+use Rattle.sdb_types.proofs.Basics.{all_each as each_any}
 
 ---- places of notes
 

@@ -16,6 +16,7 @@ use Rattle.sdb_turns.proofs.Foreign.{IsForeign, foreign}
 use Rattle.sdb_story.specs.Story.{Finished, Rest, Closed, Opened, finished_at}
 use Rattle.sdb_story.specs.Filed.{number, IsFiledAt}
 use Rattle.sdb_story.specs.Telling.{Telling, begun_in, count_of, OpenFiled, IsOpened, HasBegun, StoryOk, IsNotOf, IsApart, KeepsHold, IsCounted}
+use Rattle.sdb_types.proofs.Basics.{length_more}
 
 ---- one event more
 
@@ -31,13 +32,6 @@ numbers_more n (x ∷ es) e = ap (λ r. (n, x) ∷ r) (numbers_more (n + 1) es e
 
 pub said_more : (c : ℕ) (es : List Event) (e : Event) → said c (es ++ e ∷ []) ≡ said_after c (said c es) (1 + length es, e)
 said_more c es e = ap (fold (said_after c) []) (numbers_more 1 es e) ∙ fold-append (said_after c) [] (numbered es) ((1 + length es, e) ∷ [])
-
-length_more : {A : Type 0} (xs : List A) (x : A) → length (xs ++ x ∷ []) ≡ length xs + 1
-length_more [] x = refl
-length_more (y ∷ xs) x = ap suc (length_more xs x) ∙ plus (length xs)
-  where
-    plus : (n : ℕ) → suc (n + 1) ≡ suc n + 1
-    plus n = omega arith
 
 counted : (h : Talk) (r : Role) → IsCounted r → (heard h r).now ≡ h.now + 1
 counted h r c = grind (arith, nat_tests)
@@ -156,7 +150,7 @@ others_silent events c d e apart by = said_more c events e ∙ silent e by
         differ m n h = grind (arith, nat_tests)
 
     silent : (e : Event) → IsBy d e → said_after c (said c events) (1 + length events, e) ≡ said c events
-    silent (event.Take b text a) by = ap (λ t. if t then said c events ++ record { taken = 1 + length events; text = text; answer = a; answered = 1 + length events } ∷ [] else said c events) (other b by)
+    silent (event.Take b text a) by = ap (λ t. if t then said c events ++ record { taken = 1 + length events; text = text; answer = a; reached = 1 + length events } ∷ [] else said c events) (other b by)
     silent (event.Call b store q how r None) by = refl
     silent (event.Call b store q how r (Some a)) by = ap (λ t. if t then with_answer (said c events) (1 + length events) a else said c events) (other b by)
     silent (event.Stop b) by = refl

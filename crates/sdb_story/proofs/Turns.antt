@@ -18,6 +18,7 @@ use Rattle.sdb_story.specs.BodyTexts.{BodySaid}
 use Rattle.sdb_story.specs.Telling.{Telling, StoryOk, TellsOn, AllStories, OthersStand, IsCounted, with_told}
 use Rattle.sdb_story.proofs.Tellings.{story_stays, others_apart, others_silent}
 use Rattle.std.proofs.lemmas.List.{append-nil as no_more}
+use Rattle.sdb_types.proofs.Basics.{map_last as told_more}
 
 differ : (m n : ℕ) → m ≢ n → (m == n) ≡ false
 differ m n h = grind (arith, nat_tests)
@@ -80,10 +81,6 @@ read_more [] [] s statement all here = (here, tt)
 read_more [] (b ∷ bs) s statement all here = absurd all
 read_more (x ∷ ss) [] s statement all here = absurd all
 read_more (x ∷ ss) (b ∷ bs) s statement all here = (all.0, read_more ss bs s statement all.1 here)
-
-told_more : {A B : Type 0} (f : A → B) (xs : List A) (x : A) → map f (xs ++ x ∷ []) ≡ map f xs ++ f x ∷ []
-told_more f [] x = refl
-told_more f (y ∷ xs) x = ap (λ r. f y ∷ r) (told_more f xs x)
 
 -- A statement that changed nothing adds nothing.
 pub said_nothing_more : (ss : List Said) (s : Said) (r : Execution) → BodySaid ss r → is_effective s ≡ false → BodySaid (ss ++ s ∷ []) r

@@ -1,7 +1,6 @@
 -- What the calls of a read showed of the records that it found.
-use Rattle.std.specs.Prelude.{◌≡◌, ◌⊎◌, ◌<◌, ◌^◌, ℤ, true, false, List, [], ◌∷◌, ◌++◌, Option, Some, None, ℕ, ◌≤◌, filter, nat_lt, length, is_some, Bool, Contains, ◌↔◌, map}
+use Rattle.std.specs.Prelude.{◌≡◌, ◌⊎◌, ◌<◌, ◌^◌, ℤ, true, false, List, [], ◌∷◌, ◌++◌, Option, Some, None, ℕ, ◌≤◌, filter, nat_lt, length, is_some, Contains, ◌↔◌, map}
 use Rattle.std.specs.List.{AllByRecursion, cons_option, flat_map}
-use Rattle.std.specs.Option.{option_map_or}
 use Rattle.sdb_types.specs.declared.txid.TxId.{TxId}
 use Rattle.sdb_types.specs.declared.record.Record.{Record}
 use Rattle.sdb_types.specs.declared.record.Request.{Request}
@@ -19,9 +18,9 @@ use Rattle.sdb_record.specs.Parts.{before_record}
 use Rattle.sdb_record.specs.Rolls.{forward_record}
 use Rattle.sdb_model.specs.declared.event.Event.{Event}
 use Rattle.sdb_model.specs.Calls.{Made, calls_by, calls_of, decision_shown, made_by}
-use Rattle.sdb_model.specs.Transactions.{Said, is_answered_from_rows, is_effective}
+use Rattle.sdb_model.specs.Transactions.{Said, is_effective}
 use Rattle.sdb_record.specs.Moved.{version_of}
-use Rattle.sdb_model.specs.Noted.{Note, Got, Scanned, notes_in, reads_rows}
+use Rattle.sdb_model.specs.Noted.{Note, Got, Scanned, notes_in, reads_rows, is_from_rows as from_rows}
 use Rattle.sdb_snapshot.specs.Noted.{reads_of}
 use Rattle.sdb_snapshot.specs.Seen.{Seen}
 use Rattle.sdb_turns.specs.Noted.{first_image}
@@ -118,11 +117,7 @@ call_made c n e = cons_option (made_by c (n, e)) []
 -- a statement was answered by an event before
 pub record WasAnswered (events : List Event) (s : Said) : Type 0 where
   pub answered : is_some s.answer ≡ true
-  pub before : s.answered ≤ length events
-
--- a statement was answered from rows
-abbrev pub from_rows : Said → Bool
-from_rows s = option_map_or is_answered_from_rows s.answer false
+  pub before : s.reached ≤ length events
 
 -- the notes of the statements of a list that changed something and were answered from rows
 abbrev pub noted_by : List Event → ℕ → List Said → List Note

@@ -21,7 +21,7 @@ number c k = (id_of c (suc k)).0
 pub record IsFiledAt (past : List Played) (t : ℕ) (f : Finished) : Type 0 where
   pub begun : (talk past).begun t ≡ f.begin.taken
   pub taken : (talk past).taken t ≡ true → (reads_commit f.last.text ≡ true) × (f.last.taken ≡ (talk past).taken_at t)
-  pub told : f.last.answer ≡ Some answer.Committed → IsToldAt past t f.last.answered
+  pub told : f.last.answer ≡ Some answer.Committed → IsToldAt past t f.last.reached
   pub denied : (a : Answer) → f.last.answer ≡ Some a → is_denial a ≡ true → (talk past).taken t ≡ true → IsDenied past t
   pub unknown : (u : TxId) → f.last.answer ≡ Some (answer.Unknown u) → u ≡ id t
 

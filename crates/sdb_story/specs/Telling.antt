@@ -9,8 +9,8 @@ use Rattle.sdb_model.specs.declared.event.Event.TheVariants as event
 use Rattle.sdb_model.specs.Sql.{reads_commit}
 use Rattle.sdb_model.specs.Transactions.{Said, said, begins, ends}
 use Rattle.sdb_laws.specs.History.{Role, Begins, Takes, Ends, at}
-use Rattle.sdb_laws.specs.Lawful.{Played, answer_of, id, talk}
-use Rattle.sdb_turns.specs.System.{SystemAt, Has, plays}
+use Rattle.sdb_laws.specs.Lawful.{Played, answer_of, id, talk, plays}
+use Rattle.sdb_turns.specs.System.{SystemAt, Has}
 use Rattle.sdb_story.specs.Story.{Finished, Rest, Closed, Opened, settle, saids_of, said_of, IsFinished, IsRest, finished_at}
 use Rattle.sdb_story.specs.Filed.{number, IsFiledAt}
 
@@ -108,7 +108,7 @@ pub record KeepsHold (c : ℕ) (sys next : SystemAt) : Type 0 where
 pub record IsSaid (events : List Event) (c : ℕ) (x : Telling) (q : Played) (s : Said) : Type 0 where
   pub said : said c (events ++ q.event ∷ []) ≡ (saids_of x.whole ++ said_of x.rest) ++ s ∷ []
   pub answer : answer_of q.event ≡ s.answer
-  pub answered : s.answered ≡ length events + 1
+  pub answered : s.reached ≡ length events + 1
   pub waited : (w : Said) → x.waiting ≡ Some w → (s.text ≡ w.text) × (s.taken ≡ w.taken)
 
 -- a statement that begins no transaction where none is open, and ends none where one is
@@ -147,11 +147,11 @@ NamesIt t s = (u : TxId) → s.answer ≡ Some (answer.Unknown u) → u ≡ id t
 
 -- the statement of a Take
 abbrev pub taken_said : List Event → List ℕ → Option Answer → Said
-taken_said events text a = record { taken = 1 + length events; text = text; answer = a; answered = 1 + length events }
+taken_said events text a = record { taken = 1 + length events; text = text; answer = a; reached = 1 + length events }
 
 -- the statement that waited, with its answer
 abbrev pub answered_said : List Event → Said → Answer → Said
-answered_said events w a = record { taken = w.taken; text = w.text; answer = Some a; answered = 1 + length events }
+answered_said events w a = record { taken = w.taken; text = w.text; answer = Some a; reached = 1 + length events }
 
 -- A BEGIN is answered Done to a client whose story has nothing open, under the number of its next transaction, which was not taken.
 pub record BeginsNext (events : List Event) (past : List Played) (sys next : SystemAt) (c : ℕ) (x : Telling) (text : List ℕ) : Type 0 where

@@ -7,13 +7,14 @@ use Rattle.sdb_model.specs.declared.event.Event.TheVariants as event
 use Rattle.sdb_laws.specs.Plan.{Plan}
 use Rattle.sdb_laws.specs.History as laws
 use Rattle.sdb_laws.specs.History.{Begins, Talk, heard}
-use Rattle.sdb_laws.specs.Lawful.{Played, MayBegin, talk}
+use Rattle.sdb_laws.specs.Lawful.{Played, MayBegin, talk, plays}
 use Rattle.sdb_snapshot.specs.Seen.{nothing}
 use Rattle.sdb_turns.specs.Noted.{OpenOk}
-use Rattle.sdb_turns.specs.System.{ClientAt, Resting, Open, ClientOk, Has, sweeps, IsNumbered, SystemAt, SystemOk, with_client, with_begun, next_id, idle, plays, StandsAt, IsBegin, NoneSweeps, begin_played}
+use Rattle.sdb_turns.specs.System.{ClientAt, Resting, Open, ClientOk, Has, sweeps, IsNumbered, SystemAt, SystemOk, with_client, with_begun, next_id, idle, StandsAt, IsBegin, NoneSweeps, begin_played}
 use Rattle.sdb_turns.proofs.Clients.{client_later, others_spared, with_here}
 use Rattle.sdb_turns.proofs.Fresh.{in_turn}
 use Rattle.sdb_turns.proofs.Seen.{seen_nothing}
+use Rattle.sdb_types.proofs.Basics.{id_fits as fits}
 
 ---- numbers
 
@@ -22,9 +23,6 @@ half c n l = omega arith
 
 rest : (c n : ℕ) → n < 2 ^ 64 → (c * 2 ^ 64 + n) % 2 ^ 64 ≡ n
 rest c n l = omega arith
-
-fits : (c n : ℕ) → c < 2 ^ 64 → n < 2 ^ 64 → c * 2 ^ 64 + n < 2 ^ 128
-fits c n l m = omega arith
 
 zero_or : (n : ℕ) → (n ≡ 0) ⊎ (n ≢ 0)
 zero_or zero = inl refl
@@ -70,7 +68,7 @@ here_begun h t c e = absurd (clash (h.now) (sym (now h t c) ∙ e))
     clash : (n : ℕ) → n + 1 ≡ 0 → ⊥
     clash n e = omega arith
 
-here_owner : (h : Talk) (t c : ℕ) → (heard h (Begins t c)).owner t ≡ c
+pub here_owner : (h : Talk) (t c : ℕ) → (heard h (Begins t c)).owner t ≡ c
 here_owner h t c = grind (arith, nat_tests)
 
 here_open : (h : Talk) (t c : ℕ) → (heard h (Begins t c)).is_open t ≡ true

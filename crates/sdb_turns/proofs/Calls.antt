@@ -27,8 +27,8 @@ use Rattle.sdb_model.specs.declared.event.How.{How}
 use Rattle.sdb_model.specs.Rows.{Name}
 use Rattle.sdb_laws.specs.Plan.{Plan}
 use Rattle.sdb_laws.specs.History as laws
-use Rattle.sdb_laws.specs.History.{Role, Other, Removes, Talk, heard}
-use Rattle.sdb_laws.specs.Lawful.{Played, MayPlay, MayRemove, talk, is_quiet, is_data, IsSettled}
+use Rattle.sdb_laws.specs.History.{Role, Other, Removes}
+use Rattle.sdb_laws.specs.Lawful.{Played, MayPlay, talk, is_quiet, is_data, plays, ends_with}
 use Rattle.sdb_phases.specs.declared.step.RecoverStep.{RecoverStep}
 use Rattle.sdb_phases.specs.declared.step.RecoverStep.TheVariants as steps
 use Rattle.sdb_phases.specs.declared.step.RecoverPhase.{RecoverPhase}
@@ -40,16 +40,15 @@ use Rattle.sdb_turns.specs.Reader.{RecoverOk, recover_role}
 use Rattle.sdb_turns.specs.ReadAt.{Kind, Firm, Open, Bad, AreKinds, IsKind, ReadAt, Asking, Resolving, Done, Failed, request_of, read_pending, read_role, read_step, IsImage, IsLeft, IsOfData, ReadOk, keys_of}
 use Rattle.sdb_turns.specs.Sweep as vacuum
 use Rattle.sdb_turns.specs.Sweep.{SweepAt, SweepOk, remove_request, remove_or, removes_role, sweep, sweep_one, sweep_resolved, sweep_removed, sweep_rows, sweep_pending, sweep_role, sweep_step}
-use Rattle.sdb_turns.specs.System.{Reading, Sweeping, Resting, ClientOk, Has, sweeps, Gate, SystemAt, SystemOk, with_client, plays, ends_with, ClientCall, call_event, IsReplyTo, StandsAt}
+use Rattle.sdb_turns.specs.System.{Reading, Sweeping, Resting, ClientOk, Has, sweeps, Gate, SystemAt, SystemOk, with_client, ClientCall, call_event, IsReplyTo, StandsAt}
 use Rattle.sdb_turns.proofs.Foreign.{IsForeign, IsForeignEvent, StopsNot, open_later, going}
 use Rattle.sdb_turns.proofs.Reading.{recover_lawful}
 use Rattle.sdb_turns.proofs.Clients.{BeginsNone, turned}
 use Rattle.sdb_turns.proofs.Commit.{no_start, not_open}
 use Rattle.sdb_turns.proofs.Meta.{meta_of}
 use Rattle.sdb_turns.proofs.Rows.{rise_is, inside_each, rows_left, read_kept, recover_kept, image_after, left_later}
-use Rattle.sdb_turns.proofs.Lists.{each_any}
 use Rattle.sdb_turns.proofs.Seen.{seen_later}
-use Rattle.sdb_types.proofs.Basics.{some_is}
+use Rattle.sdb_types.proofs.Basics.{some_is, all_each as each_any}
 
 ---- parts of a recovery
 

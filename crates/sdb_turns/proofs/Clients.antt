@@ -10,7 +10,7 @@ use Rattle.sdb_model.specs.declared.answer.Answer.{Answer}
 use Rattle.sdb_model.specs.declared.answer.Answer.TheVariants as answer
 use Rattle.sdb_laws.specs.Plan.{Plan}
 use Rattle.sdb_laws.specs.History as laws
-use Rattle.sdb_laws.specs.History.{Role, Other, Begins, Talk, heard}
+use Rattle.sdb_laws.specs.History.{Role, Begins, Talk, heard, says}
 use Rattle.sdb_laws.specs.Lawful.{Played, MayPlay, MayTell, MayDeny, talk, ended, answer_of, is_denial}
 use Rattle.sdb_phases.specs.declared.step.RecoverPhase.{RecoverPhase}
 use Rattle.sdb_phases.specs.declared.step.RecoverPhase.TheVariants as recovering
@@ -23,6 +23,7 @@ use Rattle.sdb_turns.proofs.Kept.{row_later}
 use Rattle.sdb_turns.proofs.Foreign.{IsForeignEvent, StopsNot, commit_later, open_later, foreign, goes_on, going, dead_stays}
 use Rattle.sdb_turns.proofs.Rows.{images_later, image_later, left_later}
 use Rattle.sdb_turns.proofs.Seen.{seen_later}
+use Rattle.sdb_laws.proofs.Seen.{open_before as open_ended}
 
 ---- what a client knows stays
 
@@ -31,7 +32,7 @@ recover_later past q rec meta p ok = record { of = ok.of; unresolved = ok.unreso
   where
     gone : (o : Option ℕ) → (talk past).dead meta.id.0 ≡ true → (ended (heard (talk past) q.role) o).dead meta.id.0 ≡ true
     gone None d = dead_stays meta.id.0 0 (talk past) q.role d
-    gone (Some u) d = dead_stays meta.id.0 0 (heard (talk past) q.role) (laws.Ends u) (dead_stays meta.id.0 0 (talk past) q.role d)
+    gone (Some u) d = dead_stays meta.id.0 0 (talk past) q.role d
 
     by : (p : RecoverPhase) → PhaseOk past meta p → PhaseOk (q ∷ past) meta p
     by recovering.Look h = tt
@@ -116,6 +117,9 @@ pub record Goes (h v : Talk) : Type 0 where
 heard_goes : (h : Talk) (r : Role) → BeginsNone r → Goes h (heard h r)
 heard_goes h r b = record { is_open = λ u. open_before h r u b; owner = λ u. owner_same h r u b; begun = λ u. begun_same h r u b; stopped = λ c. stopped_stays h r c }
 
+closed_goes : (h : Talk) (u : ℕ) → Goes h (says h (laws.Ends u))
+closed_goes h u = record { is_open = λ v o. open_ended h.is_open u v o; owner = λ v. refl; begun = λ v. refl; stopped = λ c s. s }
+
 both_go : (h v w : Talk) → Goes h v → Goes v w → Goes h w
 both_go h v w a b = record { is_open = λ u o. a.is_open u (b.is_open u o); owner = λ u. b.owner u ∙ a.owner u; begun = λ u. b.begun u ∙ a.begun u; stopped = λ c s. b.stopped c (a.stopped c s) }
 
@@ -124,7 +128,7 @@ event_goes past q b = by q.ends
   where
     by : (o : Option ℕ) → Goes (talk past) (ended (heard (talk past) q.role) o)
     by None = heard_goes (talk past) q.role b
-    by (Some u) = both_go (talk past) (heard (talk past) q.role) (heard (heard (talk past) q.role) (laws.Ends u)) (heard_goes (talk past) q.role b) (heard_goes (heard (talk past) q.role) (laws.Ends u) tt)
+    by (Some u) = both_go (talk past) (heard (talk past) q.role) (says (heard (talk past) q.role) (laws.Ends u)) (heard_goes (talk past) q.role b) (closed_goes (heard (talk past) q.role) u)
 
 -- VACUUM's gate stays shut while nothing begins.
 pub gate_goes : (h v : Talk) → Goes h v → Gate h → Gate v

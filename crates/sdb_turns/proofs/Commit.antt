@@ -20,9 +20,9 @@ use Rattle.sdb_model.specs.declared.event.Event.TheVariants as event
 use Rattle.sdb_model.specs.declared.event.How.{How}
 use Rattle.sdb_model.specs.Rows.{Name}
 use Rattle.sdb_laws.specs.Plan.{Plan}
-use Rattle.sdb_laws.specs.History.{Role, Other, Prepares, Checks, Decides, Aborts, Rolls, Talk, heard}
+use Rattle.sdb_laws.specs.History.{Role, Other, Prepares, Checks, Decides, Aborts, Rolls, Talk, heard, says}
 use Rattle.sdb_laws.specs.History as laws
-use Rattle.sdb_laws.specs.Lawful.{Played, talk, word_of, is_quiet, InCommit, IsKnownCommitted, IsKnownAborted, IsBadRow, MayPlay, MayTell, MayDeny, is_denial}
+use Rattle.sdb_laws.specs.Lawful.{Played, talk, word_of, is_quiet, InCommit, IsKnownCommitted, IsKnownAborted, IsBadRow, MayPlay, MayTell, MayDeny, is_denial, plays}
 use Rattle.sdb_phases.specs.declared.check.Check.{Check}
 use Rattle.sdb_phases.specs.declared.step.Outcome.{Outcome}
 use Rattle.sdb_phases.specs.declared.step.Outcome.TheVariants as outcome
@@ -34,7 +34,7 @@ use Rattle.sdb_phases.specs.Steps.{validate_step, judged}
 use Rattle.sdb_phases.specs.Commit.{Stage, Preparing, Checking, Deciding, Forward, Stopping, Back, Over, pending, step, after_check, starved, starved_answer}
 use Rattle.sdb_phases.specs.CommitLaws.{as_wished, is_more, IsLost}
 use Rattle.sdb_turns.specs.Owner.{CommitOk, StageOk, OverOk, IsReading, role_of, prepare_role, roll_role}
-use Rattle.sdb_turns.specs.System.{ClientAt, Committing, ClientOk, Has, sweeps, SystemAt, SystemOk, plays, answer_at, ending_at, answer_of_outcome, commit_left, commit_played, with_client, ClientCall, call_event, IsReplyTo, StandsAt}
+use Rattle.sdb_turns.specs.System.{ClientAt, Committing, ClientOk, Has, sweeps, SystemAt, SystemOk, answer_at, ending_at, answer_of_outcome, commit_left, commit_played, with_client, ClientCall, call_event, IsReplyTo, StandsAt}
 use Rattle.sdb_turns.proofs.Own.{prepare_lawful, check_lawful, decide_lawful, abort_lawful, forward_lawful, back_lawful}
 use Rattle.sdb_turns.proofs.Kept.{prepare_kept, decide_kept, look_kept, abort_kept, again_kept, stop_kept, forward_kept, back_kept, passed_kept}
 use Rattle.sdb_turns.proofs.Clients.{BeginsNone, turned, moved}
@@ -282,13 +282,13 @@ no_start x f t = absurd (clash (sym f ∙ t))
     clash e = cc
 
 -- an answer that ends a transaction leaves it not open
-pub not_open : (h : Talk) (role : Role) (t u : ℕ) → t ≡ u → (heard (heard h role) (laws.Ends t)).is_open u ≡ true → ⊥
+pub not_open : (h : Talk) (role : Role) (t u : ℕ) → t ≡ u → (says (heard h role) (laws.Ends t)).is_open u ≡ true → ⊥
 not_open h role t u e o = clash (sym (closed (heard h role) t u e) ∙ o)
   where
     clash : false ≡ true → ⊥
     clash e = cc
 
-    closed : (v : Talk) (t u : ℕ) → t ≡ u → (heard v (laws.Ends t)).is_open u ≡ false
+    closed : (v : Talk) (t u : ℕ) → t ≡ u → (says v (laws.Ends t)).is_open u ≡ false
     closed v t u e = grind (arith, nat_tests)
 
 pub commit_turn : (plan : ℕ → Plan) (past : List Played) (sys : SystemAt) (x : ClientCall) (p : Work) (s : Stage) → StandsAt plan past sys x.client (Committing p s) → IsReplyTo (pending p s) x

@@ -17,7 +17,7 @@ use Rattle.sdb_model.specs.declared.answer.Answer.{Answer}
 use Rattle.sdb_model.specs.declared.answer.Answer.TheVariants as answer
 use Rattle.sdb_model.specs.declared.event.Event.TheVariants as event
 use Rattle.sdb_laws.specs.History.{Other, Talk, Decides, Yes, heard}
-use Rattle.sdb_laws.specs.Lawful.{Played, is_data, talk}
+use Rattle.sdb_laws.specs.Lawful.{Played, is_data, talk, plays}
 use Rattle.sdb_laws.specs.Plan.{Plan}
 use Rattle.sdb_laws.specs.Worked.{account, balance, nothing as no_plan}
 use Rattle.sdb_laws.proofs.Texts.{begin_begins, commit_commits}
@@ -28,7 +28,7 @@ use Rattle.sdb_record.specs.Names.{is_meta, base_name}
 use Rattle.sdb_snapshot.specs.Written.{AreChanges}
 use Rattle.sdb_snapshot.specs.Seen.{nothing}
 use Rattle.sdb_turns.specs.ReadAt.{Kind, Bad, Asking, Done, IsOfData}
-use Rattle.sdb_turns.specs.System.{Resting, Reading, Committing, SystemAt, SystemOk, ClientCall, idle, with_begun, with_client, begin_played, take_played, commit_played, commit_left, commit_begun, with_plan, call_event, plays, next_id}
+use Rattle.sdb_turns.specs.System.{Reading, Committing, SystemAt, SystemOk, ClientCall, idle, with_begun, with_client, begin_played, take_played, commit_played, with_plan, call_event}
 use Rattle.sdb_turns.specs.System as client
 use Rattle.sdb_turns.specs.Worked.{first_id, inserted, read_once, wrote_once, first_work, call_of, SomeCommit}
 use Rattle.sdb_turns.proofs.Begin.{begins, begin_turn}

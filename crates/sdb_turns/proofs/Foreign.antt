@@ -8,7 +8,7 @@ use Rattle.sdb_record.specs.declared.coordinator.Decision.TheVariants as decisio
 use Rattle.sdb_model.specs.declared.event.Event.{Event}
 use Rattle.sdb_model.specs.declared.event.Event.TheVariants as event
 use Rattle.sdb_laws.specs.Plan.{Plan}
-use Rattle.sdb_laws.specs.History.{Role, Other, Begins, Takes, Prepares, Checks, Decides, Aborts, Rolls, Removes, Ends, Stops, Talk, Word, heard}
+use Rattle.sdb_laws.specs.History.{Role, Other, Begins, Takes, Prepares, Checks, Decides, Aborts, Rolls, Removes, Ends, Stops, Talk, heard, says}
 use Rattle.sdb_laws.specs.History as laws
 use Rattle.sdb_laws.specs.Lawful.{Played, talk, ended, InCommit, IsCallOf, IsKnownCommitted, IsKnownAborted, IsBadRow, MayPlay}
 use Rattle.sdb_laws.proofs.Keys.{tests}
@@ -121,6 +121,26 @@ same_for t c h r f = record {
   met = met_stays t c h r;
 }
 
+closed_open : (t u : ℕ) (h : Talk) → u ≢ t → (says h (Ends u)).is_open t ≡ h.is_open t
+closed_open t u h ne = grind (arith, nat_tests)
+
+closed_same : (t c : ℕ) (h : Talk) (u : ℕ) → u ≢ t → SameFor t c h (says h (Ends u))
+closed_same t c h u ne = record {
+  begun = refl;
+  owner = refl;
+  is_open = closed_open t u h ne;
+  stopped = refl;
+  taken = refl;
+  stage = refl;
+  asked = λ k. refl;
+  told = λ k. refl;
+  checked = λ i. refl;
+  risked = refl;
+  won = λ x. x;
+  dead = λ x. x;
+  met = λ x. x;
+}
+
 then_same : (t c : ℕ) (h v w : Talk) → SameFor t c h v → SameFor t c v w → SameFor t c h w
 then_same t c h v w a b = record {
   begun = b.begun ∙ a.begun;
@@ -148,7 +168,7 @@ event_same t c past q f = by q.ends refl
   where
     by : (o : Option ℕ) → q.ends ≡ o → SameFor t c (talk past) (ended (heard (talk past) q.role) o)
     by None e = same_for t c (talk past) q.role f.part
-    by (Some u) e = then_same t c (talk past) (heard (talk past) q.role) (heard (heard (talk past) q.role) (Ends u)) (same_for t c (talk past) q.role f.part) (same_for t c (heard (talk past) q.role) (Ends u) (f.ends u e))
+    by (Some u) e = then_same t c (talk past) (heard (talk past) q.role) (says (heard (talk past) q.role) (Ends u)) (same_for t c (talk past) q.role f.part) (closed_same t c (heard (talk past) q.role) u (f.ends u e))
 
 ---- what is known
 

@@ -5,9 +5,10 @@ use Rattle.sdb_types.specs.declared.key.Key.{Key}
 use Rattle.sdb_model.specs.declared.event.Event.{Event}
 use Rattle.sdb_laws.specs.Plan.{Plan}
 use Rattle.sdb_laws.specs.History as laws
-use Rattle.sdb_laws.specs.History.{Role, Other, Begins, Takes, Prepares, Checks, Decides, Aborts, Rolls, Removes, Ends, Stops, Talk, heard}
+use Rattle.sdb_laws.specs.History.{Role, Other, Begins, Takes, Prepares, Checks, Decides, Aborts, Rolls, Removes, Ends, Stops, Talk, heard, says}
 use Rattle.sdb_laws.specs.Lawful.{Played, IsLawful, MayPlay, talk, ended}
 use Rattle.sdb_laws.proofs.Keys.{tests}
+use Rattle.sdb_laws.proofs.Seen.{closed_still}
 
 -- a transaction is open, and its COMMIT is taken, only after it has begun; and its calls come only after its COMMIT was taken
 pub record InTurn (h : Talk) (t : ℕ) : Type 0 where
@@ -48,6 +49,10 @@ turn_kept h r t a u = record {
   risked = risked_kept h r t a u.risked;
 }
 
+-- and so does the end of a transaction
+turn_closed : (h : Talk) (u t : ℕ) → InTurn h t → InTurn (says h (Ends u)) t
+turn_closed h u t one = record { is_open = λ b. closed_still h.is_open u t (one.is_open b); taken = one.taken; stage = one.stage; asked = one.asked; risked = one.risked }
+
 after_played : (plan : ℕ → Plan) (past : List Played) (e : Event) (r : Role) → MayPlay plan past e r → IsAfter (talk past) r
 after_played plan past e Other m = tt
 after_played plan past e (Begins t c) m = tt
@@ -67,4 +72,4 @@ in_turn plan (p ∷ past) t l = by p.ends (turn_kept (talk past) p.role t (after
   where
     by : (o : Option ℕ) → InTurn (heard (talk past) p.role) t → InTurn (ended (heard (talk past) p.role) o) t
     by None one = one
-    by (Some u) one = turn_kept (heard (talk past) p.role) (Ends u) t tt one
+    by (Some u) one = turn_closed (heard (talk past) p.role) u t one

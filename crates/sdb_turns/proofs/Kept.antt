@@ -22,9 +22,9 @@ use Rattle.sdb_model.specs.declared.event.How.{How}
 use Rattle.sdb_model.specs.declared.event.Event.TheVariants as event
 use Rattle.sdb_model.specs.Rows.{Name}
 use Rattle.sdb_laws.specs.Plan.{Plan}
-use Rattle.sdb_laws.specs.History.{Role, Other, Prepares, Checks, Decides, Aborts, Rolls, Talk, Word, Yes, No, Silence, Wanting, heard}
+use Rattle.sdb_laws.specs.History.{Other, Prepares, Checks, Decides, Aborts, Rolls, Talk, Word, Yes, No, Silence, Wanting, heard}
 use Rattle.sdb_laws.specs.History as laws
-use Rattle.sdb_laws.specs.Lawful.{Played, id, talk, word_of, IsShown, IsRowShown, IsKnownCommitted, IsKnownAborted, IsBadRow}
+use Rattle.sdb_laws.specs.Lawful.{Played, id, talk, word_of, IsShown, IsRowShown, IsKnownCommitted, IsKnownAborted, IsBadRow, plays}
 use Rattle.sdb_laws.proofs.Keys.{tests}
 use Rattle.sdb_phases.specs.declared.check.Check.{Check}
 use Rattle.sdb_phases.specs.declared.step.Outcome.{Outcome}
@@ -38,7 +38,6 @@ use Rattle.sdb_phases.specs.Checks.{checks, difference_in}
 use Rattle.sdb_phases.specs.Steps.{told, followed, refused}
 use Rattle.sdb_phases.specs.Commit.{Stage, Preparing, Checking, Deciding, Forward, Stopping, Back, Over, step, checking, forward, back, after_prepare, after_check, after_decide}
 use Rattle.sdb_phases.specs.CommitLaws.{as_wished, IsLost}
-use Rattle.sdb_turns.specs.System.{plays}
 use Rattle.sdb_turns.specs.Owner.{NoteAgrees, WorkOk, CommitOk, StageOk, ToldTo, AskedTo, UnaskedFrom, CheckedTo, AgreesTo, OverOk}
 use Rattle.sdb_types.proofs.Basics.{lt_of as less, some_is}
 
@@ -113,7 +112,7 @@ checks_begin plan past p stage told asked safe = by_test plan past p (nat_lt 0 (
     none : (j n : ℕ) → j < n → nat_lt 0 n ≡ false → ⊥
     none j n l f = absurd (grind (arith, nat_tests))
 
-not_deciding : (s : laws.Stage) → s ≡ laws.Preparing → s ≢ laws.Deciding
+pub not_deciding : (s : laws.Stage) → s ≡ laws.Preparing → s ≢ laws.Deciding
 not_deciding s e d = absurd (cc)
 
 pub prepare_kept : (plan : ℕ → Plan) (past : List Played) (c i : ℕ) (p : Work) (w : Write) (e : Event) (r : Reply) → CommitOk plan past c p (Preparing i) → slice_get p.writes i ≡ Some w

@@ -2,6 +2,7 @@
 use Rattle.std.proofs.Common.{◌≡◌, ℕ, zero, suc, Bool, true, false, List, [], ◌∷◌, ◌++◌, map, Some, refl, subst}
 use Rattle.std.specs.Prelude.{slice_get, filter, if◌then◌else◌}
 use Rattle.std.specs.List.{AllByRecursion}
+use Rattle.sdb_types.proofs.Basics.{append_all as each_append}
 
 pub each_at : {A : Type 0} (P : A → Type 0) (xs : List A) (i : ℕ) (x : A) → AllByRecursion P xs → slice_get xs i ≡ Some x → P x
 each_at P [] i x all h = absurd (cc)
@@ -10,10 +11,6 @@ each_at {A = A} P (y ∷ ys) zero x all h = subst P (some_is y x h) all.0
     some_is : (a b : A) → Some a ≡ Some b → a ≡ b
     some_is a b e = cc
 each_at P (y ∷ ys) (suc i) x all h = each_at P ys i x all.1 h
-
-pub each_append : {A : Type 0} (P : A → Type 0) (xs ys : List A) → AllByRecursion P xs → AllByRecursion P ys → AllByRecursion P (xs ++ ys)
-each_append P [] ys a b = b
-each_append P (x ∷ xs) ys a b = (a.0, each_append P xs ys a.1 b)
 
 pub each_more : {A : Type 0} (P : A → Type 0) (xs : List A) (x : A) → AllByRecursion P xs → P x → AllByRecursion P (xs ++ x ∷ [])
 each_more P xs x a b = each_append P xs (x ∷ []) a (b, tt)
@@ -33,10 +30,6 @@ each_filter P t (x ∷ xs) a = by (t x) refl (each_filter P t xs a.1)
     by : (b : Bool) → t x ≡ b → AllByRecursion (λ x. P x × (t x ≡ true)) (filter t xs) → AllByRecursion (λ x. P x × (t x ≡ true)) (if b then x ∷ filter t xs else filter t xs)
     by true e ih = ((a.0, e), ih)
     by false e ih = ih
-
-pub each_any : {A : Type 0} (P Q : A → Type 0) (xs : List A) → ((x : A) → P x → Q x) → AllByRecursion P xs → AllByRecursion Q xs
-each_any P Q [] f a = tt
-each_any P Q (x ∷ xs) f a = (f x a.0, each_any P Q xs f a.1)
 
 pub each_both : {A : Type 0} (P Q R : A → Type 0) (xs : List A) → ((x : A) → P x → Q x → R x) → AllByRecursion P xs → AllByRecursion Q xs → AllByRecursion R xs
 each_both P Q R [] f a b = tt

@@ -1,25 +1,21 @@
 -- The machine of a read steps as the laws of clients say.
-use Rattle.std.proofs.Common.{◌≡◌, ℤ, Bool, true, false, cond, not, ◌&&◌, List, [], ◌∷◌, ◌++◌, Option, Some, None, Result, Ok, Err, refl, sym, ap, ◌∙◌, ℕ}
-use Rattle.std.specs.Prelude.{is_ok}
+use Rattle.std.proofs.Common.{◌≡◌, ℤ, true, false, cond, List, [], ◌∷◌, ◌++◌, Some, None, Result, Ok, Err, refl, sym, ap, ◌∙◌, ℕ}
 use Rattle.sdb_types.specs.declared.record.Record.{Record}
 use Rattle.sdb_types.specs.declared.record.Reply.{Reply}
 use Rattle.sdb_types.specs.declared.record.Reply.TheVariants as reply
-use Rattle.sdb_types.specs.declared.record.Request.{Request}
 use Rattle.sdb_types.specs.declared.record.State.TheVariants as state
-use Rattle.sdb_types.proofs.Bools.{and_second}
 use Rattle.sdb_record.specs.declared.access.Access.{Access}
 use Rattle.sdb_record.specs.declared.access.Access.TheVariants as access
 use Rattle.sdb_record.specs.declared.meta.Meta.{Meta}
-use Rattle.sdb_record.specs.Meta.{checked, is_in, is_taken, is_unresolved}
+use Rattle.sdb_record.specs.Meta.{checked, is_in, is_taken}
 use Rattle.sdb_phases.specs.declared.step.RecoverStep.{RecoverStep}
 use Rattle.sdb_phases.specs.declared.step.RecoverStep.TheVariants as steps
 use Rattle.sdb_phases.specs.declared.step.RecoverPhase.{RecoverPhase}
 use Rattle.sdb_phases.specs.Recover.{recover_next}
-use Rattle.sdb_read.specs.declared.read.ReadStep.{ReadStep}
 use Rattle.sdb_read.specs.declared.read.ReadStep.TheVariants as step
 use Rattle.sdb_read.specs.Read as machine
 use Rattle.sdb_turns.specs.Machine.{kind_at, machine_kind, stands_at}
-use Rattle.sdb_turns.specs.ReadAt.{AreKinds, IsKind, ReadAt, after_recovery, read_pending, read_step, request_of, settle, settle_one, settle_reply}
+use Rattle.sdb_turns.specs.ReadAt.{AreKinds, IsKind, after_recovery, read_pending, read_step, request_of, settle, settle_one, settle_reply}
 
 ---- rows
 

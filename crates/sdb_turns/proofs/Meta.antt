@@ -16,32 +16,18 @@ use Rattle.sdb_record.specs.declared.coordinator.Decision.TheVariants as decisio
 use Rattle.sdb_record.specs.declared.meta.Meta.{Meta}
 use Rattle.sdb_record.specs.Names.{tx_created_at}
 use Rattle.sdb_record.specs.Coordinator.{id_of_key, decision_in, decision_in_value}
-use Rattle.sdb_record.specs.Meta.{id_in, id_in_value, is_in, is_moment, moment_in, moment_in_value, is_committed, is_taken, is_unresolved, checked, checked_before, checked_part, need, refuse, with_before, is_misnamed}
+use Rattle.sdb_record.specs.Meta.{id_in, id_in_value, is_in, is_moment, moment_in, is_committed, is_taken, is_unresolved, checked, checked_before, checked_part, refuse, with_before, is_misnamed}
 use Rattle.sdb_record.specs.Parts.{before_record, before_part, is_before_pair}
 use Rattle.sdb_record.specs.Rolls.{forward_record}
-use Rattle.sdb_record.proofs.Fine.{taken, refuse-ok}
+use Rattle.sdb_record.proofs.Fine.{taken, refuse-ok, need-ok as need_ok}
 use Rattle.sdb_record.proofs.IdLemmas.{id_of_text-is}
 use Rattle.sdb_record.proofs.ImageLaws.{image-open, image-is, checked-state}
 use Rattle.sdb_turns.specs.ReadAt.{Firm, Open, Bad, AreKinds, IsKind, kind_by, kind_of}
 use Rattle.sdb_turns.specs.Reader.{IsMetaOf}
+use Rattle.sdb_read.proofs.Images.{moment_is}
+use Rattle.sdb_types.proofs.Basics.{not_true}
 
 ---- a row's moment
-
-need_ok : {A B : Type 0} (o : Option A) (name : List ℕ) (next : A → Result B (List ℕ)) (y : B) → need o name next ≡ Ok y → (x : A) × (o ≡ Some x) × (next x ≡ Ok y)
-need_ok None name next y h = absurd (cc)
-need_ok (Some x) name next y h = (x, refl, h)
-
-moment_is : (o : Option Value) (n : ℤ) → moment_in_value o ≡ Some n → is_moment n ≡ true
-moment_is None n h = absurd (cc)
-moment_is (Some (value.BigInt m)) n h = by (is_moment m) refl h
-  where
-    some_is : Some m ≡ Some n → m ≡ n
-    some_is e = cc
-
-    by : (b : Bool) → is_moment m ≡ b → cond b (Some m) None ≡ Some n → is_moment n ≡ true
-    by true t e = subst (λ x. is_moment x ≡ true) (some_is e) t
-    by false t e = absurd (cc)
-moment_is (Some v) n h = absurd (cc)
 
 -- The moment that a well formed row says is one.
 pub decided_at : (row : Record) (d : Decided) → decision_in row ≡ Ok d → is_moment d.created_at ≡ true
@@ -73,10 +59,6 @@ id_fits : (o : Option Value) (id : TxId) → id_in_value o ≡ Some id → id.0 
 id_fits None id h = absurd (cc)
 id_fits (Some (value.Text text)) id h = (id_of_text-is text id h).0
 id_fits (Some v) id h = absurd (cc)
-
-not_true : (b : Bool) → not b ≡ true → b ≡ false
-not_true true e = absurd (cc)
-not_true false e = refl
 
 pub held_of : (r : Record) → is_unresolved r ≡ true → is_in Committed r.columns ≡ false
 held_of r h = not_true (is_in Committed r.columns) (and_second (is_taken r) (not (is_in Committed r.columns)) h)

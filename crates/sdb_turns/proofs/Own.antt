@@ -1,7 +1,6 @@
 -- A call of a COMMIT is one that the rules of the protocol let through.
-use Rattle.std.proofs.Common.{◌≡◌, ◌≢◌, ◌≤◌, ◌<◌, ℕ, true, false, List, length, Option, Some, None, refl, sym, ap, subst, ◌∙◌, arith, ◌⊎◌, inl, inr}
+use Rattle.std.proofs.Common.{◌≡◌, ◌≢◌, ◌≤◌, ◌<◌, ℕ, true, List, length, Option, Some, None, refl, sym, ap, subst, ◌∙◌, arith, ◌⊎◌, inl, inr}
 use Rattle.std.specs.Prelude.{slice_get}
-use Rattle.std.proofs.lemmas.Option.{slice_get-map}
 use Rattle.std.specs.Option.{option_map}
 use Rattle.sdb_types.specs.declared.key.Key.{Key}
 use Rattle.sdb_types.specs.declared.record.Record.{Record}
@@ -9,17 +8,15 @@ use Rattle.sdb_types.specs.declared.record.Reply.{Reply}
 use Rattle.sdb_types.specs.declared.record.Request.{Request}
 use Rattle.sdb_types.specs.Contents.{CanAnswer}
 use Rattle.sdb_record.specs.declared.write.Write.{Write}
-use Rattle.sdb_record.specs.declared.write.Change.{Change}
 use Rattle.sdb_record.specs.declared.write.Change.TheVariants as change
-use Rattle.sdb_record.specs.Meta.{is_committed}
 use Rattle.sdb_record.specs.Rolls.{prepared_record, state_of_change}
-use Rattle.sdb_record.proofs.TakenLaws.{prepared-base}
+use Rattle.sdb_record.proofs.TakenLaws.{prepared-base, open-left as open_state}
 use Rattle.sdb_model.specs.declared.answer.Answer.{Answer}
 use Rattle.sdb_model.specs.declared.event.How.{How}
 use Rattle.sdb_model.specs.declared.event.Event.TheVariants as event
 use Rattle.sdb_model.specs.Rows.{Name}
 use Rattle.sdb_laws.specs.Plan.{Plan, write_at, written, noted}
-use Rattle.sdb_laws.specs.Lawful.{Played, id, talk, word_of, InCommit, IsCallOf, IsRowShown, IsKnownCommitted, IsKnownAborted, MayPlay, MayPrepare, MayCheck, MayDecide, MayAbort, MayRoll, MayRollForward, MayRollBack, back_request, prepared_at}
+use Rattle.sdb_laws.specs.Lawful.{Played, id, talk, word_of, MayPrepare, MayCheck, MayDecide, MayAbort, MayRoll, MayRollForward, MayRollBack, back_request}
 use Rattle.sdb_laws.proofs.Known.{writes_it, write_key}
 use Rattle.sdb_laws.specs.Records.{write_there}
 use Rattle.sdb_phases.specs.declared.check.Check.{Check}
@@ -119,10 +116,6 @@ abort_lawful plan past c p s store how r a ok = record {
 }
 
 ---- rolls
-
-open_state : (x : Change) → is_committed (state_of_change x) ≡ false
-open_state (change.Row columns) = refl
-open_state change.Delete = refl
 
 abbrev roll : (plan : ℕ → Plan) (past : List Played) (c i n : ℕ) (p : Work) (s : Stage) (w : Write) (store : Name) (q : Request) (how : How) (r : Reply) (a : Option Answer) → CommitOk plan past c p s → AskedTo (talk past) p n → i < n → slice_get p.writes i ≡ Some w
     → MayRoll plan past (event.Call c store q how r a) p.id.0 w.key

@@ -1,5 +1,5 @@
 -- Turns that play no part: statements taken and answered, moves of the clock, idle steps; and moves without an event.
-use Rattle.std.proofs.Common.{◌≡◌, ◌≢◌, ◌<◌, ℕ, ℤ, Bool, true, false, List, [], ◌∷◌, Option, Some, None, refl, sym, ap, subst, ◌∙◌, ◌⊎◌, inl, inr}
+use Rattle.std.proofs.Common.{◌≡◌, ℕ, Bool, true, false, List, ◌∷◌, refl, sym, ap, subst, ◌∙◌, ◌⊎◌, inl, inr}
 use Rattle.sdb_types.specs.declared.txid.TxId.{TxId}
 use Rattle.sdb_types.specs.declared.record.Record.{Record}
 use Rattle.sdb_types.specs.declared.record.Span.{Span}
@@ -10,16 +10,17 @@ use Rattle.sdb_model.specs.declared.event.Event.{Event}
 use Rattle.sdb_model.specs.declared.event.Event.TheVariants as event
 use Rattle.sdb_laws.specs.Plan.{Plan}
 use Rattle.sdb_laws.specs.History.{Other, Stops, Talk, heard}
-use Rattle.sdb_laws.specs.Lawful.{Played, talk}
+use Rattle.sdb_laws.specs.Lawful.{Played, talk, plays, ends_with}
 use Rattle.sdb_snapshot.specs.Seen.{Seen, with_written}
 use Rattle.sdb_snapshot.specs.Written.{AreChanges}
 use Rattle.sdb_turns.specs.Noted.{OpenOk, SeenOk, with_read, MayNote}
 use Rattle.sdb_turns.specs.ReadAt.{ReadAt, Asking, Done, IsOfData, ReadOk}
 use Rattle.sdb_turns.specs.Sweep.{SweepAt, Scanning}
-use Rattle.sdb_turns.specs.System.{ClientAt, Resting, Open, Reading, Committing, Sweeping, Stopped, ClientOk, Has, has_open, sweeps, Gate, SystemAt, SystemOk, with_client, IsBy, plays, ends_with, StandsAt, IsQuiet, NoneOpen}
+use Rattle.sdb_turns.specs.System.{ClientAt, Resting, Open, Reading, Committing, Sweeping, Stopped, ClientOk, Has, has_open, sweeps, Gate, SystemAt, SystemOk, with_client, IsBy, StandsAt, IsQuiet, NoneOpen}
 use Rattle.sdb_turns.proofs.Clients.{turned, moved, Spares, client_later}
 use Rattle.sdb_turns.proofs.Commit.{no_start, not_open}
 use Rattle.sdb_turns.proofs.Seen.{read_noted, write_kept}
+use Rattle.sdb_types.proofs.Basics.{some_is}
 
 ---- events without a part
 
@@ -34,9 +35,6 @@ quiet_turn plan past sys e ok quiet = record {
   gate = ok.gate;
   ids = λ u b. let i = ok.ids u b in record { ordinal = i.ordinal; most = i.most; owner = i.owner };
 }
-
-some_is : (x y : ℕ) → Some x ≡ Some y → x ≡ y
-some_is x y e = cc
 
 -- An answer that isn't Committed ends a transaction whose COMMIT was not taken.
 pub leave_turn : (plan : ℕ → Plan) (past : List Played) (sys : SystemAt) (c : ℕ) (id : TxId) (seen : Seen) (e : Event) → StandsAt plan past sys c (Open id seen) → IsBy c e → IsQuiet e

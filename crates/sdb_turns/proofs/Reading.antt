@@ -23,14 +23,13 @@ use Rattle.sdb_model.specs.declared.event.Event.TheVariants as event
 use Rattle.sdb_model.specs.Rows.{Name}
 use Rattle.sdb_laws.specs.Plan.{Plan}
 use Rattle.sdb_laws.specs.History.{Other, Aborts, Talk, Yes, heard}
-use Rattle.sdb_laws.specs.Lawful.{Played, talk, IsShown, IsHeldShown, IsKnownAborted, IsSettled, Forward, Back, MayPlay, MayRoll, back_request}
+use Rattle.sdb_laws.specs.Lawful.{Played, talk, IsShown, IsHeldShown, IsKnownAborted, IsSettled, Forward, Back, MayPlay, MayRoll, back_request, plays}
 use Rattle.sdb_phases.specs.declared.step.RecoverStep.{RecoverStep}
 use Rattle.sdb_phases.specs.declared.step.RecoverStep.TheVariants as steps
 use Rattle.sdb_phases.specs.declared.step.RecoverPhase.{RecoverPhase}
 use Rattle.sdb_phases.specs.declared.step.RecoverPhase.TheVariants as phase
 use Rattle.sdb_phases.specs.Work.{look_of, abort_of, undo}
 use Rattle.sdb_phases.specs.Recover.{recover_request_at, recover_next, recover_forward, recover_back, roll_to, undecided, stands_found}
-use Rattle.sdb_turns.specs.System.{plays}
 use Rattle.sdb_turns.specs.Reader.{recover_role, PhaseOk, IsLearnedAborted, RecoverOk}
 use Rattle.sdb_turns.proofs.Meta.{IsFirm, decided_at, forward_firm, before_firm}
 
@@ -95,7 +94,7 @@ recover_lawful plan past c rec meta phase.Ended store q how r a ok e = absurd (c
 abbrev led : ℤ → Decision → RecoverPhase × RecoverStep
 led at x = elim x [ decision.Committed ↦ (phase.Forward at, steps.More) | decision.Aborted ↦ (phase.Back, steps.More) ]
 
-abbrev waited : Meta → ℤ → Bool → RecoverPhase × RecoverStep
+abbrev pub waited : Meta → ℤ → Bool → RecoverPhase × RecoverStep
 waited meta now t = if t then (phase.Abort now, steps.More) else (phase.Ended, steps.Busy meta.id meta.prepared_at)
 
 later : (q : Played) (past : List Played) (rec : Record) (meta : Meta) (p n : RecoverPhase) → RecoverOk past rec meta p → PhaseOk (q ∷ past) meta n → RecoverOk (q ∷ past) rec meta n

@@ -1,5 +1,5 @@
 -- Before its COMMIT is taken, a transaction's plan is free: the rules so far don't quote it.
-use Rattle.std.proofs.Common.{◌≡◌, ℕ, ℤ, Bool, true, false, List, [], ◌∷◌, Option, Some, None, refl, sym, ap, subst, ◌∙◌, arith, ◌⊎◌, inl, inr}
+use Rattle.std.proofs.Common.{◌≡◌, ℕ, ℤ, true, false, List, [], ◌∷◌, Option, Some, None, refl, sym, ap, subst, ◌∙◌, arith, inl, inr}
 use Rattle.std.specs.Option.{option_map}
 use Rattle.std.proofs.lemmas.Bool.Decides.{nat_tests}
 use Rattle.sdb_types.specs.declared.key.Key.{Key}
@@ -8,10 +8,10 @@ use Rattle.sdb_record.specs.declared.coordinator.Decision.TheVariants as decisio
 use Rattle.sdb_model.specs.declared.event.Event.{Event}
 use Rattle.sdb_laws.specs.Plan.{Plan, write_at, written, noted}
 use Rattle.sdb_laws.specs.History.{Role, Other, Begins, Takes, Prepares, Checks, Decides, Aborts, Rolls, Removes, Ends, Stops, Talk, Word, heard}
-use Rattle.sdb_laws.specs.Lawful.{Played, talk, ended, id, IsLawful, MayPlay, MayTake, MayPrepare, MayCheck, MayDecide, MayRoll, MayRollForward, MayRollBack, MayTell, IsUnchanged, IsPreparedThere, IsKnownCommitted, prepared_at}
+use Rattle.sdb_laws.specs.Lawful.{Played, talk, ended, id, IsLawful, MayPlay, MayTake, MayPrepare, MayCheck, MayDecide, MayRoll, IsUnchanged, IsPreparedThere, IsKnownCommitted}
 use Rattle.sdb_laws.proofs.Keys.{tests}
 use Rattle.sdb_turns.specs.System.{SamePlans}
-use Rattle.sdb_types.proofs.Basics.{clash}
+use Rattle.sdb_types.proofs.Basics.{clash, decides as is_taken}
 
 -- before its COMMIT is taken nothing is said of a transaction's calls
 pub record Unsaid (h : Talk) (t : ℕ) : Type 0 where
@@ -52,13 +52,9 @@ unsaid plan (p ∷ past) t l = by p.ends (unsaid_kept (talk past) p.role t (afte
   where
     by : (o : Option ℕ) → Unsaid (heard (talk past) p.role) t → Unsaid (ended (heard (talk past) p.role) o) t
     by None one = one
-    by (Some u) one = unsaid_kept (heard (talk past) p.role) (Ends u) t tt one
+    by (Some u) one = record { asked = one.asked; won = one.won }
 
 ---- other plans
-
-is_taken : (b : Bool) → (b ≡ true) ⊎ (b ≡ false)
-is_taken true = inl refl
-is_taken false = inr refl
 
 prepared_there : (plan other : ℕ → Plan) (past : List Played) (t : ℕ) (k : Key) (r : Record) → IsLawful plan past → SamePlans plan other past → IsPreparedThere plan past t k r → IsPreparedThere other past t k r
 prepared_there plan other past t k r l same (inl h) = inl h
@@ -139,7 +135,7 @@ decide_other plan other past e t word same m = record {
 taken_before : (h : Talk) (r : Role) (t : ℕ) → h.taken t ≡ true → (heard h r).taken t ≡ true
 taken_before h r t e = grind (arith, nat_tests)
 
-taken_now : (h : Talk) (t : ℕ) → (heard h (Takes t)).taken t ≡ true
+pub taken_now : (h : Talk) (t : ℕ) → (heard h (Takes t)).taken t ≡ true
 taken_now h t = grind (arith, nat_tests)
 
 ended_taken : (h : Talk) (o : Option ℕ) (t : ℕ) → (ended h o).taken t ≡ h.taken t

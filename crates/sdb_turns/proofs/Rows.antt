@@ -2,9 +2,8 @@
 use Rattle.std.proofs.Common.{◌≡◌, ℕ, ℤ, true, false, List, [], ◌∷◌, ◌++◌, Option, Some, None, refl, sym, ap, subst, ◌∙◌, inl, inr}
 use Rattle.std.specs.Prelude.{if◌then◌else◌}
 use Rattle.std.specs.List.{AllByRecursion, list_all}
-use Rattle.std.specs.Ordering.{is_eq, is_lt}
-use Rattle.std.specs.declared.cmp.Ordering.{Ordering}
-use Rattle.std.specs.declared.cmp.Ordering.TheVariants.{Less, Equal, Greater}
+use Rattle.std.specs.Ordering.{is_eq}
+use Rattle.std.specs.declared.cmp.Ordering.TheVariants.{Less}
 use Rattle.std.specs.Cmp.{tied_itself}
 use Rattle.std.proofs.lemmas.List.{append_assoc, append-nil, map-append}
 use Rattle.sdb_types.specs.declared.key.Key.{Key}
@@ -29,7 +28,7 @@ use Rattle.sdb_model.specs.declared.answer.Answer.{Answer}
 use Rattle.sdb_model.specs.declared.event.Event.TheVariants as event
 use Rattle.sdb_model.specs.declared.event.How.{How}
 use Rattle.sdb_model.specs.Rows.{Name}
-use Rattle.sdb_laws.specs.Lawful.{Played, is_data, row_among, IsShown, IsHeldShown, IsSettled, Itself, Forward, Back}
+use Rattle.sdb_laws.specs.Lawful.{Played, is_data, row_among, IsShown, IsHeldShown, IsSettled, Itself, Forward, Back, plays}
 use Rattle.sdb_laws.proofs.Keys.{same_key_self}
 use Rattle.sdb_phases.specs.declared.step.RecoverStep.{RecoverStep}
 use Rattle.sdb_phases.specs.declared.step.RecoverStep.TheVariants as steps
@@ -37,12 +36,11 @@ use Rattle.sdb_phases.specs.declared.step.RecoverPhase.{RecoverPhase}
 use Rattle.sdb_phases.specs.Recover.{recover_next, recover_request_at}
 use Rattle.sdb_turns.specs.Reader.{RecoverOk, recover_role}
 use Rattle.sdb_turns.specs.ReadAt.{Kind, Firm, Open, Bad, IsKind, AreKinds, ReadAt, Asking, Resolving, Done, Failed, request_of, read_pending, read_role, read_step, settle, settle_one, settle_reply, after_recovery, IsImage, IsLeft, IsOfData, Rise, InPlace, keys_of, ReadOk}
-use Rattle.sdb_turns.specs.System.{plays}
 use Rattle.sdb_turns.proofs.Kept.{row_later}
-use Rattle.sdb_turns.proofs.Lists.{each_any, each_both, each_drop, each_more, each_unmap}
+use Rattle.sdb_turns.proofs.Lists.{each_both, each_drop, each_more, each_unmap}
 use Rattle.sdb_turns.proofs.Meta.{meta_of}
 use Rattle.sdb_turns.proofs.Reading.{IsImageOf, phase_kept, image_settled}
-use Rattle.sdb_types.proofs.Basics.{less_of}
+use Rattle.sdb_types.proofs.Basics.{less_of, all_each as each_any}
 
 ---- what stays
 

@@ -34,14 +34,15 @@ use Rattle.sdb_snapshot.specs.Noted.{Note, IsUnmoved, has_moved, is_noted, base_
 use Rattle.sdb_snapshot.specs.Written as snap
 use Rattle.sdb_snapshot.specs.Written.{AreChanges, HaveBases, HaveKeysOnce}
 use Rattle.sdb_snapshot.specs.Seen.{Seen, nothing, with_get, with_scan, with_written}
-use Rattle.sdb_snapshot.proofs.Keys.{or_else, same_itself, same_exact, same_is, value_last}
+use Rattle.sdb_snapshot.proofs.Keys.{same_itself, same_exact, same_is, value_last}
 use Rattle.sdb_snapshot.proofs.Differences.{or_there, noted_images}
-use Rattle.sdb_snapshot.proofs.Owned.{kept_get, kept_scan, kept_either}
+use Rattle.sdb_snapshot.proofs.Owned.{kept_get, kept_scan, kept_either, Keeps}
 use Rattle.sdb_validate.specs.Rescan.{reads_rise, starts_behind}
 use Rattle.sdb_turns.specs.Noted.{VersionSettled, IsReadThere, IsNoteOk, IsReadOk, IsScanOk, IsFoundOk, is_found, was_read, was_found, SeenOk, first_image, with_read, MayNote, work_of, Once, ReadAgrees, Sound, Settled}
 use Rattle.sdb_turns.specs.ReadAt.{IsImage, IsOfData, Rise, InPlace, keys_of}
-use Rattle.sdb_turns.proofs.Lists.{each_any, each_both, each_more, each_unmap}
+use Rattle.sdb_turns.proofs.Lists.{each_both, each_more, each_unmap}
 use Rattle.sdb_turns.proofs.Rows.{settled_later}
+use Rattle.sdb_types.proofs.Basics.{or_else, all_each as each_any}
 
 ---- what stays
 
@@ -67,10 +68,6 @@ pub seen_nothing : (past : List Played) → SeenOk past nothing
 seen_nothing past = record { kept = record { read = λ q w. absurd (cc (w)); bases = tt; fine = tt; based = tt; once = tt }; notes = tt; reads = tt; scans = tt; found = tt; noted = λ q n. absurd (cc (n)) }
 
 ---- notes
-
--- later notes that keep what was noted
-abbrev Keeps : List Note → List Note → Type 0
-Keeps notes later = (q : Key) → is_noted notes q ≡ true → value_at later q ≡ value_at notes q
 
 read_keeps : (notes later : List Note) (r : Read) → Keeps notes later → IsReadOk notes r → IsReadOk later r
 read_keeps notes later r keeps ok = (ap is_some (keeps r.key ok.0) ∙ ok.0, ok.1 ∙ ap (λ o. version_of (option_and_then (λ x. x) o)) (sym (keeps r.key ok.0)))

@@ -30,13 +30,14 @@ use Rattle.sdb_snapshot.specs.Seen.{Seen}
 use Rattle.sdb_turns.specs.Owner.{plan_of, notes_of, checked_notes, own_notes, CommitOk, StageOk, OverOk}
 use Rattle.sdb_turns.specs.Noted.{OpenOk, SeenOk, work_of, Sound, Settled, VersionSettled, IsReadThere}
 use Rattle.sdb_turns.specs.System.{ClientAt, Resting, Open, Reading, Committing, Sweeping, Stopped, ClientOk, Has, SystemAt, SystemOk, with_plan, commit_left, StandsAt, SamePlans, IsCommit, take_played, commit_begun}
-use Rattle.sdb_turns.proofs.Kept.{by_test, checks_begin}
+use Rattle.sdb_turns.proofs.Kept.{by_test, checks_begin, not_deciding}
 use Rattle.sdb_turns.proofs.Replan.{replanned}
 use Rattle.sdb_turns.proofs.Clients.{turned}
 use Rattle.sdb_turns.proofs.Commit.{no_start, no_sweep}
-use Rattle.sdb_turns.proofs.Lists.{each_at, each_append, each_map, each_filter, each_any}
+use Rattle.sdb_turns.proofs.Lists.{each_at, each_map, each_filter}
 use Rattle.sdb_turns.proofs.Seen.{sound_of, settled_of}
 use Rattle.sdb_turns.proofs.Work.{work_ok, got_says, scan_says, noted_by, not_noted}
+use Rattle.sdb_types.proofs.Basics.{append_all as each_append, all_each as each_any}
 
 plan_here : (plan : ℕ → Plan) (p : Work) → with_plan plan p p.id.0 ≡ plan_of p
 plan_here plan p = ap (λ b. if b then plan_of p else plan p.id.0) (itself p.id.0)
@@ -120,9 +121,6 @@ take_lawful plan past c p text o ok settled commit = record {
 
 nothing_before : {A : Type 0} (j : ℕ) → j < 0 → A
 nothing_before j l = absurd (omega arith)
-
-not_deciding : (s : laws.Stage) → s ≡ laws.Preparing → s ≢ laws.Deciding
-not_deciding s e d = absurd (cc)
 
 begins_at : (plan : ℕ → Plan) (past : List Played) (p : Work) → (talk past).stage p.id.0 ≡ laws.Preparing → ((k : Key) → (talk past).asked p.id.0 k ≡ false) → (talk past).risked p.id.0 ≡ false → StageOk plan past p (preparing p 0)
 begins_at plan past p stage unasked safe = by_test plan past p (nat_lt 0 (length p.writes)) (Preparing 0) (checking p 0)

@@ -1,6 +1,6 @@
 -- What a transaction takes into its COMMIT is a plan of the protocol, and its checks are of the plan's notes.
 use Rattle.std.proofs.Common.{◌≡◌, ◌≢◌, ◌≤◌, ◌<◌, ℕ, zero, suc, Bool, true, false, List, [], ◌∷◌, ◌++◌, length, map, Option, Some, None, refl, sym, ap, subst, ◌∙◌, arith, ◌⊎◌, inl, inr}
-use Rattle.std.specs.Prelude.{slice_get, find, filter, not, ◌&&◌, ◌||◌, ◌==◌, if◌then◌else◌}
+use Rattle.std.specs.Prelude.{slice_get, find, filter, not, ◌||◌, ◌==◌, if◌then◌else◌}
 use Rattle.std.specs.List.{AllByRecursion}
 use Rattle.std.specs.Option.{option_map, option_and_then}
 use Rattle.std.proofs.lemmas.Option.{slice_get-map}
@@ -25,15 +25,16 @@ use Rattle.sdb_laws.proofs.Keys.{same_key_tells, same_key_self}
 use Rattle.sdb_phases.specs.declared.check.Check.{Check}
 use Rattle.sdb_phases.specs.Work.{Work}
 use Rattle.sdb_phases.specs.Checks as phases
-use Rattle.sdb_phases.specs.Checks.{checks, check_of_read, check_of_scan, is_written, base_of, version_read, record_among, first_difference, wanted, changed, difference_in}
+use Rattle.sdb_phases.specs.Checks.{checks, check_of_read, check_of_scan, is_written, base_of, version_read, record_among, first_difference, wanted, changed}
 use Rattle.sdb_phases.specs.Steps.{validate_step, judged}
 use Rattle.sdb_phases.specs.CommitLaws.{is_more}
 use Rattle.sdb_validate.specs.Rescan.{reads_rise, base_in, kept_by, is_kept, IsFirstLost}
 use Rattle.sdb_validate.proofs.Rescans.{first_lost}
 use Rattle.sdb_turns.specs.Owner.{plan_of, notes_of, checked_notes, own_notes, NoteAgrees, CheckTells, WorkOk, IsReading}
-use Rattle.sdb_turns.proofs.Lists.{each_at, each_append, each_map, each_filter, each_any}
+use Rattle.sdb_turns.proofs.Lists.{each_at, each_map, each_filter}
 use Rattle.sdb_turns.specs.Noted.{Once, ReadAgrees, Sound}
-use Rattle.sdb_types.proofs.Basics.{none_some as some_apart}
+use Rattle.sdb_types.proofs.Basics.{none_some as some_apart, not_true, append_all as each_append, all_each as each_any}
+use Rattle.sdb_types.proofs.Bools.{and_first as rises}
 
 ---- keys, in either order
 
@@ -181,10 +182,6 @@ abbrev IsOwnNote : List Write → Note → Type 0
 IsOwnNote own (Got r) = ReadAgrees own r × (is_written own r.key ≡ true)
 IsOwnNote own (Scanned s) = ⊥
 
-not_true : (b : Bool) → not b ≡ true → b ≡ false
-not_true true e = absurd (cc)
-not_true false e = refl
-
 checked_notes_are : (p : Work) → Sound p → AllByRecursion (IsCheckedNote p.writes) (checked_notes p)
 checked_notes_are p ok = each_append (IsCheckedNote p.writes) (map Got (filter (λ (r : Read). not (is_written p.writes r.key)) p.reads)) (map Scanned p.scans)
     (each_map (IsCheckedNote p.writes) Got (filter (λ (r : Read). not (is_written p.writes r.key)) p.reads) (each_any (λ r. ReadAgrees p.writes r × (not (is_written p.writes r.key) ≡ true)) (λ r. is_written p.writes r.key ≡ false) (filter (λ (r : Read). not (is_written p.writes r.key)) p.reads) (λ r h. not_true (is_written p.writes r.key) h.1) (each_filter (ReadAgrees p.writes) (λ (r : Read). not (is_written p.writes r.key)) p.reads ok.reads)))
@@ -246,10 +243,6 @@ got_tells p i rd (reply.Found found) at free can more = record { note = Got rd; 
     by : (b : Bool) → is_unchanged found rd.version ≡ b → is_more (judged true (changed b rd.key found)) ≡ true → is_unchanged found rd.version ≡ true
     by true t e = t
     by false f e = absurd (cc)
-
-rises : (a b : Bool) → (a && b) ≡ true → a ≡ true
-rises true b e = refl
-rises false b e = absurd (cc)
 
 scan_kept : (p : Work) (s : Scan) (rows : List Record) → reads_rise s.found ≡ true → rise rows ≡ true → is_more (judged true (first_difference (wanted p.writes s) rows)) ≡ true → (k : Key) → is_kept p.writes s rows k ≡ true
 scan_kept p s rows found rise more = by (first_difference (wanted p.writes s) rows) more (first_lost p.writes s rows found rise)

@@ -16,8 +16,8 @@ use Rattle.sdb_model.specs.Sql.{reads_begin, reads_commit}
 use Rattle.sdb_model.specs.Transactions.{id_of}
 use Rattle.sdb_laws.specs.Plan.{Plan}
 use Rattle.sdb_laws.specs.History as laws
-use Rattle.sdb_laws.specs.History.{Role, Begins, Takes, Talk}
-use Rattle.sdb_laws.specs.Lawful.{Played, IsLawful, talk, answer_of, is_quiet}
+use Rattle.sdb_laws.specs.History.{Begins, Takes, Talk}
+use Rattle.sdb_laws.specs.Lawful.{Played, IsLawful, talk, answer_of, is_quiet, plays}
 use Rattle.sdb_phases.specs.declared.step.Outcome.{Outcome}
 use Rattle.sdb_phases.specs.declared.step.Outcome.TheVariants as outcome
 use Rattle.sdb_phases.specs.Work.{Work}
@@ -124,14 +124,6 @@ IsBy d (event.Idle c) = c ≡ d
 -- an event ends no transaction but one of that client
 abbrev pub EndsOwn : List Played → ℕ → Played → Type 0
 EndsOwn past c q = (u : ℕ) → q.ends ≡ Some u → (talk past).owner u ≡ c
-
--- an event that ends no transaction
-abbrev pub plays : Role → Event → Played
-plays role e = record { event = e; role = role; ends = None }
-
--- an event that ends a transaction
-abbrev pub ends_with : ℕ → Role → Event → Played
-ends_with t role e = record { event = e; role = role; ends = Some t }
 
 ---- calls
 

@@ -8,7 +8,7 @@ ghost use Rattle.sdb_record.specs.declared.meta.Meta.{Meta};
 ghost use Rattle.sdb_record.specs.Meta.{is_moment};
 ghost use Rattle.sdb_model.specs.declared.answer.Answer.{Answer};
 ghost use Rattle.sdb_laws.specs.Plan.{Plan};
-ghost use Rattle.sdb_laws.specs.Lawful.{Played, IsLawful, MayPlay, talk};
+ghost use Rattle.sdb_laws.specs.Lawful.{Played, IsLawful, MayPlay, talk, plays};
 ghost use Rattle.sdb_phases.specs.declared.step.RecoverPhase.{RecoverPhase};
 ghost use Rattle.sdb_phases.specs.Work.{Work};
 ghost use Rattle.sdb_phases.specs.Recover.{recover_next, recover_request_at};
@@ -18,7 +18,7 @@ ghost use Rattle.sdb_turns.specs.Owner.{WorkOk};
 ghost use Rattle.sdb_turns.specs.Reader.{RecoverOk, recover_role};
 ghost use Rattle.sdb_turns.specs.ReadAt.{Kind, kind_of, AreKinds, ReadAt, settle, keys_of, IsImage, IsLeft, IsOfData, InPlace, ReadOk, read_pending, read_role, read_step};
 ghost use Rattle.sdb_turns.specs.Worked.{SomeCommit};
-ghost use Rattle.sdb_turns.specs.System.{ClientAt, ClientOk, SystemAt, SystemOk, SamePlans, IsBy, ClientCall, IsReplyTo, EndsOwn, call_event, plays, idle, next_id};
+ghost use Rattle.sdb_turns.specs.System.{ClientAt, ClientOk, SystemAt, SystemOk, SamePlans, IsBy, ClientCall, IsReplyTo, EndsOwn, call_event, idle, next_id};
 
 /// Before the first event no client has done anything, and all is so of all.
 pub fn nothing_happened()

@@ -9,14 +9,14 @@ ghost use Rattle.sdb_model.specs.declared.event.Event.{Event};
 ghost use Rattle.sdb_model.specs.declared.event.Event.TheVariants as event;
 ghost use Rattle.sdb_laws.specs.Plan.{Plan};
 ghost use Rattle.sdb_laws.specs.History.{Other, Stops};
-ghost use Rattle.sdb_laws.specs.Lawful.{Played};
+ghost use Rattle.sdb_laws.specs.Lawful.{Played, plays, ends_with};
 ghost use Rattle.sdb_phases.specs.Work.{Work};
 ghost use Rattle.sdb_phases.specs.Commit.{Stage, pending, step};
 ghost use Rattle.sdb_snapshot.specs.Seen.{Seen, nothing};
 ghost use Rattle.sdb_turns.specs.Noted.{work_of};
 ghost use Rattle.sdb_turns.specs.ReadAt.{Kind, AreKinds, ReadAt, read_pending, read_role, read_step};
 ghost use Rattle.sdb_turns.specs.Sweep.{SweepAt, sweep_pending, sweep_role, sweep_step};
-ghost use Rattle.sdb_turns.specs.System.{Resting, Open, Reading, Committing, Sweeping, Stopped, SystemAt, SystemOk, StandsAt, IsBy, IsQuiet, IsBegin, IsCommit, NoneSweeps, ClientCall, IsReplyTo, call_event, plays, ends_with, begin_played, take_played, commit_played, commit_left, commit_begun, next_id, with_begun, with_client, with_plan};
+ghost use Rattle.sdb_turns.specs.System.{Resting, Open, Reading, Committing, Sweeping, Stopped, SystemAt, SystemOk, StandsAt, IsBy, IsQuiet, IsBegin, IsCommit, NoneSweeps, ClientCall, IsReplyTo, call_event, begin_played, take_played, commit_played, commit_left, commit_begun, next_id, with_begun, with_client, with_plan};
 
 /// BEGIN is answered Done to a client without an open transaction, while no client that goes on runs VACUUM: a transaction is
 /// open, under an id that was never used, and has read and written nothing.

@@ -26,7 +26,7 @@ tail_columns e es c = and_second (starts_above e.name es) (are_columns es) (and_
 itself : (name : List ℕ) → name_cmp name name ≡ Equal
 itself = tied_itself name_total
 
-turned : (a b : List ℕ) (r : Ordering) → name_cmp a b ≡ r → name_cmp b a ≡ ordering_reverse r
+pub turned : (a b : List ℕ) (r : Ordering) → name_cmp a b ≡ r → name_cmp b a ≡ ordering_reverse r
 turned a b r e = name_total.antisymm b a ∙ ap ordering_reverse e
 
 -- no column stands below the first

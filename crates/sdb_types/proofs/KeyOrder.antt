@@ -2,7 +2,7 @@
 use Rattle.std.proofs.Common.{◌≡◌, ℕ, List, [], ◌∷◌, ◌++◌, true, refl, ap, ◌∙◌, arith}
 use Rattle.std.specs.declared.cmp.Ordering.{Ordering}
 use Rattle.std.specs.declared.cmp.Ordering.TheVariants.{Less, Equal, Greater}
-use Rattle.std.specs.Ordering.{nat_cmp, ordering_then}
+use Rattle.std.specs.Ordering.{nat_cmp, ordering_then, is_lt}
 use Rattle.std.specs.Cmp.{IsTotalOrder}
 use Rattle.std.specs.Cmp.Lexicographic.{slice_cmp, lists_total, nat_list_cmp_total}
 use Rattle.std.specs.FinMap.{IsAntisymmetric, nat_cmp-IsAntisymmetric, slice_cmp-IsAntisymmetric}
@@ -15,6 +15,10 @@ use Rattle.sdb_types.specs.Identifier.{is_start, is_part, is_name}
 use Rattle.sdb_types.proofs.Bools.{and_first, and_second, and_both, or_first}
 use Rattle.sdb_types.specs.ValueLaws.{then_equal, value_exact, value_total}
 use Rattle.sdb_types.specs.Order.{name_cmp, table_cmp, key_cmp, table_text}
+use Rattle.sdb_types.specs.declared.key.Key.{Key}
+use Rattle.sdb_types.specs.declared.record.Record.{Record}
+use Rattle.sdb_types.specs.Contents.{starts_after}
+use Rattle.sdb_types.proofs.Basics.{less_of}
 
 pub name_exact : IsAntisymmetric name_cmp
 name_exact = slice_cmp-IsAntisymmetric nat_cmp-IsAntisymmetric
@@ -69,3 +73,7 @@ parts (x ∷ xs) h =
 
 pub by_text : (a b : TableName) → is_name a.ns ≡ true → is_name b.ns ≡ true → slice_cmp nat_cmp (table_text a) (table_text b) ≡ table_cmp a b
 by_text a b h k = dotted a.ns b.ns a.table b.table (parts a.ns h) (parts b.ns k)
+
+pub starts_trans : (k l : Key) (rs : List Record) → key_cmp k l ≡ Less → starts_after l rs ≡ true → starts_after k rs ≡ true
+starts_trans k l [] h g = refl
+starts_trans k l (r ∷ rs) h g = ap is_lt (key_total.trans k l r.key h (less_of (key_cmp l r.key) g))

@@ -6,3 +6,4 @@ pub mod TxIdLemmas
 pub mod Pieces
 pub mod Replies
 pub mod ColumnMap
+pub mod Words

@@ -12,3 +12,4 @@ pub mod Draws
 pub mod Held
 pub mod Contents
 pub mod HashInput
+pub mod Replies

@@ -162,7 +162,10 @@ impl PartialEq for Name {
     ghost laws = { Cmp.partial_equiv_from_equiv nat_list_eq_equiv };
 
     fn eq(&self, other: &Self) -> bool {
-        self.as_str() == other.as_str()
+        match (&self.text, &other.text) {
+            (Text::Known(a), Text::Known(b)) if a == b => true,
+            _ => self.as_str() == other.as_str(),
+        }
     }
 }
 
@@ -190,6 +193,10 @@ impl Ord for Name {
     ghost matches_eq = { texts_ties };
 
     fn cmp(&self, other: &Self) -> Ordering {
+        // Most that are compared are the same, as the table's in keys, and that is found sooner than an order.
+        if self.eq(other) {
+            return Ordering::Equal;
+        }
         self.as_str().cmp(other.as_str())
     }
 }

@@ -37,8 +37,9 @@ use Rattle.sdb_vacuum.specs.declared.work.VacuumStep.{VacuumStep}
 use Rattle.sdb_vacuum.specs.declared.work.VacuumStep.TheVariants as step
 use Rattle.sdb_vacuum.specs.Vacuum.{First, Nothing, Tombstone, Unresolved, Malformed, VacuumAt, VacuumStage, Scanning, Resolving, Removing, Over, answered, first_of, first_one, goes_on, going, next_table, pending_at, removal_answered, remove_request, resolved, spans_of, step_at, tombstone_or, whole}
 use Rattle.sdb_vacuum.specs.Fine.{IsFine}
-use Rattle.sdb_vacuum.specs.Calls.{VacuumPlayed, is_applied, is_removal, removals, rows_heard, rows_in, tombstones, vacuum_after, vacuum_answer}
+use Rattle.sdb_vacuum.specs.Calls.{VacuumPlayed, is_removal, removals, rows_heard, rows_in, tombstones, vacuum_after, vacuum_answer}
 use Rattle.sdb_vacuum.proofs.Fine.{after_fine}
+use Rattle.sdb_types.specs.Replies.{is_applied}
 
 ---- at most so many calls
 

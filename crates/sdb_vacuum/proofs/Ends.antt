@@ -1,5 +1,5 @@
 -- What a VACUUM knows of its replies, and why it ends.
-use Rattle.std.proofs.Common.{◌≡◌, ℕ, ℤ, ◌+◌, Bool, true, false, cond, ◌&&◌, ◌||◌, List, [], ◌∷◌, ◌++◌, Option, Some, None, Result, Ok, Err, refl, sym, ap, subst, ◌∙◌, inl, inr}
+use Rattle.std.proofs.Common.{◌≡◌, ℕ, ℤ, ◌+◌, Bool, true, false, cond, List, [], ◌∷◌, ◌++◌, Some, None, Result, Ok, Err, refl, sym, ap, subst, ◌∙◌, inl, inr}
 use Rattle.std.specs.Prelude.{if◌then◌else◌, is_err, is_ok, not}
 use Rattle.std.specs.List.{list_any}
 use Rattle.std.specs.Ordering.{is_eq}
@@ -28,7 +28,7 @@ use Rattle.sdb_phases.specs.declared.step.RecoverStep.{RecoverStep}
 use Rattle.sdb_phases.specs.declared.step.RecoverStep.TheVariants as steps
 use Rattle.sdb_phases.specs.declared.step.RecoverPhase.{RecoverPhase}
 use Rattle.sdb_phases.specs.declared.step.RecoverPhase.TheVariants as recover
-use Rattle.sdb_phases.specs.CommitLaws.{holds_malformed, is_fault, is_malformed}
+use Rattle.sdb_phases.specs.CommitLaws.{holds_malformed, is_malformed}
 use Rattle.sdb_phases.specs.Recover.{Heard, recover_next, recover_request_at, roll_to, undecided}
 use Rattle.sdb_phases.specs.RecoverLaws.{heard_fault}
 use Rattle.sdb_phases.specs.Steps.{CanGet}
@@ -39,6 +39,7 @@ use Rattle.sdb_vacuum.specs.declared.work.VacuumStep.TheVariants as step
 use Rattle.sdb_vacuum.specs.Vacuum.{First, Nothing, Tombstone, Unresolved, Malformed, VacuumAt, VacuumStage, Scanning, Resolving, Removing, Over, answered, first_of, first_one, goes_on, going, next_table, pending_at, removal_answered, resolved, spans_of, step_at, tombstone_or}
 use Rattle.sdb_vacuum.specs.Calls.{VacuumPlayed, rows_heard, rows_in, vacuum_after, vacuum_answer}
 use Rattle.sdb_vacuum.specs.Ends.{HoldsBadRow, IsBadAt, IsRowBad, is_bad_row}
+use Rattle.sdb_types.specs.Replies.{is_fault}
 
 ---- rows that were heard
 

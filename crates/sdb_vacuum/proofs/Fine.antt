@@ -1,5 +1,5 @@
 -- What a VACUUM resolves and removes is fine after each reply that its call can get.
-use Rattle.std.proofs.Common.{◌≡◌, ℕ, ℤ, ◌+◌, Bool, true, false, List, [], ◌∷◌, Some, None, Result, Ok, Err, refl, ap}
+use Rattle.std.proofs.Common.{◌≡◌, ℕ, ℤ, ◌+◌, Bool, true, false, List, [], ◌∷◌, Some, None, Ok, refl, ap}
 use Rattle.std.specs.Prelude.{if◌then◌else◌}
 use Rattle.sdb_types.specs.declared.record.Record.{Record}
 use Rattle.sdb_types.specs.declared.record.Span.{Span}
@@ -16,28 +16,16 @@ use Rattle.sdb_phases.specs.declared.step.RecoverStep.TheVariants as steps
 use Rattle.sdb_phases.specs.declared.step.RecoverPhase.{RecoverPhase}
 use Rattle.sdb_phases.specs.Recover.{Heard, recover_next}
 use Rattle.sdb_phases.specs.Steps.{CanGet}
-use Rattle.sdb_read.specs.Read.{Kind, Firm, Open, Bad, Resolving as Reads, kind_of, opened, resolved as read_resolved}
+use Rattle.sdb_read.specs.Read.{Kind, Firm, Open, Bad, Resolving as Reads, kind_of, resolved as read_resolved}
 use Rattle.sdb_read.specs.Fine.{IsFine as IsReadFine}
-use Rattle.sdb_read.proofs.Keeps.{step_fine}
-use Rattle.sdb_vacuum.specs.Rows.{sort_of}
+use Rattle.sdb_read.proofs.Keeps.{step_fine, firm_by, open_by}
 use Rattle.sdb_vacuum.specs.Vacuum.{First, Nothing, Tombstone, Unresolved, Malformed, VacuumStage, Scanning, Resolving, Removing, Over, answered, first_of, first_one, goes_on, going, next_table, pending_at, removal_answered, resolved, spans_of, step_at, tombstone_or}
 use Rattle.sdb_vacuum.specs.Fine.{IsFine}
 use Rattle.sdb_vacuum.specs.Calls.{VacuumPlayed, vacuum_after}
 use Rattle.sdb_vacuum.proofs.Firm.{open_unresolved}
+use Rattle.sdb_vacuum.specs.Rows.{sort_of}
 
 ---- what a row is
-
-firm_by : (taken committed : Bool) (k : Result Meta (List ℕ)) → (if taken then (if committed then Firm else opened k) else Bad) ≡ Firm → (taken ≡ true) × (committed ≡ true)
-firm_by true true k h = (refl, refl)
-firm_by true false (Ok meta) h = absurd (cc)
-firm_by true false (Err column) h = absurd (cc)
-firm_by false committed k h = absurd (cc)
-
-open_by : (taken committed : Bool) (k : Result Meta (List ℕ)) (meta : Meta) → (if taken then (if committed then Firm else opened k) else Bad) ≡ Open meta → k ≡ Ok meta
-open_by true true k meta h = absurd (cc)
-open_by true false (Ok m) meta h = let e : m ≡ meta = cc in ap Ok e
-open_by true false (Err column) meta h = absurd (cc)
-open_by false committed k meta h = absurd (cc)
 
 pub firm_is : (r : Record) → kind_of r ≡ Firm → IsBaseOf r.key r
 firm_is r e = let h = firm_by (is_taken r) (is_in state.Committed r.columns) (checked r.columns) e in (refl, h.0, h.1)

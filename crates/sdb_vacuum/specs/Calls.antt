@@ -1,5 +1,5 @@
 -- A VACUUM after any replies, and its calls.
-use Rattle.std.specs.Prelude.{ℕ, ◌+◌, Bool, true, false, ◌&&◌, if◌then◌else◌, List, [], ◌∷◌, ◌++◌, Option, Some, length}
+use Rattle.std.specs.Prelude.{ℕ, ◌+◌, Bool, false, ◌&&◌, if◌then◌else◌, List, [], ◌∷◌, ◌++◌, Option, Some, length}
 use Rattle.std.specs.List.{filter}
 use Rattle.sdb_types.specs.declared.record.Record.{Record}
 use Rattle.sdb_types.specs.declared.record.Reply.{Reply}
@@ -15,6 +15,7 @@ use Rattle.sdb_phases.specs.Recover.{Heard}
 use Rattle.sdb_phases.specs.Steps.{CanGet}
 use Rattle.sdb_vacuum.specs.declared.work.VacuumStep.{VacuumStep}
 use Rattle.sdb_vacuum.specs.Vacuum.{VacuumAt, begun, next_table, spans_of, vacuum_pending, vacuum_step}
+use Rattle.sdb_types.specs.Replies.{is_applied}
 
 -- where the replies lead a VACUUM of a catalog, the newest first
 abbrev pub vacuum_after : List Table → List Heard → VacuumAt
@@ -54,10 +55,6 @@ of_committed (condition.Version id state) = is_committed state
 abbrev pub is_removal : Option Request → Bool
 is_removal (Some (ask.DeleteIf key c)) = of_committed c
 is_removal q = false
-
-abbrev pub is_applied : Reply → Bool
-is_applied reply.Applied = true
-is_applied r = false
 
 -- how many deletes of committed records were answered Applied
 abbrev pub removals : List Table → List Heard → ℕ

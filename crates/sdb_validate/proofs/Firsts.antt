@@ -3,7 +3,6 @@ use Rattle.std.proofs.Common.{◌≡◌, List, [], ◌∷◌, ◌||◌, Option, 
 use Rattle.std.specs.Prelude.{Bool, filter, map, is_none}
 use Rattle.std.specs.Option.{option_map}
 use Rattle.std.specs.List.{list_any}
-use Rattle.std.specs.Cmp.{tied_itself}
 use Rattle.std.specs.Ordering.{is_eq, is_lt, ordering_reverse}
 use Rattle.std.specs.declared.cmp.Ordering.{Ordering}
 use Rattle.std.specs.declared.cmp.Ordering.TheVariants.{Less, Equal, Greater}
@@ -13,7 +12,6 @@ use Rattle.sdb_types.specs.Order.{key_cmp}
 use Rattle.sdb_types.proofs.KeyOrder.{key_total, key_exact}
 use Rattle.sdb_phases.specs.declared.check.Wanted.{Wanted}
 use Rattle.sdb_phases.specs.Checks.{same_key, wish_at, record_among, is_fulfilled, differs, lesser, least, keys_among, first_difference}
-use Rattle.sdb_types.proofs.Basics.{less_of}
 use Rattle.std.proofs.lemmas.Bool.{not-true as not_true}
 use Rattle.sdb_types.specs.Exact.{equal_of}
 
@@ -21,9 +19,6 @@ use Rattle.sdb_types.specs.Exact.{equal_of}
 
 pub key_of_same : (a b : Key) → same_key a b ≡ true → a ≡ b
 key_of_same a b h = key_exact a b (equal_of (key_cmp a b) h)
-
-pub same_itself : (k : Key) → same_key k k ≡ true
-same_itself k = ap is_eq (tied_itself key_total k)
 
 pub turned : (a b : Key) → key_cmp a b ≡ Greater → key_cmp b a ≡ Less
 turned a b h = key_total.antisymm b a ∙ ap ordering_reverse h

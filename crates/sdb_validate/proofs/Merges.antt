@@ -17,8 +17,9 @@ use Rattle.sdb_phases.specs.Checks.{same_key, wish_at, record_among, is_fulfille
 use Rattle.sdb_validate.specs.declared.rescan.Verdict.{Verdict}
 use Rattle.sdb_validate.specs.declared.rescan.Verdict.TheVariants as verdict
 use Rattle.sdb_validate.specs.Merge.{merge, row_place, below_wanted, wanted_rise}
-use Rattle.sdb_validate.proofs.Firsts.{IsFirst, first_is, key_of_same, same_itself, turned}
+use Rattle.sdb_validate.proofs.Firsts.{IsFirst, first_is, key_of_same, turned}
 use Rattle.sdb_types.proofs.Basics.{less_of}
+use Rattle.sdb_phases.proofs.Stands.{same_key_itself as same_itself}
 
 ---- below all
 

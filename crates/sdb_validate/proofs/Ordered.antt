@@ -1,6 +1,6 @@
 -- What each rescan is to find stands in key order.
-use Rattle.std.proofs.Common.{◌≡◌, ℕ, List, [], ◌∷◌, ◌++◌, Some, true, false, not, refl, ap, sym, ◌∙◌, zero, suc}
-use Rattle.std.specs.Prelude.{Bool, T, filter, map, slice_get}
+use Rattle.std.proofs.Common.{◌≡◌, ℕ, List, [], ◌∷◌, ◌++◌, Some, true, not, refl, ap, sym, ◌∙◌, zero, suc}
+use Rattle.std.specs.Prelude.{filter, map, slice_get}
 use Rattle.std.specs.List.{list_all}
 use Rattle.std.specs.Ordering.{is_lt}
 use Rattle.std.specs.FinMap.{entries, entries_sorted}

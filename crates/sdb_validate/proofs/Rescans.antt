@@ -21,11 +21,12 @@ use Rattle.sdb_phases.specs.declared.check.Wish.TheVariants as wish
 use Rattle.sdb_phases.specs.Checks.{same_key, Wishes, with_reads, with_write, with_writes, wishes, wanted, wanted_of, wish_at, wished_version, is_fulfilled, differs, base_of, version_read, record_among, first_difference}
 use Rattle.sdb_validate.specs.Merge.{merge}
 use Rattle.sdb_validate.specs.Rescan.{kept_by, is_kept, starts_behind, reads_rise, IsFirstLost}
-use Rattle.sdb_validate.proofs.Firsts.{IsFirst, first_is, key_of_same, same_itself}
+use Rattle.sdb_validate.proofs.Firsts.{IsFirst, first_is, key_of_same}
 use Rattle.sdb_validate.proofs.Merges.{merge_is}
 use Rattle.sdb_validate.proofs.Ordered.{wanted_in_order}
 use Rattle.sdb_types.proofs.Basics.{less_of}
 use Rattle.std.proofs.lemmas.Bool.{not-false as not_false, not-true as not_true}
+use Rattle.sdb_phases.proofs.Stands.{same_key_itself as same_itself}
 
 wish-find : (es : List (Key × Wish)) (q : Key) → wish_at (map wanted_of es) q ≡ find key_cmp q es
 wish-find [] q = refl

@@ -7,12 +7,10 @@ use Rattle.sdb_words.specs.declared.command.Mode.{Mode}
 use Rattle.sdb_words.specs.declared.names.TableWord.{TableWord}
 use Rattle.sdb_words.specs.Commands.{AreWordsOf, is_alone}
 use Rattle.sdb_words.specs.Places.{are_places}
+use Rattle.sdb_types.proofs.Basics.{false_true}
 
 abbrev Words : Type 0
 Words = List (List ℕ)
-
-false_true : {X : Type 0} → false ≡ true → X
-false_true h = absurd (let e : false ≡ true = h in cc)
 
 -- a word that stands alone is all of the words
 pub alone_is : (word : List ℕ) (words : Words) → is_alone word words ≡ true → words ≡ word ∷ []

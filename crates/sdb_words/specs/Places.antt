@@ -4,7 +4,7 @@ use Rattle.std.specs.List.{list_all}
 use Rattle.std.specs.Option.{option_map_or}
 use Rattle.std.specs.Str.{bytes_eq}
 use Rattle.sdb_record.specs.Parts.{is_column_name}
-use Rattle.sdb_words.specs.Names.{around}
+use Rattle.sdb_types.specs.NameText.{around}
 
 -- a namespace that may be placed, which isn't the one of the catalog's own rows, and the name of a store
 abbrev pub may_place : List ℕ → List ℕ → Bool

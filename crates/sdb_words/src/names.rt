@@ -1,9 +1,10 @@
 //! Names among the words.
+ghost use Rattle.sdb_types.specs.NameText.{around};
 ghost use Rattle.std.specs.Prelude.{◌≡◌, ◌≢◌, ◌&&◌, MatchOption};
 ghost use Rattle.std.specs.Option.{option_map};
 ghost use Rattle.sdb_record.specs.Parts.{is_column_name};
 ghost use Rattle.sdb_words.specs.declared.names.TableWord.{TableWord};
-ghost use Rattle.sdb_words.specs.Names.{IsTable, around, table_text};
+ghost use Rattle.sdb_words.specs.Names.{IsTable, table_text};
 
 use sdb_types::is_identifier_text;
 

@@ -1,7 +1,7 @@
 //! Words that place namespaces.
+ghost use Rattle.sdb_types.specs.NameText.{around};
 ghost use Rattle.std.specs.Prelude.{◌≡◌, map, string_bytes};
 ghost use Rattle.std.specs.Option.{option_map};
-ghost use Rattle.sdb_words.specs.Names.{around};
 ghost use Rattle.sdb_words.specs.Places.{are_apart as are_apart_lem, are_places as are_places_lem, is_place as is_place_lem, namespace_in as namespace_in_lem};
 
 use crate::names::is_name;

@@ -28,19 +28,16 @@ use Rattle.sdb_steps.proofs.Fitted.{replies_fitted, takes_fitted}
 use Rattle.sdb_world.specs.declared.seat.Seat.{Seat}
 use Rattle.sdb_world.specs.declared.way.Way.{Way}
 use Rattle.sdb_world.specs.declared.way.Way.TheVariants as way
-use Rattle.sdb_world.specs.World.{IsSeat, IsWorld, WorldAt, at_moment, hand_in, hands_of, with_event, with_seat}
+use Rattle.sdb_world.specs.World.{IsSeat, IsWorld, WorldAt, at_moment, hands_of, with_event, with_seat}
 use Rattle.sdb_world.specs.Step.{HasCalled, HasCome, HasStopped, HasTaken, IsHowOf, IsIdleAt, IsBusyAt, IsOne, act_of, moved_seat, stopped_seat}
 use Rattle.sdb_world.proofs.Ties.{call_apart, clock_apart, idle_apart, stop_apart, take_apart}
 use Rattle.sdb_world.proofs.Kept.{seat_calls, seat_stops, seat_takes, world_moves, world_stays, world_ticks}
-use Rattle.sdb_world.proofs.Linked.{linked_calls, linked_rests, linked_stops, linked_takes}
+use Rattle.sdb_world.proofs.Linked.{linked_calls, linked_rests, linked_stops, linked_takes, on_hand}
 use Rattle.sdb_world.proofs.Causing.{caused_calls, caused_idles, caused_stops, caused_takes, caused_ticks, gated_by}
 use Rattle.sdb_world.proofs.Gates.{gated_at}
 use Rattle.sdb_world.proofs.Goes.{gone_one}
 use Rattle.sdb_world.proofs.Works.{not_both}
-
-by_test : {G : Type 0} (b : Bool) → (b ≡ true → G) → (b ≡ false → G) → G
-by_test true a b = a refl
-by_test false a b = b refl
+use Rattle.sdb_types.proofs.Basics.{by_test}
 
 ---- what an act gives
 
@@ -88,9 +85,6 @@ small_place w i s h here =
     let few : length w.script.clients < 2 ^ 32 - 1 = h.playable.few in
     let same : length w.seats ≡ length w.script.clients = h.clients in
     omega (arith, inside, few, same)
-
-on_hand : (P : Hand → Type 0) (seats : List Seat) (i : ℕ) (s : Seat) → slice_get seats i ≡ Some s → P (record { client = s.client; stopped = s.stopped }) → P (hands_of seats (suc i))
-on_hand P seats i s here p = subst (λ (o : Option Seat). P (hand_in o (suc i))) (sym here) p
 
 ---- idle
 

@@ -25,7 +25,7 @@ use Rattle.sdb_world.specs.declared.seat.Seat.{Seat}
 use Rattle.sdb_world.specs.World.{IsPlayable, WorldAt, at_moment, hand_in, hands_of, with_event, with_seat}
 use Rattle.sdb_world.specs.Linked.{HaveCauses, IsLinked, on_one}
 use Rattle.sdb_world.specs.Step.{AreFresh, IsGateAt, moved_seat, stopped_seat}
-use Rattle.sdb_world.proofs.Linked.{fresh_hand}
+use Rattle.sdb_world.proofs.Linked.{fresh_hand, on_hand}
 use Rattle.sdb_world.proofs.Seats.{hands_moved}
 use Rattle.sdb_world.proofs.Gates.{gated_at}
 
@@ -41,10 +41,6 @@ caused_idles w c h = idles_all w.script.catalog w.events w.clock (hands_of w.sea
 
 pub caused_ticks : (w : WorldAt) (moment : ℤ) → HaveCauses w → HaveCauses (with_event (at_moment w moment) (event.Clock moment))
 caused_ticks w moment h = clock_all w.script.catalog w.events w.clock moment (hands_of w.seats) h
-
--- what is so of a client at its place is so by its number
-on_hand : (P : Hand → Type 0) (seats : List Seat) (i : ℕ) (s : Seat) → slice_get seats i ≡ Some s → P (record { client = s.client; stopped = s.stopped }) → P (hands_of seats (suc i))
-on_hand P seats i s here p = subst (λ (o : Option Seat). P (hand_in o (suc i))) (sym here) p
 
 -- one client elsewhere
 caused_by : (w : WorldAt) (i : ℕ) (s t : Seat) (e : Event) → slice_get w.seats i ≡ Some s → AreTied w.script.catalog (w.events ++ e ∷ []) w.clock (at (hands_of w.seats) (suc i) (record { client = t.client; stopped = t.stopped })) → HaveCauses (with_event (with_seat w i t) e)

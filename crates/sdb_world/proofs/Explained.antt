@@ -15,7 +15,8 @@ use Rattle.sdb_model.specs.Explained.{Explained}
 use Rattle.sdb_spread.specs.Spread.{HoldAs}
 use Rattle.sdb_steps.specs.Fitting.{tables_fit}
 use Rattle.sdb_steps.specs.Hands.{doing_of, system_of}
-use Rattle.sdb_endings.proofs.Explains.{going_is_explained}
+use Rattle.sdb_endings.specs.Stores.{AreTaken}
+use Rattle.sdb_endings.proofs.Explains.{going_is_explained, going_is_taken}
 use Rattle.sdb_endings.proofs.Moments.{lone_effect}
 use Rattle.sdb_world.specs.World.{IsPlayable, IsWorld, WorldAt, hands_of}
 use Rattle.sdb_world.specs.Linked.{IsLinked, one_name}
@@ -26,7 +27,7 @@ use Rattle.sdb_world.proofs.Acts.{Came}
 use Rattle.sdb_world.proofs.Goes.{traces_on}
 
 -- no table of a script is the coordinator's
-no_coordinator : (script : Script) → IsPlayable script → find_table script.catalog coordinator_table ≡ None
+pub no_coordinator : (script : Script) → IsPlayable script → find_table script.catalog coordinator_table ≡ None
 no_coordinator script p = by (find_table script.catalog coordinator_table) refl
   where
     by : (o : Option Table) → find_table script.catalog coordinator_table ≡ o → find_table script.catalog coordinator_table ≡ None
@@ -37,11 +38,19 @@ pub world_explained : (w : WorldAt) → IsWorld w → IsLinked w → (places : L
 world_explained w h g places opening closing moments nothing traced =
     going_is_explained w.script.catalog places one_name (tables_fit w.script.catalog) w.events (system_of (hands_of w.seats)) (doing_of (hands_of w.seats)) opening closing moments g (no_coordinator w.script h.playable) traced h.about nothing
 
+world_taken : (w : WorldAt) → IsWorld w → IsLinked w → (places : List Place) (opening closing : List Shelf) (moments : List (List Shelf)) → HoldAs w.script.catalog places opening empty → IsTrace places w.events opening moments closing → AreTaken w.script.catalog places opening moments
+world_taken w h g places opening closing moments nothing traced =
+    going_is_taken w.script.catalog places one_name (tables_fit w.script.catalog) w.events (system_of (hands_of w.seats)) (doing_of (hands_of w.seats)) opening closing moments g (no_coordinator w.script h.playable) traced h.about nothing
+
 -- a world that has played its script
 pub played_explained : (w : WorldAt) → IsWorld w → (events : List Event) → events ≡ w.events → (opening closing : List Shelf) → HasPlayed w opening closing → IsExplained w.script events opening
-played_explained w h events same opening closing p moments end traced =
-    subst (λ (es : List Event). Explained w.script.catalog w.script.places es opening moments) (sym same)
-    (world_explained w h p.linked w.script.places opening end moments p.nothing (subst (λ (es : List Event). IsTrace w.script.places es opening moments end) same traced))
+played_explained w h events same opening closing p moments end traced = record {
+  explained = subst (λ (es : List Event). Explained w.script.catalog w.script.places es opening moments) (sym same) (world_explained w h p.linked w.script.places opening end moments p.nothing on);
+  taken = world_taken w h p.linked w.script.places opening end moments p.nothing on;
+}
+  where
+    on : IsTrace w.script.places w.events opening moments end
+    on = subst (λ (es : List Event). IsTrace w.script.places es opening moments end) same traced
 
 -- one event more
 pub came_explained : (fit : Type 0) (places : List Place) (before now : List Shelf) (w v : WorldAt) (a : Act) → Came fit places before now w a v → IsExplainedAfter fit places before now w v

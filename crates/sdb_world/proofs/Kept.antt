@@ -1,7 +1,6 @@
 -- What is so of a world stays so.
 use Rattle.std.proofs.Common.{◌≡◌, ℕ, zero, suc, ℤ, ◌+◌, true, false, List, [], ◌∷◌, ◌++◌, Option, Some, None, refl, sym, ap, subst, ◌∙◌, slice_set, add-zero}
 use Rattle.std.specs.Prelude.{is_none, slice_get, IsSome}
-use Rattle.std.specs.List.{AllByRecursion}
 use Rattle.sdb_types.specs.declared.record.Reply.{Reply}
 use Rattle.sdb_types.specs.declared.record.Request.{Request}
 use Rattle.sdb_record.specs.Meta.{is_moment}
@@ -20,7 +19,7 @@ use Rattle.sdb_world.specs.World.{IsSeat, IsWorld, WorldAt, at_moment, with_even
 use Rattle.sdb_world.specs.Step.{moved_seat, stopped_seat}
 use Rattle.sdb_world.proofs.Seats.{set_here, set_length, set_other}
 use Rattle.sdb_world.proofs.Ties.{IsApart, apart_pending, apart_stopped, apart_taken, own_call_pending, own_call_stopped, own_call_taken, own_stop_pending, own_stop_stopped, own_stop_taken, own_take_pending, own_take_stopped, own_take_taken}
-use Rattle.sdb_types.proofs.Basics.{some_is}
+use Rattle.sdb_types.proofs.Basics.{some_is, all_last as all_more}
 
 by_nat : {G : Type 0} (i j : ℕ) → (i ≡ j → G) → ((i ≡ j → ⊥) → G) → G
 by_nat zero zero a b = a refl
@@ -43,10 +42,6 @@ seat_stays script es e j s apart h = record {
   busy = λ t. h.busy (sym (apart_pending (suc j) es e apart) ∙ t);
   idle = λ t. h.idle (sym (apart_pending (suc j) es e apart) ∙ t);
 }
-
-all_more : {A : Type 0} (P : A → Type 0) (xs : List A) (x : A) → AllByRecursion P xs → P x → AllByRecursion P (xs ++ x ∷ [])
-all_more P [] x h p = (p, tt)
-all_more P (y ∷ ys) x h p = (h.0, all_more P ys x h.1 p)
 
 -- an event that is of no client's doing
 pub world_stays : (w : WorldAt) (e : Event) → ((j : ℕ) → IsApart (suc j) e) → IsAbout w.script.catalog e → IsWorld w → IsWorld (with_event w e)

@@ -14,3 +14,4 @@ pub mod Goings
 pub mod Gates
 pub mod Explained
 pub mod Broken
+pub mod Hows

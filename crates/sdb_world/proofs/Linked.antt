@@ -73,7 +73,7 @@ linked_by w i s t e here g =
     (same_going w.script.catalog (on_one w.events ++ moved_event (λ ns. one_name) e ∷ []) (at (hands_of w.seats) (suc i) (record { client = t.client; stopped = t.stopped })) (hands_of (slice_set w.seats i t)) (λ c. sym (hands_moved w.seats i s t c here)) g)
 
 -- where a client goes on, it is as it stands
-on_hand : (P : Hand → Type 0) (seats : List Seat) (i : ℕ) (s : Seat) → slice_get seats i ≡ Some s → P (record { client = s.client; stopped = s.stopped }) → P (hands_of seats (suc i))
+pub on_hand : (P : Hand → Type 0) (seats : List Seat) (i : ℕ) (s : Seat) → slice_get seats i ≡ Some s → P (record { client = s.client; stopped = s.stopped }) → P (hands_of seats (suc i))
 on_hand P seats i s here p = subst (λ (o : Option Seat). P (hand_in o (suc i))) (sym here) p
 
 pub linked_takes : (w : WorldAt) (i : ℕ) (s : Seat) (q : Taking) (text : List ℕ) (a : Option Answer) (d : Client) → IsPlayable w.script → q.catalog ≡ w.script.catalog → slice_get w.seats i ≡ Some s → s.stopped ≡ false → IsReady (hands_of w.seats) (suc i) → IsGated q.gate (hands_of w.seats) (suc i) → Takes q text s.client a d → d.begun < 2 ^ 64 → is_moment q.now ≡ true

@@ -13,6 +13,7 @@ use Rattle.sdb_model.specs.Rows.{Name}
 use Rattle.sdb_model.specs.declared.event.Event.{Event}
 use Rattle.sdb_model.specs.declared.event.Event.TheVariants as event
 use Rattle.sdb_model.specs.Follows.{has_stopped, is_pending, pends_after, stops, taken_by, takes_by}
+use Rattle.sdb_types.proofs.Basics.{or_false}
 
 abbrev one_if : Bool → ℕ
 one_if b = if b then 1 else 0
@@ -23,10 +24,6 @@ counted_more p es e =
     let last : count_by p (e ∷ []) ≡ one_if (p e) + count_by p [] = sum_by-cons (λ (x : Event). cond (p x) 1 0) e [] in
     let none : count_by p [] ≡ 0 = refl in
     both ∙ ap (λ (n : ℕ). count_by p es + n) (last ∙ ap (λ (n : ℕ). one_if (p e) + n) none ∙ omega arith)
-
-or_false : (b : Bool) → (b || false) ≡ b
-or_false true = refl
-or_false false = refl
 
 pub taken_more : (c : ℕ) (es : List Event) (e : Event) → taken_by c (es ++ e ∷ []) ≡ taken_by c es + one_if (takes_by c e)
 taken_more c es e = counted_more (takes_by c) es e

@@ -6,14 +6,25 @@ use Rattle.sdb_model.specs.declared.script.Place.{Place}
 use Rattle.sdb_model.specs.declared.script.Script.{Script}
 use Rattle.sdb_model.specs.Events.{IsTrace, Shelf}
 use Rattle.sdb_model.specs.Explained.{Explained}
+use Rattle.sdb_model.specs.Shown.{AreShown}
 use Rattle.sdb_spread.specs.Spread.{HoldAs}
+use Rattle.sdb_endings.specs.Stores.{AreTaken}
 use Rattle.sdb_world.specs.World.{WorldAt}
 use Rattle.sdb_world.specs.Linked.{IsLinked}
 
--- Whatever the stores held after each event of a script's run, what stood at each moment is explained by the events, and what each
--- recorded transaction noted is current at its point.
+-- What stood at each of these moments is explained by the events of a script's run, what each recorded transaction noted is current at
+-- its point, and each record that stood at a key of a table passes the checks.
+pub record AreExplained (script : Script) (events : List Event) (opening : List Shelf) (moments : List (List Shelf)) : Type 0 where
+  pub explained : Explained script.catalog script.places events opening moments
+  pub taken : AreTaken script.catalog script.places opening moments
+
+-- So it is, whatever the stores held after each event.
 abbrev pub IsExplained : Script → List Event → List Shelf → Type 0
-IsExplained script events opening = (moments : List (List Shelf)) (closing : List Shelf) → IsTrace script.places events opening moments closing → Explained script.catalog script.places events opening moments
+IsExplained script events opening = (moments : List (List Shelf)) (closing : List Shelf) → IsTrace script.places events opening moments closing → AreExplained script events opening moments
+
+-- Whatever they held, no transaction was shown a row that was neither its own nor committed when it was read.
+abbrev pub IsShown : Script → List Event → List Shelf → Type 0
+IsShown script events opening = (moments : List (List Shelf)) (closing : List Shelf) → IsTrace script.places events opening moments closing → AreShown script.catalog script.places events opening moments
 
 -- Stores, as they are now, end a trace that goes on from these moments and agrees with a world's events, and by these what stood at each
 -- moment is explained, and what was noted is current.

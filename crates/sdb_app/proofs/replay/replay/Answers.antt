@@ -4,6 +4,7 @@ use Rattle.sdb_types.specs.declared.key.Key.{Key}
 use Rattle.sdb_board.specs.Board.{shown}
 use Rattle.sdb_stores.specs.Shelf.{Shelf}
 use Rattle.sdb_app.specs.Run.{IsFirstFound, TellOf, Stops}
+use Rattle.sdb_world.proofs.Explained.{no_coordinator}
 use Rattle.sdb_app.proofs.Headline.{passed_on, stops_after, stops_as, fit_script, reported, never_foreign, found_first}
 use Rattle.sdb_app.proofs.replay.replay.Goals as goal
 
@@ -42,4 +43,4 @@ returns-clause-report g c =
     let old = g.R.Registry.shelves c.args.stores.now in
     let mid = g.R.Registry.shelves c.place_all.new.stores in
     reported c.args.script ps qs old mid (g.R.Registry.shelves c.be_empty.new.stores) _ c.in_ok-outcome.outcome (string_bytes c.in_ok-report_text.field-0) c.in_ok-place_all.ensures.places c.place_all.ensures.stores c.in_ok-be_empty.ensures.goes
-    (λ all. fit_script c.args.script ps old mid c.in_ok-place_all.ensures.places c.place_all.ensures.stores c.requires.places c.requires.some c.requires.distinct c.place_all.ensures.telling all) c.in_ok-be_empty.ensures.empty c.in_ok-be_empty.ensures.still c.in_ok-outcome.ensures.follows c.in_ok-outcome.ensures.caused c.in_ok-outcome.ensures.broken c.in_ok-outcome.ensures.run c.in_ok-outcome.ensures.explained c.in_ok-report_text.ensures
+    (λ all. fit_script c.args.script ps old mid c.in_ok-place_all.ensures.places c.place_all.ensures.stores c.requires.places c.requires.some c.requires.distinct c.place_all.ensures.telling all) c.in_ok-be_empty.ensures.empty c.in_ok-be_empty.ensures.still c.in_ok-outcome.ensures.follows c.in_ok-outcome.ensures.caused c.in_ok-outcome.ensures.broken c.in_ok-outcome.ensures.run c.in_ok-outcome.ensures.explained (no_coordinator c.args.script c.requires.playable) c.in_ok-report_text.ensures

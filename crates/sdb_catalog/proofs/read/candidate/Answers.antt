@@ -5,9 +5,9 @@ use Rattle.sdb_schema.specs.declared.table.Table.{Table}
 use Rattle.std.specs.Option.{option_copied}
 use Rattle.sdb_catalog.specs.Opened.{is_attached}
 use Rattle.sdb_catalog.specs.Rows.{MayHaveRow, Texts}
-use Rattle.sdb_catalog.proofs.Reading.{no_texts, texts_said, no_store, store_is, store_there, same_entry, none_some}
+use Rattle.sdb_catalog.proofs.Reading.{no_texts, texts_said, no_store, store_is, store_there, same_entry}
 use Rattle.sdb_catalog.proofs.read.candidate.Goals as goal
-use Rattle.sdb_types.proofs.Basics.{some_is}
+use Rattle.sdb_types.proofs.Basics.{some_is, none_some}
 
 pub returns-in_default-clause-read : goal.returns-in_default-clause-read
 returns-in_default-clause-read c = λ e fit row. no_texts e c.args.row.now c.texts_of.result c.texts_of.ensures c.in_default.is row

@@ -1,8 +1,9 @@
 use Rattle.sdb_causes.proofs.Counting.{all_counted, calls_counted}
+use Rattle.sdb_causes.proofs.Faults.{seen_no_faults}
 use Rattle.sdb_causes.proofs.ending.calls_are_counted.Goals as goal
 
 pub returns-clause-fits : goal.returns-clause-fits
 returns-clause-fits x = calls_counted
 
 pub returns-clause-seen : goal.returns-clause-seen
-returns-clause-seen x = all_counted
+returns-clause-seen x = λ catalog clients moves events counted follows. all_counted catalog events counted (seen_no_faults clients moves events follows)

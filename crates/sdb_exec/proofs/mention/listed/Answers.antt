@@ -1,4 +1,4 @@
-use Rattle.std.proofs.Common.{◌≡◌, ◌∙◌, ap, sym, []}
+use Rattle.std.proofs.Common.{◌∙◌, ap, sym, []}
 use Rattle.std.proofs.lemmas.List.{drop_all}
 use Rattle.sdb_exec.proofs.Gathered.{gathered, gathered-is}
 use Rattle.sdb_exec.proofs.mention.listed.Goals as goal

@@ -1,4 +1,4 @@
-use Rattle.std.proofs.Common.{◌≡◌, ◌∙◌, ◌<◌, ◌^◌, ◌+◌, ap, sym, rules, arith, length, subst}
+use Rattle.std.proofs.Common.{◌∙◌, ◌<◌, ◌^◌, ◌+◌, ap, sym, arith, length}
 use Rattle.std.specs.Option.{option_map}
 use Rattle.sdb_model.specs.Refused.{mentions}
 use Rattle.sdb_exec.proofs.Places.{place_small}

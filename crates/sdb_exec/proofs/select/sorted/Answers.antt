@@ -1,4 +1,4 @@
-use Rattle.std.proofs.Common.{rules, is_lt, ◌≡◌, Bool, List, ap, ◌∙◌, subst}
+use Rattle.std.proofs.Common.{rules, is_lt, ◌≡◌, Bool, ap, ◌∙◌, subst}
 use Rattle.std.specs.Prelude.{reverse}
 use Rattle.std.specs.List.Sorted.{IsStableBy}
 use Rattle.std.proofs.lemmas.List.Sorted.{ranks_by}

@@ -1,8 +1,5 @@
 use Rattle.std.proofs.Common.{◌≡◌, drop}
 use Rattle.sdb_lawful.specs.Rules.{any_held_forward}
-use Rattle.std.specs.List.{list_any}
-use Rattle.std.specs.Prelude.{◌&&◌}
-use Rattle.sdb_said.specs.Shown.{is_held_by, is_forward}
 use Rattle.sdb_lawful.proofs.rolls.any_held_forward.Given as goal
 
 abbrev pub invariant-loop-rec : goal.invariant-loop-rec

@@ -3,6 +3,10 @@ use Rattle.sdb_types.specs.declared.record.Reply.{Reply}
 use Rattle.sdb_model.specs.declared.event.How.{How}
 use Rattle.sdb_board.specs.Board.{IsMade, how_lost, placed, reply_lost, shown}
 use Rattle.sdb_board.proofs.Made.{discarded, lost}
+use Rattle.sdb_model.specs.Follows.{IsHowOfLose, IsHowOfStep}
+use Rattle.sdb_world.specs.declared.way.Way.{Way}
+use Rattle.sdb_world.specs.Step.{IsHowOf}
+use Rattle.sdb_world.proofs.Hows.{lost_allowed, seen_allowed}
 use Rattle.sdb_world.proofs.perform.perform.Goals as goal
 
 pub returns-in-Step-clause-made : goal.returns-in-Step-clause-made
@@ -23,3 +27,14 @@ returns-in-Lose-clause-made g c = λ catalog fit about.
 
 pub returns-in-Discard-clause-made : goal.returns-in-Discard-clause-made
 returns-in-Discard-clause-made g c = λ catalog fit about. discarded catalog (g.R.Registry.places c.args.stores.now) (g.R.Registry.shelves c.args.stores.now) c.args.request.now fit about
+
+pub returns-in-Step-clause-allowed : goal.returns-in-Step-clause-allowed
+returns-in-Step-clause-allowed g c =
+    subst (λ (w : Way). IsHowOf w c.how_seen.result c.call-reply.result) (sym c.in-Step.is)
+    (subst (λ (h : How). IsHowOfStep h c.call-reply.result) (sym c.how_seen.ensures) (seen_allowed c.call-reply.result))
+
+pub returns-in-Lose-clause-allowed : goal.returns-in-Lose-clause-allowed
+returns-in-Lose-clause-allowed g c =
+    let r = c.call-reply-in-Lose.result in
+    subst (λ (w : Way). IsHowOf w c.how_lost.result c.reply_lost.result) (sym c.in-Lose.is)
+    (subst (λ (h : How). IsHowOfLose h c.reply_lost.result) (sym c.how_lost.ensures) (subst (λ (x : Reply). IsHowOfLose (how_lost r) x) (sym c.reply_lost.ensures) (lost_allowed r)))

@@ -2,9 +2,10 @@ use Rattle.std.proofs.Common.{◌+◌, List, drop, ap, ◌∙◌, subst, sym, re
 use Rattle.sdb_record.specs.declared.write.Write.{Write}
 use Rattle.sdb_snapshot.specs.Opened.{with_new, with_news}
 use Rattle.sdb_snapshot.specs.Held.{StartsWith}
-use Rattle.sdb_snapshot.proofs.Fronts.{starts_itself, drop_next}
+use Rattle.sdb_snapshot.proofs.Fronts.{starts_itself}
 use Rattle.sdb_snapshot.proofs.Opening.{new_front}
 use Rattle.sdb_snapshot.proofs.drafts.Drafts.open_each.Goals as goal
+use Rattle.sdb_types.proofs.Basics.{drop_next}
 
 pub loop-keyed-init : goal.loop-keyed-init
 loop-keyed-init c = record { told = refl; front = starts_itself c.args.self.now }

@@ -1,9 +1,10 @@
 use Rattle.std.proofs.Common.{◌+◌, List, Some, drop, ap, ◌∙◌, subst, sym, refl}
 use Rattle.sdb_snapshot.specs.Noted.{Note, with_images}
 use Rattle.sdb_snapshot.specs.Held.{StartsWith}
-use Rattle.sdb_snapshot.proofs.Fronts.{starts_itself, drop_next}
+use Rattle.sdb_snapshot.proofs.Fronts.{starts_itself}
 use Rattle.sdb_snapshot.proofs.Orders.{note_front}
 use Rattle.sdb_snapshot.proofs.notes.Notes.note_each.Goals as goal
+use Rattle.sdb_types.proofs.Basics.{drop_next}
 
 pub loop-rec-init : goal.loop-rec-init
 loop-rec-init c = record { told = refl; front = starts_itself c.args.self.now }

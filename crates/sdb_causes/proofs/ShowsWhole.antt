@@ -1,0 +1,142 @@
+-- Each row that a client is shown is one that its transaction has.
+use Rattle.std.proofs.Common.{◌≡◌, ◌⊎◌, inl, inr, ℕ, ℤ, Bool, true, false, List, [], ◌∷◌, ◌++◌, Option, Some, None, refl, sym, ap, subst, ◌∙◌, arith}
+use Rattle.std.specs.Prelude.{if◌then◌else◌, filter, is_some, IfSome, Contains}
+use Rattle.std.specs.List.{AllByRecursion}
+use Rattle.std.proofs.lemmas.List.{append-nil}
+use Rattle.std.proofs.lemmas.List.Elements.{All-contains_itself, Contains-append_left, filter-append, recursion_from_All}
+use Rattle.sdb_types.specs.declared.txid.TxId.{TxId}
+use Rattle.sdb_types.specs.declared.key.Key.{Key}
+use Rattle.sdb_types.proofs.Basics.{all_each as each_any}
+use Rattle.sdb_types.specs.declared.pair.Pair.{Pair}
+use Rattle.sdb_record.specs.declared.access.Image.{Image}
+use Rattle.sdb_schema.specs.declared.table.Table.{Table}
+use Rattle.sdb_model.specs.declared.answer.Answer.{Answer}
+use Rattle.sdb_model.specs.declared.answer.Answer.TheVariants as answer
+use Rattle.sdb_model.specs.declared.event.Event.{Event}
+use Rattle.sdb_model.specs.Calls.{calls_of}
+use Rattle.sdb_model.specs.Shown.{AnswersShow, HasRow, ShowsOwn}
+use Rattle.sdb_model.specs.Transactions.{Said, client_of, ends, from_begin, is_effective, ordinal_of, rest_of, said, statements_of, through_end}
+use Rattle.sdb_steps.specs.Hands.{Hand}
+use Rattle.sdb_story.specs.Telling.{waiting_of}
+use Rattle.sdb_causes.specs.Moves.{AllTellOne, TellOne}
+use Rattle.sdb_causes.specs.Shows.{AllGiveOwn, HasBefore, RowsAreShown, CallsAgree, GivesOwn, WasRead}
+use Rattle.sdb_causes.specs.Tied.{AreTied, IsWaiting, Knows}
+use Rattle.sdb_causes.proofs.Noting.{each_left, each_middle, since_all}
+use Rattle.sdb_causes.proofs.Settling.{one_of}
+use Rattle.sdb_causes.proofs.Shows.{each_changing, effective_by, first_so}
+use Rattle.sdb_causes.proofs.ShowsTold.{own_waits}
+
+---- the statements of a transaction
+
+-- A statement among those up to the end, with those before it, none of which ends the transaction.
+record IsPart (ss through : List Said) (s : Said) : Type 0 where
+  body : List Said
+  post : List Said
+  tail : List Said
+  through_is : through ≡ body ++ s ∷ post
+  all_is : ss ≡ body ++ s ∷ tail
+  goes_on : AllByRecursion (λ x. ends x ≡ false) body
+
+parted : (ss : List Said) (s : Said) → Contains (through_end ss) s → IsPart ss (through_end ss) s
+parted [] s has = absurd (omega (arith, has.1))
+parted (x ∷ xs) s has = by (ends x) refl (λ h. parted xs s h) has
+  where
+    first : (more : List Said) → x ≡ s → IsPart (x ∷ xs) (x ∷ more) s
+    first more same = record { body = []; post = more; tail = xs; through_is = ap (λ (y : Said). y ∷ more) same; all_is = ap (λ (y : Said). y ∷ xs) same; goes_on = tt }
+
+    later : ends x ≡ false → IsPart xs (through_end xs) s → IsPart (x ∷ xs) (x ∷ through_end xs) s
+    later e h = record { body = x ∷ h.body; post = h.post; tail = h.tail; through_is = ap (λ ys. x ∷ ys) h.through_is; all_is = ap (λ ys. x ∷ ys) h.all_is; goes_on = (e, h.goes_on) }
+
+    only : (x ≡ s) ⊎ Contains [] s → IsPart (x ∷ xs) (x ∷ []) s
+    only (inl same) = first [] same
+    only (inr none) = absurd (omega (arith, none.1))
+
+    either : ends x ≡ false → (Contains (through_end xs) s → IsPart xs (through_end xs) s) → (x ≡ s) ⊎ Contains (through_end xs) s → IsPart (x ∷ xs) (x ∷ through_end xs) s
+    either e ih (inl same) = first (through_end xs) same
+    either e ih (inr h) = later e (ih h)
+
+    by : (b : Bool) → ends x ≡ b → (Contains (through_end xs) s → IsPart xs (through_end xs) s) → Contains (if b then x ∷ [] else x ∷ through_end xs) s → IsPart (x ∷ xs) (if b then x ∷ [] else x ∷ through_end xs) s
+    by true e ih h = only (one_of x s [] h)
+    by false e ih h = either e ih (one_of x s (through_end xs) h)
+
+---- its rows
+
+module _ (catalog : List Table) (events : List Event) (c : ℕ) (id : TxId) (s : Said) (body post : List Said) (statements : statements_of events id ≡ body ++ s ∷ post)
+    (among : AllByRecursion (Contains (said c events)) body) (last : Contains (said c events) s) where
+  row_own : (key : Key) (row : Option (List Pair)) → is_effective s ≡ true → HasBefore catalog events c body s key row → HasRow catalog (WasRead catalog events c) events id s key row
+  row_own key row e h = record {
+    first = h.first;
+    earlier = h.earlier;
+    changing = h.changing;
+    later = filter is_effective post;
+    sts = h.sts;
+    base = h.base;
+    parts =
+        ap (filter is_effective) statements
+        ∙ filter-append is_effective body (s ∷ post)
+        ∙ ap (λ b. filter is_effective body ++ (if b then s ∷ filter is_effective post else filter is_effective post)) e
+        ∙ ap (λ xs. xs ++ s ∷ filter is_effective post) h.parts;
+    begins = h.begins;
+    shown = (first_so (Contains (said c events)) h.changing s h.first h.begins (each_changing (Contains (said c events)) body h.earlier h.changing h.parts among) last, h.shown);
+    read = h.read;
+    made = h.made;
+  }
+
+  shows_own : (a : Answer) → s.answer ≡ Some a → GivesOwn catalog events c body s a → ShowsOwn catalog (WasRead catalog events c) events id s a
+  shows_own (answer.Rows rows) is (t, select, images, reads, found, shown, own) = (
+    t,
+    select,
+    images,
+    reads,
+    found,
+    shown,
+    each_any (λ (r : Image). HasBefore catalog events c body s r.key (Some r.columns)) (λ (r : Image). HasRow catalog (WasRead catalog events c) events id s r.key (Some r.columns)) images (λ r h. row_own r.key (Some r.columns) (effective_by s (answer.Rows rows) false is refl) h) own,
+  )
+  shows_own (answer.Duplicate key) is h = (h.0, row_own key (Some h.0) (effective_by s (answer.Duplicate key) false is refl) h.1)
+  shows_own a is h = tt
+
+---- all clients
+
+module _ (catalog : List Table) (events : List Event) (now : ℤ) (hands : ℕ → Hand) (ex : AreTied catalog events now hands) (c : ℕ) (tell : CallsAgree events c) where
+  abbrev k : Knows catalog events c (hands c).client
+  k = ex.each c
+
+  tells_one : AllTellOne events c k.told
+  tells_one = each_any (Contains k.told) (λ x. TellOne (calls_of events c x)) k.told (λ x z. tell x (subst (λ ss. Contains ss x) (sym k.same) (Contains-append_left k.told (waiting_of k.waiting) x z))) (recursion_from_All (Contains k.told) k.told (All-contains_itself k.told))
+
+  all_own : AllGiveOwn catalog events c (said c events)
+  all_own = subst (AllGiveOwn catalog events c) (sym k.same) (by k.waiting k.waits)
+    where
+      by : (o : Option Said) → IfSome o (IsWaiting catalog events c (is_some (hands c).client.vacuum)) → AllGiveOwn catalog events c (k.told ++ waiting_of o)
+      by None w = subst (AllGiveOwn catalog events c) (sym (append-nil k.told)) (k.shows tells_one).told_own
+      by (Some w) waits = own_waits catalog events c k.told w waits.unanswered k.counted.paired (k.shows tells_one).told_own
+
+  all_said : AllByRecursion (Contains (said c events)) (said c events)
+  all_said = recursion_from_All (Contains (said c events)) (said c events) (All-contains_itself (said c events))
+
+  rows_own : (id : TxId) (s : Said) (a : Answer) → client_of id ≡ c → Contains (statements_of events id) s → s.answer ≡ Some a → ShowsOwn catalog (WasRead catalog events c) events id s a
+  rows_own id s a is has answered = by (from_begin (ordinal_of id) (said c events)) refl
+    where
+      statements : statements_of events id ≡ through_end (rest_of (from_begin (ordinal_of id) (said c events)))
+      statements = ap (λ d. through_end (rest_of (from_begin (ordinal_of id) (said d events)))) is
+
+      at : (b : Said) (rest : List Said) → from_begin (ordinal_of id) (said c events) ≡ b ∷ rest → statements_of events id ≡ through_end rest → IsPart rest (through_end rest) s → ShowsOwn catalog (WasRead catalog events c) events id s a
+      at b rest e whole p =
+          let all : AllByRecursion (Contains (said c events)) (p.body ++ s ∷ p.tail) = subst (AllByRecursion (Contains (said c events))) p.all_is (since_all (Contains (said c events)) (ordinal_of id) (said c events) b rest all_said e) in
+          shows_own catalog events c id s p.body p.post (whole ∙ p.through_is) (each_left (Contains (said c events)) p.body (s ∷ p.tail) all) (each_middle (Contains (said c events)) p.body p.tail s all) a answered (all_own (ordinal_of id) b p.body s p.tail a (e ∙ ap (λ r. b ∷ r) p.all_is) p.goes_on answered)
+
+      by : (r : List Said) → from_begin (ordinal_of id) (said c events) ≡ r → ShowsOwn catalog (WasRead catalog events c) events id s a
+      by [] e = absurd (none (subst (λ ss. Contains ss s) (statements ∙ ap (λ r. through_end (rest_of r)) e) has))
+        where
+          none : Contains {X = Said} [] s → ⊥
+          none y = absurd (omega (arith, y.1))
+      by (b ∷ rest) e =
+          let whole : statements_of events id ≡ through_end rest = statements ∙ ap (λ r. through_end (rest_of r)) e in
+          at b rest e whole (parted rest s (subst (λ ss. Contains ss s) whole has))
+
+pub rows_shown : (catalog : List Table) (events : List Event) (now : ℤ) (hands : ℕ → Hand) → AreTied catalog events now hands → RowsAreShown catalog events
+rows_shown catalog events now hands ex c tell id s a is has answered = rows_own catalog events now hands ex c tell id s a is has answered
+
+-- So each answer of a run shows own rows, where the calls of no statement show two decisions on a transaction.
+pub answers_own : (catalog : List Table) (events : List Event) → RowsAreShown catalog events → ((c : ℕ) → CallsAgree events c) → AnswersShow catalog (WasRead catalog events) events
+answers_own catalog events shown tell id s a has is = shown (client_of id) (tell (client_of id)) id s a refl has is

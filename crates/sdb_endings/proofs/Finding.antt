@@ -1,0 +1,438 @@
+-- What the calls of statements found at keys of tables is the row of a committed image at a moment of these calls.
+use Rattle.std.proofs.Common.{◌≡◌, ◌≢◌, ◌⊎◌, inl, inr, ℕ, zero, suc, ◌+◌, ◌<◌, ◌≤◌, ◌^◌, Bool, true, false, List, [], ◌∷◌, length, Option, Some, None, refl, sym, ap, subst, ◌∙◌, arith}
+use Rattle.std.specs.Prelude.{◌&&◌, if◌then◌else◌, IfSome, is_some, not, Contains}
+use Rattle.std.specs.Option.{option_and_then, option_map_or}
+use Rattle.std.specs.Ordering.{is_eq}
+use Rattle.std.specs.Result.{result_ok}
+use Rattle.std.proofs.lemmas.Bool.{cases_lt}
+use Rattle.sdb_types.specs.declared.txid.TxId.{TxId}
+use Rattle.sdb_types.specs.declared.key.Key.{Key}
+use Rattle.sdb_types.specs.declared.pair.Pair.{Pair}
+use Rattle.sdb_types.specs.declared.value.Value.{Value}
+use Rattle.sdb_types.specs.declared.value.Value.TheVariants as value
+use Rattle.sdb_types.specs.declared.record.Record.{Record}
+use Rattle.sdb_types.specs.declared.record.Request.{Request}
+use Rattle.sdb_types.specs.declared.record.Request.TheVariants as ask
+use Rattle.sdb_types.specs.declared.record.Reply.{Reply}
+use Rattle.sdb_types.specs.declared.record.Reply.TheVariants as reply
+use Rattle.sdb_types.specs.declared.record.State.TheVariants as state
+use Rattle.sdb_types.specs.Columns.{column}
+use Rattle.sdb_types.specs.Contents.{Contents, after, holds, is_partition, record_at, tx_id}
+use Rattle.sdb_types.specs.Exact.{equal_of}
+use Rattle.sdb_types.specs.Order.{key_cmp, table_cmp}
+use Rattle.sdb_types.proofs.Basics.{all_each, by_test, clash, none_some, not_true, some_is}
+use Rattle.sdb_types.proofs.Bools.{and_both, and_first}
+use Rattle.sdb_types.proofs.KeyOrder.{table_exact}
+use Rattle.sdb_types.proofs.Replies.{record_at-key}
+use Rattle.sdb_schema.specs.declared.table.Table.{Table}
+use Rattle.sdb_record.specs.declared.access.Image.{Image}
+use Rattle.sdb_record.specs.declared.coordinator.Decided.{Decided}
+use Rattle.sdb_record.specs.Coordinator.{coordinator_key_of, coordinator_table, decision_in, is_coordinator_table}
+use Rattle.sdb_record.specs.Meta.{id_in, id_in_value, is_in, is_taken}
+use Rattle.sdb_record.specs.Rolls.{image_of, row_of_image}
+use Rattle.sdb_record.proofs.IdLemmas.{id_of_text-is}
+use Rattle.sdb_record.proofs.ImageLaws.{image-settled}
+use Rattle.sdb_model.specs.declared.answer.Answer.{Answer}
+use Rattle.sdb_model.specs.declared.answer.Answer.TheVariants as answer
+use Rattle.sdb_model.specs.declared.event.Event.{Event}
+use Rattle.sdb_model.specs.declared.event.Event.TheVariants as event
+use Rattle.sdb_model.specs.declared.script.Place.{Place}
+use Rattle.sdb_model.specs.Calls.{Made, calls_of, decision_learned, decision_shown, end_of, is_read, record_among, records_read}
+use Rattle.sdb_model.specs.Counted.{AreResolved, IsPassedOver, IsResolved}
+use Rattle.sdb_model.specs.Events.{Effect, IsTrace, Shelf, held_by, moment, standing, store_of, table_asked}
+use Rattle.sdb_model.specs.Exec.{find_table}
+use Rattle.sdb_model.specs.Explained.{IsPreparedAfter, IsTableKey, Shows, StandingExplained}
+use Rattle.sdb_model.specs.Images.{decision_at, decision_on}
+use Rattle.sdb_model.specs.Noted.{reads_rows, resolved, same_key}
+use Rattle.sdb_model.specs.Shown.{AnswersShow, AreShown, CommittedBy, HasRow, ReadsKey, ShowsOwn, WasCommitted, WasFound}
+use Rattle.sdb_model.specs.Transactions.{Said, client_of}
+use Rattle.sdb_laws.specs.Lawful.{row_among}
+use Rattle.sdb_laws.proofs.Effects.{AtCall, after_put, at_call}
+use Rattle.sdb_laws.proofs.Keys.{same_key_tells}
+use Rattle.sdb_laws.proofs.Moments.{apart_from}
+use Rattle.sdb_laws.proofs.Shown.{get_reply, scan_reply}
+use Rattle.sdb_endings.specs.Shown.{FoundDecided, IsDecidedIn, IsReader, ReadBy}
+use Rattle.sdb_endings.specs.Stores.{AreTaken}
+use Rattle.sdb_endings.proofs.Agreeing.{Stands, decisions_agree, same_row, shown_stands}
+use Rattle.sdb_endings.proofs.Calls.{IsAt, IsWithin, a_later, call_at, effect_at, later_call, one_of, the_first, within_statement}
+use Rattle.sdb_endings.proofs.Others.{PutsAt, stood_or_put}
+
+---- one event
+
+-- A put at one key leaves what stands at another.
+put_leaves : (places : List Place) (e : Event) (before now : List Shelf) (k j : Key) → Effect places e before now → PutsAt e k → k ≢ j → standing places now j ≡ standing places before j
+put_leaves places (event.Call client store (ask.PutIf rec c) how r answer) before now k j effect put apart = stays (at_call places store (ask.PutIf rec c) how r before now effect)
+  where
+    other : same_key j rec.key ≡ false
+    other = by (same_key_tells j rec.key)
+      where
+        by : ((same_key j rec.key ≡ true) × (j ≡ rec.key)) ⊎ ((same_key j rec.key ≡ false) × (j ≢ rec.key)) → same_key j rec.key ≡ false
+        by (inl e) = absurd (apart (sym put ∙ sym e.1))
+        by (inr n) = n.0
+
+    off : (b : Bool) (x y : Option Record) → (if b && false then x else y) ≡ y
+    off true x y = refl
+    off false x y = refl
+
+    left : (m : Contents) → record_at (after (ask.PutIf rec c) m) j ≡ record_at m j
+    left m = after_put rec c m j ∙ ap (λ (s : Bool). if holds c (record_at m rec.key) && s then Some rec else record_at m j) other ∙ off (holds c (record_at m rec.key)) (Some rec) (record_at m j)
+
+    stays : AtCall places (ask.PutIf rec c) r before now → standing places now j ≡ standing places before j
+    stays a = elim (a.there j) [ inl x ↦ x.1 ∙ same ∙ sym x.0 | inr x ↦ x.0 ]
+      where
+        same : record_at a.left j ≡ record_at a.held j
+        same = elim a.moved [ inl m ↦ ap (λ (y : Contents). record_at y j) m.0 ∙ left a.held | inr m ↦ ap (λ (y : Contents). record_at y j) m.0 ]
+put_leaves places e before now k j effect put apart = absurd put
+
+-- what stands at a key has that key
+standing_key : (places : List Place) (now : List Shelf) (key : Key) (r : Record) → standing places now key ≡ Some r → r.key ≡ key
+standing_key places now key r h = by (held_by now (store_of places now key.table.ns)) h
+  where
+    own : (o : Option Record) → IfSome o (λ x. x.key ≡ key) → o ≡ Some r → r.key ≡ key
+    own None is e = none_some r e
+    own (Some x) is e = ap (λ (y : Record). y.key) (sym (some_is x r e)) ∙ is
+
+    by : (o : Option Contents) → option_map_or (λ m. record_at m key) o None ≡ Some r → r.key ≡ key
+    by None e = none_some r e
+    by (Some m) e = own (record_at m key) (record_at-key m key) e
+
+---- what a read shows
+
+among_rows : (rows : List Record) (key : Key) → record_among rows key ≡ row_among rows key
+unfolding same_key
+among_rows rows key = refl
+
+found_among : (rows : List Record) (key : Key) (r : Record) → record_among rows key ≡ Some r → Contains rows r
+found_among [] key r h = none_some r h
+found_among (x ∷ xs) key r h = by (is_eq (key_cmp x.key key)) h (found_among xs key r)
+  where
+    by : (b : Bool) → (if b then Some x else record_among xs key) ≡ Some r → (record_among xs key ≡ Some r → Contains xs r) → Contains (x ∷ xs) r
+    by true e rest = subst (Contains (x ∷ xs)) (some_is x r e) (the_first x xs)
+    by false e rest = a_later x r xs (rest e)
+
+-- a read that showed what stood at a key
+record IsRead (q : Request) (r : Reply) (key : Key) (found : Option Record) : Type 0 where
+  reads : ReadsKey key q
+  is : is_read q ≡ true
+  table : table_asked q ≡ key.table
+  stood : (places : List Place) (before now : List Shelf) → AtCall places q r before now → standing places before key ≡ found
+  shown : (x : Record) → found ≡ Some x → Contains (records_read r) x
+
+read_of : (q : Request) (r : Reply) (key : Key) (found : Option Record) → Shows q r key found → IsRead q r key found
+read_of (ask.Get k) (reply.Found x) key found (same, is) = record {
+  reads = same;
+  is = refl;
+  table = ap (λ (y : Key). y.table) same;
+  stood = λ places before now a. ap (standing places before) (sym same) ∙ sym (get_reply places k (reply.Found x) x before now a refl) ∙ is;
+  shown = λ y e. subst (λ (o : Option Record). Contains (records_read (reply.Found o)) y) (sym (is ∙ e)) (the_first y []);
+}
+read_of (ask.Scan span) (reply.Rows rows) key found (inside, is) = record {
+  reads = inside;
+  is = refl;
+  table = table_exact span.table key.table (equal_of (table_cmp span.table key.table) (and_first (is_eq (table_cmp span.table key.table)) (is_partition span.partition key) inside));
+  stood = λ places before now a. sym (scan_reply places span (reply.Rows rows) rows before now a refl key inside) ∙ sym (among_rows rows key) ∙ is;
+  shown = λ y e. found_among rows key y (is ∙ e);
+}
+read_of (ask.Get k) r key found h = absurd h
+read_of (ask.Scan span) r key found h = absurd h
+read_of (ask.PutIf rec c) r key found h = absurd h
+read_of (ask.DeleteIf k c) r key found h = absurd h
+
+---- decisions
+
+id_fits : (o : Option Value) (id : TxId) → id_in_value o ≡ Some id → id.0 < 2 ^ 128
+id_fits None id h = none_some id h
+id_fits (Some (value.Text text)) id h = (id_of_text-is text id h).0
+id_fits (Some v) id h = none_some id h
+
+-- a call that shows the decision that is learned
+record IsLearned (calls : List Made) (id : TxId) : Type 0 where
+  m : Made
+  d : Decided
+  among : Contains calls m
+  shown : decision_shown id m ≡ Some d
+  learned : decision_learned calls id ≡ Some d
+
+learned_of : (id : TxId) (calls : List Made) (m : Made) (d : Decided) → Contains calls m → decision_shown id m ≡ Some d → IsLearned calls id
+learned_of id [] m d has shown = absurd (omega (arith, has.1))
+learned_of id (x ∷ xs) m d has shown = by (decision_shown id x) refl (λ (h : Contains xs m). learned_of id xs m d h shown)
+  where
+    by : (o : Option Decided) → decision_shown id x ≡ o → (Contains xs m → IsLearned xs id) → IsLearned (x ∷ xs) id
+    by (Some e) k rest = record { m = x; d = e; among = the_first x xs; shown = k; learned = ap (λ (o : Option Decided). if is_some o then o else decision_learned xs id) k }
+    by None k rest = either (one_of x m xs has)
+      where
+        either : (x ≡ m) ⊎ Contains xs m → IsLearned (x ∷ xs) id
+        either (inl same) = none_some d (sym k ∙ ap (decision_shown id) same ∙ shown)
+        either (inr h) = let r = rest h in record { m = r.m; d = r.d; among = a_later x r.m xs r.among; shown = r.shown; learned = ap (λ (o : Option Decided). if is_some o then o else decision_learned xs id) k ∙ r.learned }
+
+-- the image of an open record, by what is told of the decision on its transaction
+image_told : (decide : TxId → Option Decided) (r : Record) (id : TxId) (d : Decided) → id_in r.columns ≡ Some id → decide id ≡ Some d → image_of r (option_and_then decide (id_in r.columns)) ≡ image_of r (Some d)
+image_told decide r id d writer is = ap (λ (o : Option TxId). image_of r (option_and_then decide o)) writer ∙ ap (image_of r) is
+
+---- the first moment at which something stands
+
+record Comes (at : ℕ → Option Record) (low high : ℕ) : Type 0 where
+  p : ℕ
+  row : Record
+  after : low ≤ p
+  before : p < high
+  none : at p ≡ None
+  some : at (suc p) ≡ Some row
+
+comes : (at : ℕ → Option Record) (low high : ℕ) (row : Record) → low ≤ high → at low ≡ None → at high ≡ Some row → Comes at low high
+comes at low zero row l none some = none_some row (sym none ∙ ap at (least low l) ∙ some)
+  where
+    least : (n : ℕ) → n ≤ 0 → n ≡ 0
+    least n l = omega (arith, l)
+comes at low (suc high) row l none some = by (cases_lt high low) (at high) refl (λ (x : Record) (a : low ≤ high) (e : at high ≡ Some x). comes at low high x a none e)
+  where
+    equal : (n k : ℕ) → n ≤ suc k → k < n → n ≡ suc k
+    equal n k a b = omega (arith, a, b)
+
+    less : (n : ℕ) → n < suc n
+    less n = omega arith
+
+    wider : (n k : ℕ) → n < k → n < suc k
+    wider n k a = omega arith
+
+    by : (high < low) ⊎ (low ≤ high) → (o : Option Record) → at high ≡ o → ((x : Record) → low ≤ high → at high ≡ Some x → Comes at low high) → Comes at low (suc high)
+    by (inl a) o e rest = none_some row (sym none ∙ ap at (equal low high l a) ∙ some)
+    by (inr a) None e rest = record { p = high; row = row; after = a; before = less high; none = e; some = some }
+    by (inr a) (Some x) e rest = let c = rest x a e in record { p = c.p; row = c.row; after = c.after; before = wider c.p high c.before; none = c.none; some = c.some }
+
+---- what a statement found
+
+module _ (catalog : List Table) (places : List Place) (events : List Event) (opening closing : List Shelf) (moments : List (List Shelf)) (client : ℕ) (s : Said) (key : Key) (trace : IsTrace places events opening moments closing) (table : IsTableKey catalog key) where
+  abbrev now : ℕ → List Shelf
+  now = moment opening moments
+
+  abbrev calls : List Made
+  calls = calls_of events client s
+
+  -- a call of the statement: where it stands among the events
+  within : (m : Made) → Contains calls m → IsWithin events client s m
+  within m has = within_statement events client s m has
+
+  at_of : (m : Made) → Contains calls m → IsAt places opening moments 1 m
+  at_of m has = call_at places events opening closing moments client m trace (within m has).among
+
+  module _ (x : StandingExplained catalog places events opening moments) (row : Option (List Pair)) (w : WasFound calls key row) where
+    read : IsRead w.call.request w.call.reply key w.found
+    read = read_of w.call.request w.call.reply key w.found w.shows
+
+    p : IsAt places opening moments 1 w.call
+    p = at_of w.call w.among
+
+    abbrev n : ℕ
+    n = p.n
+
+    stood : standing places (now n) key ≡ w.found
+    stood = read.stood places (now n) (now (suc n)) p.did
+
+    low : n ≤ length moments
+    low = least n (length moments) p.within
+      where
+        least : (a b : ℕ) → suc a ≤ b → a ≤ b
+        least a b l = omega arith
+
+    taken : s.taken ≤ n
+    taken = least s.taken w.call.at n p.number (within w.call w.among).after
+      where
+        least : (a b c : ℕ) → b ≡ 1 + c → a < b → a ≤ c
+        least a b c e l = omega (arith, e, l)
+
+    before_end : n < end_of events s
+    before_end = least w.call.at n (end_of events s) p.number (within w.call w.among).until
+      where
+        least : (a b c : ℕ) → a ≡ 1 + b → a ≤ c → b < c
+        least a b c e l = omega (arith, e, l)
+
+    -- it was shown the image of a moment
+    committed_at : (at : ℕ) → s.taken ≤ at → at < end_of events s → (o : Option Record) → w.found ≡ o → standing places (now at) key ≡ o → option_and_then (λ (r : Record). image_of r (decision_on places (now at) r)) o ≡ option_and_then (resolved calls) o → WasCommitted places events opening moments client s key row
+    committed_at at a b o is stands same = record {
+      call = w.call;
+      at = at;
+      read = (w.among, read.reads);
+      within = (a, b);
+      image =
+          ap (λ (y : Option Record). option_and_then row_of_image (option_and_then (λ (r : Record). image_of r (decision_on places (now at) r)) y)) stands
+          ∙ ap (option_and_then row_of_image) same
+          ∙ ap (λ (y : Option Record). option_and_then row_of_image (option_and_then (resolved calls) y)) (sym is)
+          ∙ sym w.stands;
+    }
+
+    module _ (r : Record) (is : w.found ≡ Some r) (open_still : is_in state.Committed r.columns ≡ false) (d : IsDecidedIn events client s r) where
+      fits : d.id.0 < 2 ^ 128
+      fits = id_fits (column r.columns tx_id) d.id d.writer
+
+      abbrev row_of : ℕ → Option Record
+      row_of at = standing places (now at) (coordinator_key_of d.id)
+
+      q : IsAt places opening moments 1 d.look
+      q = at_of d.look d.among
+
+      shown : Stands (row_of (suc q.n)) d.decided
+      shown = shown_stands places opening moments 1 d.id d.look d.decided q d.shown
+
+      -- what the calls showed of the decision is what the look showed
+      learned : decision_learned calls d.id ≡ Some d.decided
+      learned =
+          let l = learned_of d.id calls d.look d.decided d.among d.shown in
+          l.learned ∙ ap Some (decisions_agree places events opening closing moments trace x.rows_final client client d.id l.m d.look l.d d.decided fits (within l.m l.among).among (within d.look d.among).among l.shown d.shown)
+
+      -- and where the row stands it is that of the stores
+      decided_at : (at : ℕ) (y : Record) → at ≤ length moments → row_of at ≡ Some y → decision_at places (now at) d.id ≡ Some d.decided
+      decided_at at y l stands =
+          ap (option_and_then (λ (z : Record). result_ok (decision_in z))) stands
+          ∙ ap (λ (z : Record). result_ok (decision_in z)) (same_row places opening moments x.rows_final d.id at (suc q.n) y shown.row fits l q.within stands shown.stands)
+          ∙ shown.decided
+
+      image_there : (at : ℕ) (y : Record) → at ≤ length moments → row_of at ≡ Some y → image_of r (decision_on places (now at) r) ≡ resolved calls r
+      image_there at y l stands = image_told (decision_at places (now at)) r d.id d.decided d.writer (decided_at at y l stands) ∙ sym (image_told (decision_learned calls) r d.id d.decided d.writer learned)
+
+      here : standing places (now n) key ≡ Some r
+      here = stood ∙ is
+
+      own : r.key ≡ key
+      own = standing_key places (now n) key r here
+
+      -- the row comes at a moment between, at which the record still stands
+      module _ (c : Comes row_of n (suc q.n)) where
+        past : suc c.p ≤ length moments
+        past = most c.p q.n (length moments) c.before q.within
+          where
+            most : (a b l : ℕ) → a < suc b → suc b ≤ l → suc a ≤ l
+            most a b l i j = omega (arith, i, j)
+
+        still : standing places (now c.p) key ≡ Some r
+        still =
+            let u = x.unresolved_prepared n low key r table here open_still in
+            let same : u.0 ≡ d.id = some_is u.0 d.id (sym u.2 ∙ d.writer) in
+            ap (standing places (now c.p)) (sym own)
+            ∙ x.prepared_stands c.p (most c.p (length moments) past) d.id r u.1 fits (subst (IsTableKey catalog) (sym own) table) (more (length u.1) n c.p u.3 c.after) (subst (λ (id : TxId). IsPreparedAfter places events opening moments id r u.1) same u.4) c.none
+          where
+            most : (a l : ℕ) → suc a ≤ l → a ≤ l
+            most a l i = omega arith
+
+            more : (a b l : ℕ) → a < b → b ≤ l → a < l
+            more a b l i j = omega (arith, i, j)
+
+        apart : coordinator_key_of d.id ≢ key
+        apart e = none_some r (sym c.none ∙ ap (standing places (now c.p)) e ∙ still)
+
+        put_there : standing places (now (suc c.p)) key ≡ Some r
+        put_there =
+            let e = effect_at places events opening moments closing c.p trace past in
+            put_leaves places e.0 (now c.p) (now (suc c.p)) (coordinator_key_of d.id) key e.1 (puts (stood_or_put places e.0 (now c.p) (now (suc c.p)) (coordinator_key_of d.id) c.row e.1 c.some)) apart ∙ still
+          where
+            puts : {A : Type 0} → (row_of c.p ≡ Some c.row) ⊎ A → A
+            puts (inl h) = none_some c.row (sym c.none ∙ h)
+            puts (inr h) = h
+
+        between : WasCommitted places events opening moments client s key row
+        between =
+            committed_at (suc c.p) (low_end s.taken n c.p taken c.after) (high_end c.p q.n d.look.at (end_of events s) c.before q.number d.early) (Some r) is put_there (image_there (suc c.p) c.row past c.some)
+          where
+            low_end : (a b l : ℕ) → a ≤ b → b ≤ l → a ≤ suc l
+            low_end a b l i j = omega (arith, i, j)
+
+            high_end : (a b m e : ℕ) → a < suc b → m ≡ 1 + b → m < e → suc a < e
+            high_end a b m e i j k = omega (arith, i, j, k)
+
+      open_committed : WasCommitted places events opening moments client s key row
+      open_committed = by (row_of n) refl
+        where
+          by : (o : Option Record) → row_of n ≡ o → WasCommitted places events opening moments client s key row
+          by (Some y) stands = committed_at n taken before_end (Some r) is here (image_there n y low stands)
+          by None none = later (cases_lt n (suc q.n))
+            where
+              below : (a b : ℕ) → a < b → a ≤ b
+              below a b l = omega arith
+
+              later : (n < suc q.n) ⊎ (suc q.n ≤ n) → WasCommitted places events opening moments client s key row
+              later (inl l) = between (comes row_of n (suc q.n) shown.row (below n (suc q.n) l) none shown.stands)
+              later (inr l) = none_some shown.row (sym none ∙ x.rows_final (suc q.n) n l low d.id shown.row fits shown.stands)
+
+    pub found_committed : FoundDecided events client s key → WasCommitted places events opening moments client s key row
+    found_committed decided = by w.found refl
+      where
+        by : (o : Option Record) → w.found ≡ o → WasCommitted places events opening moments client s key row
+        by None is = committed_at n taken before_end None is (stood ∙ is) refl
+        by (Some r) is = by_test (is_in state.Committed r.columns)
+            (λ firm. committed_at n taken before_end (Some r) is (stood ∙ is) (image-settled r (decision_on places (now n) r) firm ∙ sym (image-settled r (option_and_then (decision_learned calls) (id_in r.columns)) firm)))
+            (λ loose. open_committed r is loose (decided w.call r w.among (subst (Shows w.call.request w.call.reply key) is w.shows) loose))
+
+  ---- what was rolled
+
+  module _ (none : find_table catalog coordinator_table ≡ None) (all : AreTaken catalog places opening moments) (rolled : AreResolved events) (reader : IsReader events client s) where
+    data_read : (m : Made) → is_read m.request ≡ true → table_asked m.request ≡ key.table → reads_rows m ≡ true
+    data_read m is same = ap (λ (b : Bool). if b then false else is_read m.request) (ap is_coordinator_table same ∙ not_true (is_coordinator_table key.table) ((apart_from catalog none).outside key table)) ∙ is
+
+    pub resolved_decided : FoundDecided events client s key
+    resolved_decided m r has shows loose = by (rolled client s reader.a m r reader.among reader.answer reader.from_rows has (data_read m read.is read.table) (read.shown r refl) (and_both (is_taken r) (not (is_in state.Committed r.columns)) taken (ap not loose)))
+      where
+        read : IsRead m.request m.reply key (Some r)
+        read = read_of m.request m.reply key (Some r) shows
+
+        p : IsAt places opening moments 1 m
+        p = at_of m has
+
+        taken : is_taken r ≡ true
+        taken = all p.n key r (least p.n (length moments) p.within) table (read.stood places (now p.n) (now (suc p.n)) p.did)
+          where
+            least : (a b : ℕ) → suc a ≤ b → a ≤ b
+            least a b l = omega arith
+
+        by : IsResolved calls m r ⊎ IsPassedOver events s calls m r → IsDecidedIn events client s r
+        by (inl h) =
+            let look = later_call m.at calls h.look h.looks.0 in
+            let roll = later_call h.look.at calls h.roll h.rolls.0 in
+            record { id = h.id; decided = h.decided; look = h.look; writer = h.writer.0; among = look.0; shown = h.looks.1; early = earlier h.look.at h.roll.at (end_of events s) roll.1 (within h.roll roll.0).until }
+          where
+            earlier : (a b c : ℕ) → a < b → b ≤ c → a < c
+            earlier a b c i j = omega (arith, i, j)
+        by (inr o) = clash (sym o.2 ∙ reader.no_vacuum)
+
+---- what answers show
+
+-- rows that a transaction has, however its reads were shown rows
+has_row_as : (catalog : List Table) (was now : Said → Key → Option (List Pair) → Type 0) (id : TxId) (events : List Event) → ((s : Said) (key : Key) (row : Option (List Pair)) → was s key row → now s key row)
+    → (s : Said) (key : Key) (row : Option (List Pair)) → HasRow catalog was events id s key row → HasRow catalog now events id s key row
+has_row_as catalog was now id events f s key row h = record {
+  first = h.first;
+  earlier = h.earlier;
+  changing = h.changing;
+  later = h.later;
+  sts = h.sts;
+  base = h.base;
+  parts = h.parts;
+  begins = h.begins;
+  shown = f h.first key h.base h.shown;
+  read = h.read;
+  made = h.made;
+}
+
+pub answers_as : (catalog : List Table) (was now : ℕ → Said → Key → Option (List Pair) → Type 0) (events : List Event) → ((client : ℕ) (s : Said) (key : Key) (row : Option (List Pair)) → was client s key row → now client s key row) → AnswersShow catalog was events → AnswersShow catalog now events
+answers_as catalog was now events f h id s a has is = by a (h id s a has is)
+  where
+    by : (a : Answer) → ShowsOwn catalog (was (client_of id)) events id s a → ShowsOwn catalog (now (client_of id)) events id s a
+    by (answer.Rows rows) (t, select, images, reads, found, same, all) = (
+      t,
+      select,
+      images,
+      reads,
+      found,
+      same,
+      all_each (λ image. HasRow catalog (was (client_of id)) events id s image.key (Some image.columns)) (λ image. HasRow catalog (now (client_of id)) events id s image.key (Some image.columns)) images
+          (λ (image : Image). has_row_as catalog (was (client_of id)) (now (client_of id)) id events (f (client_of id)) s image.key (Some image.columns)) all,
+    )
+    by (answer.Duplicate key) (columns, row) = (columns, has_row_as catalog (was (client_of id)) (now (client_of id)) id events (f (client_of id)) s key (Some columns) row)
+    by a k = tt
+
+pub answers_committed : (catalog : List Table) (places : List Place) (events : List Event) (opening closing : List Shelf) (moments : List (List Shelf)) → find_table catalog coordinator_table ≡ None → IsTrace places events opening moments closing → StandingExplained catalog places events opening moments → AreTaken catalog places opening moments → AreResolved events
+    → AnswersShow catalog (ReadBy catalog events) events → AreShown catalog places events opening moments
+answers_committed catalog places events opening closing moments none trace x all rolled answers = answers_as catalog (ReadBy catalog events) (CommittedBy places events opening moments) events committed answers
+  where
+    committed : (client : ℕ) (s : Said) (key : Key) (row : Option (List Pair)) → ReadBy catalog events client s key row → CommittedBy places events opening moments client s key row
+    committed client s key row (reader, table, w) =
+        found_committed catalog places events opening closing moments client s key trace table x row w (resolved_decided catalog places events opening closing moments client s key trace table none all rolled reader)

@@ -1,0 +1,10 @@
+pub mod Lists
+pub mod Calls
+pub mod Rows
+pub mod Touches
+pub mod Goes
+pub mod Steps
+pub mod Conflicts
+pub mod Course
+pub mod Laws
+pub mod Recoveries

@@ -1,0 +1,20 @@
+-- Kinds of replies.
+use Rattle.std.specs.Prelude.{Bool, true, false}
+use Rattle.sdb_types.specs.declared.record.Reply.{Reply}
+use Rattle.sdb_types.specs.declared.record.Reply.TheVariants as reply
+
+-- the store failed, for all that its client is told
+abbrev pub is_fault : Reply → Bool
+is_fault reply.Fault = true
+is_fault r = false
+
+-- a write took effect
+abbrev pub is_applied : Reply → Bool
+is_applied reply.Applied = true
+is_applied r = false
+
+-- a write took effect, or its condition was not met
+abbrev pub is_answered : Reply → Bool
+is_answered reply.Applied = true
+is_answered (reply.NotMet found) = true
+is_answered r = false
