@@ -1,8 +1,8 @@
 #!/usr/bin/env python3
 """Prints the processor minutes that a run of `rt ci` takes for each crate: its proof, its tests, its edits.
 
-Start `rt ci` where nothing is kept (or `rt ci --anew`), and then, beside nothing else: bench/gate.py PID, with the number of its
-process. The time of each of its processes is read from the system four times a second until the run has ended.
+Start `rt ci`, and then, beside nothing else: bench/gate.py PID, with the number of its process. The time of each of its processes is
+read from the system four times a second until the run has ended.
 """
 import collections
 import os
@@ -51,10 +51,10 @@ def sampled(root):
         time.sleep(0.25)
 
 
-def kind(command, folder, crate):
+def kind(command, folder):
     if "rt-edit" in folder or "rt-edits" in command:
         return "edits"
-    return "tests" if crate.startswith("test_") and crate != "test_builders" else "proof"
+    return "tests" if " --test" in command else "proof"
 
 
 def main():
@@ -63,7 +63,7 @@ def main():
         command, folder = task["what"]
         named = re.search(r"--crate-name (\S+)", command) or re.search(r"crates/([a-z_0-9]+)", f"{folder} {command}")
         crate = named.group(1) if named else "other"
-        minutes[crate][kind(command, folder, crate)] += task["ticks"] / TICKS / 60
+        minutes[crate][kind(command, folder)] += task["ticks"] / TICKS / 60
     for crate, parts in sorted(minutes.items(), key=lambda item: -sum(item[1].values())):
         print("%-16s proof %5.1f  tests %5.1f  edits %5.1f" % (crate, parts["proof"], parts["tests"], parts["edits"]))
     print("all %.1f" % sum(sum(parts.values()) for parts in minutes.values()))

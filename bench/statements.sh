@@ -1,7 +1,7 @@
 #!/bin/bash
 # Reads and prints statements of 1 KB and of 64 KB, as many bytes in all, and prints the time of each.
 #
-# Needs GNU time. Build the program first: cd crates/bench_parts && rt run -- statements 2 < stdin
+# Needs GNU time. Build the program first: cd crates/bench_parts && rt run -- statements 'SELECT n FROM shop.item' 2
 # Another program may be given as the first word.
 set -eu
 root=$(cd "$(dirname "$0")/.." && pwd)
@@ -30,7 +30,7 @@ update_text() {
 }
 
 timed() {
-    /usr/bin/time -o "$room/cost" -f '%e' "$program" statements "$2" <"$1" >/dev/null
+    /usr/bin/time -o "$room/cost" -f '%e' "$program" statements "$(cat "$1")" "$2" >/dev/null
     cat "$room/cost"
 }
 

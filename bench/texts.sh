@@ -5,19 +5,24 @@
 # printed in its shortest form, and the printed text has to be printed as itself. Each *.report has to be printed as itself. What is
 # refused is named. Then a script of 64 MiB and reports of 10,000 and 100,000 events are read, and the time and the most memory printed.
 #
-# Needs GNU time. Build the program first: cd crates/bench_texts && rt run -- script again < stdin
+# Needs GNU time. Build the program first: cd crates/bench_parts && rt run -- texts script again < stdin
 # Another program may be given as the second word.
 set -eu
 root=$(cd "$(dirname "$0")/.." && pwd)
 folder=${1:-$root/examples}
-program=${2:-$root/crates/bench_texts/out/bench_texts}
+program=${2:-$root/crates/bench_parts/out/bench_parts}
 room=$(mktemp -d)
 trap 'rm -rf "$room"' EXIT
 
+# The text of standard input printed again, without the number of its bytes after it.
+again() {
+    "$program" texts "$1" again | head -n -1
+}
+
 good=0
 for file in "$folder"/*.script; do
-    "$program" script again <"$file" >"$room/once"
-    "$program" script again <"$room/once" >"$room/twice"
+    again script <"$file" >"$room/once"
+    again script <"$room/once" >"$room/twice"
     if cmp -s "$room/once" "$room/twice" && diff -q <(grep -v '^schema ' "$file") <(grep -v '^schema ' "$room/once") >/dev/null; then
         good=$((good + 1))
     else
@@ -28,7 +33,7 @@ echo "scripts read back: $good"
 
 good=0
 for file in "$folder"/*.report; do
-    "$program" report again <"$file" >"$room/once"
+    again report <"$file" >"$room/once"
     if cmp -s "$room/once" "$file"; then
         good=$((good + 1))
     else
@@ -38,7 +43,7 @@ done
 echo "reports read back: $good"
 
 timed() {
-    /usr/bin/time -o "$room/cost" -f '%e s, %M KiB' "$program" "$@" >"$room/count"
+    /usr/bin/time -o "$room/cost" -f '%e s, %M KiB' "$program" texts "$1" count >"$room/count"
     echo "$(cat "$room/count") in $(cat "$room/cost")"
 }
 

@@ -8,31 +8,25 @@ mod snapshot;
 mod statements;
 mod stores;
 mod tables;
+mod texts;
 mod words;
 
 use std::env;
 use std::env::Args;
-use std::io::Read;
 use std::rt::HostRuntime;
 
 // How many benches are played at most.
 const MOST_BENCHES: u32 = 64;
 
-// All of standard input.
-fn input(rt: &HostRuntime) -> Option<Vec<u8>> {
-    let mut bytes = Vec::new(rt.alloc());
-    rt.stdin().read_to_end(&mut bytes).ok()?;
-    Some(bytes)
-}
-
 fn play(rt: &HostRuntime, bench: &str, words: &mut Args) -> Option<usize> {
     let alloc = rt.alloc();
     match bench {
-        "statements" => statements::play(alloc, &input(rt)?, words),
+        "statements" => statements::play(alloc, words),
         "snapshot" => snapshot::play(alloc, words),
         "plans" => plans::play(alloc, words),
         "csv" => tables::play(alloc, words),
         "stores" => stores::play(alloc, words),
+        "texts" => texts::play(rt, words),
         _ => None,
     }
 }

@@ -19,8 +19,8 @@ fn play_turns(alloc: Global, text: &str, turns: i64) -> Option<usize> {
     Some(last)
 }
 
-/// Reads the statement whose text the bytes are and prints it, again and again.
-pub fn play(alloc: Global, bytes: &[u8], words: &mut Args) -> Option<usize> {
-    let text = str::from_utf8(bytes).ok()?;
-    play_turns(alloc, text, number(words)?)
+/// Reads the statement whose text the next word is and prints it, again and again.
+pub fn play(alloc: Global, words: &mut Args) -> Option<usize> {
+    let text = words.next()?;
+    play_turns(alloc, text.as_str(), number(words)?)
 }
