@@ -81,6 +81,59 @@ impl Store for Full {
     }
 }
 
+// The first call finds no memory, the second fails, and so on in turn: a reply shows how many calls were made before it.
+#[derive(Drop)]
+struct Turns {
+    odd: bool,
+    broken: Broken,
+}
+
+impl Turns {
+    // Whether a call has an odd number.
+    fn is_odd(&mut self) -> bool
+        ensures broken { self.new.broken ≡ self.old.broken }
+    {
+        self.odd = !self.odd;
+        self.odd
+    }
+}
+
+impl Store for Turns {
+    ghost tells = { λ _. ⊥ };
+
+    ghost contents = { λ _. map.empty };
+
+    ghost faults = { λ t. t.broken.failed };
+
+    fn get(&mut self, _: &Key) -> Reply {
+        if self.is_odd() {
+            return Reply::NoMemory;
+        }
+        self.broken.fail()
+    }
+
+    fn scan(&mut self, _: &Span) -> Reply {
+        if self.is_odd() {
+            return Reply::NoMemory;
+        }
+        self.broken.fail()
+    }
+
+    fn put_if(&mut self, _: &Record, _: &Condition) -> Reply {
+        if self.is_odd() {
+            return Reply::NoMemory;
+        }
+        self.broken.fail()
+    }
+
+    fn delete_if(&mut self, _: &Key, _: &Condition) -> Reply {
+        if self.is_odd() {
+            return Reply::NoMemory;
+        }
+        self.broken.fail()
+    }
+}
+
 const ITEM: Place = Place {
     ns: "shop",
     table: "item",
@@ -98,6 +151,13 @@ fn attach_full(alloc: Global, stores: &mut Stores, name: &str) -> Result<bool, F
     let name = Name::new(alloc, name)?;
     let full = Box::new(alloc, Full)?;
     Ok(stores.attach(name, full).is_ok())
+}
+
+fn attach_turns(alloc: Global, stores: &mut Stores, name: &str) -> Result<bool, Fail> {
+    let name = Name::new(alloc, name)?;
+    let broken = Broken { failed: 0 };
+    let turns = Box::new(alloc, Turns { odd: false, broken })?;
+    Ok(stores.attach(name, turns).is_ok())
 }
 
 fn count(stores: &Stores) -> Result<usize, Fail> {
@@ -183,4 +243,21 @@ fn asks(alloc: Global) -> Result<bool, Fail> {
 #[test]
 fn asks_the_placed_store(rt: HostRuntime) -> Result<(), Fail> {
     hold(asks(rt.alloc()))
+}
+
+// Whether the first calls that stores are asked for have the replies of the first calls of one store, so that each was made once.
+fn asks_in_turn(alloc: Global) -> Result<bool, Fail> {
+    let mut stores = Stores::new(alloc);
+    let attached = attach_turns(alloc, &mut stores, "ordered")?;
+    Ok(
+        attached
+            && performs(alloc, &mut stores, Told::NoMemory)?
+            && performs(alloc, &mut stores, Told::Fault)?
+            && performs(alloc, &mut stores, Told::NoMemory)?,
+    )
+}
+
+#[test]
+fn makes_one_call_for_a_request(rt: HostRuntime) -> Result<(), Fail> {
+    hold(asks_in_turn(rt.alloc()))
 }
