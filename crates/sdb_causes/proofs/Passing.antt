@@ -181,10 +181,10 @@ before_apart f n s ss x later =
     none y (inl e) = ap (kept s) e
     none y (inr e) = ap (kept s) e ∙ one (is_effective x)
 
-least : (n : ℕ) → n ≤ n
+pub least : (n : ℕ) → n ≤ n
 least n = omega arith
 
-through : (a b c : ℕ) → a ≤ b → b ≤ c → a ≤ c
+pub through : (a b c : ℕ) → a ≤ b → b ≤ c → a ≤ c
 through a b c l m = omega arith
 
 -- a statement that was answered stands before one that waits
@@ -262,7 +262,7 @@ calls_grow c events e b = by b.answer refl
           ∙ ap (λ ms. ms ++ filter (λ m. nat_lt b.taken m.at) (call_in c events e)) (sym (calls_open c events b (end_waiting events b is))),
     )
 
-abbrev records_in : Made → ℕ
+abbrev pub records_in : Made → ℕ
 records_in m = length (records_read m.reply)
 
 -- and none less is found
@@ -277,7 +277,7 @@ found_grows c events e b = let g = calls_grow c events e b in subst (λ ms. reco
 
 ---- more than the most keys
 
-over_more : (a b : ℕ) → a ≤ b → nat_lt 4096 a ≡ true → nat_lt 4096 b ≡ true
+pub over_more : (a b : ℕ) → a ≤ b → nat_lt 4096 a ≡ true → nat_lt 4096 b ≡ true
 over_more a b l h = grind (arith, nat_tests)
 
 passes_more : (a b x y : ℕ) (st : Statement) → a ≤ b → x ≤ y → may_pass a x st ≡ true → may_pass b y st ≡ true

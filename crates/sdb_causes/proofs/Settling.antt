@@ -187,7 +187,7 @@ scan_inside span (x ∷ es) keys h = by x.1 keys.0 (scan_inside span es keys.1 p
     by None same ih = ih
     by (Some b) same ih = ap (λ t. t && list_all (λ (r : Read). in_span span r.key) (snapshot.reads_of (filter_map (λ (e : Record × Option Record). e.1) es))) (ap (in_span span) same ∙ p.0) ∙ ih
 
-settled_keys : (calls : List Made) (es : List (Record × Option Record)) → AllByRecursion (IsSettledAs calls) es → AllByRecursion (λ e. IfSome e.1 (λ b. b.key ≡ e.0.key)) es
+pub settled_keys : (calls : List Made) (es : List (Record × Option Record)) → AllByRecursion (IsSettledAs calls) es → AllByRecursion (λ e. IfSome e.1 (λ b. b.key ≡ e.0.key)) es
 settled_keys calls [] all = tt
 settled_keys calls (x ∷ es) all = (all.0.key, settled_keys calls es all.1)
 

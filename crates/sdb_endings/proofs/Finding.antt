@@ -46,7 +46,6 @@ use Rattle.sdb_model.specs.Images.{decision_at, decision_on}
 use Rattle.sdb_model.specs.Noted.{reads_rows, resolved, same_key}
 use Rattle.sdb_model.specs.Shown.{AnswersShow, AreShown, CommittedBy, HasRow, ReadsKey, ShowsOwn, WasCommitted, WasFound}
 use Rattle.sdb_model.specs.Transactions.{Said, client_of}
-use Rattle.sdb_laws.specs.Lawful.{row_among}
 use Rattle.sdb_laws.proofs.Effects.{AtCall, after_put, at_call}
 use Rattle.sdb_laws.proofs.Keys.{same_key_tells}
 use Rattle.sdb_laws.proofs.Moments.{apart_from}
@@ -56,6 +55,7 @@ use Rattle.sdb_endings.specs.Stores.{AreTaken}
 use Rattle.sdb_endings.proofs.Agreeing.{Stands, decisions_agree, same_row, shown_stands}
 use Rattle.sdb_endings.proofs.Calls.{IsAt, IsWithin, a_later, call_at, effect_at, later_call, one_of, the_first, within_statement}
 use Rattle.sdb_endings.proofs.Others.{PutsAt, stood_or_put}
+use Rattle.sdb_laws.proofs.Current.{among_is}
 
 ---- one event
 
@@ -98,10 +98,6 @@ standing_key places now key r h = by (held_by now (store_of places now key.table
 
 ---- what a read shows
 
-among_rows : (rows : List Record) (key : Key) → record_among rows key ≡ row_among rows key
-unfolding same_key
-among_rows rows key = refl
-
 found_among : (rows : List Record) (key : Key) (r : Record) → record_among rows key ≡ Some r → Contains rows r
 found_among [] key r h = none_some r h
 found_among (x ∷ xs) key r h = by (is_eq (key_cmp x.key key)) h (found_among xs key r)
@@ -130,7 +126,7 @@ read_of (ask.Scan span) (reply.Rows rows) key found (inside, is) = record {
   reads = inside;
   is = refl;
   table = table_exact span.table key.table (equal_of (table_cmp span.table key.table) (and_first (is_eq (table_cmp span.table key.table)) (is_partition span.partition key) inside));
-  stood = λ places before now a. sym (scan_reply places span (reply.Rows rows) rows before now a refl key inside) ∙ sym (among_rows rows key) ∙ is;
+  stood = λ places before now a. sym (scan_reply places span (reply.Rows rows) rows before now a refl key inside) ∙ sym (among_is rows key) ∙ is;
   shown = λ y e. found_among rows key y (is ∙ e);
 }
 read_of (ask.Get k) r key found h = absurd h

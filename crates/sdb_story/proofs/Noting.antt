@@ -264,7 +264,7 @@ none_of false = refl
 look_apart : (id : TxId) (b : Bool) → is_coordinator_table (coordinator_key_of id).table ≡ true → (if is_coordinator_table (coordinator_key_of id).table then false else b) ≡ false
 look_apart id b e = ap (λ t. if t then false else b) e
 
-coordinators : (id : TxId) → is_coordinator_table (coordinator_key_of id).table ≡ true
+pub coordinators : (id : TxId) → is_coordinator_table (coordinator_key_of id).table ≡ true
 unfolding coordinator_key_of
 coordinators id = refl
 

@@ -379,7 +379,7 @@ resolved_keeps ss n rec meta left (p, steps.BadRecord key) = refl
 resolved_keeps ss n rec meta left (p, steps.NoMemory) = refl
 
 -- a recovery deletes no committed record
-open_state : (rec : Record) (meta : Meta) → is_unresolved rec ≡ true → checked rec.columns ≡ Ok meta → is_committed meta.state ≡ false
+pub open_state : (rec : Record) (meta : Meta) → is_unresolved rec ≡ true → checked rec.columns ≡ Ok meta → is_committed meta.state ≡ false
 open_state rec meta loose says = by (is_in state.Committed rec.columns) (is_committed meta.state) (checked-state rec.columns meta says) (and_second (is_taken rec) _ loose)
   where
     by : (a b : Bool) → a ≡ b → not a ≡ true → b ≡ false
