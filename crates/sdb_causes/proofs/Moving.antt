@@ -43,7 +43,8 @@ use Rattle.sdb_turns.proofs.Lists.{each_both}
 use Rattle.sdb_txn.specs.Txn.{TxnAt, work_of}
 use Rattle.sdb_validate.specs.Rescan.{reads_rise}
 use Rattle.sdb_causes.specs.Moves.{HasRead, IsNotedAt, IsRows, IsSettledAs, SeenBy, TellOne, WorkBy}
-use Rattle.sdb_causes.proofs.Settling.{id_fits, resolved_as, settled_keys}
+use Rattle.sdb_causes.proofs.Settling.{resolved_as, settled_keys}
+use Rattle.sdb_record.proofs.IdLemmas.{id_in_value-fits}
 
 ---- the record of a key
 
@@ -128,7 +129,7 @@ has_moved_is (Some n) found e = by_noted (id_in n.columns) refl e
     with_id id k (Some r) t = by_test (is_version id state.Committed r) (λ v. absurd (same v)) (λ v. v)
       where
         same : is_version id state.Committed r ≡ true → ⊥
-        same v = clash (sym t ∙ ap (λ o. not (same_version (Some id) o)) (version-writer r id state.Committed (id_fits (column n.columns tx_id) id k) v) ∙ ap not (itself id.0))
+        same v = clash (sym t ∙ ap (λ o. not (same_version (Some id) o)) (version-writer r id state.Committed (id_in_value-fits (column n.columns tx_id) id k) v) ∙ ap not (itself id.0))
 
     without : (f : Option Record) → not (same_version None (version_of f)) ≡ true → holds (condition_of None) f ≡ false
     without None t = clash (sym t)

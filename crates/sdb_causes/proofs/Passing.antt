@@ -13,7 +13,7 @@ use Rattle.sdb_model.specs.declared.event.Event.TheVariants as event
 use Rattle.sdb_model.specs.declared.statement.Statement.{Statement}
 use Rattle.sdb_model.specs.declared.statement.Statement.TheVariants as statement
 use Rattle.sdb_model.specs.Calls.{Made, calls_by, calls_of, made_by, records_read}
-use Rattle.sdb_model.specs.Causes.{MayPassMost, body_before, may_pass, records_found, rows_counted}
+use Rattle.sdb_model.specs.Causes.{MayPassMost, body_before, may_pass, records_found, rows_counted, counted_by}
 use Rattle.sdb_model.specs.Noted.{reads_rows}
 use Rattle.sdb_model.specs.Sql.{Reads}
 use Rattle.sdb_model.specs.Transactions.{Said, client_of, ends, from_begin, id_of, is_effective, ordinal_of, rest_of, said, said_after, through_end, with_answer}
@@ -291,9 +291,6 @@ passes_more a b x y statement.Commit l m h = absurd (cc)
 passes_more a b x y statement.Rollback l m h = absurd (cc)
 passes_more a b x y statement.Vacuum l m h = absurd (cc)
 
-abbrev rows_of : Said → ℕ
-rows_of b = rows_counted b.answer
-
 abbrev found_at : List Event → ℕ → TxId → Said → ℕ
 found_at es c id s = sum_by (λ b. records_found (calls_of es c b)) (body_before es id s)
 
@@ -304,7 +301,7 @@ pass_stays c events e s a grows is h = record {
   statement = h.statement;
   within = (h.within.0, in_grows (ordinal_of h.id) (said (client_of h.id) events) (said (client_of h.id) (events ++ e ∷ [])) s a is grows_id h.within.1);
   read = h.read;
-  past = passes_more (sum_by rows_of (body_before events h.id s)) (sum_by rows_of (body_before (events ++ e ∷ []) h.id s)) (found_at events c h.id s + records_found (calls_of events c s)) (found_at (events ++ e ∷ []) c h.id s + records_found (calls_of (events ++ e ∷ []) c s)) h.statement counted (sums (found_at events c h.id s) (found_at (events ++ e ∷ []) c h.id s) (records_found (calls_of events c s)) (records_found (calls_of (events ++ e ∷ []) c s)) found (found_grows c events e s)) h.past;
+  past = passes_more (sum_by counted_by (body_before events h.id s)) (sum_by counted_by (body_before (events ++ e ∷ []) h.id s)) (found_at events c h.id s + records_found (calls_of events c s)) (found_at (events ++ e ∷ []) c h.id s + records_found (calls_of (events ++ e ∷ []) c s)) h.statement counted (sums (found_at events c h.id s) (found_at (events ++ e ∷ []) c h.id s) (records_found (calls_of events c s)) (records_found (calls_of (events ++ e ∷ []) c s)) found (found_grows c events e s)) h.past;
 }
   where
     sums : (a b x y : ℕ) → a ≤ b → x ≤ y → a + x ≤ b + y
@@ -324,8 +321,8 @@ pass_stays c events e s a grows is h = record {
     grown : (f : Said → ℕ) → sum_by f (body_before events h.id s) ≤ sum_by f (body_before (events ++ e ∷ []) h.id s)
     grown f = before_grows f (ordinal_of h.id) s (said (client_of h.id) events) (said (client_of h.id) (events ++ e ∷ [])) waits_later grows_id
 
-    counted : sum_by rows_of (body_before events h.id s) ≤ sum_by rows_of (body_before (events ++ e ∷ []) h.id s)
-    counted = grown rows_of
+    counted : sum_by counted_by (body_before events h.id s) ≤ sum_by counted_by (body_before (events ++ e ∷ []) h.id s)
+    counted = grown counted_by
 
     found : found_at events c h.id s ≤ found_at (events ++ e ∷ []) c h.id s
     found = through (found_at events c h.id s) (sum_by (λ b. records_found (calls_of (events ++ e ∷ []) c b)) (body_before events h.id s)) (found_at (events ++ e ∷ []) c h.id s) (sum_by-le-sum_by (λ b. records_found (calls_of events c b)) (λ b. records_found (calls_of (events ++ e ∷ []) c b)) (body_before events h.id s) (found_grows c events e)) (grown (λ b. records_found (calls_of (events ++ e ∷ []) c b)))

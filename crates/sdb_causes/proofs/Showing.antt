@@ -37,11 +37,12 @@ use Rattle.sdb_phases.specs.Recover.{recover_back, recover_forward, recover_next
 use Rattle.sdb_phases.specs.Work.{abort_of, look_of, undo}
 use Rattle.sdb_read.specs.Read.{Asking, Bad, Ended, Firm, Kind, Open, ReadStage, Resolving, answered, kind_of, opened, read_pending_at, read_step, request_of, resolved, settle, settle_one}
 use Rattle.sdb_turns.proofs.Lists.{each_more}
-use Rattle.sdb_turns.proofs.Meta.{held_of, meta_of}
+use Rattle.sdb_turns.proofs.Meta.{meta_of}
 use Rattle.sdb_causes.specs.Moves.{HasRead, HasShown, IsRolledAs, IsRows, IsSettledAs, PhaseShows, ShowsAt}
 use Rattle.sdb_causes.proofs.ReadSteps.{open_is}
 use Rattle.sdb_causes.proofs.Rows.{asks_row, shown_is}
 use Rattle.sdb_story.proofs.Noting.{coordinators}
+use Rattle.sdb_read.proofs.Images.{held_of}
 
 pub firm_is : (r : Record) → kind_of r ≡ Firm → is_in state.Committed r.columns ≡ true
 firm_is r e = by (is_taken r) (is_in state.Committed r.columns) (checked r.columns) refl e

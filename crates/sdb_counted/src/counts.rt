@@ -4,12 +4,12 @@ ghost use Rattle.std.specs.List.{list_all, list_any};
 ghost use Rattle.sdb_record.specs.Meta.{is_unresolved as is_unresolved_lem};
 ghost use Rattle.sdb_model.specs.Calls.{is_removal as is_removal_lem};
 ghost use Rattle.sdb_model.specs.Counted.{is_seen as is_seen_lem};
-ghost use Rattle.sdb_model.specs.Transactions.{id_of as id_of_lem, prepares as prepares_lem};
+ghost use Rattle.sdb_model.specs.Transactions.{id_of as id_of_lem, prepares as prepares_lem, is_committed_answer as is_told_committed_lem};
 ghost use Rattle.sdb_plain.specs.Points.{said_of};
 ghost use Rattle.sdb_said.specs.Values.{note_of};
 ghost use Rattle.sdb_calls.specs.Values.{all_notes};
 ghost use Rattle.sdb_caused.specs.Tests.{any_upto};
-ghost use Rattle.sdb_counted.specs.Tests.{IsSaidCounted, all_seen, commit_counted as commit_counted_lem, covered as covered_lem, is_check as is_check_lem, is_prepared as is_prepared_lem, is_told_committed as is_told_committed_lem, miscounted, others_counted as others_counted_lem, read_counted as read_counted_lem, unresolved_by, vacuum_counted as vacuum_counted_lem, wanted as wanted_lem};
+ghost use Rattle.sdb_counted.specs.Tests.{IsSaidCounted, all_seen, commit_counted as commit_counted_lem, covered as covered_lem, is_check as is_check_lem, is_prepared as is_prepared_lem, miscounted, others_counted as others_counted_lem, read_counted as read_counted_lem, unresolved_by, vacuum_counted as vacuum_counted_lem, wanted as wanted_lem};
 
 use sdb_calls::{Made, asks_row, calls_of, id_of, is_removal, noted_in, reads_rows};
 use sdb_caused::{is_commit_of, is_unresolved};

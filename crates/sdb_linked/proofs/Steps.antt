@@ -33,7 +33,7 @@ use Rattle.sdb_snapshot.specs.Seen.{Seen, nothing, with_written}
 use Rattle.sdb_snapshot.specs.Written.{AreChanges}
 use Rattle.sdb_turns.specs.Noted.{MayNote, SeenOk, with_read, work_of}
 use Rattle.sdb_turns.specs.Owner.{StageOk, plan_of, role_of}
-use Rattle.sdb_turns.specs.ReadAt.{AreKinds, Asking, Done, IsOfData, Kind, ReadAt, read_pending, read_role, read_step}
+use Rattle.sdb_turns.specs.ReadAt.{AreKinds, Asking, Done, IsOfData, ReadAt, read_pending, read_role, read_step}
 use Rattle.sdb_turns.specs.Sweep.{SweepAt, Scanning, sweep_pending, sweep_role, sweep_step}
 use Rattle.sdb_turns.specs.System.{ClientAt, ClientCall, ClientOk, Has, IsBegin, IsCommit, IsQuiet, IsReplyTo, NoneOpen, NoneSweeps, Open, Committing, Reading, Resting, Sweeping, SamePlans, StandsAt, Stopped, SystemAt, SystemOk, answer_at, answer_of_outcome, begin_played, call_event, commit_begun, commit_left, ending_at, idle, next_id, take_played, with_begun, with_client, with_plan}
 use Rattle.sdb_turns.proofs.Begin.{begin_turn, untaken}
@@ -61,6 +61,7 @@ use Rattle.sdb_linked.proofs.Noting.{IsJustAnswered, at_once, commit_made, insid
 use Rattle.sdb_linked.proofs.Small.{numbers_same, less_apart, nothing_ran, begins_untaken, committing_as, running_as, twice, waiting_as}
 use Rattle.sdb_linked.proofs.Own.{IsPlainRole, begun, below, closed_as, commit_plain, ended_at, goes_begun, goes_gap, goes_inside, goes_over, gone, inside, opened_as, over, plain_apart, plain_counts, plain_not, ran_here, read_plain, sweep_plain}
 use Rattle.sdb_types.proofs.Basics.{clash, some_is, and_false as no_second, itself as same_number}
+use Rattle.sdb_read.specs.Read.{Kind}
 
 ---- one client
 

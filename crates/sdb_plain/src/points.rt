@@ -1,8 +1,8 @@
 //! Transactions among the events of a run, and their order.
 ghost use Rattle.std.specs.Prelude.{◌≡◌, ◌++◌, ◌∷◌, ◌<◌, [], ℕ, IfOk, OnOk, Some, None, map, fold, length, option_copied, option_map, find, take_while, nat_le};
 ghost use Rattle.sdb_model.specs.Sql.{reads_word as reads_word_lem};
-ghost use Rattle.sdb_model.specs.Transactions.{said as said_lem, said_since as said_since_lem, with_answer, said_after, from_begin as from_begin_lem, begins as begins_lem, ends as ends_lem, is_done as is_done_lem, is_conflict as is_conflict_lem, prepares as prepares_lem, is_prepared_by, last_prepare as last_prepare_lem, commit_of, point as point_lem, client_of, ordinal_of, rest_of as rest_of_lem};
-ghost use Rattle.sdb_plain.specs.Points.{said_of, all_said, commit_among, placed_point, point_at, order_of as order_of_lem};
+ghost use Rattle.sdb_model.specs.Transactions.{said as said_lem, said_since as said_since_lem, with_answer, said_after, from_begin as from_begin_lem, begins as begins_lem, ends as ends_lem, is_done as is_done_lem, is_conflict as is_conflict_lem, prepares as prepares_lem, is_prepared_by, last_prepare as last_prepare_lem, commit_of, point as point_lem, client_of, ordinal_of, rest_of as rest_of_lem, point_at};
+ghost use Rattle.sdb_plain.specs.Points.{said_of, all_said, commit_among, placed_point, order_of as order_of_lem};
 
 use sdb_model::{Answer, Event, Events, How, Keyword, Point, Points};
 use sdb_record::has_version;

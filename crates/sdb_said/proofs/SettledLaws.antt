@@ -23,10 +23,10 @@ use Rattle.sdb_laws.specs.Lawful.{id, IsHeldShown, IsSettled, Itself, Forward, B
 use Rattle.sdb_said.specs.declared.played.Played.{Played}
 use Rattle.sdb_said.specs.Values.{all_played, same_record}
 use Rattle.sdb_said.specs.Shown.{shown, writer_is, kept_writer, keeps_tombstone, is_kept_in, is_held, is_held_by, shows_commit, moments, is_forward, is_itself, is_back, forward_from, is_settled, settles, settles_gone}
-use Rattle.sdb_said.proofs.Lists.{right, both, or_left, not_true, true_not, In, any_some, some_any}
+use Rattle.sdb_said.proofs.Lists.{right, or_left, not_true, true_not, In, any_some, some_any}
 use Rattle.sdb_said.proofs.ShownLaws.{key_is, is_key, record_is, is_record, number_is, is_number, shown_is, is_shown, commit_shown, shows_commit_of, moment_shown, shown_moment, forward_is, is_forward_at, kept_is, is_kept_of, kept_writer_is, kept_some, before_columns}
 use Rattle.sdb_types.proofs.Basics.{clash, or_second as or_right, either}
-use Rattle.sdb_types.proofs.Bools.{and_first as left}
+use Rattle.sdb_types.proofs.Bools.{and_first as left, and_both as both}
 use Rattle.sdb_laws.proofs.Canon.{some_id}
 
 ---- writers

@@ -25,7 +25,7 @@ use Rattle.sdb_phases.specs.Commit.{Preparing, Deciding, Forward}
 use Rattle.sdb_record.specs.Names.{is_meta, base_name}
 use Rattle.sdb_snapshot.specs.Written.{AreChanges}
 use Rattle.sdb_snapshot.specs.Seen.{nothing}
-use Rattle.sdb_turns.specs.ReadAt.{Kind, Bad, Asking, Done, IsOfData}
+use Rattle.sdb_turns.specs.ReadAt.{Asking, Done, IsOfData}
 use Rattle.sdb_turns.specs.System.{Reading, Committing, SystemAt, SystemOk, ClientCall, idle, with_begun, with_client, begin_played, take_played, commit_played, with_plan, call_event}
 use Rattle.sdb_turns.specs.System as client
 use Rattle.sdb_turns.specs.Worked.{first_id, inserted, read_once, wrote_once, first_work, call_of, SomeCommit}
@@ -34,6 +34,7 @@ use Rattle.sdb_turns.proofs.Calls.{read_turn}
 use Rattle.sdb_turns.proofs.Commit.{commit_turn}
 use Rattle.sdb_turns.proofs.Quiet.{quiet_turn, asks, notes, writes}
 use Rattle.sdb_turns.proofs.Take.{take_turn}
+use Rattle.sdb_read.specs.Read.{Kind, Bad}
 
 abbrev plans : ℕ → Plan
 plans t = no_plan
