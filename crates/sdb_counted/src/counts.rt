@@ -5,7 +5,7 @@ ghost use Rattle.sdb_record.specs.Meta.{is_unresolved as is_unresolved_lem};
 ghost use Rattle.sdb_model.specs.Calls.{is_removal as is_removal_lem};
 ghost use Rattle.sdb_model.specs.Counted.{is_seen as is_seen_lem};
 ghost use Rattle.sdb_model.specs.Transactions.{id_of as id_of_lem, prepares as prepares_lem, is_committed_answer as is_told_committed_lem};
-ghost use Rattle.sdb_plain.specs.Points.{said_of};
+ghost use Rattle.sdb_order.specs.Commits.{said_of};
 ghost use Rattle.sdb_said.specs.Values.{note_of};
 ghost use Rattle.sdb_calls.specs.Values.{all_notes};
 ghost use Rattle.sdb_caused.specs.Tests.{any_upto};
@@ -14,7 +14,8 @@ ghost use Rattle.sdb_counted.specs.Tests.{IsSaidCounted, all_seen, commit_counte
 use sdb_calls::{Made, asks_row, calls_of, id_of, is_removal, noted_in, reads_rows};
 use sdb_caused::{is_commit_of, is_unresolved};
 use sdb_model::{Answer, Event, How, Keyword};
-use sdb_plain::{Said, is_prepare, is_word, statements_said};
+use sdb_order::{Said, is_word, statements_said};
+use sdb_plain::is_prepare;
 use sdb_said::Note;
 use sdb_schema::Catalog;
 use sdb_types::{Key, NoMemory, Record, Reply, TxId};

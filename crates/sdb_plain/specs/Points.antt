@@ -6,14 +6,6 @@ use Rattle.sdb_model.specs.declared.event.Point.{Point}
 use Rattle.std.specs.Option.{option_and_then}
 use Rattle.sdb_model.specs.Sql.{reads_commit}
 use Rattle.sdb_model.specs.Transactions.{Said as SaidOf, ends, rest_of, point_at}
-use Rattle.sdb_plain.specs.declared.points.Said.{Said}
-
--- a statement that was said, as the definitions have it
-abbrev pub said_of : Said → SaidOf
-said_of s = record { taken = s.taken; text = s.text; answer = s.answer; reached = s.reached }
-
-abbrev pub all_said : List Said → List SaidOf
-all_said = map said_of
 
 ---- the order of some transactions
 
