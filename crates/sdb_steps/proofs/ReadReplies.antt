@@ -48,7 +48,7 @@ use Rattle.sdb_turns.proofs.Machine.{machine_asks, machine_kinds, machine_steps}
 use Rattle.sdb_turns.proofs.Quiet.{notes}
 use Rattle.sdb_story.specs.Body.{AnswersOn, IsCovered}
 use Rattle.sdb_linked.specs.Going.{IsGoing}
-use Rattle.sdb_linked.proofs.Steps.{going_differs, going_fails, going_reads, going_tells}
+use Rattle.sdb_linked.proofs.Calls.{going_differs, going_fails, going_reads, going_tells}
 use Rattle.sdb_steps.specs.Fitting.{tables_fit}
 use Rattle.sdb_steps.specs.Hands.{Hand, IsAskedBy, IsCalled, doing_of, stands_txn, system_of}
 use Rattle.sdb_steps.proofs.RowsFit.{answers_on}

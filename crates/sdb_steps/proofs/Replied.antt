@@ -42,7 +42,7 @@ use Rattle.sdb_turns.specs.System.{ClientAt, ClientCall, Committing, IsReplyTo, 
 use Rattle.sdb_linked.specs.Going.{IsGoing, IsMild}
 use Rattle.sdb_linked.proofs.Rests.{going_starves}
 use Rattle.sdb_linked.proofs.Small.{twice}
-use Rattle.sdb_linked.proofs.Steps.{going_commit_calls, going_scans, going_sweeps, going_swept}
+use Rattle.sdb_linked.proofs.Calls.{going_commit_calls, going_scans, going_sweeps, going_swept}
 use Rattle.sdb_steps.specs.Fitting.{tables_fit}
 use Rattle.sdb_steps.specs.About.{AreListed, IsListed}
 use Rattle.sdb_steps.specs.Hands.{Hand, IsCalled, IsFittedBy, IsUsing, IsUsingTxn, doing_of, stands_doing, stands_txn, system_of}
