@@ -17,8 +17,8 @@ use Rattle.sdb_model.specs.Calls as calls
 use Rattle.sdb_model.specs.Calls.{calls_of, decision_learned}
 use Rattle.sdb_model.specs.Noted.{Note, note_of, notes_in, reads_rows, is_from_rows}
 use Rattle.sdb_model.specs.Transactions.{Said, is_effective}
-use Rattle.sdb_plain.specs.declared.points.Said as plain
-use Rattle.sdb_plain.specs.Points.{all_said, said_of}
+use Rattle.sdb_order.specs.declared.said.Said as plain
+use Rattle.sdb_order.specs.Commits.{all_said, said_of}
 use Rattle.sdb_said.specs.Shown.{keeps_none, kept_writer}
 use Rattle.sdb_said.proofs.Lists.{not_both}
 use Rattle.sdb_said.proofs.ShownLaws.{kept_writer_is, keeps_none_is, is_keeps_none}

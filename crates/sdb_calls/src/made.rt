@@ -3,11 +3,11 @@ ghost use Rattle.std.specs.Prelude.{◌≡◌, ◌++◌, [], IfOk, OnOk, filter}
 ghost use Rattle.std.specs.Option.{option_map};
 ghost use Rattle.std.specs.List.{cons_option};
 ghost use Rattle.sdb_model.specs.Calls.{made_by as made_by_lem, calls_of as calls_of_lem, end_of as end_of_lem};
-ghost use Rattle.sdb_plain.specs.Points.{said_of};
+ghost use Rattle.sdb_order.specs.Commits.{said_of};
 ghost use Rattle.sdb_calls.specs.Values.{made_of, all_made, is_within};
 
 use sdb_model::{Event, How};
-use sdb_plain::Said;
+use sdb_order::Said;
 use sdb_types::{Duplicate, Name, NoMemory, Reply, Request, Seq};
 use std::alloc::Global;
 

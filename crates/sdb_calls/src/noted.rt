@@ -8,7 +8,7 @@ ghost use Rattle.sdb_record.specs.Parts.{before_record};
 ghost use Rattle.sdb_record.specs.Rolls.{forward_record};
 ghost use Rattle.sdb_model.specs.Calls.{decision_learned};
 ghost use Rattle.sdb_model.specs.Noted.{Got, Scanned, resolved, read_of, reads_of as reads_of_lem, note_of as note_of_lem, notes_in as notes_in_lem, noted_in as noted_in_lem};
-ghost use Rattle.sdb_plain.specs.Points.{said_of};
+ghost use Rattle.sdb_order.specs.Commits.{said_of};
 ghost use Rattle.sdb_said.specs.Values.{note_of as noted_of};
 ghost use Rattle.sdb_calls.specs.Values.{all_made, made_of, all_notes, notes_by, said_notes};
 
@@ -17,7 +17,7 @@ use crate::reply::decision_learned_at;
 use crate::request::reads_rows;
 use crate::transaction::{client_of, inside_of, is_effective, is_from_rows, ordinal_of};
 use sdb_model::Event;
-use sdb_plain::{Said, statements_said};
+use sdb_order::{Said, statements_said};
 use sdb_record::{Decided, Decision, Read, Reads, Scan, coordinator_key, rolled_forward};
 use sdb_said::{Note, is_committed, keeps_none, kept_writer, writer};
 use sdb_types::{Duplicate, Key, NoMemory, Record, Reply, Request, Seq, Span, TxId};

@@ -3,11 +3,13 @@ ghost use Rattle.sdb_model.specs.Noted.{is_from_rows as is_from_rows_lem};
 ghost use Rattle.std.specs.Prelude.{◌≡◌, ◌≤◌, IfOk, not, length, take_while};
 ghost use Rattle.std.specs.Option.{option_map};
 ghost use Rattle.sdb_model.specs.Transactions.{from_begin as from_begin_lem, client_of as client_of_lem, ordinal_of as ordinal_of_lem, id_of as id_of_lem, ends as ends_lem, rest_of as rest_of_lem, is_effective as is_effective_lem, changes_nothing as changes_nothing_lem};
-ghost use Rattle.sdb_plain.specs.Points.{said_of, all_said, commit_among as commit_among_lem};
+ghost use Rattle.sdb_order.specs.Commits.{said_of, all_said};
+ghost use Rattle.sdb_plain.specs.Points.{commit_among as commit_among_lem};
 ghost use Rattle.sdb_calls.specs.Values.{inside_among as inside_among_lem};
 
 use sdb_model::{Answer, Keyword};
-use sdb_plain::{Said, ends, first_ending, from_begin, is_word};
+use sdb_order::{Said, ends, is_word};
+use sdb_plain::{first_ending, from_begin};
 use sdb_types::{NoMemory, TxId};
 use std::alloc::Global;
 

@@ -18,14 +18,14 @@ use Rattle.sdb_model.specs.Calls.{calls_of, clock_at, is_read, records_read}
 use Rattle.sdb_model.specs.Causes.{IsBusy, IsEarly}
 use Rattle.sdb_model.specs.Noted.{same_key}
 use Rattle.sdb_model.specs.Transactions.{Said}
-use Rattle.sdb_said.proofs.Lists.{right, both, not_true, true_not, any_some, some_any}
+use Rattle.sdb_said.proofs.Lists.{right, not_true, true_not, any_some, some_any}
 use Rattle.sdb_said.proofs.ShownLaws.{key_is, is_key, number_is, is_number}
 use Rattle.sdb_calls.specs.declared.made.Made.{Made}
 use Rattle.sdb_calls.specs.Values.{all_made, made_of}
 use Rattle.sdb_caused.specs.Tests.{busy_among, gets_none, is_at, is_early, is_id, looks_early, prepared_moment}
 use Rattle.sdb_caused.proofs.Finds.{in_contains, contains_in, kept_in, in_kept, made_in, in_made, made_contained, contained_made}
 use Rattle.sdb_types.proofs.Basics.{clash}
-use Rattle.sdb_types.proofs.Bools.{and_first as left}
+use Rattle.sdb_types.proofs.Bools.{and_first as left, and_both as both}
 
 ---- single values
 

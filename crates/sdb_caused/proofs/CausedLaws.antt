@@ -9,7 +9,7 @@ use Rattle.sdb_model.specs.declared.answer.Answer.TheVariants as answer
 use Rattle.sdb_model.specs.declared.event.Event.{Event}
 use Rattle.sdb_model.specs.Causes.{AreCaused, IsTurnedAway, before}
 use Rattle.sdb_model.specs.Transactions.{Said, said}
-use Rattle.sdb_said.proofs.Lists.{none_some, right, both, In}
+use Rattle.sdb_said.proofs.Lists.{none_some, right, In}
 use Rattle.sdb_said.proofs.ShownLaws.{number_is, is_number}
 use Rattle.sdb_calls.specs.Values.{taker}
 use Rattle.sdb_caused.specs.Tests.{IsAnsweredWith, IsTurned, IsTurnedIfDue, answered_with, is_no_memory, same_answer, AreTakersWell, IsWellAnswered}
@@ -17,7 +17,7 @@ use Rattle.sdb_caused.proofs.Finds.{in_contains, contains_in}
 use Rattle.sdb_caused.proofs.SameLaws.{answer_is, is_answer}
 use Rattle.sdb_caused.proofs.TurnedLaws.{taken_by}
 use Rattle.sdb_types.proofs.Basics.{clash, or_second as or_right, some_is, either}
-use Rattle.sdb_types.proofs.Bools.{and_first as left}
+use Rattle.sdb_types.proofs.Bools.{and_first as left, and_both as both}
 
 by_in : {X : Type 0} (P : X → Type 0) (xs : List X) (x : X) → AllByRecursion P xs → In xs x → P x
 by_in P [] x all i = absurd i

@@ -12,31 +12,28 @@ use Rattle.sdb_types.specs.declared.record.Reply.TheVariants as reply
 use Rattle.sdb_record.specs.declared.coordinator.Decided.{Decided}
 use Rattle.sdb_record.specs.declared.coordinator.Decision.{Decision}
 use Rattle.sdb_record.specs.declared.coordinator.Decision.TheVariants as decision
-use Rattle.sdb_record.specs.Coordinator.{coordinator_key_of, decision_in}
+use Rattle.sdb_record.specs.Coordinator.{coordinator_key_of, decision_in, same_decision}
 use Rattle.sdb_model.specs.declared.event.Event.{Event}
 use Rattle.sdb_model.specs.Calls as calls
 use Rattle.sdb_model.specs.Calls.{calls_of, decision_learned, is_of_row, put_by}
 use Rattle.sdb_model.specs.Causes.{IsCommitOf, IsDecided, IsExpired, IsOfCommit, IsUnknown, PutsRow}
 use Rattle.sdb_model.specs.Transactions.{Said}
-use Rattle.sdb_said.proofs.Lists.{right, both, not_true, true_not, not_both, In, any_some, some_any}
+use Rattle.sdb_said.proofs.Lists.{right, not_true, true_not, not_both, In, any_some, some_any}
 use Rattle.sdb_calls.specs.declared.made.Made.{Made}
 use Rattle.sdb_calls.specs.Values.{all_made, asks_row, decision_found_at, made_of}
-use Rattle.sdb_caused.specs.Tests.{any_id, commits_as, is_commit_of, expired_among, fails_later, found_aborted, has_failed, is_decided, is_lost_put, put_before, puts_row, same_decision, unknown_among}
+use Rattle.sdb_caused.specs.Tests.{any_id, commits_as, is_commit_of, expired_among, fails_later, found_aborted, has_failed, is_decided, is_lost_put, put_before, puts_row, unknown_among}
 use Rattle.sdb_caused.proofs.IdLaws.{commit_found, commit_is, id_some, is_commit}
 use Rattle.sdb_caused.proofs.Finds.{in_contains, contains_in, kept_in, in_kept, made_in, in_made, made_contained, contained_made}
 use Rattle.sdb_types.proofs.Basics.{clash, decides as decide}
-use Rattle.sdb_types.proofs.Bools.{and_first as left}
+use Rattle.sdb_types.proofs.Bools.{and_first as left, and_both as both}
 use Rattle.sdb_types.specs.Replies.{is_fault}
+use Rattle.sdb_record.proofs.States.{decision_itself}
 
 decision_is : (a b : Decision) → same_decision a b ≡ true → a ≡ b
 decision_is decision.Committed decision.Committed h = refl
 decision_is decision.Committed decision.Aborted h = clash (sym h)
 decision_is decision.Aborted decision.Committed h = clash (sym h)
 decision_is decision.Aborted decision.Aborted h = refl
-
-decision_itself : (a : Decision) → same_decision a a ≡ true
-decision_itself decision.Committed = refl
-decision_itself decision.Aborted = refl
 
 decided_is : (wanted : Decision) (o : Option Decided) → is_decided wanted o ≡ true → IsDecided wanted o
 decided_is wanted None h = clash (sym h)

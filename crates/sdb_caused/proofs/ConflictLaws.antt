@@ -24,7 +24,7 @@ use Rattle.sdb_model.specs.Causes.{HasMoved, IsChecked, IsConflict, IsConflictAt
 use Rattle.sdb_model.specs.Noted.{Note, Got, Scanned, noted_in, resolved, same_key, version_among, version_noted}
 use Rattle.sdb_model.specs.Sql.{reads_commit}
 use Rattle.sdb_model.specs.Transactions.{Said, prepares}
-use Rattle.sdb_said.proofs.Lists.{none_some, right, both, or_left, not_true, true_not, In, any_some, some_any}
+use Rattle.sdb_said.proofs.Lists.{none_some, right, or_left, not_true, true_not, In, any_some, some_any}
 use Rattle.sdb_said.proofs.ShownLaws.{key_is, is_key}
 use Rattle.sdb_calls.specs.declared.made.Made.{Made}
 use Rattle.sdb_calls.specs.Values.{all_made, made_of}
@@ -32,7 +32,7 @@ use Rattle.sdb_caused.specs.Tests.{any_id, asks_key, base_put, conflict_at_commi
 use Rattle.sdb_caused.proofs.Finds.{in_contains, contains_in, made_contained, contained_made, found_is, is_found}
 use Rattle.sdb_caused.proofs.IdLaws.{commit_is, is_commit, in_is, is_in_of, id_some, commit_found, in_found}
 use Rattle.sdb_types.proofs.Basics.{clash, or_second as or_right, some_is, either}
-use Rattle.sdb_types.proofs.Bools.{and_first as left}
+use Rattle.sdb_types.proofs.Bools.{and_first as left, and_both as both}
 
 ---- what was noted
 

@@ -1,21 +1,21 @@
 -- Searches over the transactions of a client.
-use Rattle.std.proofs.Common.{◌≡◌, ℕ, zero, suc, ◌-◌, ◌^◌, ◌<◌, Bool, true, false, List, [], ◌∷◌, length, Some, None, ◌⊎◌, inl, inr, refl, sym, ap, ◌∙◌, arith, subst}
+use Rattle.std.proofs.Common.{◌≡◌, ℕ, zero, suc, ◌-◌, ◌<◌, Bool, true, false, List, [], ◌∷◌, length, Some, None, ◌⊎◌, inl, inr, refl, sym, ap, ◌∙◌, arith, subst}
 use Rattle.std.specs.Prelude.{◌||◌, ◌==◌, Contains, find, if◌then◌else◌}
 use Rattle.std.specs.List.{list_any}
 use Rattle.std.specs.Option.{option_and_then}
 use Rattle.sdb_model.specs.Sql.{reads_commit}
-use Rattle.std.proofs.lemmas.Nat.{div-add-mod'}
 use Rattle.sdb_types.specs.declared.txid.TxId.{TxId}
 use Rattle.sdb_model.specs.declared.event.Event.{Event}
 use Rattle.sdb_model.specs.Causes.{IsCommitOf, IsIn}
 use Rattle.sdb_model.specs.Transactions.{Said, begins, ends, rest_of, through_end, client_of, commit_of, from_begin, id_of, ordinal_of, said, statements_of}
-use Rattle.sdb_said.proofs.Lists.{none_some, right, both, or_left, In, any_some, some_any}
+use Rattle.sdb_said.proofs.Lists.{none_some, right, or_left, In, any_some, some_any}
 use Rattle.sdb_said.proofs.ShownLaws.{number_is, is_number}
 use Rattle.sdb_caused.specs.Tests.{any_id, any_upto, is_commit_of, is_in, is_said, same_said}
 use Rattle.sdb_caused.proofs.Finds.{in_contains, contains_in}
 use Rattle.sdb_caused.proofs.SameLaws.{said_is, said_itself, some_said, is_said_of}
 use Rattle.sdb_types.proofs.Basics.{clash, or_second as or_right, decides as decide, either}
-use Rattle.sdb_types.proofs.Bools.{and_first as left}
+use Rattle.sdb_types.proofs.Bools.{and_first as left, and_both as both}
+use Rattle.sdb_model.proofs.Basics.{id_again}
 
 ---- numbers up to one
 
@@ -67,9 +67,6 @@ some_from (suc j) ss some = (j, refl, by (split j (length ss)))
     by : (j < length ss) ⊎ (length ss < suc j) → j < length ss
     by (inl l) = l
     by (inr l) = absurd (some (none_from (suc j) ss l))
-
-pub id_again : (id : TxId) → id_of (client_of id) (ordinal_of id) ≡ id
-id_again id = λ i. record { 0 = div-add-mod' id.0 (2 ^ 64) i }
 
 pub id_some : (events : List Event) (client : ℕ) (f : TxId → Bool) → any_id events client f ≡ true → (id : TxId) × (f id ≡ true)
 id_some events client f h = let r = upto_some (λ k. f (id_of client k)) (length (said client events)) h in (id_of client r.0, r.1)

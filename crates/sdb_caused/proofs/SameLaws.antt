@@ -16,11 +16,11 @@ use Rattle.sdb_model.specs.contracts.answer.RefusalPartialEq.TheImpl as refusal_
 use Rattle.sdb_model.specs.Rows.{same_name}
 use Rattle.sdb_model.specs.Transactions.{Said}
 use Rattle.sdb_record.proofs.NameLemmas.{same_name-itself, same_name-true}
-use Rattle.sdb_said.proofs.Lists.{right, both}
+use Rattle.sdb_said.proofs.Lists.{right}
 use Rattle.sdb_said.proofs.ShownLaws.{number_is, is_number}
 use Rattle.sdb_caused.specs.Tests.{answered_alike, same_answer, same_said, is_said}
 use Rattle.sdb_types.proofs.Basics.{clash}
-use Rattle.sdb_types.proofs.Bools.{and_first as left}
+use Rattle.sdb_types.proofs.Bools.{and_first as left, and_both as both}
 
 refusal_tells : TellsApart (refusal_eq.ghosts).eq
 refusal_tells a b =

@@ -16,7 +16,7 @@ use Rattle.sdb_schema.specs.declared.table.Table.{Table}
 use Rattle.sdb_record.specs.declared.coordinator.Decided.{Decided}
 use Rattle.sdb_record.specs.declared.coordinator.Decision.{Decision}
 use Rattle.sdb_record.specs.declared.coordinator.Decision.TheVariants as decision
-use Rattle.sdb_record.specs.Coordinator.{decision_in, is_coordinator_table, is_expired}
+use Rattle.sdb_record.specs.Coordinator.{decision_in, is_coordinator_table, is_expired, same_decision}
 use Rattle.sdb_record.specs.Meta.{checked, id_in, is_unresolved, moment_in}
 use Rattle.sdb_record.specs.Moved.{is_unchanged, same_version}
 use Rattle.sdb_record.specs.Parts.{before_part}
@@ -35,7 +35,7 @@ use Rattle.sdb_model.specs.Rows.{same_name}
 use Rattle.sdb_model.specs.Transactions.{Said, client_of, commit_of, id_of, is_effective, ordinal_of, said, statements_of}
 use Rattle.sdb_model.specs.Calls.{clock_at, calls_of, decision_learned, is_read, key_asked, put_by, record_among, records_read, records_shown}
 use Rattle.sdb_model.specs.Noted.{Note, Got, Scanned, noted_in, reads_rows, resolved, same_key, version_among, version_noted}
-use Rattle.sdb_model.specs.Causes.{IsCaused, IsCounted, IsTurnedAway, before, is_misfit, is_open, is_select, prepares_key, records_found, refused, removes, rows_counted}
+use Rattle.sdb_model.specs.Causes.{IsCaused, IsCounted, IsTurnedAway, before, is_misfit, is_open, is_select, prepares_key, records_found, refused, removes, counted_by}
 use Rattle.sdb_said.specs.Values.{same_record}
 use Rattle.sdb_calls.specs.declared.made.Made.{Made}
 use Rattle.sdb_calls.specs.declared.open.Work.TheVariants as work
@@ -111,12 +111,6 @@ is_commit_of events client s id = (client_of id == client) && is_said (commit_of
 
 abbrev pub is_in : List Event → ℕ → Said → TxId → Bool
 is_in events client s id = (client_of id == client) && list_any (same_said s) (statements_of events id)
-
-abbrev pub same_decision : Decision → Decision → Bool
-same_decision decision.Committed decision.Committed = true
-same_decision decision.Committed decision.Aborted = false
-same_decision decision.Aborted decision.Committed = false
-same_decision decision.Aborted decision.Aborted = true
 
 abbrev pub is_decided : Decision → Option Decided → Bool
 is_decided wanted found = option_map_or (λ d. same_decision d.decision wanted) found false
@@ -233,9 +227,6 @@ before_only f taken b = if is_before taken b then f b else 0
 abbrev pub total_before : (Said → ℕ) → ℕ → List Said → ℕ
 total_before f taken [] = 0
 total_before f taken (b ∷ bs) = before_only f taken b + total_before f taken bs
-
-abbrev pub counted_by : Said → ℕ
-counted_by b = rows_counted b.answer
 
 abbrev pub found_by : List Event → ℕ → Said → ℕ
 found_by events client b = records_found (calls_of events client b)

@@ -6,13 +6,13 @@ ghost use Rattle.sdb_record.specs.Meta.{is_taken};
 ghost use Rattle.sdb_record.specs.Rolls.{row_of_image};
 ghost use Rattle.sdb_model.specs.Noted.{resolved, same_key};
 ghost use Rattle.sdb_model.specs.Causes.{IsBadRecord, is_fit as is_fit_lem};
-ghost use Rattle.sdb_plain.specs.Points.{said_of};
+ghost use Rattle.sdb_order.specs.Commits.{said_of};
 ghost use Rattle.sdb_calls.specs.Values.{all_made};
 ghost use Rattle.sdb_caused.specs.Tests.{is_refused_there, shows_bad as shows_bad_lem};
 
 use sdb_calls::{Made, calls_of, decision_for, is_coordinator, reads_rows};
 use sdb_model::{Event, Keyword};
-use sdb_plain::{Said, is_word};
+use sdb_order::{Said, is_word};
 use sdb_record::{committed_image, meta_of};
 use sdb_said::{decided, is_same_key};
 use sdb_schema::Catalog;

@@ -3,7 +3,7 @@ ghost use Rattle.std.specs.Prelude.{◌≡◌, ◌||◌, IfOk, IfSome, IsTrue, �
 ghost use Rattle.std.specs.List.{AllByRecursion};
 ghost use Rattle.sdb_model.specs.declared.answer.Answer.TheVariants as answer;
 ghost use Rattle.sdb_model.specs.Causes.{AreCaused, IsCaused, IsTurnedAway, MayPassMost, before as before_lem};
-ghost use Rattle.sdb_plain.specs.Points.{all_said, said_of};
+ghost use Rattle.sdb_order.specs.Commits.{all_said, said_of};
 ghost use Rattle.sdb_calls.specs.Values.{taker as taker_lem};
 ghost use Rattle.sdb_caused.specs.Tests.{answered_with, is_no_memory, same_answer, AreTakersWell, IsAnswerCaused, IsClientWell, IsTurnedIfDue, IsWellAnswered};
 
@@ -17,7 +17,7 @@ use crate::same::is_same_answer;
 use crate::turned::turned_away;
 use sdb_calls::taker;
 use sdb_model::{Answer, Event, Refusal};
-use sdb_plain::{Said, statements_said};
+use sdb_order::{Said, statements_said};
 use sdb_schema::Catalog;
 use sdb_types::NoMemory;
 use std::alloc::Global;

@@ -5,7 +5,7 @@ ghost use Rattle.sdb_record.specs.declared.coordinator.Decision.TheVariants as d
 ghost use Rattle.sdb_model.specs.Calls.{decision_learned};
 ghost use Rattle.sdb_model.specs.Causes.{IsExpired, IsOfCommit, IsUnknown};
 ghost use Rattle.sdb_model.specs.Transactions.{id_of as id_of_lem, through_end};
-ghost use Rattle.sdb_plain.specs.Points.{said_of, all_said};
+ghost use Rattle.sdb_order.specs.Commits.{said_of, all_said};
 ghost use Rattle.sdb_calls.specs.Values.{all_made};
 ghost use Rattle.sdb_caused.specs.Tests.{any_upto, commits_as as commits_as_lem, is_commit_of as is_commit_of_lem, is_in as is_in_lem, same_said, is_decided as is_decided_lem, puts_row as puts_row_lem, put_before, found_aborted as found_aborted_lem, expired_among as expired_among_lem, fails_later as fails_later_lem, is_lost_put as is_lost_put_lem, unknown_among as unknown_among_lem};
 
@@ -15,7 +15,8 @@ use sdb_calls::{
     ordinal_of, put_by, rest_of,
 };
 use sdb_model::Event;
-use sdb_plain::{Said, ends, from_begin, statements_said};
+use sdb_order::{Said, ends, statements_said};
+use sdb_plain::from_begin;
 use sdb_record::{Decided, Decision, coordinator_key};
 use sdb_said::decided;
 use sdb_types::{Key, NoMemory, Reply, TxId};

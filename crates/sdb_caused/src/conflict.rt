@@ -5,7 +5,7 @@ ghost use Rattle.std.specs.List.{list_any};
 ghost use Rattle.sdb_model.specs.Causes.{IsConflict, prepares_key as prepares_key_lem};
 ghost use Rattle.sdb_model.specs.Noted.{noted_in as noted_in_lem, resolved, same_key, version_among as version_among_lem, version_noted as version_noted_lem};
 ghost use Rattle.sdb_model.specs.Transactions.{id_of as id_of_lem};
-ghost use Rattle.sdb_plain.specs.Points.{said_of};
+ghost use Rattle.sdb_order.specs.Commits.{said_of};
 ghost use Rattle.sdb_record.specs.Moved.{is_unchanged as is_unchanged_lem, same_version as same_version_lem};
 ghost use Rattle.sdb_record.specs.Parts.{before_record};
 ghost use Rattle.sdb_record.specs.Rolls.{forward_record};
@@ -19,7 +19,8 @@ use sdb_calls::{
     Made, calls_of, decision_for, id_of, is_in_span, key_asked, noted_in, put_by, record_among,
 };
 use sdb_model::{Event, Keyword};
-use sdb_plain::{Said, is_prepare, is_word, statements_said};
+use sdb_order::{Said, is_word, statements_said};
+use sdb_plain::is_prepare;
 use sdb_record::{Decided, Decision, Read, Scan, is_unchanged, rolled_forward};
 use sdb_said::{Note, is_committed, is_kept_in, is_same_key, keeps_none, kept_writer};
 use sdb_types::{Key, NoMemory, Record, Reply, Request, TxId};

@@ -2,16 +2,16 @@
 ghost use Rattle.std.specs.Prelude.{◌≡◌, ◌-◌, ◌==◌, false, IfOk, IsTrue, ◌↔◌, length};
 ghost use Rattle.std.specs.Option.{option_map_or};
 ghost use Rattle.sdb_model.specs.Calls.{records_read};
-ghost use Rattle.sdb_model.specs.Causes.{MayPassMost, rows_counted as rows_counted_lem};
+ghost use Rattle.sdb_model.specs.Causes.{MayPassMost, rows_counted as rows_counted_lem, counted_by};
 ghost use Rattle.sdb_model.specs.Transactions.{id_of as id_of_lem};
-ghost use Rattle.sdb_plain.specs.Points.{said_of, all_said};
-ghost use Rattle.sdb_caused.specs.Tests.{any_upto, before_only, counted_by, found_among, found_by, found_left as found_left_lem, is_before as is_before_lem, passes_left as passes_left_lem, passes_most as passes_most_lem, read_by as read_by_lem, total_before, written_left as written_left_lem};
+ghost use Rattle.sdb_order.specs.Commits.{said_of, all_said};
+ghost use Rattle.sdb_caused.specs.Tests.{any_upto, before_only, found_among, found_by, found_left as found_left_lem, is_before as is_before_lem, passes_left as passes_left_lem, passes_most as passes_most_lem, read_by as read_by_lem, total_before, written_left as written_left_lem};
 
 use crate::commit::is_in;
 use crate::reading::statement_in;
 use sdb_calls::{Made, calls_of, id_of, inside_of, is_effective, ordinal_of, reads_rows};
 use sdb_model::{Answer, Event, Statement};
-use sdb_plain::{Said, statements_said};
+use sdb_order::{Said, statements_said};
 use sdb_types::{NoMemory, Reply, TxId};
 use std::alloc::Global;
 

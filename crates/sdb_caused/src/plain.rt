@@ -5,14 +5,14 @@ ghost use Rattle.std.specs.Option.{option_map_or};
 ghost use Rattle.std.specs.List.{list_any};
 ghost use Rattle.sdb_model.specs.Calls.{calls_of as calls_of_lem};
 ghost use Rattle.sdb_model.specs.Causes.{HasReply, before as before_lem, is_select as is_select_lem, removes as removes_lem};
-ghost use Rattle.sdb_plain.specs.Points.{said_of};
+ghost use Rattle.sdb_order.specs.Commits.{said_of};
 ghost use Rattle.sdb_calls.specs.Values.{made_of};
 ghost use Rattle.sdb_caused.specs.Tests.{Inserts, counts_so as counts_so_lem, is_done as is_done_lem, IsOfRows, IsOfCount, IsOfDone, IsOfDuplicate, removed_by};
 
 use crate::reading::statement_in;
 use sdb_calls::{Made, calls_of, is_open, is_removal, prefix};
 use sdb_model::{Event, Statement};
-use sdb_plain::Said;
+use sdb_order::Said;
 use sdb_rows::inserted_key;
 use sdb_said::is_same_key;
 use sdb_schema::Catalog;

@@ -2,11 +2,11 @@
 ghost use Rattle.std.specs.Prelude.{◌≡◌};
 ghost use Rattle.std.specs.Option.{option_copied};
 ghost use Rattle.sdb_model.specs.Rows.{same_name};
-ghost use Rattle.sdb_plain.specs.Points.{said_of};
+ghost use Rattle.sdb_order.specs.Commits.{said_of};
 ghost use Rattle.sdb_caused.specs.Tests.{answered_alike, same_answer, same_found, same_said};
 
 use sdb_model::Answer;
-use sdb_plain::Said;
+use sdb_order::Said;
 use sdb_said::is_same_record;
 use sdb_types::{Record, Txt};
 

@@ -19,29 +19,13 @@ use Rattle.sdb_model.specs.Transactions.{Said, numbered, said, with_answer}
 use Rattle.sdb_story.specs.Telling.{answered_said, taken_said}
 use Rattle.sdb_story.proofs.Tellings.{numbers_more, said_more}
 use Rattle.sdb_causes.proofs.Lists.{each_in, each_kept, filter_same, kept_in}
-
-pub itself : (c : ℕ) → (c == c) ≡ true
-itself c = grind (arith, nat_tests)
-
-pub length_more : {A : Type 0} (xs : List A) (x : A) → length (xs ++ x ∷ []) ≡ length xs + 1
-length_more [] x = refl
-length_more (y ∷ xs) x = ap suc (length_more xs x) ∙ plus (length xs)
-  where
-    plus : (n : ℕ) → suc (n + 1) ≡ suc n + 1
-    plus n = omega arith
+use Rattle.sdb_types.proofs.Basics.{itself, length_more}
+use Rattle.sdb_story.proofs.Answered.{answer_last}
 
 pub within_more : {A : Type 0} (n : ℕ) (xs : List A) (x : A) → n ≤ length xs → n ≤ length (xs ++ x ∷ [])
 within_more n xs x l = let e : length (xs ++ x ∷ []) ≡ length xs + 1 = length_more xs x in omega arith
 
 ---- statements
-
-pub take_said : (c : ℕ) (events : List Event) (text : List ℕ) (a : Option Answer) → said c (events ++ event.Take c text a ∷ []) ≡ said c events ++ taken_said events text a ∷ []
-take_said c events text a = said_more c events (event.Take c text a) ∙ ap (λ t. if t then said c events ++ taken_said events text a ∷ [] else said c events) (itself c)
-
-answer_last : (front : List Said) (w : Said) (n : ℕ) (a : Answer) → with_answer (front ++ w ∷ []) n a ≡ front ++ record { taken = w.taken; text = w.text; answer = Some a; reached = n } ∷ []
-answer_last [] w n a = refl
-answer_last (s ∷ []) w n a = refl
-answer_last (s ∷ t ∷ ss) w n a = ap (λ r. s ∷ r) (answer_last (t ∷ ss) w n a)
 
 pub call_said : (c : ℕ) (events : List Event) (store : Name) (q : Request) (how : How) (r : Reply) (a : Answer) (front : List Said) (w : Said) → said c events ≡ front ++ w ∷ [] → said c (events ++ event.Call c store q how r (Some a) ∷ []) ≡ front ++ answered_said events w a ∷ []
 call_said c events store q how r a front w e =

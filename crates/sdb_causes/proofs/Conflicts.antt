@@ -23,7 +23,7 @@ use Rattle.sdb_types.specs.Columns.{column}
 use Rattle.sdb_types.specs.TxId.{id_text}
 use Rattle.sdb_types.specs.Contents.{CanAnswer, are_rows_of, has_value, in_span, is_version, rise, state_number, tx_id, tx_state}
 use Rattle.sdb_types.specs.Order.{key_cmp}
-use Rattle.sdb_types.proofs.Basics.{by_test, clash, none_some, some_is, all_each as each_any, append_all as each_append}
+use Rattle.sdb_types.proofs.Basics.{by_test, clash, none_some, some_is, all_each as each_any, append_all as each_append, and_false}
 use Rattle.sdb_types.proofs.KeyOrder.{key_total}
 use Rattle.sdb_record.specs.declared.access.Read.{Read}
 use Rattle.sdb_record.specs.declared.access.Scan.{Scan}
@@ -134,10 +134,6 @@ no_base (w ∷ ws) k h = by (phases.same_key k w.key) (λ e. no_base ws k e) h
 
 ---- what prepares
 
-and_none : (b : Bool) → (b && false) ≡ false
-and_none true = refl
-and_none false = refl
-
 unprepared_key : (id : TxId) (q : Key) (m : Made) → prepares id m.request ≡ false → prepares_key id q m ≡ false
 unprepared_key id q m f = ap (λ b. b && option_map_or (λ k. same_key k q) (key_asked m.request) false) f
 
@@ -150,7 +146,7 @@ base_unprepared id k b c is =
     at = has_value-is (column b.columns tx_state) (value.Int (state_number state.Committed)) is.2
 
     one : (s : State) → has_value (Some (value.Int (state_number state.Committed))) (value.Int (state_number s)) ≡ false → is_version id s b ≡ false
-    one s n = ap (λ o. has_value (column b.columns tx_id) (value.Text (id_text id.0)) && has_value o (value.Int (state_number s))) at ∙ ap (λ t. has_value (column b.columns tx_id) (value.Text (id_text id.0)) && t) n ∙ and_none (has_value (column b.columns tx_id) (value.Text (id_text id.0)))
+    one s n = ap (λ o. has_value (column b.columns tx_id) (value.Text (id_text id.0)) && has_value o (value.Int (state_number s))) at ∙ ap (λ t. has_value (column b.columns tx_id) (value.Text (id_text id.0)) && t) n ∙ and_false (has_value (column b.columns tx_id) (value.Text (id_text id.0)))
 
 pub undo_unprepared : (id : TxId) (k : Key) (o : Option Record) (c : Condition) → IfSome o (IsBaseOf k) → prepares id (undo c k o) ≡ false
 undo_unprepared id k None c is = refl

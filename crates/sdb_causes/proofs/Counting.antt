@@ -4,7 +4,6 @@ use Rattle.std.specs.Prelude.{if◌then◌else◌, find, is_some, IfSome, All, C
 use Rattle.std.specs.List.{AllByRecursion}
 use Rattle.std.specs.Option.{option_and_then}
 use Rattle.std.proofs.lemmas.List.{append-nil}
-use Rattle.std.proofs.lemmas.Nat.{div-add-mod'}
 use Rattle.std.proofs.lemmas.List.Elements.{All-contains_itself, All-contains, Contains-append_cases, Contains-append_left, Contains-append_right, Contains-push, Contains-push_cases, recursion_from_All}
 use Rattle.sdb_types.specs.declared.txid.TxId.{TxId}
 use Rattle.sdb_types.proofs.Basics.{clash, none_some, some_is, all_each as each_any}
@@ -37,6 +36,7 @@ use Rattle.sdb_causes.proofs.CountsNotes.{commits_more, commits_still, paired_mo
 use Rattle.sdb_causes.proofs.Lists.{each_in}
 use Rattle.sdb_causes.proofs.Noting.{noted_since, since_all, take_ends, take_open}
 use Rattle.sdb_types.specs.Replies.{is_fault}
+use Rattle.sdb_model.proofs.Basics.{id_again}
 
 ---- one statement
 
@@ -174,10 +174,6 @@ module _ (catalog : List Table) (events : List Event) (c : ℕ) (h : ClientAt) (
           (subst (λ i. CommitFits (notes_since events c i k.told) (id_of c i) None (calls_of events c w)) k.begun
           (fits_so_far catalog w.text (calls_of events c w) h.vacuum h.txn (id_of c h.begun) (notes_since events c h.begun k.told) reads waits.vacuum k.counted.noted n)))
 
--- a transaction's id is that of its client and its ordinal
-id_itself : (id : TxId) → id_of (client_of id) (ordinal_of id) ≡ id
-id_itself id = λ i. record { 0 = div-add-mod' id.0 (2 ^ 64) i }
-
 ordinal_small : (id : TxId) → ordinal_of id < 2 ^ 64
 ordinal_small id = small id.0
   where
@@ -207,7 +203,7 @@ module _ (events : List Event) (id : TxId) (s : Said) where
       let f = found_split rest s ended in
       let since : from_begin n (said c events) ≡ b ∷ (f.0 ++ s ∷ f.1) = from ∙ ap (λ r. b ∷ r) f.2 in
       let notes : noted_in events (id_of c n) ≡ notes_told events c f.0 = noted_since events c n b (f.0 ++ s ∷ f.1) (ordinal_small id) since ∙ ap (notes_told events c) (take_open f.0 (s ∷ f.1) f.3 ∙ ap (λ r. f.0 ++ r) (take_ends s f.1 f.4) ∙ append-nil f.0) in
-      subst (λ (i : TxId). CommitFits (noted_in events i) i s.answer (calls_of events c s)) (id_itself id)
+      subst (λ (i : TxId). CommitFits (noted_in events i) i s.answer (calls_of events c s)) (id_again id)
       (subst (λ ns. CommitFits ns (id_of c n) s.answer (calls_of events c s)) (sym notes) (fit n b f.0 s f.1 since f.3 reads))
 
   commit_found : commit_of events id ≡ Some s → (b : Said) × (rest : List Said) × (from_begin n (said c events) ≡ b ∷ rest) × (find ends rest ≡ Some s) × (reads_commit s.text ≡ true)

@@ -45,7 +45,7 @@ use Rattle.sdb_causes.proofs.SweepSteps.{SweepsData}
 
 ---- one call more
 
-calls_more : (calls : List Made) (m : Made) → length (calls ++ m ∷ []) ≡ length calls + 1
+pub calls_more : (calls : List Made) (m : Made) → length (calls ++ m ∷ []) ≡ length calls + 1
 calls_more calls m = length-append calls (m ∷ [])
 
 -- what its rows count for

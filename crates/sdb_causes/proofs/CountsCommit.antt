@@ -58,9 +58,8 @@ use Rattle.sdb_causes.specs.Commits.{EndsBy}
 use Rattle.sdb_causes.specs.Counts.{AllPut, CommitCounted, CommitFits, HasPut, NoneFaulted, NotesAre, decides, keys_got, later_by, wanted_by}
 use Rattle.sdb_causes.proofs.Conflicts.{key_turned, mapped_at, prepared_is, row_unprepared, undo_unprepared}
 use Rattle.sdb_types.specs.Replies.{is_fault}
-
-calls_more : (calls : List Made) (m : Made) → length (calls ++ m ∷ []) ≡ length calls + 1
-calls_more calls m = length-append calls (m ∷ [])
+use Rattle.sdb_causes.proofs.Counts.{calls_more}
+use Rattle.sdb_causes.proofs.Lists.{map_more}
 
 ---- lists
 
@@ -74,10 +73,6 @@ take_more {X = X} xs i x e = ap (λ n. take n xs) (one i) ∙ by xs i e
     by [] j k = none_some x k
     by (y ∷ ys) zero k = ap (λ z. z ∷ []) (some_is y x k)
     by (y ∷ ys) (suc j) k = ap (λ r. y ∷ r) (by ys j k)
-
-map_more : {X Y : Type 0} (f : X → Y) (xs ys : List X) → map f (xs ++ ys) ≡ map f xs ++ map f ys
-map_more f [] ys = refl
-map_more f (x ∷ xs) ys = ap (λ r. f x ∷ r) (map_more f xs ys)
 
 ---- what a COMMIT is to make
 

@@ -22,7 +22,7 @@ use Rattle.sdb_model.specs.declared.event.Event.{Event}
 use Rattle.sdb_model.specs.Calls.{Made, calls_of}
 use Rattle.sdb_model.specs.Causes.{is_open_after}
 use Rattle.sdb_model.specs.Counted.{is_scan}
-use Rattle.sdb_model.specs.Noted.{Got, Note, Scanned, note_of, notes_in}
+use Rattle.sdb_model.specs.Noted.{Got, Note, Scanned, note_of, notes_in, is_from_rows}
 use Rattle.sdb_model.specs.Sql.{reads_commit}
 use Rattle.sdb_model.specs.Transactions.{Said, begins, ends, from_begin, id_of, is_effective, rest_of}
 use Rattle.sdb_read.specs.Read.{request_of}
@@ -33,10 +33,10 @@ use Rattle.sdb_txn.specs.declared.txn.Doing.TheVariants as doing
 use Rattle.sdb_txn.specs.Txn.{TxnAt}
 use Rattle.sdb_client.specs.Client.{noting}
 use Rattle.sdb_causes.specs.Counts.{ArePaired, CommitFits, CommitsFit, NotedDoing, NotesAre, keys_got, notes_since}
-use Rattle.sdb_causes.specs.Moves.{HasRead, IsRows, is_told, notes_told}
+use Rattle.sdb_causes.specs.Moves.{HasRead, IsRows, notes_told}
 use Rattle.sdb_causes.specs.Tied.{IsAnswered, begun_in, open_after}
 use Rattle.sdb_causes.proofs.Calls.{calls_stay}
-use Rattle.sdb_causes.proofs.Lists.{since_more, since_none}
+use Rattle.sdb_causes.proofs.Lists.{since_more, since_none, map_more}
 use Rattle.sdb_causes.proofs.Noting.{each_left, each_middle, notes_more, notes_stay, since_all}
 use Rattle.sdb_causes.proofs.ReadSteps.{IsDataTable}
 use Rattle.sdb_causes.proofs.Settling.{read_notes}
@@ -50,10 +50,6 @@ keys_more (Scanned x ∷ ns) ms = keys_more ns ms
 
 scans_more : (ns ms : List Note) → count_by is_scan (ns ++ ms) ≡ count_by is_scan ns + count_by is_scan ms
 scans_more ns ms = sym (length-filter is_scan (ns ++ ms)) ∙ ap length (filter-append is_scan ns ms) ∙ length-append (filter is_scan ns) (filter is_scan ms) ∙ ap (λ n. n + length (filter is_scan ms)) (length-filter is_scan ns) ∙ ap (λ n. count_by is_scan ns + n) (length-filter is_scan ms)
-
-map_more : {X Y : Type 0} (f : X → Y) (xs ys : List X) → map f (xs ++ ys) ≡ map f xs ++ map f ys
-map_more f [] ys = refl
-map_more f (x ∷ xs) ys = ap (λ r. f x ∷ r) (map_more f xs ys)
 
 with_got : (notes : List Note) (r : Read) (s : Seen) (x : Read) → x.key ≡ r.key → NotesAre notes s.reads s.scans → NotesAre (notes ++ Got r ∷ []) (s.reads ++ x ∷ []) s.scans
 with_got notes r s x same h = record {
@@ -122,18 +118,18 @@ since_open events c n told s b body e = ap (λ r. notes_told events c (rest_of r
 
 -- one that changes nothing
 pub none_noted : (events : List Event) (c : ℕ) (s : Said) → is_effective s ≡ false → notes_told events c (s ∷ []) ≡ []
-none_noted events c s f = ap (λ b. flat_map (λ (x : Said). notes_in (calls_of events c x)) (filter is_told (if b then s ∷ [] else []))) f
+none_noted events c s f = ap (λ b. flat_map (λ (x : Said). notes_in (calls_of events c x)) (filter is_from_rows (if b then s ∷ [] else []))) f
 
 -- one that makes no call
 pub none_called : (events : List Event) (c : ℕ) (s : Said) → calls_of events c s ≡ [] → notes_told events c (s ∷ []) ≡ []
-none_called events c s none = by (is_effective s) (is_told s)
+none_called events c s none = by (is_effective s) (is_from_rows s)
   where
     by_told : (t : Bool) → flat_map (λ x. notes_in (calls_of events c x)) (if t then s ∷ [] else []) ≡ []
     by_told true = append-nil (notes_in (calls_of events c s)) ∙ ap notes_in none
     by_told false = refl
 
-    by : (f t : Bool) → flat_map (λ x. notes_in (calls_of events c x)) (filter is_told (if f then s ∷ [] else [])) ≡ []
-    by true t = by_told (is_told s)
+    by : (f t : Bool) → flat_map (λ x. notes_in (calls_of events c x)) (filter is_from_rows (if f then s ∷ [] else [])) ≡ []
+    by true t = by_told (is_from_rows s)
     by false t = refl
 
 ---- as events come

@@ -1,6 +1,6 @@
 -- Where a COMMIT goes, what it ends with, and which transaction it ends.
-use Rattle.std.proofs.Common.{◌≡◌, ◌<◌, ◌^◌, ◌+◌, ◌*◌, ◌⊎◌, inl, inr, ℕ, true, List, [], ◌∷◌, ◌++◌, length, Option, Some, None, refl, sym, ap, subst, ◌∙◌, arith}
-use Rattle.std.specs.Prelude.{if◌then◌else◌, find, nat_lt, slice_get, Contains}
+use Rattle.std.proofs.Common.{◌≡◌, ◌<◌, ◌^◌, ◌+◌, ◌⊎◌, inl, inr, ℕ, true, List, [], ◌∷◌, ◌++◌, Option, Some, None, refl, sym, ap, subst, ◌∙◌}
+use Rattle.std.specs.Prelude.{if◌then◌else◌, find, Contains}
 use Rattle.std.specs.Option.{option_and_then}
 use Rattle.std.proofs.lemmas.List.Elements.{Contains-append_left, Contains-push}
 use Rattle.sdb_types.specs.declared.key.Key.{Key}
@@ -16,14 +16,9 @@ use Rattle.sdb_model.specs.Causes.{ConflictsAtCommit, IsCaused, IsCommitOf}
 use Rattle.sdb_model.specs.Sql.{reads_commit}
 use Rattle.sdb_model.specs.Transactions.{Said, client_of, commit_of, ends, from_begin, id_of, ordinal_of, rest_of, said}
 use Rattle.sdb_commit.specs.Phases.{IsNext, ended_at}
-use Rattle.sdb_validate.specs.Inside.{Judges}
 use Rattle.sdb_phases.specs.declared.step.Outcome.{Outcome}
 use Rattle.sdb_phases.specs.declared.step.Outcome.TheVariants as outcome
-use Rattle.sdb_phases.specs.declared.step.ValidateStep.{ValidateStep}
-use Rattle.sdb_phases.specs.declared.step.ValidateStep.TheVariants as validate
-use Rattle.sdb_phases.specs.Checks.{checks}
-use Rattle.sdb_phases.specs.Commit.{Stage, Preparing, Checking, Deciding, Forward, Stopping, Back, Over, after_check, starved as starved_stage, step as commit_step}
-use Rattle.sdb_phases.specs.Steps.{validate_step}
+use Rattle.sdb_phases.specs.Commit.{Stage, Preparing, Checking, Deciding, Forward, Stopping, Back, Over, starved as starved_stage, step as commit_step}
 use Rattle.sdb_phases.specs.Work.{Work}
 use Rattle.sdb_model.specs.Noted.{Note}
 use Rattle.sdb_txn.specs.Txn.{TxnAt, progress_of}
@@ -37,34 +32,9 @@ use Rattle.sdb_causes.specs.Conflicts.{ConflictBy}
 use Rattle.sdb_causes.proofs.Noting.{client_is, ordinal_is}
 use Rattle.sdb_causes.proofs.Lists.{ends_last, since_more}
 use Rattle.sdb_causes.proofs.Rows.{bad_is_bad}
+use Rattle.sdb_steps.proofs.Replied.{next_stage}
 
 ---- where a COMMIT goes
-
--- want of memory stands in place of a conflict alone
-verdict : (p : Work) (i : ℕ) (want v : ValidateStep) → Judges want v → (after_check p i v ≡ after_check p i want) ⊎ (after_check p i v ≡ starved_stage (after_check p i want))
-verdict p i (validate.Conflict key found) validate.NoMemory h = inr refl
-verdict p i validate.NoMemory validate.NoMemory h = inl refl
-verdict p i validate.More validate.NoMemory h = absurd (cc)
-verdict p i validate.Valid validate.NoMemory h = absurd (cc)
-verdict p i validate.Faulted validate.NoMemory h = absurd (cc)
-verdict p i want validate.More h = inl (ap (after_check p i) h)
-verdict p i want validate.Valid h = inl (ap (after_check p i) h)
-verdict p i want (validate.Conflict key found) h = inl (ap (after_check p i) h)
-verdict p i want validate.Faulted h = inl (ap (after_check p i) h)
-
--- the next stage is that of the protocol, or it is out of memory there
-next_stage : (p : Work) (s : Stage) (r : Reply) (m : Stage) → IsNext p s r m → (m ≡ commit_step p s r) ⊎ (m ≡ starved_stage (commit_step p s r))
-next_stage p (Preparing i) r m h = inl h
-next_stage p (Checking i) r m h = as_verdict (verdict p i (validate_step (nat_lt (i + 1) (length (checks p))) (slice_get (checks p) i) r) h.0 h.1)
-  where
-    as_verdict : (after_check p i h.0 ≡ commit_step p (Checking i) r) ⊎ (after_check p i h.0 ≡ starved_stage (commit_step p (Checking i) r)) → (m ≡ commit_step p (Checking i) r) ⊎ (m ≡ starved_stage (commit_step p (Checking i) r))
-    as_verdict (inl e) = inl (h.2 ∙ e)
-    as_verdict (inr e) = inr (h.2 ∙ e)
-next_stage p (Deciding d) r m h = inl h
-next_stage p (Forward i) r m h = inl h
-next_stage p (Stopping a n) r m h = inl h
-next_stage p (Back a n i) r m h = inl h
-next_stage p (Over a) r m h = inl h
 
 -- what is so of both is so of it
 pub next_by : (P : Stage → Type 0) (p : Work) (s : Stage) (r : Reply) (m : Stage) → IsNext p s r m → P (commit_step p s r) → P (starved_stage (commit_step p s r)) → P m
@@ -144,9 +114,6 @@ commit_is events c n told w t small same commit over o = subst (IsCommitOf event
         ap (λ ss. option_and_then (λ (s : Said). if reads_commit s.text then Some s else None) (find ends (rest_of ss))) since
         ∙ ap (λ (o : Option Said). option_and_then (λ (s : Said). if reads_commit s.text then Some s else None) o) (ends_last o.body w o.goes_on over)
         ∙ ap (λ b. if b then Some w else None) commit
-
-pub id_fits : (c n : ℕ) → c < 2 ^ 64 → n < 2 ^ 64 → c * 2 ^ 64 + n < 2 ^ 128
-id_fits c n a b = omega arith
 
 -- the first of a statement's calls is one of them
 pub first_in : (m : Made) (rest calls : List Made) → calls ≡ m ∷ rest → Contains calls m

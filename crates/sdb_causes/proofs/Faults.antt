@@ -5,7 +5,7 @@ use Rattle.std.specs.List.{AllByRecursion, cons_option, enumerate_from, filter_m
 use Rattle.sdb_types.specs.declared.record.Reply.{Reply}
 use Rattle.sdb_types.specs.declared.record.Reply.TheVariants as reply
 use Rattle.sdb_types.specs.Replies.{is_fault, is_answered}
-use Rattle.sdb_types.proofs.Basics.{clash, none_some, some_is, append_all}
+use Rattle.sdb_types.proofs.Basics.{clash, none_some, some_is, append_all, one_of}
 use Rattle.sdb_model.specs.declared.event.Event.{Event}
 use Rattle.sdb_model.specs.declared.event.Event.TheVariants as event
 use Rattle.sdb_model.specs.declared.event.How.{How}
@@ -22,7 +22,6 @@ use Rattle.sdb_model.specs.Transactions.{Said}
 use Rattle.sdb_causes.specs.Counts.{SeenAreNoFaults}
 use Rattle.sdb_causes.specs.Rolled.{AnsweredWereSeen}
 use Rattle.sdb_causes.proofs.Lists.{kept_in}
-use Rattle.sdb_causes.proofs.Settling.{one_of}
 
 -- a call that was seen was answered no fault, and one that was answered was seen
 abbrev HowFits : How → Reply → Type 0

@@ -3,7 +3,6 @@ use Rattle.std.proofs.Common.{◌≡◌, ◌≤◌, ◌+◌, ◌⊎◌, inl, inr
 use Rattle.std.specs.Prelude.{if◌then◌else◌, ◌&&◌, ◌||◌, is_some}
 use Rattle.std.specs.List.{AllByRecursion, count_by}
 use Rattle.std.specs.Option.{option_and_then}
-use Rattle.std.specs.Ordering.{is_lt}
 use Rattle.std.specs.Cmp.{tied_itself}
 use Rattle.std.specs.FinMap.{entries, entries_sorted, find, get-entries, is_sorted}
 use Rattle.std.specs.FinMap.Entries.{below_all}
@@ -13,7 +12,7 @@ use Rattle.sdb_types.specs.declared.key.Key.{Key}
 use Rattle.sdb_types.specs.declared.pair.Pair.{Pair}
 use Rattle.sdb_types.specs.declared.record.Record.{Record}
 use Rattle.sdb_types.specs.Order.{key_cmp}
-use Rattle.sdb_types.proofs.Basics.{by_test, clash, less_of, none_some, truth}
+use Rattle.sdb_types.proofs.Basics.{by_test, clash, none_some, truth, or_false}
 use Rattle.sdb_types.proofs.KeyOrder.{key_total}
 use Rattle.sdb_keyed.specs.Entries.{same_key}
 use Rattle.sdb_record.specs.declared.access.Access.{Access}
@@ -31,6 +30,7 @@ use Rattle.sdb_snapshot.proofs.Keys.{same_exact}
 use Rattle.sdb_snapshot.proofs.Shown.{get_seen}
 use Rattle.sdb_causes.specs.Filled.{records_noted}
 use Rattle.sdb_causes.proofs.Lists.{each_kept}
+use Rattle.sdb_client.proofs.SeenRows.{none_below}
 
 ---- one key more
 
@@ -74,10 +74,6 @@ length_same (x ∷ xs) w t = by (same_key w.key x.key) t (length_same xs w)
     by true s ih = itself (length xs)
     by false s ih = same_up (length (with_write xs w)) (length xs) (ih s)
 
-or_none : (b : Bool) → (b || false) ≡ b
-or_none true = refl
-or_none false = refl
-
 -- the keys that are written then
 written_now : (ws : List Write) (w : Write) (q : Key) → is_written (with_write ws w) q ≡ (is_written ws q || same_key q w.key)
 written_now [] w q = by (same_key q w.key)
@@ -92,7 +88,7 @@ written_now (x ∷ xs) w q = by_test (same_key w.key x.key) there (later (writte
       where
         by : (b : Bool) (o : Option Write) → b ≡ same_key q w.key → is_some (if b then Some (with_change_of x w) else o) ≡ (is_some (if b then Some x else o) || same_key q w.key)
         by true o e = refl
-        by false o e = sym (or_none (is_some o)) ∙ ap (λ z. is_some o || z) e
+        by false o e = sym (or_false (is_some o)) ∙ ap (λ z. is_some o || z) e
 
     later : is_written (with_write xs w) q ≡ (is_written xs q || same_key q w.key) → same_key w.key x.key ≡ false → is_written (with_write (x ∷ xs) w) q ≡ (is_written (x ∷ xs) q || same_key q w.key)
     later rest f = ap (λ b. is_written (if b then with_change_of x w ∷ xs else x ∷ with_write xs w) q) f ∙ by (same_key q x.key) rest
@@ -217,12 +213,6 @@ known_few notes ws ks all = few (length (with_writes notes ws ks)) (left notes (
     few a b c d e l m = omega arith
 
 ---- the rows that a transaction sees
-
-none_below : (x : Key) (es : List (Key × List Pair)) → below_all key_cmp x es ≡ true → find key_cmp x es ≡ None
-none_below x [] h = refl
-none_below x (e ∷ es) h =
-    let parts = and_parts (is_lt (key_cmp x e.0)) (below_all key_cmp x es) h in
-    rw (less_of (key_cmp x e.0) parts.0, none_below x es parts.1) refl
 
 -- each entry is found
 pub found_all : (P : Key → List Pair → Type 0) (es : List (Key × List Pair)) → is_sorted key_cmp es ≡ true → ((q : Key) (cs : List Pair) → find key_cmp q es ≡ Some cs → P q cs) → AllByRecursion (λ (r : Image). P r.key r.columns) (map row_of_entry es)

@@ -3,7 +3,6 @@ use Rattle.std.proofs.Common.{◌≡◌, ◌≤◌, ◌+◌, ℕ, suc, Bool, tru
 use Rattle.std.specs.Prelude.{if◌then◌else◌, ◌&&◌, filter, is_some, nat_lt, slice_get, sum_by, unwrap_or, IfSome}
 use Rattle.std.specs.List.{AllByRecursion, cons_option, filter_map}
 use Rattle.std.specs.Option.{option_map_or}
-use Rattle.std.proofs.lemmas.Bool.Decides.{nat_tests}
 use Rattle.std.proofs.lemmas.List.{append-nil, length-map}
 use Rattle.std.proofs.lemmas.List.Elements.{filter-append}
 use Rattle.std.proofs.lemmas.List.Sums.{sum_by-append, sum_by-cons, sum_by-le-sum_by}
@@ -42,15 +41,9 @@ use Rattle.sdb_causes.specs.Filled.{IsFilled, IsFilledBy, IsFilledIn, counted_to
 use Rattle.sdb_causes.specs.Moves.{HasRead}
 use Rattle.sdb_causes.proofs.Filled.{IsKnown, known_few, length_all, rows_known}
 use Rattle.sdb_causes.proofs.Lists.{each_kept, since_more}
-use Rattle.sdb_causes.proofs.Passing.{found_grows}
+use Rattle.sdb_causes.proofs.Passing.{found_grows, through, least, records_in, over_more}
 use Rattle.sdb_causes.proofs.ReadSteps.{IsDataTable}
 use Rattle.sdb_causes.proofs.Settling.{data_read}
-
-through : (a b c : ℕ) → a ≤ b → b ≤ c → a ≤ c
-through a b c l m = omega arith
-
-pub least : (n : ℕ) → n ≤ n
-least n = omega arith
 
 pub zero_least : (n : ℕ) → 0 ≤ n
 zero_least n = omega arith
@@ -156,9 +149,6 @@ filled_noting counted found t (access.Scan span) images h = record { writes = h.
   where
     within : (a b x f : ℕ) → a ≤ b + x → b ≤ f → a ≤ f + x
     within a b x f k l = omega arith
-
-abbrev records_in : Made → ℕ
-records_in m = length (records_read m.reply)
 
 -- a read has no more images than records were found
 pub images_few : (a : Access) (calls : List Made) (images : List Record) → HasRead (request_of a) calls images [] → IsDataTable (access_table a) → length images ≤ records_found calls
@@ -276,23 +266,20 @@ too_is : (t : TxnAt) (ks : List Keyed) → too_many t ks ≡ true → nat_lt 409
 too_is t [] h = clash (sym h)
 too_is t (k ∷ ks) h = h
 
-over : (a b : ℕ) → a ≤ b → nat_lt 4096 a ≡ true → nat_lt 4096 b ≡ true
-over a b l h = grind (arith, nat_tests)
-
 known_changes : (notes : List Note) (ws : List Write) (f : Image → Keyed) → ((r : Image) → (f r).key ≡ r.key) → (rs : List Image) → AllByRecursion (λ (r : Image). IsKnown notes ws r.key) rs → AllByRecursion (λ (k : Keyed). IsKnown notes ws k.key) (map f rs)
 known_changes notes ws f same [] all = tt
 known_changes notes ws f same (r ∷ rs) all = (subst (IsKnown notes ws) (sym (same r)) all.0, known_changes notes ws f same rs all.1)
 
 -- one key more
 one_passes : (counted found : ℕ) (v : TxnAt) (k : Keyed) → IsFilledBy counted found v.seen → too_many v (k ∷ []) ≡ true → nat_lt 4096 (counted + 1) ≡ true
-one_passes counted found v k h many = over (length (with_writes v.seen.notes v.seen.writes (k ∷ []))) (counted + 1) (within (length (with_writes v.seen.notes v.seen.writes (k ∷ []))) (length v.seen.writes) counted (length_all v.seen.notes v.seen.writes (k ∷ [])) h.writes) many
+one_passes counted found v k h many = over_more (length (with_writes v.seen.notes v.seen.writes (k ∷ []))) (counted + 1) (within (length (with_writes v.seen.notes v.seen.writes (k ∷ []))) (length v.seen.writes) counted (length_all v.seen.notes v.seen.writes (k ∷ [])) h.writes) many
   where
     within : (a b f : ℕ) → a ≤ b + 1 → b ≤ f → a ≤ f + 1
     within a b f k l = omega arith
 
 -- those of rows that are seen
 rows_pass : (counted found : ℕ) (v : TxnAt) (ks : List Keyed) → IsFilledBy counted found v.seen → AllByRecursion (λ (k : Keyed). IsKnown v.seen.notes v.seen.writes k.key) ks → too_many v ks ≡ true → nat_lt 4096 (counted + found) ≡ true
-rows_pass counted found v ks h known many = over (length (with_writes v.seen.notes v.seen.writes ks)) (counted + found) (within (length (with_writes v.seen.notes v.seen.writes ks)) (length v.seen.writes) (records_noted v.seen.notes) counted found (known_few v.seen.notes v.seen.writes ks known) h.writes h.notes) (too_is v ks many)
+rows_pass counted found v ks h known many = over_more (length (with_writes v.seen.notes v.seen.writes ks)) (counted + found) (within (length (with_writes v.seen.notes v.seen.writes ks)) (length v.seen.writes) (records_noted v.seen.notes) counted found (known_few v.seen.notes v.seen.writes ks known) h.writes h.notes) (too_is v ks many)
   where
     within : (a b x f y : ℕ) → a ≤ b + x → b ≤ f → x ≤ y → a ≤ f + y
     within a b x f y k l m = omega arith

@@ -1,5 +1,5 @@
 -- Lists of what was said: where a transaction begins and ends among them, as they grow.
-use Rattle.std.proofs.Common.{◌≡◌, ◌+◌, ◌==◌, ◌⊎◌, inl, inr, ℕ, zero, suc, Bool, true, false, List, [], ◌∷◌, ◌++◌, Option, Some, None, refl, sym, ap, ◌∙◌, arith}
+use Rattle.std.proofs.Common.{◌≡◌, ◌+◌, ◌==◌, ◌⊎◌, inl, inr, ℕ, zero, suc, Bool, true, false, List, [], ◌∷◌, ◌++◌, Option, Some, None, refl, sym, ap, ◌∙◌, arith, map}
 use Rattle.std.specs.Prelude.{if◌then◌else◌, filter, find, Contains}
 use Rattle.std.specs.List.{AllByRecursion}
 use Rattle.std.proofs.lemmas.Bool.Decides.{nat_tests}
@@ -139,3 +139,7 @@ ending_front n ss w s e = by (from_begin n ss) refl
 pub ends_last : (body : List Said) (s : Said) → AllByRecursion (λ x. ends x ≡ false) body → ends s ≡ true → find ends (body ++ s ∷ []) ≡ Some s
 ends_last [] s all t = ap (λ b. if b then Some s else None) t
 ends_last (x ∷ xs) s all t = ap (λ b. if b then Some x else find ends (xs ++ s ∷ [])) all.0 ∙ ends_last xs s all.1 t
+
+pub map_more : {X Y : Type 0} (f : X → Y) (xs ys : List X) → map f (xs ++ ys) ≡ map f xs ++ map f ys
+map_more f [] ys = refl
+map_more f (x ∷ xs) ys = ap (λ r. f x ∷ r) (map_more f xs ys)

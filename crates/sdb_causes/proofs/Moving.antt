@@ -1,5 +1,5 @@
 -- Where a scan finds another version at a key than was noted there.
-use Rattle.std.proofs.Common.{◌≡◌, ◌==◌, ◌⊎◌, inl, inr, ℕ, ℤ, Bool, true, false, not, List, [], ◌∷◌, map, Option, Some, None, IfSome, refl, sym, ap, subst, ◌∙◌, arith}
+use Rattle.std.proofs.Common.{◌≡◌, ◌⊎◌, inl, inr, ℤ, Bool, true, false, not, List, [], ◌∷◌, map, Option, Some, None, IfSome, refl, sym, ap, subst, ◌∙◌}
 use Rattle.std.specs.Prelude.{if◌then◌else◌, ◌&&◌, ◌||◌, is_some, Contains}
 use Rattle.std.specs.List.{AllByRecursion, cons_option, filter_map, list_all}
 use Rattle.std.specs.Option.{option_and_then}
@@ -7,7 +7,6 @@ use Rattle.std.specs.Ordering.{is_eq}
 use Rattle.std.specs.Cmp.{eq_by_cmp_equiv}
 use Rattle.std.specs.declared.cmp.Ordering.TheVariants.{Less}
 use Rattle.std.proofs.lemmas.Bool.{and_parts}
-use Rattle.std.proofs.lemmas.Bool.Decides.{nat_tests}
 use Rattle.std.proofs.lemmas.List.{append-nil}
 use Rattle.sdb_types.specs.declared.txid.TxId.{TxId}
 use Rattle.sdb_types.specs.declared.key.Key.{Key}
@@ -21,11 +20,9 @@ use Rattle.sdb_types.specs.Columns.{column}
 use Rattle.sdb_types.specs.Contents.{CanAnswer, holds, in_span, is_version, rise, starts_after, tx_id}
 use Rattle.sdb_types.specs.Exact.{equal_of}
 use Rattle.sdb_types.specs.Order.{key_cmp}
-use Rattle.sdb_types.proofs.Basics.{by_test, clash, less_of, all_each as each_any}
+use Rattle.sdb_types.proofs.Basics.{by_test, clash, less_of, all_each as each_any, itself}
 use Rattle.sdb_types.proofs.KeyOrder.{key_exact, key_total}
 use Rattle.sdb_keyed.specs.Entries as keyed
-use Rattle.sdb_record.specs.declared.access.Access.{Access}
-use Rattle.sdb_record.specs.declared.access.Access.TheVariants as access
 use Rattle.sdb_record.specs.declared.access.Read.{Read}
 use Rattle.sdb_record.specs.declared.access.Scan.{Scan}
 use Rattle.sdb_record.specs.Meta.{id_in}
@@ -43,12 +40,11 @@ use Rattle.sdb_turns.specs.Noted.{IsFoundOk, IsReadOk, is_found, was_found, was_
 use Rattle.sdb_record.specs.declared.write.Write.{Write}
 use Rattle.sdb_snapshot.specs.Held.{AreKept}
 use Rattle.sdb_turns.proofs.Lists.{each_both}
-use Rattle.sdb_txn.specs.declared.txn.Doing.TheVariants as doing
 use Rattle.sdb_txn.specs.Txn.{TxnAt, work_of}
-use Rattle.sdb_client.specs.Client.{noting}
 use Rattle.sdb_validate.specs.Rescan.{reads_rise}
 use Rattle.sdb_causes.specs.Moves.{HasRead, IsNotedAt, IsRows, IsSettledAs, SeenBy, TellOne, WorkBy}
-use Rattle.sdb_causes.proofs.Settling.{id_fits, resolved_as}
+use Rattle.sdb_causes.proofs.Settling.{resolved_as, settled_keys}
+use Rattle.sdb_record.proofs.IdLemmas.{id_in_value-fits}
 
 ---- the record of a key
 
@@ -82,10 +78,6 @@ absent k (x ∷ es) keys all = by x.1 keys.0 (absent k es keys.1 all.1)
     by None same ih = ih
     by (Some b) same ih = ap (λ t. if t then Some b else record_in (filter_map (λ (e : Record × Option Record). e.1) es) k) (apart b same) ∙ ih
 
-keys_of : (calls : List Made) (es : List (Record × Option Record)) → AllByRecursion (IsSettledAs calls) es → AllByRecursion (λ e. IfSome e.1 (λ b. b.key ≡ e.0.key)) es
-keys_of calls [] all = tt
-keys_of calls (x ∷ es) all = (all.0.key, keys_of calls es all.1)
-
 -- the record of a key among those that a scan found, settled, is that among its images
 scan_found : (calls : List Made) (k : Key) (es : List (Record × Option Record)) → TellOne calls → AllByRecursion (IsSettledAs calls) es → rise (map (λ e. e.0) es) ≡ true → option_and_then (resolved calls) (record_among (map (λ e. e.0) es) k) ≡ record_in (filter_map (λ (e : Record × Option Record). e.1) es) k
 scan_found calls k [] one all r = refl
@@ -95,7 +87,7 @@ scan_found calls k (x ∷ es) one all r = by (is_eq (key_cmp x.0.key k)) refl (s
     rest = and_parts (starts_after x.0.key (map (λ e. e.0) es)) (rise (map (λ e. e.0) es)) r
 
     here : (o : Option Record) → IfSome o (λ b. b.key ≡ x.0.key) → x.0.key ≡ k → o ≡ record_in (cons_option o (filter_map (λ (e : Record × Option Record). e.1) es)) k
-    here None same e = sym (absent k es (keys_of calls es all.1) (subst (λ (z : Key). AreBehind z es) e (behind x.0.key es rest.0 rest.1)))
+    here None same e = sym (absent k es (settled_keys calls es all.1) (subst (λ (z : Key). AreBehind z es) e (behind x.0.key es rest.0 rest.1)))
     here (Some b) same e = sym (ap (λ t. if t then Some b else record_in (filter_map (λ (e : Record × Option Record). e.1) es) k) (ap (λ (z : Key). keyed.same_key k z) (same ∙ e) ∙ same_itself k))
 
     there : (o : Option Record) → IfSome o (λ b. b.key ≡ x.0.key) → is_eq (key_cmp x.0.key k) ≡ false → record_in (filter_map (λ (e : Record × Option Record). e.1) es) k ≡ record_in (cons_option o (filter_map (λ (e : Record × Option Record). e.1) es)) k
@@ -122,9 +114,6 @@ scan_shows calls span images k h one = by h.first.reply refl h.can h.told
 
 ---- versions
 
-same_id : (n : ℕ) → (n == n) ≡ true
-same_id n = grind (arith, nat_tests)
-
 -- a record of another version than one that was noted has moved
 pub has_moved_is : (noted found : Option Record) → has_moved (Some noted) found ≡ true → Moved found (version_of noted)
 has_moved_is None None e = clash (sym e)
@@ -140,7 +129,7 @@ has_moved_is (Some n) found e = by_noted (id_in n.columns) refl e
     with_id id k (Some r) t = by_test (is_version id state.Committed r) (λ v. absurd (same v)) (λ v. v)
       where
         same : is_version id state.Committed r ≡ true → ⊥
-        same v = clash (sym t ∙ ap (λ o. not (same_version (Some id) o)) (version-writer r id state.Committed (id_fits (column n.columns tx_id) id k) v) ∙ ap not (same_id id.0))
+        same v = clash (sym t ∙ ap (λ o. not (same_version (Some id) o)) (version-writer r id state.Committed (id_in_value-fits (column n.columns tx_id) id k) v) ∙ ap not (itself id.0))
 
     without : (f : Option Record) → not (same_version None (version_of f)) ≡ true → holds (condition_of None) f ≡ false
     without None t = clash (sym t)
@@ -220,11 +209,3 @@ work_by notes t now s k = record {
 }
 
 ---- what a read leaves
-
-pub noting_id : (t : TxnAt) (a : Access) (images : List Record) → (noting t a images).id ≡ t.id
-noting_id t (access.Get key) images = refl
-noting_id t (access.Scan span) images = refl
-
-pub noting_idle : (t : TxnAt) (a : Access) (images : List Record) → (noting t a images).doing ≡ doing.Idle
-noting_idle t (access.Get key) images = refl
-noting_idle t (access.Scan span) images = refl

@@ -17,7 +17,7 @@ use Rattle.sdb_model.specs.declared.answer.Answer.{Answer}
 use Rattle.sdb_model.specs.declared.answer.Answer.TheVariants as answer
 use Rattle.sdb_model.specs.declared.event.Event.{Event}
 use Rattle.sdb_model.specs.Calls.{calls_of}
-use Rattle.sdb_model.specs.Noted.{Got, Note, Scanned, noted_in, notes_in}
+use Rattle.sdb_model.specs.Noted.{Got, Note, Scanned, noted_in, notes_in, is_from_rows}
 use Rattle.sdb_model.specs.Sql.{reads_commit}
 use Rattle.sdb_model.specs.Transactions.{Said, begins, body, client_of, ends, from_begin, id_of, is_conflict, is_effective, ordinal_of, rest_of, said}
 use Rattle.sdb_snapshot.specs.Seen.{Seen}
@@ -25,7 +25,7 @@ use Rattle.sdb_txn.specs.Txn.{TxnAt}
 use Rattle.sdb_turns.proofs.Lists.{each_more}
 use Rattle.sdb_types.proofs.Basics.{clash, all_each as each_any}
 use Rattle.sdb_causes.specs.Tied.{IsAnswered, IsOpenAs}
-use Rattle.sdb_causes.specs.Moves.{AllTellOne, AreMoved, IsMovedIn, MovesBy, SeenBy, TellOne, is_told, notes_told}
+use Rattle.sdb_causes.specs.Moves.{AllTellOne, AreMoved, IsMovedIn, MovesBy, SeenBy, TellOne, notes_told}
 use Rattle.sdb_causes.proofs.Calls.{calls_stay}
 use Rattle.sdb_causes.proofs.Lists.{since_more}
 
@@ -64,27 +64,27 @@ take_ends s more e = take_while-cons (λ x. not (ends x)) s more ∙ ap (λ b. c
 -- what a transaction noted, whose statements since its BEGIN these are
 pub noted_since : (events : List Event) (c n : ℕ) (b : Said) (rest : List Said) → n < 2 ^ 64 → from_begin n (said c events) ≡ b ∷ rest → noted_in events (id_of c n) ≡ notes_told events c (take_while (λ s. not (ends s)) rest)
 noted_since events c n b rest small since =
-    ap (λ d. flat_map (λ s. notes_in (calls_of events d s)) (filter is_told (body events (id_of c n)))) (client_is c n small)
-    ∙ ap (λ ss. flat_map (λ s. notes_in (calls_of events c s)) (filter is_told (filter is_effective (take_while (λ s. not (ends s)) (rest_of ss)))))
+    ap (λ d. flat_map (λ s. notes_in (calls_of events d s)) (filter is_from_rows (body events (id_of c n)))) (client_is c n small)
+    ∙ ap (λ ss. flat_map (λ s. notes_in (calls_of events c s)) (filter is_from_rows (filter is_effective (take_while (λ s. not (ends s)) (rest_of ss)))))
     (ap (λ d. from_begin (ordinal_of (id_of c n)) (said d events)) (client_is c n small) ∙ ap (λ k. from_begin k (said c events)) (ordinal_is c n small) ∙ since)
 
 ---- as events come
 
-told_stay : (catalog : List Table) (events : List Event) (e : Event) (c : ℕ) (ss : List Said) → AllByRecursion (IsAnswered catalog events c) ss → flat_map (λ s. notes_in (calls_of (events ++ e ∷ []) c s)) (filter is_told (filter is_effective ss)) ≡ flat_map (λ s. notes_in (calls_of events c s)) (filter is_told (filter is_effective ss))
+told_stay : (catalog : List Table) (events : List Event) (e : Event) (c : ℕ) (ss : List Said) → AllByRecursion (IsAnswered catalog events c) ss → flat_map (λ s. notes_in (calls_of (events ++ e ∷ []) c s)) (filter is_from_rows (filter is_effective ss)) ≡ flat_map (λ s. notes_in (calls_of events c s)) (filter is_from_rows (filter is_effective ss))
 told_stay catalog events e c [] all = refl
-told_stay catalog events e c (s ∷ ss) all = by (is_effective s) (is_told s) (told_stay catalog events e c ss all.1)
+told_stay catalog events e c (s ∷ ss) all = by (is_effective s) (is_from_rows s) (told_stay catalog events e c ss all.1)
   where
     same : notes_in (calls_of (events ++ e ∷ []) c s) ≡ notes_in (calls_of events c s)
     same = ap notes_in (calls_stay c events e s all.0.given all.0.is all.0.answered)
 
-    by_told : (t : Bool) → flat_map (λ x. notes_in (calls_of (events ++ e ∷ []) c x)) (filter is_told (filter is_effective ss)) ≡ flat_map (λ x. notes_in (calls_of events c x)) (filter is_told (filter is_effective ss))
-        → flat_map (λ x. notes_in (calls_of (events ++ e ∷ []) c x)) (if t then s ∷ filter is_told (filter is_effective ss) else filter is_told (filter is_effective ss)) ≡ flat_map (λ x. notes_in (calls_of events c x)) (if t then s ∷ filter is_told (filter is_effective ss) else filter is_told (filter is_effective ss))
-    by_told true ih = ap (λ ns. ns ++ flat_map (λ x. notes_in (calls_of (events ++ e ∷ []) c x)) (filter is_told (filter is_effective ss))) same ∙ ap (λ ns. notes_in (calls_of events c s) ++ ns) ih
+    by_told : (t : Bool) → flat_map (λ x. notes_in (calls_of (events ++ e ∷ []) c x)) (filter is_from_rows (filter is_effective ss)) ≡ flat_map (λ x. notes_in (calls_of events c x)) (filter is_from_rows (filter is_effective ss))
+        → flat_map (λ x. notes_in (calls_of (events ++ e ∷ []) c x)) (if t then s ∷ filter is_from_rows (filter is_effective ss) else filter is_from_rows (filter is_effective ss)) ≡ flat_map (λ x. notes_in (calls_of events c x)) (if t then s ∷ filter is_from_rows (filter is_effective ss) else filter is_from_rows (filter is_effective ss))
+    by_told true ih = ap (λ ns. ns ++ flat_map (λ x. notes_in (calls_of (events ++ e ∷ []) c x)) (filter is_from_rows (filter is_effective ss))) same ∙ ap (λ ns. notes_in (calls_of events c s) ++ ns) ih
     by_told false ih = ih
 
-    by : (f t : Bool) → flat_map (λ x. notes_in (calls_of (events ++ e ∷ []) c x)) (filter is_told (filter is_effective ss)) ≡ flat_map (λ x. notes_in (calls_of events c x)) (filter is_told (filter is_effective ss))
-        → flat_map (λ x. notes_in (calls_of (events ++ e ∷ []) c x)) (filter is_told (if f then s ∷ filter is_effective ss else filter is_effective ss)) ≡ flat_map (λ x. notes_in (calls_of events c x)) (filter is_told (if f then s ∷ filter is_effective ss else filter is_effective ss))
-    by true t ih = by_told (is_told s) ih
+    by : (f t : Bool) → flat_map (λ x. notes_in (calls_of (events ++ e ∷ []) c x)) (filter is_from_rows (filter is_effective ss)) ≡ flat_map (λ x. notes_in (calls_of events c x)) (filter is_from_rows (filter is_effective ss))
+        → flat_map (λ x. notes_in (calls_of (events ++ e ∷ []) c x)) (filter is_from_rows (if f then s ∷ filter is_effective ss else filter is_effective ss)) ≡ flat_map (λ x. notes_in (calls_of events c x)) (filter is_from_rows (if f then s ∷ filter is_effective ss else filter is_effective ss))
+    by true t ih = by_told (is_from_rows s) ih
     by false t ih = ih
 
 -- what was noted stays
@@ -109,14 +109,14 @@ each_last P (x ∷ ss) s all = each_last P ss s all.1
 -- what it noted stands behind what was noted
 pub notes_more : (events : List Event) (c : ℕ) (ss : List Said) (s : Said) → notes_told events c (ss ++ s ∷ []) ≡ notes_told events c ss ++ notes_told events c (s ∷ [])
 notes_more events c ss s =
-    ap (λ xs. flat_map (λ x. notes_in (calls_of events c x)) (filter is_told xs)) (filter-append is_effective ss (s ∷ []))
-    ∙ ap (flat_map (λ x. notes_in (calls_of events c x))) (filter-append is_told (filter is_effective ss) (filter is_effective (s ∷ [])))
-    ∙ flat_map-append (λ x. notes_in (calls_of events c x)) (filter is_told (filter is_effective ss)) (filter is_told (filter is_effective (s ∷ [])))
+    ap (λ xs. flat_map (λ x. notes_in (calls_of events c x)) (filter is_from_rows xs)) (filter-append is_effective ss (s ∷ []))
+    ∙ ap (flat_map (λ x. notes_in (calls_of events c x))) (filter-append is_from_rows (filter is_effective ss) (filter is_effective (s ∷ [])))
+    ∙ flat_map-append (λ x. notes_in (calls_of events c x)) (filter is_from_rows (filter is_effective ss)) (filter is_from_rows (filter is_effective (s ∷ [])))
 
 -- of one that was answered from rows that is what its calls noted
-pub notes_one : (events : List Event) (c : ℕ) (s : Said) → is_effective s ≡ true → is_told s ≡ true → notes_told events c (s ∷ []) ≡ notes_in (calls_of events c s)
+pub notes_one : (events : List Event) (c : ℕ) (s : Said) → is_effective s ≡ true → is_from_rows s ≡ true → notes_told events c (s ∷ []) ≡ notes_in (calls_of events c s)
 notes_one events c s e t =
-    ap (λ b. flat_map (λ x. notes_in (calls_of events c x)) (filter is_told (if b then s ∷ [] else []))) e
+    ap (λ b. flat_map (λ x. notes_in (calls_of events c x)) (filter is_from_rows (if b then s ∷ [] else []))) e
     ∙ ap (λ b. flat_map (λ x. notes_in (calls_of events c x)) (if b then s ∷ [] else [])) t
     ∙ append-nil (notes_in (calls_of events c s))
 

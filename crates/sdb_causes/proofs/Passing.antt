@@ -13,7 +13,7 @@ use Rattle.sdb_model.specs.declared.event.Event.TheVariants as event
 use Rattle.sdb_model.specs.declared.statement.Statement.{Statement}
 use Rattle.sdb_model.specs.declared.statement.Statement.TheVariants as statement
 use Rattle.sdb_model.specs.Calls.{Made, calls_by, calls_of, made_by, records_read}
-use Rattle.sdb_model.specs.Causes.{MayPassMost, body_before, may_pass, records_found, rows_counted}
+use Rattle.sdb_model.specs.Causes.{MayPassMost, body_before, may_pass, records_found, rows_counted, counted_by}
 use Rattle.sdb_model.specs.Noted.{reads_rows}
 use Rattle.sdb_model.specs.Sql.{Reads}
 use Rattle.sdb_model.specs.Transactions.{Said, client_of, ends, from_begin, id_of, is_effective, ordinal_of, rest_of, said, said_after, through_end, with_answer}
@@ -181,10 +181,10 @@ before_apart f n s ss x later =
     none y (inl e) = ap (kept s) e
     none y (inr e) = ap (kept s) e ∙ one (is_effective x)
 
-least : (n : ℕ) → n ≤ n
+pub least : (n : ℕ) → n ≤ n
 least n = omega arith
 
-through : (a b c : ℕ) → a ≤ b → b ≤ c → a ≤ c
+pub through : (a b c : ℕ) → a ≤ b → b ≤ c → a ≤ c
 through a b c l m = omega arith
 
 -- a statement that was answered stands before one that waits
@@ -262,7 +262,7 @@ calls_grow c events e b = by b.answer refl
           ∙ ap (λ ms. ms ++ filter (λ m. nat_lt b.taken m.at) (call_in c events e)) (sym (calls_open c events b (end_waiting events b is))),
     )
 
-abbrev records_in : Made → ℕ
+abbrev pub records_in : Made → ℕ
 records_in m = length (records_read m.reply)
 
 -- and none less is found
@@ -277,7 +277,7 @@ found_grows c events e b = let g = calls_grow c events e b in subst (λ ms. reco
 
 ---- more than the most keys
 
-over_more : (a b : ℕ) → a ≤ b → nat_lt 4096 a ≡ true → nat_lt 4096 b ≡ true
+pub over_more : (a b : ℕ) → a ≤ b → nat_lt 4096 a ≡ true → nat_lt 4096 b ≡ true
 over_more a b l h = grind (arith, nat_tests)
 
 passes_more : (a b x y : ℕ) (st : Statement) → a ≤ b → x ≤ y → may_pass a x st ≡ true → may_pass b y st ≡ true
@@ -291,9 +291,6 @@ passes_more a b x y statement.Commit l m h = absurd (cc)
 passes_more a b x y statement.Rollback l m h = absurd (cc)
 passes_more a b x y statement.Vacuum l m h = absurd (cc)
 
-abbrev rows_of : Said → ℕ
-rows_of b = rows_counted b.answer
-
 abbrev found_at : List Event → ℕ → TxId → Said → ℕ
 found_at es c id s = sum_by (λ b. records_found (calls_of es c b)) (body_before es id s)
 
@@ -304,7 +301,7 @@ pass_stays c events e s a grows is h = record {
   statement = h.statement;
   within = (h.within.0, in_grows (ordinal_of h.id) (said (client_of h.id) events) (said (client_of h.id) (events ++ e ∷ [])) s a is grows_id h.within.1);
   read = h.read;
-  past = passes_more (sum_by rows_of (body_before events h.id s)) (sum_by rows_of (body_before (events ++ e ∷ []) h.id s)) (found_at events c h.id s + records_found (calls_of events c s)) (found_at (events ++ e ∷ []) c h.id s + records_found (calls_of (events ++ e ∷ []) c s)) h.statement counted (sums (found_at events c h.id s) (found_at (events ++ e ∷ []) c h.id s) (records_found (calls_of events c s)) (records_found (calls_of (events ++ e ∷ []) c s)) found (found_grows c events e s)) h.past;
+  past = passes_more (sum_by counted_by (body_before events h.id s)) (sum_by counted_by (body_before (events ++ e ∷ []) h.id s)) (found_at events c h.id s + records_found (calls_of events c s)) (found_at (events ++ e ∷ []) c h.id s + records_found (calls_of (events ++ e ∷ []) c s)) h.statement counted (sums (found_at events c h.id s) (found_at (events ++ e ∷ []) c h.id s) (records_found (calls_of events c s)) (records_found (calls_of (events ++ e ∷ []) c s)) found (found_grows c events e s)) h.past;
 }
   where
     sums : (a b x y : ℕ) → a ≤ b → x ≤ y → a + x ≤ b + y
@@ -324,8 +321,8 @@ pass_stays c events e s a grows is h = record {
     grown : (f : Said → ℕ) → sum_by f (body_before events h.id s) ≤ sum_by f (body_before (events ++ e ∷ []) h.id s)
     grown f = before_grows f (ordinal_of h.id) s (said (client_of h.id) events) (said (client_of h.id) (events ++ e ∷ [])) waits_later grows_id
 
-    counted : sum_by rows_of (body_before events h.id s) ≤ sum_by rows_of (body_before (events ++ e ∷ []) h.id s)
-    counted = grown rows_of
+    counted : sum_by counted_by (body_before events h.id s) ≤ sum_by counted_by (body_before (events ++ e ∷ []) h.id s)
+    counted = grown counted_by
 
     found : found_at events c h.id s ≤ found_at (events ++ e ∷ []) c h.id s
     found = through (found_at events c h.id s) (sum_by (λ b. records_found (calls_of (events ++ e ∷ []) c b)) (body_before events h.id s)) (found_at (events ++ e ∷ []) c h.id s) (sum_by-le-sum_by (λ b. records_found (calls_of events c b)) (λ b. records_found (calls_of (events ++ e ∷ []) c b)) (body_before events h.id s) (found_grows c events e)) (grown (λ b. records_found (calls_of (events ++ e ∷ []) c b)))

@@ -9,7 +9,7 @@ use Rattle.sdb_types.specs.declared.record.Record.{Record}
 use Rattle.sdb_types.specs.declared.record.Request.{Request}
 use Rattle.sdb_types.specs.declared.record.Request.TheVariants as ask
 use Rattle.sdb_types.specs.declared.txid.TxId.{TxId}
-use Rattle.sdb_types.proofs.Basics.{clash, some_is, all_each as each_any}
+use Rattle.sdb_types.proofs.Basics.{clash, some_is, all_each as each_any, length_more, id_fits}
 use Rattle.sdb_record.specs.declared.access.Access.{Access}
 use Rattle.sdb_record.specs.declared.access.Access.TheVariants as access
 use Rattle.sdb_record.specs.declared.access.Read.{Read}
@@ -75,14 +75,14 @@ use Rattle.sdb_causes.proofs.Conflicts.{checks_on, starved_checks}
 use Rattle.sdb_causes.specs.Reads.{IsBusyBy, LedBy, ReadsBy}
 use Rattle.sdb_causes.specs.Sweeps.{SweptBy, VacuumBy}
 use Rattle.sdb_causes.proofs.SweepSteps.{IfMore, SweepLed, SweepsData, step_led}
-use Rattle.sdb_causes.proofs.Moving.{IsTold, differs_moved, noting_id, noting_idle, scan_shows}
+use Rattle.sdb_causes.proofs.Moving.{IsTold, differs_moved, scan_shows}
 use Rattle.sdb_causes.proofs.Noting.{each_front, each_last, moved_all, moved_still, noted_more, noted_still, notes_more, notes_one, notes_stay, seen_same, since_all, tell_back, unmoved}
 use Rattle.sdb_causes.proofs.Settling.{read_noted, data_read}
 use Rattle.sdb_causes.proofs.Showing.{IsOpenAt, shows_on}
-use Rattle.sdb_causes.proofs.Ends.{next_by, ended_is, told_end, conflict_of, commit_is, id_fits, first_in, outcome_caused, outcome_tells}
-use Rattle.sdb_causes.proofs.Calls.{before_same, call_said, calls_open, clock_more, end_answered, end_waiting, later_calls, later_more, later_within, length_more, made_at, own_made, silent_said, within_more, one_made}
-use Rattle.sdb_causes.proofs.Filling.{filled_few, filled_found, filled_given, filled_idle, filled_more, filled_noting, filled_stays, images_few, least, passes_given}
-use Rattle.sdb_causes.proofs.Passing.{pass_now}
+use Rattle.sdb_causes.proofs.Ends.{next_by, ended_is, told_end, conflict_of, commit_is, first_in, outcome_caused, outcome_tells}
+use Rattle.sdb_causes.proofs.Calls.{before_same, call_said, calls_open, clock_more, end_answered, end_waiting, later_calls, later_more, later_within, made_at, own_made, silent_said, within_more, one_made}
+use Rattle.sdb_causes.proofs.Filling.{filled_few, filled_found, filled_given, filled_idle, filled_more, filled_noting, filled_stays, images_few, passes_given}
+use Rattle.sdb_causes.proofs.Passing.{pass_now, least}
 use Rattle.sdb_causes.proofs.Unfit.{fits_now, given_fits, misfit_read, shown_bad}
 use Rattle.sdb_causes.proofs.Given.{IsMiddle, given_caused, given_middle, gives_rows, left_by, unfit_data}
 use Rattle.sdb_causes.proofs.Knowing.{after_end, after_more, after_plain, open_more}
@@ -98,6 +98,7 @@ use Rattle.sdb_causes.proofs.ShowsTold.{ShowsNext, next_same, showing_stays, sho
 use Rattle.sdb_causes.proofs.ShowsTurn.{read_next}
 use Rattle.sdb_causes.proofs.Takings.{left_id, left_idle, middle_ends}
 use Rattle.sdb_types.specs.Replies.{is_fault}
+use Rattle.sdb_client.proofs.Calls.{noting_idle, noting_id}
 
 ---- the call
 

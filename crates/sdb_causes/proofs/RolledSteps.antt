@@ -15,7 +15,7 @@ use Rattle.sdb_types.specs.declared.record.Request.{Request}
 use Rattle.sdb_types.specs.declared.record.Request.TheVariants as ask
 use Rattle.sdb_types.specs.declared.record.Span.{Span}
 use Rattle.sdb_types.specs.declared.record.State.TheVariants as state
-use Rattle.sdb_types.proofs.Basics.{clash, none_some, some_is}
+use Rattle.sdb_types.proofs.Basics.{clash, none_some, some_is, one_of}
 use Rattle.sdb_record.specs.declared.coordinator.Decided.{Decided}
 use Rattle.sdb_record.specs.declared.coordinator.Decision.{Decision}
 use Rattle.sdb_record.specs.declared.coordinator.Decision.TheVariants as decision
@@ -39,7 +39,7 @@ use Rattle.sdb_phases.specs.declared.step.RecoverStep.TheVariants as steps
 use Rattle.sdb_phases.specs.Recover.{recover_back, recover_forward, recover_next, recover_request_at, roll_to, stands_found, undecided}
 use Rattle.sdb_phases.specs.Work.{abort_of, look_of, undo}
 use Rattle.sdb_read.specs.Read.{Asking, Bad, Ended, Firm, Kind, Open, ReadStage, Resolving, answered, kind_of, read_pending_at, read_step, resolved, settle, settle_one}
-use Rattle.sdb_turns.proofs.Meta.{held_of, meta_of}
+use Rattle.sdb_turns.proofs.Meta.{meta_of}
 use Rattle.sdb_vacuum.specs.declared.work.VacuumStep.{VacuumStep}
 use Rattle.sdb_vacuum.specs.declared.work.VacuumStep.TheVariants as sweep
 use Rattle.sdb_vacuum.specs.Vacuum as vacuum
@@ -47,9 +47,9 @@ use Rattle.sdb_vacuum.specs.Vacuum.{First, Malformed, Nothing, Tombstone, Unreso
 use Rattle.sdb_causes.specs.Rolled.{HasLooked, IsDealtWith, IsRolledBy, PhaseLooks, ReadRolls, RolledBut, SweepRolls}
 use Rattle.sdb_causes.proofs.ReadSteps.{open_is, prepared_moment}
 use Rattle.sdb_causes.proofs.Rows.{after_last, after_more, asks_row, shown_is}
-use Rattle.sdb_causes.proofs.Settling.{one_of}
 use Rattle.sdb_causes.proofs.Showing.{firm_is, look_rows, undo_unread, unread_rows}
 use Rattle.sdb_types.specs.Replies.{is_answered}
+use Rattle.sdb_read.proofs.Images.{held_of}
 
 ---- what rolls a record
 

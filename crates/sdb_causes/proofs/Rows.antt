@@ -28,16 +28,13 @@ use Rattle.sdb_model.specs.Causes.{HasReply, IsBad, IsDecided, PutsRow}
 use Rattle.sdb_laws.specs.Lawful.{is_data}
 use Rattle.sdb_causes.specs.Commits.{IsBadRow, IsGivenUp, NoneOfRow, ShowsBad}
 use Rattle.sdb_causes.proofs.Lists.{each_in, each_kept}
+use Rattle.sdb_story.proofs.Noting.{coordinators}
 
 ---- keys
 
-pub row_table : (id : TxId) → is_coordinator_table (coordinator_key_of id).table ≡ true
-unfolding coordinator_key_of
-row_table id = refl
-
 -- the key of a record of a table is no coordinator key
 pub data_apart : (id : TxId) (k : Key) → is_data k ≡ true → is_eq (key_cmp k (coordinator_key_of id)) ≡ false
-data_apart id k h = by_test (is_eq (key_cmp k (coordinator_key_of id))) (λ t. clash (sym h ∙ ap (λ (x : Key). is_data x) (key_exact k (coordinator_key_of id) (equal_of _ t)) ∙ ap not (row_table id))) (λ f. f)
+data_apart id k h = by_test (is_eq (key_cmp k (coordinator_key_of id))) (λ t. clash (sym h ∙ ap (λ (x : Key). is_data x) (key_exact k (coordinator_key_of id) (equal_of _ t)) ∙ ap not (coordinators id))) (λ f. f)
 
 pub row_same : (id : TxId) → is_eq (key_cmp (coordinator_key_of id) (coordinator_key_of id)) ≡ true
 row_same id = ap is_eq (tied_itself key_total (coordinator_key_of id))
@@ -152,7 +149,7 @@ none_puts id d calls none = each_any (λ (m : Made). is_of_row id m.request ≡ 
 ---- rows that aren't well formed
 
 pub bad_row : (id : TxId) (row : Record) (name : List ℕ) → row.key ≡ coordinator_key_of id → decision_in row ≡ Err name → IsBadRow row
-bad_row id row name same e = subst (λ b. MatchBool b ((x : List ℕ) × (decision_in row ≡ Err x)) (is_taken row ≡ false)) (sym (ap (λ (k : Key). is_coordinator_table k.table) same ∙ row_table id)) (name, e)
+bad_row id row name same e = subst (λ b. MatchBool b ((x : List ℕ) × (decision_in row ≡ Err x)) (is_taken row ≡ false)) (sym (ap (λ (k : Key). is_coordinator_table k.table) same ∙ coordinators id)) (name, e)
 
 -- and is of no form of records
 pub bad_of_row : (row : Record) → is_coordinator_table row.key.table ≡ true → IsBadRow row → IsBad row
@@ -163,7 +160,7 @@ bad_of_row row t h = by (is_coordinator_table row.key.table) t h
     by false e k = clash (sym e)
 
 pub bad_is_bad : (id : TxId) (row : Record) → row.key ≡ coordinator_key_of id → IsBadRow row → IsBad row
-bad_is_bad id row same h = bad_of_row row (ap (λ (k : Key). is_coordinator_table k.table) same ∙ row_table id) h
+bad_is_bad id row same h = bad_of_row row (ap (λ (k : Key). is_coordinator_table k.table) same ∙ coordinators id) h
 
 pub shows_bad_row : (id : TxId) (calls : List Made) (m : Made) (row : Record) (name : List ℕ) → records_shown m.reply ≡ row ∷ [] → row.key ≡ coordinator_key_of id → decision_in row ≡ Err name → ShowsBad (calls ++ m ∷ []) (coordinator_key_of id)
 shows_bad_row id calls m row name shown same e = record { call = m; found = row; among = Contains-push calls m; shown = subst (λ rs. Contains rs row) (sym shown) (Contains-push [] row); same = same; bad = bad_row id row name same e }

@@ -5,7 +5,7 @@ use Rattle.std.specs.List.{AllByRecursion, cons_option, filter_map, list_all}
 use Rattle.std.specs.Option.{option_and_then, option_map}
 use Rattle.std.proofs.lemmas.Bool.{and_parts}
 use Rattle.std.proofs.lemmas.List.{append-nil}
-use Rattle.std.proofs.lemmas.List.Elements.{Contains-append_left, Contains-append_cases, Contains-append_right, Contains-push, Contains-push_cases}
+use Rattle.std.proofs.lemmas.List.Elements.{Contains-append_left, Contains-append_right, Contains-push}
 use Rattle.sdb_types.specs.declared.txid.TxId.{TxId}
 use Rattle.sdb_types.specs.declared.key.Key.{Key}
 use Rattle.sdb_types.specs.declared.record.Record.{Record}
@@ -15,11 +15,9 @@ use Rattle.sdb_types.specs.declared.record.Request.{Request}
 use Rattle.sdb_types.specs.declared.record.Request.TheVariants as ask
 use Rattle.sdb_types.specs.declared.record.Span.{Span}
 use Rattle.sdb_types.specs.declared.record.State.TheVariants as state
-use Rattle.sdb_types.specs.declared.value.Value.{Value}
-use Rattle.sdb_types.specs.declared.value.Value.TheVariants as value
 use Rattle.sdb_types.specs.Columns.{column}
 use Rattle.sdb_types.specs.Contents.{CanAnswer, in_span, rise, tx_id}
-use Rattle.sdb_types.proofs.Basics.{clash, none_some, all_each as each_any}
+use Rattle.sdb_types.proofs.Basics.{clash, none_some, all_each as each_any, one_of}
 use Rattle.sdb_record.specs.declared.access.Access.{Access}
 use Rattle.sdb_record.specs.declared.access.Access.TheVariants as access
 use Rattle.sdb_record.specs.declared.access.Read.{Read}
@@ -29,7 +27,7 @@ use Rattle.sdb_record.specs.Coordinator.{is_coordinator_table}
 use Rattle.sdb_record.specs.Meta.{id_in, id_in_value, is_in}
 use Rattle.sdb_record.specs.Moved.{version_of}
 use Rattle.sdb_record.specs.Rolls.{image_under}
-use Rattle.sdb_record.proofs.IdLemmas.{id_of_text-is}
+use Rattle.sdb_record.proofs.IdLemmas.{id_in_value-fits}
 use Rattle.sdb_record.proofs.ImageLaws.{image-open, image-settled}
 use Rattle.sdb_model.specs.Calls.{Made, decision_learned, decision_shown, is_read, records_read}
 use Rattle.sdb_model.specs.Events.{table_asked}
@@ -44,20 +42,6 @@ use Rattle.sdb_causes.specs.Moves.{HasRead, HasShown, IsRolledAs, IsRows, IsSett
 use Rattle.sdb_causes.proofs.ReadSteps.{IsDataTable}
 
 ---- what calls learned
-
-pub one_of : {X : Type 0} (x y : X) (xs : List X) → Contains (x ∷ xs) y → (x ≡ y) ⊎ Contains xs y
-one_of {X = X} x y xs has = by (Contains-append_cases (x ∷ []) xs y has)
-  where
-    none : Contains {X = X} [] y → ⊥
-    none h = absurd (omega (arith, h.1))
-
-    first : Contains [] y ⊎ (x ≡ y) → (x ≡ y) ⊎ Contains xs y
-    first (inl h) = absurd (none h)
-    first (inr h) = inl h
-
-    by : Contains (x ∷ []) y ⊎ Contains xs y → (x ≡ y) ⊎ Contains xs y
-    by (inl h) = first (Contains-push_cases [] x y h)
-    by (inr h) = inr h
 
 -- where a call shows a decision, some call shows the one that is learned
 learned_some : (id : TxId) (calls : List Made) (call : Made) (d : Decided) → Contains calls call → decision_shown id call ≡ Some d → (x : Made) × (e : Decided) × Contains calls x × (decision_shown id x ≡ Some e) × (decision_learned calls id ≡ Some e)
@@ -76,11 +60,6 @@ learned_some id (m ∷ ms) call d has shown = by (decision_shown id m) refl (λ 
 pub learned_one : (calls : List Made) (id : TxId) (d : Decided) → id.0 < 2 ^ 128 → TellOne calls → HasShown calls id d → decision_learned calls id ≡ Some d
 learned_one calls id d fits one h = let r = learned_some id calls h.call d h.among h.shown in r.4 ∙ ap Some (one id r.0 h.call r.1 d fits r.2 h.among r.3 h.shown)
 
-pub id_fits : (o : Option Value) (id : TxId) → id_in_value o ≡ Some id → id.0 < 2 ^ 128
-id_fits None id h = none_some id h
-id_fits (Some (value.Text text)) id h = (id_of_text-is text id h).0
-id_fits (Some v) id h = none_some id h
-
 -- a record is settled as it is resolved
 pub resolved_as : (calls : List Made) (e : Record × Option Record) → TellOne calls → IsSettledAs calls e → resolved calls e.0 ≡ e.1
 resolved_as calls e one h = by h.by
@@ -90,7 +69,7 @@ resolved_as calls e one h = by h.by
     by (inr k) =
         image-open e.0 (option_and_then (decision_learned calls) (id_in e.0.columns)) k.open_still
         ∙ ap (λ o. image_under e.0 (option_and_then (decision_learned calls) o)) k.writer
-        ∙ ap (image_under e.0) (learned_one calls k.id k.decided (id_fits (column e.0.columns tx_id) k.id k.writer) one k.shown)
+        ∙ ap (image_under e.0) (learned_one calls k.id k.decided (id_in_value-fits (column e.0.columns tx_id) k.id k.writer) one k.shown)
         ∙ sym k.image
 
 ---- one read among the calls
@@ -187,7 +166,7 @@ scan_inside span (x ∷ es) keys h = by x.1 keys.0 (scan_inside span es keys.1 p
     by None same ih = ih
     by (Some b) same ih = ap (λ t. t && list_all (λ (r : Read). in_span span r.key) (snapshot.reads_of (filter_map (λ (e : Record × Option Record). e.1) es))) (ap (in_span span) same ∙ p.0) ∙ ih
 
-settled_keys : (calls : List Made) (es : List (Record × Option Record)) → AllByRecursion (IsSettledAs calls) es → AllByRecursion (λ e. IfSome e.1 (λ b. b.key ≡ e.0.key)) es
+pub settled_keys : (calls : List Made) (es : List (Record × Option Record)) → AllByRecursion (IsSettledAs calls) es → AllByRecursion (λ e. IfSome e.1 (λ b. b.key ≡ e.0.key)) es
 settled_keys calls [] all = tt
 settled_keys calls (x ∷ es) all = (all.0.key, settled_keys calls es all.1)
 

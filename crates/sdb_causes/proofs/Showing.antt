@@ -37,10 +37,12 @@ use Rattle.sdb_phases.specs.Recover.{recover_back, recover_forward, recover_next
 use Rattle.sdb_phases.specs.Work.{abort_of, look_of, undo}
 use Rattle.sdb_read.specs.Read.{Asking, Bad, Ended, Firm, Kind, Open, ReadStage, Resolving, answered, kind_of, opened, read_pending_at, read_step, request_of, resolved, settle, settle_one}
 use Rattle.sdb_turns.proofs.Lists.{each_more}
-use Rattle.sdb_turns.proofs.Meta.{held_of, meta_of}
+use Rattle.sdb_turns.proofs.Meta.{meta_of}
 use Rattle.sdb_causes.specs.Moves.{HasRead, HasShown, IsRolledAs, IsRows, IsSettledAs, PhaseShows, ShowsAt}
 use Rattle.sdb_causes.proofs.ReadSteps.{open_is}
-use Rattle.sdb_causes.proofs.Rows.{asks_row, row_table, shown_is}
+use Rattle.sdb_causes.proofs.Rows.{asks_row, shown_is}
+use Rattle.sdb_story.proofs.Noting.{coordinators}
+use Rattle.sdb_read.proofs.Images.{held_of}
 
 pub firm_is : (r : Record) → kind_of r ≡ Firm → is_in state.Committed r.columns ≡ true
 firm_is r e = by (is_taken r) (is_in state.Committed r.columns) (checked r.columns) refl e
@@ -60,7 +62,7 @@ unread_rows m f = by (is_coordinator_table (table_asked m.request))
     by false = f
 
 pub look_rows : (m : Made) (id : TxId) → m.request ≡ look_of id → reads_rows m ≡ false
-look_rows m id e = ap (λ (q : Request). if is_coordinator_table (table_asked q) then false else is_read q) e ∙ ap (λ b. if b then false else true) (row_table id)
+look_rows m id e = ap (λ (q : Request). if is_coordinator_table (table_asked q) then false else is_read q) e ∙ ap (λ b. if b then false else true) (coordinators id)
 
 pub undo_unread : (c : Condition) (k : Key) (o : Option Record) → is_read (undo c k o) ≡ false
 undo_unread c k None = refl

@@ -24,13 +24,13 @@ use Rattle.sdb_causes.specs.Moves.{AllTellOne, HasRead, TellOne}
 use Rattle.sdb_causes.specs.Shows.{IsShowing, SeesOwn, GivesOwn}
 use Rattle.sdb_causes.specs.Tied.{IsAnswered, begun_in, open_after}
 use Rattle.sdb_causes.specs.Unfit.{SeesFit}
-use Rattle.sdb_causes.proofs.Moving.{noting_idle}
 use Rattle.sdb_causes.proofs.Noting.{each_last}
 use Rattle.sdb_causes.proofs.ShowsGiven.{next_given}
 use Rattle.sdb_causes.proofs.ShowsRead.{kept_now, now_has}
 use Rattle.sdb_causes.proofs.ShowsTold.{sees_then}
 use Rattle.sdb_causes.proofs.Takings.{left_idle}
 use Rattle.sdb_causes.proofs.Unfit.{table_at}
+use Rattle.sdb_client.proofs.Calls.{noting_idle}
 
 module _ (catalog : List Table) (c : ℕ) (events : List Event) (e : Event) (told : List Said) (all : AllByRecursion (IsAnswered catalog events c) told) (n : ℕ) (begin : Said) (body : List Said) (since : from_begin n told ≡ begin ∷ body) (number : n ≡ begun_in told)
     (t : TxnAt) (sees : AllTellOne events c told → SeesOwn catalog events c body t.seen) (kept : WereRead t.seen.notes t.seen.writes) (z : Said) (p : Planned) (a : Access) (calls : List Made) (images : List Record) (are : calls_of (events ++ e ∷ []) c z ≡ calls) (h : HasRead (request_of a) calls images []) where

@@ -6,7 +6,7 @@ use Rattle.std.proofs.lemmas.List.{append-nil}
 use Rattle.std.proofs.lemmas.List.Elements.{All-contains_itself, Contains-append_left, filter-append, recursion_from_All}
 use Rattle.sdb_types.specs.declared.txid.TxId.{TxId}
 use Rattle.sdb_types.specs.declared.key.Key.{Key}
-use Rattle.sdb_types.proofs.Basics.{all_each as each_any}
+use Rattle.sdb_types.proofs.Basics.{all_each as each_any, one_of}
 use Rattle.sdb_types.specs.declared.pair.Pair.{Pair}
 use Rattle.sdb_record.specs.declared.access.Image.{Image}
 use Rattle.sdb_schema.specs.declared.table.Table.{Table}
@@ -22,7 +22,6 @@ use Rattle.sdb_causes.specs.Moves.{AllTellOne, TellOne}
 use Rattle.sdb_causes.specs.Shows.{AllGiveOwn, HasBefore, RowsAreShown, CallsAgree, GivesOwn, WasRead}
 use Rattle.sdb_causes.specs.Tied.{AreTied, IsWaiting, Knows}
 use Rattle.sdb_causes.proofs.Noting.{each_left, each_middle, since_all}
-use Rattle.sdb_causes.proofs.Settling.{one_of}
 use Rattle.sdb_causes.proofs.Shows.{each_changing, effective_by, first_so}
 use Rattle.sdb_causes.proofs.ShowsTold.{own_waits}
 

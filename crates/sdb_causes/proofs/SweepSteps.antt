@@ -1,5 +1,5 @@
 -- Each call of a VACUUM keeps what the calls say of where it stands.
-use Rattle.std.proofs.Common.{◌≡◌, ◌<◌, ◌+◌, ℕ, ℤ, Bool, true, false, cond, not, List, [], ◌∷◌, ◌++◌, Option, Some, None, Ok, Err, refl, sym, ap, subst, ◌∙◌, arith}
+use Rattle.std.proofs.Common.{◌≡◌, ◌<◌, ◌+◌, ℕ, ℤ, Bool, true, false, cond, not, List, [], ◌∷◌, ◌++◌, Option, Some, None, Err, refl, sym, ap, subst, ◌∙◌, arith}
 use Rattle.std.specs.Prelude.{if◌then◌else◌, ◌&&◌, MatchBool}
 use Rattle.std.specs.List.{AllByRecursion, count_by}
 use Rattle.std.specs.Option.{option_map}
@@ -17,14 +17,12 @@ use Rattle.sdb_types.specs.declared.record.State.{State}
 use Rattle.sdb_types.specs.declared.record.State.TheVariants as state
 use Rattle.sdb_types.specs.Contents.{CanAnswer}
 use Rattle.sdb_types.proofs.Basics.{clash, none_some, some_is}
-use Rattle.sdb_types.proofs.Bools.{and_second}
 use Rattle.sdb_record.specs.declared.access.Access.TheVariants as access
 use Rattle.sdb_record.specs.declared.meta.Meta.{Meta}
 use Rattle.sdb_record.specs.Coordinator.{decision_in, is_coordinator_table}
-use Rattle.sdb_record.specs.Meta.{checked, id_in, is_committed, is_in, is_taken, is_unresolved}
+use Rattle.sdb_record.specs.Meta.{id_in, is_committed, is_taken}
 use Rattle.sdb_record.specs.Parts.{before_record}
 use Rattle.sdb_record.specs.Rolls.{is_tombstone}
-use Rattle.sdb_record.proofs.ImageLaws.{checked-state}
 use Rattle.sdb_model.specs.declared.event.Event.{Event}
 use Rattle.sdb_model.specs.Calls.{Made, clock_at, is_removal}
 use Rattle.sdb_model.specs.Causes.{HasReply, removes}
@@ -44,15 +42,9 @@ use Rattle.sdb_causes.specs.Sweeps.{SweepsBy, SweptBy, VacuumBy}
 use Rattle.sdb_causes.proofs.ReadSteps.{ComesTo, IsDataTable, bad_is, found_more, found_rows, open_is, recovered_is, rows_data, shown_read}
 use Rattle.sdb_causes.proofs.Rows.{reply_now}
 use Rattle.sdb_types.specs.Replies.{is_applied, is_fault}
+use Rattle.sdb_vacuum.proofs.Counts.{open_state}
 
 ---- deletes of committed records
-
-open_state : (rec : Record) (meta : Meta) → is_unresolved rec ≡ true → checked rec.columns ≡ Ok meta → is_committed meta.state ≡ false
-open_state rec meta loose says = by (is_in state.Committed rec.columns) (is_committed meta.state) (checked-state rec.columns meta says) (and_second (is_taken rec) _ loose)
-  where
-    by : (a b : Bool) → a ≡ b → not a ≡ true → b ≡ false
-    by true b e h = absurd (cc)
-    by false b e h = sym e
 
 undo_keeps : (meta : Meta) (rec : Record) (before : Option Record) → is_committed meta.state ≡ false → is_removal (undo (stands_found meta) rec.key before) ≡ false
 undo_keeps meta rec None h = by meta.state h

@@ -41,11 +41,11 @@ use Rattle.sdb_steps.proofs.Taken.{other_no_begin, other_no_commit, refused_no_c
 use Rattle.sdb_laws.specs.Lawful.{is_data}
 use Rattle.sdb_steps.proofs.InTables.{own_table}
 use Rattle.sdb_steps.proofs.RowsFit.{found_itself}
-use Rattle.sdb_steps.proofs.Whole.{by_memory, literals_read}
+use Rattle.sdb_steps.proofs.Whole.{by_memory, literals_read, other_no_rollback}
 use Rattle.sdb_types.specs.declared.key.Key.{Key}
 use Rattle.sdb_story.specs.Telling.{taken_said, waiting_of}
 use Rattle.sdb_turns.proofs.Lists.{each_more}
-use Rattle.sdb_types.proofs.Basics.{by_test, clash, none_some, some_is}
+use Rattle.sdb_types.proofs.Basics.{by_test, clash, none_some, some_is, length_more}
 use Rattle.sdb_causes.specs.Commits.{StandsBy}
 use Rattle.sdb_causes.specs.Conflicts.{ChecksBy}
 use Rattle.sdb_causes.specs.Filled.{IsFilled, IsFilledBy, IsFilledIn, counted_told, found_told}
@@ -55,9 +55,9 @@ use Rattle.sdb_causes.proofs.Moving.{IsTaken, work_by}
 use Rattle.sdb_causes.proofs.Noting.{moved_all, moved_still, noted_more, noted_still, tell_back, unmoved}
 use Rattle.sdb_causes.specs.Tied.{IsAnswered, IsDoing, AreTied, IsGate, IsNoting, IsOpenAs, Knows, SomeSweeps, StandsIn, StandsOn, begun_in, open_after, CanTell}
 use Rattle.sdb_causes.specs.Unfit.{IsFit, SeesFit, SeesFitIn, ShowStored}
-use Rattle.sdb_causes.proofs.Calls.{before_taken, calls_open, calls_within, end_answered, end_waiting, later_same, length_more, take_said, none_made}
-use Rattle.sdb_causes.proofs.Filling.{filled_found, filled_given, filled_idle, filled_more, filled_nothing, filled_stays, filled_up, further, least, passes_given, zero_least}
-use Rattle.sdb_causes.proofs.Passing.{pass_now}
+use Rattle.sdb_causes.proofs.Calls.{before_taken, calls_open, calls_within, end_answered, end_waiting, later_same, none_made}
+use Rattle.sdb_causes.proofs.Filling.{filled_found, filled_given, filled_idle, filled_more, filled_nothing, filled_stays, filled_up, further, passes_given, zero_least}
+use Rattle.sdb_causes.proofs.Passing.{pass_now, least}
 use Rattle.sdb_causes.proofs.Unfit.{fit_nothing, given_fits, none_unfits}
 use Rattle.sdb_causes.proofs.Given.{IsMiddle, given_caused, given_middle}
 use Rattle.sdb_causes.proofs.Knowing.{after_begin, after_end, after_more, after_plain, open_more, open_now, sweeps_now}
@@ -82,11 +82,9 @@ use Rattle.sdb_model.specs.Transactions.{rest_of}
 use Rattle.sdb_record.specs.declared.coordinator.Decision.TheVariants as decision
 use Rattle.sdb_types.specs.declared.txid.TxId.{TxId}
 use Rattle.std.proofs.lemmas.Bool.{and_parts}
+use Rattle.sdb_story.proofs.Answered.{take_said}
 
 ---- texts
-
-pub no_rollback : (text : List ℕ) (st : Statement) → Reads text st → st ≢ statement.Rollback → reads_rollback text ≡ false
-no_rollback text st h other = by_test (reads_rollback text) (λ t. absurd (other (one_statement text st statement.Rollback h ((rollback_read text).0 t)))) (λ t. t)
 
 pub no_sweep : (text : List ℕ) (st : Statement) → Reads text st → st ≢ statement.Vacuum → reads_vacuum text ≡ false
 no_sweep text st h other = by_test (reads_vacuum text) (λ t. absurd (other (one_statement text st statement.Vacuum h ((vacuum_read text).0 t)))) (λ t. t)
@@ -701,11 +699,11 @@ module _ (q : Taking) (events : List Event) (hands : ℕ → Hand) (ex : AreTied
   statement_case statement.Commit result d reads few turned x = commit_case h.txn result d refl reads turned x
   statement_case statement.Rollback result d reads few turned x = rollback_case h.txn result d refl reads turned x
   statement_case statement.Vacuum result d reads few turned x = vacuum_case (is_some h.txn || q.gate.open_elsewhere) q.catalog result d refl reads turned x refl
-  statement_case (statement.Insert s) result d reads few turned x = ask_case (statement.Insert s) h.txn result d refl reads (record { begin = other_no_begin text (statement.Insert s) reads (λ e. cc); commit = other_no_commit text (statement.Insert s) reads (λ e. cc); rollback = no_rollback text (statement.Insert s) reads (λ e. cc) }) (no_sweep text (statement.Insert s) reads (λ e. cc)) refl ((λ e. cc), (λ e. cc)) turned x
-  statement_case (statement.Upsert s) result d reads few turned x = ask_case (statement.Upsert s) h.txn result d refl reads (record { begin = other_no_begin text (statement.Upsert s) reads (λ e. cc); commit = other_no_commit text (statement.Upsert s) reads (λ e. cc); rollback = no_rollback text (statement.Upsert s) reads (λ e. cc) }) (no_sweep text (statement.Upsert s) reads (λ e. cc)) refl ((λ e. cc), (λ e. cc)) turned x
-  statement_case (statement.Update s) result d reads few turned x = ask_case (statement.Update s) h.txn result d refl reads (record { begin = other_no_begin text (statement.Update s) reads (λ e. cc); commit = other_no_commit text (statement.Update s) reads (λ e. cc); rollback = no_rollback text (statement.Update s) reads (λ e. cc) }) (no_sweep text (statement.Update s) reads (λ e. cc)) refl ((λ e. cc), (λ e. cc)) turned x
-  statement_case (statement.Delete s) result d reads few turned x = ask_case (statement.Delete s) h.txn result d refl reads (record { begin = other_no_begin text (statement.Delete s) reads (λ e. cc); commit = other_no_commit text (statement.Delete s) reads (λ e. cc); rollback = no_rollback text (statement.Delete s) reads (λ e. cc) }) (no_sweep text (statement.Delete s) reads (λ e. cc)) refl ((λ e. cc), (λ e. cc)) turned x
-  statement_case (statement.Select s) result d reads few turned x = ask_case (statement.Select s) h.txn result d refl reads (record { begin = other_no_begin text (statement.Select s) reads (λ e. cc); commit = other_no_commit text (statement.Select s) reads (λ e. cc); rollback = no_rollback text (statement.Select s) reads (λ e. cc) }) (no_sweep text (statement.Select s) reads (λ e. cc)) refl ((λ e. cc), (λ e. cc)) turned x
+  statement_case (statement.Insert s) result d reads few turned x = ask_case (statement.Insert s) h.txn result d refl reads (record { begin = other_no_begin text (statement.Insert s) reads (λ e. cc); commit = other_no_commit text (statement.Insert s) reads (λ e. cc); rollback = other_no_rollback text (statement.Insert s) reads (λ e. cc) }) (no_sweep text (statement.Insert s) reads (λ e. cc)) refl ((λ e. cc), (λ e. cc)) turned x
+  statement_case (statement.Upsert s) result d reads few turned x = ask_case (statement.Upsert s) h.txn result d refl reads (record { begin = other_no_begin text (statement.Upsert s) reads (λ e. cc); commit = other_no_commit text (statement.Upsert s) reads (λ e. cc); rollback = other_no_rollback text (statement.Upsert s) reads (λ e. cc) }) (no_sweep text (statement.Upsert s) reads (λ e. cc)) refl ((λ e. cc), (λ e. cc)) turned x
+  statement_case (statement.Update s) result d reads few turned x = ask_case (statement.Update s) h.txn result d refl reads (record { begin = other_no_begin text (statement.Update s) reads (λ e. cc); commit = other_no_commit text (statement.Update s) reads (λ e. cc); rollback = other_no_rollback text (statement.Update s) reads (λ e. cc) }) (no_sweep text (statement.Update s) reads (λ e. cc)) refl ((λ e. cc), (λ e. cc)) turned x
+  statement_case (statement.Delete s) result d reads few turned x = ask_case (statement.Delete s) h.txn result d refl reads (record { begin = other_no_begin text (statement.Delete s) reads (λ e. cc); commit = other_no_commit text (statement.Delete s) reads (λ e. cc); rollback = other_no_rollback text (statement.Delete s) reads (λ e. cc) }) (no_sweep text (statement.Delete s) reads (λ e. cc)) refl ((λ e. cc), (λ e. cc)) turned x
+  statement_case (statement.Select s) result d reads few turned x = ask_case (statement.Select s) h.txn result d refl reads (record { begin = other_no_begin text (statement.Select s) reads (λ e. cc); commit = other_no_commit text (statement.Select s) reads (λ e. cc); rollback = other_no_rollback text (statement.Select s) reads (λ e. cc) }) (no_sweep text (statement.Select s) reads (λ e. cc)) refl ((λ e. cc), (λ e. cc)) turned x
 
   text_case : (result : Option Answer) (d : Client) → d.begun < 2 ^ 64 → Turned result → TextTold q text h result d → So result d
   text_case result d few turned (Ok st, reads, x) = statement_case st result d reads few turned x

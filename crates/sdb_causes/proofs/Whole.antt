@@ -42,10 +42,10 @@ use Rattle.sdb_read.specs.Read.{ReadAt}
 use Rattle.sdb_record.specs.declared.access.Access.{Access}
 use Rattle.sdb_txn.specs.declared.txn.Doing.TheVariants as doing
 use Rattle.sdb_txn.specs.Txn.{TxnAt}
-use Rattle.sdb_types.proofs.Basics.{none_some, some_is, clash, all_each as each_any}
+use Rattle.sdb_types.proofs.Basics.{none_some, some_is, clash, all_each as each_any, or_false, itself}
 use Rattle.sdb_causes.specs.Tied.{AnswersHaveCauses, ConflictsHaveCauses, IsAnswered, AreTied, IsGate, IsWaiting, Knows, is_caused, with_stopped, CanTell}
 use Rattle.sdb_causes.specs.Unfit.{shows_stored}
-use Rattle.sdb_causes.proofs.Calls.{clock_more, itself}
+use Rattle.sdb_causes.proofs.Calls.{clock_more}
 use Rattle.sdb_causes.proofs.Knowing.{knows_still}
 use Rattle.sdb_causes.specs.Counts.{CommitsFit}
 use Rattle.sdb_causes.specs.Shows.{AllGiveOwn}
@@ -60,10 +60,6 @@ use Rattle.sdb_causes.proofs.ShowsWhole.{rows_shown}
 use Rattle.sdb_causes.proofs.Takings.{takes_known}
 
 ---- who has stopped
-
-or_false : (b : Bool) → (b || false) ≡ b
-or_false true = refl
-or_false false = refl
 
 stopped_more : (c : ℕ) (es : List Event) (e : Event) → has_stopped c (es ++ e ∷ []) ≡ (has_stopped c es || stops c e)
 stopped_more c [] e = or_false (stops c e)

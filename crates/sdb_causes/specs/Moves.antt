@@ -1,7 +1,7 @@
 -- What a statement that reads has settled the records as that it found, by what its calls showed.
 use Rattle.std.specs.Prelude.{◌≡◌, ◌⊎◌, ◌<◌, ◌^◌, ℕ, Bool, true, false, List, [], ◌∷◌, ◌++◌, map, filter, Option, Some, IfSome, Contains}
 use Rattle.std.specs.List.{AllByRecursion, filter_map, flat_map, list_all}
-use Rattle.std.specs.Option.{option_and_then, option_map_or}
+use Rattle.std.specs.Option.{option_and_then}
 use Rattle.sdb_types.specs.declared.txid.TxId.{TxId}
 use Rattle.sdb_types.specs.declared.record.Record.{Record}
 use Rattle.sdb_types.specs.declared.record.Reply.{Reply}
@@ -20,8 +20,8 @@ use Rattle.sdb_record.specs.Moved.{version_of}
 use Rattle.sdb_record.specs.Rolls.{IsWrite, image_under}
 use Rattle.sdb_model.specs.declared.event.Event.{Event}
 use Rattle.sdb_model.specs.Calls.{Made, calls_of, decision_shown, record_among, records_read}
-use Rattle.sdb_model.specs.Noted.{Got, Note, Scanned, notes_in, reads_rows, resolved, version_noted}
-use Rattle.sdb_model.specs.Transactions.{Said, ends, from_begin, id_of, is_answered_from_rows, is_effective}
+use Rattle.sdb_model.specs.Noted.{Got, Note, Scanned, notes_in, reads_rows, resolved, version_noted, is_from_rows}
+use Rattle.sdb_model.specs.Transactions.{Said, ends, from_begin, id_of, is_effective}
 use Rattle.sdb_model.specs.declared.answer.Answer.TheVariants as answer
 use Rattle.sdb_model.specs.Causes.{ConflictsAtCommit, HasMoved}
 use Rattle.sdb_model.specs.Sql.{reads_commit}
@@ -122,12 +122,9 @@ pub record WorkBy (notes : List Note) (p : Work) : Type 0 where
 
 ---- statements
 
-abbrev pub is_told : Said → Bool
-is_told s = option_map_or is_answered_from_rows s.answer false
-
 -- what the statements of a transaction's body noted
 abbrev pub notes_told : List Event → ℕ → List Said → List Note
-notes_told events c body = flat_map (λ s. notes_in (calls_of events c s)) (filter is_told (filter is_effective body))
+notes_told events c body = flat_map (λ s. notes_in (calls_of events c s)) (filter is_from_rows (filter is_effective body))
 
 -- A scan of a statement found, once its rows were resolved, something else at a key than was noted there.
 abbrev pub MovesAtScan : List Made → List Note → Key → Option Record → Type 0

@@ -156,7 +156,7 @@ pub noting_idle : (t : TxnAt) (a : Access) (images : List Record) → (noting t 
 noting_idle t (access.Get key) images = refl
 noting_idle t (access.Scan span) images = refl
 
-noting_id : (t : TxnAt) (a : Access) (images : List Record) → (noting t a images).id ≡ t.id
+pub noting_id : (t : TxnAt) (a : Access) (images : List Record) → (noting t a images).id ≡ t.id
 noting_id t (access.Get key) images = refl
 noting_id t (access.Scan span) images = refl
 
@@ -198,7 +198,7 @@ or_some : (o : Option (Option Record)) (f : Option Record) (b : Bool) → b ≡ 
 or_some None f b h = rw h refl
 or_some (Some x) f b h = refl
 
-last_noted : (notes : List Note) (k : Key) (f : Option Record) → is_noted (notes ++ (k, f) ∷ []) k ≡ true
+pub last_noted : (notes : List Note) (k : Key) (f : Option Record) → is_noted (notes ++ (k, f) ∷ []) k ≡ true
 last_noted notes k f = ap is_some (value_last notes k f k) ∙ or_some (value_at notes k) f (same_key k k) (same_itself k)
 
 -- the key of a get was read then

@@ -42,7 +42,7 @@ IsSeenRow notes r = (is_noted notes r.key ≡ true) × (are_columns r.columns �
 ---- rows of tables
 
 -- a key below those of all entries has none
-none_below : (x : Key) (es : List (Key × List Pair)) → below_all key_cmp x es ≡ true → find key_cmp x es ≡ None
+pub none_below : (x : Key) (es : List (Key × List Pair)) → below_all key_cmp x es ≡ true → find key_cmp x es ≡ None
 none_below x [] h = refl
 none_below x (e ∷ es) h =
     let parts = and_parts (is_lt (key_cmp x e.0)) (below_all key_cmp x es) h in

@@ -1,18 +1,15 @@
 -- Reading items one after the other, as a loop does.
-use Rattle.std.proofs.Common.{◌≡◌, ℕ, suc, ◌-◌, ◌+◌, ◌≤◌, ◌<◌, List, [], ◌∷◌, ◌++◌, length, slice_get, Option, Some, Result, Ok, Err, refl, sym, ap, ◌∙◌, append_assoc, arith}
+use Rattle.std.proofs.Common.{◌≡◌, ℕ, suc, ◌-◌, ◌+◌, ◌≤◌, ◌<◌, List, [], ◌∷◌, ◌++◌, length, Option, Some, Result, Ok, Err, refl, sym, ap, ◌∙◌, append_assoc, arith}
 use Rattle.std.proofs.lemmas.List.{append-nil, length-append}
 use Rattle.std.proofs.lemmas.Option.{slice_get_read}
 use Rattle.std.proofs.Math.Seq.{get_or-append_seam}
 use Rattle.sdb_codec.specs.declared.refused.Stopped.{Stopped}
 use Rattle.sdb_codec.specs.declared.refused.Stopped.TheVariants as stopped
-use Rattle.sdb_codec.specs.Reading.{◌>>=◌, Stops, items_at}
+use Rattle.sdb_codec.specs.Reading.{◌>>=◌, Stops, items_at, last_of}
 
 -- what was read before, and what is still read
 abbrev pub with_front : {X : Type 0} → List X → Result (List X × List ℕ) ℕ → Result (List X × List ℕ) ℕ
 with_front front read = read >>= λ x. Ok (front ++ x.0, x.1)
-
-abbrev pub last_of : {X : Type 0} → List X → Option X
-last_of xs = slice_get xs (length xs - 1)
 
 pub last_of-push : {X : Type 0} (xs : List X) (x : X) → last_of (xs ++ x ∷ []) ≡ Some x
 last_of-push xs x =

@@ -1,6 +1,6 @@
 -- Reading from left to right, field by field. What is wrong is told by the bytes left where the first field begins that is
 -- cut off or isn't of its form.
-use Rattle.std.specs.Prelude.{◌≡◌, ℕ, zero, suc, ◌-◌, Bool, true, false, nat_lt, ◌==◌, if◌then◌else◌, List, [], ◌∷◌, length, take, drop, Option, Some, None, Result, Ok, Err}
+use Rattle.std.specs.Prelude.{◌≡◌, ℕ, zero, suc, ◌-◌, Bool, true, false, nat_lt, ◌==◌, if◌then◌else◌, List, [], ◌∷◌, length, take, drop, slice_get, Option, Some, None, Result, Ok, Err}
 use Rattle.std.specs.Option.{option_map}
 use Rattle.std.specs.Int.{Width, w16, w32, w64, byte_len, from_be_bytes, cast_signed}
 use Rattle.std.specs.Str.{is_utf8}
@@ -32,6 +32,9 @@ Stops (stopped.Wrong left) read = read ≡ Err left
 abbrev pub Gives : {X Y : Type 0} → (X → Y) → Result X Stopped → Result Y ℕ → Type 0
 Gives view (Ok x) read = read ≡ Ok (view x)
 Gives view (Err e) read = Stops e read
+
+abbrev pub last_of : {X : Type 0} → List X → Option X
+last_of xs = slice_get xs (length xs - 1)
 
 ---- parts of fields: each takes the bytes left where its field begins
 

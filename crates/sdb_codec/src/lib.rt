@@ -11,5 +11,5 @@ mod writing;
 
 pub use lengths::{key_has_spelling, record_has_spelling};
 pub use reading::{read_key, read_record};
-pub use refused::ReadRefused;
+pub use refused::{ReadRefused, Stopped};
 pub use writing::{write_key, write_record};

@@ -16,18 +16,18 @@ use Rattle.sdb_model.specs.Causes.{IsCommitOf}
 use Rattle.sdb_model.specs.Counted.{IsCommitCounted, IsReadCounted, IsVacuumCounted, calls_wanted, is_checked_get, is_key_of, is_scan, is_seen, prepares_in, unresolved_in}
 use Rattle.sdb_model.specs.Noted.{Note, Got, Scanned, noted_in, reads_rows}
 use Rattle.sdb_model.specs.Sql.{reads_commit, reads_vacuum}
-use Rattle.sdb_model.specs.Transactions.{Said, id_of, prepares, said}
-use Rattle.sdb_said.proofs.Lists.{In, right, both, or_left, not_true, true_not, not_both, all_each, each_all}
+use Rattle.sdb_model.specs.Transactions.{Said, id_of, prepares, said, is_committed_answer}
+use Rattle.sdb_said.proofs.Lists.{In, right, or_left, not_true, true_not, not_both, all_each, each_all}
 use Rattle.sdb_said.proofs.ShownLaws.{number_is, is_number}
 use Rattle.sdb_calls.specs.declared.made.Made.{Made}
 use Rattle.sdb_calls.specs.Values.{all_made, made_of}
 use Rattle.sdb_caused.specs.Tests.{any_id, any_upto, is_commit_of}
 use Rattle.sdb_caused.proofs.Finds.{in_made, made_in, in_contains}
 use Rattle.sdb_caused.proofs.IdLaws.{commit_found, commit_is, is_commit, id_some, upto_step}
-use Rattle.sdb_counted.specs.Tests.{IsSaidCounted, all_seen, commit_counted, covered, is_check, is_told_committed, miscounted, others_counted, read_counted, unresolved_by, vacuum_counted, wanted}
+use Rattle.sdb_counted.specs.Tests.{IsSaidCounted, all_seen, commit_counted, covered, is_check, miscounted, others_counted, read_counted, unresolved_by, vacuum_counted, wanted}
 use Rattle.sdb_counted.proofs.Maps.{any_kept, count_both, count_mapped, filter_count, kept_count}
 use Rattle.sdb_types.proofs.Basics.{clash, or_second as or_right, either, decides as decide}
-use Rattle.sdb_types.proofs.Bools.{and_first as left}
+use Rattle.sdb_types.proofs.Bools.{and_first as left, and_both as both}
 
 le_is : (a b : ℕ) → nat_le a b ≡ true → a ≤ b
 le_is a b h = grind (arith, nat_tests, h)
@@ -63,7 +63,7 @@ seen_is ms all = each_all (λ m. is_seen m.how) ms (λ m i. let k = in_contains 
 is_seen_of : (ms : List Made) → all_seen ms ≡ true → All (λ m. is_seen m.how ≡ true) (all_made ms)
 is_seen_of ms h = all_of (λ m. is_seen m.how ≡ true) (all_made ms) (λ c i. let r = in_made ms c i in ap (λ x. is_seen x.how) r.2 ∙ all_each (λ m. is_seen m.how) ms h r.0 r.1)
 
-told_is : (o : Option Answer) → is_told_committed o ≡ true → o ≡ Some answer.Committed
+told_is : (o : Option Answer) → is_committed_answer o ≡ true → o ≡ Some answer.Committed
 told_is None h = clash (sym h)
 told_is (Some answer.Committed) h = refl
 told_is (Some (answer.Rows rows)) h = clash (sym h)
@@ -89,7 +89,7 @@ module _ (events : List Event) (id : TxId) (s : Said) (ms : List Made) where
   most = nat_le (length ms) (w + 4)
 
   abbrev told : Bool
-  told = is_told_committed s.answer && all_seen ms
+  told = is_committed_answer s.answer && all_seen ms
 
   abbrev exact : Bool
   exact = length ms == w + 1
@@ -97,7 +97,7 @@ module _ (events : List Event) (id : TxId) (s : Said) (ms : List Made) where
   counted_is : commit_counted ms (noted_in events id) id s ≡ true → IsCommitCounted events id s (all_made ms)
   counted_is h = record {
     exact = λ a all. length-map ms made_of ∙ number_is (length ms) (w + 1) (elim (either (not told) exact (right most (not told || exact) h)) [
-      | inl n ↦ not_both told (both (is_told_committed s.answer) (all_seen ms) (ap is_told_committed a) (seen_is ms all)) (not_true told n)
+      | inl n ↦ not_both told (both (is_committed_answer s.answer) (all_seen ms) (ap is_committed_answer a) (seen_is ms all)) (not_true told n)
       | inr e ↦ e
     ]) ∙ ap (λ n. n + 1) (sym (wanted_is events id ms));
     most =
@@ -113,7 +113,7 @@ module _ (events : List Event) (id : TxId) (s : Said) (ms : List Made) where
       let e : calls_wanted events id (all_made ms) ≡ w = wanted_is events id ms in
       let m : length (all_made ms) ≤ calls_wanted events id (all_made ms) + 4 = c.most in
       both most (not told || exact) (is_le (length ms) (w + 4) (omega (arith, m, a, e))) (elim (decide told) [
-        | inl t ↦ or_right (not told) exact (is_number (length ms) (w + 1) (sym a ∙ c.exact (told_is s.answer (left (is_told_committed s.answer) (all_seen ms) t)) (is_seen_of ms (right (is_told_committed s.answer) (all_seen ms) t)) ∙ ap (λ n. n + 1) e))
+        | inl t ↦ or_right (not told) exact (is_number (length ms) (w + 1) (sym a ∙ c.exact (told_is s.answer (left (is_committed_answer s.answer) (all_seen ms) t)) (is_seen_of ms (right (is_committed_answer s.answer) (all_seen ms) t)) ∙ ap (λ n. n + 1) e))
         | inr f ↦ or_left (not told) exact (true_not told f)
       ])
 

@@ -21,7 +21,7 @@ use Rattle.sdb_model.specs.Noted.{reads_rows, is_from_rows}
 use Rattle.sdb_model.specs.Sql.{reads_vacuum}
 use Rattle.sdb_model.specs.Transactions.{Said, is_answered_from_rows}
 use Rattle.sdb_said.specs.Values.{same_request}
-use Rattle.sdb_said.proofs.Lists.{In, right, both, or_left, not_true, true_not, not_both, all_each, each_all, any_some, some_any}
+use Rattle.sdb_said.proofs.Lists.{In, right, or_left, not_true, true_not, not_both, all_each, each_all, any_some, some_any}
 use Rattle.sdb_calls.specs.declared.made.Made.{Made}
 use Rattle.sdb_calls.specs.Values.{all_made, decision_at, made_of}
 use Rattle.sdb_caused.specs.Tests.{is_early, prepared_moment}
@@ -30,7 +30,7 @@ use Rattle.sdb_caused.proofs.Finds.{contains_in, in_contains, in_kept, kept_in, 
 use Rattle.sdb_counted.specs.Tests.{IsSaidResolved, are_well_left, is_early_then, is_passed_over, is_roll, is_rolled, is_rolled_by, is_rolled_in, is_well_left, is_well_read, rolled_after}
 use Rattle.sdb_counted.proofs.Maps.{of_some, some_of}
 use Rattle.sdb_types.proofs.Basics.{clash, or_second as or_right, either, decides as decide}
-use Rattle.sdb_types.proofs.Bools.{and_first as left}
+use Rattle.sdb_types.proofs.Bools.{and_first as left, and_both as both}
 use Rattle.sdb_said.proofs.Requests.{request_is, is_request}
 use Rattle.sdb_types.specs.Replies.{is_answered}
 

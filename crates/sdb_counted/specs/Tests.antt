@@ -1,5 +1,5 @@
 -- Tests that hold exactly where the definitions of counts and of rolls do, over calls as the program has them.
-use Rattle.std.specs.Prelude.{◌≡◌, ◌⊎◌, ℕ, ◌+◌, ◌-◌, ◌*◌, Bool, true, false, not, ◌&&◌, ◌||◌, ◌==◌, nat_le, nat_lt, if◌then◌else◌, List, [], ◌∷◌, length, filter, count_by, Contains, Option, Some}
+use Rattle.std.specs.Prelude.{◌≡◌, ◌⊎◌, ℕ, ◌+◌, ◌-◌, ◌*◌, Bool, true, false, not, ◌&&◌, ◌||◌, ◌==◌, nat_le, nat_lt, if◌then◌else◌, List, [], ◌∷◌, length, filter, count_by, Contains, Some}
 use Rattle.std.specs.List.{list_all, list_any}
 use Rattle.std.specs.Option.{option_map_or}
 use Rattle.sdb_types.specs.declared.key.Key.{Key}
@@ -20,7 +20,7 @@ use Rattle.sdb_model.specs.Causes.{IsCommitOf}
 use Rattle.sdb_model.specs.Counted.{IsCommitCounted, IsPassedOver, IsReadCounted, IsResolved, IsVacuumCounted, is_seen, roll_by}
 use Rattle.sdb_model.specs.Noted.{Note, Got, Scanned, noted_in, reads_rows}
 use Rattle.sdb_model.specs.Sql.{reads_commit, reads_vacuum}
-use Rattle.sdb_model.specs.Transactions.{Said, is_answered_from_rows, prepares}
+use Rattle.sdb_model.specs.Transactions.{Said, is_answered_from_rows, prepares, is_committed_answer}
 use Rattle.sdb_said.specs.Values.{same_request}
 use Rattle.sdb_calls.specs.declared.made.Made.{Made}
 use Rattle.sdb_calls.specs.Values.{asks_row, decision_at, made_of}
@@ -43,12 +43,8 @@ is_check ms id (Scanned scan) = true
 abbrev pub wanted : List Made → List Note → TxId → ℕ
 wanted ms notes id = 2 * count_by (λ m. prepares id m.request) ms + count_by (is_check ms id) notes
 
-abbrev pub is_told_committed : Option Answer → Bool
-is_told_committed (Some answer.Committed) = true
-is_told_committed a = false
-
 abbrev pub commit_counted : List Made → List Note → TxId → Said → Bool
-commit_counted ms notes id s = nat_le (length ms) (wanted ms notes id + 4) && (not (is_told_committed s.answer && all_seen ms) || (length ms == wanted ms notes id + 1))
+commit_counted ms notes id s = nat_le (length ms) (wanted ms notes id + 4) && (not (is_committed_answer s.answer && all_seen ms) || (length ms == wanted ms notes id + 1))
 
 -- a statement is the COMMIT of a transaction, and its calls are not counted
 abbrev pub miscounted : List Event → ℕ → Said → List Made → TxId → Bool

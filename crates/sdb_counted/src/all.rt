@@ -2,7 +2,7 @@
 ghost use Rattle.std.specs.Prelude.{◌≡◌, ◌↔◌, ◌≤◌, IfOk, IfSome, IsTrue, filter, length};
 ghost use Rattle.std.specs.List.{AllByRecursion};
 ghost use Rattle.sdb_model.specs.Counted.{AreCounted, AreResolved, broken_in as broken_in_lem, is_broken as is_broken_lem};
-ghost use Rattle.sdb_plain.specs.Points.{all_said, said_of};
+ghost use Rattle.sdb_order.specs.Commits.{all_said, said_of};
 ghost use Rattle.sdb_calls.specs.Values.{taker as taker_lem};
 ghost use Rattle.sdb_counted.specs.Kept.{AreTakersKept, IsClientKept, IsKept};
 
@@ -10,7 +10,7 @@ use crate::counts::is_said_counted;
 use crate::rolls::is_said_resolved;
 use sdb_calls::taker;
 use sdb_model::{Event, How};
-use sdb_plain::{Said, statements_said};
+use sdb_order::{Said, statements_said};
 use sdb_schema::Catalog;
 use sdb_types::NoMemory;
 use std::alloc::Global;

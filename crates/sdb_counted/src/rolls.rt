@@ -6,13 +6,13 @@ ghost use Rattle.sdb_record.specs.Meta.{is_unresolved as is_unresolved_lem, numb
 ghost use Rattle.sdb_record.specs.Coordinator.{coordinator_key_of};
 ghost use Rattle.sdb_record.specs.Rolls.{back_of};
 ghost use Rattle.sdb_model.specs.Counted.{request_of_back, roll_by as roll_by_lem};
-ghost use Rattle.sdb_plain.specs.Points.{said_of};
+ghost use Rattle.sdb_order.specs.Commits.{said_of};
 ghost use Rattle.sdb_counted.specs.Tests.{IsSaidResolved, are_well_left as are_well_left_lem, is_passed_over as is_passed_over_lem, is_roll as is_roll_lem, is_rolled as is_rolled_lem, is_rolled_by as is_rolled_by_lem, is_well_left as is_well_left_lem, is_well_read as is_well_read_lem, rolled_after as rolled_after_lem};
 
 use sdb_calls::{Made, calls_of, decision_at, is_from_rows, reads_rows};
 use sdb_caused::{is_early, is_unresolved, prepared_moment};
 use sdb_model::{Event, How, Keyword};
-use sdb_plain::{Said, is_word};
+use sdb_order::{Said, is_word};
 use sdb_record::{Back, Decided, Decision, coordinator_key, rolled_back, rolled_forward};
 use sdb_said::{find_text, is_same_request, writer};
 use sdb_types::{Condition, Duplicate, Key, NoMemory, Record, Reply, Request, State, TxId, Value};

@@ -26,9 +26,10 @@ use Rattle.sdb_schema.specs.declared.table.Table.{Table}
 use Rattle.sdb_schema.specs.Table.{is_key_column}
 use Rattle.sdb_schema.specs.Rows.{is_of_kind, is_in_range}
 use Rattle.sdb_data.specs.declared.field.Head.{Head}
-use Rattle.sdb_data.specs.Fields.{begins_backslash, blob_in, escaped, field_of, if_short, is_big, is_int, is_null_field, is_short, null_field, said_in, said_number, suits, text_in, unescaped, value_at}
+use Rattle.sdb_data.specs.Fields.{begins_backslash, blob_in, escaped, field_of, if_short, is_big, is_null_field, is_short, null_field, said_in, said_number, suits, text_in, unescaped, value_at}
 use Rattle.sdb_data.specs.Printed.{is_byte, is_cell, is_small}
 use Rattle.sdb_data.proofs.Numbers.{big-small, int-small, number-again}
+use Rattle.sdb_types.specs.Fits.{fits_int}
 
 ---- each field is UTF-8
 
@@ -91,7 +92,7 @@ blob-again bs h s = rw (decode_of-encode_upper bs (below 256 bs (omega arith) h)
 said-again : (k : Kind) (v : Value) → is_of_kind k v ≡ true → is_in_range v ≡ true → is_small v ≡ true → said_in k (field_of v) ≡ Some v
 said-again kind.Boolean (value.Bool true) h r s = refl
 said-again kind.Boolean (value.Bool false) h r s = refl
-said-again kind.Int (value.Int n) h r s = let m = int-small n s in ap (option_map value.Int) (number-again is_int n (omega arith) s)
+said-again kind.Int (value.Int n) h r s = let m = int-small n s in ap (option_map value.Int) (number-again fits_int n (omega arith) s)
 said-again kind.BigInt (value.BigInt n) h r s = ap (option_map value.BigInt) (number-again is_big n (big-small n r) r)
 said-again kind.Text (value.Text t) h r s = ap (option_map value.Text) (text-again t (and_second (is_utf8 t) (is_short t) s))
 said-again kind.Blob (value.Blob bs) h r s = ap (option_map value.Blob) (blob-again bs (and_first (list_all is_byte bs) (is_short bs) s) (and_second (list_all is_byte bs) (is_short bs) s))

@@ -12,11 +12,12 @@ use Rattle.std.proofs.lemmas.Bool.Decides.{nat_tests}
 use Rattle.std.proofs.lemmas.Fmt.{decimal_is_IsNumeral, parse-signed_decimal}
 use lib.Signed.{mag}
 use Rattle.sdb_types.proofs.Bools.{and_first, and_second}
-use Rattle.sdb_data.specs.Fields.{said_number, is_shortest, is_int, is_big, number_in}
+use Rattle.sdb_data.specs.Fields.{said_number, is_shortest, is_big, number_in}
+use Rattle.sdb_types.specs.Fits.{fits_int}
 
 ---- ranges
 
-pub int-small : (z : ℤ) → is_int z ≡ true → mag z < 2 ^ 31
+pub int-small : (z : ℤ) → fits_int z ≡ true → mag z < 2 ^ 31
 int-small (pos n) h = let k = and_second (int_le (negsuc 2147483647) (pos n)) _ h in grind (arith, nat_tests)
 int-small (negsuc n) h = let k = and_first (int_le (negsuc 2147483647) (negsuc n)) _ h in grind (arith, nat_tests)
 
@@ -39,7 +40,7 @@ unparsed w fits field e small other h =
       | false ↦ λ q. rw other refl
     ] refl
 
-pub int-fits : (z : ℤ) → is_int z ≡ true → FitsSigned w32 z × (mag z < 2 ^ 63)
+pub int-fits : (z : ℤ) → fits_int z ≡ true → FitsSigned w32 z × (mag z < 2 ^ 63)
 int-fits z h = let s = int-small z h in (record { sfits = s }, omega arith)
 
 pub big-fits : (z : ℤ) → is_big z ≡ true → FitsSigned w64 z × (mag z < 2 ^ 63)

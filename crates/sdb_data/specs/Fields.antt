@@ -13,6 +13,7 @@ use Rattle.sdb_types.specs.declared.value.Value.TheVariants as value
 use Rattle.sdb_schema.specs.declared.table.Kind.{Kind}
 use Rattle.sdb_schema.specs.declared.table.Kind.TheVariants as kind
 use Rattle.sdb_data.specs.declared.field.Head.{Head}
+use Rattle.sdb_types.specs.Fits.{fits_int}
 
 ---- NULL
 
@@ -41,9 +42,6 @@ said_number field = signed_digits_value 10 field
 
 abbrev pub is_shortest : List ℕ → Bool
 is_shortest field = bytes_eq field (signed_decimal (said_number field))
-
-abbrev pub is_int : ℤ → Bool
-is_int n = int_le (negsuc 2147483647) n && int_le n (pos 2147483647)
 
 abbrev pub is_big : ℤ → Bool
 is_big n = int_le (negsuc 9007199254740991) n && int_le n (pos 9007199254740992)
@@ -94,7 +92,7 @@ has_blob_form field = (length field % 2 == 0) && (nat_le (length field / 2) 4096
 -- the value that a text says in a column of a kind, if it says one
 abbrev pub said_in : Kind → List ℕ → Option Value
 said_in kind.Boolean field = option_map value.Bool (bool_in field)
-said_in kind.Int field = option_map value.Int (number_in is_int field)
+said_in kind.Int field = option_map value.Int (number_in fits_int field)
 said_in kind.BigInt field = option_map value.BigInt (number_in is_big field)
 said_in kind.Text field = option_map value.Text (text_in field)
 said_in kind.Blob field = option_map value.Blob (blob_in field)

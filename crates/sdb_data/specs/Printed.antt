@@ -12,7 +12,8 @@ use Rattle.sdb_schema.specs.Table.{column_names, is_key_column}
 use Rattle.sdb_schema.specs.Rows.{is_of_kind, is_in_range}
 use Rattle.sdb_data.specs.declared.fault.Mode.{Mode}
 use Rattle.sdb_data.specs.declared.fault.Mode.TheVariants as mode
-use Rattle.sdb_data.specs.Fields.{field_of, is_short, is_int}
+use Rattle.sdb_data.specs.Fields.{field_of, is_short}
+use Rattle.sdb_types.specs.Fits.{fits_int}
 
 -- records as the library writes them with its defaults: LF ends each, and quotes stand around a field that needs them
 abbrev pub text_of : List (List (List ℕ)) → List ℕ
@@ -37,7 +38,7 @@ is_byte b = nat_lt b 256
 abbrev pub is_small : Value → Bool
 is_small value.Null = true
 is_small (value.Bool b) = true
-is_small (value.Int n) = is_int n
+is_small (value.Int n) = fits_int n
 is_small (value.BigInt n) = true
 is_small (value.Text text) = is_utf8 text && is_short text
 is_small (value.Blob bytes) = list_all is_byte bytes && is_short bytes

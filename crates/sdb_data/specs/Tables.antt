@@ -1,6 +1,6 @@
 -- The rows of a table that a text of CSV has, or the first record that is refused, and why.
 use Rattle.std.specs.Prelude.{◌≡◌, ℕ, ◌+◌, ◌==◌, Bool, not, if◌then◌else◌, List, [], ◌∷◌, ◌++◌, length, map, get_or, Option, Some, None, Result, Ok, Err, position}
-use Rattle.std.specs.Option.{option_map, option_map_or}
+use Rattle.std.specs.Option.{option_map, option_map_or, option_or}
 use Rattle.std.specs.List.{list_all, list_any, filter_map}
 use Rattle.std.specs.Str.{is_utf8}
 use Rattle.sdb_types.specs.declared.value.Value.{Value}
@@ -20,10 +20,6 @@ use Rattle.sdb_data.specs.declared.field.Head.{Head}
 use Rattle.sdb_data.specs.declared.header.Taken.{Taken}
 use Rattle.sdb_data.specs.Records.{csv_records}
 use Rattle.sdb_data.specs.Fields.{suits, value_at}
-
-abbrev pub or_else : {A : Type 0} → Option A → Option A → Option A
-or_else (Some a) next = Some a
-or_else None next = next
 
 -- a fault that tells a place, counted from 1
 abbrev pub at_place : (ℕ → CsvFault) → Option ℕ → Option CsvFault
@@ -60,13 +56,13 @@ nothing_to_set t mode.Update header = if list_all (is_key_column t) header then 
 -- isn't among them; in mode update, columns of the key alone.
 unfoldable pub names_fault : Table → Mode → List (List ℕ) → Option CsvFault
 names_fault t m header =
-    or_else (at_place fault.NoColumn (unknown_place t header))
-    (or_else (at_place fault.RepeatedColumn (repeat_place [] header))
-    (or_else (at_place fault.MissingKey (missing_place t header)) (nothing_to_set t m header)))
+    option_or (at_place fault.NoColumn (unknown_place t header))
+    (option_or (at_place fault.RepeatedColumn (repeat_place [] header))
+    (option_or (at_place fault.MissingKey (missing_place t header)) (nothing_to_set t m header)))
 
 -- the same of fields, which are UTF-8
 abbrev pub header_fault : Table → Mode → List (List ℕ) → Option CsvFault
-header_fault t m header = or_else (not_text header) (names_fault t m header)
+header_fault t m header = option_or (not_text header) (names_fault t m header)
 
 -- a column that is named: its kind, and whether it is of the primary key
 abbrev pub head_of : Table → List ℕ → Head
@@ -90,7 +86,7 @@ other_length heads fields = if length fields == length heads then None else Some
 -- doesn't take.
 unfoldable pub record_fault : List Head → List (List ℕ) → Option CsvFault
 record_fault heads fields =
-    or_else (not_text fields) (or_else (other_length heads fields) (at_place fault.BadValue (bad_place heads fields)))
+    option_or (not_text fields) (option_or (other_length heads fields) (at_place fault.BadValue (bad_place heads fields)))
 
 ---- all records
 
@@ -100,16 +96,16 @@ in_record n found = option_map (λ f. (n, f)) found
 -- the first fault of records that are counted from n
 abbrev pub fault_from : List Head → ℕ → List (List (List ℕ)) → Option (ℕ × CsvFault)
 fault_from heads n [] = None
-fault_from heads n (r ∷ rs) = or_else (in_record n (record_fault heads r)) (fault_from heads (n + 1) rs)
+fault_from heads n (r ∷ rs) = option_or (in_record n (record_fault heads r)) (fault_from heads (n + 1) rs)
 
 -- the first fault of names and of the records behind them
 abbrev pub fault_behind : Table → Mode → List (List ℕ) → List (List (List ℕ)) → Option (ℕ × CsvFault)
-fault_behind t m names records = or_else (in_record 1 (names_fault t m names)) (fault_from (heads_of t names) 2 records)
+fault_behind t m names records = option_or (in_record 1 (names_fault t m names)) (fault_from (heads_of t names) 2 records)
 
 -- The first record that is refused, counted from 1, and why. A text without a header lacks the first column of the key.
 abbrev pub first_fault : Table → Mode → List (List (List ℕ)) → Option (ℕ × CsvFault)
 first_fault t m [] = Some (1, fault.MissingKey 1)
-first_fault t m (header ∷ records) = or_else (in_record 1 (header_fault t m header)) (fault_from (heads_of t header) 2 records)
+first_fault t m (header ∷ records) = option_or (in_record 1 (header_fault t m header)) (fault_from (heads_of t header) 2 records)
 
 ---- rows
 

@@ -7,7 +7,8 @@ ghost use Rattle.std.specs.Fmt.{signed_decimal};
 ghost use Rattle.hex.specs.Hex.{is_hex_digit};
 ghost use Rattle.sdb_types.specs.declared.value.Value.TheVariants as value;
 ghost use Rattle.sdb_data.specs.Fields as spec;
-ghost use Rattle.sdb_data.specs.Fields.{is_int, is_big};
+ghost use Rattle.sdb_data.specs.Fields.{is_big};
+ghost use Rattle.sdb_types.specs.Fits.{fits_int};
 
 use hex::FromHexError;
 use itoa::Buffer;
@@ -71,7 +72,7 @@ fn is_text_of(number: i64, field: &str) -> bool
 }
 
 fn int_in(field: &str) -> Option<i32>
-    ensures { result ≡ spec.number_in is_int field.now }
+    ensures { result ≡ spec.number_in fits_int field.now }
 {
     if field == "-0" {
         return Some(0);
@@ -203,7 +204,7 @@ fn bool_of(field: &str) -> Value
 }
 
 fn int_of(field: &str) -> Value
-    ensures { result ≡ spec.or_null (option_map value.Int (spec.number_in is_int field.now)) }
+    ensures { result ≡ spec.or_null (option_map value.Int (spec.number_in fits_int field.now)) }
 {
     match int_in(field) {
         Some(number) => Value::Int(number),

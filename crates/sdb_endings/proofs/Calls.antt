@@ -2,8 +2,8 @@
 use Rattle.std.proofs.Common.{◌≡◌, ◌⊎◌, inl, inr, ℕ, zero, suc, ◌+◌, ◌<◌, ◌≤◌, Bool, true, false, List, [], ◌∷◌, length, Option, Some, None, refl, sym, ap, subst, ◌∙◌, arith}
 use Rattle.std.specs.Prelude.{◌==◌, ◌&&◌, if◌then◌else◌, filter, nat_le, nat_lt, Contains}
 use Rattle.std.specs.List.{cons_option, enumerate_from, filter_map}
-use Rattle.std.proofs.lemmas.List.Elements.{Contains-append_cases, Contains-append_left, Contains-append_right, Contains-push, Contains-push_cases}
-use Rattle.sdb_types.proofs.Basics.{and_parts, lt_of, nat_at_most, none_some, some_is}
+use Rattle.std.proofs.lemmas.List.Elements.{Contains-append_left, Contains-append_right, Contains-push}
+use Rattle.sdb_types.proofs.Basics.{and_parts, lt_of, nat_at_most, none_some, some_is, one_of}
 use Rattle.sdb_model.specs.declared.event.Event.{Event}
 use Rattle.sdb_model.specs.declared.event.Event.TheVariants as event
 use Rattle.sdb_model.specs.declared.script.Place.{Place}
@@ -13,20 +13,6 @@ use Rattle.sdb_model.specs.Transactions.{Said}
 use Rattle.sdb_laws.proofs.Effects.{AtCall, at_call}
 
 ---- elements of lists
-
-pub one_of : {X : Type 0} (x y : X) (xs : List X) → Contains (x ∷ xs) y → (x ≡ y) ⊎ Contains xs y
-one_of {X = X} x y xs has = by (Contains-append_cases (x ∷ []) xs y has)
-  where
-    none : Contains {X = X} [] y → ⊥
-    none h = absurd (omega (arith, h.1))
-
-    first : Contains [] y ⊎ (x ≡ y) → (x ≡ y) ⊎ Contains xs y
-    first (inl h) = absurd (none h)
-    first (inr h) = inl h
-
-    by : Contains (x ∷ []) y ⊎ Contains xs y → (x ≡ y) ⊎ Contains xs y
-    by (inl h) = first (Contains-push_cases [] x y h)
-    by (inr h) = inr h
 
 pub the_first : {X : Type 0} (x : X) (xs : List X) → Contains (x ∷ xs) x
 the_first x xs = Contains-append_left (x ∷ []) xs x (Contains-push [] x)

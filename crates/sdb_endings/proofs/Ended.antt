@@ -1,5 +1,5 @@
 -- Events that are made on several stores are a run on them, where as made on one store they are tied to their clients.
-use Rattle.std.proofs.Common.{◌≡◌, ℕ, Bool, true, false, ◌||◌, List, [], ◌∷◌, Option, refl, sym, ap, subst, ◌∙◌}
+use Rattle.std.proofs.Common.{◌≡◌, ℕ, Bool, List, [], ◌∷◌, Option, refl, sym, ap, subst, ◌∙◌}
 use Rattle.std.specs.Prelude.{IsSome, IsSomeAnd, Contains, ◌↔◌, is_some, map, slice_index_or}
 use Rattle.std.specs.Option.{option_and_then, option_map}
 use Rattle.std.specs.Result.{result_ok}
@@ -39,6 +39,7 @@ use Rattle.sdb_spread.proofs.Moved.{commit_moved, point_moved}
 use Rattle.sdb_spread.proofs.Single.{single}
 use Rattle.sdb_spread.proofs.Told.{one_standing, run_moved}
 use Rattle.sdb_endings.specs.Ending.{IsEnd}
+use Rattle.sdb_types.proofs.Basics.{or_true}
 
 ---- back to the stores of their tables
 
@@ -62,10 +63,6 @@ put_back name places at (event.Call client store q how r answer ∷ es) before (
     ap (λ (n : Name). event.Call client n q how r answer ∷ moved_events at (moved_events (λ ns. name) es)) there ∙ ap (λ (x : List Event). event.Call client store q how r answer ∷ x) rest
 
 ---- the order
-
-pub or_true : (b : Bool) → (b || true) ≡ true
-or_true true = refl
-or_true false = refl
 
 pub decides : (catalog : List Table) (places : List Place) (closing : List Shelf) (name : Name) (m : Contents) → HoldAs catalog places closing m → (id : TxId) → decision_at places closing id ≡ decision_at [] (one_shelf name m) id
 unfolding coordinator_key_of

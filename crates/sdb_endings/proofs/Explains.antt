@@ -13,7 +13,7 @@ use Rattle.sdb_types.specs.declared.record.Request.{Request}
 use Rattle.sdb_types.specs.declared.record.Request.TheVariants as ask
 use Rattle.sdb_types.specs.declared.txid.TxId.{TxId}
 use Rattle.sdb_types.specs.Contents.{Contents}
-use Rattle.sdb_types.proofs.Basics.{clash}
+use Rattle.sdb_types.proofs.Basics.{clash, or_true}
 use Rattle.sdb_types.proofs.Bools.{or_first}
 use Rattle.sdb_record.specs.declared.coordinator.Decided.{Decided}
 use Rattle.sdb_record.specs.declared.coordinator.Decision.TheVariants as decision
@@ -40,7 +40,7 @@ use Rattle.sdb_turns.specs.System.{SystemAt}
 use Rattle.sdb_linked.specs.Going.{IsGoing}
 use Rattle.sdb_spread.specs.Spread.{AreAbout, HoldAs, IsAbout, is_played, moved_event, moved_events, one_shelf}
 use Rattle.sdb_spread.proofs.Moved.{begun_moved, moved_more, point_moved}
-use Rattle.sdb_endings.proofs.Ended.{or_true, starts_empty}
+use Rattle.sdb_endings.proofs.Ended.{starts_empty}
 use Rattle.sdb_endings.proofs.Moments.{Alone, alone}
 use Rattle.sdb_endings.proofs.Noted.{calls_agree, noted_moved}
 use Rattle.sdb_endings.specs.Stores.{AreTaken}

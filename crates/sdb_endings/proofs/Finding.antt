@@ -8,8 +8,6 @@ use Rattle.std.proofs.lemmas.Bool.{cases_lt}
 use Rattle.sdb_types.specs.declared.txid.TxId.{TxId}
 use Rattle.sdb_types.specs.declared.key.Key.{Key}
 use Rattle.sdb_types.specs.declared.pair.Pair.{Pair}
-use Rattle.sdb_types.specs.declared.value.Value.{Value}
-use Rattle.sdb_types.specs.declared.value.Value.TheVariants as value
 use Rattle.sdb_types.specs.declared.record.Record.{Record}
 use Rattle.sdb_types.specs.declared.record.Request.{Request}
 use Rattle.sdb_types.specs.declared.record.Request.TheVariants as ask
@@ -20,7 +18,7 @@ use Rattle.sdb_types.specs.Columns.{column}
 use Rattle.sdb_types.specs.Contents.{Contents, after, holds, is_partition, record_at, tx_id}
 use Rattle.sdb_types.specs.Exact.{equal_of}
 use Rattle.sdb_types.specs.Order.{key_cmp, table_cmp}
-use Rattle.sdb_types.proofs.Basics.{all_each, by_test, clash, none_some, not_true, some_is}
+use Rattle.sdb_types.proofs.Basics.{all_each, by_test, clash, none_some, not_true, some_is, one_of}
 use Rattle.sdb_types.proofs.Bools.{and_both, and_first}
 use Rattle.sdb_types.proofs.KeyOrder.{table_exact}
 use Rattle.sdb_types.proofs.Replies.{record_at-key}
@@ -30,7 +28,7 @@ use Rattle.sdb_record.specs.declared.coordinator.Decided.{Decided}
 use Rattle.sdb_record.specs.Coordinator.{coordinator_key_of, coordinator_table, decision_in, is_coordinator_table}
 use Rattle.sdb_record.specs.Meta.{id_in, id_in_value, is_in, is_taken}
 use Rattle.sdb_record.specs.Rolls.{image_of, row_of_image}
-use Rattle.sdb_record.proofs.IdLemmas.{id_of_text-is}
+use Rattle.sdb_record.proofs.IdLemmas.{id_in_value-fits}
 use Rattle.sdb_record.proofs.ImageLaws.{image-settled}
 use Rattle.sdb_model.specs.declared.answer.Answer.{Answer}
 use Rattle.sdb_model.specs.declared.answer.Answer.TheVariants as answer
@@ -46,7 +44,6 @@ use Rattle.sdb_model.specs.Images.{decision_at, decision_on}
 use Rattle.sdb_model.specs.Noted.{reads_rows, resolved, same_key}
 use Rattle.sdb_model.specs.Shown.{AnswersShow, AreShown, CommittedBy, HasRow, ReadsKey, ShowsOwn, WasCommitted, WasFound}
 use Rattle.sdb_model.specs.Transactions.{Said, client_of}
-use Rattle.sdb_laws.specs.Lawful.{row_among}
 use Rattle.sdb_laws.proofs.Effects.{AtCall, after_put, at_call}
 use Rattle.sdb_laws.proofs.Keys.{same_key_tells}
 use Rattle.sdb_laws.proofs.Moments.{apart_from}
@@ -54,8 +51,9 @@ use Rattle.sdb_laws.proofs.Shown.{get_reply, scan_reply}
 use Rattle.sdb_endings.specs.Shown.{FoundDecided, IsDecidedIn, IsReader, ReadBy}
 use Rattle.sdb_endings.specs.Stores.{AreTaken}
 use Rattle.sdb_endings.proofs.Agreeing.{Stands, decisions_agree, same_row, shown_stands}
-use Rattle.sdb_endings.proofs.Calls.{IsAt, IsWithin, a_later, call_at, effect_at, later_call, one_of, the_first, within_statement}
+use Rattle.sdb_endings.proofs.Calls.{IsAt, IsWithin, a_later, call_at, effect_at, later_call, the_first, within_statement}
 use Rattle.sdb_endings.proofs.Others.{PutsAt, stood_or_put}
+use Rattle.sdb_laws.proofs.Current.{among_is}
 
 ---- one event
 
@@ -98,10 +96,6 @@ standing_key places now key r h = by (held_by now (store_of places now key.table
 
 ---- what a read shows
 
-among_rows : (rows : List Record) (key : Key) → record_among rows key ≡ row_among rows key
-unfolding same_key
-among_rows rows key = refl
-
 found_among : (rows : List Record) (key : Key) (r : Record) → record_among rows key ≡ Some r → Contains rows r
 found_among [] key r h = none_some r h
 found_among (x ∷ xs) key r h = by (is_eq (key_cmp x.key key)) h (found_among xs key r)
@@ -130,7 +124,7 @@ read_of (ask.Scan span) (reply.Rows rows) key found (inside, is) = record {
   reads = inside;
   is = refl;
   table = table_exact span.table key.table (equal_of (table_cmp span.table key.table) (and_first (is_eq (table_cmp span.table key.table)) (is_partition span.partition key) inside));
-  stood = λ places before now a. sym (scan_reply places span (reply.Rows rows) rows before now a refl key inside) ∙ sym (among_rows rows key) ∙ is;
+  stood = λ places before now a. sym (scan_reply places span (reply.Rows rows) rows before now a refl key inside) ∙ sym (among_is rows key) ∙ is;
   shown = λ y e. found_among rows key y (is ∙ e);
 }
 read_of (ask.Get k) r key found h = absurd h
@@ -139,11 +133,6 @@ read_of (ask.PutIf rec c) r key found h = absurd h
 read_of (ask.DeleteIf k c) r key found h = absurd h
 
 ---- decisions
-
-id_fits : (o : Option Value) (id : TxId) → id_in_value o ≡ Some id → id.0 < 2 ^ 128
-id_fits None id h = none_some id h
-id_fits (Some (value.Text text)) id h = (id_of_text-is text id h).0
-id_fits (Some v) id h = none_some id h
 
 -- a call that shows the decision that is learned
 record IsLearned (calls : List Made) (id : TxId) : Type 0 where
@@ -263,7 +252,7 @@ module _ (catalog : List Table) (places : List Place) (events : List Event) (ope
 
     module _ (r : Record) (is : w.found ≡ Some r) (open_still : is_in state.Committed r.columns ≡ false) (d : IsDecidedIn events client s r) where
       fits : d.id.0 < 2 ^ 128
-      fits = id_fits (column r.columns tx_id) d.id d.writer
+      fits = id_in_value-fits (column r.columns tx_id) d.id d.writer
 
       abbrev row_of : ℕ → Option Record
       row_of at = standing places (now at) (coordinator_key_of d.id)

@@ -25,10 +25,11 @@ use Rattle.sdb_spread.proofs.Single.{Single, single}
 use Rattle.sdb_spread.proofs.Told.{one_standing}
 use Rattle.sdb_endings.specs.Points.{HavePoints}
 use Rattle.sdb_endings.specs.Stores.{AreSound, IsPlayedOn}
-use Rattle.sdb_endings.proofs.Ended.{decides, or_true, starts_empty}
+use Rattle.sdb_endings.proofs.Ended.{decides, starts_empty}
 use Rattle.sdb_endings.proofs.Recorded.{have_points}
 use Rattle.sdb_endings.proofs.Runs.{ByLaws, by_laws}
 use Rattle.sdb_endings.proofs.Standing.{are_known}
+use Rattle.sdb_types.proofs.Basics.{or_true}
 
 rows_played : (catalog : List Table) (table : TableName) → is_coordinator_table table ≡ true → is_played catalog table ≡ true
 rows_played catalog table h = rw h (or_true (is_some (find_table catalog table)))

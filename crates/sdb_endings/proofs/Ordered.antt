@@ -8,8 +8,8 @@ use Rattle.sdb_model.specs.declared.event.Event.{Event}
 use Rattle.sdb_model.specs.declared.event.Point.{Point}
 use Rattle.sdb_model.specs.declared.script.Place.{Place}
 use Rattle.sdb_model.specs.Events.{Shelf}
-use Rattle.sdb_model.specs.Transactions.{IsOrder, Recorded, commit_of}
-use Rattle.sdb_endings.specs.Order.{ArePointsApart, HasRisen}
+use Rattle.sdb_model.specs.Transactions.{IsOrder, Recorded, commit_of, ArePointsApart}
+use Rattle.sdb_endings.specs.Order.{HasRisen}
 use Rattle.sdb_endings.specs.Points.{HavePoints}
 
 map_at : (ps : List Point) (p : Point) (k : ℕ) → k < length ps → slice_index_or ps k p ≡ p → (k < length (map (λ (q : Point). q.id) ps)) × (slice_index_or (map (λ (q : Point). q.id) ps) k p.id ≡ p.id)

@@ -4,11 +4,7 @@ use Rattle.std.specs.List.Sorted.{IsStrictlyIncreasing}
 use Rattle.sdb_types.specs.declared.txid.TxId.{TxId}
 use Rattle.sdb_model.specs.declared.event.Event.{Event}
 use Rattle.sdb_model.specs.declared.event.Point.{Point}
-use Rattle.sdb_model.specs.Transactions.{point}
-
--- Of the ids of a list, two that have one point, other than 0, are one.
-abbrev pub ArePointsApart : List Event → List TxId → Type 0
-ArePointsApart events ids = (id other : TxId) → Contains ids id → Contains ids other → point events id ≡ point events other → point events id ≢ 0 → id ≡ other
+use Rattle.sdb_model.specs.Transactions.{point, ArePointsApart}
 
 -- Those of a list that have a point, each with it, by rising point.
 pub record HasRisen (events : List Event) (ids : List TxId) (order : List Point) : Type 0 where

@@ -24,7 +24,7 @@ use Rattle.sdb_schema.specs.declared.table.Order.{Order}
 use Rattle.sdb_schema.specs.declared.table.Table.{Table}
 use Rattle.sdb_schema.specs.Table.{has_column, key_names, is_key_column as is_listed_key}
 use Rattle.sdb_schema.specs.Rows.{is_of_kind, is_in_range, is_value_of, are_values_of, is_stored_in, fits_table}
-use Rattle.sdb_model.specs.Rows.{Name, same_name, at_kind, fits_int, kind_of_column, literal_at, is_key_column, order_names, value_in}
+use Rattle.sdb_model.specs.Rows.{Name, same_name, at_kind, kind_of_column, literal_at, is_key_column, order_names, value_in}
 use Rattle.sdb_record.specs.declared.access.Image.{Image}
 use Rattle.sdb_record.specs.declared.write.Change.TheVariants as change
 use Rattle.sdb_model.specs.declared.statement.Insert.{Insert}
@@ -36,6 +36,7 @@ use Rattle.sdb_model.specs.declared.statement.Mention.{Mention}
 use Rattle.sdb_model.specs.Refused.{suits, is_within, first_place, is_unknown, names_key, is_of_other_kind, is_null_in_key, is_out_of_range, mention_of_set, listed, written, looked_at, mentions, set_by, lacking, missing_place, refusal, or_next, column_refusal, key_refusal, literal_refusal, refusal_on}
 use Rattle.sdb_exec.specs.Plans.{columns_at, put_row, changes_on, change_fits, has_all_literals}
 use Rattle.sdb_exec.proofs.Laid.{keyed}
+use Rattle.sdb_types.specs.Fits.{fits_int}
 
 ---- what isn't found
 

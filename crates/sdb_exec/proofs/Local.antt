@@ -28,6 +28,7 @@ use Rattle.sdb_exec.specs.Plans.{has_shape, are_shaped, put_row, columns_at, ans
 use Rattle.sdb_exec.proofs.Narrow.{narrow, tests_imply_access}
 use Rattle.sdb_exec.proofs.Laid.{outcome, keyed, laid, mapped_at, find-mapped, sieved_at, find-sieved}
 use Rattle.sdb_types.proofs.Basics.{truth as true_from_T, cond_some as each}
+use Rattle.sdb_model.proofs.Basics.{where_rows}
 
 -- the rows that pass are found among those of the access
 pub passing : (t : Table) (ts : List Test) (d : Tables) → is_table t ≡ true → are_shaped t (all_rows d) ≡ true → filter (passes t ts) (all_rows d) ≡ filter (passes t ts) (rows_at (access_for t ts) d)
@@ -113,12 +114,6 @@ same_after t statement.Rollback d table shaped = refl
 same_after t statement.Vacuum d table shaped = refl
 
 -- two tables that agree at the access's keys
-
-pub where_rows : (p : Key → Bool) (es : List (Key × List Pair)) → filter (λ r. p r.key) (map row_of_entry es) ≡ map row_of_entry (where_key key_cmp p es)
-where_rows p [] = refl
-where_rows p (e ∷ es) =
-    let rest : filter (λ r. p r.key) (map row_of_entry es) ≡ map row_of_entry (where_key key_cmp p es) = where_rows p es in
-    elim (p e.0) as (λ b. cond b (row_of_entry e ∷ filter (λ r. p r.key) (map row_of_entry es)) (filter (λ r. p r.key) (map row_of_entry es)) ≡ map row_of_entry (cond b (e ∷ where_key key_cmp p es) (where_key key_cmp p es))) [ true ↦ ap (λ rs. row_of_entry e ∷ rs) rest | false ↦ rest ]
 
 pub part : (p : Key → Bool) → Tables → Tables
 part p d = from_sorted (where_key key_cmp p (entries d))

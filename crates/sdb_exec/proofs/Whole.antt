@@ -66,12 +66,12 @@ get_own k q h =
 pub turned : (t : TableName) (q : Key) → is_eq (table_cmp t q.table) ≡ true → is_eq (table_cmp q.table t) ≡ true
 turned t q h = (eq_by_cmp_equiv table_total).symm q.table t ∙ h
 
-by_own : (t : TableName) (a b : Option (List Value)) (q : Key) → in_access (access_by t a b) q ≡ true → is_eq (table_cmp q.table t) ≡ true
+pub by_own : (t : TableName) (a b : Option (List Value)) (q : Key) → in_access (access_by t a b) q ≡ true → is_eq (table_cmp q.table t) ≡ true
 by_own t None b q h = turned t q (and_parts (is_eq (table_cmp t q.table)) true h).0
 by_own t (Some ps) None q h = turned t q (and_parts (is_eq (table_cmp t q.table)) _ h).0
 by_own t (Some ps) (Some cs) q h = get_own (record { table = t; partition = ps; clustering = cs }) q h
 
-own : (t : Table) (s : Statement) (q : Key) → in_access (access_of t s) q ≡ true → is_eq (table_cmp q.table t.name) ≡ true
+pub own : (t : Table) (s : Statement) (q : Key) → in_access (access_of t s) q ≡ true → is_eq (table_cmp q.table t.name) ≡ true
 own t (statement.Insert s) q h = get_own (key_of t s) q h
 own t (statement.Upsert s) q h = get_own (key_of t s) q h
 own t (statement.Update s) q h = by_own t.name _ _ q h

@@ -18,11 +18,7 @@ use Rattle.sdb_hashed.specs.declared.section.Section.{Section}
 use Rattle.sdb_hashed.specs.Section.{section_of, section_eq}
 use Rattle.sdb_hashed.specs.Gathered.{gathered, held, bucket_of, HasOwnKeys}
 use Rattle.sdb_hashed.proofs.Sections.{section_same, section_own, section_turned, other_key}
-use Rattle.sdb_types.proofs.Basics.{or_else}
-
-or_none : {X : Type 0} (o : Option X) → or_else o None ≡ o
-or_none None = refl
-or_none (Some x) = refl
+use Rattle.sdb_types.proofs.Basics.{or_else, or_none}
 
 pub find_append : (q : Key) (xs ys : List (Key × List Pair)) → find key_cmp q (xs ++ ys) ≡ or_else (find key_cmp q xs) (find key_cmp q ys)
 find_append q [] ys = refl

@@ -41,13 +41,13 @@ use Rattle.sdb_said.specs.declared.played.Played.{Played}
 use Rattle.sdb_said.specs.Values.{word_of, all_played, note_of, plan_in, writes_in, notes_in, moment_in, write_in, same_request, same_span}
 use Rattle.sdb_said.specs.Said.{taken_in, open_in, owner_of, stopped_in, staged_in, deciding_in, asked_in, told_in, checked_in}
 use Rattle.sdb_lawful.specs.Rules.{is_sound, fits_reply, in_commit, is_put, puts_write, prepares_well, is_as_noted, are_as_noted, finds_noted, checks_well, same_noted, agrees_at, agrees, is_note_checked, decides_well, aborts_well}
-use Rattle.sdb_said.proofs.Lists.{none_some, right, both, or_left, not_true, true_not, not_both, In, all_each, each_all, found_some, got_in, in_got, got_map, placed_each, each_placed}
+use Rattle.sdb_said.proofs.Lists.{none_some, right, or_left, not_true, true_not, not_both, In, all_each, each_all, found_some, got_in, in_got, got_map, placed_each, each_placed}
 use Rattle.sdb_said.proofs.SaidLaws.{is_deciding, is_later, taken_is, open_is, owner_is, stopped_is, staged_is, deciding_is, asked_is, told_is, checked_is}
 use Rattle.sdb_said.proofs.ShownLaws.{number_is, is_number, key_is, is_key}
 use Rattle.sdb_lawful.proofs.PlanLaws.{is_sound_of, write_is, write_in_is, write_own, written_at, noted_says, says_noted, got_says, says_got, says_scan, among_is}
 use Rattle.sdb_lawful.proofs.TakeLaws.{key_within, is_within}
 use Rattle.sdb_types.proofs.Basics.{clash, or_second as or_right, some_is, either, decides as decide}
-use Rattle.sdb_types.proofs.Bools.{and_first as left}
+use Rattle.sdb_types.proofs.Bools.{and_first as left, and_both as both}
 use Rattle.sdb_said.proofs.Requests.{request_is, is_request}
 
 ---- calls

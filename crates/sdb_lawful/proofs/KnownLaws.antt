@@ -18,12 +18,12 @@ use Rattle.sdb_said.specs.Values.{all_played, role_of, plan_in, writes_in, momen
 use Rattle.sdb_said.specs.Said.{is_take_of, is_prepare_of, taken_in, asked_in, risked_in, won_in, dead_in, met_in}
 use Rattle.sdb_said.specs.Shown.{shown, moments, shows_commit, shows_abort}
 use Rattle.sdb_lawful.specs.Rules.{is_sound, is_known_committed, is_known_aborted, prepared_by, own, with_own, has_own_moment, known_moments}
-use Rattle.sdb_said.proofs.Lists.{none_some, right, both, or_left, not_true, true_not, In}
+use Rattle.sdb_said.proofs.Lists.{none_some, right, or_left, not_true, true_not, In}
 use Rattle.sdb_said.proofs.SaidLaws.{taken_is, asked_is, won_is, dead_is, met_is, risked_is}
 use Rattle.sdb_said.proofs.ShownLaws.{in_more, more_in, last_in, number_is, commit_shown, shows_commit_of, abort_shown, shows_abort_of, moment_shown, shown_moment}
 use Rattle.sdb_lawful.proofs.PlanLaws.{is_sound_of, write_is}
 use Rattle.sdb_types.proofs.Basics.{clash, or_second as or_right, some_is, either}
-use Rattle.sdb_types.proofs.Bools.{and_first as left}
+use Rattle.sdb_types.proofs.Bools.{and_first as left, and_both as both}
 
 ---- decisions that are known
 

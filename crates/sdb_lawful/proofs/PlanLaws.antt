@@ -20,10 +20,10 @@ use Rattle.sdb_said.specs.declared.plan.Note.{Note}
 use Rattle.sdb_said.specs.declared.plan.Note.TheVariants as note
 use Rattle.sdb_said.specs.Values.{note_of, plan_in, writes_in, notes_in, write_in}
 use Rattle.sdb_lawful.specs.Rules.{is_base, is_sound}
-use Rattle.sdb_said.proofs.Lists.{none_some, right, both, In, found_in, got_map}
+use Rattle.sdb_said.proofs.Lists.{none_some, right, In, found_in, got_map}
 use Rattle.sdb_said.proofs.ShownLaws.{key_is, is_key}
 use Rattle.sdb_types.proofs.Basics.{some_is}
-use Rattle.sdb_types.proofs.Bools.{and_first as left}
+use Rattle.sdb_types.proofs.Bools.{and_first as left, and_both as both}
 
 ---- writes
 

@@ -33,13 +33,13 @@ use Rattle.sdb_said.specs.Values.{all_played, plan_in}
 use Rattle.sdb_said.specs.Said.{is_begin_of, touches, opens, ends_with, open_in, owner_of, stopped_in}
 use Rattle.sdb_said.specs.Shown.{shown, is_held_by, is_kept_in, keeps_none, is_forward, settles_gone}
 use Rattle.sdb_lawful.specs.Rules.{own, known_moments, is_rolled_forward, rolls_open, rolls_forward, is_put_back, is_taken_back, undoes, rolls_back, rolls_well, is_left, is_shut, are_shut, removes_version, removes_well, is_known_aborted}
-use Rattle.sdb_said.proofs.Lists.{right, both, or_left, not_true, true_not, not_both, any_some, some_any, all_each, each_all, found_in}
+use Rattle.sdb_said.proofs.Lists.{right, or_left, not_true, true_not, not_both, any_some, some_any, all_each, each_all, found_in}
 use Rattle.sdb_said.proofs.SaidLaws.{open_is, owner_is, stopped_is}
 use Rattle.sdb_said.proofs.ShownLaws.{number_is, is_number, key_is, is_key, is_shown, forward_is, is_forward_at, kept_is, is_kept_of, keeps_none_is, is_keeps_none}
 use Rattle.sdb_said.proofs.SettledLaws.{held_by, is_held_by_of, gone_is, gone_of}
 use Rattle.sdb_lawful.proofs.KnownLaws.{moment_known, known_moment, aborted_is, is_aborted, own_is, is_own}
 use Rattle.sdb_types.proofs.Basics.{clash, or_second as or_right, either, decides as decide}
-use Rattle.sdb_types.proofs.Bools.{and_first as left}
+use Rattle.sdb_types.proofs.Bools.{and_first as left, and_both as both}
 
 -- each write of a key that it has asked to prepare has the form of records
 abbrev pub Sound : List Played → List Plan → ℕ → Key → Type 0

@@ -1,6 +1,6 @@
 -- The tests of BEGIN and of the taking of a COMMIT decide their rules.
 use Rattle.std.proofs.Common.{◌≡◌, ℕ, ◌^◌, Bool, true, false, List, [], Option, Some, None, inl, inr, refl, sym, ap, subst, ◌∙◌}
-use Rattle.std.specs.Prelude.{◌&&◌, ◌==◌, not, nat_lt, slice_get}
+use Rattle.std.specs.Prelude.{◌&&◌, ◌==◌, not, nat_lt, slice_get, unwrap_or}
 use Rattle.std.specs.Option.{option_map_or}
 use Rattle.std.specs.Ordering.{is_eq}
 use Rattle.std.specs.declared.cmp.Ordering.{Ordering}
@@ -38,13 +38,13 @@ use Rattle.sdb_said.specs.Values.{all_played, note_of, plan_in, writes_in, notes
 use Rattle.sdb_said.specs.Said.{begun_in, taken_in, open_in, owner_of, stopped_in}
 use Rattle.sdb_said.specs.Shown.{shown, is_settled}
 use Rattle.sdb_lawful.specs.Rules.{is_sound, is_fine_write, is_fine_key, are_fine_writes, is_fine_version, is_fine_found, is_fine_note, begins_well, takes_well}
-use Rattle.sdb_said.proofs.Lists.{none_some, right, both, or_left, not_true, true_not, not_both, all_each, each_all, got_in, in_got}
+use Rattle.sdb_said.proofs.Lists.{none_some, right, or_left, not_true, true_not, not_both, all_each, each_all, got_in, in_got}
 use Rattle.sdb_said.proofs.SaidLaws.{is_zero, zero_is, begun_is, taken_is, open_is, owner_is, stopped_is}
 use Rattle.sdb_said.proofs.ShownLaws.{number_is, is_number}
 use Rattle.sdb_said.proofs.SettledLaws.{settled_is, is_settled_of, HasSettled, settles_is, settles_of}
 use Rattle.sdb_lawful.proofs.PlanLaws.{sound_is, is_sound_of, write_is, write_in_is, write_own, noted_says, says_noted, got_says, says_got, scan_says, says_scan, among_is}
 use Rattle.sdb_types.proofs.Basics.{clash, or_second as or_right, some_is, either, decides as decide}
-use Rattle.sdb_types.proofs.Bools.{and_first as left}
+use Rattle.sdb_types.proofs.Bools.{and_first as left, and_both as both}
 use Rattle.sdb_model.specs.Transactions.{is_done}
 
 ---- BEGIN
@@ -113,18 +113,14 @@ equal_is Greater h = clash (sym h)
 span_table : (span : Span) (k : Key) → in_span span k ≡ true → is_data k ≡ not (is_coordinator_table span.table)
 span_table span k h = ap (λ x. not (is_coordinator_table x)) (sym (table_exact span.table k.table (equal_is (table_cmp span.table k.table) (left (is_eq (table_cmp span.table k.table)) (is_partition span.partition k) h))))
 
-abbrev pub partition_of : Option (List Value) → List Value
-partition_of None = []
-partition_of (Some part) = part
-
 -- a key in a span
 abbrev pub key_within : Span → List Value → Key
-key_within span clustering = record { table = span.table; partition = partition_of span.partition; clustering = clustering }
+key_within span clustering = record { table = span.table; partition = unwrap_or span.partition []; clustering = clustering }
 
 pub is_within : (span : Span) (clustering : List Value) → in_span span (key_within span clustering) ≡ true
 is_within span clustering = both (is_eq (table_cmp span.table span.table)) (is_partition span.partition (key_within span clustering)) (ap is_eq (tied_itself table_total span.table)) (by span.partition)
   where
-    by : (o : Option (List Value)) → is_partition o (record { table = span.table; partition = partition_of o; clustering = clustering }) ≡ true
+    by : (o : Option (List Value)) → is_partition o (record { table = span.table; partition = unwrap_or o []; clustering = clustering }) ≡ true
     by None = refl
     by (Some part) = ap is_eq (tied_itself (lists_total value_total) part)
 

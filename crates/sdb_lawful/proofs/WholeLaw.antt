@@ -17,8 +17,8 @@ use Rattle.sdb_said.specs.declared.played.Played.{Played}
 use Rattle.sdb_said.specs.Values.{all_played, played_of, role_of, plan_in}
 use Rattle.sdb_said.specs.Said.{taken_in, risked_in}
 use Rattle.sdb_said.specs.Shown.{shown, shows_bad_row}
-use Rattle.sdb_lawful.specs.Rules.{plays_well, stops_well, is_committed_answer, denies, may_tell, may_deny, is_known_committed, is_known_aborted, keeps_rules}
-use Rattle.sdb_said.proofs.Lists.{none_some, right, both, or_left, not_true, true_not, not_both}
+use Rattle.sdb_lawful.specs.Rules.{plays_well, stops_well, denies, may_tell, may_deny, is_known_committed, is_known_aborted, keeps_rules}
+use Rattle.sdb_said.proofs.Lists.{none_some, right, or_left, not_true, true_not, not_both}
 use Rattle.sdb_said.proofs.SaidLaws.{taken_is, asked_is, risked_is}
 use Rattle.sdb_said.proofs.ShownLaws.{number_is, is_number, bad_row_shown, shows_bad_row_of}
 use Rattle.sdb_lawful.proofs.TakeLaws.{begin_is, is_begin, take_is, is_take}
@@ -26,7 +26,8 @@ use Rattle.sdb_lawful.proofs.CallLaws.{prepare_is, is_prepare, check_is, is_chec
 use Rattle.sdb_lawful.proofs.KnownLaws.{known_is, is_known, aborted_is, is_aborted, lawful_sound, lawful_asked}
 use Rattle.sdb_lawful.proofs.RollLaws.{Sound, roll_is, is_roll, remove_is, is_remove}
 use Rattle.sdb_types.proofs.Basics.{clash, or_second as or_right, some_is, either, decides as decide}
-use Rattle.sdb_types.proofs.Bools.{and_first as left}
+use Rattle.sdb_types.proofs.Bools.{and_first as left, and_both as both}
+use Rattle.sdb_model.specs.Transactions.{is_committed_answer}
 
 ---- parts
 

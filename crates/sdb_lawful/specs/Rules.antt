@@ -23,7 +23,6 @@ use Rattle.sdb_record.specs.Meta.{is_in, is_taken, is_moment, is_committed}
 use Rattle.sdb_record.specs.Moved.{version_of, condition_of, is_unchanged, same_version}
 use Rattle.sdb_record.specs.Rolls.{is_change, prepared_record}
 use Rattle.sdb_model.specs.declared.answer.Answer.{Answer}
-use Rattle.sdb_model.specs.declared.answer.Answer.TheVariants as answer
 use Rattle.sdb_model.specs.declared.event.Event.{Event}
 use Rattle.sdb_model.specs.declared.event.Event.TheVariants as event
 use Rattle.sdb_model.specs.Sql.{reads_begin, reads_commit}
@@ -40,7 +39,7 @@ use Rattle.sdb_said.specs.declared.played.Played.{Played}
 use Rattle.sdb_said.specs.Values.{note_of, writes_in, notes_in, moment_in, write_in, same_request, same_span}
 use Rattle.sdb_said.specs.Said.{taken_in, begun_in, asked_in, told_in, checked_in, staged_in, deciding_in, risked_in, won_in, dead_in, met_in, stopped_in, owner_of, open_in}
 use Rattle.sdb_said.specs.Shown.{shown, is_held_by, is_kept_in, keeps_none, is_forward, moments, shows_commit, shows_abort, shows_bad_row, is_settled, settles, settles_gone}
-use Rattle.sdb_model.specs.Transactions.{is_done}
+use Rattle.sdb_model.specs.Transactions.{is_done, is_committed_answer}
 
 ---- writes and notes
 
@@ -254,10 +253,6 @@ plays_well rs past plans e (role.Ends t) = false
 plays_well rs past plans e (role.Stops c) = stops_well e c
 
 ---- answers
-
-abbrev pub is_committed_answer : Option Answer → Bool
-is_committed_answer (Some answer.Committed) = true
-is_committed_answer _ = false
 
 abbrev pub denies : Option Answer → Bool
 denies o = option_map_or is_denial o false

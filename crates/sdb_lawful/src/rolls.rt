@@ -5,7 +5,8 @@ ghost use Rattle.std.specs.List.{list_any};
 ghost use Rattle.sdb_record.specs.Meta.{is_committed as is_committed_lem};
 ghost use Rattle.sdb_laws.specs.Lawful.{answer_of as answer_of_lem, is_denial as is_denial_lem};
 ghost use Rattle.sdb_said.specs.Shown.{is_kept_in as is_kept_in_lem, keeps_none as keeps_none_lem, is_held_by as is_held_by_lem, is_forward as is_forward_lem};
-ghost use Rattle.sdb_lawful.specs.Rules.{is_known_committed as is_known_committed_lem, is_known_aborted as is_known_aborted_lem, own as own_lem, with_own, has_own_moment as has_own_moment_lem, known_moments as known_moments_lem, any_held_forward as any_held_forward_lem, is_rolled_forward as is_rolled_forward_lem, rolls_open as rolls_open_lem, rolls_forward, is_put_back as is_put_back_lem, is_taken_back as is_taken_back_lem, undoes as undoes_lem, rolls_back, rolls_well, removes_version as removes_version_lem, removes_well, is_committed_answer as is_committed_answer_lem, denies as denies_lem, may_tell as may_tell_lem, may_deny as may_deny_lem, answers_well};
+ghost use Rattle.sdb_lawful.specs.Rules.{is_known_committed as is_known_committed_lem, is_known_aborted as is_known_aborted_lem, own as own_lem, with_own, has_own_moment as has_own_moment_lem, known_moments as known_moments_lem, any_held_forward as any_held_forward_lem, is_rolled_forward as is_rolled_forward_lem, rolls_open as rolls_open_lem, rolls_forward, is_put_back as is_put_back_lem, is_taken_back as is_taken_back_lem, undoes as undoes_lem, rolls_back, rolls_well, removes_version as removes_version_lem, removes_well, denies as denies_lem, may_tell as may_tell_lem, may_deny as may_deny_lem, answers_well};
+ghost use Rattle.sdb_model.specs.Transactions.{is_committed_answer as is_committed_answer_lem};
 
 use crate::commit::{is_data, prepared_by};
 use crate::rules::are_shut;

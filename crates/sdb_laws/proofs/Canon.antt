@@ -40,7 +40,7 @@ firm_committed plan t k = forward-committed (held_record plan t k) (plan t).now
 
 ---- versions
 
-some_id : (t u : ℕ) → Some (id t) ≡ Some (id u) → t ≡ u
+pub some_id : (t u : ℕ) → Some (id t) ≡ Some (id u) → t ≡ u
 some_id t u e = ap (λ (x : Option TxId). unwrap_or (option_map (λ (i : TxId). i.0) x) 0) e
 
 pub same_writer : (r : Record) (t u : ℕ) → id_in r.columns ≡ Some (id t) → id_in r.columns ≡ Some (id u) → t ≡ u

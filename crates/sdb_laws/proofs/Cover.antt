@@ -6,8 +6,9 @@ use Rattle.sdb_laws.specs.Plan.{Plan, written}
 use Rattle.sdb_laws.specs.History.{Role, Other, Begins, Takes, Prepares, Checks, Decides, Aborts, Rolls, Removes, Ends, Stops, Word, History, start, happens, shadow, IsWriter, Covers}
 use Rattle.sdb_laws.proofs.Keys.{tests}
 use Rattle.sdb_laws.proofs.Allowed.{Allowed}
-use Rattle.sdb_laws.proofs.Small.{PointOk, TakenOk, AskedOk, TookOk, BegunOk, ApartOk, DecidedOk, HeardOk, FirmOk, HeldOk, BaseOk, NotedOk, GoneOk, StandsOk, EarlierOk, RemovedOk, point_kept, taken_kept, asked_kept, took_kept, begun_kept, apart_kept, decided_ok, heard_kept, firm_kept, held_kept, base_kept, noted_kept, gone_kept, stands_kept, earlier_kept, removed_kept, point_fixed}
+use Rattle.sdb_laws.proofs.Small.{PointOk, TakenOk, AskedOk, TookOk, BegunOk, ApartOk, DecidedOk, HeardOk, FirmOk, HeldOk, BaseOk, NotedOk, GoneOk, StandsOk, point_kept, taken_kept, asked_kept, took_kept, begun_kept, apart_kept, decided_ok, heard_kept, firm_kept, held_kept, base_kept, noted_kept, gone_kept, stands_kept, earlier_kept, removed_kept, point_fixed}
 use Rattle.sdb_laws.proofs.Shadow.{shadow_writer, shadow_prepare, shadow_roll, shadow_remove, shadow_abort, UnderOk, OverOk, SawOk, under_kept, over_kept, saw_kept}
+use Rattle.sdb_laws.specs.Explained.{EarlierPrepareHadRow, RemovedBeforeBegin}
 
 abbrev pub CoverOk : (ℕ → Plan) → History → Type 0
 CoverOk plan w = (t : ℕ) (k : Key) → IsWriter plan w k t → Covers w.talk t (shadow plan w k)
@@ -28,8 +29,8 @@ pub record Inv (plan : ℕ → Plan) (w : History) : Type 0 where
   pub noted : NotedOk plan w
   pub gone : GoneOk plan w
   pub stands : StandsOk w
-  pub earlier : EarlierOk w
-  pub removed : RemovedOk w
+  pub earlier : EarlierPrepareHadRow w
+  pub removed : RemovedBeforeBegin w
   pub under : UnderOk plan w
   pub over : OverOk plan w
   pub saw : SawOk plan w

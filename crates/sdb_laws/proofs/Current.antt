@@ -119,7 +119,7 @@ open_changed : (x : Record) (version : Option TxId) → is_in state.Committed x.
 open_changed x None h e = clash (sym e)
 open_changed x (Some v) h e = clash (sym e ∙ not_firm_version v x h)
 
-among_is : (rows : List Record) (key : Key) → record_among rows key ≡ row_among rows key
+pub among_is : (rows : List Record) (key : Key) → record_among rows key ≡ row_among rows key
 unfolding same_key
 among_is rows key = refl
 

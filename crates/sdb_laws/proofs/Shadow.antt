@@ -7,8 +7,8 @@ use Rattle.sdb_laws.specs.Plan.{Plan, written}
 use Rattle.sdb_laws.specs.History.{Role, Other, Begins, Takes, Prepares, Checks, Decides, Aborts, Rolls, Removes, Ends, Stops, Word, Deciding, History, Firm, Held, base_of, has_version, happens, Standing, image_in, or_else, shadow, IsLive, IsWriter}
 use Rattle.sdb_laws.proofs.Keys.{tests}
 use Rattle.sdb_laws.proofs.Allowed.{Allowed}
-use Rattle.sdb_laws.proofs.Small.{writer_kept, decided_kept, TakenOk, AskedOk, TookOk, BegunOk, HeardOk, FirmOk, HeldOk, BaseOk, GoneOk, StandsOk, RemovedOk}
-use Rattle.sdb_laws.specs.Explained.{IsAsFound as Saw}
+use Rattle.sdb_laws.proofs.Small.{writer_kept, decided_kept, TakenOk, AskedOk, TookOk, BegunOk, HeardOk, FirmOk, HeldOk, BaseOk, GoneOk, StandsOk}
+use Rattle.sdb_laws.specs.Explained.{IsAsFound as Saw, RemovedBeforeBegin}
 
 held_taken : (plan : ℕ → Plan) (w : History) (k : Key) (t : ℕ) → HeldOk w → TookOk w → TakenOk w → AskedOk plan w → w.rows k ≡ Some (Held t) → (w.talk.taken t ≡ true) × (written (plan t) k ≢ None)
 held_taken plan w k t held took taken asked h = grind (arith, held k t, took t k, taken t k 0, asked t k)
@@ -63,7 +63,7 @@ under_kept plan w (Checks t i) done ok firm base taken stands stage a = ok
 under_kept plan w (Ends t) done ok firm base taken stands stage a = ok
 under_kept plan w (Stops c) done ok firm base taken stands stage a = ok
 
-pub saw_now : (plan : ℕ → Plan) (w : History) (t : ℕ) (k : Key) (found : Option ℕ) → GoneOk plan w → RemovedOk w → IsLive w.talk t → has_version (w.rows k) found ≡ true → Saw plan w t k found (shadow plan w k)
+pub saw_now : (plan : ℕ → Plan) (w : History) (t : ℕ) (k : Key) (found : Option ℕ) → GoneOk plan w → RemovedBeforeBegin w → IsLive w.talk t → has_version (w.rows k) found ≡ true → Saw plan w t k found (shadow plan w k)
 saw_now plan w t k found gone removed live h = grind (arith, tests, gone k, removed t k)
 
 -- What was shown under a prepare was written by a transaction recorded before it.
@@ -134,7 +134,7 @@ saw_stays plan w r done t k ok over taken begun a h =
     stays : (u : ℕ) → IsWriter plan w k u → (happens plan w r done).decided_at u ≡ w.decided_at u
     stays u x = grind (arith, decided_kept plan w r done u a, x)
 
-saw_prepare : (plan : ℕ → Plan) (w : History) (t0 : ℕ) (k0 : Key) (word : Word) (done : Bool) → SawOk plan w → GoneOk plan w → RemovedOk w → Allowed plan w (Prepares t0 k0 word) done → SawOk plan (happens plan w (Prepares t0 k0 word) done)
+saw_prepare : (plan : ℕ → Plan) (w : History) (t0 : ℕ) (k0 : Key) (word : Word) (done : Bool) → SawOk plan w → GoneOk plan w → RemovedBeforeBegin w → Allowed plan w (Prepares t0 k0 word) done → SawOk plan (happens plan w (Prepares t0 k0 word) done)
 saw_prepare plan w t0 k0 word done ok gone removed a t k h =
     saw_join plan w (happens plan w (Prepares t0 k0 word) done) t0 k0 done t k (at_prepare plan w t0 k0 word done t k h) (λ d. saw_now plan w t0 k0 (base_of (written (plan t0) k0)) gone removed a.1 (a.5 d)) (ok t k) (λ u. refl) (λ u. refl)
   where
@@ -149,7 +149,7 @@ saw_prepare plan w t0 k0 word done ok gone removed a t k h =
       | inr x ↦ rw x.1 (saw_same plan w v t k (base_of (written (plan t) k)) (w.under t k) (sb t) (λ u e. sd u) (ok x.0))
     ]
 
-pub saw_kept : (plan : ℕ → Plan) (w : History) (r : Role) (done : Bool) → SawOk plan w → OverOk plan w → TakenOk w → BegunOk w → GoneOk plan w → RemovedOk w → Allowed plan w r done → SawOk plan (happens plan w r done)
+pub saw_kept : (plan : ℕ → Plan) (w : History) (r : Role) (done : Bool) → SawOk plan w → OverOk plan w → TakenOk w → BegunOk w → GoneOk plan w → RemovedBeforeBegin w → Allowed plan w r done → SawOk plan (happens plan w r done)
 saw_kept plan w (Prepares t k word) done ok over taken begun gone removed a = saw_prepare plan w t k word done ok gone removed a
 saw_kept plan w (Decides u word) done ok over taken begun gone removed a = λ t k h. saw_stays plan w (Decides u word) done t k ok over taken begun a h
 saw_kept plan w (Aborts u m word) done ok over taken begun gone removed a = λ t k h. saw_stays plan w (Aborts u m word) done t k ok over taken begun a h

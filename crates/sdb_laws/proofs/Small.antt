@@ -4,9 +4,10 @@ use Rattle.sdb_types.specs.declared.key.Key.{Key}
 use Rattle.sdb_record.specs.declared.coordinator.Decision.{Decision}
 use Rattle.sdb_record.specs.declared.coordinator.Decision.TheVariants.{Committed, Aborted}
 use Rattle.sdb_laws.specs.Plan.{Plan, written, deletes, noted}
-use Rattle.sdb_laws.specs.History.{Role, Other, Begins, Takes, Prepares, Checks, Decides, Aborts, Rolls, Removes, Ends, Stops, Word, Deciding, History, Firm, Held, base_of, happens, IsLive, IsWriter}
+use Rattle.sdb_laws.specs.History.{Role, Other, Begins, Takes, Prepares, Checks, Decides, Aborts, Rolls, Removes, Ends, Stops, Word, Deciding, History, Firm, Held, base_of, happens, IsWriter}
 use Rattle.sdb_laws.proofs.Keys.{tests}
 use Rattle.sdb_laws.proofs.Allowed.{Allowed}
+use Rattle.sdb_laws.specs.Explained.{EarlierPrepareHadRow, RemovedBeforeBegin}
 
 -- a row never changes
 pub row_kept : (plan : ℕ → Plan) (w : History) (r : Role) (done : Bool) (t : ℕ) (d : Decision) → Allowed plan w r done → w.row t ≡ Some d → (happens plan w r done).row t ≡ Some d
@@ -240,17 +241,13 @@ firm_kept plan w (Checks t i) done ok held base taken took asked a = ok
 firm_kept plan w (Ends t) done ok held base taken took asked a = ok
 firm_kept plan w (Stops c) done ok held base taken took asked a = ok
 
--- two that prepared one key: the first had its row before the second's prepare
-abbrev pub EarlierOk : History → Type 0
-EarlierOk w = (t u : ℕ) (k : Key) → t ≢ u → w.took t k ≡ true → w.took u k ≡ true → w.prepared_at t k < w.prepared_at u k → (w.row t ≢ None) × (w.decided_at t < w.prepared_at u k)
-
-earlier_prepare : (plan : ℕ → Plan) (w : History) (t0 : ℕ) (k0 : Key) (word : Word) (done : Bool) → EarlierOk w → StandsOk w → TookOk w → HeardOk w → Allowed plan w (Prepares t0 k0 word) done → EarlierOk (happens plan w (Prepares t0 k0 word) done)
+earlier_prepare : (plan : ℕ → Plan) (w : History) (t0 : ℕ) (k0 : Key) (word : Word) (done : Bool) → EarlierPrepareHadRow w → StandsOk w → TookOk w → HeardOk w → Allowed plan w (Prepares t0 k0 word) done → EarlierPrepareHadRow (happens plan w (Prepares t0 k0 word) done)
 earlier_prepare plan w t0 k0 word done ok stands took heard a t u k ne ht hu lt = grind (arith, tests, ok t u k, stands t k, took t k, took u k, heard t)
 
-earlier_row : (w v : History) → EarlierOk w → ((t : ℕ) (k : Key) → v.took t k ≡ w.took t k) → ((t : ℕ) (k : Key) → v.prepared_at t k ≡ w.prepared_at t k) → ((t : ℕ) → w.row t ≢ None → (v.row t ≢ None) × (v.decided_at t ≡ w.decided_at t)) → EarlierOk v
+earlier_row : (w v : History) → EarlierPrepareHadRow w → ((t : ℕ) (k : Key) → v.took t k ≡ w.took t k) → ((t : ℕ) (k : Key) → v.prepared_at t k ≡ w.prepared_at t k) → ((t : ℕ) → w.row t ≢ None → (v.row t ≢ None) × (v.decided_at t ≡ w.decided_at t)) → EarlierPrepareHadRow v
 earlier_row w v ok st sp kept t u k ne ht hu lt = grind (arith, ok t u k, st t k, st u k, sp t k, sp u k, kept t)
 
-pub earlier_kept : (plan : ℕ → Plan) (w : History) (r : Role) (done : Bool) → EarlierOk w → StandsOk w → TookOk w → HeardOk w → Allowed plan w r done → EarlierOk (happens plan w r done)
+pub earlier_kept : (plan : ℕ → Plan) (w : History) (r : Role) (done : Bool) → EarlierPrepareHadRow w → StandsOk w → TookOk w → HeardOk w → Allowed plan w r done → EarlierPrepareHadRow (happens plan w r done)
 earlier_kept plan w (Prepares t k word) done ok stands took heard a = earlier_prepare plan w t k word done ok stands took heard a
 earlier_kept plan w (Decides u word) done ok stands took heard a = earlier_row w (happens plan w (Decides u word) done) ok (λ t k. refl) (λ t k. refl) (λ t. decided_kept plan w (Decides u word) done t a)
 earlier_kept plan w (Aborts u m word) done ok stands took heard a = earlier_row w (happens plan w (Aborts u m word) done) ok (λ t k. refl) (λ t k. refl) (λ t. decided_kept plan w (Aborts u m word) done t a)
@@ -263,11 +260,7 @@ earlier_kept plan w (Removes k t) done ok stands took heard a = ok
 earlier_kept plan w (Ends t) done ok stands took heard a = ok
 earlier_kept plan w (Stops c) done ok stands took heard a = ok
 
--- whose tombstone was removed was recorded before each open transaction began
-abbrev pub RemovedOk : History → Type 0
-RemovedOk w = (t : ℕ) (k : Key) (u : ℕ) → w.gone k ≡ Some u → IsLive w.talk t → w.decided_at u < w.talk.begun t
-
-pub removed_kept : (plan : ℕ → Plan) (w : History) (r : Role) (done : Bool) → RemovedOk w → GoneOk plan w → HeardOk w → Allowed plan w r done → RemovedOk (happens plan w r done)
+pub removed_kept : (plan : ℕ → Plan) (w : History) (r : Role) (done : Bool) → RemovedBeforeBegin w → GoneOk plan w → HeardOk w → Allowed plan w r done → RemovedBeforeBegin (happens plan w r done)
 removed_kept plan w r done ok gone heard a t k u h live = grind (arith, tests, ok t k u, gone k u, heard u, decided_kept plan w r done u a)
 
 noted_take : (plan : ℕ → Plan) (w : History) (t0 : ℕ) (done : Bool) → NotedOk plan w → PointOk w → TakenOk w → Allowed plan w (Takes t0) done → NotedOk plan (happens plan w (Takes t0) done)

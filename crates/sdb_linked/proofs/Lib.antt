@@ -4,5 +4,6 @@ pub mod Noting
 pub mod Mild
 pub mod Small
 pub mod Steps
+pub mod Calls
 pub mod Rests
 pub mod Ends

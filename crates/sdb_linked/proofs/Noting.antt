@@ -36,7 +36,7 @@ use Rattle.sdb_phases.specs.Commit.{Stage, Preparing, Checking, Deciding, Forwar
 use Rattle.sdb_phases.specs.Work.{Work}
 use Rattle.sdb_snapshot.specs.Seen.{Seen, nothing, with_written}
 use Rattle.sdb_turns.specs.Noted.{with_read}
-use Rattle.sdb_turns.specs.ReadAt.{AreKinds, Done, IsOfData, Kind, ReadAt, ReadOk, read_pending, read_step, request_of}
+use Rattle.sdb_turns.specs.ReadAt.{AreKinds, Done, IsOfData, ReadAt, ReadOk, read_pending, read_step}
 use Rattle.sdb_turns.specs.System.{ClientAt, Committing, IsBy, Open, Reading, Resting, Stopped, Sweeping, commit_left}
 use Rattle.sdb_turns.proofs.Lists.{each_more}
 use Rattle.sdb_story.specs.Calls.{AgreeOn, Learned, NotesNothing, NotesRead, ReadMade, WasAnswered, call_made, calls_since}
@@ -51,6 +51,7 @@ use Rattle.sdb_linked.specs.Going.{IsSilent}
 use Rattle.sdb_linked.specs.Noted.{ClientNoted, EndedNoted, InsideNoted, IsMadeSince, OpenedNoted}
 use Rattle.sdb_linked.proofs.Own.{below, finished, ran_before, ran_here, settled_begin, settled_gap, settled_inside, settled_over}
 use Rattle.sdb_types.proofs.Basics.{all_each as each_any}
+use Rattle.sdb_read.specs.Read.{request_of, Kind}
 
 ---- what was learned
 

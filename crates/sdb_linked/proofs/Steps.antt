@@ -1,10 +1,8 @@
 -- Each turn of a client, over what ties the events to the clients.
-use Rattle.std.proofs.Common.{◌≡◌, ◌≢◌, ◌<◌, ◌≤◌, ◌+◌, ◌^◌, ℕ, ℤ, suc, Bool, true, false, List, [], ◌∷◌, ◌++◌, length, Option, Some, None, IfSome, refl, sym, ap, ◌∙◌, subst, arith, inl, inr}
+use Rattle.std.proofs.Common.{◌≡◌, ◌≢◌, ◌<◌, ◌+◌, ◌^◌, ℕ, ℤ, suc, Bool, true, false, List, [], ◌∷◌, ◌++◌, length, Option, Some, None, refl, sym, ap, ◌∙◌, subst, arith, inl, inr}
 use Rattle.std.specs.Prelude.{◌==◌, ◌&&◌, ◌||◌, is_some, nat_lt, if◌then◌else◌}
 use Rattle.std.proofs.lemmas.Bool.Decides.{nat_tests}
 use Rattle.sdb_types.specs.declared.record.Record.{Record}
-use Rattle.sdb_types.specs.declared.record.Reply.{Reply}
-use Rattle.sdb_types.specs.declared.record.Request.{Request}
 use Rattle.sdb_types.specs.declared.record.Span.{Span}
 use Rattle.sdb_types.specs.declared.txid.TxId.{TxId}
 use Rattle.sdb_record.specs.declared.access.Access.{Access}
@@ -15,8 +13,6 @@ use Rattle.sdb_model.specs.declared.answer.Answer.{Answer}
 use Rattle.sdb_model.specs.declared.answer.Answer.TheVariants as answer
 use Rattle.sdb_model.specs.declared.event.Event.{Event}
 use Rattle.sdb_model.specs.declared.event.Event.TheVariants as event
-use Rattle.sdb_model.specs.declared.event.How.{How}
-use Rattle.sdb_model.specs.Rows.{Name}
 use Rattle.sdb_model.specs.declared.statement.Statement.{Statement}
 use Rattle.sdb_model.specs.Exec.{Tables}
 use Rattle.sdb_model.specs.Sql.{Reads, reads_begin, reads_commit, reads_rollback}
@@ -24,86 +20,82 @@ use Rattle.sdb_model.specs.Transactions.{Said, begins, changes_nothing, ends, id
 use Rattle.sdb_laws.specs.History.{Begins, Other, Stops, Takes, at}
 use Rattle.sdb_laws.specs.Lawful.{Played, id, talk, ends_with, plays}
 use Rattle.sdb_laws.specs.Plan.{Plan}
-use Rattle.sdb_phases.specs.declared.step.Outcome.{Outcome}
-use Rattle.sdb_phases.specs.declared.step.Outcome.TheVariants as outcome
 use Rattle.sdb_phases.specs.Work.{Work}
 use Rattle.sdb_phases.specs.Checks.{checks}
-use Rattle.sdb_phases.specs.Commit.{Stage, Preparing, Checking, Deciding, Forward, Stopping, Back, Over, pending, preparing, step}
+use Rattle.sdb_phases.specs.Commit.{Stage, Preparing, Checking, Deciding, Forward, Stopping, Back, Over, preparing, step}
 use Rattle.sdb_snapshot.specs.Seen.{Seen, nothing, with_written}
 use Rattle.sdb_snapshot.specs.Written.{AreChanges}
-use Rattle.sdb_turns.specs.Noted.{MayNote, SeenOk, with_read, work_of}
-use Rattle.sdb_turns.specs.Owner.{StageOk, plan_of, role_of}
-use Rattle.sdb_turns.specs.ReadAt.{AreKinds, Asking, Done, IsOfData, Kind, ReadAt, read_pending, read_role, read_step}
-use Rattle.sdb_turns.specs.Sweep.{SweepAt, Scanning, sweep_pending, sweep_role, sweep_step}
-use Rattle.sdb_turns.specs.System.{ClientAt, ClientCall, ClientOk, Has, IsBegin, IsCommit, IsQuiet, IsReplyTo, NoneOpen, NoneSweeps, Open, Committing, Reading, Resting, Sweeping, SamePlans, StandsAt, Stopped, SystemAt, SystemOk, answer_at, answer_of_outcome, begin_played, call_event, commit_begun, commit_left, ending_at, idle, next_id, take_played, with_begun, with_client, with_plan}
+use Rattle.sdb_turns.specs.Noted.{SeenOk, with_read, work_of}
+use Rattle.sdb_turns.specs.Owner.{plan_of}
+use Rattle.sdb_turns.specs.ReadAt.{Asking, Done, IsOfData}
+use Rattle.sdb_turns.specs.Sweep.{Scanning}
+use Rattle.sdb_turns.specs.System.{ClientAt, ClientOk, Has, IsBegin, IsCommit, IsQuiet, NoneOpen, NoneSweeps, Open, Reading, Resting, Sweeping, SamePlans, StandsAt, Stopped, SystemAt, SystemOk, begin_played, commit_begun, commit_left, idle, next_id, take_played, with_begun, with_client, with_plan}
 use Rattle.sdb_turns.proofs.Begin.{begin_turn, untaken}
-use Rattle.sdb_turns.proofs.Calls.{read_turn, read_ends_turn, vacuum_turn}
-use Rattle.sdb_turns.proofs.Commit.{commit_turn, own_kept}
-use Rattle.sdb_turns.proofs.Quiet.{asks, gives_up, leave_turn, notes, quiet_turn, stop_turn, sweep_ends, sweep_goes, sweep_starts, writes}
+use Rattle.sdb_turns.proofs.Quiet.{asks, leave_turn, notes, quiet_turn, stop_turn, sweep_starts, writes}
 use Rattle.sdb_turns.proofs.Seen.{seen_nothing}
 use Rattle.sdb_turns.proofs.Take.{take_turn}
 use Rattle.sdb_story.specs.Body.{AnswersOn, BodyOk, IsCovered}
 use Rattle.sdb_model.specs.Calls.{calls_by}
-use Rattle.sdb_story.specs.Calls.{AgreeOn, NotesRead, ReadMade, calls_since}
+use Rattle.sdb_story.specs.Calls.{AgreeOn, NotesRead}
 use Rattle.sdb_story.specs.Filed.{number}
 use Rattle.sdb_story.specs.Left.{Execution}
 use Rattle.sdb_story.specs.Story.{Closed, Finished, MayCome, Opened, Rest, finished_at}
-use Rattle.sdb_story.specs.Telling.{BeginsHold, IsOpened, IsOrdinary, IsSaid, KeepsHold, StoryOk, Telling, TellsOn, answered_said, begun_in, taken_said, with_answered, with_waiting}
-use Rattle.sdb_story.proofs.Answered.{commit_ends, said_at_once, said_later, story_answers, story_asks, story_begins, story_ends, story_takes, telling_of}
-use Rattle.sdb_story.proofs.Bodies.{body_begins, body_read, body_step}
+use Rattle.sdb_story.specs.Telling.{BeginsHold, IsOpened, IsOrdinary, IsSaid, KeepsHold, StoryOk, Telling, TellsOn, begun_in, taken_said, with_answered, with_waiting}
+use Rattle.sdb_story.proofs.Answered.{commit_ends, said_at_once, story_answers, story_asks, story_begins, story_ends, story_takes, telling_of}
+use Rattle.sdb_story.proofs.Bodies.{body_begins, body_step}
 use Rattle.sdb_story.proofs.Tellings.{SameOf, said_more, same_of, story_stays}
 use Rattle.sdb_story.proofs.Turns.{begun_stands, client_stands, said_nothing_more, said_one_more}
-use Rattle.sdb_linked.specs.Going.{ClientGoes, EndedOk, HandOk, InsideOk, IsClosed, IsCommitting, IsGoing, IsInner, IsMild, IsRunning, IsWaiting, LeavesAtOnce, OpenedOk, RanOk}
+use Rattle.sdb_linked.specs.Going.{ClientGoes, EndedOk, HandOk, IsClosed, IsGoing, IsInner, IsMild, LeavesAtOnce, OpenedOk, RanOk}
 use Rattle.sdb_linked.specs.Noted.{ClientNoted, InsideNoted, IsMadeSince}
 use Rattle.sdb_linked.proofs.Goings.{ended_later, inside_later, kept_apart, turned}
 use Rattle.sdb_linked.proofs.Mild.{effective_by, mild_begins, mild_ends, nothing_mild, rows_mild, uncommitted}
-use Rattle.sdb_linked.proofs.Noting.{IsJustAnswered, at_once, commit_made, inside_nothing, inside_read, made_reads, none_since, noted_asks, noted_begun, noted_commits, noted_elsewhere, noted_gap, noted_inside, noted_over, notes_read, open_noted, since_read, written_noted}
-use Rattle.sdb_linked.proofs.Small.{numbers_same, less_apart, nothing_ran, begins_untaken, committing_as, running_as, twice, waiting_as}
-use Rattle.sdb_linked.proofs.Own.{IsPlainRole, begun, below, closed_as, commit_plain, ended_at, goes_begun, goes_gap, goes_inside, goes_over, gone, inside, opened_as, over, plain_apart, plain_counts, plain_not, ran_here, read_plain, sweep_plain}
+use Rattle.sdb_linked.proofs.Noting.{IsJustAnswered, at_once, commit_made, inside_nothing, inside_read, none_since, noted_asks, noted_begun, noted_commits, noted_elsewhere, noted_gap, noted_inside, noted_over, open_noted, written_noted}
+use Rattle.sdb_linked.proofs.Small.{numbers_same, less_apart, nothing_ran, begins_untaken}
+use Rattle.sdb_linked.proofs.Own.{IsPlainRole, begun, below, closed_as, ended_at, goes_begun, goes_gap, goes_inside, goes_over, gone, inside, opened_as, over, plain_apart, plain_counts, plain_not, ran_here}
 use Rattle.sdb_types.proofs.Basics.{clash, some_is, and_false as no_second, itself as same_number}
 
 ---- one client
 
 module _ (catalog : List Table) (fit : Tables → Bool) (events : List Event) (sys : SystemAt) (doing : ℕ → Option Statement) (g : IsGoing catalog fit events sys doing) (c : ℕ) where
-  abbrev x : Telling
+  abbrev pub x : Telling
   x = g.told c
 
-  abbrev ran : ℕ → Execution
+  abbrev pub ran : ℕ → Execution
   ran = g.ran c
 
-  abbrev n : ℕ
+  abbrev pub n : ℕ
   n = length x.whole
 
-  was : ClientGoes catalog fit g.plan g.past c (doing c) (sys.clients c) x ran
+  pub was : ClientGoes catalog fit g.plan g.past c (doing c) (sys.clients c) x ran
   was = g.clients c
 
-  story : StoryOk events g.past sys c x
+  pub story : StoryOk events g.past sys c x
   story = g.stories c
 
-  stands : (y : ClientAt) → sys.clients c ≡ y → StandsAt g.plan g.past sys c y
+  pub stands : (y : ClientAt) → sys.clients c ≡ y → StandsAt g.plan g.past sys c y
   stands y e = record { ok = g.system; at = e }
 
-  hand_at : (y : ClientAt) → sys.clients c ≡ y → HandOk (doing c) x (ran n) y
+  pub hand_at : (y : ClientAt) → sys.clients c ≡ y → HandOk (doing c) x (ran n) y
   hand_at y e = subst (HandOk (doing c) x (ran n)) e was.hand
 
-  client_at : (y : ClientAt) → sys.clients c ≡ y → ClientOk g.plan g.past c y
+  pub client_at : (y : ClientAt) → sys.clients c ≡ y → ClientOk g.plan g.past c y
   client_at y e = subst (ClientOk g.plan g.past c) e (g.system.each c)
 
-  here : (y : ClientAt) → (with_client sys c y).clients c ≡ y
+  pub here : (y : ClientAt) → (with_client sys c y).clients c ≡ y
   here y = ap (λ b. if b then y else sys.clients c) (same_number c)
 
-  same : SamePlans g.plan g.plan g.past
+  pub same : SamePlans g.plan g.plan g.past
   same t h = refl
 
   -- where a client goes on with what it has in its hands, or less
-  keeps : (y z : ClientAt) → sys.clients c ≡ y → ((u : ℕ) → Has z u → Has y u) → KeepsHold c sys (with_client sys c z)
+  pub keeps : (y z : ClientAt) → sys.clients c ≡ y → ((u : ℕ) → Has z u → Has y u) → KeepsHold c sys (with_client sys c z)
   keeps y z e f = record { begun = refl; hold = λ u h. subst (λ w. Has w u) (sym e) (f u (subst (λ w. Has w u) (here z) h)) }
 
-  kept : (q : Played) → IsPlainRole q.role → EndedOk catalog fit g.plan (q ∷ g.past) c x.whole ran × OpenedOk catalog fit g.plan (q ∷ g.past) (number c n) x.rest (ran n)
+  pub kept : (q : Played) → IsPlainRole q.role → EndedOk catalog fit g.plan (q ∷ g.past) c x.whole ran × OpenedOk catalog fit g.plan (q ∷ g.past) (number c n) x.rest (ran n)
   kept q p = kept_apart catalog fit g.plan g.plan events g.past sys q c x ran same story (plain_apart g.past c q.role p) was.ended was.opened
 
   -- what was so of an open transaction
-  open_ran : (q : Played) → IsPlainRole q.role → (gap : List Said) (b : Said) (body : List Said) → x.rest ≡ Opened gap b body → RanOk catalog fit g.plan (q ∷ g.past) (number c n) body (ran n)
+  pub open_ran : (q : Played) → IsPlainRole q.role → (gap : List Said) (b : Said) (body : List Said) → x.rest ≡ Opened gap b body → RanOk catalog fit g.plan (q ∷ g.past) (number c n) body (ran n)
   open_ran q p gap b body e = subst (λ r. OpenedOk catalog fit g.plan (q ∷ g.past) (number c n) r (ran n)) e (kept q p).1
 
   ---- BEGIN
@@ -180,7 +172,7 @@ module _ (catalog : List Table) (fit : Tables → Bool) (events : List Event) (s
 
   ---- a client's event that says nothing more
 
-  silent : (e : Event) → ((ss : List Said) (k : ℕ) → Rattle.sdb_model.specs.Transactions.said_after c ss (k, e) ≡ ss) → said c (events ++ e ∷ []) ≡ said c events
+  pub silent : (e : Event) → ((ss : List Said) (k : ℕ) → Rattle.sdb_model.specs.Transactions.said_after c ss (k, e) ≡ ss) → said c (events ++ e ∷ []) ≡ said c events
   silent e f = said_more c events e ∙ f (said c events) (1 + length events)
 
   ---- COMMIT is taken
@@ -382,7 +374,7 @@ module _ (catalog : List Table) (fit : Tables → Bool) (events : List Event) (s
     goes_on : ends s ≡ false
     goes_on = mild_ends s b said_so m no_commit
 
-    inside_story : (z : Seen) → TellsOn events g.past q (with_client sys c (Open i z)) c (with_answered x s)
+    pub inside_story : (z : Seen) → TellsOn events g.past q (with_client sys c (Open i z)) c (with_answered x s)
     inside_story z = story_answers events g.past sys (with_client sys c (Open i z)) c x q s story is (subst (λ r. MayCome r s) (sym parts.3) (mild_begins s b said_so m, λ e. uncommitted s.answer b said_so m)) (subst (λ r. IsOrdinary r s) (sym parts.3) goes_on) (plain_counts q.role plain) (plain_apart g.past c q.role plain) (keeps y (Open i z) at_y mine)
 
     -- with what it has run then
@@ -405,7 +397,7 @@ module _ (catalog : List Table) (fit : Tables → Bool) (events : List Event) (s
         by : (m : ℕ) → m + 1 ≡ 1 + m
         by m = omega arith
 
-    idle_noted : changes_nothing b ≡ true → ClientNoted (events ++ q.event ∷ []) c ((with_client sys c (Open i seen)).clients c) (with_answered x s) (at ran n (ran n))
+    pub idle_noted : changes_nothing b ≡ true → ClientNoted (events ++ q.event ∷ []) c ((with_client sys c (Open i seen)).clients c) (with_answered x s) (at ran n (ran n))
     idle_noted idle = inside_noted (ran n) seen (inside_nothing events c q.event parts.2 (ran n).seen s just (inl (effective_by s b true said_so idle)) noted_before)
 
     -- it was answered from rows that were read before
@@ -414,20 +406,20 @@ module _ (catalog : List Table) (fit : Tables → Bool) (events : List Event) (s
         (subst (InsideNoted (events ++ q.event ∷ []) c (parts.2 ++ s ∷ [])) e (inside_nothing events c q.event parts.2 (ran n).seen s just (at_once events c q.event s just now) noted_before))))
 
     -- or from those of its own read
-    read_noted : (r : Execution) (a : Access) (images : List Record) (changes : List Keyed) → (ran n).seen ≡ seen → (AgreeOn (calls_by (events ++ q.event ∷ []) c) → NotesRead (events ++ q.event ∷ []) c s a images) → r.seen ≡ with_written (with_read seen a images) changes
+    pub read_noted : (r : Execution) (a : Access) (images : List Record) (changes : List Keyed) → (ran n).seen ≡ seen → (AgreeOn (calls_by (events ++ q.event ∷ []) c) → NotesRead (events ++ q.event ∷ []) c s a images) → r.seen ≡ with_written (with_read seen a images) changes
         → ClientNoted (events ++ q.event ∷ []) c ((with_client sys c (Open i (with_written (with_read seen a images) changes))).clients c) (with_answered x s) (at ran n r)
     read_noted r a images changes e reads same = inside_noted r (with_written (with_read seen a images) changes) (subst (InsideNoted (events ++ q.event ∷ []) c (parts.2 ++ s ∷ [])) (sym same) (written_noted (events ++ q.event ∷ []) c (parts.2 ++ s ∷ []) (with_read seen a images) changes
         (inside_read events c q.event parts.2 seen s a images just reads (subst (InsideNoted events c parts.2) e noted_before))))
 
     -- it changed nothing
-    idle_own : (changes_nothing b ≡ true) → (ran n).seen ≡ seen → ClientGoes catalog fit g.plan (q ∷ g.past) c None ((with_client sys c (Open i seen)).clients c) (with_answered x s) (at ran n (ran n))
+    pub idle_own : (changes_nothing b ≡ true) → (ran n).seen ≡ seen → ClientGoes catalog fit g.plan (q ∷ g.past) c None ((with_client sys c (Open i seen)).clients c) (with_answered x s) (at ran n (ran n))
     idle_own idle e = inside_own (ran n) seen (record {
       inside = record { seen = before_it.inside.seen; body = before_it.inside.body; said = said_nothing_more parts.2 s (ran n) before_it.inside.said (effective_by s b true said_so idle) };
       planned = before_it.planned;
     }) e
 
     -- it was answered from rows of an access that was read, and its changes were written
-    more_own : (st : Statement) (read : Seen) (a : Access) (changes : List Keyed) → SeenOk (q ∷ g.past) read → SeenOk (q ∷ g.past) (with_written read changes) → BodyOk catalog fit (ran n).body (ran n).answers read → IsCovered read a → AnswersOn catalog fit read st a b changes → Reads s.text st → changes_nothing b ≡ false → (talk g.past).taken (number c n) ≡ false
+    pub more_own : (st : Statement) (read : Seen) (a : Access) (changes : List Keyed) → SeenOk (q ∷ g.past) read → SeenOk (q ∷ g.past) (with_written read changes) → BodyOk catalog fit (ran n).body (ran n).answers read → IsCovered read a → AnswersOn catalog fit read st a b changes → Reads s.text st → changes_nothing b ≡ false → (talk g.past).taken (number c n) ≡ false
         → ClientGoes catalog fit g.plan (q ∷ g.past) c None ((with_client sys c (Open i (with_written read changes))).clients c) (with_answered x s) (at ran n (record { seen = with_written read changes; now = (ran n).now; body = (ran n).body ++ st ∷ []; answers = (ran n).answers ++ b ∷ [] }))
     more_own st read a changes known written body covered answers reads effective fresh = inside_own run (with_written read changes) (record {
       inside = record {
@@ -563,384 +555,6 @@ module _ (catalog : List Table) (fit : Tables → Bool) (events : List Event) (s
           over_now : ends said_of_it ≡ true
           over_now = ap (λ z. (reads_commit text || is_conflict (Some b)) || z) rolls ∙ second (reads_commit text || is_conflict (Some b))
       going_leaves_so (inr h) = going_leaves (λ e. absurd (cc (sym h.0 ∙ e))) (ap (λ z. reads_begin text && is_done (Some z)) h.0 ∙ no_second (reads_begin text)) (commit_ends said_of_it h.1) (λ u e. absurd (cc (sym h.0 ∙ e)))
-
-  ---- calls
-
-  module _ (store : Name) (request : Request) (how : How) (reply : Reply) (now : ℤ) where
-    abbrev y : ClientCall
-    y = record { client = c; store = store; request = request; how = how; reply = reply; now = now }
-
-    call_silent : said c (events ++ call_event y None ∷ []) ≡ said c events
-    call_silent = silent (call_event y None) (λ ss k. refl)
-
-    ---- a call of a COMMIT
-
-    module _ (p : Work) (s : Stage) (at_commit : sys.clients c ≡ Committing p s) (asked : IsReplyTo (pending p s) y) where
-      held_then : IsOpened x.rest × IsCommitting x.waiting
-      held_then = hand_at (Committing p s) at_commit
-
-      commit_id : p.id.0 ≡ number c n
-      commit_id = (story.hold p.id.0 (subst (λ w. Has w p.id.0) (sym at_commit) refl)).1
-
-      abbrev after : Stage
-      after = step p s reply
-
-      -- the event, where the COMMIT is then at a stage
-      abbrev played_at : Stage → Played
-      played_at t = record { event = call_event y (answer_at t); role = role_of p s reply; ends = ending_at p.id.0 t }
-
-      abbrev GoesTo : Stage → Type 0
-      GoesTo t = IsGoing catalog fit (events ++ call_event y (answer_at t) ∷ []) (with_client sys c (commit_left p t)) (at doing c None)
-
-      system_at : (t : Stage) → after ≡ t → SystemOk g.plan (played_at t ∷ g.past) (with_client sys c (commit_left p t))
-      system_at t e = subst (λ t. SystemOk g.plan (played_at t ∷ g.past) (with_client sys c (commit_left p t))) e (commit_turn g.plan g.past sys y p s (stands (Committing p s) at_commit) asked)
-
-      -- it makes a further call
-      more : (t : Stage) → after ≡ t → answer_at t ≡ None → ending_at p.id.0 t ≡ None → commit_left p t ≡ Committing p t → GoesTo t
-      more t e none unended left = subst (λ a. IsGoing catalog fit (events ++ call_event y a ∷ []) (with_client sys c (commit_left p t)) (at doing c None)) (sym none) (turned catalog fit events sys (with_client sys c (commit_left p t)) doing g c None q (record {
-        plan = g.plan;
-        x = x;
-        ran = ran;
-        same = same;
-        system = subst (λ z. SystemOk g.plan (z ∷ g.past) (with_client sys c (commit_left p t))) same_event (system_at t e);
-        by = refl;
-        others = client_stands sys c (commit_left p t);
-        story = story_stays events g.past sys (with_client sys c (commit_left p t)) c x q story (plain_counts q.role plain) (plain_apart g.past c q.role plain) (keeps (Committing p s) (commit_left p t) at_commit (λ u h. subst (λ w. Has w u) left h)) call_silent;
-        own = record { ended = (kept q plain).0; opened = (kept q plain).1; hand = subst (HandOk None x (ran n)) (sym (here (commit_left p t) ∙ left)) held_then };
-        noted = noted_elsewhere events c q.event (sys.clients c) x ran (g.noted c) ((with_client sys c (commit_left p t)).clients c) (subst (IsMadeSince (events ++ q.event ∷ []) c x.waiting) (sym (here (commit_left p t))) (commit_made (events ++ q.event ∷ []) c x.waiting p t));
-      }))
-        where
-          q : Played
-          q = plays (role_of p s reply) (call_event y None)
-
-          plain : IsPlainRole q.role
-          plain = commit_plain p s reply
-
-          same_event : played_at t ≡ q
-          same_event = λ j. record { event = call_event y (none j); role = role_of p s reply; ends = unended j }
-
-      undone : (a : Outcome) → is_done (Some (answer_of_outcome a)) ≡ false
-      undone outcome.Committed = refl
-      undone (outcome.Conflict key found) = refl
-      undone (outcome.Expired u) = refl
-      undone outcome.Faulted = refl
-      undone (outcome.Unknown u) = refl
-      undone (outcome.BadRecord key) = refl
-      undone outcome.NoMemory = refl
-
-      -- Unknown names the transaction
-      names_it : (a : Outcome) → after ≡ Over a → (u : TxId) → answer_of_outcome a ≡ answer.Unknown u → u ≡ id (number c n)
-      names_it outcome.Committed e u h = absurd (cc (h))
-      names_it (outcome.Conflict key found) e u h = absurd (cc (h))
-      names_it (outcome.Expired v) e u h = absurd (cc (h))
-      names_it outcome.Faulted e u h = absurd (cc (h))
-      names_it (outcome.Unknown v) e u h = sym (unknown_is v u h) ∙ subst (λ t. StageOk g.plan (plays (role_of p s reply) (call_event y None) ∷ g.past) p t) e (own_kept g.plan g.past c p s store request how reply None (client_at (Committing p s) at_commit) asked.asked asked.can) ∙ ap id commit_id
-        where
-          unknown_is : (v u : TxId) → answer.Unknown v ≡ answer.Unknown u → v ≡ u
-          unknown_is v u h = cc
-      names_it (outcome.BadRecord key) e u h = absurd (cc (h))
-      names_it outcome.NoMemory e u h = absurd (cc (h))
-
-      -- it is over
-      ends_so : (a : Outcome) → after ≡ Over a → GoesTo (Over a)
-      ends_so a e = turned catalog fit events sys (with_client sys c Resting) doing g c None q (record {
-        plan = g.plan;
-        x = with_answered x s_now;
-        ran = ran;
-        same = same;
-        system = system_at (Over a) e;
-        by = refl;
-        others = client_stands sys c Resting;
-        story = story_ends events g.past sys (with_client sys c Resting) c x q s_now parts.0 parts.1 parts.2 story parts.3 (said_later events g.past sys c x q w.0 store request how reply (answer_of_outcome a) story w.1 refl) begins_no (commit_ends s_now w.2) (ap Some commit_id) (λ u h. names_it a e u (some_is (answer_of_outcome a) (answer.Unknown u) h)) (plain_counts q.role plain) (plain_apart g.past c q.role plain) (record { begun = refl; hold = λ u h. subst (λ z. Has z u) (here Resting) h });
-        own = goes_over catalog fit g.plan (q ∷ g.past) c None ((with_client sys c Resting).clients c) x ran s_now parts.0 parts.1 parts.2 parts.3 (commit_ends s_now w.2) (kept q plain).0 (open_ran q plain parts.0 parts.1 parts.2 parts.3) (λ r. subst (HandOk None (telling_of (over x parts.0 parts.1 parts.2 s_now)) r) (sym (here Resting)) (tt, refl));
-        noted = noted_over events c q.event (sys.clients c) x ran (g.noted c) ((with_client sys c Resting).clients c) s_now parts.0 parts.1 parts.2 parts.3 (commit_ends s_now w.2);
-      })
-        where
-          q : Played
-          q = played_at (Over a)
-
-          plain : IsPlainRole q.role
-          plain = commit_plain p s reply
-
-          w : (w : Said) × (x.waiting ≡ Some w) × (reads_commit w.text ≡ true)
-          w = committing_as x.waiting held_then.1
-
-          s_now : Said
-          s_now = answered_said events w.0 (answer_of_outcome a)
-
-          parts : (gap : List Said) × (b : Said) × (body : List Said) × (x.rest ≡ Opened gap b body)
-          parts = opened_as x.rest held_then.0
-
-          begins_no : begins s_now ≡ false
-          begins_no = ap (λ b. reads_begin w.0.text && b) (undone a) ∙ no_second (reads_begin w.0.text)
-
-      by_stage : (t : Stage) → after ≡ t → GoesTo t
-      by_stage (Preparing j) e = more (Preparing j) e refl refl refl
-      by_stage (Checking j) e = more (Checking j) e refl refl refl
-      by_stage (Deciding d) e = more (Deciding d) e refl refl refl
-      by_stage (Forward j) e = more (Forward j) e refl refl refl
-      by_stage (Stopping a m) e = more (Stopping a m) e refl refl refl
-      by_stage (Back a m j) e = more (Back a m j) e refl refl refl
-      by_stage (Over a) e = ends_so a e
-
-      pub going_commit_calls : GoesTo after
-      going_commit_calls = by_stage after refl
-
-    ---- a call of a read
-
-    module _ (kind : Record → Kind) (kinds : AreKinds kind) (i : TxId) (seen : Seen) (a : Access) (s : ReadAt) (at_read : sys.clients c ≡ Reading i seen a s) (asked : IsReplyTo (read_pending a s) y) where
-      held_then_read : IsOpened x.rest × IsRunning (doing c) x.waiting × ((ran n).seen ≡ seen)
-      held_then_read = hand_at (Reading i seen a s) at_read
-
-      read_id : i.0 ≡ number c n
-      read_id = (story.hold i.0 (subst (λ w. Has w i.0) (sym at_read) refl)).1
-
-      read_untaken : (talk g.past).taken (number c n) ≡ false
-      read_untaken = ap (talk g.past).taken (sym read_id) ∙ (client_at (Reading i seen a s) at_read).0.fresh
-
-      abbrev next_read : ReadAt
-      next_read = read_step kind s now reply
-
-      made_then : IsMadeSince events c x.waiting (Reading i seen a s)
-      made_then = subst (IsMadeSince events c x.waiting) at_read (g.noted c).made
-
-      -- the read goes on
-      pub going_reads : IsGoing catalog fit (events ++ call_event y None ∷ []) (with_client sys c (Reading i seen a next_read)) (at doing c (doing c))
-      going_reads = turned catalog fit events sys (with_client sys c (Reading i seen a next_read)) doing g c (doing c) q (record {
-        plan = g.plan;
-        x = x;
-        ran = ran;
-        same = same;
-        system = read_turn kind g.plan g.past sys y i seen a s None kinds (stands (Reading i seen a s) at_read) asked (λ e. none_some e);
-        by = refl;
-        others = client_stands sys c (Reading i seen a next_read);
-        story = story_stays events g.past sys (with_client sys c (Reading i seen a next_read)) c x q story (plain_counts q.role plain) (plain_apart g.past c q.role plain) (keeps (Reading i seen a s) (Reading i seen a next_read) at_read (λ u h. h)) call_silent;
-        own = record { ended = (kept q plain).0; opened = (kept q plain).1; hand = subst (HandOk (doing c) x (ran n)) (sym (here (Reading i seen a next_read))) held_then_read };
-        noted = noted_elsewhere events c q.event (sys.clients c) x ran (g.noted c) ((with_client sys c (Reading i seen a next_read)).clients c) (subst (IsMadeSince (events ++ q.event ∷ []) c x.waiting) (sym (here (Reading i seen a next_read)))
-            (made_reads kind g.past events c x.waiting i seen a s store request how reply now None kinds (client_at (Reading i seen a s) at_read).3 (g.noted c).taken made_then asked.asked asked.can));
-      })
-        where
-          none_some : ◌≡◌ {A = Option Answer} None (Some answer.Committed) → ⊥
-          none_some e = cc
-
-          q : Played
-          q = plays (read_role s reply) (call_event y None)
-
-          plain : IsPlainRole q.role
-          plain = read_plain s reply
-
-      -- the statement is answered
-      module _ (b : Answer) (st : Statement) (runs : doing c ≡ Some st) where
-        abbrev answered_q : Played
-        answered_q = plays (read_role s reply) (call_event y (Some b))
-
-        w : (w : Said) × (x.waiting ≡ Some w) × Reads w.text st × IsInner w.text
-        w = running_as st x.waiting (subst (λ o. IsRunning o x.waiting) runs held_then_read.1)
-
-        abbrev s_now : Said
-        s_now = answered_said events w.0 b
-
-        is_said_read : IsSaid events c x answered_q s_now
-        is_said_read = said_later events g.past sys c x answered_q w.0 store request how reply b story w.1 refl
-
-        system_read : IsMild b → SystemOk g.plan (answered_q ∷ g.past) (with_client sys c (Reading i seen a next_read))
-        system_read m = read_turn kind g.plan g.past sys y i seen a s (Some b) kinds (stands (Reading i seen a s) at_read) asked (uncommitted (Some b) b refl m)
-
-        stands_read : IsMild b → StandsAt g.plan (answered_q ∷ g.past) (with_client sys c (Reading i seen a next_read)) c (Reading i seen a next_read)
-        stands_read m = record { ok = system_read m; at = here (Reading i seen a next_read) }
-
-        -- as one that changes nothing
-        pub going_fails : changes_nothing b ≡ true → IsGoing catalog fit (events ++ call_event y (Some b) ∷ []) (with_client sys c (Open i seen)) (at doing c None)
-        going_fails idle = turned catalog fit events sys (with_client sys c (Open i seen)) doing g c None answered_q (record {
-          plan = g.plan;
-          x = with_answered x s_now;
-          ran = at ran n (ran n);
-          same = same;
-          system = subst (SystemOk g.plan (answered_q ∷ g.past)) (twice sys c (Reading i seen a next_read) (Open i seen)) (gives_up g.plan (answered_q ∷ g.past) (with_client sys c (Reading i seen a next_read)) c i seen a next_read (stands_read m));
-          by = refl;
-          others = client_stands sys c (Open i seen);
-          story = inside_story answered_q plain s_now b refl m w.3.commit is_said_read held_then_read.0 i seen (Reading i seen a s) at_read (λ u h. h) seen;
-          own = idle_own answered_q plain s_now b refl m w.3.commit is_said_read held_then_read.0 i seen (Reading i seen a s) at_read (λ u h. h) idle held_then_read.2;
-          noted = idle_noted answered_q plain s_now b refl m w.3.commit is_said_read held_then_read.0 i seen (Reading i seen a s) at_read (λ u h. h) idle;
-        })
-          where
-            m : IsMild b
-            m = nothing_mild b idle
-
-            plain : IsPlainRole answered_q.role
-            plain = read_plain s reply
-
-        -- from the rows that the read was done with
-        pub going_tells : (images : List Record) (changes : List Keyed) → is_answered_from_rows b ≡ true → next_read ≡ Done images → MayNote seen a images → IsCovered (with_read seen a images) a → AnswersOn catalog fit (with_read seen a images) st a b changes → AreChanges (with_read seen a images).notes changes
-            → IsGoing catalog fit (events ++ call_event y (Some b) ∷ []) (with_client sys c (Open i (with_written (with_read seen a images) changes))) (at doing c None)
-        going_tells images changes rows done may covered answers fine = turned catalog fit events sys next doing g c None answered_q (record {
-          plan = g.plan;
-          x = with_answered x s_now;
-          ran = at ran n (record { seen = written; now = (ran n).now; body = (ran n).body ++ st ∷ []; answers = (ran n).answers ++ b ∷ [] });
-          same = same;
-          system = system_written;
-          by = refl;
-          others = client_stands sys c (Open i written);
-          story = inside_story answered_q plain s_now b refl m.0 w.3.commit is_said_read held_then_read.0 i seen (Reading i seen a s) at_read (λ u h. h) written;
-          own = more_own answered_q plain s_now b refl m.0 w.3.commit is_said_read held_then_read.0 i seen (Reading i seen a s) at_read (λ u h. h) st read a changes
-              (subst (ClientOk g.plan (answered_q ∷ g.past) c) (here (Open i read)) (system_noted.each c)).1
-              (subst (ClientOk g.plan (answered_q ∷ g.past) c) (here (Open i written)) (system_written.each c)).1
-              (body_read (answered_q ∷ g.past) catalog fit (ran n).body (ran n).answers seen a images (subst (SeenOk (answered_q ∷ g.past)) held_then_read.2 inside_now.seen) (subst (BodyOk catalog fit (ran n).body (ran n).answers) held_then_read.2 inside_now.body))
-              covered answers w.2 m.1 read_untaken;
-          noted = read_noted answered_q plain s_now b refl m.0 w.3.commit is_said_read held_then_read.0 i seen (Reading i seen a s) at_read (λ u h. h)
-              (record { seen = written; now = (ran n).now; body = (ran n).body ++ st ∷ []; answers = (ran n).answers ++ b ∷ [] }) a images changes held_then_read.2
-              (notes_read events c answered_q.event s_now a images (refl, refl) (effective_by s_now b false refl m.1) rows (client_at (Reading i seen a s) at_read).2 (subst (ReadMade (calls_since (events ++ answered_q.event ∷ []) c w.0.taken) a) done made_now)) refl;
-        })
-          where
-            taken_before : w.0.taken ≤ length events
-            taken_before = subst (λ o. IfSome o (λ (w : Said). w.taken ≤ length events)) w.1 (g.noted c).taken
-
-            made_now : ReadMade (calls_since (events ++ answered_q.event ∷ []) c w.0.taken) a next_read
-            made_now = since_read kind g.past events c w.0.taken a s store request how reply now (Some b) kinds (client_at (Reading i seen a s) at_read).3 taken_before (subst (λ o. IsMadeSince events c o (Reading i seen a s)) w.1 made_then) asked.asked asked.can
-
-            m : IsMild b × (changes_nothing b ≡ false)
-            m = rows_mild b rows
-
-            plain : IsPlainRole answered_q.role
-            plain = read_plain s reply
-
-            read : Seen
-            read = with_read seen a images
-
-            written : Seen
-            written = with_written read changes
-
-            next : SystemAt
-            next = with_client sys c (Open i written)
-
-            inside_now : InsideOk catalog fit (answered_q ∷ g.past) (opened_as x.rest held_then_read.0).2 (ran n)
-            inside_now = (open_ran answered_q plain (opened_as x.rest held_then_read.0).0 (opened_as x.rest held_then_read.0).1 (opened_as x.rest held_then_read.0).2 (opened_as x.rest held_then_read.0).3).inside
-
-            system_noted : SystemOk g.plan (answered_q ∷ g.past) (with_client sys c (Open i read))
-            system_noted = subst (SystemOk g.plan (answered_q ∷ g.past)) (twice sys c (Reading i seen a next_read) (Open i read)) (notes g.plan (answered_q ∷ g.past) (with_client sys c (Reading i seen a next_read)) c i seen a images (record { ok = system_read m.0; at = here (Reading i seen a next_read) ∙ ap (Reading i seen a) done }) may)
-
-            system_written : SystemOk g.plan (answered_q ∷ g.past) next
-            system_written = subst (SystemOk g.plan (answered_q ∷ g.past)) (twice sys c (Open i read) (Open i written)) (writes g.plan (answered_q ∷ g.past) (with_client sys c (Open i read)) c i read changes (record { ok = system_noted; at = here (Open i read) }) fine)
-
-        -- as one that ends the transaction: a key that was read differs
-        pub going_differs : is_conflict (Some b) ≡ true → IsGoing catalog fit (events ++ call_event y (Some b) ∷ []) (with_client sys c Resting) (at doing c None)
-        going_differs conflict = turned catalog fit events sys (with_client sys c Resting) doing g c None q (record {
-          plan = g.plan;
-          x = with_answered x s_now;
-          ran = ran;
-          same = same;
-          system = read_ends_turn g.plan g.past sys y i seen a s (Some b) (stands (Reading i seen a s) at_read) asked (λ e. other (some_is b answer.Committed e));
-          by = refl;
-          others = client_stands sys c Resting;
-          story = story_ends events g.past sys (with_client sys c Resting) c x q s_now parts.0 parts.1 parts.2 story parts.3 (said_later events g.past sys c x q w.0 store request how reply b story w.1 refl) begins_no over_now (ap Some read_id) (λ u e. clash (sym conflict ∙ ap is_conflict e)) (plain_counts q.role plain) (plain_apart g.past c q.role plain) (record { begun = refl; hold = λ u h. subst (λ z. Has z u) (here Resting) h });
-          own = goes_over catalog fit g.plan (q ∷ g.past) c None ((with_client sys c Resting).clients c) x ran s_now parts.0 parts.1 parts.2 parts.3 over_now (kept q plain).0 (open_ran q plain parts.0 parts.1 parts.2 parts.3) (λ r. subst (HandOk None (telling_of (over x parts.0 parts.1 parts.2 s_now)) r) (sym (here Resting)) (tt, refl));
-          noted = noted_over events c q.event (sys.clients c) x ran (g.noted c) ((with_client sys c Resting).clients c) s_now parts.0 parts.1 parts.2 parts.3 over_now;
-        })
-          where
-            q : Played
-            q = ends_with i.0 (read_role s reply) (call_event y (Some b))
-
-            plain : IsPlainRole q.role
-            plain = read_plain s reply
-
-            other : b ≡ answer.Committed → ⊥
-            other e = clash (sym conflict ∙ ap (λ z. is_conflict (Some z)) e)
-
-            parts : (gap : List Said) × (b : Said) × (body : List Said) × (x.rest ≡ Opened gap b body)
-            parts = opened_as x.rest held_then_read.0
-
-            begins_no : begins s_now ≡ false
-            begins_no = ap (λ z. z && is_done (Some b)) w.3.begin
-
-            over_now : ends s_now ≡ true
-            over_now = ap (λ z. (reads_commit w.0.text || z) || (reads_rollback w.0.text && is_done (Some b))) conflict ∙ second (reads_commit w.0.text) (reads_rollback w.0.text && is_done (Some b))
-              where
-                second : (z r : Bool) → ((z || true) || r) ≡ true
-                second true r = refl
-                second false r = refl
-
-    ---- a call of a VACUUM
-
-    module _ (kind : Record → Kind) (kinds : AreKinds kind) (v : SweepAt) (at_sweep : sys.clients c ≡ Sweeping v) (asked : IsReplyTo (sweep_pending v) y) where
-      held_then_sweep : IsClosed x.rest × IsWaiting x.waiting
-      held_then_sweep = hand_at (Sweeping v) at_sweep
-
-      abbrev next_sweep : SweepAt
-      next_sweep = sweep_step kind v now reply
-
-      abbrev swept : Option Answer → Played
-      swept a = plays (sweep_role v reply) (call_event y a)
-
-      system_swept : (a : Option Answer) → (a ≡ Some answer.Committed → ⊥) → SystemOk g.plan (swept a ∷ g.past) (with_client sys c (Sweeping next_sweep))
-      system_swept a other = vacuum_turn kind g.plan g.past sys y v a kinds (stands (Sweeping v) at_sweep) asked other
-
-      stands_swept : (a : Option Answer) → (a ≡ Some answer.Committed → ⊥) → StandsAt g.plan (swept a ∷ g.past) (with_client sys c (Sweeping next_sweep)) c (Sweeping next_sweep)
-      stands_swept a other = record { ok = system_swept a other; at = here (Sweeping next_sweep) }
-
-      none_some_swept : ◌≡◌ {A = Option Answer} None (Some answer.Committed) → ⊥
-      none_some_swept e = cc
-
-      -- it goes on, and makes a further call, wherever it then stands
-      swept_on : (w : SweepAt) → SystemOk g.plan (swept None ∷ g.past) (with_client sys c (Sweeping w)) → IsGoing catalog fit (events ++ call_event y None ∷ []) (with_client sys c (Sweeping w)) (at doing c None)
-      swept_on w system = turned catalog fit events sys (with_client sys c (Sweeping w)) doing g c None q (record {
-        plan = g.plan;
-        x = x;
-        ran = ran;
-        same = same;
-        system = system;
-        by = refl;
-        others = client_stands sys c (Sweeping w);
-        story = story_stays events g.past sys (with_client sys c (Sweeping w)) c x q story (plain_counts q.role plain) (plain_apart g.past c q.role plain) (keeps (Sweeping v) (Sweeping w) at_sweep (λ u h. h)) call_silent;
-        own = record { ended = (kept q plain).0; opened = (kept q plain).1; hand = subst (HandOk None x (ran n)) (sym (here (Sweeping w))) held_then_sweep };
-        noted = noted_elsewhere events c q.event (sys.clients c) x ran (g.noted c) ((with_client sys c (Sweeping w)).clients c) (subst (IsMadeSince (events ++ q.event ∷ []) c x.waiting) (sym (here (Sweeping w))) tt);
-      })
-        where
-          q : Played
-          q = swept None
-
-          plain : IsPlainRole q.role
-          plain = sweep_plain v reply
-
-      -- with the rows of the table
-      pub going_sweeps : IsGoing catalog fit (events ++ call_event y None ∷ []) (with_client sys c (Sweeping next_sweep)) (at doing c None)
-      going_sweeps = swept_on next_sweep (system_swept None none_some_swept)
-
-      -- with a further table
-      pub going_scans : (span : Span) → IsOfData (access.Scan span) → IsGoing catalog fit (events ++ call_event y None ∷ []) (with_client sys c (Sweeping (Scanning span))) (at doing c None)
-      going_scans span tables = swept_on (Scanning span) (subst (SystemOk g.plan (swept None ∷ g.past)) (twice sys c (Sweeping next_sweep) (Sweeping (Scanning span))) (sweep_goes g.plan (swept None ∷ g.past) (with_client sys c (Sweeping next_sweep)) c next_sweep span (stands_swept None none_some_swept) tables))
-
-      -- it is answered
-      pub going_swept : (b : Answer) → IsMild b → IsGoing catalog fit (events ++ call_event y (Some b) ∷ []) (with_client sys c Resting) (at doing c None)
-      going_swept b m = turned catalog fit events sys (with_client sys c Resting) doing g c None q (record {
-        plan = g.plan;
-        x = with_answered x s_now;
-        ran = ran;
-        same = same;
-        system = subst (SystemOk g.plan (q ∷ g.past)) (twice sys c (Sweeping next_sweep) Resting) (sweep_ends g.plan (q ∷ g.past) (with_client sys c (Sweeping next_sweep)) c next_sweep (stands_swept (Some b) (uncommitted (Some b) b refl m)));
-        by = refl;
-        others = client_stands sys c Resting;
-        story = story_answers events g.past sys (with_client sys c Resting) c x q s_now story (said_later events g.past sys c x q w.0 store request how reply b story w.1 refl) (subst (λ r. MayCome r s_now) (sym closed.1) (uncommitted (Some b) b refl m)) (subst (λ r. IsOrdinary r s_now) (sym closed.1) begins_no) (plain_counts q.role plain) (plain_apart g.past c q.role plain) (keeps (Sweeping v) Resting at_sweep (λ u h. h));
-        own = goes_gap catalog fit g.plan (q ∷ g.past) c None ((with_client sys c Resting).clients c) x ran s_now closed.0 closed.1 begins_no (kept q plain).0 (subst (HandOk None (telling_of (gone x closed.0 s_now)) (ran n)) (sym (here Resting)) (tt, refl));
-        noted = noted_gap events c q.event (sys.clients c) x ran (g.noted c) ((with_client sys c Resting).clients c) s_now closed.0 closed.1 begins_no;
-      })
-        where
-          q : Played
-          q = swept (Some b)
-
-          plain : IsPlainRole q.role
-          plain = sweep_plain v reply
-
-          w : (w : Said) × (x.waiting ≡ Some w)
-          w = waiting_as x.waiting held_then_sweep.1
-
-          s_now : Said
-          s_now = answered_said events w.0 b
-
-          closed : (gap : List Said) × (x.rest ≡ Closed gap)
-          closed = closed_as x.rest held_then_sweep.0
-
-          begins_no : begins s_now ≡ false
-          begins_no = mild_begins s_now b refl m
 
   ---- a client stops
 

@@ -30,13 +30,14 @@ ghost use Rattle.sdb_phases.specs.Commit.{Stage, pending, starved, step};
 ghost use Rattle.sdb_snapshot.specs.Seen.{Seen, nothing, with_written};
 ghost use Rattle.sdb_snapshot.specs.Written.{AreChanges};
 ghost use Rattle.sdb_turns.specs.Noted.{MayNote, with_read, work_of};
-ghost use Rattle.sdb_turns.specs.ReadAt.{AreKinds, Asking, Done, IsOfData, Kind, ReadAt, read_pending, read_step};
+ghost use Rattle.sdb_turns.specs.ReadAt.{AreKinds, Asking, Done, IsOfData, ReadAt, read_pending, read_step};
 ghost use Rattle.sdb_turns.specs.Sweep.{Scanning, SweepAt, sweep_pending, sweep_step};
 ghost use Rattle.sdb_turns.specs.System.{ClientCall, Committing, IsBegin, IsCommit, IsReplyTo, NoneOpen, NoneSweeps, Open, Reading, Resting, Stopped, Sweeping, SystemAt, answer_at, call_event, commit_begun, commit_left, idle, next_id, with_begun, with_client};
 ghost use Rattle.sdb_story.specs.Body.{AnswersOn, IsCovered};
 ghost use Rattle.sdb_story.specs.Calls.{AgreeOn};
 ghost use Rattle.sdb_story.specs.Left.{IsFitting};
 ghost use Rattle.sdb_linked.specs.Going.{IsGoing, IsInner, IsMild, IsSilent, LeavesAtOnce};
+ghost use Rattle.sdb_read.specs.Read.{Kind};
 
 /// Before the first event no client has done anything; and the clock moves, or a client without work idles.
 pub fn rests()

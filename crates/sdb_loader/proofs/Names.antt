@@ -1,6 +1,6 @@
 -- The tables that a schema names: their names are the members', in order.
 use Rattle.std.proofs.Common.{◌≡◌, ℕ, List, [], ◌∷◌, length, map, true, false, ◌&&◌, ◌==◌, cond, refl, sym, ap, ◌∙◌, Some, None, is_some, Global, String, string_bytes}
-use Rattle.std.specs.Prelude.{nat_lt, nat_le}
+use Rattle.std.specs.Prelude.{nat_lt}
 use Rattle.std.specs.Option.{option_and_then}
 use Rattle.std.specs.List.{before_first, after_first, position_or_len, AllByRecursion}
 use Rattle.std.specs.List.Sorted.{IsStrictlySortedBy}
@@ -13,18 +13,16 @@ use Rattle.serde_json.specs.Data.{Data, Members, member}
 use Rattle.serde_json.specs.View.{view, members_view}
 use Rattle.serde_json.specs.declared.value.Value.{Value}
 use Rattle.sdb_types.specs.declared.key.TableName.{TableName}
-use Rattle.sdb_types.specs.Identifier.{is_name, is_identifier}
+use Rattle.sdb_types.specs.Identifier.{is_name}
 use Rattle.sdb_types.specs.Order.{table_cmp, table_text}
-use Rattle.sdb_types.proofs.Bools.{and_first, and_second, and_both}
+use Rattle.sdb_types.proofs.Bools.{and_first, and_both}
 use Rattle.sdb_types.proofs.KeyOrder.{by_text}
 use Rattle.sdb_record.specs.Parts.{is_column_name}
+pub use Rattle.sdb_record.proofs.NameLemmas.{name_of_column}
 use Rattle.sdb_schema.specs.Catalog.{rises, stands_above}
 use Rattle.sdb_loader.specs.Words.{is_open, names_table, table_named}
 use Rattle.sdb_loader.specs.Described.{bad_name, named, table_of}
-use Rattle.sdb_types.proofs.Basics.{some_is, longer, at_byte}
-
-pub name_of_column : (text : List ℕ) → is_column_name text ≡ true → is_name text ≡ true
-name_of_column text h = and_both (nat_le (length text) 71) _ (longer (length text) (and_first (nat_le (length text) 64) (is_identifier text) h)) (and_second (nat_le (length text) 64) (is_identifier text) h)
+use Rattle.sdb_types.proofs.Basics.{some_is, at_byte}
 
 none_is : (t : TableName) → None ≡ Some t → ⊥
 none_is t h = cc

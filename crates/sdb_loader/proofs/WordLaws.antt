@@ -14,8 +14,8 @@ use Rattle.sdb_schema.specs.declared.table.Direction.{Direction}
 use Rattle.sdb_schema.specs.declared.table.Direction.TheVariants.{Asc}
 use Rattle.sdb_schema.specs.declared.table.Order.{Order}
 use Rattle.sdb_loader.specs.Words.{is_open, names_table, table_named, direction_named, ordered_by, order_around, order_named, IsOrderText}
-use Rattle.sdb_loader.proofs.Names.{name_of_column}
-use Rattle.sdb_types.proofs.Basics.{lacks, suc_of as one_more, around_at, all_lack, place_behind, around_at-seam, at_byte}
+use Rattle.sdb_record.proofs.NameLemmas.{name_of_column}
+use Rattle.sdb_types.proofs.Basics.{lacks, suc_of as one_more, around_at, all_lack, at_byte, around_behind}
 use Rattle.sdb_types.proofs.Words.{no_dot}
 use Rattle.sdb_types.specs.NameText.{around}
 
@@ -33,9 +33,6 @@ place_nowhere c (x ∷ xs) h =
 
 not_below : (n : ℕ) → nat_lt n n ≡ false
 not_below n = grind (arith, nat_tests)
-
-around_behind : (c : ℕ) (front back : List ℕ) → (c == c) ≡ true → lacks c front ≡ true → around c (front ++ c ∷ back) ≡ Some (front, back)
-around_behind c front back r h = ap (λ n. around_at n (front ++ c ∷ back)) (place_behind c front back r h) ∙ around_at-seam front c back
 
 around_nowhere : (c : ℕ) (text : List ℕ) → lacks c text ≡ true → around c text ≡ None
 around_nowhere c text h =

@@ -1,6 +1,6 @@
 -- The catalog that a text describes, or why it describes none.
 use Rattle.std.specs.Prelude.{◌≡◌, ℕ, nat_le, if◌then◌else◌, List, [], ◌∷◌, length, map, Option, Some, None, Result, Ok, Err, is_some}
-use Rattle.std.specs.Option.{option_map, option_map_or}
+use Rattle.std.specs.Option.{option_map, option_map_or, option_or}
 use Rattle.std.specs.List.{cons_option}
 use Rattle.std.specs.Str.{is_utf8}
 use Rattle.sdb_types.specs.declared.key.TableName.{TableName}
@@ -60,14 +60,10 @@ bad_table t = option_map (λ r. (t.0, r)) (refusal_in (checked_table (table_of t
 
 ---- the first fault
 
-abbrev pub or_else : {A : Type 0} → Option A → Option A → Option A
-or_else (Some a) next = Some a
-or_else None next = next
-
 -- what is said of the first table of which something is said
 abbrev pub first_said : {A B : Type 0} → (A → Option B) → List A → Option B
 first_said said [] = None
-first_said said (t ∷ ts) = or_else (said t) (first_said said ts)
+first_said said (t ∷ ts) = option_or (said t) (first_said said ts)
 
 abbrev pub refuse : {A B : Type 0} → Option A → (A → SchemaFault) → Result B SchemaFault → Result B SchemaFault
 refuse None refusal next = next

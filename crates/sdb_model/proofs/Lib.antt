@@ -1,1 +1,2 @@
 pub mod RealTime
+pub mod Basics

@@ -243,6 +243,9 @@ abbrev pub rows_counted : Option Answer → ℕ
 rows_counted (Some (answer.Count n)) = n
 rows_counted a = 0
 
+abbrev pub counted_by : Said → ℕ
+counted_by b = rows_counted b.answer
+
 -- how many records the reads among some calls found
 abbrev pub records_found : List Made → ℕ
 records_found calls = sum_by (λ m. length (records_read m.reply)) (filter reads_rows calls)

@@ -17,9 +17,10 @@ use Rattle.sdb_model.specs.declared.statement.Test.TheVariants.{Compare, IsNull,
 use Rattle.sdb_model.specs.declared.statement.Statement.{Statement}
 use Rattle.sdb_model.specs.declared.statement.Statement.TheVariants as statement
 use Rattle.sdb_model.specs.declared.answer.Refusal.{Refusal}
-use Rattle.sdb_model.specs.Rows.{Name, same_name, is_key_column, kind_of_column, fits_int}
+use Rattle.sdb_model.specs.Rows.{Name, same_name, is_key_column, kind_of_column}
 use Rattle.sdb_model.specs.Exec.{named_table}
 use Rattle.sdb_model.specs.declared.statement.Mention.{Mention}
+use Rattle.sdb_types.specs.Fits.{fits_int}
 
 ---- mentions: the column names in a statement, in the order in which they appear, each with its literal
 

@@ -1,5 +1,5 @@
 -- What a row of a table gives each of its columns.
-use Rattle.std.specs.Prelude.{ℕ, Bool, ◌&&◌, ◌||◌, if◌then◌else◌, List, [], ◌∷◌, map, find, unwrap_or, ℤ, pos, negsuc, int_le}
+use Rattle.std.specs.Prelude.{ℕ, Bool, ◌||◌, if◌then◌else◌, List, [], ◌∷◌, map, find, unwrap_or}
 use Rattle.std.specs.Option.{option_map_or}
 use Rattle.std.specs.List.{list_any}
 use Rattle.std.specs.Ordering.{is_eq}
@@ -12,6 +12,7 @@ use Rattle.sdb_schema.specs.declared.table.Kind.TheVariants as kind
 use Rattle.sdb_schema.specs.declared.table.Order.{Order}
 use Rattle.sdb_schema.specs.declared.table.Table.{Table}
 use Rattle.sdb_record.specs.declared.access.Image.{Image}
+use Rattle.sdb_types.specs.Fits.{fits_int}
 
 -- a name, as its bytes
 abbrev pub Name : Type 0
@@ -43,9 +44,6 @@ is_key_column t name = list_any (λ n. same_name n name) t.partition || list_any
 
 abbrev pub kind_of_column : Table → Name → Kind
 kind_of_column t name = option_map_or (λ c. c.kind) (find (λ c. same_name c.name name) t.columns) kind.Text
-
-abbrev pub fits_int : ℤ → Bool
-fits_int n = int_le (negsuc 2147483647) n && int_le n (pos 2147483647)
 
 -- A literal as a value of a kind: a number, which a statement holds as a BigInt, is an Int in an INT column.
 abbrev pub at_kind : Kind → Value → Value

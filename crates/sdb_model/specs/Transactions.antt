@@ -1,5 +1,5 @@
 -- Transactions: where one begins and ends among the events, what its body is, which are recorded, and their order.
-use Rattle.std.specs.Prelude.{◌≡◌, ℕ, zero, suc, ◌+◌, ◌*◌, ◌/◌, ◌%◌, ◌^◌, ◌<◌, Bool, true, false, not, ◌&&◌, ◌||◌, ◌==◌, if◌then◌else◌, List, [], ◌∷◌, ◌++◌, map, filter, fold, find, Option, Some, None, IsSome, IsSomeAnd, unwrap_or, take_while, All, Contains, ◌↔◌}
+use Rattle.std.specs.Prelude.{◌≡◌, ℕ, zero, suc, ◌+◌, ◌*◌, ◌/◌, ◌%◌, ◌^◌, ◌<◌, Bool, true, false, not, ◌&&◌, ◌||◌, ◌==◌, if◌then◌else◌, List, [], ◌∷◌, ◌++◌, map, filter, fold, find, Option, Some, None, IsSome, IsSomeAnd, unwrap_or, take_while, All, Contains, ◌↔◌, ◌≢◌}
 use Rattle.std.specs.Option.{option_map, option_map_or, option_and_then}
 use Rattle.std.specs.List.{enumerate_from}
 use Rattle.std.specs.List.Sorted.{IsStrictlyIncreasing}
@@ -140,6 +140,10 @@ is_answered_from_rows (answer.Count n) = true
 is_answered_from_rows (answer.Duplicate key) = true
 is_answered_from_rows _ = false
 
+abbrev pub is_committed_answer : Option Answer → Bool
+is_committed_answer (Some answer.Committed) = true
+is_committed_answer a = false
+
 abbrev pub is_effective : Said → Bool
 is_effective s = not (option_map_or changes_nothing s.answer false)
 
@@ -166,6 +170,14 @@ last_prepare events id = fold (λ (found : Option ℕ) (e : ℕ × Event). if is
 -- that took its COMMIT; and 0 without one.
 abbrev pub point : List Event → TxId → ℕ
 point events id = unwrap_or (last_prepare events id) (option_map_or (λ s. s.taken) (commit_of events id) 0)
+
+-- a transaction with its point
+abbrev pub point_at : List Event → TxId → Point
+point_at events id = record { id = id; event = point events id }
+
+-- Of the ids of a list, two that have one point, other than 0, are one.
+abbrev pub ArePointsApart : List Event → List TxId → Type 0
+ArePointsApart events ids = (id other : TxId) → Contains ids id → Contains ids other → point events id ≡ point events other → point events id ≢ 0 → id ≡ other
 
 ---- which transactions are recorded, and their order
 

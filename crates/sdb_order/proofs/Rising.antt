@@ -8,8 +8,8 @@ use Rattle.std.proofs.lemmas.List.Sorted.{Contains-permutation, IsPermutation-sy
 use Rattle.sdb_types.specs.declared.txid.TxId.{TxId}
 use Rattle.sdb_model.specs.declared.event.Event.{Event}
 use Rattle.sdb_model.specs.declared.event.Point.{Point}
-use Rattle.sdb_model.specs.Transactions.{point}
-use Rattle.sdb_order.specs.Order.{PointsApart, point_at, rising_from}
+use Rattle.sdb_model.specs.Transactions.{point, ArePointsApart, point_at}
+use Rattle.sdb_order.specs.Order.{rising_from}
 use Rattle.sdb_types.proofs.Basics.{lt_of as is_less}
 
 ---- what a list has
@@ -136,7 +136,7 @@ pub record AreRisen (events : List Event) (recorded : List TxId) (order : List P
   pub points : All (λ p. p.event ≡ point events p.id) order
   pub rising : IsStrictlyIncreasing (map (λ p. p.event) order)
   pub among : (id : TxId) → Contains (map (λ p. p.id) order) id → Contains recorded id × (point events id ≢ 0)
-  pub whole : PointsApart events recorded → (id : TxId) → Contains recorded id → point events id ≢ 0 → Contains (map (λ p. p.id) order) id
+  pub whole : ArePointsApart events recorded → (id : TxId) → Contains recorded id → point events id ≢ 0 → Contains (map (λ p. p.id) order) id
 
 module _ (events : List Event) (recorded ids : List TxId) (points sorted : List Point) (of_ids : points ≡ map (point_at events) ids) (same_ids : IsPermutation recorded ids) (same_points : IsPermutation points sorted) where
   -- each point is that of one of them
@@ -168,7 +168,7 @@ module _ (events : List Event) (recorded ids : List TxId) (points sorted : List 
       positive : (n : ℕ) → 0 < n → n ≡ 0 → ⊥
       positive n l e = omega arith
 
-  all_ids : IsNonDecreasingBy (λ (p : Point). p.event) sorted → PointsApart events recorded → (id : TxId) → Contains recorded id → point events id ≢ 0 → Contains (map (λ p. p.id) (rising_from 0 sorted)) id
+  all_ids : IsNonDecreasingBy (λ (p : Point). p.event) sorted → ArePointsApart events recorded → (id : TxId) → Contains recorded id → point events id ≢ 0 → Contains (map (λ p. p.id) (rising_from 0 sorted)) id
   all_ids ordered apart id c some =
       contains_of (map (λ (p : Point). p.id) (rising_from 0 sorted)) id (has_map (λ (p : Point). p.id) (rising_from 0 sorted) (point_at events id) (is_kept 0 sorted (point_at events id) (sorts sorted ordered) (above (point events id) some) one (has_point id (has_of recorded id c))))
     where

@@ -1,23 +1,14 @@
 -- The order of some transactions by their points.
-use Rattle.std.specs.Prelude.{◌≡◌, ◌≢◌, ℕ, Bool, false, ◌==◌, nat_lt, if◌then◌else◌, List, [], ◌∷◌, Option, Contains}
+use Rattle.std.specs.Prelude.{ℕ, Bool, false, ◌==◌, nat_lt, if◌then◌else◌, List, [], ◌∷◌, Option}
 use Rattle.std.specs.Option.{option_map_or}
 use Rattle.sdb_types.specs.declared.txid.TxId.{TxId}
-use Rattle.sdb_model.specs.declared.event.Event.{Event}
 use Rattle.sdb_model.specs.declared.event.Point.{Point}
-use Rattle.sdb_model.specs.Transactions.{point}
 
 -- what is found is this transaction
 abbrev pub is_of : TxId → Option TxId → Bool
 is_of id found = option_map_or (λ t. t.0 == id.0) found false
 
-abbrev pub point_at : List Event → TxId → Point
-point_at events id = record { id = id; event = point events id }
-
 -- of points, each that is later than n and than those kept before it
 abbrev pub rising_from : ℕ → List Point → List Point
 rising_from n [] = []
 rising_from n (p ∷ ps) = if nat_lt n p.event then p ∷ rising_from p.event ps else rising_from n ps
-
--- Of the ids of a list, two that have one point, other than 0, are one.
-abbrev pub PointsApart : List Event → List TxId → Type 0
-PointsApart events ids = (id other : TxId) → Contains ids id → Contains ids other → point events id ≡ point events other → point events id ≢ 0 → id ≡ other

@@ -7,3 +7,4 @@ mod prepares;
 mod said;
 
 pub use order::order_of;
+pub use said::{Said, begins, ends, is_word, statements_said};

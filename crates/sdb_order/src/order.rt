@@ -4,9 +4,9 @@ ghost use Rattle.std.specs.List.Sorted.{IsNonDecreasingBy, IsPermutation, IsStri
 ghost use Rattle.std.specs.Ordering.{nat_cmp};
 ghost use Rattle.std.specs.BTreeMap.{get};
 ghost use Rattle.sdb_types.specs.declared.txid.TxId.{TxId};
-ghost use Rattle.sdb_model.specs.Transactions.{client_of as client_of_lem, last_prepare, ordinal_of as ordinal_of_lem, point, said as said_lem};
+ghost use Rattle.sdb_model.specs.Transactions.{client_of as client_of_lem, last_prepare, ordinal_of as ordinal_of_lem, point, said as said_lem, ArePointsApart, point_at};
 ghost use Rattle.sdb_order.specs.Commits.{commits_of};
-ghost use Rattle.sdb_order.specs.Order.{PointsApart, point_at, rising_from};
+ghost use Rattle.sdb_order.specs.Order.{rising_from};
 
 use crate::commits::{commit_at, commits_by};
 use crate::prepares::last_prepares;
@@ -126,7 +126,7 @@ pub fn order_of(alloc: Global, events: &[Event], recorded: &[TxId]) -> Result<Po
     ensures points { IfOk result (λ order. All (λ p. p.event ≡ point events.now p.id) order) }
     ensures rising { IfOk result (λ order. IsStrictlyIncreasing (map (λ p. p.event) order)) }
     ensures among { IfOk result (λ order. (id : TxId) → Contains (map (λ p. p.id) order) id → Contains recorded.now id × (point events.now id ≢ 0)) }
-    ensures ids { IfOk result (λ order. PointsApart events.now recorded.now → (id : TxId) → Contains recorded.now id → point events.now id ≢ 0 → Contains (map (λ p. p.id) order) id) }
+    ensures ids { IfOk result (λ order. ArePointsApart events.now recorded.now → (id : TxId) → Contains recorded.now id → point events.now id ≢ 0 → Contains (map (λ p. p.id) order) id) }
 {
     let ids = by_client(alloc, recorded)?;
     let points = points_of(alloc, events, ids.as_slice())?;

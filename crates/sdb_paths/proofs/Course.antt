@@ -24,6 +24,7 @@ use Rattle.sdb_paths.specs.Paths.{Call, calls_of_path, is_over, with_call}
 use Rattle.sdb_paths.specs.Ends.{GoesWell, MakesWell, calls_before, is_served, is_unmet}
 use Rattle.sdb_paths.proofs.Lists.{get_front, get_last}
 use Rattle.sdb_paths.proofs.Calls.{calls_long}
+use Rattle.sdb_paths.proofs.Steps.{one}
 
 -- where it stands after so many calls
 abbrev Course : Work → ℕ → Stage → Type 0
@@ -51,9 +52,6 @@ begins : (p : Work) → Course p 0 (preparing p 0)
 begins p = by_stage p 0 (nat_lt 0 (length p.writes)) (Preparing 0) (checking p 0) (λ t. (refl, grind (arith, nat_tests))) (λ f. to_checks p 0 (grind (arith, nat_tests)))
 
 ---- the newest call went well
-
-abbrev one : Request → Reply → Call
-one q r = record { request = q; reply = r }
 
 well_before : (p : Work) (calls : List Call) (c : Call) → GoesWell p (calls ++ c ∷ []) → GoesWell p calls
 well_before p calls c w = record {

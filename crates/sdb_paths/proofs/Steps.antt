@@ -43,7 +43,7 @@ use Rattle.sdb_paths.proofs.Touches.{Touches, applied, touches_more, touches_all
 use Rattle.sdb_paths.proofs.Goes.{AsksTo, AtBack, AtCheck, AtForward, AtLost, AtPrepare, AtPut, AtRow, Caused, Checked, Clear, Ends, Goes, Leads, NotOwn, asks_check, asks_of, asks_prepare, asks_roll, asks_row, by_stage, caused_more, leads_all, leads_more, learned_more}
 use Rattle.sdb_types.proofs.Basics.{all_each, all_last}
 
-abbrev one : Request → Reply → Call
+abbrev pub one : Request → Reply → Call
 one q r = record { request = q; reply = r }
 
 starved_clear : (p : Work) (calls : List Call) → Clear p calls → IsPutStarved p calls

@@ -10,7 +10,6 @@ use Rattle.sdb_types.specs.declared.record.State.{State}
 use Rattle.sdb_types.specs.declared.record.State.TheVariants as state
 use Rattle.sdb_types.specs.declared.record.Condition.{Condition}
 use Rattle.sdb_types.specs.declared.record.Condition.TheVariants as condition
-use Rattle.sdb_types.specs.declared.record.Request.{Request}
 use Rattle.sdb_types.specs.declared.record.Request.TheVariants as ask
 use Rattle.sdb_types.specs.Contents.{is_version}
 use Rattle.sdb_record.specs.declared.coordinator.Decision.{Decision}
@@ -31,10 +30,6 @@ use Rattle.sdb_phases.specs.Commit.{Stage, Preparing, Checking, Deciding, Forwar
 row_no_version : (id other : TxId) (s : State) (d : Decision) (now : ℤ) → is_version id s (coordinator_row_of other d now) ≡ false
 unfolding coordinator_row_of
 row_no_version id other s d now = refl
-
-record_in : Request → Option Record
-record_in (ask.PutIf rec condition) = Some rec
-record_in q = None
 
 versioned_other : (id : TxId) (now : ℤ) (s : State) (rec : Record) (c : Condition) → is_version id s rec ≡ true → Some (ask.PutIf rec c) ≢ Some (decide_of id now)
 versioned_other id now s rec c version e =

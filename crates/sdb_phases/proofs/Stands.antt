@@ -15,7 +15,7 @@ use Rattle.sdb_types.proofs.KeyOrder.{key_total}
 use Rattle.sdb_record.specs.declared.coordinator.Decided.{Decided}
 use Rattle.sdb_record.specs.declared.coordinator.Decision.{Decision}
 use Rattle.sdb_record.specs.declared.coordinator.Decision.TheVariants as decision
-use Rattle.sdb_record.specs.Coordinator.{coordinator_key_of, coordinator_row_of, decision_in}
+use Rattle.sdb_record.specs.Coordinator.{coordinator_key_of, coordinator_row_of, decision_in, same_decision}
 use Rattle.sdb_record.proofs.ImageLaws.{row-key, row-decision}
 use Rattle.sdb_phases.specs.declared.check.Check.{Check}
 use Rattle.sdb_phases.specs.declared.step.Outcome.{Outcome}
@@ -31,9 +31,11 @@ use Rattle.sdb_phases.specs.Checks.{checks, same_key, difference_in}
 use Rattle.sdb_phases.specs.Steps as small
 use Rattle.sdb_phases.specs.Steps.{CanGet, told}
 use Rattle.sdb_phases.specs.Commit.{Stage, Preparing, Checking, Deciding, Forward, Stopping, Back, Over, pending, step, after, preparing, checking, forward, back, after_prepare, after_check, after_decide}
-use Rattle.sdb_phases.specs.CommitLaws.{IsWork, Seen, seen, note, nothing_seen, Played, Stands, IsCaused, is_unrecorded, may_undo, without_effect, is_more, is_decision, same_decision, says, tells, is_malformed, holds_malformed, writes_of, reads_of, most_calls}
+use Rattle.sdb_phases.specs.CommitLaws.{IsWork, Seen, seen, note, nothing_seen, Played, Stands, IsCaused, is_unrecorded, may_undo, without_effect, is_more, is_decision, says, tells, is_malformed, holds_malformed, writes_of, reads_of, most_calls}
 use Rattle.sdb_types.proofs.Basics.{or_second as right, fails_second}
 use Rattle.sdb_types.specs.Replies.{is_fault}
+use Rattle.sdb_types.proofs.Bools.{and_both}
+use Rattle.sdb_record.proofs.States.{decision_itself}
 
 ---- tests
 
@@ -61,23 +63,16 @@ same_key_itself k = ap is_eq (tied_itself key_total k)
 pub at_key : (r : Record) (id : TxId) → r.key ≡ coordinator_key_of id → same_key r.key (coordinator_key_of id) ≡ true
 at_key r id e = ap (λ k. same_key k (coordinator_key_of id)) e ∙ same_key_itself (coordinator_key_of id)
 
-says_so : (a b : Bool) → a ≡ true → b ≡ true → (a && b) ≡ true
-says_so a b p q = λ i. p i && q i
-
 pub row_says : (id : TxId) (d : Decision) (row : Record) → row.key ≡ coordinator_key_of id → is_decision d (decision_in row) ≡ true → says id d row ≡ true
-row_says id d row key is = says_so (same_key row.key (coordinator_key_of id)) (is_decision d (decision_in row)) (at_key row id key) is
+row_says id d row key is = and_both (same_key row.key (coordinator_key_of id)) (is_decision d (decision_in row)) (at_key row id key) is
 
 pub row_malformed : (id : TxId) (row : Record) → row.key ≡ coordinator_key_of id → is_err (decision_in row) ≡ true → is_malformed id row ≡ true
-row_malformed id row key is = says_so (same_key row.key (coordinator_key_of id)) (is_err (decision_in row)) (at_key row id key) is
-
-itself : (d : Decision) → same_decision d d ≡ true
-itself decision.Committed = refl
-itself decision.Aborted = refl
+row_malformed id row key is = and_both (same_key row.key (coordinator_key_of id)) (is_err (decision_in row)) (at_key row id key) is
 
 -- what is put is what is learned
 pub own_row_says : (p : Work) (d : Decision) → IsWork p → says p.id d (coordinator_row_of p.id d p.now) ≡ true
 own_row_says p d is =
-    row_says p.id d (coordinator_row_of p.id d p.now) (row-key p.id d p.now) (ap (is_decision d) (row-decision p.id d p.now is.id is.now) ∙ itself d)
+    row_says p.id d (coordinator_row_of p.id d p.now) (row-key p.id d p.now) (ap (is_decision d) (row-decision p.id d p.now is.id is.now) ∙ decision_itself d)
 
 ---- stages
 
@@ -155,8 +150,8 @@ passes more (Some c) (reply.Rows rows) = judges more (reply.Rows rows) (differen
 passes more (Some c) (reply.NotMet found) = judges more (reply.NotMet found) (difference_in c (reply.NotMet found))
 
 checked : (p : Work) (h : Seen) (i : ℕ) (r : Reply) (s : ValidateStep) → Stands p h (Checking i) → Passes (nat_lt (i + 1) (length (checks p))) r s (small.validate_step true (slice_get (checks p) i) r) → Stands p (note p (Checking i) h r) (after_check p i s)
-checked p h i r validate.More (calls, within, passed, put) so = let (more, ok) = so.goes_on refl in (omega arith, grind (arith, nat_tests), says_so _ _ ok passed, put)
-checked p h i r validate.Valid (calls, within, passed, put) so = let (more, ok) = so.ends refl in (grind (arith, nat_tests), says_so _ _ ok passed, put)
+checked p h i r validate.More (calls, within, passed, put) so = let (more, ok) = so.goes_on refl in (omega arith, grind (arith, nat_tests), and_both _ _ ok passed, put)
+checked p h i r validate.Valid (calls, within, passed, put) so = let (more, ok) = so.ends refl in (grind (arith, nat_tests), and_both _ _ ok passed, put)
 checked p h i r (validate.Conflict key found) (calls, within, passed, put) so = (ap without_effect put, fails_first _ _ (so.fails key found refl), omega arith, omega arith)
 checked p h i r validate.Faulted (calls, within, passed, put) so = (ap without_effect put, left _ _ (so.faults refl), omega arith, omega arith)
 checked p h i r validate.NoMemory (calls, within, passed, put) so = (ap without_effect put, tt, omega arith, omega arith)

@@ -9,7 +9,7 @@ use Rattle.sdb_types.specs.declared.record.Reply.TheVariants as reply
 use Rattle.sdb_record.specs.declared.coordinator.Decided.{Decided}
 use Rattle.sdb_record.specs.declared.coordinator.Decision.{Decision}
 use Rattle.sdb_record.specs.declared.coordinator.Decision.TheVariants as decision
-use Rattle.sdb_record.specs.Coordinator.{coordinator_key_of, decision_in}
+use Rattle.sdb_record.specs.Coordinator.{coordinator_key_of, decision_in, same_decision}
 use Rattle.sdb_record.specs.Meta.{is_moment}
 use Rattle.sdb_phases.specs.declared.step.Outcome.{Outcome}
 use Rattle.sdb_phases.specs.declared.step.Outcome.TheVariants as outcome
@@ -33,11 +33,6 @@ Played p [] = Unit {0}
 Played p (r ∷ past) = Played p past × CanGet (pending p (after p past)) r
 
 ---- what was learned of a transaction's row
-
-abbrev pub same_decision : Decision → Decision → Bool
-same_decision decision.Committed decision.Committed = true
-same_decision decision.Aborted decision.Aborted = true
-same_decision a b = false
 
 abbrev pub is_decision : Decision → Result Decided (List ℕ) → Bool
 is_decision d (Err column) = false

@@ -1,24 +1,13 @@
 -- What the slow functions on transactions hold.
-use Rattle.std.specs.Prelude.{Option, Some, None, find, length, take_while, insert as list_insert, nat_le, if◌then◌else◌, List, [], ◌∷◌, map, fold}
+use Rattle.std.specs.Prelude.{Option, Some, None, find, length, take_while, insert as list_insert, nat_le, if◌then◌else◌, List, [], map, fold}
 use Rattle.sdb_types.specs.declared.txid.TxId.{TxId}
 use Rattle.sdb_model.specs.declared.event.Event.{Event}
 use Rattle.sdb_model.specs.declared.event.Point.{Point}
 use Rattle.std.specs.Option.{option_and_then}
 use Rattle.sdb_model.specs.Sql.{reads_commit}
-use Rattle.sdb_model.specs.Transactions.{Said as SaidOf, ends, rest_of, point}
-use Rattle.sdb_plain.specs.declared.points.Said.{Said}
-
--- a statement that was said, as the definitions have it
-abbrev pub said_of : Said → SaidOf
-said_of s = record { taken = s.taken; text = s.text; answer = s.answer; reached = s.reached }
-
-abbrev pub all_said : List Said → List SaidOf
-all_said = map said_of
+use Rattle.sdb_model.specs.Transactions.{Said as SaidOf, ends, rest_of, point_at}
 
 ---- the order of some transactions
-
-abbrev pub point_at : List Event → TxId → Point
-point_at events id = record { id = id; event = point events id }
 
 -- with a point put before the first that is later
 abbrev pub placed_point : List Point → Point → List Point

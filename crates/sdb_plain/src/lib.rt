@@ -7,9 +7,6 @@ mod statement;
 mod tables;
 
 pub use order::{Answers, Bodies, Body, run_body, serial};
-pub use points::{
-    Said, begins, ends, first_ending, from_begin, is_prepare, is_word, last_prepare, order_of,
-    point, statements_said,
-};
+pub use points::{first_ending, from_begin, is_prepare, last_prepare, order_of, point};
 pub use statement::exec;
 pub use tables::PlainTables;

@@ -47,7 +47,7 @@ decided_at row d says =
 
 ---- images
 
-held_of : (r : Record) → is_unresolved r ≡ true → is_in Committed r.columns ≡ false
+pub held_of : (r : Record) → is_unresolved r ≡ true → is_in Committed r.columns ≡ false
 held_of r h = not_true (is_in Committed r.columns) (and_second (is_taken r) (not (is_in Committed r.columns)) h)
 
 pub forward_firm : (r : Record) (m : ℤ) → is_unresolved r ≡ true → is_moment m ≡ true → IsBaseOf r.key (forward_record r m)

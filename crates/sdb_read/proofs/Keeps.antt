@@ -15,7 +15,7 @@ use Rattle.sdb_record.specs.declared.meta.Meta.{Meta}
 use Rattle.sdb_record.specs.Coordinator.{decision_in, is_expired}
 use Rattle.sdb_record.specs.Meta.{checked, is_in, is_taken, is_unresolved}
 use Rattle.sdb_record.specs.Parts.{before_record}
-use Rattle.sdb_record.specs.Rolls.{IsBaseOf}
+use Rattle.sdb_record.specs.Rolls.{IsBaseOf, AreCommitted}
 use Rattle.sdb_phases.specs.declared.step.RecoverStep.{RecoverStep}
 use Rattle.sdb_phases.specs.declared.step.RecoverStep.TheVariants as steps
 use Rattle.sdb_phases.specs.declared.step.RecoverPhase.{RecoverPhase}
@@ -24,12 +24,12 @@ use Rattle.sdb_phases.specs.Recover.{recover_next, roll_to, row_followed, undeci
 use Rattle.sdb_phases.specs.Steps.{CanGet}
 use Rattle.sdb_read.specs.Read.{Kind, Firm, Open, Bad, ReadStage, Asking, Resolving, Ended, answered, kind_of, opened, read_pending_at, read_step, resolved, settle, settle_one}
 use Rattle.sdb_read.specs.Rows.{sort_of}
-use Rattle.sdb_read.specs.Fine.{AreFirm, ArePlaced, IsFine, IsPhase}
+use Rattle.sdb_read.specs.Fine.{ArePlaced, IsFine, IsPhase}
 use Rattle.sdb_read.proofs.Firm.{open_unresolved}
 use Rattle.sdb_read.proofs.Images.{before_firm, decided_at, forward_firm}
 use Rattle.sdb_read.proofs.Places.{placed_drop, placed_swap}
 
-firm_more : (images : List Record) (b : Record) → AreFirm images → IsBaseOf b.key b → AreFirm (images ++ b ∷ [])
+firm_more : (images : List Record) (b : Record) → AreCommitted images → IsBaseOf b.key b → AreCommitted (images ++ b ∷ [])
 firm_more [] b f g = (g, tt)
 firm_more (x ∷ xs) b f g = (f.0, firm_more xs b f.1 g)
 
@@ -49,7 +49,7 @@ open_by false committed k meta h = absurd (cc)
 
 ---- rows are settled
 
-settle_fine : (q : Request) (images left : List Record) → AreFirm images → ArePlaced q (images ++ left) → IsFine q (settle images left)
+settle_fine : (q : Request) (images left : List Record) → AreCommitted images → ArePlaced q (images ++ left) → IsFine q (settle images left)
 settle_fine q images [] f p = (f, subst (ArePlaced q) (append-nil images) p)
 settle_fine q images (r ∷ left) f p = by (kind_of r) refl (λ g. settle_fine q (images ++ r ∷ []) left (firm_more images r f g) (subst (ArePlaced q) (sym (append_assoc images (r ∷ []) left)) p))
   where
@@ -142,7 +142,7 @@ next_fine rec meta phase.Back now reply.Fault loose h = tt
 next_fine rec meta phase.Back now reply.NoMemory loose h = tt
 next_fine rec meta phase.Ended now r loose h = tt
 
-resolved_fine : (q : Request) (images : List Record) (rec : Record) (meta : Meta) (left : List Record) (n : RecoverPhase × RecoverStep) → AreFirm images → ArePlaced q (images ++ rec ∷ left) → is_unresolved rec ≡ true → checked rec.columns ≡ Ok meta → IsFineNext rec n → IsFine q (resolved images rec meta left n)
+resolved_fine : (q : Request) (images : List Record) (rec : Record) (meta : Meta) (left : List Record) (n : RecoverPhase × RecoverStep) → AreCommitted images → ArePlaced q (images ++ rec ∷ left) → is_unresolved rec ≡ true → checked rec.columns ≡ Ok meta → IsFineNext rec n → IsFine q (resolved images rec meta left n)
 resolved_fine q images rec meta left (p, steps.More) f place loose says h = (f, place, loose, says, h)
 resolved_fine q images rec meta left (p, steps.Image None) f place loose says h = settle_fine q images left f (placed_drop q images rec left place)
 resolved_fine q images rec meta left (p, steps.Image (Some b)) f place loose says h =

@@ -1,13 +1,12 @@
 -- What is so of the records that a read has, after any replies.
 use Rattle.std.specs.Prelude.{◌≡◌, true, List, [], ◌∷◌, ◌++◌, Ok}
-use Rattle.std.specs.List.{AllByRecursion}
 use Rattle.sdb_types.specs.declared.key.Key.{Key}
 use Rattle.sdb_types.specs.declared.record.Record.{Record}
 use Rattle.sdb_types.specs.declared.record.Request.{Request}
 use Rattle.sdb_types.specs.declared.record.Request.TheVariants as ask
 use Rattle.sdb_types.specs.Contents.{are_rows_of}
 use Rattle.sdb_record.specs.Meta.{checked, is_moment, is_unresolved}
-use Rattle.sdb_record.specs.Rolls.{IsBaseOf}
+use Rattle.sdb_record.specs.Rolls.{AreCommitted}
 use Rattle.sdb_phases.specs.declared.step.RecoverPhase.{RecoverPhase}
 use Rattle.sdb_phases.specs.declared.step.RecoverPhase.TheVariants as phase
 use Rattle.sdb_read.specs.declared.read.ReadStep.{ReadStep}
@@ -27,22 +26,18 @@ ArePlaced (ask.Scan span) rs = are_rows_of span rs ≡ true
 ArePlaced (ask.PutIf r condition) rs = ⊥
 ArePlaced (ask.DeleteIf key condition) rs = ⊥
 
--- each is a committed record
-abbrev pub AreFirm : List Record → Type 0
-AreFirm rs = AllByRecursion (λ r. IsBaseOf r.key r) rs
-
 -- a record is rolled forward to a moment
 abbrev pub IsPhase : RecoverPhase → Type 0
 IsPhase (phase.Forward at) = is_moment at ≡ true
 IsPhase p = Unit {0}
 
 abbrev pub IsFineStep : Request → ReadStep → Type 0
-IsFineStep q (step.Images images) = AreFirm images × ArePlaced q images
+IsFineStep q (step.Images images) = AreCommitted images × ArePlaced q images
 IsFineStep q s = Unit {0}
 
 -- Images are committed records, which lie, with the rows that are left, where the request asks; the record that is resolved is an
 -- unresolved one.
 abbrev pub IsFine : Request → ReadStage → Type 0
 IsFine q Asking = Unit {0}
-IsFine q (Resolving images rec meta p left) = AreFirm images × ArePlaced q (images ++ rec ∷ left) × (is_unresolved rec ≡ true) × (checked rec.columns ≡ Ok meta) × IsPhase p
+IsFine q (Resolving images rec meta p left) = AreCommitted images × ArePlaced q (images ++ rec ∷ left) × (is_unresolved rec ≡ true) × (checked rec.columns ≡ Ok meta) × IsPhase p
 IsFine q (Ended s) = IsFineStep q s

@@ -15,13 +15,15 @@ use Rattle.sdb_model.specs.Report.{given_text_of}
 use Rattle.sdb_model.specs.Texts.{row_text_of, key_text_of, found_columns_text_of, rows_text_of, answer_text_of}
 use Rattle.sdb_model.specs.declared.answer.Answer.{Answer}
 use Rattle.sdb_model.specs.declared.answer.Answer.TheVariants as answer
-use Rattle.sdb_reading.specs.Reading.{Read, ◌>>=◌, case_of, after, natural_at, natural_below, integer_at, counted, row_at, key_at, columns_at, id_at}
+use Rattle.sdb_reading.specs.Reading.{Read, case_of, after, natural_at, natural_below, integer_at, counted, row_at, key_at, columns_at, id_at}
 use Rattle.sdb_reading.specs.Lines.{made, behind_space, items_at, rows_at, busy_at, found_columns_at, conflict_at, refusal_at, rows_answer_at, count_at, duplicate_at, expired_at, unknown_at, bad_record_at, long_answer_at, answer_at, given_at}
-use Rattle.sdb_reading.proofs.WordLaws.{case_some, join, Says, Sound, Again, after_is, stops_at, bind_some}
+use Rattle.sdb_reading.proofs.WordLaws.{case_some, join, Says, Sound, Again, after_is, stops_at}
 use Rattle.sdb_reading.proofs.NumberLaws.{natural_sound, natural_again, below_sound, below_again, integer_sound, integer_again, id_text_of, id_sound, id_again}
 use Rattle.sdb_reading.proofs.Lists.{Each-all, counted_is, counted_again}
 use Rattle.sdb_reading.proofs.ValueLaws.{row_sound, row_again}
 use Rattle.sdb_reading.proofs.KeyLaws.{key_sound, key_again, columns_sound, columns_again}
+use Rattle.sdb_types.proofs.Basics.{bind_some}
+use Rattle.sdb_types.specs.Options.{◌>>=◌}
 
 -- no digit goes on
 abbrev pub EndsDigits : List ℕ → Type 0

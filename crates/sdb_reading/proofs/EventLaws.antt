@@ -14,12 +14,14 @@ use Rattle.sdb_model.specs.declared.answer.Answer.{Answer}
 use Rattle.sdb_model.specs.declared.event.Event.{Event}
 use Rattle.sdb_model.specs.declared.event.Event.TheVariants as event
 use Rattle.sdb_model.specs.declared.event.How.{How}
-use Rattle.sdb_reading.specs.Reading.{Read, ◌>>=◌, case_of, after, text_of, name_at, integer_at}
+use Rattle.sdb_reading.specs.Reading.{Read, case_of, after, text_of, name_at, integer_at}
 use Rattle.sdb_reading.specs.Lines.{behind_space, given_at, request_at, how_at, reply_at, client_at, is_empty, whole, take_of, came_at, asked_at, call_of, event_of, numbered_event_of}
-use Rattle.sdb_reading.proofs.WordLaws.{case_some, join, Says, Sound, after_is, after_again, itself, IsName, name_sound, name_again, bind_some}
+use Rattle.sdb_reading.proofs.WordLaws.{case_some, join, Says, Sound, after_is, after_again, itself, IsName, name_sound, name_again}
 use Rattle.sdb_reading.proofs.NumberLaws.{below_sound, below_again, IsLong, integer_sound, integer_again}
 use Rattle.sdb_reading.proofs.AnswerLaws.{behind_sound, join_space, given_sound, given_again}
 use Rattle.sdb_reading.proofs.RequestLaws.{request_sound, request_again, any_how, how_sound, how_again, reply_sound, reply_again}
+use Rattle.sdb_types.proofs.Basics.{bind_some}
+use Rattle.sdb_types.specs.Options.{◌>>=◌}
 
 abbrev IsClient : ℕ → Type 0
 IsClient n = n < 2 ^ 32

@@ -2,10 +2,8 @@
 use Rattle.std.proofs.Common.{◌≡◌, ℕ, ◌-◌, ◌<◌, true, not, List, [], ◌∷◌, ◌++◌, length, Option, Some, None, IfSome, refl, sym, ap, subst, ◌∙◌, append_assoc, arith, flat_map}
 use Rattle.std.specs.Prelude.{codes}
 use Rattle.std.specs.List.{AllByRecursion, join_by}
-use Rattle.std.proofs.lemmas.List.{length-append}
 use Rattle.std.proofs.lemmas.List.Elements.{All-from_recursion, recursion_from_All}
-use Rattle.std.proofs.lemmas.Option.{same_Some, cond_some, slice_get_read}
-use Rattle.std.proofs.Math.Seq.{get_or-append_seam}
+use Rattle.std.proofs.lemmas.Option.{same_Some, cond_some}
 use Rattle.sdb_types.specs.Columns.{is_null, starts_above, are_columns}
 use Rattle.sdb_types.specs.Fits.{value_fits, pair_fits, key_fits, columns_fit, record_fits}
 use Rattle.sdb_types.specs.Identifier.{is_part}
@@ -20,10 +18,14 @@ use Rattle.sdb_types.proofs.Bools.{and_first, and_second, and_both}
 use Rattle.sdb_types.proofs.ColumnMap.{tail_above, tail_columns}
 use Rattle.sdb_model.specs.Plain.{table_fits, span_fits, values_fit}
 use Rattle.sdb_model.specs.Texts.{value_text_of, values_text_of, row_text_of, clustering_text_of, key_text_of, partition_text_of, span_text_of, pair_text_of, columns_text_of, record_text_of}
-use Rattle.sdb_reading.specs.Reading.{◌>>=◌, after, name_at, value_at, many, some_values_at, values_at, row_at, table_at, clustering_at, key_at, partition_at, span_at, last_of, is_above, is_next_column, column_of, pair_at, next_pair_at, some_pairs_at, pairs_at, columns_at, record_at}
-use Rattle.sdb_reading.proofs.WordLaws.{case_some, join, Says, Sound, Again, after_is, stops_at, name_sound, name_again, bind_some}
+use Rattle.sdb_reading.specs.Reading.{after, name_at, value_at, many, some_values_at, values_at, row_at, table_at, clustering_at, key_at, partition_at, span_at, is_next_column, column_of, pair_at, next_pair_at, some_pairs_at, pairs_at, columns_at, record_at}
+use Rattle.sdb_reading.proofs.WordLaws.{case_some, join, Says, Sound, Again, after_is, stops_at, name_sound, name_again}
 use Rattle.sdb_reading.proofs.Lists.{Each, Each-all, many_is, many_again, count_le}
-use Rattle.sdb_reading.proofs.ValueLaws.{value_sound, value_again, ends_value, some_values_sound, some_values_again, values_sound, values_again, ends_values, row_sound, row_again}
+use Rattle.sdb_reading.proofs.ValueLaws.{value_sound, value_again, some_values_sound, some_values_again, values_sound, values_again, ends_values, row_sound, row_again, EndsValue}
+use Rattle.sdb_codec.specs.Reading.{last_of, is_above}
+use Rattle.sdb_codec.proofs.Loops.{last_of-push}
+use Rattle.sdb_types.proofs.Basics.{bind_some}
+use Rattle.sdb_types.specs.Options.{◌>>=◌}
 
 ---- tables
 
@@ -144,12 +146,6 @@ span_again s rest fits =
 
 ---- columns
 
-pub last_of-push : {X : Type 0} (xs : List X) (x : X) → last_of (xs ++ x ∷ []) ≡ Some x
-last_of-push xs x =
-    let len = length-append xs (x ∷ []) in
-    let k : length (xs ++ x ∷ []) - 1 ≡ length xs = omega arith in
-    rw k (slice_get_read (xs ++ x ∷ []) (length (xs ++ x ∷ [])) (length xs) x refl (omega arith) (sym (get_or-append_seam xs x [] x)))
-
 -- a column that may follow those before it
 pub record ColumnAfter (before : List Pair) (p : Pair) : Type 0 where
   pub fits : pair_fits p
@@ -229,9 +225,6 @@ columns_sound bytes x h =
     let two = join (codes "{") (pairs_text_of b.0.0) b.0.1 (after_is (codes "{") bytes a.0 a.1) ps.parts in
     subst (Says columns_text_of columns_fit bytes) (same_Some (b.0.0, c.0) x c.2)
     (record { parts = join (codes "{" ++ pairs_text_of b.0.0) (codes "}") c.0 two (after_is (codes "}") b.0.1 c.0 c.1); fits = ps.fits })
-
-abbrev EndsValue : List ℕ → Type 0
-EndsValue rest = ends_value rest ≡ true
 
 pair_again : (before : List Pair) (p : Pair) (rest : List ℕ) → ColumnAfter before p → EndsValue rest → pair_at before (pair_text_of p ++ rest) ≡ Some (p, rest)
 unfolding pair_at

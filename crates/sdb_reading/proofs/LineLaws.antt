@@ -2,7 +2,7 @@
 use Rattle.std.proofs.Common.{◌≡◌, ℕ, ℤ, pos, negsuc, suc, ◌+◌, ◌-◌, ◌/◌, ◌%◌, ◌^◌, ◌<◌, ◌≤◌, Bool, true, false, cond, ltb, ◌==◌, List, [], ◌∷◌, ◌++◌, length, All, Option, Some, None, IfSome, refl, subst, arith, flat_map, zero}
 use Rattle.std.specs.Prelude.{codes, slice_index, FitsSigned}
 use Rattle.std.specs.Fmt.{decimal, signed_decimal}
-use Rattle.std.specs.Int.{w32, w64, w128, to_be_bytes}
+use Rattle.std.specs.Int.{w64, w128, to_be_bytes}
 use Rattle.std.specs.List.{list_all, AllByRecursion, join_by}
 use Rattle.std.proofs.lemmas.Bool.{ltb-false, eqb-true}
 use Rattle.std.proofs.lemmas.Bool.Decides.{nat_tests}
@@ -41,6 +41,7 @@ use Rattle.sdb_model.specs.declared.event.How.{How}
 use Rattle.sdb_model.specs.declared.event.How.TheVariants.{Seen, Lost, Discarded, Broken}
 use Rattle.sdb_reading.specs.OneLine.{ValueHasNoLf, ValuesHaveNoLf, KeyHasNoLf, ColumnsHaveNoLf, RecordHasNoLf, AnswerHasNoLf, RequestHasNoLf, ReplyHasNoLf, EventHasNoLf}
 use Rattle.sdb_types.proofs.Basics.{by_test}
+use Rattle.sdb_reading.proofs.ValueLaws.{is_long}
 
 abbrev One : List ℕ → Type 0
 One text = is_one_line text ≡ true
@@ -64,10 +65,6 @@ decimal_one n lt =
 signed_one : (z : ℤ) → FitsSigned w64 z → One (signed_decimal z)
 signed_one (pos n) fits = let lt : n < 2 ^ 63 = fits.sfits in decimal_one n (omega arith)
 signed_one (negsuc n) fits = let lt : n < 2 ^ 63 = fits.sfits in decimal_one (suc n) (omega arith)
-
-wide : (z : ℤ) → FitsSigned w32 z → FitsSigned w64 z
-wide (pos n) h = let lt : n < 2 ^ 31 = h.sfits in record { sfits = omega arith }
-wide (negsuc n) h = let lt : n < 2 ^ 31 = h.sfits in record { sfits = omega arith }
 
 part_no_lf : (c : ℕ) → is_part c ≡ true → is_no_lf c ≡ true
 part_no_lf c h = grind (arith, nat_tests)
@@ -124,7 +121,7 @@ pub value_one : (v : Value) → value_fits v → ValueHasNoLf v → One (value_t
 value_one value.Null fits h = refl
 value_one (value.Bool true) fits h = refl
 value_one (value.Bool false) fits h = refl
-value_one (value.Int n) fits h = signed_one n (wide n fits)
+value_one (value.Int n) fits h = signed_one n (is_long n fits)
 value_one (value.BigInt n) fits h = lines_joined (signed_decimal n) (codes "L") (signed_one n fits) refl
 value_one (value.Text text) fits h = lines_joined (flat_map doubled text) (codes "'") (doubled_one text h) refl
 value_one (value.Blob bytes) fits h = lines_joined (encode_upper bytes) (codes "'") (hex_one bytes (recursion_from_All (λ b. b < 256) bytes fits)) refl

@@ -6,7 +6,8 @@ use Rattle.std.proofs.lemmas.Option.{same_Some}
 use Rattle.sdb_reading.specs.declared.unread.Unread.{Unread}
 use Rattle.sdb_reading.specs.declared.unread.Unread.TheVariants.{Bad, NoMemory}
 use Rattle.sdb_reading.specs.Reading.{Read, case_of, Fails, many, counted}
-use Rattle.sdb_reading.proofs.WordLaws.{Says, Sound, join, bind_some}
+use Rattle.sdb_reading.proofs.WordLaws.{Says, Sound, join}
+use Rattle.sdb_types.proofs.Basics.{bind_some}
 
 ---- turns of the loops
 

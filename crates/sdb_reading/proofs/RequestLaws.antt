@@ -19,7 +19,7 @@ use Rattle.sdb_model.specs.Report.{condition_text_of, request_text_of, how_text_
 use Rattle.sdb_model.specs.Texts.{key_text_of, span_text_of, record_text_of}
 use Rattle.sdb_model.specs.declared.event.How.{How}
 use Rattle.sdb_model.specs.declared.event.How.TheVariants.{Seen, Lost, Discarded, Broken}
-use Rattle.sdb_reading.specs.Reading.{Read, ◌>>=◌, case_of, after, name_at, table_at, key_at, span_at, record_at, id_at}
+use Rattle.sdb_reading.specs.Reading.{Read, case_of, after, name_at, table_at, key_at, span_at, record_at, id_at}
 use Rattle.sdb_reading.specs.Lines.{behind_space, state_at, version_at, condition_at, get_at, scan_at, put_at, delete_at, request_at, how_at, found_at, records_at, found_reply_at, rows_reply_at, not_met_at, reply_at}
 use Rattle.std.specs.Int.{w128, to_be_bytes}
 use Rattle.std.proofs.Common.{get_or, ltb, arith}
@@ -31,11 +31,12 @@ use Rattle.uuid.specs.Text.{hex_digit, lower, nibble}
 use Rattle.uuid.proofs.TextLemmas.{by_index_at}
 use Rattle.sdb_types.specs.declared.txid.TxId.{TxId}
 use Rattle.sdb_reading.proofs.NumberLaws.{id_long}
-use Rattle.sdb_reading.proofs.WordLaws.{case_some, join, Says, Sound, after_is, bind_some}
+use Rattle.sdb_reading.proofs.WordLaws.{case_some, join, Says, Sound, after_is}
 use Rattle.sdb_reading.proofs.NumberLaws.{id_text_of, id_sound, id_again}
 use Rattle.sdb_reading.proofs.KeyLaws.{key_sound, key_again, span_sound, span_again, record_sound, record_again}
 use Rattle.sdb_reading.proofs.AnswerLaws.{behind_sound, made_sound, word_sound, join_space, CountedFit, items_sound, items_again, EndsDigits}
-use Rattle.sdb_types.proofs.Basics.{by_test}
+use Rattle.sdb_types.proofs.Basics.{by_test, bind_some}
+use Rattle.sdb_types.specs.Options.{◌>>=◌}
 
 ---- conditions
 

@@ -1,5 +1,5 @@
 -- Values and rows: what is read stands there, and what stands there is read.
-use Rattle.std.proofs.Common.{◌≡◌, ℕ, zero, suc, ◌^◌, ◌<◌, Bool, true, false, cond, ltb, ◌==◌, ◌||◌, List, [], ◌∷◌, ◌++◌, length, take, Option, Some, None, Result, Ok, Err, refl, sym, ap, subst, ◌∙◌, append_assoc, arith, ℤ, pos, negsuc, inl, inr, flat_map, ◌/◌, ◌%◌}
+use Rattle.std.proofs.Common.{◌≡◌, ℕ, suc, ◌^◌, ◌<◌, Bool, true, false, cond, ltb, ◌==◌, ◌||◌, List, [], ◌∷◌, ◌++◌, length, take, Option, Some, None, Result, Ok, Err, refl, sym, ap, subst, ◌∙◌, append_assoc, arith, ℤ, pos, negsuc, inl, inr, flat_map, ◌/◌, ◌%◌}
 use Rattle.std.specs.Prelude.{FitsSigned, codes, slice_index}
 use Rattle.std.specs.Char.{is_ascii_digit}
 use Rattle.std.specs.Fmt.{decimal, signed_decimal}
@@ -21,12 +21,14 @@ use Rattle.sdb_types.specs.declared.value.Value.{Value}
 use Rattle.sdb_types.specs.declared.value.Value.TheVariants as value
 use Rattle.sdb_model.specs.Texts.{doubled, quoted, value_text_of, values_text_of, row_text_of}
 use Rattle.sdb_model.specs.Plain.{values_fit}
-use Rattle.sdb_reading.specs.Reading.{◌>>=◌, case_of, after, text_of, integer_at, int_of, begins_number, numeral_at, quoted_on, text_at, is_unquoted, blob_at, value_at, many, next_value_at, some_values_at, values_at, row_at}
-use Rattle.sdb_reading.proofs.WordLaws.{case_some, join, Says, Sound, Again, after_is, after_again, stops_at, front_again, bind_some}
+use Rattle.sdb_reading.specs.Reading.{case_of, after, text_of, integer_at, int_of, begins_number, numeral_at, quoted_on, text_at, is_unquoted, blob_at, value_at, many, next_value_at, some_values_at, values_at, row_at}
+use Rattle.sdb_reading.proofs.WordLaws.{case_some, join, Says, Sound, Again, after_is, after_again, stops_at, front_again}
 use Rattle.sdb_reading.proofs.NumberLaws.{digits_go, begins_digit, integer_sound, integer_again, IsLong}
 use Rattle.sdb_reading.proofs.Lists.{Each-all, Each-from_all, many_is, many_again, count_le}
 use lib.Utf8.{scalar, scalars, encode, encodes, next, scalar_cases}
-use Rattle.sdb_types.proofs.Basics.{and_parts, by_test}
+use Rattle.sdb_types.proofs.Basics.{and_parts, by_test, bind_some}
+use Rattle.sdb_model.proofs.Basics.{are_bytes, is_bytes}
+use Rattle.sdb_types.specs.Options.{◌>>=◌}
 
 ---- a text in UTF-8 is bytes
 
@@ -120,15 +122,6 @@ quoted_again (b ∷ bs) front rest e =
 ok_is : (r : Result (List ℕ) FromHexError) (blob : List ℕ) → result_ok r ≡ Some blob → r ≡ Ok blob
 ok_is (Ok b) blob h = ap Ok (same_Some b blob h)
 ok_is (Err e) blob h = absurd cc
-
-are_bytes : (bs : List ℕ) → IsBytes bs → AllByRecursion (λ b. b < 256) bs
-are_bytes [] h = tt
-are_bytes (b ∷ bs) h = (h 0, are_bytes bs (λ i. h (suc i)))
-
-is_bytes : (bs : List ℕ) → AllByRecursion (λ b. b < 256) bs → IsBytes bs
-is_bytes [] h i = omega arith
-is_bytes (b ∷ bs) h zero = h.0
-is_bytes (b ∷ bs) h (suc i) = is_bytes bs h.1 i
 
 no_quote : (c d : ℕ) → hex_digit_value c ≡ Some d → is_unquoted c ≡ true
 no_quote c d h =
@@ -251,7 +244,7 @@ is_int : (z : ℤ) → FitsSigned w32 z → int_of z ≡ Some z
 is_int (pos n) h = rw (lt-ltb n (2 ^ 31) h.sfits) refl
 is_int (negsuc n) h = rw (lt-ltb n (2 ^ 31) h.sfits) refl
 
-is_long : (z : ℤ) → FitsSigned w32 z → IsLong z
+pub is_long : (z : ℤ) → FitsSigned w32 z → IsLong z
 is_long (pos n) h = let lt : n < 2 ^ 31 = h.sfits in record { sfits = omega arith }
 is_long (negsuc n) h = let lt : n < 2 ^ 31 = h.sfits in record { sfits = omega arith }
 
@@ -320,7 +313,7 @@ abbrev pub ends_values : List ℕ → Bool
 ends_values [] = false
 ends_values (c ∷ cs) = c == 59 || c == 41
 
-abbrev EndsValue : List ℕ → Type 0
+abbrev pub EndsValue : List ℕ → Type 0
 EndsValue rest = ends_value rest ≡ true
 
 ends_either : (rest : List ℕ) → ends_values rest ≡ true → EndsValue rest

@@ -11,12 +11,8 @@ use Rattle.std.proofs.Common.{take-append-drop}
 use Rattle.sdb_types.specs.Identifier.{is_part, is_name}
 use Rattle.sdb_types.proofs.Bools.{and_first, and_second}
 use Rattle.sdb_types.proofs.KeyOrder.{parts}
-use Rattle.sdb_reading.specs.Reading.{Read, ◌>>=◌, case_of, after, name_of, name_at}
-use Rattle.sdb_types.proofs.Basics.{by_test, one_more}
-
-pub bind_some : {A B : Type 0} (r : Option A) (f : A → Option B) (y : B) → (r >>= f) ≡ Some y → (x : A) × (r ≡ Some x) × (f x ≡ Some y)
-bind_some (Some x) f y e = (x, refl, e)
-bind_some None f y e = absurd cc
+use Rattle.sdb_reading.specs.Reading.{Read, case_of, after, name_of, name_at}
+use Rattle.sdb_types.proofs.Basics.{by_test, one_more, bind_some}
 
 ---- steps
 

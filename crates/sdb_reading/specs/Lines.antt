@@ -17,7 +17,8 @@ use Rattle.sdb_model.specs.declared.event.Event.{Event}
 use Rattle.sdb_model.specs.declared.event.Event.TheVariants as event
 use Rattle.sdb_model.specs.declared.event.How.{How}
 use Rattle.sdb_model.specs.declared.event.How.TheVariants.{Seen, Lost, Discarded, Broken}
-use Rattle.sdb_reading.specs.Reading.{Read, ◌>>=◌, case_of, after, text_of, name_at, natural_at, natural_below, integer_at, counted, row_at, key_at, span_at, columns_at, record_at, id_at}
+use Rattle.sdb_reading.specs.Reading.{Read, case_of, after, text_of, name_at, natural_at, natural_below, integer_at, counted, row_at, key_at, span_at, columns_at, record_at, id_at}
+use Rattle.sdb_types.specs.Options.{◌>>=◌}
 
 -- what is read, made into something else
 abbrev pub made : {X Y : Type 0} → (X → Y) → Read X → Read Y

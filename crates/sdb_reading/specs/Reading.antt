@@ -1,15 +1,13 @@
 -- Reading from the front of a text: what stands there and the bytes after it, or nothing.
-use Rattle.std.specs.Prelude.{◌≡◌, ◌^◌, ℕ, zero, suc, ◌+◌, ◌-◌, ◌*◌, min, ℤ, pos, negsuc, Bool, true, false, not, ◌&&◌, ◌||◌, ◌==◌, nat_lt, if◌then◌else◌, List, [], ◌∷◌, ◌++◌, length, take, drop, slice_get, codes, decimal, Option, Some, None, Result, Ok, Err}
+use Rattle.std.specs.Prelude.{◌≡◌, ◌^◌, ℕ, zero, suc, ◌+◌, ◌-◌, ◌*◌, min, ℤ, pos, negsuc, Bool, true, false, not, ◌&&◌, ◌||◌, ◌==◌, nat_lt, if◌then◌else◌, List, [], ◌∷◌, ◌++◌, length, take, drop, codes, decimal, Option, Some, None, Result, Ok, Err}
 use Rattle.std.specs.Char.{is_ascii_digit}
 use Rattle.std.specs.Fmt.{signed_decimal}
 use Rattle.std.specs.List.{prefix_len}
-use Rattle.std.specs.Ordering.{is_lt}
 use Rattle.std.specs.Result.{result_ok}
 use Rattle.std.specs.Str.{is_utf8}
 use Rattle.hex.specs.Hex.{decode_of, encode_upper}
 use Rattle.sdb_types.specs.Columns.{is_null}
 use Rattle.sdb_types.specs.Identifier.{is_part, is_name}
-use Rattle.sdb_types.specs.Order.{name_cmp}
 use Rattle.sdb_types.specs.declared.key.Key.{Key}
 use Rattle.sdb_types.specs.declared.key.TableName.{TableName}
 use Rattle.sdb_types.specs.declared.pair.Pair.{Pair}
@@ -21,14 +19,11 @@ use Rattle.sdb_types.specs.declared.value.Value.TheVariants as value
 use Rattle.sdb_record.specs.Ids.{id_of_text}
 use Rattle.sdb_reading.specs.declared.unread.Unread.{Unread}
 use Rattle.sdb_reading.specs.declared.unread.Unread.TheVariants as unread
+use Rattle.sdb_codec.specs.Reading.{last_of, is_above}
+use Rattle.sdb_types.specs.Options.{◌>>=◌}
 
 abbrev pub Read : Type 0 → Type 0
 Read A = Option (A × List ℕ)
-
-infixl 10 ◌>>=◌
-abbrev pub ◌>>=◌ : {A B : Type 0} → Option A → (A → Option B) → Option B
-(Some x) >>= f = f x
-None >>= f = None
 
 abbrev pub case_of : {A B : Type 0} → Option A → (A → B) → B → B
 case_of (Some x) f otherwise = f x
@@ -181,13 +176,6 @@ partition_at bytes = case_of (row_at bytes) (λ row. Some (Some row.0, row.1)) (
 
 unfoldable pub span_at : List ℕ → Read Span
 span_at bytes = table_at bytes >>= λ table. partition_at table.1 >>= λ partition. Some (record { table = table.0; partition = partition.0 }, partition.1)
-
-abbrev pub last_of : {X : Type 0} → List X → Option X
-last_of xs = slice_get xs (length xs - 1)
-
-abbrev pub is_above : Option Pair → List ℕ → Bool
-is_above None name = true
-is_above (Some before) name = is_lt (name_cmp before.name name)
 
 -- not Null, under a name above that of the column before
 abbrev pub is_next_column : Option Pair → Pair → Bool

@@ -2,6 +2,7 @@
 ghost use Rattle.std.specs.Prelude.{◌≡◌, [], ◌∷◌, Some, length};
 ghost use Rattle.std.specs.Option.{option_copied};
 ghost use Rattle.sdb_types.specs.Columns.{is_null};
+ghost use Rattle.sdb_codec.specs.Reading.{is_above as is_above_lem};
 ghost use Rattle.sdb_reading.specs.Reading as spec;
 ghost use Rattle.sdb_reading.specs.Reading.{Gives};
 
@@ -73,7 +74,7 @@ pub fn span_at(alloc: Global, bytes: &[u8]) -> Result<(Span, &[u8]), Unread>
 
 // The name stands above that of the column before, if there is one.
 fn is_above(before: Option<&Pair>, name: &Name) -> bool
-    ensures { result ≡ spec.is_above (option_copied before.entry) name.now }
+    ensures { result ≡ is_above_lem (option_copied before.entry) name.now }
 {
     match before {
         None => true,

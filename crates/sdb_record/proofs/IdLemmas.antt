@@ -11,6 +11,10 @@ use Rattle.sdb_types.proofs.Bools.{and_first, and_second, and_both}
 use Rattle.sdb_record.specs.Names.{same_name}
 use Rattle.sdb_record.specs.Ids.{id_of_text, id_with_text, is_id_with_text}
 use Rattle.sdb_record.proofs.NameLemmas.{same_name-true, same_name-itself}
+use Rattle.sdb_types.specs.declared.value.Value.{Value}
+use Rattle.sdb_types.specs.declared.value.Value.TheVariants as value
+use Rattle.sdb_types.proofs.Basics.{none_some}
+use Rattle.sdb_record.specs.Meta.{id_in_value}
 
 pub id_of_text-id_text : (n : ℕ) → n < 2 ^ 128 → id_of_text (id_text n) ≡ Some (record { 0 = n })
 unfolding id_of_text
@@ -47,3 +51,8 @@ reads text None found small read =
       | None ↦ λ q. refl
       | Some id ↦ λ q. let w = id_of_text-is text id q in read id.0 w.0 w.1
     ] refl
+
+pub id_in_value-fits : (o : Option Value) (id : TxId) → id_in_value o ≡ Some id → id.0 < 2 ^ 128
+id_in_value-fits None id h = none_some id h
+id_in_value-fits (Some (value.Text text)) id h = (id_of_text-is text id h).0
+id_in_value-fits (Some v) id h = none_some id h

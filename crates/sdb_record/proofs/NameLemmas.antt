@@ -17,7 +17,8 @@ use Rattle.sdb_types.specs.Exact.{equal_of}
 use Rattle.sdb_types.specs.Order.{name_cmp}
 use Rattle.sdb_types.proofs.KeyOrder.{name_exact, name_total}
 use Rattle.sdb_record.specs.Names.{before_prefix, before_name, after_front, base_name, same_name}
-use Rattle.sdb_types.proofs.Basics.{nat_at_most, at_most_nat}
+use Rattle.sdb_types.proofs.Basics.{nat_at_most, at_most_nat, longer}
+use Rattle.sdb_record.specs.Parts.{is_column_name}
 
 -- what follows a front in a text that begins with it
 pub after_front-append : (front rest : List ℕ) → after_front front (front ++ rest) ≡ Some rest
@@ -92,3 +93,6 @@ before-is_name (c ∷ cs) i h =
 -- equal bytes are the same name
 pub equal_texts : (a b : List ℕ) → bytes_eq a b ≡ same_name a b
 equal_texts a b = sym (is_eq-slice_cmp a b)
+
+pub name_of_column : (text : List ℕ) → is_column_name text ≡ true → is_name text ≡ true
+name_of_column text h = and_both (nat_le (length text) 71) _ (longer (length text) (and_first (nat_le (length text) 64) (is_identifier text) h)) (and_second (nat_le (length text) 64) (is_identifier text) h)

@@ -10,6 +10,9 @@ use Rattle.sdb_types.specs.declared.record.State.TheVariants.{Prepared, Deleted,
 use Rattle.sdb_types.specs.Columns.{column}
 use Rattle.sdb_types.specs.Contents.{tx_state, state_number, has_value}
 use Rattle.sdb_record.specs.Meta.{state_in, state_in_value, numbered_state, is_in, is_committed, is_deleted, tombstone_in_value}
+use Rattle.sdb_record.specs.declared.coordinator.Decision.{Decision}
+use Rattle.sdb_record.specs.declared.coordinator.Decision.TheVariants as decision
+use Rattle.sdb_record.specs.Coordinator.{same_decision}
 
 numbered : (n : ℤ) (s : State) → numbered_state n ≡ Some s → n ≡ state_number s
 numbered n s h =
@@ -54,3 +57,7 @@ pub no-tombstone : (o : Option Value) (t : Bool) → tombstone_in_value false o 
 no-tombstone None t h = (refl, cc)
 no-tombstone (Some (value.Bool true)) t h = absurd (cc)
 no-tombstone (Some v) t h = absurd (cc)
+
+pub decision_itself : (a : Decision) → same_decision a a ≡ true
+decision_itself decision.Committed = refl
+decision_itself decision.Aborted = refl

@@ -1,5 +1,5 @@
 -- The coordinator's rows, each the one decision on a transaction.
-use Rattle.std.specs.Prelude.{ℕ, ℤ, pos, ◌+ℤ◌, int_le, Bool, ◌&&◌, if◌then◌else◌, List, [], ◌∷◌, Option, Some, None, Result, Ok, codes}
+use Rattle.std.specs.Prelude.{ℕ, ℤ, pos, ◌+ℤ◌, int_le, Bool, ◌&&◌, if◌then◌else◌, List, [], ◌∷◌, Option, Some, None, Result, Ok, codes, true, false}
 use Rattle.std.specs.Ordering.{int_eq}
 use Rattle.sdb_types.specs.declared.value.Value.{Value}
 use Rattle.sdb_types.specs.declared.value.Value.TheVariants as value
@@ -72,3 +72,9 @@ decision_in r =
 -- A record that no row decides may be given up 15 seconds after it was prepared.
 abbrev pub is_expired : ℤ → ℤ → Bool
 is_expired prepared_at now = int_le (prepared_at +ℤ pos 15000) now
+
+abbrev pub same_decision : Decision → Decision → Bool
+same_decision decision.Committed decision.Committed = true
+same_decision decision.Committed decision.Aborted = false
+same_decision decision.Aborted decision.Committed = false
+same_decision decision.Aborted decision.Aborted = true

@@ -21,7 +21,12 @@ use Rattle.sdb_record.specs.declared.coordinator.Decision.TheVariants as decisio
 use Rattle.sdb_record.specs.declared.coordinator.Decided.{Decided}
 use Rattle.sdb_record.specs.Names.{tx_version, tx_prepared_at, tx_committed_at, tx_tombstone}
 use Rattle.sdb_record.specs.Parts.{with_columns, before_pair, own_columns, user_columns, are_user_columns, before_record}
-use Rattle.sdb_record.specs.Meta.{is_in, is_taken}
+use Rattle.sdb_record.specs.Meta.{is_in, is_taken, id_in}
+use Rattle.std.specs.List.{AllByRecursion}
+use Rattle.std.specs.Option.{option_map}
+use Rattle.sdb_types.specs.declared.record.Request.{Request}
+use Rattle.sdb_types.specs.declared.record.Request.TheVariants as ask
+use Rattle.sdb_types.specs.declared.record.Condition.TheVariants as condition
 
 ---- prepared
 
@@ -70,6 +75,10 @@ prepared_record w id now =
 abbrev pub IsBaseOf : Key → Record → Type 0
 IsBaseOf key base = (base.key ≡ key) × (is_taken base ≡ true) × (is_in state.Committed base.columns ≡ true)
 
+-- each is a committed record
+abbrev pub AreCommitted : List Record → Type 0
+AreCommitted rs = AllByRecursion (λ r. IsBaseOf r.key r) rs
+
 -- a row holds user columns alone
 abbrev pub is_change : Change → Bool
 is_change (change.Row columns) = are_columns columns && are_user_columns columns
@@ -116,6 +125,10 @@ image_of r decided = if is_in state.Committed r.columns then Some r else image_u
 
 abbrev pub is_tombstone : Record → Bool
 is_tombstone r = has_value (column r.columns tx_tombstone) (value.Bool true)
+
+-- a tombstone is deleted on condition that it still stands
+abbrev pub remove_request : Record → Option Request
+remove_request b = option_map (λ id. ask.DeleteIf b.key (condition.Version id state.Committed)) (id_in b.columns)
 
 -- the row that a committed record shows: its user columns; a tombstone is no row
 abbrev pub row_of_image : Record → Option (List Pair)

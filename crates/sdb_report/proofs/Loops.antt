@@ -1,9 +1,10 @@
 -- Reading lines one after the other, as a loop does.
 use Rattle.std.proofs.Common.{◌≡◌, ℕ, suc, ◌-◌, ◌+◌, ◌≤◌, ◌<◌, List, [], ◌∷◌, ◌++◌, Ok, Err, refl, sym, ap, ◌∙◌, append_assoc, arith}
 use Rattle.std.proofs.lemmas.List.{append-nil}
-use Rattle.sdb_report.specs.declared.refused.Stopped.{Stopped}
-use Rattle.sdb_report.specs.declared.refused.Stopped.TheVariants as stopped
-use Rattle.sdb_report.specs.Reading.{Placed, then_read, Stops, lines_at}
+use Rattle.sdb_codec.specs.declared.refused.Stopped.{Stopped}
+use Rattle.sdb_codec.specs.declared.refused.Stopped.TheVariants as stopped
+use Rattle.sdb_report.specs.Reading.{Placed, then_read, lines_at}
+use Rattle.sdb_codec.specs.Reading.{Stops}
 
 -- what was read before, and what is still read
 abbrev pub with_front : {X : Type 0} → List X → Placed (List X) → Placed (List X)

@@ -10,9 +10,7 @@ use Rattle.sdb_reading.proofs.Lists.{Each}
 use Rattle.sdb_report.specs.Reading.{Placed, then_read, both, cut_line, line_at, lines_at}
 use Rattle.sdb_report.proofs.Cuts.{cut_is, cut_again}
 use Rattle.sdb_types.proofs.Basics.{done}
-
-pub ok_is : {A : Type 0} (x y : A) → done x ≡ done y → x ≡ y
-ok_is x y e = cc
+use Rattle.sdb_codec.proofs.FieldLaws.{ok_is}
 
 pub then_ok : {X Y : Type 0} (r : Placed X) (f : X × List ℕ → Placed Y) (y : Y × List ℕ) → then_read r f ≡ Ok y → (x : X × List ℕ) × (r ≡ Ok x) × (f x ≡ Ok y)
 then_ok (Ok x) f y e = (x, refl, e)

@@ -12,7 +12,6 @@ use Rattle.sdb_model.specs.Plain.{is_counted, is_one_line, table_fits, IsPlainDu
 use Rattle.sdb_model.specs.Report.{heading, row_line, table_lines, events_text_of, order_text_of, tables_text_of, report_text_of}
 use Rattle.sdb_model.specs.declared.event.Outcome.{Outcome}
 use Rattle.sdb_model.specs.declared.event.TableDump.{TableDump}
-use Rattle.sdb_reading.specs.Reading.{last_of}
 use Rattle.sdb_reading.proofs.KeyLaws.{table_again}
 use Rattle.sdb_reading.proofs.Lists.{Each}
 use Rattle.sdb_report.specs.Reading.{Placed, then_read, cut_line, lines_at, fixed_of, heading_of, is_after, table_of, dump_at, tables_at, places_at, parts_at, body_at, report_at, all_of, report_in}
@@ -26,6 +25,7 @@ use Rattle.sdb_report.proofs.PartLaws.{DumpAfter, dump_reads, each_rising, event
 use Rattle.sdb_report.proofs.Stops.{AreLines, SameLine, Stop, err_is, failed}
 use Rattle.sdb_report.proofs.StopLaws.{Halt, halted, report_stopping, dead_of, count_lines}
 use Rattle.sdb_types.proofs.Basics.{by_test, done}
+use Rattle.sdb_codec.specs.Reading.{last_of}
 
 ---- the first table that doesn't stand after the one before
 

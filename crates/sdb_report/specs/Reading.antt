@@ -1,5 +1,5 @@
 -- Reading a report line by line. What is wrong is told by the bytes left where the bad line begins.
-use Rattle.std.specs.Prelude.{◌≡◌, ℕ, zero, suc, ◌+◌, Bool, true, if◌then◌else◌, List, [], ◌∷◌, ◌++◌, length, take, drop, codes, Option, Some, None, Result, Ok, Err}
+use Rattle.std.specs.Prelude.{ℕ, zero, suc, ◌+◌, Bool, true, if◌then◌else◌, List, [], ◌∷◌, ◌++◌, length, take, drop, codes, Option, Some, None, Result, Ok, Err}
 use Rattle.std.specs.List.{prefix_len}
 use Rattle.std.specs.Ordering.{is_lt}
 use Rattle.std.specs.Str.{bytes_eq}
@@ -12,9 +12,9 @@ use Rattle.sdb_model.specs.declared.event.Outcome.{Outcome}
 use Rattle.sdb_model.specs.declared.event.Point.{Point}
 use Rattle.sdb_model.specs.declared.event.TableDump.{TableDump}
 use Rattle.sdb_reading.specs.Lines.{whole, numbered_event_of, is_empty}
-use Rattle.sdb_reading.specs.Reading.{◌>>=◌, case_of, after, natural_at, row_at, table_at, id_at, last_of}
-use Rattle.sdb_report.specs.declared.refused.Stopped.{Stopped}
-use Rattle.sdb_report.specs.declared.refused.Stopped.TheVariants as stopped
+use Rattle.sdb_reading.specs.Reading.{case_of, after, natural_at, row_at, table_at, id_at}
+use Rattle.sdb_codec.specs.Reading.{last_of}
+use Rattle.sdb_types.specs.Options.{◌>>=◌}
 
 -- what is read and the bytes after it, or how many bytes are left where the bad line begins
 abbrev pub Placed : Type 0 → Type 0
@@ -27,15 +27,6 @@ then_read (Err left) f = Err left
 -- one after the other, made into one
 abbrev pub both : {X Y Z : Type 0} → (List ℕ → Placed X) → (X → List ℕ → Placed Y) → (X → Y → Z) → List ℕ → Placed Z
 both first second make bytes = then_read (first bytes) (λ x. then_read (second x.0 x.1) (λ y. Ok (make x.0 y.0, y.1)))
-
--- What a function returned, seen by view, is what reading gives, unless memory ran out.
-abbrev pub Stops : {Y : Type 0} → Stopped → Result Y ℕ → Type 0
-Stops stopped.NoMemory read = Unit {0}
-Stops (stopped.Wrong left) read = read ≡ Err left
-
-abbrev pub Gives : {X Y : Type 0} → (X → Y) → Result X Stopped → Result Y ℕ → Type 0
-Gives view (Ok x) read = read ≡ Ok (view x)
-Gives view (Err e) read = Stops e read
 
 ---- lines
 

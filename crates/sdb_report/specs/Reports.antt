@@ -8,8 +8,8 @@ use Rattle.sdb_model.specs.declared.event.TableDump.{TableDump}
 use Rattle.sdb_report.specs.Reading.{cut_line}
 use Rattle.sdb_report.specs.declared.refused.ReportRefused.{ReportRefused}
 use Rattle.sdb_report.specs.declared.refused.ReportRefused.TheVariants as refused
-use Rattle.sdb_report.specs.declared.refused.Stopped.{Stopped}
-use Rattle.sdb_report.specs.declared.refused.Stopped.TheVariants as stopped
+use Rattle.sdb_codec.specs.declared.refused.Stopped.{Stopped}
+use Rattle.sdb_codec.specs.declared.refused.Stopped.TheVariants as stopped
 use Rattle.sdb_model.specs.Texts.{with_lf}
 
 abbrev pub is_lf : ℕ → Bool

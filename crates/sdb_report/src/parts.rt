@@ -2,10 +2,10 @@
 ghost use Rattle.std.specs.Prelude.{◌≡◌, []};
 ghost use Rattle.std.specs.Option.{option_copied};
 ghost use Rattle.sdb_report.specs.Reading as spec;
-ghost use Rattle.sdb_report.specs.Reading.{Gives};
+ghost use Rattle.sdb_codec.specs.Reading.{Gives};
 
 use crate::lines::{event_at, fixed_at, heading_at, point_at, row_line_at, table_line_at};
-use crate::refused::Stopped;
+use sdb_codec::Stopped;
 use sdb_model::{Events, Outcome, Points, Rows, TableDump, TableRows};
 use std::alloc::Global;
 

@@ -1,6 +1,5 @@
 //! Why a report is not read.
 ghost use Rattle.std.specs.Prelude.{◌≡◌};
-ghost use Rattle.sdb_report.specs.declared.refused.Stopped.TheVariants.{NoMemory as StoppedNoMemory};
 ghost use Rattle.sdb_report.specs.declared.refused.ReportRefused.TheVariants.{NoMemory as RefusedNoMemory};
 
 use sdb_types::NoMemory;
@@ -21,21 +20,5 @@ impl From<NoMemory> for ReportRefused {
 
     fn from(_e: NoMemory) -> ReportRefused {
         ReportRefused::NoMemory
-    }
-}
-
-/// Why reading stopped.
-#[derive(Clone, Copy, Debug, PartialEq, Eq)]
-pub enum Stopped {
-    /// No report has the line: how many bytes are left where it begins.
-    Wrong(usize),
-    NoMemory,
-}
-
-impl From<NoMemory> for Stopped {
-    ghost from_gives = { λ _ e. e ≡ StoppedNoMemory };
-
-    fn from(_e: NoMemory) -> Stopped {
-        Stopped::NoMemory
     }
 }

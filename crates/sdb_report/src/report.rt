@@ -8,7 +8,8 @@ ghost use Rattle.sdb_report.specs.Reading.{report_in};
 ghost use Rattle.sdb_report.specs.Reports.{is_lf, refusal, Reads, Answers, IsRefusedAt};
 
 use crate::parts::whole_report;
-use crate::refused::{ReportRefused, Stopped};
+use crate::refused::ReportRefused;
+use sdb_codec::Stopped;
 use sdb_model::Outcome;
 use std::alloc::Global;
 

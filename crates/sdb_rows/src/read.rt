@@ -5,8 +5,9 @@ ghost use Rattle.std.specs.List.{list_all, list_any};
 ghost use Rattle.sdb_types.specs.Order.{value_cmp};
 ghost use Rattle.sdb_types.specs.Columns.{is_null};
 ghost use Rattle.sdb_types.specs.declared.value.Value.TheVariants as value;
-ghost use Rattle.sdb_model.specs.Rows.{value_in, value_of, order_names, same_name, kind_of_column, is_key_column, at_kind, fits_int as fits_int_lem};
+ghost use Rattle.sdb_model.specs.Rows.{value_in, value_of, order_names, same_name, kind_of_column, is_key_column, at_kind};
 ghost use Rattle.sdb_model.specs.Exec.{agrees as agrees_lem, passes_test, passes as passes_lem};
+ghost use Rattle.sdb_types.specs.Fits.{fits_int as fits_int_lem};
 
 use sdb_model::{Comparison, Test};
 use sdb_record::{Image, Images};

@@ -23,10 +23,11 @@ use Rattle.sdb_laws.specs.Lawful.{id, IsHeldShown, IsSettled, Itself, Forward, B
 use Rattle.sdb_said.specs.declared.played.Played.{Played}
 use Rattle.sdb_said.specs.Values.{all_played, same_record}
 use Rattle.sdb_said.specs.Shown.{shown, writer_is, kept_writer, keeps_tombstone, is_kept_in, is_held, is_held_by, shows_commit, moments, is_forward, is_itself, is_back, forward_from, is_settled, settles, settles_gone}
-use Rattle.sdb_said.proofs.Lists.{right, both, or_left, not_true, true_not, In, any_some, some_any}
+use Rattle.sdb_said.proofs.Lists.{right, or_left, not_true, true_not, In, any_some, some_any}
 use Rattle.sdb_said.proofs.ShownLaws.{key_is, is_key, record_is, is_record, number_is, is_number, shown_is, is_shown, commit_shown, shows_commit_of, moment_shown, shown_moment, forward_is, is_forward_at, kept_is, is_kept_of, kept_writer_is, kept_some, before_columns}
 use Rattle.sdb_types.proofs.Basics.{clash, or_second as or_right, either}
-use Rattle.sdb_types.proofs.Bools.{and_first as left}
+use Rattle.sdb_types.proofs.Bools.{and_first as left, and_both as both}
+use Rattle.sdb_laws.proofs.Canon.{some_id}
 
 ---- writers
 
@@ -40,9 +41,6 @@ is_writer_of u o e = ap (writer_is u) e ∙ is_number u u refl
 pub some_one : {A : Type 0} (o : Option A) → is_some o ≡ true → (x : A) × (o ≡ Some x)
 some_one None h = clash (sym h)
 some_one (Some x) h = (x, refl)
-
-pub same_number : (t u : ℕ) → Some (id t) ≡ Some (id u) → t ≡ u
-same_number t u e = ap (λ (o : Option TxId). option_map_or (λ i. i.0) o 0) e
 
 ---- held
 
@@ -173,7 +171,7 @@ module _ (past : List Played) (k : Key) (u : ℕ) where
       or_left (list_any own_of (shown past)) (list_any back_of (shown past) || (list_any (is_held_by u k) (shown past) && shows_commit (shown past) (coordinator_key_of (id u))))
       (some_any own_of (shown past) b (is_shown past b s) (both (same_key b.key k) (is_in state.Committed b.columns && writer_is u (id_in b.columns)) (is_key b.key k key) (both (is_in state.Committed b.columns) (writer_is u (id_in b.columns)) firm (is_writer_of u (id_in b.columns) w))))
   settles_by b (Forward t r m held row same) w =
-      let t_is : t ≡ u = same_number t u (sym held.writer ∙ sym (forward-writer r m) ∙ ap (λ (x : Record). id_in x.columns) (sym same) ∙ w) in
+      let t_is : t ≡ u = some_id t u (sym held.writer ∙ sym (forward-writer r m) ∙ ap (λ (x : Record). id_in x.columns) (sym same) ∙ w) in
       or_right (list_any own_of (shown past)) (list_any back_of (shown past) || (list_any (is_held_by u k) (shown past) && shows_commit (shown past) (coordinator_key_of (id u))))
       (or_right (list_any back_of (shown past)) (list_any (is_held_by u k) (shown past) && shows_commit (shown past) (coordinator_key_of (id u)))
       (both (list_any (is_held_by u k) (shown past)) (shows_commit (shown past) (coordinator_key_of (id u)))
@@ -268,7 +266,7 @@ module _ (past : List Played) (k : Key) (u : ℕ) where
       (both (same_key b.key k) (is_in state.Committed b.columns && (writer_is u (id_in b.columns) && is_tombstone b)) (is_key b.key k key)
       (both (is_in state.Committed b.columns) (writer_is u (id_in b.columns) && is_tombstone b) firm (both (writer_is u (id_in b.columns)) (is_tombstone b) (is_writer_of u (id_in b.columns) w) g))))
   goes_by b (Forward t r m held row same) g w =
-      let t_is : t ≡ u = same_number t u (sym held.writer ∙ sym (forward-writer r m) ∙ ap (λ (x : Record). id_in x.columns) (sym same) ∙ w) in
+      let t_is : t ≡ u = some_id t u (sym held.writer ∙ sym (forward-writer r m) ∙ ap (λ (x : Record). id_in x.columns) (sym same) ∙ w) in
       or_right (list_any own_gone (shown past)) (list_any back_gone (shown past) || (list_any held_gone (shown past) && shows_commit (shown past) (coordinator_key_of (id u))))
       (or_right (list_any back_gone (shown past)) (list_any held_gone (shown past) && shows_commit (shown past) (coordinator_key_of (id u)))
       (both (list_any held_gone (shown past)) (shows_commit (shown past) (coordinator_key_of (id u)))

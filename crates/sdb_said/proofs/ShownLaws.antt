@@ -36,9 +36,9 @@ use Rattle.sdb_laws.proofs.Keys.{same_key_self, same_key_tells}
 use Rattle.sdb_said.specs.declared.played.Played.{Played}
 use Rattle.sdb_said.specs.Values.{all_played, same_record}
 use Rattle.sdb_said.specs.Shown.{is_first, with_rows, with_reply, with_event, gathered, shown, kept_writer, no_more, keeps_next, keeps, is_kept_in, keeps_none, decided, commits, aborts, commit_moment, row_moment, shows_commit, shows_abort, shows_bad_row, moments, is_forward}
-use Rattle.sdb_said.proofs.Lists.{none_some, right, both, not_true, true_not, not_both, In, any_some, some_any, found_in}
+use Rattle.sdb_said.proofs.Lists.{none_some, right, not_true, true_not, not_both, In, any_some, some_any, found_in}
 use Rattle.sdb_types.proofs.Basics.{clash, some_is}
-use Rattle.sdb_types.proofs.Bools.{and_first as left}
+use Rattle.sdb_types.proofs.Bools.{and_first as left, and_both as both}
 use Rattle.sdb_model.specs.Counted.{is_committed as is_commit}
 
 ---- equality

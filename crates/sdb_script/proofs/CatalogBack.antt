@@ -35,7 +35,7 @@ use Rattle.sdb_schema.specs.Table.{is_table}
 use Rattle.sdb_schema.specs.Catalog.{is_catalog, rises}
 use Rattle.sdb_loader.specs.Words.{is_open, names_table, table_named}
 use Rattle.sdb_loader.specs.Described.{bad_name, bad_field, bad_table, unknown_type, untransactional, first_said, named, table_of, described_members, described_tables, catalog_in}
-use Rattle.sdb_loader.proofs.Names.{name_of_column}
+use Rattle.sdb_record.proofs.NameLemmas.{name_of_column}
 use Rattle.sdb_loader.proofs.WordLaws.{table_named-text}
 use Rattle.sdb_catalog.specs.Definition.{columns_data, definition_of, definition_text, direction_text, kind_text, order_text}
 use Rattle.sdb_catalog.proofs.Again.{defined, fields_again, kinds_again, refused_none, rising_columns, sound, table_again}

@@ -16,6 +16,7 @@ use Rattle.sdb_script.specs.Words.{is_numeral, Counts, numeral_in}
 use Rattle.sdb_script.proofs.Pieces.{no_some}
 use Rattle.sdb_types.proofs.Basics.{by_test, some_is, at_byte}
 use Rattle.sdb_types.specs.NameText.{around}
+use Rattle.sdb_model.proofs.Basics.{digit_is}
 
 ---- words before a space
 
@@ -89,9 +90,6 @@ pub counted_again : (word : List ℕ) (n : ℕ) → Counts word n → numeral_in
 counted_again word n k = rw k.0 (ap (λ (x : ℕ). Some x) k.1)
 
 ---- numbers as texts
-
-digit_is : (d : ℕ) → d < 10 → is_digit (48 + d) ≡ true
-digit_is d h = grind (arith, nat_tests)
 
 all_more : (ds : List ℕ) (d : ℕ) → list_all is_digit ds ≡ true → is_digit d ≡ true → list_all is_digit (ds ++ d ∷ []) ≡ true
 all_more [] d h k = rw k refl

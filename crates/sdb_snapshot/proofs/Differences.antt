@@ -17,18 +17,14 @@ use Rattle.sdb_types.proofs.KeyOrder.{key_total, key_exact}
 use Rattle.sdb_keyed.specs.Entries.{same_key, value_at}
 use Rattle.sdb_record.specs.declared.write.Write.{Write}
 use Rattle.sdb_record.specs.declared.write.Keyed.{Keyed}
-use Rattle.sdb_record.specs.Rolls.{IsBaseOf, IsWrite}
-use Rattle.sdb_snapshot.specs.Noted.{Note, is_noted, base_at, with_note, with_images, has_key, record_in, has_moved, differs, IsFirstDifference, IsUnmoved, AreKeysOf, AreBases, AreCommitted}
+use Rattle.sdb_record.specs.Rolls.{IsBaseOf, IsWrite, AreCommitted}
+use Rattle.sdb_snapshot.specs.Noted.{Note, is_noted, base_at, with_note, with_images, has_key, record_in, has_moved, differs, IsFirstDifference, IsUnmoved, AreKeysOf, AreBases}
 use Rattle.sdb_snapshot.specs.Written.{write_at, with_write, with_writes, with_change_of, write_of, AreWrites, AreChanges}
 use Rattle.sdb_snapshot.specs.Held.{WereRead, differs_from}
 use Rattle.sdb_snapshot.proofs.Keys.{same_exact, value_last}
-use Rattle.sdb_types.proofs.Basics.{by_test, less_of, some_is, all_last, or_else}
+use Rattle.sdb_types.proofs.Basics.{by_test, less_of, some_is, all_last, or_else, or_none}
 
 ---- what is noted of a scan
-
-or_none : {A : Type 0} (o : Option A) → or_else o None ≡ o
-or_none None = refl
-or_none (Some x) = refl
 
 or_or : {A : Type 0} (o p q : Option A) → or_else (or_else o p) q ≡ or_else o (or_else p q)
 or_or None p q = refl

@@ -7,8 +7,8 @@ use Rattle.sdb_types.specs.declared.record.Record.{Record}
 use Rattle.sdb_keyed.specs.Entries.{same_key, value_at}
 use Rattle.sdb_record.specs.declared.write.Write.{Write}
 use Rattle.sdb_record.specs.declared.write.Keyed.{Keyed}
-use Rattle.sdb_record.specs.Rolls.{IsBaseOf}
-use Rattle.sdb_snapshot.specs.Noted.{Note, AreCommitted, is_noted, base_at, with_images}
+use Rattle.sdb_record.specs.Rolls.{IsBaseOf, AreCommitted}
+use Rattle.sdb_snapshot.specs.Noted.{Note, is_noted, base_at, with_images}
 use Rattle.sdb_snapshot.specs.Written.{AreChanges, HaveBases, HaveKeysOnce, is_written, write_at, with_write, with_writes, with_change_of, write_of}
 use Rattle.sdb_snapshot.specs.Held.{AreKept}
 use Rattle.sdb_snapshot.proofs.Keys.{same_itself, same_exact, value_last}

@@ -32,6 +32,7 @@ use Rattle.sdb_snapshot.specs.Held.{WereRead}
 use Rattle.sdb_snapshot.specs.Seen.{Seen, tables_seen, overlay, Agrees, row_with, row_seen, images_with, images_at}
 use Rattle.sdb_snapshot.proofs.Keys.{same_is, same_exact}
 use Rattle.sdb_types.proofs.Basics.{by_test, less_of, t_both, both_t as t_two, cond_some as each}
+use Rattle.sdb_model.proofs.Basics.{where_rows}
 
 ---- what tables have at a key
 
@@ -75,12 +76,6 @@ pub get_seen : (notes : List Note) (ws : List Write) (q : Key) → get (with_own
 get_seen notes ws q = get_own (tables_of_notes notes) ws q ∙ ap (own_row (write_at ws q)) (get_notes notes q) ∙ row_is (write_at ws q) (base_at notes q)
 
 ---- rows at the keys of an access
-
-where_rows : (p : Key → Bool) (es : List (Key × List Pair)) → filter (λ r. p r.key) (map row_of_entry es) ≡ map row_of_entry (where_key key_cmp p es)
-where_rows p [] = refl
-where_rows p (e ∷ es) =
-    let rest : filter (λ r. p r.key) (map row_of_entry es) ≡ map row_of_entry (where_key key_cmp p es) = where_rows p es in
-    elim (p e.0) as (λ b. cond b (row_of_entry e ∷ filter (λ r. p r.key) (map row_of_entry es)) (filter (λ r. p r.key) (map row_of_entry es)) ≡ map row_of_entry (cond b (e ∷ where_key key_cmp p es) (where_key key_cmp p es))) [ true ↦ ap (λ rs. row_of_entry e ∷ rs) rest | false ↦ rest ]
 
 find_at : (p : Key → Bool) (d : Tables) (q : Key) → find key_cmp q (where_key key_cmp p (entries d)) ≡ cond (p q) (get d q) None
 find_at p d q = find-where_key key_cmp p q (λ x e. ap p (sym (key_exact q x e))) (entries d) ∙ ap (λ o. cond (p q) o None) (sym (get-entries d q))

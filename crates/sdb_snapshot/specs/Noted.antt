@@ -80,7 +80,3 @@ IsUnmoved notes span images = (q : Key) → in_span span q ≡ true → differs 
 pub record AreKeysOf (notes : List Note) (span : Span) (rs : List Record) : Type 0 where
   pub rows : are_rows_of span rs ≡ true
   pub noted : (q : Key) → in_span span q ≡ true → is_noted notes q ≡ true → has_key rs q ≡ true
-
--- each is a committed record
-abbrev pub AreCommitted : List Record → Type 0
-AreCommitted rs = AllByRecursion (λ r. IsBaseOf r.key r) rs

@@ -18,8 +18,7 @@ use Rattle.sdb_sqltext.specs.States as state
 use Rattle.sdb_sqltext.specs.Machine.{is_select, step}
 use Rattle.sdb_sqltext.specs.Parsing.{finish}
 use Rattle.sdb_sqltext.proofs.Complete.{run, whole_reads}
-use Rattle.sdb_types.proofs.Basics.{none_some}
-use Rattle.sdb_sqltext.proofs.Told.{bind_some}
+use Rattle.sdb_types.proofs.Basics.{none_some, bind_some}
 
 -- ---- no statement has an overlong token
 

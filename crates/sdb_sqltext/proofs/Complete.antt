@@ -25,8 +25,9 @@ use Rattle.sdb_sqltext.specs.States.{Filter}
 use Rattle.sdb_sqltext.specs.States.{State}
 use Rattle.sdb_sqltext.specs.States as state
 use Rattle.sdb_model.specs.Sql.{Tokens, name_tokens, names_tokens, literal_token, literal_tokens, literals_tokens, comparison_sign, test_tokens, where_tokens, limit_tokens, set_tokens, table_tokens, insert_word, insert_tokens, update_tokens, select_tokens, statement_tokens, Spells, HasItems, IsLiteral, IsValue, IsTest, IsSet, IsFromZero, IsWhole}
-use Rattle.sdb_sqltext.specs.Machine.{◌>>=◌, literal_of, value_of, sign_comparison, with_name, with_literal, with_test, with_set, inserted, filtered_by, untested, step}
+use Rattle.sdb_sqltext.specs.Machine.{literal_of, value_of, sign_comparison, with_name, with_literal, with_test, with_set, inserted, filtered_by, untested, step}
 use Rattle.sdb_sqltext.specs.Parsing.{finish}
+use Rattle.sdb_types.specs.Options.{◌>>=◌}
 
 -- what tokens make of a state
 abbrev pub run : State → Tokens → Option State

@@ -8,11 +8,12 @@ use Rattle.sdb_model.specs.declared.token.Token.TheVariants.{Word, Sign as Mark}
 use Rattle.sdb_model.specs.declared.statement.Statement.{Statement}
 use Rattle.sdb_sqltext.specs.States.{State}
 use Rattle.sdb_model.specs.Sql.{is_word, is_sign}
-use Rattle.sdb_sqltext.specs.Machine.{◌>>=◌, on_word, on_sign, step}
+use Rattle.sdb_sqltext.specs.Machine.{on_word, on_sign, step}
 use Rattle.sdb_sqltext.specs.Parsing.{finish, or_at, then as and_then, parse_from}
 use Rattle.sdb_sqltext.specs.Readers.{Read, next_word, next_sign, after_word, after_sign, part_at, choose, items_on, list_at}
 use Rattle.sdb_sqltext.proofs.Told.{chosen, word_is, sign_is}
 use Rattle.sdb_types.proofs.Basics.{some_is, by_option}
+use Rattle.sdb_types.specs.Options.{◌>>=◌}
 
 -- ---- one after the other
 

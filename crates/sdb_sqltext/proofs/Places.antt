@@ -12,12 +12,13 @@ use Rattle.sdb_model.specs.declared.token.Token.TheVariants.{Sign as Mark}
 use Rattle.sdb_model.specs.Sql.{Tokens, insert_word, insert_tokens, statement_tokens, tokens_of, Spells, HasItems, IsLiteral, IsWhole, Begins, NoneBegins, IsFirstWrong}
 use Rattle.sdb_sqltext.specs.States.{State}
 use Rattle.sdb_sqltext.specs.States as state
-use Rattle.sdb_sqltext.specs.Machine.{◌>>=◌, untested, filtered, step}
+use Rattle.sdb_sqltext.specs.Machine.{untested, filtered, step}
 use Rattle.sdb_sqltext.specs.Parsing.{finish, or_at, then, parse_from}
-use Rattle.sdb_sqltext.proofs.Told.{so_far, Fine, told, filter_is, whole_filter, bind_some}
+use Rattle.sdb_sqltext.proofs.Told.{so_far, Fine, told, filter_is, whole_filter}
 use Rattle.sdb_sqltext.proofs.Complete.{run, run_append, spelled_reads, open_insert, open_insert_run, open_insert_is, draft}
 use Rattle.sdb_sqltext.proofs.Viable.{viable}
-use Rattle.sdb_types.proofs.Basics.{some_is, none_some}
+use Rattle.sdb_types.proofs.Basics.{some_is, none_some, bind_some}
+use Rattle.sdb_types.specs.Options.{◌>>=◌}
 
 pub run_so : (ts : Tokens) (s n : State) → Fine s → run s ts ≡ Some n → (so_far n ≡ so_far s ++ ts) × Fine n
 run_so [] s n fine h = subst (λ (m : State). (so_far m ≡ so_far s ++ []) × Fine m) (some_is s n h) (sym (append-nil (so_far s)), fine)

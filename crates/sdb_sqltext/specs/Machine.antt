@@ -16,7 +16,7 @@ use Rattle.sdb_model.specs.declared.token.Keyword.TheVariants as word
 use Rattle.sdb_model.specs.declared.token.Sign.{Sign}
 use Rattle.sdb_model.specs.declared.token.Sign.TheVariants as sign
 use Rattle.sdb_model.specs.declared.token.Token.{Token}
-use Rattle.sdb_model.specs.declared.token.Token.TheVariants.{Word, Name, Overlong, Number, Text, Blob, Sign as Mark}
+use Rattle.sdb_model.specs.declared.token.Token.TheVariants.{Word, Name, Number, Text, Blob, Sign as Mark}
 use Rattle.sdb_model.specs.Sql.{is_word, is_sign}
 use Rattle.sdb_sqltext.specs.Verbs.{Verb}
 use Rattle.sdb_sqltext.specs.Verbs as verb
@@ -26,11 +26,7 @@ use Rattle.sdb_sqltext.specs.Heads as head
 use Rattle.sdb_sqltext.specs.States.{Filter}
 use Rattle.sdb_sqltext.specs.States.{State}
 use Rattle.sdb_sqltext.specs.States as state
-
-infixl 10 ◌>>=◌
-abbrev pub ◌>>=◌ : {A B : Type 0} → Option A → (A → Option B) → Option B
-(Some x) >>= f = f x
-None >>= f = None
+use Rattle.sdb_types.specs.Options.{◌>>=◌}
 
 abbrev pub on_word : Keyword → State → Token → Option State
 on_word k next t = if is_word k t then Some next else None

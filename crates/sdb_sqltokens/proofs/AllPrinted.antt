@@ -1,12 +1,11 @@
 -- The tokens that are printed are read again, one after another.
-use Rattle.std.proofs.Common.{◌≡◌, ℕ, zero, suc, ◌+◌, ◌%◌, ◌<◌, ◌≤◌, ◌^◌, pos, negsuc, Bool, true, false, not, ◌||◌, if◌then◌else◌, List, [], ◌∷◌, ◌++◌, length, Result, Ok, Err, refl, ap, ◌∙◌, arith, ◌⊎◌, inl, inr}
+use Rattle.std.proofs.Common.{◌≡◌, ℕ, ◌+◌, ◌%◌, ◌<◌, ◌≤◌, ◌^◌, pos, negsuc, Bool, true, false, not, ◌||◌, if◌then◌else◌, List, [], ◌∷◌, ◌++◌, length, Result, Ok, Err, refl, ap, ◌∙◌, arith, ◌⊎◌, inl, inr}
 use Rattle.std.specs.Prelude.{codes, decimal}
 use Rattle.std.specs.List.{AllByRecursion}
 use Rattle.std.proofs.lemmas.Bool.Decides.{nat_tests}
 use Rattle.std.proofs.lemmas.List.{length-append}
 use Rattle.std.proofs.lemmas.List.Elements.{recursion_from_All}
 use Rattle.std.proofs.lemmas.Fmt.{decimal_by_steps}
-use Rattle.hex.specs.Hex.{IsBytes}
 use Rattle.sdb_types.specs.Identifier.{is_start, is_identifier}
 use Rattle.sdb_model.specs.SqlTokens.{Lexed, keyword_text, keyword_of, sign_text, is_gap, begins, token_at, behind, tokens_from, lexed}
 use Rattle.sdb_model.specs.Sql.{Tokens, token_text, sticks_before, sticks_behind, more_text, tokens_text, tokens_of, CanSpell, IsWhole, Reads, statement_tokens, statement_text_of}
@@ -23,11 +22,7 @@ use Rattle.sdb_sqltokens.specs.declared.fault.LexRefused.TheVariants as refused
 use Rattle.sdb_sqltokens.proofs.Lexing.{gap_turn, token_turn}
 use Rattle.sdb_sqltokens.proofs.Printed.{clear, Again, keyword_identifier, by_keyword, word_read, name_read, sign_read, number_read, text_read, blob_read, drop_seam, begins_more}
 use Rattle.sdb_types.proofs.Basics.{by_test}
-
-is_bytes : (bs : List ℕ) → AllByRecursion (λ b. b < 256) bs → IsBytes bs
-is_bytes [] h i = omega arith
-is_bytes (b ∷ bs) h zero = h.0
-is_bytes (b ∷ bs) h (suc i) = is_bytes bs h.1 i
+use Rattle.sdb_model.proofs.Basics.{is_bytes}
 
 -- ---- one token
 

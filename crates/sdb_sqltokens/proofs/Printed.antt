@@ -24,6 +24,7 @@ use Rattle.sdb_model.specs.declared.token.Token.TheVariants.{Word, Name, Number,
 use Rattle.sdb_sqltokens.proofs.Enclosed.{encloses_none, encloses_byte, encloses_quote}
 use Rattle.sdb_types.proofs.Basics.{and_parts as and_true, by_test, one_more, fails_second as and_false}
 use Rattle.sdb_types.proofs.Words.{start_part as start_is_part}
+use Rattle.sdb_model.proofs.Basics.{digit_is}
 
 -- ---- what ends a token: the end of the text, a space, `,` `)` or `.`
 
@@ -208,9 +209,6 @@ pub sign_read : (s : Sign) (rest : List ℕ) → ((sticks_behind (Mark s) ≡ tr
 sign_read s rest h = sign_front s rest ∙ ap sign_token (sign_found s rest h)
 
 -- ---- numbers
-
-digit_is : (d : ℕ) → d < 10 → is_digit (48 + d) ≡ true
-digit_is d h = grind (arith, nat_tests)
 
 all_more : (p : ℕ → Bool) (ds : List ℕ) (d : ℕ) → list_all p ds ≡ true → p d ≡ true → list_all p (ds ++ d ∷ []) ≡ true
 all_more p [] d h k = rw k refl

@@ -6,7 +6,7 @@ use Rattle.std.specs.List.{AllByRecursion}
 use Rattle.std.specs.Str.{is_utf8}
 use Rattle.std.proofs.lemmas.Bool.Decides.{nat_tests}
 use Rattle.std.proofs.lemmas.List.Elements.{All-from_recursion}
-use Rattle.hex.specs.Hex.{IsBytes, decode_of}
+use Rattle.hex.specs.Hex.{decode_of}
 use Rattle.hex.specs.declared.error.FromHexError.{FromHexError}
 use Rattle.hex.proofs.HexLemmas.{decode_of-ok}
 use Rattle.sdb_types.specs.Identifier.{is_start, is_identifier}
@@ -20,6 +20,7 @@ use Rattle.sdb_model.specs.declared.token.Token.TheVariants.{Name, Overlong, Num
 use Rattle.sdb_sqltokens.specs.Spelled.{IsSpelled}
 use Rattle.sdb_sqltokens.proofs.Words.{front_is_identifier}
 use Rattle.sdb_types.proofs.Basics.{by_test, cond_by as either}
+use Rattle.sdb_model.proofs.Basics.{are_bytes}
 
 abbrev Fine : Lexeme → Type 0
 Fine (Ok p) = IsSpelled p.0
@@ -82,10 +83,6 @@ text_token_fine (Some p) = either Fine (is_utf8 p.0) (Ok (Text p.0, p.1 + 1)) (E
 text_fine : (bytes : List ℕ) → Fine (text_at bytes)
 unfolding text_at
 text_fine bytes = text_token_fine (enclosed bytes)
-
-are_bytes : (bs : List ℕ) → IsBytes bs → AllByRecursion (λ b. b < 256) bs
-are_bytes [] h = tt
-are_bytes (b ∷ bs) h = (h 0, are_bytes bs (λ i. h (suc i)))
 
 blob_token_fine : (n : ℕ) (digits : List ℕ) (r : Result (List ℕ) FromHexError) → decode_of digits ≡ r → FineIf (blob_token n r)
 blob_token_fine n digits (Ok bytes) h = inl (All-from_recursion (λ b. b < 256) bytes (are_bytes bytes (decode_of-ok digits bytes h).3))

@@ -1,12 +1,11 @@
 -- A client that gets a reply to its read keeps what ties the events to the clients.
 use Rattle.std.proofs.Common.{◌≡◌, ℕ, Bool, true, false, ◌||◌, List, [], ◌∷◌, ◌++◌, Option, Some, None, refl, sym, ap, subst, ◌∙◌}
-use Rattle.std.specs.Prelude.{if◌then◌else◌, is_some}
+use Rattle.std.specs.Prelude.{if◌then◌else◌}
 use Rattle.std.specs.Option.{option_map}
 use Rattle.sdb_types.specs.declared.key.Key.{Key}
 use Rattle.sdb_types.specs.declared.record.Record.{Record}
 use Rattle.sdb_types.specs.declared.record.Request.{Request}
 use Rattle.sdb_types.specs.Exactness.{span_tells}
-use Rattle.sdb_keyed.specs.Entries.{same_key, value_at}
 use Rattle.sdb_record.specs.declared.access.Access.{Access}
 use Rattle.sdb_record.specs.declared.access.Access.TheVariants as access
 use Rattle.sdb_record.specs.declared.access.Scan.{Scan}
@@ -28,10 +27,9 @@ use Rattle.sdb_laws.specs.History.{at}
 use Rattle.sdb_read.specs.declared.read.ReadStep.TheVariants as step
 use Rattle.sdb_read.specs.Read.{ReadAt, ReadStage, Asking, Resolving, Ended, read_pending_at, read_result, read_step, request_of}
 use Rattle.sdb_snapshot.specs.Held.{AreKept}
-use Rattle.sdb_snapshot.specs.Noted.{Note, is_noted, reads_of}
+use Rattle.sdb_snapshot.specs.Noted.{reads_of}
 use Rattle.sdb_snapshot.specs.Seen.{Seen, is_scanned, overlay, same_span, with_written}
 use Rattle.sdb_snapshot.specs.Written.{AreChanges}
-use Rattle.sdb_snapshot.proofs.Keys.{same_itself, value_last}
 use Rattle.sdb_txn.specs.declared.txn.Doing.{Doing}
 use Rattle.sdb_txn.specs.declared.txn.Doing.TheVariants as doing
 use Rattle.sdb_txn.specs.Txn.{TxnAt, idle as idle_of, pending, pending_in}
@@ -50,34 +48,28 @@ use Rattle.sdb_turns.proofs.Machine.{machine_asks, machine_kinds, machine_steps}
 use Rattle.sdb_turns.proofs.Quiet.{notes}
 use Rattle.sdb_story.specs.Body.{AnswersOn, IsCovered}
 use Rattle.sdb_linked.specs.Going.{IsGoing}
-use Rattle.sdb_linked.proofs.Steps.{going_differs, going_fails, going_reads, going_tells}
+use Rattle.sdb_linked.proofs.Calls.{going_differs, going_fails, going_reads, going_tells}
 use Rattle.sdb_steps.specs.Fitting.{tables_fit}
 use Rattle.sdb_steps.specs.Hands.{Hand, IsAskedBy, IsCalled, doing_of, stands_txn, system_of}
 use Rattle.sdb_steps.proofs.RowsFit.{answers_on}
 use Rattle.sdb_steps.proofs.Asked.{from_rows}
 use Rattle.sdb_steps.proofs.Fitted.{by_next}
 use Rattle.sdb_steps.proofs.Taken.{IsSo, moved}
-use Rattle.sdb_types.proofs.Basics.{or_second as or_so, or_else, itself as same_number, by_test}
+use Rattle.sdb_types.proofs.Basics.{or_second as or_so, itself as same_number, by_test}
+use Rattle.sdb_client.proofs.Calls.{last_noted}
 
 ---- what a read has noted
-
-or_some : (o : Option (Option Record)) (f : Option Record) (b : Bool) → b ≡ true → is_some (or_else o (if b then Some f else None)) ≡ true
-or_some None f b h = rw h refl
-or_some (Some x) f b h = refl
-
-noted_last : (notes : List Note) (k : Key) (f : Option Record) → is_noted (notes ++ (k, f) ∷ []) k ≡ true
-noted_last notes k f = ap is_some (value_last notes k f k) ∙ or_some (value_at notes k) f (same_key k k) (same_itself k)
 
 scanned_last : (xs : List Scan) (x : Scan) → is_scanned (xs ++ x ∷ []) x.span ≡ true
 scanned_last [] x = ap (λ (b : Bool). b || false) ((span_tells x.span x.span).1 refl)
 scanned_last (y ∷ xs) x = or_so (same_span y.span x.span) (is_scanned (xs ++ x ∷ []) x.span) (scanned_last xs x)
 
 covered_now : (s : Seen) (a : Access) (images : List Record) → IsCovered (with_read s a images) a
-covered_now s (access.Get key) images = noted_last s.notes key (first_image images)
+covered_now s (access.Get key) images = last_noted s.notes key (first_image images)
 covered_now s (access.Scan span) images = scanned_last s.scans (record { span = span; found = reads_of images })
 
 key_read_now : (s : Seen) (a : Access) (images : List Record) → IsKeyRead (with_read s a images).notes a
-key_read_now s (access.Get key) images = noted_last s.notes key (first_image images)
+key_read_now s (access.Get key) images = last_noted s.notes key (first_image images)
 key_read_now s (access.Scan span) images = tt
 
 may_note : (t : TxnAt) (a : Access) (images : List Record) → IsAsRead t a images → MayNote t.seen a images

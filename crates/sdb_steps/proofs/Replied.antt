@@ -42,7 +42,7 @@ use Rattle.sdb_turns.specs.System.{ClientAt, ClientCall, Committing, IsReplyTo, 
 use Rattle.sdb_linked.specs.Going.{IsGoing, IsMild}
 use Rattle.sdb_linked.proofs.Rests.{going_starves}
 use Rattle.sdb_linked.proofs.Small.{twice}
-use Rattle.sdb_linked.proofs.Steps.{going_commit_calls, going_scans, going_sweeps, going_swept}
+use Rattle.sdb_linked.proofs.Calls.{going_commit_calls, going_scans, going_sweeps, going_swept}
 use Rattle.sdb_steps.specs.Fitting.{tables_fit}
 use Rattle.sdb_steps.specs.About.{AreListed, IsListed}
 use Rattle.sdb_steps.specs.Hands.{Hand, IsCalled, IsFittedBy, IsUsing, IsUsingTxn, doing_of, stands_doing, stands_txn, system_of}
@@ -54,7 +54,7 @@ use Rattle.sdb_steps.proofs.Taken.{moved, moved_so}
 ---- where a COMMIT goes
 
 -- want of memory stands in place of a conflict alone
-verdict : (p : Work) (i : ℕ) (want v : ValidateStep) → Judges want v → (after_check p i v ≡ after_check p i want) ⊎ (after_check p i v ≡ starved_stage (after_check p i want))
+pub verdict : (p : Work) (i : ℕ) (want v : ValidateStep) → Judges want v → (after_check p i v ≡ after_check p i want) ⊎ (after_check p i v ≡ starved_stage (after_check p i want))
 verdict p i (validate.Conflict key found) validate.NoMemory h = inr refl
 verdict p i validate.NoMemory validate.NoMemory h = inl refl
 verdict p i validate.More validate.NoMemory h = absurd (cc)
@@ -66,7 +66,7 @@ verdict p i want (validate.Conflict key found) h = inl (ap (after_check p i) h)
 verdict p i want validate.Faulted h = inl (ap (after_check p i) h)
 
 -- the next stage is that of the protocol, or it is out of memory there
-next_stage : (p : Work) (s : Stage) (r : Reply) (m : Stage) → IsNext p s r m → (m ≡ commit_step p s r) ⊎ (m ≡ starved_stage (commit_step p s r))
+pub next_stage : (p : Work) (s : Stage) (r : Reply) (m : Stage) → IsNext p s r m → (m ≡ commit_step p s r) ⊎ (m ≡ starved_stage (commit_step p s r))
 next_stage p (Preparing i) r m h = inl h
 next_stage p (Checking i) r m h = as_verdict (verdict p i (validate_step (nat_lt (i + 1) (length (checks p))) (slice_get (checks p) i) r) h.0 h.1)
   where

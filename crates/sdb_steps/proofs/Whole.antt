@@ -1,14 +1,10 @@
 -- Whatever a client takes keeps what ties the events to the clients.
 use Rattle.std.proofs.Common.{◌≡◌, ◌≢◌, ℕ, ◌^◌, ◌<◌, Bool, true, false, ◌||◌, List, [], ◌∷◌, ◌++◌, Option, Some, None, Ok, Err, refl, sym, ap, subst, ◌∙◌}
 use Rattle.std.specs.Prelude.{IfSome, is_some}
-use Rattle.std.specs.Ordering.{is_eq}
-use Rattle.std.specs.Cmp.{tied_itself}
-use Rattle.std.proofs.lemmas.Bool.{and_parts, eq-eqb}
+use Rattle.std.proofs.lemmas.Bool.{eq-eqb}
 use Rattle.sdb_types.specs.declared.key.Key.{Key}
 use Rattle.sdb_types.specs.declared.key.TableName.{TableName}
-use Rattle.sdb_types.specs.declared.value.Value.{Value}
-use Rattle.sdb_types.specs.Order.{key_cmp, table_cmp}
-use Rattle.sdb_types.proofs.KeyOrder.{key_exact, table_exact, table_total}
+use Rattle.sdb_types.proofs.KeyOrder.{table_exact}
 use Rattle.sdb_record.specs.Meta.{is_moment}
 use Rattle.sdb_schema.specs.declared.table.Table.{Table}
 use Rattle.sdb_schema.specs.Catalog.{is_catalog}
@@ -19,13 +15,12 @@ use Rattle.sdb_model.specs.declared.event.Event.{Event}
 use Rattle.sdb_model.specs.declared.event.Event.TheVariants as event
 use Rattle.sdb_model.specs.declared.statement.Statement.{Statement}
 use Rattle.sdb_model.specs.declared.statement.Statement.TheVariants as statement
-use Rattle.sdb_model.specs.Access.{in_access}
 use Rattle.sdb_model.specs.Causes.{refused}
-use Rattle.sdb_model.specs.Exec.{find_table, key_of, named_table, table_of}
+use Rattle.sdb_model.specs.Exec.{find_table, named_table, table_of}
 use Rattle.sdb_model.specs.Refused.{refusal_by, refusal_of}
 use Rattle.sdb_model.specs.Sql.{Reads, reads_commit, reads_rollback}
 use Rattle.sdb_exec.specs.Plans.{has_all_literals}
-use Rattle.sdb_exec.specs.Reads.{access_by, access_of}
+use Rattle.sdb_exec.specs.Reads.{access_of}
 use Rattle.sdb_laws.specs.Lawful.{is_data}
 use Rattle.sdb_snapshot.specs.Held.{AreKept}
 use Rattle.sdb_sqltext.proofs.Clauses.{one_statement}
@@ -45,31 +40,10 @@ use Rattle.sdb_steps.proofs.Asked.{IsAsked, told_known, told_unknown}
 use Rattle.sdb_steps.proofs.Taken.{IsSo, at_open, other_no_begin, other_no_commit, refused_no_commit, refused_plain, told_begun, told_commit, told_outside, told_rollback, told_same, told_starved, told_vacuum}
 use Rattle.sdb_steps.proofs.Sweeps.{begun_in, scan_data}
 use Rattle.sdb_types.specs.Exact.{equal_of}
-use Rattle.sdb_exec.proofs.Whole.{turned}
+use Rattle.sdb_exec.proofs.Whole.{own}
 use Rattle.sdb_types.proofs.Basics.{by_test}
 
 ---- the keys of an access are of its table
-
-get_own : (k q : Key) → is_eq (key_cmp k q) ≡ true → is_eq (table_cmp q.table k.table) ≡ true
-get_own k q h =
-    let same : k ≡ q = key_exact k q (equal_of _ h) in
-    ap (λ x. is_eq (table_cmp x.table k.table)) (sym same) ∙ ap is_eq (tied_itself table_total k.table)
-
-by_own : (t : TableName) (a b : Option (List Value)) (q : Key) → in_access (access_by t a b) q ≡ true → is_eq (table_cmp q.table t) ≡ true
-by_own t None b q h = turned t q (and_parts (is_eq (table_cmp t q.table)) true h).0
-by_own t (Some ps) None q h = turned t q (and_parts (is_eq (table_cmp t q.table)) _ h).0
-by_own t (Some ps) (Some cs) q h = get_own (record { table = t; partition = ps; clustering = cs }) q h
-
-own : (t : Table) (s : Statement) (q : Key) → in_access (access_of t s) q ≡ true → is_eq (table_cmp q.table t.name) ≡ true
-own t (statement.Insert s) q h = get_own (key_of t s) q h
-own t (statement.Upsert s) q h = get_own (key_of t s) q h
-own t (statement.Update s) q h = by_own t.name _ _ q h
-own t (statement.Delete s) q h = by_own t.name _ _ q h
-own t (statement.Select s) q h = by_own t.name _ _ q h
-own t statement.Begin q h = by_own t.name _ _ q h
-own t statement.Commit q h = by_own t.name _ _ q h
-own t statement.Rollback q h = by_own t.name _ _ q h
-own t statement.Vacuum q h = by_own t.name _ _ q h
 
 reads_data : (catalog : List Table) (st : Statement) (table : Table) → named_table catalog st ≡ Some table → ((k : Key) → is_some (find_table catalog k.table) ≡ true → is_data k ≡ true) → IsOfData (access_of table st)
 reads_data catalog st table named apart k h =
@@ -89,7 +63,7 @@ literals_read text statement.Commit h = refl
 literals_read text statement.Rollback h = refl
 literals_read text statement.Vacuum h = refl
 
-other_no_rollback : (text : List ℕ) (st : Statement) → Reads text st → st ≢ statement.Rollback → reads_rollback text ≡ false
+pub other_no_rollback : (text : List ℕ) (st : Statement) → Reads text st → st ≢ statement.Rollback → reads_rollback text ≡ false
 other_no_rollback text st h other = by_test (reads_rollback text) (λ t. absurd (other (one_statement text st statement.Rollback h ((rollback_read text).0 t)))) (λ t. t)
 
 -- a statement on a table

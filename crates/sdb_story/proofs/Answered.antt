@@ -33,7 +33,7 @@ plus_one n = omega arith
 none_waits : (x : Telling) → x.waiting ≡ None → all_told x ≡ saids_of x.whole ++ said_of x.rest
 none_waits x w = ap (λ o. (saids_of x.whole ++ said_of x.rest) ++ waiting_of o) w ∙ append-nil (saids_of x.whole ++ said_of x.rest)
 
-take_said : (c : ℕ) (events : List Event) (text : List ℕ) (a : Option Answer) → said c (events ++ event.Take c text a ∷ []) ≡ said c events ++ taken_said events text a ∷ []
+pub take_said : (c : ℕ) (events : List Event) (text : List ℕ) (a : Option Answer) → said c (events ++ event.Take c text a ∷ []) ≡ said c events ++ taken_said events text a ∷ []
 take_said c events text a = said_more c events (event.Take c text a) ∙ ap (λ t. if t then said c events ++ taken_said events text a ∷ [] else said c events) (itself c)
 
 -- A statement that is answered as it is taken.
@@ -45,7 +45,7 @@ said_at_once events past sys c x q text a story none e = record {
   waited = λ w h. none_some w (sym none ∙ h);
 }
 
-answer_last : (front : List Said) (w : Said) (n : ℕ) (a : Answer) → with_answer (front ++ w ∷ []) n a ≡ front ++ record { taken = w.taken; text = w.text; answer = Some a; reached = n } ∷ []
+pub answer_last : (front : List Said) (w : Said) (n : ℕ) (a : Answer) → with_answer (front ++ w ∷ []) n a ≡ front ++ record { taken = w.taken; text = w.text; answer = Some a; reached = n } ∷ []
 answer_last [] w n a = refl
 answer_last (s ∷ []) w n a = refl
 answer_last (s ∷ t ∷ ss) w n a = ap (λ r. s ∷ r) (answer_last (t ∷ ss) w n a)

@@ -50,11 +50,13 @@ use Rattle.sdb_phases.specs.declared.step.RecoverPhase.{RecoverPhase}
 use Rattle.sdb_phases.specs.declared.step.RecoverPhase.TheVariants as phase
 use Rattle.sdb_phases.specs.Work.{look_of, abort_of, undo}
 use Rattle.sdb_phases.specs.Recover.{recover_request_at, recover_next, recover_forward, recover_back, roll_to, stands_found}
-use Rattle.sdb_turns.specs.ReadAt.{Kind, Firm, Open, Bad, AreKinds, IsKind, ReadAt, Asking, Resolving, Done, Failed, request_of, settle, settle_one, settle_reply, after_recovery, read_pending, read_step, ReadOk}
+use Rattle.sdb_turns.specs.ReadAt.{AreKinds, IsKind, ReadAt, Asking, Resolving, Done, Failed, settle, settle_one, settle_reply, after_recovery, read_pending, read_step, ReadOk}
 use Rattle.sdb_turns.proofs.Lists.{each_more}
-use Rattle.sdb_turns.proofs.Meta.{meta_of, held_of}
+use Rattle.sdb_turns.proofs.Meta.{meta_of}
 use Rattle.sdb_story.specs.Calls.{Learned, IsHeldBy, ImageBy, Itself, Forward, Back, AreImagesBy, somes, rows_of, PhaseLearned, RowsMade, ReadMade, AgreeOn, IsMade, note_with}
 use Rattle.sdb_turns.proofs.Reading.{waited}
+use Rattle.sdb_read.specs.Read.{request_of, Kind, Firm, Open, Bad}
+use Rattle.sdb_read.proofs.Images.{held_of}
 
 ---- what was learned stays
 
@@ -264,7 +266,7 @@ none_of false = refl
 look_apart : (id : TxId) (b : Bool) → is_coordinator_table (coordinator_key_of id).table ≡ true → (if is_coordinator_table (coordinator_key_of id).table then false else b) ≡ false
 look_apart id b e = ap (λ t. if t then false else b) e
 
-coordinators : (id : TxId) → is_coordinator_table (coordinator_key_of id).table ≡ true
+pub coordinators : (id : TxId) → is_coordinator_table (coordinator_key_of id).table ≡ true
 unfolding coordinator_key_of
 coordinators id = refl
 

@@ -26,7 +26,8 @@ use Rattle.sdb_snapshot.specs.Seen.{Seen}
 use Rattle.sdb_turns.specs.Noted.{first_image}
 use Rattle.sdb_phases.specs.declared.step.RecoverPhase.{RecoverPhase}
 use Rattle.sdb_phases.specs.declared.step.RecoverPhase.TheVariants as phase
-use Rattle.sdb_turns.specs.ReadAt.{ReadAt, Asking, Resolving, Done, Failed, request_of}
+use Rattle.sdb_turns.specs.ReadAt.{ReadAt, Asking, Resolving, Done, Failed}
+use Rattle.sdb_read.specs.Read.{request_of}
 
 -- one of the calls showed that decision in a transaction's row
 abbrev pub Learned : List Made → TxId → Decision → Type 0

@@ -20,7 +20,7 @@ ghost use Rattle.sdb_story.specs.Left.{AreReads, BodyIsSaid, Execution, reads_an
 ghost use Rattle.sdb_story.specs.BodyTexts.{BodySaid};
 ghost use Rattle.sdb_snapshot.specs.Seen.{Seen, Agrees, nothing, with_written};
 ghost use Rattle.sdb_turns.specs.Noted.{SeenOk, with_read, work_of};
-ghost use Rattle.sdb_turns.specs.ReadAt.{AreKinds, Done, Kind, ReadAt, ReadOk, read_pending, read_step, request_of};
+ghost use Rattle.sdb_turns.specs.ReadAt.{AreKinds, Done, ReadAt, ReadOk, read_pending, read_step};
 ghost use Rattle.sdb_turns.specs.System.{ClientCall, IsReplyTo};
 ghost use Rattle.sdb_types.specs.declared.txid.TxId.{TxId};
 ghost use Rattle.sdb_record.specs.Coordinator.{is_coordinator_table};
@@ -29,6 +29,7 @@ ghost use Rattle.sdb_model.specs.Events.{table_asked};
 ghost use Rattle.sdb_model.specs.Noted.{Note, notes_in};
 ghost use Rattle.sdb_story.specs.Calls.{AgreeOn, IsMade, IsNotedSo, NotesNothing, NotesRead, ReadMade, WasAnswered, call_made, calls_since, note_with};
 ghost use Rattle.sdb_story.specs.Body.{AgreesAll, BodyOk, IsCovered, AnswersOn};
+ghost use Rattle.sdb_read.specs.Read.{request_of, Kind};
 
 /// Before its first statement a transaction asks nothing of the tables and leaves them as they are.
 pub fn nothing_said()

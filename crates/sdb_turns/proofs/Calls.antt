@@ -18,7 +18,7 @@ use Rattle.sdb_record.specs.declared.access.Access.{Access}
 use Rattle.sdb_record.specs.declared.access.Access.TheVariants as access
 use Rattle.sdb_record.specs.declared.meta.Meta.{Meta}
 use Rattle.sdb_record.specs.Meta.{id_in, is_moment}
-use Rattle.sdb_record.specs.Rolls.{is_tombstone}
+use Rattle.sdb_record.specs.Rolls.{is_tombstone, remove_request}
 use Rattle.sdb_model.specs.declared.answer.Answer.{Answer}
 use Rattle.sdb_model.specs.declared.answer.Answer.TheVariants as answer
 use Rattle.sdb_model.specs.declared.event.Event.{Event}
@@ -37,9 +37,9 @@ use Rattle.sdb_phases.specs.Recover.{recover_next, recover_request_at}
 use Rattle.sdb_snapshot.specs.Seen.{Seen}
 use Rattle.sdb_turns.specs.Noted.{OpenOk, SeenOk}
 use Rattle.sdb_turns.specs.Reader.{RecoverOk, recover_role}
-use Rattle.sdb_turns.specs.ReadAt.{Kind, Firm, Open, Bad, AreKinds, IsKind, ReadAt, Asking, Resolving, Done, Failed, request_of, read_pending, read_role, read_step, IsImage, IsLeft, IsOfData, ReadOk, keys_of}
+use Rattle.sdb_turns.specs.ReadAt.{AreKinds, IsKind, ReadAt, Asking, Resolving, Done, Failed, read_pending, read_role, read_step, IsImage, IsLeft, IsOfData, ReadOk, keys_of}
 use Rattle.sdb_turns.specs.Sweep as vacuum
-use Rattle.sdb_turns.specs.Sweep.{SweepAt, SweepOk, remove_request, remove_or, removes_role, sweep, sweep_one, sweep_resolved, sweep_removed, sweep_rows, sweep_pending, sweep_role, sweep_step}
+use Rattle.sdb_turns.specs.Sweep.{SweepAt, SweepOk, remove_or, removes_role, sweep, sweep_one, sweep_resolved, sweep_removed, sweep_rows, sweep_pending, sweep_role, sweep_step}
 use Rattle.sdb_turns.specs.System.{Reading, Sweeping, Resting, ClientOk, Has, sweeps, Gate, SystemAt, SystemOk, with_client, ClientCall, call_event, IsReplyTo, StandsAt}
 use Rattle.sdb_turns.proofs.Foreign.{IsForeign, IsForeignEvent, StopsNot, open_later, going}
 use Rattle.sdb_turns.proofs.Reading.{recover_lawful}
@@ -49,6 +49,7 @@ use Rattle.sdb_turns.proofs.Meta.{meta_of}
 use Rattle.sdb_turns.proofs.Rows.{rise_is, inside_each, rows_left, read_kept, recover_kept, image_after, left_later}
 use Rattle.sdb_turns.proofs.Seen.{seen_later}
 use Rattle.sdb_types.proofs.Basics.{some_is, all_each as each_any}
+use Rattle.sdb_read.specs.Read.{request_of, Kind, Firm, Open, Bad}
 
 ---- parts of a recovery
 

@@ -11,15 +11,13 @@ use Rattle.sdb_types.specs.declared.record.Reply.TheVariants as reply
 use Rattle.sdb_types.specs.Order.{key_cmp}
 use Rattle.sdb_types.proofs.KeyOrder.{key_exact}
 use Rattle.sdb_record.specs.declared.access.Access.TheVariants as access
-use Rattle.sdb_record.specs.declared.write.Change.TheVariants as change
-use Rattle.sdb_record.specs.declared.write.Write.{Write}
 use Rattle.sdb_model.specs.declared.answer.Answer.{Answer}
 use Rattle.sdb_model.specs.declared.answer.Answer.TheVariants as answer
 use Rattle.sdb_model.specs.declared.event.Event.TheVariants as event
 use Rattle.sdb_laws.specs.History.{Other, Talk, Decides, Yes, heard}
 use Rattle.sdb_laws.specs.Lawful.{Played, is_data, talk, plays}
 use Rattle.sdb_laws.specs.Plan.{Plan}
-use Rattle.sdb_laws.specs.Worked.{account, balance, nothing as no_plan}
+use Rattle.sdb_laws.specs.Worked.{account, nothing as no_plan, inserts}
 use Rattle.sdb_laws.proofs.Texts.{begin_begins, commit_commits}
 use Rattle.sdb_phases.specs.Work.{prepare_of, decide_of}
 use Rattle.sdb_phases.specs.declared.step.DecidePhase.TheVariants as phase
@@ -27,7 +25,7 @@ use Rattle.sdb_phases.specs.Commit.{Preparing, Deciding, Forward}
 use Rattle.sdb_record.specs.Names.{is_meta, base_name}
 use Rattle.sdb_snapshot.specs.Written.{AreChanges}
 use Rattle.sdb_snapshot.specs.Seen.{nothing}
-use Rattle.sdb_turns.specs.ReadAt.{Kind, Bad, Asking, Done, IsOfData}
+use Rattle.sdb_turns.specs.ReadAt.{Asking, Done, IsOfData}
 use Rattle.sdb_turns.specs.System.{Reading, Committing, SystemAt, SystemOk, ClientCall, idle, with_begun, with_client, begin_played, take_played, commit_played, with_plan, call_event}
 use Rattle.sdb_turns.specs.System as client
 use Rattle.sdb_turns.specs.Worked.{first_id, inserted, read_once, wrote_once, first_work, call_of, SomeCommit}
@@ -36,6 +34,7 @@ use Rattle.sdb_turns.proofs.Calls.{read_turn}
 use Rattle.sdb_turns.proofs.Commit.{commit_turn}
 use Rattle.sdb_turns.proofs.Quiet.{quiet_turn, asks, notes, writes}
 use Rattle.sdb_turns.proofs.Take.{take_turn}
+use Rattle.sdb_read.specs.Read.{Kind, Bad}
 
 abbrev plans : ℕ → Plan
 plans t = no_plan
@@ -117,11 +116,8 @@ sys6 = with_client sys5 1 (Committing first_work (Preparing 0))
 commit_taken : SystemOk plans2 past4 sys6
 commit_taken = take_turn plans past3 sys5 1 first_id wrote_once (pos 0) (codes "COMMIT") (record { ok = row_written; at = refl }) (record { reads = commit_commits; moment = refl })
 
-abbrev first_write : Write
-first_write = record { key = account; base = None; change = change.Row (balance (pos 100)) }
-
 abbrev prepared_call : ClientCall
-prepared_call = call_of (prepare_of first_id (pos 0) first_write) reply.Applied
+prepared_call = call_of (prepare_of first_id (pos 0) inserts) reply.Applied
 
 abbrev past5 : List Played
 past5 = commit_played first_work (Preparing 0) prepared_call ∷ past4

@@ -15,7 +15,8 @@ use Rattle.sdb_phases.specs.Recover.{recover_next}
 use Rattle.sdb_read.specs.declared.read.ReadStep.TheVariants as step
 use Rattle.sdb_read.specs.Read as machine
 use Rattle.sdb_turns.specs.Machine.{kind_at, machine_kind, stands_at}
-use Rattle.sdb_turns.specs.ReadAt.{AreKinds, IsKind, after_recovery, read_pending, read_step, request_of, settle, settle_one, settle_reply}
+use Rattle.sdb_turns.specs.ReadAt.{AreKinds, IsKind, after_recovery, read_pending, read_step, settle, settle_one, settle_reply}
+use Rattle.sdb_read.specs.Read.{request_of}
 
 ---- rows
 

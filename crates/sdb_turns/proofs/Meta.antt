@@ -1,5 +1,5 @@
 -- What the metadata of an unresolved record and a coordinator's row say, and that images are committed records of their keys.
-use Rattle.std.proofs.Common.{◌≡◌, ◌<◌, ◌^◌, ℕ, ℤ, Bool, true, false, cond, List, Option, Some, None, Result, Ok, Err, refl, sym, ap, subst, ◌∙◌}
+use Rattle.std.proofs.Common.{◌≡◌, ◌<◌, ◌^◌, ℕ, ℤ, Bool, true, false, cond, List, Option, Some, None, Result, Ok, Err, refl, sym, ap, ◌∙◌}
 use Rattle.std.specs.Prelude.{if◌then◌else◌, not, find}
 use Rattle.std.specs.List.{list_any}
 use Rattle.sdb_types.specs.declared.value.Value.{Value}
@@ -9,37 +9,23 @@ use Rattle.sdb_types.specs.declared.txid.TxId.{TxId}
 use Rattle.sdb_types.specs.declared.record.Record.{Record}
 use Rattle.sdb_types.specs.declared.record.State.TheVariants.{Committed}
 use Rattle.sdb_types.specs.Columns.{column}
-use Rattle.sdb_types.specs.Contents.{tx_id, tx_state}
-use Rattle.sdb_types.proofs.Bools.{and_both, and_first, and_second}
+use Rattle.sdb_types.specs.Contents.{tx_id}
+use Rattle.sdb_types.proofs.Bools.{and_both, and_first}
 use Rattle.sdb_record.specs.declared.coordinator.Decided.{Decided}
 use Rattle.sdb_record.specs.declared.coordinator.Decision.TheVariants as decision
 use Rattle.sdb_record.specs.declared.meta.Meta.{Meta}
-use Rattle.sdb_record.specs.Names.{tx_created_at}
-use Rattle.sdb_record.specs.Coordinator.{id_of_key, decision_in, decision_in_value}
-use Rattle.sdb_record.specs.Meta.{id_in, id_in_value, is_in, is_moment, moment_in, is_committed, is_taken, is_unresolved, checked, checked_before, checked_part, refuse, with_before, is_misnamed}
+use Rattle.sdb_record.specs.Meta.{id_in, id_in_value, is_in, is_moment, is_committed, is_taken, is_unresolved, checked, checked_before, checked_part, refuse, with_before, is_misnamed}
 use Rattle.sdb_record.specs.Parts.{before_record, before_part, is_before_pair}
 use Rattle.sdb_record.specs.Rolls.{forward_record}
-use Rattle.sdb_record.proofs.Fine.{taken, refuse-ok, need-ok as need_ok}
+use Rattle.sdb_record.proofs.Fine.{taken, refuse-ok}
 use Rattle.sdb_record.proofs.IdLemmas.{id_of_text-is}
 use Rattle.sdb_record.proofs.ImageLaws.{image-open, image-is, checked-state}
-use Rattle.sdb_turns.specs.ReadAt.{Firm, Open, Bad, AreKinds, IsKind, kind_by, kind_of}
+use Rattle.sdb_turns.specs.ReadAt.{AreKinds, IsKind, kind_by, kind_of}
 use Rattle.sdb_turns.specs.Reader.{IsMetaOf}
-use Rattle.sdb_read.proofs.Images.{moment_is}
-use Rattle.sdb_types.proofs.Basics.{not_true}
+use Rattle.sdb_read.proofs.Images.{held_of}
+use Rattle.sdb_read.specs.Read.{Firm, Open, Bad}
 
 ---- a row's moment
-
--- The moment that a well formed row says is one.
-pub decided_at : (row : Record) (d : Decided) → decision_in row ≡ Ok d → is_moment d.created_at ≡ true
-unfolding decision_in
-decided_at row d says =
-    let a = need_ok (id_of_key row.key) tx_id _ d says in
-    let b = need_ok (moment_in row.columns tx_created_at) tx_created_at _ d a.2 in
-    let e = need_ok (decision_in_value (column row.columns tx_state)) tx_state _ d b.2 in
-    subst (λ (x : Decided). is_moment x.created_at ≡ true) (ok_is (record { decision = e.0; created_at = b.0 }) e.2) (moment_is (column row.columns tx_created_at) b.0 b.1)
-  where
-    ok_is : (x : Decided) → ◌≡◌ {A = Result Decided (List ℕ)} (Ok x) (Ok d) → x ≡ d
-    ok_is x e = cc
 
 ---- metadata
 
@@ -59,9 +45,6 @@ id_fits : (o : Option Value) (id : TxId) → id_in_value o ≡ Some id → id.0 
 id_fits None id h = absurd (cc)
 id_fits (Some (value.Text text)) id h = (id_of_text-is text id h).0
 id_fits (Some v) id h = absurd (cc)
-
-pub held_of : (r : Record) → is_unresolved r ≡ true → is_in Committed r.columns ≡ false
-held_of r h = not_true (is_in Committed r.columns) (and_second (is_taken r) (not (is_in Committed r.columns)) h)
 
 -- The metadata of an unresolved record is of its writer, and its state is open.
 pub meta_of : (r : Record) (m : Meta) → is_unresolved r ≡ true → checked r.columns ≡ Ok m → IsMetaOf r m

@@ -31,7 +31,8 @@ use Rattle.sdb_phases.specs.declared.step.RecoverPhase.TheVariants as phase
 use Rattle.sdb_phases.specs.Work.{look_of, abort_of, undo}
 use Rattle.sdb_phases.specs.Recover.{recover_request_at, recover_next, recover_forward, recover_back, roll_to, undecided, stands_found}
 use Rattle.sdb_turns.specs.Reader.{recover_role, PhaseOk, IsLearnedAborted, RecoverOk}
-use Rattle.sdb_turns.proofs.Meta.{IsFirm, decided_at, forward_firm, before_firm}
+use Rattle.sdb_turns.proofs.Meta.{IsFirm, forward_firm, before_firm}
+use Rattle.sdb_read.proofs.Images.{decided_at}
 
 held : (past : List Played) (rec : Record) (meta : Meta) (p : RecoverPhase) → RecoverOk past rec meta p → IsHeldShown past meta.id.0 rec.key rec
 held past rec meta p ok = record { shown = ok.shown; key = refl; held = ok.of.held; writer = ok.of.writer }

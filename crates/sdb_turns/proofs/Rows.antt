@@ -35,12 +35,13 @@ use Rattle.sdb_phases.specs.declared.step.RecoverStep.TheVariants as steps
 use Rattle.sdb_phases.specs.declared.step.RecoverPhase.{RecoverPhase}
 use Rattle.sdb_phases.specs.Recover.{recover_next, recover_request_at}
 use Rattle.sdb_turns.specs.Reader.{RecoverOk, recover_role}
-use Rattle.sdb_turns.specs.ReadAt.{Kind, Firm, Open, Bad, IsKind, AreKinds, ReadAt, Asking, Resolving, Done, Failed, request_of, read_pending, read_role, read_step, settle, settle_one, settle_reply, after_recovery, IsImage, IsLeft, IsOfData, Rise, InPlace, keys_of, ReadOk}
+use Rattle.sdb_turns.specs.ReadAt.{IsKind, AreKinds, ReadAt, Asking, Resolving, Done, Failed, read_pending, read_role, read_step, settle, settle_one, settle_reply, after_recovery, IsImage, IsLeft, IsOfData, Rise, InPlace, keys_of, ReadOk}
 use Rattle.sdb_turns.proofs.Kept.{row_later}
 use Rattle.sdb_turns.proofs.Lists.{each_both, each_drop, each_more, each_unmap}
 use Rattle.sdb_turns.proofs.Meta.{meta_of}
 use Rattle.sdb_turns.proofs.Reading.{IsImageOf, phase_kept, image_settled}
 use Rattle.sdb_types.proofs.Basics.{less_of, all_each as each_any}
+use Rattle.sdb_read.specs.Read.{request_of, Kind, Firm, Open, Bad}
 
 ---- what stays
 

@@ -2,7 +2,8 @@
 use Rattle.sdb_types.specs.declared.record.Record.{Record}
 use Rattle.sdb_read.specs.declared.read.ReadStep.TheVariants as step
 use Rattle.sdb_read.specs.Read as machine
-use Rattle.sdb_turns.specs.ReadAt.{Kind, Firm, Open, Bad, ReadAt, Asking, Resolving, Done, Failed}
+use Rattle.sdb_turns.specs.ReadAt.{ReadAt, Asking, Resolving, Done, Failed}
+use Rattle.sdb_read.specs.Read.{Kind, Firm, Open, Bad}
 
 abbrev pub kind_at : machine.Kind → Kind
 kind_at machine.Firm = Firm

@@ -7,11 +7,9 @@ use Rattle.sdb_types.specs.declared.record.Record.{Record}
 use Rattle.sdb_types.specs.declared.record.Reply.{Reply}
 use Rattle.sdb_types.specs.declared.record.Reply.TheVariants as reply
 use Rattle.sdb_types.specs.declared.record.Request.{Request}
-use Rattle.sdb_types.specs.declared.record.Request.TheVariants as ask
 use Rattle.sdb_types.specs.declared.record.State.TheVariants as state
 use Rattle.sdb_types.specs.Order.{key_cmp}
 use Rattle.sdb_record.specs.declared.access.Access.{Access}
-use Rattle.sdb_record.specs.declared.access.Access.TheVariants as access
 use Rattle.sdb_record.specs.declared.meta.Meta.{Meta}
 use Rattle.sdb_record.specs.Meta.{checked, is_committed, is_in, is_taken, is_unresolved}
 use Rattle.sdb_model.specs.Access.{in_access}
@@ -23,14 +21,9 @@ use Rattle.sdb_phases.specs.declared.step.RecoverPhase.{RecoverPhase}
 use Rattle.sdb_phases.specs.declared.step.RecoverPhase.TheVariants as phase
 use Rattle.sdb_phases.specs.Recover.{recover_next, recover_request_at}
 use Rattle.sdb_turns.specs.Reader.{RecoverOk, recover_role}
+use Rattle.sdb_read.specs.Read.{request_of, Kind, Firm, Open, Bad}
 
 ---- rows
-
--- What a row that was found is: a committed record; an unresolved one, with its metadata; or no record of a transaction.
-pub data Kind : Type 0 where
-  Firm : Kind
-  Open : (meta : Meta) → Kind
-  Bad : Kind
 
 -- the kind says what the record is
 abbrev pub IsKind : Record → Kind → Type 0
@@ -61,11 +54,6 @@ pub data ReadAt : Type 0 where
   Resolving : (images : List Record) (rec : Record) (meta : Meta) (phase : RecoverPhase) (left : List Record) → ReadAt
   Done : (images : List Record) → ReadAt
   Failed : ReadAt
-
--- what an access asks of a store
-abbrev pub request_of : Access → Request
-request_of (access.Get key) = ask.Get key
-request_of (access.Scan span) = ask.Scan span
 
 -- the call that is pending
 abbrev pub read_pending : Access → ReadAt → Option Request

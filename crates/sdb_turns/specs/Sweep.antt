@@ -1,6 +1,5 @@
 -- VACUUM: the rows of a table are read, each unresolved one is resolved, and each tombstone is removed.
 use Rattle.std.specs.Prelude.{◌≡◌, ℤ, true, if◌then◌else◌, List, [], ◌∷◌, Option, Some, None}
-use Rattle.std.specs.Option.{option_map}
 use Rattle.std.specs.List.{AllByRecursion}
 use Rattle.sdb_types.specs.declared.txid.TxId.{TxId}
 use Rattle.sdb_types.specs.declared.record.Record.{Record}
@@ -9,12 +8,10 @@ use Rattle.sdb_types.specs.declared.record.Reply.{Reply}
 use Rattle.sdb_types.specs.declared.record.Reply.TheVariants as reply
 use Rattle.sdb_types.specs.declared.record.Request.{Request}
 use Rattle.sdb_types.specs.declared.record.Request.TheVariants as ask
-use Rattle.sdb_types.specs.declared.record.Condition.TheVariants as condition
-use Rattle.sdb_types.specs.declared.record.State.TheVariants as state
 use Rattle.sdb_record.specs.declared.access.Access.TheVariants as access
 use Rattle.sdb_record.specs.declared.meta.Meta.{Meta}
 use Rattle.sdb_record.specs.Meta.{id_in}
-use Rattle.sdb_record.specs.Rolls.{is_tombstone}
+use Rattle.sdb_record.specs.Rolls.{is_tombstone, remove_request}
 use Rattle.sdb_laws.specs.History.{Role, Other, Removes}
 use Rattle.sdb_laws.specs.Lawful.{Played, is_data}
 use Rattle.sdb_phases.specs.declared.step.RecoverStep.{RecoverStep}
@@ -23,7 +20,8 @@ use Rattle.sdb_phases.specs.declared.step.RecoverPhase.{RecoverPhase}
 use Rattle.sdb_phases.specs.declared.step.RecoverPhase.TheVariants as phase
 use Rattle.sdb_phases.specs.Recover.{recover_next, recover_request_at}
 use Rattle.sdb_turns.specs.Reader.{RecoverOk, recover_role}
-use Rattle.sdb_turns.specs.ReadAt.{Kind, Firm, Open, Bad, IsImage, IsLeft, IsOfData}
+use Rattle.sdb_turns.specs.ReadAt.{IsImage, IsLeft, IsOfData}
+use Rattle.sdb_read.specs.Read.{Kind, Firm, Open, Bad}
 
 ---- the model
 
@@ -34,10 +32,6 @@ pub data SweepAt : Type 0 where
   Resolving : (rec : Record) (meta : Meta) (phase : RecoverPhase) (left : List Record) → SweepAt
   Removing : (tombstone : Record) (left : List Record) → SweepAt
   Between : SweepAt
-
--- a tombstone is deleted on condition that it still stands
-abbrev pub remove_request : Record → Option Request
-remove_request b = option_map (λ id. ask.DeleteIf b.key (condition.Version id state.Committed)) (id_in b.columns)
 
 -- the call that is pending
 abbrev pub sweep_pending : SweepAt → Option Request

@@ -16,9 +16,10 @@ ghost use Rattle.sdb_snapshot.specs.Seen.{Seen};
 ghost use Rattle.sdb_turns.specs.Noted.{SeenOk, Sound, Settled, work_of};
 ghost use Rattle.sdb_turns.specs.Owner.{WorkOk};
 ghost use Rattle.sdb_turns.specs.Reader.{RecoverOk, recover_role};
-ghost use Rattle.sdb_turns.specs.ReadAt.{Kind, kind_of, AreKinds, ReadAt, settle, keys_of, IsImage, IsLeft, IsOfData, InPlace, ReadOk, read_pending, read_role, read_step};
+ghost use Rattle.sdb_turns.specs.ReadAt.{kind_of, AreKinds, ReadAt, settle, keys_of, IsImage, IsLeft, IsOfData, InPlace, ReadOk, read_pending, read_role, read_step};
 ghost use Rattle.sdb_turns.specs.Worked.{SomeCommit};
 ghost use Rattle.sdb_turns.specs.System.{ClientAt, ClientOk, SystemAt, SystemOk, SamePlans, IsBy, ClientCall, IsReplyTo, EndsOwn, call_event, idle, next_id};
+ghost use Rattle.sdb_read.specs.Read.{Kind};
 
 /// Before the first event no client has done anything, and all is so of all.
 pub fn nothing_happened()

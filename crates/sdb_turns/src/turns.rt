@@ -14,9 +14,10 @@ ghost use Rattle.sdb_phases.specs.Work.{Work};
 ghost use Rattle.sdb_phases.specs.Commit.{Stage, pending, step};
 ghost use Rattle.sdb_snapshot.specs.Seen.{Seen, nothing};
 ghost use Rattle.sdb_turns.specs.Noted.{work_of};
-ghost use Rattle.sdb_turns.specs.ReadAt.{Kind, AreKinds, ReadAt, read_pending, read_role, read_step};
+ghost use Rattle.sdb_turns.specs.ReadAt.{AreKinds, ReadAt, read_pending, read_role, read_step};
 ghost use Rattle.sdb_turns.specs.Sweep.{SweepAt, sweep_pending, sweep_role, sweep_step};
 ghost use Rattle.sdb_turns.specs.System.{Resting, Open, Reading, Committing, Sweeping, Stopped, SystemAt, SystemOk, StandsAt, IsBy, IsQuiet, IsBegin, IsCommit, NoneSweeps, ClientCall, IsReplyTo, call_event, begin_played, take_played, commit_played, commit_left, commit_begun, next_id, with_begun, with_client, with_plan};
+ghost use Rattle.sdb_read.specs.Read.{Kind};
 
 /// BEGIN is answered Done to a client without an open transaction, while no client that goes on runs VACUUM: a transaction is
 /// open, under an id that was never used, and has read and written nothing.

@@ -10,7 +10,7 @@ use Rattle.sdb_phases.specs.Steps.{CanGet}
 use Rattle.sdb_read.specs.declared.read.ReadStep.{ReadStep}
 use Rattle.sdb_read.specs.declared.read.ReadStep.TheVariants as step
 use Rattle.sdb_read.specs.Read.{ReadAt, ReadStage, Asking, Resolving, Ended, read_result, read_step, request_of}
-use Rattle.sdb_read.specs.Fine.{AreFirm, ArePlaced, IsFine, IsFineStep}
+use Rattle.sdb_read.specs.Fine.{ArePlaced, IsFine, IsFineStep}
 use Rattle.sdb_read.proofs.Keeps.{step_fine}
 use Rattle.sdb_snapshot.specs.Seen.{Seen}
 use Rattle.sdb_txn.specs.declared.txn.Doing.{Doing}
@@ -19,8 +19,9 @@ use Rattle.sdb_txn.specs.declared.progress.Progress.{Progress}
 use Rattle.sdb_txn.specs.declared.progress.Progress.TheVariants as progress
 use Rattle.sdb_txn.specs.Txn.{EndTold, IfReading, ImagesTold, IsReading, IsUnread, ReadTold, SpanTold, StepTold, TxnAt, idle, pending_in}
 use Rattle.sdb_txn.specs.Inside.{CanEnd, IsReadOf, IsTxn}
+use Rattle.sdb_record.specs.Rolls.{AreCommitted}
 
-images_fine : (q : Request) (s : ReadStage) (images : List Record) → IsFine q s → step.Images images ≡ read_result s → AreFirm images × ArePlaced q images
+images_fine : (q : Request) (s : ReadStage) (images : List Record) → IsFine q s → step.Images images ≡ read_result s → AreCommitted images × ArePlaced q images
 images_fine q Asking images f h = absurd (cc)
 images_fine q (Resolving before rec meta p left) images f h = absurd (cc)
 images_fine q (Ended e) images f h = subst (IsFineStep q) (sym h) f

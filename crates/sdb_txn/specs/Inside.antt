@@ -5,16 +5,17 @@ use Rattle.sdb_record.specs.declared.access.Access.{Access}
 use Rattle.sdb_read.specs.declared.read.ReadStep.{ReadStep}
 use Rattle.sdb_read.specs.declared.read.ReadStep.TheVariants as step
 use Rattle.sdb_read.specs.Read.{request_of}
-use Rattle.sdb_read.specs.Fine.{AreFirm, ArePlaced, IsFine}
+use Rattle.sdb_read.specs.Fine.{ArePlaced, IsFine}
 use Rattle.sdb_snapshot.specs.Seen.{Seen}
 use Rattle.sdb_txn.specs.declared.txn.Doing.{Doing}
 use Rattle.sdb_txn.specs.declared.txn.Doing.TheVariants as doing
 use Rattle.sdb_txn.specs.Txn.{IsUnread}
+use Rattle.sdb_record.specs.Rolls.{AreCommitted}
 
 -- the images of a read may be noted
 pub record CanNote (s : Seen) (a : Access) (images : List Record) : Type 0 where
   pub unread : IsUnread s a
-  pub firm : AreFirm images
+  pub firm : AreCommitted images
   pub placed : ArePlaced (request_of a) images
 
 -- what a read has ended with may be noted

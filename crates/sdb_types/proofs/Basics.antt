@@ -1,6 +1,6 @@
 -- What many proofs cite of truth values, options, numbers and lists, and std doesn't have.
 use Rattle.std.proofs.Common.{◌≡◌, ◌⊎◌, inl, inr, ℕ, zero, suc, ◌+◌, ◌*◌, ◌^◌, ◌<◌, ◌≤◌, ◌==◌, Bool, true, false, not, ◌&&◌, ◌||◌, cond, List, [], ◌∷◌, ◌++◌, map, take, drop, length, get_or, Option, Some, None, Result, Ok, T, refl, sym, ap, ◌∙◌, arith, add-one, drop-cons, length-append}
-use Rattle.std.specs.Prelude.{nat_le, nat_lt, position}
+use Rattle.std.specs.Prelude.{nat_le, nat_lt, position, Contains}
 use Rattle.std.specs.List.{AllByRecursion, list_all, position_or_len, before_first, after_first, prefix_len}
 use Rattle.std.specs.declared.cmp.Ordering.{Ordering}
 use Rattle.std.specs.declared.cmp.Ordering.TheVariants.{Less, Equal, Greater}
@@ -11,6 +11,9 @@ use Rattle.std.proofs.lemmas.List.Sums.{fails_before_first, split_at_first, pass
 use Rattle.sdb_types.specs.Identifier.{is_part}
 use Rattle.sdb_types.proofs.Bools.{and_first, and_second, and_both}
 use Rattle.std.proofs.Math.Seq.{take-append_seam, drop-append-add}
+use Rattle.std.proofs.lemmas.List.Elements.{Contains-append_cases, Contains-push_cases}
+use Rattle.sdb_types.specs.NameText.{around}
+use Rattle.sdb_types.specs.Options.{◌>>=◌}
 
 pub some_is : {A : Type 0} (x y : A) → Some x ≡ Some y → x ≡ y
 some_is x y h = cc
@@ -227,3 +230,28 @@ around_at-seam front c back =
 pub front_passes : (p : ℕ → Bool) (bs : List ℕ) → list_all p (take (prefix_len p bs) bs) ≡ true
 front_passes p [] = refl
 front_passes p (b ∷ bs) = by_test (p b) (λ e. rw (e, one_more, e) (front_passes p bs)) (λ e. rw e refl)
+
+pub one_of : {X : Type 0} (x y : X) (xs : List X) → Contains (x ∷ xs) y → (x ≡ y) ⊎ Contains xs y
+one_of {X = X} x y xs has = by (Contains-append_cases (x ∷ []) xs y has)
+  where
+    none : Contains {X = X} [] y → ⊥
+    none h = absurd (omega (arith, h.1))
+
+    first : Contains [] y ⊎ (x ≡ y) → (x ≡ y) ⊎ Contains xs y
+    first (inl h) = absurd (none h)
+    first (inr h) = inl h
+
+    by : Contains (x ∷ []) y ⊎ Contains xs y → (x ≡ y) ⊎ Contains xs y
+    by (inl h) = first (Contains-push_cases [] x y h)
+    by (inr h) = inr h
+
+pub around_behind : (c : ℕ) (front back : List ℕ) → (c == c) ≡ true → lacks c front ≡ true → around c (front ++ c ∷ back) ≡ Some (front, back)
+around_behind c front back r h = ap (λ n. around_at n (front ++ c ∷ back)) (place_behind c front back r h) ∙ around_at-seam front c back
+
+pub bind_some : {A B : Type 0} (r : Option A) (f : A → Option B) (y : B) → (r >>= f) ≡ Some y → (x : A) × (r ≡ Some x) × (f x ≡ Some y)
+bind_some (Some x) f y e = (x, refl, e)
+bind_some None f y e = absurd cc
+
+pub or_none : {X : Type 0} (o : Option X) → or_else o None ≡ o
+or_none None = refl
+or_none (Some x) = refl

@@ -1,5 +1,5 @@
 -- What is known of every value of a type: the ranges of its numbers, and that names, texts and columns are such.
-use Rattle.std.specs.Prelude.{◌≡◌, true, ℕ, ◌<◌, All, List, FitsSigned}
+use Rattle.std.specs.Prelude.{◌≡◌, true, ℕ, ◌<◌, All, List, FitsSigned, Bool, ◌&&◌, ℤ, pos, negsuc, int_le}
 use Rattle.std.specs.Int.{w32, w64}
 use Rattle.std.specs.Str.{IsUtf8}
 use Rattle.sdb_types.specs.Identifier.{is_name}
@@ -12,6 +12,10 @@ use Rattle.sdb_types.specs.declared.value.Value.TheVariants as value
 
 abbrev pub AreBytes : List ℕ → Type 0
 AreBytes bytes = All (λ b. b < 256) bytes
+
+-- A number fits an INT column.
+abbrev pub fits_int : ℤ → Bool
+fits_int n = int_le (negsuc 2147483647) n && int_le n (pos 2147483647)
 
 pub record text_fits (text : List ℕ) : Type 0 where
   pub bytes : AreBytes text

@@ -13,3 +13,4 @@ pub mod Held
 pub mod Contents
 pub mod HashInput
 pub mod Replies
+pub mod Options

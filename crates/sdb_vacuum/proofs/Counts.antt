@@ -21,7 +21,7 @@ use Rattle.sdb_record.specs.declared.meta.Meta.{Meta}
 use Rattle.sdb_record.specs.Coordinator.{decision_in, is_expired}
 use Rattle.sdb_record.specs.Meta.{checked, id_in, is_committed, is_in, is_taken, is_unresolved}
 use Rattle.sdb_record.specs.Parts.{before_record}
-use Rattle.sdb_record.specs.Rolls.{IsBaseOf, is_tombstone}
+use Rattle.sdb_record.specs.Rolls.{IsBaseOf, is_tombstone, AreCommitted, remove_request}
 use Rattle.sdb_record.proofs.ImageLaws.{checked-state}
 use Rattle.sdb_schema.specs.declared.table.Table.{Table}
 use Rattle.sdb_phases.specs.declared.step.RecoverStep.{RecoverStep}
@@ -32,10 +32,9 @@ use Rattle.sdb_phases.specs.Recover.{Heard, recover_next, recover_request_at, ro
 use Rattle.sdb_phases.specs.Work.{undo}
 use Rattle.sdb_phases.specs.Steps.{CanGet}
 use Rattle.sdb_read.specs.Read.{Kind, Firm, Open, Bad, kind_of}
-use Rattle.sdb_read.specs.Fine.{AreFirm}
 use Rattle.sdb_vacuum.specs.declared.work.VacuumStep.{VacuumStep}
 use Rattle.sdb_vacuum.specs.declared.work.VacuumStep.TheVariants as step
-use Rattle.sdb_vacuum.specs.Vacuum.{First, Nothing, Tombstone, Unresolved, Malformed, VacuumAt, VacuumStage, Scanning, Resolving, Removing, Over, answered, first_of, first_one, goes_on, going, next_table, pending_at, removal_answered, remove_request, resolved, spans_of, step_at, tombstone_or, whole}
+use Rattle.sdb_vacuum.specs.Vacuum.{First, Nothing, Tombstone, Unresolved, Malformed, VacuumAt, VacuumStage, Scanning, Resolving, Removing, Over, answered, first_of, first_one, goes_on, going, next_table, pending_at, removal_answered, resolved, spans_of, step_at, tombstone_or, whole}
 use Rattle.sdb_vacuum.specs.Fine.{IsFine}
 use Rattle.sdb_vacuum.specs.Calls.{VacuumPlayed, is_removal, removals, rows_heard, rows_in, tombstones, vacuum_after, vacuum_answer}
 use Rattle.sdb_vacuum.proofs.Fine.{after_fine}
@@ -203,7 +202,7 @@ most_calls catalog past h = let k = light catalog past h in omega arith
 abbrev IsExact : VacuumStage → VacuumStep → (spans calls total : ℕ) → Type 0
 IsExact (Scanning span) s m k total = suc k + m ≡ total
 IsExact (Resolving rec meta p left) s m k total = ⊥
-IsExact (Removing b left) s m k total = AreFirm left × (suc k + tombstones left + m ≡ total)
+IsExact (Removing b left) s m k total = AreCommitted left × (suc k + tombstones left + m ≡ total)
 IsExact Over s m k total = (n : ℕ) → s ≡ step.Count n → k ≡ total
 
 abbrev Exact : VacuumAt × VacuumStep → (calls total : ℕ) → Type 0
@@ -216,7 +215,7 @@ next_exact (s ∷ ss) n k total h = omega arith
 firm_kind : (r : Record) → IsBaseOf r.key r → kind_of r ≡ Firm
 firm_kind r h = rw (h.1, h.2) refl
 
-on_exact : (ss : List Span) (n : ℕ) (left : List Record) (k total : ℕ) → AreFirm left → k + tombstones left + length ss ≡ total → Exact (going ss n (first_of left)) k total
+on_exact : (ss : List Span) (n : ℕ) (left : List Record) (k total : ℕ) → AreCommitted left → k + tombstones left + length ss ≡ total → Exact (going ss n (first_of left)) k total
 on_exact ss n [] k total f h = next_exact ss n k total (omega arith)
 on_exact ss n (r ∷ left) k total f h =
     subst (λ (x : Kind). Exact (going ss n (first_one x r left (first_of left))) k total) (sym (firm_kind r f.0)) (by (is_tombstone r) h (λ e. on_exact ss n left k total f.1 e))
@@ -228,7 +227,7 @@ on_exact ss n (r ∷ left) k total f h =
 failed_exact : (k total : ℕ) (s : VacuumStep) → ((n : ℕ) → s ≡ step.Count n → ⊥) → (n : ℕ) → s ≡ step.Count n → k ≡ total
 failed_exact k total s h n e = absurd (h n e)
 
-answered_exact : (ss : List Span) (n : ℕ) (r : Reply) (k total : ℕ) → AreFirm (rows_in r) → k + tombstones (rows_in r) + length ss ≡ total → Exact (answered ss n r) k total
+answered_exact : (ss : List Span) (n : ℕ) (r : Reply) (k total : ℕ) → AreCommitted (rows_in r) → k + tombstones (rows_in r) + length ss ≡ total → Exact (answered ss n r) k total
 answered_exact ss n (reply.Rows rows) k total f h = on_exact ss n rows k total f h
 answered_exact ss n (reply.Found found) k total f h = λ m e. absurd (cc)
 answered_exact ss n reply.Applied k total f h = λ m e. absurd (cc)
@@ -237,7 +236,7 @@ answered_exact ss n reply.Fault k total f h = λ m e. absurd (cc)
 answered_exact ss n reply.NoMemory k total f h = λ m e. absurd (cc)
 
 -- a reply to a delete has no rows
-removal_exact : (ss : List Span) (n : ℕ) (q : Option Request) (b : Record) (left : List Record) (r : Reply) (k total : ℕ) → remove_request b ≡ q → CanGet q r → AreFirm left → k + tombstones left + length ss ≡ total → Exact (removal_answered ss n left r) k (total + tombstones (rows_in r))
+removal_exact : (ss : List Span) (n : ℕ) (q : Option Request) (b : Record) (left : List Record) (r : Reply) (k total : ℕ) → remove_request b ≡ q → CanGet q r → AreCommitted left → k + tombstones left + length ss ≡ total → Exact (removal_answered ss n left r) k (total + tombstones (rows_in r))
 removal_exact ss n q b left reply.Applied k total is h f e = on_exact ss (n + 1) left k (total + 0) f (omega arith)
 removal_exact ss n q b left (reply.NotMet found) k total is h f e = on_exact ss n left k (total + 0) f (omega arith)
 removal_exact ss n q b left (reply.Found found) k total is h f e = λ m e. absurd (cc)
@@ -245,20 +244,20 @@ removal_exact ss n q b left (reply.Rows rows) k total is h f e = λ m e. absurd 
 removal_exact ss n q b left reply.Fault k total is h f e = λ m e. absurd (cc)
 removal_exact ss n q b left reply.NoMemory k total is h f e = λ m e. absurd (cc)
 
-step_exact : (ss : List Span) (n : ℕ) (s : VacuumStage) (told : VacuumStep) (now : ℤ) (r : Reply) (k total : ℕ) → CanGet (pending_at s) r → AreFirm (rows_in r) → IsExact s told (length ss) k total → Exact (step_at ss n s now r) (suc k) (total + tombstones (rows_in r))
+step_exact : (ss : List Span) (n : ℕ) (s : VacuumStage) (told : VacuumStep) (now : ℤ) (r : Reply) (k total : ℕ) → CanGet (pending_at s) r → AreCommitted (rows_in r) → IsExact s told (length ss) k total → Exact (step_at ss n s now r) (suc k) (total + tombstones (rows_in r))
 step_exact ss n (Scanning span) told now r k total h f e = answered_exact ss n r (suc k) (total + tombstones (rows_in r)) f (omega arith)
 step_exact ss n (Resolving rec meta p left) told now r k total h f e = absurd e
 step_exact ss n (Removing b left) told now r k total h f e = removal_exact ss n (remove_request b) b left r (suc k) total refl h e.0 e.1
 step_exact ss n Over told now r k total h f e = absurd h
 
-firm_first : (xs ys : List Record) → AreFirm (xs ++ ys) → AreFirm xs × AreFirm ys
+firm_first : (xs ys : List Record) → AreCommitted (xs ++ ys) → AreCommitted xs × AreCommitted ys
 firm_first [] ys h = (tt, h)
 firm_first (x ∷ xs) ys h = let rest = firm_first xs ys h.1 in ((h.0, rest.0), rest.1)
 
 tombstones_both : (xs ys : List Record) → tombstones (xs ++ ys) ≡ tombstones xs + tombstones ys
 tombstones_both xs ys = ap length (filter-append is_tombstone xs ys) ∙ length-append (filter is_tombstone xs) (filter is_tombstone ys)
 
-exact : (catalog : List Table) (past : List Heard) → VacuumPlayed catalog past → AreFirm (rows_heard past) → Exact (vacuum_after catalog past, vacuum_answer catalog past) (length past) (length catalog + tombstones (rows_heard past))
+exact : (catalog : List Table) (past : List Heard) → VacuumPlayed catalog past → AreCommitted (rows_heard past) → Exact (vacuum_after catalog past, vacuum_answer catalog past) (length past) (length catalog + tombstones (rows_heard past))
 exact catalog [] h f = next_exact (spans_of catalog) 0 0 (length catalog + 0) (let e = spans_long catalog in omega arith)
 exact catalog (c ∷ past) h f =
     let v = vacuum_after catalog past in
@@ -333,7 +332,7 @@ counted : (catalog : List Table) (past : List Heard) → Counted (vacuum_after c
 counted catalog [] = next_counted (spans_of catalog) 0
 counted catalog (c ∷ past) = let v = vacuum_after catalog past in step_counted v.spans v.removed v.stage c.now c.reply
 
-pub exact_calls : (catalog : List Table) (past : List Heard) (n : ℕ) → VacuumPlayed catalog past → AreFirm (rows_heard past) → vacuum_answer catalog past ≡ step.Count n → length past ≡ length catalog + tombstones (rows_heard past)
+pub exact_calls : (catalog : List Table) (past : List Heard) (n : ℕ) → VacuumPlayed catalog past → AreCommitted (rows_heard past) → vacuum_answer catalog past ≡ step.Count n → length past ≡ length catalog + tombstones (rows_heard past)
 exact_calls catalog past n h f e =
     let v = vacuum_after catalog past in
     counted_exact v.stage (vacuum_answer catalog past) (length v.spans) (length past) (length catalog + tombstones (rows_heard past)) n (exact catalog past h f) (λ told. (counted catalog past n told).0) e
@@ -379,7 +378,7 @@ resolved_keeps ss n rec meta left (p, steps.BadRecord key) = refl
 resolved_keeps ss n rec meta left (p, steps.NoMemory) = refl
 
 -- a recovery deletes no committed record
-open_state : (rec : Record) (meta : Meta) → is_unresolved rec ≡ true → checked rec.columns ≡ Ok meta → is_committed meta.state ≡ false
+pub open_state : (rec : Record) (meta : Meta) → is_unresolved rec ≡ true → checked rec.columns ≡ Ok meta → is_committed meta.state ≡ false
 open_state rec meta loose says = by (is_in state.Committed rec.columns) (is_committed meta.state) (checked-state rec.columns meta says) (and_second (is_taken rec) _ loose)
   where
     by : (a b : Bool) → a ≡ b → not a ≡ true → b ≡ false

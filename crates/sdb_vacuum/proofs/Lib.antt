@@ -1,4 +1,3 @@
-pub mod Firm
 pub mod Asks
 pub mod Fine
 pub mod Counts

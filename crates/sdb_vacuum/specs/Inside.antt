@@ -7,7 +7,8 @@ use Rattle.sdb_phases.specs.Recover.{Recovers, recover_request}
 use Rattle.sdb_vacuum.specs.declared.work.Doing.{Doing}
 use Rattle.sdb_vacuum.specs.declared.work.Doing.TheVariants as doing
 use Rattle.sdb_vacuum.specs.declared.work.Work.{Work}
-use Rattle.sdb_vacuum.specs.Vacuum.{VacuumAt, VacuumStage, Scanning, Resolving, Removing, Over, pending_at, remove_request}
+use Rattle.sdb_vacuum.specs.Vacuum.{VacuumAt, VacuumStage, Scanning, Resolving, Removing, Over, pending_at}
+use Rattle.sdb_record.specs.Rolls.{remove_request}
 
 abbrev pub scan_stage : Request → VacuumStage
 scan_stage (ask.Scan span) = Scanning span

@@ -1,6 +1,5 @@
 -- VACUUM: the rows of each table are read, each unresolved one is resolved, and each tombstone is removed.
 use Rattle.std.specs.Prelude.{◌≡◌, ℕ, ℤ, ◌+◌, if◌then◌else◌, List, [], ◌∷◌, map, Option, Some, None}
-use Rattle.std.specs.Option.{option_map}
 use Rattle.sdb_types.specs.declared.key.Key.{Key}
 use Rattle.sdb_types.specs.declared.record.Record.{Record}
 use Rattle.sdb_types.specs.declared.record.Span.{Span}
@@ -8,11 +7,8 @@ use Rattle.sdb_types.specs.declared.record.Reply.{Reply}
 use Rattle.sdb_types.specs.declared.record.Reply.TheVariants as reply
 use Rattle.sdb_types.specs.declared.record.Request.{Request}
 use Rattle.sdb_types.specs.declared.record.Request.TheVariants as ask
-use Rattle.sdb_types.specs.declared.record.Condition.TheVariants as condition
-use Rattle.sdb_types.specs.declared.record.State.TheVariants as state
 use Rattle.sdb_record.specs.declared.meta.Meta.{Meta}
-use Rattle.sdb_record.specs.Meta.{id_in}
-use Rattle.sdb_record.specs.Rolls.{is_tombstone}
+use Rattle.sdb_record.specs.Rolls.{is_tombstone, remove_request}
 use Rattle.sdb_schema.specs.declared.table.Table.{Table}
 use Rattle.sdb_phases.specs.declared.step.RecoverStep.{RecoverStep}
 use Rattle.sdb_phases.specs.declared.step.RecoverStep.TheVariants as steps
@@ -38,10 +34,6 @@ pub record VacuumAt : Type 0 where
   pub stage : VacuumStage
   pub spans : List Span
   pub removed : ℕ
-
--- a tombstone is deleted on condition that it still stands
-abbrev pub remove_request : Record → Option Request
-remove_request b = option_map (λ id. ask.DeleteIf b.key (condition.Version id state.Committed)) (id_in b.columns)
 
 abbrev pub pending_at : VacuumStage → Option Request
 pending_at (Scanning span) = Some (ask.Scan span)

@@ -4,11 +4,11 @@ ghost use Rattle.sdb_types.specs.declared.key.Key.{Key};
 ghost use Rattle.sdb_schema.specs.declared.table.Table.{Table};
 ghost use Rattle.sdb_phases.specs.Recover.{Heard};
 ghost use Rattle.sdb_phases.specs.RecoverLaws.{heard_fault};
-ghost use Rattle.sdb_read.specs.Fine.{AreFirm};
 ghost use Rattle.sdb_vacuum.specs.declared.work.VacuumStep.TheVariants as step;
 ghost use Rattle.sdb_vacuum.specs.Ends.{IsBadAt};
 ghost use Rattle.sdb_vacuum.specs.Fine.{IsFine};
 ghost use Rattle.sdb_vacuum.specs.Calls.{VacuumPlayed, removals, rows_heard, tombstones, vacuum_after, vacuum_answer};
+ghost use Rattle.sdb_record.specs.Rolls.{AreCommitted};
 
 /// A VACUUM removes tombstones alone: whatever its replies, the record that it deletes is a committed one that deletes its row, and
 /// the one that it resolves is unresolved.
@@ -32,5 +32,5 @@ pub fn vacuum_ends()
 /// all tables are done and each row was a committed record, it has made exactly one for each table and one for each tombstone.
 pub fn vacuum_calls()
     ensures most { (catalog : List Table) (past : List Heard) → VacuumPlayed catalog past → length past ≤ length catalog + 5 * length (rows_heard past) }
-    ensures exact { (catalog : List Table) (past : List Heard) (n : ℕ) → VacuumPlayed catalog past → AreFirm (rows_heard past) → vacuum_answer catalog past ≡ step.Count n → length past ≡ length catalog + tombstones (rows_heard past) }
+    ensures exact { (catalog : List Table) (past : List Heard) (n : ℕ) → VacuumPlayed catalog past → AreCommitted (rows_heard past) → vacuum_answer catalog past ≡ step.Count n → length past ≡ length catalog + tombstones (rows_heard past) }
 {}

@@ -1,10 +1,12 @@
 //! What a VACUUM has left to do, and what it does next.
 ghost use Rattle.std.specs.Prelude.{◌≡◌, ◌≢◌, ◌+◌, IfOk, IsSome, Some};
 ghost use Rattle.sdb_read.specs.Read.{kind_of};
-ghost use Rattle.sdb_vacuum.specs.Vacuum.{Gives, Removing, answered, first_of, goes_on, going, next_table as next_table_lem, removal_answered, remove_request, resolved_to, tombstone_or};
-ghost use Rattle.sdb_vacuum.specs.Rows.{open_first, sort_of};
-ghost use Rattle.sdb_vacuum.specs.declared.rows.Sort.TheVariants as sort;
+ghost use Rattle.sdb_vacuum.specs.Vacuum.{Gives, Removing, answered, first_of, goes_on, going, next_table as next_table_lem, removal_answered, resolved_to, tombstone_or};
+ghost use Rattle.sdb_vacuum.specs.Rows.{open_first};
+ghost use Rattle.sdb_read.specs.declared.rows.Sort.TheVariants as sort;
 ghost use Rattle.sdb_vacuum.specs.Inside.{IsDoing, at_of, doing_pending};
+ghost use Rattle.sdb_read.specs.Rows.{sort_of};
+ghost use Rattle.sdb_record.specs.Rolls.{remove_request};
 
 use crate::rows::{Found, first, is_tombstone};
 use sdb_record::meta_of;

@@ -1,21 +1,18 @@
 -- Two names with one byte between them.
 use Rattle.std.proofs.Common.{◌≡◌, ℕ, ◌+◌, List, ◌∷◌, ◌++◌, length, Bool, true, false, ◌&&◌, ◌==◌, cond, refl, sym, ap, ◌∙◌, Option, Some, None}
-use Rattle.std.specs.Prelude.{nat_lt, nat_le}
+use Rattle.std.specs.Prelude.{nat_lt}
 use Rattle.std.specs.List.{before_first, after_first, position_or_len}
-use Rattle.sdb_types.specs.Identifier.{is_name, is_identifier}
-use Rattle.sdb_types.proofs.Bools.{and_first, and_second, and_both}
+use Rattle.sdb_types.proofs.Bools.{and_both}
 use Rattle.sdb_types.proofs.KeyOrder.{parts}
 use Rattle.sdb_record.specs.Parts.{is_column_name}
 use Rattle.sdb_words.specs.Names.{IsTable, table_text}
 use Rattle.sdb_words.specs.declared.names.TableWord.{TableWord}
-use Rattle.sdb_types.proofs.Basics.{longer, lacks, around_at, at_byte, all_lack, place_behind, around_at-seam}
+use Rattle.sdb_types.proofs.Basics.{at_byte, all_lack, around_behind}
 use Rattle.sdb_types.proofs.Words.{no_dot}
 use Rattle.sdb_types.specs.NameText.{around}
+use Rattle.sdb_record.proofs.NameLemmas.{name_of_column}
 
 ---- bytes that no name has
-
-long_name : (text : List ℕ) → is_column_name text ≡ true → is_name text ≡ true
-long_name text h = and_both (nat_le (length text) 71) _ (longer (length text) (and_first (nat_le (length text) 64) (is_identifier text) h)) (and_second (nat_le (length text) 64) (is_identifier text) h)
 
 ---- the parts round the first byte
 
@@ -39,13 +36,10 @@ joined c text p h =
       | false ↦ λ q k. absurd (no_parts p k)
     ] refl h
 
-around_behind : (c : ℕ) (front back : List ℕ) → (c == c) ≡ true → lacks c front ≡ true → around c (front ++ c ∷ back) ≡ Some (front, back)
-around_behind c front back r h = ap (λ n. around_at n (front ++ c ∷ back)) (place_behind c front back r h) ∙ around_at-seam front c back
-
 -- the word of a table comes apart into its two names
 pub parted : (table : TableWord) (text : List ℕ) → IsTable table → text ≡ table_text table → around 46 text ≡ Some (table.ns.now, table.table.now)
 parted table text h e =
-    ap (around 46) e ∙ around_behind 46 table.ns.now table.table.now refl (all_lack 46 no_dot table.ns.now (parts table.ns.now (long_name table.ns.now h.0)))
+    ap (around 46) e ∙ around_behind 46 table.ns.now table.table.now refl (all_lack 46 no_dot table.ns.now (parts table.ns.now (name_of_column table.ns.now h.0)))
 
 -- a word without a dot is no table's
 pub undotted : (word : List ℕ) → around 46 word ≡ None → (table : TableWord) → IsTable table → word ≡ table_text table → ⊥

@@ -2,7 +2,7 @@ use Rattle.std.proofs.Common.{◌≡◌, ◌≤◌, ◌+◌, ◌-◌, ◌++◌, 
 use Rattle.std.specs.Prelude.{filter}
 use Rattle.std.specs.List.{enumerate_from, filter_map}
 use Rattle.sdb_model.specs.Calls.{calls_of, made_by}
-use Rattle.sdb_plain.specs.Points.{said_of}
+use Rattle.sdb_order.specs.Commits.{said_of}
 use Rattle.sdb_calls.specs.Values.{all_made, is_within}
 use Rattle.sdb_calls.proofs.made.calls_of.Given as goal
 

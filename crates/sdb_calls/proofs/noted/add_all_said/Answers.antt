@@ -2,8 +2,8 @@ use Rattle.std.proofs.Common.{◌≡◌, ◌∙◌, ◌+◌, ◌++◌, List, [],
 use Rattle.std.specs.List.{flat_map}
 use Rattle.std.proofs.lemmas.List.{take_more}
 use Rattle.sdb_model.specs.Noted.{Note}
-use Rattle.sdb_plain.specs.declared.points.Said.{Said}
-use Rattle.sdb_plain.specs.Points.{said_of}
+use Rattle.sdb_order.specs.declared.said.Said.{Said}
+use Rattle.sdb_order.specs.Commits.{said_of}
 use Rattle.sdb_calls.specs.Values.{all_notes, said_notes}
 use Rattle.sdb_calls.proofs.Walks.{flat_more}
 use Rattle.sdb_calls.proofs.noted.add_all_said.Goals as goal

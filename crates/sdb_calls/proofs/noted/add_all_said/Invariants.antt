@@ -1,6 +1,6 @@
 use Rattle.std.proofs.Common.{◌≡◌, ◌++◌, take}
 use Rattle.std.specs.List.{flat_map}
-use Rattle.sdb_plain.specs.Points.{said_of}
+use Rattle.sdb_order.specs.Commits.{said_of}
 use Rattle.sdb_calls.specs.Values.{all_notes, said_notes}
 use Rattle.sdb_calls.proofs.noted.add_all_said.Given as goal
 

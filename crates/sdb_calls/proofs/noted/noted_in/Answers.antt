@@ -4,8 +4,8 @@ use Rattle.std.specs.List.{flat_map}
 use Rattle.sdb_model.specs.Calls.{calls_of}
 use Rattle.sdb_model.specs.Noted.{Note, notes_in, is_from_rows}
 use Rattle.sdb_model.specs.Transactions.{Said, client_of, is_effective, said}
-use Rattle.sdb_plain.specs.declared.points.Said.{Said as Plain}
-use Rattle.sdb_plain.specs.Points.{all_said, said_of}
+use Rattle.sdb_order.specs.declared.said.Said.{Said as Plain}
+use Rattle.sdb_order.specs.Commits.{all_said, said_of}
 use Rattle.sdb_said.specs.declared.plan.Note.{Note as Found}
 use Rattle.sdb_calls.specs.Values.{all_notes, inside_among, said_notes}
 use Rattle.sdb_calls.proofs.Walks.{all_noted}

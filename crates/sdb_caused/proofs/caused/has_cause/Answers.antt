@@ -2,7 +2,7 @@ use mir.Val.{of_z, to_z}
 use Rattle.std.proofs.Common.{◌≡◌, rules, sym, subst, w64}
 use Rattle.std.specs.Prelude.{◌↔◌, IsTrue}
 use Rattle.sdb_model.specs.Causes.{IsBusy, IsCaused, IsTurnedAway, before}
-use Rattle.sdb_plain.specs.Points.{said_of}
+use Rattle.sdb_order.specs.Commits.{said_of}
 use Rattle.sdb_caused.proofs.Decided.{if_ok}
 use Rattle.sdb_caused.proofs.caused.has_cause.Goals as goal
 

@@ -1,5 +1,5 @@
 use Rattle.std.proofs.Common.{subst}
-use Rattle.sdb_plain.specs.Points.{said_of}
+use Rattle.sdb_order.specs.Commits.{said_of}
 use Rattle.sdb_caused.specs.Tests.{IsTurned}
 use Rattle.sdb_caused.proofs.CausedLaws.{with_answer, without}
 use Rattle.sdb_caused.proofs.caused.is_turned_with.Goals as goal

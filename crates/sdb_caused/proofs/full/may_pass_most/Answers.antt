@@ -1,6 +1,6 @@
 use Rattle.std.proofs.Common.{◌∙◌}
 use Rattle.sdb_model.specs.Transactions.{said}
-use Rattle.sdb_plain.specs.Points.{said_of}
+use Rattle.sdb_order.specs.Commits.{said_of}
 use Rattle.sdb_caused.proofs.Decided.{if_ok, count_said}
 use Rattle.sdb_caused.proofs.FullLaws.{most}
 use Rattle.sdb_caused.proofs.full.may_pass_most.Goals as goal

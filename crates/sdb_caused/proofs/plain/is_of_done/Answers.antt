@@ -1,4 +1,4 @@
-use Rattle.sdb_plain.specs.Points.{said_of}
+use Rattle.sdb_order.specs.Commits.{said_of}
 use Rattle.sdb_caused.proofs.ReadLaws.{of_done}
 use Rattle.sdb_caused.proofs.plain.is_of_done.Goals as goal
 

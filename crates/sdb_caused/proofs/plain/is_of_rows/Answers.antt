@@ -1,6 +1,6 @@
 use Rattle.std.proofs.Common.{ap, sym, ◌∙◌}
 use Rattle.sdb_model.specs.Causes.{is_open}
-use Rattle.sdb_plain.specs.Points.{said_of}
+use Rattle.sdb_order.specs.Commits.{said_of}
 use Rattle.sdb_caused.proofs.ReadLaws.{of_rows, not_rows}
 use Rattle.sdb_caused.proofs.plain.is_of_rows.Goals as goal
 

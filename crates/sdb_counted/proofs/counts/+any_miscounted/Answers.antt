@@ -1,5 +1,5 @@
 use Rattle.std.proofs.Common.{◌∙◌}
-use Rattle.sdb_plain.specs.Points.{said_of}
+use Rattle.sdb_order.specs.Commits.{said_of}
 use Rattle.sdb_caused.proofs.Decided.{if_ok}
 use Rattle.sdb_counted.specs.Tests.{miscounted}
 use Rattle.sdb_counted.proofs.CountLaws.{found_wrong, none_here}

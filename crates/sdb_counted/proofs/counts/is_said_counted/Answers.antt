@@ -1,6 +1,6 @@
 use Rattle.std.proofs.Common.{ap, ◌∙◌}
 use Rattle.sdb_model.specs.Transactions.{said}
-use Rattle.sdb_plain.specs.Points.{said_of}
+use Rattle.sdb_order.specs.Commits.{said_of}
 use Rattle.sdb_calls.specs.Values.{all_made}
 use Rattle.sdb_caused.proofs.Decided.{count_said, if_ok}
 use Rattle.sdb_counted.proofs.CountLaws.{said_counted, said_miscounted}

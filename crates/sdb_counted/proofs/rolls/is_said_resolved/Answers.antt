@@ -1,5 +1,5 @@
 use Rattle.std.proofs.Common.{ap, sym, ◌∙◌}
-use Rattle.sdb_plain.specs.Points.{said_of}
+use Rattle.sdb_order.specs.Commits.{said_of}
 use Rattle.sdb_calls.specs.Values.{all_made}
 use Rattle.sdb_caused.proofs.Decided.{if_ok}
 use Rattle.sdb_counted.proofs.RollLaws.{said_resolved}

@@ -1,4 +1,5 @@
-use Rattle.sdb_linked.proofs.Steps.{going_commit_calls, going_commits}
+use Rattle.sdb_linked.proofs.Steps.{going_commits}
+use Rattle.sdb_linked.proofs.Calls.{going_commit_calls}
 use Rattle.sdb_linked.proofs.going.commits.Goals as goal
 
 pub returns : goal.returns

@@ -1,4 +1,5 @@
-use Rattle.sdb_linked.proofs.Steps.{going_asks, going_differs, going_fails, going_reads, going_tells}
+use Rattle.sdb_linked.proofs.Steps.{going_asks}
+use Rattle.sdb_linked.proofs.Calls.{going_differs, going_fails, going_reads, going_tells}
 use Rattle.sdb_linked.proofs.going.reads.Goals as goal
 
 pub returns : goal.returns

@@ -1,4 +1,5 @@
-use Rattle.sdb_linked.proofs.Steps.{going_scans, going_sweeps, going_swept, going_vacuums}
+use Rattle.sdb_linked.proofs.Steps.{going_vacuums}
+use Rattle.sdb_linked.proofs.Calls.{going_scans, going_sweeps, going_swept}
 use Rattle.sdb_linked.proofs.going.sweeps.Goals as goal
 
 pub returns : goal.returns

@@ -1,7 +1,8 @@
 use Rattle.std.proofs.Common.{◌≡◌, map, sym, ap, ◌∙◌, subst}
-use Rattle.sdb_order.specs.Order.{point_at, rising_from}
+use Rattle.sdb_order.specs.Order.{rising_from}
 use Rattle.sdb_order.proofs.Rising.{AreRisen, risen}
 use Rattle.sdb_order.proofs.order.order_of.Goals as goal
+use Rattle.sdb_model.specs.Transactions.{point_at}
 
 pub returns : goal.returns
 returns c =

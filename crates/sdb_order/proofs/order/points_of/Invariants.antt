@@ -1,7 +1,6 @@
 use Rattle.std.proofs.Common.{◌≡◌, take, map}
-use Rattle.sdb_model.specs.Transactions.{said}
+use Rattle.sdb_model.specs.Transactions.{said, point_at}
 use Rattle.sdb_order.specs.Commits.{commits_of}
-use Rattle.sdb_order.specs.Order.{point_at}
 use Rattle.sdb_order.proofs.order.points_of.Given as goal
 
 abbrev pub invariant-loop-id : goal.invariant-loop-id

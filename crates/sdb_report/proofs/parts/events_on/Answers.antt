@@ -2,9 +2,10 @@ use Rattle.std.proofs.Common.{◌≡◌, [], ◌∷◌, ◌+◌, sym, subst, ari
 use Rattle.std.proofs.lemmas.List.{length-append}
 use Rattle.std.proofs.lemmas.Result.{err_from_is_err_and}
 use Rattle.sdb_reading.specs.Lines.{numbered_event_of}
-use Rattle.sdb_report.specs.Reading.{Stops, line_at, lines_at, event_at}
+use Rattle.sdb_report.specs.Reading.{line_at, lines_at, event_at}
 use Rattle.sdb_report.proofs.Loops.{goes_on, ends, is_done}
 use Rattle.sdb_report.proofs.parts.events_on.Goals as goal
+use Rattle.sdb_codec.specs.Reading.{Stops}
 
 pub returns-in_err-event : goal.returns-in_err-event
 returns-in_err-event c =
