@@ -159,16 +159,13 @@ pub record IsHad (catalog : List Table) (x : Stores) (events : List Event) (clie
   pub read : AreRead changing sts
   pub made : Some columns ≡ fold (λ r st. row_left catalog st key r) base sts
 
+head_is : (a b : Said) (ys zs : List Said) → a ∷ ys ≡ b ∷ zs → a ≡ b
+head_is a b ys zs h = cc
+
 module _ (catalog : List Table) (x : Stores) (events : List Event) (client : ℕ) (s : Said) (key : Key) where
   starts : (u : Said) (ss changing later : List Said) → u ∷ ss ≡ changing ++ s ∷ later → StartsWith u (changing ++ s ∷ [])
   starts u ss [] later e = head_is u s ss later e
-    where
-      head_is : (a b : Said) (ys zs : List Said) → a ∷ ys ≡ b ∷ zs → a ≡ b
-      head_is a b ys zs h = cc
   starts u ss (c ∷ cs) later e = head_is u c ss (cs ++ s ∷ later) e
-    where
-      head_is : (a b : Said) (ys zs : List Said) → a ∷ ys ≡ b ∷ zs → a ≡ b
-      head_is a b ys zs h = cc
 
   pub had_is : (ss : List Said) (ts : List Turn) (image : Image) → AreTurns events client ss ts → In (had_at catalog x s key ts) image → (image.key ≡ key) × IsHad catalog x events client ss s key image.columns
   had_is ss [] image a i = absurd i
