@@ -3,7 +3,7 @@ use Rattle.std.proofs.Common.{◌≡◌, ℕ, ◌<◌, zero, suc, List, [], ◌�
 use Rattle.std.specs.FinMap.{empty}
 use Rattle.std.proofs.lemmas.Option.{slice_get_within}
 use Rattle.sdb_types.specs.Contents.{Contents}
-use Rattle.sdb_stores.specs.Shelf.{Shelf}
+use Rattle.sdb_stores.specs.Shelf.{Attached, Shelf}
 use Rattle.sdb_app.specs.Run.{IsReplayed}
 use Rattle.scalardb.specs.Stores.{new_store, own_stores, IsPlayedOnOwn}
 
@@ -24,35 +24,35 @@ pub record Attachment {T E : Type 0} (r : Result T E) (s : Shelf) (Telling : Typ
   pub others : (i : ℕ) → told i → tells i
 
 -- These are the stores of the program, and each tells what it holds.
-pub record AreOwn (stores : List Shelf) (tells : ℕ → Type 0) : Type 0 where
-  pub are : stores ≡ own_stores
-  pub telling : (at : ℕ) → at < 3 → tells at
+pub record AreOwn (stores : Attached) : Type 0 where
+  pub are : stores.shelves ≡ own_stores
+  pub telling : (at : ℕ) → at < 3 → stores.tells at
 
-pub all_own : {T E : Type 0} (r1 r2 r3 : Result T E) (a b k : Shelf) (A B K : Type 0) (s0 s1 s2 s3 : List Shelf) (t0 t1 t2 t3 : ℕ → Type 0) → Attachment r1 a A s0 s1 t0 t1 → Attachment r2 b B s1 s2 t1 t2 → Attachment r3 k K s2 s3 t2 t3
-    → s0 ≡ [] → is_ok r1 ≡ true → is_ok r2 ≡ true → is_ok r3 ≡ true → a ≡ new_store (codes "ordered") → b ≡ new_store (codes "hashed") → k ≡ new_store (codes "sqlite") → A → B → K → AreOwn s3 t3
-all_own r1 r2 r3 a b k A B K s0 s1 s2 s3 t0 t1 t2 t3 first second third none ok1 ok2 ok3 is_a is_b is_k ta tb tk =
+pub all_own : {T E : Type 0} (r1 r2 r3 : Result T E) (a b k : Shelf) (A B K : Type 0) (s0 s1 s2 : List Shelf) (t0 t1 t2 : ℕ → Type 0) (last : Attached) → Attachment r1 a A s0 s1 t0 t1 → Attachment r2 b B s1 s2 t1 t2 → Attachment r3 k K s2 last.shelves t2 last.tells
+    → s0 ≡ [] → is_ok r1 ≡ true → is_ok r2 ≡ true → is_ok r3 ≡ true → a ≡ new_store (codes "ordered") → b ≡ new_store (codes "hashed") → k ≡ new_store (codes "sqlite") → A → B → K → AreOwn last
+all_own r1 r2 r3 a b k A B K s0 s1 s2 t0 t1 t2 last first second third none ok1 ok2 ok3 is_a is_b is_k ta tb tk =
     let one : s1 ≡ a ∷ [] = passed _ r1 ok1 first.stores ∙ ap (λ (ss : List Shelf). ss ++ a ∷ []) none in
     let two : s2 ≡ a ∷ b ∷ [] = passed _ r2 ok2 second.stores ∙ ap (λ (ss : List Shelf). ss ++ b ∷ []) one in
-    let three : s3 ≡ a ∷ b ∷ k ∷ [] = passed _ r3 ok3 third.stores ∙ ap (λ (ss : List Shelf). ss ++ k ∷ []) two in
+    let three : last.shelves ≡ a ∷ b ∷ k ∷ [] = passed _ r3 ok3 third.stores ∙ ap (λ (ss : List Shelf). ss ++ k ∷ []) two in
     let at_0 : t1 0 = subst (λ (ss : List Shelf). t1 (length ss)) none (passed _ r1 ok1 first.here ta) in
     let at_1 : t2 1 = subst (λ (ss : List Shelf). t2 (length ss)) one (passed _ r2 ok2 second.here tb) in
-    let at_2 : t3 2 = subst (λ (ss : List Shelf). t3 (length ss)) two (passed _ r3 ok3 third.here tk) in
+    let at_2 : last.tells 2 = subst (λ (ss : List Shelf). last.tells (length ss)) two (passed _ r3 ok3 third.here tk) in
     record {
       are = three ∙ (λ i. is_a i ∷ is_b i ∷ is_k i ∷ []);
       telling = by_place (third.others 0 (second.others 0 at_0)) (third.others 1 at_1) at_2;
     }
   where
-    by_place : t3 0 → t3 1 → t3 2 → (at : ℕ) → at < 3 → t3 at
+    by_place : last.tells 0 → last.tells 1 → last.tells 2 → (at : ℕ) → at < 3 → last.tells at
     by_place x y z zero h = x
     by_place x y z (suc zero) h = y
     by_place x y z (suc (suc zero)) h = z
     by_place x y z (suc (suc (suc n))) h = absurd (omega (arith, h))
 
 -- The headline, where each of the stores tells.
-pub played_on_own : (stores : List Shelf) (tells : ℕ → Type 0) (left : List Shelf) (old_input new_input old_output new_output : Option (List ℕ)) → AreOwn stores tells → IsReplayed stores tells left old_input new_input old_output new_output
+pub played_on_own : (stores : Attached) (left : List Shelf) (old_input new_input old_output new_output : Option (List ℕ)) → AreOwn stores → IsReplayed stores left old_input new_input old_output new_output
     → IsPlayedOnOwn old_input new_input old_output new_output
-played_on_own stores tells left old_input new_input old_output new_output own h =
-    let it = subst (λ (ss : List Shelf). IsReplayed ss tells left old_input new_input old_output new_output) own.are h in (
+played_on_own stores left old_input new_input old_output new_output own h =
+    let it = subst (λ (ss : List Shelf). IsReplayed (record { places = stores.places; shelves = ss; tells = stores.tells }) left old_input new_input old_output new_output) own.are h in (
       left,
       record {
         script = it.script;

@@ -9,8 +9,7 @@ use Rattle.sdb_types.specs.Bytes.{Appends}
 use Rattle.sdb_types.proofs.Basics.{clash}
 use Rattle.sdb_record.specs.Coordinator.{coordinator_table}
 use Rattle.sdb_model.specs.declared.event.Event.{Event}
-use Rattle.sdb_stores.specs.Shelf.{Shelf as Counted, AreDistinct, names_of}
-use Rattle.sdb_stores.specs.declared.place.Place.{Place as Placed}
+use Rattle.sdb_stores.specs.Shelf.{Attached, Shelf as Counted, AreDistinct, HaveRisen, names_of}
 use Rattle.sdb_model.specs.declared.event.Outcome.{Outcome}
 use Rattle.sdb_model.specs.declared.script.Place.{Place}
 use Rattle.sdb_model.specs.declared.script.Script.{Script}
@@ -27,8 +26,8 @@ use Rattle.sdb_model.specs.Follows.{Follows}
 use Rattle.sdb_model.specs.Told.{IsRun}
 use Rattle.sdb_model.specs.Transactions.{Said, is_answered_from_rows, said}
 use Rattle.sdb_spread.specs.Spread.{HoldAs}
-use Rattle.sdb_board.specs.Board.{AreFit, GoOn, placed, shown}
-use Rattle.sdb_board.specs.Opening.{first_key, opening_records}
+use Rattle.sdb_board.specs.Board.{AreFit, GoOn, HoldTheSame, placed, shown}
+use Rattle.sdb_board.specs.Opening.{first_key, opening_in, opening_records}
 use Rattle.sdb_board.specs.declared.refused.CallRefused.TheVariants as refused
 use Rattle.sdb_board.proofs.Empty.{no_record}
 use Rattle.sdb_board.proofs.GoesOn.{refused_after}
@@ -61,11 +60,11 @@ passed_on P (Ok x) e h p = absurd h
 passed_on P (Err y) e h p = subst P (sym h) p
 
 -- what stopped the look for records stopped the whole
-pub stops_as : (old mid new : List Counted) (near far : Type 0) (was found : Key → Type 0) (s : Status) → mid ≡ old → (near → far) → ((key : Key) → was key → found key) → Stops mid new near was s → Stops old new far found s
-stops_as old mid new near far was found s same f g h = subst (λ (x : List Counted). Stops x new far found s) same (by s h)
+pub stops_as : (old mid new : Attached) (near far : Type 0) (was found : Key → Type 0) (s : Status) → mid.shelves ≡ old.shelves → (near → far) → ((key : Key) → was key → found key) → Stops mid new near was s → Stops old new far found s
+stops_as old mid new near far was found s same f g h = by s h
   where
-    by : (s : Status) → Stops mid new near was s → Stops mid new far found s
-    by status.StoreFault h = h
+    by : (s : Status) → Stops mid new near was s → Stops old new far found s
+    by status.StoreFault h = subst (λ (x : List Counted). HaveRisen x new.shelves) same h
     by status.NoMemory h = tt
     by (status.NotEmpty key) h = g key h
     by (status.BadStore key) h = f h
@@ -77,35 +76,35 @@ stops_as old mid new near far was found s same f g h = subst (λ (x : List Count
     by (status.Limit n which) h = absurd h
 
 -- what stopped a later part stopped the whole
-pub stops_after : {t u : ℕ → Type 0} (p q : List Placed) (old mid new : List Counted) (near far : Type 0) (was found : Key → Type 0) (s : Status) → GoOn p q old mid t u → (near → far) → ((key : Key) → was key → found key) → Stops mid new near was s → Stops old new far found s
-stops_after p q old mid new near far was found status.StoreFault goes f g h = refused_after p q old mid new refused.StoreFault goes h
-stops_after p q old mid new near far was found status.NoMemory goes f g h = tt
-stops_after p q old mid new near far was found (status.NotEmpty key) goes f g h = g key h
-stops_after p q old mid new near far was found (status.BadStore key) goes f g h = f h
-stops_after p q old mid new near far was found status.Done goes f g h = absurd h
-stops_after p q old mid new near far was found status.Usage goes f g h = absurd h
-stops_after p q old mid new near far was found status.ReadFault goes f g h = absurd h
-stops_after p q old mid new near far was found status.WriteFault goes f g h = absurd h
-stops_after p q old mid new near far was found (status.BadInput n line) goes f g h = absurd h
-stops_after p q old mid new near far was found (status.Limit n which) goes f g h = absurd h
+pub stops_after : (old mid new : Attached) (near far : Type 0) (was found : Key → Type 0) (s : Status) → GoOn old mid → (near → far) → ((key : Key) → was key → found key) → Stops mid new near was s → Stops old new far found s
+stops_after old mid new near far was found status.StoreFault goes f g h = refused_after old mid new.shelves refused.StoreFault goes h
+stops_after old mid new near far was found status.NoMemory goes f g h = tt
+stops_after old mid new near far was found (status.NotEmpty key) goes f g h = g key h
+stops_after old mid new near far was found (status.BadStore key) goes f g h = f h
+stops_after old mid new near far was found status.Done goes f g h = absurd h
+stops_after old mid new near far was found status.Usage goes f g h = absurd h
+stops_after old mid new near far was found status.ReadFault goes f g h = absurd h
+stops_after old mid new near far was found status.WriteFault goes f g h = absurd h
+stops_after old mid new near far was found (status.BadInput n line) goes f g h = absurd h
+stops_after old mid new near far was found (status.Limit n which) goes f g h = absurd h
 
 -- stores that are the same go on to tell
-pub tell_on : {t u : ℕ → Type 0} (script : Script) (before mid : List Counted) → mid ≡ before → ((i : ℕ) → t i → u i) → TellOf script before t → TellOf script mid u
+pub tell_on : (script : Script) (before mid : Attached) → mid.shelves ≡ before.shelves → ((i : ℕ) → before.tells i → mid.tells i) → TellOf script before → TellOf script mid
 tell_on script before mid same telling all at store table here about named =
     telling at (all at store table (ap (λ (ss : List Counted). slice_get ss at) (sym same) ∙ here) about (ap (λ (ss : List Counted). store_of script.places (shown ss) table.ns) (sym same) ∙ named))
 
 -- The stores of a script's tables tell, and it has its places.
-pub fit_script : {t u : ℕ → Type 0} (script : Script) (ps : List Placed) (old mid : List Counted) → placed ps ≡ script.places → mid ≡ old → ArePlaces (names_of old) script.places → 0 < length old → AreDistinct (names_of old) → ((i : ℕ) → t i → u i) → TellOf script old t → AreFit script.catalog ps mid u
-fit_script script ps old mid same still f some distinct telling all =
-    fit_for script.catalog ps script.places mid same (subst (λ (ss : List Counted). ArePlaces (names_of ss) script.places) (sym still) f) (subst (λ (ss : List Counted). 0 < length ss) (sym still) some) (subst (λ (ss : List Counted). AreDistinct (names_of ss)) (sym still) distinct)
+pub fit_script : (script : Script) (old mid : Attached) → placed mid.places ≡ script.places → mid.shelves ≡ old.shelves → ArePlaces (names_of old.shelves) script.places → 0 < length old.shelves → AreDistinct (names_of old.shelves) → ((i : ℕ) → old.tells i → mid.tells i) → TellOf script old → AreFit script.catalog mid
+fit_script script old mid same still f some distinct telling all =
+    fit_for script.catalog script.places mid same (subst (λ (ss : List Counted). ArePlaces (names_of ss) script.places) (sym still) f) (subst (λ (ss : List Counted). 0 < length ss) (sym still) some) (subst (λ (ss : List Counted). AreDistinct (names_of ss)) (sym still) distinct)
     (tell_on script old mid still telling all)
 
--- Stores whose tables hold no record are ready: ps and mid are as after the placing, qs and then as after the look for records.
-ready_after : {u v : ℕ → Type 0} (script : Script) (ps qs : List Placed) (mid then : List Counted) → placed ps ≡ script.places → GoOn ps qs mid then u v → AreFit script.catalog ps mid u → first_key (opening_records script.catalog (placed ps) (shown mid)) ≡ None → shown then ≡ shown mid → AreReady script qs then v
-ready_after script ps qs mid then same goes fit none quiet = record {
+-- Stores whose tables hold no record are ready: mid are as after the placing, then as after the look for records.
+ready_after : (script : Script) (mid then : Attached) → placed mid.places ≡ script.places → GoOn mid then → AreFit script.catalog mid → first_key (opening_in script.catalog mid) ≡ None → HoldTheSame mid then → AreReady script then
+ready_after script mid then same goes fit none quiet = record {
   fit = goes.fit script.catalog fit;
   placed_so = ap placed goes.places ∙ same;
-  nothing = subst (λ (ss : List Shelf). HoldAs script.catalog script.places ss empty) (sym quiet) (subst (λ (xs : List Place). HoldAs script.catalog xs (shown mid) empty) same (no_record script.catalog (placed ps) (shown mid) none));
+  nothing = subst (λ (ss : List Shelf). HoldAs script.catalog script.places ss empty) (sym quiet) (subst (λ (xs : List Place). HoldAs script.catalog xs (shown mid.shelves) empty) same (no_record script.catalog (placed mid.places) (shown mid.shelves) none));
 }
 
 ---- where the stores tell
@@ -158,26 +157,26 @@ causes_of script opening closing o caused run explained = record { caused = each
     each c s answer.OpenTransactions has is = caused.caused c s answer.OpenTransactions has is refl
     each c s answer.NoMemory has is = caused.caused c s answer.NoMemory has is refl
 
-played_on : {u v : ℕ → Type 0} (script : Script) (ps qs : List Placed) (old mid then : List Counted) (new : List Shelf) (o : Outcome) → placed ps ≡ script.places → mid ≡ old → GoOn ps qs mid then u v → AreFit script.catalog ps mid u
-    → first_key (opening_records script.catalog (placed ps) (shown mid)) ≡ None → shown then ≡ shown mid → (AreReady script qs then v → IsRun script (shown then) new o) → (AreReady script qs then v → IsExplained script o.events (shown then)) → AnswersHaveCauses script.catalog o.events → find_table script.catalog coordinator_table ≡ None → AreResolved o.events → IsPlayed script (shown old) new o
-played_on script ps qs old mid then new o same still goes fit none quiet run explained caused apart resolved = record {
-  empty = sym (ap (λ (ss : List Shelf). first_key (opening_records script.catalog script.places ss)) (ap shown still)) ∙ sym (ap (λ (xs : List Place). first_key (opening_records script.catalog xs (shown mid))) same) ∙ none;
+played_on : (script : Script) (old mid then : Attached) (new : List Shelf) (o : Outcome) → placed mid.places ≡ script.places → mid.shelves ≡ old.shelves → GoOn mid then → AreFit script.catalog mid
+    → first_key (opening_in script.catalog mid) ≡ None → HoldTheSame mid then → (AreReady script then → IsRun script (shown then.shelves) new o) → (AreReady script then → IsExplained script o.events (shown then.shelves)) → AnswersHaveCauses script.catalog o.events → find_table script.catalog coordinator_table ≡ None → AreResolved o.events → IsPlayed script (shown old.shelves) new o
+played_on script old mid then new o same still goes fit none quiet run explained caused apart resolved = record {
+  empty = sym (ap (λ (ss : List Shelf). first_key (opening_records script.catalog script.places ss)) (ap shown still)) ∙ sym (ap (λ (xs : List Place). first_key (opening_records script.catalog xs (shown mid.shelves))) same) ∙ none;
   run = run_now;
   explained = explained_now;
-  caused = causes_of script (shown old) new o caused run_now explained_now;
-  shown = shown_of script (shown old) o.events apart caused resolved explained_now;
+  caused = causes_of script (shown old.shelves) new o caused run_now explained_now;
+  shown = shown_of script (shown old.shelves) o.events apart caused resolved explained_now;
 }
   where
-    run_now : IsRun script (shown old) new o
-    run_now = subst (λ (ss : List Shelf). IsRun script ss new o) (quiet ∙ ap shown still) (run (ready_after script ps qs mid then same goes fit none quiet))
+    run_now : IsRun script (shown old.shelves) new o
+    run_now = subst (λ (ss : List Shelf). IsRun script ss new o) (quiet ∙ ap shown still) (run (ready_after script mid then same goes fit none quiet))
 
-    explained_now : IsExplained script o.events (shown old)
-    explained_now = subst (λ (ss : List Shelf). IsExplained script o.events ss) (quiet ∙ ap shown still) (explained (ready_after script ps qs mid then same goes fit none quiet))
+    explained_now : IsExplained script o.events (shown old.shelves)
+    explained_now = subst (λ (ss : List Shelf). IsExplained script o.events ss) (quiet ∙ ap shown still) (explained (ready_after script mid then same goes fit none quiet))
 
-pub reported : {t u v : ℕ → Type 0} (script : Script) (ps qs : List Placed) (old mid then new : List Counted) (o : Outcome) (text : List ℕ) → placed ps ≡ script.places → mid ≡ old → GoOn ps qs mid then u v → (TellOf script old t → AreFit script.catalog ps mid u)
-    → (AreFit script.catalog ps mid u → first_key (opening_records script.catalog (placed ps) (shown mid)) ≡ None) → (AreFit script.catalog ps mid u → shown then ≡ shown mid)
-    → Follows script.clients script.moves o.events → AnswersHaveCauses script.catalog o.events → BreaksWithin [] o.events then new → (AreReady script qs then v → IsRun script (shown then) (shown new) o) → (AreReady script qs then v → IsExplained script o.events (shown then)) → find_table script.catalog coordinator_table ≡ None → text ≡ report_text_of o → IsReported (TellOf script old t) script old new text
-reported script ps qs old mid then new o text same still goes fit none quiet follows caused broken run explained apart is = record {
+pub reported : (script : Script) (old mid then : Attached) (new : List Counted) (o : Outcome) (text : List ℕ) → placed mid.places ≡ script.places → mid.shelves ≡ old.shelves → GoOn mid then → (TellOf script old → AreFit script.catalog mid)
+    → (AreFit script.catalog mid → first_key (opening_in script.catalog mid) ≡ None) → (AreFit script.catalog mid → HoldTheSame mid then)
+    → Follows script.clients script.moves o.events → AnswersHaveCauses script.catalog o.events → BreaksWithin [] o.events then.shelves new → (AreReady script then → IsRun script (shown then.shelves) (shown new) o) → (AreReady script then → IsExplained script o.events (shown then.shelves)) → find_table script.catalog coordinator_table ≡ None → text ≡ report_text_of o → IsReported script old new text
+reported script old mid then new o text same still goes fit none quiet follows caused broken run explained apart is = record {
   outcome = o;
   text = is;
   made = record {
@@ -185,8 +184,8 @@ reported script ps qs old mid then new o text same still goes fit none quiet fol
     caused = caused;
     counted = all_counted script.catalog o.events caused.counted (seen_no_faults script.clients script.moves o.events follows);
     resolved = resolved;
-    broken = subst (λ (ss : List Counted). BreaksWithin [] o.events ss new) still (breaks_after [] o.events ps qs mid then new goes broken);
-    played = λ all. played_on script ps qs old mid then (shown new) o same still goes (fit all) (none (fit all)) (quiet (fit all)) run explained caused apart resolved;
+    broken = subst (λ (ss : List Counted). BreaksWithin [] o.events ss new) still (breaks_after [] o.events mid then new goes broken);
+    played = λ all. played_on script old mid then (shown new) o same still goes (fit all) (none (fit all)) (quiet (fit all)) run explained caused apart resolved;
   };
 }
   where
@@ -194,26 +193,26 @@ reported script ps qs old mid then new o text same still goes fit none quiet fol
     resolved = all_resolved o.events caused.rolled (answered_seen script.clients script.moves o.events follows)
 
 -- stores that all tell stop nothing
-pub never_foreign : {u v : ℕ → Type 0} (script : Script) (ps qs : List Placed) (mid then : List Counted) → placed ps ≡ script.places → GoOn ps qs mid then u v → AreFit script.catalog ps mid u → first_key (opening_records script.catalog (placed ps) (shown mid)) ≡ None → shown then ≡ shown mid → (AreReady script qs then v → ⊥) → ⊥
-never_foreign script ps qs mid then same goes fit none quiet never = never (ready_after script ps qs mid then same goes fit none quiet)
+pub never_foreign : (script : Script) (mid then : Attached) → placed mid.places ≡ script.places → GoOn mid then → AreFit script.catalog mid → first_key (opening_in script.catalog mid) ≡ None → HoldTheSame mid then → (AreReady script then → ⊥) → ⊥
+never_foreign script mid then same goes fit none quiet never = never (ready_after script mid then same goes fit none quiet)
 
 -- the first record is that of the script's tables
-pub found_first : (script : Script) (ps : List Placed) (old mid : List Counted) (new : List Shelf) (key : Key) → placed ps ≡ script.places → mid ≡ old → (first_key (opening_records script.catalog (placed ps) (shown mid)) ≡ Some key) × (new ≡ shown mid) → IsFirstFound script (shown old) new key
-found_first script ps old mid new key same still found = record {
-  first = sym (ap (λ (ss : List Shelf). first_key (opening_records script.catalog script.places ss)) (ap shown still)) ∙ sym (ap (λ (xs : List Place). first_key (opening_records script.catalog xs (shown mid))) same) ∙ found.0;
+pub found_first : (script : Script) (old mid : Attached) (new : List Shelf) (key : Key) → placed mid.places ≡ script.places → mid.shelves ≡ old.shelves → (first_key (opening_in script.catalog mid) ≡ Some key) × (new ≡ shown mid.shelves) → IsFirstFound script (shown old.shelves) new key
+found_first script old mid new key same still found = record {
+  first = sym (ap (λ (ss : List Shelf). first_key (opening_records script.catalog script.places ss)) (ap shown still)) ∙ sym (ap (λ (xs : List Place). first_key (opening_records script.catalog xs (shown mid.shelves))) same) ∙ found.0;
   left = found.1 ∙ ap shown still;
 }
 
 -- a script that was read, and what is so of it where the stores of its tables tell
-pub read_and : {t u : ℕ → Type 0} (P Q : Script → Type 0) (script : Script) (old new : Option (List ℕ)) (names : List Name) (before mid : List Counted) → names ≡ names_of mid → mid ≡ before → ((i : ℕ) → t i → u i) → IsScriptRead names old new script → (TellOf script mid u → P script) → (P script → Q script)
-    → IsReadAnd before t old new Q
+pub read_and : (P Q : Script → Type 0) (script : Script) (old new : Option (List ℕ)) (names : List Name) (before mid : Attached) → names ≡ names_of mid.shelves → mid.shelves ≡ before.shelves → ((i : ℕ) → before.tells i → mid.tells i) → IsScriptRead names old new script → (TellOf script mid → P script) → (P script → Q script)
+    → IsReadAnd before old new Q
 read_and P Q script old new names before mid named same telling h so then = record {
   script = script;
   read = subst (λ (ns : List Name). IsScriptRead ns old new script) (named ∙ ap names_of same) h;
   so = λ all. then (so (tell_on script before mid same telling all));
 }
 
-made_of : {t u : ℕ → Type 0} (script : Script) (before mid new : List Counted) (o : Outcome) → mid ≡ before → ((at : ℕ) → t at → u at) → IsOutcome (TellOf script mid u) script mid new o → IsOutcome (TellOf script before t) script before new o
+made_of : (script : Script) (before mid : Attached) (new : List Counted) (o : Outcome) → mid.shelves ≡ before.shelves → ((at : ℕ) → before.tells at → mid.tells at) → IsOutcome (TellOf script mid) script mid.shelves new o → IsOutcome (TellOf script before) script before.shelves new o
 made_of script before mid new o same telling made = record {
   follows = made.follows;
   caused = made.caused;
@@ -224,8 +223,8 @@ made_of script before mid new o same telling made = record {
 }
 
 -- the report of a script that was read was written
-pub replayed : {t u : ℕ → Type 0} (script : Script) (names : List Name) (before mid new : List Counted) (old_input new_input old new_output : Option (List ℕ)) (text bytes : List ℕ) → names ≡ names_of mid → mid ≡ before → ((at : ℕ) → t at → u at) → IsScriptRead names old_input new_input script
-    → bytes ≡ text → Appends bytes old new_output → IsReported (TellOf script mid u) script mid new text → IsReplayed before t new old_input new_input old new_output
+pub replayed : (script : Script) (names : List Name) (before mid : Attached) (new : List Counted) (old_input new_input old new_output : Option (List ℕ)) (text bytes : List ℕ) → names ≡ names_of mid.shelves → mid.shelves ≡ before.shelves → ((at : ℕ) → before.tells at → mid.tells at) → IsScriptRead names old_input new_input script
+    → bytes ≡ text → Appends bytes old new_output → IsReported script mid new text → IsReplayed before new old_input new_input old new_output
 replayed script names before mid new old_input new_input old new_output text bytes named same telling h is written r = record {
   script = script;
   read = subst (λ (ns : List Name). IsScriptRead ns old_input new_input script) (named ∙ ap names_of same) h;
@@ -235,8 +234,8 @@ replayed script names before mid new old_input new_input old new_output text byt
 }
 
 -- a prefix of it
-pub prefix_replayed : {t u : ℕ → Type 0} (script : Script) (names : List Name) (before mid new : List Counted) (old_input new_input old new_output : Option (List ℕ)) (text bytes : List ℕ) → names ≡ names_of mid → mid ≡ before → ((at : ℕ) → t at → u at) → IsScriptRead names old_input new_input script
-    → bytes ≡ text → (k : ℕ) × (k ≤ length bytes) × Appends (take k bytes) old new_output → IsReported (TellOf script mid u) script mid new text → IsPrefixWritten before t new old_input new_input old new_output
+pub prefix_replayed : (script : Script) (names : List Name) (before mid : Attached) (new : List Counted) (old_input new_input old new_output : Option (List ℕ)) (text bytes : List ℕ) → names ≡ names_of mid.shelves → mid.shelves ≡ before.shelves → ((at : ℕ) → before.tells at → mid.tells at) → IsScriptRead names old_input new_input script
+    → bytes ≡ text → (k : ℕ) × (k ≤ length bytes) × Appends (take k bytes) old new_output → IsReported script mid new text → IsPrefixWritten before new old_input new_input old new_output
 prefix_replayed script names before mid new old_input new_input old new_output text bytes named same telling h is w r = record {
   script = script;
   read = subst (λ (ns : List Name). IsScriptRead ns old_input new_input script) (named ∙ ap names_of same) h;
@@ -251,14 +250,14 @@ prefix_replayed script names before mid new old_input new_input old new_output t
 pub found_of : (script : Script) (before mid : List Counted) (new : List Shelf) (key : Key) → mid ≡ before → IsFirstFound script (shown mid) new key → IsFirstFound script (shown before) new key
 found_of script before mid new key same found = subst (λ (ss : List Counted). IsFirstFound script (shown ss) new key) same found
 
-pub stops_found : (old new : List Counted) (foreign : Type 0) (found : Key → Type 0) (s : Status) (key : Key) → Stops old new foreign found s → s ≡ status.NotEmpty key → found key
+pub stops_found : (old new : Attached) (foreign : Type 0) (found : Key → Type 0) (s : Status) (key : Key) → Stops old new foreign found s → s ≡ status.NotEmpty key → found key
 stops_found old new foreign found s key h is = subst (Stops old new foreign found) is h
 
-pub stops_foreign : (old new : List Counted) (foreign : Type 0) (found : Key → Type 0) (s : Status) (key : Key) → Stops old new foreign found s → s ≡ status.BadStore key → foreign
+pub stops_foreign : (old new : Attached) (foreign : Type 0) (found : Key → Type 0) (s : Status) (key : Key) → Stops old new foreign found s → s ≡ status.BadStore key → foreign
 stops_foreign old new foreign found s key h is = subst (Stops old new foreign found) is h
 
 -- a play that stopped had read its script
-pub stops_played : {A : Type 0} (old new : List Counted) (foreign : Type 0) (found : Key → Type 0) (s : Status) → Stops old new foreign found s → is_unplayed s ≡ true → A
+pub stops_played : {A : Type 0} (old new : Attached) (foreign : Type 0) (found : Key → Type 0) (s : Status) → Stops old new foreign found s → is_unplayed s ≡ true → A
 stops_played old new foreign found status.StoreFault h is = absurd (cc)
 stops_played old new foreign found status.NoMemory h is = absurd (cc)
 stops_played old new foreign found (status.NotEmpty key) h is = absurd (cc)

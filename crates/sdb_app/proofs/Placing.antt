@@ -9,7 +9,7 @@ use Rattle.std.proofs.lemmas.Option.{slice_get_within, get_or_from_slice_get}
 use Rattle.std.proofs.lemmas.Slice.Eq.{bytes_eq-Decides}
 use Rattle.sdb_types.specs.declared.key.TableName.{TableName}
 use Rattle.sdb_schema.specs.declared.table.Table.{Table}
-use Rattle.sdb_stores.specs.Shelf.{Shelf as Counted, AreDistinct, home, names_of, place_of, placed_on}
+use Rattle.sdb_stores.specs.Shelf.{Attached, Shelf as Counted, AreDistinct, home, names_of, place_of, placed_on}
 use Rattle.sdb_stores.specs.declared.place.Place.{Place as Placed}
 use Rattle.sdb_stores.proofs.Distinct.{apart}
 use Rattle.sdb_model.specs.declared.script.Place.{Place}
@@ -50,12 +50,14 @@ named_there (s ∷ ss) zero name e = (s, refl, some_is s.name name e)
 named_there (s ∷ ss) (suc at) name e = named_there ss at name e
 
 -- what a script's stores are to tell, at the places that it has
-abbrev pub Tell : List Table → List Place → List Counted → (ℕ → Type 0) → Type 0
-Tell catalog places shelves tells = (at : ℕ) (store : Counted) (table : TableName) → slice_get shelves at ≡ Some store → is_played catalog table ≡ true → store_of places (shown shelves) table.ns ≡ store.name → tells at
+abbrev pub Tell : List Table → List Place → Attached → Type 0
+Tell catalog places stores = (at : ℕ) (store : Counted) (table : TableName) → slice_get stores.shelves at ≡ Some store → is_played catalog table ≡ true → store_of places (shown stores.shelves) table.ns ≡ store.name → stores.tells at
 
 -- stores whose tables tell are fit for a run with the places of a script
-pub fit_for : {tells : ℕ → Type 0} (catalog : List Table) (ps : List Placed) (places : List Place) (shelves : List Counted) → placed ps ≡ places → ArePlaces (names_of shelves) places → 0 < length shelves → AreDistinct (names_of shelves) → Tell catalog places shelves tells → AreFit catalog ps shelves tells
-fit_for catalog ps places shelves same h some distinct telling =
+pub fit_for : (catalog : List Table) (places : List Place) (stores : Attached) → placed stores.places ≡ places → ArePlaces (names_of stores.shelves) places → 0 < length stores.shelves → AreDistinct (names_of stores.shelves) → Tell catalog places stores → AreFit catalog stores
+fit_for catalog places stores same h some distinct telling =
+    let ps = stores.places in
+    let shelves = stores.shelves in
     let homed = homed_by ps (names_of shelves) (λ k p e. attached_at (names_of shelves) places k p h (ap (λ (xs : List Place). slice_get xs k) (sym same) ∙ e)) in
     record {
       some = some;

@@ -3,15 +3,14 @@ use Rattle.std.specs.Prelude.{◌≡◌, ◌⊎◌, ℕ, ◌≤◌, ◌<◌, Boo
 use Rattle.sdb_words.specs.Commands.{is_alone}
 use Rattle.sdb_types.specs.declared.key.Key.{Key}
 use Rattle.sdb_types.specs.Bytes.{Takes, Appends, IsAtEnd}
-use Rattle.sdb_stores.specs.Shelf.{Shelf as Counted, HaveRisen, names_of}
+use Rattle.sdb_stores.specs.Shelf.{Attached, Shelf as Counted, HaveRisen, names_of}
 use Rattle.sdb_types.specs.declared.key.TableName.{TableName}
 use Rattle.sdb_model.specs.Events.{store_of}
 use Rattle.sdb_spread.specs.Spread.{HoldAs, is_played}
-use Rattle.sdb_board.specs.Board.{AreFit, placed, shown}
-use Rattle.sdb_stores.specs.declared.place.Place.{Place as Placed}
+use Rattle.sdb_board.specs.Board.{AreFit, HoldTheSame, placed, shown}
 use Rattle.sdb_schema.specs.declared.table.Table.{Table}
 use Rattle.std.specs.FinMap.{empty}
-use Rattle.sdb_board.specs.Opening.{first_key, opening_records}
+use Rattle.sdb_board.specs.Opening.{first_key, opening_in, opening_records}
 use Rattle.sdb_model.specs.declared.event.Outcome.{Outcome}
 use Rattle.sdb_model.specs.declared.script.Script.{Script}
 use Rattle.sdb_model.specs.Events.{Shelf}
@@ -27,8 +26,6 @@ use Rattle.sdb_dump.specs.declared.refused.ClosingRefused.TheVariants as closing
 use Rattle.sdb_causes.specs.Tied.{AnswersHaveCauses}
 use Rattle.sdb_world.specs.Broken.{BreaksWithin}
 use Rattle.sdb_world.specs.Explained.{IsExplained, IsShown}
-use Rattle.sdb_world.specs.World.{WorldAt}
-use Rattle.sdb_world.specs.Played.{HasPlayed}
 use Rattle.sdb_app.specs.declared.status.InputFault.TheVariants.{Line}
 use Rattle.sdb_app.specs.declared.status.Status.{Status}
 use Rattle.sdb_app.specs.declared.status.Status.TheVariants as status
@@ -50,9 +47,9 @@ pub record IsScriptRead (stores : List Name) (old_input new_input : Option (List
   pub form : IsScript stores text script
 
 -- The stores that keep the tables of a script, and the coordinator's rows, tell what they hold.
-abbrev pub TellOf : Script → List Counted → (ℕ → Type 0) → Type 0
-TellOf script shelves tells =
-    (at : ℕ) (store : Counted) (table : TableName) → slice_get shelves at ≡ Some store → is_played script.catalog table ≡ true → store_of script.places (shown shelves) table.ns ≡ store.name → tells at
+abbrev pub TellOf : Script → Attached → Type 0
+TellOf script stores =
+    (at : ℕ) (store : Counted) (table : TableName) → slice_get stores.shelves at ≡ Some store → is_played script.catalog table ≡ true → store_of script.places (shown stores.shelves) table.ns ≡ store.name → stores.tells at
 
 -- The tables of a script were empty, and one outcome is that of a run that follows it, from what the stores held at the entry
 -- to what they hold at the exit; what stood in the stores at each moment is explained by its events, and what each recorded transaction
@@ -77,40 +74,40 @@ pub record IsOutcome (telling : Type 0) (script : Script) (old new : List Counte
   pub played : telling → IsPlayed script (shown old) (shown new) outcome
 
 -- The headline: the input is a script over the attached stores, and the report of one outcome of it was written, whole and nothing else.
-pub record IsReplayed (old : List Counted) (tells : ℕ → Type 0) (new : List Counted) (old_input new_input old_output new_output : Option (List ℕ)) : Type 0 where
+pub record IsReplayed (old : Attached) (left : List Counted) (old_input new_input old_output new_output : Option (List ℕ)) : Type 0 where
   pub script : Script
-  pub read : IsScriptRead (names_of old) old_input new_input script
+  pub read : IsScriptRead (names_of old.shelves) old_input new_input script
   pub outcome : Outcome
-  pub made : IsOutcome (TellOf script old tells) script old new outcome
+  pub made : IsOutcome (TellOf script old) script old.shelves left outcome
   pub written : Appends (report_text_of outcome) old_output new_output
 
 -- The same, but only a prefix of the report was written.
-pub record IsPrefixWritten (old : List Counted) (tells : ℕ → Type 0) (new : List Counted) (old_input new_input old_output new_output : Option (List ℕ)) : Type 0 where
+pub record IsPrefixWritten (old : Attached) (left : List Counted) (old_input new_input old_output new_output : Option (List ℕ)) : Type 0 where
   pub script : Script
-  pub read : IsScriptRead (names_of old) old_input new_input script
+  pub read : IsScriptRead (names_of old.shelves) old_input new_input script
   pub outcome : Outcome
-  pub made : IsOutcome (TellOf script old tells) script old new outcome
+  pub made : IsOutcome (TellOf script old) script old.shelves left outcome
   pub size : ℕ
   pub within : size ≤ length (report_text_of outcome)
   pub written : Appends (take size (report_text_of outcome)) old_output new_output
 
 -- A script was read over these stores, and this is so of it where the stores of its tables tell what they hold.
-pub record IsReadAnd (stores : List Counted) (tells : ℕ → Type 0) (old_input new_input : Option (List ℕ)) (P : Script → Type 0) : Type 0 where
+pub record IsReadAnd (stores : Attached) (old_input new_input : Option (List ℕ)) (P : Script → Type 0) : Type 0 where
   pub script : Script
-  pub read : IsScriptRead (names_of stores) old_input new_input script
-  pub so : TellOf script stores tells → P script
+  pub read : IsScriptRead (names_of stores.shelves) old_input new_input script
+  pub so : TellOf script stores → P script
 
 -- The key is that of the first record in the tables of the script, and the stores hold what they held.
 pub record IsFirstFound (script : Script) (old new : List Shelf) (key : Key) : Type 0 where
   pub first : first_key (opening_records script.catalog script.places old) ≡ Some key
   pub left : new ≡ old
 
-abbrev pub IsNotEmpty : List Counted → (ℕ → Type 0) → List Counted → Option (List ℕ) → Option (List ℕ) → Key → Type 0
-IsNotEmpty old tells new old_input new_input key = IsReadAnd old tells old_input new_input (λ script. IsFirstFound script (shown old) (shown new) key)
+abbrev pub IsNotEmpty : Attached → List Counted → Option (List ℕ) → Option (List ℕ) → Key → Type 0
+IsNotEmpty old left old_input new_input key = IsReadAnd old old_input new_input (λ script. IsFirstFound script (shown old.shelves) (shown left) key)
 
 -- Some store of the script's tables does not tell what it holds.
-abbrev pub IsUntold : List Counted → (ℕ → Type 0) → Option (List ℕ) → Option (List ℕ) → Type 0
-IsUntold old tells old_input new_input = IsReadAnd old tells old_input new_input (λ script. ⊥)
+abbrev pub IsUntold : Attached → Option (List ℕ) → Option (List ℕ) → Type 0
+IsUntold old old_input new_input = IsReadAnd old old_input new_input (λ script. ⊥)
 
 -- Bytes that were read of the input are no script over these stores, for that cause: they are all of it, or more than are read of a
 -- script, and the rest is left.
@@ -149,28 +146,40 @@ is_refusal (status.Limit n which) = true
 is_refusal _ = false
 
 -- The text is the report of one outcome of a script.
-pub record IsReported (telling : Type 0) (script : Script) (old new : List Counted) (report : List ℕ) : Type 0 where
+pub record IsReported (script : Script) (old : Attached) (left : List Counted) (report : List ℕ) : Type 0 where
   pub outcome : Outcome
   pub text : report ≡ report_text_of outcome
-  pub made : IsOutcome telling script old new outcome
+  pub made : IsOutcome (TellOf script old) script old.shelves left outcome
 
 -- The stores of a script's tables are fit for a run of it, as it places them, and hold nothing of them.
-pub record AreReady (script : Script) (places : List Placed) (shelves : List Counted) (tells : ℕ → Type 0) : Type 0 where
-  pub fit : AreFit script.catalog places shelves tells
-  pub placed_so : placed places ≡ script.places
-  pub nothing : HoldAs script.catalog script.places (shown shelves) empty
+pub record AreReady (script : Script) (stores : Attached) : Type 0 where
+  pub fit : AreFit script.catalog stores
+  pub placed_so : placed stores.places ≡ script.places
+  pub nothing : HoldAs script.catalog script.places (shown stores.shelves) empty
 
 -- The key is that of the first record of a catalog's tables, and the stores hold what they held, where they are fit for a run.
-abbrev pub IsFoundIn : List Table → List Placed → List Counted → (ℕ → Type 0) → List Counted → Key → Type 0
-IsFoundIn catalog places old tells new key = AreFit catalog places old tells → (first_key (opening_records catalog (placed places) (shown old)) ≡ Some key) × (shown new ≡ shown old)
+abbrev pub IsFoundIn : List Table → Attached → Attached → Key → Type 0
+IsFoundIn catalog old new key = AreFit catalog old → (first_key (opening_in catalog old) ≡ Some key) × HoldTheSame old new
 
 -- Why a script was not played to its end.
-abbrev pub Stops : List Counted → List Counted → Type 0 → (Key → Type 0) → Status → Type 0
-Stops old new foreign found status.StoreFault = HaveRisen old new
+abbrev pub Stops : Attached → Attached → Type 0 → (Key → Type 0) → Status → Type 0
+Stops old new foreign found status.StoreFault = HaveRisen old.shelves new.shelves
 Stops old new foreign found status.NoMemory = Unit {0}
 Stops old new foreign found (status.NotEmpty key) = found key
 Stops old new foreign found (status.BadStore key) = foreign
 Stops old new foreign found _ = ⊥
+
+-- Why the look for records stopped.
+abbrev pub StopsLook : List Table → Attached → Attached → Status → Type 0
+StopsLook catalog old new = Stops old new ⊥ (IsFoundIn catalog old new)
+
+-- Why a script that was placed was not played to its end.
+abbrev pub StopsPlay : Script → Attached → Attached → Status → Type 0
+StopsPlay script old new = Stops old new (AreReady script old → ⊥) (λ key. ⊥)
+
+-- Why a script that was read was not played to its end.
+abbrev pub StopsReplay : Script → Attached → Attached → Status → Type 0
+StopsReplay script old new = Stops old new (TellOf script old → ⊥) (λ key. TellOf script old → IsFirstFound script (shown old.shelves) (shown new.shelves) key)
 
 -- the endings without a script
 abbrev pub refuses_input : Status → Bool
@@ -199,7 +208,7 @@ is_unplayed (status.BadInput n f) = true
 is_unplayed (status.Limit n which) = true
 is_unplayed _ = false
 
----- the outcome of a world
+---- what stopped a scan, and the closing dump
 
 abbrev pub status_of_call : CallRefused → Status
 status_of_call call.StoreFault = status.StoreFault
@@ -209,11 +218,3 @@ abbrev pub status_of_closing : ClosingRefused → Status
 status_of_closing closing.StoreFault = status.StoreFault
 status_of_closing (closing.BadRecord key) = status.BadStore key
 status_of_closing closing.NoMemory = status.NoMemory
-
--- An outcome is that of a run of a world's script, where the world has played it on stores that are fit for it.
-abbrev pub IsOutcomeOf : WorldAt → List Placed → List Counted → (ℕ → Type 0) → List Shelf → Outcome → Type 0
-IsOutcomeOf w places shelves tells left o = (opening : List Shelf) → AreFit w.script.catalog places shelves tells → placed places ≡ w.script.places → HasPlayed w opening (shown shelves) → IsRun w.script opening left o
-
--- A world has not played its script on stores that are fit for it.
-abbrev pub HasNotPlayed : WorldAt → List Placed → List Counted → (ℕ → Type 0) → Type 0
-HasNotPlayed w places shelves tells = (opening : List Shelf) → AreFit w.script.catalog places shelves tells → placed places ≡ w.script.places → HasPlayed w opening (shown shelves) → ⊥

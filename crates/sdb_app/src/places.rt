@@ -21,11 +21,11 @@ fn place_at(places: &Places, i: usize) -> &Place
 
 // Places one namespace, which has none yet, on a store that is attached.
 fn place<R: Registry>(stores: &mut R, place: &Place) -> Result<(), NoMemory>
-    requires attached { IsSome (place_of place.now.store (names_of (R.shelves stores.old))) }
-    requires free { placed_on place.now.ns (R.places stores.old) ≡ None }
-    ensures places { OnOk result (placed (R.places stores.new) ≡ placed (R.places stores.old) ++ place.now ∷ []) }
-    ensures stores { R.shelves stores.new ≡ R.shelves stores.old }
-    ensures telling { (i : ℕ) → R.tells stores.old i → R.tells stores.new i }
+    requires attached { IsSome (place_of place.now.store (names_of (R.state stores.old).shelves)) }
+    requires free { placed_on place.now.ns (R.state stores.old).places ≡ None }
+    ensures places { OnOk result (placed (R.state stores.new).places ≡ placed (R.state stores.old).places ++ place.now ∷ []) }
+    ensures stores { (R.state stores.new).shelves ≡ (R.state stores.old).shelves }
+    ensures telling { (i : ℕ) → (R.state stores.old).tells i → (R.state stores.new).tells i }
 {
     match stores.place(place.ns.copy()?, &place.store) {
         Ok(()) => Ok(()),
@@ -37,11 +37,11 @@ fn place<R: Registry>(stores: &mut R, place: &Place) -> Result<(), NoMemory>
 
 /// Places the namespaces of a script, where none has a place yet.
 pub fn place_all<R: Registry>(stores: &mut R, places: &Places) -> Result<(), NoMemory>
-    requires none { R.places stores.old ≡ [] }
-    requires fit { ArePlaces (names_of (R.shelves stores.old)) places.now }
-    ensures places { OnOk result (placed (R.places stores.new) ≡ places.now) }
-    ensures stores { R.shelves stores.new ≡ R.shelves stores.old }
-    ensures telling { (i : ℕ) → R.tells stores.old i → R.tells stores.new i }
+    requires none { (R.state stores.old).places ≡ [] }
+    requires fit { ArePlaces (names_of (R.state stores.old).shelves) places.now }
+    ensures places { OnOk result (placed (R.state stores.new).places ≡ places.now) }
+    ensures stores { (R.state stores.new).shelves ≡ (R.state stores.old).shelves }
+    ensures telling { (i : ℕ) → (R.state stores.old).tells i → (R.state stores.new).tells i }
 {
     for i in 0..places.len() {
         place(stores, place_at(places, i))?;

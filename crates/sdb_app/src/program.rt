@@ -67,35 +67,35 @@ fn replay_input<S: Registry, R: Source, W: Sink>(
     input: &mut R,
     output: &mut W,
 ) -> Status
-    requires { 0 < length (S.shelves stores.old) }
+    requires { 0 < length (S.state stores.old).shelves }
     ensures known { (result ≡ Status.Usage) → ⊥ }
     ensures read_fault { result ≡ Status.ReadFault → HasRisen (R.faults input.old) (R.faults input.new) }
     // The text that was read is no script, or passes a limit, at that line and for that cause.
-    ensures refused { is_refusal result ≡ true → IsRefusedAs (names_of (S.shelves stores.old)) (R.remaining input.old) (R.remaining input.new) result }
-    ensures store_fault { result ≡ Status.StoreFault → HaveRisen (S.shelves stores.old) (S.shelves stores.new) }
+    ensures refused { is_refusal result ≡ true → IsRefusedAs (names_of (S.state stores.old).shelves) (R.remaining input.old) (R.remaining input.new) result }
+    ensures store_fault { result ≡ Status.StoreFault → HaveRisen (S.state stores.old).shelves (S.state stores.new).shelves }
     // A script was read. Where the stores of its tables tell what they hold, the record is the first in these tables, and the stores hold
     // what they held.
-    ensures not_empty { (key : Key) → result ≡ Status.NotEmpty key → IsNotEmpty (S.shelves stores.old) (S.tells stores.old) (S.shelves stores.new) (R.remaining input.old) (R.remaining input.new) key }
+    ensures not_empty { (key : Key) → result ≡ Status.NotEmpty key → IsNotEmpty (S.state stores.old) (S.state stores.new).shelves (R.remaining input.old) (R.remaining input.new) key }
     // A script was read, and some store of its tables doesn't tell what it holds.
-    ensures bad_store { (key : Key) → result ≡ Status.BadStore key → IsUntold (S.shelves stores.old) (S.tells stores.old) (R.remaining input.old) (R.remaining input.new) }
+    ensures bad_store { (key : Key) → result ≡ Status.BadStore key → IsUntold (S.state stores.old) (R.remaining input.old) (R.remaining input.new) }
     // A prefix of the report was written.
     ensures write_fault { result ≡ Status.WriteFault → HasRisen (W.faults output.old) (W.faults output.new) }
-    ensures prefix { result ≡ Status.WriteFault → IsPrefixWritten (S.shelves stores.old) (S.tells stores.old) (S.shelves stores.new) (R.remaining input.old) (R.remaining input.new) (W.written output.old) (W.written output.new) }
+    ensures prefix { result ≡ Status.WriteFault → IsPrefixWritten (S.state stores.old) (S.state stores.new).shelves (R.remaining input.old) (R.remaining input.new) (W.written output.old) (W.written output.new) }
     // The headline.
-    ensures done { result ≡ Status.Done → IsReplayed (S.shelves stores.old) (S.tells stores.old) (S.shelves stores.new) (R.remaining input.old) (R.remaining input.new) (W.written output.old) (W.written output.new) }
+    ensures done { result ≡ Status.Done → IsReplayed (S.state stores.old) (S.state stores.new).shelves (R.remaining input.old) (R.remaining input.new) (W.written output.old) (W.written output.new) }
     // Where memory ran out nothing was written, or a prefix of the report of a run.
-    ensures out_of_memory { result ≡ Status.NoMemory → (W.written output.new ≡ W.written output.old) ⊎ IsPrefixWritten (S.shelves stores.old) (S.tells stores.old) (S.shelves stores.new) (R.remaining input.old) (R.remaining input.new) (W.written output.old) (W.written output.new) }
+    ensures out_of_memory { result ≡ Status.NoMemory → (W.written output.new ≡ W.written output.old) ⊎ IsPrefixWritten (S.state stores.old) (S.state stores.new).shelves (R.remaining input.old) (R.remaining input.new) (W.written output.old) (W.written output.new) }
     // The stores are as they were where no script was read.
-    ensures unplayed { is_unplayed result ≡ true → S.shelves stores.new ≡ S.shelves stores.old }
+    ensures unplayed { is_unplayed result ≡ true → (S.state stores.new).shelves ≡ (S.state stores.old).shelves }
     // Nothing is written before the run has ended.
     ensures unwritten { writes_nothing result ≡ true → W.written output.new ≡ W.written output.old }
     ensures counted { R.faults input.old ≤ R.faults input.new }
     ensures counted_output { W.faults output.old ≤ W.faults output.new }
     // The stores are those that were attached, in their order.
-    ensures names { names_of (S.shelves stores.new) ≡ names_of (S.shelves stores.old) }
-    ensures counted_stores { total_faults (S.shelves stores.old) ≤ total_faults (S.shelves stores.new) }
+    ensures names { names_of (S.state stores.new).shelves ≡ names_of (S.state stores.old).shelves }
+    ensures counted_stores { total_faults (S.state stores.old).shelves ≤ total_faults (S.state stores.new).shelves }
     // Stores that told what they hold go on telling it.
-    ensures telling { (at : ℕ) → S.tells stores.old at → S.tells stores.new at }
+    ensures telling { (at : ℕ) → (S.state stores.old).tells at → (S.state stores.new).tells at }
 {
     stores.clear_places();
     let Ok(names) = stores.names() else {
@@ -130,36 +130,36 @@ pub fn run<S: Registry, R: Source, W: Sink, C: Clock, I: Ids>(
     _clock: &mut C,
     _ids: &mut I,
 ) -> Status
-    requires { 0 < length (S.shelves stores.old) }
+    requires { 0 < length (S.state stores.old).shelves }
     // The words are not those of a command that is there so far.
     ensures usage { (result ≡ Status.Usage) ↔ (is_replay_lem (map string_bytes words.now) ≡ false) }
     ensures read_fault { result ≡ Status.ReadFault → HasRisen (R.faults input.old) (R.faults input.new) }
     // The text that was read is no script, or passes a limit, at that line and for that cause.
-    ensures refused { is_refusal result ≡ true → IsRefusedAs (names_of (S.shelves stores.old)) (R.remaining input.old) (R.remaining input.new) result }
-    ensures store_fault { result ≡ Status.StoreFault → HaveRisen (S.shelves stores.old) (S.shelves stores.new) }
+    ensures refused { is_refusal result ≡ true → IsRefusedAs (names_of (S.state stores.old).shelves) (R.remaining input.old) (R.remaining input.new) result }
+    ensures store_fault { result ≡ Status.StoreFault → HaveRisen (S.state stores.old).shelves (S.state stores.new).shelves }
     // A script was read. Where the stores of its tables tell what they hold, the record is the first in these tables, and the stores hold
     // what they held.
-    ensures not_empty { (key : Key) → result ≡ Status.NotEmpty key → IsNotEmpty (S.shelves stores.old) (S.tells stores.old) (S.shelves stores.new) (R.remaining input.old) (R.remaining input.new) key }
+    ensures not_empty { (key : Key) → result ≡ Status.NotEmpty key → IsNotEmpty (S.state stores.old) (S.state stores.new).shelves (R.remaining input.old) (R.remaining input.new) key }
     // A script was read, and some store of its tables doesn't tell what it holds.
-    ensures bad_store { (key : Key) → result ≡ Status.BadStore key → IsUntold (S.shelves stores.old) (S.tells stores.old) (R.remaining input.old) (R.remaining input.new) }
+    ensures bad_store { (key : Key) → result ≡ Status.BadStore key → IsUntold (S.state stores.old) (R.remaining input.old) (R.remaining input.new) }
     // A prefix of the report was written.
     ensures write_fault { result ≡ Status.WriteFault → HasRisen (W.faults output.old) (W.faults output.new) }
-    ensures prefix { result ≡ Status.WriteFault → IsPrefixWritten (S.shelves stores.old) (S.tells stores.old) (S.shelves stores.new) (R.remaining input.old) (R.remaining input.new) (W.written output.old) (W.written output.new) }
+    ensures prefix { result ≡ Status.WriteFault → IsPrefixWritten (S.state stores.old) (S.state stores.new).shelves (R.remaining input.old) (R.remaining input.new) (W.written output.old) (W.written output.new) }
     // The headline.
-    ensures done { result ≡ Status.Done → IsReplayed (S.shelves stores.old) (S.tells stores.old) (S.shelves stores.new) (R.remaining input.old) (R.remaining input.new) (W.written output.old) (W.written output.new) }
+    ensures done { result ≡ Status.Done → IsReplayed (S.state stores.old) (S.state stores.new).shelves (R.remaining input.old) (R.remaining input.new) (W.written output.old) (W.written output.new) }
     // Where memory ran out nothing was written, or a prefix of the report of a run.
-    ensures out_of_memory { result ≡ Status.NoMemory → (W.written output.new ≡ W.written output.old) ⊎ IsPrefixWritten (S.shelves stores.old) (S.tells stores.old) (S.shelves stores.new) (R.remaining input.old) (R.remaining input.new) (W.written output.old) (W.written output.new) }
+    ensures out_of_memory { result ≡ Status.NoMemory → (W.written output.new ≡ W.written output.old) ⊎ IsPrefixWritten (S.state stores.old) (S.state stores.new).shelves (R.remaining input.old) (R.remaining input.new) (W.written output.old) (W.written output.new) }
     // The stores are as they were where no script was read.
-    ensures unplayed { is_unplayed result ≡ true → S.shelves stores.new ≡ S.shelves stores.old }
+    ensures unplayed { is_unplayed result ≡ true → (S.state stores.new).shelves ≡ (S.state stores.old).shelves }
     // Nothing is written before the run has ended.
     ensures unwritten { writes_nothing result ≡ true → W.written output.new ≡ W.written output.old }
     ensures counted { R.faults input.old ≤ R.faults input.new }
     ensures counted_output { W.faults output.old ≤ W.faults output.new }
     // The stores are those that were attached, in their order.
-    ensures names { names_of (S.shelves stores.new) ≡ names_of (S.shelves stores.old) }
-    ensures counted_stores { total_faults (S.shelves stores.old) ≤ total_faults (S.shelves stores.new) }
+    ensures names { names_of (S.state stores.new).shelves ≡ names_of (S.state stores.old).shelves }
+    ensures counted_stores { total_faults (S.state stores.old).shelves ≤ total_faults (S.state stores.new).shelves }
     // Stores that told what they hold go on telling it.
-    ensures telling { (at : ℕ) → S.tells stores.old at → S.tells stores.new at }
+    ensures telling { (at : ℕ) → (S.state stores.old).tells at → (S.state stores.new).tells at }
 {
     if !replays(words) {
         return Status::Usage;

@@ -2,20 +2,19 @@
 ghost use Rattle.std.specs.Prelude.{◌≡◌, ◌<◌, ◌≤◌, ℕ, List, [], length, Some, None, IfOk, IfErr, OnOk};
 ghost use Rattle.std.specs.String.{string_bytes};
 ghost use Rattle.sdb_stores.specs.Shelf.{AreDistinct, names_of, total_faults};
-ghost use Rattle.sdb_model.specs.Events.{Shelf};
 ghost use Rattle.sdb_model.specs.Follows.{Follows};
 ghost use Rattle.sdb_model.specs.Told.{IsRun};
 ghost use Rattle.sdb_script.specs.Begun.{ArePlaces};
-ghost use Rattle.sdb_board.specs.Board.{AreFit, GoOn, placed, shown};
-ghost use Rattle.sdb_board.specs.Opening.{first_key, opening_records};
+ghost use Rattle.sdb_board.specs.Board.{AreFit, GoOn, HoldTheSame, shown};
+ghost use Rattle.sdb_board.specs.Opening.{first_key, opening_in};
 ghost use Rattle.sdb_causes.specs.Tied.{AnswersHaveCauses};
 ghost use Rattle.sdb_world.specs.Broken.{BreaksWithin};
 ghost use Rattle.sdb_world.specs.Explained.{IsExplained};
 ghost use Rattle.sdb_world.specs.Linked.{HaveCauses};
-ghost use Rattle.sdb_world.specs.Played.{HasPlayed};
+ghost use Rattle.sdb_world.specs.Played.{HasNotPlayed, IsOutcomeOf, IsPlayExplained};
 ghost use Rattle.sdb_world.specs.World.{IsPlayable, IsWorld};
 ghost use Rattle.sdb_world.specs.Step.{CanFollow};
-ghost use Rattle.sdb_app.specs.Run.{AreReady, HasNotPlayed, IsFirstFound, IsFoundIn, IsOutcomeOf, IsReported, Stops, TellOf, status_of_call, status_of_closing};
+ghost use Rattle.sdb_app.specs.Run.{AreReady, IsReported, Stops, StopsLook, StopsPlay, StopsReplay, status_of_call, status_of_closing};
 
 use crate::places::place_all;
 use crate::status::Status;
@@ -63,11 +62,11 @@ fn closing_status(refused: ClosingRefused) -> Status
 
 // Sees to it that the tables of a script are empty.
 fn be_empty<R: Registry>(alloc: Global, stores: &mut R, catalog: &Catalog) -> Result<(), Status>
-    requires some { 0 < length (R.shelves stores.old) }
-    ensures empty { OnOk result (AreFit catalog.now (R.places stores.old) (R.shelves stores.old) (R.tells stores.old) → first_key (opening_records catalog.now (placed (R.places stores.old)) (shown (R.shelves stores.old))) ≡ None) }
-    ensures still { OnOk result (AreFit catalog.now (R.places stores.old) (R.shelves stores.old) (R.tells stores.old) → shown (R.shelves stores.new) ≡ shown (R.shelves stores.old)) }
-    ensures goes { GoOn (R.places stores.old) (R.places stores.new) (R.shelves stores.old) (R.shelves stores.new) (R.tells stores.old) (R.tells stores.new) }
-    ensures err { IfErr result (Stops (R.shelves stores.old) (R.shelves stores.new) ⊥ (IsFoundIn catalog.now (R.places stores.old) (R.shelves stores.old) (R.tells stores.old) (R.shelves stores.new))) }
+    requires some { 0 < length (R.state stores.old).shelves }
+    ensures empty { OnOk result (AreFit catalog.now (R.state stores.old) → first_key (opening_in catalog.now (R.state stores.old)) ≡ None) }
+    ensures still { OnOk result (AreFit catalog.now (R.state stores.old) → HoldTheSame (R.state stores.old) (R.state stores.new)) }
+    ensures goes { GoOn (R.state stores.old) (R.state stores.new) }
+    ensures err { IfErr result (StopsLook catalog.now (R.state stores.old) (R.state stores.new)) }
 {
     match first_record(alloc, stores, catalog) {
         Ok(None) => Ok(()),
@@ -78,14 +77,14 @@ fn be_empty<R: Registry>(alloc: Global, stores: &mut R, catalog: &Catalog) -> Re
 
 // The outcome of a world that has played its script.
 fn ended<R: Registry>(alloc: Global, stores: &mut R, world: World) -> Result<Outcome, Status>
-    requires some { 0 < length (R.shelves stores.old) }
+    requires some { 0 < length (R.state stores.old).shelves }
     requires world { IsWorld world }
     ensures events { IfOk result (λ o. o.events ≡ world.events) }
     ensures caused { IfOk result (λ o. HaveCauses world → AnswersHaveCauses world.script.catalog o.events) }
-    ensures explained { IfOk result (λ o. (opening : List Shelf) → HasPlayed world opening (shown (R.shelves stores.old)) → IsExplained world.script o.events opening) }
-    ensures run { IfOk result (λ o. IsOutcomeOf world (R.places stores.old) (R.shelves stores.old) (R.tells stores.old) (shown (R.shelves stores.new)) o) }
-    ensures goes { GoOn (R.places stores.old) (R.places stores.new) (R.shelves stores.old) (R.shelves stores.new) (R.tells stores.old) (R.tells stores.new) }
-    ensures err { IfErr result (Stops (R.shelves stores.old) (R.shelves stores.new) (HasNotPlayed world (R.places stores.old) (R.shelves stores.old) (R.tells stores.old)) (λ key. ⊥)) }
+    ensures explained { IfOk result (λ o. IsPlayExplained world (R.state stores.old) o.events) }
+    ensures run { IfOk result (IsOutcomeOf world (R.state stores.old) (R.state stores.new)) }
+    ensures goes { GoOn (R.state stores.old) (R.state stores.new) }
+    ensures err { IfErr result (Stops (R.state stores.old) (R.state stores.new) (HasNotPlayed world (R.state stores.old)) (λ key. ⊥)) }
 {
     match world.outcome(alloc, stores) {
         Ok(outcome) => Ok(outcome),
@@ -95,16 +94,16 @@ fn ended<R: Registry>(alloc: Global, stores: &mut R, world: World) -> Result<Out
 
 // Plays a script on stores where its namespaces are placed.
 fn play<R: Registry>(alloc: Global, stores: &mut R, script: Script) -> Result<Outcome, Status>
-    requires some { 0 < length (R.shelves stores.old) }
+    requires some { 0 < length (R.state stores.old).shelves }
     requires playable { IsPlayable script }
     requires can { CanFollow script }
     ensures follows { IfOk result (λ o. Follows script.clients script.moves o.events) }
     ensures caused { IfOk result (λ o. AnswersHaveCauses script.catalog o.events) }
-    ensures broken { IfOk result (λ o. BreaksWithin [] o.events (R.shelves stores.old) (R.shelves stores.new)) }
-    ensures explained { IfOk result (λ o. AreReady script (R.places stores.old) (R.shelves stores.old) (R.tells stores.old) → IsExplained script o.events (shown (R.shelves stores.old))) }
-    ensures run { IfOk result (λ o. AreReady script (R.places stores.old) (R.shelves stores.old) (R.tells stores.old) → IsRun script (shown (R.shelves stores.old)) (shown (R.shelves stores.new)) o) }
-    ensures goes { GoOn (R.places stores.old) (R.places stores.new) (R.shelves stores.old) (R.shelves stores.new) (R.tells stores.old) (R.tells stores.new) }
-    ensures err { IfErr result (Stops (R.shelves stores.old) (R.shelves stores.new) (AreReady script (R.places stores.old) (R.shelves stores.old) (R.tells stores.old) → ⊥) (λ key. ⊥)) }
+    ensures broken { IfOk result (λ o. BreaksWithin [] o.events (R.state stores.old).shelves (R.state stores.new).shelves) }
+    ensures explained { IfOk result (λ o. AreReady script (R.state stores.old) → IsExplained script o.events (shown (R.state stores.old).shelves)) }
+    ensures run { IfOk result (λ o. AreReady script (R.state stores.old) → IsRun script (shown (R.state stores.old).shelves) (shown (R.state stores.new).shelves) o) }
+    ensures goes { GoOn (R.state stores.old) (R.state stores.new) }
+    ensures err { IfErr result (StopsPlay script (R.state stores.old) (R.state stores.new)) }
 {
     let mut world = World::new(alloc, script)?;
     world.follow(stores)?;
@@ -113,17 +112,17 @@ fn play<R: Registry>(alloc: Global, stores: &mut R, script: Script) -> Result<Ou
 
 /// Plays a script on stores of which none has a place yet, and gives the text of its report.
 pub fn replay<R: Registry>(alloc: Global, stores: &mut R, script: Script) -> Result<String, Status>
-    requires some { 0 < length (R.shelves stores.old) }
-    requires unplaced { R.places stores.old ≡ [] }
-    requires distinct { AreDistinct (names_of (R.shelves stores.old)) }
+    requires some { 0 < length (R.state stores.old).shelves }
+    requires unplaced { (R.state stores.old).places ≡ [] }
+    requires distinct { AreDistinct (names_of (R.state stores.old).shelves) }
     requires playable { IsPlayable script }
     requires can { CanFollow script }
-    requires places { ArePlaces (names_of (R.shelves stores.old)) script.places }
-    ensures report { IfOk result (λ text. IsReported (TellOf script (R.shelves stores.old) (R.tells stores.old)) script (R.shelves stores.old) (R.shelves stores.new) (string_bytes text)) }
-    ensures names { names_of (R.shelves stores.new) ≡ names_of (R.shelves stores.old) }
-    ensures counted { total_faults (R.shelves stores.old) ≤ total_faults (R.shelves stores.new) }
-    ensures err { IfErr result (Stops (R.shelves stores.old) (R.shelves stores.new) (TellOf script (R.shelves stores.old) (R.tells stores.old) → ⊥) (λ key. TellOf script (R.shelves stores.old) (R.tells stores.old) → IsFirstFound script (shown (R.shelves stores.old)) (shown (R.shelves stores.new)) key)) }
-    ensures telling { (at : ℕ) → R.tells stores.old at → R.tells stores.new at }
+    requires places { ArePlaces (names_of (R.state stores.old).shelves) script.places }
+    ensures report { IfOk result (λ text. IsReported script (R.state stores.old) (R.state stores.new).shelves (string_bytes text)) }
+    ensures names { names_of (R.state stores.new).shelves ≡ names_of (R.state stores.old).shelves }
+    ensures counted { total_faults (R.state stores.old).shelves ≤ total_faults (R.state stores.new).shelves }
+    ensures err { IfErr result (StopsReplay script (R.state stores.old) (R.state stores.new)) }
+    ensures telling { (at : ℕ) → (R.state stores.old).tells at → (R.state stores.new).tells at }
 {
     place_all(stores, &script.places)?;
     be_empty(alloc, stores, &script.catalog)?;

@@ -21,13 +21,13 @@ use Rattle.sdb_types.proofs.KeyOrder.{table_total}
 use Rattle.sdb_laws.specs.Lawful.{row_among}
 use Rattle.sdb_laws.proofs.Shown.{row_there}
 use Rattle.sdb_schema.specs.declared.table.Table.{Table}
-use Rattle.sdb_stores.specs.Shelf.{Shelf as Counted}
+use Rattle.sdb_stores.specs.Shelf.{Attached}
 use Rattle.sdb_stores.specs.declared.place.Place.{Place as Placed}
 use Rattle.sdb_model.specs.declared.script.Place.{Place}
 use Rattle.sdb_model.specs.Events.{Shelf, held_by, store_of}
 use Rattle.sdb_spread.specs.Spread.{HoldAs, is_played}
-use Rattle.sdb_board.specs.Board.{AreFit, GoOn, IsCalled, placed, shown}
-use Rattle.sdb_board.specs.Opening.{records_of, run_tables, opening_records, first_key, whole}
+use Rattle.sdb_board.specs.Board.{AreFit, AreFitFor, GoOn, HoldTheSame, IsCalled, placed, shown}
+use Rattle.sdb_board.specs.Opening.{records_of, records_in, run_tables, opening_records, opening_in, first_key, whole}
 use Rattle.sdb_board.proofs.Lists.{all_at}
 use Rattle.sdb_board.proofs.RunTables.{names_played, of_played}
 use Rattle.sdb_types.proofs.Basics.{none_some, some_is, take_all as taken_up}
@@ -69,15 +69,15 @@ no_record catalog places shelves e =
     }
 
 -- the rows that a scan found are those of its table
-pub scanned : (places : List Place) (name table : TableName) (rows : List Record) (r : Reply) (before now : List Shelf) → name ≡ table → r ≡ reply.Rows rows → IsCalled places (ask.Scan (whole name)) r before now → rows ≡ records_of places before table
-scanned places name table rows r before now named is h = by (subst (λ (x : Reply). IsCalled places (ask.Scan (whole name)) x before now) is h)
+pub scanned : (old new : Attached) (name table : TableName) (rows : List Record) (r : Reply) → name ≡ table → r ≡ reply.Rows rows → IsCalled (ask.Scan (whole name)) r old new → rows ≡ records_in old table
+scanned old new name table rows r named is h = by (subst (λ (x : Reply). IsCalled (ask.Scan (whole name)) x old new) is h)
   where
     rows_is : (xs ys : List Record) → reply.Rows xs ≡ reply.Rows ys → xs ≡ ys
     rows_is xs ys e = cc
 
-    by : IsCalled places (ask.Scan (whole name)) (reply.Rows rows) before now → rows ≡ records_of places before table
+    by : IsCalled (ask.Scan (whole name)) (reply.Rows rows) old new → rows ≡ records_in old table
     by k = elim k.performed [
-      | inl e ↦ rows_is rows (rows_in (whole name) k.held) (sym (ap (λ (x : Reply × Contents). x.0) e)) ∙ sym (ap (λ (o : Option Contents). option_map_or (rows_in (whole name)) o []) k.found) ∙ ap (records_of places before) named
+      | inl e ↦ rows_is rows (rows_in (whole name) k.held) (sym (ap (λ (x : Reply × Contents). x.0) e)) ∙ sym (ap (λ (o : Option Contents). option_map_or (rows_in (whole name)) o []) k.found) ∙ ap (records_in old) named
       | inr w ↦ absurd (let f : reply.Rows rows ≡ reply.NoMemory = w.0 in cc)
     ]
 
@@ -110,15 +110,15 @@ looked_at ts i t within is = slice_get-get_or ts i t within ∙ ap Some (sym is)
 ---- table by table
 
 -- a table that is scanned behind others holds what it held at first
-pub scanned_behind : {t u : ℕ → Type 0} (catalog : List Table) (p q : List Placed) (old mid : List Counted) (table : TableName) (rows : List Record) → GoOn p q old mid t u → (AreFit catalog p old t → shown mid ≡ shown old)
-    → ((c : List Table) → AreFit c q mid u → is_played c table ≡ true → rows ≡ records_of (placed q) (shown mid) table) → is_played catalog table ≡ true → AreFit catalog p old t → rows ≡ records_of (placed p) (shown old) table
-scanned_behind catalog p q old mid table rows goes still found about fit =
-    found catalog (goes.fit catalog fit) about ∙ ap (λ (ps : List Placed). records_of (placed ps) (shown mid) table) goes.places ∙ ap (λ (ss : List Shelf). records_of (placed p) ss table) (still fit)
+pub scanned_behind : (catalog : List Table) (old mid : Attached) (table : TableName) (rows : List Record) → GoOn old mid → (AreFit catalog old → HoldTheSame old mid)
+    → (AreFitFor table mid → rows ≡ records_in mid table) → is_played catalog table ≡ true → AreFit catalog old → rows ≡ records_in old table
+scanned_behind catalog old mid table rows goes still found about fit =
+    found (record { catalog = catalog; fit = goes.fit catalog fit; played = about }) ∙ ap (λ (ps : List Placed). records_of (placed ps) (shown mid.shelves) table) goes.places
+    ∙ ap (λ (ss : List Shelf). records_of (placed old.places) ss table) (still fit)
 
 -- nothing became of the stores by a scan more
-pub still_behind : {t u : ℕ → Type 0} (catalog : List Table) (p q : List Placed) (old mid new : List Counted) (table : TableName) → GoOn p q old mid t u → (AreFit catalog p old t → shown mid ≡ shown old)
-    → ((c : List Table) → AreFit c q mid u → is_played c table ≡ true → shown new ≡ shown mid) → is_played catalog table ≡ true → AreFit catalog p old t → shown new ≡ shown old
-still_behind catalog p q old mid new table goes before after about fit = after catalog (goes.fit catalog fit) about ∙ before fit
+pub still_behind : (catalog : List Table) (old mid new : Attached) (table : TableName) → GoOn old mid → (AreFit catalog old → HoldTheSame old mid) → (AreFitFor table mid → HoldTheSame mid new) → is_played catalog table ≡ true → AreFit catalog old → HoldTheSame old new
+still_behind catalog old mid new table goes before after about fit = after (record { catalog = catalog; fit = goes.fit catalog fit; played = about }) ∙ before fit
 
 -- each table that is looked at is one of the run's
 pub looked_about : (catalog : List Table) (ts : List TableName) (i : ℕ) (table : TableName) → ts ≡ run_tables catalog → slice_get ts i ≡ Some table → is_played catalog table ≡ true
@@ -126,26 +126,26 @@ looked_about catalog ts i table all here =
     all_at (λ (n : TableName). is_played catalog n ≡ true) ts i table (subst (AllByRecursion (λ (n : TableName). is_played catalog n ≡ true)) (sym all) (names_played catalog)) here
 
 -- what the tables so far hold
-abbrev pub looked : List Placed → List Counted → List TableName → ℕ → List Record
-looked places shelves ts i = flat_map (records_of (placed places) (shown shelves)) (take i ts)
+abbrev pub looked : Attached → List TableName → ℕ → List Record
+looked stores ts i = flat_map (records_in stores) (take i ts)
 
 -- a table that holds no record
-pub look_on : {t u : ℕ → Type 0} (catalog : List Table) (p q : List Placed) (old mid : List Counted) (ts : List TableName) (i : ℕ) (table : TableName) (rows : List Record) (first : Option Key) → ts ≡ run_tables catalog → slice_get ts i ≡ Some table → GoOn p q old mid t u → (AreFit catalog p old t → shown mid ≡ shown old)
-    → (AreFit catalog p old t → looked p old ts i ≡ []) → ((c : List Table) → AreFit c q mid u → is_played c table ≡ true → rows ≡ records_of (placed q) (shown mid) table) → first ≡ first_key rows → first ≡ None
-    → AreFit catalog p old t → looked p old ts (i + 1) ≡ []
-look_on catalog p q old mid ts i table rows first all here goes still before found is none fit =
-    let rows_are = scanned_behind catalog p q old mid table rows goes still found (looked_about catalog ts i table all here) fit in
-    ap (looked p old ts) (add-one i) ∙ none_behind (records_of (placed p) (shown old)) ts i table here (before fit) (sym rows_are ∙ none_first rows (sym is ∙ none))
+pub look_on : (catalog : List Table) (old mid : Attached) (ts : List TableName) (i : ℕ) (table : TableName) (rows : List Record) (first : Option Key) → ts ≡ run_tables catalog → slice_get ts i ≡ Some table → GoOn old mid → (AreFit catalog old → HoldTheSame old mid)
+    → (AreFit catalog old → looked old ts i ≡ []) → (AreFitFor table mid → rows ≡ records_in mid table) → first ≡ first_key rows → first ≡ None
+    → AreFit catalog old → looked old ts (i + 1) ≡ []
+look_on catalog old mid ts i table rows first all here goes still before found is none fit =
+    let rows_are = scanned_behind catalog old mid table rows goes still found (looked_about catalog ts i table all here) fit in
+    ap (looked old ts) (add-one i) ∙ none_behind (records_in old) ts i table here (before fit) (sym rows_are ∙ none_first rows (sym is ∙ none))
 
 -- a table that holds one
-pub look_found : {t u : ℕ → Type 0} (catalog : List Table) (p q : List Placed) (old mid : List Counted) (ts : List TableName) (i : ℕ) (table : TableName) (rows : List Record) (first : Option Key) (key : Key) → ts ≡ run_tables catalog → slice_get ts i ≡ Some table → GoOn p q old mid t u → (AreFit catalog p old t → shown mid ≡ shown old)
-    → (AreFit catalog p old t → looked p old ts i ≡ []) → ((c : List Table) → AreFit c q mid u → is_played c table ≡ true → rows ≡ records_of (placed q) (shown mid) table) → first ≡ first_key rows → first ≡ Some key
-    → AreFit catalog p old t → Some key ≡ first_key (opening_records catalog (placed p) (shown old))
-look_found catalog p q old mid ts i table rows first key all here goes still before found is some fit =
-    let rows_are = scanned_behind catalog p q old mid table rows goes still found (looked_about catalog ts i table all here) fit in
-    sym (ap (λ (xs : List TableName). first_key (flat_map (records_of (placed p) (shown old)) xs)) (sym all) ∙ first_behind (records_of (placed p) (shown old)) ts i table key here (before fit) (ap first_key (sym rows_are) ∙ sym is ∙ some))
+pub look_found : (catalog : List Table) (old mid : Attached) (ts : List TableName) (i : ℕ) (table : TableName) (rows : List Record) (first : Option Key) (key : Key) → ts ≡ run_tables catalog → slice_get ts i ≡ Some table → GoOn old mid → (AreFit catalog old → HoldTheSame old mid)
+    → (AreFit catalog old → looked old ts i ≡ []) → (AreFitFor table mid → rows ≡ records_in mid table) → first ≡ first_key rows → first ≡ Some key
+    → AreFit catalog old → Some key ≡ first_key (opening_in catalog old)
+look_found catalog old mid ts i table rows first key all here goes still before found is some fit =
+    let rows_are = scanned_behind catalog old mid table rows goes still found (looked_about catalog ts i table all here) fit in
+    sym (ap (λ (xs : List TableName). first_key (flat_map (records_in old) xs)) (sym all) ∙ first_behind (records_in old) ts i table key here (before fit) (ap first_key (sym rows_are) ∙ sym is ∙ some))
 
 -- all hold none
-pub look_done : {t : ℕ → Type 0} (catalog : List Table) (p : List Placed) (old : List Counted) (ts : List TableName) (i : ℕ) → ts ≡ run_tables catalog → length ts ≤ i → (AreFit catalog p old t → looked p old ts i ≡ []) → AreFit catalog p old t → None ≡ first_key (opening_records catalog (placed p) (shown old))
-look_done catalog p old ts i all up before fit =
-    sym (ap first_key (ap (flat_map (records_of (placed p) (shown old))) (sym all ∙ sym (taken_up ts i up)) ∙ before fit))
+pub look_done : (catalog : List Table) (old : Attached) (ts : List TableName) (i : ℕ) → ts ≡ run_tables catalog → length ts ≤ i → (AreFit catalog old → looked old ts i ≡ []) → AreFit catalog old → None ≡ first_key (opening_in catalog old)
+look_done catalog old ts i all up before fit =
+    sym (ap first_key (ap (flat_map (records_in old)) (sym all ∙ sym (taken_up ts i up)) ∙ before fit))

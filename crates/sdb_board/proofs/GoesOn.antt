@@ -7,22 +7,23 @@ use Rattle.std.proofs.lemmas.List.Quantifiers.{any-set}
 use Rattle.std.proofs.lemmas.Option.{get_or_from_slice_get, slice_get_within}
 use Rattle.sdb_types.specs.declared.record.Request.{Request}
 use Rattle.sdb_types.specs.declared.record.Reply.{Reply}
-use Rattle.sdb_stores.specs.Shelf.{Shelf as Counted, AreDistinct, HaveRisen, IsCallAt, names_of, home, place_of, placed_on}
+use Rattle.sdb_stores.specs.Shelf.{Attached, Shelf as Counted, AreDistinct, HaveRisen, IsCallAt, names_of, home, home_in, place_of, placed_on}
 use Rattle.sdb_stores.specs.declared.place.Place.{Place as Placed}
 use Rattle.sdb_stores.proofs.Called.{same_names, grown}
+use Rattle.sdb_schema.specs.declared.table.Table.{Table}
 use Rattle.sdb_model.specs.declared.event.Event.{Event}
 use Rattle.sdb_model.specs.declared.script.Place.{Place}
 use Rattle.sdb_model.specs.Rows.{Name}
 use Rattle.sdb_model.specs.Events.{Shelf, IsTrace, Effect}
-use Rattle.sdb_board.specs.Board.{GoOn, IsFull, Refuses}
+use Rattle.sdb_board.specs.Board.{AreFit, GoOn, IsFull, Refuses}
 use Rattle.sdb_board.specs.declared.refused.CallRefused.{CallRefused}
 use Rattle.sdb_board.specs.declared.refused.CallRefused.TheVariants as refused
 
-pub goes_none : {told : ℕ → Type 0} (places : List Placed) (old : List Counted) → GoOn places places old old told told
-goes_none places old = record { places = refl; names = refl; counted = omega arith; full = λ m. m; fit = λ catalog f. f; telling = λ at h. h }
+pub goes_none : (stores : Attached) → GoOn stores stores
+goes_none stores = record { places = refl; names = refl; counted = omega arith; full = λ m. m; fit = λ catalog f. f; telling = λ at h. h }
 
-pub goes_more : {t u v : ℕ → Type 0} (p q r : List Placed) (a b c : List Counted) → GoOn p q a b t u → GoOn q r b c u v → GoOn p r a c t v
-goes_more p q r a b c g h = record {
+pub goes_more : (a b c : Attached) → GoOn a b → GoOn b c → GoOn a c
+goes_more a b c g h = record {
   places = h.places ∙ g.places;
   names = h.names ∙ g.names;
   counted = omega (arith, g.counted, h.counted);
@@ -35,49 +36,58 @@ same_length : (old new : List Counted) → names_of new ≡ names_of old → len
 same_length old new e = sym (length-map new (λ (s : Counted). s.name)) ∙ ap length e ∙ length-map old (λ (s : Counted). s.name)
 
 -- no count falls, so one at its greatest value stays there
-full_call : {told tells : ℕ → Type 0} (at : ℕ) (q : Request) (r : Reply) (old new : List Counted) → IsCallAt at q r old new told tells → IsFull old → IsFull new
+full_call : (at : ℕ) (q : Request) (r : Reply) (old new : Attached) → IsCallAt at q r old new → IsFull old.shelves → IsFull new.shelves
 full_call at q r old new call (i, s, within, is, most) = subst IsFull (sym call.rest) (by (i == at) refl)
   where
-    by : (b : Bool) → (i == at) ≡ b → IsFull (slice_set old at call.now)
+    by : (b : Bool) → (i == at) ≡ b → IsFull (slice_set old.shelves at call.now)
     by true e =
         let here : i ≡ at = eqb-true i at e in
-        let same : s ≡ call.before = sym is ∙ ap (λ (k : ℕ). get_or old k s) here ∙ get_or_from_slice_get old at call.before s call.stood in
+        let same : s ≡ call.before = sym is ∙ ap (λ (k : ℕ). get_or old.shelves k s) here ∙ get_or_from_slice_get old.shelves at call.before s call.stood in
         let spent : 2 ^ 64 - 1 ≤ call.before.faults = subst (λ (x : Counted). 2 ^ 64 - 1 ≤ x.faults) same most in
-        any-set (λ s. 2 ^ 64 - 1 ≤ s.faults) old at call.now (slice_get_within old at call.before call.stood) (omega (arith, call.counted, spent))
-    by false e = (i, s, subst (λ (n : ℕ). i < n) (sym (length-set old at call.now)) within, get_or-set_other old at i call.now s (λ k. eqb-false i at e k) ∙ is, most)
-
-pub goes_call : {told tells : ℕ → Type 0} (at : ℕ) (places : List Placed) (old new : List Counted) (q : Request) (r : Reply) → IsCallAt at q r old new told tells → GoOn places places old new told tells
-goes_call {told} at places old new q r call =
-    let names : names_of new ≡ names_of old = same_names at q r old new call in
-    record {
-      places = refl;
-      names = names;
-      counted = grown at q r old new call;
-      full = full_call at q r old new call;
-      fit = λ catalog f. record {
-        some = subst (λ (n : ℕ). 0 < n) (sym (same_length old new names)) f.some;
-        distinct = subst AreDistinct (sym names) f.distinct;
-        homed = λ ns. subst (λ (xs : List Name). IfSome (placed_on ns places) (λ store. IsSome (place_of store xs))) (sym names) (f.homed ns);
-        telling = λ table about. call.telling (home table.ns places (names_of new)) (subst (λ (ns : List Name). told (home table.ns places ns)) (sym names) (f.telling table about));
-      };
-      telling = call.telling;
-    }
+        any-set (λ s. 2 ^ 64 - 1 ≤ s.faults) old.shelves at call.now (slice_get_within old.shelves at call.before call.stood) (omega (arith, call.counted, spent))
+    by false e = (i, s, subst (λ (n : ℕ). i < n) (sym (length-set old.shelves at call.now)) within, get_or-set_other old.shelves at i call.now s (λ k. eqb-false i at e k) ∙ is, most)
 
 pub some_more : (old new : List Counted) → names_of new ≡ names_of old → 0 < length old → 0 < length new
 some_more old new e some = subst (λ (n : ℕ). 0 < n) (sym (same_length old new e)) some
 
+-- stores with the same names and places stay fit
+fit_on : (catalog : List Table) (old new : Attached) → new.places ≡ old.places → names_of new.shelves ≡ names_of old.shelves → ((at : ℕ) → old.tells at → new.tells at) → AreFit catalog old → AreFit catalog new
+fit_on catalog old new places names telling f = record {
+  some = some_more old.shelves new.shelves names f.some;
+  distinct = subst AreDistinct (sym names) f.distinct;
+  homed = λ ns.
+      subst (λ (ps : List Placed). IfSome (placed_on ns ps) (λ store. IsSome (place_of store (names_of new.shelves)))) (sym places)
+      (subst (λ (xs : List Name). IfSome (placed_on ns old.places) (λ store. IsSome (place_of store xs))) (sym names) (f.homed ns));
+  telling = λ table about.
+      telling (home_in new table.ns)
+      (subst (λ (ps : List Placed). old.tells (home table.ns ps (names_of new.shelves))) (sym places)
+      (subst (λ (xs : List Name). old.tells (home table.ns old.places xs)) (sym names) (f.telling table about)));
+}
+
+pub goes_call : (at : ℕ) (old new : Attached) (q : Request) (r : Reply) → new.places ≡ old.places → IsCallAt at q r old new → GoOn old new
+goes_call at old new q r places call =
+    let names : names_of new.shelves ≡ names_of old.shelves = same_names at q r old new call in
+    record {
+      places = places;
+      names = names;
+      counted = grown at q r old new call;
+      full = full_call at q r old new call;
+      fit = λ catalog f. fit_on catalog old new places names call.telling f;
+      telling = call.telling;
+    }
+
 ---- why a scan stopped
 
-risen_more : {t u : ℕ → Type 0} (p q : List Placed) (old mid new : List Counted) → GoOn p q old mid t u → HaveRisen mid new → HaveRisen old new
-risen_more p q old mid new g h = elim h [
+risen_more : (old mid : Attached) (new : List Counted) → GoOn old mid → HaveRisen mid.shelves new → HaveRisen old.shelves new
+risen_more old mid new g h = elim h [
   | inl rose ↦ inl (omega (arith, g.counted, rose))
   | inr most ↦ inr most
 ]
 
 -- what stopped a call after others stopped them all
-pub refused_after : {t u : ℕ → Type 0} (p q : List Placed) (old mid new : List Counted) (e : CallRefused) → GoOn p q old mid t u → Refuses mid new e → Refuses old new e
-refused_after p q old mid new refused.StoreFault g h = risen_more p q old mid new g h
-refused_after p q old mid new refused.NoMemory g h = tt
+pub refused_after : (old mid : Attached) (new : List Counted) (e : CallRefused) → GoOn old mid → Refuses mid.shelves new e → Refuses old.shelves new e
+refused_after old mid new refused.StoreFault g h = risen_more old mid new g h
+refused_after old mid new refused.NoMemory g h = tt
 
 -- what is so of an error that is passed on
 pub passed : {T : Type 0} (P : CallRefused → Type 0) (r : Result T CallRefused) (e : CallRefused) → IsErrAnd r (λ y. y ≡ e) → P e → IfErr r P

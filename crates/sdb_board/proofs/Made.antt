@@ -1,5 +1,5 @@
 -- One call on the store of its table, as events have it.
-use Rattle.std.proofs.Common.{◌≡◌, ◌≢◌, ℕ, true, false, List, Option, Some, None, inl, inr, refl, sym, ap, ◌∙◌}
+use Rattle.std.proofs.Common.{◌≡◌, ◌≢◌, true, false, List, Option, Some, None, inl, inr, refl, sym, ap, ◌∙◌}
 use Rattle.std.specs.Prelude.{slice_get}
 use Rattle.std.specs.Option.{option_map}
 use Rattle.std.proofs.lemmas.Option.{slice_get-map}
@@ -11,14 +11,12 @@ use Rattle.sdb_types.specs.declared.record.Reply.TheVariants as reply
 use Rattle.sdb_types.specs.Contents.{Contents, after}
 use Rattle.sdb_schema.specs.declared.table.Table.{Table}
 use Rattle.sdb_store.specs.Store.{Performs}
-use Rattle.sdb_stores.specs.Shelf.{Shelf as Counted, IsCallAt, names_of, home, table_of}
-use Rattle.sdb_stores.specs.declared.place.Place.{Place as Placed}
+use Rattle.sdb_stores.specs.Shelf.{Attached, Shelf as Counted, IsCallAt, names_of, home_in, table_of}
 use Rattle.sdb_model.specs.declared.event.How.TheVariants.{Seen, Lost, Discarded}
-use Rattle.sdb_model.specs.declared.script.Place.{Place}
 use Rattle.sdb_model.specs.Rows.{Name}
-use Rattle.sdb_model.specs.Events.{Shelf, IsPerformed, held_by, with_contents, store_of, table_asked}
+use Rattle.sdb_model.specs.Events.{IsPerformed, held_by, with_contents, store_of, table_asked}
 use Rattle.sdb_spread.specs.Spread.{is_played}
-use Rattle.sdb_board.specs.Board.{AreFit, IsCalled, IsMade, how_lost, how_seen, reply_lost, shown, placed}
+use Rattle.sdb_board.specs.Board.{AreFit, HoldTheSame, IsCalled, IsMade, how_lost, how_seen, reply_lost, shown, placed}
 use Rattle.sdb_board.proofs.Shelves.{held_at, set_there, set_still, named_home}
 use Rattle.sdb_types.proofs.Basics.{some_is}
 use Rattle.sdb_model.specs.Calls.{is_read}
@@ -56,41 +54,41 @@ kept q (reply.Rows rows) old new e p = p.1 ∙ stays q old e
 kept q reply.Applied old new e p = p.1 ∙ stays q old e
 kept q (reply.NotMet found) old new e p = p.1 ∙ stays q old e
 
-module _ {told : ℕ → Type 0} (catalog : List Table) (places : List Placed) (old : List Counted) (q : Request) (fit : AreFit catalog places old told) (about : is_played catalog (table_asked q) ≡ true) where
+module _ (catalog : List Table) (old : Attached) (q : Request) (fit : AreFit catalog old) (about : is_played catalog (table_asked q) ≡ true) where
   -- the store at the home of a table is the one of its namespace
-  there_is : (s : Counted) → slice_get old (home (table_of q).ns places (names_of old)) ≡ Some s → store_of (placed places) (shown old) (table_asked q).ns ≡ s.name
+  there_is : (s : Counted) → slice_get old.shelves (home_in old (table_of q).ns) ≡ Some s → store_of (placed old.places) (shown old.shelves) (table_asked q).ns ≡ s.name
   there_is s at =
-      let name : slice_get (names_of old) (home (table_of q).ns places (names_of old)) ≡ Some s.name = slice_get-map (λ (s : Counted). s.name) old (home (table_of q).ns places (names_of old)) ∙ ap (option_map (λ (s : Counted). s.name)) at in
-      let store : s.name ≡ store_of (placed places) (shown old) (table_of q).ns = some_is _ _ (sym name ∙ named_home places old (table_of q).ns fit.some (fit.homed (table_of q).ns)) in
-      ap (λ (t : TableName). store_of (placed places) (shown old) t.ns) (sym (asked q)) ∙ sym store
+      let name : slice_get (names_of old.shelves) (home_in old (table_of q).ns) ≡ Some s.name = slice_get-map (λ (s : Counted). s.name) old.shelves (home_in old (table_of q).ns) ∙ ap (option_map (λ (s : Counted). s.name)) at in
+      let store : s.name ≡ store_of (placed old.places) (shown old.shelves) (table_of q).ns = some_is _ _ (sym name ∙ named_home old.places old.shelves (table_of q).ns fit.some (fit.homed (table_of q).ns)) in
+      ap (λ (t : TableName). store_of (placed old.places) (shown old.shelves) t.ns) (sym (asked q)) ∙ sym store
 
-  told_there : told (home (table_of q).ns places (names_of old))
+  told_there : old.tells (home_in old (table_of q).ns)
   told_there = fit.telling (table_of q) (ap (is_played catalog) (asked q) ∙ about)
 
   -- A call on the store at the home of its table is one on the store of its table's namespace.
-  pub called : {tells : ℕ → Type 0} (new : List Counted) (r : Reply) → IsCallAt (home (table_of q).ns places (names_of old)) q r old new told tells → IsCalled (placed places) q r (shown old) (shown new)
+  pub called : (new : Attached) (r : Reply) → IsCallAt (home_in old (table_of q).ns) q r old new → IsCalled q r old new
   called new r call =
       let there = there_is call.before call.stood in
       record {
         held = call.before.contents;
         left = call.now.contents;
         placed = refl;
-        found = ap (λ (n : Name). held_by (shown old) n) there ∙ held_at old _ call.before fit.distinct call.stood;
+        found = ap (λ (n : Name). held_by (shown old.shelves) n) there ∙ held_at old.shelves _ call.before fit.distinct call.stood;
         performed = performed q r call.before.contents call.now.contents (call.performed told_there);
-        others = ap shown call.rest ∙ set_there old _ call.before call.now fit.distinct call.stood call.name ∙ ap (λ (n : Name). with_contents (shown old) n call.now.contents) (sym there);
+        others = ap shown call.rest ∙ set_there old.shelves _ call.before call.now fit.distinct call.stood call.name ∙ ap (λ (n : Name). with_contents (shown old.shelves) n call.now.contents) (sym there);
       }
 
-  pub still : {tells : ℕ → Type 0} (new : List Counted) (r : Reply) → IsCallAt (home (table_of q).ns places (names_of old)) q r old new told tells → is_read q ≡ true → shown new ≡ shown old
-  still new r call e = ap shown call.rest ∙ set_still old _ call.before call.now call.stood call.name (kept q r call.before.contents call.now.contents e (call.performed told_there))
+  pub still : (new : Attached) (r : Reply) → IsCallAt (home_in old (table_of q).ns) q r old new → is_read q ≡ true → HoldTheSame old new
+  still new r call e = ap shown call.rest ∙ set_still old.shelves _ call.before call.now call.stood call.name (kept q r call.before.contents call.now.contents e (call.performed told_there))
 
   -- A call that is discarded is made on no store.
-  pub discarded : IsMade (placed places) q Discarded reply.Fault (shown old) (shown old)
-  discarded = by (slice_get old (home (table_of q).ns places (names_of old))) refl
+  pub discarded : IsMade q Discarded reply.Fault old old
+  discarded = by (slice_get old.shelves (home_in old (table_of q).ns)) refl
     where
-      by : (o : Option Counted) → slice_get old (home (table_of q).ns places (names_of old)) ≡ o → IsMade (placed places) q Discarded reply.Fault (shown old) (shown old)
+      by : (o : Option Counted) → slice_get old.shelves (home_in old (table_of q).ns) ≡ o → IsMade q Discarded reply.Fault old old
       by None at =
-          let name = slice_get-map (λ (s : Counted). s.name) old (home (table_of q).ns places (names_of old)) ∙ ap (option_map (λ (s : Counted). s.name)) at in
-          absurd (none_some _ (sym name ∙ named_home places old (table_of q).ns fit.some (fit.homed (table_of q).ns)))
+          let name = slice_get-map (λ (s : Counted). s.name) old.shelves (home_in old (table_of q).ns) ∙ ap (option_map (λ (s : Counted). s.name)) at in
+          absurd (none_some _ (sym name ∙ named_home old.places old.shelves (table_of q).ns fit.some (fit.homed (table_of q).ns)))
         where
           none_some : {A : Type 0} (x : A) → ◌≡◌ {A = Option A} None (Some x) → ⊥
           none_some x e = cc
@@ -100,14 +98,14 @@ module _ {told : ℕ → Type 0} (catalog : List Table) (places : List Placed) (
             held = s.contents;
             left = s.contents;
             placed = refl;
-            found = ap (λ (n : Name). held_by (shown old) n) there ∙ held_at old _ s fit.distinct at;
+            found = ap (λ (n : Name). held_by (shown old.shelves) n) there ∙ held_at old.shelves _ s fit.distinct at;
             performed = (refl, refl);
-            others = sym (set_still old _ s s at refl refl) ∙ set_there old _ s s fit.distinct at refl ∙ ap (λ (n : Name). with_contents (shown old) n s.contents) (sym there);
+            others = sym (set_still old.shelves _ s s at refl refl) ∙ set_there old.shelves _ s s fit.distinct at refl ∙ ap (λ (n : Name). with_contents (shown old.shelves) n s.contents) (sym there);
           }
 
 -- a call that answered, and whose reply is lost
-loses : (places : List Place) (q : Request) (r : Reply) (before now : List Shelf) → IsMade places q Seen r before now → r ≢ reply.NoMemory → IsMade places q Lost reply.Fault before now
-loses places q r before now c memory = record {
+loses : (q : Request) (r : Reply) (old new : Attached) → IsMade q Seen r old new → r ≢ reply.NoMemory → IsMade q Lost reply.Fault old new
+loses q r old new c memory = record {
   held = c.held;
   left = c.left;
   placed = c.placed;
@@ -120,10 +118,10 @@ loses places q r before now c memory = record {
 }
 
 -- a call whose reply is lost
-pub lost : (places : List Place) (q : Request) (r : Reply) (before now : List Shelf) → IsCalled places q r before now → IsMade places q (how_lost r) (reply_lost r) before now
-lost places q reply.Fault before now c = c
-lost places q reply.NoMemory before now c = c
-lost places q (reply.Found found) before now c = loses places q (reply.Found found) before now c (λ e. cc)
-lost places q (reply.Rows rows) before now c = loses places q (reply.Rows rows) before now c (λ e. cc)
-lost places q reply.Applied before now c = loses places q reply.Applied before now c (λ e. cc)
-lost places q (reply.NotMet found) before now c = loses places q (reply.NotMet found) before now c (λ e. cc)
+pub lost : (q : Request) (r : Reply) (old new : Attached) → IsCalled q r old new → IsMade q (how_lost r) (reply_lost r) old new
+lost q reply.Fault old new c = c
+lost q reply.NoMemory old new c = c
+lost q (reply.Found found) old new c = loses q (reply.Found found) old new c (λ e. cc)
+lost q (reply.Rows rows) old new c = loses q (reply.Rows rows) old new c (λ e. cc)
+lost q reply.Applied old new c = loses q reply.Applied old new c (λ e. cc)
+lost q (reply.NotMet found) old new c = loses q (reply.NotMet found) old new c (λ e. cc)

@@ -5,7 +5,7 @@ use Rattle.sdb_types.specs.declared.record.Request.{Request}
 use Rattle.sdb_types.specs.declared.record.Reply.{Reply}
 use Rattle.sdb_types.specs.declared.record.Reply.TheVariants as reply
 use Rattle.sdb_schema.specs.declared.table.Table.{Table}
-use Rattle.sdb_stores.specs.Shelf.{Shelf as Counted, AreDistinct, HaveRisen, home, names_of, place_of, placed_on, total_faults}
+use Rattle.sdb_stores.specs.Shelf.{Attached, Shelf as Counted, AreDistinct, HaveRisen, home_in, names_of, place_of, placed_on, total_faults}
 use Rattle.sdb_stores.specs.declared.place.Place.{Place as Placed}
 use Rattle.sdb_model.specs.declared.event.How.{How}
 use Rattle.sdb_model.specs.declared.event.How.TheVariants.{Seen, Lost, Broken}
@@ -24,16 +24,26 @@ abbrev pub placed : List Placed → List Place
 placed places = map (λ p. record { ns = p.ns; store = p.store }) places
 
 -- The store of each table of a run over a catalog tells what it holds.
-abbrev pub AreTold : List Table → List Placed → List Counted → (ℕ → Type 0) → Type 0
-AreTold catalog places shelves tells = (table : TableName) → is_played catalog table ≡ true → tells (home table.ns places (names_of shelves))
+abbrev pub AreTold : List Table → Attached → Type 0
+AreTold catalog stores = (table : TableName) → is_played catalog table ≡ true → stores.tells (home_in stores table.ns)
 
 -- Stores are fit for a run over a catalog: there is one, no two have one name, each place names one of them, and those of the
 -- run's tables tell what they hold.
-pub record AreFit (catalog : List Table) (places : List Placed) (shelves : List Counted) (tells : ℕ → Type 0) : Type 0 where
-  pub some : 0 < length shelves
-  pub distinct : AreDistinct (names_of shelves)
-  pub homed : (ns : List ℕ) → IfSome (placed_on ns places) (λ store. IsSome (place_of store (names_of shelves)))
-  pub telling : AreTold catalog places shelves tells
+pub record AreFit (catalog : List Table) (stores : Attached) : Type 0 where
+  pub some : 0 < length stores.shelves
+  pub distinct : AreDistinct (names_of stores.shelves)
+  pub homed : (ns : List ℕ) → IfSome (placed_on ns stores.places) (λ store. IsSome (place_of store (names_of stores.shelves)))
+  pub telling : AreTold catalog stores
+
+-- Stores are fit for a run over some catalog, and this table is one of the run's.
+pub record AreFitFor (table : TableName) (stores : Attached) : Type 0 where
+  pub catalog : List Table
+  pub fit : AreFit catalog stores
+  pub played : is_played catalog table ≡ true
+
+-- Stores hold what they held.
+abbrev pub HoldTheSame : Attached → Attached → Type 0
+HoldTheSame old new = shown new.shelves ≡ shown old.shelves
 
 -- The count of some store stands at the greatest value of its type.
 abbrev pub IsFull : List Counted → Type 0
@@ -41,13 +51,13 @@ IsFull shelves = Any (λ s. 2 ^ 64 - 1 ≤ s.faults) shelves
 
 -- Calls change no name and no place, faults add up, a count at its greatest value stays there, stores that are fit for a run stay so, and
 -- those that told what they hold go on telling it.
-pub record GoOn (before after : List Placed) (old new : List Counted) (told tells : ℕ → Type 0) : Type 0 where
-  pub places : after ≡ before
-  pub names : names_of new ≡ names_of old
-  pub counted : total_faults old ≤ total_faults new
-  pub full : IsFull old → IsFull new
-  pub fit : (catalog : List Table) → AreFit catalog before old told → AreFit catalog after new tells
-  pub telling : (at : ℕ) → told at → tells at
+pub record GoOn (old new : Attached) : Type 0 where
+  pub places : new.places ≡ old.places
+  pub names : names_of new.shelves ≡ names_of old.shelves
+  pub counted : total_faults old.shelves ≤ total_faults new.shelves
+  pub full : IsFull old.shelves → IsFull new.shelves
+  pub fit : (catalog : List Table) → AreFit catalog old → AreFit catalog new
+  pub telling : (at : ℕ) → old.tells at → new.tells at
 
 -- Why a call stopped a scan: a fault raised the count of the stores.
 abbrev pub Refuses : List Counted → List Counted → CallRefused → Type 0
@@ -73,9 +83,9 @@ reply_lost reply.NoMemory = reply.NoMemory
 reply_lost r = reply.Fault
 
 -- a request is made on the store of its table, and so it comes out
-abbrev pub IsMade : List Place → Request → How → Reply → List Shelf → List Shelf → Type 0
-IsMade places q how r before now = IsCall places (store_of places before (table_asked q).ns) q how r before now
+abbrev pub IsMade : Request → How → Reply → Attached → Attached → Type 0
+IsMade q how r old new = IsCall (placed old.places) (store_of (placed old.places) (shown old.shelves) (table_asked q).ns) q how r (shown old.shelves) (shown new.shelves)
 
 -- A request that was made on the store of its table.
-abbrev pub IsCalled : List Place → Request → Reply → List Shelf → List Shelf → Type 0
-IsCalled places q r before now = IsMade places q (how_seen r) r before now
+abbrev pub IsCalled : Request → Reply → Attached → Attached → Type 0
+IsCalled q r old new = IsMade q (how_seen r) r old new

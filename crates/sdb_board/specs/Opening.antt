@@ -11,8 +11,10 @@ use Rattle.sdb_types.specs.Contents.{rows_in}
 use Rattle.sdb_types.specs.Order.{table_cmp}
 use Rattle.sdb_record.specs.Coordinator.{coordinator_table}
 use Rattle.sdb_schema.specs.declared.table.Table.{Table}
+use Rattle.sdb_stores.specs.Shelf.{Attached}
 use Rattle.sdb_model.specs.declared.script.Place.{Place}
 use Rattle.sdb_model.specs.Events.{Shelf, held_by, store_of}
+use Rattle.sdb_board.specs.Board.{placed, shown}
 
 -- a whole table
 abbrev pub whole : TableName → Span
@@ -30,9 +32,17 @@ run_tables catalog = insert (table_names catalog) (length (take_while (λ n. is_
 abbrev pub records_of : List Place → List Shelf → TableName → List Record
 records_of places shelves table = option_map_or (rows_in (whole table)) (held_by shelves (store_of places shelves table.ns)) []
 
+-- the same, as stores hold them
+abbrev pub records_in : Attached → TableName → List Record
+records_in stores table = records_of (placed stores.places) (shown stores.shelves) table
+
 -- all records of a run's tables, table by table, in the order of their names
 abbrev pub opening_records : List Table → List Place → List Shelf → List Record
 opening_records catalog places shelves = flat_map (records_of places shelves) (run_tables catalog)
+
+-- the same, as stores hold them
+abbrev pub opening_in : List Table → Attached → List Record
+opening_in catalog stores = opening_records catalog (placed stores.places) (shown stores.shelves)
 
 abbrev pub first_key : List Record → Option Key
 first_key [] = None

@@ -1,9 +1,7 @@
 //! Scans of whole tables, and whether the tables of a run are empty.
-ghost use Rattle.std.specs.Prelude.{◌≡◌, ◌<◌, List, length, true, IfOk, IfErr, OnOk};
-ghost use Rattle.sdb_schema.specs.declared.table.Table.{Table};
-ghost use Rattle.sdb_spread.specs.Spread.{is_played};
-ghost use Rattle.sdb_board.specs.Board.{AreFit, GoOn, Refuses, placed, shown};
-ghost use Rattle.sdb_board.specs.Opening.{first_key as first_key_lem, opening_records, records_of};
+ghost use Rattle.std.specs.Prelude.{◌≡◌, ◌<◌, length, IfOk, IfErr, OnOk};
+ghost use Rattle.sdb_board.specs.Board.{AreFit, AreFitFor, GoOn, HoldTheSame, Refuses};
+ghost use Rattle.sdb_board.specs.Opening.{first_key as first_key_lem, opening_in, records_in};
 
 use crate::calls::call;
 use crate::refused::CallRefused;
@@ -15,11 +13,11 @@ use std::alloc::Global;
 
 /// The records of a table, by one scan.
 pub fn scan<R: Registry>(stores: &mut R, table: &TableName) -> Result<Records, CallRefused>
-    requires some { 0 < length (R.shelves stores.old) }
-    ensures rows { IfOk result (λ rows. (catalog : List Table) → AreFit catalog (R.places stores.old) (R.shelves stores.old) (R.tells stores.old) → is_played catalog table.now ≡ true → rows ≡ records_of (placed (R.places stores.old)) (shown (R.shelves stores.old)) table.now) }
-    ensures still { OnOk result ((catalog : List Table) → AreFit catalog (R.places stores.old) (R.shelves stores.old) (R.tells stores.old) → is_played catalog table.now ≡ true → shown (R.shelves stores.new) ≡ shown (R.shelves stores.old)) }
-    ensures goes { GoOn (R.places stores.old) (R.places stores.new) (R.shelves stores.old) (R.shelves stores.new) (R.tells stores.old) (R.tells stores.new) }
-    ensures err { IfErr result (Refuses (R.shelves stores.old) (R.shelves stores.new)) }
+    requires some { 0 < length (R.state stores.old).shelves }
+    ensures rows { IfOk result (λ rows. AreFitFor table.now (R.state stores.old) → rows ≡ records_in (R.state stores.old) table.now) }
+    ensures still { OnOk result (AreFitFor table.now (R.state stores.old) → HoldTheSame (R.state stores.old) (R.state stores.new)) }
+    ensures goes { GoOn (R.state stores.old) (R.state stores.new) }
+    ensures err { IfErr result (Refuses (R.state stores.old).shelves (R.state stores.new).shelves) }
 {
     let name = table.copy()?;
     let request = Request::Scan(Span {
@@ -51,11 +49,11 @@ pub fn first_record<R: Registry>(
     stores: &mut R,
     catalog: &Catalog,
 ) -> Result<Option<Key>, CallRefused>
-    requires some { 0 < length (R.shelves stores.old) }
-    ensures first { IfOk result (λ first. AreFit catalog.now (R.places stores.old) (R.shelves stores.old) (R.tells stores.old) → first ≡ first_key_lem (opening_records catalog.now (placed (R.places stores.old)) (shown (R.shelves stores.old)))) }
-    ensures still { OnOk result (AreFit catalog.now (R.places stores.old) (R.shelves stores.old) (R.tells stores.old) → shown (R.shelves stores.new) ≡ shown (R.shelves stores.old)) }
-    ensures goes { GoOn (R.places stores.old) (R.places stores.new) (R.shelves stores.old) (R.shelves stores.new) (R.tells stores.old) (R.tells stores.new) }
-    ensures err { IfErr result (Refuses (R.shelves stores.old) (R.shelves stores.new)) }
+    requires some { 0 < length (R.state stores.old).shelves }
+    ensures first { IfOk result (λ first. AreFit catalog.now (R.state stores.old) → first ≡ first_key_lem (opening_in catalog.now (R.state stores.old))) }
+    ensures still { OnOk result (AreFit catalog.now (R.state stores.old) → HoldTheSame (R.state stores.old) (R.state stores.new)) }
+    ensures goes { GoOn (R.state stores.old) (R.state stores.new) }
+    ensures err { IfErr result (Refuses (R.state stores.old).shelves (R.state stores.new).shelves) }
 {
     let tables = run_tables(alloc, catalog)?;
     for table in tables.as_slice() {

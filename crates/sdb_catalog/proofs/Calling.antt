@@ -16,7 +16,7 @@ use Rattle.sdb_store.specs.Store.{Performs}
 use Rattle.sdb_types.specs.declared.record.Request.{Request}
 use Rattle.sdb_types.specs.declared.record.Reply.{Reply}
 use Rattle.sdb_stores.specs.declared.place.Place.{Place}
-use Rattle.sdb_stores.specs.Shelf.{Shelf, IsCallAt, HaveRisen, home, names_of, total_faults}
+use Rattle.sdb_stores.specs.Shelf.{Attached, Shelf, IsCallAt, HaveRisen, home, home_in, names_of, total_faults}
 use Rattle.sdb_stores.proofs.Called.{same_names, grown}
 use Rattle.sdb_catalog.specs.declared.refused.CatalogRefused.{CatalogRefused}
 use Rattle.sdb_catalog.specs.declared.refused.CatalogRefused.TheVariants as refused
@@ -25,12 +25,12 @@ use Rattle.sdb_types.specs.Exact.{equal_of}
 use Rattle.sdb_types.proofs.Basics.{none_some as no_some}
 
 -- without places each namespace belongs to the first store
-pub at_first : {told tells : ℕ → Type 0} (places : List Place) (ns : List ℕ) (q : Request) (r : Reply) (old new : List Shelf) → places ≡ [] → IsCallAt (home ns places (names_of old)) q r old new told tells → IsCallAt 0 q r old new told tells
-at_first {told} {tells} places ns q r old new bare call = subst (λ (at : ℕ). IsCallAt at q r old new told tells) (ap (λ (ps : List Place). home ns ps (names_of old)) bare) call
+pub at_first : (ns : List ℕ) (q : Request) (r : Reply) (old new : Attached) → old.places ≡ [] → IsCallAt (home_in old ns) q r old new → IsCallAt 0 q r old new
+at_first ns q r old new bare call = subst (λ (at : ℕ). IsCallAt at q r old new) (ap (λ (ps : List Place). home ns ps (names_of old.shelves)) bare) call
 
-pub called : {told tells : ℕ → Type 0} (places : List Place) (ns : List ℕ) (q : Request) (r : Reply) (old new : List Shelf) → places ≡ [] → IsCallAt (home ns places (names_of old)) q r old new told tells → Called told q r old new
-called places ns q r old new bare there =
-    let call = at_first places ns q r old new bare there in
+pub called : (ns : List ℕ) (q : Request) (r : Reply) (old new : Attached) → old.places ≡ [] → IsCallAt (home_in old ns) q r old new → Called q r old new.shelves
+called ns q r old new bare there =
+    let call = at_first ns q r old new bare there in
     record {
       before = call.before;
       now = call.now;
@@ -91,38 +91,38 @@ pub first_now : (old new : List Shelf) (before now : Shelf) → slice_get old 0 
 first_now [] new before now h is = no_some before h
 first_now (x ∷ xs) new before now h is = ap first_contents is
 
-pub goes_call : {told tells : ℕ → Type 0} (places : List Place) (ns : List ℕ) (q : Request) (r : Reply) (old new : List Shelf) → places ≡ [] → adds q ≡ true → IsCallAt (home ns places (names_of old)) q r old new told tells → GoOn old new told tells
-goes_call places ns q r old new bare adding there =
-    let call = at_first places ns q r old new bare there in
+pub goes_call : (ns : List ℕ) (q : Request) (r : Reply) (old new : Attached) → old.places ≡ [] → adds q ≡ true → IsCallAt (home_in old ns) q r old new → GoOn old new
+goes_call ns q r old new bare adding there =
+    let call = at_first ns q r old new bare there in
     record {
       kept = λ t k found h.
-          ap (λ (c : Contents). record_at c k) (first_now old new call.before call.now call.stood call.rest)
-          ∙ kept_by q r call.before.contents call.now.contents k found adding (call.performed t) (ap (λ (c : Contents). record_at c k) (sym (first_before old call.before call.stood)) ∙ h);
+          ap (λ (c : Contents). record_at c k) (first_now old.shelves new.shelves call.before call.now call.stood call.rest)
+          ∙ kept_by q r call.before.contents call.now.contents k found adding (call.performed t) (ap (λ (c : Contents). record_at c k) (sym (first_before old.shelves call.before call.stood)) ∙ h);
       names = same_names 0 q r old new call;
-      others = ap (drop 1) call.rest ∙ others_stay old call.now;
+      others = ap (drop 1) call.rest ∙ others_stay old.shelves call.now;
       counted = grown 0 q r old new call;
       telling = call.telling;
     }
 
-pub goes_none : {told : ℕ → Type 0} (old : List Shelf) → GoOn old old told told
+pub goes_none : (old : Attached) → GoOn old old
 goes_none old = record { kept = λ t k found h. h; names = refl; others = refl; counted = omega arith; telling = λ at h. h }
 
-pub goes_more : {told mids tells : ℕ → Type 0} (old mid new : List Shelf) → GoOn old mid told mids → GoOn mid new mids tells → GoOn old new told tells
+pub goes_more : (old mid new : Attached) → GoOn old mid → GoOn mid new → GoOn old new
 goes_more old mid new a b =
     record { kept = λ t k found h. b.kept (a.telling 0 t) k found (a.kept t k found h); names = b.names ∙ a.names; others = b.others ∙ a.others; counted = omega (arith, a.counted, b.counted); telling = λ at h. b.telling at (a.telling at h) }
 
 -- stores that are read alone, and places that come and go
-pub goes_same : {told mids tells : ℕ → Type 0} (old mid new : List Shelf) → GoOn old mid told mids → new ≡ mid → ((at : ℕ) → mids at → tells at) → GoOn old new told tells
-goes_same {told} {mids} {tells} old mid new a same telling =
+pub goes_same : (old mid new : Attached) → GoOn old mid → new.shelves ≡ mid.shelves → ((at : ℕ) → mid.tells at → new.tells at) → GoOn old new
+goes_same old mid new a same telling =
     record {
       kept = λ t k found h. ap (λ (l : List Shelf). record_at (first_contents l) k) same ∙ a.kept t k found h;
       names = ap names_of same ∙ a.names;
       others = ap (drop 1) same ∙ a.others;
-      counted = subst (λ (l : List Shelf). total_faults old ≤ total_faults l) (sym same) a.counted;
+      counted = subst (λ (l : List Shelf). total_faults old.shelves ≤ total_faults l) (sym same) a.counted;
       telling = λ at h. telling at (a.telling at h);
     }
 
-pub risen_more : {told mids : ℕ → Type 0} (old mid new : List Shelf) → GoOn old mid told mids → HaveRisen mid new → HaveRisen old new
+pub risen_more : (old mid : Attached) (new : List Shelf) → GoOn old mid → HaveRisen mid.shelves new → HaveRisen old.shelves new
 risen_more old mid new a h =
     elim h [
       | inl rose ↦ inl (omega (arith, a.counted, rose))
@@ -130,12 +130,12 @@ risen_more old mid new a h =
     ]
 
 -- a call that stopped behind others
-pub stopped_more : {told mids : ℕ → Type 0} (old mid new : List Shelf) (e : CatalogRefused) → GoOn old mid told mids → IsStopped mid new e → IsStopped old new e
+pub stopped_more : (old mid : Attached) (new : List Shelf) (e : CatalogRefused) → GoOn old mid → IsStopped mid.shelves new e → IsStopped old.shelves new e
 stopped_more old mid new refused.StoreFault a h = risen_more old mid new a h
 stopped_more old mid new (refused.BadRow key) a h = h
 stopped_more old mid new refused.NoMemory a h = h
 
-pub stopped_unread : (told : ℕ → Type 0) (old new : List Shelf) (e : CatalogRefused) → IsStopped old new e → IsUnread told old new e
-stopped_unread told old new refused.StoreFault h = h
-stopped_unread told old new (refused.BadRow key) h = absurd h
-stopped_unread told old new refused.NoMemory h = h
+pub stopped_unread : (old : Attached) (new : List Shelf) (e : CatalogRefused) → IsStopped old.shelves new e → IsUnread old new e
+stopped_unread old new refused.StoreFault h = h
+stopped_unread old new (refused.BadRow key) h = absurd h
+stopped_unread old new refused.NoMemory h = h

@@ -23,7 +23,7 @@ use Rattle.sdb_schema.specs.Catalog.{rises, stands_above}
 use Rattle.sdb_schema.specs.Table.{is_table}
 use Rattle.sdb_loader.specs.Words.{is_open}
 use Rattle.sdb_loader.proofs.Names.{name_of_column}
-use Rattle.sdb_stores.specs.Shelf.{Shelf, names_of}
+use Rattle.sdb_stores.specs.Shelf.{Attached, Shelf, names_of}
 use Rattle.sdb_catalog.specs.declared.entry.Entry.{Entry}
 use Rattle.sdb_catalog.specs.Calls.{IsRead, metadata_span}
 use Rattle.sdb_catalog.specs.Opened.{Follow, agrees, are_attached, is_attached, is_coordinators, open_count, open_entries, tables_of}
@@ -157,6 +157,6 @@ tables_rise names passed (e ∷ es) h r =
       | false ↦ and_both (stands_above e.table.name (tables_of es)) (rises (tables_of es)) (above_first e.table.name (tables_of es) (later_lower names passed e es h r)) later
     ]
 
-pub read_rises : {told : ℕ → Type 0} (old new : List Shelf) (es : List Entry) → IsRead told old new es → rises (tables_of es) ≡ true
+pub read_rises : (old : Attached) (new : List Shelf) (es : List Entry) → IsRead old new es → rises (tables_of es) ≡ true
 read_rises old new es read =
-    tables_rise (names_of old) [] es read.opens.follow (ap rise (sym read.opens.rows) ∙ and_first (rise read.rows) (list_all (λ (r : Record). in_span metadata_span r.key) read.rows) read.scanned.lawful)
+    tables_rise (names_of old.shelves) [] es read.opens.follow (ap rise (sym read.opens.rows) ∙ and_first (rise read.rows) (list_all (λ (r : Record). in_span metadata_span r.key) read.rows) read.scanned.lawful)

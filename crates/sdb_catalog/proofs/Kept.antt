@@ -19,11 +19,11 @@ use Rattle.sdb_types.proofs.KeyOrder.{table_total}
 use Rattle.sdb_schema.specs.declared.table.Table.{Table}
 use Rattle.sdb_schema.specs.Catalog.{rises}
 use Rattle.sdb_stores.specs.declared.place.Place.{Place}
-use Rattle.sdb_stores.specs.Shelf.{Shelf, placed_on}
+use Rattle.sdb_stores.specs.Shelf.{Attached, Shelf, placed_on}
 use Rattle.sdb_catalog.specs.declared.entry.Entry.{Entry}
 use Rattle.sdb_catalog.specs.declared.outcome.Outcome.{Outcome}
 use Rattle.sdb_catalog.specs.declared.outcome.Outcome.TheVariants as outcome
-use Rattle.sdb_catalog.specs.Calls.{Called, first_contents, metadata_span}
+use Rattle.sdb_catalog.specs.Calls.{Called, first_contents, metadata_span, with_shelves}
 use Rattle.sdb_catalog.specs.Rows.{metadata_key_of, row_of}
 use Rattle.sdb_catalog.specs.Opened.{Follow, agrees, is_coordinators, open_count, store_in}
 use Rattle.sdb_catalog.specs.Written.{AreWritten, IsWritten, Line, entry_for, grown, has_entry, is_full, put_of}
@@ -70,21 +70,21 @@ put_unmet (Some x) found h q = absurd (let e : Some x ≡ None = q in cc)
 abbrev rows_of : List Shelf → List Record
 rows_of stores = rows_in metadata_span (first_contents stores)
 
-row_added : {told : ℕ → Type 0} (e : Entry) (old new : List Shelf) → told 0 → Called told (put_of e) Applied old new → are_below (row_of e).key (rows_of old) ≡ true → rows_of new ≡ rows_of old ++ row_of e ∷ []
+row_added : (e : Entry) (old : Attached) (new : List Shelf) → old.tells 0 → Called (put_of e) Applied old new → are_below (row_of e).key (rows_of old.shelves) ≡ true → rows_of new ≡ rows_of old.shelves ++ row_of e ∷ []
 row_added e old new t call low =
     let p = call.performed t in
-    let before = first_before old call.before call.stood in
-    let now = first_now old new call.before call.now call.stood call.rest in
+    let before = first_before old.shelves call.before call.stood in
+    let now = first_now old.shelves new call.before call.now call.stood call.rest in
     let none = put_applied (record_at call.before.contents (row_of e).key) p.0 in
     let left : call.now.contents ≡ insert call.before.contents (row_of e).key (row_of e).columns = p.1 ∙ ap (λ (o : Option Record). cond (holds Absent o) (insert call.before.contents (row_of e).key (row_of e).columns) call.before.contents) none in
     ap (rows_in metadata_span) (now ∙ left ∙ ap (λ (m : Contents). insert m (row_of e).key (row_of e).columns) (sym before))
-    ∙ rows_pushed metadata_span (first_contents old) (row_of e).key (row_of e).columns (in_metadata e) low
+    ∙ rows_pushed metadata_span (first_contents old.shelves) (row_of e).key (row_of e).columns (in_metadata e) low
 
-not_unmet : {told : ℕ → Type 0} {X : Type 0} (e : Entry) (found : Record) (old new : List Shelf) → told 0 → Called told (put_of e) (NotMet (Some found)) old new → are_below (row_of e).key (rows_of old) ≡ true → X
+not_unmet : {X : Type 0} (e : Entry) (found : Record) (old : Attached) (new : List Shelf) → old.tells 0 → Called (put_of e) (NotMet (Some found)) old new → are_below (row_of e).key (rows_of old.shelves) ≡ true → X
 not_unmet e found old new t call low =
-    let before = first_before old call.before call.stood in
+    let before = first_before old.shelves call.before call.stood in
     put_unmet (record_at call.before.contents (row_of e).key) found (call.performed t).0
-    (ap (λ (m : Contents). record_at m (row_of e).key) (sym before) ∙ none_at metadata_span (first_contents old) (row_of e).key (in_metadata e) low)
+    (ap (λ (m : Contents). record_at m (row_of e).key) (sym before) ∙ none_at metadata_span (first_contents old.shelves) (row_of e).key (in_metadata e) low)
 
 ---- the order of rows
 
@@ -130,17 +130,17 @@ not_full known e h k =
 abbrev tables : List Line → List Table
 tables ls = map (λ (l : Line). l.table) ls
 
-module _ (told : ℕ → Type 0) (names : List (List ℕ)) (places : List Place) (first : List ℕ) where
+module _ (names : List (List ℕ)) (places : List Place) (first : List ℕ) where
   abbrev entries : List Table → List Entry
   entries ts = map (entry places first) ts
 
   -- what one line leaves
-  one_line : (ds : List Table) (t : Table) (ts : List Table) (o : Outcome) (old new : List Shelf) → told 0 → IsWritten told (entries ds) (entry places first t) o old new → rows_of old ≡ map row_of (entries ds) → rises (ds ++ t ∷ ts) ≡ true → named (ds ++ t ∷ ts) ≡ true
+  one_line : (ds : List Table) (t : Table) (ts : List Table) (o : Outcome) (old : Attached) (new : List Shelf) → old.tells 0 → IsWritten (entries ds) (entry places first t) o old new → rows_of old.shelves ≡ map row_of (entries ds) → rises (ds ++ t ∷ ts) ≡ true → named (ds ++ t ∷ ts) ≡ true
       → (is_coordinators (entry places first t) || nat_lt (open_count (entries ds)) 64) ≡ true → (rows_of new ≡ map row_of (entries (ds ++ t ∷ []))) × (grown (entries ds) (entry places first t) o ≡ entries (ds ++ t ∷ []))
   one_line ds t ts o old new told0 h is up good room =
-      let low : are_below (row_of (entry places first t)).key (rows_of old) ≡ true =
+      let low : are_below (row_of (entry places first t)).key (rows_of old.shelves) ≡ true =
       ap (are_below (row_of (entry places first t)).key) is ∙ rows_below places first ds t ts (earlier_lower ds t ts up) good in
-      elim o as (λ (o : Outcome). IsWritten told (entries ds) (entry places first t) o old new → (rows_of new ≡ map row_of (entries (ds ++ t ∷ []))) × (grown (entries ds) (entry places first t) o ≡ entries (ds ++ t ∷ []))) [
+      elim o as (λ (o : Outcome). IsWritten (entries ds) (entry places first t) o old new → (rows_of new ≡ map row_of (entries (ds ++ t ∷ []))) × (grown (entries ds) (entry places first t) o ≡ entries (ds ++ t ∷ []))) [
         | outcome.Created ↦ λ k.
             let more : entries (ds ++ t ∷ []) ≡ entries ds ++ entry places first t ∷ [] = map-append (entry places first) ds (t ∷ []) in
             (row_added (entry places first t) old new told0 k.1 low ∙ ap (λ (rs : List Record). rs ++ row_of (entry places first t) ∷ []) is ∙ sym (ap (map row_of) more ∙ map-append row_of (entries ds) (entry places first t ∷ [])), sym more)
@@ -149,17 +149,17 @@ module _ (told : ℕ → Type 0) (names : List (List ℕ)) (places : List Place)
         | outcome.Full ↦ λ k. not_full (entries ds) (entry places first t) k.0 room
       ] h
 
-  pub lines_kept : (ds : List Table) (ls : List Line) (old new : List Shelf) → told 0 → AreWritten told places first (entries ds) ls old new → rows_of old ≡ map row_of (entries ds) → rises (ds ++ tables ls) ≡ true → named (ds ++ tables ls) ≡ true → Follow names (entries ds) (entries (tables ls))
+  pub lines_kept : (ds : List Table) (ls : List Line) (old : Attached) (new : List Shelf) → old.tells 0 → AreWritten places first (entries ds) ls old new → rows_of old.shelves ≡ map row_of (entries ds) → rises (ds ++ tables ls) ≡ true → named (ds ++ tables ls) ≡ true → Follow names (entries ds) (entries (tables ls))
       → rows_of new ≡ map row_of (entries (ds ++ tables ls))
   lines_kept ds [] old new told0 h is up good follow = ap rows_of h ∙ is ∙ ap (λ (ts : List Table). map row_of (entries ts)) (sym (append-nil ds))
   lines_kept ds (l ∷ ls) old new told0 h is up good follow =
       let t = l.table in
       let ts = tables ls in
       let same = entry_same places first ds t in
-      let now : IsWritten told (entries ds) (entry places first t) l.outcome old h.0 = subst (λ (e : Entry). IsWritten told (entries ds) e l.outcome old h.0) same h.1 in
+      let now : IsWritten (entries ds) (entry places first t) l.outcome old h.0 = subst (λ (e : Entry). IsWritten (entries ds) e l.outcome old h.0) same h.1 in
       let room = and_second (list_all (agrees (entry places first t)) (entries ds)) (is_coordinators (entry places first t) || nat_lt (open_count (entries ds)) 64) follow.0.1 in
       let one = one_line ds t ts l.outcome old h.0 told0 now is up good room in
-      let rest : AreWritten told places first (entries (ds ++ t ∷ [])) ls h.0 new = subst (λ (es : List Entry). AreWritten told places first es ls h.0 new) (ap (λ (e : Entry). grown (entries ds) e l.outcome) same ∙ one.1) h.2 in
+      let rest : AreWritten places first (entries (ds ++ t ∷ [])) ls (with_shelves old h.0) new = subst (λ (es : List Entry). AreWritten places first es ls (with_shelves old h.0) new) (ap (λ (e : Entry). grown (entries ds) e l.outcome) same ∙ one.1) h.2 in
       let further : Follow names (entries (ds ++ t ∷ [])) (entries ts) = subst (λ (es : List Entry). Follow names es (entries ts)) (sym (map-append (entry places first) ds (t ∷ []))) follow.1 in
-      lines_kept (ds ++ t ∷ []) ls h.0 new told0 rest one.0 (ap rises (append_assoc ds (t ∷ []) ts) ∙ up) (ap named (append_assoc ds (t ∷ []) ts) ∙ good) further
+      lines_kept (ds ++ t ∷ []) ls (with_shelves old h.0) new told0 rest one.0 (ap rises (append_assoc ds (t ∷ []) ts) ∙ up) (ap named (append_assoc ds (t ∷ []) ts) ∙ good) further
       ∙ ap (λ (us : List Table). map row_of (entries us)) (append_assoc ds (t ∷ []) ts)

@@ -15,9 +15,9 @@ use Rattle.sdb_schema.specs.declared.table.Table.{Table}
 use Rattle.sdb_schema.specs.Catalog.{is_catalog, rises}
 use Rattle.sdb_schema.specs.Table.{is_table}
 use Rattle.sdb_stores.specs.declared.place.Place.{Place}
-use Rattle.sdb_stores.specs.Shelf.{Shelf, names_of, placed_on}
+use Rattle.sdb_stores.specs.Shelf.{Attached, Shelf, names_of, placed_on}
 use Rattle.sdb_catalog.specs.declared.entry.Entry.{Entry}
-use Rattle.sdb_catalog.specs.Calls.{Called, IsRead, first_contents, metadata_span}
+use Rattle.sdb_catalog.specs.Calls.{Called, IsRead, first_contents, metadata_span, with_shelves}
 use Rattle.sdb_catalog.specs.Kept.{IsAsKept, IsFresh, IsKept, first_entries}
 use Rattle.sdb_catalog.specs.Opened.{Follow, Opens, store_in, tables_of}
 use Rattle.sdb_catalog.specs.Rows.{row_of}
@@ -33,13 +33,13 @@ rows_same : (a b : List Record) → Rows a ≡ Rows b → a ≡ b
 rows_same a b h = cc
 
 -- a store that tells what it holds shows the rows that it holds
-rows_shown : {told : ℕ → Type 0} (rows : List Record) (old new : List Shelf) → told 0 → Called told (Scan metadata_span) (Rows rows) old new → rows ≡ rows_in metadata_span (first_contents old)
+rows_shown : (rows : List Record) (old : Attached) (new : List Shelf) → old.tells 0 → Called (Scan metadata_span) (Rows rows) old new → rows ≡ rows_in metadata_span (first_contents old.shelves)
 rows_shown rows old new t call =
-    rows_same rows (rows_in metadata_span call.before.contents) (call.performed t).0 ∙ ap (rows_in metadata_span) (sym (first_before old call.before call.stood))
+    rows_same rows (rows_in metadata_span call.before.contents) (call.performed t).0 ∙ ap (rows_in metadata_span) (sym (first_before old.shelves call.before call.stood))
 
-rows_left : {told : ℕ → Type 0} (rows : List Record) (old new : List Shelf) → told 0 → Called told (Scan metadata_span) (Rows rows) old new → rows_in metadata_span (first_contents new) ≡ rows_in metadata_span (first_contents old)
+rows_left : (rows : List Record) (old : Attached) (new : List Shelf) → old.tells 0 → Called (Scan metadata_span) (Rows rows) old new → rows_in metadata_span (first_contents new) ≡ rows_in metadata_span (first_contents old.shelves)
 rows_left rows old new t call =
-    ap (rows_in metadata_span) (first_now old new call.before call.now call.stood call.rest ∙ (call.performed t).1 ∙ sym (first_before old call.before call.stood))
+    ap (rows_in metadata_span) (first_now old.shelves new call.before call.now call.stood call.rest ∙ (call.performed t).1 ∙ sym (first_before old.shelves call.before call.stood))
 
 ---- what is written
 
@@ -47,10 +47,10 @@ no_entries : (es : List Entry) → [] ≡ map row_of es → es ≡ []
 no_entries [] h = refl
 no_entries (e ∷ es) h = absurd (let f : [] ≡ row_of e ∷ map row_of es = h in cc)
 
-pub kept : {told : ℕ → Type 0} (places : List Place) (catalog : List Table) (text : List ℕ) (old new : List Shelf) → is_catalog catalog ≡ true → names_of new ≡ names_of old → IsStored told places catalog text old new → told 0 → IsFresh old places catalog
+pub kept : (places : List Place) (catalog : List Table) (text : List ℕ) (old : Attached) (new : List Shelf) → is_catalog catalog ≡ true → names_of new ≡ names_of old.shelves → IsStored places catalog text old new → old.tells 0 → IsFresh old.shelves places catalog
     → IsKept new places catalog
-kept {told} places catalog text old new sound same stored told0 fresh =
-    let names = names_of old in
+kept places catalog text old new sound same stored told0 fresh =
+    let names = names_of old.shelves in
     let first = stored.first in
     let all = written_tables catalog in
     let few = and_second (rises catalog) (nat_le (length catalog) 64 && list_all is_table catalog) sound in
@@ -58,10 +58,10 @@ kept {told} places catalog text old new sound same stored told0 fresh =
     let follow : Follow names [] (map (entry places first) all) = first_follow names places first catalog each (and_first (nat_le (length catalog) 64) (list_all is_table catalog) few) fresh.named in
     let none : stored.entries ≡ [] = no_entries stored.entries (sym (rows_shown stored.read.rows old stored.mid told0 stored.read.scanned ∙ fresh.none) ∙ stored.read.opens.rows) in
     let lines : List Line = stored.written.lines in
-    let done : AreWritten told places first [] lines stored.mid new = subst (λ (es : List Entry). AreWritten told places first es lines stored.mid new) none stored.written.written in
+    let done : AreWritten places first [] lines (with_shelves old stored.mid) new = subst (λ (es : List Entry). AreWritten places first es lines (with_shelves old stored.mid) new) none stored.written.written in
     let tables : map (λ (l : Line). l.table) lines ≡ all = stored.written.tables in
     let rows : rows_in metadata_span (first_contents new) ≡ map row_of (map (entry places first) all) =
-    lines_kept told names places first [] lines stored.mid new told0 done (rows_left stored.read.rows old stored.mid told0 stored.read.scanned ∙ fresh.none)
+    lines_kept names places first [] lines (with_shelves old stored.mid) new told0 done (rows_left stored.read.rows old stored.mid told0 stored.read.scanned ∙ fresh.none)
     (ap rises tables ∙ written_rise catalog (and_first (rises catalog) (nat_le (length catalog) 64 && list_all is_table catalog) sound) fresh.named)
     (ap (list_all (λ (t : Table). is_name t.name.ns)) tables ∙ each_named names places first all each)
     (subst (λ (ts : List Table). Follow names [] (map (entry places first) ts)) (sym tables) follow)
@@ -90,11 +90,11 @@ module _ (places : List Place) (first : List ℕ) where
         | false ↦ λ q. store_at us i t (omega arith) is
       ] refl
 
-pub read_back : {told : ℕ → Type 0} (es : List Entry) (now : List Place) (opened : List Table) (old mid : List Shelf) → IsRead told old mid es → opened ≡ tables_of es → ((ns : List ℕ) → placed_on ns now ≡ store_in es ns) → told 0 → IsAsKept old opened now
+pub read_back : (es : List Entry) (now : List Place) (opened : List Table) (old : Attached) (mid : List Shelf) → IsRead old mid es → opened ≡ tables_of es → ((ns : List ℕ) → placed_on ns now ≡ store_in es ns) → old.tells 0 → IsAsKept old.shelves opened now
 read_back es now opened old mid read tables placed told0 = λ places catalog kept.
-    let shown : Opens (names_of old) (rows_in metadata_span (first_contents old)) es =
-    subst (λ (rs : List Record). Opens (names_of old) rs es) (rows_shown read.rows old mid told0 read.scanned) read.opens in
-    let same : es ≡ first_entries places kept.first catalog = one_reading (names_of old) (rows_in metadata_span (first_contents old)) es (first_entries places kept.first catalog) shown kept.rows in
+    let shown : Opens (names_of old.shelves) (rows_in metadata_span (first_contents old.shelves)) es =
+    subst (λ (rs : List Record). Opens (names_of old.shelves) rs es) (rows_shown read.rows old mid told0 read.scanned) read.opens in
+    let same : es ≡ first_entries places kept.first catalog = one_reading (names_of old.shelves) (rows_in metadata_span (first_contents old.shelves)) es (first_entries places kept.first catalog) shown kept.rows in
     record {
       same = tables ∙ ap tables_of same ∙ kept.tables;
       first = kept.first;

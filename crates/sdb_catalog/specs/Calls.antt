@@ -1,6 +1,7 @@
 -- Calls on the store of the catalog's rows: the first one.
 use Rattle.std.specs.Prelude.{◌≡◌, ℕ, ◌≤◌, Bool, true, false, List, [], ◌∷◌, drop, Some, None}
 use Rattle.std.specs.FinMap.{empty}
+use Rattle.std.specs.Option.{option_or}
 use Rattle.sdb_types.specs.declared.key.Key.{Key}
 use Rattle.sdb_types.specs.declared.record.Request.{Request}
 use Rattle.sdb_types.specs.declared.record.Condition.TheVariants.{Absent, Version}
@@ -10,20 +11,23 @@ use Rattle.sdb_types.specs.declared.record.Record.{Record}
 use Rattle.sdb_types.specs.declared.record.Reply.{Reply}
 use Rattle.sdb_types.specs.declared.record.Reply.TheVariants.{Rows}
 use Rattle.sdb_types.specs.declared.record.Span.{Span}
-use Rattle.sdb_stores.specs.declared.place.Place.{Place}
 use Rattle.sdb_types.specs.Contents.{Contents, record_at}
 use Rattle.sdb_schema.specs.declared.table.Table.{Table}
-use Rattle.sdb_stores.specs.Shelf.{Shelf, IsCallAt, HaveRisen, names_of, placed_on, total_faults}
+use Rattle.sdb_stores.specs.Shelf.{Attached, Shelf, IsCallAt, HaveRisen, names_of, placed_on, total_faults}
 use Rattle.sdb_catalog.specs.declared.entry.Entry.{Entry}
 use Rattle.sdb_catalog.specs.declared.refused.CatalogRefused.{CatalogRefused}
 use Rattle.sdb_catalog.specs.declared.refused.CatalogRefused.TheVariants as refused
 use Rattle.sdb_catalog.specs.Rows.{metadata_table}
 use Rattle.sdb_catalog.specs.Opened.{Opens, IsFirstBad, store_in, tables_of}
 
+-- the same stores, once they show this
+abbrev pub with_shelves : Attached → List Shelf → Attached
+with_shelves stores shelves = record { places = stores.places; shelves = shelves; tells = stores.tells }
+
 -- One call on the first store, which answers and changes as a map does where it told at the beginning what it holds. Every other
 -- store stays as it was.
-abbrev pub Called : (ℕ → Type 0) → Request → Reply → List Shelf → List Shelf → Type 0
-Called told q r old new = IsCallAt 0 q r old new told told
+abbrev pub Called : Request → Reply → Attached → List Shelf → Type 0
+Called q r old new = IsCallAt 0 q r old (with_shelves old new)
 
 -- the whole table of the catalog's rows
 abbrev pub metadata_span : Span
@@ -44,12 +48,12 @@ adds (ask.DeleteIf key condition) = false
 
 -- Calls change no name and no other store, faults add up, and stores that told what they hold go on telling it. Each record that the
 -- first store held, where it tells that, is there still.
-pub record GoOn (old new : List Shelf) (told tells : ℕ → Type 0) : Type 0 where
-  pub kept : told 0 → (key : Key) (found : Record) → record_at (first_contents old) key ≡ Some found → record_at (first_contents new) key ≡ Some found
-  pub names : names_of new ≡ names_of old
-  pub others : drop 1 new ≡ drop 1 old
-  pub counted : total_faults old ≤ total_faults new
-  pub telling : (at : ℕ) → told at → tells at
+pub record GoOn (old new : Attached) : Type 0 where
+  pub kept : old.tells 0 → (key : Key) (found : Record) → record_at (first_contents old.shelves) key ≡ Some found → record_at (first_contents new.shelves) key ≡ Some found
+  pub names : names_of new.shelves ≡ names_of old.shelves
+  pub others : drop 1 new.shelves ≡ drop 1 old.shelves
+  pub counted : total_faults old.shelves ≤ total_faults new.shelves
+  pub telling : (at : ℕ) → old.tells at → new.tells at
 
 -- why a call gave no reply to go on with
 abbrev pub IsStopped : List Shelf → List Shelf → CatalogRefused → Type 0
@@ -58,26 +62,30 @@ IsStopped old new (refused.BadRow key) = ⊥
 IsStopped old new refused.NoMemory = Unit {0}
 
 -- The rows that one scan of the first store showed open as these entries.
-pub record IsRead (told : ℕ → Type 0) (old new : List Shelf) (es : List Entry) : Type 0 where
+pub record IsRead (old : Attached) (new : List Shelf) (es : List Entry) : Type 0 where
   pub rows : List Record
-  pub scanned : Called told (Scan metadata_span) (Rows rows) old new
-  pub opens : Opens (names_of old) rows es
+  pub scanned : Called (Scan metadata_span) (Rows rows) old new
+  pub opens : Opens (names_of old.shelves) rows es
 
 -- The row of this key is the first bad one of those that one scan of the first store showed.
-pub record IsReadBad (told : ℕ → Type 0) (old new : List Shelf) (key : Key) : Type 0 where
+pub record IsReadBad (old : Attached) (new : List Shelf) (key : Key) : Type 0 where
   pub rows : List Record
-  pub scanned : Called told (Scan metadata_span) (Rows rows) old new
-  pub bad : IsFirstBad (names_of old) rows key
+  pub scanned : Called (Scan metadata_span) (Rows rows) old new
+  pub bad : IsFirstBad (names_of old.shelves) rows key
 
 -- Why the catalog was not read: a fault raised the count of the stores, or a row is bad.
-abbrev pub IsUnread : (ℕ → Type 0) → List Shelf → List Shelf → CatalogRefused → Type 0
-IsUnread told old new refused.StoreFault = HaveRisen old new
-IsUnread told old new (refused.BadRow key) = IsReadBad told old new key
-IsUnread told old new refused.NoMemory = Unit {0}
+abbrev pub IsUnread : Attached → List Shelf → CatalogRefused → Type 0
+IsUnread old new refused.StoreFault = HaveRisen old.shelves new
+IsUnread old new (refused.BadRow key) = IsReadBad old new key
+IsUnread old new refused.NoMemory = Unit {0}
+
+-- Each namespace keeps its place, and otherwise is placed on the store that keeps it.
+abbrev pub ArePlacedBy : List Entry → Attached → Attached → Type 0
+ArePlacedBy entries old new = (ns : List ℕ) → placed_on ns new.places ≡ option_or (placed_on ns old.places) (store_in entries ns)
 
 -- The catalog was opened: these are the tables of its rows, and each namespace is placed on the store that keeps it.
-pub record IsOpened (told : ℕ → Type 0) (old new : List Shelf) (places : List Place) (catalog : List Table) : Type 0 where
+pub record IsOpened (old new : Attached) (catalog : List Table) : Type 0 where
   pub entries : List Entry
-  pub read : IsRead told old new entries
+  pub read : IsRead old new.shelves entries
   pub tables : catalog ≡ tables_of entries
-  pub placed : (ns : List ℕ) → placed_on ns places ≡ store_in entries ns
+  pub placed : (ns : List ℕ) → placed_on ns new.places ≡ store_in entries ns

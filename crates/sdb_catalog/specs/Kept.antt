@@ -5,7 +5,7 @@ use Rattle.sdb_types.specs.Contents.{rows_in}
 use Rattle.sdb_schema.specs.declared.table.Table.{Table}
 use Rattle.sdb_loader.specs.Words.{names_table}
 use Rattle.sdb_stores.specs.declared.place.Place.{Place}
-use Rattle.sdb_stores.specs.Shelf.{Shelf, names_of, placed_on}
+use Rattle.sdb_stores.specs.Shelf.{Attached, Shelf, names_of, placed_on}
 use Rattle.sdb_catalog.specs.declared.entry.Entry.{Entry}
 use Rattle.sdb_catalog.specs.Calls.{first_contents, metadata_span}
 use Rattle.sdb_catalog.specs.Opened.{Opens, is_attached, tables_of}
@@ -28,6 +28,10 @@ pub record IsKept (stores : List Shelf) (places : List Place) (catalog : List Ta
   pub named : slice_get (names_of stores) 0 ≡ Some first
   pub rows : Opens (names_of stores) (rows_in metadata_span (first_contents stores)) (first_entries places first catalog)
   pub tables : tables_of (first_entries places first catalog) ≡ catalog
+
+-- Where the first store tells what it holds and held no row of a catalog, it now keeps this one.
+abbrev pub IsNowKept : Attached → Attached → List Place → List Table → Type 0
+IsNowKept old new places catalog = old.tells 0 → IsFresh old.shelves places catalog → IsKept new.shelves places catalog
 
 -- What was opened is this catalog, and the namespace of each of its tables, and the coordinator's, is placed on the store of its place
 -- among these, or on the first.

@@ -12,14 +12,14 @@ use Rattle.sdb_types.specs.Order.{table_cmp, table_text}
 use Rattle.sdb_schema.specs.declared.table.Table.{Table}
 use Rattle.sdb_schema.specs.Catalog.{with_table}
 use Rattle.sdb_stores.specs.declared.place.Place.{Place}
-use Rattle.sdb_stores.specs.Shelf.{Shelf, names_of, placed_on}
+use Rattle.sdb_stores.specs.Shelf.{Attached, Shelf, names_of, placed_on}
 use Rattle.sdb_catalog.specs.declared.entry.Entry.{Entry}
 use Rattle.sdb_catalog.specs.declared.outcome.Outcome.{Outcome}
 use Rattle.sdb_catalog.specs.declared.outcome.Outcome.TheVariants as outcome
 use Rattle.sdb_catalog.specs.Definition.{definition_text}
 use Rattle.sdb_catalog.specs.Rows.{coordinators, definition_column, row_of, text_at}
 use Rattle.sdb_catalog.specs.Opened.{is_coordinators, open_count, store_in}
-use Rattle.sdb_catalog.specs.Calls.{Called, IsRead}
+use Rattle.sdb_catalog.specs.Calls.{Called, IsRead, with_shelves}
 
 ---- the tables, and what is said of each
 
@@ -53,18 +53,18 @@ abbrev pub HasDefinition : Entry → Record → Type 0
 HasDefinition e found = text_at definition_column found ≡ Some (definition_text e.table)
 
 -- The row of an entry was put, and this came of it: it was created, or one that was there has the same definition or another.
-abbrev pub IsPut : (ℕ → Type 0) → Entry → Outcome → List Shelf → List Shelf → Type 0
-IsPut told e outcome.Created old new = Called told (put_of e) Applied old new
-IsPut told e outcome.Exists old new = (found : Record) × Called told (put_of e) (NotMet (Some found)) old new × HasDefinition e found
-IsPut told e outcome.Differs old new = (found : Record) × Called told (put_of e) (NotMet (Some found)) old new × (HasDefinition e found → ⊥)
-IsPut told e outcome.Full old new = ⊥
+abbrev pub IsPut : Entry → Outcome → Attached → List Shelf → Type 0
+IsPut e outcome.Created old new = Called (put_of e) Applied old new
+IsPut e outcome.Exists old new = (found : Record) × Called (put_of e) (NotMet (Some found)) old new × HasDefinition e found
+IsPut e outcome.Differs old new = (found : Record) × Called (put_of e) (NotMet (Some found)) old new × (HasDefinition e found → ⊥)
+IsPut e outcome.Full old new = ⊥
 
 -- What came of an entry. Where the catalog is full without it there is no call.
-abbrev pub IsWritten : (ℕ → Type 0) → List Entry → Entry → Outcome → List Shelf → List Shelf → Type 0
-IsWritten told known e outcome.Created old new = (is_full known e ≡ false) × IsPut told e outcome.Created old new
-IsWritten told known e outcome.Exists old new = (is_full known e ≡ false) × IsPut told e outcome.Exists old new
-IsWritten told known e outcome.Differs old new = (is_full known e ≡ false) × IsPut told e outcome.Differs old new
-IsWritten told known e outcome.Full old new = (is_full known e ≡ true) × (new ≡ old)
+abbrev pub IsWritten : List Entry → Entry → Outcome → Attached → List Shelf → Type 0
+IsWritten known e outcome.Created old new = (is_full known e ≡ false) × IsPut e outcome.Created old new
+IsWritten known e outcome.Exists old new = (is_full known e ≡ false) × IsPut e outcome.Exists old new
+IsWritten known e outcome.Differs old new = (is_full known e ≡ false) × IsPut e outcome.Differs old new
+IsWritten known e outcome.Full old new = (is_full known e ≡ true) × (new ≡ old.shelves)
 
 -- the entries that are known after it
 abbrev pub grown : List Entry → Entry → Outcome → List Entry
@@ -90,24 +90,24 @@ abbrev pub line_text : Line → List ℕ
 line_text l = word_of l.outcome ++ (table_text l.table.name ++ 10 ∷ [])
 
 -- The tables of the lines were written one after the other, with what each line says.
-abbrev pub AreWritten : (ℕ → Type 0) → List Place → List ℕ → List Entry → List Line → List Shelf → List Shelf → Type 0
-AreWritten told places first known [] old new = new ≡ old
-AreWritten told places first known (l ∷ ls) old new =
-    (mid : List Shelf) × IsWritten told known (entry_for known places first l.table) l.outcome old mid
-    × AreWritten told places first (grown known (entry_for known places first l.table) l.outcome) ls mid new
+abbrev pub AreWritten : List Place → List ℕ → List Entry → List Line → Attached → List Shelf → Type 0
+AreWritten places first known [] old new = new ≡ old.shelves
+AreWritten places first known (l ∷ ls) old new =
+    (mid : List Shelf) × IsWritten known (entry_for known places first l.table) l.outcome old mid
+    × AreWritten places first (grown known (entry_for known places first l.table) l.outcome) ls (with_shelves old mid) new
 
 -- Tables were written one after the other, with a line for each.
-pub record HasWritten (told : ℕ → Type 0) (places : List Place) (first : List ℕ) (known : List Entry) (ts : List Table) (answer : List ℕ) (old new : List Shelf) : Type 0 where
+pub record HasWritten (places : List Place) (first : List ℕ) (known : List Entry) (ts : List Table) (answer : List ℕ) (old : Attached) (new : List Shelf) : Type 0 where
   pub lines : List Line
   pub tables : map (λ l. l.table) lines ≡ ts
-  pub written : AreWritten told places first known lines old new
+  pub written : AreWritten places first known lines old new
   pub text : answer ≡ flat_map line_text lines
 
 -- A catalog was written, with this answer: its rows were read, and then the tables were written.
-pub record IsStored (told : ℕ → Type 0) (places : List Place) (catalog : List Table) (text : List ℕ) (old new : List Shelf) : Type 0 where
+pub record IsStored (places : List Place) (catalog : List Table) (text : List ℕ) (old : Attached) (new : List Shelf) : Type 0 where
   pub entries : List Entry
   pub mid : List Shelf
-  pub read : IsRead told old mid entries
+  pub read : IsRead old mid entries
   pub first : List ℕ
-  pub named : slice_get (names_of old) 0 ≡ Some first
-  pub written : HasWritten told places first entries (written_tables catalog) text mid new
+  pub named : slice_get (names_of old.shelves) 0 ≡ Some first
+  pub written : HasWritten places first entries (written_tables catalog) text (with_shelves old mid) new

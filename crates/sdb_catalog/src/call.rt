@@ -14,15 +14,15 @@ use std::alloc::Global;
 /// Makes a call on the first store, which takes no record out: no namespace is placed.
 #[tactic(auto, using(crate::proofs::Calling::goes_call))]
 pub fn call<R: Registry>(stores: &mut R, request: &Request) -> Result<Reply, CatalogRefused>
-    requires some { 0 < length (R.shelves stores.old) }
-    requires bare { R.places stores.old ≡ [] }
+    requires some { 0 < length (R.state stores.old).shelves }
+    requires bare { (R.state stores.old).places ≡ [] }
     requires adds { adds request.now ≡ true }
-    ensures called { IfOk result (λ reply. Called (R.tells stores.old) request.now reply (R.shelves stores.old) (R.shelves stores.new)) }
+    ensures called { IfOk result (λ reply. Called request.now reply (R.state stores.old) (R.state stores.new).shelves) }
     ensures lawful { IfOk result (λ reply. CanAnswer request.now reply) }
     ensures answered { IfOk result (λ reply. (reply ≢ Reply.Fault) × (reply ≢ Reply.NoMemory)) }
-    ensures places { R.places stores.new ≡ R.places stores.old }
-    ensures goes { GoOn (R.shelves stores.old) (R.shelves stores.new) (R.tells stores.old) (R.tells stores.new) }
-    ensures err { IfErr result (IsStopped (R.shelves stores.old) (R.shelves stores.new)) }
+    ensures places { (R.state stores.new).places ≡ (R.state stores.old).places }
+    ensures goes { GoOn (R.state stores.old) (R.state stores.new) }
+    ensures err { IfErr result (IsStopped (R.state stores.old).shelves (R.state stores.new).shelves) }
 {
     match stores.perform(request) {
         Reply::NoMemory => Err(CatalogRefused::NoMemory),
@@ -33,12 +33,12 @@ pub fn call<R: Registry>(stores: &mut R, request: &Request) -> Result<Reply, Cat
 
 /// The rows of the catalog, in the order of their keys, by one scan.
 pub fn scan<R: Registry>(alloc: Global, stores: &mut R) -> Result<Records, CatalogRefused>
-    requires some { 0 < length (R.shelves stores.old) }
-    requires bare { R.places stores.old ≡ [] }
-    ensures scanned { IfOk result (λ rows. Called (R.tells stores.old) (Scan metadata_span) (Rows rows) (R.shelves stores.old) (R.shelves stores.new)) }
-    ensures places { R.places stores.new ≡ R.places stores.old }
-    ensures goes { GoOn (R.shelves stores.old) (R.shelves stores.new) (R.tells stores.old) (R.tells stores.new) }
-    ensures err { IfErr result (IsStopped (R.shelves stores.old) (R.shelves stores.new)) }
+    requires some { 0 < length (R.state stores.old).shelves }
+    requires bare { (R.state stores.old).places ≡ [] }
+    ensures scanned { IfOk result (λ rows. Called (Scan metadata_span) (Rows rows) (R.state stores.old) (R.state stores.new).shelves) }
+    ensures places { (R.state stores.new).places ≡ (R.state stores.old).places }
+    ensures goes { GoOn (R.state stores.old) (R.state stores.new) }
+    ensures err { IfErr result (IsStopped (R.state stores.old).shelves (R.state stores.new).shelves) }
 {
     let request = Request::Scan(Span {
         table: metadata_table(alloc)?,

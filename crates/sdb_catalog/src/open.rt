@@ -1,13 +1,12 @@
 //! Catalogs opened from their rows.
 ghost use Rattle.std.specs.Prelude.{◌≡◌, ◌<◌, ◌≤◌, ◌∷◌, ℕ, List, [], length, map, filter, not, nat_lt, true, IfOk, IfErr, OnOk, OnErr, IfSome};
 ghost use Rattle.std.specs.List.{list_all};
-ghost use Rattle.std.specs.Option.{option_or};
 ghost use Rattle.sdb_types.specs.declared.record.Record.{Record};
 ghost use Rattle.sdb_schema.specs.Catalog.{rises};
 ghost use Rattle.sdb_schema.specs.Table.{is_table};
 ghost use Rattle.sdb_stores.specs.Shelf.{names_of, placed_on};
 ghost use Rattle.sdb_catalog.specs.declared.entry.Entry.{Entry};
-ghost use Rattle.sdb_catalog.specs.Calls.{GoOn, IsOpened, IsRead, IsUnread};
+ghost use Rattle.sdb_catalog.specs.Calls.{ArePlacedBy, GoOn, IsOpened, IsRead, IsUnread};
 ghost use Rattle.sdb_catalog.specs.Kept.{IsAsKept};
 ghost use Rattle.sdb_catalog.specs.Opened.{are_attached, is_attached, Follows, IsBadAmong, Opens, agrees as agrees_lem, fits as fits_lem, is_coordinators as is_coordinators_lem, open_count, store_in, tables_of};
 ghost use Rattle.sdb_catalog.specs.Rows.{row_of};
@@ -101,12 +100,12 @@ pub fn read_entries<R: Registry>(
     alloc: Global,
     stores: &mut R,
 ) -> Result<Seq<Entry>, CatalogRefused>
-    requires some { 0 < length (R.shelves stores.old) }
-    requires bare { R.places stores.old ≡ [] }
-    ensures read { IfOk result (IsRead (R.tells stores.old) (R.shelves stores.old) (R.shelves stores.new)) }
-    ensures places { R.places stores.new ≡ R.places stores.old }
-    ensures goes { GoOn (R.shelves stores.old) (R.shelves stores.new) (R.tells stores.old) (R.tells stores.new) }
-    ensures err { IfErr result (IsUnread (R.tells stores.old) (R.shelves stores.old) (R.shelves stores.new)) }
+    requires some { 0 < length (R.state stores.old).shelves }
+    requires bare { (R.state stores.old).places ≡ [] }
+    ensures read { IfOk result (IsRead (R.state stores.old) (R.state stores.new).shelves) }
+    ensures places { (R.state stores.new).places ≡ (R.state stores.old).places }
+    ensures goes { GoOn (R.state stores.old) (R.state stores.new) }
+    ensures err { IfErr result (IsUnread (R.state stores.old) (R.state stores.new).shelves) }
 {
     let rows = scan(alloc, stores)?;
     let names = stores.names()?;
@@ -115,10 +114,10 @@ pub fn read_entries<R: Registry>(
 
 // Places a namespace on the store that keeps a table of it, where it has no place.
 fn place_one<R: Registry>(stores: &mut R, entry: &Entry) -> Result<(), NoMemory>
-    requires attached { is_attached (names_of (R.shelves stores.old)) entry.now.store ≡ true }
-    ensures ok { OnOk result ((ns : List ℕ) → placed_on ns (R.places stores.new) ≡ option_or (placed_on ns (R.places stores.old)) (store_in (entry.now ∷ []) ns)) }
-    ensures stores { R.shelves stores.new ≡ R.shelves stores.old }
-    ensures telling { (i : ℕ) → R.tells stores.old i → R.tells stores.new i }
+    requires attached { is_attached (names_of (R.state stores.old).shelves) entry.now.store ≡ true }
+    ensures ok { OnOk result (ArePlacedBy (entry.now ∷ []) (R.state stores.old) (R.state stores.new)) }
+    ensures stores { (R.state stores.new).shelves ≡ (R.state stores.old).shelves }
+    ensures telling { (i : ℕ) → (R.state stores.old).tells i → (R.state stores.new).tells i }
 {
     match stores.place(entry.table.name.ns.copy()?, &entry.store) {
         Ok(()) => Ok(()),
@@ -130,11 +129,11 @@ fn place_one<R: Registry>(stores: &mut R, entry: &Entry) -> Result<(), NoMemory>
 
 // Places each namespace on the store that keeps it.
 fn place_all<R: Registry>(stores: &mut R, entries: &[Entry]) -> Result<(), NoMemory>
-    requires attached { are_attached (names_of (R.shelves stores.old)) entries.now ≡ true }
-    requires bare { R.places stores.old ≡ [] }
-    ensures ok { OnOk result ((ns : List ℕ) → placed_on ns (R.places stores.new) ≡ store_in entries.now ns) }
-    ensures stores { R.shelves stores.new ≡ R.shelves stores.old }
-    ensures telling { (i : ℕ) → R.tells stores.old i → R.tells stores.new i }
+    requires attached { are_attached (names_of (R.state stores.old).shelves) entries.now ≡ true }
+    requires bare { (R.state stores.old).places ≡ [] }
+    ensures ok { OnOk result ((ns : List ℕ) → placed_on ns (R.state stores.new).places ≡ store_in entries.now ns) }
+    ensures stores { (R.state stores.new).shelves ≡ (R.state stores.old).shelves }
+    ensures telling { (i : ℕ) → (R.state stores.old).tells i → (R.state stores.new).tells i }
 {
     for entry in entries {
         place_one(stores, entry)?;
@@ -174,13 +173,13 @@ fn catalog_among(alloc: Global, entries: &[Entry]) -> Result<Catalog, NoMemory>
 ///
 /// Returns the catalog that `store_catalog` wrote, where there was no row before it.
 pub fn open_catalog<R: Registry>(alloc: Global, stores: &mut R) -> Result<Catalog, CatalogRefused>
-    requires some { 0 < length (R.shelves stores.old) }
-    requires bare { R.places stores.old ≡ [] }
-    ensures opened { IfOk result (λ c. IsOpened (R.tells stores.old) (R.shelves stores.old) (R.shelves stores.new) (R.places stores.new) c) }
-    ensures kept { IfOk result (λ c. R.tells stores.old 0 → IsAsKept (R.shelves stores.old) c (R.places stores.new)) }
-    ensures unplaced { OnErr result (R.places stores.new ≡ []) }
-    ensures goes { GoOn (R.shelves stores.old) (R.shelves stores.new) (R.tells stores.old) (R.tells stores.new) }
-    ensures err { IfErr result (IsUnread (R.tells stores.old) (R.shelves stores.old) (R.shelves stores.new)) }
+    requires some { 0 < length (R.state stores.old).shelves }
+    requires bare { (R.state stores.old).places ≡ [] }
+    ensures opened { IfOk result (λ c. IsOpened (R.state stores.old) (R.state stores.new) c) }
+    ensures kept { IfOk result (λ c. (R.state stores.old).tells 0 → IsAsKept (R.state stores.old).shelves c (R.state stores.new).places) }
+    ensures unplaced { OnErr result ((R.state stores.new).places ≡ []) }
+    ensures goes { GoOn (R.state stores.old) (R.state stores.new) }
+    ensures err { IfErr result (IsUnread (R.state stores.old) (R.state stores.new).shelves) }
 {
     let entries = read_entries(alloc, stores)?;
     match placed(alloc, stores, entries.as_slice()) {
@@ -198,15 +197,15 @@ fn placed<R: Registry>(
     stores: &mut R,
     entries: &[Entry],
 ) -> Result<Catalog, NoMemory>
-    requires attached { are_attached (names_of (R.shelves stores.old)) entries.now ≡ true }
-    requires bare { R.places stores.old ≡ [] }
+    requires attached { are_attached (names_of (R.state stores.old).shelves) entries.now ≡ true }
+    requires bare { (R.state stores.old).places ≡ [] }
     requires tables { list_all is_table (tables_of entries.now) ≡ true }
     requires rise { rises (tables_of entries.now) ≡ true }
     requires few { length (tables_of entries.now) ≤ 64 }
     ensures catalog { IfOk result (λ c. c ≡ tables_of entries.now) }
-    ensures placed { OnOk result ((ns : List ℕ) → placed_on ns (R.places stores.new) ≡ store_in entries.now ns) }
-    ensures stores { R.shelves stores.new ≡ R.shelves stores.old }
-    ensures telling { (i : ℕ) → R.tells stores.old i → R.tells stores.new i }
+    ensures placed { OnOk result ((ns : List ℕ) → placed_on ns (R.state stores.new).places ≡ store_in entries.now ns) }
+    ensures stores { (R.state stores.new).shelves ≡ (R.state stores.old).shelves }
+    ensures telling { (i : ℕ) → (R.state stores.old).tells i → (R.state stores.new).tells i }
 {
     place_all(stores, entries)?;
     catalog_among(alloc, entries)

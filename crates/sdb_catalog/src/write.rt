@@ -11,7 +11,7 @@ ghost use Rattle.sdb_loader.specs.Described.{catalog_in};
 ghost use Rattle.sdb_stores.specs.Shelf.{names_of, placed_on};
 ghost use Rattle.sdb_catalog.specs.declared.entry.Entry.{Entry};
 ghost use Rattle.sdb_catalog.specs.Calls.{GoOn, IsStopped, IsUnread};
-ghost use Rattle.sdb_catalog.specs.Kept.{IsFresh, IsKept};
+ghost use Rattle.sdb_catalog.specs.Kept.{IsNowKept};
 ghost use Rattle.sdb_catalog.specs.Opened.{store_in as store_in_lem};
 ghost use Rattle.sdb_catalog.specs.Rows.{definition_column, text_at as text_at_lem};
 ghost use Rattle.sdb_catalog.specs.Written.{HasWritten, IsPut, IsStored, IsWritten, entry_for as entry_for_lem, grown, has_entry as has_entry_lem, is_full as is_full_lem, line_text, store_for as store_for_lem, word_of as word_of_lem, written_tables as written_tables_lem, HasDefinition};
@@ -100,13 +100,13 @@ fn has_definition(found: &Record, definition: &Txt) -> bool
 
 // Puts the row of an entry where there is none.
 fn put<R: Registry>(alloc: Global, stores: &mut R, entry: &Entry) -> Result<Outcome, CatalogRefused>
-    requires some { 0 < length (R.shelves stores.old) }
-    requires bare { R.places stores.old ≡ [] }
+    requires some { 0 < length (R.state stores.old).shelves }
+    requires bare { (R.state stores.old).places ≡ [] }
     requires columns { rises entry.now.table.columns ≡ true }
-    ensures put { IfOk result (λ o. IsPut (R.tells stores.old) entry.now o (R.shelves stores.old) (R.shelves stores.new)) }
-    ensures places { R.places stores.new ≡ R.places stores.old }
-    ensures goes { GoOn (R.shelves stores.old) (R.shelves stores.new) (R.tells stores.old) (R.tells stores.new) }
-    ensures err { IfErr result (IsStopped (R.shelves stores.old) (R.shelves stores.new)) }
+    ensures put { IfOk result (λ o. IsPut entry.now o (R.state stores.old) (R.state stores.new).shelves) }
+    ensures places { (R.state stores.new).places ≡ (R.state stores.old).places }
+    ensures goes { GoOn (R.state stores.old) (R.state stores.new) }
+    ensures err { IfErr result (IsStopped (R.state stores.old).shelves (R.state stores.new).shelves) }
 {
     let definition = definition_text(alloc, &entry.table)?;
     let request = Request::PutIf(row_of(alloc, entry)?, Condition::Absent);
@@ -130,14 +130,14 @@ fn write_table<R: Registry>(
     known: &mut Seq<Entry>,
     entry: Entry,
 ) -> Result<Outcome, CatalogRefused>
-    requires some { 0 < length (R.shelves stores.old) }
-    requires bare { R.places stores.old ≡ [] }
+    requires some { 0 < length (R.state stores.old).shelves }
+    requires bare { (R.state stores.old).places ≡ [] }
     requires columns { rises entry.table.columns ≡ true }
-    ensures written { IfOk result (λ o. IsWritten (R.tells stores.old) known.old entry o (R.shelves stores.old) (R.shelves stores.new)) }
+    ensures written { IfOk result (λ o. IsWritten known.old entry o (R.state stores.old) (R.state stores.new).shelves) }
     ensures known { IfOk result (λ o. known.new ≡ grown known.old entry o) }
-    ensures places { R.places stores.new ≡ R.places stores.old }
-    ensures goes { GoOn (R.shelves stores.old) (R.shelves stores.new) (R.tells stores.old) (R.tells stores.new) }
-    ensures err { IfErr result (IsStopped (R.shelves stores.old) (R.shelves stores.new)) }
+    ensures places { (R.state stores.new).places ≡ (R.state stores.old).places }
+    ensures goes { GoOn (R.state stores.old) (R.state stores.new) }
+    ensures err { IfErr result (IsStopped (R.state stores.old).shelves (R.state stores.new).shelves) }
 {
     if is_full(known.as_slice(), &entry) {
         return Ok(Outcome::Full);
@@ -185,13 +185,13 @@ fn write_all<R: Registry>(
     first: &Name,
     tables: &[Table],
 ) -> Result<String, CatalogRefused>
-    requires some { 0 < length (R.shelves stores.old) }
-    requires bare { R.places stores.old ≡ [] }
+    requires some { 0 < length (R.state stores.old).shelves }
+    requires bare { (R.state stores.old).places ≡ [] }
     requires columns { list_all (λ t. rises t.columns) tables.now ≡ true }
-    ensures written { IfOk result (λ text. HasWritten (R.tells stores.old) places.now first.now known.old tables.now (string_bytes text) (R.shelves stores.old) (R.shelves stores.new)) }
-    ensures places { R.places stores.new ≡ R.places stores.old }
-    ensures goes { GoOn (R.shelves stores.old) (R.shelves stores.new) (R.tells stores.old) (R.tells stores.new) }
-    ensures err { IfErr result (IsStopped (R.shelves stores.old) (R.shelves stores.new)) }
+    ensures written { IfOk result (λ text. HasWritten places.now first.now known.old tables.now (string_bytes text) (R.state stores.old) (R.state stores.new).shelves) }
+    ensures places { (R.state stores.new).places ≡ (R.state stores.old).places }
+    ensures goes { GoOn (R.state stores.old) (R.state stores.new) }
+    ensures err { IfErr result (IsStopped (R.state stores.old).shelves (R.state stores.new).shelves) }
 {
     let mut text = String::new(alloc);
     for table in tables {
@@ -249,8 +249,8 @@ fn written_tables(alloc: Global, catalog: &Catalog) -> Result<Seq<Table>, NoMemo
 
 // The name of the first store.
 fn first_store<R: Registry>(stores: &R) -> Result<Name, NoMemory>
-    requires { 0 < length (R.shelves stores.now) }
-    ensures { IfOk result (λ name. slice_get (names_of (R.shelves stores.now)) 0 ≡ Some name) }
+    requires { 0 < length (R.state stores.now).shelves }
+    ensures { IfOk result (λ name. slice_get (names_of (R.state stores.now).shelves) 0 ≡ Some name) }
 {
     let names = stores.names()?;
     match names.first() {
@@ -274,13 +274,13 @@ pub fn store_catalog<R: Registry>(
     catalog: &Catalog,
     places: &[Place],
 ) -> Result<Txt, CatalogRefused>
-    requires some { 0 < length (R.shelves stores.old) }
-    requires bare { R.places stores.old ≡ [] }
-    ensures stored { IfOk result (λ text. IsStored (R.tells stores.old) places.now catalog.now text (R.shelves stores.old) (R.shelves stores.new)) }
-    ensures kept { OnOk result (R.tells stores.old 0 → IsFresh (R.shelves stores.old) places.now catalog.now → IsKept (R.shelves stores.new) places.now catalog.now) }
-    ensures places { R.places stores.new ≡ R.places stores.old }
-    ensures goes { GoOn (R.shelves stores.old) (R.shelves stores.new) (R.tells stores.old) (R.tells stores.new) }
-    ensures err { IfErr result (IsUnread (R.tells stores.old) (R.shelves stores.old) (R.shelves stores.new)) }
+    requires some { 0 < length (R.state stores.old).shelves }
+    requires bare { (R.state stores.old).places ≡ [] }
+    ensures stored { IfOk result (λ text. IsStored places.now catalog.now text (R.state stores.old) (R.state stores.new).shelves) }
+    ensures kept { OnOk result (IsNowKept (R.state stores.old) (R.state stores.new) places.now catalog.now) }
+    ensures places { (R.state stores.new).places ≡ (R.state stores.old).places }
+    ensures goes { GoOn (R.state stores.old) (R.state stores.new) }
+    ensures err { IfErr result (IsUnread (R.state stores.old) (R.state stores.new).shelves) }
 {
     let tables = written_tables(alloc, catalog)?;
     let first = first_store(stores)?;

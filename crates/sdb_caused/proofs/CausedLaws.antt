@@ -19,12 +19,12 @@ use Rattle.sdb_caused.proofs.TurnedLaws.{taken_by}
 use Rattle.sdb_types.proofs.Basics.{clash, or_second as or_right, some_is, either}
 use Rattle.sdb_types.proofs.Bools.{and_first as left, and_both as both}
 
-by_in : {X : Type 0} (P : X → Type 0) (xs : List X) (x : X) → AllByRecursion P xs → In xs x → P x
+pub by_in : {X : Type 0} (P : X → Type 0) (xs : List X) (x : X) → AllByRecursion P xs → In xs x → P x
 by_in P [] x all i = absurd i
 by_in P (y ∷ ys) x all (inl e) = subst P (sym e) all.0
 by_in P (y ∷ ys) x all (inr i) = by_in P ys x all.1 i
 
-all_in : {X : Type 0} (P : X → Type 0) (xs : List X) → ((x : X) → In xs x → P x) → AllByRecursion P xs
+pub all_in : {X : Type 0} (P : X → Type 0) (xs : List X) → ((x : X) → In xs x → P x) → AllByRecursion P xs
 all_in P [] h = tt
 all_in P (y ∷ ys) h = (h y (inl refl), all_in P ys (λ x i. h x (inr i)))
 

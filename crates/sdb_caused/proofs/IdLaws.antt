@@ -54,7 +54,7 @@ none_from (suc k) (s ∷ ss) lt = by (begins s) k (omega (arith, lt)) (none_from
     by false j l rest more = rest
 
 -- where a transaction has begun, its number is among those of the statements
-some_from : (k : ℕ) (ss : List Said) → (from_begin k ss ≡ [] → ⊥) → (j : ℕ) × (k ≡ suc j) × (j < length ss)
+pub some_from : (k : ℕ) (ss : List Said) → (from_begin k ss ≡ [] → ⊥) → (j : ℕ) × (k ≡ suc j) × (j < length ss)
 some_from zero ss some = absurd (some refl)
 some_from (suc j) ss some = (j, refl, by (split j (length ss)))
   where

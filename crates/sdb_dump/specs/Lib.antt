@@ -1,4 +1,5 @@
 pub mod Decided
 pub mod Dumped
+pub mod Held
 pub mod Odd
 pub mod Refused

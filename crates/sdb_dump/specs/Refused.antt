@@ -3,6 +3,7 @@ use Rattle.std.specs.Prelude.{Bool, not, List, Option, find}
 use Rattle.std.specs.Option.{option_map}
 use Rattle.sdb_types.specs.declared.key.Key.{Key}
 use Rattle.sdb_types.specs.declared.record.Record.{Record}
+use Rattle.sdb_stores.specs.Shelf.{Attached, HaveRisen}
 use Rattle.sdb_board.specs.declared.refused.CallRefused.{CallRefused}
 use Rattle.sdb_board.specs.declared.refused.CallRefused.TheVariants as call
 use Rattle.sdb_dump.specs.declared.refused.ClosingRefused.{ClosingRefused}
@@ -17,6 +18,10 @@ abbrev pub Refuses : (Key → Type 0) → Type 0 → ClosingRefused → Type 0
 Refuses bad faulted refused.StoreFault = faulted
 Refuses bad faulted (refused.BadRecord key) = bad key
 Refuses bad faulted refused.NoMemory = Unit {0}
+
+-- The same, where a fault comes only where one of the stores failed.
+abbrev pub RefusesOn : Attached → Attached → (Key → Type 0) → ClosingRefused → Type 0
+RefusesOn old new bad = Refuses bad (HaveRisen old.shelves new.shelves)
 
 -- why a scan stopped
 abbrev pub of_call : CallRefused → ClosingRefused

@@ -1,20 +1,12 @@
 //! The closing dump: one scan of the coordinator's table, then one of each table of a catalog.
-ghost use Rattle.std.specs.Prelude.{◌≡◌, ◌≢◌, ◌<◌, ◌^◌, ◌↔◌, AllPairs, Contains, List, length, map, true, IfOk, IfErr, OnOk, Some, None};
-ghost use Rattle.std.specs.List.{flat_map};
+ghost use Rattle.std.specs.Prelude.{◌≡◌, ◌≢◌, ◌<◌, ◌^◌, AllPairs, Contains, length, IfOk, IfErr, OnOk, None};
 ghost use Rattle.sdb_types.specs.declared.txid.TxId.{TxId as Id};
 ghost use Rattle.sdb_record.specs.Meta.{is_taken};
-ghost use Rattle.sdb_schema.specs.declared.table.Table.{Table as Tabled};
-ghost use Rattle.sdb_stores.specs.Shelf.{HaveRisen};
-ghost use Rattle.sdb_model.specs.Exec.{Tables};
-ghost use Rattle.sdb_model.specs.Told.{AreImages, dumps_of};
-ghost use Rattle.sdb_model.specs.Transactions.{Recorded};
-ghost use Rattle.sdb_spread.specs.Spread.{is_played};
-ghost use Rattle.sdb_board.specs.Board.{AreFit, GoOn, placed, shown};
-ghost use Rattle.sdb_board.specs.Opening.{records_of};
+ghost use Rattle.sdb_board.specs.Board.{AreFit, AreFitFor, GoOn, HoldTheSame};
+ghost use Rattle.sdb_board.specs.Opening.{records_in};
 ghost use Rattle.sdb_dump.specs.Decided.{decided};
-ghost use Rattle.sdb_dump.specs.Dumped.{dump_by};
-ghost use Rattle.sdb_dump.specs.Odd.{IsOddAt, first_odd};
-ghost use Rattle.sdb_dump.specs.Refused.{Refuses, first_unlike};
+ghost use Rattle.sdb_dump.specs.Held.{AreDumps, AreRecorded, IsFirstOdd, IsOddIn, IsUntaken, IsUntakenAmong, dump_in, dumps_in};
+ghost use Rattle.sdb_dump.specs.Refused.{RefusesOn, first_unlike};
 
 use crate::decisions::{Decisions, TxIds, decisions_of};
 use crate::refused::ClosingRefused;
@@ -42,12 +34,12 @@ fn dump<R: Registry>(
     table: &Table,
     decisions: &Decisions,
 ) -> Result<TableDump, ClosingRefused>
-    requires some { 0 < length (R.shelves stores.old) }
-    ensures dump { IfOk result (λ dump. (catalog : List Tabled) → AreFit catalog (R.places stores.old) (R.shelves stores.old) (R.tells stores.old) → is_played catalog table.now.name ≡ true → dump ≡ dump_by (decided decisions.now) table.now (records_of (placed (R.places stores.old)) (shown (R.shelves stores.old)) table.now.name)) }
-    ensures still { OnOk result ((catalog : List Tabled) → AreFit catalog (R.places stores.old) (R.shelves stores.old) (R.tells stores.old) → is_played catalog table.now.name ≡ true → shown (R.shelves stores.new) ≡ shown (R.shelves stores.old)) }
-    ensures taken { OnOk result ((catalog : List Tabled) → AreFit catalog (R.places stores.old) (R.shelves stores.old) (R.tells stores.old) → is_played catalog table.now.name ≡ true → first_unlike is_taken (records_of (placed (R.places stores.old)) (shown (R.shelves stores.old)) table.now.name) ≡ None) }
-    ensures goes { GoOn (R.places stores.old) (R.places stores.new) (R.shelves stores.old) (R.shelves stores.new) (R.tells stores.old) (R.tells stores.new) }
-    ensures err { IfErr result (Refuses (λ key. (catalog : List Tabled) → AreFit catalog (R.places stores.old) (R.shelves stores.old) (R.tells stores.old) → is_played catalog table.now.name ≡ true → first_unlike is_taken (records_of (placed (R.places stores.old)) (shown (R.shelves stores.old)) table.now.name) ≡ Some key) (HaveRisen (R.shelves stores.old) (R.shelves stores.new))) }
+    requires some { 0 < length (R.state stores.old).shelves }
+    ensures dump { IfOk result (λ dump. AreFitFor table.now.name (R.state stores.old) → dump ≡ dump_in (decided decisions.now) (R.state stores.old) table.now) }
+    ensures still { OnOk result (AreFitFor table.now.name (R.state stores.old) → HoldTheSame (R.state stores.old) (R.state stores.new)) }
+    ensures taken { OnOk result (AreFitFor table.now.name (R.state stores.old) → first_unlike is_taken (records_in (R.state stores.old) table.now.name) ≡ None) }
+    ensures goes { GoOn (R.state stores.old) (R.state stores.new) }
+    ensures err { IfErr result (RefusesOn (R.state stores.old) (R.state stores.new) (IsUntaken table.now.name (R.state stores.old))) }
 {
     let records = scan(stores, &table.name)?;
     dump_of(alloc, table, decisions, records.as_slice())
@@ -60,11 +52,11 @@ fn dumps<R: Registry>(
     catalog: &Catalog,
     decisions: &Decisions,
 ) -> Result<TableRows, ClosingRefused>
-    requires some { 0 < length (R.shelves stores.old) }
-    ensures tables { IfOk result (λ tables. AreFit catalog.now (R.places stores.old) (R.shelves stores.old) (R.tells stores.old) → tables ≡ map (λ t. dump_by (decided decisions.now) t (records_of (placed (R.places stores.old)) (shown (R.shelves stores.old)) t.name)) catalog.now) }
-    ensures still { OnOk result (AreFit catalog.now (R.places stores.old) (R.shelves stores.old) (R.tells stores.old) → shown (R.shelves stores.new) ≡ shown (R.shelves stores.old)) }
-    ensures goes { GoOn (R.places stores.old) (R.places stores.new) (R.shelves stores.old) (R.shelves stores.new) (R.tells stores.old) (R.tells stores.new) }
-    ensures err { IfErr result (Refuses (λ key. AreFit catalog.now (R.places stores.old) (R.shelves stores.old) (R.tells stores.old) → first_unlike is_taken (flat_map (λ t. records_of (placed (R.places stores.old)) (shown (R.shelves stores.old)) t.name) catalog.now) ≡ Some key) (HaveRisen (R.shelves stores.old) (R.shelves stores.new))) }
+    requires some { 0 < length (R.state stores.old).shelves }
+    ensures tables { IfOk result (λ tables. AreFit catalog.now (R.state stores.old) → tables ≡ dumps_in (decided decisions.now) (R.state stores.old) catalog.now) }
+    ensures still { OnOk result (AreFit catalog.now (R.state stores.old) → HoldTheSame (R.state stores.old) (R.state stores.new)) }
+    ensures goes { GoOn (R.state stores.old) (R.state stores.new) }
+    ensures err { IfErr result (RefusesOn (R.state stores.old) (R.state stores.new) (IsUntakenAmong catalog.now (R.state stores.old))) }
 {
     let mut tables = TableRows::new(alloc);
     for i in 0..catalog.len() {
@@ -81,15 +73,15 @@ pub fn closing_dump<R: Registry>(
     stores: &mut R,
     catalog: &Catalog,
 ) -> Result<Closing, ClosingRefused>
-    requires some { 0 < length (R.shelves stores.old) }
-    ensures tables { IfOk result (λ closing. AreFit catalog.now (R.places stores.old) (R.shelves stores.old) (R.tells stores.old) → (d : Tables) → AreImages catalog.now (placed (R.places stores.old)) (shown (R.shelves stores.old)) d → closing.tables ≡ dumps_of catalog.now d) }
-    ensures recorded { IfOk result (λ closing. AreFit catalog.now (R.places stores.old) (R.shelves stores.old) (R.tells stores.old) → (id : Id) → id.0 < 2 ^ 128 → Contains closing.recorded id ↔ Recorded (placed (R.places stores.old)) (shown (R.shelves stores.old)) id) }
+    requires some { 0 < length (R.state stores.old).shelves }
+    ensures tables { IfOk result (λ closing. AreFit catalog.now (R.state stores.old) → AreDumps catalog.now (R.state stores.old) closing.tables) }
+    ensures recorded { IfOk result (λ closing. AreFit catalog.now (R.state stores.old) → AreRecorded closing.recorded (R.state stores.old)) }
     ensures small { IfOk result (λ closing. (id : Id) → Contains closing.recorded id → id.0 < 2 ^ 128) }
-    ensures once { IfOk result (λ closing. AreFit catalog.now (R.places stores.old) (R.shelves stores.old) (R.tells stores.old) → AllPairs (λ a b. a ≢ b) closing.recorded) }
-    ensures still { OnOk result (AreFit catalog.now (R.places stores.old) (R.shelves stores.old) (R.tells stores.old) → shown (R.shelves stores.new) ≡ shown (R.shelves stores.old)) }
-    ensures goes { GoOn (R.places stores.old) (R.places stores.new) (R.shelves stores.old) (R.shelves stores.new) (R.tells stores.old) (R.tells stores.new) }
-    ensures first { IfErr result (Refuses (λ key. AreFit catalog.now (R.places stores.old) (R.shelves stores.old) (R.tells stores.old) → first_odd catalog.now (placed (R.places stores.old)) (shown (R.shelves stores.old)) ≡ Some key) (HaveRisen (R.shelves stores.old) (R.shelves stores.new))) }
-    ensures err { IfErr result (Refuses (λ key. AreFit catalog.now (R.places stores.old) (R.shelves stores.old) (R.tells stores.old) → IsOddAt catalog.now (placed (R.places stores.old)) (shown (R.shelves stores.old)) key) (HaveRisen (R.shelves stores.old) (R.shelves stores.new))) }
+    ensures once { IfOk result (λ closing. AreFit catalog.now (R.state stores.old) → AllPairs (λ a b. a ≢ b) closing.recorded) }
+    ensures still { OnOk result (AreFit catalog.now (R.state stores.old) → HoldTheSame (R.state stores.old) (R.state stores.new)) }
+    ensures goes { GoOn (R.state stores.old) (R.state stores.new) }
+    ensures first { IfErr result (RefusesOn (R.state stores.old) (R.state stores.new) (IsFirstOdd catalog.now (R.state stores.old))) }
+    ensures err { IfErr result (RefusesOn (R.state stores.old) (R.state stores.new) (IsOddIn catalog.now (R.state stores.old))) }
 {
     let table = coordinator_table();
     let rows = scan(stores, &table)?;

@@ -17,7 +17,11 @@ use Rattle.sdb_types.specs.declared.record.Reply.{Reply}
 use Rattle.sdb_types.specs.declared.record.Reply.TheVariants as reply
 use Rattle.sdb_store.specs.Store.{Performs, HasCause}
 use Rattle.sdb_stores.specs.declared.place.Place.{Place}
-use Rattle.sdb_stores.specs.Shelf.{Shelf, IsCallAt, IsTakenOut, HaveCause, names_of, place_of, placed_on, home, home_of, total_faults}
+use Rattle.sdb_stores.specs.Shelf.{Attached, Shelf, IsCallAt, IsTakenOut, HaveCause, names_of, place_of, placed_on, home, home_of, total_faults}
+
+-- stores as each item of a list shows one
+abbrev pub attached_as : {A : Type 0} → (A → Shelf) → (A → Type 0) → List Place → List A → Attached
+attached_as shelf P places xs = record { places = places; shelves = map shelf xs; tells = λ i. IsSomeAnd (slice_get xs i) P }
 
 ---- places
 
@@ -87,12 +91,12 @@ telling_set P (x ∷ xs) (suc at) y f (suc i) h = telling_set P xs at y f i h
 told_at : {A : Type 0} (P : A → Type 0) (xs : List A) (at : ℕ) (x : A) → slice_get xs at ≡ Some x → IsSomeAnd (slice_get xs at) P → P x
 told_at P xs at x e h = subst (λ (o : Option _). IsSomeAnd o P) e h
 
-pub called_at : {A : Type 0} (shelf : A → Shelf) (P : A → Type 0) (xs : List A) (at home : ℕ) (q : Request) (r : Reply) (x y : A) → at < length xs → x ≡ get_or xs at x → at ≡ home
+pub called_at : {A : Type 0} {places later : List Place} (shelf : A → Shelf) (P : A → Type 0) (xs : List A) (at home : ℕ) (q : Request) (r : Reply) (x y : A) → at < length xs → x ≡ get_or xs at x → at ≡ home
     → (shelf y).name ≡ (shelf x).name → (P x → P y) → (P x → Performs q r (shelf x).contents (shelf y).contents) → CanAnswer q r → (shelf x).faults ≤ (shelf y).faults → HasCause r (shelf x).faults (shelf y).faults
-    → IsCallAt home q r (map shelf xs) (map shelf (slice_set xs at y)) (λ i. IsSomeAnd (slice_get xs i) P) (λ i. IsSomeAnd (slice_get (slice_set xs at y) i) P)
-called_at shelf P xs at home q r x y inside is same name told performed lawful counted cause =
+    → IsCallAt home q r (attached_as shelf P places xs) (attached_as shelf P later (slice_set xs at y))
+called_at {A} {places} {later} shelf P xs at home q r x y inside is same name told performed lawful counted cause =
     let here : slice_get xs at ≡ Some x = slice_get-get_or xs at x inside ∙ ap Some (sym is) in
-    let call : IsCallAt at q r (map shelf xs) (map shelf (slice_set xs at y)) (λ i. IsSomeAnd (slice_get xs i) P) (λ i. IsSomeAnd (slice_get (slice_set xs at y) i) P) = record {
+    let call : IsCallAt at q r (attached_as shelf P places xs) (attached_as shelf P later (slice_set xs at y)) = record {
       before = shelf x;
       now = shelf y;
       stood = stands_at shelf xs at x inside is;
@@ -104,7 +108,7 @@ called_at shelf P xs at home q r x y inside is same name told performed lawful c
       cause = cause;
       telling = telling_set P xs at y (λ h. told (told_at P xs at x here h));
     } in
-    subst (λ (i : ℕ). IsCallAt i q r (map shelf xs) (map shelf (slice_set xs at y)) (λ i. IsSomeAnd (slice_get xs i) P) (λ i. IsSomeAnd (slice_get (slice_set xs at y) i) P)) same call
+    subst (λ (i : ℕ). IsCallAt i q r (attached_as shelf P places xs) (attached_as shelf P later (slice_set xs at y))) same call
 
 pub set_same : {A : Type 0} (xs : List A) (at : ℕ) (x : A) → slice_get xs at ≡ Some x → slice_set xs at x ≡ xs
 set_same [] at x e = refl
@@ -112,31 +116,31 @@ set_same (y ∷ xs) zero x e = let same : y ≡ x = cc in ap (λ z. z ∷ xs) (s
 set_same (y ∷ xs) (suc at) x e = ap (λ zs. y ∷ zs) (set_same xs at x e)
 
 -- a call changes no name
-pub same_names : {t u : ℕ → Type 0} (at : ℕ) (q : Request) (r : Reply) (m n : List Shelf) → IsCallAt at q r m n t u → names_of n ≡ names_of m
+pub same_names : (at : ℕ) (q : Request) (r : Reply) (m n : Attached) → IsCallAt at q r m n → names_of n.shelves ≡ names_of m.shelves
 same_names at q r m n call =
-    ap names_of call.rest ∙ map-set (λ s. s.name) m at call.now ∙ ap (slice_set (names_of m) at) call.name
-    ∙ set_same (names_of m) at call.before.name (slice_get-map (λ s. s.name) m at ∙ ap (option_map (λ s. s.name)) call.stood)
+    ap names_of call.rest ∙ map-set (λ s. s.name) m.shelves at call.now ∙ ap (slice_set (names_of m.shelves) at) call.name
+    ∙ set_same (names_of m.shelves) at call.before.name (slice_get-map (λ s. s.name) m.shelves at ∙ ap (option_map (λ s. s.name)) call.stood)
 
-balance : {t u : ℕ → Type 0} (at : ℕ) (q : Request) (r : Reply) (m n : List Shelf) (call : IsCallAt at q r m n t u) → total_faults n + call.before.faults ≡ total_faults m + call.now.faults
+balance : (at : ℕ) (q : Request) (r : Reply) (m n : Attached) (call : IsCallAt at q r m n) → total_faults n.shelves + call.before.faults ≡ total_faults m.shelves + call.now.faults
 balance at q r m n call =
-    let inside : at < length m = slice_get_within m at call.before call.stood in
-    let stood : get_or m at call.before ≡ call.before = get_or_from_slice_get m at call.before call.before call.stood in
+    let inside : at < length m.shelves = slice_get_within m.shelves at call.before call.stood in
+    let stood : get_or m.shelves at call.before ≡ call.before = get_or_from_slice_get m.shelves at call.before call.before call.stood in
     ap (λ (k : List Shelf). total_faults k + call.before.faults) call.rest
-    ∙ ap (λ (s : Shelf). total_faults (slice_set m at call.now) + s.faults) (sym stood)
-    ∙ sum_by-set (λ s. s.faults) m at call.now call.before inside
+    ∙ ap (λ (s : Shelf). total_faults (slice_set m.shelves at call.now) + s.faults) (sym stood)
+    ∙ sum_by-set (λ s. s.faults) m.shelves at call.now call.before inside
 
-pub grown : {t u : ℕ → Type 0} (at : ℕ) (q : Request) (r : Reply) (m n : List Shelf) → IsCallAt at q r m n t u → total_faults m ≤ total_faults n
+pub grown : (at : ℕ) (q : Request) (r : Reply) (m n : Attached) → IsCallAt at q r m n → total_faults m.shelves ≤ total_faults n.shelves
 grown at q r m n call = omega (arith, balance at q r m n call, call.counted)
 
-risen : {t u : ℕ → Type 0} (at : ℕ) (q : Request) (r : Reply) (m n : List Shelf) (call : IsCallAt at q r m n t u) → HasRisen call.before.faults call.now.faults → (total_faults m < total_faults n) ⊎ Any (λ s. 2 ^ 64 - 1 ≤ s.faults) n
+risen : (at : ℕ) (q : Request) (r : Reply) (m n : Attached) (call : IsCallAt at q r m n) → HasRisen call.before.faults call.now.faults → (total_faults m.shelves < total_faults n.shelves) ⊎ Any (λ s. 2 ^ 64 - 1 ≤ s.faults) n.shelves
 risen at q r m n call h =
     elim h [
       | inl rose ↦ inl (omega (arith, balance at q r m n call, rose))
-      | inr most ↦ inr (subst (Any (λ s. 2 ^ 64 - 1 ≤ s.faults)) (sym call.rest) (any-set (λ s. 2 ^ 64 - 1 ≤ s.faults) m at call.now (slice_get_within m at call.before call.stood) most))
+      | inr most ↦ inr (subst (Any (λ s. 2 ^ 64 - 1 ≤ s.faults)) (sym call.rest) (any-set (λ s. 2 ^ 64 - 1 ≤ s.faults) m.shelves at call.now (slice_get_within m.shelves at call.before call.stood) most))
     ]
 
 -- a fault raises the count of all stores
-pub caused : {t u : ℕ → Type 0} (at : ℕ) (q : Request) (r : Reply) (m n : List Shelf) → IsCallAt at q r m n t u → HaveCause r m n
+pub caused : (at : ℕ) (q : Request) (r : Reply) (m n : Attached) → IsCallAt at q r m n → HaveCause r m.shelves n.shelves
 caused at q reply.Fault m n call = risen at q reply.Fault m n call call.cause
 caused at q reply.NoMemory m n call = tt
 caused at q (reply.Found found) m n call = tt
@@ -167,8 +171,8 @@ found_within shelf xs name at found =
     let place : at < length (names_of (map shelf xs)) = (position-Some (λ n. bytes_eq n name) (names_of (map shelf xs)) at [] (sym found)).0 in
     omega (arith, place, length-map (map shelf xs) (λ s. s.name), length-map xs shelf)
 
-pub taken_out : {A : Type 0} (shelf : A → Shelf) (P : A → Type 0) (xs ys : List A) (name : List ℕ) (at : ℕ) (x : A) → Some at ≡ place_of name (names_of (map shelf xs)) → x ≡ get_or xs at x → ys ≡ remove xs at
-    → IsTakenOut name (record { name = name; contents = (shelf x).contents; faults = (shelf x).faults }) (P x) (map shelf xs) (map shelf ys) (λ i. IsSomeAnd (slice_get xs i) P) (λ i. IsSomeAnd (slice_get ys i) P)
+pub taken_out : {A : Type 0} {places later : List Place} (shelf : A → Shelf) (P : A → Type 0) (xs ys : List A) (name : List ℕ) (at : ℕ) (x : A) → Some at ≡ place_of name (names_of (map shelf xs)) → x ≡ get_or xs at x → ys ≡ remove xs at
+    → IsTakenOut name (record { name = name; contents = (shelf x).contents; faults = (shelf x).faults }) (P x) (attached_as shelf P places xs) (attached_as shelf P later ys)
 taken_out shelf P xs ys name at x found is out =
     let place : (at < length (names_of (map shelf xs))) × (bytes_eq (get_or (names_of (map shelf xs)) at []) name ≡ true) × ((k : ℕ) → k < at → bytes_eq (get_or (names_of (map shelf xs)) k []) name ≡ false) = position-Some (λ n. bytes_eq n name) (names_of (map shelf xs)) at [] (sym found) in
     let inside : at < length xs = omega (arith, place.0, length-map (map shelf xs) (λ s. s.name), length-map xs shelf) in
@@ -189,5 +193,5 @@ less_one f [] at x e = cc
 less_one f (y ∷ xs) zero x e = let same : y ≡ x = cc in add_comm (sum_by f xs) (f x) ∙ ap (λ z. f z + sum_by f xs) (sym same) ∙ sym (sum_by-cons f y xs)
 less_one f (y ∷ xs) (suc at) x e = ap (λ n. n + f x) (sum_by-cons f y (remove xs at)) ∙ add_assoc (f y) (sum_by f (remove xs at)) (f x) ∙ ap (λ n. f y + n) (less_one f xs at x e) ∙ sym (sum_by-cons f y xs)
 
-pub counted_out : {t u : ℕ → Type 0} (name : List ℕ) (store : Shelf) (handed : Type 0) (m n : List Shelf) → IsTakenOut name store handed m n t u → total_faults n + store.faults ≡ total_faults m
-counted_out name store handed m n h = ap (λ (k : List Shelf). total_faults k + store.faults) h.rest ∙ less_one (λ s. s.faults) m h.at store h.taken
+pub counted_out : (name : List ℕ) (store : Shelf) (handed : Type 0) (m n : Attached) → IsTakenOut name store handed m n → total_faults n.shelves + store.faults ≡ total_faults m.shelves
+counted_out name store handed m n h = ap (λ (k : List Shelf). total_faults k + store.faults) h.rest ∙ less_one (λ s. s.faults) m.shelves h.at store h.taken

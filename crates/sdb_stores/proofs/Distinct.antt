@@ -1,5 +1,5 @@
 -- Names that stay distinct when a store comes, goes or is called.
-use Rattle.std.proofs.Common.{◌≡◌, ◌≢◌, ℕ, zero, suc, ◌+◌, ◌<◌, List, [], ◌∷◌, ◌++◌, length, map, slice_set, Bool, true, false, Option, Some, None, refl, sym, ap, subst, ◌∙◌, get_or}
+use Rattle.std.proofs.Common.{◌≡◌, ◌≢◌, ℕ, zero, suc, ◌<◌, List, [], ◌∷◌, ◌++◌, length, map, slice_set, Bool, true, false, Option, Some, None, refl, sym, ap, subst, ◌∙◌, get_or}
 use Rattle.std.specs.Prelude.{slice_get, remove, is_some, if◌then◌else◌, IsSomeAnd}
 use Rattle.std.specs.Option.{option_map}
 use Rattle.std.specs.Str.{bytes_eq}

@@ -1,5 +1,5 @@
 -- Stores by name, as their callers see them.
-use Rattle.std.specs.Prelude.{◌≡◌, ◌≢◌, ◌⊎◌, ◌<◌, ◌≤◌, ◌+◌, ◌-◌, ◌^◌, ℕ, not, List, map, filter, find, position, sum_by, Any, Option, Some, None, unwrap_or, slice_get, slice_set, remove}
+use Rattle.std.specs.Prelude.{◌≡◌, ◌≢◌, ◌⊎◌, ◌<◌, ◌≤◌, ◌+◌, ◌-◌, ◌^◌, ◌++◌, ◌∷◌, [], ℕ, not, List, map, filter, find, position, sum_by, Any, Option, Some, None, unwrap_or, slice_get, slice_set, remove}
 use Rattle.std.specs.List.{AllPairs}
 use Rattle.std.specs.Option.{option_map}
 use Rattle.std.specs.Str.{bytes_eq}
@@ -18,6 +18,13 @@ pub record Shelf : Type 0 where
   pub contents : Contents
   pub faults : ℕ
 
+-- what a registry shows: the namespaces that have a place, the stores in the order in which they were attached, and which of them, by
+-- their indices, tell what they hold
+pub record Attached : Type 1 where
+  pub places : List Place
+  pub shelves : List Shelf
+  pub tells : ℕ → Type 0
+
 abbrev pub names_of : List Shelf → List (List ℕ)
 names_of shelves = map (λ s. s.name) shelves
 
@@ -28,6 +35,10 @@ AreDistinct names = AllPairs ◌≢◌ names
 -- where a name stands
 abbrev pub place_of : List ℕ → List (List ℕ) → Option ℕ
 place_of name names = position (λ n. bytes_eq n name) names
+
+-- the index of the store of that name
+abbrev pub index_in : Attached → List ℕ → Option ℕ
+index_in stores name = place_of name (names_of stores.shelves)
 
 -- the name of the store that a namespace is placed on
 abbrev pub placed_on : List ℕ → List Place → Option (List ℕ)
@@ -40,6 +51,10 @@ home_of (Some store) names = unwrap_or (place_of store names) 0
 -- where the store of a namespace stands: the one that it is placed on, and otherwise the first
 abbrev pub home : List ℕ → List Place → List (List ℕ) → ℕ
 home ns places names = home_of (placed_on ns places) names
+
+-- the index of the store of a namespace
+abbrev pub home_in : Attached → List ℕ → ℕ
+home_in stores ns = home ns stores.places (names_of stores.shelves)
 
 -- the places that name another store
 abbrev pub places_without : List ℕ → List Place → List Place
@@ -54,27 +69,35 @@ table_of (ask.DeleteIf key condition) = key.table
 
 -- One call on the store at that place. Every other store stays as it was, and each store that told what it holds goes
 -- on telling it.
-pub record IsCallAt (at : ℕ) (q : Request) (r : Reply) (old new : List Shelf) (told tells : ℕ → Type 0) : Type 0 where
+pub record IsCallAt (at : ℕ) (q : Request) (r : Reply) (old new : Attached) : Type 0 where
   pub before : Shelf
   pub now : Shelf
-  pub stood : slice_get old at ≡ Some before
-  pub rest : new ≡ slice_set old at now
+  pub stood : slice_get old.shelves at ≡ Some before
+  pub rest : new.shelves ≡ slice_set old.shelves at now
   pub name : now.name ≡ before.name
-  pub performed : told at → Performs q r before.contents now.contents
+  pub performed : old.tells at → Performs q r before.contents now.contents
   pub lawful : CanAnswer q r
   pub counted : before.faults ≤ now.faults
   pub cause : HasCause r before.faults now.faults
-  pub telling : (i : ℕ) → told i → tells i
+  pub telling : (i : ℕ) → old.tells i → new.tells i
+
+-- A store was added after the others.
+abbrev pub IsAdded : Shelf → Attached → Attached → Type 0
+IsAdded store old new = new.shelves ≡ old.shelves ++ store ∷ []
+
+-- The stores and their places are as they were.
+abbrev pub StayTheSame : Attached → Attached → Type 0
+StayTheSame old new = (new.shelves ≡ old.shelves) × (new.places ≡ old.places)
 
 -- The store of that name was taken out, as this one, and the others stay in their order, each telling what it told.
-pub record IsTakenOut (name : List ℕ) (store : Shelf) (handed : Type 0) (old new : List Shelf) (told tells : ℕ → Type 0) : Type 0 where
+pub record IsTakenOut (name : List ℕ) (store : Shelf) (handed : Type 0) (old new : Attached) : Type 0 where
   pub at : ℕ
-  pub found : place_of name (names_of old) ≡ Some at
-  pub taken : slice_get old at ≡ Some store
-  pub rest : new ≡ remove old at
-  pub telling : told at → handed
-  pub before : (i : ℕ) → i < at → told i → tells i
-  pub behind : (i : ℕ) → at ≤ i → told (i + 1) → tells i
+  pub found : place_of name (names_of old.shelves) ≡ Some at
+  pub taken : slice_get old.shelves at ≡ Some store
+  pub rest : new.shelves ≡ remove old.shelves at
+  pub telling : old.tells at → handed
+  pub before : (i : ℕ) → i < at → old.tells i → new.tells i
+  pub behind : (i : ℕ) → at ≤ i → old.tells (i + 1) → new.tells i
 
 -- the count of all stores together
 abbrev pub total_faults : List Shelf → ℕ

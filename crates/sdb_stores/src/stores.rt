@@ -3,7 +3,7 @@ ghost use Rattle.std.specs.Prelude.{◌≡◌, ◌<◌, ◌≤◌, ◌↔◌, �
 ghost use Rattle.std.specs.Str.{bytes_eq};
 ghost use Rattle.sdb_types.specs.Contents.{CanAnswer};
 ghost use Rattle.sdb_store.specs.Store.{Performs, HasCause};
-ghost use Rattle.sdb_stores.specs.Shelf.{Shelf, AreDistinct, IsCallAt, IsTakenOut, HaveCause, home, names_of, place_of, placed_on, places_without, table_of as table_of_lem, total_faults};
+ghost use Rattle.sdb_stores.specs.Shelf.{Shelf, AreDistinct, IsCallAt, IsTakenOut, HaveCause, IsAdded, StayTheSame, home_in, index_in, names_of, placed_on, places_without, table_of as table_of_lem, total_faults};
 ghost use Rattle.sdb_stores.specs.declared.place.Place.{Place};
 
 use crate::place::{Place, PlaceRefused, find_store, leave, table_of};
@@ -92,8 +92,8 @@ fn call_slot(slot: &mut Slot, request: &Request) -> Reply
 impl Stores {
     /// No stores, and no places.
     pub fn new(alloc: Global) -> Stores
-        ensures stores { ⟦<Stores as Registry>⟧.shelves result ≡ [] }
-        ensures places { ⟦<Stores as Registry>⟧.places result ≡ [] }
+        ensures stores { (⟦<Stores as Registry>⟧.state result).shelves ≡ [] }
+        ensures places { (⟦<Stores as Registry>⟧.state result).places ≡ [] }
     {
         Stores {
             slots: Vec::new(alloc),
@@ -103,14 +103,14 @@ impl Stores {
 
     // Where the store of that name stands.
     fn index_of(&self, name: &Name) -> Option<usize>
-        ensures { result ≡ place_of name.now (names_of (⟦<Stores as Registry>⟧.shelves self.now)) }
+        ensures { result ≡ index_in (⟦<Stores as Registry>⟧.state self.now) name.now }
     {
         place_in(&self.slots, name)
     }
 
     // Where the store of a namespace stands.
     fn home_of(&self, ns: &Name) -> usize
-        ensures { result ≡ home ns.now (⟦<Stores as Registry>⟧.places self.now) (names_of (⟦<Stores as Registry>⟧.shelves self.now)) }
+        ensures { result ≡ home_in (⟦<Stores as Registry>⟧.state self.now) ns.now }
     {
         match find_store(&self.places, ns) {
             Some(store) => self.index_of(store).unwrap_or(0),
@@ -120,14 +120,14 @@ impl Stores {
 
     /// Adds a store behind the others. A store that is refused is handed back.
     pub fn attach(&mut self, name: Name, store: Box<dyn Store>) -> Result<(), AttachRefused>
-        ensures ok { OnOk result (⟦<Stores as Registry>⟧.shelves self.new ≡ ⟦<Stores as Registry>⟧.shelves self.old ++ record { name = name; contents = contents store; faults = faults store } ∷ []) }
-        ensures err { OnErr result (⟦<Stores as Registry>⟧.shelves self.new ≡ ⟦<Stores as Registry>⟧.shelves self.old) }
-        ensures taken { (result ≡ Err (AttachRefused.NameTaken store)) ↔ IsSome (place_of name (names_of (⟦<Stores as Registry>⟧.shelves self.old))) }
+        ensures ok { OnOk result (IsAdded (record { name = name; contents = contents store; faults = faults store }) (⟦<Stores as Registry>⟧.state self.old) (⟦<Stores as Registry>⟧.state self.new)) }
+        ensures err { OnErr result ((⟦<Stores as Registry>⟧.state self.new).shelves ≡ (⟦<Stores as Registry>⟧.state self.old).shelves) }
+        ensures taken { (result ≡ Err (AttachRefused.NameTaken store)) ↔ IsSome (index_in (⟦<Stores as Registry>⟧.state self.old) name) }
         ensures back { OnErr result ((result ≡ Err (AttachRefused.NameTaken store)) ⊎ (result ≡ Err (AttachRefused.NoMemory store))) }
-        ensures places { ⟦<Stores as Registry>⟧.places self.new ≡ ⟦<Stores as Registry>⟧.places self.old }
-        ensures telling { (i : ℕ) → ⟦<Stores as Registry>⟧.tells self.old i → ⟦<Stores as Registry>⟧.tells self.new i }
-        ensures counted { OnOk result (total_faults (⟦<Stores as Registry>⟧.shelves self.new) ≡ total_faults (⟦<Stores as Registry>⟧.shelves self.old) + faults store) }
-        ensures told { OnOk result (tells store → ⟦<Stores as Registry>⟧.tells self.new (length (⟦<Stores as Registry>⟧.shelves self.old))) }
+        ensures places { (⟦<Stores as Registry>⟧.state self.new).places ≡ (⟦<Stores as Registry>⟧.state self.old).places }
+        ensures telling { (i : ℕ) → (⟦<Stores as Registry>⟧.state self.old).tells i → (⟦<Stores as Registry>⟧.state self.new).tells i }
+        ensures counted { OnOk result (total_faults (⟦<Stores as Registry>⟧.state self.new).shelves ≡ total_faults (⟦<Stores as Registry>⟧.state self.old).shelves + faults store) }
+        ensures told { OnOk result (tells store → (⟦<Stores as Registry>⟧.state self.new).tells (length (⟦<Stores as Registry>⟧.state self.old).shelves)) }
     {
         if self.index_of(&name).is_some() {
             return Err(AttachRefused::NameTaken(store));
@@ -143,12 +143,12 @@ impl Stores {
 
     /// Takes a store out and hands it back as it stands, with the places that name it.
     pub fn detach(&mut self, name: &Name) -> Option<Box<dyn Store>>
-        ensures none { IfNone result (place_of name.now (names_of (⟦<Stores as Registry>⟧.shelves self.old)) ≡ None) }
-        ensures unchanged { IfNone result ((⟦<Stores as Registry>⟧.shelves self.new ≡ ⟦<Stores as Registry>⟧.shelves self.old) × (⟦<Stores as Registry>⟧.places self.new ≡ ⟦<Stores as Registry>⟧.places self.old)) }
-        ensures telling { IfNone result ((i : ℕ) → ⟦<Stores as Registry>⟧.tells self.old i → ⟦<Stores as Registry>⟧.tells self.new i) }
-        ensures some { IfSome result (λ store. IsTakenOut name.now (record { name = name.now; contents = contents store; faults = faults store }) (tells store) (⟦<Stores as Registry>⟧.shelves self.old) (⟦<Stores as Registry>⟧.shelves self.new) (⟦<Stores as Registry>⟧.tells self.old) (⟦<Stores as Registry>⟧.tells self.new)) }
-        ensures places { OnSome result (⟦<Stores as Registry>⟧.places self.new ≡ places_without name.now (⟦<Stores as Registry>⟧.places self.old)) }
-        ensures counted { IfSome result (λ store. total_faults (⟦<Stores as Registry>⟧.shelves self.new) + faults store ≡ total_faults (⟦<Stores as Registry>⟧.shelves self.old)) }
+        ensures none { IfNone result (index_in (⟦<Stores as Registry>⟧.state self.old) name.now ≡ None) }
+        ensures unchanged { IfNone result (StayTheSame (⟦<Stores as Registry>⟧.state self.old) (⟦<Stores as Registry>⟧.state self.new)) }
+        ensures telling { IfNone result ((i : ℕ) → (⟦<Stores as Registry>⟧.state self.old).tells i → (⟦<Stores as Registry>⟧.state self.new).tells i) }
+        ensures some { IfSome result (λ store. IsTakenOut name.now (record { name = name.now; contents = contents store; faults = faults store }) (tells store) (⟦<Stores as Registry>⟧.state self.old) (⟦<Stores as Registry>⟧.state self.new)) }
+        ensures places { OnSome result ((⟦<Stores as Registry>⟧.state self.new).places ≡ places_without name.now (⟦<Stores as Registry>⟧.state self.old).places) }
+        ensures counted { IfSome result (λ store. total_faults (⟦<Stores as Registry>⟧.state self.new).shelves + faults store ≡ total_faults (⟦<Stores as Registry>⟧.state self.old).shelves) }
     {
         let i = self.index_of(name)?;
         let Slot { name: _, store } = self.slots.remove(i);
@@ -158,11 +158,7 @@ impl Stores {
 }
 
 impl Registry for Stores {
-    ghost shelves = { λ s. map (λ slot. record { name = slot.name; contents = (Store-box slot.store).contents slot.store.value; faults = (Store-box slot.store).faults slot.store.value }) s.slots.items };
-
-    ghost places = { λ s. s.places.items };
-
-    ghost tells = { λ s i. IsSomeAnd (slice_get s.slots.items i) (λ slot. (Store-box slot.store).tells slot.store.value) };
+    ghost state = { λ s. record { places = s.places.items; shelves = map (λ slot. record { name = slot.name; contents = (Store-box slot.store).contents slot.store.value; faults = (Store-box slot.store).faults slot.store.value }) s.slots.items; tells = λ i. IsSomeAnd (slice_get s.slots.items i) (λ slot. (Store-box slot.store).tells slot.store.value) } };
 
     fn len(&self) -> usize {
         self.slots.len()

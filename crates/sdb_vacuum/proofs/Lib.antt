@@ -1,3 +1,4 @@
+pub mod Firm
 pub mod Asks
 pub mod Fine
 pub mod Counts

@@ -11,12 +11,13 @@ use Rattle.sdb_model.specs.declared.event.Event.TheVariants as event
 use Rattle.sdb_model.specs.declared.event.How.{How}
 use Rattle.sdb_model.specs.declared.script.Act.{Act}
 use Rattle.sdb_model.specs.declared.script.Act.TheVariants as act
-use Rattle.sdb_model.specs.declared.script.Place.{Place}
 use Rattle.sdb_model.specs.declared.script.ScriptClient.{ScriptClient}
 use Rattle.sdb_model.specs.Rows.{Name}
-use Rattle.sdb_model.specs.Events.{IsCall, Shelf, table_asked}
+use Rattle.sdb_model.specs.Events.{IsCall, table_asked}
 use Rattle.sdb_model.specs.Follows.{IsActed, IsCallOf, IsStep, IsTakeOf, has_stopped, has_work, is_pending, taken_by, texts_of}
 use Rattle.sdb_spread.specs.Spread.{is_played}
+use Rattle.sdb_stores.specs.Shelf.{Attached}
+use Rattle.sdb_board.specs.Board.{placed, shown}
 use Rattle.sdb_client.specs.Client.{ClientAt, IsBusy, IsIdle, Taking, client_pending}
 use Rattle.sdb_txn.specs.declared.txn.Doing.{Doing}
 use Rattle.sdb_txn.specs.declared.txn.Doing.TheVariants as doing
@@ -88,27 +89,27 @@ small_place w i s h here =
 
 ---- idle
 
-abbrev pub Came : Type 0 → List Place → List Shelf → List Shelf → WorldAt → Act → WorldAt → Type 0
-Came fit places before now w a v = IsWorld v × HasCome (IsOne w.script.clients a w.events) fit places before now w v
+abbrev pub Came : Attached → Attached → WorldAt → Act → WorldAt → Type 0
+Came old new w a v = IsWorld v × HasCome (IsOne w.script.clients a w.events) old new w v
 
-came : (fit : Type 0) (places : List Place) (before now : List Shelf) (w : WorldAt) (a : Act) (u v : WorldAt) → v ≡ u → Came fit places before now w a u → Came fit places before now w a v
-came fit places before now w a u v same h = subst (λ (x : WorldAt). Came fit places before now w a x) (sym same) h
+came : (old new : Attached) (w : WorldAt) (a : Act) (u v : WorldAt) → v ≡ u → Came old new w a u → Came old new w a v
+came old new w a u v same h = subst (λ (x : WorldAt). Came old new w a x) (sym same) h
 
-pub acts_idle : (fit : Type 0) (places : List Place) (now : List Shelf) (w v : WorldAt) (c : ℕ) (way : Way) → IsWorld w → has_work w.script.clients c w.events ≡ false → v ≡ with_event w (event.Idle c) → Came fit places now now w (act_of way c) v
-acts_idle fit places now w v c way h none same =
-    came fit places now now w (act_of way c) (with_event w (event.Idle c)) v same (
+pub acts_idle : (stores : Attached) (w v : WorldAt) (c : ℕ) (way : Way) → IsWorld w → has_work w.script.clients c w.events ≡ false → v ≡ with_event w (event.Idle c) → Came stores stores w (act_of way c) v
+acts_idle stores w v c way h none same =
+    came stores stores w (act_of way c) (with_event w (event.Idle c)) v same (
       world_stays w (event.Idle c) (λ j. idle_apart c (suc j)) tt h,
       record {
         es = event.Idle c ∷ [];
         so = record { event = event.Idle c; lone = refl; acted = acted_of w.script.clients way c w.events (event.Idle c) (step_idle w.script.clients c (IsHowOf way) w.events none) };
-        gone = gone_one fit places now now w (with_event w (event.Idle c)) (event.Idle c) refl refl (linked_rests w (event.Idle c) tt) (λ l. caused_idles w c) (λ f. refl);
+        gone = gone_one stores stores w (with_event w (event.Idle c)) (event.Idle c) refl refl (linked_rests w (event.Idle c) tt) (λ l. caused_idles w c) (λ f. refl);
       },
     )
 
 ---- a statement is taken
 
-pub acts_take : (fit : Type 0) (places : List Place) (now : List Shelf) (w v : WorldAt) (i : ℕ) (way : Way) → IsWorld w → has_work w.script.clients (suc i) w.events ≡ true → IsIdleAt w i → HasTaken w i v → Came fit places now now w (act_of way (suc i)) v
-acts_take fit places now w v i way h works idle_at t =
+pub acts_take : (stores : Attached) (w v : WorldAt) (i : ℕ) (way : Way) → IsWorld w → has_work w.script.clients (suc i) w.events ≡ true → IsIdleAt w i → HasTaken w i v → Came stores stores w (act_of way (suc i)) v
+acts_take stores w v i way h works idle_at t =
     let s : Seat = t.seat in
     let seat : IsSeat w.script w.events i s = h.each i s t.at in
     let idle : IsIdle s.client = at_place (λ (x : Seat). IsIdle x.client) w i s t.at idle_at in
@@ -125,12 +126,12 @@ acts_take fit places now w v i way h works idle_at t =
       idle = on_hand (λ (x : Hand). IsIdle x.client) w.seats i s t.at idle;
       free = on_hand (λ (x : Hand). x.client.plan ≡ None) w.seats i s t.at (free_plan w.script.catalog s.client idle seat.fitted);
     } in
-    came fit places now now w (act_of way (suc i)) (with_event (with_seat w i (moved_seat s 1 t.client)) e) v t.left (
+    came stores stores w (act_of way (suc i)) (with_event (with_seat w i (moved_seat s 1 t.client)) e) v t.left (
       world_moves w i s (moved_seat s 1 t.client) e t.at (λ j n. take_apart (suc i) (suc j) t.text t.answer (λ k. n (suc_is i j k))) (seat_takes w.script w.events i s seat t.answer t.client after about t.text) tt h,
       record {
         es = e ∷ [];
         so = record { event = e; lone = refl; acted = acted_of w.script.clients way (suc i) w.events e (step_take w.script.clients (suc i) (IsHowOf way) w.events e works pends (refl, ap (λ (n : ℕ). slice_get (texts_of w.script.clients (suc i)) n) (sym seat.taken) ∙ t.next)) };
-        gone = gone_one fit places now now w (with_event (with_seat w i (moved_seat s 1 t.client)) e) e refl refl (linked_takes w i s q t.text t.answer t.client h.playable refl t.at goes ready (gated_at t.gate w.seats i t.gated) t.takes t.begun h.moment)
+        gone = gone_one stores stores w (with_event (with_seat w i (moved_seat s 1 t.client)) e) e refl refl (linked_takes w i s q t.text t.answer t.client h.playable refl t.at goes ready (gated_at t.gate w.seats i t.gated) t.takes t.begun h.moment)
             (caused_takes w i s t.gate t.text t.answer t.client h.playable t.at goes ready (gated_by t.gate w.seats i t.gated) h.moment t.begun t.takes) (λ f. refl);
       },
     )
@@ -140,8 +141,8 @@ acts_take fit places now w v i way h works idle_at t =
 
 ---- a call is made
 
-pub acts_call : (fit : Type 0) (places : List Place) (before now : List Shelf) (w v : WorldAt) (i : ℕ) (way : Way) → IsWorld w → has_work w.script.clients (suc i) w.events ≡ true → IsBusyAt w i → HasCalled fit places before now w i way v → Came fit places before now w (act_of way (suc i)) v
-acts_call fit places before now w v i way h works busy_at t =
+pub acts_call : (old new : Attached) (w v : WorldAt) (i : ℕ) (way : Way) → IsWorld w → has_work w.script.clients (suc i) w.events ≡ true → IsBusyAt w i → HasCalled old new w i way v → Came old new w (act_of way (suc i)) v
+acts_call old new w v i way h works busy_at t =
     let s : Seat = t.seat in
     let seat : IsSeat w.script w.events i s = h.each i s t.at in
     let busy : IsBusy s.client = at_place (λ (x : Seat). IsBusy x.client) w i s t.at busy_at in
@@ -156,14 +157,14 @@ acts_call fit places before now w v i way h works busy_at t =
       pending = on_hand (λ (x : Hand). client_pending x.client ≡ Some t.request) w.seats i s t.at t.pending;
       fitted = on_hand (λ (x : Hand). IsFitted w.script.catalog x.client) w.seats i s t.at seat.fitted;
     } in
-    came fit places before now w (act_of way (suc i)) (with_event (with_seat w i (moved_seat s 0 t.client)) e) v t.left (
+    came old new w (act_of way (suc i)) (with_event (with_seat w i (moved_seat s 0 t.client)) e) v t.left (
       world_moves w i s (moved_seat s 0 t.client) e t.at (λ j n. call_apart (suc i) (suc j) t.store t.request t.how t.reply t.answer (λ k. n (suc_is i j k))) (seat_calls w.script w.events i s seat t.answer t.client after about t.store t.request t.how t.reply) asked h,
       record {
         es = e ∷ [];
         so = record { event = e; lone = refl; acted = acted_of w.script.clients way (suc i) w.events e (step_call w.script.clients (suc i) (IsHowOf way) w.events e works pends (refl, t.allowed)) };
-        gone = gone_one fit places before now w (with_event (with_seat w i (moved_seat s 0 t.client)) e) e refl refl (linked_calls w i s t.store t.how t.request t.reply t.answer t.client h.playable t.at goes waiting t.can t.told h.moment)
+        gone = gone_one old new w (with_event (with_seat w i (moved_seat s 0 t.client)) e) e refl refl (linked_calls w i s t.store t.how t.request t.reply t.answer t.client h.playable t.at goes waiting t.can t.told h.moment)
             (caused_calls w i s t.store t.how t.request t.reply t.answer t.client h.playable t.at goes waiting seat.about t.can t.stored t.told h.moment)
-            (λ f. let m = t.made f asked in subst (λ (n : Name). IsCall places n t.request t.how t.reply before now) (sym m.0) m.1);
+            (λ f. let m = t.made f asked in subst (λ (n : Name). IsCall (placed old.places) n t.request t.how t.reply (shown old.shelves) (shown new.shelves)) (sym m.0) m.1);
       },
     )
   where
@@ -172,31 +173,31 @@ acts_call fit places before now w v i way h works busy_at t =
 
 ---- a client stops, and the clock moves
 
-pub acts_stop : (fit : Type 0) (places : List Place) (now : List Shelf) (w v : WorldAt) (c : ℕ) → IsWorld w → HasStopped w c v → Came fit places now now w (act.Stop c) v
-acts_stop fit places now w v c h t =
+pub acts_stop : (stores : Attached) (w v : WorldAt) (c : ℕ) → IsWorld w → HasStopped w c v → Came stores stores w (act.Stop c) v
+acts_stop stores w v c h t =
     let s : Seat = t.seat in
     let i : ℕ = t.place in
     let e : Event = event.Stop (suc i) in
-    subst (λ (n : ℕ). Came fit places now now w (act.Stop n) v) (sym t.number)
-    (came fit places now now w (act.Stop (suc i)) (with_event (with_seat w i (stopped_seat s)) e) v (t.left ∙ ap (λ (n : ℕ). with_event (with_seat w i (stopped_seat s)) (event.Stop n)) t.number) (
+    subst (λ (n : ℕ). Came stores stores w (act.Stop n) v) (sym t.number)
+    (came stores stores w (act.Stop (suc i)) (with_event (with_seat w i (stopped_seat s)) e) v (t.left ∙ ap (λ (n : ℕ). with_event (with_seat w i (stopped_seat s)) (event.Stop n)) t.number) (
       world_moves w i s (stopped_seat s) e t.at (λ j n. stop_apart (suc i) (suc j) (λ k. n (suc_is i j k))) (seat_stops w.script w.events i s (h.each i s t.at)) tt h,
       record {
         es = e ∷ [];
         so = record { event = e; lone = refl; acted = refl };
-        gone = gone_one fit places now now w (with_event (with_seat w i (stopped_seat s)) e) e refl refl (linked_stops w i s t.at) (λ l. caused_stops w i s t.at) (λ f. refl);
+        gone = gone_one stores stores w (with_event (with_seat w i (stopped_seat s)) e) e refl refl (linked_stops w i s t.at) (λ l. caused_stops w i s t.at) (λ f. refl);
       },
     ))
   where
     suc_is : (i j : ℕ) → suc i ≡ suc j → i ≡ j
     suc_is i j e = cc
 
-pub acts_clock : (fit : Type 0) (places : List Place) (now : List Shelf) (w v : WorldAt) (m : ℤ) → IsWorld w → is_moment m ≡ true → v ≡ with_event (at_moment w m) (event.Clock m) → Came fit places now now w (act.Clock m) v
-acts_clock fit places now w v m h is same =
-    came fit places now now w (act.Clock m) (with_event (at_moment w m) (event.Clock m)) v same (
+pub acts_clock : (stores : Attached) (w v : WorldAt) (m : ℤ) → IsWorld w → is_moment m ≡ true → v ≡ with_event (at_moment w m) (event.Clock m) → Came stores stores w (act.Clock m) v
+acts_clock stores w v m h is same =
+    came stores stores w (act.Clock m) (with_event (at_moment w m) (event.Clock m)) v same (
       world_ticks w m is (λ j. clock_apart m (suc j)) h,
       record {
         es = event.Clock m ∷ [];
         so = record { event = event.Clock m; lone = refl; acted = refl };
-        gone = gone_one fit places now now w (with_event (at_moment w m) (event.Clock m)) (event.Clock m) refl refl (linked_rests w (event.Clock m) tt) (λ l. caused_ticks w m) (λ f. refl);
+        gone = gone_one stores stores w (with_event (at_moment w m) (event.Clock m)) (event.Clock m) refl refl (linked_rests w (event.Clock m) tt) (λ l. caused_ticks w m) (λ f. refl);
       },
     )

@@ -3,8 +3,7 @@ use Rattle.std.proofs.Common.{◌≡◌, inl, inr, ℕ, suc, ◌+◌, ◌≤◌,
 use Rattle.std.proofs.lemmas.List.Sums.{sum_by_push}
 use Rattle.sdb_types.specs.declared.record.Reply.{Reply}
 use Rattle.sdb_types.specs.declared.record.Request.{Request}
-use Rattle.sdb_stores.specs.Shelf.{Shelf, HaveRisen, total_faults}
-use Rattle.sdb_stores.specs.declared.place.Place.{Place}
+use Rattle.sdb_stores.specs.Shelf.{Attached, Shelf, HaveRisen, total_faults}
 use Rattle.sdb_model.specs.declared.answer.Answer.{Answer}
 use Rattle.sdb_model.specs.declared.event.Event.{Event}
 use Rattle.sdb_model.specs.declared.event.Event.TheVariants as event
@@ -25,12 +24,12 @@ pub breaks_none : (es : List Event) (a : List Shelf) → BreaksWithin es es a a
 breaks_none es a = inl (omega arith)
 
 -- nothing came, and the stores went on
-pub breaks_still : {t u : ℕ → Type 0} (es : List Event) (p q : List Place) (a b : List Shelf) → GoOn p q a b t u → BreaksWithin es es a b
-breaks_still es p q a b goes = inl (omega (arith, goes.counted))
+pub breaks_still : (es : List Event) (a b : Attached) → GoOn a b → BreaksWithin es es a.shelves b.shelves
+breaks_still es a b goes = inl (omega (arith, goes.counted))
 
 -- more came, on stores that went on
-pub breaks_more : {t u : ℕ → Type 0} (before mid now : List Event) (p q : List Place) (a b c : List Shelf) → BreaksWithin before mid a b → GoOn p q b c t u → BreaksWithin mid now b c → BreaksWithin before now a c
-breaks_more before mid now p q a b c h goes k = elim h [
+pub breaks_more : (before mid now : List Event) (a b c : Attached) → BreaksWithin before mid a.shelves b.shelves → GoOn b c → BreaksWithin mid now b.shelves c.shelves → BreaksWithin before now a.shelves c.shelves
+breaks_more before mid now a b c h goes k = elim h [
   | inl few ↦ elim k [
     | inl more ↦ inl (omega (arith, few, more))
     | inr full ↦ inr full
@@ -39,8 +38,8 @@ breaks_more before mid now p q a b c h goes k = elim h [
 ]
 
 -- more came on stores that had gone on
-pub breaks_after : {t u : ℕ → Type 0} (before now : List Event) (p q : List Place) (a b c : List Shelf) → GoOn p q a b t u → BreaksWithin before now b c → BreaksWithin before now a c
-breaks_after before now p q a b c goes h = elim h [
+pub breaks_after : (before now : List Event) (a b : Attached) (c : List Shelf) → GoOn a b → BreaksWithin before now b.shelves c → BreaksWithin before now a.shelves c
+breaks_after before now a b c goes h = elim h [
   | inl few ↦ inl (omega (arith, few, goes.counted))
   | inr full ↦ inr full
 ]

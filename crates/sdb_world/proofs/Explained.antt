@@ -13,6 +13,8 @@ use Rattle.sdb_model.specs.Events.{Effect, IsTrace, Shelf}
 use Rattle.sdb_model.specs.Exec.{find_table}
 use Rattle.sdb_model.specs.Explained.{Explained}
 use Rattle.sdb_spread.specs.Spread.{HoldAs}
+use Rattle.sdb_stores.specs.Shelf.{Attached}
+use Rattle.sdb_board.specs.Board.{placed, shown}
 use Rattle.sdb_steps.specs.Fitting.{tables_fit}
 use Rattle.sdb_steps.specs.Hands.{doing_of, system_of}
 use Rattle.sdb_endings.specs.Stores.{AreTaken}
@@ -53,9 +55,12 @@ played_explained w h events same opening closing p moments end traced = record {
     on = subst (λ (es : List Event). IsTrace w.script.places es opening moments end) same traced
 
 -- one event more
-pub came_explained : (fit : Type 0) (places : List Place) (before now : List Shelf) (w v : WorldAt) (a : Act) → Came fit places before now w a v → IsExplainedAfter fit places before now w v
-came_explained fit places before now w v a (h, c) f g opening moments nothing traced =
+pub came_explained : (old new : Attached) (w v : WorldAt) (a : Act) → Came old new w a v → IsExplainedAfter old new w v
+came_explained old new w v a (h, c) f g opening moments nothing traced =
     let e : Event = c.so.event in
+    let places : List Place = placed old.places in
+    let before : List Shelf = shown old.shelves in
+    let now : List Shelf = shown new.shelves in
     let s = c.gone.traced f in
     let effect : Effect places e before now = lone_effect places e before now s.0 (subst (λ (es : List Event). IsTrace places es before s.0 now) c.so.lone s.1) in
     let events : v.events ≡ w.events ++ e ∷ [] = c.gone.events ∙ ap (λ (es : List Event). w.events ++ es) c.so.lone in
@@ -66,6 +71,6 @@ came_explained fit places before now w v a (h, c) f g opening moments nothing tr
       explained = world_explained v h (c.gone.linked g) places opening now (moments ++ now ∷ []) (subst (λ (x : Script). HoldAs x.catalog places opening empty) (sym c.gone.script) nothing) on;
     }
 
-pub on_explained : {T E : Type 0} (r : Result T E) (fit : Type 0) (places : List Place) (before now : List Shelf) (w v : WorldAt) (a : Act) → OnOk r (IsWorld v) → OnOk r (HasCome (IsOne w.script.clients a w.events) fit places before now w v) → OnOk r (IsExplainedAfter fit places before now w v)
-on_explained (Ok x) fit places before now w v a h c = came_explained fit places before now w v a (h, c)
-on_explained (Err e) fit places before now w v a h c = tt
+pub on_explained : {T E : Type 0} (r : Result T E) (old new : Attached) (w v : WorldAt) (a : Act) → OnOk r (IsWorld v) → OnOk r (HasCome (IsOne w.script.clients a w.events) old new w v) → OnOk r (IsExplainedAfter old new w v)
+on_explained (Ok x) old new w v a h c = came_explained old new w v a (h, c)
+on_explained (Err e) old new w v a h c = tt

@@ -7,9 +7,8 @@ use Rattle.sdb_model.specs.declared.event.Event.{Event}
 use Rattle.sdb_model.specs.declared.event.Event.TheVariants as event
 use Rattle.sdb_model.specs.declared.script.Act.{Act}
 use Rattle.sdb_model.specs.declared.script.Act.TheVariants as act
-use Rattle.sdb_model.specs.declared.script.Place.{Place}
-use Rattle.sdb_model.specs.Events.{Shelf}
 use Rattle.sdb_model.specs.Follows.{has_work, texts_of}
+use Rattle.sdb_stores.specs.Shelf.{Attached}
 use Rattle.sdb_client.specs.Client.{IsIdle}
 use Rattle.sdb_world.specs.declared.seat.Seat.{Seat}
 use Rattle.sdb_world.specs.declared.way.Way.{Way}
@@ -48,19 +47,19 @@ idled u w same es c came =
     subst (λ (x : WorldAt). record { script = x.script; seats = x.seats; events = es; clock = x.clock } ≡ with_event w (event.Idle c)) (sym same)
     (λ k. record { script = w.script; seats = w.seats; events = (came ∙ ap (λ (x : WorldAt). x.events ++ event.Idle c ∷ []) same) k; clock = w.clock })
 
-module _ (fit : Type 0) (places : List Place) (w : WorldAt) (c : ℕ) (way : Way) (h : IsWorld w) (number : IsNumber w.script c) (b : Bool) (works : b ≡ has_work w.script.clients (suc (c - 1)) w.events) where
+module _ (w : WorldAt) (c : ℕ) (way : Way) (h : IsWorld w) (number : IsNumber w.script c) (b : Bool) (works : b ≡ has_work w.script.clients (suc (c - 1)) w.events) where
   -- it has no work
-  pub goes_idle : (now : List Shelf) (u : WorldAt) (es : List Event) → b ≡ false → u ≡ w → es ≡ u.events ++ event.Idle c ∷ [] → Came fit places now now w (act_of way c) (record { script = u.script; seats = u.seats; events = es; clock = u.clock })
-  goes_idle now u es none same came =
-      acts_idle fit places now w (record { script = u.script; seats = u.seats; events = es; clock = u.clock }) c way h (sym (works ∙ ap (λ (n : ℕ). has_work w.script.clients n w.events) (number_is c number.0)) ∙ none) (idled u w same es c came)
+  pub goes_idle : (stores : Attached) (u : WorldAt) (es : List Event) → b ≡ false → u ≡ w → es ≡ u.events ++ event.Idle c ∷ [] → Came stores stores w (act_of way c) (record { script = u.script; seats = u.seats; events = es; clock = u.clock })
+  goes_idle stores u es none same came =
+      acts_idle stores w (record { script = u.script; seats = u.seats; events = es; clock = u.clock }) c way h (sym (works ∙ ap (λ (n : ℕ). has_work w.script.clients n w.events) (number_is c number.0)) ∙ none) (idled u w same es c came)
 
   -- it takes a statement
-  pub goes_take : (now : List Shelf) (v : WorldAt) → b ≡ true → IsIdleAt w (c - 1) → HasTaken w (c - 1) v → Came fit places now now w (act_of way c) v
-  goes_take now v has idle t = subst (λ (n : ℕ). Came fit places now now w (act_of way n) v) (number_is c number.0) (acts_take fit places now w v (c - 1) way h (sym works ∙ has) idle t)
+  pub goes_take : (stores : Attached) (v : WorldAt) → b ≡ true → IsIdleAt w (c - 1) → HasTaken w (c - 1) v → Came stores stores w (act_of way c) v
+  goes_take stores v has idle t = subst (λ (n : ℕ). Came stores stores w (act_of way n) v) (number_is c number.0) (acts_take stores w v (c - 1) way h (sym works ∙ has) idle t)
 
   -- its call is made
-  pub goes_call : (before now : List Shelf) (v : WorldAt) → b ≡ true → IsBusyAt w (c - 1) → HasCalled fit places before now w (c - 1) way v → Came fit places before now w (act_of way c) v
-  goes_call before now v has busy t = subst (λ (n : ℕ). Came fit places before now w (act_of way n) v) (number_is c number.0) (acts_call fit places before now w v (c - 1) way h (sym works ∙ has) busy t)
+  pub goes_call : (old new : Attached) (v : WorldAt) → b ≡ true → IsBusyAt w (c - 1) → HasCalled old new w (c - 1) way v → Came old new w (act_of way c) v
+  goes_call old new v has busy t = subst (λ (n : ℕ). Came old new w (act_of way n) v) (number_is c number.0) (acts_call old new w v (c - 1) way h (sym works ∙ has) busy t)
 
 -- the clock, and an event more
 clocked : (u w : WorldAt) → u ≡ w → (es : List Event) (m : ℤ) → es ≡ u.events ++ event.Clock m ∷ [] → record { script = u.script; seats = u.seats; events = es; clock = m } ≡ with_event (at_moment w m) (event.Clock m)
@@ -68,7 +67,7 @@ clocked u w same es m came =
     subst (λ (x : WorldAt). record { script = x.script; seats = x.seats; events = es; clock = m } ≡ with_event (at_moment w m) (event.Clock m)) (sym same)
     (λ k. record { script = w.script; seats = w.seats; events = (came ∙ ap (λ (x : WorldAt). x.events ++ event.Clock m ∷ []) same) k; clock = m })
 
-pub goes_clock : (fit : Type 0) (places : List Place) (now : List Shelf) (u w : WorldAt) → u ≡ w → (es : List Event) (a : Act) (m : ℤ) → IsWorld w → a ≡ act.Clock m → CanAct w.script a → es ≡ u.events ++ event.Clock m ∷ [] → Came fit places now now w a (record { script = u.script; seats = u.seats; events = es; clock = m })
-goes_clock fit places now u w same es a m h is can came =
-    subst (λ (x : Act). Came fit places now now w x (record { script = u.script; seats = u.seats; events = es; clock = m })) (sym is)
-    (acts_clock fit places now w (record { script = u.script; seats = u.seats; events = es; clock = m }) m h (subst (CanAct w.script) is can) (clocked u w same es m came))
+pub goes_clock : (stores : Attached) (u w : WorldAt) → u ≡ w → (es : List Event) (a : Act) (m : ℤ) → IsWorld w → a ≡ act.Clock m → CanAct w.script a → es ≡ u.events ++ event.Clock m ∷ [] → Came stores stores w a (record { script = u.script; seats = u.seats; events = es; clock = m })
+goes_clock stores u w same es a m h is can came =
+    subst (λ (x : Act). Came stores stores w x (record { script = u.script; seats = u.seats; events = es; clock = m })) (sym is)
+    (acts_clock stores w (record { script = u.script; seats = u.seats; events = es; clock = m }) m h (subst (CanAct w.script) is can) (clocked u w same es m came))

@@ -8,15 +8,13 @@ use Rattle.sdb_types.specs.declared.record.Reply.{Reply}
 use Rattle.sdb_types.specs.declared.record.Request.{Request}
 use Rattle.sdb_types.specs.Contents.{CanAnswer}
 use Rattle.sdb_schema.specs.declared.table.Table.{Table}
-use Rattle.sdb_stores.specs.Shelf.{Shelf as Counted, home, names_of, table_of}
-use Rattle.sdb_stores.specs.declared.place.Place.{Place as Placed}
+use Rattle.sdb_stores.specs.Shelf.{Attached, home_in, names_of, table_of}
 use Rattle.sdb_model.specs.declared.answer.Answer.{Answer}
 use Rattle.sdb_model.specs.declared.event.Event.{Event}
 use Rattle.sdb_model.specs.declared.event.Event.TheVariants as event
 use Rattle.sdb_model.specs.declared.event.How.{How}
-use Rattle.sdb_model.specs.declared.script.Place.{Place}
 use Rattle.sdb_model.specs.Rows.{Name}
-use Rattle.sdb_model.specs.Events.{Shelf, store_of, table_asked}
+use Rattle.sdb_model.specs.Events.{store_of, table_asked}
 use Rattle.sdb_model.specs.Follows.{texts_of}
 use Rattle.sdb_spread.specs.Spread.{is_played}
 use Rattle.sdb_client.specs.Client.{ClientAt, ReplyTold, client_pending}
@@ -81,17 +79,17 @@ abbrev pub after_calling : WorldAt → ℕ → Seat → ClientAt → List Event 
 after_calling u i s d es = record { script = u.script; seats = slice_set u.seats i (record { client = d; taken = s.taken; stopped = s.stopped }); events = es; clock = u.clock }
 
 -- the store of a call is that of its table's namespace
-pub named_store : {tells : ℕ → Type 0} (ps : List Placed) (shelves : List Counted) (q : Request) (table : TableName) (store : Name) → table ≡ table_of q → slice_get (names_of shelves) (home table.ns ps (names_of shelves)) ≡ Some store → {catalog : List Table} → AreFit catalog ps shelves tells → store ≡ store_of (placed ps) (shown shelves) (table_asked q).ns
-named_store ps shelves q table store same found fit =
-    some_is store (store_of (placed ps) (shown shelves) (table_asked q).ns)
-    (sym found ∙ named_home ps shelves table.ns fit.some (fit.homed table.ns) ∙ ap (λ (t : TableName). Some (store_of (placed ps) (shown shelves) t.ns)) (same ∙ asked q))
+pub named_store : (stores : Attached) (q : Request) (table : TableName) (store : Name) → table ≡ table_of q → slice_get (names_of stores.shelves) (home_in stores table.ns) ≡ Some store → {catalog : List Table} → AreFit catalog stores → store ≡ store_of (placed stores.places) (shown stores.shelves) (table_asked q).ns
+named_store stores q table store same found fit =
+    some_is store (store_of (placed stores.places) (shown stores.shelves) (table_asked q).ns)
+    (sym found ∙ named_home stores.places stores.shelves table.ns fit.some (fit.homed table.ns) ∙ ap (λ (t : TableName). Some (store_of (placed stores.places) (shown stores.shelves) t.ns)) (same ∙ asked q))
 
 -- A client's call was made.
-pub called : (fit : Type 0) (places : List Place) (before now : List Shelf) (u w : WorldAt) → u ≡ w → (i : ℕ) (s : Seat) (way : Way) (store : Name) (q : Request) (how : How) (r : Reply) (a : Option Answer) (d : ClientAt) (es : List Event) → i < length w.seats → s ≡ get_or w.seats i s → IsPendingAt w i q → CanAnswer q r → IsHowOf way how r → shows_stored r ≡ true
-    → ReplyTold s.client s.client.vacuum r u.clock a d → (fit → is_played w.script.catalog (table_asked q) ≡ true → (store ≡ store_of places before (table_asked q).ns) × IsMade places q how r before now) → es ≡ u.events ++ event.Call (i + 1) store q how r a ∷ []
-    → HasCalled fit places before now w i way (after_calling u i s d es)
-called fit places before now u w same i s way store q how r a d es low read pends can allowed stored told made came =
-    subst (λ (x : WorldAt). HasCalled fit places before now w i way (after_calling x i s d es)) (sym same)
+pub called : (old new : Attached) (u w : WorldAt) → u ≡ w → (i : ℕ) (s : Seat) (way : Way) (store : Name) (q : Request) (how : How) (r : Reply) (a : Option Answer) (d : ClientAt) (es : List Event) → i < length w.seats → s ≡ get_or w.seats i s → IsPendingAt w i q → CanAnswer q r → IsHowOf way how r → shows_stored r ≡ true
+    → ReplyTold s.client s.client.vacuum r u.clock a d → (AreFit w.script.catalog old → is_played w.script.catalog (table_asked q) ≡ true → (store ≡ store_of (placed old.places) (shown old.shelves) (table_asked q).ns) × IsMade q how r old new) → es ≡ u.events ++ event.Call (i + 1) store q how r a ∷ []
+    → HasCalled old new w i way (after_calling u i s d es)
+called old new u w same i s way store q how r a d es low read pends can allowed stored told made came =
+    subst (λ (x : WorldAt). HasCalled old new w i way (after_calling x i s d es)) (sym same)
     (record {
       seat = s;
       store = store;

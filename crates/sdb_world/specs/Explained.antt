@@ -8,6 +8,8 @@ use Rattle.sdb_model.specs.Events.{IsTrace, Shelf}
 use Rattle.sdb_model.specs.Explained.{Explained}
 use Rattle.sdb_model.specs.Shown.{AreShown}
 use Rattle.sdb_spread.specs.Spread.{HoldAs}
+use Rattle.sdb_stores.specs.Shelf.{Attached}
+use Rattle.sdb_board.specs.Board.{AreFit, placed, shown}
 use Rattle.sdb_endings.specs.Stores.{AreTaken}
 use Rattle.sdb_world.specs.World.{WorldAt}
 use Rattle.sdb_world.specs.Linked.{IsLinked}
@@ -34,6 +36,6 @@ pub record GoesOnExplained (places : List Place) (v : WorldAt) (opening : List S
 
 -- A world came to another by one event. On stores that are fit for it, each trace of the events before goes on explained, where it began
 -- with stores that held nothing of the script's tables and ended as the stores were before the event.
-abbrev pub IsExplainedAfter : Type 0 → List Place → List Shelf → List Shelf → WorldAt → WorldAt → Type 0
-IsExplainedAfter fit places before now w v =
-    fit → IsLinked w → (opening : List Shelf) (moments : List (List Shelf)) → HoldAs w.script.catalog places opening empty → IsTrace places w.events opening moments before → GoesOnExplained places v opening moments now
+abbrev pub IsExplainedAfter : Attached → Attached → WorldAt → WorldAt → Type 0
+IsExplainedAfter old new w v =
+    AreFit w.script.catalog old → IsLinked w → (opening : List Shelf) (moments : List (List Shelf)) → HoldAs w.script.catalog (placed old.places) opening empty → IsTrace (placed old.places) w.events opening moments (shown old.shelves) → GoesOnExplained (placed old.places) v opening moments (shown new.shelves)

@@ -13,16 +13,16 @@ use Rattle.sdb_model.specs.declared.script.Act.{Act}
 use Rattle.sdb_model.specs.declared.script.Act.TheVariants as act
 use Rattle.sdb_model.specs.declared.script.Move.{Move}
 use Rattle.sdb_model.specs.declared.script.Move.TheVariants as move
-use Rattle.sdb_model.specs.declared.script.Place.{Place}
 use Rattle.sdb_model.specs.declared.script.Script.{Script}
 use Rattle.sdb_model.specs.declared.script.ScriptClient.{ScriptClient}
 use Rattle.sdb_model.specs.Rows.{Name}
 use Rattle.sdb_model.specs.Events.{IsTrace, Shelf, store_of, table_asked}
-use Rattle.sdb_model.specs.Follows.{AllIdle, AreStepsOf, IsActed, IsAmong, IsHowOfDiscard, IsHowOfLose, IsHowOfStep, has_work, texts_of}
+use Rattle.sdb_model.specs.Follows.{AllIdle, AreMoved, AreStepsOf, IsActed, IsAmong, IsHowOfDiscard, IsHowOfLose, IsHowOfStep, IsMoved, has_work, texts_of}
 use Rattle.sdb_client.specs.Client.{ClientAt, IsBusy, IsIdle, ReplyTold, client_pending, nothing_done}
 use Rattle.sdb_client.specs.declared.gate.Gate.{Gate}
 use Rattle.sdb_spread.specs.Spread.{is_played}
-use Rattle.sdb_board.specs.Board.{IsMade}
+use Rattle.sdb_stores.specs.Shelf.{Attached}
+use Rattle.sdb_board.specs.Board.{AreFit, IsMade, placed, shown}
 use Rattle.sdb_causes.specs.Unfit.{shows_stored}
 use Rattle.sdb_steps.specs.Hands.{Takes}
 use Rattle.sdb_world.specs.declared.seat.Seat.{Seat}
@@ -115,7 +115,7 @@ pub record HasTaken (w : WorldAt) (i : ℕ) (v : WorldAt) : Type 0 where
   pub left : v ≡ with_event (with_seat w i (moved_seat seat 1 client)) (event.Take (suc i) text answer)
 
 -- A client's pending call is made in some way, and the client has the reply.
-pub record HasCalled (fit : Type 0) (places : List Place) (before now : List Shelf) (w : WorldAt) (i : ℕ) (way : Way) (v : WorldAt) : Type 0 where
+pub record HasCalled (old new : Attached) (w : WorldAt) (i : ℕ) (way : Way) (v : WorldAt) : Type 0 where
   pub seat : Seat
   pub store : Name
   pub request : Request
@@ -129,7 +129,7 @@ pub record HasCalled (fit : Type 0) (places : List Place) (before now : List She
   pub allowed : IsHowOf way how reply
   pub stored : shows_stored reply ≡ true
   pub told : ReplyTold seat.client seat.client.vacuum reply w.clock answer client
-  pub made : fit → is_played w.script.catalog (table_asked request) ≡ true → (store ≡ store_of places before (table_asked request).ns) × IsMade places request how reply before now
+  pub made : AreFit w.script.catalog old → is_played w.script.catalog (table_asked request) ≡ true → (store ≡ store_of (placed old.places) (shown old.shelves) (table_asked request).ns) × IsMade request how reply old new
   pub left : v ≡ with_event (with_seat w i (moved_seat seat 0 client)) (event.Call (suc i) store request how reply answer)
 
 -- the client has stopped
@@ -163,18 +163,18 @@ act_of way.Discard c = act.Discard c
 
 -- Events came to a world and to these stores: the script stays, what ties events to clients is kept whatever the replies, and with it the
 -- causes of answers; and where the stores are fit for the run a trace of them agrees with the events.
-pub record HasGone (fit : Type 0) (places : List Place) (before now : List Shelf) (w v : WorldAt) (es : List Event) : Type 0 where
+pub record HasGone (old new : Attached) (w v : WorldAt) (es : List Event) : Type 0 where
   pub script : v.script ≡ w.script
   pub events : v.events ≡ w.events ++ es
   pub linked : IsLinked w → IsLinked v
   pub caused : IsLinked w → HaveCauses w → HaveCauses v
-  pub traced : fit → (moments : List (List Shelf)) × IsTrace places es before moments now
+  pub traced : AreFit w.script.catalog old → (moments : List (List Shelf)) × IsTrace (placed old.places) es (shown old.shelves) moments (shown new.shelves)
 
 -- Events came, and they are so.
-pub record HasCome (P : List Event → Type 0) (fit : Type 0) (places : List Place) (before now : List Shelf) (w v : WorldAt) : Type 0 where
+pub record HasCome (P : List Event → Type 0) (old new : Attached) (w v : WorldAt) : Type 0 where
   pub es : List Event
   pub so : P es
-  pub gone : HasGone fit places before now w v es
+  pub gone : HasGone old new w v es
 
 -- one event, which is what an act gives
 pub record IsOne (clients : List ScriptClient) (a : Act) (past es : List Event) : Type 0 where
@@ -186,6 +186,22 @@ pub record IsOne (clients : List ScriptClient) (a : Act) (past es : List Event) 
 pub record AreSteps (clients : List ScriptClient) (c times : ℕ) (past es : List Event) : Type 0 where
   pub count : length es ≡ times
   pub steps : AreStepsOf clients c past es
+
+-- One act was done.
+abbrev pub HasActed : Act → Attached → Attached → WorldAt → WorldAt → Type 0
+HasActed a old new w v = HasCome (IsOne w.script.clients a w.events) old new w v
+
+-- So many steps of a client were made.
+abbrev pub HasStepped : ℕ → ℕ → Attached → Attached → WorldAt → WorldAt → Type 0
+HasStepped c times old new w v = HasCome (AreSteps w.script.clients c times w.events) old new w v
+
+-- One move was made.
+abbrev pub HasMoved : Move → Attached → Attached → WorldAt → WorldAt → Type 0
+HasMoved made old new w v = HasCome (IsMoved w.script.clients made w.events) old new w v
+
+-- All moves of its script were made.
+abbrev pub HasFollowed : Attached → Attached → WorldAt → WorldAt → Type 0
+HasFollowed old new w v = HasCome (AreMoved w.script.clients w.script.moves w.events) old new w v
 
 ---- moves
 

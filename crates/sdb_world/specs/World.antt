@@ -1,5 +1,5 @@
 -- The clients of a script at work, and what has happened.
-use Rattle.std.specs.Prelude.{◌≡◌, ℕ, zero, suc, ℤ, ◌+◌, ◌-◌, ◌<◌, ◌^◌, true, false, List, [], ◌∷◌, ◌++◌, length, Option, Some, None, is_some, slice_get, slice_set}
+use Rattle.std.specs.Prelude.{◌≡◌, ℕ, zero, suc, ℤ, ◌-◌, ◌<◌, ◌^◌, true, false, List, [], ◌∷◌, ◌++◌, length, Option, Some, None, is_some, slice_get, slice_set}
 use Rattle.sdb_types.specs.declared.key.Key.{Key}
 use Rattle.sdb_record.specs.Meta.{is_moment}
 use Rattle.sdb_schema.specs.Catalog.{is_catalog}

@@ -1,15 +1,11 @@
 //! What a run has come to.
-ghost use Rattle.std.specs.Prelude.{◌≡◌, ◌<◌, List, length, IfOk, IfErr, OnOk};
-ghost use Rattle.sdb_stores.specs.Shelf.{HaveRisen};
-ghost use Rattle.sdb_model.specs.Events.{Shelf};
-ghost use Rattle.sdb_model.specs.Told.{IsRun};
-ghost use Rattle.sdb_board.specs.Board.{AreFit, GoOn, placed, shown};
-ghost use Rattle.sdb_dump.specs.Refused.{Refuses};
+ghost use Rattle.std.specs.Prelude.{◌≡◌, ◌<◌, length, IfOk, IfErr, OnOk};
+ghost use Rattle.sdb_board.specs.Board.{GoOn};
+ghost use Rattle.sdb_dump.specs.Refused.{RefusesOn};
 ghost use Rattle.sdb_causes.specs.Tied.{AnswersHaveCauses};
 ghost use Rattle.sdb_world.specs.Linked.{HaveCauses};
 ghost use Rattle.sdb_world.specs.World.{IsWorld};
-ghost use Rattle.sdb_world.specs.Played.{HasPlayed};
-ghost use Rattle.sdb_world.specs.Explained.{IsExplained};
+ghost use Rattle.sdb_world.specs.Played.{HasNotPlayed, IsOutcomeOf, IsPlayExplained};
 
 use crate::world::World;
 use sdb_dump::{Closing, ClosingRefused, closing_dump};
@@ -28,14 +24,14 @@ impl World {
         alloc: Global,
         stores: &mut R,
     ) -> Result<Outcome, ClosingRefused>
-        requires some { 0 < length (R.shelves stores.old) }
+        requires some { 0 < length (R.state stores.old).shelves }
         requires world { IsWorld self }
-        ensures run { IfOk result (λ o. (opening : List Shelf) → AreFit self.script.catalog (R.places stores.old) (R.shelves stores.old) (R.tells stores.old) → placed (R.places stores.old) ≡ self.script.places → HasPlayed self opening (shown (R.shelves stores.old)) → IsRun self.script opening (shown (R.shelves stores.new)) o) }
-        ensures explained { IfOk result (λ o. (opening : List Shelf) → HasPlayed self opening (shown (R.shelves stores.old)) → IsExplained self.script o.events opening) }
+        ensures run { IfOk result (IsOutcomeOf self (R.state stores.old) (R.state stores.new)) }
+        ensures explained { IfOk result (λ o. IsPlayExplained self (R.state stores.old) o.events) }
         ensures caused { IfOk result (λ o. HaveCauses self → AnswersHaveCauses self.script.catalog o.events) }
         ensures events { IfOk result (λ o. o.events ≡ self.events) }
-        ensures goes { GoOn (R.places stores.old) (R.places stores.new) (R.shelves stores.old) (R.shelves stores.new) (R.tells stores.old) (R.tells stores.new) }
-        ensures err { IfErr result (Refuses (λ key. (opening : List Shelf) → AreFit self.script.catalog (R.places stores.old) (R.shelves stores.old) (R.tells stores.old) → placed (R.places stores.old) ≡ self.script.places → HasPlayed self opening (shown (R.shelves stores.old)) → ⊥) (HaveRisen (R.shelves stores.old) (R.shelves stores.new))) }
+        ensures goes { GoOn (R.state stores.old) (R.state stores.new) }
+        ensures err { IfErr result (RefusesOn (R.state stores.old) (R.state stores.new) (λ key. HasNotPlayed self (R.state stores.old))) }
     {
         let (script, events) = self.into_parts();
         let Closing { recorded, tables } = closing_dump(alloc, stores, &script.catalog)?;

@@ -1,11 +1,9 @@
 //! One call of a client, made in some way.
-ghost use Rattle.std.specs.Prelude.{◌≡◌, ◌<◌, List, length, true};
+ghost use Rattle.std.specs.Prelude.{◌≡◌, ◌<◌, length};
 ghost use Rattle.sdb_types.specs.Contents.{CanAnswer};
-ghost use Rattle.sdb_schema.specs.declared.table.Table.{Table};
 ghost use Rattle.sdb_stores.specs.Shelf.{HaveRisen};
 ghost use Rattle.sdb_model.specs.Events.{table_asked};
-ghost use Rattle.sdb_spread.specs.Spread.{is_played};
-ghost use Rattle.sdb_board.specs.Board.{AreFit, GoOn, IsMade, how_lost as how_lost_lem, how_seen as how_seen_lem, placed, reply_lost as reply_lost_lem, shown};
+ghost use Rattle.sdb_board.specs.Board.{AreFitFor, GoOn, IsMade, how_lost as how_lost_lem, how_seen as how_seen_lem, reply_lost as reply_lost_lem};
 ghost use Rattle.sdb_world.specs.Step.{IsHowOf};
 
 use crate::way::Way;
@@ -44,12 +42,12 @@ fn reply_lost(reply: Reply) -> Reply
 
 /// Makes a call on the store of its table in some way: how it came out, and the reply that its client gets.
 pub fn perform<R: Registry>(stores: &mut R, request: &Request, way: Way) -> (How, Reply)
-    requires some { 0 < length (R.shelves stores.old) }
-    ensures made { (catalog : List Table) → AreFit catalog (R.places stores.old) (R.shelves stores.old) (R.tells stores.old) → is_played catalog (table_asked request.now) ≡ true → IsMade (placed (R.places stores.old)) request.now result.0 result.1 (shown (R.shelves stores.old)) (shown (R.shelves stores.new)) }
+    requires some { 0 < length (R.state stores.old).shelves }
+    ensures made { AreFitFor (table_asked request.now) (R.state stores.old) → IsMade request.now result.0 result.1 (R.state stores.old) (R.state stores.new) }
     ensures lawful { CanAnswer request.now result.1 }
     ensures allowed { IsHowOf way result.0 result.1 }
-    ensures broken { result.0 ≡ How.Broken → HaveRisen (R.shelves stores.old) (R.shelves stores.new) }
-    ensures goes { GoOn (R.places stores.old) (R.places stores.new) (R.shelves stores.old) (R.shelves stores.new) (R.tells stores.old) (R.tells stores.new) }
+    ensures broken { result.0 ≡ How.Broken → HaveRisen (R.state stores.old).shelves (R.state stores.new).shelves }
+    ensures goes { GoOn (R.state stores.old) (R.state stores.new) }
 {
     match way {
         Way::Step => {

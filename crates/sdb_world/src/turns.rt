@@ -1,10 +1,10 @@
 //! The moves of a script, one after the other.
 ghost use Rattle.std.specs.Prelude.{◌≡◌, ◌<◌, ◌≤◌, length, Some, IfSome, IfNone, OnOk, slice_get};
-ghost use Rattle.sdb_model.specs.Follows.{AllIdle, AreMoved, IsMoved, IsRest, IsTurn, end_of};
-ghost use Rattle.sdb_board.specs.Board.{AreFit, GoOn, placed, shown};
+ghost use Rattle.sdb_model.specs.Follows.{AllIdle, IsRest, IsTurn, end_of};
+ghost use Rattle.sdb_board.specs.Board.{GoOn};
 ghost use Rattle.sdb_world.specs.World.{IsWorld};
 ghost use Rattle.sdb_world.specs.Broken.{BreaksWithin};
-ghost use Rattle.sdb_world.specs.Step.{AreSteps, CanFollow, CanMove, HasCome, IsFirst, IsNumber};
+ghost use Rattle.sdb_world.specs.Step.{CanFollow, CanMove, HasCome, HasFollowed, HasMoved, HasStepped, IsFirst, IsNumber};
 
 use crate::way::Way;
 use crate::world::World;
@@ -53,13 +53,13 @@ impl World {
         client: u32,
         times: u32,
     ) -> Result<(), NoMemory>
-        requires some { 0 < length (R.shelves stores.old) }
+        requires some { 0 < length (R.state stores.old).shelves }
         requires world { IsWorld self.old }
         requires client { IsNumber self.old.script client }
         ensures world { OnOk result (IsWorld self.new) }
-        ensures come { OnOk result (HasCome (AreSteps self.old.script.clients client times self.old.events) (AreFit self.old.script.catalog (R.places stores.old) (R.shelves stores.old) (R.tells stores.old)) (placed (R.places stores.old)) (shown (R.shelves stores.old)) (shown (R.shelves stores.new)) self.old self.new) }
-        ensures broken { OnOk result (BreaksWithin self.old.events self.new.events (R.shelves stores.old) (R.shelves stores.new)) }
-        ensures goes { GoOn (R.places stores.old) (R.places stores.new) (R.shelves stores.old) (R.shelves stores.new) (R.tells stores.old) (R.tells stores.new) }
+        ensures come { OnOk result (HasStepped client times (R.state stores.old) (R.state stores.new) self.old self.new) }
+        ensures broken { OnOk result (BreaksWithin self.old.events self.new.events (R.state stores.old).shelves (R.state stores.new).shelves) }
+        ensures goes { GoOn (R.state stores.old) (R.state stores.new) }
     {
         for _ in 0..times {
             self.go(stores, client, Way::Step)?;
@@ -70,12 +70,12 @@ impl World {
     /// Gives each client that has work and goes on one step in turn, by number, round after round, until none has work. After out of
     /// memory, as which more than 2^64 - 1 steps count, the world isn't used again.
     pub fn rest<R: Registry>(&mut self, stores: &mut R) -> Result<(), NoMemory>
-        requires some { 0 < length (R.shelves stores.old) }
+        requires some { 0 < length (R.state stores.old).shelves }
         requires world { IsWorld self.old }
         ensures world { OnOk result (IsWorld self.new) }
-        ensures come { OnOk result (HasCome (IsRest self.old.script.clients 1 self.old.events) (AreFit self.old.script.catalog (R.places stores.old) (R.shelves stores.old) (R.tells stores.old)) (placed (R.places stores.old)) (shown (R.shelves stores.old)) (shown (R.shelves stores.new)) self.old self.new) }
-        ensures broken { OnOk result (BreaksWithin self.old.events self.new.events (R.shelves stores.old) (R.shelves stores.new)) }
-        ensures goes { GoOn (R.places stores.old) (R.places stores.new) (R.shelves stores.old) (R.shelves stores.new) (R.tells stores.old) (R.tells stores.new) }
+        ensures come { OnOk result (HasCome (IsRest self.old.script.clients 1 self.old.events) (R.state stores.old) (R.state stores.new) self.old self.new) }
+        ensures broken { OnOk result (BreaksWithin self.old.events self.new.events (R.state stores.old).shelves (R.state stores.new).shelves) }
+        ensures goes { GoOn (R.state stores.old) (R.state stores.new) }
     {
         let mut from = 1;
         for _ in 0..u64::MAX {
@@ -92,13 +92,13 @@ impl World {
 
     // Makes a move.
     fn make<R: Registry>(&mut self, stores: &mut R, made: Move) -> Result<(), NoMemory>
-        requires some { 0 < length (R.shelves stores.old) }
+        requires some { 0 < length (R.state stores.old).shelves }
         requires world { IsWorld self.old }
         requires can { CanMove self.old.script made }
         ensures world { OnOk result (IsWorld self.new) }
-        ensures come { OnOk result (HasCome (IsMoved self.old.script.clients made self.old.events) (AreFit self.old.script.catalog (R.places stores.old) (R.shelves stores.old) (R.tells stores.old)) (placed (R.places stores.old)) (shown (R.shelves stores.old)) (shown (R.shelves stores.new)) self.old self.new) }
-        ensures broken { OnOk result (BreaksWithin self.old.events self.new.events (R.shelves stores.old) (R.shelves stores.new)) }
-        ensures goes { GoOn (R.places stores.old) (R.places stores.new) (R.shelves stores.old) (R.shelves stores.new) (R.tells stores.old) (R.tells stores.new) }
+        ensures come { OnOk result (HasMoved made (R.state stores.old) (R.state stores.new) self.old self.new) }
+        ensures broken { OnOk result (BreaksWithin self.old.events self.new.events (R.state stores.old).shelves (R.state stores.new).shelves) }
+        ensures goes { GoOn (R.state stores.old) (R.state stores.new) }
     {
         match made {
             Move::Act(act) => self.step(stores, act),
@@ -120,13 +120,13 @@ impl World {
 
     /// Makes all moves of the script, one after the other. After out of memory the world isn't used again.
     pub fn follow<R: Registry>(&mut self, stores: &mut R) -> Result<(), NoMemory>
-        requires some { 0 < length (R.shelves stores.old) }
+        requires some { 0 < length (R.state stores.old).shelves }
         requires world { IsWorld self.old }
         requires can { CanFollow self.old.script }
         ensures world { OnOk result (IsWorld self.new) }
-        ensures come { OnOk result (HasCome (AreMoved self.old.script.clients self.old.script.moves self.old.events) (AreFit self.old.script.catalog (R.places stores.old) (R.shelves stores.old) (R.tells stores.old)) (placed (R.places stores.old)) (shown (R.shelves stores.old)) (shown (R.shelves stores.new)) self.old self.new) }
-        ensures broken { OnOk result (BreaksWithin self.old.events self.new.events (R.shelves stores.old) (R.shelves stores.new)) }
-        ensures goes { GoOn (R.places stores.old) (R.places stores.new) (R.shelves stores.old) (R.shelves stores.new) (R.tells stores.old) (R.tells stores.new) }
+        ensures come { OnOk result (HasFollowed (R.state stores.old) (R.state stores.new) self.old self.new) }
+        ensures broken { OnOk result (BreaksWithin self.old.events self.new.events (R.state stores.old).shelves (R.state stores.new).shelves) }
+        ensures goes { GoOn (R.state stores.old) (R.state stores.new) }
     {
         for i in 0..self.script().moves.len() {
             let made = self.move_at(i);

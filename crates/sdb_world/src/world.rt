@@ -1,12 +1,12 @@
 //! A world: the clients of a script, and what has happened.
 ghost use Rattle.std.specs.Prelude.{◌≡◌, ◌≢◌, ◌⊎◌, ◌<◌, ◌≤◌, ◌-◌, [], ◌^◌, suc, true, false, length, Some, IfOk, OnOk, IfSome, slice_get};
 ghost use Rattle.sdb_model.specs.Follows.{has_work as has_work_lem, texts_of};
-ghost use Rattle.sdb_board.specs.Board.{AreFit, GoOn, placed, shown};
+ghost use Rattle.sdb_board.specs.Board.{GoOn};
 ghost use Rattle.sdb_world.specs.World.{IsPlayable, IsWorld};
 ghost use Rattle.sdb_world.specs.Broken.{BreaksWithin};
 ghost use Rattle.sdb_world.specs.Explained.{IsExplainedAfter};
 ghost use Rattle.sdb_world.specs.Linked.{HaveCauses, IsLinked};
-ghost use Rattle.sdb_world.specs.Step.{AreFresh, CanAct, HasCalled, HasCome, HasLeft, HasStopped, HasTaken, IsBusyAt, IsGateAt, IsIdleAt, IsNumber, IsOne, IsOpenAt, IsPendingAt, IsSweepingAt, IsUnopened, IsUnswept, act_of};
+ghost use Rattle.sdb_world.specs.Step.{AreFresh, CanAct, HasActed, HasCalled, HasLeft, HasStopped, HasTaken, IsBusyAt, IsGateAt, IsIdleAt, IsNumber, IsOpenAt, IsPendingAt, IsSweepingAt, IsUnopened, IsUnswept, act_of};
 
 use crate::perform::perform;
 use crate::seat::Seat;
@@ -207,13 +207,13 @@ impl World {
 
     // The pending call of a client is made in some way, and the client has the reply.
     fn call<R: Registry>(&mut self, stores: &mut R, at: usize, way: Way) -> Result<(), NoMemory>
-        requires some { 0 < length (R.shelves stores.old) }
+        requires some { 0 < length (R.state stores.old).shelves }
         requires world { IsWorld self.old }
         requires at { at < length self.old.seats }
         requires busy { IsBusyAt self.old at }
-        ensures called { OnOk result (HasCalled (AreFit self.old.script.catalog (R.places stores.old) (R.shelves stores.old) (R.tells stores.old)) (placed (R.places stores.old)) (shown (R.shelves stores.old)) (shown (R.shelves stores.new)) self.old at way self.new) }
-        ensures broken { OnOk result (BreaksWithin self.old.events self.new.events (R.shelves stores.old) (R.shelves stores.new)) }
-        ensures goes { GoOn (R.places stores.old) (R.places stores.new) (R.shelves stores.old) (R.shelves stores.new) (R.tells stores.old) (R.tells stores.new) }
+        ensures called { OnOk result (HasCalled (R.state stores.old) (R.state stores.new) self.old at way self.new) }
+        ensures broken { OnOk result (BreaksWithin self.old.events self.new.events (R.state stores.old).shelves (R.state stores.new).shelves) }
+        ensures goes { GoOn (R.state stores.old) (R.state stores.new) }
     {
         let request = self.request(at)?;
         let store = stores.store_of(table_of(&request)).copy()?;
@@ -232,13 +232,13 @@ impl World {
         client: u32,
         way: Way,
     ) -> Result<(), NoMemory>
-        requires some { 0 < length (R.shelves stores.old) }
+        requires some { 0 < length (R.state stores.old).shelves }
         requires world { IsWorld self.old }
         requires client { IsNumber self.old.script client }
         ensures world { OnOk result (IsWorld self.new) }
-        ensures acted { OnOk result (HasCome (IsOne self.old.script.clients (act_of way client) self.old.events) (AreFit self.old.script.catalog (R.places stores.old) (R.shelves stores.old) (R.tells stores.old)) (placed (R.places stores.old)) (shown (R.shelves stores.old)) (shown (R.shelves stores.new)) self.old self.new) }
-        ensures broken { OnOk result (BreaksWithin self.old.events self.new.events (R.shelves stores.old) (R.shelves stores.new)) }
-        ensures goes { GoOn (R.places stores.old) (R.places stores.new) (R.shelves stores.old) (R.shelves stores.new) (R.tells stores.old) (R.tells stores.new) }
+        ensures acted { OnOk result (HasActed (act_of way client) (R.state stores.old) (R.state stores.new) self.old self.new) }
+        ensures broken { OnOk result (BreaksWithin self.old.events self.new.events (R.state stores.old).shelves (R.state stores.new).shelves) }
+        ensures goes { GoOn (R.state stores.old) (R.state stores.new) }
     {
         let at = client as usize - 1;
         if !self.has_work(at) {
@@ -267,14 +267,14 @@ impl World {
     /// began, what stands at each moment is explained by the events, and what each recorded transaction noted is current at its point.
     /// After out of memory the world isn't used again.
     pub fn step<R: Registry>(&mut self, stores: &mut R, act: Act) -> Result<(), NoMemory>
-        requires some { 0 < length (R.shelves stores.old) }
+        requires some { 0 < length (R.state stores.old).shelves }
         requires world { IsWorld self.old }
         requires act { CanAct self.old.script act }
         ensures world { OnOk result (IsWorld self.new) }
-        ensures acted { OnOk result (HasCome (IsOne self.old.script.clients act self.old.events) (AreFit self.old.script.catalog (R.places stores.old) (R.shelves stores.old) (R.tells stores.old)) (placed (R.places stores.old)) (shown (R.shelves stores.old)) (shown (R.shelves stores.new)) self.old self.new) }
-        ensures explained { OnOk result (IsExplainedAfter (AreFit self.old.script.catalog (R.places stores.old) (R.shelves stores.old) (R.tells stores.old)) (placed (R.places stores.old)) (shown (R.shelves stores.old)) (shown (R.shelves stores.new)) self.old self.new) }
-        ensures broken { OnOk result (BreaksWithin self.old.events self.new.events (R.shelves stores.old) (R.shelves stores.new)) }
-        ensures goes { GoOn (R.places stores.old) (R.places stores.new) (R.shelves stores.old) (R.shelves stores.new) (R.tells stores.old) (R.tells stores.new) }
+        ensures acted { OnOk result (HasActed act (R.state stores.old) (R.state stores.new) self.old self.new) }
+        ensures explained { OnOk result (IsExplainedAfter (R.state stores.old) (R.state stores.new) self.old self.new) }
+        ensures broken { OnOk result (BreaksWithin self.old.events self.new.events (R.state stores.old).shelves (R.state stores.new).shelves) }
+        ensures goes { GoOn (R.state stores.old) (R.state stores.new) }
     {
         match act {
             Act::Step(client) => self.go(stores, client, Way::Step),

@@ -23,8 +23,8 @@ returns g c =
     let kept = (lists.own-1.entry lists.at-1-3).1 in
     record {
       done = λ done.
-          played_on_own _ _ _ _ _ _ _
-          (all_own c.attach.result c.attach-2.result c.attach-3.result _ _ _ _ _ _ _ _ _ _ _ _ _ _
+          played_on_own _ _ _ _ _ _
+          (all_own c.attach.result c.attach-2.result c.attach-3.result _ _ _ _ _ _ _ _ _ _ _ _ _
           (record { stores = c.attach.ensures.ok; here = c.attach.ensures.told; others = c.attach.ensures.telling })
           (record { stores = c.attach-2.ensures.ok; here = c.attach-2.ensures.told; others = c.attach-2.ensures.telling })
           (record { stores = c.attach-3.ensures.ok; here = c.attach-3.ensures.told; others = c.attach-3.ensures.telling })

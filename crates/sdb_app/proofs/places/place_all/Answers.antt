@@ -6,16 +6,16 @@ use Rattle.sdb_app.proofs.places.place_all.Goals as goal
 
 pub place-requires-clause-attached : goal.place-requires-clause-attached
 place-requires-clause-attached g c =
-    let names = names_of (g.R.Registry.shelves c.args.stores.now) in
+    let names = names_of (g.R.Registry.state c.args.stores.now).shelves in
     subst (λ (ss : List Shelf). IsSome (place_of c.place_at.result.now.store (names_of ss))) (sym c.loop-i.invariant.stores) (attached_at names c.args.places.now c.loop-i.i c.place_at.result.now c.requires.fit c.place_at.ensures)
 
 pub place-requires-clause-free : goal.place-requires-clause-free
 place-requires-clause-free g c =
-    free_at (g.R.Registry.places c.loop-i.stores) (names_of (g.R.Registry.shelves c.args.stores.now)) c.args.places.now c.loop-i.i c.place_at.result.now c.requires.fit c.loop-i.invariant.placed c.place_at.ensures
+    free_at (g.R.Registry.state c.loop-i.stores).places (names_of (g.R.Registry.state c.args.stores.now).shelves) c.args.places.now c.loop-i.i c.place_at.result.now c.requires.fit c.loop-i.invariant.placed c.place_at.ensures
 
 pub loop-i-preserved : goal.loop-i-preserved
 loop-i-preserved g c = record {
-  placed = placed_more (g.R.Registry.places c.loop-i.stores) (g.R.Registry.places c.place.new.stores) c.args.places.now c.loop-i.i c.place_at.result.now c.place_at.ensures c.loop-i.invariant.placed c.in_ok-place.ensures.places;
+  placed = placed_more (g.R.Registry.state c.loop-i.stores).places (g.R.Registry.state c.place.new.stores).places c.args.places.now c.loop-i.i c.place_at.result.now c.place_at.ensures c.loop-i.invariant.placed c.in_ok-place.ensures.places;
   stores = c.place.ensures.stores ∙ c.loop-i.invariant.stores;
   telling = λ j h. c.place.ensures.telling j (c.loop-i.invariant.telling j h);
 }

@@ -4,7 +4,7 @@ use Rattle.sdb_app.proofs.places.place_all.Given as goal
 
 abbrev pub invariant-loop-i : goal.invariant-loop-i
 invariant-loop-i g l = record {
-  placed : placed (g.R.Registry.places l.stores) ≡ take l.i l.places;
-  stores : g.R.Registry.shelves l.stores ≡ g.R.Registry.shelves l.initial.stores;
-  telling : (i : ℕ) → g.R.Registry.tells l.initial.stores i → g.R.Registry.tells l.stores i;
+  placed : placed (g.R.Registry.state l.stores).places ≡ take l.i l.places;
+  stores : (g.R.Registry.state l.stores).shelves ≡ (g.R.Registry.state l.initial.stores).shelves;
+  telling : (i : ℕ) → (g.R.Registry.state l.initial.stores).tells i → (g.R.Registry.state l.stores).tells i;
 }

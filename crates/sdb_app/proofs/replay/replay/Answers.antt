@@ -1,46 +1,37 @@
-use Rattle.std.proofs.Common.{List, IfErr, subst}
 use Rattle.std.specs.String.{string_bytes}
-use Rattle.sdb_types.specs.declared.key.Key.{Key}
 use Rattle.sdb_board.specs.Board.{shown}
-use Rattle.sdb_stores.specs.Shelf.{Shelf}
-use Rattle.sdb_app.specs.Run.{IsFirstFound, TellOf, Stops}
+use Rattle.sdb_app.specs.Run.{TellOf}
 use Rattle.sdb_world.proofs.Explained.{no_coordinator}
 use Rattle.sdb_app.proofs.Headline.{passed_on, stops_after, stops_as, fit_script, reported, never_foreign, found_first}
 use Rattle.sdb_app.proofs.replay.replay.Goals as goal
 
 pub returns-in_err-be_empty-clause-err : goal.returns-in_err-be_empty-clause-err
 returns-in_err-be_empty-clause-err g c =
-    let ps = g.R.Registry.places c.place_all.new.stores in
-    let old = g.R.Registry.shelves c.args.stores.now in
-    let mid = g.R.Registry.shelves c.place_all.new.stores in
+    let old = g.R.Registry.state c.args.stores.now in
+    let mid = g.R.Registry.state c.place_all.new.stores in
     passed_on _ c.from_residual-in_err-be_empty.result c.in_err-be_empty.field-0.0 c.from_residual-in_err-be_empty.ensures.1
-    (stops_as old mid (g.R.Registry.shelves c.be_empty.new.stores) _ _ _ _ c.in_err-be_empty.field-0.0 c.place_all.ensures.stores (λ never. absurd never)
-    (λ key found all. found_first c.args.script ps old mid (shown (g.R.Registry.shelves c.be_empty.new.stores)) key c.in_ok-place_all.ensures.places c.place_all.ensures.stores (found (fit_script c.args.script ps old mid c.in_ok-place_all.ensures.places c.place_all.ensures.stores c.requires.places c.requires.some c.requires.distinct c.place_all.ensures.telling all)))
+    (stops_as old mid (g.R.Registry.state c.be_empty.new.stores) _ _ _ _ c.in_err-be_empty.field-0.0 c.place_all.ensures.stores (λ never. absurd never)
+    (λ key found all. found_first c.args.script old mid (shown (g.R.Registry.state c.be_empty.new.stores).shelves) key c.in_ok-place_all.ensures.places c.place_all.ensures.stores (found (fit_script c.args.script old mid c.in_ok-place_all.ensures.places c.place_all.ensures.stores c.requires.places c.requires.some c.requires.distinct c.place_all.ensures.telling all)))
     c.in_err-be_empty.ensures.err)
 
 pub returns-in_err-outcome-clause-err : goal.returns-in_err-outcome-clause-err
 returns-in_err-outcome-clause-err g c =
-    let ps = g.R.Registry.places c.place_all.new.stores in
-    let qs = g.R.Registry.places c.be_empty.new.stores in
-    let old = g.R.Registry.shelves c.args.stores.now in
-    let mid = g.R.Registry.shelves c.place_all.new.stores in
-    let then = g.R.Registry.shelves c.be_empty.new.stores in
-    let new = g.R.Registry.shelves c.play.new.stores in
+    let old = g.R.Registry.state c.args.stores.now in
+    let mid = g.R.Registry.state c.place_all.new.stores in
+    let then = g.R.Registry.state c.be_empty.new.stores in
+    let new = g.R.Registry.state c.play.new.stores in
     let empty = c.in_ok-be_empty.ensures in
-    let found = λ (key : Key). TellOf c.args.script old (g.R.Registry.tells c.args.stores.now) → IsFirstFound c.args.script (shown old) (shown new) key in
-    subst (λ (ss : List Shelf). IfErr c.from_residual-in_err-outcome.result (Stops ss new (TellOf c.args.script old (g.R.Registry.tells c.args.stores.now) → ⊥) found)) c.place_all.ensures.stores
-    (passed_on _ c.from_residual-in_err-outcome.result c.in_err-outcome.field-0.0 c.from_residual-in_err-outcome.ensures.1
-    (stops_after ps qs mid then new _ _ (λ key. ⊥) found c.in_err-outcome.field-0.0 empty.goes
+    passed_on _ c.from_residual-in_err-outcome.result c.in_err-outcome.field-0.0 c.from_residual-in_err-outcome.ensures.1
+    (stops_as old mid new (TellOf c.args.script old → ⊥) _ (λ key. ⊥) _ c.in_err-outcome.field-0.0 c.place_all.ensures.stores (λ x. x) (λ key never. absurd never)
+    (stops_after mid then new _ (TellOf c.args.script old → ⊥) (λ key. ⊥) (λ key. ⊥) c.in_err-outcome.field-0.0 empty.goes
     (λ never all.
-    let fit = fit_script c.args.script ps old mid c.in_ok-place_all.ensures.places c.place_all.ensures.stores c.requires.places c.requires.some c.requires.distinct c.place_all.ensures.telling all in
-    never_foreign c.args.script ps qs mid then c.in_ok-place_all.ensures.places empty.goes fit (empty.empty fit) (empty.still fit) never)
-    (λ key never. absurd never) c.in_err-outcome.ensures.err))
+    let fit = fit_script c.args.script old mid c.in_ok-place_all.ensures.places c.place_all.ensures.stores c.requires.places c.requires.some c.requires.distinct c.place_all.ensures.telling all in
+    never_foreign c.args.script mid then c.in_ok-place_all.ensures.places empty.goes fit (empty.empty fit) (empty.still fit) never)
+    (λ key never. never) c.in_err-outcome.ensures.err))
 
 pub returns-clause-report : goal.returns-clause-report
 returns-clause-report g c =
-    let ps = g.R.Registry.places c.place_all.new.stores in
-    let qs = g.R.Registry.places c.be_empty.new.stores in
-    let old = g.R.Registry.shelves c.args.stores.now in
-    let mid = g.R.Registry.shelves c.place_all.new.stores in
-    reported c.args.script ps qs old mid (g.R.Registry.shelves c.be_empty.new.stores) _ c.in_ok-outcome.outcome (string_bytes c.in_ok-report_text.field-0) c.in_ok-place_all.ensures.places c.place_all.ensures.stores c.in_ok-be_empty.ensures.goes
-    (λ all. fit_script c.args.script ps old mid c.in_ok-place_all.ensures.places c.place_all.ensures.stores c.requires.places c.requires.some c.requires.distinct c.place_all.ensures.telling all) c.in_ok-be_empty.ensures.empty c.in_ok-be_empty.ensures.still c.in_ok-outcome.ensures.follows c.in_ok-outcome.ensures.caused c.in_ok-outcome.ensures.broken c.in_ok-outcome.ensures.run c.in_ok-outcome.ensures.explained (no_coordinator c.args.script c.requires.playable) c.in_ok-report_text.ensures
+    let old = g.R.Registry.state c.args.stores.now in
+    let mid = g.R.Registry.state c.place_all.new.stores in
+    reported c.args.script old mid (g.R.Registry.state c.be_empty.new.stores) _ c.in_ok-outcome.outcome (string_bytes c.in_ok-report_text.field-0) c.in_ok-place_all.ensures.places c.place_all.ensures.stores c.in_ok-be_empty.ensures.goes
+    (λ all. fit_script c.args.script old mid c.in_ok-place_all.ensures.places c.place_all.ensures.stores c.requires.places c.requires.some c.requires.distinct c.place_all.ensures.telling all) c.in_ok-be_empty.ensures.empty c.in_ok-be_empty.ensures.still c.in_ok-outcome.ensures.follows c.in_ok-outcome.ensures.caused c.in_ok-outcome.ensures.broken c.in_ok-outcome.ensures.run c.in_ok-outcome.ensures.explained (no_coordinator c.args.script c.requires.playable) c.in_ok-report_text.ensures

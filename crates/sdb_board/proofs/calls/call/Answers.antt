@@ -1,19 +1,16 @@
-use Rattle.std.proofs.Common.{sym, subst, List}
-use Rattle.sdb_stores.specs.declared.place.Place.{Place}
-use Rattle.sdb_board.specs.Board.{GoOn}
 use Rattle.sdb_board.proofs.GoesOn.{goes_call}
 use Rattle.sdb_board.proofs.Made.{called, still}
 use Rattle.sdb_board.proofs.calls.call.Goals as goal
 
 pub returns : goal.returns
 returns g c =
-    let places = g.R.Registry.places c.args.stores.now in
-    let old = g.R.Registry.shelves c.args.stores.now in
-    let new = g.R.Registry.shelves c.perform.new.self in
+    let old = g.R.Registry.state c.args.stores.now in
+    let new = g.R.Registry.state c.perform.new.self in
+    let call = c.perform.ensures.called in
     record {
-      called = λ catalog fit about. called catalog places old c.args.request.now fit about new c.perform.result c.perform.ensures.called;
-      still = λ catalog fit about read. still catalog places old c.args.request.now fit about new c.perform.result c.perform.ensures.called read;
-      lawful = c.perform.ensures.called.lawful;
-      goes = subst (λ (ps : List Place). GoOn places ps old new (g.R.Registry.tells c.args.stores.now) (g.R.Registry.tells c.perform.new.self)) (sym c.perform.ensures.places) (goes_call _ places old new c.args.request.now c.perform.result c.perform.ensures.called);
+      called = λ f. called f.catalog old c.args.request.now f.fit f.played new c.perform.result call;
+      still = λ f read. still f.catalog old c.args.request.now f.fit f.played new c.perform.result call read;
+      lawful = call.lawful;
+      goes = goes_call _ old new c.args.request.now c.perform.result c.perform.ensures.places call;
       cause = c.perform.ensures.cause;
     }

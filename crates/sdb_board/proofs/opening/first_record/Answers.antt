@@ -9,10 +9,8 @@ pub loop-table-preserved : goal.loop-table-preserved
 loop-table-preserved g c =
     let before = c.loop-table.invariant in
     let done = c.in_ok-rows.ensures in
-    let p = g.R.Registry.places c.args.stores.now in
-    let q = g.R.Registry.places c.loop-table.stores in
-    let old = g.R.Registry.shelves c.args.stores.now in
-    let mid = g.R.Registry.shelves c.loop-table.stores in
+    let old = g.R.Registry.state c.args.stores.now in
+    let mid = g.R.Registry.state c.loop-table.stores in
     let ts = c.as_slice-table-items.result.now in
     let i = c.loop-table.table-index in
     let table = c.table-item.result in
@@ -20,21 +18,21 @@ loop-table-preserved g c =
     let here = looked_at ts i table c.loop-table-test.true c.table-item.is in
     record {
       some = some_more _ _ done.goes.names before.some;
-      goes = goes_more _ _ _ _ _ _ before.goes done.goes;
-      still = still_behind c.args.catalog.now p q old mid (g.R.Registry.shelves c.scan.new.stores) table before.goes before.still done.still (looked_about c.args.catalog.now ts i table all here);
-      none = look_on c.args.catalog.now p q old mid ts i table c.in_ok-rows.rows c.in_ok-key.field-0 all here before.goes before.still before.none done.rows c.in_ok-key.ensures c.in_default.is;
+      goes = goes_more _ _ _ before.goes done.goes;
+      still = still_behind c.args.catalog.now old mid (g.R.Registry.state c.scan.new.stores) table before.goes before.still done.still (looked_about c.args.catalog.now ts i table all here);
+      none = look_on c.args.catalog.now old mid ts i table c.in_ok-rows.rows c.in_ok-key.field-0 all here before.goes before.still before.none done.rows c.in_ok-key.ensures c.in_default.is;
     }
 
 pub returns-in_err-rows-clause-goes : goal.returns-in_err-rows-clause-goes
-returns-in_err-rows-clause-goes g c = goes_more _ _ _ _ _ _ c.loop-table.invariant.goes c.in_err-rows.ensures.goes
+returns-in_err-rows-clause-goes g c = goes_more _ _ _ c.loop-table.invariant.goes c.in_err-rows.ensures.goes
 
 pub returns-in_err-rows-clause-err : goal.returns-in_err-rows-clause-err
 returns-in_err-rows-clause-err g c =
     passed _ c.from_residual-in_err-rows.result c.in_err-rows.field-0.0 c.from_residual-in_err-rows.ensures.1
-    (refused_after (g.R.Registry.places c.args.stores.now) (g.R.Registry.places c.loop-table.stores) (g.R.Registry.shelves c.args.stores.now) (g.R.Registry.shelves c.loop-table.stores) (g.R.Registry.shelves c.scan.new.stores) c.in_err-rows.field-0.0 c.loop-table.invariant.goes c.in_err-rows.ensures.err)
+    (refused_after (g.R.Registry.state c.args.stores.now) (g.R.Registry.state c.loop-table.stores) (g.R.Registry.state c.scan.new.stores).shelves c.in_err-rows.field-0.0 c.loop-table.invariant.goes c.in_err-rows.ensures.err)
 
 pub returns-in_err-key-clause-goes : goal.returns-in_err-key-clause-goes
-returns-in_err-key-clause-goes g c = goes_more _ _ _ _ _ _ c.loop-table.invariant.goes c.in_ok-rows.ensures.goes
+returns-in_err-key-clause-goes g c = goes_more _ _ _ c.loop-table.invariant.goes c.in_ok-rows.ensures.goes
 
 pub returns-in-Some-clause-first : goal.returns-in-Some-clause-first
 returns-in-Some-clause-first g c =
@@ -44,7 +42,7 @@ returns-in-Some-clause-first g c =
     let table = c.table-item.result in
     let all : ts ≡ run_tables c.args.catalog.now = c.as_slice-table-items.ensures ∙ c.in_ok-tables.ensures in
     let here = looked_at ts i table c.loop-table-test.true c.table-item.is in
-    look_found c.args.catalog.now (g.R.Registry.places c.args.stores.now) (g.R.Registry.places c.loop-table.stores) (g.R.Registry.shelves c.args.stores.now) (g.R.Registry.shelves c.loop-table.stores) ts i table c.in_ok-rows.rows c.in_ok-key.field-0 c.in-Some.key
+    look_found c.args.catalog.now (g.R.Registry.state c.args.stores.now) (g.R.Registry.state c.loop-table.stores) ts i table c.in_ok-rows.rows c.in_ok-key.field-0 c.in-Some.key
     all here before.goes before.still before.none c.in_ok-rows.ensures.rows c.in_ok-key.ensures c.in-Some.is
 
 pub returns-in-Some-clause-still : goal.returns-in-Some-clause-still
@@ -55,15 +53,15 @@ returns-in-Some-clause-still g c =
     let table = c.table-item.result in
     let all : ts ≡ run_tables c.args.catalog.now = c.as_slice-table-items.ensures ∙ c.in_ok-tables.ensures in
     let here = looked_at ts i table c.loop-table-test.true c.table-item.is in
-    still_behind c.args.catalog.now (g.R.Registry.places c.args.stores.now) (g.R.Registry.places c.loop-table.stores) (g.R.Registry.shelves c.args.stores.now) (g.R.Registry.shelves c.loop-table.stores) (g.R.Registry.shelves c.scan.new.stores) table
+    still_behind c.args.catalog.now (g.R.Registry.state c.args.stores.now) (g.R.Registry.state c.loop-table.stores) (g.R.Registry.state c.scan.new.stores) table
     before.goes before.still c.in_ok-rows.ensures.still (looked_about c.args.catalog.now ts i table all here)
 
 pub returns-in-Some-clause-goes : goal.returns-in-Some-clause-goes
-returns-in-Some-clause-goes g c = goes_more _ _ _ _ _ _ c.loop-table.invariant.goes c.in_ok-rows.ensures.goes
+returns-in-Some-clause-goes g c = goes_more _ _ _ c.loop-table.invariant.goes c.in_ok-rows.ensures.goes
 
 pub returns-clause-first : goal.returns-clause-first
 returns-clause-first g c =
     let ts = c.as_slice-table-items.result.now in
     let i = c.loop-table.table-index in
     let up : length ts ≤ i = omega arith in
-    look_done c.args.catalog.now (g.R.Registry.places c.args.stores.now) (g.R.Registry.shelves c.args.stores.now) ts i (c.as_slice-table-items.ensures ∙ c.in_ok-tables.ensures) up c.loop-table.invariant.none
+    look_done c.args.catalog.now (g.R.Registry.state c.args.stores.now) ts i (c.as_slice-table-items.ensures ∙ c.in_ok-tables.ensures) up c.loop-table.invariant.none

@@ -12,5 +12,5 @@ loop-entry-preserved g c =
     record {
       stores = c.in_ok-place_one.ensures.stores ∙ c.loop-entry.invariant.stores;
       telling = λ at h. c.in_ok-place_one.ensures.telling at (c.loop-entry.invariant.telling at h);
-      placed = placed_more (g.R.Registry.places c.loop-entry.stores) (g.R.Registry.places c.place_one.new.stores) (take i es) (take (i + 1) es) c.entry-item.result grown c.loop-entry.invariant.placed c.in_ok-place_one.ensures.ok;
+      placed = placed_more (g.R.Registry.state c.loop-entry.stores).places (g.R.Registry.state c.place_one.new.stores).places (take i es) (take (i + 1) es) c.entry-item.result grown c.loop-entry.invariant.placed c.in_ok-place_one.ensures.ok;
     }

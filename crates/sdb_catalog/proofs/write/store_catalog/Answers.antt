@@ -6,17 +6,17 @@ use Rattle.sdb_catalog.proofs.write.store_catalog.Goals as goal
 
 pub returns-clause-stored : goal.returns-clause-stored
 returns-clause-stored g c =
-    let old = g.R.Registry.shelves c.args.stores.now in
-    let mid = g.R.Registry.shelves c.read_entries.new.stores in
-    let new = g.R.Registry.shelves c.write_all.new.stores in
+    let old = g.R.Registry.state c.args.stores.now in
+    let mid = g.R.Registry.state c.read_entries.new.stores in
+    let new = (g.R.Registry.state c.write_all.new.stores).shelves in
     stored c.args.places.now c.args.catalog.now c.as_slice.result.now c.in_ok-first.first (string_bytes c.in_ok-text.text) c.in_ok-new.field-0 c.in_ok-known.known old mid new
     c.in_ok-known.ensures.read c.in_ok-first.ensures c.in_ok-known.ensures.goes.telling c.in_ok-text.ensures.written (c.as_slice.ensures ∙ c.in_ok-tables.ensures.tables) (c.in_ok-new.ensures ∙ c.as_str.ensures.value)
 
 pub returns-clause-kept : goal.returns-clause-kept
 returns-clause-kept g c =
-    let old = g.R.Registry.shelves c.args.stores.now in
-    let mid = g.R.Registry.shelves c.read_entries.new.stores in
-    let new = g.R.Registry.shelves c.write_all.new.stores in
+    let old = g.R.Registry.state c.args.stores.now in
+    let mid = g.R.Registry.state c.read_entries.new.stores in
+    let new = (g.R.Registry.state c.write_all.new.stores).shelves in
     kept c.args.places.now c.args.catalog.now (string_bytes c.in_ok-text.text) old new c.in_ok-tables.ensures.catalog (c.in_ok-text.ensures.goes.names ∙ c.in_ok-known.ensures.goes.names)
     (stored c.args.places.now c.args.catalog.now c.as_slice.result.now c.in_ok-first.first (string_bytes c.in_ok-text.text) (string_bytes c.in_ok-text.text) c.in_ok-known.known old mid new
     c.in_ok-known.ensures.read c.in_ok-first.ensures c.in_ok-known.ensures.goes.telling c.in_ok-text.ensures.written (c.as_slice.ensures ∙ c.in_ok-tables.ensures.tables) refl)

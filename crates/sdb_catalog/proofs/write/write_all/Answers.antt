@@ -8,9 +8,9 @@ use Rattle.sdb_catalog.proofs.write.write_all.Goals as goal
 
 pub loop-table-preserved : goal.loop-table-preserved
 loop-table-preserved g c =
-    let old = g.R.Registry.shelves c.args.stores.now in
-    let mid = g.R.Registry.shelves c.loop-table.stores in
-    let new = g.R.Registry.shelves c.write_table.new.stores in
+    let old = g.R.Registry.state c.args.stores.now in
+    let mid = g.R.Registry.state c.loop-table.stores in
+    let new = g.R.Registry.state c.write_table.new.stores in
     let ts = c.args.tables.now in
     let i = c.loop-table.table-index in
     let t = c.table-item.result in
@@ -20,10 +20,10 @@ loop-table-preserved g c =
       bare = step.places ∙ before.bare;
       goes = goes_more old mid new before.goes step.goes;
       so =
-          written_one c.args.places.now c.args.first.now c.args.known.now c.loop-table.known c.write_table.new.known (take i ts) (take (i + 1) ts) t c.in_ok-outcome.outcome c.in_ok-entry.entry (string_bytes c.loop-table.text) (string_bytes c.put_line.new.text) old mid new
+          written_one c.args.places.now c.args.first.now c.args.known.now c.loop-table.known c.write_table.new.known (take i ts) (take (i + 1) ts) t c.in_ok-outcome.outcome c.in_ok-entry.entry (string_bytes c.loop-table.text) (string_bytes c.put_line.new.text) old mid new.shelves
           before.so before.goes.telling (c.in_ok-entry.ensures ∙ ap (λ (es : List Entry). entry_for es c.args.places.now c.args.first.now t) c.as_slice.ensures) step.written step.known c.in_ok-put_line.ensures (item_more ts i t c.loop-table-test.true c.table-item.is);
     }
 
 pub returns-in_err-put_line-clause-goes : goal.returns-in_err-put_line-clause-goes
 returns-in_err-put_line-clause-goes g c =
-    goes_more (g.R.Registry.shelves c.args.stores.now) (g.R.Registry.shelves c.loop-table.stores) (g.R.Registry.shelves c.write_table.new.stores) c.loop-table.invariant.goes c.in_ok-outcome.ensures.goes
+    goes_more (g.R.Registry.state c.args.stores.now) (g.R.Registry.state c.loop-table.stores) (g.R.Registry.state c.write_table.new.stores) c.loop-table.invariant.goes c.in_ok-outcome.ensures.goes

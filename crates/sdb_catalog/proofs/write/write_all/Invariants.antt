@@ -6,7 +6,7 @@ use Rattle.sdb_catalog.proofs.write.write_all.Given as goal
 
 abbrev pub invariant-loop-table : goal.invariant-loop-table
 invariant-loop-table g l = record {
-  bare : g.R.Registry.places l.stores ≡ g.R.Registry.places l.initial.stores;
-  goes : GoOn (g.R.Registry.shelves l.initial.stores) (g.R.Registry.shelves l.stores) (g.R.Registry.tells l.initial.stores) (g.R.Registry.tells l.stores);
-  so : WrittenSo (g.R.Registry.tells l.initial.stores) l.places l.first l.initial.known l.known (take l.table-index l.tables) (string_bytes l.text) (g.R.Registry.shelves l.initial.stores) (g.R.Registry.shelves l.stores);
+  bare : (g.R.Registry.state l.stores).places ≡ (g.R.Registry.state l.initial.stores).places;
+  goes : GoOn (g.R.Registry.state l.initial.stores) (g.R.Registry.state l.stores);
+  so : WrittenSo l.places l.first l.initial.known l.known (take l.table-index l.tables) (string_bytes l.text) (g.R.Registry.state l.initial.stores) (g.R.Registry.state l.stores).shelves;
 }

@@ -4,15 +4,16 @@ use Rattle.std.specs.List.{flat_map}
 use Rattle.sdb_record.specs.Meta.{is_taken}
 use Rattle.sdb_dump.specs.Decided.{decided}
 use Rattle.sdb_dump.specs.Refused.{first_unlike}
-use Rattle.sdb_board.specs.Board.{AreFit, GoOn, shown}
-use Rattle.sdb_dump.proofs.Closings.{dump_at, records_at}
+use Rattle.sdb_board.specs.Board.{AreFit, GoOn, HoldTheSame}
+use Rattle.sdb_dump.specs.Held.{dump_in}
+use Rattle.sdb_dump.proofs.Closings.{records_at}
 use Rattle.sdb_dump.proofs.closing.dumps.Given as goal
 
 abbrev pub invariant-loop-i : goal.invariant-loop-i
 invariant-loop-i g l = record {
-  some : 0 < length (g.R.Registry.shelves l.stores);
-  goes : GoOn (g.R.Registry.places l.initial.stores) (g.R.Registry.places l.stores) (g.R.Registry.shelves l.initial.stores) (g.R.Registry.shelves l.stores) (g.R.Registry.tells l.initial.stores) (g.R.Registry.tells l.stores);
-  still : AreFit l.catalog (g.R.Registry.places l.initial.stores) (g.R.Registry.shelves l.initial.stores) (g.R.Registry.tells l.initial.stores) → shown (g.R.Registry.shelves l.stores) ≡ shown (g.R.Registry.shelves l.initial.stores);
-  tables : AreFit l.catalog (g.R.Registry.places l.initial.stores) (g.R.Registry.shelves l.initial.stores) (g.R.Registry.tells l.initial.stores) → l.tables ≡ map (dump_at (decided l.decisions) (g.R.Registry.places l.initial.stores) (g.R.Registry.shelves l.initial.stores)) (take l.i l.catalog);
-  taken : AreFit l.catalog (g.R.Registry.places l.initial.stores) (g.R.Registry.shelves l.initial.stores) (g.R.Registry.tells l.initial.stores) → first_unlike is_taken (flat_map (records_at (g.R.Registry.places l.initial.stores) (g.R.Registry.shelves l.initial.stores)) (take l.i l.catalog)) ≡ None;
+  some : 0 < length (g.R.Registry.state l.stores).shelves;
+  goes : GoOn (g.R.Registry.state l.initial.stores) (g.R.Registry.state l.stores);
+  still : AreFit l.catalog (g.R.Registry.state l.initial.stores) → HoldTheSame (g.R.Registry.state l.initial.stores) (g.R.Registry.state l.stores);
+  tables : AreFit l.catalog (g.R.Registry.state l.initial.stores) → l.tables ≡ map (dump_in (decided l.decisions) (g.R.Registry.state l.initial.stores)) (take l.i l.catalog);
+  taken : AreFit l.catalog (g.R.Registry.state l.initial.stores) → first_unlike is_taken (flat_map (records_at (g.R.Registry.state l.initial.stores)) (take l.i l.catalog)) ≡ None;
 }

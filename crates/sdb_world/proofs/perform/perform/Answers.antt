@@ -1,7 +1,7 @@
 use Rattle.std.proofs.Common.{sym, subst}
 use Rattle.sdb_types.specs.declared.record.Reply.{Reply}
 use Rattle.sdb_model.specs.declared.event.How.{How}
-use Rattle.sdb_board.specs.Board.{IsMade, how_lost, placed, reply_lost, shown}
+use Rattle.sdb_board.specs.Board.{IsMade, how_lost}
 use Rattle.sdb_board.proofs.Made.{discarded, lost}
 use Rattle.sdb_model.specs.Follows.{IsHowOfLose, IsHowOfStep}
 use Rattle.sdb_world.specs.declared.way.Way.{Way}
@@ -10,23 +10,21 @@ use Rattle.sdb_world.proofs.Hows.{lost_allowed, seen_allowed}
 use Rattle.sdb_world.proofs.perform.perform.Goals as goal
 
 pub returns-in-Step-clause-made : goal.returns-in-Step-clause-made
-returns-in-Step-clause-made g c = λ catalog fit about.
-    let ps = placed (g.R.Registry.places c.args.stores.now) in
-    let old = shown (g.R.Registry.shelves c.args.stores.now) in
-    let new = shown (g.R.Registry.shelves c.call-reply.new.stores) in
-    subst (λ (h : How). IsMade ps c.args.request.now h c.call-reply.result old new) (sym c.how_seen.ensures) (c.call-reply.ensures.called catalog fit about)
+returns-in-Step-clause-made g c = λ f.
+    let old = g.R.Registry.state c.args.stores.now in
+    let new = g.R.Registry.state c.call-reply.new.stores in
+    subst (λ (h : How). IsMade c.args.request.now h c.call-reply.result old new) (sym c.how_seen.ensures) (c.call-reply.ensures.called f)
 
 pub returns-in-Lose-clause-made : goal.returns-in-Lose-clause-made
-returns-in-Lose-clause-made g c = λ catalog fit about.
-    let ps = placed (g.R.Registry.places c.args.stores.now) in
-    let old = shown (g.R.Registry.shelves c.args.stores.now) in
-    let new = shown (g.R.Registry.shelves c.call-reply-in-Lose.new.stores) in
+returns-in-Lose-clause-made g c = λ f.
+    let old = g.R.Registry.state c.args.stores.now in
+    let new = g.R.Registry.state c.call-reply-in-Lose.new.stores in
     let r = c.call-reply-in-Lose.result in
-    subst (λ (h : How). IsMade ps c.args.request.now h c.reply_lost.result old new) (sym c.how_lost.ensures)
-    (subst (λ (x : Reply). IsMade ps c.args.request.now (how_lost r) x old new) (sym c.reply_lost.ensures) (lost ps c.args.request.now r old new (c.call-reply-in-Lose.ensures.called catalog fit about)))
+    subst (λ (h : How). IsMade c.args.request.now h c.reply_lost.result old new) (sym c.how_lost.ensures)
+    (subst (λ (x : Reply). IsMade c.args.request.now (how_lost r) x old new) (sym c.reply_lost.ensures) (lost c.args.request.now r old new (c.call-reply-in-Lose.ensures.called f)))
 
 pub returns-in-Discard-clause-made : goal.returns-in-Discard-clause-made
-returns-in-Discard-clause-made g c = λ catalog fit about. discarded catalog (g.R.Registry.places c.args.stores.now) (g.R.Registry.shelves c.args.stores.now) c.args.request.now fit about
+returns-in-Discard-clause-made g c = λ f. discarded f.catalog (g.R.Registry.state c.args.stores.now) c.args.request.now f.fit f.played
 
 pub returns-in-Step-clause-allowed : goal.returns-in-Step-clause-allowed
 returns-in-Step-clause-allowed g c =

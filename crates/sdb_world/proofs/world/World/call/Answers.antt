@@ -3,7 +3,6 @@ use Rattle.std.proofs.Common.{rules, ◌≡◌, ◌∙◌, ◌+◌, ◌++◌, �
 use Rattle.sdb_client.specs.Client.{ReplyTold}
 use Rattle.sdb_types.specs.declared.record.Reply.{Reply}
 use Rattle.sdb_model.specs.declared.event.Event.TheVariants as event
-use Rattle.sdb_board.specs.Board.{AreFit, placed, shown}
 use Rattle.sdb_world.specs.World.{WorldAt}
 use Rattle.sdb_world.proofs.Takings.{called, named_store}
 use Rattle.sdb_world.proofs.Broken.{breaks_called}
@@ -11,21 +10,19 @@ use Rattle.sdb_world.proofs.world.World.call.Goals as goal
 
 pub returns-clause-called : goal.returns-clause-called
 returns-clause-called g c =
-    let ps = g.R.Registry.places c.args.stores.now in
-    let old = g.R.Registry.shelves c.args.stores.now in
-    let fit = AreFit c.args.self.now.script.catalog ps old (g.R.Registry.tells c.args.stores.now) in
+    let old = g.R.Registry.state c.args.stores.now in
     let seat = c.index_mut.result.now in
     let read : seat ≡ get_or c.args.self.now.seats c.args.at seat = c.index_mut.ensures.value ∙ ap (λ (w : WorldAt). get_or w.seats c.args.at seat) c.self.view_is in
     let now : to_z w64 (of_z w64 c.self.inside.clock) ≡ c.self.inside.clock = search rules in
     let told = subst (λ (z : ℤ). ReplyTold seat.client seat.client.vacuum c.perform-how.result.1 z c.advance-answer.result c.advance-answer.new.self) now c.advance-answer.ensures in
     let came = c.in_ok-push.ensures.ok ∙ ap (λ (r : Reply). c.self.inside.events ++ event.Call (c.args.at + 1) c.in_ok-store.store c.in_ok-request.request c.perform-how.result.0 r c.advance-answer.result ∷ []) c.in_ok-told.ensures in
-    called fit (placed ps) (shown old) (shown (g.R.Registry.shelves c.perform-how.new.stores)) _ c.args.self.now c.self.view_is c.args.at seat c.args.way c.in_ok-store.store c.in_ok-request.request c.perform-how.result.0 c.perform-how.result.1 c.advance-answer.result c.advance-answer.new.self c.push.new.self
+    called old (g.R.Registry.state c.perform-how.new.stores) _ c.args.self.now c.self.view_is c.args.at seat c.args.way c.in_ok-store.store c.in_ok-request.request c.perform-how.result.0 c.perform-how.result.1 c.advance-answer.result c.advance-answer.new.self c.push.new.self
     c.requires.at read c.in_ok-request.ensures c.perform-how.ensures.lawful c.perform-how.ensures.allowed c.show_order.ensures told
-    (λ f about. (c.in_ok-store.ensures ∙ named_store ps old c.in_ok-request.request c.table_of.result.now c.store_of.result.now c.table_of.ensures c.store_of.ensures f, c.perform-how.ensures.made _ f about))
+    (λ f about. (c.in_ok-store.ensures ∙ named_store old c.in_ok-request.request c.table_of.result.now c.store_of.result.now c.table_of.ensures c.store_of.ensures f, c.perform-how.ensures.made (record { catalog = c.args.self.now.script.catalog; fit = f; played = about })))
     came
 
 pub returns-clause-broken : goal.returns-clause-broken
 returns-clause-broken g c =
     let made = c.perform-how.ensures in
     let came = c.in_ok-push.ensures.ok ∙ ap (λ (r : Reply). c.self.inside.events ++ event.Call (c.args.at + 1) c.in_ok-store.store c.in_ok-request.request c.perform-how.result.0 r c.advance-answer.result ∷ []) c.in_ok-told.ensures in
-    breaks_called _ c.args.self.now c.self.view_is c.push.new.self (c.args.at + 1) c.in_ok-store.store c.in_ok-request.request c.perform-how.result.0 c.perform-how.result.1 c.advance-answer.result (g.R.Registry.shelves c.args.stores.now) (g.R.Registry.shelves c.perform-how.new.stores) came made.broken made.goes.counted
+    breaks_called _ c.args.self.now c.self.view_is c.push.new.self (c.args.at + 1) c.in_ok-store.store c.in_ok-request.request c.perform-how.result.0 c.perform-how.result.1 c.advance-answer.result (g.R.Registry.state c.args.stores.now).shelves (g.R.Registry.state c.perform-how.new.stores).shelves came made.broken made.goes.counted

@@ -1,4 +1,4 @@
-use Rattle.std.proofs.Common.{◌≡◌, ◌∙◌, ◌-◌, ℕ, suc, true, false, sym, ap, arith}
+use Rattle.std.proofs.Common.{◌≡◌, ◌∙◌, ◌-◌, ℕ, suc, false, sym, ap, arith}
 use Rattle.sdb_model.specs.Follows.{has_work}
 use Rattle.sdb_world.proofs.Rounds.{idle_none, idle_more, idle_up_to}
 use Rattle.sdb_world.proofs.world.World.first_from.Goals as goal

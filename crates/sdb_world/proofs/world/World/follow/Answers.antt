@@ -1,6 +1,5 @@
 use Rattle.std.proofs.Common.{◌≡◌, ◌+◌, take, refl}
 use Rattle.sdb_model.specs.Follows.{AreMoved, IsMoved}
-use Rattle.sdb_board.specs.Board.{AreFit, placed, shown}
 use Rattle.sdb_board.proofs.GoesOn.{goes_more, goes_none, some_more}
 use Rattle.sdb_world.proofs.Broken.{breaks_more, breaks_none}
 use Rattle.sdb_world.proofs.Goes.{come_more, come_none}
@@ -11,13 +10,13 @@ pub loop-i-init : goal.loop-i-init
 loop-i-init g c = record {
   some = c.requires.some;
   world = c.requires.world;
-  goes = goes_none (g.R.Registry.places c.args.stores.now) (g.R.Registry.shelves c.args.stores.now);
-  broken = breaks_none c.args.self.now.events (g.R.Registry.shelves c.args.stores.now);
-  come = come_none (AreMoved c.args.self.now.script.clients (take 0 c.args.self.now.script.moves) c.args.self.now.events) (AreFit c.args.self.now.script.catalog (g.R.Registry.places c.args.stores.now) (g.R.Registry.shelves c.args.stores.now) (g.R.Registry.tells c.args.stores.now)) (placed (g.R.Registry.places c.args.stores.now)) (shown (g.R.Registry.shelves c.args.stores.now)) c.args.self.now refl;
+  goes = goes_none (g.R.Registry.state c.args.stores.now);
+  broken = breaks_none c.args.self.now.events (g.R.Registry.state c.args.stores.now).shelves;
+  come = come_none (AreMoved c.args.self.now.script.clients (take 0 c.args.self.now.script.moves) c.args.self.now.events) (g.R.Registry.state c.args.stores.now) c.args.self.now refl;
 }
 
 pub returns-in_err-make-clause-goes : goal.returns-in_err-make-clause-goes
-returns-in_err-make-clause-goes g c = goes_more _ _ _ _ _ _ c.loop-i.invariant.goes c.in_err-make.ensures.goes
+returns-in_err-make-clause-goes g c = goes_more _ _ _ c.loop-i.invariant.goes c.in_err-make.ensures.goes
 
 pub loop-i-preserved : goal.loop-i-preserved
 loop-i-preserved g c =
@@ -33,10 +32,10 @@ loop-i-preserved g c =
     record {
       some = some_more _ _ done.goes.names before.some;
       world = done.world;
-      goes = goes_more _ _ _ _ _ _ before.goes done.goes;
-      broken = breaks_more c.args.self.now.events c.loop-i.self.events c.make.new.self.events (g.R.Registry.places c.loop-i.stores) (g.R.Registry.places c.make.new.stores) (g.R.Registry.shelves c.args.stores.now) (g.R.Registry.shelves c.loop-i.stores) (g.R.Registry.shelves c.make.new.stores) before.broken done.goes done.broken;
+      goes = goes_more _ _ _ before.goes done.goes;
+      broken = breaks_more c.args.self.now.events c.loop-i.self.events c.make.new.self.events (g.R.Registry.state c.args.stores.now) (g.R.Registry.state c.loop-i.stores) (g.R.Registry.state c.make.new.stores) before.broken done.goes done.broken;
       come = come_more (AreMoved script.clients (take i script.moves) past) (IsMoved later.clients made now) (AreMoved script.clients (take (i + 1) script.moves) past)
-          (g.R.Registry.tells c.args.stores.now) (g.R.Registry.tells c.loop-i.stores) (g.R.Registry.places c.args.stores.now) (g.R.Registry.places c.loop-i.stores) (g.R.Registry.shelves c.args.stores.now) (g.R.Registry.shelves c.loop-i.stores) (shown (g.R.Registry.shelves c.make.new.stores))
+          (g.R.Registry.state c.args.stores.now) (g.R.Registry.state c.loop-i.stores) (g.R.Registry.state c.make.new.stores)
           c.args.self.now c.loop-i.self c.make.new.self before.goes before.come done.come
           (λ es more at h k. follows_more script later i made past now es more same at c.move_at-made.ensures h k);
     }

@@ -1,6 +1,6 @@
 use Rattle.std.proofs.Common.{◌<◌, length, take}
 use Rattle.sdb_model.specs.Follows.{AreMoved}
-use Rattle.sdb_board.specs.Board.{AreFit, GoOn, placed, shown}
+use Rattle.sdb_board.specs.Board.{GoOn}
 use Rattle.sdb_world.specs.World.{IsWorld}
 use Rattle.sdb_world.specs.Broken.{BreaksWithin}
 use Rattle.sdb_world.specs.Step.{HasCome}
@@ -8,9 +8,9 @@ use Rattle.sdb_world.proofs.world.World.follow.Given as goal
 
 abbrev pub invariant-loop-i : goal.invariant-loop-i
 invariant-loop-i g l = record {
-  some : 0 < length (g.R.Registry.shelves l.stores);
+  some : 0 < length (g.R.Registry.state l.stores).shelves;
   world : IsWorld l.self;
-  goes : GoOn (g.R.Registry.places l.initial.stores) (g.R.Registry.places l.stores) (g.R.Registry.shelves l.initial.stores) (g.R.Registry.shelves l.stores) (g.R.Registry.tells l.initial.stores) (g.R.Registry.tells l.stores);
-  broken : BreaksWithin l.initial.self.events l.self.events (g.R.Registry.shelves l.initial.stores) (g.R.Registry.shelves l.stores);
-  come : HasCome (AreMoved l.initial.self.script.clients (take l.i l.initial.self.script.moves) l.initial.self.events) (AreFit l.initial.self.script.catalog (g.R.Registry.places l.initial.stores) (g.R.Registry.shelves l.initial.stores) (g.R.Registry.tells l.initial.stores)) (placed (g.R.Registry.places l.initial.stores)) (shown (g.R.Registry.shelves l.initial.stores)) (shown (g.R.Registry.shelves l.stores)) l.initial.self l.self;
+  goes : GoOn (g.R.Registry.state l.initial.stores) (g.R.Registry.state l.stores);
+  broken : BreaksWithin l.initial.self.events l.self.events (g.R.Registry.state l.initial.stores).shelves (g.R.Registry.state l.stores).shelves;
+  come : HasCome (AreMoved l.initial.self.script.clients (take l.i l.initial.self.script.moves) l.initial.self.events) (g.R.Registry.state l.initial.stores) (g.R.Registry.state l.stores) l.initial.self l.self;
 }

@@ -1,5 +1,4 @@
 use Rattle.std.proofs.Common.{◌≡◌, ◌-◌, ◌∙◌, ap, get_or, refl, sym}
-use Rattle.sdb_board.specs.Board.{AreFit, placed, shown}
 use Rattle.sdb_client.specs.Client.{IsBusy, IsIdle}
 use Rattle.sdb_world.specs.declared.seat.Seat.{Seat}
 use Rattle.sdb_world.specs.World.{WorldAt}
@@ -11,13 +10,11 @@ use Rattle.sdb_world.proofs.world.World.go.Goals as goal
 
 pub returns-then-not-has_work-clause-world : goal.returns-then-not-has_work-clause-world
 returns-then-not-has_work-clause-world g c =
-    let fit = AreFit c.args.self.now.script.catalog (g.R.Registry.places c.args.stores.now) (g.R.Registry.shelves c.args.stores.now) (g.R.Registry.tells c.args.stores.now) in
-    (goes_idle fit (placed (g.R.Registry.places c.args.stores.now)) c.args.self.now c.args.client c.args.way c.requires.world c.requires.client c.has_work.result c.has_work.ensures (shown (g.R.Registry.shelves c.args.stores.now)) _ c.push.new.self c.if-not-has_work.true c.self.view_is c.in_ok-push.ensures.ok).0
+    (goes_idle c.args.self.now c.args.client c.args.way c.requires.world c.requires.client c.has_work.result c.has_work.ensures (g.R.Registry.state c.args.stores.now) _ c.push.new.self c.if-not-has_work.true c.self.view_is c.in_ok-push.ensures.ok).0
 
 pub returns-then-not-has_work-clause-acted : goal.returns-then-not-has_work-clause-acted
 returns-then-not-has_work-clause-acted g c =
-    let fit = AreFit c.args.self.now.script.catalog (g.R.Registry.places c.args.stores.now) (g.R.Registry.shelves c.args.stores.now) (g.R.Registry.tells c.args.stores.now) in
-    (goes_idle fit (placed (g.R.Registry.places c.args.stores.now)) c.args.self.now c.args.client c.args.way c.requires.world c.requires.client c.has_work.result c.has_work.ensures (shown (g.R.Registry.shelves c.args.stores.now)) _ c.push.new.self c.if-not-has_work.true c.self.view_is c.in_ok-push.ensures.ok).1
+    (goes_idle c.args.self.now c.args.client c.args.way c.requires.world c.requires.client c.has_work.result c.has_work.ensures (g.R.Registry.state c.args.stores.now) _ c.push.new.self c.if-not-has_work.true c.self.view_is c.in_ok-push.ensures.ok).1
 
 pub take-requires-clause-idle : goal.take-requires-clause-idle
 take-requires-clause-idle g c =
@@ -39,38 +36,34 @@ call-requires-clause-busy g c =
 
 pub returns-then-is_idle-clause-world : goal.returns-then-is_idle-clause-world
 returns-then-is_idle-clause-world g c =
-    let fit = AreFit c.args.self.now.script.catalog (g.R.Registry.places c.args.stores.now) (g.R.Registry.shelves c.args.stores.now) (g.R.Registry.tells c.args.stores.now) in
     let seat = c.index.result.now in
     let read : seat ≡ get_or c.args.self.now.seats (c.args.client - 1) seat = c.index.ensures ∙ ap (λ (w : WorldAt). get_or w.seats (c.args.client - 1) seat) c.self.view_is in
     let idle = at_write (λ (s : Seat). IsIdle s.client) c.args.self.now.seats (c.args.client - 1) seat (place_low c.args.self.now c.args.client c.requires.world c.requires.client) read (c.is_idle.ensures.idle c.if-is_idle.true) in
-    on_ok c.take.result c.take.ensures (λ t. (goes_take fit (placed (g.R.Registry.places c.args.stores.now)) c.args.self.now c.args.client c.args.way c.requires.world c.requires.client c.has_work.result c.has_work.ensures (shown (g.R.Registry.shelves c.args.stores.now)) c.take.new.self c.if-not-has_work.false idle t).0)
+    on_ok c.take.result c.take.ensures (λ t. (goes_take c.args.self.now c.args.client c.args.way c.requires.world c.requires.client c.has_work.result c.has_work.ensures (g.R.Registry.state c.args.stores.now) c.take.new.self c.if-not-has_work.false idle t).0)
 
 pub returns-then-is_idle-clause-acted : goal.returns-then-is_idle-clause-acted
 returns-then-is_idle-clause-acted g c =
-    let fit = AreFit c.args.self.now.script.catalog (g.R.Registry.places c.args.stores.now) (g.R.Registry.shelves c.args.stores.now) (g.R.Registry.tells c.args.stores.now) in
     let seat = c.index.result.now in
     let read : seat ≡ get_or c.args.self.now.seats (c.args.client - 1) seat = c.index.ensures ∙ ap (λ (w : WorldAt). get_or w.seats (c.args.client - 1) seat) c.self.view_is in
     let idle = at_write (λ (s : Seat). IsIdle s.client) c.args.self.now.seats (c.args.client - 1) seat (place_low c.args.self.now c.args.client c.requires.world c.requires.client) read (c.is_idle.ensures.idle c.if-is_idle.true) in
-    on_ok c.take.result c.take.ensures (λ t. (goes_take fit (placed (g.R.Registry.places c.args.stores.now)) c.args.self.now c.args.client c.args.way c.requires.world c.requires.client c.has_work.result c.has_work.ensures (shown (g.R.Registry.shelves c.args.stores.now)) c.take.new.self c.if-not-has_work.false idle t).1)
+    on_ok c.take.result c.take.ensures (λ t. (goes_take c.args.self.now c.args.client c.args.way c.requires.world c.requires.client c.has_work.result c.has_work.ensures (g.R.Registry.state c.args.stores.now) c.take.new.self c.if-not-has_work.false idle t).1)
 
 pub returns-else-is_idle-clause-world : goal.returns-else-is_idle-clause-world
 returns-else-is_idle-clause-world g c =
-    let fit = AreFit c.args.self.now.script.catalog (g.R.Registry.places c.args.stores.now) (g.R.Registry.shelves c.args.stores.now) (g.R.Registry.tells c.args.stores.now) in
     let seat = c.index.result.now in
     let read : seat ≡ get_or c.args.self.now.seats (c.args.client - 1) seat = c.index.ensures ∙ ap (λ (w : WorldAt). get_or w.seats (c.args.client - 1) seat) c.self.view_is in
     let busy = at_write (λ (s : Seat). IsBusy s.client) c.args.self.now.seats (c.args.client - 1) seat (place_low c.args.self.now c.args.client c.requires.world c.requires.client) read (c.is_idle.ensures.busy c.if-is_idle.false) in
-    on_ok c.call.result c.call.ensures.called (λ t. (goes_call fit (placed (g.R.Registry.places c.args.stores.now)) c.args.self.now c.args.client c.args.way c.requires.world c.requires.client c.has_work.result c.has_work.ensures (shown (g.R.Registry.shelves c.args.stores.now)) (shown (g.R.Registry.shelves c.call.new.stores)) c.call.new.self c.if-not-has_work.false busy t).0)
+    on_ok c.call.result c.call.ensures.called (λ t. (goes_call c.args.self.now c.args.client c.args.way c.requires.world c.requires.client c.has_work.result c.has_work.ensures (g.R.Registry.state c.args.stores.now) (g.R.Registry.state c.call.new.stores) c.call.new.self c.if-not-has_work.false busy t).0)
 
 pub returns-else-is_idle-clause-acted : goal.returns-else-is_idle-clause-acted
 returns-else-is_idle-clause-acted g c =
-    let fit = AreFit c.args.self.now.script.catalog (g.R.Registry.places c.args.stores.now) (g.R.Registry.shelves c.args.stores.now) (g.R.Registry.tells c.args.stores.now) in
     let seat = c.index.result.now in
     let read : seat ≡ get_or c.args.self.now.seats (c.args.client - 1) seat = c.index.ensures ∙ ap (λ (w : WorldAt). get_or w.seats (c.args.client - 1) seat) c.self.view_is in
     let busy = at_write (λ (s : Seat). IsBusy s.client) c.args.self.now.seats (c.args.client - 1) seat (place_low c.args.self.now c.args.client c.requires.world c.requires.client) read (c.is_idle.ensures.busy c.if-is_idle.false) in
-    on_ok c.call.result c.call.ensures.called (λ t. (goes_call fit (placed (g.R.Registry.places c.args.stores.now)) c.args.self.now c.args.client c.args.way c.requires.world c.requires.client c.has_work.result c.has_work.ensures (shown (g.R.Registry.shelves c.args.stores.now)) (shown (g.R.Registry.shelves c.call.new.stores)) c.call.new.self c.if-not-has_work.false busy t).1)
+    on_ok c.call.result c.call.ensures.called (λ t. (goes_call c.args.self.now c.args.client c.args.way c.requires.world c.requires.client c.has_work.result c.has_work.ensures (g.R.Registry.state c.args.stores.now) (g.R.Registry.state c.call.new.stores) c.call.new.self c.if-not-has_work.false busy t).1)
 
 pub returns-then-not-has_work-clause-broken : goal.returns-then-not-has_work-clause-broken
-returns-then-not-has_work-clause-broken g c = breaks_pushed _ c.args.self.now c.self.view_is c.push.new.self (event.Idle c.args.client) (g.R.Registry.shelves c.args.stores.now) c.in_ok-push.ensures.ok refl
+returns-then-not-has_work-clause-broken g c = breaks_pushed _ c.args.self.now c.self.view_is c.push.new.self (event.Idle c.args.client) (g.R.Registry.state c.args.stores.now).shelves c.in_ok-push.ensures.ok refl
 
 pub returns-then-is_idle-clause-broken : goal.returns-then-is_idle-clause-broken
-returns-then-is_idle-clause-broken g c = on_ok c.take.result c.take.ensures (λ t. breaks_take c.args.self.now c.take.new.self (c.args.client - 1) (g.R.Registry.shelves c.args.stores.now) t)
+returns-then-is_idle-clause-broken g c = on_ok c.take.result c.take.ensures (λ t. breaks_take c.args.self.now c.take.new.self (c.args.client - 1) (g.R.Registry.state c.args.stores.now).shelves t)

@@ -13,33 +13,29 @@ use Rattle.sdb_world.proofs.world.World.outcome.Goals as goal
 
 pub returns-in_err-recorded-clause-err : goal.returns-in_err-recorded-clause-err
 returns-in_err-recorded-clause-err g c =
-    let p = g.R.Registry.places c.args.stores.now in
-    let old = g.R.Registry.shelves c.args.stores.now in
-    let tells = g.R.Registry.tells c.args.stores.now in
+    let old = g.R.Registry.state c.args.stores.now in
     let catalog = c.into_parts-script.result.0.catalog in
     passed _ c.from_residual.result c.in_err-recorded.field-0.0 c.from_residual.ensures.1
     (refused_as _ _ _ _ c.in_err-recorded.field-0.0
-    (λ key odd opening fit same played. outcome_sound (λ (ts : List Table). AreFit ts p old tells) c.args.self c.requires.world opening (shown old) (shown old) (placed p) catalog (ap (λ (s : Script). s.catalog) c.into_parts-script.ensures.script) key odd fit same played)
+    (λ key odd opening on. outcome_sound (λ (ts : List Table). AreFit ts old) c.args.self c.requires.world opening (shown old.shelves) (shown old.shelves) (placed old.places) catalog (ap (λ (s : Script). s.catalog) c.into_parts-script.ensures.script) key odd on.fit on.as_placed on.played)
     (λ h. h) c.in_err-recorded.ensures.err)
 
 pub returns-clause-run : goal.returns-clause-run
 returns-clause-run g c =
-    let p = g.R.Registry.places c.args.stores.now in
-    let old = g.R.Registry.shelves c.args.stores.now in
-    let tells = g.R.Registry.tells c.args.stores.now in
+    let old = g.R.Registry.state c.args.stores.now in
     let catalog = c.into_parts-script.result.0.catalog in
     let read = c.in_ok-recorded.ensures in
     let order = c.in_ok-order.order in
     let rose : HasRisen c.as_slice.result.now c.as_slice-2.result.now order = record { points = c.in_ok-order.ensures.points; rising = c.in_ok-order.ensures.rising; among = c.in_ok-order.ensures.among; whole = c.in_ok-order.ensures.ids } in
     let risen = subst (λ (es : List Event). HasRisen es c.in_ok-recorded.field-0.recorded order) c.as_slice.ensures (subst (λ (ids : List TxId). HasRisen c.as_slice.result.now ids order) c.as_slice-2.ensures rose) in
-    λ opening fit same played.
-    outcome_run (λ (ts : List Table). AreFit ts p old tells) c.args.self c.requires.world opening (shown old) (shown (g.R.Registry.shelves c.closing_dump.new.stores)) (placed p) catalog (ap (λ (s : Script). s.catalog) c.into_parts-script.ensures.script)
+    λ opening on.
+    outcome_run (λ (ts : List Table). AreFit ts old) c.args.self c.requires.world opening (shown old.shelves) (shown (g.R.Registry.state c.closing_dump.new.stores).shelves) (placed old.places) catalog (ap (λ (s : Script). s.catalog) c.into_parts-script.ensures.script)
     c.into_parts-script.result.1 c.in_ok-recorded.field-0.recorded order c.in_ok-recorded.field-0.tables c.into_parts-script.ensures.events
-    (record { printed = read.tables; each = read.recorded; small = read.small; still = read.still }) risen fit same played
+    (record { printed = read.tables; each = read.recorded; small = read.small; still = read.still }) risen on.fit on.as_placed on.played
 
 pub returns-clause-explained : goal.returns-clause-explained
 returns-clause-explained g c =
-    λ opening played. played_explained c.args.self c.requires.world c.into_parts-script.result.1 c.into_parts-script.ensures.events opening (shown (g.R.Registry.shelves c.args.stores.now)) played
+    λ opening played. played_explained c.args.self c.requires.world c.into_parts-script.result.1 c.into_parts-script.ensures.events opening (shown (g.R.Registry.state c.args.stores.now).shelves) played
 
 pub returns-clause-caused : goal.returns-clause-caused
 returns-clause-caused g c = outcome_caused c.args.self c.into_parts-script.result.1 c.into_parts-script.ensures.events

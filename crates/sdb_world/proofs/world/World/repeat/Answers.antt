@@ -1,7 +1,6 @@
 use Rattle.std.proofs.Common.{◌≡◌, ◌+◌, ℕ, refl, sym, ap, subst, arith}
 use Rattle.sdb_model.specs.declared.script.Act.TheVariants as act
 use Rattle.sdb_model.specs.declared.script.Script.{Script}
-use Rattle.sdb_board.specs.Board.{AreFit, placed, shown}
 use Rattle.sdb_board.proofs.GoesOn.{goes_more, goes_none, some_more}
 use Rattle.sdb_world.specs.Step.{AreSteps, HasCome, IsNumber, IsOne}
 use Rattle.sdb_world.proofs.Broken.{breaks_more, breaks_none}
@@ -13,16 +12,16 @@ pub loop-init : goal.loop-init
 loop-init g c = record {
   some = c.requires.some;
   world = c.requires.world;
-  goes = goes_none (g.R.Registry.places c.args.stores.now) (g.R.Registry.shelves c.args.stores.now);
-  broken = breaks_none c.args.self.now.events (g.R.Registry.shelves c.args.stores.now);
-  come = come_none (AreSteps c.args.self.now.script.clients c.args.client 0 c.args.self.now.events) (AreFit c.args.self.now.script.catalog (g.R.Registry.places c.args.stores.now) (g.R.Registry.shelves c.args.stores.now) (g.R.Registry.tells c.args.stores.now)) (placed (g.R.Registry.places c.args.stores.now)) (shown (g.R.Registry.shelves c.args.stores.now)) c.args.self.now (record { count = refl; steps = tt });
+  goes = goes_none (g.R.Registry.state c.args.stores.now);
+  broken = breaks_none c.args.self.now.events (g.R.Registry.state c.args.stores.now).shelves;
+  come = come_none (AreSteps c.args.self.now.script.clients c.args.client 0 c.args.self.now.events) (g.R.Registry.state c.args.stores.now) c.args.self.now (record { count = refl; steps = tt });
 }
 
 pub go-requires-clause-client : goal.go-requires-clause-client
 go-requires-clause-client g c = subst (λ (x : Script). IsNumber x c.args.client) (sym c.loop.invariant.come.gone.script) c.requires.client
 
 pub returns-in_err-go-clause-goes : goal.returns-in_err-go-clause-goes
-returns-in_err-go-clause-goes g c = goes_more _ _ _ _ _ _ c.loop.invariant.goes c.in_err-go.ensures.goes
+returns-in_err-go-clause-goes g c = goes_more _ _ _ c.loop.invariant.goes c.in_err-go.ensures.goes
 
 pub loop-preserved : goal.loop-preserved
 loop-preserved g c =
@@ -36,9 +35,9 @@ loop-preserved g c =
     record {
       some = some_more _ _ done.goes.names before.some;
       world = done.world;
-      goes = goes_more _ _ _ _ _ _ before.goes done.goes;
-      broken = breaks_more c.args.self.now.events c.loop.self.events c.go.new.self.events (g.R.Registry.places c.loop.stores) (g.R.Registry.places c.go.new.stores) (g.R.Registry.shelves c.args.stores.now) (g.R.Registry.shelves c.loop.stores) (g.R.Registry.shelves c.go.new.stores) before.broken done.goes done.broken;
-      come = come_more (AreSteps script.clients c.args.client c.loop.counter past) (IsOne later.clients (act.Step c.args.client) now) (AreSteps script.clients c.args.client (c.loop.counter + 1) past) (g.R.Registry.tells c.args.stores.now) (g.R.Registry.tells c.loop.stores) (g.R.Registry.places c.args.stores.now) (g.R.Registry.places c.loop.stores) (g.R.Registry.shelves c.args.stores.now) (g.R.Registry.shelves c.loop.stores) (shown (g.R.Registry.shelves c.go.new.stores))
+      goes = goes_more _ _ _ before.goes done.goes;
+      broken = breaks_more c.args.self.now.events c.loop.self.events c.go.new.self.events (g.R.Registry.state c.args.stores.now) (g.R.Registry.state c.loop.stores) (g.R.Registry.state c.go.new.stores) before.broken done.goes done.broken;
+      come = come_more (AreSteps script.clients c.args.client c.loop.counter past) (IsOne later.clients (act.Step c.args.client) now) (AreSteps script.clients c.args.client (c.loop.counter + 1) past) (g.R.Registry.state c.args.stores.now) (g.R.Registry.state c.loop.stores) (g.R.Registry.state c.go.new.stores)
           c.args.self.now c.loop.self c.go.new.self before.goes before.come done.acted
           (λ es more at h k. steps_more script.clients later.clients c.args.client c.loop.counter past now es more (ap (λ (x : Script). x.clients) same) at h k);
     }
@@ -47,5 +46,5 @@ pub returns-clause-come : goal.returns-clause-come
 returns-clause-come g c =
     let all : c.loop.counter ≡ c.args.times = omega (arith, c.loop.auto.counter-end, c.loop-test.false) in
     subst (λ (n : ℕ). HasCome (AreSteps c.args.self.now.script.clients c.args.client n c.args.self.now.events)
-    (AreFit c.args.self.now.script.catalog (g.R.Registry.places c.args.stores.now) (g.R.Registry.shelves c.args.stores.now) (g.R.Registry.tells c.args.stores.now)) (placed (g.R.Registry.places c.args.stores.now)) (shown (g.R.Registry.shelves c.args.stores.now)) (shown (g.R.Registry.shelves c.loop.stores)) c.args.self.now c.loop.self)
+    (g.R.Registry.state c.args.stores.now) (g.R.Registry.state c.loop.stores) c.args.self.now c.loop.self)
     all c.loop.invariant.come

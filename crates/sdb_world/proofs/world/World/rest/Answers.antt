@@ -3,7 +3,6 @@ use Rattle.sdb_model.specs.declared.event.Event.{Event}
 use Rattle.sdb_model.specs.declared.script.Act.TheVariants as act
 use Rattle.sdb_model.specs.declared.script.Script.{Script}
 use Rattle.sdb_model.specs.Follows.{IsRest, end_of}
-use Rattle.sdb_board.specs.Board.{AreFit, placed, shown}
 use Rattle.sdb_board.proofs.GoesOn.{goes_more, some_more}
 use Rattle.sdb_world.specs.Step.{IsOne}
 use Rattle.sdb_world.proofs.Broken.{breaks_more}
@@ -20,11 +19,11 @@ returns-in-None-clause-come g c =
     let now = c.loop.self.events in
     let same : later ≡ script = before.come.gone.script in
     come_as (λ (es : List Event). Rests script.clients past es c.loop.from) (IsRest script.clients 1 past)
-    (AreFit c.args.self.now.script.catalog (g.R.Registry.places c.args.stores.now) (g.R.Registry.shelves c.args.stores.now) (g.R.Registry.tells c.args.stores.now)) (placed (g.R.Registry.places c.args.stores.now)) (shown (g.R.Registry.shelves c.args.stores.now)) (shown (g.R.Registry.shelves c.loop.stores)) c.args.self.now c.loop.self before.come
+    (g.R.Registry.state c.args.stores.now) (g.R.Registry.state c.loop.stores) c.args.self.now c.loop.self before.come
     (λ es at h. rests_all script.clients later.clients c.loop.from past now es (ap (λ (x : Script). x.clients) same) at h c.in-None.ensures.none)
 
 pub returns-in_err-go-in-Some-clause-goes : goal.returns-in_err-go-in-Some-clause-goes
-returns-in_err-go-in-Some-clause-goes g c = goes_more _ _ _ _ _ _ c.loop.invariant.goes c.in_err-go-in-Some.ensures.goes
+returns-in_err-go-in-Some-clause-goes g c = goes_more _ _ _ c.loop.invariant.goes c.in_err-go-in-Some.ensures.goes
 
 pub loop-preserved : goal.loop-preserved
 loop-preserved g c =
@@ -43,10 +42,10 @@ loop-preserved g c =
       world = done.world;
       low = omega arith;
       high = subst (λ (x : Script). client + 1 ≤ end_of x.clients) (sym done.acted.gone.script) (omega (arith, number.1));
-      goes = goes_more _ _ _ _ _ _ before.goes done.goes;
-      broken = breaks_more c.args.self.now.events c.loop.self.events c.go.new.self.events (g.R.Registry.places c.loop.stores) (g.R.Registry.places c.go.new.stores) (g.R.Registry.shelves c.args.stores.now) (g.R.Registry.shelves c.loop.stores) (g.R.Registry.shelves c.go.new.stores) before.broken done.goes done.broken;
+      goes = goes_more _ _ _ before.goes done.goes;
+      broken = breaks_more c.args.self.now.events c.loop.self.events c.go.new.self.events (g.R.Registry.state c.args.stores.now) (g.R.Registry.state c.loop.stores) (g.R.Registry.state c.go.new.stores) before.broken done.goes done.broken;
       come = come_more (λ (es : List Event). Rests script.clients past es c.loop.from) (IsOne later.clients (act.Step client) now) (λ (es : List Event). Rests script.clients past es (client + 1))
-          (g.R.Registry.tells c.args.stores.now) (g.R.Registry.tells c.loop.stores) (g.R.Registry.places c.args.stores.now) (g.R.Registry.places c.loop.stores) (g.R.Registry.shelves c.args.stores.now) (g.R.Registry.shelves c.loop.stores) (shown (g.R.Registry.shelves c.go.new.stores))
+          (g.R.Registry.state c.args.stores.now) (g.R.Registry.state c.loop.stores) (g.R.Registry.state c.go.new.stores)
           c.args.self.now c.loop.self c.go.new.self before.goes before.come done.acted
           (λ es more at h k. rests_on script.clients later.clients c.loop.from client past now es more (ap (λ (x : Script). x.clients) same) at h turn k);
     }

@@ -3,7 +3,6 @@ use Rattle.std.proofs.Common.{rules, ◌≡◌, ◌∙◌, ◌++◌, ◌∷◌, 
 use Rattle.sdb_model.specs.declared.event.Event.TheVariants as event
 use Rattle.sdb_model.specs.declared.script.Act.{Act}
 use Rattle.sdb_model.specs.declared.script.Act.TheVariants as act
-use Rattle.sdb_board.specs.Board.{AreFit, placed, shown}
 use Rattle.sdb_world.specs.Step.{HasCome, IsOne}
 use Rattle.sdb_world.proofs.Acts.{Came, acts_stop}
 use Rattle.sdb_world.proofs.Explained.{came_explained, on_explained}
@@ -14,76 +13,62 @@ use Rattle.sdb_world.proofs.world.World.step.Goals as goal
 
 pub returns-in-Stop-clause-world : goal.returns-in-Stop-clause-world
 returns-in-Stop-clause-world g c =
-    let fit = AreFit c.args.self.now.script.catalog (g.R.Registry.places c.args.stores.now) (g.R.Registry.shelves c.args.stores.now) (g.R.Registry.tells c.args.stores.now) in
-    on_ok c.stop.result c.stop.ensures (λ h. (acts_stop fit (placed (g.R.Registry.places c.args.stores.now)) (shown (g.R.Registry.shelves c.args.stores.now)) c.args.self.now c.stop.new.self c.in-Stop.client c.requires.world h).0)
+    on_ok c.stop.result c.stop.ensures (λ h. (acts_stop (g.R.Registry.state c.args.stores.now) c.args.self.now c.stop.new.self c.in-Stop.client c.requires.world h).0)
 
 pub returns-in-Stop-clause-acted : goal.returns-in-Stop-clause-acted
 returns-in-Stop-clause-acted g c =
-    let fit = AreFit c.args.self.now.script.catalog (g.R.Registry.places c.args.stores.now) (g.R.Registry.shelves c.args.stores.now) (g.R.Registry.tells c.args.stores.now) in
-    let ps = placed (g.R.Registry.places c.args.stores.now) in
-    let held = shown (g.R.Registry.shelves c.args.stores.now) in
+    let held = g.R.Registry.state c.args.stores.now in
     let w = c.args.self.now in
-    on_ok c.stop.result c.stop.ensures (λ h. subst (λ (a : Act). HasCome (IsOne w.script.clients a w.events) fit ps held held w c.stop.new.self) (sym c.in-Stop.is) (acts_stop fit ps held w c.stop.new.self c.in-Stop.client c.requires.world h).1)
+    on_ok c.stop.result c.stop.ensures (λ h. subst (λ (a : Act). HasCome (IsOne w.script.clients a w.events) held held w c.stop.new.self) (sym c.in-Stop.is) (acts_stop held w c.stop.new.self c.in-Stop.client c.requires.world h).1)
 
 pub returns-in_ok-push-in-Clock-clause-world : goal.returns-in_ok-push-in-Clock-clause-world
 returns-in_ok-push-in-Clock-clause-world g c =
-    let fit = AreFit c.args.self.now.script.catalog (g.R.Registry.places c.args.stores.now) (g.R.Registry.shelves c.args.stores.now) (g.R.Registry.tells c.args.stores.now) in
     let same : to_z w64 (of_z w64 c.in-Clock.moment) ≡ c.in-Clock.moment = search rules in
     let came = c.in_ok-push-in-Clock.ensures.ok ∙ ap (λ (m : ℤ). c.self.inside.events ++ event.Clock m ∷ []) same in
-    let ps = placed (g.R.Registry.places c.args.stores.now) in
-    let held = shown (g.R.Registry.shelves c.args.stores.now) in
-    (subst (λ (z : ℤ). Came fit ps held held c.args.self.now c.args.act (record { script = c.self.inside.script; seats = c.self.inside.seats.items; events = c.push.new.self; clock = z })) (sym same)
-    (goes_clock fit ps held _ c.args.self.now c.self.view_is c.push.new.self c.args.act c.in-Clock.moment c.requires.world c.in-Clock.is c.requires.act came)).0
+    let held = g.R.Registry.state c.args.stores.now in
+    (subst (λ (z : ℤ). Came held held c.args.self.now c.args.act (record { script = c.self.inside.script; seats = c.self.inside.seats.items; events = c.push.new.self; clock = z })) (sym same)
+    (goes_clock held _ c.args.self.now c.self.view_is c.push.new.self c.args.act c.in-Clock.moment c.requires.world c.in-Clock.is c.requires.act came)).0
 
 pub returns-in_ok-push-in-Clock-clause-acted : goal.returns-in_ok-push-in-Clock-clause-acted
 returns-in_ok-push-in-Clock-clause-acted g c =
-    let fit = AreFit c.args.self.now.script.catalog (g.R.Registry.places c.args.stores.now) (g.R.Registry.shelves c.args.stores.now) (g.R.Registry.tells c.args.stores.now) in
     let same : to_z w64 (of_z w64 c.in-Clock.moment) ≡ c.in-Clock.moment = search rules in
     let came = c.in_ok-push-in-Clock.ensures.ok ∙ ap (λ (m : ℤ). c.self.inside.events ++ event.Clock m ∷ []) same in
-    let ps = placed (g.R.Registry.places c.args.stores.now) in
-    let held = shown (g.R.Registry.shelves c.args.stores.now) in
-    (subst (λ (z : ℤ). Came fit ps held held c.args.self.now c.args.act (record { script = c.self.inside.script; seats = c.self.inside.seats.items; events = c.push.new.self; clock = z })) (sym same)
-    (goes_clock fit ps held _ c.args.self.now c.self.view_is c.push.new.self c.args.act c.in-Clock.moment c.requires.world c.in-Clock.is c.requires.act came)).1
+    let held = g.R.Registry.state c.args.stores.now in
+    (subst (λ (z : ℤ). Came held held c.args.self.now c.args.act (record { script = c.self.inside.script; seats = c.self.inside.seats.items; events = c.push.new.self; clock = z })) (sym same)
+    (goes_clock held _ c.args.self.now c.self.view_is c.push.new.self c.args.act c.in-Clock.moment c.requires.world c.in-Clock.is c.requires.act came)).1
 
 pub returns-in-Step-clause-explained : goal.returns-in-Step-clause-explained
 returns-in-Step-clause-explained g c =
-    let fit = AreFit c.args.self.now.script.catalog (g.R.Registry.places c.args.stores.now) (g.R.Registry.shelves c.args.stores.now) (g.R.Registry.tells c.args.stores.now) in
-    on_explained c.go.result fit (placed (g.R.Registry.places c.args.stores.now)) (shown (g.R.Registry.shelves c.args.stores.now)) (shown (g.R.Registry.shelves c.go.new.stores)) c.args.self.now c.go.new.self (act.Step c.in-Step.client) c.go.ensures.world c.go.ensures.acted
+    on_explained c.go.result (g.R.Registry.state c.args.stores.now) (g.R.Registry.state c.go.new.stores) c.args.self.now c.go.new.self (act.Step c.in-Step.client) c.go.ensures.world c.go.ensures.acted
 
 pub returns-in-Lose-clause-explained : goal.returns-in-Lose-clause-explained
 returns-in-Lose-clause-explained g c =
-    let fit = AreFit c.args.self.now.script.catalog (g.R.Registry.places c.args.stores.now) (g.R.Registry.shelves c.args.stores.now) (g.R.Registry.tells c.args.stores.now) in
-    on_explained c.go-in-Lose.result fit (placed (g.R.Registry.places c.args.stores.now)) (shown (g.R.Registry.shelves c.args.stores.now)) (shown (g.R.Registry.shelves c.go-in-Lose.new.stores)) c.args.self.now c.go-in-Lose.new.self (act.Lose c.in-Lose.client) c.go-in-Lose.ensures.world c.go-in-Lose.ensures.acted
+    on_explained c.go-in-Lose.result (g.R.Registry.state c.args.stores.now) (g.R.Registry.state c.go-in-Lose.new.stores) c.args.self.now c.go-in-Lose.new.self (act.Lose c.in-Lose.client) c.go-in-Lose.ensures.world c.go-in-Lose.ensures.acted
 
 pub returns-in-Discard-clause-explained : goal.returns-in-Discard-clause-explained
 returns-in-Discard-clause-explained g c =
-    let fit = AreFit c.args.self.now.script.catalog (g.R.Registry.places c.args.stores.now) (g.R.Registry.shelves c.args.stores.now) (g.R.Registry.tells c.args.stores.now) in
-    on_explained c.go-in-Discard.result fit (placed (g.R.Registry.places c.args.stores.now)) (shown (g.R.Registry.shelves c.args.stores.now)) (shown (g.R.Registry.shelves c.go-in-Discard.new.stores)) c.args.self.now c.go-in-Discard.new.self (act.Discard c.in-Discard.client) c.go-in-Discard.ensures.world c.go-in-Discard.ensures.acted
+    on_explained c.go-in-Discard.result (g.R.Registry.state c.args.stores.now) (g.R.Registry.state c.go-in-Discard.new.stores) c.args.self.now c.go-in-Discard.new.self (act.Discard c.in-Discard.client) c.go-in-Discard.ensures.world c.go-in-Discard.ensures.acted
 
 pub returns-in-Stop-clause-explained : goal.returns-in-Stop-clause-explained
 returns-in-Stop-clause-explained g c =
-    let fit = AreFit c.args.self.now.script.catalog (g.R.Registry.places c.args.stores.now) (g.R.Registry.shelves c.args.stores.now) (g.R.Registry.tells c.args.stores.now) in
-    let ps = placed (g.R.Registry.places c.args.stores.now) in
-    let held = shown (g.R.Registry.shelves c.args.stores.now) in
+    let held = g.R.Registry.state c.args.stores.now in
     let w = c.args.self.now in
-    on_ok c.stop.result c.stop.ensures (λ h. came_explained fit ps held held w c.stop.new.self (act.Stop c.in-Stop.client) (acts_stop fit ps held w c.stop.new.self c.in-Stop.client c.requires.world h))
+    on_ok c.stop.result c.stop.ensures (λ h. came_explained held held w c.stop.new.self (act.Stop c.in-Stop.client) (acts_stop held w c.stop.new.self c.in-Stop.client c.requires.world h))
 
 pub returns-in_ok-push-in-Clock-clause-explained : goal.returns-in_ok-push-in-Clock-clause-explained
 returns-in_ok-push-in-Clock-clause-explained g c =
-    let fit = AreFit c.args.self.now.script.catalog (g.R.Registry.places c.args.stores.now) (g.R.Registry.shelves c.args.stores.now) (g.R.Registry.tells c.args.stores.now) in
     let same : to_z w64 (of_z w64 c.in-Clock.moment) ≡ c.in-Clock.moment = search rules in
     let came = c.in_ok-push-in-Clock.ensures.ok ∙ ap (λ (m : ℤ). c.self.inside.events ++ event.Clock m ∷ []) same in
-    let ps = placed (g.R.Registry.places c.args.stores.now) in
-    let held = shown (g.R.Registry.shelves c.args.stores.now) in
-    came_explained fit ps held held c.args.self.now _ c.args.act
-    (subst (λ (z : ℤ). Came fit ps held held c.args.self.now c.args.act (record { script = c.self.inside.script; seats = c.self.inside.seats.items; events = c.push.new.self; clock = z })) (sym same)
-    (goes_clock fit ps held _ c.args.self.now c.self.view_is c.push.new.self c.args.act c.in-Clock.moment c.requires.world c.in-Clock.is c.requires.act came))
+    let held = g.R.Registry.state c.args.stores.now in
+    came_explained held held c.args.self.now _ c.args.act
+    (subst (λ (z : ℤ). Came held held c.args.self.now c.args.act (record { script = c.self.inside.script; seats = c.self.inside.seats.items; events = c.push.new.self; clock = z })) (sym same)
+    (goes_clock held _ c.args.self.now c.self.view_is c.push.new.self c.args.act c.in-Clock.moment c.requires.world c.in-Clock.is c.requires.act came))
 
 pub returns-in-Stop-clause-broken : goal.returns-in-Stop-clause-broken
-returns-in-Stop-clause-broken g c = on_ok c.stop.result c.stop.ensures (λ h. breaks_stop c.args.self.now c.stop.new.self c.in-Stop.client (g.R.Registry.shelves c.args.stores.now) h)
+returns-in-Stop-clause-broken g c = on_ok c.stop.result c.stop.ensures (λ h. breaks_stop c.args.self.now c.stop.new.self c.in-Stop.client (g.R.Registry.state c.args.stores.now).shelves h)
 
 pub returns-in_ok-push-in-Clock-clause-broken : goal.returns-in_ok-push-in-Clock-clause-broken
 returns-in_ok-push-in-Clock-clause-broken g c =
     let same : to_z w64 (of_z w64 c.in-Clock.moment) ≡ c.in-Clock.moment = search rules in
     let came = c.in_ok-push-in-Clock.ensures.ok ∙ ap (λ (m : ℤ). c.self.inside.events ++ event.Clock m ∷ []) same in
-    breaks_pushed _ c.args.self.now c.self.view_is c.push.new.self (event.Clock c.in-Clock.moment) (g.R.Registry.shelves c.args.stores.now) came refl
+    breaks_pushed _ c.args.self.now c.self.view_is c.push.new.self (event.Clock c.in-Clock.moment) (g.R.Registry.state c.args.stores.now).shelves came refl

@@ -1,0 +1,4 @@
+pub mod Values
+pub mod Turns
+pub mod Tests
+pub mod All
