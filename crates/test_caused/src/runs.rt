@@ -1,5 +1,5 @@
-//! Worked runs: each answer has its cause, all calls are counted, and all records are resolved.
-use crate::steps::{BANK, SHOP, Step, all_caused, all_counted, all_resolved};
+//! Worked runs: each answer has its cause, all calls are counted, all records are resolved, and all rows are shown.
+use crate::steps::{BANK, SHOP, Step, all_caused, all_counted, all_resolved, all_shown};
 use std::alloc::Global;
 use std::test::Fail;
 use test_builders::hold;
@@ -8,7 +8,8 @@ fn all_kept(alloc: Global, catalog: &str, events: &[Step]) -> Result<bool, Fail>
     Ok(
         all_caused(alloc, catalog, events)?
             && all_counted(alloc, catalog, events)?
-            && all_resolved(alloc, catalog, events)?,
+            && all_resolved(alloc, catalog, events)?
+            && all_shown(alloc, catalog, events)?,
     )
 }
 

@@ -1,8 +1,10 @@
 //! Events of several clients from constants.
+use crate::moments::stores_of;
 use sdb_caused::answers_have_causes;
 use sdb_counted::{broken_in, calls_are_counted, records_are_resolved};
 use sdb_loader::catalog_of;
 use sdb_model::{Answer, Event, Events, How};
+use sdb_shown::rows_are_shown;
 use sdb_types::{Name, NameRefused, Txt};
 use std::alloc::Global;
 use std::test::Fail;
@@ -97,6 +99,14 @@ pub fn all_resolved(alloc: Global, catalog: &str, steps: &[Step]) -> Result<bool
     let catalog = catalog_of(alloc, catalog.as_bytes())?;
     let events = events_of(alloc, steps)?;
     Ok(records_are_resolved(alloc, &catalog, events.as_slice())?)
+}
+
+/// Whether all rows that answers show are their transaction's own, or were committed when they were read.
+pub fn all_shown(alloc: Global, catalog: &str, steps: &[Step]) -> Result<bool, Fail> {
+    let catalog = catalog_of(alloc, catalog.as_bytes())?;
+    let events = events_of(alloc, steps)?;
+    let stores = stores_of(alloc, events.as_slice())?;
+    Ok(rows_are_shown(alloc, &catalog, events.as_slice(), &stores)?)
 }
 
 /// How many calls of these events the stores failed.
