@@ -6,4 +6,3 @@ mod read;
 mod rows;
 
 pub use read::{ReadPhases, ReadStep};
-pub use rows::{Sort, sorted};
