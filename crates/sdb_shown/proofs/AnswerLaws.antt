@@ -27,7 +27,8 @@ use Rattle.sdb_model.specs.declared.statement.Statement.TheVariants as statement
 use Rattle.sdb_model.specs.Exec.{find_table, shown}
 use Rattle.sdb_model.specs.Shown.{HasRow, ShowsKey, ShowsOwn, ShowsRows}
 use Rattle.sdb_model.specs.Transactions.{Said, client_of, is_effective, statements_of}
-use Rattle.sdb_said.proofs.Lists.{In, all_each as each_in, any_some, both, each_all, right, some_any}
+use Rattle.sdb_said.proofs.Lists.{In, all_each as each_in, any_some, each_all, right, some_any}
+use Rattle.sdb_types.proofs.Bools.{and_both as both}
 use Rattle.sdb_caused.proofs.Finds.{contains_in, in_contains, in_kept, kept_in}
 use Rattle.sdb_shown.specs.declared.stores.Stores.{Stores}
 use Rattle.sdb_shown.specs.declared.turn.Turn.{Turn}

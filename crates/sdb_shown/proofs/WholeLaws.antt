@@ -10,7 +10,8 @@ use Rattle.sdb_calls.specs.Values.{taker}
 use Rattle.sdb_caused.proofs.CausedLaws.{all_in, by_in}
 use Rattle.sdb_caused.proofs.Decided.{never}
 use Rattle.sdb_caused.proofs.Finds.{contains_in}
-use Rattle.sdb_caused.proofs.IdLaws.{id_again, some_from}
+use Rattle.sdb_caused.proofs.IdLaws.{some_from}
+use Rattle.sdb_model.proofs.Basics.{id_again}
 use Rattle.sdb_caused.proofs.TurnedLaws.{taken_by}
 use Rattle.sdb_shown.specs.declared.stores.Stores.{Stores}
 use Rattle.sdb_shown.specs.All.{AreShownUpto, AreTakersShown, IsClientShown, IsTransactionShown}
