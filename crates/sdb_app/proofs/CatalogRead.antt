@@ -32,7 +32,8 @@ use Rattle.sdb_loader.specs.declared.fault.SchemaFault.TheVariants as fault
 use Rattle.sdb_loader.specs.Fields.{columns, columns_among, columns_in, kind_said}
 use Rattle.sdb_loader.specs.Words.{table_named}
 use Rattle.sdb_loader.specs.Described.{bad_field, bad_name, bad_table, catalog_in, described, described_members, described_tables, first_said, json_of, named, refusal_in, refuse, table_of, unknown_type, untransactional, within_limit}
-use Rattle.sdb_loader.proofs.Names.{name_of_column, text_of}
+use Rattle.sdb_loader.proofs.Names.{text_of}
+use Rattle.sdb_record.proofs.NameLemmas.{name_of_column}
 use Rattle.sdb_loader.proofs.Values.{are_short-columns_in}
 use Rattle.sdb_script.proofs.Pieces.{bind_is, map_is, no_some}
 use Rattle.sdb_types.proofs.Basics.{by_test, some_is}

@@ -22,7 +22,7 @@ use Rattle.sdb_schema.specs.declared.table.Table.{Table}
 use Rattle.sdb_schema.specs.Catalog.{rises, stands_above}
 use Rattle.sdb_schema.specs.Table.{is_table}
 use Rattle.sdb_loader.specs.Words.{is_open}
-use Rattle.sdb_loader.proofs.Names.{name_of_column}
+use Rattle.sdb_record.proofs.NameLemmas.{name_of_column}
 use Rattle.sdb_stores.specs.Shelf.{Attached, Shelf, names_of}
 use Rattle.sdb_catalog.specs.declared.entry.Entry.{Entry}
 use Rattle.sdb_catalog.specs.Calls.{IsRead, metadata_span}

@@ -18,7 +18,7 @@ use Rattle.sdb_types.specs.Order.{table_cmp, table_text}
 use Rattle.sdb_types.proofs.Bools.{and_first, and_both}
 use Rattle.sdb_types.proofs.KeyOrder.{by_text}
 use Rattle.sdb_record.specs.Parts.{is_column_name}
-pub use Rattle.sdb_record.proofs.NameLemmas.{name_of_column}
+use Rattle.sdb_record.proofs.NameLemmas.{name_of_column}
 use Rattle.sdb_schema.specs.Catalog.{rises, stands_above}
 use Rattle.sdb_loader.specs.Words.{is_open, names_table, table_named}
 use Rattle.sdb_loader.specs.Described.{bad_name, named, table_of}
