@@ -131,7 +131,7 @@ fn ran<S: Registry>(
     input: &mut Feed,
     output: &mut Tray,
 ) -> Status
-    requires { 0 < length (S.shelves stores.old) }
+    requires { 0 < length (S.state stores.old).shelves }
 {
     let mut clock = Ticks::new(Moments::new(alloc));
     let mut ids = Numbers::new(1);
@@ -144,7 +144,7 @@ fn status_of<S: Registry>(
     stores: &mut S,
     case: Case<'_>,
 ) -> Result<(Status, bool), Fail>
-    requires { 0 < length (S.shelves stores.old) }
+    requires { 0 < length (S.state stores.old).shelves }
 {
     let words = words_of(alloc, case.words)?;
     let mut input = feed(alloc, case.script, case.reads_fail)?;
