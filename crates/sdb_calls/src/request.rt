@@ -1,16 +1,14 @@
 //! What calls ask.
 ghost use Rattle.std.specs.Prelude.{◌≡◌};
 ghost use Rattle.std.specs.Option.{option_copied};
-ghost use Rattle.sdb_types.specs.Contents.{in_span};
-ghost use Rattle.sdb_record.specs.Coordinator.{is_coordinator_table};
 ghost use Rattle.sdb_model.specs.Calls.{key_asked as key_asked_lem, is_read as is_read_lem, is_removal as is_removal_lem, put_by as put_by_lem};
 ghost use Rattle.sdb_model.specs.Events.{table_asked};
 ghost use Rattle.sdb_model.specs.Noted.{reads_rows as reads_rows_lem};
-ghost use Rattle.sdb_model.specs.Rows.{same_name};
 ghost use Rattle.sdb_calls.specs.Values.{made_of, asks_row as asks_row_lem};
 
 use crate::made::Made;
-use sdb_types::{Condition, Key, Record, Request, Span, State, TableName};
+use sdb_record::is_coordinator;
+use sdb_types::{Condition, Key, Record, Request, State, TableName};
 
 /// The one key that a request asks for.
 pub fn key_asked(request: &Request) -> Option<&Key>
@@ -61,19 +59,6 @@ pub fn asks_row(row: &Key, request: &Request) -> bool
     }
 }
 
-fn is_text(name: &str, text: &str) -> bool
-    ensures { result ≡ same_name name.now text.now }
-{
-    name.cmp(text).is_eq()
-}
-
-/// Whether a table is that of the coordinator's rows.
-pub fn is_coordinator(table: &TableName) -> bool
-    ensures { result ≡ is_coordinator_table table.now }
-{
-    is_text(table.ns.as_str(), "coordinator") && is_text(table.table.as_str(), "state")
-}
-
 fn asked_table(request: &Request) -> &TableName
     ensures { result.now ≡ table_asked request.now }
 {
@@ -90,15 +75,4 @@ pub fn reads_rows(made: &Made) -> bool
     ensures { result ≡ reads_rows_lem (made_of made.now) }
 {
     !is_coordinator(asked_table(&made.request)) && is_read(&made.request)
-}
-
-/// Whether a key is in a span.
-pub fn is_in_span(span: &Span, key: &Key) -> bool
-    ensures { result ≡ in_span span.now key.now }
-{
-    span.table.cmp(&key.table).is_eq()
-        && match &span.partition {
-            None => true,
-            Some(partition) => partition.cmp(&key.partition).is_eq(),
-        }
 }

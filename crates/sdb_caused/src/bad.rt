@@ -10,10 +10,10 @@ ghost use Rattle.sdb_order.specs.Commits.{said_of};
 ghost use Rattle.sdb_calls.specs.Values.{all_made};
 ghost use Rattle.sdb_caused.specs.Tests.{is_refused_there, shows_bad as shows_bad_lem};
 
-use sdb_calls::{Made, calls_of, decision_for, is_coordinator, reads_rows};
+use sdb_calls::{Made, calls_of, decision_for, reads_rows};
 use sdb_model::{Event, Keyword};
 use sdb_order::{Said, is_word};
-use sdb_record::{committed_image, meta_of};
+use sdb_record::{committed_image, is_coordinator, meta_of};
 use sdb_said::{decided, is_same_key};
 use sdb_schema::Catalog;
 use sdb_snapshot::row_of;

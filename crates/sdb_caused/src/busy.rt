@@ -12,8 +12,8 @@ use sdb_calls::{Made, calls_of, clock_at, is_read};
 use sdb_model::Event;
 use sdb_order::Said;
 use sdb_record::{coordinator_key, expired, meta_of};
-use sdb_said::{find_text, is_committed, is_same_key, writer};
-use sdb_types::{Key, NoMemory, Record, Reply, Request, TxId, Value};
+use sdb_said::{is_committed, is_same_key, writer};
+use sdb_types::{Key, NoMemory, Record, Reply, Request, TxId, Value, value_named};
 use std::alloc::Global;
 
 const LAST_MOMENT: i64 = 9_007_199_254_740_992;
@@ -32,7 +32,7 @@ pub fn is_id(found: Option<TxId>, id: TxId) -> bool
 pub fn prepared_moment(rec: &Record) -> Option<i64>
     ensures { result ≡ prepared_moment_lem rec.now }
 {
-    match find_text(rec.columns.pairs(), "tx_prepared_at") {
+    match value_named(rec.columns.pairs(), "tx_prepared_at") {
         Some(Value::BigInt(n)) if *n >= 0 && *n <= LAST_MOMENT => Some(*n),
         _ => None,
     }

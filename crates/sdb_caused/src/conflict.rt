@@ -1,12 +1,12 @@
 //! The cause of Conflict: what is found at a key is no longer what was noted there.
-ghost use Rattle.std.specs.Prelude.{◌≡◌, ◌&&◌, IfOk, IsTrue, ◌↔◌, Some, find};
+ghost use Rattle.std.specs.Prelude.{◌≡◌, ◌&&◌, IfOk, IsTrue, ◌↔◌, Some};
 ghost use Rattle.std.specs.Option.{option_and_then, option_copied};
 ghost use Rattle.std.specs.List.{list_any};
 ghost use Rattle.sdb_model.specs.Causes.{IsConflict, prepares_key as prepares_key_lem};
-ghost use Rattle.sdb_model.specs.Noted.{noted_in as noted_in_lem, resolved, same_key, version_among as version_among_lem, version_noted as version_noted_lem};
+ghost use Rattle.sdb_model.specs.Noted.{noted_in as noted_in_lem, resolved};
 ghost use Rattle.sdb_model.specs.Transactions.{id_of as id_of_lem};
 ghost use Rattle.sdb_order.specs.Commits.{said_of};
-ghost use Rattle.sdb_record.specs.Moved.{is_unchanged as is_unchanged_lem, same_version as same_version_lem};
+ghost use Rattle.sdb_record.specs.Moved.{is_unchanged as is_unchanged_lem};
 ghost use Rattle.sdb_record.specs.Parts.{before_record};
 ghost use Rattle.sdb_record.specs.Rolls.{forward_record};
 ghost use Rattle.sdb_said.specs.Values.{note_of};
@@ -15,53 +15,17 @@ ghost use Rattle.sdb_caused.specs.Tests.{asks_key, conflict_at_scan, is_moved as
 
 use crate::commit::{is_commit_of, is_in};
 use crate::same::is_same_found;
-use sdb_calls::{
-    Made, calls_of, decision_for, id_of, is_in_span, key_asked, noted_in, put_by, record_among,
-};
+use sdb_calls::{Made, calls_of, decision_for, id_of, key_asked, noted_in, put_by, record_among};
 use sdb_model::{Event, Keyword};
 use sdb_order::{Said, is_word, statements_said};
 use sdb_plain::is_prepare;
-use sdb_record::{Decided, Decision, Read, Scan, is_unchanged, rolled_forward};
-use sdb_said::{Note, is_committed, is_kept_in, is_same_key, keeps_none, kept_writer};
+use sdb_record::{Decided, Decision, Scan, is_same_version, is_unchanged, rolled_forward};
+use sdb_said::{
+    Note, is_committed, is_kept_in, is_same_key, keeps_none, kept_writer, version_among,
+    version_noted,
+};
 use sdb_types::{Key, NoMemory, Record, Reply, Request, TxId};
 use std::alloc::Global;
-
-fn read_of<'a>(found: &'a [Read], key: &Key) -> Option<&'a Read>
-    ensures { option_copied result ≡ find (λ r. same_key r.key key.now) found.now }
-{
-    found.iter().find(|read| is_same_key(&read.key, key))
-}
-
-fn version_among(found: &[Read], key: &Key) -> Option<TxId>
-    ensures { result ≡ version_among_lem found.now key.now }
-{
-    match read_of(found, key) {
-        Some(read) => read.version,
-        None => None,
-    }
-}
-
-// What a noted read says of a key: nothing, or the version found there, none where there was no record.
-fn version_noted(note: &Note, key: &Key) -> Option<Option<TxId>>
-    ensures { result ≡ version_noted_lem (note_of note.now) key.now }
-{
-    match note {
-        Note::Got(read) => {
-            if is_same_key(&read.key, key) {
-                Some(read.version)
-            } else {
-                None
-            }
-        }
-        Note::Scanned(scan) => {
-            if is_in_span(&scan.span, key) {
-                Some(version_among(scan.found.as_slice(), key))
-            } else {
-                None
-            }
-        }
-    }
-}
 
 fn is_moved(note: &Note, key: &Key, found: &Option<Record>) -> bool
     ensures { result ≡ is_moved_lem key.now found.now (note_of note.now) }
@@ -89,7 +53,7 @@ fn scan_shows(made: &Made, key: &Key, found: &Option<Record>) -> bool
 {
     match (&made.request, &made.reply) {
         (Request::Scan(span), Reply::Rows(rows)) => {
-            is_in_span(span, key) && is_same_found(record_among(rows.as_slice(), key), found)
+            span.contains(key) && is_same_found(record_among(rows.as_slice(), key), found)
         }
         _ => false,
     }
@@ -180,23 +144,13 @@ fn base_put(made: &Made) -> Option<TxId>
     }
 }
 
-fn is_same_version(a: Option<TxId>, b: Option<TxId>) -> bool
-    ensures { result ≡ same_version_lem a b }
-{
-    match (a, b) {
-        (Some(a), Some(b)) => a.0 == b.0,
-        (None, None) => true,
-        _ => false,
-    }
-}
-
 fn scan_differs(note: &Note, key: &Key, base: Option<TxId>) -> bool
     ensures { result ≡ scan_differs_lem key.now base (note_of note.now) }
 {
     match note {
         Note::Got(_) => false,
         Note::Scanned(scan) => {
-            is_in_span(&scan.span, key)
+            scan.span.contains(key)
                 && !is_same_version(base, version_among(scan.found.as_slice(), key))
         }
     }
@@ -320,7 +274,7 @@ fn scan_resolves(
 {
     match (&made.request, &made.reply) {
         (Request::Scan(span), Reply::Rows(rows)) => {
-            if !is_in_span(span, key) {
+            if !span.contains(key) {
                 return Ok(false);
             }
             standing_resolves(alloc, calls, record_among(rows.as_slice(), key), found)

@@ -14,8 +14,10 @@ use sdb_caused::{is_early, is_unresolved, prepared_moment};
 use sdb_model::{Event, How, Keyword};
 use sdb_order::{Said, is_word};
 use sdb_record::{Back, Decided, Decision, coordinator_key, rolled_back, rolled_forward};
-use sdb_said::{find_text, is_same_request, writer};
-use sdb_types::{Condition, Duplicate, Key, NoMemory, Record, Reply, Request, State, TxId, Value};
+use sdb_said::{is_same_request, writer};
+use sdb_types::{
+    Condition, Duplicate, Key, NoMemory, Record, Reply, Request, State, TxId, Value, value_named,
+};
 use std::alloc::Global;
 
 // The state of a record.
@@ -33,7 +35,7 @@ fn state_numbered(n: i64) -> Option<State>
 fn state_of(rec: &Record) -> Option<State>
     ensures { result ≡ state_in rec.now.columns }
 {
-    match find_text(rec.columns.pairs(), "tx_state") {
+    match value_named(rec.columns.pairs(), "tx_state") {
         Some(Value::Int(n)) => state_numbered(i64::from(*n)),
         _ => None,
     }

@@ -1,10 +1,10 @@
 //! The rows that a SELECT shows.
-ghost use Rattle.std.specs.Prelude.{◌≡◌, IfOk, Some, map};
+ghost use Rattle.std.specs.Prelude.{◌≡◌, IfOk, map};
 ghost use Rattle.sdb_model.specs.Exec.{sorted as sorted_lem, cut as cut_lem, shown as shown_lem};
 
 use sdb_model::{Rows, Select};
 use sdb_record::{Image, Images};
-use sdb_rows::{shown_all, shown_names};
+use sdb_rows::{cut, shown_all, shown_names};
 use sdb_schema::Table;
 use sdb_types::{NoMemory, Seq};
 use std::alloc::Global;
@@ -17,31 +17,6 @@ fn sorted(table: &Table, rows: Images) -> Result<Images, NoMemory>
     rows.reverse();
     rows.sort_by(|a, b| table.compare(&a.key, &b.key))?;
     Ok(Seq::from_vec(rows))
-}
-
-// The first n rows.
-fn first(n: i64, rows: &[Image]) -> &[Image]
-    ensures { result.now ≡ cut_lem (Some n) rows.now }
-{
-    let all = rows.len();
-    if n < 0 {
-        return &[];
-    }
-    let count = n as u64;
-    if count < all as u64 {
-        &rows[..count as usize]
-    } else {
-        rows
-    }
-}
-
-fn cut(limit: Option<i64>, rows: &[Image]) -> &[Image]
-    ensures { result.now ≡ cut_lem limit rows.now }
-{
-    match limit {
-        None => rows,
-        Some(n) => first(n, rows),
-    }
 }
 
 /// What a SELECT shows of the rows that pass.

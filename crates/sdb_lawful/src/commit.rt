@@ -1,21 +1,20 @@
 //! Whether a COMMIT may be taken: its writes and notes against what was shown.
-ghost use Rattle.std.specs.Prelude.{◌≡◌, ◌&&◌, if◌then◌else◌, find, IfOk};
+ghost use Rattle.std.specs.Prelude.{◌≡◌, ◌&&◌, if◌then◌else◌, IfOk};
 ghost use Rattle.std.specs.Option.{option_copied, option_map_or};
 ghost use Rattle.std.specs.List.{list_all};
-ghost use Rattle.sdb_types.specs.Contents.{in_span};
-ghost use Rattle.sdb_record.specs.Coordinator.{is_coordinator_table};
 ghost use Rattle.sdb_record.specs.Moved.{is_unchanged as is_unchanged_lem};
 ghost use Rattle.sdb_record.specs.Names.{is_user, same_name};
 ghost use Rattle.sdb_record.specs.Parts.{are_user_columns as are_user_columns_lem, is_column_name};
 ghost use Rattle.sdb_record.specs.Rolls.{is_change as is_change_lem, prepared_record};
 ghost use Rattle.sdb_laws.specs.Lawful.{is_data as is_data_lem};
-ghost use Rattle.sdb_model.specs.Noted.{same_key, version_among as version_among_lem};
 ghost use Rattle.sdb_said.specs.Shown.{is_settled as is_settled_lem};
 ghost use Rattle.sdb_lawful.specs.Rules.{is_base as is_base_lem, is_sound as is_sound_lem, is_fine_write as is_fine_write_lem, is_fine_key as is_fine_key_lem, are_fine_writes as are_fine_writes_lem, is_fine_version as is_fine_version_lem, is_fine_found as is_fine_found_lem, is_fine_note as is_fine_note_lem, prepared_by as prepared_by_lem};
 
-use sdb_record::{Change, MetaRefused, Read, Scan, Write, is_user_name, meta_of, prepared};
-use sdb_said::{Note, is_same_key, is_settled, settles, write_of};
-use sdb_types::{Key, NoMemory, Pair, Record, Span, TableName, TxId, is_identifier_text};
+use sdb_record::{
+    Change, MetaRefused, Read, Scan, Write, is_coordinator, is_user_name, meta_of, prepared,
+};
+use sdb_said::{Note, is_same_key, is_settled, settles, version_among, write_of};
+use sdb_types::{Key, NoMemory, Pair, Record, TxId, is_identifier_text};
 use std::alloc::Global;
 
 fn is_text(name: &str, text: &str) -> bool
@@ -24,43 +23,11 @@ fn is_text(name: &str, text: &str) -> bool
     name.cmp(text).is_eq()
 }
 
-fn is_coordinator(table: &TableName) -> bool
-    ensures { result ≡ is_coordinator_table table.now }
-{
-    is_text(table.ns.as_str(), "coordinator") && is_text(table.table.as_str(), "state")
-}
-
 /// Whether it is the key of a table of records.
 pub fn is_data(key: &Key) -> bool
     ensures { result ≡ is_data_lem key.now }
 {
     !is_coordinator(&key.table)
-}
-
-pub fn is_in_span(span: &Span, key: &Key) -> bool
-    ensures { result ≡ in_span span.now key.now }
-{
-    span.table.cmp(&key.table).is_eq()
-        && match &span.partition {
-            None => true,
-            Some(partition) => partition.cmp(&key.partition).is_eq(),
-        }
-}
-
-fn read_of<'a>(found: &'a [Read], key: &Key) -> Option<&'a Read>
-    ensures { option_copied result ≡ find (λ r. same_key r.key key.now) found.now }
-{
-    found.iter().find(|read| is_same_key(&read.key, key))
-}
-
-/// The version that a scan found at a key.
-pub fn version_among(found: &[Read], key: &Key) -> Option<TxId>
-    ensures { result ≡ version_among_lem found.now key.now }
-{
-    match read_of(found, key) {
-        Some(read) => read.version,
-        None => None,
-    }
 }
 
 fn is_base(alloc: Global, key: &Key, base: &Record) -> bool
@@ -204,7 +171,7 @@ fn is_fine_found(
 ) -> Result<bool, NoMemory>
     ensures { IfOk result (λ fine. fine ≡ is_fine_found_lem shown.now scan.now read.now) }
 {
-    if !is_in_span(&scan.span, &read.key) {
+    if !scan.span.contains(&read.key) {
         return Ok(true);
     }
     let version = version_among(scan.found.as_slice(), &read.key);

@@ -7,23 +7,23 @@ ghost use Rattle.sdb_types.specs.declared.record.Condition.TheVariants as condit
 ghost use Rattle.sdb_types.specs.declared.record.Request.TheVariants as ask;
 ghost use Rattle.sdb_record.specs.Coordinator.{coordinator_row_of};
 ghost use Rattle.sdb_record.specs.Meta.{is_moment as is_moment_lem};
-ghost use Rattle.sdb_record.specs.Moved.{is_unchanged as is_unchanged_lem, same_version as same_version_lem};
+ghost use Rattle.sdb_record.specs.Moved.{is_unchanged as is_unchanged_lem};
 ghost use Rattle.sdb_model.specs.Sql.{reads_word as reads_word_lem};
 ghost use Rattle.sdb_laws.specs.Lawful.{is_quiet as is_quiet_lem};
-ghost use Rattle.sdb_model.specs.Noted.{version_noted as version_noted_lem};
 ghost use Rattle.sdb_said.specs.Values.{note_of, same_request};
 ghost use Rattle.sdb_said.specs.Said.{told_in, open_in, stopped_in, owner_of};
 ghost use Rattle.sdb_lawful.specs.Rules.{fits_reply as fits_reply_lem, in_commit as in_commit_lem, begins_well, commits_well as commits_well_lem, takes_well, is_put as is_put_lem, puts_write as puts_write_lem, prepares_well, is_as_noted as is_as_noted_lem, are_as_noted as are_as_noted_lem, finds_noted as finds_noted_lem, checks_well, same_noted as same_noted_lem, agrees_at as agrees_at_lem, agrees as agrees_lem, is_note_checked as is_note_checked_lem, is_ready as is_ready_lem, decides_well, aborts_well, stops_well, are_shut as are_shut_lem, is_shut as is_shut_lem, is_left as is_left_lem};
 
-use crate::commit::{are_fine_notes, are_fine_writes, is_in_span, prepared_by, version_among};
+use crate::commit::{are_fine_notes, are_fine_writes, prepared_by};
 use sdb_model::{Answer, Event, Keyword};
 use sdb_record::{
-    Decision, Read, Scan, Write, condition_of, coordinator_row, has_version, version_of,
+    Decision, Read, Scan, Write, condition_of, coordinator_row, has_version, is_same_version,
+    version_of,
 };
 use sdb_said::{
     Note, Plan, Played, Role, Word, is_asked, is_begun, is_checked, is_deciding, is_open,
     is_past_prepares, is_same_key, is_same_request, is_same_span, is_stopped, is_taken, is_told,
-    moment_of, notes_of, owner, row_of, write_of, writes_of,
+    moment_of, notes_of, owner, row_of, version_among, version_noted, write_of, writes_of,
 };
 use sdb_sqltokens::reads_word;
 use sdb_types::{Condition, Key, NoMemory, Record, Reply, Request, State, TxId, Txt};
@@ -210,7 +210,7 @@ fn stands(found: Option<&Record>, version: Option<TxId>) -> bool
 fn is_as_noted(writes: &[Write], scan: &Scan, rows: &[Record], key: &Key) -> bool
     ensures { result ≡ is_as_noted_lem writes.now scan.now rows.now key.now }
 {
-    !is_in_span(&scan.span, key)
+    !scan.span.contains(key)
         || (write_of(writes, key).is_some()
             || stands(row_of(rows, key), version_among(scan.found.as_slice(), key)))
 }
@@ -273,43 +273,12 @@ pub fn may_check(past: &[Played], plans: &[Plan], event: &Event, id: TxId, i: us
     }
 }
 
-fn version_noted(note: &Note, key: &Key) -> Option<Option<TxId>>
-    ensures { result ≡ version_noted_lem (note_of note.now) key.now }
-{
-    match note {
-        Note::Got(read) => {
-            if is_same_key(&read.key, key) {
-                Some(read.version)
-            } else {
-                None
-            }
-        }
-        Note::Scanned(scan) => {
-            if is_in_span(&scan.span, key) {
-                Some(version_among(scan.found.as_slice(), key))
-            } else {
-                None
-            }
-        }
-    }
-}
-
-fn same_version(a: Option<TxId>, b: Option<TxId>) -> bool
-    ensures { result ≡ same_version_lem a b }
-{
-    match (a, b) {
-        (Some(a), Some(b)) => a.0 == b.0,
-        (None, None) => true,
-        _ => false,
-    }
-}
-
 fn same_noted(noted: Option<Option<TxId>>, base: Option<TxId>) -> bool
     ensures { result ≡ same_noted_lem noted base }
 {
     match noted {
         None => true,
-        Some(version) => same_version(version, base),
+        Some(version) => is_same_version(version, base),
     }
 }
 

@@ -8,7 +8,7 @@ ghost use Rattle.sdb_ordered.specs.Start.{span_start};
 ghost use Rattle.sdb_types.specs.declared.record.Condition.TheVariants.{Absent};
 ghost use Rattle.sdb_types.specs.declared.record.Request.TheVariants.{PutIf};
 ghost use Rattle.sdb_store.specs.Store.{Answers};
-ghost use Rattle.sdb_types.specs.Contents.{holds, record_at, record_of, in_span, rows_in, rows_among};
+ghost use Rattle.sdb_types.specs.Contents.{holds, record_at, record_of, rows_in, rows_among};
 
 use sdb_store::{Rows, holds_of_columns};
 use sdb_types::{
@@ -42,19 +42,6 @@ impl Model for Tree {
     ghost coded = { coded_contents };
 
     ghost view = { λ t. map.from_entries t.rows.entries };
-}
-
-/// Whether a key lies in a span. Takes no memory.
-pub fn lies_in(span: &Span, key: &Key) -> bool
-    ensures { result ≡ in_span span.now key.now }
-{
-    if span.table.cmp(&key.table).is_ne() {
-        return false;
-    }
-    match &span.partition {
-        Some(part) => part.cmp(&key.partition).is_eq(),
-        None => true,
-    }
 }
 
 // The least key of a span.
@@ -100,7 +87,7 @@ fn rows_of(alloc: Global, rows: &BTreeMap<Key, Columns>, span: &Span) -> Result<
     let start = start_of(alloc, span)?;
     let mut found = Seq::new(alloc);
     for (key, columns) in rows.range(start..) {
-        if !lies_in(span, key) {
+        if !span.contains(key) {
             break;
         }
         found.push(copied(key, columns)?)?;

@@ -9,7 +9,9 @@ ghost use Rattle.sdb_model.specs.declared.statement.Statement.TheVariants as sta
 use crate::tables::PlainTables;
 use sdb_model::{Answer, Delete, Insert, Refusal, Rows, Select, Statement, Test, Update};
 use sdb_record::{Image, Images};
-use sdb_rows::{inserted_key, named_columns, passes, passing, set_columns, shown_all, shown_names};
+use sdb_rows::{
+    cut, inserted_key, named_columns, passes, passing, set_columns, shown_all, shown_names,
+};
 use sdb_schema::{Catalog, Table};
 use sdb_types::{Columns, Duplicate, NoMemory, Seq, TableName};
 use std::alloc::Global;
@@ -81,31 +83,6 @@ fn sorted(alloc: Global, table: &Table, rows: &[Image]) -> Result<Images, NoMemo
         place(table, &mut found, row.copy()?)?;
     }
     Ok(found)
-}
-
-// The first n rows.
-fn first(n: i64, rows: &[Image]) -> &[Image]
-    ensures { result.now ≡ cut_lem (Some n) rows.now }
-{
-    let all = rows.len();
-    if n < 0 {
-        return &[];
-    }
-    let count = n as u64;
-    if count < all as u64 {
-        &rows[..count as usize]
-    } else {
-        rows
-    }
-}
-
-fn cut(limit: Option<i64>, rows: &[Image]) -> &[Image]
-    ensures { result.now ≡ cut_lem limit rows.now }
-{
-    match limit {
-        None => rows,
-        Some(n) => first(n, rows),
-    }
 }
 
 fn selected(alloc: Global, table: &Table, select: &Select, rows: &[Image]) -> Result<Rows, NoMemory>

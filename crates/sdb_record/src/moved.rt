@@ -5,17 +5,17 @@ ghost use Rattle.sdb_types.specs.Columns.{column};
 ghost use Rattle.sdb_types.specs.Contents.{has_value, is_version, tx_id};
 ghost use Rattle.sdb_types.specs.TxId.{id_text};
 ghost use Rattle.sdb_record.specs.Meta.{id_in};
-ghost use Rattle.sdb_record.specs.Moved.{condition_of, is_unchanged, version_of};
+ghost use Rattle.sdb_record.specs.Moved.{condition_of, is_unchanged, same_version, version_of};
 
 use crate::meta::id_of;
-use crate::part::find_text;
 use crate::roll::has_state;
-use sdb_types::{Columns, Condition, Record, State, TxId};
+use sdb_types::{Columns, Condition, Record, State, TxId, value_named};
 
-fn writer_of(columns: &Columns) -> Option<TxId>
+/// The transaction that wrote a record with these columns, where they name one.
+pub fn writer_of(columns: &Columns) -> Option<TxId>
     ensures { result ≡ id_in columns.now }
 {
-    id_of(find_text(columns.pairs(), "tx_id"))
+    id_of(value_named(columns.pairs(), "tx_id"))
 }
 
 fn is_written_by(columns: &Columns, id: TxId) -> bool
@@ -34,6 +34,17 @@ pub fn version_of(found: &Option<Record>) -> Option<TxId>
     match found {
         Some(rec) => writer_of(&rec.columns),
         None => None,
+    }
+}
+
+/// Whether two versions are the same: written by one transaction, or both of no record.
+pub fn is_same_version(a: Option<TxId>, b: Option<TxId>) -> bool
+    ensures { result ≡ same_version a b }
+{
+    match (a, b) {
+        (Some(a), Some(b)) => a.0 == b.0,
+        (None, None) => true,
+        _ => false,
     }
 }
 

@@ -1,12 +1,11 @@
 //! Names of columns, and the parts of a record that they stand in.
 ghost use Rattle.std.specs.Prelude.{◌≡◌, true, IfSome};
 ghost use Rattle.std.specs.Option.{option_copied};
-ghost use Rattle.sdb_types.specs.Columns.{column};
 ghost use Rattle.sdb_types.specs.Identifier.{is_name};
 ghost use Rattle.sdb_record.specs.Names.{is_meta, is_before, is_user, base_name, same_name};
 ghost use Rattle.sdb_record.specs.Inside.{meta_name, name_from, name_within, columns_of};
 
-use sdb_types::{Columns, Known, Pair, Value};
+use sdb_types::{Columns, Known, Value, value_named};
 
 /// A part of a record that holds metadata: its own columns, or the before image that it keeps.
 #[derive(Clone, Copy, Debug, PartialEq, Eq)]
@@ -125,15 +124,6 @@ impl Part {
     }
 }
 
-pub fn find_text<'a>(pairs: &'a [Pair], name: &str) -> Option<&'a Value>
-    ensures { option_copied result ≡ column pairs.now name.now }
-{
-    pairs
-        .iter()
-        .find(|pair| is_text(pair.name.as_str(), name))
-        .map(|pair| &pair.value)
-}
-
 /// The metadata column of this name.
 pub fn meta_column(name: &str) -> Option<MetaColumn>
     ensures { IfSome result (λ column. name.now ≡ meta_name column) }
@@ -150,5 +140,5 @@ pub fn meta_column(name: &str) -> Option<MetaColumn>
 pub fn value_within(columns: &Columns, part: Part, wanted: MetaColumn) -> Option<&Value>
     ensures { option_copied result ≡ column (columns_of part columns.now) (meta_name wanted) }
 {
-    find_text(columns.pairs(), wanted.text(part))
+    value_named(columns.pairs(), wanted.text(part))
 }

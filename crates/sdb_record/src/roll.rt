@@ -2,17 +2,18 @@
 ghost use Rattle.std.specs.Prelude.{◌≡◌, ◌≤◌, ◌++◌, [], ◌∷◌, map, length, true, IfOk, OnOk, string_bytes};
 ghost use Rattle.std.specs.Option.{option_copied};
 ghost use Rattle.sdb_types.specs.Columns.{are_columns};
-ghost use Rattle.sdb_types.specs.Contents.{state_number};
 ghost use Rattle.sdb_record.specs.Names.{before_name};
 ghost use Rattle.sdb_record.specs.Meta.{keep_identifiers, is_in, is_unresolved, is_taken};
 ghost use Rattle.sdb_record.specs.Parts.{with_columns, before_pair, own_columns, before_part, before_record, are_user_columns, are_short};
-ghost use Rattle.sdb_record.specs.Rolls.{prepared_record, forward_record, forward_columns, back_of, image_of, next_version, next_version_of, new_columns, new_meta, writer_columns, age_columns, base_columns, state_of_change, IsWrite};
+ghost use Rattle.sdb_record.specs.Rolls.{prepared_record, forward_record, forward_columns, back_of, image_of, next_version, next_version_of, new_columns, new_meta, writer_columns, age_columns, base_columns, is_tombstone as is_tombstone_lem, state_of_change, IsWrite};
 ghost use Rattle.sdb_types.specs.Identifier.{is_name};
 
 use crate::coordinator::{Decided, Decision};
-use crate::part::{Part, find_text, is_before_name, kept_name, meta_column};
+use crate::part::{Part, is_before_name, kept_name, meta_column};
 use crate::write::{Change, Write};
-use sdb_types::{Columns, Duplicate, Key, Known, Name, NoMemory, Pair, Record, State, TxId, Value};
+use sdb_types::{
+    Columns, Duplicate, Key, Known, Name, NoMemory, Pair, Record, State, TxId, Value, value_named,
+};
 use std::alloc::Global;
 
 /// What undoes an unresolved record: putting the record that stood before, or removing it.
@@ -99,22 +100,22 @@ fn base_part(alloc: Global, columns: &Columns) -> Result<Columns, NoMemory>
     Ok(base)
 }
 
-fn state_value(state: State) -> i32
-    ensures { result ≡ state_number state }
-{
-    match state {
-        State::Prepared => 1,
-        State::Deleted => 2,
-        State::Committed => 3,
-        State::Aborted => 4,
-    }
-}
-
+/// Whether the columns of a record have a state.
 pub fn has_state(columns: &Columns, state: State) -> bool
     ensures { result ≡ is_in state columns.now }
 {
-    match find_text(columns.pairs(), "tx_state") {
-        Some(value) => *value == Value::Int(state_value(state)),
+    match value_named(columns.pairs(), "tx_state") {
+        Some(value) => *value == Value::Int(state.number()),
+        None => false,
+    }
+}
+
+/// Whether a record marks that its row was deleted.
+pub fn is_tombstone(rec: &Record) -> bool
+    ensures { result ≡ is_tombstone_lem rec.now }
+{
+    match value_named(rec.columns.pairs(), "tx_tombstone") {
+        Some(value) => *value == Value::Bool(true),
         None => false,
     }
 }
@@ -228,7 +229,7 @@ fn set_writer(alloc: Global, columns: &mut Columns, id: TxId, state: State) -> R
 {
     let text = id.text(alloc)?;
     columns.set(Name::known(Known::TxId), Value::Text(text))?;
-    columns.set(Name::known(Known::TxState), Value::Int(state_value(state)))
+    columns.set(Name::known(Known::TxState), Value::Int(state.number()))
 }
 
 fn set_age(columns: &mut Columns, version: i32, now: i64) -> Result<(), NoMemory>
@@ -246,7 +247,7 @@ pub fn prepared(alloc: Global, write: &Write, id: TxId, now: i64) -> Result<Reco
     ensures { IfOk result (λ rec. rec ≡ prepared_record write.now id now) }
 {
     let base = base_pairs(&write.base);
-    let version = version_above(find_text(base, "tx_version"));
+    let version = version_above(value_named(base, "tx_version"));
     let mut columns = row_with_base(alloc, row_pairs(&write.change), base)?;
     set_writer(alloc, &mut columns, id, state_left(&write.change))?;
     set_age(&mut columns, version, now)?;

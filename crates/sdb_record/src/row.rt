@@ -6,8 +6,10 @@ ghost use Rattle.sdb_record.specs.Coordinator.{coordinator_table as coordinator_
 
 use crate::coordinator::{Decided, Decision};
 use crate::meta::{MetaRefused, moment_of, read_id, refused};
-use crate::part::{find_text, is_text};
-use sdb_types::{Columns, Key, Known, Name, NoMemory, Record, TableName, TxId, Value, Values};
+use crate::part::is_text;
+use sdb_types::{
+    Columns, Key, Known, Name, NoMemory, Record, TableName, TxId, Value, Values, value_named,
+};
 use std::alloc::Global;
 
 fn decision_value(decision: Decision) -> i32
@@ -65,7 +67,8 @@ pub fn coordinator_row(
     })
 }
 
-fn is_coordinator(table: &TableName) -> bool
+/// Whether a table is the coordinator's.
+pub fn is_coordinator(table: &TableName) -> bool
     ensures { result ≡ is_coordinator_table table.now }
 {
     is_text(table.ns.as_str(), "coordinator") && is_text(table.table.as_str(), "state")
@@ -112,10 +115,10 @@ pub fn decision_of(alloc: Global, row: &Record) -> Result<Decided, MetaRefused>
         return Err(refused(alloc, "tx_id"));
     }
     let pairs = row.columns.pairs();
-    let Some(created_at) = moment_of(find_text(pairs, "tx_created_at")) else {
+    let Some(created_at) = moment_of(value_named(pairs, "tx_created_at")) else {
         return Err(refused(alloc, "tx_created_at"));
     };
-    let Some(decision) = decision_of_value(find_text(pairs, "tx_state")) else {
+    let Some(decision) = decision_of_value(value_named(pairs, "tx_state")) else {
         return Err(refused(alloc, "tx_state"));
     };
     Ok(Decided {

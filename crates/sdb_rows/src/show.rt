@@ -1,7 +1,7 @@
 //! What is shown of rows.
-ghost use Rattle.std.specs.Prelude.{◌≡◌, IfOk, map};
+ghost use Rattle.std.specs.Prelude.{◌≡◌, IfOk, Some, map};
 ghost use Rattle.sdb_model.specs.Rows.{value_of};
-ghost use Rattle.sdb_model.specs.Exec.{shown_names as shown_names_lem};
+ghost use Rattle.sdb_model.specs.Exec.{cut as cut_lem, shown_names as shown_names_lem};
 
 use crate::read::value_at;
 use sdb_model::Rows;
@@ -64,4 +64,30 @@ pub fn shown_all(
         found.push(shown(alloc, table, names, row)?)?;
     }
     Ok(found)
+}
+
+// The first n rows.
+fn first(n: i64, rows: &[Image]) -> &[Image]
+    ensures { result.now ≡ cut_lem (Some n) rows.now }
+{
+    let all = rows.len();
+    if n < 0 {
+        return &[];
+    }
+    let count = n as u64;
+    if count < all as u64 {
+        &rows[..count as usize]
+    } else {
+        rows
+    }
+}
+
+/// The first rows, as many as a limit lets pass, or all where there is none.
+pub fn cut(limit: Option<i64>, rows: &[Image]) -> &[Image]
+    ensures { result.now ≡ cut_lem limit rows.now }
+{
+    match limit {
+        None => rows,
+        Some(n) => first(n, rows),
+    }
 }

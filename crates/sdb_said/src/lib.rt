@@ -7,14 +7,16 @@ mod played;
 mod records;
 mod same;
 
-pub use plan::{Note, Plan, moment_of, notes_of, write_of, writes_of};
+pub use plan::{
+    Note, Plan, moment_of, notes_of, version_among, version_noted, write_of, writes_of,
+};
 pub use played::{
     Played, Role, Word, is_asked, is_begun, is_checked, is_dead, is_deciding, is_met_once, is_open,
     is_past_prepares, is_risked, is_stopped, is_taken, is_told, is_won, owner,
 };
 pub use records::{
-    decided, find_text, is_committed, is_forward, is_held_by, is_kept_in, is_settled, keeps_none,
-    kept_writer, moments, row_of, settles, settles_gone, shown, shows_abort, shows_bad_row,
-    shows_commit, writer,
+    decided, is_committed, is_forward, is_held_by, is_kept_in, is_settled, keeps_none, kept_writer,
+    moments, row_of, settles, settles_gone, shown, shows_abort, shows_bad_row, shows_commit,
+    writer,
 };
 pub use same::{is_same_key, is_same_record, is_same_request, is_same_span};

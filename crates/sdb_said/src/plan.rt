@@ -1,7 +1,8 @@
 //! What transactions go into their COMMITs with.
 ghost use Rattle.std.specs.Prelude.{◌≡◌, find};
 ghost use Rattle.std.specs.Option.{option_copied};
-ghost use Rattle.sdb_said.specs.Values.{planned, writes_in, notes_in, moment_in, write_in};
+ghost use Rattle.sdb_model.specs.Noted.{same_key, version_among as version_among_lem, version_noted as version_noted_lem};
+ghost use Rattle.sdb_said.specs.Values.{note_of, planned, writes_in, notes_in, moment_in, write_in};
 
 use crate::same::is_same_key;
 use sdb_record::{Read, Scan, Write, Writes};
@@ -20,6 +21,44 @@ impl Drop for Note {
         match self {
             Note::Got(_) => {}
             Note::Scanned(_) => {}
+        }
+    }
+}
+
+fn read_of<'a>(found: &'a [Read], key: &Key) -> Option<&'a Read>
+    ensures { option_copied result ≡ find (λ r. same_key r.key key.now) found.now }
+{
+    found.iter().find(|read| is_same_key(&read.key, key))
+}
+
+/// The version that a scan found at a key.
+pub fn version_among(found: &[Read], key: &Key) -> Option<TxId>
+    ensures { result ≡ version_among_lem found.now key.now }
+{
+    match read_of(found, key) {
+        Some(read) => read.version,
+        None => None,
+    }
+}
+
+/// What a noted read says of a key: nothing, or the version found there, none where there was no record.
+pub fn version_noted(note: &Note, key: &Key) -> Option<Option<TxId>>
+    ensures { result ≡ version_noted_lem (note_of note.now) key.now }
+{
+    match note {
+        Note::Got(read) => {
+            if is_same_key(&read.key, key) {
+                Some(read.version)
+            } else {
+                None
+            }
+        }
+        Note::Scanned(scan) => {
+            if scan.span.contains(key) {
+                Some(version_among(scan.found.as_slice(), key))
+            } else {
+                None
+            }
         }
     }
 }

@@ -2,7 +2,6 @@
 ghost use Rattle.std.specs.Prelude.{◌≡◌, ◌&&◌, ◌||◌, not, IfOk, OnOk, is_some, [], ◌++◌};
 ghost use Rattle.std.specs.Option.{option_copied};
 ghost use Rattle.std.specs.List.{list_any, cons_option};
-ghost use Rattle.sdb_types.specs.Columns.{column};
 ghost use Rattle.sdb_types.specs.declared.record.State.TheVariants.{Committed, Deleted};
 ghost use Rattle.sdb_record.specs.Ids.{id_of_text};
 ghost use Rattle.sdb_record.specs.Meta.{id_in, id_in_value, is_in};
@@ -17,9 +16,13 @@ ghost use Rattle.sdb_said.specs.Shown.{is_first as is_first_lem, with_rows, with
 use crate::played::Played;
 use crate::same::{is_same_key, is_same_record};
 use sdb_model::Event;
-use sdb_record::{Decided, Decision, coordinator_key, decision_of, rolled_forward};
+use sdb_record::{
+    Decided, Decision, coordinator_key, decision_of, has_state, is_tombstone, rolled_forward,
+    writer_of,
+};
 use sdb_types::{
-    Columns, Duplicate, Key, NoMemory, Pair, Record, Records, Reply, Seq, TxId, Txt, Value,
+    Columns, Duplicate, Key, NoMemory, Pair, Record, Records, Reply, Seq, State, TxId, Txt, Value,
+    value_named,
 };
 use std::alloc::Global;
 
@@ -101,16 +104,6 @@ fn is_text(name: &str, text: &str) -> bool
     name.cmp(text).is_eq()
 }
 
-/// The value of the column of this name.
-pub fn find_text<'a>(pairs: &'a [Pair], name: &str) -> Option<&'a Value>
-    ensures { option_copied result ≡ column pairs.now name.now }
-{
-    pairs
-        .iter()
-        .find(|pair| is_text(pair.name.as_str(), name))
-        .map(|pair| &pair.value)
-}
-
 fn read_id(text: &Txt) -> Option<TxId>
     ensures { result ≡ id_of_text text.now }
 {
@@ -130,14 +123,14 @@ fn id_of(value: Option<&Value>) -> Option<TxId>
 pub fn writer(rec: &Record) -> Option<TxId>
     ensures { result ≡ id_in rec.now.columns }
 {
-    id_of(find_text(rec.columns.pairs(), "tx_id"))
+    writer_of(&rec.columns)
 }
 
 /// The transaction that wrote the record which a before image keeps.
 pub fn kept_writer(columns: &Columns) -> Option<TxId>
     ensures { result ≡ kept_writer_lem columns.now }
 {
-    id_of(find_text(columns.pairs(), "before_tx_id"))
+    id_of(value_named(columns.pairs(), "before_tx_id"))
 }
 
 fn is_writer(writer: Option<TxId>, id: TxId) -> bool
@@ -153,34 +146,19 @@ fn is_writer(writer: Option<TxId>, id: TxId) -> bool
 pub fn is_committed(rec: &Record) -> bool
     ensures { result ≡ is_in Committed rec.now.columns }
 {
-    match find_text(rec.columns.pairs(), "tx_state") {
-        Some(value) => *value == Value::Int(3),
-        None => false,
-    }
+    has_state(&rec.columns, State::Committed)
 }
 
 fn is_deleted(rec: &Record) -> bool
     ensures { result ≡ is_in Deleted rec.now.columns }
 {
-    match find_text(rec.columns.pairs(), "tx_state") {
-        Some(value) => *value == Value::Int(2),
-        None => false,
-    }
-}
-
-fn is_tombstone(rec: &Record) -> bool
-    ensures { result ≡ is_tombstone_lem rec.now }
-{
-    match find_text(rec.columns.pairs(), "tx_tombstone") {
-        Some(value) => *value == Value::Bool(true),
-        None => false,
-    }
+    has_state(&rec.columns, State::Deleted)
 }
 
 fn keeps_tombstone(columns: &Columns) -> bool
     ensures { result ≡ keeps_tombstone_lem columns.now }
 {
-    match find_text(columns.pairs(), "before_tx_tombstone") {
+    match value_named(columns.pairs(), "before_tx_tombstone") {
         Some(value) => *value == Value::Bool(true),
         None => false,
     }

@@ -116,7 +116,8 @@ fn find_listed_twice(columns: &[Column]) -> Option<&Name>
     None
 }
 
-fn is_listed(names: &[Name], name: &Name) -> bool
+/// Whether a name is among these.
+pub fn is_listed(names: &[Name], name: &Name) -> bool
     ensures { result ≡ is_among names.now name.now }
 {
     names.iter().any(|other| name.cmp(other).is_eq())

@@ -5,9 +5,10 @@ ghost use Rattle.std.specs.List.{list_all, list_any};
 ghost use Rattle.sdb_record.specs.Names.{same_name};
 ghost use Rattle.sdb_types.specs.Columns.{column};
 ghost use Rattle.sdb_schema.specs.declared.row.RowRefused.TheVariants.{NoMemory as OutOfMemory};
-ghost use Rattle.sdb_schema.specs.Table.{is_among, is_key_column, kind_in, key_names, order_names};
+ghost use Rattle.sdb_schema.specs.Table.{is_key_column, kind_in, key_names, order_names};
 ghost use Rattle.sdb_schema.specs.Rows.{is_of_kind, is_in_range, is_of_column, is_value_of, are_values_of, null_in_key, wrong_type_among, out_of_range, row_refusal, is_stored_in, fits_table, RefusesRow};
 
+use crate::make::is_listed;
 use crate::table::{Column, Kind, Order, Table};
 use sdb_types::{Columns, Duplicate, Key, Name, NoMemory, Pair, Value};
 use thiserror::Error;
@@ -74,12 +75,6 @@ fn suits(columns: &[Column], name: &Name, value: &Value) -> bool
         Some(kind) => has_kind(kind, value),
         None => false,
     }
-}
-
-fn is_listed(names: &[Name], name: &Name) -> bool
-    ensures { result ≡ is_among names.now name.now }
-{
-    names.iter().any(|other| name.cmp(other).is_eq())
 }
 
 fn orders_by(orders: &[Order], name: &Name) -> bool

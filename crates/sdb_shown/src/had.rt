@@ -8,7 +8,7 @@ ghost use Rattle.sdb_shown.specs.Values.{row_then as row_then_lem};
 use crate::row::{copied, row_at, row_left};
 use crate::stores::{Stores, moment_at};
 use crate::turn::Turn;
-use sdb_calls::{Made, is_in_span};
+use sdb_calls::Made;
 use sdb_caused::is_same_said;
 use sdb_order::Said;
 use sdb_record::{Image, Images};
@@ -25,7 +25,7 @@ fn reads_key(key: &Key, request: &Request) -> bool
 {
     match request {
         Request::Get(k) => is_same_key(k, key),
-        Request::Scan(span) => is_in_span(span, key),
+        Request::Scan(span) => span.contains(key),
         _ => false,
     }
 }

@@ -1,24 +1,14 @@
 //! Whether a scan finds what was read before.
 ghost use Rattle.std.specs.Prelude.{◌≡◌, IfOk, find};
 ghost use Rattle.std.specs.Option.{option_copied};
-ghost use Rattle.sdb_record.specs.Moved.{same_version as same_version_lem, version_of as version_of_lem};
+ghost use Rattle.sdb_record.specs.Moved.{version_of as version_of_lem};
 ghost use Rattle.sdb_snapshot.specs.Noted.{base_at, reads_of};
 ghost use Rattle.sdb_snapshot.specs.Held.{differs_from};
 
 use crate::notes::Notes;
-use sdb_record::{Read, Reads, version_of};
+use sdb_record::{Read, Reads, is_same_version, version_of, writer_of};
 use sdb_types::{Duplicate, Key, NoMemory, Record, TxId};
 use std::alloc::Global;
-
-fn same_version(a: Option<TxId>, b: Option<TxId>) -> bool
-    ensures { result ≡ same_version_lem a b }
-{
-    match (a, b) {
-        (Some(a), Some(b)) => a.0 == b.0,
-        (None, None) => true,
-        _ => false,
-    }
-}
 
 // The version of what was found at a key, none where it was not read.
 fn version_at(notes: &Notes, key: &Key) -> Option<TxId>
@@ -35,7 +25,7 @@ fn differs(notes: &Notes, now: &Notes, key: &Key) -> bool
     ensures { result ≡ differs_from notes.now now.now key.now }
 {
     match notes.get(key) {
-        Some(noted) => !same_version(version_of(noted), version_at(now, key)),
+        Some(noted) => !is_same_version(version_of(noted), version_at(now, key)),
         None => false,
     }
 }
@@ -58,10 +48,9 @@ pub fn versions_of(alloc: Global, records: &[Record]) -> Result<Reads, NoMemory>
 {
     let mut reads = Reads::new(alloc);
     for rec in records {
-        let found = Some(rec.copy()?);
         reads.push(Read {
             key: rec.key.copy()?,
-            version: version_of(&found),
+            version: writer_of(&rec.columns),
         })?;
     }
     Ok(reads)

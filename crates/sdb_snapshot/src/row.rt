@@ -1,43 +1,13 @@
 //! The rows that records show.
-ghost use Rattle.std.specs.Prelude.{◌≡◌, IfOk, OnOk, true};
+ghost use Rattle.std.specs.Prelude.{◌≡◌, IfOk, OnOk};
 ghost use Rattle.std.specs.Option.{option_copied};
-ghost use Rattle.sdb_types.specs.Columns.{column};
-ghost use Rattle.sdb_types.specs.Contents.{has_value};
-ghost use Rattle.sdb_types.specs.declared.value.Value.TheVariants as literal;
 ghost use Rattle.sdb_record.specs.Parts.{user_columns as user_columns_lem, with_columns};
-ghost use Rattle.sdb_record.specs.Rolls.{is_tombstone as is_tombstone_lem, row_of_image, row_of_change as row_of_change_lem};
+ghost use Rattle.sdb_record.specs.Rolls.{row_of_image, row_of_change as row_of_change_lem};
 ghost use Rattle.sdb_snapshot.specs.Rows.{row_found};
 
-use sdb_record::{Change, is_user_name};
-use sdb_types::{Columns, Duplicate, NoMemory, Pair, Record, Value};
+use sdb_record::{Change, is_tombstone, is_user_name};
+use sdb_types::{Columns, Duplicate, NoMemory, Pair, Record};
 use std::alloc::Global;
-
-// The value of a column.
-fn value_named<'a>(columns: &'a Columns, name: &str) -> Option<&'a Value>
-    ensures { option_copied result ≡ column columns.now name.now }
-{
-    columns
-        .pairs()
-        .iter()
-        .find(|pair| pair.name.as_str().cmp(name).is_eq())
-        .map(|pair| &pair.value)
-}
-
-fn is_true(value: Option<&Value>) -> bool
-    ensures { result ≡ has_value (option_copied value.entry) (literal.Bool true) }
-{
-    match value {
-        Some(Value::Bool(b)) => *b,
-        _ => false,
-    }
-}
-
-// Whether a record marks that its row was deleted.
-fn is_tombstone(rec: &Record) -> bool
-    ensures { result ≡ is_tombstone_lem rec.now }
-{
-    is_true(value_named(&rec.columns, "tx_tombstone"))
-}
 
 // Sets a copy of each user column.
 fn lay_user(columns: &mut Columns, pairs: &[Pair]) -> Result<(), NoMemory>

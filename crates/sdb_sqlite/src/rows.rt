@@ -2,7 +2,7 @@
 ghost use Rattle.std.specs.Prelude.{◌≡◌, OnOk};
 ghost use Rattle.std.specs.List.Sorted.{IsPermutation, IsSortedByKey};
 ghost use Rattle.sdb_types.specs.Order.{key_cmp};
-ghost use Rattle.sdb_types.specs.Contents.{in_span as in_span_lem, starts_after as starts_after_lem, rise};
+ghost use Rattle.sdb_types.specs.Contents.{starts_after as starts_after_lem, rise};
 ghost use Rattle.sdb_codec.specs.Reading.{key_in};
 ghost use Rattle.sdb_sqlite.specs.Asked.{IsDue, IsInOrder, IsListedIn, row_record, row_keyed, rows_records};
 ghost use Rattle.sdb_sqlite.specs.Rows.{blob_of};
@@ -15,19 +15,6 @@ use sdb_types::{Key, NoMemory, Record, Records, Seq, Span};
 use sqlite::Row;
 use std::alloc::Global;
 
-/// Whether a key lies in a span. Takes no memory.
-fn lies_in(span: &Span, key: &Key) -> bool
-    ensures { result ≡ in_span_lem span.now key.now }
-{
-    if span.table.cmp(&key.table).is_ne() {
-        return false;
-    }
-    match &span.partition {
-        Some(part) => part.cmp(&key.partition).is_eq(),
-        None => true,
-    }
-}
-
 // The record of a row with that key.
 fn record_of_key(alloc: Global, span: &Span, bytes: &[u8], row: &Row) -> Result<Record, Stopped>
     ensures { IsDue (row_keyed span.now (key_in bytes.now) (blob_of (column row.now 1))) result }
@@ -37,7 +24,7 @@ fn record_of_key(alloc: Global, span: &Span, bytes: &[u8], row: &Row) -> Result<
         Err(ReadRefused::BadBytes(_)) => return Err(Stopped::Foreign),
         Err(ReadRefused::NoMemory) => return Err(Stopped::NoMemory),
     };
-    if !lies_in(span, &key) {
+    if !span.contains(&key) {
         return Err(Stopped::Foreign);
     }
     let body = blob_at(row, 1)?;

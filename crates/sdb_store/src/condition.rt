@@ -7,18 +7,7 @@ ghost use Rattle.sdb_types.specs.Columns.{column};
 ghost use Rattle.sdb_types.specs.TxId.{id_text};
 ghost use Rattle.sdb_types.specs.Contents.{holds as holds_lem, has_value, record_of, state_number, tx_id, tx_state};
 
-use sdb_types::{Columns, Condition, Record, State, TxId, Txt, Value};
-
-// The value of a column.
-fn value_named<'a>(columns: &'a Columns, name: &str) -> Option<&'a Value>
-    ensures { option_copied result ≡ column columns.now name.now }
-{
-    columns
-        .pairs()
-        .iter()
-        .find(|pair| pair.name.as_str().cmp(name).is_eq())
-        .map(|pair| &pair.value)
-}
+use sdb_types::{Columns, Condition, Record, State, TxId, Txt, Value, value_named};
 
 fn is_text_of(text: &Txt, number: u128) -> bool
     ensures { result ≡ has_value (Some (Text text.now)) (Text (id_text number)) }
@@ -38,22 +27,11 @@ fn is_id(value: Option<&Value>, id: TxId) -> bool
     }
 }
 
-fn number_of(state: State) -> i32
-    ensures { result ≡ state_number state }
-{
-    match state {
-        State::Prepared => 1,
-        State::Deleted => 2,
-        State::Committed => 3,
-        State::Aborted => 4,
-    }
-}
-
 fn is_state(value: Option<&Value>, state: State) -> bool
     ensures { result ≡ has_value (option_copied value.entry) (Int (state_number state)) }
 {
     match value {
-        Some(Value::Int(n)) => *n == number_of(state),
+        Some(Value::Int(n)) => *n == state.number(),
         _ => false,
     }
 }
@@ -62,7 +40,8 @@ fn is_state(value: Option<&Value>, state: State) -> bool
 fn is_version(id: TxId, state: State, columns: &Columns) -> bool
     ensures { result ≡ (has_value (column columns.now tx_id) (Text (id_text id.0)) && has_value (column columns.now tx_state) (Int (state_number state))) }
 {
-    is_id(value_named(columns, "tx_id"), id) && is_state(value_named(columns, "tx_state"), state)
+    is_id(value_named(columns.pairs(), "tx_id"), id)
+        && is_state(value_named(columns.pairs(), "tx_state"), state)
 }
 
 /// Whether a condition holds of the record at a key, or of there being none. Takes no memory.

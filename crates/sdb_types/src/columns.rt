@@ -72,6 +72,16 @@ fn find_value<'a>(pairs: &'a [Pair], name: &Name) -> Option<&'a Value>
         .map(|pair| &pair.value)
 }
 
+/// The value of the column whose name is this text, if there is one. Takes no memory.
+pub fn value_named<'a>(pairs: &'a [Pair], name: &str) -> Option<&'a Value>
+    ensures { option_copied result ≡ column pairs.now name.now }
+{
+    pairs
+        .iter()
+        .find(|pair| pair.name.as_str().cmp(name).is_eq())
+        .map(|pair| &pair.value)
+}
+
 fn put(pairs: &mut SharedSeq<Pair>, pair: Pair) -> Result<(), NoMemory>
     requires { are_columns pairs.old ≡ true }
     ensures ok { OnOk result (pairs.new ≡ with_column pair pairs.old) }

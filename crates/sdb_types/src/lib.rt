@@ -29,7 +29,7 @@ mod value;
 mod value_order;
 
 pub use calls::{CallCounter, Calls};
-pub use columns::Columns;
+pub use columns::{Columns, value_named};
 pub use exact::{Exact, same};
 pub use feed::Feed;
 pub use key::{Key, TableName};

@@ -1,5 +1,6 @@
 //! Records, and what a store is asked and answers.
 ghost use Rattle.std.specs.Prelude.{◌≡◌, IfOk};
+ghost use Rattle.sdb_types.specs.Contents.{in_span, state_number};
 
 use crate::columns::Columns;
 use crate::key::{Key, TableName};
@@ -69,6 +70,21 @@ impl Duplicate for Span {
     }
 }
 
+impl Span {
+    /// Whether a key is of the span's table, and of its partition where the span names one. Takes no memory.
+    pub fn contains(&self, key: &Key) -> bool
+        ensures { result ≡ in_span self.now key.now }
+    {
+        if self.table.cmp(&key.table).is_ne() {
+            return false;
+        }
+        match &self.partition {
+            Some(part) => part.cmp(&key.partition).is_eq(),
+            None => true,
+        }
+    }
+}
+
 /// The state of a transactional record or of a coordinator row.
 #[derive(Clone, Copy, Debug, PartialEq, Eq)]
 pub enum State {
@@ -81,6 +97,20 @@ pub enum State {
 impl Duplicate for State {
     fn copy(&self) -> Result<State, NoMemory> {
         Ok(*self)
+    }
+}
+
+impl State {
+    /// The state's number, from 1 to 4, as the column `tx_state` contains it.
+    pub fn number(self) -> i32
+        ensures { result ≡ state_number self }
+    {
+        match self {
+            State::Prepared => 1,
+            State::Deleted => 2,
+            State::Committed => 3,
+            State::Aborted => 4,
+        }
     }
 }
 

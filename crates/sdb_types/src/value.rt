@@ -49,7 +49,7 @@ impl Duplicate for Value {
             Value::Int(n) => Ok(Value::Int(*n)),
             Value::BigInt(n) => Ok(Value::BigInt(*n)),
             Value::Text(text) => Ok(Value::Text(text.copy()?)),
-            Value::Blob(bytes) => Ok(Value::Blob(bytes.copy()?)),
+            Value::Blob(bytes) => Ok(Value::Blob(bytes.copy_items()?)),
         }
     }
 }

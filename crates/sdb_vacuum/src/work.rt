@@ -7,8 +7,8 @@ ghost use Rattle.sdb_vacuum.specs.Rows.{open_first, sort_of};
 ghost use Rattle.sdb_vacuum.specs.declared.rows.Sort.TheVariants as sort;
 ghost use Rattle.sdb_vacuum.specs.Inside.{IsDoing, at_of, doing_pending};
 
-use crate::rows::{Found, first, is_tombstone};
-use sdb_record::meta_of;
+use crate::rows::{Found, first};
+use sdb_record::{is_tombstone, meta_of};
 use sdb_recover::{Recover, RecoverStep};
 use sdb_types::{Condition, Duplicate, Key, NoMemory, Record, Reply, Request, Span, State};
 use std::alloc::Global;

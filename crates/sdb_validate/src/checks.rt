@@ -2,39 +2,15 @@
 ghost use Rattle.std.specs.Prelude.{◌≡◌, IfOk, OnOk, true, ◌++◌, filter, not, map, is_some};
 ghost use Rattle.std.specs.Option.{option_copied};
 ghost use Rattle.std.specs.FinMap as fin;
-ghost use Rattle.sdb_types.specs.Contents.{in_span};
 ghost use Rattle.sdb_types.specs.declared.key.Key.{Key as KeyValue};
-ghost use Rattle.sdb_record.specs.Moved.{version_of as version_lem, same_version};
+ghost use Rattle.sdb_record.specs.Moved.{version_of as version_lem};
 ghost use Rattle.sdb_phases.specs.Checks.{with_reads, with_write, with_writes, wishes as wishes_lem, wanted, wished_version, is_written, check_of_read, check_of_scan, checks_of};
 
 use crate::key_map::WishMap;
 use sdb_phases::{Check, Checks, Target, Wish};
-use sdb_record::{Read, Reads, Scan, Scans, Write, Writes, version_of};
+use sdb_record::{Read, Reads, Scan, Scans, Write, Writes, is_same_version, version_of};
 use sdb_types::{Duplicate, Key, NoMemory, Record, Request, Seq, Span, TxId};
 use std::alloc::Global;
-
-/// Whether a key lies in a span. Takes no memory.
-pub fn lies_in(span: &Span, key: &Key) -> bool
-    ensures { result ≡ in_span span.now key.now }
-{
-    if span.table.cmp(&key.table).is_ne() {
-        return false;
-    }
-    match &span.partition {
-        Some(part) => part.cmp(&key.partition).is_eq(),
-        None => true,
-    }
-}
-
-fn is_same(a: Option<TxId>, b: Option<TxId>) -> bool
-    ensures { result ≡ same_version a b }
-{
-    match (a, b) {
-        (None, None) => true,
-        (Some(a), Some(b)) => a.0 == b.0,
-        _ => false,
-    }
-}
 
 // Whether the base of a write has the version that is wished at its key.
 fn is_based(wish: Option<&Wish>, base: &Option<Record>) -> bool
@@ -42,7 +18,7 @@ fn is_based(wish: Option<&Wish>, base: &Option<Record>) -> bool
 {
     match wish {
         None => version_of(base).is_none(),
-        Some(Wish::Unchanged(version)) => is_same(version_of(base), *version),
+        Some(Wish::Unchanged(version)) => is_same_version(version_of(base), *version),
         Some(Wish::Based(same)) => *same,
     }
 }
@@ -60,7 +36,7 @@ fn put_reads(wishes: &mut WishMap, reads: &[Read]) -> Result<(), NoMemory>
 fn put_write(wishes: &mut WishMap, span: &Span, write: &Write) -> Result<(), NoMemory>
     ensures { OnOk result (wishes.new ≡ with_write span.now write.now wishes.old) }
 {
-    if lies_in(span, &write.key) {
+    if span.contains(&write.key) {
         let same = is_based(wishes.find(&write.key), &write.base);
         wishes.insert(&write.key, Wish::Based(same))?;
     }

@@ -7,6 +7,5 @@ pub mod laws;
 mod rescan;
 mod validate;
 
-pub use checks::lies_in;
 pub use sdb_phases::ValidateStep;
 pub use validate::Validate;

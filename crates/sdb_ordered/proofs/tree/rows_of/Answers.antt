@@ -9,7 +9,7 @@ use Rattle.sdb_types.specs.declared.key.Key.{Key}
 use Rattle.sdb_types.specs.declared.pair.Pair.{Pair}
 use Rattle.sdb_ordered.proofs.SpanLemmas.{is_from, rows_from, stands_from, all_found, all_passed, StandsFrom}
 use Rattle.sdb_ordered.proofs.tree.rows_of.Goals as goal
-use Rattle.sdb_ordered.proofs.tree.rows_of.Goals.{in-None, in-Some+then-not-lies_in}
+use Rattle.sdb_ordered.proofs.tree.rows_of.Goals.{in-None, in-Some+then-not-contains}
 
 pub loop-key-init : goal.loop-key-init
 loop-key-init c =
@@ -28,5 +28,5 @@ returns-clause-rows c =
     let told = c.loop-key.invariant.told in
     elim c.match-next.branch [
       | in-None w ↦ all_found span c.loop-key.found _ c.loop-key.key-iterator w.in-None.ensures.steps.0 told
-      | in-Some+then-not-lies_in w ↦ all_passed span c.loop-key.found _ c.loop-key.key-iterator (deref_pair (w.in-Some.key, w.in-Some.columns)) c.next.new.self w.in-Some.ensures.steps c.loop-key.invariant.stands (sym w.if-not-lies_in.ensures) told
+      | in-Some+then-not-contains w ↦ all_passed span c.loop-key.found _ c.loop-key.key-iterator (deref_pair (w.in-Some.key, w.in-Some.columns)) c.next.new.self w.in-Some.ensures.steps c.loop-key.invariant.stands (sym w.if-not-contains.ensures) told
     ]

@@ -15,4 +15,4 @@ row_with_base-requires-clause-user c =
 
 pub returns : goal.returns
 returns c =
-    as_prepared c.args.write.now c.args.id c.args.now c.in_ok-copy.field-0 c.base_pairs-base.result.now c.row_pairs.result.now c.in_ok-columns.columns c.set_writer.new.columns c.set_age.new.columns (option_copied c.find_text.result) c.version_above-version.result c.state_left.result (search rules) c.base_pairs-base.ensures.pairs c.row_pairs.ensures.pairs c.find_text.ensures c.version_above-version.ensures c.state_left.ensures (search rules) c.in_ok-set_writer.ensures (search rules)
+    as_prepared c.args.write.now c.args.id c.args.now c.in_ok-copy.field-0 c.base_pairs-base.result.now c.row_pairs.result.now c.in_ok-columns.columns c.set_writer.new.columns c.set_age.new.columns (option_copied c.value_named.result) c.version_above-version.result c.state_left.result (search rules) c.base_pairs-base.ensures.pairs c.row_pairs.ensures.pairs c.value_named.ensures c.version_above-version.ensures c.state_left.ensures (search rules) c.in_ok-set_writer.ensures (search rules)
