@@ -3,7 +3,7 @@ use crate::machine::{Machine, Told, conflict_at, plays_out};
 use crate::replies::{Answer, reply_to};
 use sdb_record::{Change, Read, Reads, Scan, Scans, Write, Writes, version_of};
 use sdb_types::{NameRefused, Record, Reply, Request, Seq, TxId};
-use sdb_validate::{Validate, ValidateStep, lies_in};
+use sdb_validate::{Validate, ValidateStep};
 use std::alloc::Global;
 use std::test::Fail;
 use test_builders::{Cell, account, account_with, all_hold, span_of};
@@ -153,7 +153,7 @@ fn writes_of(alloc: Global, base: Option<Version>) -> Result<Writes, NameRefused
 // The pending rescan finds one row.
 fn find_one(alloc: Global, validate: &mut Validate, row: Record) -> Result<Told, NameRefused> {
     match validate.request() {
-        Some(Request::Scan(span)) if lies_in(span, &row.key) => {}
+        Some(Request::Scan(span)) if span.contains(&row.key) => {}
         _ => return Ok(Told::Other),
     }
     let mut rows = Seq::new(alloc);
@@ -172,7 +172,7 @@ fn find_two(
         return Ok(Told::Other);
     }
     match validate.request() {
-        Some(Request::Scan(span)) if lies_in(span, &first.key) && lies_in(span, &second.key) => {}
+        Some(Request::Scan(span)) if span.contains(&first.key) && span.contains(&second.key) => {}
         _ => return Ok(Told::Other),
     }
     let mut rows = Seq::new(alloc);
