@@ -1,6 +1,7 @@
 //! Names of columns, and the parts of a record that they stand in.
 ghost use Rattle.std.specs.Prelude.{◌≡◌, true, IfSome};
 ghost use Rattle.std.specs.Option.{option_copied};
+ghost use Rattle.sdb_types.specs.Columns.{column};
 ghost use Rattle.sdb_types.specs.Identifier.{is_name};
 ghost use Rattle.sdb_record.specs.Names.{is_meta, is_before, is_user, base_name, same_name};
 ghost use Rattle.sdb_record.specs.Inside.{meta_name, name_from, name_within, columns_of};
