@@ -5,22 +5,13 @@ ghost use Rattle.sdb_types.specs.Columns.{column};
 ghost use Rattle.sdb_types.specs.Contents.{has_value};
 ghost use Rattle.sdb_types.specs.declared.value.Value.TheVariants as literal;
 ghost use Rattle.sdb_record.specs.Rolls.{is_tombstone as is_tombstone_lem};
-ghost use Rattle.sdb_read.specs.Read.{kind_of};
 ghost use Rattle.sdb_vacuum.specs.Vacuum.{first_of};
-ghost use Rattle.sdb_vacuum.specs.Rows.{IsFound, found_as, sort_of};
+ghost use Rattle.sdb_vacuum.specs.Rows.{IsFound, found_as};
 
-use sdb_record::{MetaRefused, meta_of};
+use sdb_read::{Sort, sorted};
 use sdb_types::{Columns, Key, NoMemory, Record, Value};
 use std::alloc::Global;
 use std::collections::VecDeque;
-
-/// What a row is: a committed record, an unresolved one, or no record of a transaction.
-#[derive(Clone, Copy, Debug, PartialEq, Eq)]
-pub enum Sort {
-    Firm,
-    Open,
-    Bad,
-}
 
 /// The first of some rows that needs a call, or is no record of a transaction.
 #[derive(Debug, Drop)]
@@ -29,22 +20,6 @@ pub enum Found {
     Tombstone(Record),
     Unresolved(Record),
     Malformed(Key),
-}
-
-fn sorted(alloc: Global, row: &Record) -> Result<Sort, NoMemory>
-    ensures { IfOk result (λ sort. sort ≡ sort_of (kind_of row.now)) }
-{
-    match meta_of(alloc, row) {
-        Ok(meta) => {
-            if meta.is_committed() {
-                Ok(Sort::Firm)
-            } else {
-                Ok(Sort::Open)
-            }
-        }
-        Err(MetaRefused::BadMeta(_)) => Ok(Sort::Bad),
-        Err(MetaRefused::NoMemory) => Err(NoMemory),
-    }
 }
 
 // The value of a column.
