@@ -4,7 +4,7 @@ use Rattle.std.specs.FinMap.{empty}
 use Rattle.std.proofs.lemmas.Option.{slice_get_within}
 use Rattle.sdb_types.specs.Contents.{Contents}
 use Rattle.sdb_stores.specs.Shelf.{Attached, Shelf}
-use Rattle.sdb_app.specs.Run.{IsReplayed}
+use Rattle.sdb_app.specs.Run.{Ends, IsReplayed}
 use Rattle.scalardb.specs.Stores.{new_store, own_stores, IsPlayedOnOwn}
 
 passed : {T E : Type 0} (P : Type 0) (r : Result T E) → is_ok r ≡ true → OnOk r P → P
@@ -48,11 +48,15 @@ all_own r1 r2 r3 a b k A B K s0 s1 s2 t0 t1 t2 last first second third none ok1 
     by_place x y z (suc (suc zero)) h = z
     by_place x y z (suc (suc (suc n))) h = absurd (omega (arith, h))
 
+abbrev run_on : Attached → List Shelf → Option (List ℕ) → Option (List ℕ) → Option (List ℕ) → Option (List ℕ) → Ends
+run_on stores left old_input new_input old_output new_output =
+    record { old = stores; left = left; old_input = old_input; new_input = new_input; old_output = old_output; new_output = new_output }
+
 -- The headline, where each of the stores tells.
-pub played_on_own : (stores : Attached) (left : List Shelf) (old_input new_input old_output new_output : Option (List ℕ)) → AreOwn stores → IsReplayed stores left old_input new_input old_output new_output
+pub played_on_own : (stores : Attached) (left : List Shelf) (old_input new_input old_output new_output : Option (List ℕ)) → AreOwn stores → IsReplayed (run_on stores left old_input new_input old_output new_output)
     → IsPlayedOnOwn old_input new_input old_output new_output
 played_on_own stores left old_input new_input old_output new_output own h =
-    let it = subst (λ (ss : List Shelf). IsReplayed (record { places = stores.places; shelves = ss; tells = stores.tells }) left old_input new_input old_output new_output) own.are h in (
+    let it = subst (λ (ss : List Shelf). IsReplayed (run_on (record { places = stores.places; shelves = ss; tells = stores.tells }) left old_input new_input old_output new_output)) own.are h in (
       left,
       record {
         script = it.script;

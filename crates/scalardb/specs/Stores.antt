@@ -19,4 +19,4 @@ own_attached = record { places = []; shelves = own_stores; tells = λ _. Unit {0
 -- A script over the stores of the program was played on them, and each of them tells what it holds: so whatever the script places
 -- on which of them, the report is that of a run of the script.
 abbrev pub IsPlayedOnOwn : Option (List ℕ) → Option (List ℕ) → Option (List ℕ) → Option (List ℕ) → Type 0
-IsPlayedOnOwn old_input new_input old_output new_output = (left : List Shelf) × IsReplayed own_attached left old_input new_input old_output new_output
+IsPlayedOnOwn old_input new_input old_output new_output = (left : List Shelf) × IsReplayed (record { old = own_attached; left = left; old_input = old_input; new_input = new_input; old_output = old_output; new_output = new_output })

@@ -48,7 +48,7 @@ use Rattle.sdb_world.specs.Explained.{IsExplained, IsShown}
 use Rattle.sdb_world.proofs.Broken.{breaks_after}
 use Rattle.sdb_app.specs.declared.status.Status.{Status}
 use Rattle.sdb_app.specs.declared.status.Status.TheVariants as status
-use Rattle.sdb_app.specs.Run.{AreReady, TellOf, IsFirstFound, IsOutcome, IsPlayed, IsPrefixWritten, IsReadAnd, IsReplayed, IsReported, IsScriptRead, Stops, is_unplayed}
+use Rattle.sdb_app.specs.Run.{AreReady, Ends, TellOf, IsFirstFound, IsOutcome, IsPlayed, IsPrefixWritten, IsReadAnd, IsReplayed, IsReported, IsScriptRead, Stops, is_unplayed}
 use Rattle.sdb_script.specs.Begun.{ArePlaces}
 use Rattle.sdb_app.proofs.Placing.{fit_for}
 
@@ -223,27 +223,27 @@ made_of script before mid new o same telling made = record {
 }
 
 -- the report of a script that was read was written
-pub replayed : (script : Script) (names : List Name) (before mid : Attached) (new : List Counted) (old_input new_input old new_output : Option (List ℕ)) (text bytes : List ℕ) → names ≡ names_of mid.shelves → mid.shelves ≡ before.shelves → ((at : ℕ) → before.tells at → mid.tells at) → IsScriptRead names old_input new_input script
-    → bytes ≡ text → Appends bytes old new_output → IsReported script mid new text → IsReplayed before new old_input new_input old new_output
-replayed script names before mid new old_input new_input old new_output text bytes named same telling h is written r = record {
+pub replayed : (script : Script) (names : List Name) (mid : Attached) (run : Ends) (text bytes : List ℕ) → names ≡ names_of mid.shelves → mid.shelves ≡ run.old.shelves → ((at : ℕ) → run.old.tells at → mid.tells at) → IsScriptRead names run.old_input run.new_input script
+    → bytes ≡ text → Appends bytes run.old_output run.new_output → IsReported script mid run.left text → IsReplayed run
+replayed script names mid run text bytes named same telling h is written r = record {
   script = script;
-  read = subst (λ (ns : List Name). IsScriptRead ns old_input new_input script) (named ∙ ap names_of same) h;
+  read = subst (λ (ns : List Name). IsScriptRead ns run.old_input run.new_input script) (named ∙ ap names_of same) h;
   outcome = r.outcome;
-  made = made_of script before mid new r.outcome same telling r.made;
-  written = subst (λ (x : List ℕ). Appends x old new_output) (is ∙ r.text) written;
+  made = made_of script run.old mid run.left r.outcome same telling r.made;
+  written = subst (λ (x : List ℕ). Appends x run.old_output run.new_output) (is ∙ r.text) written;
 }
 
 -- a prefix of it
-pub prefix_replayed : (script : Script) (names : List Name) (before mid : Attached) (new : List Counted) (old_input new_input old new_output : Option (List ℕ)) (text bytes : List ℕ) → names ≡ names_of mid.shelves → mid.shelves ≡ before.shelves → ((at : ℕ) → before.tells at → mid.tells at) → IsScriptRead names old_input new_input script
-    → bytes ≡ text → (k : ℕ) × (k ≤ length bytes) × Appends (take k bytes) old new_output → IsReported script mid new text → IsPrefixWritten before new old_input new_input old new_output
-prefix_replayed script names before mid new old_input new_input old new_output text bytes named same telling h is w r = record {
+pub prefix_replayed : (script : Script) (names : List Name) (mid : Attached) (run : Ends) (text bytes : List ℕ) → names ≡ names_of mid.shelves → mid.shelves ≡ run.old.shelves → ((at : ℕ) → run.old.tells at → mid.tells at) → IsScriptRead names run.old_input run.new_input script
+    → bytes ≡ text → (k : ℕ) × (k ≤ length bytes) × Appends (take k bytes) run.old_output run.new_output → IsReported script mid run.left text → IsPrefixWritten run
+prefix_replayed script names mid run text bytes named same telling h is w r = record {
   script = script;
-  read = subst (λ (ns : List Name). IsScriptRead ns old_input new_input script) (named ∙ ap names_of same) h;
+  read = subst (λ (ns : List Name). IsScriptRead ns run.old_input run.new_input script) (named ∙ ap names_of same) h;
   outcome = r.outcome;
-  made = made_of script before mid new r.outcome same telling r.made;
+  made = made_of script run.old mid run.left r.outcome same telling r.made;
   size = w.0;
   within = subst (λ (x : List ℕ). w.0 ≤ length x) (is ∙ r.text) w.1;
-  written = subst (λ (x : List ℕ). Appends (take w.0 x) old new_output) (is ∙ r.text) w.2;
+  written = subst (λ (x : List ℕ). Appends (take w.0 x) run.old_output run.new_output) (is ∙ r.text) w.2;
 }
 
 -- what stopped a script that was read

@@ -23,22 +23,18 @@ use Rattle.sdb_world.specs.Explained.{IsExplained}
 use Rattle.sdb_world.specs.World.{WorldAt}
 use Rattle.sdb_world.specs.Linked.{HaveCauses, IsLinked}
 use Rattle.sdb_world.specs.Played.{HasNotPlayed, HasPlayed, HasPlayedOn, IsOutcomeOf, IsPlayExplained}
-use Rattle.sdb_world.specs.Step.{HasCome}
+use Rattle.sdb_world.specs.Step.{HasFollowed}
 use Rattle.sdb_world.proofs.Broken.{breaks_more, breaks_still}
 use Rattle.sdb_app.specs.Run.{AreReady, Stops, status_of_call, status_of_closing}
 use Rattle.sdb_stores.specs.Shelf.{HaveRisen}
 
--- a world came from its beginning to this by all moves of its script
-abbrev Came : Attached → Attached → WorldAt → WorldAt → Type 0
-Came old new w v = HasCome (AreMoved w.script.clients w.script.moves w.events) old new w v
-
-pub has_followed : (old new : Attached) (script : Script) (w v : WorldAt) → w.script ≡ script → w.events ≡ [] → Came old new w v → Follows script.clients script.moves v.events
+pub has_followed : (old new : Attached) (script : Script) (w v : WorldAt) → w.script ≡ script → w.events ≡ [] → HasFollowed old new w v → Follows script.clients script.moves v.events
 has_followed old new script w v same none came =
     let all : v.events ≡ came.es = came.gone.events ∙ ap (λ (xs : List Event). xs ++ came.es) none in
     subst (λ (xs : List Event). Follows script.clients script.moves xs) (sym all)
     (subst (λ (s : Script). AreMoved s.clients s.moves [] came.es) same (subst (λ (xs : List Event). AreMoved w.script.clients w.script.moves xs came.es) none came.so))
 
-has_played : (old new : Attached) (script : Script) (w v : WorldAt) → w.script ≡ script → w.events ≡ [] → IsLinked w → Came old new w v → AreReady script old → HasPlayed v (shown old.shelves) (shown new.shelves)
+has_played : (old new : Attached) (script : Script) (w v : WorldAt) → w.script ≡ script → w.events ≡ [] → IsLinked w → HasFollowed old new w v → AreReady script old → HasPlayed v (shown old.shelves) (shown new.shelves)
 has_played old new script w v same none linked came ready =
     let before : List Shelf = shown old.shelves in
     let now : List Shelf = shown new.shelves in
@@ -53,7 +49,7 @@ has_played old new script w v same none linked came ready =
       nothing = subst (λ (s : Script). HoldAs s.catalog s.places before empty) (sym vs) ready.nothing;
     }
 
-module _ (script : Script) (w v : WorldAt) (old mid : Attached) (same : w.script ≡ script) (none : w.events ≡ []) (linked : IsLinked w) (came : Came old mid w v) (goes : GoOn old mid) where
+module _ (script : Script) (w v : WorldAt) (old mid : Attached) (same : w.script ≡ script) (none : w.events ≡ []) (linked : IsLinked w) (came : HasFollowed old mid w v) (goes : GoOn old mid) where
   vs : v.script ≡ script
   vs = came.gone.script ∙ same
 

@@ -73,23 +73,42 @@ pub record IsOutcome (telling : Type 0) (script : Script) (old new : List Counte
   pub broken : BreaksWithin [] outcome.events old new
   pub played : telling → IsPlayed script (shown old) (shown new) outcome
 
+-- What a run begins with and ends with: the attached stores, and what they hold when it has ended; what remains of the input before and
+-- after it; and what the output contains before and after it.
+pub record Ends : Type 1 where
+  pub old : Attached
+  pub left : List Counted
+  pub old_input : Option (List ℕ)
+  pub new_input : Option (List ℕ)
+  pub old_output : Option (List ℕ)
+  pub new_output : Option (List ℕ)
+
+-- the ends of a run, of its registry, its input and its output at the entry and at the exit
+abbrev pub ends : {S R W : Type 0} → (S → Attached) → (R → Option (List ℕ)) → (W → Option (List ℕ)) → S → S → R → R → W → W → Ends
+ends state remaining written s0 s1 r0 r1 w0 w1 =
+    record { old = state s0; left = (state s1).shelves; old_input = remaining r0; new_input = remaining r1; old_output = written w0; new_output = written w1 }
+
 -- The headline: the input is a script over the attached stores, and the report of one outcome of it was written, whole and nothing else.
-pub record IsReplayed (old : Attached) (left : List Counted) (old_input new_input old_output new_output : Option (List ℕ)) : Type 0 where
+pub record IsReplayed (run : Ends) : Type 0 where
   pub script : Script
-  pub read : IsScriptRead (names_of old.shelves) old_input new_input script
+  pub read : IsScriptRead (names_of run.old.shelves) run.old_input run.new_input script
   pub outcome : Outcome
-  pub made : IsOutcome (TellOf script old) script old.shelves left outcome
-  pub written : Appends (report_text_of outcome) old_output new_output
+  pub made : IsOutcome (TellOf script run.old) script run.old.shelves run.left outcome
+  pub written : Appends (report_text_of outcome) run.old_output run.new_output
 
 -- The same, but only a prefix of the report was written.
-pub record IsPrefixWritten (old : Attached) (left : List Counted) (old_input new_input old_output new_output : Option (List ℕ)) : Type 0 where
+pub record IsPrefixWritten (run : Ends) : Type 0 where
   pub script : Script
-  pub read : IsScriptRead (names_of old.shelves) old_input new_input script
+  pub read : IsScriptRead (names_of run.old.shelves) run.old_input run.new_input script
   pub outcome : Outcome
-  pub made : IsOutcome (TellOf script old) script old.shelves left outcome
+  pub made : IsOutcome (TellOf script run.old) script run.old.shelves run.left outcome
   pub size : ℕ
   pub within : size ≤ length (report_text_of outcome)
-  pub written : Appends (take size (report_text_of outcome)) old_output new_output
+  pub written : Appends (take size (report_text_of outcome)) run.old_output run.new_output
+
+-- Nothing was written, or a prefix of the report of a run.
+abbrev pub IsCutShort : Ends → Type 0
+IsCutShort run = (run.new_output ≡ run.old_output) ⊎ IsPrefixWritten run
 
 -- A script was read over these stores, and this is so of it where the stores of its tables tell what they hold.
 pub record IsReadAnd (stores : Attached) (old_input new_input : Option (List ℕ)) (P : Script → Type 0) : Type 0 where
@@ -102,8 +121,12 @@ pub record IsFirstFound (script : Script) (old new : List Shelf) (key : Key) : T
   pub first : first_key (opening_records script.catalog script.places old) ≡ Some key
   pub left : new ≡ old
 
-abbrev pub IsNotEmpty : Attached → List Counted → Option (List ℕ) → Option (List ℕ) → Key → Type 0
-IsNotEmpty old left old_input new_input key = IsReadAnd old old_input new_input (λ script. IsFirstFound script (shown old.shelves) (shown left) key)
+abbrev pub IsNotEmpty : Ends → Key → Type 0
+IsNotEmpty run key = IsReadAnd run.old run.old_input run.new_input (λ script. IsFirstFound script (shown run.old.shelves) (shown run.left) key)
+
+-- This is so of the key, where the program ends as not empty for one.
+abbrev pub IfNotEmpty : Status → (Key → Type 0) → Type 0
+IfNotEmpty s P = (key : Key) → s ≡ status.NotEmpty key → P key
 
 -- Some store of the script's tables does not tell what it holds.
 abbrev pub IsUntold : Attached → Option (List ℕ) → Option (List ℕ) → Type 0

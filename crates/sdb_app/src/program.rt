@@ -3,7 +3,7 @@ ghost use Rattle.std.specs.Prelude.{◌≡◌, ◌↔◌, ◌⊎◌, ◌<◌, �
 ghost use Rattle.sdb_types.specs.declared.key.Key.{Key};
 ghost use Rattle.sdb_types.specs.Bytes.{HasRisen};
 ghost use Rattle.sdb_stores.specs.Shelf.{HaveRisen, names_of, total_faults};
-ghost use Rattle.sdb_app.specs.Run.{is_replay as is_replay_lem, IsReplayed, IsPrefixWritten, IsNotEmpty, IsUntold, IsRefusedAs, IsScriptRead, IsTextRead, is_refusal, is_unplayed, refuses_input, status_of_text, stops_reading, writes_nothing};
+ghost use Rattle.sdb_app.specs.Run.{ends, is_replay as is_replay_lem, IfNotEmpty, IsCutShort, IsReplayed, IsPrefixWritten, IsNotEmpty, IsUntold, IsRefusedAs, IsScriptRead, IsTextRead, is_refusal, is_unplayed, refuses_input, status_of_text, stops_reading, writes_nothing};
 
 use crate::replay::replay;
 use crate::status::{InputFault, Status};
@@ -75,16 +75,16 @@ fn replay_input<S: Registry, R: Source, W: Sink>(
     ensures store_fault { result ≡ Status.StoreFault → HaveRisen (S.state stores.old).shelves (S.state stores.new).shelves }
     // A script was read. Where the stores of its tables tell what they hold, the record is the first in these tables, and the stores hold
     // what they held.
-    ensures not_empty { (key : Key) → result ≡ Status.NotEmpty key → IsNotEmpty (S.state stores.old) (S.state stores.new).shelves (R.remaining input.old) (R.remaining input.new) key }
+    ensures not_empty { IfNotEmpty result (IsNotEmpty (ends S.state R.remaining W.written stores.old stores.new input.old input.new output.old output.new)) }
     // A script was read, and some store of its tables doesn't tell what it holds.
     ensures bad_store { (key : Key) → result ≡ Status.BadStore key → IsUntold (S.state stores.old) (R.remaining input.old) (R.remaining input.new) }
     // A prefix of the report was written.
     ensures write_fault { result ≡ Status.WriteFault → HasRisen (W.faults output.old) (W.faults output.new) }
-    ensures prefix { result ≡ Status.WriteFault → IsPrefixWritten (S.state stores.old) (S.state stores.new).shelves (R.remaining input.old) (R.remaining input.new) (W.written output.old) (W.written output.new) }
+    ensures prefix { result ≡ Status.WriteFault → IsPrefixWritten (ends S.state R.remaining W.written stores.old stores.new input.old input.new output.old output.new) }
     // The headline.
-    ensures done { result ≡ Status.Done → IsReplayed (S.state stores.old) (S.state stores.new).shelves (R.remaining input.old) (R.remaining input.new) (W.written output.old) (W.written output.new) }
+    ensures done { result ≡ Status.Done → IsReplayed (ends S.state R.remaining W.written stores.old stores.new input.old input.new output.old output.new) }
     // Where memory ran out nothing was written, or a prefix of the report of a run.
-    ensures out_of_memory { result ≡ Status.NoMemory → (W.written output.new ≡ W.written output.old) ⊎ IsPrefixWritten (S.state stores.old) (S.state stores.new).shelves (R.remaining input.old) (R.remaining input.new) (W.written output.old) (W.written output.new) }
+    ensures out_of_memory { result ≡ Status.NoMemory → IsCutShort (ends S.state R.remaining W.written stores.old stores.new input.old input.new output.old output.new) }
     // The stores are as they were where no script was read.
     ensures unplayed { is_unplayed result ≡ true → (S.state stores.new).shelves ≡ (S.state stores.old).shelves }
     // Nothing is written before the run has ended.
@@ -139,16 +139,16 @@ pub fn run<S: Registry, R: Source, W: Sink, C: Clock, I: Ids>(
     ensures store_fault { result ≡ Status.StoreFault → HaveRisen (S.state stores.old).shelves (S.state stores.new).shelves }
     // A script was read. Where the stores of its tables tell what they hold, the record is the first in these tables, and the stores hold
     // what they held.
-    ensures not_empty { (key : Key) → result ≡ Status.NotEmpty key → IsNotEmpty (S.state stores.old) (S.state stores.new).shelves (R.remaining input.old) (R.remaining input.new) key }
+    ensures not_empty { IfNotEmpty result (IsNotEmpty (ends S.state R.remaining W.written stores.old stores.new input.old input.new output.old output.new)) }
     // A script was read, and some store of its tables doesn't tell what it holds.
     ensures bad_store { (key : Key) → result ≡ Status.BadStore key → IsUntold (S.state stores.old) (R.remaining input.old) (R.remaining input.new) }
     // A prefix of the report was written.
     ensures write_fault { result ≡ Status.WriteFault → HasRisen (W.faults output.old) (W.faults output.new) }
-    ensures prefix { result ≡ Status.WriteFault → IsPrefixWritten (S.state stores.old) (S.state stores.new).shelves (R.remaining input.old) (R.remaining input.new) (W.written output.old) (W.written output.new) }
+    ensures prefix { result ≡ Status.WriteFault → IsPrefixWritten (ends S.state R.remaining W.written stores.old stores.new input.old input.new output.old output.new) }
     // The headline.
-    ensures done { result ≡ Status.Done → IsReplayed (S.state stores.old) (S.state stores.new).shelves (R.remaining input.old) (R.remaining input.new) (W.written output.old) (W.written output.new) }
+    ensures done { result ≡ Status.Done → IsReplayed (ends S.state R.remaining W.written stores.old stores.new input.old input.new output.old output.new) }
     // Where memory ran out nothing was written, or a prefix of the report of a run.
-    ensures out_of_memory { result ≡ Status.NoMemory → (W.written output.new ≡ W.written output.old) ⊎ IsPrefixWritten (S.state stores.old) (S.state stores.new).shelves (R.remaining input.old) (R.remaining input.new) (W.written output.old) (W.written output.new) }
+    ensures out_of_memory { result ≡ Status.NoMemory → IsCutShort (ends S.state R.remaining W.written stores.old stores.new input.old input.new output.old output.new) }
     // The stores are as they were where no script was read.
     ensures unplayed { is_unplayed result ≡ true → (S.state stores.new).shelves ≡ (S.state stores.old).shelves }
     // Nothing is written before the run has ended.

@@ -6,3 +6,4 @@ mod read;
 mod rows;
 
 pub use read::{ReadPhases, ReadStep};
+pub use rows::{Sort, sorted};

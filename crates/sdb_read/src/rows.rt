@@ -24,7 +24,8 @@ pub enum Settled {
     Bad(Key),
 }
 
-fn sorted(alloc: Global, row: &Record) -> Result<Sort, NoMemory>
+/// What a row is.
+pub fn sorted(alloc: Global, row: &Record) -> Result<Sort, NoMemory>
     ensures { IfOk result (λ sort. sort ≡ sort_of (kind_of row.now)) }
 {
     match meta_of(alloc, row) {

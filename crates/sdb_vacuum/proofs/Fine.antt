@@ -22,8 +22,8 @@ use Rattle.sdb_read.proofs.Keeps.{step_fine, firm_by, open_by}
 use Rattle.sdb_vacuum.specs.Vacuum.{First, Nothing, Tombstone, Unresolved, Malformed, VacuumStage, Scanning, Resolving, Removing, Over, answered, first_of, first_one, goes_on, going, next_table, pending_at, removal_answered, resolved, spans_of, step_at, tombstone_or}
 use Rattle.sdb_vacuum.specs.Fine.{IsFine}
 use Rattle.sdb_vacuum.specs.Calls.{VacuumPlayed, vacuum_after}
-use Rattle.sdb_vacuum.proofs.Firm.{open_unresolved}
-use Rattle.sdb_vacuum.specs.Rows.{sort_of}
+use Rattle.sdb_read.specs.Rows.{sort_of}
+use Rattle.sdb_read.proofs.Firm.{open_unresolved}
 
 ---- what a row is
 

@@ -2,16 +2,11 @@
 use Rattle.std.specs.Prelude.{◌≡◌, List}
 use Rattle.sdb_types.specs.declared.record.Record.{Record}
 use Rattle.sdb_read.specs.Read.{Kind, Firm, Open, Bad, kind_of}
-use Rattle.sdb_vacuum.specs.declared.rows.Sort.{Sort}
-use Rattle.sdb_vacuum.specs.declared.rows.Sort.TheVariants as sort
+use Rattle.sdb_read.specs.declared.rows.Sort.TheVariants as sort
 use Rattle.sdb_vacuum.specs.declared.rows.Found.{Found}
 use Rattle.sdb_vacuum.specs.declared.rows.Found.TheVariants as found
 use Rattle.sdb_vacuum.specs.Vacuum.{First, Nothing, Tombstone, Unresolved, Malformed}
-
-abbrev pub sort_of : Kind → Sort
-sort_of Firm = sort.Firm
-sort_of (Open meta) = sort.Open
-sort_of Bad = sort.Bad
+use Rattle.sdb_read.specs.Rows.{sort_of}
 
 abbrev pub open_first : Kind → Record → List Record → First
 open_first Firm r left = Nothing

@@ -1,21 +1,13 @@
 //! What the rows of a table are, and the first of them that needs a call.
 ghost use Rattle.std.specs.Prelude.{◌≡◌, IfOk};
-ghost use Rattle.sdb_read.specs.Read.{kind_of};
 ghost use Rattle.sdb_vacuum.specs.Vacuum.{first_of};
-ghost use Rattle.sdb_vacuum.specs.Rows.{IsFound, found_as, sort_of};
+ghost use Rattle.sdb_vacuum.specs.Rows.{IsFound, found_as};
 
-use sdb_record::{MetaRefused, is_tombstone, meta_of};
+use sdb_read::{Sort, sorted};
+use sdb_record::is_tombstone;
 use sdb_types::{Key, NoMemory, Record};
 use std::alloc::Global;
 use std::collections::VecDeque;
-
-/// What a row is: a committed record, an unresolved one, or no record of a transaction.
-#[derive(Clone, Copy, Debug, PartialEq, Eq)]
-pub enum Sort {
-    Firm,
-    Open,
-    Bad,
-}
 
 /// The first of some rows that needs a call, or is no record of a transaction.
 #[derive(Debug, Drop)]
@@ -24,22 +16,6 @@ pub enum Found {
     Tombstone(Record),
     Unresolved(Record),
     Malformed(Key),
-}
-
-fn sorted(alloc: Global, row: &Record) -> Result<Sort, NoMemory>
-    ensures { IfOk result (λ sort. sort ≡ sort_of (kind_of row.now)) }
-{
-    match meta_of(alloc, row) {
-        Ok(meta) => {
-            if meta.is_committed() {
-                Ok(Sort::Firm)
-            } else {
-                Ok(Sort::Open)
-            }
-        }
-        Err(MetaRefused::BadMeta(_)) => Ok(Sort::Bad),
-        Err(MetaRefused::NoMemory) => Err(NoMemory),
-    }
 }
 
 /// Passes over rows, from the first on, up to one that needs a call or is no record of a transaction.

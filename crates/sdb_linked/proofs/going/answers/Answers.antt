@@ -3,8 +3,10 @@ use Rattle.sdb_linked.proofs.going.answers.Goals as goal
 
 pub returns : goal.returns
 returns c = record {
-  outside = λ catalog fit events sys doing c text b g. going_outside catalog fit events sys doing g c text b;
-  idle = λ catalog fit events sys doing c i seen text b g at_open. going_idle catalog fit events sys doing g c i seen at_open text b;
-  rows = λ catalog fit events sys doing c i seen text b st a changes g at_open. going_answers catalog fit events sys doing g c i seen at_open text b st a changes;
-  leaves = λ catalog fit events sys doing c i seen text b g at_open. going_leaves_so catalog fit events sys doing g c i seen at_open text b;
+  outside = λ p c text b. going_outside p.catalog p.fit p.events p.sys p.doing p.going c text b;
+  idle = λ p q b. going_idle p.catalog p.fit p.events p.sys p.doing p.going q.client q.id q.seen q.is_open q.text b;
+  rows = λ p q.
+      going_answers p.catalog p.fit p.events p.sys p.doing p.going q.asked.client q.asked.id q.asked.seen q.asked.is_open q.asked.text q.told.answer q.told.statement q.a q.told.changes
+      q.told.from_rows q.no_commit q.reads q.told.covered q.told.answers q.told.are_changes;
+  leaves = λ p q b. going_leaves_so p.catalog p.fit p.events p.sys p.doing p.going q.client q.id q.seen q.is_open q.text b;
 }

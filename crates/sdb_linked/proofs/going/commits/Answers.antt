@@ -4,6 +4,6 @@ use Rattle.sdb_linked.proofs.going.commits.Goals as goal
 
 pub returns : goal.returns
 returns c = record {
-  taken = λ catalog fit events sys doing c text i seen now g. going_commits catalog fit events sys doing g c text i seen now;
-  calls = λ catalog fit events sys doing y p s g. going_commit_calls catalog fit events sys doing g y.client y.store y.request y.how y.reply y.now p s;
+  taken = λ p q now. going_commits p.catalog p.fit p.events p.sys p.doing p.going q.client q.text q.id q.seen now q.is_open;
+  calls = λ p r. going_commit_calls p.catalog p.fit p.events p.sys p.doing p.going r.call.client r.call.store r.call.request r.call.how r.call.reply r.call.now r.work r.stage r.commits r.replies;
 }

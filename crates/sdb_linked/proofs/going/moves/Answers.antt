@@ -5,7 +5,8 @@ use Rattle.sdb_linked.proofs.going.moves.Goals as goal
 
 pub returns : goal.returns
 returns c = record {
-  starves = λ catalog fit events sys doing c p s g. going_starves catalog fit events sys doing g c p s;
-  same = λ catalog fit events sys other doing others g at begun does.
-      subst (λ ds. IsGoing catalog fit events other ds) (λ i k. does k i) (subst (λ y. IsGoing catalog fit events y doing) (λ i. record { clients = λ k. at k i; begun = λ k. begun k i }) g);
+  starves = λ p c w s. going_starves p.catalog p.fit p.events p.sys p.doing p.going c w s;
+  same = λ p other others is.
+      subst (λ ds. IsGoing p.catalog p.fit p.events other ds) (λ i k. is.running k i)
+      (subst (λ y. IsGoing p.catalog p.fit p.events y p.doing) (λ i. record { clients = λ k. is.clients k i; begun = λ k. is.begun k i }) p.going);
 }

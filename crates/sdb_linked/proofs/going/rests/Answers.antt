@@ -5,6 +5,6 @@ use Rattle.sdb_linked.proofs.going.rests.Goals as goal
 pub returns : goal.returns
 returns c = record {
   starts = going_starts;
-  silent = going_rests;
-  stops = λ catalog fit events sys doing c g. going_stops catalog fit events sys doing g c;
+  silent = λ p e silent. going_rests p.catalog p.fit p.events p.sys p.doing e silent p.going;
+  stops = λ p c. going_stops p.catalog p.fit p.events p.sys p.doing p.going c;
 }

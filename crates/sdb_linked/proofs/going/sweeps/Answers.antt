@@ -4,8 +4,8 @@ use Rattle.sdb_linked.proofs.going.sweeps.Goals as goal
 
 pub returns : goal.returns
 returns c = record {
-  taken = λ catalog fit events sys doing c text span g. going_vacuums catalog fit events sys doing g c text span;
-  goes_on = λ kind catalog fit events sys doing y v kinds g. going_sweeps catalog fit events sys doing g y.client y.store y.request y.how y.reply y.now kind kinds v;
-  scans = λ kind catalog fit events sys doing y v span kinds g at_sweep asked. going_scans catalog fit events sys doing g y.client y.store y.request y.how y.reply y.now kind kinds v at_sweep asked span;
-  ends = λ kind catalog fit events sys doing y v b kinds g at_sweep asked. going_swept catalog fit events sys doing g y.client y.store y.request y.how y.reply y.now kind kinds v at_sweep asked b;
+  taken = λ p c text span may. going_vacuums p.catalog p.fit p.events p.sys p.doing p.going c text span may.rests may.none_open may.of_data;
+  goes_on = λ p r. going_sweeps p.catalog p.fit p.events p.sys p.doing p.going r.call.client r.call.store r.call.request r.call.how r.call.reply r.call.now r.kind r.kinds r.stands r.sweeps r.replies;
+  scans = λ p r span. going_scans p.catalog p.fit p.events p.sys p.doing p.going r.call.client r.call.store r.call.request r.call.how r.call.reply r.call.now r.kind r.kinds r.stands r.sweeps r.replies span;
+  ends = λ p r b. going_swept p.catalog p.fit p.events p.sys p.doing p.going r.call.client r.call.store r.call.request r.call.how r.call.reply r.call.now r.kind r.kinds r.stands r.sweeps r.replies b;
 }
