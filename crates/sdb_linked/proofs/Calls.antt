@@ -1,6 +1,6 @@
 -- Each call of a client, over what ties the events to the clients.
-use Rattle.std.proofs.Common.{◌≡◌, ◌≤◌, ◌+◌, ℕ, ℤ, Bool, true, false, List, [], ◌∷◌, ◌++◌, length, Option, Some, None, IfSome, refl, sym, ap, ◌∙◌, subst}
-use Rattle.std.specs.Prelude.{◌&&◌, ◌||◌, if◌then◌else◌}
+use Rattle.std.proofs.Common.{◌≡◌, ◌≤◌, ℕ, ℤ, Bool, true, false, List, [], ◌∷◌, ◌++◌, length, Option, Some, None, IfSome, refl, sym, ap, ◌∙◌, subst}
+use Rattle.std.specs.Prelude.{◌&&◌, ◌||◌}
 use Rattle.sdb_types.specs.declared.record.Record.{Record}
 use Rattle.sdb_types.specs.declared.record.Reply.{Reply}
 use Rattle.sdb_types.specs.declared.record.Request.{Request}
@@ -13,7 +13,6 @@ use Rattle.sdb_schema.specs.declared.table.Table.{Table}
 use Rattle.sdb_model.specs.declared.answer.Answer.{Answer}
 use Rattle.sdb_model.specs.declared.answer.Answer.TheVariants as answer
 use Rattle.sdb_model.specs.declared.event.Event.{Event}
-use Rattle.sdb_model.specs.declared.event.Event.TheVariants as event
 use Rattle.sdb_model.specs.declared.event.How.{How}
 use Rattle.sdb_model.specs.Rows.{Name}
 use Rattle.sdb_model.specs.declared.statement.Statement.{Statement}
@@ -53,7 +52,7 @@ use Rattle.sdb_linked.proofs.Mild.{effective_by, mild_begins, nothing_mild, rows
 use Rattle.sdb_linked.proofs.Noting.{commit_made, made_reads, noted_elsewhere, noted_gap, noted_over, notes_read, since_read}
 use Rattle.sdb_linked.proofs.Steps as one
 use Rattle.sdb_linked.proofs.Small.{committing_as, running_as, twice, waiting_as}
-use Rattle.sdb_linked.proofs.Own.{IsPlainRole, begun, closed_as, commit_plain, goes_gap, goes_over, gone, inside, opened_as, over, plain_apart, plain_counts, read_plain, sweep_plain}
+use Rattle.sdb_linked.proofs.Own.{IsPlainRole, closed_as, commit_plain, goes_gap, goes_over, gone, opened_as, over, plain_apart, plain_counts, read_plain, sweep_plain}
 use Rattle.sdb_types.proofs.Basics.{clash, some_is, and_false as no_second}
 use Rattle.sdb_read.specs.Read.{Kind}
 

@@ -22,16 +22,16 @@ use Rattle.sdb_laws.specs.Lawful.{Played, id, talk, ends_with, plays}
 use Rattle.sdb_laws.specs.Plan.{Plan}
 use Rattle.sdb_phases.specs.Work.{Work}
 use Rattle.sdb_phases.specs.Checks.{checks}
-use Rattle.sdb_phases.specs.Commit.{Stage, Preparing, Checking, Deciding, Forward, Stopping, Back, Over, preparing, step}
+use Rattle.sdb_phases.specs.Commit.{Stage, Preparing, Checking, Deciding, Forward, Stopping, Back, Over, preparing}
 use Rattle.sdb_snapshot.specs.Seen.{Seen, nothing, with_written}
 use Rattle.sdb_snapshot.specs.Written.{AreChanges}
 use Rattle.sdb_turns.specs.Noted.{SeenOk, with_read, work_of}
 use Rattle.sdb_turns.specs.Owner.{plan_of}
-use Rattle.sdb_turns.specs.ReadAt.{Asking, Done, IsOfData}
+use Rattle.sdb_turns.specs.ReadAt.{Asking, IsOfData}
 use Rattle.sdb_turns.specs.Sweep.{Scanning}
 use Rattle.sdb_turns.specs.System.{ClientAt, ClientOk, Has, IsBegin, IsCommit, IsQuiet, NoneOpen, NoneSweeps, Open, Reading, Resting, Sweeping, SamePlans, StandsAt, Stopped, SystemAt, SystemOk, begin_played, commit_begun, commit_left, idle, next_id, take_played, with_begun, with_client, with_plan}
 use Rattle.sdb_turns.proofs.Begin.{begin_turn, untaken}
-use Rattle.sdb_turns.proofs.Quiet.{asks, leave_turn, notes, quiet_turn, stop_turn, sweep_starts, writes}
+use Rattle.sdb_turns.proofs.Quiet.{asks, leave_turn, quiet_turn, stop_turn, sweep_starts, writes}
 use Rattle.sdb_turns.proofs.Seen.{seen_nothing}
 use Rattle.sdb_turns.proofs.Take.{take_turn}
 use Rattle.sdb_story.specs.Body.{AnswersOn, BodyOk, IsCovered}

@@ -1,10 +1,8 @@
 -- The events so far and what ties them to the clients, as the laws of going on speak of it.
 use Rattle.std.specs.Prelude.{◌≡◌, ◌<◌, ◌^◌, All, ℕ, ℤ, Bool, true, false, List, [], ◌∷◌, ◌++◌, Option, Some}
 use Rattle.sdb_types.specs.declared.record.Record.{Record}
-use Rattle.sdb_types.specs.declared.record.Span.{Span}
 use Rattle.sdb_types.specs.declared.txid.TxId.{TxId}
 use Rattle.sdb_record.specs.declared.access.Access.{Access}
-use Rattle.sdb_record.specs.declared.access.Access.TheVariants as access
 use Rattle.sdb_record.specs.declared.write.Keyed.{Keyed}
 use Rattle.sdb_schema.specs.declared.table.Table.{Table}
 use Rattle.sdb_model.specs.declared.answer.Answer.{Answer}
@@ -22,15 +20,14 @@ use Rattle.sdb_model.specs.Sql.{Reads, reads_commit}
 use Rattle.sdb_model.specs.Transactions.{IsOrder, is_answered_from_rows}
 use Rattle.sdb_laws.specs.History.{at}
 use Rattle.sdb_laws.specs.Trace.{StartsEmpty}
-use Rattle.sdb_phases.specs.Work.{Work}
-use Rattle.sdb_phases.specs.Commit.{Stage, pending, preparing, step}
+use Rattle.sdb_phases.specs.Commit.{preparing}
 use Rattle.sdb_read.specs.Read.{Kind}
-use Rattle.sdb_snapshot.specs.Seen.{Seen, nothing, with_written}
+use Rattle.sdb_snapshot.specs.Seen.{Seen, with_written}
 use Rattle.sdb_snapshot.specs.Written.{AreChanges}
 use Rattle.sdb_turns.specs.Noted.{MayNote, with_read, work_of}
 use Rattle.sdb_turns.specs.ReadAt.{AreKinds, Done, IsOfData, ReadAt, read_pending, read_step}
 use Rattle.sdb_turns.specs.Sweep.{SweepAt, sweep_pending, sweep_step}
-use Rattle.sdb_turns.specs.System.{ClientAt, ClientCall, Committing, IsBegin, IsReplyTo, NoneOpen, NoneSweeps, Open, Reading, Resting, Sweeping, SystemAt, call_event, commit_left, next_id, with_begun, with_client}
+use Rattle.sdb_turns.specs.System.{ClientAt, ClientCall, IsReplyTo, Open, Reading, Sweeping, SystemAt, call_event, commit_left, with_client}
 use Rattle.sdb_story.specs.Body.{AnswersOn, IsCovered}
 use Rattle.sdb_story.specs.Left.{IsFitting}
 use Rattle.sdb_linked.specs.Going.{IsGoing, IsInner}
@@ -71,22 +68,6 @@ pub record IsSame (p : Progress) (sys : SystemAt) (doing : ℕ → Option Statem
   pub running : (c : ℕ) → p.doing c ≡ doing c
 
 ---- statements as they are taken
-
--- A client may begin a transaction.
-pub record MayBegin (sys : SystemAt) (c : ℕ) (text : List ℕ) : Type 0 where
-  pub rests : sys.clients c ≡ Resting
-  pub begins : IsBegin sys c text
-  pub none_sweeps : NoneSweeps sys
-
--- the clients once it has
-abbrev pub with_opened : SystemAt → ℕ → SystemAt
-with_opened sys c = with_begun sys c (Open (next_id sys c) nothing)
-
--- A client may begin to sweep a span.
-pub record MaySweep (sys : SystemAt) (c : ℕ) (span : Span) : Type 0 where
-  pub rests : sys.clients c ≡ Resting
-  pub none_open : NoneOpen sys
-  pub of_data : IsOfData (access.Scan span)
 
 -- A client with an open transaction, and the text that is taken of it.
 pub record Asked (p : Progress) : Type 0 where
@@ -133,18 +114,6 @@ abbrev pub seen_asked : {p : Progress} → AskedRows p → Seen
 seen_asked q = with_written q.asked.seen q.told.changes
 
 ---- replies
-
--- A reply to the pending call of a COMMIT.
-pub record CommitReply (p : Progress) : Type 0 where
-  pub call : ClientCall
-  pub work : Work
-  pub stage : Stage
-  pub commits : p.sys.clients call.client ≡ Committing work stage
-  pub replies : IsReplyTo (pending work stage) call
-
--- the stage that it takes the COMMIT to
-abbrev pub commit_next : {p : Progress} → CommitReply p → Stage
-commit_next r = step r.work r.stage r.call.reply
 
 -- A reply to the pending call of a read.
 pub record ReadReply (p : Progress) : Type 0 where

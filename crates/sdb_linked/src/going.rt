@@ -19,12 +19,13 @@ ghost use Rattle.sdb_model.specs.Transactions.{changes_nothing, is_conflict};
 ghost use Rattle.sdb_laws.specs.Faithful.{AreNoted};
 ghost use Rattle.sdb_phases.specs.Work.{Work};
 ghost use Rattle.sdb_phases.specs.Commit.{Stage, starved};
+ghost use Rattle.sdb_turns.specs.Knowledge.{CommitReply, MayBegin, MaySweep, commit_next, with_opened};
 ghost use Rattle.sdb_turns.specs.ReadAt.{Asking, IsOfData};
 ghost use Rattle.sdb_turns.specs.Sweep.{Scanning};
 ghost use Rattle.sdb_turns.specs.System.{Committing, IsCommit, Open, Reading, Resting, Stopped, Sweeping, SystemAt, answer_at, commit_left, idle, with_client};
 ghost use Rattle.sdb_story.specs.Calls.{AgreeOn};
 ghost use Rattle.sdb_linked.specs.Going.{IsGoing, IsMild, IsSilent, LeavesAtOnce};
-ghost use Rattle.sdb_linked.specs.Progress.{After, AfterAsked, AfterReply, AfterTake, Asked, AskedRows, CommitReply, Ending, GoesAs, IsSame, LastReply, MayBegin, MayRead, MaySweep, Progress, ReadReply, Runs, SweepReply, commit_next, committing, outcome_with, read_next, seen_after, seen_asked, sweep_next, with_opened};
+ghost use Rattle.sdb_linked.specs.Progress.{After, AfterAsked, AfterReply, AfterTake, Asked, AskedRows, Ending, GoesAs, IsSame, LastReply, MayRead, Progress, ReadReply, Runs, SweepReply, committing, outcome_with, read_next, seen_after, seen_asked, sweep_next};
 
 /// Before the first event no client has done anything; and the clock moves, or a client without work idles.
 pub fn rests()
@@ -42,7 +43,7 @@ pub fn begins()
 /// over its answer ends the transaction.
 pub fn commits()
     ensures taken { (p : Progress) (q : Asked p) (now : ℤ) → IsCommit q.text now → AfterAsked q None (committing q now) None }
-    ensures calls { (p : Progress) (r : CommitReply p) → AfterReply p r.call (answer_at (commit_next r)) (commit_left r.work (commit_next r)) None }
+    ensures calls { (p : Progress) (r : CommitReply p.sys) → AfterReply p r.call (answer_at (commit_next r)) (commit_left r.work (commit_next r)) None }
 {}
 
 /// Without an event a COMMIT may be out of memory in place of a conflict; and what is so of clients that stand so is so of clients that

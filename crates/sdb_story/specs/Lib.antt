@@ -6,3 +6,4 @@ pub mod Telling
 pub mod BodyTexts
 pub mod Linked
 pub mod Calls
+pub mod Account

@@ -8,7 +8,6 @@ use Rattle.sdb_types.specs.declared.record.Reply.{Reply}
 use Rattle.sdb_types.specs.declared.record.Request.{Request}
 use Rattle.sdb_types.specs.Contents.{CanAnswer}
 use Rattle.sdb_record.specs.declared.write.Write.{Write}
-use Rattle.sdb_record.specs.declared.write.Change.TheVariants as change
 use Rattle.sdb_record.specs.Rolls.{prepared_record, state_of_change}
 use Rattle.sdb_record.proofs.TakenLaws.{prepared-base, open-left as open_state}
 use Rattle.sdb_model.specs.declared.answer.Answer.{Answer}

@@ -6,3 +6,4 @@ pub mod Noted
 pub mod System
 pub mod Worked
 pub mod Machine
+pub mod Knowledge

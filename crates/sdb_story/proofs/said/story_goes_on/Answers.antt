@@ -3,7 +3,9 @@ use Rattle.sdb_story.proofs.said.story_goes_on.Goals as goal
 
 pub returns : goal.returns
 returns c = record {
-  ordinary = λ events past sys next c x q s story is may plain leaves. story_answers events past sys next c x q s story is may plain leaves.counts leaves.apart leaves.keeps;
-  begins = λ events past sys next c x text story none b. story_begins events past sys next c x b.gap text story none b.closed b.begin b.client b.ordinal b.fresh b.hold;
-  ends = λ events past sys next c x q s story is e. story_ends events past sys next c x q s e.gap e.begin e.body story e.opened is e.plain e.over e.ending e.names e.counts e.apart e.hold;
+  ordinary = λ k next q s is may plain leaves. story_answers k.events k.past k.sys next k.client k.told q s k.story is may plain leaves.counts leaves.apart leaves.keeps;
+  begins = λ k next text t.
+      let b = t.begins in
+      story_begins k.events k.past k.sys next k.client k.told b.gap text k.story t.none_waits b.closed b.begin b.client b.ordinal b.fresh b.hold;
+  ends = λ k next q s is e. story_ends k.events k.past k.sys next k.client k.told q s e.gap e.begin e.body k.story e.opened is e.plain e.over e.ending e.names e.counts e.apart e.hold;
 }

@@ -4,6 +4,6 @@ use Rattle.sdb_turns.proofs.knowledge.recovers.Goals as goal
 
 pub returns : goal.returns
 returns c = record {
-  may = λ plan past rec meta p x a ok reply. recover_lawful plan past x.client rec meta p x.store x.request x.how x.reply a ok reply.asked;
-  knows = λ past rec meta p x a ok reply. recover_kept past x.client rec meta p x.now x.store x.request x.how x.reply a ok reply.asked reply.can reply.moment;
+  may = λ plan past r answered. recover_lawful plan past r.call.client r.rec r.meta r.phase r.call.store r.call.request r.call.how r.call.reply answered r.ok r.replies.asked;
+  knows = λ past r answered. recover_kept past r.call.client r.rec r.meta r.phase r.call.now r.call.store r.call.request r.call.how r.call.reply answered r.ok r.replies.asked r.replies.can r.replies.moment;
 }

@@ -1,0 +1,184 @@
+-- What is so of all clients after the events so far, as the laws of their turns and moves speak of it.
+use Rattle.std.specs.Prelude.{◌≡◌, ◌≢◌, ◌++◌, ℕ, List, ◌∷◌, Option, Some}
+use Rattle.std.specs.List.{AllByRecursion}
+use Rattle.sdb_types.specs.declared.txid.TxId.{TxId}
+use Rattle.sdb_types.specs.declared.record.Record.{Record}
+use Rattle.sdb_types.specs.declared.record.Span.{Span}
+use Rattle.sdb_record.specs.declared.access.Access.{Access}
+use Rattle.sdb_record.specs.declared.access.Access.TheVariants as access
+use Rattle.sdb_record.specs.declared.meta.Meta.{Meta}
+use Rattle.sdb_model.specs.declared.answer.Answer.{Answer}
+use Rattle.sdb_model.specs.declared.answer.Answer.TheVariants as answer
+use Rattle.sdb_laws.specs.History.{Role}
+use Rattle.sdb_laws.specs.Lawful.{MayPlay, Played, ends_with, plays}
+use Rattle.sdb_laws.specs.Plan.{Plan}
+use Rattle.sdb_phases.specs.declared.step.RecoverPhase.{RecoverPhase}
+use Rattle.sdb_phases.specs.Commit.{Stage, pending, step}
+use Rattle.sdb_phases.specs.Recover.{recover_next, recover_request_at}
+use Rattle.sdb_phases.specs.Work.{Work}
+use Rattle.sdb_read.specs.Read.{Kind}
+use Rattle.sdb_snapshot.specs.Seen.{Seen, nothing}
+use Rattle.sdb_turns.specs.Noted.{with_read}
+use Rattle.sdb_turns.specs.Reader.{RecoverOk, recover_role}
+use Rattle.sdb_turns.specs.ReadAt.{InPlace, IsImage, IsLeft, IsOfData, ReadAt, ReadOk, keys_of, read_pending, read_role, read_step}
+use Rattle.sdb_turns.specs.Sweep.{SweepAt, sweep_pending, sweep_role, sweep_step}
+use Rattle.sdb_turns.specs.System.{ClientAt, ClientCall, Committing, EndsOwn, IsBegin, IsBy, IsReplyTo, NoneOpen, NoneSweeps, Open, Reading, Resting, Sweeping, SystemAt, SystemOk, call_event, commit_begun, next_id, take_played, with_begun, with_client, with_plan}
+
+-- The events so far with their parts, plans with which they keep the rules, and the clients where they are: and what is so of these.
+pub record Knowledge : Type 0 where
+  pub plan : ℕ → Plan
+  pub past : List Played
+  pub sys : SystemAt
+  pub ok : SystemOk plan past sys
+
+-- It is so too of the clients with one of them elsewhere.
+abbrev pub MovesTo : Knowledge → ℕ → ClientAt → Type 0
+MovesTo k c x = SystemOk k.plan k.past (with_client k.sys c x)
+
+-- It is so of these clients after one more event.
+abbrev pub TurnsTo : Knowledge → Played → SystemAt → Type 0
+TurnsTo k q sys = SystemOk k.plan (q ∷ k.past) sys
+
+-- It is so after an event with which one of them comes to be there.
+abbrev pub TurnsAt : Knowledge → Played → ℕ → ClientAt → Type 0
+TurnsAt k q c x = TurnsTo k q (with_client k.sys c x)
+
+-- It is so once the COMMIT of this work is taken, which is its transaction's plan from then on.
+abbrev pub TakesOn : Knowledge → ℕ → List ℕ → Work → Type 0
+TakesOn k c text p = SystemOk (with_plan k.plan p) (take_played c text p ∷ k.past) (commit_begun k.sys c p)
+
+---- where clients are
+
+-- A client may begin a transaction.
+pub record MayBegin (sys : SystemAt) (c : ℕ) (text : List ℕ) : Type 0 where
+  pub rests : sys.clients c ≡ Resting
+  pub begins : IsBegin sys c text
+  pub none_sweeps : NoneSweeps sys
+
+-- the clients once it has
+abbrev pub with_opened : SystemAt → ℕ → SystemAt
+with_opened sys c = with_begun sys c (Open (next_id sys c) nothing)
+
+-- A client may begin to sweep a span.
+pub record MaySweep (sys : SystemAt) (c : ℕ) (span : Span) : Type 0 where
+  pub rests : sys.clients c ≡ Resting
+  pub none_open : NoneOpen sys
+  pub of_data : IsOfData (access.Scan span)
+
+-- A client with an open transaction, which makes no call.
+pub record OpenClient (sys : SystemAt) : Type 0 where
+  pub client : ℕ
+  pub id : TxId
+  pub seen : Seen
+  pub is_open : sys.clients client ≡ Open id seen
+
+-- A client whose statement reads, and how far it is.
+pub record ReadingClient (sys : SystemAt) (stands : ReadAt) : Type 0 where
+  pub client : ℕ
+  pub id : TxId
+  pub seen : Seen
+  pub asked : Access
+  pub reads : sys.clients client ≡ Reading id seen asked stands
+
+-- what its transaction has read once these images are noted
+abbrev pub seen_with : {sys : SystemAt} {stands : ReadAt} → ReadingClient sys stands → List Record → Seen
+seen_with r images = with_read r.seen r.asked images
+
+---- replies
+
+-- A reply to the pending call of a COMMIT.
+pub record CommitReply (sys : SystemAt) : Type 0 where
+  pub call : ClientCall
+  pub work : Work
+  pub stage : Stage
+  pub commits : sys.clients call.client ≡ Committing work stage
+  pub replies : IsReplyTo (pending work stage) call
+
+-- the stage that it takes the COMMIT to
+abbrev pub commit_next : {sys : SystemAt} → CommitReply sys → Stage
+commit_next r = step r.work r.stage r.call.reply
+
+-- A reply to the pending call of a read, and the answer to its statement, if it gives one.
+pub record AnsweredRead (sys : SystemAt) : Type 0 where
+  pub call : ClientCall
+  pub id : TxId
+  pub seen : Seen
+  pub asked : Access
+  pub stands : ReadAt
+  pub reads : sys.clients call.client ≡ Reading id seen asked stands
+  pub replies : IsReplyTo (read_pending asked stands) call
+  pub answered : Option Answer
+  pub other : answered ≢ Some answer.Committed
+
+-- where it takes the read to
+abbrev pub read_after : {sys : SystemAt} → (Record → Kind) → AnsweredRead sys → ClientAt
+read_after kind r = Reading r.id r.seen r.asked (read_step kind r.stands r.call.now r.call.reply)
+
+-- its event, with its part
+abbrev pub read_played : {sys : SystemAt} → AnsweredRead sys → Played
+read_played r = plays (read_role r.stands r.call.reply) (call_event r.call r.answered)
+
+-- the same, where it ends the transaction
+abbrev pub read_ended : {sys : SystemAt} → AnsweredRead sys → Played
+read_ended r = ends_with r.id.0 (read_role r.stands r.call.reply) (call_event r.call r.answered)
+
+-- A reply to the pending call of a sweep, and the answer to VACUUM, if it gives one.
+pub record AnsweredSweep (sys : SystemAt) : Type 0 where
+  pub call : ClientCall
+  pub stands : SweepAt
+  pub sweeps : sys.clients call.client ≡ Sweeping stands
+  pub replies : IsReplyTo (sweep_pending stands) call
+  pub answered : Option Answer
+  pub other : answered ≢ Some answer.Committed
+
+-- where it takes the sweep to
+abbrev pub sweep_after : {sys : SystemAt} → (Record → Kind) → AnsweredSweep sys → ClientAt
+sweep_after kind r = Sweeping (sweep_step kind r.stands r.call.now r.call.reply)
+
+-- its event, with its part
+abbrev pub sweep_played : {sys : SystemAt} → AnsweredSweep sys → Played
+sweep_played r = plays (sweep_role r.stands r.call.reply) (call_event r.call r.answered)
+
+-- A reply to the pending call of a recovery.
+pub record RecoverReply (past : List Played) : Type 0 where
+  pub call : ClientCall
+  pub rec : Record
+  pub meta : Meta
+  pub phase : RecoverPhase
+  pub ok : RecoverOk past rec meta phase
+  pub replies : IsReplyTo (recover_request_at rec meta phase) call
+
+-- its part
+abbrev pub recovery_role : {past : List Played} → RecoverReply past → Role
+recovery_role r = recover_role r.rec r.meta r.phase r.call.reply
+
+-- the recovery knows what its next call needs
+abbrev pub RecoversOn : {past : List Played} → RecoverReply past → Option Answer → Type 0
+RecoversOn {past} r answered = RecoverOk (plays (recovery_role r) (call_event r.call answered) ∷ past) r.rec r.meta (recover_next r.rec r.meta r.phase r.call.now r.call.reply).0
+
+---- other clients and rows
+
+-- The rules let an event of another client through, and it ends no transaction but its own client's.
+pub record IsOthers (plan : ℕ → Plan) (past : List Played) (c d : ℕ) (q : Played) : Type 0 where
+  pub apart : c ≢ d
+  pub by : IsBy c q.event
+  pub may : MayPlay plan past q.event q.role
+  pub ends : EndsOwn past c q
+
+-- Images were shown at an access, and rows that are left, in their order.
+pub record AreShown (past : List Played) (a : Access) (images left : List Record) : Type 0 where
+  pub each_image : AllByRecursion (IsImage past) images
+  pub each_left : AllByRecursion (IsLeft past) left
+  pub place : InPlace a (keys_of images ++ keys_of left)
+
+-- A reply to the pending call of a read of data, whose rows are as they were shown.
+pub record RowsReply (past : List Played) (a : Access) : Type 0 where
+  pub call : ClientCall
+  pub stands : ReadAt
+  pub of_data : IsOfData a
+  pub ok : ReadOk past a stands
+  pub replies : IsReplyTo (read_pending a stands) call
+
+-- its rows are so after it
+abbrev pub SettlesOn : {past : List Played} {a : Access} → (Record → Kind) → RowsReply past a → Option Answer → Type 0
+SettlesOn {past} {a} kind r answered = ReadOk (plays (read_role r.stands r.call.reply) (call_event r.call answered) ∷ past) a (read_step kind r.stands r.call.now r.call.reply)
