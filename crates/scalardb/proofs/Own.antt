@@ -1,9 +1,9 @@
 -- The stores of the program, once each of them is attached.
 use Rattle.std.proofs.Common.{◌≡◌, ℕ, ◌<◌, zero, suc, List, [], ◌∷◌, ◌++◌, length, codes, false, true, Ok, Err, Result, Option, is_ok, OnOk, ap, subst, ◌∙◌, arith}
-use Rattle.std.specs.FinMap.{empty}
 use Rattle.std.proofs.lemmas.Option.{slice_get_within}
 use Rattle.sdb_types.specs.Contents.{Contents}
-use Rattle.sdb_stores.specs.Shelf.{Attached, Shelf}
+use Rattle.sdb_store.specs.Store.{StoreState, IsNewStore}
+use Rattle.sdb_stores.specs.Shelf.{Attached, Shelf, IsAdded, shelf_of}
 use Rattle.sdb_app.specs.Run.{Ends, IsReplayed}
 use Rattle.scalardb.specs.Stores.{new_store, own_stores, IsPlayedOnOwn}
 
@@ -14,31 +14,28 @@ passed P (Err e) h p = absurd (let f : false ≡ true = h in cc)
 abbrev pub one_store : List ℕ → Contents → ℕ → Shelf
 one_store name contents faults = record { name = name; contents = contents; faults = faults }
 
-pub new_of : (name n : List ℕ) (m : Contents) (f : ℕ) → n ≡ name → m ≡ empty → f ≡ 0 → one_store n m f ≡ new_store name
-new_of name n m f a b d = λ i. one_store (a i) (b i) (d i)
-
--- what a call that attaches a store leaves, where it succeeds
-pub record Attachment {T E : Type 0} (r : Result T E) (s : Shelf) (Telling : Type 0) (old new : List Shelf) (told tells : ℕ → Type 0) : Type 0 where
-  pub stores : OnOk r (new ≡ old ++ s ∷ [])
-  pub here : OnOk r (Telling → tells (length old))
-  pub others : (i : ℕ) → told i → tells i
+new_of : (name n : List ℕ) (store : StoreState) → n ≡ name → IsNewStore store → shelf_of n store ≡ new_store name
+new_of name n store same new = λ i. one_store (same i) (new.empty i) (new.sound i)
 
 -- These are the stores of the program, and each tells what it holds.
 pub record AreOwn (stores : Attached) : Type 0 where
   pub are : stores.shelves ≡ own_stores
   pub telling : (at : ℕ) → at < 3 → stores.tells at
 
-pub all_own : {T E : Type 0} (r1 r2 r3 : Result T E) (a b k : Shelf) (A B K : Type 0) (s0 s1 s2 : List Shelf) (t0 t1 t2 : ℕ → Type 0) (last : Attached) → Attachment r1 a A s0 s1 t0 t1 → Attachment r2 b B s1 s2 t1 t2 → Attachment r3 k K s2 last.shelves t2 last.tells
-    → s0 ≡ [] → is_ok r1 ≡ true → is_ok r2 ≡ true → is_ok r3 ≡ true → a ≡ new_store (codes "ordered") → b ≡ new_store (codes "hashed") → k ≡ new_store (codes "sqlite") → A → B → K → AreOwn last
-all_own r1 r2 r3 a b k A B K s0 s1 s2 t0 t1 t2 last first second third none ok1 ok2 ok3 is_a is_b is_k ta tb tk =
-    let one : s1 ≡ a ∷ [] = passed _ r1 ok1 first.stores ∙ ap (λ (ss : List Shelf). ss ++ a ∷ []) none in
-    let two : s2 ≡ a ∷ b ∷ [] = passed _ r2 ok2 second.stores ∙ ap (λ (ss : List Shelf). ss ++ b ∷ []) one in
-    let three : last.shelves ≡ a ∷ b ∷ k ∷ [] = passed _ r3 ok3 third.stores ∙ ap (λ (ss : List Shelf). ss ++ k ∷ []) two in
-    let at_0 : t1 0 = subst (λ (ss : List Shelf). t1 (length ss)) none (passed _ r1 ok1 first.here ta) in
-    let at_1 : t2 1 = subst (λ (ss : List Shelf). t2 (length ss)) one (passed _ r2 ok2 second.here tb) in
-    let at_2 : last.tells 2 = subst (λ (ss : List Shelf). last.tells (length ss)) two (passed _ r3 ok3 third.here tk) in
+pub all_own : {T E : Type 0} (r1 r2 r3 : Result T E) (n1 n2 n3 : List ℕ) (a b k : StoreState) (none one two last : Attached) → OnOk r1 (IsAdded n1 a none one) → OnOk r2 (IsAdded n2 b one two) → OnOk r3 (IsAdded n3 k two last) → none.shelves ≡ []
+    → is_ok r1 ≡ true → is_ok r2 ≡ true → is_ok r3 ≡ true → n1 ≡ codes "ordered" → n2 ≡ codes "hashed" → n3 ≡ codes "sqlite" → IsNewStore a → IsNewStore b → IsNewStore k → AreOwn last
+all_own r1 r2 r3 n1 n2 n3 a b k none one two last added1 added2 added3 bare ok1 ok2 ok3 is1 is2 is3 new_a new_b new_k =
+    let first = passed _ r1 ok1 added1 in
+    let second = passed _ r2 ok2 added2 in
+    let third = passed _ r3 ok3 added3 in
+    let s1 : one.shelves ≡ shelf_of n1 a ∷ [] = first.shelves ∙ ap (λ (ss : List Shelf). ss ++ shelf_of n1 a ∷ []) bare in
+    let s2 : two.shelves ≡ shelf_of n1 a ∷ shelf_of n2 b ∷ [] = second.shelves ∙ ap (λ (ss : List Shelf). ss ++ shelf_of n2 b ∷ []) s1 in
+    let s3 : last.shelves ≡ shelf_of n1 a ∷ shelf_of n2 b ∷ shelf_of n3 k ∷ [] = third.shelves ∙ ap (λ (ss : List Shelf). ss ++ shelf_of n3 k ∷ []) s2 in
+    let at_0 : one.tells 0 = subst (λ (ss : List Shelf). one.tells (length ss)) bare (first.telling new_a.telling) in
+    let at_1 : two.tells 1 = subst (λ (ss : List Shelf). two.tells (length ss)) s1 (second.telling new_b.telling) in
+    let at_2 : last.tells 2 = subst (λ (ss : List Shelf). last.tells (length ss)) s2 (third.telling new_k.telling) in
     record {
-      are = three ∙ (λ i. is_a i ∷ is_b i ∷ is_k i ∷ []);
+      are = s3 ∙ (λ i. new_of (codes "ordered") n1 a is1 new_a i ∷ new_of (codes "hashed") n2 b is2 new_b i ∷ new_of (codes "sqlite") n3 k is3 new_k i ∷ []);
       telling = by_place (third.others 0 (second.others 0 at_0)) (third.others 1 at_1) at_2;
     }
   where

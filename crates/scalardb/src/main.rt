@@ -1,8 +1,7 @@
 //! The program: hands its words, standard input and output, the clock and random ids to the top call.
 #![tactic(auto)]
 
-ghost use Rattle.std.specs.Prelude.{◌≡◌};
-ghost use Rattle.std.specs.FinMap as map;
+ghost use Rattle.sdb_store.specs.Store.{IsNewStore};
 
 mod outside;
 mod stores;
@@ -52,9 +51,7 @@ fn play_streams(
     mut ids: RandomIds,
     database: Kept<MemStore>,
 ) -> ExitCode
-    requires telling { ⟦<Kept<MemStore> as Store>⟧.tells database }
-    requires empty { ⟦<Kept<MemStore> as Store>⟧.contents database ≡ map.empty }
-    requires sound { ⟦<Kept<MemStore> as Store>⟧.faults database ≡ 0 }
+    requires new { IsNewStore (⟦<Kept<MemStore> as Store>⟧.state database) }
 {
     let alloc = rt.alloc();
     let mut input = Input::new(&rt);

@@ -1,6 +1,6 @@
 //! A run on the stores of the program.
 ghost use Rattle.std.specs.Prelude.{◌≡◌, IfOk, codes};
-ghost use Rattle.std.specs.FinMap as map;
+ghost use Rattle.sdb_store.specs.Store.{IsNewStore};
 ghost use Rattle.scalardb.specs.Stores.{IsPlayedOnOwn};
 
 use sdb_app::{Status, run};
@@ -33,9 +33,7 @@ pub fn play<R: Source, W: Sink, C: Clock, I: Ids>(
     clock: &mut C,
     ids: &mut I,
 ) -> Status
-    requires telling { ⟦<Kept<MemStore> as Store>⟧.tells database }
-    requires empty { ⟦<Kept<MemStore> as Store>⟧.contents database ≡ map.empty }
-    requires sound { ⟦<Kept<MemStore> as Store>⟧.faults database ≡ 0 }
+    requires new { IsNewStore (⟦<Kept<MemStore> as Store>⟧.state database) }
     // The headline, of the program's own stores: each tells what it holds, the database too.
     ensures done { result ≡ Status.Done → IsPlayedOnOwn (R.remaining input.old) (R.remaining input.new) (W.written output.old) (W.written output.new) }
 {

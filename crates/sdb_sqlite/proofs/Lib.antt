@@ -12,3 +12,4 @@ pub mod Edits
 pub mod Writes
 pub mod Puts
 pub mod Making
+pub mod Stops

@@ -1,6 +1,7 @@
 -- What a database of the store's form holds.
-use Rattle.std.specs.Prelude.{◌≡◌, ◌⊎◌, ◌≤◌, Bool, false, length, None, IsTrue}
+use Rattle.std.specs.Prelude.{◌≡◌, ◌⊎◌, ◌≤◌, ℕ, Bool, false, length, None, IsTrue}
 use Rattle.std.specs.List.{AllByRecursion}
+use Rattle.std.specs.FinMap as map
 use Rattle.sqlite.specs.State.{State}
 use Rattle.sqlite.specs.Store.{Ghosts}
 use Rattle.sqlite.specs.Held.{Held as Connected, state}
@@ -10,7 +11,7 @@ use Rattle.sdb_types.specs.declared.key.Key.{Key}
 use Rattle.sdb_types.specs.declared.record.Request.{Request}
 use Rattle.sdb_types.specs.declared.record.Reply.{Reply}
 use Rattle.sdb_types.specs.Contents.{Contents}
-use Rattle.sdb_store.specs.Store.{Performs}
+use Rattle.sdb_store.specs.Store.{StoreState, Performs}
 use Rattle.sdb_sqlite.specs.Table.{no_schema, table_schema, records_schema}
 use Rattle.sdb_sqlite.specs.Rows.{IsTied, rows_at, held_in}
 
@@ -56,3 +57,20 @@ TellsIn g tells connection = IsTrue tells × IsKept (state g connection)
 pub record TellsThat {S : Type 0} (g : Ghosts S) (tells : Bool) (contents : Contents) (connection : Connected S) : Type 0 where
   pub told : TellsIn g tells connection
   pub holds : held (state g connection) ≡ contents
+
+-- Over a new database in what tells, the store holds nothing.
+abbrev pub IsKeptNew : {S : Type 0} → Ghosts S → Bool → Connected S → Connected S → Type 0
+IsKeptNew g tells old new = IsTrue tells → IsBlank (state g old) → TellsThat g tells map.empty new
+
+-- Over one that has the table, with the index or without, it holds what is there.
+abbrev pub IsKeptOn : {S : Type 0} → Ghosts S → Bool → Connected S → Connected S → Type 0
+IsKeptOn g tells old new = IsTrue tells → IsFormed (state g old) → TellsThat g tells (held (state g old)) new
+
+-- The call leaves a database that is kept in what tells and has the form of the store, where it was one, and is then answered as a
+-- map answers it.
+abbrev pub PerformsIn : {S : Type 0} → Ghosts S → Bool → Request → Reply → Connected S → Connected S → Type 0
+PerformsIn g tells q reply old new = TellsIn g tells old → IsToldOf q reply (state g old) (state g new)
+
+-- The store over a database as any store: it tells what it holds where the database tells in what it is kept.
+abbrev pub kept_state : {S : Type 0} → Ghosts S → Bool → Connected S → ℕ → StoreState
+kept_state g tells connection faults = record { tells = TellsIn g tells connection; contents = held (state g connection); faults = faults }

@@ -1,7 +1,6 @@
 //! The calls on the table.
 ghost use Rattle.std.specs.Prelude.{◌≡◌, ◌∷◌, [], Some, None};
-ghost use Rattle.sqlite.specs.Held.{state};
-ghost use Rattle.sdb_sqlite.specs.Kept.{TellsIn, IsToldOf};
+ghost use Rattle.sdb_sqlite.specs.Kept.{PerformsIn};
 ghost use Rattle.sqlite.specs.declared.types.Value.TheVariants.{Blob};
 ghost use Rattle.sdb_types.specs.declared.record.Request.TheVariants.{Get, Scan, PutIf, DeleteIf};
 ghost use Rattle.sdb_types.specs.Contents.{CanAnswer};
@@ -89,7 +88,7 @@ pub fn find<S: Held>(
 ) -> Result<Option<Record>, Stopped>
     ensures asked { Gets S.Store key.now connection.old connection.new result }
     ensures lawful { CanAnswer (Get key.now) (got_reply result) }
-    ensures told { TellsIn S.Store S.Held.tells connection.old → IsToldOf (Get key.now) (got_reply result) (state S.Store connection.old) (state S.Store connection.new) }
+    ensures told { PerformsIn S.Store S.Held.tells (Get key.now) (got_reply result) connection.old connection.new }
 {
     key_facts(key);
     find_key(alloc, connection, key)
@@ -156,7 +155,7 @@ pub fn list<S: Held>(
 ) -> Result<Records, Stopped>
     ensures asked { Scans S.Store span.now connection.old connection.new result }
     ensures lawful { CanAnswer (Scan span.now) (rows_reply result) }
-    ensures told { TellsIn S.Store S.Held.tells connection.old → IsToldOf (Scan span.now) (rows_reply result) (state S.Store connection.old) (state S.Store connection.new) }
+    ensures told { PerformsIn S.Store S.Held.tells (Scan span.now) (rows_reply result) connection.old connection.new }
 {
     span_facts(span);
     list_span(alloc, connection, span)
@@ -289,7 +288,7 @@ pub fn put<S: Held>(
 ) -> Result<Written, Stopped>
     ensures asked { Puts S.Store rec.now condition.now connection.old connection.new result }
     ensures lawful { CanAnswer (PutIf rec.now condition.now) (write_reply result) }
-    ensures told { TellsIn S.Store S.Held.tells connection.old → IsToldOf (PutIf rec.now condition.now) (write_reply result) (state S.Store connection.old) (state S.Store connection.new) }
+    ensures told { PerformsIn S.Store S.Held.tells (PutIf rec.now condition.now) (write_reply result) connection.old connection.new }
 {
     record_facts(rec);
     put_record(alloc, connection, rec, condition)
@@ -355,7 +354,7 @@ pub fn delete<S: Held>(
 ) -> Result<Written, Stopped>
     ensures asked { Removes S.Store key.now condition.now connection.old connection.new result }
     ensures lawful { CanAnswer (DeleteIf key.now condition.now) (write_reply result) }
-    ensures told { TellsIn S.Store S.Held.tells connection.old → IsToldOf (DeleteIf key.now condition.now) (write_reply result) (state S.Store connection.old) (state S.Store connection.new) }
+    ensures told { PerformsIn S.Store S.Held.tells (DeleteIf key.now condition.now) (write_reply result) connection.old connection.new }
 {
     key_facts(key);
     remove_key(alloc, connection, key, condition)

@@ -1,14 +1,11 @@
 //! The store.
-ghost use Rattle.std.specs.Prelude.{◌≡◌, ◌≤◌, ◌⊎◌, IsTrue, Ok, IfOk, IfErr};
-ghost use Rattle.std.specs.FinMap as map;
-ghost use Rattle.sqlite.specs.Held.{state};
+ghost use Rattle.std.specs.Prelude.{◌≡◌, ◌⊎◌, Ok, IfOk, IfErr};
 ghost use Rattle.sqlite.specs.Steps.{over_memory};
 ghost use Rattle.sdb_types.specs.declared.record.Request.TheVariants.{Get, Scan, PutIf, DeleteIf};
-ghost use Rattle.sdb_types.specs.Contents.{CanAnswer};
 ghost use Rattle.sdb_codec.specs.Spelling.{KeyFitsFields, RecordFitsFields};
-ghost use Rattle.sdb_store.specs.Store.{Performs, HasCause};
+ghost use Rattle.sdb_store.specs.Store.{IsNewStore, IsStoreCall};
 ghost use Rattle.sdb_sqlite.specs.Spans.{SpanFitsFields};
-ghost use Rattle.sdb_sqlite.specs.Kept.{IsBlank, IsFormed, TellsIn, TellsThat, held};
+ghost use Rattle.sdb_sqlite.specs.Kept.{IsKeptNew, IsKeptOn, kept_state};
 ghost use Rattle.sdb_sqlite.specs.Making.{IsMade, IsNotMade, IsRefusedIn, Makes, refused_by};
 ghost use Rattle.sdb_sqlite.specs.Asked.{Gets, Scans, Puts, Removes, IsAnswered, got_reply, rows_reply, write_reply};
 ghost use Rattle.sdb_sqlite.specs.Stopping.{stopped_by};
@@ -70,10 +67,8 @@ impl<S: Held + Drop> Kept<S> {
         ensures made { IfOk result (λ kept. IsMade S.Store connection kept.connection) }
         ensures count { IfOk result (λ kept. kept.faults ≡ 0) }
         ensures refused { IfErr result (IsNotMade S.Store connection) }
-        // Over a new database that tells, it holds nothing.
-        ensures blank { IsTrue S.Held.tells → IsBlank (state S.Store connection) → IfOk result (λ kept. TellsThat S.Store S.Held.tells map.empty kept.connection) }
-        // Over one that has the table, with the index or without, it holds what is there.
-        ensures found { IsTrue S.Held.tells → IsFormed (state S.Store connection) → IfOk result (λ kept. TellsThat S.Store S.Held.tells (held (state S.Store connection)) kept.connection) }
+        ensures blank { IfOk result (λ kept. IsKeptNew S.Store S.Held.tells connection kept.connection) }
+        ensures found { IfOk result (λ kept. IsKeptOn S.Store S.Held.tells connection kept.connection) }
     {
         match make(&mut connection) {
             Ok(_) => Ok(Kept {
@@ -101,9 +96,7 @@ impl<S: Held + Drop> Kept<S> {
 impl Kept<MemStore> {
     /// A store over a new database in memory.
     pub fn in_memory(alloc: Global) -> Result<Kept<MemStore>, KeptRefused>
-        ensures told { IfOk result (λ kept. ⟦<Kept<MemStore> as Store>⟧.tells kept) }
-        ensures empty { IfOk result (λ kept. ⟦<Kept<MemStore> as Store>⟧.contents kept ≡ map.empty) }
-        ensures count { IfOk result (λ kept. ⟦<Kept<MemStore> as Store>⟧.faults kept ≡ 0) }
+        ensures new { IfOk result (λ kept. IsNewStore (⟦<Kept<MemStore> as Store>⟧.state kept)) }
         ensures refused { IfErr result (λ refused. (refused ≡ KeptRefused.NoMemory) ⊎ IsRefusedIn over_memory refused) }
     {
         match Connection::open_in_memory(alloc) {
@@ -124,18 +117,10 @@ fn reply_of(written: Written) -> Reply
 
 impl<S: Held + Drop> Store for Kept<S> {
     // In memory it tells what it holds, where the database has its table and index and nothing else.
-    ghost tells = { λ kept. TellsIn S.Store S.Held.tells kept.connection };
-
-    ghost contents = { λ kept. held (state S.Store kept.connection) };
-
-    ghost faults = { λ kept. kept.faults };
+    ghost state = { λ kept. kept_state S.Store S.Held.tells kept.connection kept.faults };
 
     fn get(&mut self, key: &Key) -> Reply
-        ensures told { TellsIn S.Store S.Held.tells self.old.connection → TellsIn S.Store S.Held.tells self.new.connection }
-        ensures performed { TellsIn S.Store S.Held.tells self.old.connection → Performs (Get key.now) result (held (state S.Store self.old.connection)) (held (state S.Store self.new.connection)) }
-        ensures lawful { CanAnswer (Get key.now) result }
-        ensures counted { self.old.faults ≤ self.new.faults }
-        ensures cause { HasCause result self.old.faults self.new.faults }
+        ensures called { IsStoreCall (Get key.now) result (⟦<Kept<S> as Store>⟧.state self.old) (⟦<Kept<S> as Store>⟧.state self.new) }
         ensures asked { IsAnswered got_reply (Gets S.Store key.now self.old.connection self.new.connection) result }
         ensures unfit { ¬ KeyFitsFields key.now → (result ≡ Reply.Fault) × (self.new.connection ≡ self.old.connection) }
     {
@@ -146,11 +131,7 @@ impl<S: Held + Drop> Store for Kept<S> {
     }
 
     fn scan(&mut self, span: &Span) -> Reply
-        ensures told { TellsIn S.Store S.Held.tells self.old.connection → TellsIn S.Store S.Held.tells self.new.connection }
-        ensures performed { TellsIn S.Store S.Held.tells self.old.connection → Performs (Scan span.now) result (held (state S.Store self.old.connection)) (held (state S.Store self.new.connection)) }
-        ensures lawful { CanAnswer (Scan span.now) result }
-        ensures counted { self.old.faults ≤ self.new.faults }
-        ensures cause { HasCause result self.old.faults self.new.faults }
+        ensures called { IsStoreCall (Scan span.now) result (⟦<Kept<S> as Store>⟧.state self.old) (⟦<Kept<S> as Store>⟧.state self.new) }
         ensures asked { IsAnswered rows_reply (Scans S.Store span.now self.old.connection self.new.connection) result }
         ensures unfit { ¬ SpanFitsFields span.now → ((result ≡ Reply.Fault) ⊎ (result ≡ Reply.NoMemory)) × (self.new.connection ≡ self.old.connection) }
     {
@@ -161,11 +142,7 @@ impl<S: Held + Drop> Store for Kept<S> {
     }
 
     fn put_if(&mut self, rec: &Record, condition: &Condition) -> Reply
-        ensures told { TellsIn S.Store S.Held.tells self.old.connection → TellsIn S.Store S.Held.tells self.new.connection }
-        ensures performed { TellsIn S.Store S.Held.tells self.old.connection → Performs (PutIf rec.now condition.now) result (held (state S.Store self.old.connection)) (held (state S.Store self.new.connection)) }
-        ensures lawful { CanAnswer (PutIf rec.now condition.now) result }
-        ensures counted { self.old.faults ≤ self.new.faults }
-        ensures cause { HasCause result self.old.faults self.new.faults }
+        ensures called { IsStoreCall (PutIf rec.now condition.now) result (⟦<Kept<S> as Store>⟧.state self.old) (⟦<Kept<S> as Store>⟧.state self.new) }
         ensures asked { IsAnswered write_reply (Puts S.Store rec.now condition.now self.old.connection self.new.connection) result }
         ensures unfit { ¬ RecordFitsFields rec.now → (result ≡ Reply.Fault) × (self.new.connection ≡ self.old.connection) }
     {
@@ -176,11 +153,7 @@ impl<S: Held + Drop> Store for Kept<S> {
     }
 
     fn delete_if(&mut self, key: &Key, condition: &Condition) -> Reply
-        ensures told { TellsIn S.Store S.Held.tells self.old.connection → TellsIn S.Store S.Held.tells self.new.connection }
-        ensures performed { TellsIn S.Store S.Held.tells self.old.connection → Performs (DeleteIf key.now condition.now) result (held (state S.Store self.old.connection)) (held (state S.Store self.new.connection)) }
-        ensures lawful { CanAnswer (DeleteIf key.now condition.now) result }
-        ensures counted { self.old.faults ≤ self.new.faults }
-        ensures cause { HasCause result self.old.faults self.new.faults }
+        ensures called { IsStoreCall (DeleteIf key.now condition.now) result (⟦<Kept<S> as Store>⟧.state self.old) (⟦<Kept<S> as Store>⟧.state self.new) }
         ensures asked { IsAnswered write_reply (Removes S.Store key.now condition.now self.old.connection self.new.connection) result }
         ensures unfit { ¬ KeyFitsFields key.now → (result ≡ Reply.Fault) × (self.new.connection ≡ self.old.connection) }
     {

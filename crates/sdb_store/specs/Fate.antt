@@ -7,7 +7,7 @@ use Rattle.sdb_types.specs.Contents.{Contents, after}
 use Rattle.sdb_store.specs.declared.fail.Fail.{Fail}
 use Rattle.sdb_store.specs.declared.fail.Fate.{Fate}
 use Rattle.sdb_store.specs.declared.fail.Fate.TheVariants as fate
-use Rattle.sdb_store.specs.Store.{Answers}
+use Rattle.sdb_store.specs.Store.{Answers, StoreState}
 use Rattle.sdb_types.specs.Draws.{counted as next_number}
 
 abbrev pub listed_fate : Option Fail → Fate
@@ -25,6 +25,10 @@ pub record Held : Type 0 where
   pub failing : List Fail
   pub made : ℕ
   pub failed : ℕ
+
+-- A store in memory as any store: it always tells what it holds.
+abbrev pub memory_state : Held → StoreState
+memory_state held = record { tells = Unit {0}; contents = held.contents; faults = held.failed }
 
 -- A call for which there is no memory changes nothing.
 pub record Starves (r : Reply) (old new : Held) : Type 0 where

@@ -1,9 +1,10 @@
 -- What the calls of a store mean.
-use Rattle.std.specs.Prelude.{◌≡◌, ◌⊎◌, ℕ}
+use Rattle.std.specs.Prelude.{◌≡◌, ◌⊎◌, ◌≤◌, ℕ}
+use Rattle.std.specs.FinMap as map
 use Rattle.sdb_types.specs.declared.record.Request.{Request}
 use Rattle.sdb_types.specs.declared.record.Reply.{Reply}
 use Rattle.sdb_types.specs.declared.record.Reply.TheVariants as reply
-use Rattle.sdb_types.specs.Contents.{Contents, reply_to, after}
+use Rattle.sdb_types.specs.Contents.{Contents, CanAnswer, reply_to, after}
 use Rattle.sdb_types.specs.Bytes.{HasRisen}
 
 -- The answer is the map's reply, and the contents are what the map then holds.
@@ -28,3 +29,24 @@ HasCause (reply.Found found) before now = Unit {0}
 HasCause (reply.Rows rows) before now = Unit {0}
 HasCause reply.Applied before now = Unit {0}
 HasCause (reply.NotMet found) before now = Unit {0}
+
+-- What a store shows: whether it tells what it holds, what it holds where it does, and how often a call has failed.
+pub record StoreState : Type 1 where
+  pub tells : Type 0
+  pub contents : Contents
+  pub faults : ℕ
+
+-- A store that tells what it holds, holds nothing, and of which no call failed.
+pub record IsNewStore (store : StoreState) : Type 0 where
+  pub telling : store.tells
+  pub empty : store.contents ≡ map.empty
+  pub sound : store.faults ≡ 0
+
+-- One call of a store. The reply is one that the request can get from any store. A store that tells what it holds answers as a
+-- map does, and goes on telling. The count of faults does not fall, and rises where the call fails.
+pub record IsStoreCall (q : Request) (r : Reply) (old new : StoreState) : Type 0 where
+  pub telling : old.tells → new.tells
+  pub performed : old.tells → Performs q r old.contents new.contents
+  pub lawful : CanAnswer q r
+  pub counted : old.faults ≤ new.faults
+  pub cause : HasCause r old.faults new.faults

@@ -1,10 +1,9 @@
 //! A store that keeps its records in memory, and whose calls fail as listed.
-ghost use Rattle.std.specs.Prelude.{◌≡◌, ◌≤◌, IfOk, MatchResult};
+ghost use Rattle.std.specs.Prelude.{◌≡◌, IfOk, MatchResult};
 ghost use Rattle.std.specs.FinMap as map;
 ghost use Rattle.sdb_types.specs.declared.record.Request.TheVariants.{Get, Scan, PutIf, DeleteIf};
-ghost use Rattle.sdb_types.specs.Contents.{CanAnswer};
-ghost use Rattle.sdb_store.specs.Store.{Answers, Performs, HasCause};
-ghost use Rattle.sdb_store.specs.Fate.{Serves};
+ghost use Rattle.sdb_store.specs.Store.{Answers, IsStoreCall};
+ghost use Rattle.sdb_store.specs.Fate.{Serves, memory_state};
 
 use crate::fail::{Calls, Fails, Fate};
 use crate::rows::Rows;
@@ -73,18 +72,10 @@ fn reply_of(answer: Result<Reply, NoMemory>) -> Reply
 }
 
 impl<R: Rows> Store for Memory<R> {
-    ghost tells = { λ _. Unit {0} };
-
-    ghost contents = { λ m. m.contents };
-
-    ghost faults = { λ m. m.failed };
+    ghost state = { memory_state };
 
     fn get(&mut self, key: &Key) -> Reply
-        ensures told { Unit {0} → Unit {0} }
-        ensures performed { Unit {0} → Performs (Get key.now) result self.old.contents self.new.contents }
-        ensures lawful { CanAnswer (Get key.now) result }
-        ensures counted { self.old.failed ≤ self.new.failed }
-        ensures cause { HasCause result self.old.failed self.new.failed }
+        ensures called { IsStoreCall (Get key.now) result (memory_state self.old) (memory_state self.new) }
         ensures exact { Serves (Get key.now) result self.old self.new }
     {
         match self.calls.next() {
@@ -99,11 +90,7 @@ impl<R: Rows> Store for Memory<R> {
 
     #[tactic(auto, using(crate::proofs::Lawful::rows_lawful))]
     fn scan(&mut self, span: &Span) -> Reply
-        ensures told { Unit {0} → Unit {0} }
-        ensures performed { Unit {0} → Performs (Scan span.now) result self.old.contents self.new.contents }
-        ensures lawful { CanAnswer (Scan span.now) result }
-        ensures counted { self.old.failed ≤ self.new.failed }
-        ensures cause { HasCause result self.old.failed self.new.failed }
+        ensures called { IsStoreCall (Scan span.now) result (memory_state self.old) (memory_state self.new) }
         ensures exact { Serves (Scan span.now) result self.old self.new }
     {
         match self.calls.next() {
@@ -117,11 +104,7 @@ impl<R: Rows> Store for Memory<R> {
     }
 
     fn put_if(&mut self, rec: &Record, condition: &Condition) -> Reply
-        ensures told { Unit {0} → Unit {0} }
-        ensures performed { Unit {0} → Performs (PutIf rec.now condition.now) result self.old.contents self.new.contents }
-        ensures lawful { CanAnswer (PutIf rec.now condition.now) result }
-        ensures counted { self.old.failed ≤ self.new.failed }
-        ensures cause { HasCause result self.old.failed self.new.failed }
+        ensures called { IsStoreCall (PutIf rec.now condition.now) result (memory_state self.old) (memory_state self.new) }
         ensures exact { Serves (PutIf rec.now condition.now) result self.old self.new }
     {
         match self.calls.next() {
@@ -135,11 +118,7 @@ impl<R: Rows> Store for Memory<R> {
     }
 
     fn delete_if(&mut self, key: &Key, condition: &Condition) -> Reply
-        ensures told { Unit {0} → Unit {0} }
-        ensures performed { Unit {0} → Performs (DeleteIf key.now condition.now) result self.old.contents self.new.contents }
-        ensures lawful { CanAnswer (DeleteIf key.now condition.now) result }
-        ensures counted { self.old.failed ≤ self.new.failed }
-        ensures cause { HasCause result self.old.failed self.new.failed }
+        ensures called { IsStoreCall (DeleteIf key.now condition.now) result (memory_state self.old) (memory_state self.new) }
         ensures exact { Serves (DeleteIf key.now condition.now) result self.old self.new }
     {
         match self.calls.next() {

@@ -11,17 +11,12 @@ use Rattle.std.proofs.lemmas.Option.{slice_get-map, slice_get-get_or, slice_get_
 use Rattle.std.proofs.lemmas.Slice.Eq.{bytes_eq-Decides}
 use Rattle.sdb_types.specs.Bytes.{HasRisen}
 use Rattle.sdb_types.specs.declared.key.TableName.{TableName}
-use Rattle.sdb_types.specs.Contents.{CanAnswer}
 use Rattle.sdb_types.specs.declared.record.Request.{Request}
 use Rattle.sdb_types.specs.declared.record.Reply.{Reply}
 use Rattle.sdb_types.specs.declared.record.Reply.TheVariants as reply
-use Rattle.sdb_store.specs.Store.{Performs, HasCause}
+use Rattle.sdb_store.specs.Store.{StoreState, IsStoreCall}
 use Rattle.sdb_stores.specs.declared.place.Place.{Place}
-use Rattle.sdb_stores.specs.Shelf.{Attached, Shelf, IsCallAt, IsTakenOut, HaveCause, names_of, place_of, placed_on, home, home_of, total_faults}
-
--- stores as each item of a list shows one
-abbrev pub attached_as : {A : Type 0} → (A → Shelf) → (A → Type 0) → List Place → List A → Attached
-attached_as shelf P places xs = record { places = places; shelves = map shelf xs; tells = λ i. IsSomeAnd (slice_get xs i) P }
+use Rattle.sdb_stores.specs.Shelf.{Attached, Shelf, IsCallAt, IsTakenOut, HaveCause, attached_as, shelf_of, names_of, place_of, placed_on, places_without, home, home_of, total_faults}
 
 ---- places
 
@@ -91,24 +86,25 @@ telling_set P (x ∷ xs) (suc at) y f (suc i) h = telling_set P xs at y f i h
 told_at : {A : Type 0} (P : A → Type 0) (xs : List A) (at : ℕ) (x : A) → slice_get xs at ≡ Some x → IsSomeAnd (slice_get xs at) P → P x
 told_at P xs at x e h = subst (λ (o : Option _). IsSomeAnd o P) e h
 
-pub called_at : {A : Type 0} {places later : List Place} (shelf : A → Shelf) (P : A → Type 0) (xs : List A) (at home : ℕ) (q : Request) (r : Reply) (x y : A) → at < length xs → x ≡ get_or xs at x → at ≡ home
-    → (shelf y).name ≡ (shelf x).name → (P x → P y) → (P x → Performs q r (shelf x).contents (shelf y).contents) → CanAnswer q r → (shelf x).faults ≤ (shelf y).faults → HasCause r (shelf x).faults (shelf y).faults
-    → IsCallAt home q r (attached_as shelf P places xs) (attached_as shelf P later (slice_set xs at y))
-called_at {A} {places} {later} shelf P xs at home q r x y inside is same name told performed lawful counted cause =
+pub called_at : {A : Type 0} {places later : List Place} (name : A → List ℕ) (see : A → StoreState) (xs : List A) (at home : ℕ) (q : Request) (r : Reply) (x y : A) → at < length xs → x ≡ get_or xs at x → at ≡ home
+    → name y ≡ name x → IsStoreCall q r (see x) (see y) → IsCallAt home q r (attached_as name see places xs) (attached_as name see later (slice_set xs at y))
+called_at {A} {places} {later} name see xs at home q r x y inside is same named called =
     let here : slice_get xs at ≡ Some x = slice_get-get_or xs at x inside ∙ ap Some (sym is) in
-    let call : IsCallAt at q r (attached_as shelf P places xs) (attached_as shelf P later (slice_set xs at y)) = record {
+    let shelf : A → Shelf = λ a. shelf_of (name a) (see a) in
+    let tells : A → Type 0 = λ a. (see a).tells in
+    let call : IsCallAt at q r (attached_as name see places xs) (attached_as name see later (slice_set xs at y)) = record {
       before = shelf x;
       now = shelf y;
       stood = stands_at shelf xs at x inside is;
       rest = map-set shelf xs at y;
-      name = name;
-      performed = λ h. performed (told_at P xs at x here h);
-      lawful = lawful;
-      counted = counted;
-      cause = cause;
-      telling = telling_set P xs at y (λ h. told (told_at P xs at x here h));
+      name = named;
+      performed = λ h. called.performed (told_at tells xs at x here h);
+      lawful = called.lawful;
+      counted = called.counted;
+      cause = called.cause;
+      telling = telling_set tells xs at y (λ h. called.telling (told_at tells xs at x here h));
     } in
-    subst (λ (i : ℕ). IsCallAt i q r (attached_as shelf P places xs) (attached_as shelf P later (slice_set xs at y))) same call
+    subst (λ (i : ℕ). IsCallAt i q r (attached_as name see places xs) (attached_as name see later (slice_set xs at y))) same call
 
 pub set_same : {A : Type 0} (xs : List A) (at : ℕ) (x : A) → slice_get xs at ≡ Some x → slice_set xs at x ≡ xs
 set_same [] at x e = refl
@@ -171,27 +167,29 @@ found_within shelf xs name at found =
     let place : at < length (names_of (map shelf xs)) = (position-Some (λ n. bytes_eq n name) (names_of (map shelf xs)) at [] (sym found)).0 in
     omega (arith, place, length-map (map shelf xs) (λ s. s.name), length-map xs shelf)
 
-pub taken_out : {A : Type 0} {places later : List Place} (shelf : A → Shelf) (P : A → Type 0) (xs ys : List A) (name : List ℕ) (at : ℕ) (x : A) → Some at ≡ place_of name (names_of (map shelf xs)) → x ≡ get_or xs at x → ys ≡ remove xs at
-    → IsTakenOut name (record { name = name; contents = (shelf x).contents; faults = (shelf x).faults }) (P x) (attached_as shelf P places xs) (attached_as shelf P later ys)
-taken_out shelf P xs ys name at x found is out =
-    let place : (at < length (names_of (map shelf xs))) × (bytes_eq (get_or (names_of (map shelf xs)) at []) name ≡ true) × ((k : ℕ) → k < at → bytes_eq (get_or (names_of (map shelf xs)) k []) name ≡ false) = position-Some (λ n. bytes_eq n name) (names_of (map shelf xs)) at [] (sym found) in
-    let inside : at < length xs = omega (arith, place.0, length-map (map shelf xs) (λ s. s.name), length-map xs shelf) in
-    let stands : slice_get (map shelf xs) at ≡ Some (shelf x) = stands_at shelf xs at x inside is in
-    let own : (shelf x).name ≡ name = sym (get_or_from_slice_get (names_of (map shelf xs)) at (shelf x).name [] (name_at shelf xs at at x inside is refl)) ∙ (bytes_eq-Decides (get_or (names_of (map shelf xs)) at []) name).0 place.1 in
-    record {
-      at = at;
-      found = sym found;
-      taken = stands ∙ ap (λ n. Some (record { name = n; contents = (shelf x).contents; faults = (shelf x).faults })) own;
-      rest = ap (map shelf) out ∙ map-remove shelf xs at;
-      telling = told_at P xs at x (slice_get-get_or xs at x inside ∙ ap Some (sym is));
-      before = λ i less h. subst (λ (zs : List _). IsSomeAnd (slice_get zs i) P) (sym out) (told_before P xs at i less h);
-      behind = λ i most h. subst (λ (zs : List _). IsSomeAnd (slice_get zs i) P) (sym out) (told_behind P xs at i most (rw (← add-one) h));
-    }
-
 less_one : {A : Type 0} (f : A → ℕ) (xs : List A) (at : ℕ) (x : A) → slice_get xs at ≡ Some x → sum_by f (remove xs at) + f x ≡ sum_by f xs
 less_one f [] at x e = cc
 less_one f (y ∷ xs) zero x e = let same : y ≡ x = cc in add_comm (sum_by f xs) (f x) ∙ ap (λ z. f z + sum_by f xs) (sym same) ∙ sym (sum_by-cons f y xs)
 less_one f (y ∷ xs) (suc at) x e = ap (λ n. n + f x) (sum_by-cons f y (remove xs at)) ∙ add_assoc (f y) (sum_by f (remove xs at)) (f x) ∙ ap (λ n. f y + n) (less_one f xs at x e) ∙ sym (sum_by-cons f y xs)
 
-pub counted_out : (name : List ℕ) (store : Shelf) (handed : Type 0) (m n : Attached) → IsTakenOut name store handed m n → total_faults n.shelves + store.faults ≡ total_faults m.shelves
-counted_out name store handed m n h = ap (λ (k : List Shelf). total_faults k + store.faults) h.rest ∙ less_one (λ s. s.faults) m.shelves h.at store h.taken
+pub taken_out : {A : Type 0} {places later : List Place} (name : A → List ℕ) (see : A → StoreState) (xs ys : List A) (own : List ℕ) (at : ℕ) (x : A) → Some at ≡ place_of own (names_of (map (λ a. shelf_of (name a) (see a)) xs)) → x ≡ get_or xs at x
+    → ys ≡ remove xs at → later ≡ places_without own places → IsTakenOut own (see x) (attached_as name see places xs) (attached_as name see later ys)
+taken_out {A} name see xs ys own at x found is out left =
+    let shelf : A → Shelf = λ a. shelf_of (name a) (see a) in
+    let tells : A → Type 0 = λ a. (see a).tells in
+    let place : (at < length (names_of (map shelf xs))) × (bytes_eq (get_or (names_of (map shelf xs)) at []) own ≡ true) × ((k : ℕ) → k < at → bytes_eq (get_or (names_of (map shelf xs)) k []) own ≡ false) = position-Some (λ n. bytes_eq n own) (names_of (map shelf xs)) at [] (sym found) in
+    let inside : at < length xs = omega (arith, place.0, length-map (map shelf xs) (λ s. s.name), length-map xs shelf) in
+    let stands : slice_get (map shelf xs) at ≡ Some (shelf x) = stands_at shelf xs at x inside is in
+    let same : name x ≡ own = sym (get_or_from_slice_get (names_of (map shelf xs)) at (name x) [] (name_at shelf xs at at x inside is refl)) ∙ (bytes_eq-Decides (get_or (names_of (map shelf xs)) at []) own).0 place.1 in
+    let rest : map shelf ys ≡ remove (map shelf xs) at = ap (map shelf) out ∙ map-remove shelf xs at in
+    record {
+      at = at;
+      found = sym found;
+      taken = stands ∙ ap (λ n. Some (shelf_of n (see x))) same;
+      rest = rest;
+      places = left;
+      telling = told_at tells xs at x (slice_get-get_or xs at x inside ∙ ap Some (sym is));
+      before = λ i less h. subst (λ (zs : List _). IsSomeAnd (slice_get zs i) tells) (sym out) (told_before tells xs at i less h);
+      behind = λ i most h. subst (λ (zs : List _). IsSomeAnd (slice_get zs i) tells) (sym out) (told_behind tells xs at i most (rw (← add-one) h));
+      counted = ap (λ (k : List Shelf). total_faults k + (see x).faults) rest ∙ less_one (λ s. s.faults) (map shelf xs) at (shelf x) stands;
+    }

@@ -1,13 +1,16 @@
 -- Names that stay distinct when a store comes, goes or is called.
-use Rattle.std.proofs.Common.{◌≡◌, ◌≢◌, ℕ, zero, suc, ◌<◌, List, [], ◌∷◌, ◌++◌, length, map, slice_set, Bool, true, false, Option, Some, None, refl, sym, ap, subst, ◌∙◌, get_or}
+use Rattle.std.proofs.Common.{◌≡◌, ◌≢◌, ℕ, zero, suc, ◌<◌, List, [], ◌∷◌, ◌++◌, length, map, slice_set, Bool, true, false, Option, Some, None, refl, sym, ap, subst, ◌∙◌, get_or, arith}
 use Rattle.std.specs.Prelude.{slice_get, remove, is_some, if◌then◌else◌, IsSomeAnd}
 use Rattle.std.specs.Option.{option_map}
 use Rattle.std.specs.Str.{bytes_eq}
 use Rattle.std.proofs.lemmas.List.{map-set, map-append, length-map}
+use Rattle.std.proofs.lemmas.List.Sums.{sum_by-append}
 use Rattle.std.proofs.lemmas.List.Quantifiers.{all_pairs_push, all_pairs_remove}
 use Rattle.std.proofs.lemmas.Option.{slice_get-map, slice_get-get_or}
 use Rattle.std.proofs.lemmas.Slice.Eq.{bytes_eq-Decides}
-use Rattle.sdb_stores.specs.Shelf.{Shelf, AreDistinct, names_of, place_of}
+use Rattle.sdb_store.specs.Store.{StoreState}
+use Rattle.sdb_stores.specs.declared.place.Place.{Place}
+use Rattle.sdb_stores.specs.Shelf.{Shelf, AreDistinct, IsAdded, attached_as, shelf_of, names_of, place_of, total_faults}
 use Rattle.sdb_stores.proofs.Called.{names_of-map, map-remove, set_same}
 use Rattle.sdb_types.proofs.Basics.{none_before}
 
@@ -39,17 +42,23 @@ kept P [] y i h = absurd h
 kept P (x ∷ xs) y zero h = h
 kept P (x ∷ xs) y (suc i) h = kept P xs y i h
 
-pub told_more : {A : Type 0} (P : A → Type 0) (xs ys : List A) (y : A) → ys ≡ xs ++ y ∷ [] → (i : ℕ) → IsSomeAnd (slice_get xs i) P → IsSomeAnd (slice_get ys i) P
-told_more P xs ys y is i h = subst (λ (zs : List _). IsSomeAnd (slice_get zs i) P) (sym is) (kept P xs y i h)
-
 last : {A : Type 0} (P : A → Type 0) (xs : List A) (y : A) → P y → IsSomeAnd (slice_get (xs ++ y ∷ []) (length xs)) P
 last P [] y h = h
 last P (x ∷ xs) y h = last P xs y h
 
-pub told_last : {A B : Type 0} (P : A → Type 0) (f : A → B) (xs ys : List A) (y : A) → ys ≡ xs ++ y ∷ [] → P y → IsSomeAnd (slice_get ys (length (map f xs))) P
-told_last P f xs ys y is h =
-    subst (λ (zs : List _). IsSomeAnd (slice_get zs (length (map f xs))) P) (sym is)
-    (subst (λ (n : ℕ). IsSomeAnd (slice_get (xs ++ y ∷ []) n) P) (sym (length-map xs f)) (last P xs y h))
+pub added : {A : Type 0} {places : List Place} (name : A → List ℕ) (see : A → StoreState) (xs ys : List A) (y : A) → ys ≡ xs ++ y ∷ [] → IsAdded (name y) (see y) (attached_as name see places xs) (attached_as name see places ys)
+added {A} name see xs ys y is =
+    let shelf : A → Shelf = λ a. shelf_of (name a) (see a) in
+    let tells : A → Type 0 = λ a. (see a).tells in
+    let more : map shelf ys ≡ map shelf xs ++ shelf y ∷ [] = ap (map shelf) is ∙ map-append shelf xs (y ∷ []) in
+    let told : tells y → IsSomeAnd (slice_get ys (length xs)) tells = λ h. subst (λ (zs : List _). IsSomeAnd (slice_get zs (length xs)) tells) (sym is) (last tells xs y h) in
+    record {
+      shelves = more;
+      places = refl;
+      others = λ i h. subst (λ (zs : List _). IsSomeAnd (slice_get zs i) tells) (sym is) (kept tells xs y i h);
+      telling = λ h. subst (λ (n : ℕ). IsSomeAnd (slice_get ys n) tells) (sym (length-map xs shelf)) (told h);
+      counted = omega (arith, ap total_faults more, sum_by-append (λ s. s.faults) (map shelf xs) (shelf y ∷ []));
+    }
 
 ---- one taken out, and one that is called
 

@@ -1,5 +1,5 @@
 -- Stores by name, as their callers see them.
-use Rattle.std.specs.Prelude.{◌≡◌, ◌≢◌, ◌⊎◌, ◌<◌, ◌≤◌, ◌+◌, ◌-◌, ◌^◌, ◌++◌, ◌∷◌, [], ℕ, not, List, map, filter, find, position, sum_by, Any, Option, Some, None, unwrap_or, slice_get, slice_set, remove}
+use Rattle.std.specs.Prelude.{◌≡◌, ◌≢◌, ◌⊎◌, ◌<◌, ◌≤◌, ◌+◌, ◌-◌, ◌^◌, ◌++◌, ◌∷◌, [], ℕ, not, List, map, filter, find, position, sum_by, Any, Option, Some, None, unwrap_or, length, slice_get, slice_set, remove, IsSome, IsSomeAnd}
 use Rattle.std.specs.List.{AllPairs}
 use Rattle.std.specs.Option.{option_map}
 use Rattle.std.specs.Str.{bytes_eq}
@@ -9,7 +9,7 @@ use Rattle.sdb_types.specs.declared.record.Request.TheVariants as ask
 use Rattle.sdb_types.specs.declared.record.Reply.{Reply}
 use Rattle.sdb_types.specs.declared.record.Reply.TheVariants as reply
 use Rattle.sdb_types.specs.Contents.{Contents, CanAnswer}
-use Rattle.sdb_store.specs.Store.{Performs, HasCause}
+use Rattle.sdb_store.specs.Store.{StoreState, Performs, HasCause}
 use Rattle.sdb_stores.specs.declared.place.Place.{Place}
 
 -- a store: its name, what it holds where it tells that, and how often it has failed
@@ -18,12 +18,24 @@ pub record Shelf : Type 0 where
   pub contents : Contents
   pub faults : ℕ
 
+-- a store of that name that shows this
+abbrev pub shelf_of : List ℕ → StoreState → Shelf
+shelf_of name store = record { name = name; contents = store.contents; faults = store.faults }
+
 -- what a registry shows: the namespaces that have a place, the stores in the order in which they were attached, and which of them, by
 -- their indices, tell what they hold
 pub record Attached : Type 1 where
   pub places : List Place
   pub shelves : List Shelf
   pub tells : ℕ → Type 0
+
+-- stores in slots, each of which has a name and shows what its store does
+abbrev pub attached_as : {A : Type 0} → (A → List ℕ) → (A → StoreState) → List Place → List A → Attached
+attached_as name see places slots = record {
+  places = places;
+  shelves = map (λ s. shelf_of (name s) (see s)) slots;
+  tells = λ i. IsSomeAnd (slice_get slots i) (λ s. (see s).tells);
+}
 
 abbrev pub names_of : List Shelf → List (List ℕ)
 names_of shelves = map (λ s. s.name) shelves
@@ -60,6 +72,10 @@ home_in stores ns = home ns stores.places (names_of stores.shelves)
 abbrev pub places_without : List ℕ → List Place → List Place
 places_without store places = filter (λ p. not (bytes_eq p.store store)) places
 
+-- The store of that name is attached, and the namespace has a place.
+abbrev pub IsPlacedAlready : List ℕ → List ℕ → Attached → Type 0
+IsPlacedAlready ns store stores = IsSome (index_in stores store) × IsSome (placed_on ns stores.places)
+
 -- the table that a request is about
 abbrev pub table_of : Request → TableName
 table_of (ask.Get key) = key.table
@@ -81,27 +97,40 @@ pub record IsCallAt (at : ℕ) (q : Request) (r : Reply) (old new : Attached) : 
   pub cause : HasCause r before.faults now.faults
   pub telling : (i : ℕ) → old.tells i → new.tells i
 
--- A store was added after the others.
-abbrev pub IsAdded : Shelf → Attached → Attached → Type 0
-IsAdded store old new = new.shelves ≡ old.shelves ++ store ∷ []
-
--- The stores and their places are as they were.
-abbrev pub StayTheSame : Attached → Attached → Type 0
-StayTheSame old new = (new.shelves ≡ old.shelves) × (new.places ≡ old.places)
-
--- The store of that name was taken out, as this one, and the others stay in their order, each telling what it told.
-pub record IsTakenOut (name : List ℕ) (store : Shelf) (handed : Type 0) (old new : Attached) : Type 0 where
-  pub at : ℕ
-  pub found : place_of name (names_of old.shelves) ≡ Some at
-  pub taken : slice_get old.shelves at ≡ Some store
-  pub rest : new.shelves ≡ remove old.shelves at
-  pub telling : old.tells at → handed
-  pub before : (i : ℕ) → i < at → old.tells i → new.tells i
-  pub behind : (i : ℕ) → at ≤ i → old.tells (i + 1) → new.tells i
-
 -- the count of all stores together
 abbrev pub total_faults : List Shelf → ℕ
 total_faults shelves = sum_by (λ s. s.faults) shelves
+
+-- These are the places. The stores are as they were, and each that told what it holds goes on telling it.
+pub record HavePlaces (left : List Place) (old new : Attached) : Type 0 where
+  pub places : new.places ≡ left
+  pub shelves : new.shelves ≡ old.shelves
+  pub telling : (i : ℕ) → old.tells i → new.tells i
+
+-- The stores and their places are as they were.
+abbrev pub StayTheSame : Attached → Attached → Type 0
+StayTheSame old new = HavePlaces old.places old new
+
+-- A store was added after the others, and each tells what it told. The places are as they were.
+pub record IsAdded (name : List ℕ) (store : StoreState) (old new : Attached) : Type 0 where
+  pub shelves : new.shelves ≡ old.shelves ++ shelf_of name store ∷ []
+  pub places : new.places ≡ old.places
+  pub others : (i : ℕ) → old.tells i → new.tells i
+  pub telling : store.tells → new.tells (length old.shelves)
+  pub counted : total_faults new.shelves ≡ total_faults old.shelves + store.faults
+
+-- The store of that name was taken out, as this one, with the places that name it. The others stay in their order, each telling
+-- what it told.
+pub record IsTakenOut (name : List ℕ) (store : StoreState) (old new : Attached) : Type 0 where
+  pub at : ℕ
+  pub found : place_of name (names_of old.shelves) ≡ Some at
+  pub taken : slice_get old.shelves at ≡ Some (shelf_of name store)
+  pub rest : new.shelves ≡ remove old.shelves at
+  pub places : new.places ≡ places_without name old.places
+  pub telling : old.tells at → store.tells
+  pub before : (i : ℕ) → i < at → old.tells i → new.tells i
+  pub behind : (i : ℕ) → at ≤ i → old.tells (i + 1) → new.tells i
+  pub counted : total_faults new.shelves + store.faults ≡ total_faults old.shelves
 
 -- The count of all stores rose, or that of one of them stands at the greatest value of its type.
 abbrev pub HaveRisen : List Shelf → List Shelf → Type 0

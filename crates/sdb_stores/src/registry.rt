@@ -1,6 +1,6 @@
 //! A registry of stores.
-ghost use Rattle.std.specs.Prelude.{◌≡◌, ◌<◌, ◌≤◌, ◌↔◌, ◌++◌, ◌∷◌, [], ℕ, List, length, map, Some, None, IsSome, IfOk, OnOk, OnErr, IsErrOf, slice_get};
-ghost use Rattle.sdb_stores.specs.Shelf.{Attached, AreDistinct, IsCallAt, HaveCause, home_in, index_in, names_of, placed_on, table_of, total_faults};
+ghost use Rattle.std.specs.Prelude.{◌≡◌, ◌<◌, ◌≤◌, ◌↔◌, ◌++◌, ◌∷◌, [], length, Some, None, IfOk, OnOk, OnErr, IsErrOf, slice_get};
+ghost use Rattle.sdb_stores.specs.Shelf.{Attached, AreDistinct, IsCallAt, HaveCause, HavePlaces, IsPlacedAlready, StayTheSame, home_in, index_in, names_of, table_of, total_faults};
 
 use crate::place::PlaceRefused;
 use sdb_types::{Name, Names, NoMemory, Reply, Request, TableName};
@@ -21,18 +21,14 @@ pub trait Registry {
 
     /// Places a namespace on a store.
     fn place(&mut self, ns: Name, store: &Name) -> Result<(), PlaceRefused>
-        ensures ok { OnOk result ((state self.new).places ≡ (state self.old).places ++ record { ns = ns; store = store.now } ∷ []) }
-        ensures err { OnErr result ((state self.new).places ≡ (state self.old).places) }
+        ensures ok { OnOk result (HavePlaces ((state self.old).places ++ record { ns = ns; store = store.now } ∷ []) (state self.old) (state self.new)) }
+        ensures err { OnErr result (StayTheSame (state self.old) (state self.new)) }
         ensures no_store { IsErrOf result PlaceRefused.NoStore ↔ (index_in (state self.old) store.now ≡ None) }
-        ensures placed { IsErrOf result PlaceRefused.AlreadyPlaced ↔ (IsSome (index_in (state self.old) store.now) × IsSome (placed_on ns (state self.old).places)) }
-        ensures stores { (state self.new).shelves ≡ (state self.old).shelves }
-        ensures telling { (i : ℕ) → (state self.old).tells i → (state self.new).tells i };
+        ensures placed { IsErrOf result PlaceRefused.AlreadyPlaced ↔ IsPlacedAlready ns store.now (state self.old) };
 
     /// Takes all places away.
     fn clear_places(&mut self)
-        ensures places { (state self.new).places ≡ [] }
-        ensures stores { (state self.new).shelves ≡ (state self.old).shelves }
-        ensures telling { (i : ℕ) → (state self.old).tells i → (state self.new).tells i };
+        ensures cleared { HavePlaces [] (state self.old) (state self.new) };
 
     /// The name of the store of a table.
     fn store_of(&self, table: &TableName) -> &Name

@@ -1,9 +1,8 @@
 //! Stores in boxes.
-ghost use Rattle.std.specs.Prelude.{◌≡◌, ◌<◌, ◌≤◌, ◌↔◌, ◌⊎◌, ◌+◌, ◌++◌, ◌∷◌, [], ℕ, List, length, map, position, remove, Err, Some, None, IsSome, IsSomeAnd, OnSome, IsErrOf, IfOk, IfSome, IfNone, OnOk, OnErr, slice_get};
+ghost use Rattle.std.specs.Prelude.{◌≡◌, ◌↔◌, ◌⊎◌, ◌++◌, ◌∷◌, [], ℕ, List, map, position, Err, None, IsSome, IfOk, IfSome, IfNone, OnOk, OnErr};
 ghost use Rattle.std.specs.Str.{bytes_eq};
-ghost use Rattle.sdb_types.specs.Contents.{CanAnswer};
-ghost use Rattle.sdb_store.specs.Store.{Performs, HasCause};
-ghost use Rattle.sdb_stores.specs.Shelf.{Shelf, AreDistinct, IsCallAt, IsTakenOut, HaveCause, IsAdded, StayTheSame, home_in, index_in, names_of, placed_on, places_without, table_of as table_of_lem, total_faults};
+ghost use Rattle.sdb_store.specs.Store.{IsStoreCall};
+ghost use Rattle.sdb_stores.specs.Shelf.{AreDistinct, IsAdded, IsTakenOut, StayTheSame, attached_as, home_in, index_in};
 ghost use Rattle.sdb_stores.specs.declared.place.Place.{Place};
 
 use crate::place::{Place, PlaceRefused, find_store, leave, table_of};
@@ -42,19 +41,6 @@ impl Drop for Stores {
     }
 }
 
-// What a slot shows.
-trait Seen {
-    ghost shelf: { Self → Shelf };
-
-    ghost tells: { Self → Type 0 };
-}
-
-impl Seen for Slot {
-    ghost shelf = { λ slot. record { name = slot.name; contents = (Store-box slot.store).contents slot.store.value; faults = (Store-box slot.store).faults slot.store.value } };
-
-    ghost tells = { λ slot. (Store-box slot.store).tells slot.store.value };
-}
-
 trait Named {
     ghost name: { Self → List ℕ };
 
@@ -79,12 +65,8 @@ fn place_in<T: Named>(items: &[T], name: &Name) -> Option<usize>
 
 // One call on the store of a slot.
 fn call_slot(slot: &mut Slot, request: &Request) -> Reply
-    ensures name { (⟦<Slot as Seen>⟧.shelf slot.new).name ≡ (⟦<Slot as Seen>⟧.shelf slot.old).name }
-    ensures told { ⟦<Slot as Seen>⟧.tells slot.old → ⟦<Slot as Seen>⟧.tells slot.new }
-    ensures performed { ⟦<Slot as Seen>⟧.tells slot.old → Performs request.now result (⟦<Slot as Seen>⟧.shelf slot.old).contents (⟦<Slot as Seen>⟧.shelf slot.new).contents }
-    ensures lawful { CanAnswer request.now result }
-    ensures counted { (⟦<Slot as Seen>⟧.shelf slot.old).faults ≤ (⟦<Slot as Seen>⟧.shelf slot.new).faults }
-    ensures cause { HasCause result (⟦<Slot as Seen>⟧.shelf slot.old).faults (⟦<Slot as Seen>⟧.shelf slot.new).faults }
+    ensures name { slot.new.name ≡ slot.old.name }
+    ensures called { IsStoreCall request.now result (state slot.old.store) (state slot.new.store) }
 {
     call(&mut slot.store, request)
 }
@@ -120,14 +102,10 @@ impl Stores {
 
     /// Adds a store behind the others. A store that is refused is handed back.
     pub fn attach(&mut self, name: Name, store: Box<dyn Store>) -> Result<(), AttachRefused>
-        ensures ok { OnOk result (IsAdded (record { name = name; contents = contents store; faults = faults store }) (⟦<Stores as Registry>⟧.state self.old) (⟦<Stores as Registry>⟧.state self.new)) }
-        ensures err { OnErr result ((⟦<Stores as Registry>⟧.state self.new).shelves ≡ (⟦<Stores as Registry>⟧.state self.old).shelves) }
+        ensures ok { OnOk result (IsAdded name (state store) (⟦<Stores as Registry>⟧.state self.old) (⟦<Stores as Registry>⟧.state self.new)) }
+        ensures err { OnErr result (StayTheSame (⟦<Stores as Registry>⟧.state self.old) (⟦<Stores as Registry>⟧.state self.new)) }
         ensures taken { (result ≡ Err (AttachRefused.NameTaken store)) ↔ IsSome (index_in (⟦<Stores as Registry>⟧.state self.old) name) }
         ensures back { OnErr result ((result ≡ Err (AttachRefused.NameTaken store)) ⊎ (result ≡ Err (AttachRefused.NoMemory store))) }
-        ensures places { (⟦<Stores as Registry>⟧.state self.new).places ≡ (⟦<Stores as Registry>⟧.state self.old).places }
-        ensures telling { (i : ℕ) → (⟦<Stores as Registry>⟧.state self.old).tells i → (⟦<Stores as Registry>⟧.state self.new).tells i }
-        ensures counted { OnOk result (total_faults (⟦<Stores as Registry>⟧.state self.new).shelves ≡ total_faults (⟦<Stores as Registry>⟧.state self.old).shelves + faults store) }
-        ensures told { OnOk result (tells store → (⟦<Stores as Registry>⟧.state self.new).tells (length (⟦<Stores as Registry>⟧.state self.old).shelves)) }
     {
         if self.index_of(&name).is_some() {
             return Err(AttachRefused::NameTaken(store));
@@ -145,10 +123,7 @@ impl Stores {
     pub fn detach(&mut self, name: &Name) -> Option<Box<dyn Store>>
         ensures none { IfNone result (index_in (⟦<Stores as Registry>⟧.state self.old) name.now ≡ None) }
         ensures unchanged { IfNone result (StayTheSame (⟦<Stores as Registry>⟧.state self.old) (⟦<Stores as Registry>⟧.state self.new)) }
-        ensures telling { IfNone result ((i : ℕ) → (⟦<Stores as Registry>⟧.state self.old).tells i → (⟦<Stores as Registry>⟧.state self.new).tells i) }
-        ensures some { IfSome result (λ store. IsTakenOut name.now (record { name = name.now; contents = contents store; faults = faults store }) (tells store) (⟦<Stores as Registry>⟧.state self.old) (⟦<Stores as Registry>⟧.state self.new)) }
-        ensures places { OnSome result ((⟦<Stores as Registry>⟧.state self.new).places ≡ places_without name.now (⟦<Stores as Registry>⟧.state self.old).places) }
-        ensures counted { IfSome result (λ store. total_faults (⟦<Stores as Registry>⟧.state self.new).shelves + faults store ≡ total_faults (⟦<Stores as Registry>⟧.state self.old).shelves) }
+        ensures some { IfSome result (λ s. IsTakenOut name.now (state s) (⟦<Stores as Registry>⟧.state self.old) (⟦<Stores as Registry>⟧.state self.new)) }
     {
         let i = self.index_of(name)?;
         let Slot { name: _, store } = self.slots.remove(i);
@@ -158,7 +133,7 @@ impl Stores {
 }
 
 impl Registry for Stores {
-    ghost state = { λ s. record { places = s.places.items; shelves = map (λ slot. record { name = slot.name; contents = (Store-box slot.store).contents slot.store.value; faults = (Store-box slot.store).faults slot.store.value }) s.slots.items; tells = λ i. IsSomeAnd (slice_get s.slots.items i) (λ slot. (Store-box slot.store).tells slot.store.value) } };
+    ghost state = { λ s. attached_as (λ slot. slot.name) (λ slot. (Store-box slot.store).state slot.store.value) s.places.items s.slots.items };
 
     fn len(&self) -> usize {
         self.slots.len()

@@ -32,11 +32,7 @@ impl Short {
 }
 
 impl Store for Short {
-    ghost tells = { λ _. ⊥ };
-
-    ghost contents = { λ _. map.empty };
-
-    ghost faults = { λ s. ⟦<Ordered as Store>⟧.faults s.ordered };
+    ghost state = { λ s. record { tells = ⊥; contents = map.empty; faults = (⟦<Ordered as Store>⟧.state s.ordered).faults } };
 
     fn get(&mut self, key: &Key) -> Reply {
         if !self.finds_memory() {

@@ -30,11 +30,7 @@ impl Broken {
 }
 
 impl Store for Broken {
-    ghost tells = { λ _. ⊥ };
-
-    ghost contents = { λ _. map.empty };
-
-    ghost faults = { λ b. b.failed };
+    ghost state = { λ b. record { tells = ⊥; contents = map.empty; faults = b.failed } };
 
     fn get(&mut self, _: &Key) -> Reply {
         self.fail()
@@ -58,11 +54,7 @@ impl Store for Broken {
 struct Full;
 
 impl Store for Full {
-    ghost tells = { λ _. ⊥ };
-
-    ghost contents = { λ _. map.empty };
-
-    ghost faults = { λ _. 0 };
+    ghost state = { λ _. record { tells = ⊥; contents = map.empty; faults = 0 } };
 
     fn get(&mut self, _: &Key) -> Reply {
         Reply::NoMemory
@@ -99,11 +91,7 @@ impl Turns {
 }
 
 impl Store for Turns {
-    ghost tells = { λ _. ⊥ };
-
-    ghost contents = { λ _. map.empty };
-
-    ghost faults = { λ t. t.broken.failed };
+    ghost state = { λ t. record { tells = ⊥; contents = map.empty; faults = t.broken.failed } };
 
     fn get(&mut self, _: &Key) -> Reply {
         if self.is_odd() {

@@ -10,9 +10,9 @@ unreachable-requires g c =
 
 pub returns-in-Ok-clause-ok : goal.returns-in-Ok-clause-ok
 returns-in-Ok-clause-ok g c = λ ns.
-    ap (placed_on ns) (c.in-Ok.ensures.ok ∙ ap (λ (n : List ℕ). (g.R.Registry.state c.args.stores.now).places ++ with_place n c.args.entry.now.store ∷ []) c.in_ok-copy.ensures) ∙ placed_one (g.R.Registry.state c.args.stores.now).places c.args.entry.now ns
+    ap (placed_on ns) (c.in-Ok.ensures.ok.places ∙ ap (λ (n : List ℕ). (g.R.Registry.state c.args.stores.now).places ++ with_place n c.args.entry.now.store ∷ []) c.in_ok-copy.ensures) ∙ placed_one (g.R.Registry.state c.args.stores.now).places c.args.entry.now ns
 
 pub returns-in-Err-AlreadyPlaced-clause-ok : goal.returns-in-Err-AlreadyPlaced-clause-ok
 returns-in-Err-AlreadyPlaced-clause-ok g c = λ ns.
     let known = (c.place.ensures.placed.0 (c.in-Err-AlreadyPlaced.is ∙ ap Err c.in-Err-AlreadyPlaced.field-0-is)).1 in
-    ap (placed_on ns) c.in-Err-AlreadyPlaced.ensures.err ∙ placed_known (g.R.Registry.state c.args.stores.now).places c.args.entry.now ns (ap (λ (n : List ℕ). is_some (placed_on n (g.R.Registry.state c.args.stores.now).places)) (sym c.in_ok-copy.ensures) ∙ known)
+    ap (placed_on ns) c.in-Err-AlreadyPlaced.ensures.err.places ∙ placed_known (g.R.Registry.state c.args.stores.now).places c.args.entry.now ns (ap (λ (n : List ℕ). is_some (placed_on n (g.R.Registry.state c.args.stores.now).places)) (sym c.in_ok-copy.ensures) ∙ known)

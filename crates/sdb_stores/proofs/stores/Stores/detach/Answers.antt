@@ -1,4 +1,4 @@
-use Rattle.sdb_stores.proofs.Called.{taken_out, counted_out, found_within}
+use Rattle.sdb_stores.proofs.Called.{taken_out, found_within}
 use Rattle.sdb_stores.proofs.Distinct.{detached}
 use Rattle.sdb_stores.proofs.stores.Stores.detach.Goals as goal
 
@@ -7,7 +7,4 @@ invariant_of-self g c = record { distinct = detached _ c.args.self.now.slots.ite
 
 pub returns-clause-some : goal.returns-clause-some
 returns-clause-some g c =
-    taken_out _ _ c.args.self.now.slots.items c.remove-store.new.self.items c.args.name.now c.in_ok-i.i c.remove-store.result c.in_ok-i.ensures c.remove-store.ensures.value c.remove-store.ensures.items
-
-pub returns-clause-counted : goal.returns-clause-counted
-returns-clause-counted g c = counted_out _ _ _ _ _ (returns-clause-some g c)
+    taken_out _ _ c.args.self.now.slots.items c.remove-store.new.self.items c.args.name.now c.in_ok-i.i c.remove-store.result c.in_ok-i.ensures c.remove-store.ensures.value c.remove-store.ensures.items c.leave.ensures

@@ -10,14 +10,12 @@ invariant_of-self g c =
 
 pub returns-clause-called : goal.returns-clause-called
 returns-clause-called g c =
-    let call = c.call_slot.ensures in
     let xs = c.args.self.now.slots.items in
     let places = c.args.self.now.places.items in
     let at = c.home_of-at.result in
     let inside = home_within _ xs places c.table_of.result.now.ns at c.requires c.home_of-at.ensures in
     called_at _ _ xs at _ c.args.request.now c.call_slot.result c.index_mut-slot.result.now c.call_slot.new.slot inside c.index_mut-slot.ensures.value
-    (same_home _ places c.table_of.result.now _ at c.home_of-at.ensures c.table_of.ensures)
-    call.name call.told call.performed call.lawful call.counted call.cause
+    (same_home _ places c.table_of.result.now _ at c.home_of-at.ensures c.table_of.ensures) c.call_slot.ensures.name c.call_slot.ensures.called
 
 pub returns-clause-names : goal.returns-clause-names
 returns-clause-names g c = same_names _ _ _ _ _ (returns-clause-called g c)
