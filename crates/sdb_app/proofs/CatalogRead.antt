@@ -1,11 +1,11 @@
 -- The tables of a schema that was read are a catalog.
 use Rattle.std.proofs.Common.{◌≡◌, ℕ, true, false, List, [], ◌∷◌, length, map, Option, Some, None, Result, Ok, Err, refl, sym, ap, subst, ◌∙◌}
-use Rattle.std.specs.Prelude.{nat_le, if◌then◌else◌, is_some}
+use Rattle.std.specs.Prelude.{nat_le, if◌then◌else◌}
 use Rattle.std.specs.List.{list_all, cons_option}
 use Rattle.std.specs.Option.{option_map, option_map_or, option_and_then}
 use Rattle.std.specs.declared.cmp.Ordering.{Ordering}
 use Rattle.std.specs.declared.cmp.Ordering.TheVariants.{Less, Equal, Greater}
-use Rattle.std.specs.Ordering.{is_lt, nat_cmp, match_ordering, ordering_reverse}
+use Rattle.std.specs.Ordering.{nat_cmp, match_ordering, ordering_reverse}
 use Rattle.std.specs.Cmp.Lexicographic.{slice_cmp}
 use Rattle.std.specs.Str.{is_utf8}
 use Rattle.std.proofs.lemmas.Cmp.{nat_list_cmp_total}
@@ -16,9 +16,7 @@ use Rattle.serde_json.specs.Find.{as_object, get}
 use Rattle.serde_json.specs.Read.{max_depth, number_of, of_items, of_json, of_members}
 use Rattle.sdb_types.specs.declared.key.TableName.{TableName}
 use Rattle.sdb_types.specs.Identifier.{is_name}
-use Rattle.sdb_types.specs.Order.{table_cmp, table_text}
 use Rattle.sdb_types.proofs.Bools.{and_both}
-use Rattle.sdb_types.proofs.KeyOrder.{by_text}
 use Rattle.sdb_record.specs.Parts.{is_column_name}
 use Rattle.sdb_schema.specs.declared.table.Column.{Column}
 use Rattle.sdb_schema.specs.declared.table.Kind.{Kind}
@@ -32,7 +30,7 @@ use Rattle.sdb_loader.specs.declared.fault.SchemaFault.TheVariants as fault
 use Rattle.sdb_loader.specs.Fields.{columns, columns_among, columns_in, kind_said}
 use Rattle.sdb_loader.specs.Words.{table_named}
 use Rattle.sdb_loader.specs.Described.{bad_field, bad_name, bad_table, catalog_in, described, described_members, described_tables, first_said, json_of, named, refusal_in, refuse, table_of, unknown_type, untransactional, within_limit}
-use Rattle.sdb_loader.proofs.Names.{text_of}
+use Rattle.sdb_loader.proofs.Names.{good_first, in_order_of, named_is}
 use Rattle.sdb_record.proofs.NameLemmas.{name_of_column}
 use Rattle.sdb_loader.proofs.Values.{are_short-columns_in}
 use Rattle.sdb_script.proofs.Pieces.{bind_is, map_is, no_some}
@@ -97,27 +95,6 @@ read_rises text d ms h k =
     (λ t. no_some d (rw t at h))
 
 ---- and so do the names of their tables
-
-record IsGood (text : List ℕ) (ms : Members) : Type 0 where
-  name : TableName
-  is : table_named text ≡ Some name
-  rest : bad_name ms ≡ None
-
-good_first : (text : List ℕ) (d : Data) (ms : Members) → bad_name (member text d ms) ≡ None → IsGood text ms
-good_first text d ms h =
-    elim (table_named text) as (λ o. table_named text ≡ o → (if is_some o then bad_name ms else Some text) ≡ None → IsGood text ms) [
-      | Some t ↦ λ q k. record { name = t; is = q; rest = k }
-      | None ↦ λ q k. absurd (cc)
-    ] refl h
-
-in_order_of : (a b : List ℕ) (t u : TableName) → table_named a ≡ Some t → table_named b ≡ Some u → slice_cmp nat_cmp a b ≡ Less → is_lt (table_cmp t u) ≡ true
-in_order_of a b t u h k l =
-    let p = text_of a t h in
-    let q = text_of b u k in
-    ap is_lt (sym (by_text t u p.ns_is q.ns_is) ∙ ap (λ x. slice_cmp nat_cmp x (table_text u)) p.text_is ∙ ap (slice_cmp nat_cmp a) q.text_is ∙ l)
-
-named_is : (text : List ℕ) (d : Data) (ms : Members) (t : TableName) → table_named text ≡ Some t → named (member text d ms) ≡ (t, d) ∷ named ms
-named_is text d ms t h = rw h refl
 
 above_next : (a : List ℕ) (t : TableName) (ms : Members) → table_named a ≡ Some t → IsUnder a ms → bad_name ms ≡ None → stands_above t (map table_of (named ms)) ≡ true
 above_next a t no_members h l g = refl

@@ -56,12 +56,13 @@ text_of text t =
 
 ---- members in order
 
-record IsGood (text : List ℕ) (ms : Members) : Type 0 where
-  name : TableName
-  is : table_named text ≡ Some name
-  rest : bad_name ms ≡ None
+-- the first member names a table, and the others have good names if all do
+pub record IsGood (text : List ℕ) (ms : Members) : Type 0 where
+  pub name : TableName
+  pub is : table_named text ≡ Some name
+  pub rest : bad_name ms ≡ None
 
-good_first : (text : List ℕ) (d : Data) (ms : Members) → bad_name (member text d ms) ≡ None → IsGood text ms
+pub good_first : (text : List ℕ) (d : Data) (ms : Members) → bad_name (member text d ms) ≡ None → IsGood text ms
 good_first text d ms h =
     elim (table_named text) as (λ o. table_named text ≡ o → cond (is_some o) (bad_name ms) (Some text) ≡ None → IsGood text ms) [
       | Some t ↦ λ q k. record { name = t; is = q; rest = k }
@@ -74,13 +75,13 @@ Entry = String Global × Value
 abbrev texts : List Entry → List (String Global)
 texts es = map (λ e. e.0) es
 
-in_order_of : (a b : List ℕ) (t u : TableName) → table_named a ≡ Some t → table_named b ≡ Some u → slice_cmp nat_cmp a b ≡ Less → is_lt (table_cmp t u) ≡ true
+pub in_order_of : (a b : List ℕ) (t u : TableName) → table_named a ≡ Some t → table_named b ≡ Some u → slice_cmp nat_cmp a b ≡ Less → is_lt (table_cmp t u) ≡ true
 in_order_of a b t u h k l =
     let p = text_of a t h in
     let q = text_of b u k in
     ap is_lt (sym (by_text t u p.ns_is q.ns_is) ∙ ap (λ x. slice_cmp nat_cmp x (table_text u)) p.text_is ∙ ap (slice_cmp nat_cmp a) q.text_is ∙ l)
 
-named_is : (text : List ℕ) (d : Data) (ms : Members) (t : TableName) → table_named text ≡ Some t → named (member text d ms) ≡ (t, d) ∷ named ms
+pub named_is : (text : List ℕ) (d : Data) (ms : Members) (t : TableName) → table_named text ≡ Some t → named (member text d ms) ≡ (t, d) ∷ named ms
 named_is text d ms t h = rw h refl
 
 above_next : (a : List ℕ) (t : TableName) (es : List Entry) → table_named a ≡ Some t → AllByRecursion (λ y. slice_cmp nat_cmp a (string_bytes y) ≡ Less) (texts es) → bad_name (members_view es) ≡ None → stands_above t (map table_of (named (members_view es))) ≡ true

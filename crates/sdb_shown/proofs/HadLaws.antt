@@ -15,6 +15,7 @@ use Rattle.sdb_model.specs.declared.statement.Statement.{Statement}
 use Rattle.sdb_model.specs.Shown.{CommittedBy, ReadsKey, StartsWith, row_left}
 use Rattle.sdb_model.specs.Told.{AreRead}
 use Rattle.sdb_model.specs.Transactions.{Said}
+use Rattle.sdb_snapshot.specs.Seen.{images_with}
 use Rattle.sdb_order.specs.Commits.{said_of}
 use Rattle.sdb_said.proofs.Lists.{In, any_some, some_any}
 use Rattle.sdb_said.proofs.ShownLaws.{key_is, is_key}
@@ -24,7 +25,7 @@ use Rattle.sdb_caused.proofs.Finds.{contained_made, made_contained}
 use Rattle.sdb_caused.proofs.SameLaws.{said_is, said_itself}
 use Rattle.sdb_shown.specs.declared.stores.Stores.{Stores}
 use Rattle.sdb_shown.specs.declared.turn.Turn.{Turn}
-use Rattle.sdb_shown.specs.Tests.{bases, had_at, image_at, image_then, reads_key, rows_below, rows_from}
+use Rattle.sdb_shown.specs.Tests.{bases, had_at, image_then, reads_key, rows_below, rows_from}
 use Rattle.sdb_shown.specs.Turns.{AreTurns, IsTurn}
 use Rattle.sdb_shown.specs.Values.{all_moments, all_shelves, row_then}
 use Rattle.sdb_shown.proofs.Members.{below_in, flat_in, in_below, in_either, in_flat, in_left, in_right}
@@ -88,7 +89,7 @@ module _ (catalog : List Table) (events : List Event) (client : ℕ) (s : Said) 
   made_here : (u : Said) (ss : List Said) (t : Turn) (row : Option (List Pair)) (image : Image) → said_of t.said ≡ u → In (image_then s key row t) image → Here row (u ∷ ss) image
   made_here u ss t row image same i = by (same_said (said_of t.said) s) refl i
     where
-      at : (r : Option (List Pair)) → row ≡ r → u ≡ s → In (image_at key r) image → Here row (u ∷ ss) image
+      at : (r : Option (List Pair)) → row ≡ r → u ≡ s → In (images_with key r) image → Here row (u ∷ ss) image
       at None e f k = absurd k
       at (Some c) e f (inl k) = (
         ap (λ (z : Image). z.key) k,
@@ -103,7 +104,7 @@ module _ (catalog : List Table) (events : List Event) (client : ℕ) (s : Said) 
       )
       at (Some c) e f (inr k) = absurd k
 
-      by : (b : Bool) → same_said (said_of t.said) s ≡ b → In (if b then image_at key row else []) image → Here row (u ∷ ss) image
+      by : (b : Bool) → same_said (said_of t.said) s ≡ b → In (if b then images_with key row else []) image → Here row (u ∷ ss) image
       by true e k = at row refl (sym same ∙ said_is (said_of t.said) s e) k
       by false e k = absurd k
 
@@ -135,7 +136,7 @@ module _ (catalog : List Table) (events : List Event) (client : ℕ) (s : Said) 
   from_made [] later [] [] row columns r m a = absurd a
   from_made [] later [] (t ∷ ts) row columns r m (h, a) =
       in_left (image_then s key row t) (option_map_or (λ st. rows_from catalog s key (row_left catalog st key row) ts) t.statement []) (record { key = key; columns = columns })
-      (subst (λ b. In (if b then image_at key row else []) (record { key = key; columns = columns })) (sym (ap (λ z. same_said z s) h.said ∙ said_itself s)) (subst (λ o. In (image_at key o) (record { key = key; columns = columns })) m (inl refl)))
+      (subst (λ b. In (if b then images_with key row else []) (record { key = key; columns = columns })) (sym (ap (λ z. same_said z s) h.said ∙ said_itself s)) (subst (λ o. In (images_with key o) (record { key = key; columns = columns })) m (inl refl)))
   from_made [] later (st ∷ sts) ts row columns r m a = absurd r
   from_made (c ∷ cs) later [] ts row columns r m a = absurd r
   from_made (c ∷ cs) later (st ∷ sts) [] row columns r m a = absurd a

@@ -2,7 +2,7 @@
 use Rattle.std.proofs.Common.{◌≡◌, Bool, true, false, List, [], ◌∷◌, Some, refl}
 use Rattle.std.specs.Prelude.{find, if◌then◌else◌}
 use Rattle.std.specs.Option.{option_map}
-use Rattle.sdb_model.specs.Events.{first_name, held_by}
+use Rattle.sdb_model.specs.Events.{held_by}
 use Rattle.sdb_model.specs.Rows.{Name, same_name}
 use Rattle.sdb_shown.specs.declared.stores.Shelf.{Shelf}
 use Rattle.sdb_shown.specs.Values.{all_shelves, shelf_of}

@@ -1,5 +1,5 @@
 -- Tests that hold exactly where the answers of a transaction show rows that it has, over its effective statements.
-use Rattle.std.specs.Prelude.{ℕ, zero, suc, Bool, true, false, nat_lt, if◌then◌else◌, List, [], ◌∷◌, ◌++◌, map, Option, Some, None}
+use Rattle.std.specs.Prelude.{ℕ, zero, suc, Bool, true, false, nat_lt, if◌then◌else◌, List, [], ◌∷◌, ◌++◌, map, Option, Some}
 use Rattle.std.specs.Cmp.Lexicographic.{slice_cmp}
 use Rattle.std.specs.List.{cons_option, flat_map, list_all, list_any}
 use Rattle.std.specs.Option.{option_map, option_map_or}
@@ -23,6 +23,7 @@ use Rattle.sdb_model.specs.Exec.{all_rows, find_table, key_of, shown}
 use Rattle.sdb_model.specs.Noted.{same_key}
 use Rattle.sdb_model.specs.Shown.{row_left}
 use Rattle.sdb_model.specs.Transactions.{Said}
+use Rattle.sdb_snapshot.specs.Seen.{images_with}
 use Rattle.sdb_order.specs.Commits.{said_of}
 use Rattle.sdb_caused.specs.Tests.{same_said}
 use Rattle.sdb_shown.specs.declared.stores.Shelf.{Shelf}
@@ -48,13 +49,9 @@ bases x key t = if list_any (λ m. reads_key key m.request) t.calls then rows_be
 
 ---- what the statements made of it
 
-abbrev pub image_at : Key → Option (List Pair) → List Image
-image_at key None = []
-image_at key (Some columns) = record { key = key; columns = columns } ∷ []
-
 -- the row that there is at a statement, where it is this one
 abbrev pub image_then : Said → Key → Option (List Pair) → Turn → List Image
-image_then s key row t = if same_said (said_of t.said) s then image_at key row else []
+image_then s key row t = if same_said (said_of t.said) s then images_with key row else []
 
 -- the rows that there are at a statement where it is one of these, made of a first row by those before it
 abbrev pub rows_from : List Table → Said → Key → Option (List Pair) → List Turn → List Image

@@ -1,8 +1,9 @@
 //! The rows that a transaction has at a key when it takes a statement.
 ghost use Rattle.std.specs.Prelude.{◌≡◌, ◌++◌, IfOk, OnOk};
 ghost use Rattle.std.specs.List.{flat_map, list_any};
+ghost use Rattle.sdb_snapshot.specs.Seen.{images_with};
 ghost use Rattle.sdb_order.specs.Commits.{said_of};
-ghost use Rattle.sdb_shown.specs.Tests.{bases as bases_lem, had, had_at, image_at, image_then, reads_key as reads_key_lem, rows_below, rows_from};
+ghost use Rattle.sdb_shown.specs.Tests.{bases as bases_lem, had, had_at, image_then, reads_key as reads_key_lem, rows_below, rows_from};
 ghost use Rattle.sdb_shown.specs.Values.{row_then as row_then_lem};
 
 use crate::row::{copied, row_at, row_left};
@@ -78,7 +79,7 @@ fn bases(alloc: Global, stores: &Stores, key: &Key, turn: &Turn) -> Result<Bases
 }
 
 fn add_image(images: &mut Images, key: &Key, row: &Option<Columns>) -> Result<(), NoMemory>
-    ensures { OnOk result (images.new ≡ images.old ++ image_at key.now row.now) }
+    ensures { OnOk result (images.new ≡ images.old ++ images_with key.now row.now) }
 {
     match row {
         Some(columns) => images.push(Image {
