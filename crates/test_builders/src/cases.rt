@@ -1,4 +1,5 @@
-//! The driver of tables of cases.
+//! The drivers of tables of cases.
+use std::alloc::Global;
 use std::test::Fail;
 
 /// The place of a case, or of a step, that is answered otherwise.
@@ -10,6 +11,29 @@ pub struct Wrong {
 /// The failure of the case at that place.
 pub fn wrong_at(place: usize) -> Fail {
     Fail::from(Wrong { place })
+}
+
+/// A case of a table: what is asked, and how it is answered.
+pub trait Case: Copy {
+    /// Whether it is answered so.
+    fn holds(self, alloc: Global) -> Result<bool, Fail>;
+}
+
+/// The table and the place of a case that is answered otherwise.
+#[derive(Debug, Drop)]
+pub struct Otherwise {
+    pub table: &'static str,
+    pub place: usize,
+}
+
+/// Fails at the first case that is answered otherwise.
+pub fn all_cases<C: Case>(alloc: Global, table: &'static str, cases: &[C]) -> Result<(), Fail> {
+    for (place, case) in cases.iter().enumerate() {
+        if !case.holds(alloc)? {
+            return Err(Fail::from(Otherwise { table, place }));
+        }
+    }
+    Ok(())
 }
 
 /// Fails at the first case that does not hold.

@@ -50,11 +50,21 @@ pub fn set_column(
     Ok(columns.set(name, value_of(alloc, cell)?)?)
 }
 
+/// Sets these columns, in this order.
+pub fn set_columns(
+    alloc: Global,
+    columns: &mut Columns,
+    cells: &[(&str, Cell)],
+) -> Result<(), NameRefused> {
+    for (name, cell) in cells {
+        set_column(alloc, columns, name, *cell)?;
+    }
+    Ok(())
+}
+
 /// The columns that are set in this order.
 pub fn columns_of(alloc: Global, cells: &[(&str, Cell)]) -> Result<Columns, NameRefused> {
     let mut columns = Columns::new(alloc);
-    for (name, cell) in cells {
-        set_column(alloc, &mut columns, name, *cell)?;
-    }
+    set_columns(alloc, &mut columns, cells)?;
     Ok(columns)
 }

@@ -1,176 +1,49 @@
 //! Whether calls are counted and records resolved: true events, and forged ones.
-use crate::steps::{BANK, Step, all_counted, all_resolved, broken};
-use sdb_model::How;
-use sdb_types::{Condition, State, TxId};
-use std::alloc::Global;
+use crate::steps::{Asked, Judged};
 use std::test::Fail;
-use test_builders::{Ask, Cell, Place, Row, Said, Told, all_hold, hold};
+use test_builders::all_cases;
 
-// Events of clients of the bank, and whether their calls are counted and their records resolved.
-#[derive(Clone, Copy)]
-struct Case {
-    steps: &'static [Step],
-    counted: bool,
-    resolved: bool,
-}
-
-const ONE: Place = Place {
-    ns: "bank",
-    table: "account",
-    partition: &[Cell::Int(1)],
-    clustering: &[],
-};
-
-const OTHER: TxId = TxId(0x0000000000000002_0000000000000001);
-
-const OTHER_TEXT: &str = "00000000-0000-0002-0000-000000000001";
-
-const OTHER_ROW: Place = Place {
-    ns: "coordinator",
-    table: "state",
-    partition: &[Cell::Text(OTHER_TEXT)],
-    clustering: &[],
-};
-
-// The other's row with the decision that it is committed, made at moment 5.
-const COMMITTED: Row = Row {
-    place: OTHER_ROW,
-    columns: &[
-        ("tx_created_at", Cell::BigInt(5)),
-        ("tx_state", Cell::Int(3)),
-    ],
-};
-
-// What the other prepared at the account, at moment 5, where there was nothing.
-const HELD: Row = Row {
-    place: ONE,
-    columns: &[
-        ("balance", Cell::Int(100)),
-        ("tx_id", Cell::Text(OTHER_TEXT)),
-        ("tx_prepared_at", Cell::BigInt(5)),
-        ("tx_state", Cell::Int(1)),
-        ("tx_version", Cell::Int(1)),
-    ],
-};
-
-// The same, rolled forward.
-const FORWARD: Row = Row {
-    place: ONE,
-    columns: &[
-        ("balance", Cell::Int(100)),
-        ("tx_committed_at", Cell::BigInt(5)),
-        ("tx_id", Cell::Text(OTHER_TEXT)),
-        ("tx_prepared_at", Cell::BigInt(5)),
-        ("tx_state", Cell::Int(3)),
-        ("tx_version", Cell::Int(1)),
-    ],
-};
-
-const HELD_STILL: Condition = Condition::Version(OTHER, State::Prepared);
-
-const BEGIN: Step = Step::Take(1, "BEGIN", Some(Said::Done));
-
-const SELECT: Step = Step::Take(1, "SELECT * FROM bank.account WHERE id = 1", None);
-
-const GET: Ask = Ask::Get(ONE);
-
-const FOUND: Step = Step::Seen(GET, Told::Found(Some(HELD)), None);
-
-const LOOK: Step = Step::Seen(Ask::Get(OTHER_ROW), Told::Found(Some(COMMITTED)), None);
-
-const ROWS: Said = Said::Rows(&[&[Cell::Int(100), Cell::Int(1)]]);
-
-static RUNS: [Case; 5] = [
+// Whether the calls are counted, and whether the records are resolved.
+static RUNS: [Judged; 6] = [
     // An unresolved record that is rolled forward before the answer.
-    Case {
-        steps: &[
-            BEGIN,
-            SELECT,
-            FOUND,
-            LOOK,
-            Step::Seen(Ask::Put(FORWARD, HELD_STILL), Told::Applied, Some(ROWS)),
-        ],
-        counted: true,
-        resolved: true,
-    },
+    Judged(
+        Asked::Rolled(true, true),
+        "scalardb report 1\nevents 5\n1 take 1 done : BEGIN\n2 take 1 - : SELECT * FROM bank.account WHERE id = 1\n3 call 1 ordered get bank.account(1) seen found bank.account(1){balance=100,tx_id='00000000-0000-0002-0000-000000000001',tx_prepared_at=5L,tx_state=1,tx_version=1} -\n4 call 1 ordered get coordinator.state('00000000-0000-0002-0000-000000000001') seen found coordinator.state('00000000-0000-0002-0000-000000000001'){tx_created_at=5L,tx_state=3} -\n5 call 1 ordered put bank.account(1){balance=100,tx_committed_at=5L,tx_id='00000000-0000-0002-0000-000000000001',tx_prepared_at=5L,tx_state=3,tx_version=1} if 00000000-0000-0002-0000-000000000001 1 seen applied rows 1 (100,1)\norder 0\ntables 0\nend\n",
+        true,
+    ),
     // The answer comes without the roll.
-    Case {
-        steps: &[
-            BEGIN,
-            SELECT,
-            FOUND,
-            Step::Seen(
-                Ask::Get(OTHER_ROW),
-                Told::Found(Some(COMMITTED)),
-                Some(ROWS),
-            ),
-        ],
-        counted: true,
-        resolved: false,
-    },
+    Judged(
+        Asked::Rolled(true, false),
+        "scalardb report 1\nevents 4\n1 take 1 done : BEGIN\n2 take 1 - : SELECT * FROM bank.account WHERE id = 1\n3 call 1 ordered get bank.account(1) seen found bank.account(1){balance=100,tx_id='00000000-0000-0002-0000-000000000001',tx_prepared_at=5L,tx_state=1,tx_version=1} -\n4 call 1 ordered get coordinator.state('00000000-0000-0002-0000-000000000001') seen found coordinator.state('00000000-0000-0002-0000-000000000001'){tx_created_at=5L,tx_state=3} rows 1 (100,1)\norder 0\ntables 0\nend\n",
+        true,
+    ),
     // The roll puts another record.
-    Case {
-        steps: &[
-            BEGIN,
-            SELECT,
-            FOUND,
-            LOOK,
-            Step::Seen(Ask::Put(HELD, HELD_STILL), Told::Applied, Some(ROWS)),
-        ],
-        counted: true,
-        resolved: false,
-    },
+    Judged(
+        Asked::Rolled(true, false),
+        "scalardb report 1\nevents 5\n1 take 1 done : BEGIN\n2 take 1 - : SELECT * FROM bank.account WHERE id = 1\n3 call 1 ordered get bank.account(1) seen found bank.account(1){balance=100,tx_id='00000000-0000-0002-0000-000000000001',tx_prepared_at=5L,tx_state=1,tx_version=1} -\n4 call 1 ordered get coordinator.state('00000000-0000-0002-0000-000000000001') seen found coordinator.state('00000000-0000-0002-0000-000000000001'){tx_created_at=5L,tx_state=3} -\n5 call 1 ordered put bank.account(1){balance=100,tx_id='00000000-0000-0002-0000-000000000001',tx_prepared_at=5L,tx_state=1,tx_version=1} if 00000000-0000-0002-0000-000000000001 1 seen applied rows 1 (100,1)\norder 0\ntables 0\nend\n",
+        true,
+    ),
     // A read that is made twice.
-    Case {
-        steps: &[
-            BEGIN,
-            SELECT,
-            Step::Seen(GET, Told::Found(None), None),
-            Step::Seen(GET, Told::Found(None), Some(Said::Rows(&[]))),
-        ],
-        counted: false,
-        resolved: true,
-    },
+    Judged(
+        Asked::Rolled(false, true),
+        "scalardb report 1\nevents 4\n1 take 1 done : BEGIN\n2 take 1 - : SELECT * FROM bank.account WHERE id = 1\n3 call 1 ordered get bank.account(1) seen found none -\n4 call 1 ordered get bank.account(1) seen found none rows 0\norder 0\ntables 0\nend\n",
+        true,
+    ),
     // A COMMIT of nothing that looks before it decides.
-    Case {
-        steps: &[
-            BEGIN,
-            Step::Take(1, "COMMIT", None),
-            Step::Seen(Ask::Get(OTHER_ROW), Told::Found(None), None),
-            Step::Seen(
-                Ask::Put(COMMITTED, Condition::Absent),
-                Told::Applied,
-                Some(Said::Committed),
-            ),
-        ],
-        counted: false,
-        resolved: true,
-    },
+    Judged(
+        Asked::Rolled(false, true),
+        "scalardb report 1\nevents 4\n1 take 1 done : BEGIN\n2 take 1 - : COMMIT\n3 call 1 ordered get coordinator.state('00000000-0000-0002-0000-000000000001') seen found none -\n4 call 1 ordered put coordinator.state('00000000-0000-0002-0000-000000000001'){tx_created_at=5L,tx_state=3} if absent seen applied committed\norder 0\ntables 0\nend\n",
+        true,
+    ),
+    // A call that the store failed.
+    Judged(
+        Asked::Broken(1),
+        "scalardb report 1\nevents 3\n1 take 1 done : BEGIN\n2 take 1 - : SELECT * FROM bank.account WHERE id = 1\n3 call 1 ordered get bank.account(1) failed fault faulted\norder 0\ntables 0\nend\n",
+        true,
+    ),
 ];
-
-fn is_judged(alloc: Global, case: Case) -> Result<bool, Fail> {
-    Ok(
-        all_counted(alloc, BANK, case.steps)? == case.counted
-            && all_resolved(alloc, BANK, case.steps)? == case.resolved,
-    )
-}
 
 #[test]
 fn counts_and_rolls(rt: HostRuntime) -> Result<(), Fail> {
-    let alloc = rt.alloc();
-    all_hold(RUNS.as_slice(), |case: Case| is_judged(alloc, case))
-}
-
-#[test]
-fn calls_that_the_store_failed(rt: HostRuntime) -> Result<(), Fail> {
-    let failed = Step::Call(
-        1,
-        "ordered",
-        GET,
-        How::Broken,
-        Told::Fault,
-        Some(Said::Faulted),
-    );
-    let count = broken(rt.alloc(), &[BEGIN, SELECT, failed])?;
-    hold(Ok(count == 1))
+    all_cases(rt.alloc(), "runs", RUNS.as_slice())
 }

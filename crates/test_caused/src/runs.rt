@@ -1,38 +1,53 @@
 //! Worked runs: each answer has its cause, all calls are counted, all records are resolved, and all rows are shown.
-use crate::steps::{BANK, SHOP, Step, all_caused, all_counted, all_resolved, all_shown};
+use crate::steps::{Asked, Judged};
 use std::alloc::Global;
 use std::test::Fail;
-use test_builders::hold;
+use test_builders::all_cases;
 
-fn all_kept(alloc: Global, catalog: &str, events: &[Step]) -> Result<bool, Fail> {
-    Ok(
-        all_caused(alloc, catalog, events)?
-            && all_counted(alloc, catalog, events)?
-            && all_resolved(alloc, catalog, events)?
-            && all_shown(alloc, catalog, events)?,
-    )
+static UNKNOWN_DECISION: [Judged; 1] = [Judged(
+    Asked::Kept,
+    "scalardb report 1\nevents 14\n1 take 1 done : BEGIN\n2 take 1 - : INSERT INTO bank.account (id, balance) VALUES (1, 100)\n3 call 1 ordered get bank.account(1) seen found none count 1\n4 take 1 - : COMMIT\n5 call 1 ordered put bank.account(1){balance=100,tx_id='00000000-0000-0001-0000-000000000001',tx_prepared_at=0L,tx_state=1,tx_version=1} if absent seen applied -\n6 call 1 ordered put coordinator.state('00000000-0000-0001-0000-000000000001'){tx_created_at=0L,tx_state=3} if absent seen applied -\n7 call 1 ordered put bank.account(1){balance=100,tx_committed_at=0L,tx_id='00000000-0000-0001-0000-000000000001',tx_prepared_at=0L,tx_state=3,tx_version=1} if 00000000-0000-0001-0000-000000000001 1 seen applied committed\n8 take 2 done : BEGIN\n9 take 2 - : UPDATE bank.account SET balance = 7 WHERE id = 1\n10 call 2 ordered get bank.account(1) seen found bank.account(1){balance=100,tx_committed_at=0L,tx_id='00000000-0000-0001-0000-000000000001',tx_prepared_at=0L,tx_state=3,tx_version=1} count 1\n11 take 2 - : COMMIT\n12 call 2 ordered put bank.account(1){balance=7,before_balance=100,before_tx_committed_at=0L,before_tx_id='00000000-0000-0001-0000-000000000001',before_tx_prepared_at=0L,before_tx_state=3,before_tx_version=1,tx_id='00000000-0000-0002-0000-000000000001',tx_prepared_at=0L,tx_state=1,tx_version=2} if 00000000-0000-0001-0000-000000000001 3 seen applied -\n13 call 2 ordered put coordinator.state('00000000-0000-0002-0000-000000000001'){tx_created_at=0L,tx_state=3} if absent lost fault -\n14 call 2 ordered get coordinator.state('00000000-0000-0002-0000-000000000001') lost fault unknown 00000000-0000-0002-0000-000000000001\norder 0\ntables 0\nend\n",
+    true,
+)];
+
+fn unknown_decision(alloc: Global) -> Result<(), Fail> {
+    all_cases(alloc, "unknown decision", UNKNOWN_DECISION.as_slice())
+}
+
+static PHANTOM: [Judged; 1] = [Judged(
+    Asked::KeptInShop,
+    "scalardb report 1\nevents 17\n1 take 1 done : BEGIN\n2 take 1 - : SELECT * FROM shop.item WHERE cat = 1\n3 call 1 ordered scan shop.item(1) seen rows 0 rows 0\n4 take 1 - : INSERT INTO shop.item (cat, n) VALUES (2, 1)\n5 call 1 ordered get shop.item(2;1) seen found none count 1\n6 take 2 done : BEGIN\n7 take 2 - : INSERT INTO shop.item (cat, n) VALUES (1, 9)\n8 call 2 ordered get shop.item(1;9) seen found none count 1\n9 take 2 - : COMMIT\n10 call 2 ordered put shop.item(1;9){tx_id='00000000-0000-0002-0000-000000000001',tx_prepared_at=0L,tx_state=1,tx_version=1} if absent seen applied -\n11 call 2 ordered put coordinator.state('00000000-0000-0002-0000-000000000001'){tx_created_at=0L,tx_state=3} if absent seen applied -\n12 call 2 ordered put shop.item(1;9){tx_committed_at=0L,tx_id='00000000-0000-0002-0000-000000000001',tx_prepared_at=0L,tx_state=3,tx_version=1} if 00000000-0000-0002-0000-000000000001 1 seen applied committed\n13 take 1 - : COMMIT\n14 call 1 ordered put shop.item(2;1){tx_id='00000000-0000-0001-0000-000000000001',tx_prepared_at=0L,tx_state=1,tx_version=1} if absent seen applied -\n15 call 1 ordered scan shop.item(1) seen rows 1 shop.item(1;9){tx_committed_at=0L,tx_id='00000000-0000-0002-0000-000000000001',tx_prepared_at=0L,tx_state=3,tx_version=1} -\n16 call 1 ordered put coordinator.state('00000000-0000-0001-0000-000000000001'){tx_created_at=0L,tx_state=4} if absent seen applied -\n17 call 1 ordered delete shop.item(2;1) if 00000000-0000-0001-0000-000000000001 1 seen applied conflict shop.item(1;9) {tx_committed_at=0L,tx_id='00000000-0000-0002-0000-000000000001',tx_prepared_at=0L,tx_state=3,tx_version=1}\norder 0\ntables 0\nend\n",
+    true,
+)];
+
+fn phantom(alloc: Global) -> Result<(), Fail> {
+    all_cases(alloc, "phantom", PHANTOM.as_slice())
+}
+
+static EXPIRED_OWNER: [Judged; 1] = [Judged(
+    Asked::Kept,
+    "scalardb report 1\nevents 33\n1 take 1 done : BEGIN\n2 take 1 - : INSERT INTO bank.account (id, balance) VALUES (1, 100)\n3 call 1 ordered get bank.account(1) seen found none count 1\n4 take 1 - : COMMIT\n5 call 1 ordered put bank.account(1){balance=100,tx_id='00000000-0000-0001-0000-000000000001',tx_prepared_at=0L,tx_state=1,tx_version=1} if absent seen applied -\n6 call 1 ordered put coordinator.state('00000000-0000-0001-0000-000000000001'){tx_created_at=0L,tx_state=3} if absent seen applied -\n7 call 1 ordered put bank.account(1){balance=100,tx_committed_at=0L,tx_id='00000000-0000-0001-0000-000000000001',tx_prepared_at=0L,tx_state=3,tx_version=1} if 00000000-0000-0001-0000-000000000001 1 seen applied committed\n8 take 2 done : BEGIN\n9 take 2 - : UPDATE bank.account SET balance = 7 WHERE id = 1\n10 call 2 ordered get bank.account(1) seen found bank.account(1){balance=100,tx_committed_at=0L,tx_id='00000000-0000-0001-0000-000000000001',tx_prepared_at=0L,tx_state=3,tx_version=1} count 1\n11 take 2 - : COMMIT\n12 call 2 ordered put bank.account(1){balance=7,before_balance=100,before_tx_committed_at=0L,before_tx_id='00000000-0000-0001-0000-000000000001',before_tx_prepared_at=0L,before_tx_state=3,before_tx_version=1,tx_id='00000000-0000-0002-0000-000000000001',tx_prepared_at=0L,tx_state=1,tx_version=2} if 00000000-0000-0001-0000-000000000001 3 seen applied -\n13 clock 15000\n14 take 3 done : BEGIN\n15 take 3 - : SELECT balance FROM bank.account WHERE id = 1\n16 call 3 ordered get bank.account(1) seen found bank.account(1){balance=7,before_balance=100,before_tx_committed_at=0L,before_tx_id='00000000-0000-0001-0000-000000000001',before_tx_prepared_at=0L,before_tx_state=3,before_tx_version=1,tx_id='00000000-0000-0002-0000-000000000001',tx_prepared_at=0L,tx_state=1,tx_version=2} -\n17 call 3 ordered get coordinator.state('00000000-0000-0002-0000-000000000001') seen found none -\n18 take 4 done : BEGIN\n19 take 4 - : SELECT balance FROM bank.account WHERE id = 1\n20 call 4 ordered get bank.account(1) seen found bank.account(1){balance=7,before_balance=100,before_tx_committed_at=0L,before_tx_id='00000000-0000-0001-0000-000000000001',before_tx_prepared_at=0L,before_tx_state=3,before_tx_version=1,tx_id='00000000-0000-0002-0000-000000000001',tx_prepared_at=0L,tx_state=1,tx_version=2} -\n21 call 4 ordered get coordinator.state('00000000-0000-0002-0000-000000000001') seen found none -\n22 call 3 ordered put coordinator.state('00000000-0000-0002-0000-000000000001'){tx_created_at=15000L,tx_state=4} if absent seen applied -\n23 call 2 ordered put coordinator.state('00000000-0000-0002-0000-000000000001'){tx_created_at=0L,tx_state=3} if absent seen notmet coordinator.state('00000000-0000-0002-0000-000000000001'){tx_created_at=15000L,tx_state=4} -\n24 call 2 ordered put bank.account(1){balance=100,tx_committed_at=0L,tx_id='00000000-0000-0001-0000-000000000001',tx_prepared_at=0L,tx_state=3,tx_version=1} if 00000000-0000-0002-0000-000000000001 1 seen applied expired 00000000-0000-0002-0000-000000000001\n25 call 3 ordered put bank.account(1){balance=100,tx_committed_at=0L,tx_id='00000000-0000-0001-0000-000000000001',tx_prepared_at=0L,tx_state=3,tx_version=1} if 00000000-0000-0002-0000-000000000001 1 seen notmet bank.account(1){balance=100,tx_committed_at=0L,tx_id='00000000-0000-0001-0000-000000000001',tx_prepared_at=0L,tx_state=3,tx_version=1} rows 1 (100)\n26 call 4 ordered put coordinator.state('00000000-0000-0002-0000-000000000001'){tx_created_at=15000L,tx_state=4} if absent seen notmet coordinator.state('00000000-0000-0002-0000-000000000001'){tx_created_at=15000L,tx_state=4} -\n27 take 3 - : COMMIT\n28 call 4 ordered put bank.account(1){balance=100,tx_committed_at=0L,tx_id='00000000-0000-0001-0000-000000000001',tx_prepared_at=0L,tx_state=3,tx_version=1} if 00000000-0000-0002-0000-000000000001 1 seen notmet bank.account(1){balance=100,tx_committed_at=0L,tx_id='00000000-0000-0001-0000-000000000001',tx_prepared_at=0L,tx_state=3,tx_version=1} rows 1 (100)\n29 call 3 ordered get bank.account(1) seen found bank.account(1){balance=100,tx_committed_at=0L,tx_id='00000000-0000-0001-0000-000000000001',tx_prepared_at=0L,tx_state=3,tx_version=1} -\n30 take 4 - : COMMIT\n31 call 3 ordered put coordinator.state('00000000-0000-0003-0000-000000000001'){tx_created_at=15000L,tx_state=3} if absent seen applied committed\n32 call 4 ordered get bank.account(1) seen found bank.account(1){balance=100,tx_committed_at=0L,tx_id='00000000-0000-0001-0000-000000000001',tx_prepared_at=0L,tx_state=3,tx_version=1} -\n33 call 4 ordered put coordinator.state('00000000-0000-0004-0000-000000000001'){tx_created_at=15000L,tx_state=3} if absent seen applied committed\norder 0\ntables 0\nend\n",
+    true,
+)];
+
+fn expired_owner(alloc: Global) -> Result<(), Fail> {
+    all_cases(alloc, "expired owner", EXPIRED_OWNER.as_slice())
+}
+
+static WAITING_VACUUM: [Judged; 1] = [Judged(
+    Asked::Kept,
+    "scalardb report 1\nevents 25\n1 take 1 done : BEGIN\n2 take 1 - : SELECT balance FROM bank.account WHERE id = 5\n3 call 1 ordered get bank.account(5) seen found none rows 0\n4 take 1 - : INSERT INTO bank.account (id, balance) VALUES (6, 1)\n5 call 1 ordered get bank.account(6) seen found none count 1\n6 take 2 done : BEGIN\n7 take 2 - : INSERT INTO bank.account (id, balance) VALUES (5, 1)\n8 call 2 ordered get bank.account(5) seen found none count 1\n9 take 2 - : COMMIT\n10 call 2 ordered put bank.account(5){balance=1,tx_id='00000000-0000-0002-0000-000000000001',tx_prepared_at=0L,tx_state=1,tx_version=1} if absent seen applied -\n11 call 2 ordered put coordinator.state('00000000-0000-0002-0000-000000000001'){tx_created_at=0L,tx_state=3} if absent seen applied -\n12 call 2 ordered put bank.account(5){balance=1,tx_committed_at=0L,tx_id='00000000-0000-0002-0000-000000000001',tx_prepared_at=0L,tx_state=3,tx_version=1} if 00000000-0000-0002-0000-000000000001 1 seen applied committed\n13 take 3 done : BEGIN\n14 take 3 - : DELETE FROM bank.account WHERE id = 5\n15 call 3 ordered get bank.account(5) seen found bank.account(5){balance=1,tx_committed_at=0L,tx_id='00000000-0000-0002-0000-000000000001',tx_prepared_at=0L,tx_state=3,tx_version=1} count 1\n16 take 3 - : COMMIT\n17 call 3 ordered put bank.account(5){before_balance=1,before_tx_committed_at=0L,before_tx_id='00000000-0000-0002-0000-000000000001',before_tx_prepared_at=0L,before_tx_state=3,before_tx_version=1,tx_id='00000000-0000-0003-0000-000000000001',tx_prepared_at=0L,tx_state=2,tx_version=2} if 00000000-0000-0002-0000-000000000001 3 seen applied -\n18 call 3 ordered put coordinator.state('00000000-0000-0003-0000-000000000001'){tx_created_at=0L,tx_state=3} if absent seen applied -\n19 call 3 ordered put bank.account(5){tx_committed_at=0L,tx_id='00000000-0000-0003-0000-000000000001',tx_prepared_at=0L,tx_state=3,tx_tombstone=TRUE,tx_version=2} if 00000000-0000-0003-0000-000000000001 2 seen applied committed\n20 take 4 opentransactions : VACUUM\n21 take 1 - : COMMIT\n22 call 1 ordered put bank.account(6){balance=1,tx_id='00000000-0000-0001-0000-000000000001',tx_prepared_at=0L,tx_state=1,tx_version=1} if absent seen applied -\n23 call 1 ordered get bank.account(5) seen found bank.account(5){tx_committed_at=0L,tx_id='00000000-0000-0003-0000-000000000001',tx_prepared_at=0L,tx_state=3,tx_tombstone=TRUE,tx_version=2} -\n24 call 1 ordered put coordinator.state('00000000-0000-0001-0000-000000000001'){tx_created_at=0L,tx_state=4} if absent seen applied -\n25 call 1 ordered delete bank.account(6) if 00000000-0000-0001-0000-000000000001 1 seen applied conflict bank.account(5) {tx_committed_at=0L,tx_id='00000000-0000-0003-0000-000000000001',tx_prepared_at=0L,tx_state=3,tx_tombstone=TRUE,tx_version=2}\norder 0\ntables 0\nend\n",
+    true,
+)];
+
+fn waiting_vacuum(alloc: Global) -> Result<(), Fail> {
+    all_cases(alloc, "waiting vacuum", WAITING_VACUUM.as_slice())
 }
 
 #[test]
-fn an_unknown_decision(rt: HostRuntime) -> Result<(), Fail> {
-    let events = crate::decision_and_look_lost::EVENTS.as_slice();
-    hold(all_kept(rt.alloc(), BANK, events))
-}
-
-#[test]
-fn a_phantom(rt: HostRuntime) -> Result<(), Fail> {
-    let events = crate::phantom_is_refused::EVENTS.as_slice();
-    hold(all_kept(rt.alloc(), SHOP, events))
-}
-
-#[test]
-fn an_expired_owner(rt: HostRuntime) -> Result<(), Fail> {
-    let events = crate::recoverer_wins_and_owner_is_expired::EVENTS.as_slice();
-    hold(all_kept(rt.alloc(), BANK, events))
-}
-
-#[test]
-fn a_vacuum_that_waits(rt: HostRuntime) -> Result<(), Fail> {
-    let events = crate::vacuum_waits_and_tombstone_conflicts::EVENTS.as_slice();
-    hold(all_kept(rt.alloc(), BANK, events))
+fn worked_runs(rt: HostRuntime) -> Result<(), Fail> {
+    unknown_decision(rt.alloc())?;
+    phantom(rt.alloc())?;
+    expired_owner(rt.alloc())?;
+    waiting_vacuum(rt.alloc())
 }

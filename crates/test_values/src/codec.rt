@@ -6,52 +6,47 @@ use sdb_codec::{
 use sdb_types::{Key, Record};
 use std::alloc::Global;
 use std::test::Fail;
-use test_builders::{Cell, account, account_with, hold};
+use test_builders::{Case, Cell, account_with, all_cases};
 
 // bank.account(1){balance=100}
-static BYTES: [u8; 42] = [
-    0x01, 0x00, 0x00, 0x00, 0x0c, 0x62, 0x61, 0x6e, 0x6b, 0x2e, 0x61, 0x63, 0x63, 0x6f, 0x75, 0x6e,
-    0x74, 0x01, 0x02, 0x00, 0x00, 0x00, 0x01, 0x00, 0x00, 0x01, 0x00, 0x00, 0x00, 0x07, 0x62, 0x61,
-    0x6c, 0x61, 0x6e, 0x63, 0x65, 0x02, 0x00, 0x00, 0x00, 0x64,
-];
+const RECORD: &[u8] =
+    b"\x01\x00\x00\x00\x0cbank.account\x01\x02\x00\x00\x00\x01\x00\x00\x01\x00\x00\x00\x07balance\x02\x00\x00\x00\x64";
 
-fn balance(alloc: Global) -> Result<Record, Fail> {
-    Ok(account_with(alloc, 1, [("balance", Cell::Int(100))].as_slice())?)
+const CUT: &[u8] =
+    b"\x01\x00\x00\x00\x0cbank.account\x01\x02\x00\x00\x00\x01\x00\x00\x01\x00\x00\x00\x07balance\x02\x00\x00\x00";
+
+const KEY: &[u8] = b"\x00\x00\x00\x0cbank.account\x01\x02\x00\x00\x00\x01\x00";
+
+const LONG_KEY: &[u8] = b"\x00\x00\x00\x0cbank.account\x01\x02\x00\x00\x00\x01\x00\x00";
+
+// What is asked of bytes, each answer with the place of the first bad byte.
+#[derive(Clone, Copy)]
+enum Check {
+    Reads(&'static [u8]),
+    ReadsKey(&'static [u8]),
+    Writes(&'static [u8]),
+    WritesKey(&'static [u8]),
+    Bad(&'static [u8], u64),
+    BadKey(&'static [u8], u64),
 }
 
-fn reads_record(alloc: Global) -> Result<bool, Fail> {
-    let read = read_record(alloc, &BYTES)?;
-    Ok(read == balance(alloc)?)
+fn reads(alloc: Global, bytes: &[u8], wanted: &Record) -> Result<bool, Fail> {
+    Ok(read_record(alloc, bytes)? == *wanted)
 }
 
-fn reads_key(alloc: Global) -> Result<bool, Fail> {
-    let read = read_key(alloc, &BYTES[1..24])?;
-    Ok(read == account(alloc, 1)?)
+fn reads_key(alloc: Global, bytes: &[u8], wanted: &Key) -> Result<bool, Fail> {
+    Ok(read_key(alloc, bytes)? == *wanted)
 }
 
-#[test]
-fn a_balance_is_42_bytes(rt: HostRuntime) -> Result<(), Fail> {
-    let alloc = rt.alloc();
-    hold(reads_record(alloc))?;
-    hold(reads_key(alloc))
+fn writes(alloc: Global, rec: &Record, bytes: &[u8]) -> Result<bool, Fail> {
+    Ok(record_has_spelling(rec) && write_record(alloc, rec)?.as_slice() == bytes)
 }
 
-fn writes_record(alloc: Global, rec: &Record) -> Result<bool, Fail> {
-    Ok(record_has_spelling(rec) && write_record(alloc, rec)?.as_slice() == BYTES.as_slice())
+fn writes_key(alloc: Global, key: &Key, bytes: &[u8]) -> Result<bool, Fail> {
+    Ok(key_has_spelling(key) && write_key(alloc, key)?.as_slice() == bytes)
 }
 
-fn writes_key(alloc: Global, key: &Key) -> Result<bool, Fail> {
-    Ok(key_has_spelling(key) && write_key(alloc, key)?.as_slice() == &BYTES[1..24])
-}
-
-#[test]
-fn a_balance_is_written(rt: HostRuntime) -> Result<(), Fail> {
-    let rec = balance(rt.alloc())?;
-    hold(writes_record(rt.alloc(), &rec))?;
-    hold(writes_key(rt.alloc(), &rec.key))
-}
-
-fn is_bad_record(alloc: Global, bytes: &[u8], at: u64) -> bool {
+fn is_bad(alloc: Global, bytes: &[u8], at: u64) -> bool {
     match read_record(alloc, bytes) {
         Err(refused) => refused == ReadRefused::BadBytes(at),
         Ok(_) => false,
@@ -65,9 +60,39 @@ fn is_bad_key(alloc: Global, bytes: &[u8], at: u64) -> bool {
     }
 }
 
+impl Check {
+    // Whether it is answered so, of this record.
+    fn agrees(self, alloc: Global, rec: &Record) -> Result<bool, Fail> {
+        match self {
+            Check::Reads(bytes) => reads(alloc, bytes, rec),
+            Check::ReadsKey(bytes) => reads_key(alloc, bytes, &rec.key),
+            Check::Writes(bytes) => writes(alloc, rec, bytes),
+            Check::WritesKey(bytes) => writes_key(alloc, &rec.key, bytes),
+            Check::Bad(bytes, at) => Ok(is_bad(alloc, bytes, at)),
+            Check::BadKey(bytes, at) => Ok(is_bad_key(alloc, bytes, at)),
+        }
+    }
+}
+
+impl Case for Check {
+    fn holds(self, alloc: Global) -> Result<bool, Fail> {
+        let rec = account_with(alloc, 1, [("balance", Cell::Int(100))].as_slice())?;
+        self.agrees(alloc, &rec)
+    }
+}
+
+// A record that is cut off is bad at its last value.
+static CHECKS: [Check; 7] = [
+    Check::Reads(RECORD),
+    Check::ReadsKey(KEY),
+    Check::Writes(RECORD),
+    Check::WritesKey(KEY),
+    Check::Bad(CUT, 37),
+    Check::Bad(b"", 0),
+    Check::BadKey(LONG_KEY, 23),
+];
+
 #[test]
-fn a_cut_record_is_bad_at_its_last_value(rt: HostRuntime) -> Result<(), Fail> {
-    hold(Ok(is_bad_record(rt.alloc(), &BYTES[..41], 37)))?;
-    hold(Ok(is_bad_record(rt.alloc(), &BYTES[..0], 0)))?;
-    hold(Ok(is_bad_key(rt.alloc(), &BYTES[1..25], 23)))
+fn a_balance_is_42_bytes(rt: HostRuntime) -> Result<(), Fail> {
+    all_cases(rt.alloc(), "codec", CHECKS.as_slice())
 }

@@ -2,56 +2,78 @@
 use sdb_keyed::KeyMap;
 use std::alloc::Global;
 use std::test::Fail;
-use test_builders::{account, hold};
+use test_builders::{Case, account, all_cases};
 
-fn put(alloc: Global, map: &mut KeyMap<u32>, id: i32, value: u32) -> Result<(), Fail> {
-    Ok(map.put(account(alloc, id)?, value)?)
+// What is put, one after the other, and how many keys are kept; the first value that is left, and keys with their values and
+// places.
+#[derive(Clone, Copy)]
+struct Check {
+    puts: &'static [(i32, u32)],
+    kept: usize,
+    first: u32,
+    keys: &'static [(i32, Option<u32>, Option<usize>)],
 }
 
-// A map in which these were put, one after the other.
-fn map_of(alloc: Global, puts: &[(i32, u32)]) -> Result<KeyMap<u32>, Fail> {
-    let mut map: KeyMap<u32> = KeyMap::new(alloc);
+fn put_all(alloc: Global, map: &mut KeyMap<u32>, puts: &[(i32, u32)]) -> Result<(), Fail> {
     for (id, value) in puts {
-        put(alloc, &mut map, *id, *value)?;
+        map.put(account(alloc, *id)?, *value)?;
     }
-    Ok(map)
+    Ok(())
 }
 
-fn found(alloc: Global, map: &KeyMap<u32>, id: i32) -> Result<Option<u32>, Fail> {
-    Ok(map.get(&account(alloc, id)?).copied())
+fn is_at(
+    alloc: Global,
+    map: &KeyMap<u32>,
+    id: i32,
+    value: Option<u32>,
+    place: Option<usize>,
+) -> Result<bool, Fail> {
+    let key = account(alloc, id)?;
+    Ok(map.get(&key).copied() == value && map.place(&key) == place)
 }
 
-fn place(alloc: Global, map: &KeyMap<u32>, id: i32) -> Result<Option<usize>, Fail> {
-    Ok(map.place(&account(alloc, id)?))
+fn has_keys(alloc: Global, map: &KeyMap<u32>, check: Check) -> Result<bool, Fail> {
+    for (id, value, place) in check.keys {
+        if !is_at(alloc, map, *id, *value, *place)? {
+            return Ok(false);
+        }
+    }
+    Ok(map.len() == check.kept && map.at(0).map(|entry| *entry.1) == Some(check.first))
 }
 
-fn has_two(map: &KeyMap<u32>, first: u32) -> bool {
-    map.len() == 2 && map.at(0).map(|entry| *entry.1) == Some(first)
+impl Case for Check {
+    fn holds(self, alloc: Global) -> Result<bool, Fail> {
+        let mut map: KeyMap<u32> = KeyMap::new(alloc);
+        put_all(alloc, &mut map, self.puts)?;
+        map.truncate(self.kept);
+        has_keys(alloc, &map, self)
+    }
 }
 
-fn keeps_its_place(alloc: Global) -> Result<bool, Fail> {
-    let map = map_of(alloc, [(2, 10), (1, 20), (2, 30)].as_slice())?;
-    Ok(has_two(&map, 30) && found(alloc, &map, 1)? == Some(20) && found(alloc, &map, 3)? == None)
-}
+static CHECKS: [Check; 3] = [
+    // A key keeps its place.
+    Check {
+        puts: &[(2, 10), (1, 20), (2, 30)],
+        kept: 2,
+        first: 30,
+        keys: &[(1, Some(20), Some(1)), (3, None, None)],
+    },
+    Check {
+        puts: &[(2, 10), (1, 20)],
+        kept: 2,
+        first: 10,
+        keys: &[(1, Some(20), Some(1))],
+    },
+    // Later keys are cut off.
+    Check {
+        puts: &[(2, 10), (1, 20)],
+        kept: 1,
+        first: 10,
+        keys: &[(1, None, None), (2, Some(10), Some(0))],
+    },
+];
 
 #[test]
-fn a_key_keeps_its_place(rt: HostRuntime) -> Result<(), Fail> {
-    hold(keeps_its_place(rt.alloc()))
-}
-
-// The places of the keys 1 and 2.
-fn places(alloc: Global, map: &KeyMap<u32>) -> Result<[Option<usize>; 2], Fail> {
-    Ok([place(alloc, map, 1)?, place(alloc, map, 2)?])
-}
-
-fn cuts_off(alloc: Global) -> Result<bool, Fail> {
-    let mut map = map_of(alloc, [(2, 10), (1, 20)].as_slice())?;
-    let first = place(alloc, &map, 1)?;
-    map.truncate(1);
-    Ok(first == Some(1) && map.len() == 1 && places(alloc, &map)? == [None, Some(0)])
-}
-
-#[test]
-fn later_keys_are_cut_off(rt: HostRuntime) -> Result<(), Fail> {
-    hold(cuts_off(rt.alloc()))
+fn keys_keep_their_places(rt: HostRuntime) -> Result<(), Fail> {
+    all_cases(rt.alloc(), "keyed", CHECKS.as_slice())
 }

@@ -6,7 +6,7 @@ use sdb_record::{
 use sdb_types::{Record, TxId};
 use std::alloc::Global;
 use std::test::Fail;
-use test_builders::{Cell, account, account_with, all_hold, hold, set_column};
+use test_builders::{Case, Cell, account, account_with, all_cases, set_columns};
 
 const FIRST: TxId = TxId(0x1_0000_0000_0000_0001);
 
@@ -30,6 +30,28 @@ const COMMITTED: &[(&str, Cell)] = &[
     ("balance", Cell::Int(100)),
 ];
 
+fn committed(alloc: Global) -> Result<Record, Fail> {
+    Ok(account_with(alloc, 1, COMMITTED)?)
+}
+
+// What is asked of a record.
+#[derive(Clone, Copy)]
+enum Check {
+    // What is set in a prepared record, and the column for which it is refused then.
+    BadPrepared(&'static [(&'static str, Cell)], &'static str),
+    BadCommitted(&'static [(&'static str, Cell)], &'static str),
+    // The committed record has the metadata of the first transaction.
+    Meta,
+    // The row of a decision says what was decided, and when.
+    Decided(Decision, i64),
+    // Whether what was prepared at the moment 0 has expired at another.
+    Expired(i64, bool),
+    // A delete where nothing was stands for no record, and can be rolled back.
+    Deleted,
+    // The prepared record is rolled forward to the committed one.
+    Forward,
+}
+
 fn is_bad(alloc: Global, rec: &Record, column: &str) -> bool {
     match meta_of(alloc, rec) {
         Err(MetaRefused::BadMeta(name)) => name.as_str() == column,
@@ -37,110 +59,40 @@ fn is_bad(alloc: Global, rec: &Record, column: &str) -> bool {
     }
 }
 
-// The columns of a record, what is set in them, and the column for which the record is refused.
-#[derive(Clone, Copy)]
-struct Case {
-    columns: &'static [(&'static str, Cell)],
-    set: &'static [(&'static str, Cell)],
-    bad: &'static str,
+// Whether a record with these columns, in which others are set, is refused for a column.
+fn is_bad_with(
+    alloc: Global,
+    columns: &[(&'static str, Cell)],
+    set: &[(&'static str, Cell)],
+    column: &str,
+) -> Result<bool, Fail> {
+    let mut rec = account_with(alloc, 1, columns)?;
+    set_columns(alloc, &mut rec.columns, set)?;
+    Ok(is_bad(alloc, &rec, column))
 }
 
-static REFUSED: [Case; 9] = [
-    Case {
-        columns: PREPARED,
-        set: &[("tx_state", Cell::Int(4))],
-        bad: "tx_state",
-    },
-    Case {
-        columns: PREPARED,
-        set: &[("tx_state", Cell::Int(2))],
-        bad: "balance",
-    },
-    Case {
-        columns: COMMITTED,
-        set: &[("balance", Cell::Null), ("before_balance", Cell::Int(100))],
-        bad: "before_balance",
-    },
-    Case {
-        columns: PREPARED,
-        set: &[("balance", Cell::Null), ("before_balance", Cell::Int(100))],
-        bad: "before_tx_id",
-    },
-    Case {
-        columns: PREPARED,
-        set: &[("tx_id", Cell::Null)],
-        bad: "tx_id",
-    },
-    Case {
-        columns: PREPARED,
-        set: &[("tx_version", Cell::Int(0))],
-        bad: "tx_version",
-    },
-    Case {
-        columns: PREPARED,
-        set: &[("tx_prepared_at", Cell::BigInt(-1))],
-        bad: "tx_prepared_at",
-    },
-    Case {
-        columns: COMMITTED,
-        set: &[("tx_committed_at", Cell::Null)],
-        bad: "tx_committed_at",
-    },
-    Case {
-        columns: PREPARED,
-        set: &[("tx_tombstone", Cell::Bool(true))],
-        bad: "tx_tombstone",
-    },
-];
-
-fn record_of(alloc: Global, case: Case) -> Result<Record, Fail> {
-    let mut rec = account_with(alloc, 1, case.columns)?;
-    for (name, cell) in case.set {
-        set_column(alloc, &mut rec.columns, name, *cell)?;
-    }
-    Ok(rec)
-}
-
-fn is_refused(alloc: Global, case: Case) -> Result<bool, Fail> {
-    let rec = record_of(alloc, case)?;
-    Ok(is_bad(alloc, &rec, case.bad))
-}
-
-#[test]
-fn refuses_the_first_bad_column(rt: HostRuntime) -> Result<(), Fail> {
-    let alloc = rt.alloc();
-    all_hold(REFUSED.as_slice(), |case| is_refused(alloc, case))
-}
-
-fn committed(alloc: Global) -> Result<Record, Fail> {
-    Ok(account_with(alloc, 1, COMMITTED)?)
-}
-
-fn reads(alloc: Global) -> Result<bool, Fail> {
+fn has_meta(alloc: Global) -> Result<bool, Fail> {
     let meta = meta_of(alloc, &committed(alloc)?)?;
     Ok(meta.id == FIRST && meta.version == 1)
 }
 
-#[test]
-fn reads_metadata(rt: HostRuntime) -> Result<(), Fail> {
-    hold(reads(rt.alloc()))
-}
-
-// Whether the row of a decision says so.
-fn is_decided(alloc: Global, row: &Record) -> Result<bool, Fail> {
+// Whether the row of the first transaction says so.
+fn says(alloc: Global, row: &Record, decision: Decision, at: i64) -> Result<bool, Fail> {
     let decided = decision_of(alloc, row)?;
-    Ok(decided.decision == Decision::Aborted && decided.created_at == 5)
+    Ok(
+        decided.decision == decision
+            && decided.created_at == at
+            && row.key == coordinator_key(alloc, FIRST)?,
+    )
 }
 
-fn reads_row(alloc: Global) -> Result<bool, Fail> {
-    let row = coordinator_row(alloc, FIRST, Decision::Aborted, 5)?;
-    Ok(is_decided(alloc, &row)? && row.key == coordinator_key(alloc, FIRST)?)
-}
-
-#[test]
-fn reads_decisions(rt: HostRuntime) -> Result<(), Fail> {
-    hold(reads_row(rt.alloc()))?;
-    hold(Ok(expired(0, 15000) && !expired(0, 14999)))
+fn is_decided(alloc: Global, decision: Decision, at: i64) -> Result<bool, Fail> {
+    says(
+        alloc,
+        &coordinator_row(alloc, FIRST, decision, at)?,
+        decision,
+        at,
+    )
 }
 
 // The record of the first transaction, which deletes an account where none was.
@@ -163,19 +115,60 @@ fn rolls(alloc: Global, rec: &Record) -> Result<bool, Fail> {
     Ok(is_none)
 }
 
-#[test]
-fn prepares_and_rolls(rt: HostRuntime) -> Result<(), Fail> {
-    let alloc = rt.alloc();
-    hold(rolls(alloc, &deleted(alloc)?))
+fn is_deleted(alloc: Global) -> Result<bool, Fail> {
+    rolls(alloc, &deleted(alloc)?)
 }
 
-fn rolls_to_committed(alloc: Global) -> Result<bool, Fail> {
+fn goes_forward(alloc: Global, rec: &Record, wanted: &Record) -> Result<bool, Fail> {
+    Ok(rolled_forward(alloc, rec, 0)? == *wanted)
+}
+
+fn is_forward(alloc: Global) -> Result<bool, Fail> {
     let rec = account_with(alloc, 1, PREPARED)?;
-    let forward = rolled_forward(alloc, &rec, 0)?;
-    Ok(forward == committed(alloc)?)
+    let wanted = committed(alloc)?;
+    goes_forward(alloc, &rec, &wanted)
 }
 
+impl Case for Check {
+    fn holds(self, alloc: Global) -> Result<bool, Fail> {
+        match self {
+            Check::BadPrepared(set, bad) => is_bad_with(alloc, PREPARED, set, bad),
+            Check::BadCommitted(set, bad) => is_bad_with(alloc, COMMITTED, set, bad),
+            Check::Meta => has_meta(alloc),
+            Check::Decided(decision, at) => is_decided(alloc, decision, at),
+            Check::Expired(at, wanted) => Ok(expired(0, at) == wanted),
+            Check::Deleted => is_deleted(alloc),
+            Check::Forward => is_forward(alloc),
+        }
+    }
+}
+
+static CHECKS: [Check; 15] = [
+    // The first bad column.
+    Check::BadPrepared(&[("tx_state", Cell::Int(4))], "tx_state"),
+    Check::BadPrepared(&[("tx_state", Cell::Int(2))], "balance"),
+    Check::BadCommitted(
+        &[("balance", Cell::Null), ("before_balance", Cell::Int(100))],
+        "before_balance",
+    ),
+    Check::BadPrepared(
+        &[("balance", Cell::Null), ("before_balance", Cell::Int(100))],
+        "before_tx_id",
+    ),
+    Check::BadPrepared(&[("tx_id", Cell::Null)], "tx_id"),
+    Check::BadPrepared(&[("tx_version", Cell::Int(0))], "tx_version"),
+    Check::BadPrepared(&[("tx_prepared_at", Cell::BigInt(-1))], "tx_prepared_at"),
+    Check::BadCommitted(&[("tx_committed_at", Cell::Null)], "tx_committed_at"),
+    Check::BadPrepared(&[("tx_tombstone", Cell::Bool(true))], "tx_tombstone"),
+    Check::Meta,
+    Check::Decided(Decision::Aborted, 5),
+    Check::Expired(15000, true),
+    Check::Expired(14999, false),
+    Check::Deleted,
+    Check::Forward,
+];
+
 #[test]
-fn rolls_forward(rt: HostRuntime) -> Result<(), Fail> {
-    hold(rolls_to_committed(rt.alloc()))
+fn records_are_read_and_rolled(rt: HostRuntime) -> Result<(), Fail> {
+    all_cases(rt.alloc(), "records", CHECKS.as_slice())
 }

@@ -4,7 +4,7 @@ use sdb_schema::TableRefused;
 use sdb_types::TableName;
 use std::alloc::{AllocError, Global};
 use std::test::Fail;
-use test_builders::{all_hold, hold};
+use test_builders::{Case, all_cases};
 
 #[derive(Clone, Copy, PartialEq, Eq)]
 enum Kind {
@@ -32,11 +32,21 @@ struct Fault {
     what: &'static str,
 }
 
-const NONE: (&str, &str) = ("", "");
+// The table that a fault names.
+#[derive(Clone, Copy)]
+enum At {
+    Nothing,
+    Ab,
+    Ba,
+}
 
-const A_B: (&str, &str) = ("a", "b");
-
-const B_A: (&str, &str) = ("b", "a");
+fn names_of(at: At) -> (&'static str, &'static str) {
+    match at {
+        At::Nothing => ("", ""),
+        At::Ab => ("a", "b"),
+        At::Ba => ("b", "a"),
+    }
+}
 
 fn kind_of_table(refused: &TableRefused) -> Kind {
     match refused {
@@ -108,374 +118,9 @@ fn has_fault(alloc: Global, json: &[u8], fault: Fault) -> bool {
     }
 }
 
-fn text_has_fault(alloc: Global, json: &str, fault: Fault) -> Result<bool, Fail> {
-    Ok(has_fault(alloc, json.as_bytes(), fault))
-}
-
-static FAULTS: [(&str, Fault); 21] = [
-    (
-        "",
-        Fault {
-            kind: Kind::NotJson,
-            table: NONE,
-            what: "",
-        },
-    ),
-    (
-        "{\"a.b\":}",
-        Fault {
-            kind: Kind::NotJson,
-            table: NONE,
-            what: "",
-        },
-    ),
-    (
-        "{\"a.b\":{}} {}",
-        Fault {
-            kind: Kind::NotJson,
-            table: NONE,
-            what: "",
-        },
-    ),
-    (
-        "[1e999]",
-        Fault {
-            kind: Kind::NotJson,
-            table: NONE,
-            what: "",
-        },
-    ),
-    (
-        "[\"\\ud800\"]",
-        Fault {
-            kind: Kind::NotJson,
-            table: NONE,
-            what: "",
-        },
-    ),
-    (
-        "[]",
-        Fault {
-            kind: Kind::NotAnObject,
-            table: NONE,
-            what: "",
-        },
-    ),
-    (
-        "null",
-        Fault {
-            kind: Kind::NotAnObject,
-            table: NONE,
-            what: "",
-        },
-    ),
-    (
-        "{\"ab\":{}}",
-        Fault {
-            kind: Kind::TableName,
-            table: NONE,
-            what: "ab",
-        },
-    ),
-    (
-        "{\"a.b.c\":{}}",
-        Fault {
-            kind: Kind::TableName,
-            table: NONE,
-            what: "a.b.c",
-        },
-    ),
-    (
-        "{\"a.1\":{}}",
-        Fault {
-            kind: Kind::TableName,
-            table: NONE,
-            what: "a.1",
-        },
-    ),
-    (
-        "{\"coordinator.x\":{}}",
-        Fault {
-            kind: Kind::TableName,
-            table: NONE,
-            what: "coordinator.x",
-        },
-    ),
-    (
-        "{\"scalardb.x\":{}}",
-        Fault {
-            kind: Kind::TableName,
-            table: NONE,
-            what: "scalardb.x",
-        },
-    ),
-    (
-        "{\"a.b\":{\"transaction\":false}}",
-        Fault {
-            kind: Kind::NonTransactional,
-            table: A_B,
-            what: "",
-        },
-    ),
-    (
-        "{\"a.b\":{}}",
-        Fault {
-            kind: Kind::Field,
-            table: A_B,
-            what: "columns",
-        },
-    ),
-    (
-        "{\"a.b\":1}",
-        Fault {
-            kind: Kind::Field,
-            table: A_B,
-            what: "columns",
-        },
-    ),
-    (
-        "{\"a.b\":{\"columns\":{\"k\":\"INT\"}}}",
-        Fault {
-            kind: Kind::Field,
-            table: A_B,
-            what: "partition-key",
-        },
-    ),
-    (
-        "{\"b.a\":{},\"a.b\":{}}",
-        Fault {
-            kind: Kind::Field,
-            table: A_B,
-            what: "columns",
-        },
-    ),
-    (
-        "{\"a.b\":{},\"b.a\":{\"transaction\":false}}",
-        Fault {
-            kind: Kind::NonTransactional,
-            table: B_A,
-            what: "",
-        },
-    ),
-    (
-        "{\"a.b\":{\"transaction\":false},\"b\":{}}",
-        Fault {
-            kind: Kind::TableName,
-            table: NONE,
-            what: "b",
-        },
-    ),
-    (
-        "{\"a.b\":{\"columns\":{\"k\":\"INT\",\"v\":\"FLOAT\"},\"partition-key\":[\"x\"]}}",
-        Fault {
-            kind: Kind::UnknownType,
-            table: A_B,
-            what: "v",
-        },
-    ),
-    (
-        "{\"a.b\":{\"columns\":{\"k\":1},\"partition-key\":[\"k\"]}}",
-        Fault {
-            kind: Kind::UnknownType,
-            table: A_B,
-            what: "k",
-        },
-    ),
-];
-
-#[test]
-fn schemas_have_their_first_fault(rt: HostRuntime) -> Result<(), Fail> {
-    let alloc = rt.alloc();
-    all_hold(
-        FAULTS.as_slice(),
-        |case| text_has_fault(alloc, case.0, case.1),
-    )
-}
-
-const NOT_JSON: Fault = Fault {
-    kind: Kind::NotJson,
-    table: NONE,
-    what: "",
-};
-
-#[test]
-fn a_text_is_in_utf_8(rt: HostRuntime) -> Result<(), Fail> {
-    hold(Ok(has_fault(rt.alloc(), b"{\"\xff\":{}}", NOT_JSON)))?;
-    hold(Ok(has_fault(rt.alloc(), b"\xef\xbb\xbf{}", NOT_JSON)))
-}
-
 // A table `a.b` of the columns k and n, of kind INT, with these members.
 fn schema_with(alloc: Global, members: &str) -> Result<String, AllocError> {
     format!(in alloc; "{{\"a.b\":{{\"columns\":{{\"k\":\"INT\",\"n\":\"INT\"}},{members}}}}}")
-}
-
-fn members_have_fault(alloc: Global, members: &str, fault: Fault) -> Result<bool, Fail> {
-    let json = schema_with(alloc, members)?;
-    Ok(has_fault(alloc, json.as_bytes(), fault))
-}
-
-static MEMBERS: [(&str, Fault); 19] = [
-    (
-        "\"partition-key\":\"k\"",
-        Fault {
-            kind: Kind::Field,
-            table: A_B,
-            what: "partition-key",
-        },
-    ),
-    (
-        "\"partition-key\":[1]",
-        Fault {
-            kind: Kind::Field,
-            table: A_B,
-            what: "partition-key",
-        },
-    ),
-    (
-        "\"partition-key\":[\"k ASC\"]",
-        Fault {
-            kind: Kind::Field,
-            table: A_B,
-            what: "partition-key",
-        },
-    ),
-    (
-        "\"partition-key\":[\"k\"],\"clustering-key\":{}",
-        Fault {
-            kind: Kind::Field,
-            table: A_B,
-            what: "clustering-key",
-        },
-    ),
-    (
-        "\"partition-key\":[\"k\"],\"clustering-key\":[\"n  ASC\"]",
-        Fault {
-            kind: Kind::Field,
-            table: A_B,
-            what: "clustering-key",
-        },
-    ),
-    (
-        "\"partition-key\":[\"k\"],\"clustering-key\":[\"n UP\"]",
-        Fault {
-            kind: Kind::Field,
-            table: A_B,
-            what: "clustering-key",
-        },
-    ),
-    (
-        "\"partition-key\":[\"k\"],\"clustering-key\":[\"n \"]",
-        Fault {
-            kind: Kind::Field,
-            table: A_B,
-            what: "clustering-key",
-        },
-    ),
-    (
-        "\"partition-key\":[\"k\"],\"secondary-index\":[null]",
-        Fault {
-            kind: Kind::Field,
-            table: A_B,
-            what: "secondary-index",
-        },
-    ),
-    (
-        "\"partition-key\":[\"k\"],\"transaction\":\"true\"",
-        Fault {
-            kind: Kind::Field,
-            table: A_B,
-            what: "transaction",
-        },
-    ),
-    (
-        "\"secondary-index\":1,\"partition-key\":1",
-        Fault {
-            kind: Kind::Field,
-            table: A_B,
-            what: "partition-key",
-        },
-    ),
-    (
-        "\"partition-key\":[\"k\"],\"columns\":{\"1\":\"INT\"}",
-        Fault {
-            kind: Kind::Field,
-            table: A_B,
-            what: "columns",
-        },
-    ),
-    (
-        "\"partition-key\":[]",
-        Fault {
-            kind: Kind::NoPartitionKey,
-            table: A_B,
-            what: "",
-        },
-    ),
-    (
-        "\"partition-key\":[\"x\"]",
-        Fault {
-            kind: Kind::UnknownColumn,
-            table: A_B,
-            what: "x",
-        },
-    ),
-    (
-        "\"partition-key\":[\"k\"],\"clustering-key\":[\"x\"]",
-        Fault {
-            kind: Kind::UnknownColumn,
-            table: A_B,
-            what: "x",
-        },
-    ),
-    (
-        "\"partition-key\":[\"k\"],\"secondary-index\":[\"x\"]",
-        Fault {
-            kind: Kind::UnknownColumn,
-            table: A_B,
-            what: "x",
-        },
-    ),
-    (
-        "\"partition-key\":[\"k\"],\"clustering-key\":[\"k\"]",
-        Fault {
-            kind: Kind::RepeatedColumn,
-            table: A_B,
-            what: "k",
-        },
-    ),
-    (
-        "\"partition-key\":[\"k\"],\"columns\":{\"k\":\"INT\",\"tx_id\":\"TEXT\"}",
-        Fault {
-            kind: Kind::ReservedName,
-            table: A_B,
-            what: "tx_id",
-        },
-    ),
-    (
-        "\"partition-key\":[\"k\"],\"columns\":{\"k\":\"INT\",\"before_k\":\"INT\"}",
-        Fault {
-            kind: Kind::ReservedName,
-            table: A_B,
-            what: "before_k",
-        },
-    ),
-    (
-        "\"partition-key\":[\"k\"],\"clustering-key\":[\"n desc\"]",
-        Fault {
-            kind: Kind::Nothing,
-            table: NONE,
-            what: "",
-        },
-    ),
-];
-
-#[test]
-fn members_are_of_their_form(rt: HostRuntime) -> Result<(), Fail> {
-    let alloc = rt.alloc();
-    all_hold(
-        MEMBERS.as_slice(),
-        |case| members_have_fault(alloc, case.0, case.1),
-    )
 }
 
 fn put_often(text: &mut String, mark: char, count: usize) -> Result<(), AllocError> {
@@ -491,23 +136,6 @@ fn nested(alloc: Global, depth: usize) -> Result<String, AllocError> {
     put_often(&mut text, '[', depth)?;
     put_often(&mut text, ']', depth)?;
     Ok(text)
-}
-
-fn nests(alloc: Global, depth: usize, kind: Kind) -> Result<bool, Fail> {
-    let json = nested(alloc, depth)?;
-    let fault = Fault {
-        kind,
-        table: NONE,
-        what: "",
-    };
-    Ok(has_fault(alloc, json.as_bytes(), fault))
-}
-
-#[test]
-fn json_nests_127_deep(rt: HostRuntime) -> Result<(), Fail> {
-    let alloc = rt.alloc();
-    hold(nests(alloc, 127, Kind::NotAnObject))?;
-    hold(nests(alloc, 128, Kind::NotJson))
 }
 
 fn put_table(alloc: Global, text: &mut String, i: usize) -> Result<(), AllocError> {
@@ -526,23 +154,6 @@ fn tables(alloc: Global, count: usize) -> Result<String, AllocError> {
     }
     text.push('}')?;
     Ok(text)
-}
-
-fn holds(alloc: Global, count: usize, kind: Kind) -> Result<bool, Fail> {
-    let json = tables(alloc, count)?;
-    let fault = Fault {
-        kind,
-        table: NONE,
-        what: "",
-    };
-    Ok(has_fault(alloc, json.as_bytes(), fault))
-}
-
-#[test]
-fn a_catalog_has_64_tables(rt: HostRuntime) -> Result<(), Fail> {
-    let alloc = rt.alloc();
-    hold(holds(alloc, 64, Kind::Nothing))?;
-    hold(holds(alloc, 65, Kind::TooManyTables))
 }
 
 fn put_column(alloc: Global, text: &mut String, i: usize, end: &str) -> Result<(), AllocError> {
@@ -567,34 +178,267 @@ fn wide(alloc: Global, count: usize, keys: usize) -> Result<String, AllocError> 
     format!(in alloc; "{{\"a.b\":{{\"columns\":{{{columns_text}}},\"partition-key\":[{key}]}}}}")
 }
 
-// How many columns there are, how many of them in the key, and what the table is refused for.
-static WIDE: [(usize, usize, Kind, (&str, &str)); 3] = [
-    (64, 8, Kind::Nothing, NONE),
-    (65, 1, Kind::TooMany(64), A_B),
-    (9, 9, Kind::TooMany(8), A_B),
-];
-
-fn is_wide(
-    alloc: Global,
-    count: usize,
-    keys: usize,
-    kind: Kind,
-    table: (&'static str, &'static str),
-) -> Result<bool, Fail> {
-    let json = wide(alloc, count, keys)?;
-    let fault = Fault {
-        kind,
-        table,
-        what: "",
-    };
-    Ok(has_fault(alloc, json.as_bytes(), fault))
+fn members_have_fault(alloc: Global, members: &str, fault: Fault) -> Result<bool, Fail> {
+    Ok(has_fault(alloc, schema_with(alloc, members)?.as_bytes(), fault))
 }
 
+fn nests(alloc: Global, depth: usize, fault: Fault) -> Result<bool, Fail> {
+    Ok(has_fault(alloc, nested(alloc, depth)?.as_bytes(), fault))
+}
+
+fn has_tables(alloc: Global, count: usize, fault: Fault) -> Result<bool, Fail> {
+    Ok(has_fault(alloc, tables(alloc, count)?.as_bytes(), fault))
+}
+
+fn is_wide(alloc: Global, count: usize, keys: usize, fault: Fault) -> Result<bool, Fail> {
+    Ok(has_fault(alloc, wide(alloc, count, keys)?.as_bytes(), fault))
+}
+
+// A schema, and the fault for which it is refused.
+#[derive(Clone, Copy)]
+enum Check {
+    Bytes(&'static [u8], Kind),
+    Text(&'static str, Kind, At, &'static str),
+    // A table `a.b` with these members.
+    Members(&'static str, Kind, At, &'static str),
+    // So many arrays, one in the other.
+    Nested(usize, Kind),
+    // So many tables.
+    Tables(usize, Kind),
+    // So many columns in the table `a.b`, and of them in its key.
+    Wide(usize, usize, Kind, At),
+}
+
+fn fault_of(kind: Kind, at: At, what: &'static str) -> Fault {
+    Fault {
+        kind,
+        table: names_of(at),
+        what,
+    }
+}
+
+impl Case for Check {
+    fn holds(self, alloc: Global) -> Result<bool, Fail> {
+        match self {
+            Check::Bytes(json, kind) => Ok(has_fault(alloc, json, fault_of(kind, At::Nothing, ""))),
+            Check::Text(json, kind, table, what) => {
+                Ok(has_fault(alloc, json.as_bytes(), fault_of(kind, table, what)))
+            }
+            Check::Members(members, kind, table, what) => {
+                members_have_fault(alloc, members, fault_of(kind, table, what))
+            }
+            Check::Nested(depth, kind) => nests(alloc, depth, fault_of(kind, At::Nothing, "")),
+            Check::Tables(count, kind) => has_tables(alloc, count, fault_of(kind, At::Nothing, "")),
+            Check::Wide(count, keys, kind, table) => {
+                is_wide(alloc, count, keys, fault_of(kind, table, ""))
+            }
+        }
+    }
+}
+
+// The first fault.
+static TEXTS: [Check; 21] = [
+    Check::Text("", Kind::NotJson, At::Nothing, ""),
+    Check::Text("{\"a.b\":}", Kind::NotJson, At::Nothing, ""),
+    Check::Text("{\"a.b\":{}} {}", Kind::NotJson, At::Nothing, ""),
+    Check::Text("[1e999]", Kind::NotJson, At::Nothing, ""),
+    Check::Text("[\"\\ud800\"]", Kind::NotJson, At::Nothing, ""),
+    Check::Text("[]", Kind::NotAnObject, At::Nothing, ""),
+    Check::Text("null", Kind::NotAnObject, At::Nothing, ""),
+    Check::Text("{\"ab\":{}}", Kind::TableName, At::Nothing, "ab"),
+    Check::Text("{\"a.b.c\":{}}", Kind::TableName, At::Nothing, "a.b.c"),
+    Check::Text("{\"a.1\":{}}", Kind::TableName, At::Nothing, "a.1"),
+    Check::Text(
+        "{\"coordinator.x\":{}}",
+        Kind::TableName,
+        At::Nothing,
+        "coordinator.x",
+    ),
+    Check::Text(
+        "{\"scalardb.x\":{}}",
+        Kind::TableName,
+        At::Nothing,
+        "scalardb.x",
+    ),
+    Check::Text(
+        "{\"a.b\":{\"transaction\":false}}",
+        Kind::NonTransactional,
+        At::Ab,
+        "",
+    ),
+    Check::Text("{\"a.b\":{}}", Kind::Field, At::Ab, "columns"),
+    Check::Text("{\"a.b\":1}", Kind::Field, At::Ab, "columns"),
+    Check::Text(
+        "{\"a.b\":{\"columns\":{\"k\":\"INT\"}}}",
+        Kind::Field,
+        At::Ab,
+        "partition-key",
+    ),
+    Check::Text("{\"b.a\":{},\"a.b\":{}}", Kind::Field, At::Ab, "columns"),
+    Check::Text(
+        "{\"a.b\":{},\"b.a\":{\"transaction\":false}}",
+        Kind::NonTransactional,
+        At::Ba,
+        "",
+    ),
+    Check::Text(
+        "{\"a.b\":{\"transaction\":false},\"b\":{}}",
+        Kind::TableName,
+        At::Nothing,
+        "b",
+    ),
+    Check::Text(
+        "{\"a.b\":{\"columns\":{\"k\":\"INT\",\"v\":\"FLOAT\"},\"partition-key\":[\"x\"]}}",
+        Kind::UnknownType,
+        At::Ab,
+        "v",
+    ),
+    Check::Text(
+        "{\"a.b\":{\"columns\":{\"k\":1},\"partition-key\":[\"k\"]}}",
+        Kind::UnknownType,
+        At::Ab,
+        "k",
+    ),
+];
+
+fn texts_have_their_fault(alloc: Global) -> Result<(), Fail> {
+    all_cases(alloc, "texts", TEXTS.as_slice())
+}
+
+static MEMBERS: [Check; 19] = [
+    Check::Members(
+        "\"partition-key\":\"k\"",
+        Kind::Field,
+        At::Ab,
+        "partition-key",
+    ),
+    Check::Members(
+        "\"partition-key\":[1]",
+        Kind::Field,
+        At::Ab,
+        "partition-key",
+    ),
+    Check::Members(
+        "\"partition-key\":[\"k ASC\"]",
+        Kind::Field,
+        At::Ab,
+        "partition-key",
+    ),
+    Check::Members(
+        "\"partition-key\":[\"k\"],\"clustering-key\":{}",
+        Kind::Field,
+        At::Ab,
+        "clustering-key",
+    ),
+    Check::Members(
+        "\"partition-key\":[\"k\"],\"clustering-key\":[\"n  ASC\"]",
+        Kind::Field,
+        At::Ab,
+        "clustering-key",
+    ),
+    Check::Members(
+        "\"partition-key\":[\"k\"],\"clustering-key\":[\"n UP\"]",
+        Kind::Field,
+        At::Ab,
+        "clustering-key",
+    ),
+    Check::Members(
+        "\"partition-key\":[\"k\"],\"clustering-key\":[\"n \"]",
+        Kind::Field,
+        At::Ab,
+        "clustering-key",
+    ),
+    Check::Members(
+        "\"partition-key\":[\"k\"],\"secondary-index\":[null]",
+        Kind::Field,
+        At::Ab,
+        "secondary-index",
+    ),
+    Check::Members(
+        "\"partition-key\":[\"k\"],\"transaction\":\"true\"",
+        Kind::Field,
+        At::Ab,
+        "transaction",
+    ),
+    Check::Members(
+        "\"secondary-index\":1,\"partition-key\":1",
+        Kind::Field,
+        At::Ab,
+        "partition-key",
+    ),
+    Check::Members(
+        "\"partition-key\":[\"k\"],\"columns\":{\"1\":\"INT\"}",
+        Kind::Field,
+        At::Ab,
+        "columns",
+    ),
+    Check::Members("\"partition-key\":[]", Kind::NoPartitionKey, At::Ab, ""),
+    Check::Members(
+        "\"partition-key\":[\"x\"]",
+        Kind::UnknownColumn,
+        At::Ab,
+        "x",
+    ),
+    Check::Members(
+        "\"partition-key\":[\"k\"],\"clustering-key\":[\"x\"]",
+        Kind::UnknownColumn,
+        At::Ab,
+        "x",
+    ),
+    Check::Members(
+        "\"partition-key\":[\"k\"],\"secondary-index\":[\"x\"]",
+        Kind::UnknownColumn,
+        At::Ab,
+        "x",
+    ),
+    Check::Members(
+        "\"partition-key\":[\"k\"],\"clustering-key\":[\"k\"]",
+        Kind::RepeatedColumn,
+        At::Ab,
+        "k",
+    ),
+    Check::Members(
+        "\"partition-key\":[\"k\"],\"columns\":{\"k\":\"INT\",\"tx_id\":\"TEXT\"}",
+        Kind::ReservedName,
+        At::Ab,
+        "tx_id",
+    ),
+    Check::Members(
+        "\"partition-key\":[\"k\"],\"columns\":{\"k\":\"INT\",\"before_k\":\"INT\"}",
+        Kind::ReservedName,
+        At::Ab,
+        "before_k",
+    ),
+    Check::Members(
+        "\"partition-key\":[\"k\"],\"clustering-key\":[\"n desc\"]",
+        Kind::Nothing,
+        At::Nothing,
+        "",
+    ),
+];
+
+fn members_have_their_fault(alloc: Global) -> Result<(), Fail> {
+    all_cases(alloc, "members", MEMBERS.as_slice())
+}
+
+static LIMITS: [Check; 9] = [
+    // A text is in UTF-8.
+    Check::Bytes(b"{\"\xff\":{}}", Kind::NotJson),
+    Check::Bytes(b"\xef\xbb\xbf{}", Kind::NotJson),
+    // JSON nests 127 deep.
+    Check::Nested(127, Kind::NotAnObject),
+    Check::Nested(128, Kind::NotJson),
+    // A catalog has 64 tables, and a table 64 columns, of which 8 may be its key.
+    Check::Tables(64, Kind::Nothing),
+    Check::Tables(65, Kind::TooManyTables),
+    Check::Wide(64, 8, Kind::Nothing, At::Nothing),
+    Check::Wide(65, 1, Kind::TooMany(64), At::Ab),
+    Check::Wide(9, 9, Kind::TooMany(8), At::Ab),
+];
+
 #[test]
-fn a_table_has_64_columns_and_8_in_its_key(rt: HostRuntime) -> Result<(), Fail> {
-    let alloc = rt.alloc();
-    all_hold(
-        WIDE.as_slice(),
-        |case| is_wide(alloc, case.0, case.1, case.2, case.3),
-    )
+fn schemas_have_their_first_fault(rt: HostRuntime) -> Result<(), Fail> {
+    texts_have_their_fault(rt.alloc())?;
+    members_have_their_fault(rt.alloc())?;
+    all_cases(rt.alloc(), "limits", LIMITS.as_slice())
 }

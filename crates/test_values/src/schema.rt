@@ -6,7 +6,7 @@ use sdb_schema::{AddRefused, Catalog, Column, ColumnList, Kind, RowRefused, Tabl
 use sdb_types::{Columns, Name, Names, Seq};
 use std::alloc::Global;
 use std::test::Fail;
-use test_builders::{Cell, all_hold, columns_of, hold, names_of, table_of};
+use test_builders::{Case, Cell, all_cases, columns_of, names_of, table_of};
 
 // How a table without columns, and of this partition key, is refused.
 fn refused_without_columns(alloc: Global, key: Names) -> Result<TableRefused, Fail> {
@@ -18,21 +18,13 @@ fn refused_without_columns(alloc: Global, key: Names) -> Result<TableRefused, Fa
     }
 }
 
-fn wants_a_key(alloc: Global) -> Result<bool, Fail> {
-    let refused = refused_without_columns(alloc, Names::new(alloc))?;
-    Ok(matches!(&refused, TableRefused::NoPartitionKey))
-}
-
-fn wants_columns(alloc: Global) -> Result<bool, Fail> {
-    let key = names_of(alloc, ["shelf"].as_slice())?;
-    let refused = refused_without_columns(alloc, key)?;
-    Ok(matches!(&refused, TableRefused::UnknownColumn(_)))
-}
-
-#[test]
-fn a_table_wants_a_key_of_its_columns(rt: HostRuntime) -> Result<(), Fail> {
-    hold(wants_a_key(rt.alloc()))?;
-    hold(wants_columns(rt.alloc()))
+// Whether a table wants a key, and that of its columns.
+fn wants(alloc: Global, key: &[&str]) -> Result<bool, Fail> {
+    match refused_without_columns(alloc, names_of(alloc, key)?)? {
+        TableRefused::NoPartitionKey => Ok(key.is_empty()),
+        TableRefused::UnknownColumn(_) => Ok(!key.is_empty()),
+        _ => Ok(false),
+    }
 }
 
 fn column(alloc: Global, name: &str, kind: Kind) -> Result<Column, Fail>
@@ -98,61 +90,16 @@ fn fault_of(table: &Table, row: &Columns, column: &str) -> Fault {
     }
 }
 
-// The values of `k` and `n` in a row, and its fault at a column.
-#[derive(Clone, Copy)]
-struct Case {
+fn has_fault(
+    alloc: Global,
     key: Cell,
     number: Cell,
     fault: Fault,
-    column: &'static str,
-}
-
-fn has_fault(alloc: Global, case: Case) -> Result<bool, Fail> {
-    let row = columns_of(alloc, [("k", case.key), ("n", case.number)].as_slice())?;
+    column: &str,
+) -> Result<bool, Fail> {
+    let row = columns_of(alloc, [("k", key), ("n", number)].as_slice())?;
     let table = keyed(alloc, "item")?;
-    Ok(fault_of(&table, &row, case.column) == case.fault)
-}
-
-const OUTSIDE: i64 = 9_007_199_254_740_993;
-
-static ROWS: [Case; 5] = [
-    Case {
-        key: Cell::Null,
-        number: Cell::Int(1),
-        fault: Fault::NullInKey,
-        column: "k",
-    },
-    Case {
-        key: Cell::Int(1),
-        number: Cell::BigInt(OUTSIDE),
-        fault: Fault::WrongType,
-        column: "k",
-    },
-    Case {
-        key: Cell::Text("a"),
-        number: Cell::Int(1),
-        fault: Fault::WrongType,
-        column: "n",
-    },
-    Case {
-        key: Cell::Text("a"),
-        number: Cell::BigInt(OUTSIDE),
-        fault: Fault::OutOfRange,
-        column: "n",
-    },
-    Case {
-        key: Cell::Text("a"),
-        number: Cell::BigInt(9_007_199_254_740_992),
-        fault: Fault::Nothing,
-        column: "n",
-    },
-];
-
-// A row with several faults has the first of its key, of its types, of its ranges.
-#[test]
-fn rows_have_their_first_refusal(rt: HostRuntime) -> Result<(), Fail> {
-    let alloc = rt.alloc();
-    all_hold(ROWS.as_slice(), |case| has_fault(alloc, case))
+    Ok(fault_of(&table, &row, column) == fault)
 }
 
 fn add(alloc: Global, catalog: &mut Catalog, name: &str) -> Result<Option<AddRefused>, Fail> {
@@ -175,23 +122,64 @@ fn added(alloc: Global, count: u32) -> Result<Option<AddRefused>, Fail> {
     add(alloc, &mut catalog, "t0")
 }
 
-fn adds(alloc: Global, count: u32, refused: Option<AddRefused>) -> Result<bool, Fail> {
-    Ok(added(alloc, count)? == refused)
-}
-
-#[test]
-fn a_catalog_takes_64_tables(rt: HostRuntime) -> Result<(), Fail> {
-    hold(adds(rt.alloc(), 64, None))?;
-    hold(adds(rt.alloc(), 65, Some(AddRefused::TooMany)))
-}
-
-fn is_known(alloc: Global) -> Result<bool, Fail> {
+// How a catalog answers to a table of a name that it has.
+fn added_again(alloc: Global) -> Result<Option<AddRefused>, Fail> {
     let mut catalog = Catalog::new(alloc);
     add(alloc, &mut catalog, "item")?;
-    Ok(add(alloc, &mut catalog, "item")? == Some(AddRefused::Known))
+    add(alloc, &mut catalog, "item")
 }
 
+// What is asked of tables and catalogs.
+#[derive(Clone, Copy)]
+enum Check {
+    // The partition key of a table without columns.
+    Wants(&'static [&'static str]),
+    // The values of `k` and `n` in a row, and its fault at a column.
+    Row(Cell, Cell, Fault, &'static str),
+    // How many tables a catalog is given, and how the last is refused, if it is.
+    Adds(u32, Option<AddRefused>),
+    AddsAgain(Option<AddRefused>),
+}
+
+impl Case for Check {
+    fn holds(self, alloc: Global) -> Result<bool, Fail> {
+        match self {
+            Check::Wants(key) => wants(alloc, key),
+            Check::Row(key, number, fault, column) => has_fault(alloc, key, number, fault, column),
+            Check::Adds(count, refused) => Ok(added(alloc, count)? == refused),
+            Check::AddsAgain(refused) => Ok(added_again(alloc)? == refused),
+        }
+    }
+}
+
+const OUTSIDE: i64 = 9_007_199_254_740_993;
+
+static CHECKS: [Check; 10] = [
+    Check::Wants(&[]),
+    Check::Wants(&["shelf"]),
+    // A row with several faults has the first of its key, of its types, of its ranges.
+    Check::Row(Cell::Null, Cell::Int(1), Fault::NullInKey, "k"),
+    Check::Row(Cell::Int(1), Cell::BigInt(OUTSIDE), Fault::WrongType, "k"),
+    Check::Row(Cell::Text("a"), Cell::Int(1), Fault::WrongType, "n"),
+    Check::Row(
+        Cell::Text("a"),
+        Cell::BigInt(OUTSIDE),
+        Fault::OutOfRange,
+        "n",
+    ),
+    Check::Row(
+        Cell::Text("a"),
+        Cell::BigInt(9_007_199_254_740_992),
+        Fault::Nothing,
+        "n",
+    ),
+    // A catalog takes 64 tables, and a name once.
+    Check::Adds(64, None),
+    Check::Adds(65, Some(AddRefused::TooMany)),
+    Check::AddsAgain(Some(AddRefused::Known)),
+];
+
 #[test]
-fn a_catalog_takes_a_name_once(rt: HostRuntime) -> Result<(), Fail> {
-    hold(is_known(rt.alloc()))
+fn tables_and_catalogs_are_checked(rt: HostRuntime) -> Result<(), Fail> {
+    all_cases(rt.alloc(), "schema", CHECKS.as_slice())
 }

@@ -4,7 +4,7 @@ use sdb_schema::{Catalog, Column, Direction, Kind, Order, Table};
 use sdb_types::{Name, TableName};
 use std::alloc::{AllocError, Global};
 use std::test::Fail;
-use test_builders::all_hold;
+use test_builders::{Case, all_cases};
 
 fn kind_text(kind: Kind) -> &'static str {
     match kind {
@@ -83,43 +83,48 @@ fn put_catalog(out: &mut String, catalog: &Catalog) -> Result<(), AllocError> {
 }
 
 // The catalog that a text describes.
-fn taken(alloc: Global, json: &str) -> Result<String, Fail> {
+fn catalog_text(alloc: Global, json: &str) -> Result<String, Fail> {
     let catalog = catalog_of(alloc, json.as_bytes())?;
     let mut out = String::new(alloc);
     put_catalog(&mut out, &catalog)?;
     Ok(out)
 }
 
-fn is_taken(alloc: Global, json: &str, catalog: &str) -> Result<bool, Fail> {
-    Ok(taken(alloc, json)?.as_str() == catalog)
+// A text, and the catalog that it describes.
+#[derive(Clone, Copy)]
+struct Taken(&'static str, &'static str);
+
+impl Case for Taken {
+    fn holds(self, alloc: Global) -> Result<bool, Fail> {
+        Ok(catalog_text(alloc, self.0)?.as_str() == self.1)
+    }
 }
 
-static TAKEN: [(&str, &str); 6] = [
-    (
+static TAKEN: [Taken; 6] = [
+    Taken(
         "{\"bank.account\":{\"partition-key\":[\"id\"],\"columns\":{\"id\":\"INT\",\"balance\":\"INT\"}}}",
         "bank.account id | balance:INT id:INT;",
     ),
-    (
+    Taken(
         "{\"bank.account\":{\"transaction\":true,\"partition-key\":[\"id\"],\"clustering-key\":[],\"columns\":{\"id\":\"INT\",\"balance\":\"INT\"},\"compaction-strategy\":\"LCS\"},\"shop.orders\":{\"transaction\":true,\"partition-key\":[\"customer\"],\"clustering-key\":[\"placed DESC\"],\"columns\":{\"customer\":\"INT\",\"placed\":\"BIGINT\",\"note\":\"TEXT\"},\"secondary-index\":[\"note\"]}}",
         "bank.account id | balance:INT id:INT;shop.orders customer -placed | customer:INT note:TEXT placed:BIGINT index:note;",
     ),
-    (
+    Taken(
         "{\"b.a\":{\"columns\":{\"k\":\"boolean\",\"l\":\"Blob\"},\"partition-key\":[\"k\"],\"clustering-key\":[\"l asc\"]},\"a.b\":{\"columns\":{\"k\":\"text\"},\"partition-key\":[\"k\"]}}",
         "a.b k | k:TEXT;b.a k +l | k:BOOLEAN l:BLOB;",
     ),
-    (
+    Taken(
         "{\"a.b\":{\"columns\":{\"k\":\"FLOAT\"},\"columns\":{\"k\":\"FLOAT\",\"k\":\"INT\"},\"partition-key\":[\"k\"]}}",
         "a.b k | k:INT;",
     ),
-    (
+    Taken(
         "{\"a.b\":1,\"a.b\":{\"columns\":{\"k\":\"INT\"},\"partition-key\":[\"k\"]}}",
         "a.b k | k:INT;",
     ),
-    ("{}", ""),
+    Taken("{}", ""),
 ];
 
 #[test]
 fn schemas_describe_their_catalogs(rt: HostRuntime) -> Result<(), Fail> {
-    let alloc = rt.alloc();
-    all_hold(TAKEN.as_slice(), |case| is_taken(alloc, case.0, case.1))
+    all_cases(rt.alloc(), "taken", TAKEN.as_slice())
 }
