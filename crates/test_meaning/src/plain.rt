@@ -54,11 +54,6 @@ fn is_duplicate(alloc: Global) -> Result<bool, Fail> {
     Ok(second_is(&answers, &twice))
 }
 
-#[test]
-fn an_insert_counts_and_then_is_a_duplicate(rt: HostRuntime) -> Result<(), Fail> {
-    hold(is_duplicate(rt.alloc()))
-}
-
 // Whether the account has that balance.
 fn has_balance(alloc: Global, tables: &PlainTables, number: i32) -> Result<bool, Fail> {
     let key = account(alloc, 1)?;
@@ -72,8 +67,10 @@ fn has_row(alloc: Global) -> Result<bool, Fail> {
     Ok(has_balance(alloc, &tables, 100)? && tables.all()?.len() == 1)
 }
 
+// An INSERT counts, and then is a duplicate; the row is there.
 #[test]
-fn the_row_is_there(rt: HostRuntime) -> Result<(), Fail> {
+fn a_serial_run_inserts_once(rt: HostRuntime) -> Result<(), Fail> {
+    hold(is_duplicate(rt.alloc()))?;
     hold(has_row(rt.alloc()))
 }
 
@@ -122,11 +119,6 @@ fn is_at_last_prepare(alloc: Global) -> Result<bool, Fail> {
     Ok(first_point(alloc)? == Some(point))
 }
 
-#[test]
-fn the_first_transaction_is_at_its_last_prepare(rt: HostRuntime) -> Result<(), Fail> {
-    hold(is_at_last_prepare(rt.alloc()))
-}
-
 static WITHOUT_PREPARES: [Happening; 2] = [
     Happening::Take("BEGIN", Some(Said::Done)),
     Happening::Take("COMMIT", Some(Said::Committed)),
@@ -137,7 +129,9 @@ fn is_at_commit(alloc: Global) -> Result<bool, Fail> {
     Ok(point(alloc, events.as_slice(), FIRST)? == 2)
 }
 
+// The first transaction is at its last prepare, and without a prepare its COMMIT counts.
 #[test]
-fn without_a_prepare_its_commit_counts(rt: HostRuntime) -> Result<(), Fail> {
+fn points_are_last_prepares(rt: HostRuntime) -> Result<(), Fail> {
+    hold(is_at_last_prepare(rt.alloc()))?;
     hold(is_at_commit(rt.alloc()))
 }

@@ -63,13 +63,23 @@ fn changed(alloc: Global, rows: &[Image], keyed: &Keyed) -> Result<Images, Fail>
     Ok(left)
 }
 
-// The rows after all changes, in the order of their keys.
-fn with_changes(alloc: Global, rows: &[Image], changes: &Changes) -> Result<Images, Fail> {
-    let mut left = PlainTables::of_rows(alloc, rows)?.all()?;
+// The rows in the order of their keys.
+fn in_order(alloc: Global, rows: &[Image]) -> Result<Images, Fail> {
+    Ok(PlainTables::of_rows(alloc, rows)?.all()?)
+}
+
+fn change_all(alloc: Global, rows: Images, changes: &Changes) -> Result<Images, Fail> {
+    let mut left = rows;
     for keyed in changes {
         left = changed(alloc, left.as_slice(), keyed)?;
     }
-    Ok(PlainTables::of_rows(alloc, left.as_slice())?.all()?)
+    Ok(left)
+}
+
+// The rows after all changes, in the order of their keys.
+fn with_changes(alloc: Global, rows: &[Image], changes: &Changes) -> Result<Images, Fail> {
+    let left = change_all(alloc, in_order(alloc, rows)?, changes)?;
+    in_order(alloc, left.as_slice())
 }
 
 // An answer, and changes.

@@ -6,7 +6,7 @@ use sdb_schema::Catalog;
 use sdb_sqltext::parse_statement;
 use std::alloc::{AllocError, Global};
 use std::test::Fail;
-use test_builders::all_hold;
+use test_builders::{Case, all_cases};
 
 // What becomes of the plan of a statement.
 #[derive(Clone, Copy, PartialEq, Eq)]
@@ -29,79 +29,20 @@ fn has_fate(alloc: Global, catalog: &Catalog, text: &str, fate: Fate) -> Result<
     Ok(fate_of(alloc, catalog, &statement) == fate)
 }
 
-// The kind and the place of each refusal.
-static REFUSED: [(&str, u8, u32); 24] = [
-    ("SELECT x FROM shop.other", 6, 0),
-    ("BEGIN", 6, 0),
-    ("SELECT n, x FROM shop.item WHERE y = 1", 7, 2),
-    ("SELECT * FROM shop.item WHERE n = 1 AND y IS NULL", 7, 2),
-    ("UPDATE shop.item SET qty = 'a', x = 1", 7, 2),
-    ("DELETE FROM shop.item WHERE x IS NOT NULL", 7, 1),
-    (
-        "INSERT INTO shop.item (cat, n, cat) VALUES (1, 2, 'a')",
-        8,
-        3,
-    ),
-    ("UPDATE shop.item SET qty = 1, note = 2, qty = 3", 8, 3),
-    ("UPDATE shop.item SET qty = 'a', n = 2", 9, 2),
-    ("UPDATE shop.item SET cat = NULL", 9, 1),
-    (
-        "INSERT INTO shop.item (cat, n, qty) VALUES (NULL, 1, 'a')",
-        10,
-        3,
-    ),
-    ("SELECT n FROM shop.item WHERE flag = 1", 10, 2),
-    ("UPDATE shop.item SET note = X'00' WHERE cat = 'a'", 10, 1),
-    (
-        "UPSERT INTO shop.item (n, cat, qty) VALUES (2147483648, NULL, 1)",
-        11,
-        2,
-    ),
-    (
-        "INSERT INTO shop.item (cat, n) VALUES (1, -2147483649)",
-        12,
-        2,
-    ),
-    (
-        "SELECT big FROM shop.item WHERE big > 9007199254740993",
-        12,
-        2,
-    ),
-    (
-        "UPDATE shop.item SET big = -9007199254740993 WHERE qty = 2147483648",
-        12,
-        1,
-    ),
-    ("INSERT INTO shop.item (qty, n) VALUES (1, 1)", 14, 1),
-    ("UPSERT INTO shop.item (qty, cat) VALUES (NULL, 1)", 14, 2),
-    ("COMMIT", 6, 0),
-    ("VACUUM", 6, 0),
-    ("SELECT note FROM shop.item WHERE note = TRUE", 10, 2),
-    ("SELECT data FROM shop.item WHERE data = 'a'", 10, 2),
-    ("INSERT INTO shop.item (x, x) VALUES (1, 1)", 7, 1),
-];
-
-#[test]
-fn statements_are_refused(rt: HostRuntime) -> Result<(), Fail> {
-    let alloc = rt.alloc();
-    let catalog = shop(alloc)?;
-    all_hold(REFUSED.as_slice(), |case| {
-        has_fate(alloc, &catalog, case.0, Fate::Refused(case.1, case.2))
-    })
+fn put_often(out: &mut String, mark: char, count: usize) -> Result<(), AllocError> {
+    for _ in 0..count {
+        out.push(mark)?;
+    }
+    Ok(())
 }
 
 // A statement that tests a note against a text of so many bytes.
 fn long_test(alloc: Global, length: usize) -> Result<String, AllocError> {
     let mut text = String::from_str(alloc, "SELECT n FROM shop.item WHERE qty = 1 AND note < '")?;
-    for _ in 0..length {
-        text.push('x')?;
-    }
+    put_often(&mut text, 'x', length)?;
     text.push('\'')?;
     Ok(text)
 }
-
-// The lengths of texts, and what becomes of their statements.
-static LONG: [(usize, Fate); 2] = [(4097, Fate::Refused(13, 3)), (4096, Fate::Planned)];
 
 fn long_has_fate(
     alloc: Global,
@@ -113,11 +54,105 @@ fn long_has_fate(
     has_fate(alloc, catalog, text.as_str(), fate)
 }
 
+// A statement, or one with a text of so many bytes, and what becomes of it.
+#[derive(Clone, Copy)]
+enum Check {
+    Text(&'static str, Fate),
+    Long(usize, Fate),
+}
+
+impl Case for Check {
+    fn holds(self, alloc: Global) -> Result<bool, Fail> {
+        let catalog = shop(alloc)?;
+        match self {
+            Check::Text(text, fate) => has_fate(alloc, &catalog, text, fate),
+            Check::Long(length, fate) => long_has_fate(alloc, &catalog, length, fate),
+        }
+    }
+}
+
+// The kind and the place of each refusal.
+static REFUSED: [Check; 26] = [
+    Check::Text("SELECT x FROM shop.other", Fate::Refused(6, 0)),
+    Check::Text("BEGIN", Fate::Refused(6, 0)),
+    Check::Text(
+        "SELECT n, x FROM shop.item WHERE y = 1",
+        Fate::Refused(7, 2),
+    ),
+    Check::Text(
+        "SELECT * FROM shop.item WHERE n = 1 AND y IS NULL",
+        Fate::Refused(7, 2),
+    ),
+    Check::Text("UPDATE shop.item SET qty = 'a', x = 1", Fate::Refused(7, 2)),
+    Check::Text(
+        "DELETE FROM shop.item WHERE x IS NOT NULL",
+        Fate::Refused(7, 1),
+    ),
+    Check::Text(
+        "INSERT INTO shop.item (cat, n, cat) VALUES (1, 2, 'a')",
+        Fate::Refused(8, 3),
+    ),
+    Check::Text(
+        "UPDATE shop.item SET qty = 1, note = 2, qty = 3",
+        Fate::Refused(8, 3),
+    ),
+    Check::Text("UPDATE shop.item SET qty = 'a', n = 2", Fate::Refused(9, 2)),
+    Check::Text("UPDATE shop.item SET cat = NULL", Fate::Refused(9, 1)),
+    Check::Text(
+        "INSERT INTO shop.item (cat, n, qty) VALUES (NULL, 1, 'a')",
+        Fate::Refused(10, 3),
+    ),
+    Check::Text(
+        "SELECT n FROM shop.item WHERE flag = 1",
+        Fate::Refused(10, 2),
+    ),
+    Check::Text(
+        "UPDATE shop.item SET note = X'00' WHERE cat = 'a'",
+        Fate::Refused(10, 1),
+    ),
+    Check::Text(
+        "UPSERT INTO shop.item (n, cat, qty) VALUES (2147483648, NULL, 1)",
+        Fate::Refused(11, 2),
+    ),
+    Check::Text(
+        "INSERT INTO shop.item (cat, n) VALUES (1, -2147483649)",
+        Fate::Refused(12, 2),
+    ),
+    Check::Text(
+        "SELECT big FROM shop.item WHERE big > 9007199254740993",
+        Fate::Refused(12, 2),
+    ),
+    Check::Text(
+        "UPDATE shop.item SET big = -9007199254740993 WHERE qty = 2147483648",
+        Fate::Refused(12, 1),
+    ),
+    Check::Text(
+        "INSERT INTO shop.item (qty, n) VALUES (1, 1)",
+        Fate::Refused(14, 1),
+    ),
+    Check::Text(
+        "UPSERT INTO shop.item (qty, cat) VALUES (NULL, 1)",
+        Fate::Refused(14, 2),
+    ),
+    Check::Text("COMMIT", Fate::Refused(6, 0)),
+    Check::Text("VACUUM", Fate::Refused(6, 0)),
+    Check::Text(
+        "SELECT note FROM shop.item WHERE note = TRUE",
+        Fate::Refused(10, 2),
+    ),
+    Check::Text(
+        "SELECT data FROM shop.item WHERE data = 'a'",
+        Fate::Refused(10, 2),
+    ),
+    Check::Text(
+        "INSERT INTO shop.item (x, x) VALUES (1, 1)",
+        Fate::Refused(7, 1),
+    ),
+    Check::Long(4097, Fate::Refused(13, 3)),
+    Check::Long(4096, Fate::Planned),
+];
+
 #[test]
-fn long_texts_are_refused(rt: HostRuntime) -> Result<(), Fail> {
-    let alloc = rt.alloc();
-    let catalog = shop(alloc)?;
-    all_hold(LONG.as_slice(), |case| {
-        long_has_fate(alloc, &catalog, case.0, case.1)
-    })
+fn statements_are_refused(rt: HostRuntime) -> Result<(), Fail> {
+    all_cases(rt.alloc(), "refused", REFUSED.as_slice())
 }

@@ -1,10 +1,10 @@
 //! Texts of values, keys, records and answers.
 use sdb_texts::{answer_text, key_text, put_id, put_record, put_row, put_span, put_value};
-use sdb_types::TxId;
+use sdb_types::{NoMemory, TxId};
 use std::alloc::Global;
 use std::test::Fail;
 use test_builders::{
-    Cell, Place, Row, Said, all_hold, answer_of, hold, key_of, record_of, span_of, value_of,
+    Case, Cell, Place, Row, Said, all_cases, answer_of, key_of, record_of, span_of, value_of,
     values_of,
 };
 
@@ -24,133 +24,146 @@ const RECORD: Row = Row {
     columns: &[("b", Cell::Bool(true)), ("a", Cell::Int(-7))],
 };
 
-static VALUES: [(Cell, &str); 6] = [
-    (Cell::Null, "NULL"),
-    (Cell::Bool(false), "FALSE"),
-    (Cell::Int(-2147483648), "-2147483648"),
-    (Cell::BigInt(9007199254740992), "9007199254740992L"),
-    (Cell::Text("it's ''"), "'it''s '''''"),
-    (Cell::Blob(&[0x0a, 0xff]), "X'0AFF'"),
-];
-
-fn value_shows(alloc: Global, cell: Cell, shown: &str) -> Result<bool, Fail> {
-    let value = value_of(alloc, cell)?;
-    let mut out = String::new(alloc);
-    put_value(&mut out, &value)?;
-    Ok(out.as_str() == shown)
+// What is printed, and its text.
+#[derive(Clone, Copy)]
+enum Shown {
+    Value(Cell, &'static str),
+    Key(Place, &'static str),
+    // The table `bank.item`, or one of its partitions.
+    Span(Option<&'static [Cell]>, &'static str),
+    Record(Row, &'static str),
+    Row(&'static [Cell], &'static str),
+    Id(TxId, &'static str),
+    Answer(Said, &'static str),
 }
 
-#[test]
-fn values_show(rt: HostRuntime) -> Result<(), Fail> {
-    let alloc = rt.alloc();
-    all_hold(VALUES.as_slice(), |case| value_shows(alloc, case.0, case.1))
+fn put_key(alloc: Global, out: &mut String, place: Place) -> Result<(), Fail> {
+    let key = key_of(alloc, place)?;
+    Ok(out.push_str(key_text(alloc, &key)?.as_str())?)
 }
 
-fn key_shows(alloc: Global) -> Result<bool, Fail> {
-    let key = key_of(alloc, KEY)?;
-    Ok(key_text(alloc, &key)?.as_str() == "bank.item(1;2,'a')")
-}
-
-// Partitions, or none, and the spans of the table.
-static SPANS: [(Option<&[Cell]>, &str); 2] = [
-    (Some(&[Cell::Int(1)]), "bank.item(1)"),
-    (None, "bank.item"),
-];
-
-fn span_shows(
+fn put_partition(
     alloc: Global,
+    out: &mut String,
     partition: Option<&'static [Cell]>,
-    shown: &str,
-) -> Result<bool, Fail> {
-    let span = span_of(alloc, "bank", "item", partition)?;
-    let mut out = String::new(alloc);
-    put_span(&mut out, &span)?;
-    Ok(out.as_str() == shown)
+) -> Result<(), Fail> {
+    Ok(put_span(out, &span_of(alloc, "bank", "item", partition)?)?)
 }
 
-#[test]
-fn keys_and_spans_show(rt: HostRuntime) -> Result<(), Fail> {
-    let alloc = rt.alloc();
-    hold(key_shows(alloc))?;
-    all_hold(SPANS.as_slice(), |case| span_shows(alloc, case.0, case.1))
+fn put_answer(alloc: Global, out: &mut String, said: Said) -> Result<(), Fail> {
+    let answer = answer_of(alloc, said)?;
+    Ok(out.push_str(answer_text(alloc, &answer)?.as_str())?)
 }
 
-fn record_shows(alloc: Global) -> Result<bool, Fail> {
-    let rec = record_of(alloc, RECORD)?;
-    let mut out = String::new(alloc);
-    put_record(&mut out, &rec)?;
-    Ok(out.as_str() == "bank.item(1;2,'a'){a=-7,b=TRUE}")
+fn put_cell(alloc: Global, out: &mut String, cell: Cell) -> Result<(), NoMemory> {
+    put_value(out, &value_of(alloc, cell)?)
 }
 
-fn row_shows(alloc: Global) -> Result<bool, Fail> {
-    let row = values_of(alloc, CLUSTERING)?;
-    let mut out = String::new(alloc);
-    put_row(&mut out, &row)?;
-    Ok(out.as_str() == "(2,'a')")
+fn put_cells(alloc: Global, out: &mut String, cells: &[Cell]) -> Result<(), NoMemory> {
+    put_row(out, &values_of(alloc, cells)?)
 }
 
-fn id_shows(alloc: Global) -> Result<bool, Fail> {
-    let mut out = String::new(alloc);
-    put_id(&mut out, TxId((1 << 64) + 1))?;
-    Ok(out.as_str() == "00000000-0000-0001-0000-000000000001")
+fn put_row_of(alloc: Global, out: &mut String, row: Row) -> Result<(), Fail> {
+    Ok(put_record(out, &record_of(alloc, row)?)?)
 }
 
-#[test]
-fn records_and_rows_show(rt: HostRuntime) -> Result<(), Fail> {
-    let alloc = rt.alloc();
-    hold(record_shows(alloc))?;
-    hold(row_shows(alloc))?;
-    hold(id_shows(alloc))
+impl Shown {
+    fn text(self) -> &'static str {
+        match self {
+            Shown::Value(_, text) => text,
+            Shown::Key(_, text) => text,
+            Shown::Span(_, text) => text,
+            Shown::Record(_, text) => text,
+            Shown::Row(_, text) => text,
+            Shown::Id(_, text) => text,
+            Shown::Answer(_, text) => text,
+        }
+    }
+
+    fn put(self, alloc: Global, out: &mut String) -> Result<(), Fail> {
+        match self {
+            Shown::Value(cell, _) => Ok(put_cell(alloc, out, cell)?),
+            Shown::Key(place, _) => put_key(alloc, out, place),
+            Shown::Span(partition, _) => put_partition(alloc, out, partition),
+            Shown::Record(row, _) => put_row_of(alloc, out, row),
+            Shown::Row(cells, _) => Ok(put_cells(alloc, out, cells)?),
+            Shown::Id(id, _) => Ok(put_id(out, id)?),
+            Shown::Answer(said, _) => put_answer(alloc, out, said),
+        }
+    }
 }
 
-static ANSWERS: [(Said, &str); 17] = [
-    (Said::Rows(&[]), "rows 0"),
-    (
+impl Case for Shown {
+    fn holds(self, alloc: Global) -> Result<bool, Fail> {
+        let mut out = String::new(alloc);
+        self.put(alloc, &mut out)?;
+        Ok(out.as_str() == self.text())
+    }
+}
+
+static PARTS: [Shown; 12] = [
+    Shown::Value(Cell::Null, "NULL"),
+    Shown::Value(Cell::Bool(false), "FALSE"),
+    Shown::Value(Cell::Int(-2147483648), "-2147483648"),
+    Shown::Value(Cell::BigInt(9007199254740992), "9007199254740992L"),
+    Shown::Value(Cell::Text("it's ''"), "'it''s '''''"),
+    Shown::Value(Cell::Blob(&[0x0a, 0xff]), "X'0AFF'"),
+    Shown::Key(KEY, "bank.item(1;2,'a')"),
+    Shown::Span(Some(&[Cell::Int(1)]), "bank.item(1)"),
+    Shown::Span(None, "bank.item"),
+    Shown::Record(RECORD, "bank.item(1;2,'a'){a=-7,b=TRUE}"),
+    Shown::Row(CLUSTERING, "(2,'a')"),
+    Shown::Id(TxId((1 << 64) + 1), "00000000-0000-0001-0000-000000000001"),
+];
+
+fn parts_show(alloc: Global) -> Result<(), Fail> {
+    all_cases(alloc, "parts", PARTS.as_slice())
+}
+
+static ANSWERS: [Shown; 17] = [
+    Shown::Answer(Said::Rows(&[]), "rows 0"),
+    Shown::Answer(
         Said::Rows(&[&[Cell::Int(1)], CLUSTERING]),
         "rows 2 (1) (2,'a')",
     ),
-    (Said::Duplicate(KEY), "duplicate bank.item(1;2,'a')"),
-    (Said::BadRecord(KEY), "badrecord bank.item(1;2,'a')"),
-    (
+    Shown::Answer(Said::Duplicate(KEY), "duplicate bank.item(1;2,'a')"),
+    Shown::Answer(Said::BadRecord(KEY), "badrecord bank.item(1;2,'a')"),
+    Shown::Answer(
         Said::Busy(KEY, TxId(1), 15000),
         "busy bank.item(1;2,'a') 00000000-0000-0000-0000-000000000001 15000",
     ),
-    (
+    Shown::Answer(
         Said::Conflict(KEY, None),
         "conflict bank.item(1;2,'a') none",
     ),
-    (
+    Shown::Answer(
         Said::Conflict(KEY, Some(RECORD)),
         "conflict bank.item(1;2,'a') {a=-7,b=TRUE}",
     ),
-    (Said::Count(3), "count 3"),
-    (Said::Done, "done"),
-    (Said::Committed, "committed"),
-    (Said::Faulted, "faulted"),
-    (Said::Vacuuming, "vacuuming"),
-    (Said::OpenTransactions, "opentransactions"),
-    (Said::NoMemory, "nomemory"),
-    (
+    Shown::Answer(Said::Count(3), "count 3"),
+    Shown::Answer(Said::Done, "done"),
+    Shown::Answer(Said::Committed, "committed"),
+    Shown::Answer(Said::Faulted, "faulted"),
+    Shown::Answer(Said::Vacuuming, "vacuuming"),
+    Shown::Answer(Said::OpenTransactions, "opentransactions"),
+    Shown::Answer(Said::NoMemory, "nomemory"),
+    Shown::Answer(
         Said::Expired(TxId(2)),
         "expired 00000000-0000-0000-0000-000000000002",
     ),
-    (
+    Shown::Answer(
         Said::Unknown(TxId(2)),
         "unknown 00000000-0000-0000-0000-000000000002",
     ),
-    (Said::Refused(12, 2), "refused 12 2"),
+    Shown::Answer(Said::Refused(12, 2), "refused 12 2"),
 ];
 
-fn answer_shows(alloc: Global, said: Said, shown: &str) -> Result<bool, Fail> {
-    let answer = answer_of(alloc, said)?;
-    Ok(answer_text(alloc, &answer)?.as_str() == shown)
+fn answers_show(alloc: Global) -> Result<(), Fail> {
+    all_cases(alloc, "answers", ANSWERS.as_slice())
 }
 
 #[test]
-fn answers_show(rt: HostRuntime) -> Result<(), Fail> {
-    let alloc = rt.alloc();
-    all_hold(
-        ANSWERS.as_slice(),
-        |case| answer_shows(alloc, case.0, case.1),
-    )
+fn texts_show(rt: HostRuntime) -> Result<(), Fail> {
+    parts_show(rt.alloc())?;
+    answers_show(rt.alloc())
 }

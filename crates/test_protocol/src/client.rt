@@ -8,7 +8,7 @@ use sdb_texts::{answer_text, put_key, put_record, put_span};
 use sdb_types::{NoMemory, Request, Txt};
 use std::alloc::Global;
 use std::test::Fail;
-use test_builders::all_hold;
+use test_builders::{Case, all_cases};
 
 // A statement, its calls, each with its reply, and its answer.
 type Step = (
@@ -126,15 +126,27 @@ struct Script {
     begun: u64,
 }
 
-fn plays(alloc: Global, script: Script) -> Result<bool, Fail> {
-    let catalog = catalog_of(alloc, script.schema)?;
-    let mut client = Client::new(alloc, 1);
-    for step in script.steps {
-        if !goes(alloc, &mut client, &catalog, step)? {
+fn play(
+    alloc: Global,
+    client: &mut Client,
+    catalog: &Catalog,
+    steps: &[Step],
+) -> Result<bool, Fail> {
+    for step in steps {
+        if !goes(alloc, client, catalog, step)? {
             return Ok(false);
         }
     }
-    Ok(client.is_open() == script.open && client.begun() == script.begun)
+    Ok(true)
+}
+
+impl Case for Script {
+    fn holds(self, alloc: Global) -> Result<bool, Fail> {
+        let catalog = catalog_of(alloc, self.schema)?;
+        let mut client = Client::new(alloc, 1);
+        let played = play(alloc, &mut client, &catalog, self.steps)?;
+        Ok(played && client.is_open() == self.open && client.begun() == self.begun)
+    }
 }
 
 const INSERTED: Step = (
@@ -311,19 +323,7 @@ const VACUUMS: &[Step] = &[
 // VACUUM of a catalog without tables makes no call.
 const NO_TABLES: &[Step] = &[("VACUUM", &[], "count 0")];
 
-static SCRIPTS: [Script; 9] = [
-    Script {
-        schema: BANK,
-        steps: VACUUMS,
-        open: false,
-        begun: 1,
-    },
-    Script {
-        schema: b"{}",
-        steps: NO_TABLES,
-        open: false,
-        begun: 0,
-    },
+static IN_TRANSACTIONS: [Script; 3] = [
     Script {
         schema: BANK,
         steps: FIRST,
@@ -332,16 +332,34 @@ static SCRIPTS: [Script; 9] = [
     },
     Script {
         schema: BANK,
-        steps: EXTRA_READS,
-        open: false,
-        begun: 2,
-    },
-    Script {
-        schema: BANK,
         steps: NOTHING,
         open: false,
         begun: 1,
     },
+    Script {
+        schema: SHOP,
+        steps: OWN_INSERT,
+        open: true,
+        begun: 1,
+    },
+];
+
+fn in_transactions(alloc: Global) -> Result<(), Fail> {
+    all_cases(alloc, "in transactions", IN_TRANSACTIONS.as_slice())
+}
+
+static READ_AGAIN: [Script; 1] = [Script {
+    schema: BANK,
+    steps: EXTRA_READS,
+    open: false,
+    begun: 2,
+}];
+
+fn read_again(alloc: Global) -> Result<(), Fail> {
+    all_cases(alloc, "read again", READ_AGAIN.as_slice())
+}
+
+static REFUSALS: [Script; 2] = [
     Script {
         schema: BIG,
         steps: REFUSED,
@@ -354,22 +372,41 @@ static SCRIPTS: [Script; 9] = [
         open: true,
         begun: 1,
     },
-    Script {
-        schema: SHOP,
-        steps: OWN_INSERT,
-        open: true,
-        begun: 1,
-    },
+];
+
+fn refusals(alloc: Global) -> Result<(), Fail> {
+    all_cases(alloc, "refused", REFUSALS.as_slice())
+}
+
+static OUTSIDE_OF_THEM: [Script; 3] = [
     Script {
         schema: BANK,
         steps: OUTSIDE,
         open: false,
         begun: 2,
     },
+    Script {
+        schema: BANK,
+        steps: VACUUMS,
+        open: false,
+        begun: 1,
+    },
+    Script {
+        schema: b"{}",
+        steps: NO_TABLES,
+        open: false,
+        begun: 0,
+    },
 ];
+
+fn outside_of_them(alloc: Global) -> Result<(), Fail> {
+    all_cases(alloc, "outside", OUTSIDE_OF_THEM.as_slice())
+}
 
 #[test]
 fn clients_are_answered(rt: HostRuntime) -> Result<(), Fail> {
-    let alloc = rt.alloc();
-    all_hold(SCRIPTS.as_slice(), |script| plays(alloc, script))
+    in_transactions(rt.alloc())?;
+    read_again(rt.alloc())?;
+    refusals(rt.alloc())?;
+    outside_of_them(rt.alloc())
 }

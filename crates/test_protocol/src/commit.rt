@@ -8,7 +8,7 @@ use sdb_record::{Read, Reads, Scans, Writes, version_of};
 use sdb_types::{NameRefused, TxId};
 use std::alloc::Global;
 use std::test::Fail;
-use test_builders::{account, all_hold, hold};
+use test_builders::{Case, account, all_cases};
 
 const OWN: TxId = TxId(0x1_0000_0000_0000_0001);
 
@@ -42,67 +42,13 @@ impl Machine for CommitPhases {
     }
 }
 
-type Steps = &'static [(Answer, Told)];
-
-// Answers to the calls of a COMMIT that deletes two accounts, with what each tells.
-static CASES: [Steps; 7] = [
-    // Two prepares, the deciding put, two rolls forward.
-    &[
-        (Answer::Applied, Told::More),
-        (Answer::Applied, Told::More),
-        (Answer::Applied, Told::More),
-        (Answer::Applied, Told::More),
-        (Answer::NotMet, Told::Committed),
-    ],
-    // A prepare that is not met: ABORTED is put, and the one before it is rolled back.
-    &[
-        (Answer::Applied, Told::More),
-        (BAD_ROW, Told::More),
-        (Answer::Applied, Told::More),
-        (Answer::Applied, Told::Conflict(2, None)),
-    ],
-    // The deciding put faults, no row is found, and ABORTED is put.
-    &[
-        (Answer::Applied, Told::More),
-        (Answer::Applied, Told::More),
-        (Answer::Fault, Told::More),
-        (Answer::NoRow, Told::More),
-        (Answer::Applied, Told::More),
-        (Answer::Applied, Told::More),
-        (Answer::Applied, Told::Faulted),
-    ],
-    // The deciding put faults, and its row is found.
-    &[
-        (Answer::Applied, Told::More),
-        (Answer::Applied, Told::More),
-        (Answer::Fault, Told::More),
-        (COMMITTED, Told::More),
-        (Answer::Applied, Told::More),
-        (Answer::Applied, Told::Committed),
-    ],
-    // It faults, and so does the look.
-    &[
-        (Answer::Applied, Told::More),
-        (Answer::Applied, Told::More),
-        (Answer::Fault, Told::More),
-        (Answer::Fault, Told::Unknown),
-    ],
-    // Another has put ABORTED.
-    &[
-        (Answer::Applied, Told::More),
-        (Answer::Applied, Told::More),
-        (ABORTED, Told::More),
-        (Answer::Applied, Told::More),
-        (Answer::NotMet, Told::Expired),
-    ],
-    // The deciding put is out of memory, and the put of ABORTED faults: nothing is rolled back.
-    &[
-        (Answer::Applied, Told::More),
-        (Answer::Applied, Told::More),
-        (Answer::Starved, Told::More),
-        (Answer::Fault, Told::NoMemory),
-    ],
-];
+// Answers to the calls of a COMMIT, with what each tells: of one that deletes two accounts, and of one that read an account
+// and didn't find it.
+#[derive(Clone, Copy)]
+enum Steps {
+    OfWrites(&'static [(Answer, Told)]),
+    OfARead(&'static [(Answer, Told)]),
+}
 
 fn commit_of(alloc: Global, reads: Reads) -> Result<CommitPhases, NameRefused> {
     let scans = Scans::new(alloc);
@@ -112,40 +58,101 @@ fn commit_of(alloc: Global, reads: Reads) -> Result<CommitPhases, NameRefused> {
     Ok(CommitPhases::new(alloc, OWN, 7, Writes::new(alloc), reads, scans)?)
 }
 
-fn ends(alloc: Global, steps: Steps) -> Result<bool, Fail> {
-    let commit = commit_of(alloc, Reads::new(alloc))?;
-    Ok(plays_out(alloc, commit, steps)?)
+fn of_writes(alloc: Global, steps: &[(Answer, Told)]) -> Result<bool, Fail> {
+    Ok(plays_out(alloc, commit_of(alloc, Reads::new(alloc))?, steps)?)
 }
 
-#[test]
-fn commits_are_answered(rt: HostRuntime) -> Result<(), Fail> {
-    let alloc = rt.alloc();
-    all_hold(CASES.as_slice(), |steps| ends(alloc, steps))
-}
-
-// An account that was read and not found is read again, and found to be there in one of the cases.
-static OF_A_READ: [Steps; 2] = [
-    &[
-        (Answer::NoRow, Told::More),
-        (Answer::Applied, Told::Committed),
-    ],
-    &[
-        (BAD_ROW, Told::More),
-        (Answer::Applied, Told::Conflict(1, None)),
-    ],
-];
-
-fn ends_of_read(alloc: Global, steps: Steps) -> Result<bool, Fail> {
+fn one_read(alloc: Global) -> Result<Reads, NameRefused> {
     let mut reads = Reads::new(alloc);
     reads.push(Read {
         key: account(alloc, 1)?,
         version: None,
     })?;
-    Ok(plays_out(alloc, commit_of(alloc, reads)?, steps)?)
+    Ok(reads)
 }
 
+fn of_a_read(alloc: Global, steps: &[(Answer, Told)]) -> Result<bool, Fail> {
+    Ok(plays_out(alloc, commit_of(alloc, one_read(alloc)?)?, steps)?)
+}
+
+impl Case for Steps {
+    fn holds(self, alloc: Global) -> Result<bool, Fail> {
+        match self {
+            Steps::OfWrites(steps) => of_writes(alloc, steps),
+            Steps::OfARead(steps) => of_a_read(alloc, steps),
+        }
+    }
+}
+
+static CASES: [Steps; 9] = [
+    // Two prepares, the deciding put, two rolls forward.
+    Steps::OfWrites(&[
+        (Answer::Applied, Told::More),
+        (Answer::Applied, Told::More),
+        (Answer::Applied, Told::More),
+        (Answer::Applied, Told::More),
+        (Answer::NotMet, Told::Committed),
+    ]),
+    // A prepare that is not met: ABORTED is put, and the one before it is rolled back.
+    Steps::OfWrites(&[
+        (Answer::Applied, Told::More),
+        (BAD_ROW, Told::More),
+        (Answer::Applied, Told::More),
+        (Answer::Applied, Told::Conflict(2, None)),
+    ]),
+    // The deciding put faults, no row is found, and ABORTED is put.
+    Steps::OfWrites(&[
+        (Answer::Applied, Told::More),
+        (Answer::Applied, Told::More),
+        (Answer::Fault, Told::More),
+        (Answer::NoRow, Told::More),
+        (Answer::Applied, Told::More),
+        (Answer::Applied, Told::More),
+        (Answer::Applied, Told::Faulted),
+    ]),
+    // The deciding put faults, and its row is found.
+    Steps::OfWrites(&[
+        (Answer::Applied, Told::More),
+        (Answer::Applied, Told::More),
+        (Answer::Fault, Told::More),
+        (COMMITTED, Told::More),
+        (Answer::Applied, Told::More),
+        (Answer::Applied, Told::Committed),
+    ]),
+    // It faults, and so does the look.
+    Steps::OfWrites(&[
+        (Answer::Applied, Told::More),
+        (Answer::Applied, Told::More),
+        (Answer::Fault, Told::More),
+        (Answer::Fault, Told::Unknown),
+    ]),
+    // Another has put ABORTED.
+    Steps::OfWrites(&[
+        (Answer::Applied, Told::More),
+        (Answer::Applied, Told::More),
+        (ABORTED, Told::More),
+        (Answer::Applied, Told::More),
+        (Answer::NotMet, Told::Expired),
+    ]),
+    // The deciding put is out of memory, and the put of ABORTED faults: nothing is rolled back.
+    Steps::OfWrites(&[
+        (Answer::Applied, Told::More),
+        (Answer::Applied, Told::More),
+        (Answer::Starved, Told::More),
+        (Answer::Fault, Told::NoMemory),
+    ]),
+    // The account is read again, and found to be there in one of the cases.
+    Steps::OfARead(&[
+        (Answer::NoRow, Told::More),
+        (Answer::Applied, Told::Committed),
+    ]),
+    Steps::OfARead(&[
+        (BAD_ROW, Told::More),
+        (Answer::Applied, Told::Conflict(1, None)),
+    ]),
+];
+
 #[test]
-fn reads_are_made_again(rt: HostRuntime) -> Result<(), Fail> {
-    let alloc = rt.alloc();
-    all_hold(OF_A_READ.as_slice(), |steps| ends_of_read(alloc, steps))
+fn commits_are_answered(rt: HostRuntime) -> Result<(), Fail> {
+    all_cases(rt.alloc(), "commit", CASES.as_slice())
 }

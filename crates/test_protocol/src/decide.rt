@@ -5,7 +5,7 @@ use sdb_decide::{Decide, DecideStep};
 use sdb_types::{NameRefused, TxId};
 use std::alloc::Global;
 use std::test::Fail;
-use test_builders::all_hold;
+use test_builders::wrong_at;
 
 const OWN: TxId = TxId(0x2_0000_0000_0000_0001);
 
@@ -46,9 +46,14 @@ fn tells(alloc: Global, before: &[Answer], answer: Answer, told: Told) -> Result
     Ok(told_after(alloc, decide, before, answer, EXPIRED)? == told)
 }
 
-// Whether each of these answers after those tells what is listed.
+// Fails at the first of these answers after those that tells otherwise than listed.
 fn all_tell(alloc: Global, before: &[Answer], answers: &[(Answer, Told)]) -> Result<(), Fail> {
-    all_hold(answers, |case| tells(alloc, before, case.0, case.1))
+    for (place, case) in answers.iter().enumerate() {
+        if !tells(alloc, before, case.0, case.1)? {
+            return Err(wrong_at(place));
+        }
+    }
+    Ok(())
 }
 
 static TO_PUT: [(Answer, Told); 6] = [

@@ -6,7 +6,7 @@ use sdb_prepare::{Prepare, PrepareStep};
 use sdb_types::{NameRefused, TxId};
 use std::alloc::Global;
 use std::test::Fail;
-use test_builders::all_hold;
+use test_builders::{Case, all_cases};
 
 const OWN: TxId = TxId(0x1_0000_0000_0000_0001);
 
@@ -37,19 +37,19 @@ impl Machine for Prepare {
 
 // Answers with what they tell, and how many writes may have taken effect in the end.
 #[derive(Clone, Copy)]
-struct Case {
+struct Prepared {
     steps: &'static [(Answer, Told)],
     touched: usize,
 }
 
-static CASES: [Case; 4] = [
+static CASES: [Prepared; 4] = [
     // Each write is prepared.
-    Case {
+    Prepared {
         steps: &[(Answer::Applied, Told::More), (Answer::Applied, Told::Done)],
         touched: 2,
     },
     // What stands there is a conflict.
-    Case {
+    Prepared {
         steps: &[
             (Answer::Applied, Told::More),
             (BAD_ROW, Told::Conflict(2, None)),
@@ -57,24 +57,29 @@ static CASES: [Case; 4] = [
         touched: 1,
     },
     // A fault may have taken effect.
-    Case {
+    Prepared {
         steps: &[(Answer::Fault, Told::Faulted)],
         touched: 1,
     },
     // Out of memory there is no effect.
-    Case {
+    Prepared {
         steps: &[(Answer::Starved, Told::NoMemory)],
         touched: 0,
     },
 ];
 
-fn ends(alloc: Global, case: Case) -> Result<bool, Fail> {
-    let mut prepare = Prepare::new(alloc, &two_deletes(alloc)?, OWN, 7)?;
-    Ok(plays(alloc, &mut prepare, case.steps)? && prepare.touched() == case.touched)
+fn begin(alloc: Global) -> Result<Prepare, Fail> {
+    Ok(Prepare::new(alloc, &two_deletes(alloc)?, OWN, 7)?)
+}
+
+impl Case for Prepared {
+    fn holds(self, alloc: Global) -> Result<bool, Fail> {
+        let mut prepare = begin(alloc)?;
+        Ok(plays(alloc, &mut prepare, self.steps)? && prepare.touched() == self.touched)
+    }
 }
 
 #[test]
 fn prepares_are_answered(rt: HostRuntime) -> Result<(), Fail> {
-    let alloc = rt.alloc();
-    all_hold(CASES.as_slice(), |case| ends(alloc, case))
+    all_cases(rt.alloc(), "prepare", CASES.as_slice())
 }

@@ -6,7 +6,7 @@ use sdb_record::Access;
 use sdb_types::{NameRefused, Record, Records, TxId};
 use std::alloc::Global;
 use std::test::Fail;
-use test_builders::{Cell, account, account_with, all_hold, number_of};
+use test_builders::{Case, Cell, account, account_with, all_cases, number_of};
 
 const OTHER: TxId = TxId(0x1_0000_0000_0000_0001);
 
@@ -72,46 +72,52 @@ impl Machine for Run {
     }
 }
 
-type Steps = &'static [(Answer, Told)];
-
 // Answers to the calls of a read of an account, with what each tells.
+#[derive(Clone, Copy)]
+struct Steps(&'static [(Answer, Told)]);
+
 static CASES: [Steps; 9] = [
-    &[(Answer::NoRow, Told::Back)],
-    &[(Answer::Row(IMAGE), Told::Forward)],
-    &[(Answer::Fault, Told::Faulted)],
-    &[(Answer::Starved, Told::NoMemory)],
-    &[(BAD_ROW, Told::BadRecord)],
+    Steps(&[(Answer::NoRow, Told::Back)]),
+    Steps(&[(Answer::Row(IMAGE), Told::Forward)]),
+    Steps(&[(Answer::Fault, Told::Faulted)]),
+    Steps(&[(Answer::Starved, Told::NoMemory)]),
+    Steps(&[(BAD_ROW, Told::BadRecord)]),
     // The row says COMMITTED: the record is rolled forward.
-    &[
+    Steps(&[
         (PREPARED, Told::More),
         (COMMITTED, Told::More),
         (Answer::Applied, Told::Forward),
-    ],
+    ]),
     // The row says ABORTED: there was nothing before, and the record is removed.
-    &[
+    Steps(&[
         (PREPARED, Told::More),
         (ABORTED, Told::More),
         (Answer::NotMet, Told::Back),
-    ],
+    ]),
     // No row is there, and the record has expired: ABORTED is put.
-    &[
+    Steps(&[
         (PREPARED, Told::More),
         (Answer::NoRow, Told::More),
         (Answer::Applied, Told::More),
         (Answer::Applied, Told::Back),
-    ],
+    ]),
     // The coordinator's row can't be read.
-    &[(PREPARED, Told::More), (Answer::Fault, Told::Faulted)],
+    Steps(&[(PREPARED, Told::More), (Answer::Fault, Told::Faulted)]),
 ];
 
-fn ends(alloc: Global, steps: Steps) -> Result<bool, Fail> {
-    let image = account_with(alloc, 1, IMAGE)?;
-    let read = ReadPhases::new(alloc, &Access::Get(account(alloc, 1)?))?;
-    Ok(plays_out(alloc, Run { read, image }, steps)?)
+fn begin(alloc: Global) -> Result<ReadPhases, Fail> {
+    Ok(ReadPhases::new(alloc, &Access::Get(account(alloc, 1)?))?)
+}
+
+impl Case for Steps {
+    fn holds(self, alloc: Global) -> Result<bool, Fail> {
+        let image = account_with(alloc, 1, IMAGE)?;
+        let read = begin(alloc)?;
+        Ok(plays_out(alloc, Run { read, image }, self.0)?)
+    }
 }
 
 #[test]
 fn reads_settle_what_they_find(rt: HostRuntime) -> Result<(), Fail> {
-    let alloc = rt.alloc();
-    all_hold(CASES.as_slice(), |steps| ends(alloc, steps))
+    all_cases(rt.alloc(), "read", CASES.as_slice())
 }

@@ -6,7 +6,7 @@ use sdb_recover::{Recover, RecoverStep};
 use sdb_types::{NameRefused, NoMemory, Record, TxId};
 use std::alloc::Global;
 use std::test::Fail;
-use test_builders::{Cell, account_with, all_hold};
+use test_builders::{Cell, account_with, wrong_at};
 
 const OTHER: TxId = TxId(0x1_0000_0000_0000_0001);
 
@@ -108,14 +108,19 @@ fn tells(
     Ok(told_after(alloc, begin(alloc)?, before, answer, now)? == told)
 }
 
-// Whether each of these answers after those tells what is listed, at a moment.
+// Fails at the first of these answers after those that tells otherwise than listed, at a moment.
 fn all_tell(
     alloc: Global,
     before: &[Answer],
     now: i64,
     answers: &[(Answer, Told)],
 ) -> Result<(), Fail> {
-    all_hold(answers, |case| tells(alloc, before, now, case.0, case.1))
+    for (place, case) in answers.iter().enumerate() {
+        if !tells(alloc, before, now, case.0, case.1)? {
+            return Err(wrong_at(place));
+        }
+    }
+    Ok(())
 }
 
 static TO_EARLY_LOOK: [(Answer, Told); 6] = [
@@ -169,24 +174,23 @@ static TO_BACK: [(Answer, Told); 4] = [
 ];
 
 // Whether each answer to the roll that these lead to tells as listed.
-fn is_rolled(
-    alloc: Global,
-    before: &[Answer],
-    now: i64,
-    answers: &[(Answer, Told)],
-) -> Result<bool, Fail> {
-    all_tell(alloc, before, now, answers)?;
-    Ok(true)
+fn all_roll(alloc: Global, cases: &[Before], answers: &[(Answer, Told)]) -> Result<(), Fail> {
+    for (before, now) in cases {
+        all_tell(alloc, before, *now, answers)?;
+    }
+    Ok(())
 }
 
 // What leads to a roll, and the moment of its answer.
-static TO_COMMITTED: [(&[Answer], i64); 3] = [
+type Before = (&'static [Answer], i64);
+
+static TO_COMMITTED: [Before; 3] = [
     (&[COMMITTED], EARLIER),
     (&[Answer::NoRow, COMMITTED], EXPIRED),
     (&[Answer::NoRow, Answer::Fault, COMMITTED], EXPIRED),
 ];
 
-static TO_ABORTED: [(&[Answer], i64); 4] = [
+static TO_ABORTED: [Before; 4] = [
     (&[ABORTED], EARLIER),
     (&[Answer::NoRow, ABORTED], EXPIRED),
     (&[Answer::NoRow, Answer::Fault, ABORTED], EXPIRED),
@@ -217,17 +221,11 @@ fn row_is_looked_for_a_second_time(rt: HostRuntime) -> Result<(), Fail> {
 
 #[test]
 fn committed_row_is_followed(rt: HostRuntime) -> Result<(), Fail> {
-    let alloc = rt.alloc();
-    all_hold(TO_COMMITTED.as_slice(), |case| {
-        is_rolled(alloc, case.0, case.1, TO_FORWARD.as_slice())
-    })
+    all_roll(rt.alloc(), TO_COMMITTED.as_slice(), TO_FORWARD.as_slice())
 }
 
 // The last of these is the recovery's own put of ABORTED.
 #[test]
 fn aborted_row_is_followed(rt: HostRuntime) -> Result<(), Fail> {
-    let alloc = rt.alloc();
-    all_hold(TO_ABORTED.as_slice(), |case| {
-        is_rolled(alloc, case.0, case.1, TO_BACK.as_slice())
-    })
+    all_roll(rt.alloc(), TO_ABORTED.as_slice(), TO_BACK.as_slice())
 }

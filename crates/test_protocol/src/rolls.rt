@@ -6,7 +6,7 @@ use sdb_decide::{Abort, Commit};
 use sdb_types::{Condition, NameRefused, Request, TxId};
 use std::alloc::Global;
 use std::test::Fail;
-use test_builders::{all_hold, hold, number_of};
+use test_builders::{Case, all_cases, number_of};
 
 const OWN: TxId = TxId(0x2_0000_0000_0000_0001);
 
@@ -74,46 +74,29 @@ const EACH: [(Answer, Told); 2] = [
     (Answer::Fault, Told::Rolled(2, false)),
 ];
 
-fn rolls_forward(alloc: Global) -> Result<bool, Fail> {
-    let commit = Commit::new(alloc, &two_deletes(alloc)?, OWN, 7)?;
-    Ok(plays_out(alloc, commit, EACH.as_slice())?)
-}
-
-#[test]
-fn rolls_every_write_forward(rt: HostRuntime) -> Result<(), Fail> {
-    hold(rolls_forward(rt.alloc()))
-}
-
-// How many writes may have taken effect, whether the row is put, and the answers with what they tell.
+// Answers to rolls, with what they tell: forward, or back, where so many writes may have taken effect, after the row where
+// it is put.
 #[derive(Clone, Copy)]
-struct Case {
-    touched: usize,
-    with_row: bool,
-    steps: &'static [(Answer, Told)],
+enum Rolls {
+    Forward(&'static [(Answer, Told)]),
+    Back(usize, bool, &'static [(Answer, Told)]),
 }
 
-static BACK: [Case; 3] = [
+static ROLLS: [Rolls; 4] = [
+    Rolls::Forward(&EACH),
     // Each write is rolled back.
-    Case {
-        touched: 2,
-        with_row: false,
-        steps: &EACH,
-    },
+    Rolls::Back(2, false, &EACH),
     // What was touched is rolled back after the row.
-    Case {
-        touched: 1,
-        with_row: true,
-        steps: &[
+    Rolls::Back(
+        1,
+        true,
+        &[
             (Answer::Applied, Told::Put(true)),
             (Answer::Fault, Told::Rolled(1, false)),
         ],
-    },
+    ),
     // Nothing is rolled back after a fault of the row.
-    Case {
-        touched: 2,
-        with_row: true,
-        steps: &[(Answer::Fault, Told::Put(false))],
-    },
+    Rolls::Back(2, true, &[(Answer::Fault, Told::Put(false))]),
 ];
 
 // The abort of two deletes.
@@ -126,13 +109,22 @@ fn begin(alloc: Global, touched: usize, with_row: bool) -> Result<Abort, Fail> {
     Ok(abort)
 }
 
-fn rolls_back(alloc: Global, case: Case) -> Result<bool, Fail> {
-    let abort = begin(alloc, case.touched, case.with_row)?;
-    Ok(plays_out(alloc, abort, case.steps)?)
+fn forward(alloc: Global) -> Result<Commit, Fail> {
+    Ok(Commit::new(alloc, &two_deletes(alloc)?, OWN, 7)?)
+}
+
+impl Case for Rolls {
+    fn holds(self, alloc: Global) -> Result<bool, Fail> {
+        match self {
+            Rolls::Forward(steps) => Ok(plays_out(alloc, forward(alloc)?, steps)?),
+            Rolls::Back(touched, with_row, steps) => {
+                Ok(plays_out(alloc, begin(alloc, touched, with_row)?, steps)?)
+            }
+        }
+    }
 }
 
 #[test]
-fn rolls_back_what_was_touched(rt: HostRuntime) -> Result<(), Fail> {
-    let alloc = rt.alloc();
-    all_hold(BACK.as_slice(), |case| rolls_back(alloc, case))
+fn rolls_every_write(rt: HostRuntime) -> Result<(), Fail> {
+    all_cases(rt.alloc(), "rolls", ROLLS.as_slice())
 }

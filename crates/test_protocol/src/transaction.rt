@@ -7,7 +7,7 @@ use sdb_txn::{Progress, Txn};
 use sdb_types::{Columns, NameRefused, TxId};
 use std::alloc::Global;
 use std::test::Fail;
-use test_builders::{account, all_hold};
+use test_builders::{Case, account, all_cases};
 
 const OWN: TxId = TxId(0x1_0000_0000_0000_0001);
 
@@ -100,9 +100,10 @@ fn perform(alloc: Global, txn: &mut Txn, act: Act) -> Result<Told, NameRefused> 
     }
 }
 
-type Steps = &'static [(Act, Told)];
+#[derive(Clone, Copy)]
+struct Steps(&'static [(Act, Told)]);
 
-fn plays(alloc: Global, txn: &mut Txn, steps: Steps) -> Result<bool, NameRefused> {
+fn plays(alloc: Global, txn: &mut Txn, steps: &[(Act, Told)]) -> Result<bool, NameRefused> {
     for (act, told) in steps {
         if perform(alloc, txn, *act)? != *told {
             return Ok(false);
@@ -114,7 +115,7 @@ fn plays(alloc: Global, txn: &mut Txn, steps: Steps) -> Result<bool, NameRefused
 // What a transaction does, with what each act tells.
 static CASES: [Steps; 7] = [
     // An absent account is read and inserted: one prepare, the deciding put, one roll forward.
-    &[
+    Steps(&[
         (Act::Get(1), Told::More),
         (Act::Reply(Answer::NoRow), Told::Rows(0)),
         (Act::Insert(1), Told::Done),
@@ -124,31 +125,31 @@ static CASES: [Steps; 7] = [
         (Act::Reply(Answer::Applied), Told::More),
         (Act::Reply(Answer::Applied), Told::Committed),
         (Act::Get(1), Told::Other),
-    ],
+    ]),
     // An account that was read and isn't written is read again.
-    &[
+    Steps(&[
         (Act::Get(1), Told::More),
         (Act::Reply(Answer::Row(ROW)), Told::Rows(1)),
         (Act::Commit, Told::More),
         (Act::Reply(Answer::NoRow), Told::More),
         (Act::Reply(Answer::Applied), Told::Conflict(1, None)),
-    ],
+    ]),
     // A call faults: nothing was read, and the same account may be asked for again.
-    &[
+    Steps(&[
         (Act::Get(1), Told::More),
         (Act::Reply(Answer::Fault), Told::Faulted),
         (Act::Insert(1), Told::Other),
         (Act::Get(1), Told::More),
         (Act::Reply(Answer::Fault), Told::Faulted),
-    ],
+    ]),
     // So it is where a call is out of memory.
-    &[
+    Steps(&[
         (Act::Get(1), Told::More),
         (Act::Reply(Answer::Starved), Told::NoMemory),
         (Act::Insert(1), Told::Other),
-    ],
+    ]),
     // A scan that was noted makes no call, and shows what was inserted after it.
-    &[
+    Steps(&[
         (Act::Scan, Told::More),
         (Act::Reply(Answer::NoRow), Told::Rows(0)),
         (Act::Scan, Told::Rows(0)),
@@ -156,33 +157,34 @@ static CASES: [Steps; 7] = [
         (Act::Reply(Answer::NoRow), Told::Rows(0)),
         (Act::Insert(1), Told::Done),
         (Act::Scan, Told::Rows(1)),
-    ],
+    ]),
     // A scan doesn't find a record that was read: the transaction has ended.
-    &[
+    Steps(&[
         (Act::Get(1), Told::More),
         (Act::Reply(Answer::Row(ROW)), Told::Rows(1)),
         (Act::Scan, Told::More),
         (Act::Reply(Answer::NoRow), Told::Conflict(1, None)),
         (Act::Commit, Told::Other),
-    ],
+    ]),
     // Nothing may be read while a call is pending.
-    &[
+    Steps(&[
         (Act::Get(1), Told::More),
         (Act::Get(2), Told::Other),
         (Act::Reply(Answer::NoRow), Told::Rows(0)),
-    ],
+    ]),
 ];
 
 // Each transaction is rolled back in the end, also after its answer.
-fn ends(alloc: Global, steps: Steps) -> Result<bool, Fail> {
-    let mut txn = Txn::begin(alloc, OWN);
-    let played = plays(alloc, &mut txn, steps)?;
-    txn.rollback();
-    Ok(played)
+impl Case for Steps {
+    fn holds(self, alloc: Global) -> Result<bool, Fail> {
+        let mut txn = Txn::begin(alloc, OWN);
+        let played = plays(alloc, &mut txn, self.0)?;
+        txn.rollback();
+        Ok(played)
+    }
 }
 
 #[test]
 fn transactions_read_and_commit(rt: HostRuntime) -> Result<(), Fail> {
-    let alloc = rt.alloc();
-    all_hold(CASES.as_slice(), |steps| ends(alloc, steps))
+    all_cases(rt.alloc(), "transaction", CASES.as_slice())
 }

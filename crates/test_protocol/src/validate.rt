@@ -6,7 +6,7 @@ use sdb_types::{NameRefused, Record, Reply, Request, Seq, TxId};
 use sdb_validate::{Validate, ValidateStep};
 use std::alloc::Global;
 use std::test::Fail;
-use test_builders::{Cell, account, account_with, all_hold, span_of};
+use test_builders::{Case, Cell, account, account_with, all_cases, span_of};
 
 const FIRST: TxId = TxId(0x1_0000_0000_0000_0001);
 
@@ -85,28 +85,8 @@ fn rereads(alloc: Global) -> Result<Validate, NameRefused> {
     Ok(Validate::new(alloc, &reads, &scans, &Writes::new(alloc))?)
 }
 
-static REREADS: [&[(Answer, Told)]; 5] = [
-    // Each key is read again.
-    &[
-        (Answer::Row(OF_FIRST), Told::More),
-        (Answer::NoRow, Told::Done),
-    ],
-    // A key that moved is a conflict.
-    &[(Answer::Row(OF_SECOND), Told::Conflict(1, Some(SECOND)))],
-    &[(Answer::NoRow, Told::Conflict(1, None))],
-    // Failures end it.
-    &[(Answer::Fault, Told::Faulted)],
-    &[(Answer::Starved, Told::NoMemory)],
-];
-
-fn reread_as(alloc: Global, steps: &[(Answer, Told)]) -> Result<bool, Fail> {
+fn is_reread(alloc: Global, steps: &[(Answer, Told)]) -> Result<bool, Fail> {
     Ok(plays_out(alloc, rereads(alloc)?, steps)?)
-}
-
-#[test]
-fn reads_each_key_again(rt: HostRuntime) -> Result<(), Fail> {
-    let alloc = rt.alloc();
-    all_hold(REREADS.as_slice(), |steps| reread_as(alloc, steps))
 }
 
 fn reads_of(alloc: Global, versions: &[Version]) -> Result<Reads, NameRefused> {
@@ -181,99 +161,109 @@ fn find_two(
     Ok(told_by(&validate.take(Reply::Rows(rows))))
 }
 
-// What a scan found of the keys 1, 2 and 3, the base of an own delete of the key 1, and what a rescan tells.
-#[derive(Clone, Copy)]
-struct Case {
-    found: &'static [Version],
+// The checks of a transaction whose scan found these versions of the keys 1, 2 and 3, and that deletes the key 1 over a base.
+fn rescan_of(
+    alloc: Global,
+    found: &[Version],
     base: Option<Version>,
-    told: Told,
-}
-
-fn rescan_of(alloc: Global, case: Case) -> Result<Validate, NameRefused> {
-    let scans = scan_of(alloc, case.found)?;
-    let own = writes_of(alloc, case.base)?;
+) -> Result<Validate, NameRefused> {
+    let scans = scan_of(alloc, found)?;
+    let own = writes_of(alloc, base)?;
     Ok(Validate::new(alloc, &Reads::new(alloc), &scans, &own)?)
 }
 
 // The rescan finds the key 1 in the first transaction's version.
-fn finds_one(alloc: Global, case: Case) -> Result<bool, Fail> {
+fn finds_one(alloc: Global, validate: &mut Validate) -> Result<Told, NameRefused> {
     let row = record_of(alloc, 1, FIRST)?;
-    let mut validate = rescan_of(alloc, case)?;
-    Ok(find_one(alloc, &mut validate, row)? == case.told)
+    find_one(alloc, validate, row)
+}
+
+// The rescan finds the keys 2 and 3 in the second transaction's versions.
+fn finds_two(alloc: Global, validate: &mut Validate) -> Result<Told, NameRefused> {
+    let second = record_of(alloc, 2, SECOND)?;
+    let third = record_of(alloc, 3, SECOND)?;
+    find_two(alloc, validate, second, third)
+}
+
+fn rescan_finds(
+    alloc: Global,
+    found: &[Version],
+    base: Option<Version>,
+    is_one: bool,
+) -> Result<Told, NameRefused> {
+    let mut validate = rescan_of(alloc, found, base)?;
+    if is_one {
+        finds_one(alloc, &mut validate)
+    } else {
+        finds_two(alloc, &mut validate)
+    }
+}
+
+// Answers to rereads with what each tells; or what a scan found of the keys 1, 2 and 3, the base of an own delete of the key
+// 1, and what a rescan tells that finds one row, or two.
+#[derive(Clone, Copy)]
+enum Check {
+    Rereads(&'static [(Answer, Told)]),
+    FindsOne(&'static [Version], Option<Version>, Told),
+    FindsTwo(&'static [Version], Option<Version>, Told),
+}
+
+impl Case for Check {
+    fn holds(self, alloc: Global) -> Result<bool, Fail> {
+        match self {
+            Check::Rereads(steps) => is_reread(alloc, steps),
+            Check::FindsOne(found, base, told) => {
+                Ok(rescan_finds(alloc, found, base, true)? == told)
+            }
+            Check::FindsTwo(found, base, told) => {
+                Ok(rescan_finds(alloc, found, base, false)? == told)
+            }
+        }
+    }
 }
 
 const FOUND_FIRST: Told = Told::Conflict(1, Some(FIRST));
 
-static ONE: [Case; 6] = [
+static CHECKS: [Check; 14] = [
+    // Each key is read again.
+    Check::Rereads(&[
+        (Answer::Row(OF_FIRST), Told::More),
+        (Answer::NoRow, Told::Done),
+    ]),
+    // A key that moved is a conflict.
+    Check::Rereads(&[(Answer::Row(OF_SECOND), Told::Conflict(1, Some(SECOND)))]),
+    Check::Rereads(&[(Answer::NoRow, Told::Conflict(1, None))]),
+    // Failures end it.
+    Check::Rereads(&[(Answer::Fault, Told::Faulted)]),
+    Check::Rereads(&[(Answer::Starved, Told::NoMemory)]),
     // A phantom is a conflict.
-    Case {
-        found: &[Some(FIRST), None, None],
-        base: None,
-        told: Told::Done,
-    },
-    Case {
-        found: &[None, None, None],
-        base: None,
-        told: FOUND_FIRST,
-    },
+    Check::FindsOne(&[Some(FIRST), None, None], None, Told::Done),
+    Check::FindsOne(&[None, None, None], None, FOUND_FIRST),
     // A written key is left out if its base was found.
-    Case {
-        found: &[Some(SECOND), None, None],
-        base: Some(Some(SECOND)),
-        told: Told::Done,
-    },
-    Case {
-        found: &[None, None, None],
-        base: Some(None),
-        told: Told::Done,
-    },
+    Check::FindsOne(&[Some(SECOND), None, None], Some(Some(SECOND)), Told::Done),
+    Check::FindsOne(&[None, None, None], Some(None), Told::Done),
     // A written key is a conflict if its base was not found. In the second case the row came between the scan and the write.
-    Case {
-        found: &[Some(FIRST), None, None],
-        base: Some(Some(SECOND)),
-        told: FOUND_FIRST,
-    },
-    Case {
-        found: &[None, None, None],
-        base: Some(Some(FIRST)),
-        told: FOUND_FIRST,
-    },
+    Check::FindsOne(&[Some(FIRST), None, None], Some(Some(SECOND)), FOUND_FIRST),
+    Check::FindsOne(&[None, None, None], Some(Some(FIRST)), FOUND_FIRST),
+    // A conflict is the first in key order.
+    Check::FindsTwo(
+        &[Some(FIRST), None, Some(FIRST)],
+        None,
+        Told::Conflict(1, None),
+    ),
+    Check::FindsTwo(
+        &[None, None, Some(FIRST)],
+        None,
+        Told::Conflict(2, Some(SECOND)),
+    ),
+    Check::FindsTwo(
+        &[None, Some(SECOND), Some(FIRST)],
+        None,
+        Told::Conflict(3, Some(SECOND)),
+    ),
 ];
 
 #[test]
-fn phantom_is_a_conflict(rt: HostRuntime) -> Result<(), Fail> {
-    let alloc = rt.alloc();
-    all_hold(ONE.as_slice(), |case| finds_one(alloc, case))
-}
-
-// The rescan finds the keys 2 and 3 in the second transaction's versions.
-fn finds_two(alloc: Global, case: Case) -> Result<bool, Fail> {
-    let second = record_of(alloc, 2, SECOND)?;
-    let third = record_of(alloc, 3, SECOND)?;
-    let mut validate = rescan_of(alloc, case)?;
-    Ok(find_two(alloc, &mut validate, second, third)? == case.told)
-}
-
-static TWO: [Case; 3] = [
-    Case {
-        found: &[Some(FIRST), None, Some(FIRST)],
-        base: None,
-        told: Told::Conflict(1, None),
-    },
-    Case {
-        found: &[None, None, Some(FIRST)],
-        base: None,
-        told: Told::Conflict(2, Some(SECOND)),
-    },
-    Case {
-        found: &[None, Some(SECOND), Some(FIRST)],
-        base: None,
-        told: Told::Conflict(3, Some(SECOND)),
-    },
-];
-
-#[test]
-fn conflict_is_the_first_in_key_order(rt: HostRuntime) -> Result<(), Fail> {
-    let alloc = rt.alloc();
-    all_hold(TWO.as_slice(), |case| finds_two(alloc, case))
+fn extra_reads_are_checked(rt: HostRuntime) -> Result<(), Fail> {
+    all_cases(rt.alloc(), "validate", CHECKS.as_slice())
 }

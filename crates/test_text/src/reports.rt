@@ -5,7 +5,8 @@ use sdb_types::{Condition, NameRefused, State, TxId};
 use std::alloc::Global;
 use std::test::Fail;
 use test_builders::{
-    Ask, Cell, Happening, Place, Row, Said, Told, all_hold, events_of, hold, table_of, values_of,
+    Ask, Case, Cell, Happening, Place, Row, Said, Told, all_cases, events_of, hold, table_of,
+    values_of,
 };
 
 const ID: TxId = TxId((1 << 64) + 1);
@@ -124,15 +125,20 @@ fn reports_first(alloc: Global) -> Result<bool, Fail> {
     is_reported(alloc, &outcome, FIRST)
 }
 
-#[test]
-fn first_transaction_is_reported(rt: HostRuntime) -> Result<(), Fail> {
-    hold(reports_first(rt.alloc()))
+// Events alone, and their report.
+#[derive(Clone, Copy)]
+struct Reported(&'static [Happening], &'static str);
+
+impl Case for Reported {
+    fn holds(self, alloc: Global) -> Result<bool, Fail> {
+        let outcome = only_events(alloc, events_of(alloc, self.0)?);
+        is_reported(alloc, &outcome, self.1)
+    }
 }
 
-// Events alone, and their report.
-static EVENTS: [(&[Happening], &str); 2] = [
-    (&[], "scalardb report 1\nevents 0\norder 0\ntables 0\nend\n"),
-    (
+static EVENTS: [Reported; 2] = [
+    Reported(&[], "scalardb report 1\nevents 0\norder 0\ntables 0\nend\n"),
+    Reported(
         &[
             Happening::Stop(2),
             Happening::Clock(15000),
@@ -142,16 +148,8 @@ static EVENTS: [(&[Happening], &str); 2] = [
     ),
 ];
 
-fn reports_events(alloc: Global, happenings: &[Happening], text: &str) -> Result<bool, Fail> {
-    let outcome = only_events(alloc, events_of(alloc, happenings)?);
-    is_reported(alloc, &outcome, text)
-}
-
 #[test]
-fn events_alone_are_reported(rt: HostRuntime) -> Result<(), Fail> {
-    let alloc = rt.alloc();
-    all_hold(
-        EVENTS.as_slice(),
-        |case| reports_events(alloc, case.0, case.1),
-    )
+fn runs_are_reported(rt: HostRuntime) -> Result<(), Fail> {
+    hold(reports_first(rt.alloc()))?;
+    all_cases(rt.alloc(), "events", EVENTS.as_slice())
 }

@@ -4,7 +4,7 @@ use sdb_sqltokens::{LexRefused, lex, put_tokens, reads_word};
 use sdb_types::NoMemory;
 use std::alloc::Global;
 use std::test::Fail;
-use test_builders::all_hold;
+use test_builders::{Case, all_cases};
 
 fn put_token(out: &mut String, placed: &Placed) -> Result<(), NoMemory> {
     if !out.is_empty() {
@@ -27,63 +27,57 @@ fn shows(alloc: Global, text: &str, printed: &str) -> Result<bool, Fail> {
     Ok(shown(alloc, tokens.as_slice())?.as_str() == printed)
 }
 
-fn refuses(alloc: Global, text: &str, refused: LexRefused) -> Result<bool, Fail> {
+fn refuses(alloc: Global, text: &str, refused: LexRefused) -> bool {
     match lex(alloc, text.as_bytes()) {
-        Ok(_) => Ok(false),
-        Err(found) => Ok(found == refused),
+        Ok(_) => false,
+        Err(found) => found == refused,
     }
 }
 
-static READ: [(&str, &str); 4] = [
-    ("select*from a.b", "SELECT|*|FROM|a|.|b"),
-    ("a-1\t<>007 <= >=-0", "a|-1|<>|7|<=|>=|0"),
-    ("x'0aFF' X'0' \"Null\"", "X'0AFF'|X|'0'|\"Null\""),
-    ("'it''s'", "'it''s'"),
-];
-
-#[test]
-fn tokens_are_read(rt: HostRuntime) -> Result<(), Fail> {
-    let alloc = rt.alloc();
-    all_hold(READ.as_slice(), |case| shows(alloc, case.0, case.1))
+// A text, and its tokens, why it is refused, or whether it is one word.
+#[derive(Clone, Copy)]
+enum Text {
+    Tokens(&'static str, &'static str),
+    Bad(&'static str, LexRefused),
+    Word(&'static str, Keyword, bool),
 }
 
-static BAD: [(&str, LexRefused); 4] = [
-    ("SELECT * FROM a.b WHERE x = 'abc", LexRefused::BadToken(28)),
-    (
+impl Case for Text {
+    fn holds(self, alloc: Global) -> Result<bool, Fail> {
+        match self {
+            Text::Tokens(text, printed) => shows(alloc, text, printed),
+            Text::Bad(text, refused) => Ok(refuses(alloc, text, refused)),
+            Text::Word(text, word, wanted) => {
+                Ok(reads_word(alloc, text.as_bytes(), word)? == wanted)
+            }
+        }
+    }
+}
+
+static TEXTS: [Text; 17] = [
+    Text::Tokens("select*from a.b", "SELECT|*|FROM|a|.|b"),
+    Text::Tokens("a-1\t<>007 <= >=-0", "a|-1|<>|7|<=|>=|0"),
+    Text::Tokens("x'0aFF' X'0' \"Null\"", "X'0AFF'|X|'0'|\"Null\""),
+    Text::Tokens("'it''s'", "'it''s'"),
+    Text::Bad("SELECT * FROM a.b WHERE x = 'abc", LexRefused::BadToken(28)),
+    Text::Bad(
         "SELECT * FROM a.b LIMIT 9223372036854775808",
         LexRefused::TooWide(24),
     ),
-    ("- 1", LexRefused::BadToken(0)),
-    ("a \"b", LexRefused::BadToken(2)),
+    Text::Bad("- 1", LexRefused::BadToken(0)),
+    Text::Bad("a \"b", LexRefused::BadToken(2)),
+    Text::Word("COMMIT", Keyword::Commit, true),
+    Text::Word(" \tcommit ;", Keyword::Commit, true),
+    Text::Word("Begin;", Keyword::Begin, true),
+    Text::Word("ROLLBACK", Keyword::Commit, false),
+    Text::Word("COMMIT;;", Keyword::Commit, false),
+    Text::Word("COMMIT 1", Keyword::Commit, false),
+    Text::Word("\"COMMIT\"", Keyword::Commit, false),
+    Text::Word("COMMIT'", Keyword::Commit, false),
+    Text::Word("", Keyword::Vacuum, false),
 ];
 
 #[test]
-fn bad_tokens_are_refused(rt: HostRuntime) -> Result<(), Fail> {
-    let alloc = rt.alloc();
-    all_hold(BAD.as_slice(), |case| refuses(alloc, case.0, case.1))
-}
-
-fn is_word(alloc: Global, text: &str, word: Keyword, wanted: bool) -> Result<bool, Fail> {
-    Ok(reads_word(alloc, text.as_bytes(), word)? == wanted)
-}
-
-static WORDS: [(&str, Keyword, bool); 9] = [
-    ("COMMIT", Keyword::Commit, true),
-    (" \tcommit ;", Keyword::Commit, true),
-    ("Begin;", Keyword::Begin, true),
-    ("ROLLBACK", Keyword::Commit, false),
-    ("COMMIT;;", Keyword::Commit, false),
-    ("COMMIT 1", Keyword::Commit, false),
-    ("\"COMMIT\"", Keyword::Commit, false),
-    ("COMMIT'", Keyword::Commit, false),
-    ("", Keyword::Vacuum, false),
-];
-
-#[test]
-fn texts_of_one_word_are_told_apart(rt: HostRuntime) -> Result<(), Fail> {
-    let alloc = rt.alloc();
-    all_hold(
-        WORDS.as_slice(),
-        |case| is_word(alloc, case.0, case.1, case.2),
-    )
+fn texts_are_tokens(rt: HostRuntime) -> Result<(), Fail> {
+    all_cases(rt.alloc(), "tokens", TEXTS.as_slice())
 }
