@@ -2,187 +2,88 @@
 ghost use Rattle.std.specs.Prelude.{IfOk, IsTrue};
 ghost use Rattle.sqlite_disk.specs.Memory.{memory_is_usable};
 
-use crate::steps::{all_answered, answers_as_told};
+use crate::calls::{replies, replies_of};
 use sdb_hashed::Hashed;
 use sdb_ordered::Ordered;
 use sdb_sqlite::{Held, Kept, KeptRefused};
 use sdb_store::{Fails, Store};
-use sdb_types::{Condition, State, TxId};
 use sqlite::{Connection, FileStore, Files, MemStore, Options};
 use sqlite_disk::Memory;
 use std::alloc::Global;
 use std::test::Fail;
-use test_builders::{Ask, Cell, Place, Row, Told, hold};
+use test_builders::hold;
 
-// Items of a shop, each by the number of its partition and its number there.
-const ITEM_1_1: Place = Place {
-    ns: "shop",
-    table: "item",
-    partition: &[Cell::Int(1)],
-    clustering: &[Cell::Int(1)],
-};
+// Calls about items of a shop on a store that begins empty, with their replies.
+const STEPS: &str =
+    "scalardb report 1\nevents 14\n1 call 1 s put shop.item(2;1){amount=5,tx_id='00000000-0000-0000-0000-000000000007',tx_state=3} if absent seen applied -\n2 call 1 s put shop.item(1;2){amount=5,tx_id='00000000-0000-0000-0000-000000000007',tx_state=3} if absent seen applied -\n3 call 1 s put shop.item(1;1){amount=5,tx_id='00000000-0000-0000-0000-000000000007',tx_state=3} if absent seen applied -\n4 call 1 s put shop.item(1;1){amount=6,tx_id='00000000-0000-0000-0000-000000000007',tx_state=3} if absent seen notmet shop.item(1;1){amount=5,tx_id='00000000-0000-0000-0000-000000000007',tx_state=3} -\n5 call 1 s put shop.item(1;1){amount=6,tx_id='00000000-0000-0000-0000-000000000007',tx_state=3} if 00000000-0000-0000-0000-000000000007 1 seen notmet shop.item(1;1){amount=5,tx_id='00000000-0000-0000-0000-000000000007',tx_state=3} -\n6 call 1 s put shop.item(1;1){amount=7,tx_id='00000000-0000-0000-0000-000000000007',tx_state=3} if 00000000-0000-0000-0000-000000000007 3 seen applied -\n7 call 1 s put shop.item(1;3){amount=7,tx_id='00000000-0000-0000-0000-000000000007',tx_state=3} if 00000000-0000-0000-0000-000000000007 3 seen notmet none -\n8 call 1 s get shop.item(1;1) seen found shop.item(1;1){amount=7,tx_id='00000000-0000-0000-0000-000000000007',tx_state=3} -\n9 call 1 s scan shop.item(1) seen rows 2 shop.item(1;1){amount=7,tx_id='00000000-0000-0000-0000-000000000007',tx_state=3} shop.item(1;2){amount=5,tx_id='00000000-0000-0000-0000-000000000007',tx_state=3} -\n10 call 1 s scan shop.item seen rows 3 shop.item(1;1){amount=7,tx_id='00000000-0000-0000-0000-000000000007',tx_state=3} shop.item(1;2){amount=5,tx_id='00000000-0000-0000-0000-000000000007',tx_state=3} shop.item(2;1){amount=5,tx_id='00000000-0000-0000-0000-000000000007',tx_state=3} -\n11 call 1 s delete shop.item(1;2) if absent seen notmet shop.item(1;2){amount=5,tx_id='00000000-0000-0000-0000-000000000007',tx_state=3} -\n12 call 1 s delete shop.item(1;2) if 00000000-0000-0000-0000-000000000007 3 seen applied -\n13 call 1 s scan shop.item(1) seen rows 1 shop.item(1;1){amount=7,tx_id='00000000-0000-0000-0000-000000000007',tx_state=3} -\n14 call 1 s get shop.item(1;2) seen found none -\norder 0\ntables 0\nend\n";
 
-const ITEM_1_2: Place = Place {
-    ns: "shop",
-    table: "item",
-    partition: &[Cell::Int(1)],
-    clustering: &[Cell::Int(2)],
-};
+// Gets and scans of a store after these calls, with their replies.
+const THEN: &str =
+    "scalardb report 1\nevents 4\n1 call 1 s get shop.item(1;1) seen found shop.item(1;1){amount=7,tx_id='00000000-0000-0000-0000-000000000007',tx_state=3} -\n2 call 1 s get shop.item(1;2) seen found none -\n3 call 1 s scan shop.item(1) seen rows 1 shop.item(1;1){amount=7,tx_id='00000000-0000-0000-0000-000000000007',tx_state=3} -\n4 call 1 s scan shop.item seen rows 2 shop.item(1;1){amount=7,tx_id='00000000-0000-0000-0000-000000000007',tx_state=3} shop.item(2;1){amount=5,tx_id='00000000-0000-0000-0000-000000000007',tx_state=3} -\norder 0\ntables 0\nend\n";
 
-const ITEM_1_3: Place = Place {
-    ns: "shop",
-    table: "item",
-    partition: &[Cell::Int(1)],
-    clustering: &[Cell::Int(3)],
-};
+// Calls of which the first fails after its effect, and the third before it.
+const FAILING: &str =
+    "scalardb report 1\nevents 4\n1 call 1 s put shop.item(1;1){amount=5,tx_id='00000000-0000-0000-0000-000000000007',tx_state=3} if absent seen fault -\n2 call 1 s get shop.item(1;1) seen found shop.item(1;1){amount=5,tx_id='00000000-0000-0000-0000-000000000007',tx_state=3} -\n3 call 1 s put shop.item(2;1){amount=5,tx_id='00000000-0000-0000-0000-000000000007',tx_state=3} if absent seen fault -\n4 call 1 s get shop.item(2;1) seen found none -\norder 0\ntables 0\nend\n";
 
-const ITEM_2_1: Place = Place {
-    ns: "shop",
-    table: "item",
-    partition: &[Cell::Int(2)],
-    clustering: &[Cell::Int(1)],
-};
-
-const ID: TxId = TxId(7);
-
-const ID_TEXT: Cell = Cell::Text("00000000-0000-0000-0000-000000000007");
-
-// Their committed records, each with an amount.
-const AT_1_1_IS_5: Row = Row {
-    place: ITEM_1_1,
-    columns: &[
-        ("tx_id", ID_TEXT),
-        ("tx_state", Cell::Int(3)),
-        ("amount", Cell::Int(5)),
-    ],
-};
-
-const AT_1_1_IS_6: Row = Row {
-    place: ITEM_1_1,
-    columns: &[
-        ("tx_id", ID_TEXT),
-        ("tx_state", Cell::Int(3)),
-        ("amount", Cell::Int(6)),
-    ],
-};
-
-const AT_1_1_IS_7: Row = Row {
-    place: ITEM_1_1,
-    columns: &[
-        ("tx_id", ID_TEXT),
-        ("tx_state", Cell::Int(3)),
-        ("amount", Cell::Int(7)),
-    ],
-};
-
-const AT_1_2_IS_5: Row = Row {
-    place: ITEM_1_2,
-    columns: &[
-        ("tx_id", ID_TEXT),
-        ("tx_state", Cell::Int(3)),
-        ("amount", Cell::Int(5)),
-    ],
-};
-
-const AT_1_3_IS_7: Row = Row {
-    place: ITEM_1_3,
-    columns: &[
-        ("tx_id", ID_TEXT),
-        ("tx_state", Cell::Int(3)),
-        ("amount", Cell::Int(7)),
-    ],
-};
-
-const AT_2_1_IS_5: Row = Row {
-    place: ITEM_2_1,
-    columns: &[
-        ("tx_id", ID_TEXT),
-        ("tx_state", Cell::Int(3)),
-        ("amount", Cell::Int(5)),
-    ],
-};
-
-const STORED: Condition = Condition::Version(ID, State::Committed);
-
-const PREPARED: Condition = Condition::Version(ID, State::Prepared);
-
-const PARTITION: Ask = Ask::Scan("shop", "item", Some(&[Cell::Int(1)]));
-
-const TABLE: Ask = Ask::Scan("shop", "item", None);
-
-// Calls on a store that begins empty, with their replies.
-static STEPS: [(Ask, Told); 14] = [
-    (Ask::Put(AT_2_1_IS_5, Condition::Absent), Told::Applied),
-    (Ask::Put(AT_1_2_IS_5, Condition::Absent), Told::Applied),
-    (Ask::Put(AT_1_1_IS_5, Condition::Absent), Told::Applied),
-    (
-        Ask::Put(AT_1_1_IS_6, Condition::Absent),
-        Told::NotMet(Some(AT_1_1_IS_5)),
-    ),
-    (
-        Ask::Put(AT_1_1_IS_6, PREPARED),
-        Told::NotMet(Some(AT_1_1_IS_5)),
-    ),
-    (Ask::Put(AT_1_1_IS_7, STORED), Told::Applied),
-    (Ask::Put(AT_1_3_IS_7, STORED), Told::NotMet(None)),
-    (Ask::Get(ITEM_1_1), Told::Found(Some(AT_1_1_IS_7))),
-    (PARTITION, Told::Rows(&[AT_1_1_IS_7, AT_1_2_IS_5])),
-    (TABLE, Told::Rows(&[AT_1_1_IS_7, AT_1_2_IS_5, AT_2_1_IS_5])),
-    (
-        Ask::Delete(ITEM_1_2, Condition::Absent),
-        Told::NotMet(Some(AT_1_2_IS_5)),
-    ),
-    (Ask::Delete(ITEM_1_2, STORED), Told::Applied),
-    (PARTITION, Told::Rows(&[AT_1_1_IS_7])),
-    (Ask::Get(ITEM_1_2), Told::Found(None)),
-];
-
-#[test]
-fn ordered_answers_as_a_map_does(rt: HostRuntime) -> Result<(), Fail> {
-    let alloc = rt.alloc();
-    let store = Ordered::new(alloc, Fails::new(alloc));
-    answers_as_told(alloc, store, STEPS.as_slice())
+fn ordered(alloc: Global) -> Result<(), Fail> {
+    replies_of(
+        alloc,
+        "ordered",
+        Ordered::new(alloc, Fails::new(alloc)),
+        STEPS,
+    )
 }
 
-#[test]
-fn hashed_answers_as_a_map_does(rt: HostRuntime) -> Result<(), Fail> {
-    let alloc = rt.alloc();
+fn hashed(alloc: Global) -> Result<(), Fail> {
     let store: Box<dyn Store> = Box::new(alloc, Hashed::new(alloc, Fails::new(alloc)))?;
-    answers_as_told(alloc, store, STEPS.as_slice())
+    replies_of(alloc, "hashed", store, STEPS)
 }
 
 // Over a new database.
-#[test]
-fn kept_answers_as_a_map_does(rt: HostRuntime) -> Result<(), Fail> {
-    let alloc = rt.alloc();
-    let store = Kept::in_memory(alloc)?;
-    answers_as_told(alloc, store, STEPS.as_slice())
+fn kept(alloc: Global) -> Result<(), Fail> {
+    replies_of(alloc, "kept", Kept::in_memory(alloc)?, STEPS)
 }
 
-// Gets and scans of a store after these calls, with their replies.
-static THEN: [(Ask, Told); 4] = [
-    (Ask::Get(ITEM_1_1), Told::Found(Some(AT_1_1_IS_7))),
-    (Ask::Get(ITEM_1_2), Told::Found(None)),
-    (PARTITION, Told::Rows(&[AT_1_1_IS_7])),
-    (TABLE, Told::Rows(&[AT_1_1_IS_7, AT_2_1_IS_5])),
-];
+// The third call fails before its effect, though it is listed as failing after it too, and the first after it.
+fn failing_calls(alloc: Global) -> Result<Fails, Fail> {
+    let mut failing = Fails::new(alloc);
+    for (call, after) in [(3, false), (1, true), (3, true)] {
+        failing.push(sdb_store::Fail { call, after })?;
+    }
+    Ok(failing)
+}
+
+fn failing(alloc: Global) -> Result<(), Fail> {
+    replies_of(
+        alloc,
+        "failing",
+        Ordered::new(alloc, failing_calls(alloc)?),
+        FAILING,
+    )
+}
+
+#[test]
+fn stores_answer_as_a_map_does(rt: HostRuntime) -> Result<(), Fail> {
+    ordered(rt.alloc())?;
+    hashed(rt.alloc())?;
+    kept(rt.alloc())?;
+    failing(rt.alloc())
+}
 
 // The connection, after these calls on a store over it.
 fn filled<S: Held + Drop>(alloc: Global, connection: Connection<S>) -> Result<Connection<S>, Fail> {
     let mut store = Kept::new(alloc, connection)?;
-    all_answered(alloc, &mut store, STEPS.as_slice())?;
+    replies(alloc, "filled", &mut store, STEPS)?;
     Ok(store.release())
 }
 
 fn answers_then<S: Held + Drop>(alloc: Global, connection: Connection<S>) -> Result<(), Fail> {
-    let store = Kept::new(alloc, connection)?;
-    answers_as_told(alloc, store, THEN.as_slice())
+    replies_of(alloc, "filled before", Kept::new(alloc, connection)?, THEN)
 }
 
-#[test]
-fn kept_answers_the_same_when_made_again(rt: HostRuntime) -> Result<(), Fail> {
-    let alloc = rt.alloc();
-    answers_then(alloc, filled(alloc, Connection::open_in_memory(alloc)?)?)
+fn made_again(alloc: Global) -> Result<(), Fail> {
+    let connection = filled(alloc, Connection::open_in_memory(alloc)?)?;
+    answers_then(alloc, connection)
 }
 
 fn opened(alloc: Global, log: Memory, db: Memory) -> Result<Connection<FileStore<Memory>>, Fail>
@@ -206,12 +107,16 @@ fn closed(connection: Connection<FileStore<Memory>>) -> Result<Files<Memory>, Fa
     }
 }
 
-// The database is kept in files, which are in memory.
-#[test]
-fn kept_in_files_answers_the_same_when_opened_again(rt: HostRuntime) -> Result<(), Fail> {
-    let alloc = rt.alloc();
+// The files of a database that is filled, which are in memory.
+fn filled_files(alloc: Global) -> Result<Files<Memory>, Fail>
+    ensures { IfOk result (λ files. IsTrue (memory_is_usable files.log) × IsTrue (memory_is_usable files.db)) }
+{
     let connection = opened(alloc, Memory::new(alloc), Memory::new(alloc))?;
-    let files = closed(filled(alloc, connection)?)?;
+    closed(filled(alloc, connection)?)
+}
+
+fn opened_again(alloc: Global) -> Result<(), Fail> {
+    let files = filled_files(alloc)?;
     answers_then(alloc, opened(alloc, files.log, files.db)?)
 }
 
@@ -229,29 +134,8 @@ fn is_refused(alloc: Global) -> Result<bool, Fail> {
 }
 
 #[test]
-fn table_that_is_refused(rt: HostRuntime) -> Result<(), Fail> {
+fn kept_answers_the_same_when_made_or_opened_again(rt: HostRuntime) -> Result<(), Fail> {
+    made_again(rt.alloc())?;
+    opened_again(rt.alloc())?;
     hold(is_refused(rt.alloc()))
-}
-
-// The third call fails before its effect, though it is listed as failing after it too, and the first after it.
-fn failing_calls(alloc: Global) -> Result<Fails, Fail> {
-    let mut failing = Fails::new(alloc);
-    for (call, after) in [(3, false), (1, true), (3, true)] {
-        failing.push(sdb_store::Fail { call, after })?;
-    }
-    Ok(failing)
-}
-
-static FAILING_STEPS: [(Ask, Told); 4] = [
-    (Ask::Put(AT_1_1_IS_5, Condition::Absent), Told::Fault),
-    (Ask::Get(ITEM_1_1), Told::Found(Some(AT_1_1_IS_5))),
-    (Ask::Put(AT_2_1_IS_5, Condition::Absent), Told::Fault),
-    (Ask::Get(ITEM_2_1), Told::Found(None)),
-];
-
-#[test]
-fn fails_before_and_after_the_effect(rt: HostRuntime) -> Result<(), Fail> {
-    let alloc = rt.alloc();
-    let store = Ordered::new(alloc, failing_calls(alloc)?);
-    answers_as_told(alloc, store, FAILING_STEPS.as_slice())
 }

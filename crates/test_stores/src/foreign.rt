@@ -1,17 +1,10 @@
 //! Rows of a database that the store did not write.
-use crate::steps::answers_as_told;
+use crate::calls::replies_of;
 use sdb_sqlite::Kept;
 use sqlite::{Connection, Error, MemStore, params};
 use std::alloc::Global;
 use std::test::Fail;
-use test_builders::{Ask, Cell, Place, Row, Told, all_hold};
-
-const ITEM: Place = Place {
-    ns: "shop",
-    table: "item",
-    partition: &[Cell::Int(1)],
-    clustering: &[Cell::Int(2)],
-};
+use test_builders::{Case, all_cases};
 
 // The bytes of the item's key: the length of `shop.item`, the name, and twice a count, a kind and a number.
 const KEY: &[u8] = b"\x00\x00\x00\x09shop.item\x01\x02\x00\x00\x00\x01\x01\x02\x00\x00\x00\x02";
@@ -42,58 +35,41 @@ fn write_row(
 
 // The key and the body of a row, and a call with its reply.
 #[derive(Clone, Copy)]
-struct Case {
-    key: &'static [u8],
-    body: &'static [u8],
-    step: (Ask, Told),
+struct Foreign(&'static [u8], &'static [u8], &'static str);
+
+// A database with that row.
+fn database_with(alloc: Global, key: &[u8], body: &[u8]) -> Result<Connection<MemStore>, Fail> {
+    let mut connection = Connection::open_in_memory(alloc)?;
+    if write_row(&mut connection, key, body).is_err() {
+        return Err(Fail::from("no row was written"));
+    }
+    Ok(connection)
 }
 
-// Whether a store over a database with that row answers so.
-fn answers(alloc: Global, case: Case) -> Result<bool, Fail> {
-    let mut connection = Connection::open_in_memory(alloc)?;
-    let written = write_row(&mut connection, case.key, case.body).is_ok();
-    let store = Kept::new(alloc, connection)?;
-    answers_as_told(alloc, store, [case.step].as_slice())?;
-    Ok(written)
+impl Case for Foreign {
+    fn holds(self, alloc: Global) -> Result<bool, Fail> {
+        let connection = database_with(alloc, self.0, self.1)?;
+        replies_of(alloc, "foreign", Kept::new(alloc, connection)?, self.2)?;
+        Ok(true)
+    }
 }
 
 // The record without columns.
-const GET: (Ask, Told) = (
-    Ask::Get(ITEM),
-    Told::Found(Some(Row {
-        place: ITEM,
-        columns: &[],
-    })),
-);
+const GET: &str =
+    "scalardb report 1\nevents 1\n1 call 1 s get shop.item(1;2) seen found shop.item(1;2){} -\norder 0\ntables 0\nend\n";
 
-const SCAN: (Ask, Told) = (Ask::Scan("shop", "item", None), Told::Fault);
+const SCAN: &str =
+    "scalardb report 1\nevents 1\n1 call 1 s scan shop.item seen fault -\norder 0\ntables 0\nend\n";
 
 // Foreign bodies are records without columns, and foreign keys are faults.
-static ROWS: [Case; 4] = [
-    Case {
-        key: KEY,
-        body: b"\x01",
-        step: GET,
-    },
-    Case {
-        key: KEY,
-        body: OTHER_BODY,
-        step: GET,
-    },
-    Case {
-        key: b"\x00",
-        body: OTHER_BODY,
-        step: SCAN,
-    },
-    Case {
-        key: OTHER_KEY,
-        body: OTHER_BODY,
-        step: SCAN,
-    },
+static ROWS: [Foreign; 4] = [
+    Foreign(KEY, b"\x01", GET),
+    Foreign(KEY, OTHER_BODY, GET),
+    Foreign(b"\x00", OTHER_BODY, SCAN),
+    Foreign(OTHER_KEY, OTHER_BODY, SCAN),
 ];
 
 #[test]
 fn foreign_rows_are_bare_records_or_faults(rt: HostRuntime) -> Result<(), Fail> {
-    let alloc = rt.alloc();
-    all_hold(ROWS.as_slice(), |case| answers(alloc, case))
+    all_cases(rt.alloc(), "rows", ROWS.as_slice())
 }
