@@ -69,7 +69,7 @@ fn clustering_of(alloc: Global) -> Option<Orders> {
     Some(clustering)
 }
 
-/// A table of these columns, in which rows stand by `n`.
+/// A table of these columns, whose rows are in descending order of `n`.
 pub fn table_of(
     alloc: Global,
     name: TableName,

@@ -12,7 +12,7 @@ use sdb_types::{Octets, Txt, Value, Values};
 use std::alloc::Global;
 use std::env::Args;
 
-// The text of each row, which stands in quotes.
+// The text of each row, which is put in quotes.
 const NOTE: &str = "a note, of thirty-two bytes each";
 
 /// How many rows there are, and how often they are written and read.

@@ -29,7 +29,7 @@ fn ended(rt: &HostRuntime, line: &str, code: u8) -> ExitCode {
     ExitCode::from(code)
 }
 
-// The words behind the program's name. Words that aren't all text are those of no command.
+// The words after the program's name. Words that aren't all text are those of no command.
 fn words(alloc: Global, rt: &HostRuntime) -> Result<Vec<String>, Status> {
     let mut given = match env::args(rt) {
         Ok(given) => given,

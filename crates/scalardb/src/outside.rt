@@ -1,6 +1,6 @@
 //! Standard input and output, the time, and random ids, as the program takes them.
 //!
-//! None of them tells what it holds: what the world gives isn't known beforehand.
+//! None of their contents are known beforehand: they are what the world gives.
 ghost use Rattle.std.specs.Prelude.{◌≤ℤ◌, ◌^◌, ℤ, pos, None};
 
 use sdb_types::{Clock, Failed, Ids, Sink, SinkRefused, Source};

@@ -34,7 +34,7 @@ pub fn play<R: Source, W: Sink, C: Clock, I: Ids>(
     ids: &mut I,
 ) -> Status
     requires new { IsNewStore (⟦<Kept<MemStore> as Store>⟧.state database) }
-    // The headline, of the program's own stores: each tells what it holds, the database too.
+    // The headline, of the program's own stores: each has known contents, the database too.
     ensures done { result ≡ Status.Done → IsPlayedOnOwn (R.remaining input.old) (R.remaining input.new) (W.written output.old) (W.written output.new) }
 {
     let (Ok(names), Ok(ordered), Ok(hashed), Ok(kept)) = (

@@ -46,15 +46,15 @@ pub record IsScriptRead (stores : List Name) (old_input new_input : Option (List
   pub ended : IsAtEnd new_input
   pub form : IsScript stores text script
 
--- The stores that keep the tables of a script, and the coordinator's rows, tell what they hold.
+-- Each store that keeps a table of a script, or the coordinator's rows, has known contents.
 abbrev pub TellOf : Script → Attached → Type 0
 TellOf script stores =
     (at : ℕ) (store : Counted) (table : TableName) → slice_get stores.shelves at ≡ Some store → is_played script.catalog table ≡ true → store_of script.places (shown stores.shelves) table.ns ≡ store.name → stores.tells at
 
 -- The tables of a script were empty, and one outcome is that of a run that follows it, from what the stores held at the entry
--- to what they hold at the exit; what stood in the stores at each moment is explained by its events, and what each recorded transaction
--- noted is current at its point; each answer has its cause; and no transaction, recorded or not, was shown a row that was neither its own
--- nor committed when it was read.
+-- to what they hold at the exit; what was in the stores at each moment is explained by its events, and what each recorded
+-- transaction noted is current at its point; each answer has its cause; and no transaction, recorded or not, was shown a row that
+-- was neither its own nor committed when it was read.
 pub record IsPlayed (script : Script) (opening closing : List Shelf) (outcome : Outcome) : Type 0 where
   pub empty : first_key (opening_records script.catalog script.places opening) ≡ None
   pub run : IsRun script opening closing outcome
@@ -64,7 +64,7 @@ pub record IsPlayed (script : Script) (opening closing : List Shelf) (outcome : 
 
 -- One outcome of a script on any stores: its events follow the script's moves, the answers have their causes among them, the calls are
 -- counted, whoever was answered from rows had each unresolved record that it found rolled first, and no more calls are Broken than the
--- stores failed; and where the stores tell what they hold, it is that of a run of the script, whose tables were empty.
+-- stores failed; and where the stores have known contents, it is that of a run of the script, whose tables were empty.
 pub record IsOutcome (telling : Type 0) (script : Script) (old new : List Counted) (outcome : Outcome) : Type 0 where
   pub follows : Follows script.clients script.moves outcome.events
   pub caused : AnswersHaveCauses script.catalog outcome.events
@@ -110,7 +110,7 @@ pub record IsPrefixWritten (run : Ends) : Type 0 where
 abbrev pub IsCutShort : Ends → Type 0
 IsCutShort run = (run.new_output ≡ run.old_output) ⊎ IsPrefixWritten run
 
--- A script was read over these stores, and this is so of it where the stores of its tables tell what they hold.
+-- A script was read over these stores, and this is so of it where the stores of its tables have known contents.
 pub record IsReadAnd (stores : Attached) (old_input new_input : Option (List ℕ)) (P : Script → Type 0) : Type 0 where
   pub script : Script
   pub read : IsScriptRead (names_of stores.shelves) old_input new_input script
@@ -128,7 +128,7 @@ IsNotEmpty run key = IsReadAnd run.old run.old_input run.new_input (λ script. I
 abbrev pub IfNotEmpty : Status → (Key → Type 0) → Type 0
 IfNotEmpty s P = (key : Key) → s ≡ status.NotEmpty key → P key
 
--- Some store of the script's tables does not tell what it holds.
+-- Some store of the script's tables has no known contents.
 abbrev pub IsUntold : Attached → Option (List ℕ) → Option (List ℕ) → Type 0
 IsUntold old old_input new_input = IsReadAnd old old_input new_input (λ script. ⊥)
 

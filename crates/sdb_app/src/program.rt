@@ -73,10 +73,10 @@ fn replay_input<S: Registry, R: Source, W: Sink>(
     // The text that was read is no script, or passes a limit, at that line and for that cause.
     ensures refused { is_refusal result ≡ true → IsRefusedAs (names_of (S.state stores.old).shelves) (R.remaining input.old) (R.remaining input.new) result }
     ensures store_fault { result ≡ Status.StoreFault → HaveRisen (S.state stores.old).shelves (S.state stores.new).shelves }
-    // A script was read. Where the stores of its tables tell what they hold, the record is the first in these tables, and the stores hold
-    // what they held.
+    // A script was read. Where the stores of its tables have known contents, the record is the first in these tables, and the
+    // stores hold what they held.
     ensures not_empty { IfNotEmpty result (IsNotEmpty (ends S.state R.remaining W.written stores.old stores.new input.old input.new output.old output.new)) }
-    // A script was read, and some store of its tables doesn't tell what it holds.
+    // A script was read, and some store of its tables has no known contents.
     ensures bad_store { (key : Key) → result ≡ Status.BadStore key → IsUntold (S.state stores.old) (R.remaining input.old) (R.remaining input.new) }
     // A prefix of the report was written.
     ensures write_fault { result ≡ Status.WriteFault → HasRisen (W.faults output.old) (W.faults output.new) }
@@ -94,7 +94,7 @@ fn replay_input<S: Registry, R: Source, W: Sink>(
     // The stores are those that were attached, in their order.
     ensures names { names_of (S.state stores.new).shelves ≡ names_of (S.state stores.old).shelves }
     ensures counted_stores { total_faults (S.state stores.old).shelves ≤ total_faults (S.state stores.new).shelves }
-    // Stores that told what they hold go on telling it.
+    // Known contents of stores stay known.
     ensures telling { (at : ℕ) → (S.state stores.old).tells at → (S.state stores.new).tells at }
 {
     stores.clear_places();
@@ -120,7 +120,7 @@ fn replay_input<S: Registry, R: Source, W: Sink>(
 ///
 /// `replay` takes all places away and reads a script. It places the namespaces as the script says, sees to it that the script's tables
 /// are empty, plays it on the stores, and writes the report of the run. Nothing is written before the run has ended. What is said of a
-/// run and of records is said where the stores of the script's tables tell what they hold.
+/// run and of records is said where the stores of the script's tables have known contents.
 pub fn run<S: Registry, R: Source, W: Sink, C: Clock, I: Ids>(
     alloc: Global,
     words: &[String],
@@ -137,10 +137,10 @@ pub fn run<S: Registry, R: Source, W: Sink, C: Clock, I: Ids>(
     // The text that was read is no script, or passes a limit, at that line and for that cause.
     ensures refused { is_refusal result ≡ true → IsRefusedAs (names_of (S.state stores.old).shelves) (R.remaining input.old) (R.remaining input.new) result }
     ensures store_fault { result ≡ Status.StoreFault → HaveRisen (S.state stores.old).shelves (S.state stores.new).shelves }
-    // A script was read. Where the stores of its tables tell what they hold, the record is the first in these tables, and the stores hold
-    // what they held.
+    // A script was read. Where the stores of its tables have known contents, the record is the first in these tables, and the
+    // stores hold what they held.
     ensures not_empty { IfNotEmpty result (IsNotEmpty (ends S.state R.remaining W.written stores.old stores.new input.old input.new output.old output.new)) }
-    // A script was read, and some store of its tables doesn't tell what it holds.
+    // A script was read, and some store of its tables has no known contents.
     ensures bad_store { (key : Key) → result ≡ Status.BadStore key → IsUntold (S.state stores.old) (R.remaining input.old) (R.remaining input.new) }
     // A prefix of the report was written.
     ensures write_fault { result ≡ Status.WriteFault → HasRisen (W.faults output.old) (W.faults output.new) }
@@ -158,7 +158,7 @@ pub fn run<S: Registry, R: Source, W: Sink, C: Clock, I: Ids>(
     // The stores are those that were attached, in their order.
     ensures names { names_of (S.state stores.new).shelves ≡ names_of (S.state stores.old).shelves }
     ensures counted_stores { total_faults (S.state stores.old).shelves ≤ total_faults (S.state stores.new).shelves }
-    // Stores that told what they hold go on telling it.
+    // Known contents of stores stay known.
     ensures telling { (at : ℕ) → (S.state stores.old).tells at → (S.state stores.new).tells at }
 {
     if !replays(words) {

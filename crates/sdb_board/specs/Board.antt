@@ -23,12 +23,12 @@ shown shelves = map (λ s. record { name = s.name; contents = s.contents }) shel
 abbrev pub placed : List Placed → List Place
 placed places = map (λ p. record { ns = p.ns; store = p.store }) places
 
--- The store of each table of a run over a catalog tells what it holds.
+-- The store of each table of a run over a catalog has known contents.
 abbrev pub AreTold : List Table → Attached → Type 0
 AreTold catalog stores = (table : TableName) → is_played catalog table ≡ true → stores.tells (home_in stores table.ns)
 
 -- Stores are fit for a run over a catalog: there is one, no two have one name, each place names one of them, and those of the
--- run's tables tell what they hold.
+-- run's tables have known contents.
 pub record AreFit (catalog : List Table) (stores : Attached) : Type 0 where
   pub some : 0 < length stores.shelves
   pub distinct : AreDistinct (names_of stores.shelves)
@@ -45,12 +45,12 @@ pub record AreFitFor (table : TableName) (stores : Attached) : Type 0 where
 abbrev pub HoldTheSame : Attached → Attached → Type 0
 HoldTheSame old new = shown new.shelves ≡ shown old.shelves
 
--- The count of some store stands at the greatest value of its type.
+-- The count of some store is the greatest value of its type.
 abbrev pub IsFull : List Counted → Type 0
 IsFull shelves = Any (λ s. 2 ^ 64 - 1 ≤ s.faults) shelves
 
 -- Calls change no name and no place, faults add up, a count at its greatest value stays there, stores that are fit for a run stay so, and
--- those that told what they hold go on telling it.
+-- known contents stay known.
 pub record GoOn (old new : Attached) : Type 0 where
   pub places : new.places ≡ old.places
   pub names : names_of new.shelves ≡ names_of old.shelves

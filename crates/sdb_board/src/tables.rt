@@ -35,7 +35,7 @@ fn table_names(alloc: Global, catalog: &Catalog) -> Result<TableNames, NoMemory>
     Ok(names)
 }
 
-// How many names stand before the first that isn't below another.
+// How many names come before the first that isn't below another.
 fn count_below(names: &[TableName], other: &TableName) -> usize
     ensures { result ≡ length (take_while (λ n. is_lt (table_cmp n other.now)) names.now) }
 {

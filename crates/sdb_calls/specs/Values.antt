@@ -1,4 +1,4 @@
--- What the values stand for in the words of the model.
+-- What the values mean in the words of the model.
 use Rattle.std.specs.Prelude.{ℕ, Bool, false, if◌then◌else◌, ◌&&◌, nat_lt, nat_le, List, [], map, take_while, not, Option, Some, None, find, is_some}
 use Rattle.std.specs.List.{cons_option, list_any}
 use Rattle.std.specs.Option.{option_and_then, option_map_or}

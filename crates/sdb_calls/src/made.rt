@@ -21,7 +21,7 @@ pub struct Made {
     pub reply: Reply,
 }
 
-// By hand: each drop is then one call, where a derived one stands at each place with a call for each field.
+// By hand: each drop is then one call, where a derived one is written out at each exit, with a call for each field.
 impl Drop for Made {
     fn drop(self) {
         let Made {

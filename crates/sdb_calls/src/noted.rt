@@ -60,7 +60,7 @@ fn version_forward(alloc: Global, rec: &Record, moment: i64) -> Result<Option<Tx
     Ok(writer(&forward))
 }
 
-// The version of the record that a record found stands for, by what the statement's calls showed, where it stands for one.
+// The version of the record that a found record means, by what the statement's calls showed, where it means one.
 fn version_resolved(
     alloc: Global,
     calls: &[Made],

@@ -20,7 +20,7 @@ pub fn record_among<'a>(rows: &'a [Record], key: &Key) -> Option<&'a Record>
     rows.iter().find(|rec| rec.key.compare(key).is_eq())
 }
 
-/// What a reply says to stand at the one key that was asked.
+/// What a reply says is at the one key that was asked.
 pub fn standing_said(reply: &Reply) -> Option<&Option<Record>>
     ensures { option_copied result ≡ standing_said_lem reply.now }
 {

@@ -44,7 +44,7 @@ pub fn rest_of(said: &[Said]) -> &[Said]
     }
 }
 
-// How many statements stand before the first that ends the transaction.
+// How many statements come before the first that ends the transaction.
 fn count_inside(alloc: Global, said: &[Said]) -> Result<usize, NoMemory>
     ensures count { IfOk result (λ n. n ≡ length (take_while (λ s. not (ends_lem s)) (all_said said.now))) }
     ensures most { IfOk result (λ n. n ≤ length said.now) }

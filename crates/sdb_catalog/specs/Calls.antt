@@ -24,7 +24,7 @@ use Rattle.sdb_catalog.specs.Opened.{Opens, IsFirstBad, store_in, tables_of}
 abbrev pub with_shelves : Attached → List Shelf → Attached
 with_shelves stores shelves = record { places = stores.places; shelves = shelves; tells = stores.tells }
 
--- One call on the first store, which answers and changes as a map does where it told at the beginning what it holds. Every other
+-- One call on the first store, which answers and changes as a map does where it had known contents at the beginning. Every other
 -- store stays as it was.
 abbrev pub Called : Request → Reply → Attached → List Shelf → Type 0
 Called q r old new = IsCallAt 0 q r old (with_shelves old new)
@@ -46,8 +46,8 @@ adds (ask.PutIf r Absent) = true
 adds (ask.PutIf r (Version id state)) = false
 adds (ask.DeleteIf key condition) = false
 
--- Calls change no name and no other store, faults add up, and stores that told what they hold go on telling it. Each record that the
--- first store held, where it tells that, is there still.
+-- Calls change no name and no other store, faults add up, and known contents stay known. Each record that the
+-- first store held, where that is known, is there still.
 pub record GoOn (old new : Attached) : Type 0 where
   pub kept : old.tells 0 → (key : Key) (found : Record) → record_at (first_contents old.shelves) key ≡ Some found → record_at (first_contents new.shelves) key ≡ Some found
   pub names : names_of new.shelves ≡ names_of old.shelves

@@ -29,7 +29,7 @@ pub record IsKept (stores : List Shelf) (places : List Place) (catalog : List Ta
   pub rows : Opens (names_of stores) (rows_in metadata_span (first_contents stores)) (first_entries places first catalog)
   pub tables : tables_of (first_entries places first catalog) ≡ catalog
 
--- Where the first store tells what it holds and held no row of a catalog, it now keeps this one.
+-- Where the first store has known contents and held no row of a catalog, it now keeps this one.
 abbrev pub IsNowKept : Attached → Attached → List Place → List Table → Type 0
 IsNowKept old new places catalog = old.tells 0 → IsFresh old.shelves places catalog → IsKept new.shelves places catalog
 

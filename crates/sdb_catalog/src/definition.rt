@@ -68,7 +68,7 @@ fn orders_value(alloc: Global, orders: &[Order]) -> Result<Value, NoMemory>
     Ok(Value::Array(items))
 }
 
-// The columns with their kinds. The last is put first, so that each stands before those that are there.
+// The columns with their kinds. The last is put first, so that each comes before those that are there.
 fn columns_map(alloc: Global, columns: &[Column]) -> Result<Map<String, Value>, NoMemory>
     requires { rises columns.now ≡ true }
     ensures { IfOk result (λ map. members_view map.entries ≡ columns_data columns.now) }
@@ -107,7 +107,7 @@ fn definition_value(alloc: Global, table: &Table) -> Result<Value, NoMemory>
     Ok(Value::Object(map))
 }
 
-/// The definition of a table, whose columns stand in the order of their names: its value in a schema, as compact JSON.
+/// The definition of a table, whose columns are in the order of their names: its value in a schema, as compact JSON.
 #[tactic(auto, using(crate::proofs::Texts::plain), unfolding(crate::specs::Definition::definition_text))]
 pub fn definition_text(alloc: Global, table: &Table) -> Result<Txt, NoMemory>
     requires { rises table.now.columns ≡ true }

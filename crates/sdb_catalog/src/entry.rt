@@ -10,7 +10,7 @@ pub struct Entry {
     pub revision: TxId,
 }
 
-// By hand: each drop is then one call, where a derived one stands at each place with a call for each field.
+// By hand: each drop is then one call, where a derived one is written out at each exit, with a call for each field.
 impl Drop for Entry {
     fn drop(self) {
         let Entry {

@@ -68,7 +68,7 @@ fn metadata_columns(
     Ok(columns)
 }
 
-/// The row that says this of a table, whose columns stand in the order of their names.
+/// The row that says this of a table, whose columns are in the order of their names.
 #[tactic(auto, unfolding(crate::specs::Rows::row_of))]
 pub fn row_of(alloc: Global, entry: &Entry) -> Result<Record, NoMemory>
     requires { rises entry.now.table.columns ≡ true }

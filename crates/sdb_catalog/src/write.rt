@@ -224,7 +224,7 @@ fn tables_of(alloc: Global, catalog: &Catalog) -> Result<Seq<Table>, NoMemory>
     Ok(tables)
 }
 
-// How many tables stand below another.
+// How many tables are below another.
 fn count_below(tables: &[Table], other: &Table) -> usize
     ensures { result ≡ length (take_while (λ t. is_lt (table_cmp t.name other.now.name)) tables.now) }
 {
@@ -266,8 +266,8 @@ fn first_store<R: Registry>(stores: &R) -> Result<Name, NoMemory>
 /// The catalog that is there is read first. A namespace that it has keeps its store; another is kept in the store of its place
 /// among `places`, else in the first. No namespace is placed before or after.
 ///
-/// Where the first store tells what it holds and had no row of a catalog before, it then holds the rows of this one, and `open_catalog`
-/// returns this catalog.
+/// Where the first store has known contents and had no row of a catalog before, it then holds the rows of this one, and
+/// `open_catalog` returns this catalog.
 pub fn store_catalog<R: Registry>(
     alloc: Global,
     stores: &mut R,

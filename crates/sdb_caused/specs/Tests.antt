@@ -266,7 +266,7 @@ passes_most events client s read id = is_in events client s id && option_map_or 
 abbrev pub is_bad : Record → Bool
 is_bad r = if is_coordinator_table r.key.table then is_none (result_ok (decision_in r)) else is_none (result_ok (checked r.columns))
 
--- a record isn't of the form of records, or it was read, and the row that it stands for doesn't fit its table
+-- a record isn't of the form of records, or it was read, and the row that it means doesn't fit its table
 abbrev pub is_refused_there : List Table → List Made → Bool → Record → Bool
 is_refused_there catalog ms reads r = is_bad r || (reads && is_misfit catalog (all_made ms) r)
 

@@ -1,4 +1,4 @@
-//! The cause of BadRecord: a record isn't of the form of records, or the row that it stands for doesn't fit its table.
+//! The cause of BadRecord: a record isn't of the form of records, or the row that it means doesn't fit its table.
 ghost use Rattle.std.specs.Prelude.{◌≡◌, ◌&&◌, not, false, true, IfOk, IsTrue, ◌↔◌};
 ghost use Rattle.std.specs.Option.{option_and_then, option_map_or};
 ghost use Rattle.std.specs.List.{list_any};
@@ -20,7 +20,7 @@ use sdb_snapshot::row_of;
 use sdb_types::{Columns, Key, NoMemory, Record, Reply};
 use std::alloc::Global;
 
-// The row that a record stands for, by what the calls showed.
+// The row that a record means, by what the calls showed.
 fn row_resolved(alloc: Global, calls: &[Made], rec: &Record) -> Result<Option<Columns>, NoMemory>
     requires { is_taken rec.now ≡ true }
     ensures { IfOk result (λ row. row ≡ option_and_then row_of_image (resolved (all_made calls.now) rec.now)) }
@@ -41,7 +41,7 @@ fn is_fit(catalog: &Catalog, key: &Key, columns: &Columns) -> bool
     }
 }
 
-// Whether the row that a record stands for doesn't fit its table.
+// Whether the row that a record means doesn't fit its table.
 fn stands_unfit(
     alloc: Global,
     catalog: &Catalog,
@@ -57,7 +57,7 @@ fn stands_unfit(
     }
 }
 
-// Whether a record isn't of the form of records, or was read, and the row that it stands for doesn't fit.
+// Whether a record isn't of the form of records, or was read, and the row that it means doesn't fit.
 fn is_refused(
     alloc: Global,
     catalog: &Catalog,

@@ -83,7 +83,7 @@ fn not_met_as(reply: &Reply, found: &Option<Record>) -> bool
     }
 }
 
-// Whether a call is a prepare of the key that was not met, where this stands.
+// Whether a call is a prepare of the key that was not met, where this was found.
 fn is_unmet(id: TxId, key: &Key, found: &Option<Record>, made: &Made) -> bool
     ensures { result ≡ is_unmet_lem id key.now found.now made.now }
 {
@@ -225,7 +225,7 @@ fn is_forward(
     Ok(is_same_found(Some(&forward), found))
 }
 
-// Whether this is what a record found stands for, by what the calls showed.
+// Whether this is what a found record means, by what the calls showed.
 fn resolves_to(
     alloc: Global,
     calls: &[Made],

@@ -1,4 +1,4 @@
-//! The causes that stand in the text of a statement, or in its replies alone.
+//! The causes that are in the text of a statement, or in its replies alone.
 ghost use Rattle.sdb_types.specs.Replies.{is_fault as is_fault_lem};
 ghost use Rattle.std.specs.Prelude.{◌≡◌, IfOk, IsTrue, ◌↔◌, ◌≤◌, false, length};
 ghost use Rattle.std.specs.Option.{option_map_or};

@@ -43,7 +43,7 @@ pub fn is_same_said(a: &Said, b: &Said) -> bool
             && (is_same_text(&a.text, &b.text) && is_answered_alike(&a.answer, &b.answer)))
 }
 
-/// Whether what stands at a key is this.
+/// Whether this is at a key.
 pub fn is_same_found(a: Option<&Record>, b: &Option<Record>) -> bool
     ensures { result ≡ same_found (option_copied a.entry) b.now }
 {

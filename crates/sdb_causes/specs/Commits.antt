@@ -1,4 +1,4 @@
--- What the calls of a COMMIT so far say of where it stands, and why it ends so.
+-- What the calls of a COMMIT so far say of where it is, and why it ends so.
 use Rattle.std.specs.Prelude.{◌≡◌, ◌⊎◌, ℕ, true, false, List, None, Err, MatchBool, Contains, All}
 use Rattle.std.specs.List.{AllByRecursion}
 use Rattle.sdb_types.specs.declared.txid.TxId.{TxId}
@@ -82,7 +82,7 @@ EndsBy id calls (outcome.Unknown u) = (u ≡ id) × HasFailed id calls
 EndsBy id calls (outcome.BadRecord key) = (key ≡ coordinator_key_of id) × ShowsBad calls key
 EndsBy id calls outcome.NoMemory = PutsStarved id calls
 
--- What the calls say where it stands.
+-- What the calls say where it is.
 abbrev pub StandsBy : Work → List Made → Stage → Type 0
 StandsBy p calls (Preparing i) = NoneOfRow p.id calls
 StandsBy p calls (Checking i) = NoneOfRow p.id calls

@@ -25,7 +25,7 @@ abbrev pub ConflictBy : List Note → Work → List Made → Outcome → Type 0
 ConflictBy notes p calls (outcome.Conflict key found) = ConflictsAtCommit calls notes p.id key found
 ConflictBy notes p calls a = Unit {0}
 
--- What the calls say where it stands.
+-- What the calls say where it is.
 abbrev pub ChecksBy : List Note → Work → List Made → Stage → Type 0
 ChecksBy notes p calls (Preparing i) = PreparesOnly p calls × HasPrepared p i calls
 ChecksBy notes p calls (Checking i) = PreparesOnly p calls × HasPrepared p (length p.writes) calls

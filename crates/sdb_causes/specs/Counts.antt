@@ -119,7 +119,7 @@ decides decide.Abort = 2
 decides decide.Again = 3
 decides decide.Ended = 0
 
--- How many calls it has made, by where it stands.
+-- How many calls it has made, by where it is.
 abbrev pub CommitCounted : List Note → Work → List Made → Stage → Type 0
 CommitCounted notes p calls (Preparing i) = (length calls ≡ i) × (length (prepares_in p.id calls) ≡ i) × HasPut p i calls
 CommitCounted notes p calls (Checking i) = AllPut p calls × (i < length (checks p)) × (length calls ≡ length p.writes + i)

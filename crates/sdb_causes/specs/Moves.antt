@@ -94,7 +94,7 @@ abbrev pub EndShows : Request → List Made → ReadStep → Type 0
 EndShows q calls (step.Images images) = HasRead q calls images []
 EndShows q calls s = Unit {0}
 
--- What the calls showed where a read stands.
+-- What the calls showed where a read is.
 abbrev pub ShowsAt : Request → List Made → ReadStage → Type 0
 ShowsAt q calls Asking = calls ≡ []
 ShowsAt q calls (Resolving images rec meta p left) = HasRead q calls images (rec ∷ left) × PhaseShows calls meta.id p

@@ -1,4 +1,4 @@
--- What the calls of a statement that reads say of where its read stands, and why it ends so.
+-- What the calls of a statement that reads say of where its read is, and why it ends so.
 use Rattle.std.specs.Prelude.{◌≡◌, ℤ, true, List, ◌∷◌, Contains}
 use Rattle.std.specs.List.{AllByRecursion}
 use Rattle.sdb_types.specs.declared.txid.TxId.{TxId}

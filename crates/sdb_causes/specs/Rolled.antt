@@ -82,7 +82,7 @@ abbrev pub EndRolls : List Event → Bool → List Made → ReadStep → Type 0
 EndRolls events sweeps calls (step.Images images) = RolledBut events sweeps calls []
 EndRolls events sweeps calls s = Unit {0}
 
--- What is dealt with where a read stands.
+-- What is dealt with where a read is.
 abbrev pub ReadRolls : List Event → Bool → List Made → ReadStage → Type 0
 ReadRolls events sweeps calls Asking = RolledBut events sweeps calls []
 ReadRolls events sweeps calls (Resolving images rec meta p left) = RolledBut events sweeps calls (rec ∷ left) × (kind_of rec ≡ Open meta) × PhaseLooks calls meta.id p

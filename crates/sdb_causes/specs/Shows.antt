@@ -42,8 +42,8 @@ pub record FoundFor (catalog : List Table) (events : List Event) (c : ℕ) (s : 
 abbrev pub WasRead : List Table → List Event → ℕ → Said → Key → Option (List Pair) → Type 0
 WasRead catalog events c s key row = Contains (said c events) s × FoundFor catalog events c s key row
 
--- A transaction has a row at a key when it takes a statement behind those of a body: an effective one of these, or that statement, was
--- shown a row there, and the effective ones from there on made this of it.
+-- A transaction has a row at a key when it takes a statement after those of a body: an effective one of these, or that statement,
+-- was shown a row there, and the effective ones from there on made this of it.
 pub record HasBefore (catalog : List Table) (events : List Event) (c : ℕ) (body : List Said) (s : Said) (key : Key) (row : Option (List Pair)) : Type 0 where
   pub first : Said
   pub earlier : List Said
@@ -71,7 +71,7 @@ pub record HasAfter (catalog : List Table) (events : List Event) (c : ℕ) (body
 
 ---- what a statement is answered
 
--- Rows that a SELECT behind a body is answered are rows that its transaction has.
+-- Rows that a SELECT after a body is answered are rows that its transaction has.
 abbrev pub GivesRows : List Table → List Event → ℕ → List Said → Said → List (List Value) → Type 0
 GivesRows catalog events c body s rows =
     (t : Table) × (select : Select) × (images : List Image) × Reads s.text (statement.Select select) × (find_table catalog select.table ≡ Some t) × (rows ≡ map (shown t select.columns) images)

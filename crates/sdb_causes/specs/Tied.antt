@@ -1,5 +1,5 @@
 -- What ties the events of a run to its clients, so that each answer has its cause: what a client said, why each statement was answered
--- so, and what the calls of the statement that waits say of where the client stands.
+-- so, and what the calls of the statement that waits say of where the client is.
 use Rattle.std.specs.Prelude.{◌≡◌, ◌≢◌, ◌⊎◌, ◌<◌, ◌≤◌, ◌^◌, ℕ, suc, ℤ, not, if◌then◌else◌, ◌||◌, Bool, true, false, List, [], ◌∷◌, ◌++◌, length, fold, Option, Some, None, IfSome, is_some, MatchBool, Contains}
 use Rattle.std.specs.List.{AllByRecursion}
 use Rattle.sdb_types.specs.declared.key.Key.{Key}
@@ -120,12 +120,12 @@ IsNoting events c told body t (doing.Commit k) (Some w) =
     AllTellOne events c told → WorkBy (notes_told events c body) k.work × ChecksBy (notes_told events c body) k.work (calls_of events c w) k.stage
 IsNoting events c told body t d w = AllTellOne events c told → SeenBy (notes_told events c body) t.seen
 
--- where a client stands, by what it said
+-- where a client is, by what it said
 abbrev pub StandsIn : List Event → ℕ → ℕ → List Said → Option Said → Option Planned → Option TxnAt → Type 0
 StandsIn events c n told w p None = (w ≡ None) × (open_after told ≡ false)
 StandsIn events c n told w p (Some t) = (open_after told ≡ true) × (o : IsOpenAs c n told t) × IsDoing events c t p w t.doing × IsNoting events c told o.body t t.doing w
 
--- it is a VACUUM, which stands where its calls say
+-- it is a VACUUM, which is where its calls say
 abbrev pub IsSweeping : List Event → ℕ → List Said → Option Said → Option TxnAt → VacuumAt → Type 0
 IsSweeping events c told None o v = ⊥
 IsSweeping events c told (Some w) o v = (o ≡ None) × (open_after told ≡ false) × VacuumBy (calls_of events c w) v
@@ -135,7 +135,7 @@ abbrev pub StandsOn : List Event → ℕ → ℕ → List Said → Option Said �
 StandsOn events c n told w p o None = StandsIn events c n told w p o
 StandsOn events c n told w p o (Some v) = IsSweeping events c told w o v
 
--- What is so of a client: what it said and was answered, and where it stands.
+-- What is so of a client: what it said and was answered, and where it is.
 pub record Knows (catalog : List Table) (events : List Event) (c : ℕ) (h : ClientAt) : Type 0 where
   pub told : List Said
   pub waiting : Option Said

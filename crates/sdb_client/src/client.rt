@@ -35,7 +35,7 @@ pub struct Client {
     vacuum: Option<Vacuum>,
 }
 
-// By hand: each drop is then one call, where a derived one stands at each place with a call for each field.
+// By hand: each drop is then one call, where a derived one is written out at each exit, with a call for each field.
 impl Drop for Client {
     fn drop(self) {
         let Client {

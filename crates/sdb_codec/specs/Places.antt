@@ -32,7 +32,7 @@ field_bytes (Item v) = value_bytes v
 field_bytes (ColumnCount count) = to_be_bytes w16 count
 field_bytes (Name name) = sized_bytes name
 
--- what is due: a column's name stands above the one before, and so many columns follow it
+-- what is due: a column's name is above the one before, and so many columns follow it
 pub data Due : Type 0 where
   FormatDue : Due
   TableDue : Due

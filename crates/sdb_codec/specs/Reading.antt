@@ -1,4 +1,4 @@
--- Reading from left to right, field by field. What is wrong is told by the bytes left where the first field begins that is
+-- Reading from left to right, field by field. What is wrong is given by the bytes left where the first field begins that is
 -- cut off or isn't of its form.
 use Rattle.std.specs.Prelude.{◌≡◌, ℕ, zero, suc, ◌-◌, Bool, true, false, nat_lt, ◌==◌, if◌then◌else◌, List, [], ◌∷◌, length, take, drop, slice_get, Option, Some, None, Result, Ok, Err}
 use Rattle.std.specs.Option.{option_map}
@@ -176,7 +176,7 @@ record_at bytes = do
 abbrev pub whole : {X : Type 0} → Result (X × List ℕ) ℕ → Result X ℕ
 whole read = read >>= λ x. if length x.1 == 0 then Ok x.0 else Err (length x.1)
 
--- a place counted from the front
+-- a place counted from the start
 abbrev pub from_front : {X : Type 0} → ℕ → Result X ℕ → Result X ℕ
 from_front total (Ok x) = Ok x
 from_front total (Err left) = Err (total - left)

@@ -9,7 +9,7 @@ use crate::refused::Stopped;
 use sdb_types::{Columns, Name, Pair, SharedSeq, Value};
 use std::alloc::Global;
 
-/// The name stands above the one before, if there is one.
+/// The name is above the one before, if there is one.
 fn is_above(before: Option<&Pair>, name: &Name) -> bool
     ensures { result ≡ is_above_lem (option_copied before.entry) name.now }
 {

@@ -6,7 +6,7 @@ ghost use Rattle.sdb_types.specs.Fits.{key_fits, record_fits};
 ghost use Rattle.sdb_codec.specs.Spelling.{key_bytes, record_bytes, KeyFitsFields, RecordFitsFields};
 ghost use Rattle.sdb_codec.specs.Places.{Due, IsFirstWrong};
 
-/// The bytes of a record tell it apart from every other, and so do those of a key.
+/// No two records have the same bytes, and no two keys do.
 pub fn spelling_exact()
     ensures records { (r s : Record) → record_fits r → record_fits s → RecordFitsFields r → RecordFitsFields s → record_bytes r ≡ record_bytes s → r ≡ s }
     ensures keys { (k l : Key) → key_fits k → key_fits l → KeyFitsFields k → KeyFitsFields l → key_bytes k ≡ key_bytes l → k ≡ l }

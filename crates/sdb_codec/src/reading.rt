@@ -67,7 +67,7 @@ fn whole_record(alloc: Global, bytes: &[u8]) -> Result<Record, Stopped>
     Ok(rec)
 }
 
-// The place of a fault is counted from the front.
+// The place of a fault is counted from the start.
 fn refused_at(length: usize, stopped: Stopped) -> ReadRefused
     ensures { result ≡ refusal length stopped }
 {

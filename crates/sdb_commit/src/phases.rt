@@ -46,7 +46,7 @@ pub struct CommitPhases {
     phase: Phase,
 }
 
-// By hand: each drop is then one call, where a derived one stands at each place with a call for each field.
+// By hand: each drop is then one call, where a derived one is written out at each exit, with a call for each field.
 impl Drop for CommitPhases {
     fn drop(self) {
         let CommitPhases {

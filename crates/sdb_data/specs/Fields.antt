@@ -36,7 +36,7 @@ bool_in field =
 
 ---- INT and BIGINT: the shortest decimal text of a number in the kind's range, or `-0`
 
--- the number that digits say, behind a `-` where there is one
+-- the number that digits say, after a `-` where there is one
 abbrev pub said_number : List ℕ → ℤ
 said_number field = signed_digits_value 10 field
 
@@ -52,7 +52,7 @@ number_in fits field =
     else if is_shortest field && fits (said_number field) then Some (said_number field)
     else None
 
----- TEXT: the text, with one more `\` in front where it begins with one
+---- TEXT: the text, with one more `\` before it where it begins with one
 
 -- at most 4,096 bytes
 abbrev pub is_short : List ℕ → Bool
@@ -62,7 +62,7 @@ abbrev pub begins_backslash : List ℕ → Bool
 begins_backslash [] = false
 begins_backslash (b ∷ bs) = b == 92
 
--- the text that a field stands for; none where it begins with a single `\`
+-- the text that a field means; none where it begins with a single `\`
 abbrev pub unescaped : List ℕ → Option (List ℕ)
 unescaped [] = Some []
 unescaped (b ∷ bs) = if b == 92 then (if begins_backslash bs then Some bs else None) else Some (b ∷ bs)

@@ -15,7 +15,7 @@ use Rattle.sdb_data.specs.declared.fault.Mode.TheVariants as mode
 use Rattle.sdb_data.specs.Fields.{field_of, is_short}
 use Rattle.sdb_types.specs.Fits.{fits_int}
 
--- records as the library writes them with its defaults: LF ends each, and quotes stand around a field that needs them
+-- records as the library writes them with its defaults: LF ends each, and quotes enclose a field that needs them
 abbrev pub text_of : List (List (List ℕ)) → List ℕ
 text_of records = flat_map (row_text default_writer) records
 

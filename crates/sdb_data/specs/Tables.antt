@@ -21,7 +21,7 @@ use Rattle.sdb_data.specs.declared.header.Taken.{Taken}
 use Rattle.sdb_data.specs.Records.{csv_records}
 use Rattle.sdb_data.specs.Fields.{suits, value_at}
 
--- a fault that tells a place, counted from 1
+-- a fault with a place, counted from 1
 abbrev pub at_place : (ℕ → CsvFault) → Option ℕ → Option CsvFault
 at_place told place = option_map (λ i. told (i + 1)) place
 
@@ -37,7 +37,7 @@ is_named header name = list_any (λ n. same_name n name) header
 abbrev pub unknown_place : Table → List (List ℕ) → Option ℕ
 unknown_place t header = position (λ name. not (has_column t.columns name)) header
 
--- the first name that stands before too, or among those passed; counted from their number
+-- the first name that comes before too, or is among those passed; counted from their number
 abbrev pub repeat_place : List (List ℕ) → List (List ℕ) → Option ℕ
 repeat_place passed [] = None
 repeat_place passed (name ∷ names) = if is_named passed name then Some (length passed) else repeat_place (passed ++ name ∷ []) names
@@ -52,7 +52,7 @@ nothing_to_set t mode.Insert header = None
 nothing_to_set t mode.Upsert header = None
 nothing_to_set t mode.Update header = if list_all (is_key_column t) header then Some (fault.MissingKey 0) else None
 
--- Why names make no header, if they don't: one that is no column's; one that stands before too; a column of the primary key that
+-- Why names make no header, if they don't: one that is no column's; one that comes before too; a column of the primary key that
 -- isn't among them; in mode update, columns of the key alone.
 unfoldable pub names_fault : Table → Mode → List (List ℕ) → Option CsvFault
 names_fault t m header =
@@ -98,7 +98,7 @@ abbrev pub fault_from : List Head → ℕ → List (List (List ℕ)) → Option 
 fault_from heads n [] = None
 fault_from heads n (r ∷ rs) = option_or (in_record n (record_fault heads r)) (fault_from heads (n + 1) rs)
 
--- the first fault of names and of the records behind them
+-- the first fault of names and of the records after them
 abbrev pub fault_behind : Table → Mode → List (List ℕ) → List (List (List ℕ)) → Option (ℕ × CsvFault)
 fault_behind t m names records = option_or (in_record 1 (names_fault t m names)) (fault_from (heads_of t names) 2 records)
 
@@ -145,12 +145,12 @@ read_rows (Some f) rows = Err f
 abbrev pub table_in : Table → Mode → List ℕ → Result (List (List Value)) (ℕ × CsvFault)
 table_in t m text = read_rows (first_fault t m (csv_records text)) (rows_in t (csv_records text))
 
--- a refusal that tells a first fault, or want of memory
+-- a refusal that names a first fault, or says out of memory
 abbrev pub Tells : Option (ℕ × CsvFault) → CsvRefused → Type 0
 Tells found (BadCsv n f) = found ≡ Some (n, f)
 Tells found OutOfMemory = Unit {0}
 
--- A refusal that comes of an outcome; want of memory may stand in the place of any.
+-- A refusal that comes of an outcome; out of memory may be returned in the place of any.
 abbrev pub Refuses : {A : Type 0} → Result A (ℕ × CsvFault) → CsvRefused → Type 0
 Refuses r (BadCsv n f) = r ≡ Err (n, f)
 Refuses r OutOfMemory = Unit {0}

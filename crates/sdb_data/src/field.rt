@@ -123,7 +123,7 @@ pub fn begins_backslash(text: &[u8]) -> bool
     }
 }
 
-// The text that a field stands for.
+// The text that a field means.
 fn unescaped(field: &str) -> Option<&str>
     ensures { option_copied result ≡ spec.unescaped field.now }
 {

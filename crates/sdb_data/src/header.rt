@@ -69,7 +69,7 @@ fn is_named(header: &[Txt], name: &str) -> bool
     header.iter().any(|other| is_text(other, name))
 }
 
-// The first name that stands before too. Compares each with those before it, which are columns of the table.
+// The first name that comes before too. Compares each with those before it, which are columns of the table.
 fn find_repeat(header: &[Txt]) -> Option<usize>
     ensures place { result ≡ spec.repeat_place [] header.now }
     ensures within { IfSome result (λ i. i < length header.now) }

@@ -35,7 +35,7 @@ fn put_number(fields: &mut ByteRecord, number: i64) -> Result<(), NoMemory>
     put(fields, digits.format(number).as_bytes())
 }
 
-// A text that begins with `\`, with another one in front.
+// A text that begins with `\`, with another one before it.
 fn put_escaped(alloc: Global, fields: &mut ByteRecord, text: &[u8]) -> Result<(), NoMemory>
     requires { partial_of fields.old ≡ [] }
     ensures added { OnOk result (fields_of fields.new ≡ fields_of fields.old ++ (92 ∷ text.now) ∷ []) }

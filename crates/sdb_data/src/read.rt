@@ -54,7 +54,7 @@ fn row_of(alloc: Global, taken: &[Taken], fields: &ByteRecord) -> Result<Values,
     Ok(row)
 }
 
-// Adds the row of each record behind the header.
+// Adds the row of each record after the header.
 fn add_rows(
     alloc: Global,
     rows: &mut Seq<Values>,

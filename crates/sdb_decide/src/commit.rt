@@ -17,7 +17,7 @@ pub struct Commit {
     at: usize,
 }
 
-// By hand: each drop is then one call, where a derived one stands at each place with a call for each field.
+// By hand: each drop is then one call, where a derived one is written out at each exit, with a call for each field.
 impl Drop for Commit {
     fn drop(self) {
         let Commit { asks: _, at: _ } = self;

@@ -23,7 +23,7 @@ pub struct Decide {
     abort: Request,
 }
 
-// By hand: each drop is then one call, where a derived one stands at each place with a call for each field.
+// By hand: each drop is then one call, where a derived one is written out at each exit, with a call for each field.
 impl Drop for Decide {
     fn drop(self) {
         let Decide {

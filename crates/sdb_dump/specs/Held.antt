@@ -1,4 +1,4 @@
--- What stores hold in the end, as a closing dump tells it.
+-- What stores hold in the end, as a closing dump shows it.
 use Rattle.std.specs.Prelude.{◌≡◌, ◌<◌, ◌^◌, ◌↔◌, Contains, List, map, Option, Some}
 use Rattle.std.specs.List.{flat_map}
 use Rattle.sdb_types.specs.declared.key.Key.{Key}

@@ -17,7 +17,7 @@ use Rattle.sdb_dump.specs.Refused.{first_unlike}
 abbrev pub IsOdd : List Table → Record → Type 0
 IsOdd catalog r = ((is_some (find_table catalog r.key.table) ≡ true) × (is_taken r ≡ false)) ⊎ ((is_coordinator_table r.key.table ≡ true) × (is_decided r ≡ false))
 
--- Such a record stands at a key.
+-- Such a record is at a key.
 pub record IsOddAt (catalog : List Table) (places : List Place) (shelves : List Shelf) (key : Key) : Type 0 where
   pub found : Record
   pub stands : standing places shelves key ≡ Some found

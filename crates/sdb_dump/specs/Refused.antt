@@ -13,7 +13,7 @@ use Rattle.sdb_dump.specs.declared.refused.ClosingRefused.TheVariants as refused
 abbrev pub first_unlike : (Record → Bool) → List Record → Option Key
 first_unlike is_so records = option_map (λ r. r.key) (find (λ r. not (is_so r)) records)
 
--- A record is bad only as is said, and a fault comes only where there was one; want of memory may stand in their place.
+-- A record is bad only as is said, and a fault comes only where there was one; out of memory may be returned in their place.
 abbrev pub Refuses : (Key → Type 0) → Type 0 → ClosingRefused → Type 0
 Refuses bad faulted refused.StoreFault = faulted
 Refuses bad faulted (refused.BadRecord key) = bad key

@@ -6,7 +6,7 @@ use sdb_board::CallRefused;
 use sdb_types::{Duplicate, Key, NoMemory, Record};
 use thiserror::Error;
 
-/// Why what the stores hold was not told.
+/// Why a closing dump is refused.
 #[derive(Debug, Drop, Error)]
 pub enum ClosingRefused {
     /// A scan failed.

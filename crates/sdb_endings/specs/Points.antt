@@ -1,4 +1,4 @@
--- What is so at the end of a run: of the recorded transactions, and of what stands in the stores.
+-- What is so at the end of a run: of the recorded transactions, and of what is in the stores.
 use Rattle.std.specs.Prelude.{◌≡◌, ◌≢◌, ◌^◌, ◌<◌, true, List, Some, IsSome, IsOk}
 use Rattle.sdb_types.specs.declared.key.Key.{Key}
 use Rattle.sdb_types.specs.declared.txid.TxId.{TxId}

@@ -26,6 +26,6 @@ pub record AreSound (catalog : List Table) (places : List Place) (closing : List
   pub taken : (k : Key) (r : Record) → is_played catalog k.table ≡ true → is_data k ≡ true → standing places closing k ≡ Some r → is_taken r ≡ true
   pub rows : (k : Key) (row : Record) → is_coordinator_table k.table ≡ true → standing places closing k ≡ Some row → IsOk (decision_in row)
 
--- At each moment every record that stands at a key of a table passes the checks.
+-- At each moment every record that is at a key of a table passes the checks.
 abbrev pub AreTaken : List Table → List Place → List Shelf → List (List Shelf) → Type 0
 AreTaken catalog places opening moments = (n : ℕ) (key : Key) (r : Record) → n ≤ length moments → IsTableKey catalog key → standing places (moment opening moments n) key ≡ Some r → is_taken r ≡ true

@@ -15,8 +15,8 @@ ghost use Rattle.sdb_linked.specs.Going.{IsGoing};
 ghost use Rattle.sdb_spread.specs.Spread.{moved_events};
 ghost use Rattle.sdb_endings.specs.Ending.{IsEnd};
 
-/// Events that are tied to their clients, as made on one store, are a run of the script on the stores where its tables stand, with some
-/// tables to print, where they end there.
+/// Events that are tied to their clients, as made on one store, are a run of the script on the stores where its tables lie, with
+/// some tables to print, where they end there.
 pub fn going_is_run_on_stores()
     ensures { (script : Script) (name : Name) (fit : Tables → Bool) (events : List Event) (sys : SystemAt) (doing : ℕ → Option Statement) (opening closing : List Shelf) (order : List Point)
         → IsFitting script.catalog fit → IsGoing script.catalog fit (moved_events (λ ns. name) events) sys doing → IsEnd script events opening closing order

@@ -1,4 +1,4 @@
-//! What stands in the stores.
+//! What is in the stores.
 ghost use Rattle.std.specs.Prelude.{Bool, List, Option, ℕ};
 ghost use Rattle.sdb_schema.specs.declared.table.Table.{Table};
 ghost use Rattle.sdb_model.specs.declared.event.Event.{Event};

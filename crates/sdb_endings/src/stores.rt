@@ -1,4 +1,4 @@
-//! What the events of a run owe the stores where its tables stand.
+//! What the events of a run owe the stores where its tables lie.
 ghost use Rattle.std.specs.Prelude.{ℕ, Bool, List, Option};
 ghost use Rattle.sdb_model.specs.declared.event.Event.{Event};
 ghost use Rattle.sdb_model.specs.declared.script.Script.{Script};
@@ -13,7 +13,7 @@ ghost use Rattle.sdb_endings.specs.Points.{HavePoints};
 ghost use Rattle.sdb_endings.specs.Stores.{AreSound, IsPlayedOn};
 
 /// Where events, as made on one store, are tied to their clients, and agree with the stores of a script whose tables held nothing, each
-/// recorded transaction has its point, and what stands in the tables is sound.
+/// recorded transaction has its point, and what is in the tables is sound.
 pub fn going_ends_on_stores()
     ensures points { (script : Script) (name : Name) (fit : Tables → Bool) (events : List Event) (sys : SystemAt) (doing : ℕ → Option Statement) (opening closing : List Shelf) → IsGoing script.catalog fit (moved_events (λ ns. name) events) sys doing → IsPlayedOn script events opening closing → HavePoints script.places events closing }
     ensures sound { (script : Script) (name : Name) (fit : Tables → Bool) (events : List Event) (sys : SystemAt) (doing : ℕ → Option Statement) (opening closing : List Shelf) → IsGoing script.catalog fit (moved_events (λ ns. name) events) sys doing → IsPlayedOn script events opening closing → AreSound script.catalog script.places closing }

@@ -34,7 +34,7 @@ pub record Planned : Type 0 where
 
 ---- refusals
 
--- The refusal that comes; want of memory may stand in the place of any outcome.
+-- The refusal that comes; out of memory may be returned in the place of any outcome.
 abbrev pub IsRefusedAs : Option Refusal → PlanRefused → Type 0
 IsRefusedAs r (refused.Refused refusal) = r ≡ Some refusal
 IsRefusedAs r refused.NoMemory = Unit {0}

@@ -5,7 +5,7 @@ use Rattle.indexmap.specs.IndexMap.{insert_entry}
 use Rattle.sdb_types.specs.declared.key.Key.{Key}
 use Rattle.sdb_types.specs.contracts.key.KeyPartialEq.TheImpl as key_eq
 
--- whether two keys are one, as `==` of keys tells
+-- whether two keys are one, by `==` of keys
 abbrev pub same_key : Key → Key → Bool
 same_key = (key_eq.ghosts).eq
 

@@ -103,7 +103,7 @@ abbrev pub prepared_by : ℕ → ℤ → Option Write → Option Record
 prepared_by t now None = None
 prepared_by t now (Some w) = if is_sound w then Some (prepared_record w (id t) now) else None
 
--- a request puts this record, where the base of the write stands
+-- a request puts this record, where the base of the write is still there
 abbrev pub is_put : Request → Option Write → Option Record → Bool
 is_put q None o = false
 is_put q (Some w) None = false

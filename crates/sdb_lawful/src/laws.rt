@@ -11,7 +11,7 @@ ghost use Rattle.sdb_said.specs.Values.{all_played, plan_in, word_of};
 ghost use Rattle.sdb_said.specs.Shown.{shown};
 ghost use Rattle.sdb_lawful.specs.Rules.{begins_well, takes_well, prepares_well, checks_well, decides_well, aborts_well, rolls_well, removes_well, keeps_rules};
 
-/// The tests of the rules hold exactly where the rules do. A prepare and a roll are tested behind lists that are lawful: there
+/// The tests of the rules hold exactly where the rules do. A prepare and a roll are tested after lists that are lawful: there
 /// each write of a COMMIT that was taken has the form of records.
 pub fn rules_are_decided()
     ensures begin { (past : List Played) (e : Event) (t c : ℕ) → IsTrue (begins_well past e t c) ↔ MayBegin (all_played past) e t c }

@@ -405,7 +405,7 @@ pub fn may_deny(
     }
 }
 
-/// The answer that an event gives is true as far as the events tell.
+/// The answer that an event gives is true as far as the events show.
 pub fn answers_truly(
     alloc: Global,
     shown: &[Record],

@@ -169,7 +169,7 @@ fn puts_write(
     Ok(is_put(request, write, rec))
 }
 
-/// A prepare: of a write, where its base stands, once, and before any check.
+/// A prepare: of a write, where its base is still there, once, and before any check.
 pub fn may_prepare(
     alloc: Global,
     past: &[Played],

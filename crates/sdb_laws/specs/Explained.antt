@@ -42,7 +42,7 @@ RecordedIsPut plan places w shelves = (t : ℕ) → t < 2 ^ 128 → Recorded pla
 abbrev pub RowsFinal : List Place → List Shelf → List Shelf → Type 0
 RowsFinal places before now = (t : ℕ) (row : Record) → t < 2 ^ 128 → standing places before (coordinator_key_of (id t)) ≡ Some row → standing places now (coordinator_key_of (id t)) ≡ Some row
 
----- what stands
+---- what is there
 
 -- A record that is not in state 3 is what its transaction prepared at that key, and that prepare took effect.
 pub record IsPreparedRecord (plan : ℕ → Plan) (w : History) (k : Key) (r : Record) : Type 0 where
@@ -69,11 +69,11 @@ CommittedIsCanon plan places w shelves = (k : Key) (r : Record) → is_data k �
 abbrev pub SettledIsFirm : (ℕ → Plan) → History → List Played → Type 0
 SettledIsFirm plan w past = (k : Key) (b : Record) → is_data k ≡ true → IsSettled past k b → (u : ℕ) × (u < 2 ^ 128) × IsWriter plan w k u × (b ≡ firm_record plan u k)
 
--- What a transaction prepared stands while it has no row.
+-- What a transaction prepared stays while it has no row.
 abbrev pub PreparedStands : (ℕ → Plan) → List Place → History → List Shelf → Type 0
 PreparedStands plan places w shelves = (t : ℕ) (k : Key) → w.took t k ≡ true → w.row t ≡ None → standing places shelves k ≡ Some (held_record plan t k)
 
--- Of an aborted transaction nothing stands in state 3, nor under a prepared record.
+-- Of an aborted transaction nothing is in state 3, nor under a prepared record.
 abbrev pub AbortedGone : (ℕ → Plan) → List Place → History → List Shelf → Type 0
 AbortedGone plan places w shelves = (t : ℕ) (k : Key) (r : Record) → w.row t ≡ Some Aborted → is_data k ≡ true → standing places shelves k ≡ Some r →
     ((is_in state.Committed r.columns ≡ true → id_in r.columns ≢ Some (id t))
@@ -114,7 +114,7 @@ RemovedBeforeBegin w = (t : ℕ) (k : Key) (u : ℕ) → w.gone k ≡ Some u →
 abbrev pub EarlierPrepareHadRow : History → Type 0
 EarlierPrepareHadRow w = (t u : ℕ) (k : Key) → t ≢ u → w.took t k ≡ true → w.took u k ≡ true → w.prepared_at t k < w.prepared_at u k → (w.row t ≢ None) × (w.decided_at t < w.prepared_at u k)
 
--- Recorded writers of a key stand in one order by prepare and by point.
+-- Recorded writers of a key are in one order by prepare and by point.
 abbrev pub WritersInOrder : (ℕ → Plan) → History → Type 0
 WritersInOrder plan w = (t u : ℕ) (k : Key) → IsWriter plan w k t → IsWriter plan w k u → w.prepared_at t k < w.prepared_at u k → w.talk.point t < w.talk.point u
 
@@ -175,7 +175,7 @@ abbrev pub IsTold : List Played → ℕ → Type 0
 IsTold [] t = ⊥
 IsTold (p ∷ past) t = ((answer_of p.event ≡ Some answer.Committed) × (p.ends ≡ Some t)) ⊎ IsTold past t
 
--- A prepare that took effect was put over its base: before it there stood what its record is rolled back to.
+-- A prepare that took effect was put over its base: before it there was what its record is rolled back to.
 abbrev pub StoodBefore : (ℕ → Plan) → List Place → List Shelf → ℕ → Key → Type 0
 StoodBefore plan places before t k = standing places before k ≡ before_record (held_record plan t k)
 

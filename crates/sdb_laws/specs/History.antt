@@ -8,7 +8,7 @@ use Rattle.sdb_model.specs.Noted.{same_key}
 
 ---- parts
 
--- What its client was told of a put: that it was applied, that its condition failed, nothing, or that memory was wanting.
+-- What its client was told of a put: that it was applied, that its condition failed, nothing, or out of memory.
 pub data Word : Type 0 where
   Yes : Word
   No : Word
@@ -65,7 +65,7 @@ pub data Stage : Type 0 where
   Checking : Stage
   Deciding : Stage
 
--- What the events themselves tell. No field depends on what the stores hold.
+-- What the events themselves say. No field depends on what the stores hold.
 pub record Talk : Type 0 where
   -- how many events there were
   pub now : ℕ
@@ -163,7 +163,7 @@ heard h r = says (ticked h) r
 
 ---- what was done
 
--- What stands at a key: the committed record that a transaction left there, or the record that it prepared there.
+-- What is at a key: the committed record that a transaction left there, or the record that it prepared there.
 pub data Standing : Type 0 where
   Firm : (t : ℕ) → Standing
   Held : (t : ℕ) → Standing
@@ -171,7 +171,7 @@ pub data Standing : Type 0 where
 -- What the events did, as far as it took effect, with the numbers of the events that did it.
 pub record History : Type 0 where
   pub talk : Talk
-  -- what stands at each key outside the coordinator's table
+  -- what is at each key outside the coordinator's table
   pub rows : Key → Option Standing
   -- the coordinator's row of each transaction, the moment in it, and the event that put it
   pub row : ℕ → Option Decision
@@ -222,7 +222,7 @@ is_recorded None = false
 is_recorded (Some Committed) = true
 is_recorded (Some Aborted) = false
 
--- the writer of the committed record that stands for what is there
+-- the writer of the committed record that is meant by what is there
 abbrev pub image_in : (ℕ → Plan) → History → Key → Option Standing → Option ℕ
 image_in plan w k None = None
 image_in plan w k (Some (Firm t)) = Some t
@@ -293,7 +293,7 @@ IsWriter plan w k t = (w.row t ≡ Some Committed) × (written (plan t) k ≢ No
 abbrev pub IsPrepared : (ℕ → Plan) → Talk → ℕ → Type 0
 IsPrepared plan h t = (k : Key) → written (plan t) k ≢ None → h.told t k ≡ true
 
--- what stands is of this version, or nothing does
+-- what is there is of this version, or nothing is there
 abbrev pub has_version : Option Standing → Option ℕ → Bool
 has_version None None = true
 has_version None (Some u) = false

@@ -189,11 +189,11 @@ pub record MayPrepare (plan : ℕ → Plan) (past : List Played) (e : Event) (t 
   pub write : Write
   pub r : Reply
   pub within : InCommit (talk past) client t
-  -- it puts what the transaction writes, where the base still stands
+  -- it puts what the transaction writes, where the base is still there
   pub at : write_at (plan t) k ≡ Some write
   pub call : IsCallOf e client (ask.PutIf (prepared_record write (id t) (plan t).now) (condition_of (version_of write.base))) r
   pub word_is : word ≡ word_of r
-  -- prepares come before checks: a check after which the transaction prepares does not tell what it stands on
+  -- prepares come before checks: a check before a prepare does not show what the transaction rests on
   pub stage : (talk past).stage t ≡ Preparing
   -- one prepare for each key: a second could put again what was rolled back
   pub once : (talk past).asked t k ≡ false
@@ -215,7 +215,7 @@ pub record MayCheck (plan : ℕ → Plan) (past : List Played) (e : Event) (t i 
   pub at : slice_get (plan t).notes i ≡ Some note
   pub call : IsCallOf e client q r
   pub unchanged : IsUnchanged (plan t) note q r
-  -- behind a check the transaction prepares nothing more: whoever prepares later stands behind it
+  -- after a check the transaction prepares nothing more: whoever prepares later comes after it
   pub stage : (talk past).stage t ≢ Deciding
 
 -- the put of COMMITTED
@@ -246,7 +246,7 @@ abbrev pub back_request : Key → TxId → State → Option Record → Request
 back_request k t s None = ask.DeleteIf k (condition.Version t s)
 back_request k t s (Some b) = ask.PutIf b (condition.Version t s)
 
--- A roll, by anybody: of what the transaction prepared there, where it still stands.
+-- A roll, by anybody: of what the transaction prepared there, where it is still there.
 pub record MayRoll (plan : ℕ → Plan) (past : List Played) (e : Event) (t : ℕ) (k : Key) : Type 0 where
   pub client : ℕ
   pub rolled : Record
@@ -334,7 +334,7 @@ is_denial answer.Committed = false
 is_denial (answer.Unknown t) = false
 is_denial _ = true
 
--- a row of a transaction was shown that is none: stores that tell what they hold never show one
+-- a row of a transaction was shown that is none: stores of known contents never show one
 pub record IsBadRow (past : List Played) (t : ℕ) : Type 0 where
   pub row : Record
   pub shown : IsShown past row

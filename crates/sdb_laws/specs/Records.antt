@@ -1,4 +1,4 @@
--- What stands at the stores, said by the history: which record, which row.
+-- What is in the stores, said by the history: which record, which row.
 use Rattle.std.specs.Prelude.{◌≡◌, ℕ, ◌^◌, ◌<◌, true, List, Option, None, unwrap_or}
 use Rattle.std.specs.Option.{option_map}
 use Rattle.sdb_types.specs.declared.key.Key.{Key}

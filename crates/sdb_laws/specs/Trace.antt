@@ -25,7 +25,7 @@ IsTraced places opening [] (s ∷ ss) = ⊥
 IsTraced places opening (p ∷ past) [] = ⊥
 IsTraced places opening (p ∷ past) (s ∷ ss) = IsTraced places opening past ss × Effect places p.event (closing opening ss) s
 
--- nothing stands at any key
+-- nothing is at any key
 abbrev pub StartsEmpty : List Place → List Shelf → Type 0
 StartsEmpty places opening = (k : Key) → standing places opening k ≡ None
 

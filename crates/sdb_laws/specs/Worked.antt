@@ -135,7 +135,7 @@ lost_decision =
     ∷ plays (Decides two Silence) (event.Call 2 (codes "ordered") (put_row two) Lost reply.Fault None)
     ∷ second_run updates update_text
 
--- It stops behind its put of COMMITTED; client 3 finds what it prepared, then its row, and rolls it forward, reads it, checks
+-- It stops after its put of COMMITTED; client 3 finds what it prepared, then its row, and rolls it forward, reads it, checks
 -- it and commits.
 abbrev pub recovery : List Played
 recovery =
@@ -179,7 +179,7 @@ prepared_twice =
     plays (Prepares two account Yes) (call 2 (ask.PutIf (prepared updates two) (condition.Version (id one) state.Committed)) reply.Applied None)
     ∷ second_run updates update_text
 
--- a roll forward behind the lost decision, without a look
+-- a roll forward after the lost decision, without a look
 abbrev pub rolled_blindly : List Played
 rolled_blindly =
     ending two (Rolls two account Committed) (call 2 (ask.PutIf (forward updates two) (condition.Version (id two) state.Prepared)) reply.Applied (Some answer.Committed))

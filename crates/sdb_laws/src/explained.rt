@@ -1,4 +1,4 @@
-//! The invariant of every moment, in the words of the model: which records stand at the stores, and which event put them.
+//! The invariant of every moment, in the words of the model: which records are in the stores, and which event put them.
 ghost use Rattle.std.specs.Prelude.{◌≡◌, ◌≤◌, ℕ, List, None, length};
 ghost use Rattle.sdb_schema.specs.declared.table.Table.{Table};
 ghost use Rattle.sdb_record.specs.Coordinator.{coordinator_table};
@@ -31,7 +31,7 @@ pub fn unresolved_is_prepared()
     ensures { (plan : ℕ → Plan) (places : List Place) (opening : List Shelf) (played : List Played) (moments : List (List Shelf)) (catalog : List Table) (n : ℕ) → IsRunOf plan places opening (newest_first played) (newest_first moments) → find_table catalog coordinator_table ≡ None → n ≤ length moments → UnresolvedPrepared catalog places (events_of played) opening moments n }
 {}
 
-/// At each moment what a transaction without a row has prepared stands.
+/// At each moment what a transaction without a row has prepared is there.
 pub fn prepared_record_stands()
     ensures { (plan : ℕ → Plan) (places : List Place) (opening : List Shelf) (played : List Played) (moments : List (List Shelf)) (catalog : List Table) (n : ℕ) → IsRunOf plan places opening (newest_first played) (newest_first moments) → find_table catalog coordinator_table ≡ None → n ≤ length moments → PreparedStands catalog places (events_of played) opening moments n }
 {}
@@ -41,8 +41,8 @@ pub fn unchanged_is_resolved()
     ensures { (plan : ℕ → Plan) (places : List Place) (opening : List Shelf) (played : List Played) (moments : List (List Shelf)) (catalog : List Table) → IsRunOf plan places opening (newest_first played) (newest_first moments) → find_table catalog coordinator_table ≡ None → UnchangedResolved catalog places (events_of played) opening moments }
 {}
 
-/// After the events of a run whose parts are those that the texts tell, each key that a recorded transaction wrote shows what it left
-/// there, or what a later one did.
+/// After the events of a run whose parts are those that the texts say, each key that a recorded transaction wrote shows what it
+/// left there, or what a later one did.
 pub fn writes_stand()
     ensures { (plan : ℕ → Plan) (places : List Place) (opening : List Shelf) (played : List Played) (moments : List (List Shelf)) (catalog : List Table) → IsRunOf plan places opening (newest_first played) (newest_first moments) → find_table catalog coordinator_table ≡ None → IsFaithful (events_of played) (newest_first played) → WritesStand catalog places (events_of played) opening moments }
 {}

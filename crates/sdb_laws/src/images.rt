@@ -23,7 +23,7 @@ pub fn earlier_prepare_had_row()
     ensures { (plan : ℕ → Plan) (places : List Place) (opening : List Shelf) (past : List Played) (ss : List (List Shelf)) → IsRunOf plan places opening past ss → EarlierPrepareHadRow (history plan places opening past ss) }
 {}
 
-/// Recorded writers of a key stand in one order by prepare and by point.
+/// Recorded writers of a key are in one order by prepare and by point.
 pub fn writers_in_order()
     ensures { (plan : ℕ → Plan) (places : List Place) (opening : List Shelf) (past : List Played) (ss : List (List Shelf)) → IsRunOf plan places opening past ss → WritersInOrder plan (history plan places opening past ss) }
 {}

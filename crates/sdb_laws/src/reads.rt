@@ -23,8 +23,8 @@ pub fn reads_current()
     ensures { (plan : ℕ → Plan) (places : List Place) (opening : List Shelf) (past : List Played) (ss : List (List Shelf)) → IsRunOf plan places opening past ss → ReadsCurrent plan (history plan places opening past ss) }
 {}
 
-/// A transaction without a row whose prepares stand, and a recorded one with a later point, have nothing in common: so the first
-/// may still be recorded, and stand before the other.
+/// A transaction without a row whose prepares are there, and a recorded one with a later point, have nothing in common: so the
+/// first may still be recorded, and come before the other.
 pub fn middle()
     ensures { (plan : ℕ → Plan) (places : List Place) (opening : List Shelf) (past : List Played) (ss : List (List Shelf)) → IsRunOf plan places opening past ss → Middle plan (history plan places opening past ss) }
 {}

@@ -1,4 +1,4 @@
-//! Laws in the words of the model, where the parts that are played are those that the texts of the events tell.
+//! Laws in the words of the model, where the parts that are played are those that the texts of the events say.
 ghost use Rattle.std.specs.Prelude.{◌≡◌, ◌<◌, ◌≤◌, ◌^◌, ℕ, List, All, Some, length, map};
 ghost use Rattle.sdb_record.specs.declared.coordinator.Decision.TheVariants.{Committed};
 ghost use Rattle.sdb_model.specs.declared.event.Point.{Point};

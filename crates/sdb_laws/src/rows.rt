@@ -40,12 +40,12 @@ pub fn settled_is_firm()
     ensures { (plan : ℕ → Plan) (places : List Place) (opening : List Shelf) (past : List Played) (ss : List (List Shelf)) → IsRunOf plan places opening past ss → SettledIsFirm plan (history plan places opening past ss) past }
 {}
 
-/// What a transaction prepared stands while it has no row.
+/// What a transaction prepared stays while it has no row.
 pub fn prepared_stands()
     ensures { (plan : ℕ → Plan) (places : List Place) (opening : List Shelf) (past : List Played) (ss : List (List Shelf)) → IsRunOf plan places opening past ss → PreparedStands plan places (history plan places opening past ss) (closing opening ss) }
 {}
 
-/// Nothing of an aborted transaction stands in state 3, nor as a row before.
+/// Nothing of an aborted transaction is in state 3, nor as a row before.
 pub fn aborted_gone()
     ensures { (plan : ℕ → Plan) (places : List Place) (opening : List Shelf) (past : List Played) (ss : List (List Shelf)) → IsRunOf plan places opening past ss → AbortedGone plan places (history plan places opening past ss) (closing opening ss) }
 {}

@@ -11,12 +11,12 @@ ghost use Rattle.sdb_model.specs.Transactions.{last_prepare};
 ghost use Rattle.sdb_laws.specs.Trace.{closing, history, has_effect, IsTraced};
 ghost use Rattle.sdb_laws.specs.Explained.{IsRunOf, IsDenied, IsTold, StoodBefore, newest_first, events_of};
 
-/// What was said is a matter of the events alone: the history tells the same of it whatever the trace.
+/// What was said is a matter of the events alone: the history says the same of it whatever the trace.
 pub fn talk_is_said()
     ensures { (plan : ℕ → Plan) (places : List Place) (opening : List Shelf) (past : List Played) (ss : List (List Shelf)) → IsRunOf plan places opening past ss → talk past ≡ (history plan places opening past ss).talk }
 {}
 
-/// Before a prepare that took effect there stood what it is rolled back to.
+/// Before a prepare that took effect there was what it is rolled back to.
 pub fn stood_before()
     ensures { (plan : ℕ → Plan) (places : List Place) (opening : List Shelf) (past : List Played) (p : Played) (ss : List (List Shelf)) (s : List Shelf) (t : ℕ) (k : Key) (word : Word) → IsRunOf plan places opening (p ∷ past) (s ∷ ss) → p.role ≡ Prepares t k word → has_effect places p.event (closing opening ss) s ≡ true → StoodBefore plan places (closing opening ss) t k }
 {}

@@ -78,7 +78,7 @@ abbrev pub IsWaiting : Option Said → Type 0
 IsWaiting None = ⊥
 IsWaiting (Some w) = Unit {0}
 
--- Where a client stands, what it runs is its open transaction.
+-- Where a client is, what it runs is its open transaction.
 abbrev pub HandOk : Option Statement → Telling → Execution → ClientAt → Type 0
 HandOk doing x r Resting = IsClosed x.rest × (x.waiting ≡ None)
 HandOk doing x r (Open i seen) = IsOpened x.rest × (x.waiting ≡ None) × (r.seen ≡ seen)
@@ -87,7 +87,7 @@ HandOk doing x r (Committing p s) = IsOpened x.rest × IsCommitting x.waiting
 HandOk doing x r (Sweeping v) = IsClosed x.rest × IsWaiting x.waiting
 HandOk doing x r Stopped = Unit {0}
 
--- What is so of a client: of each of its transactions, with what each ran, the first at 0, and where it stands.
+-- What is so of a client: of each of its transactions, with what each ran, the first at 0, and where it is.
 pub record ClientGoes (catalog : List Table) (fit : Tables → Bool) (plan : ℕ → Plan) (past : List Played) (c : ℕ) (doing : Option Statement) (stands : ClientAt) (x : Telling) (ran : ℕ → Execution) : Type 0 where
   pub ended : EndedOk catalog fit plan past c x.whole ran
   pub opened : OpenedOk catalog fit plan past (number c (length x.whole)) x.rest (ran (length x.whole))
@@ -95,8 +95,8 @@ pub record ClientGoes (catalog : List Table) (fit : Tables → Bool) (plan : ℕ
 
 ---- all clients
 
--- The events so far, with parts that keep the rules, tied to the clients where they stand, to the statements that they run, and to what
--- these read.
+-- The events so far, with parts that keep the rules, tied to the clients where they are, to the statements that they run, and to
+-- what these read.
 pub record IsGoing (catalog : List Table) (fit : Tables → Bool) (events : List Event) (sys : SystemAt) (doing : ℕ → Option Statement) : Type 0 where
   pub plan : ℕ → Plan
   pub played : List Played

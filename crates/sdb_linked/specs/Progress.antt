@@ -32,7 +32,7 @@ use Rattle.sdb_story.specs.Body.{AnswersOn, IsCovered}
 use Rattle.sdb_story.specs.Left.{IsFitting}
 use Rattle.sdb_linked.specs.Going.{IsGoing, IsInner}
 
--- The events so far over a catalog, the clients as they stand and the statements that they run, and what ties these together.
+-- The events so far over a catalog, the clients as they are and the statements that they run, and what ties these together.
 pub record Progress : Type 0 where
   pub catalog : List Table
   pub fit : Tables → Bool
@@ -45,15 +45,15 @@ pub record Progress : Type 0 where
 abbrev pub GoesAs : Progress → SystemAt → (ℕ → Option Statement) → Type 0
 GoesAs p sys doing = IsGoing p.catalog p.fit p.events sys doing
 
--- After one more event it is so of clients that stand so, where one of them runs that statement.
+-- After one more event it is so of clients in these states, where one of them runs that statement.
 abbrev pub After : Progress → ℕ → Event → SystemAt → Option Statement → Type 0
 After p c e sys st = IsGoing p.catalog p.fit (p.events ++ e ∷ []) sys (at p.doing c st)
 
--- A text of a client was taken and was answered so, or waits; and then the client stands so and runs that statement.
+-- A text of a client was taken and was answered so, or waits; and then the client is in this state and runs that statement.
 abbrev pub AfterTake : Progress → ℕ → List ℕ → Option Answer → ClientAt → Option Statement → Type 0
 AfterTake p c text answer y st = After p c (event.Take c text answer) (with_client p.sys c y) st
 
--- A call was made, and its reply gave that answer, or none; and then its client stands so and runs that statement.
+-- A call was made, and its reply gave that answer, or none; and then its client is in this state and runs that statement.
 abbrev pub AfterReply : Progress → ClientCall → Option Answer → ClientAt → Option Statement → Type 0
 AfterReply p call answer y st = After p call.client (call_event call answer) (with_client p.sys call.client y) st
 
@@ -61,7 +61,7 @@ AfterReply p call answer y st = After p call.client (call_event call answer) (wi
 abbrev pub Runs : Progress → ℕ → Type 0
 Runs p c = (st : Statement) × (p.doing c ≡ Some st)
 
--- These clients stand and run what those of a progress do.
+-- These clients are in the states of those of a progress, and run the same.
 pub record IsSame (p : Progress) (sys : SystemAt) (doing : ℕ → Option Statement) : Type 0 where
   pub clients : (c : ℕ) → p.sys.clients c ≡ sys.clients c
   pub begun : (c : ℕ) → p.sys.begun c ≡ sys.begun c
@@ -77,7 +77,7 @@ pub record Asked (p : Progress) : Type 0 where
   pub seen : Seen
   pub is_open : p.sys.clients client ≡ Open id seen
 
--- Its text was taken and was answered so, or waits; and then the client stands so and runs that statement.
+-- Its text was taken and was answered so, or waits; and then the client is in this state and runs that statement.
 abbrev pub AfterAsked : {p : Progress} → Asked p → Option Answer → ClientAt → Option Statement → Type 0
 AfterAsked {p} q answer y st = AfterTake p q.client q.text answer y st
 
@@ -87,7 +87,7 @@ pub record MayRead {p : Progress} (q : Asked p) (st : Statement) (a : Access) : 
   pub reads : Reads q.text st
   pub inner : IsInner q.text
 
--- where it stands once its COMMIT is taken
+-- where it is once its COMMIT is taken
 abbrev pub committing : {p : Progress} → Asked p → ℤ → ClientAt
 committing q now = let w = work_of q.id now q.seen in commit_left w (preparing w 0)
 

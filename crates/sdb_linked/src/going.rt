@@ -46,8 +46,8 @@ pub fn commits()
     ensures calls { (p : Progress) (r : CommitReply p.sys) → AfterReply p r.call (answer_at (commit_next r)) (commit_left r.work (commit_next r)) None }
 {}
 
-/// Without an event a COMMIT may be out of memory in place of a conflict; and what is so of clients that stand so is so of clients that
-/// stand the same.
+/// Without an event a COMMIT may be out of memory in place of a conflict; and what is so of clients is so of clients in the
+/// same states.
 pub fn moves()
     ensures starves { (p : Progress) (c : ℕ) (w : Work) (s : Stage) → p.sys.clients c ≡ Committing w s → GoesAs p (with_client p.sys c (Committing w (starved s))) p.doing }
     ensures same { (p : Progress) (other : SystemAt) (others : ℕ → Option Statement) → IsSame p other others → GoesAs p other others }

@@ -103,7 +103,7 @@ catalog_in text = option_map_or described (json_of text) (Err fault.NotJson)
 abbrev pub described_table : TableName → List ℕ → Result (List Table) SchemaFault
 described_table name text = option_map_or (λ d. described_tables ((name, d) ∷ [])) (read text) (Err fault.NotJson)
 
--- A fault that comes of an outcome; want of memory may stand in the place of any outcome.
+-- A fault that comes of an outcome; out of memory may be returned in the place of any outcome.
 abbrev pub Faults : {A : Type 0} → Result A SchemaFault → SchemaFault → Type 0
 Faults r fault.NotJson = r ≡ Err fault.NotJson
 Faults r fault.NotAnObject = r ≡ Err fault.NotAnObject

@@ -1,5 +1,5 @@
--- What a table's value in a schema says: which of its members are of their form, and what stands in them. The members of an
--- object stand in the order of their names, each once.
+-- What a table's value in a schema says: which of its members are of their form, and what is in them. The members of an
+-- object are in the order of their names, each once.
 use Rattle.std.specs.Prelude.{ℕ, Bool, true, false, ◌&&◌, if◌then◌else◌, List, [], ◌∷◌, codes, Option, Some, None, is_some, is_none}
 use Rattle.std.specs.Option.{option_map, option_map_or, option_and_then}
 use Rattle.std.specs.List.{filter_map, cons_option}
@@ -84,7 +84,7 @@ bad_member d =
 abbrev pub is_untransactional : Data → Bool
 is_untransactional d = option_map_or (λ b. if b then false else true) (option_and_then as_bool (get transaction d)) false
 
----- what stands in the members
+---- what is in the members
 
 abbrev pub list_of : Items → List Data
 list_of no_items = []

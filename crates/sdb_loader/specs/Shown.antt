@@ -11,7 +11,7 @@ use Rattle.sdb_loader.specs.declared.fault.SchemaFault.TheVariants as fault
 abbrev pub shown : Named → TableName × Data
 shown t = (t.name, view t.value.now)
 
--- the fault of a refused table; want of memory may stand in its place
+-- the fault of a refused table; out of memory may be returned in its place
 abbrev pub IsRefusedAs : Option (TableName × TableRefused) → SchemaFault → Type 0
 IsRefusedAs r fault.NotJson = ⊥
 IsRefusedAs r fault.NotAnObject = ⊥

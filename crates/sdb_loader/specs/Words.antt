@@ -62,11 +62,11 @@ abbrev pub order_around : List ℕ → Option (List ℕ × List ℕ) → Option 
 order_around text None = ordered_by text Asc
 order_around text (Some p) = option_and_then (ordered_by p.0) (direction_named p.1)
 
--- the clustering column that a text is: a column's name alone, which ascends, or with one space and a direction behind it
+-- the clustering column that a text is: a column's name alone, which ascends, or with one space and a direction after it
 unfoldable pub order_named : List ℕ → Option Order
 order_named text = order_around text (around 32 text)
 
--- A text has the form of a clustering column: the column's name alone, which ascends, or with one space and a direction behind it.
+-- A text has the form of a clustering column: the column's name alone, which ascends, or with one space and a direction after it.
 abbrev pub IsOrderText : List ℕ → Order → Type 0
 IsOrderText text o =
     (is_column_name o.name ≡ true)

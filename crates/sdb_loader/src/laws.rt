@@ -15,7 +15,7 @@ pub fn table_texts()
     ensures named { (t : TableName) → names_table t.ns t.table ≡ true → table_named (table_text t) ≡ Some t }
 {}
 
-/// A text is a clustering column where it is a column's name alone, which ascends, or has one space and a direction behind
+/// A text is a clustering column where it is a column's name alone, which ascends, or has one space and a direction after
 /// the name, and nowhere else.
 pub fn order_texts()
     ensures alone { (name : List ℕ) → is_column_name name ≡ true → order_named name ≡ Some (record { name = name; direction = Asc }) }

@@ -31,7 +31,7 @@ fn value_of(alloc: Global, json: &[u8]) -> Result<Value, SchemaFault>
     }
 }
 
-// Adds a table whose name stands above the names of the catalog.
+// Adds a table whose name is above the names of the catalog.
 fn put(catalog: &mut Catalog, table: Table) -> Result<(), SchemaFault>
     requires table { is_table table ≡ true }
     requires room { length catalog.old < 64 }

@@ -127,7 +127,7 @@ fn ordered_by(alloc: Global, name: &str, direction: Direction) -> Result<Option<
     }
 }
 
-/// The clustering column that a text is: a name, and ASC or DESC in any case behind one space, or nothing.
+/// The clustering column that a text is: a name, and ASC or DESC in any case after one space, or nothing.
 #[tactic(auto, unfolding(crate::specs::Words::order_named))]
 pub fn order_named(alloc: Global, text: &str) -> Result<Option<Order>, NoMemory>
     ensures { IfOk result (λ order. order ≡ order_named_lem text.now) }

@@ -111,7 +111,7 @@ records_shown r = records_read r
 abbrev pub record_among : List Record → Key → Option Record
 record_among rows key = find (λ r. is_eq (key_cmp r.key key)) rows
 
--- what a reply says to stand at the one key that was asked
+-- what a reply says is at the one key that was asked
 abbrev pub standing_said : Reply → Option (Option Record)
 standing_said (reply.Found found) = Some found
 standing_said (reply.NotMet found) = Some found

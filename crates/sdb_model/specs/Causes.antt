@@ -218,7 +218,7 @@ IsBad r = (name : List ℕ) × MatchBool (is_coordinator_table r.key.table) (dec
 abbrev pub is_fit : List Table → Key → List Pair → Bool
 is_fit catalog key columns = option_map_or (λ t. fits_table t key columns) (find_table catalog key.table) true
 
--- the row that a record stands for, by what the statement's calls showed, doesn't fit its table
+-- the row that a record means, by what the statement's calls showed, doesn't fit its table
 abbrev pub is_misfit : List Table → List Made → Record → Bool
 is_misfit catalog calls r = not (is_coordinator_table r.key.table) && option_map_or (λ columns. not (is_fit catalog r.key columns)) (option_and_then row_of_image (resolved calls r)) false
 

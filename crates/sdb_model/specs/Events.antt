@@ -47,7 +47,7 @@ table_asked (ask.Scan span) = span.table
 table_asked (ask.PutIf rec condition) = rec.key.table
 table_asked (ask.DeleteIf key condition) = key.table
 
--- What a call does to its store. Seen: the store's reply and its effect, or want of memory and no effect. Lost: the
+-- What a call does to its store. Seen: the store's reply and its effect, or out of memory and no effect. Lost: the
 -- effect, and a fault for the client. Discarded: no effect, and a fault. Broken: the store itself failed, with its
 -- effect or without.
 abbrev pub IsPerformed : Request → How → Reply → Contents → Contents → Type 0

@@ -125,7 +125,7 @@ passing t tests d = filter (passes t tests) (all_rows d)
 abbrev pub updated : Table → Update → Image → Image
 updated t s r = if passes t s.tests r then record { key = r.key; columns = with_sets t s.sets r.columns } else r
 
--- A statement that names no table of the catalog is refused, and stands in no body.
+-- A statement that names no table of the catalog is refused, and is in no body.
 abbrev pub not_a_table : Answer
 not_a_table = answer.Refused (record { kind = 6; place = 0 })
 

@@ -61,7 +61,7 @@ RowsFinal places early late = (id : TxId) (row : Record) → id.0 < 2 ^ 128 → 
 
 ---- after so many events
 
--- A prepare of a transaction put a record, by the event after `front`: just before it there stood what the record is rolled back
+-- A prepare of a transaction put a record, by the event after `front`: just before it there was what the record is rolled back
 -- to, and just after it the record.
 pub record IsPreparedAfter (places : List Place) (events : List Event) (opening : List Shelf) (moments : List (List Shelf)) (id : TxId) (r : Record) (front : List Event) : Type 0 where
   pub client : ℕ
@@ -81,7 +81,7 @@ abbrev pub UnresolvedPrepared : List Table → List Place → List Event → Lis
 UnresolvedPrepared catalog places events opening moments n = (key : Key) (r : Record) → IsTableKey catalog key → standing places (moment opening moments n) key ≡ Some r → is_in state.Committed r.columns ≡ false
     → (id : TxId) × (front : List Event) × (id_in r.columns ≡ Some id) × (length front < n) × IsPreparedAfter places events opening moments id r front
 
--- A record whose prepare was put by one of the events so far stands as long as its transaction has no row.
+-- A record whose prepare was put by one of the events so far stays as long as its transaction has no row.
 abbrev pub PreparedStands : List Table → List Place → List Event → List Shelf → List (List Shelf) → ℕ → Type 0
 PreparedStands catalog places events opening moments n = (id : TxId) (r : Record) (front : List Event) → id.0 < 2 ^ 128 → IsTableKey catalog r.key → length front < n → IsPreparedAfter places events opening moments id r front
     → standing places (moment opening moments n) (coordinator_key_of id) ≡ None → standing places (moment opening moments n) r.key ≡ Some r
@@ -114,19 +114,19 @@ pub record IsWriter (places : List Place) (events : List Event) (opening : List 
   pub at : r.key ≡ key
   pub prepared : IsPreparedAfter places events opening moments id r front
 
--- what a writer left, which deleted the row where nothing stands
+-- what a writer left, which deleted the row where nothing is there
 abbrev pub IsLeftBy : TxId → Record → Option Record → Type 0
 IsLeftBy id r None = is_in state.Deleted r.columns ≡ true
 IsLeftBy id r (Some image) = id_in image.columns ≡ Some id
 
--- What stands for a key is of this transaction or of a later writer. Nothing does only where such a one deleted the row.
+-- The image of a key is of this transaction or of a later writer. There is none only where such a one deleted the row.
 pub record IsOfOrLater (places : List Place) (events : List Event) (opening : List Shelf) (moments : List (List Shelf)) (key : Key) (id : TxId) (image : Option Record) : Type 0 where
   pub u : TxId
   pub writer : IsWriter places events opening moments key u
   pub later : (u ≡ id) ⊎ (point events id < point events u)
   pub left : IsLeftBy u writer.r image
 
--- What a recorded transaction wrote stands, or what a later one did: each key that it wrote shows so.
+-- What a recorded transaction wrote is there, or what a later one did: each key that it wrote shows so.
 abbrev pub WritesStand : List Table → List Place → List Event → List Shelf → List (List Shelf) → Type 0
 WritesStand catalog places events opening moments = (key : Key) (id : TxId) → IsTableKey catalog key → IsWriter places events opening moments key id → IsOfOrLater places events opening moments key id (image_at places (closing_of events opening moments) key)
 
@@ -156,7 +156,7 @@ ReadsCurrent catalog places events opening moments = (id : TxId) (note : Note) (
 
 ---- the whole
 
--- Which records stand at every moment, and which events put them there.
+-- Which records are there at every moment, and which events put them there.
 pub record StandingExplained (catalog : List Table) (places : List Place) (events : List Event) (opening : List Shelf) (moments : List (List Shelf)) : Type 0 where
   pub committed_recorded : (n : ℕ) → n ≤ length moments → CommittedRecorded catalog places (moment opening moments n)
   pub unresolved_prepared : (n : ℕ) → n ≤ length moments → UnresolvedPrepared catalog places events opening moments n

@@ -15,7 +15,7 @@ use Rattle.sdb_model.specs.declared.script.Move.TheVariants as move
 use Rattle.sdb_model.specs.declared.script.ScriptClient.{ScriptClient}
 use Rattle.sdb_types.specs.Replies.{is_fault}
 
----- where a client stands after the events so far
+---- where a client is after the events so far
 
 abbrev pub takes_by : ℕ → Event → Bool
 takes_by client (event.Take c text answer) = c == client

@@ -21,7 +21,7 @@ decision_at places shelves id = option_and_then (λ row. result_ok (decision_in 
 abbrev pub decision_on : List Place → List Shelf → Record → Option Decided
 decision_on places shelves r = option_and_then (decision_at places shelves) (id_in r.columns)
 
--- the committed image of what stands at a key
+-- the committed image of what is at a key
 abbrev pub image_at : List Place → List Shelf → Key → Option Record
 image_at places shelves key = option_and_then (λ r. image_of r (decision_on places shelves r)) (standing places shelves key)
 

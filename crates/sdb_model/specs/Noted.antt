@@ -42,7 +42,7 @@ version_noted (Scanned scan) key = if in_span scan.span key then Some (version_a
 
 ---- what a statement noted
 
--- The record that a record found stands for, by what the statement's calls showed of its transaction: itself where it is
+-- The record that a found record means, by what the statement's calls showed of its transaction: itself where it is
 -- committed, and else what it is rolled to.
 abbrev pub resolved : List Made → Record → Option Record
 resolved calls r = image_of r (option_and_then (decision_learned calls) (id_in r.columns))
@@ -50,7 +50,7 @@ resolved calls r = image_of r (option_and_then (decision_learned calls) (id_in r
 abbrev pub read_of : Key → Option Record → Read
 read_of key found = record { key = key; version = version_of found }
 
--- the reads of the records that a scan found and that stand for some record
+-- the reads of the records that a scan found and that mean some record
 abbrev pub reads_of : List Made → List Record → List Read
 reads_of calls rows = filter_map (λ r. option_map (λ (image : Record). read_of r.key (Some image)) (resolved calls r)) rows
 

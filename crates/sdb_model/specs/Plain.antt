@@ -1,4 +1,4 @@
--- Plain outcomes: those that a report tells in full, so that no two of them have one report.
+-- Plain outcomes: those that a report shows in full, so that no two of them have one report.
 use Rattle.std.specs.Prelude.{◌≡◌, ◌<◌, ◌^◌, ◌==◌, ℕ, Bool, true, not, ◌&&◌, List, [], ◌∷◌, length, All, Option, IfSome, FitsSigned}
 use Rattle.std.specs.Int.{w64}
 use Rattle.std.specs.List.{list_all}

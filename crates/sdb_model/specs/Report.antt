@@ -52,7 +52,7 @@ abbrev pub found_text_of : Option Record → List ℕ
 found_text_of None = codes "none"
 found_text_of (Some r) = record_text_of r
 
--- how many records, then each record behind a space
+-- how many records, then each record after a space
 abbrev pub records_text_of : List Record → List ℕ
 records_text_of rs = decimal (length rs) ++ flat_map (λ r. codes " " ++ record_text_of r) rs
 

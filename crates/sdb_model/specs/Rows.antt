@@ -24,7 +24,7 @@ same_name a b = is_eq (name_cmp a b)
 abbrev pub order_names : List Order → List Name
 order_names = map (λ o. o.name)
 
--- the value that stands beside a name, or else `rest`
+-- the value that is beside a name, or else `rest`
 abbrev pub value_in : List Name → List Value → Name → Value → Value
 value_in [] vs name rest = rest
 value_in (n ∷ ns) [] name rest = rest

@@ -49,8 +49,8 @@ pub record WasCommitted (places : List Place) (events : List Event) (opening : L
   pub within : (s.taken ≤ at) × (at < end_of events s)
   pub image : row_at places (moment opening moments at) key ≡ row
 
--- A statement's calls showed a row at a key: one of them read the key, and what it found there stands for this row, by what these calls
--- showed of its transaction.
+-- A statement's calls showed a row at a key: one of them read the key, and what it found there means this row, by what these
+-- calls showed of its transaction.
 pub record WasFound (calls : List Made) (key : Key) (row : Option (List Pair)) : Type 0 where
   pub call : Made
   pub found : Option Record

@@ -126,7 +126,7 @@ statement_tokens (statement.Update u) = update_tokens u
 statement_tokens (statement.Delete d) = delete_tokens d
 statement_tokens (statement.Select s) = select_tokens s
 
--- the tokens of a statement, or those with `;` behind
+-- the tokens of a statement, or those with `;` after them
 abbrev pub Spells : Tokens → Statement → Type 0
 Spells ts st = (ts ≡ statement_tokens st) ⊎ (ts ≡ statement_tokens st ++ Mark sign.Semicolon ∷ [])
 
@@ -288,12 +288,12 @@ IsBadToken text at = lexed text ≡ Err (Bad, at)
 abbrev pub IsTooWide : List ℕ → ℕ → Type 0
 IsTooWide text at = lexed text ≡ Err (Wide, at)
 
--- a text is made of tokens, and no statement has the tokens up to this offset as a front
+-- a text is made of tokens, and no statement has the tokens up to this offset as a prefix
 abbrev pub IsNoStatement : List ℕ → ℕ → Type 0
 IsNoStatement text at = (ps : List Placed) × (lexed text ≡ Ok ps) × IsFirstWrong ps (length text) at
 
 -- What a text that is no statement is refused for: 1 for bytes that begin no token and 3 for a number too wide, whichever
--- stands first, and else 2 for tokens that are no statement's.
+-- comes first, and else 2 for tokens that are no statement's.
 abbrev pub Refuses : List ℕ → Refusal → Type 0
 Refuses text r = ((r.kind ≡ 1) × IsBadToken text r.place) ⊎ ((r.kind ≡ 2) × IsNoStatement text r.place) ⊎ ((r.kind ≡ 3) × IsTooWide text r.place)
 
@@ -309,24 +309,24 @@ token_text (Text text) = quoted text
 token_text (Blob bytes) = codes "X'" ++ encode_upper bytes ++ codes "'"
 token_text (Mark s) = sign_text s
 
--- no space stands before these
+-- no space comes before these
 abbrev pub sticks_before : Token → Bool
 sticks_before (Mark sign.Comma) = true
 sticks_before (Mark sign.Close) = true
 sticks_before (Mark sign.Dot) = true
 sticks_before _ = false
 
--- no space stands behind these
+-- no space comes after these
 abbrev pub sticks_behind : Token → Bool
 sticks_behind (Mark sign.Open) = true
 sticks_behind (Mark sign.Dot) = true
 sticks_behind _ = false
 
--- what stands between two tokens: one space, but none before `,` `)` `.` and none behind `(` `.`
+-- what is between two tokens: one space, but none before `,` `)` `.` and none after `(` `.`
 abbrev pub gap : Token → Token → List ℕ
 gap t u = if sticks_behind t || sticks_before u then [] else codes " "
 
--- the tokens behind a first one, each after its gap
+-- the tokens after a first one, each after its gap
 abbrev pub more_text : Token → Tokens → List ℕ
 more_text t [] = []
 more_text t (u ∷ us) = gap t u ++ token_text u ++ more_text u us

@@ -1,4 +1,4 @@
--- The tokens of a statement's text: how each is spelled, which stands where, and the bytes that begin none. The longest
+-- The tokens of a statement's text: how each is spelled, where each is, and the bytes that begin none. The longest
 -- token is taken. Tokens are separated by spaces and tabs, or by nothing where it is clear where one ends.
 use Rattle.std.specs.Prelude.{ℕ, ℤ, pos, negsuc, zero, suc, ◌+◌, ◌-◌, ◌*◌, ◌^◌, ◌==◌, nat_le, nat_lt, Bool, false, not, ◌&&◌, ◌||◌, if◌then◌else◌, List, [], ◌∷◌, ◌++◌, length, map, take, drop, codes, Option, Some, None, is_some, Result, Ok, Err, find, fold}
 use Rattle.std.specs.Char.{to_ascii_lowercase}
@@ -66,13 +66,13 @@ sign_text sign.Close = codes ")"
 sign_text sign.Star = codes "*"
 sign_text sign.Semicolon = codes ";"
 
--- the signs, each before those that are its front
+-- the signs, each before those that are its prefixes
 abbrev pub signs : List Sign
 signs =
     sign.NotEqual ∷ sign.LessOrEqual ∷ sign.GreaterOrEqual ∷ sign.Less ∷ sign.Greater ∷ sign.Equal ∷ sign.Dot ∷ sign.Comma ∷ sign.Open ∷ sign.Close ∷ sign.Star
     ∷ sign.Semicolon ∷ []
 
--- the longest sign at the front
+-- the longest sign at the start
 unfoldable pub sign_of : List ℕ → Option Sign
 sign_of bytes = find (λ s. starts_with ◌==◌ bytes (sign_text s)) signs
 
@@ -110,14 +110,14 @@ abbrev pub word_or_name : List ℕ → Option Keyword → Token
 word_or_name text (Some k) = Word k
 word_or_name text None = name_token text
 
--- how many letters, digits and `_` stand at the front
+-- how many letters, digits and `_` are at the start
 abbrev pub word_len : List ℕ → ℕ
 word_len = prefix_len is_part
 
 unfoldable pub word_at : List ℕ → Lexeme
 word_at bytes = Ok (word_or_name (take (word_len bytes) bytes) (keyword_of (take (word_len bytes) bytes)), word_len bytes)
 
--- a name in double quotes, behind the first of them
+-- a name in double quotes, after the first of them
 unfoldable pub quoted_name_at : List ℕ → Lexeme
 quoted_name_at bytes =
     if begins is_start bytes && begins (λ b. b == 34) (drop (word_len bytes) bytes)
@@ -131,7 +131,7 @@ digits_len = prefix_len is_digit
 abbrev pub digits_value : List ℕ → ℕ
 digits_value = fold (λ n b. n * 10 + (b - 48)) 0
 
--- the number that the digits at the front are
+-- the number that the digits at the start are
 abbrev pub number_of : List ℕ → ℕ
 number_of bytes = digits_value (take (digits_len bytes) bytes)
 
@@ -142,7 +142,7 @@ minus (suc n) = negsuc n
 unfoldable pub number_at : List ℕ → Lexeme
 number_at bytes = if nat_lt (number_of bytes) (2 ^ 63) then Ok (Number (pos (number_of bytes)), digits_len bytes) else Err Wide
 
--- a number below zero, behind its `-`
+-- a number below zero, after its `-`
 unfoldable pub negative_at : List ℕ → Lexeme
 negative_at bytes =
     if not (begins is_digit bytes) then Err Bad
@@ -153,8 +153,8 @@ abbrev pub onto_text : List ℕ → ℕ → Option (List ℕ × ℕ) → Option 
 onto_text front n None = None
 onto_text front n (Some p) = Some (front ++ p.0, n + p.1)
 
--- What a quote encloses, behind the first quote, and how many bytes that takes with the last: a quote ends it, but two
--- quotes stand for one.
+-- What a quote encloses, after the first quote, and how many bytes that takes with the last: a quote ends it, but two
+-- quotes mean one.
 abbrev pub enclosed : List ℕ → Option (List ℕ × ℕ)
 enclosed [] = None
 enclosed (c ∷ []) = if is_single_quote c then Some ([], 1) else None
@@ -166,11 +166,11 @@ abbrev pub text_token : Option (List ℕ × ℕ) → Lexeme
 text_token None = Err Bad
 text_token (Some p) = if is_utf8 p.0 then Ok (Text p.0, p.1 + 1) else Err Bad
 
--- a text, behind its first quote
+-- a text, after its first quote
 unfoldable pub text_at : List ℕ → Lexeme
 text_at bytes = text_token (enclosed bytes)
 
--- where the next quote stands
+-- where the next quote is
 abbrev pub quote_place : List ℕ → ℕ
 quote_place = position_or_len is_single_quote
 
@@ -183,7 +183,7 @@ abbrev pub blob_token : ℕ → Result (List ℕ) FromHexError → Option (Token
 blob_token n (Ok bytes) = Some (Blob bytes, n + 3)
 blob_token n (Err e) = None
 
--- what `X'` or `x'` begins, behind the quote: a blob where all up to the closing quote are pairs of hexadecimal digits
+-- what `X'` or `x'` begins, after the quote: a blob where all up to the closing quote are pairs of hexadecimal digits
 unfoldable pub blob_in : List ℕ → Option (Token × ℕ)
 blob_in bytes = if closes (drop (quote_place bytes) bytes) then blob_token (quote_place bytes) (decode_of (take (quote_place bytes) bytes)) else None
 
@@ -202,7 +202,7 @@ abbrev pub sign_token : Option Sign → Lexeme
 sign_token (Some s) = Ok (Mark s, length (sign_text s))
 sign_token None = Err Bad
 
--- the token at the front
+-- the token at the start
 unfoldable pub token_at : List ℕ → Lexeme
 token_at bytes =
     if begins is_start bytes then letter_at bytes
@@ -239,6 +239,6 @@ lexed text = tokens_from 0 0 text
 
 ---- printing
 
--- a name stands in quotes exactly where it is a keyword
+-- a name is in quotes exactly where it is a keyword
 abbrev pub name_text : List ℕ → List ℕ
 name_text name = if is_some (keyword_of name) then codes "\"" ++ name ++ codes "\"" else name

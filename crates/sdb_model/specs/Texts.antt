@@ -18,7 +18,7 @@ use Rattle.sdb_model.specs.declared.answer.Refusal.{Refusal}
 
 ---- values
 
--- a byte of a text inside quotes: a quote stands twice
+-- a byte of a text inside quotes: a quote is written twice
 abbrev pub doubled : ℕ → List ℕ
 doubled b = if b == 39 then codes "''" else b ∷ []
 
@@ -30,7 +30,7 @@ abbrev pub bool_text_of : Bool → List ℕ
 bool_text_of true = codes "TRUE"
 bool_text_of false = codes "FALSE"
 
--- Numbers are decimal, a BigInt with `L` behind it; a blob is two upper-case hexadecimal digits a byte.
+-- Numbers are decimal, a BigInt with `L` after it; a blob is two upper-case hexadecimal digits a byte.
 abbrev pub value_text_of : Value → List ℕ
 value_text_of value.Null = codes "NULL"
 value_text_of (value.Bool b) = bool_text_of b
@@ -49,7 +49,7 @@ row_text_of vs = codes "(" ++ values_text_of vs ++ codes ")"
 
 ---- keys and records
 
--- the clustering values, behind a semicolon where there are any
+-- the clustering values, after a semicolon where there are any
 abbrev pub clustering_text_of : List Value → List ℕ
 clustering_text_of [] = []
 clustering_text_of (v ∷ vs) = codes ";" ++ values_text_of (v ∷ vs)
@@ -86,7 +86,7 @@ abbrev pub found_columns_text_of : Option Record → List ℕ
 found_columns_text_of None = codes "none"
 found_columns_text_of (Some r) = columns_text_of r.columns
 
--- how many rows, then each row behind a space
+-- how many rows, then each row after a space
 abbrev pub rows_text_of : List (List Value) → List ℕ
 rows_text_of rows = decimal (length rows) ++ flat_map (λ row. codes " " ++ row_text_of row) rows
 

@@ -100,7 +100,7 @@ pub record IsTold (catalog : List Table) (places : List Place) (events : List Ev
 
 ---- real time
 
--- one transaction stands before another in an order
+-- one transaction comes before another in an order
 pub record StandsBefore (order : List Point) (early late : TxId) : Type 0 where
   pub front : List Point
   pub middle : List Point

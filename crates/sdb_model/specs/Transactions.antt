@@ -50,14 +50,14 @@ said_after client ss (n, event.Take c text answer) = if c == client then ss ++ r
 said_after client ss (n, event.Call c store q how r (Some a)) = if c == client then with_answer ss n a else ss
 said_after client ss _ = ss
 
--- A client's statements, in order. The answer to a statement stands in its Take, or in the first later event of that
+-- A client's statements, in order. The answer to a statement is in its Take, or in the first later event of that
 -- client that has an answer.
 abbrev pub said : ℕ → List Event → List Said
 said client events = fold (said_after client) [] (numbered events)
 
 ---- one transaction
 
--- A transaction's id tells its client, by the number, and which of the client's transactions it is, both from 1.
+-- A transaction's id gives its client, by the number, and which of the client's transactions it is, both from 1.
 abbrev pub client_of : TxId → ℕ
 client_of id = id.0 / 2 ^ 64
 
@@ -133,7 +133,7 @@ changes_nothing answer.OpenTransactions = true
 changes_nothing answer.NoMemory = true
 changes_nothing _ = false
 
--- Some answers tell what rows a statement saw.
+-- Some answers say what rows a statement saw.
 abbrev pub is_answered_from_rows : Answer → Bool
 is_answered_from_rows (answer.Rows rows) = true
 is_answered_from_rows (answer.Count n) = true

@@ -45,7 +45,7 @@ pub enum Answer {
     NoMemory,
 }
 
-// By hand: each drop is then one call, where a derived one stands at each place with a call for each field.
+// By hand: each drop is then one call, where a derived one is written out at each exit, with a call for each field.
 impl Drop for Answer {
     fn drop(self) {
         match self {

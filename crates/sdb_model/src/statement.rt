@@ -21,7 +21,7 @@ pub enum Test {
     NotNull(Name),
 }
 
-// By hand: each drop is then one call, where a derived one stands at each place with a call for each field.
+// By hand: each drop is then one call, where a derived one is written out at each exit, with a call for each field.
 impl Drop for Test {
     fn drop(self) {
         match self {
@@ -41,7 +41,7 @@ pub struct Mention {
     pub literal: Option<Value>,
 }
 
-// By hand: each drop is then one call, where a derived one stands at each place with a call for each field.
+// By hand: each drop is then one call, where a derived one is written out at each exit, with a call for each field.
 impl Drop for Mention {
     fn drop(self) {
         let Mention {
@@ -63,7 +63,7 @@ pub struct Insert {
     pub values: Values,
 }
 
-// By hand: each drop is then one call, where a derived one stands at each place with a call for each field.
+// By hand: each drop is then one call, where a derived one is written out at each exit, with a call for each field.
 impl Drop for Insert {
     fn drop(self) {
         let Insert {
@@ -81,7 +81,7 @@ pub struct Update {
     pub tests: Tests,
 }
 
-// By hand: each drop is then one call, where a derived one stands at each place with a call for each field.
+// By hand: each drop is then one call, where a derived one is written out at each exit, with a call for each field.
 impl Drop for Update {
     fn drop(self) {
         let Update {
@@ -98,7 +98,7 @@ pub struct Delete {
     pub tests: Tests,
 }
 
-// By hand: each drop is then one call, where a derived one stands at each place with a call for each field.
+// By hand: each drop is then one call, where a derived one is written out at each exit, with a call for each field.
 impl Drop for Delete {
     fn drop(self) {
         let Delete { table: _, tests: _ } = self;
@@ -114,7 +114,7 @@ pub struct Select {
     pub limit: Option<i64>,
 }
 
-// By hand: each drop is then one call, where a derived one stands at each place with a call for each field.
+// By hand: each drop is then one call, where a derived one is written out at each exit, with a call for each field.
 impl Drop for Select {
     fn drop(self) {
         let Select {
@@ -139,7 +139,7 @@ pub enum Statement {
     Select(Select),
 }
 
-// By hand: each drop is then one call, where a derived one stands at each place with a call for each field.
+// By hand: each drop is then one call, where a derived one is written out at each exit, with a call for each field.
 impl Drop for Statement {
     fn drop(self) {
         match self {

@@ -60,7 +60,7 @@ pub enum Token {
     Sign(Sign),
 }
 
-// By hand: each drop is then one call, where a derived one stands at each place with a call for each field.
+// By hand: each drop is then one call, where a derived one is written out at each exit, with a call for each field.
 impl Drop for Token {
     fn drop(self) {
         match self {
@@ -82,7 +82,7 @@ pub struct Placed {
     pub token: Token,
 }
 
-// By hand: each drop is then one call, where a derived one stands at each place with a call for each field.
+// By hand: each drop is then one call, where a derived one is written out at each exit, with a call for each field.
 impl Drop for Placed {
     fn drop(self) {
         let Placed { at: _, token: _ } = self;

@@ -11,7 +11,7 @@ said_of s = record { taken = s.taken; text = s.text; answer = s.answer; reached 
 abbrev pub all_said : List Said → List SaidOf
 all_said = map said_of
 
--- the event that took the COMMIT by which an open transaction ends, where one more statement stands before the others
+-- the event that took the COMMIT by which an open transaction ends, where one more statement comes before the others
 abbrev pub taken_where : SaidOf → ℕ → ℕ
 taken_where s later = if ends s then (if reads_commit s.text then s.taken else 0) else later
 

@@ -88,7 +88,7 @@ fn points_of(alloc: Global, events: &[Event], ids: &[TxId]) -> Result<Vec<Point>
     Ok(points)
 }
 
-// The ids in order, so that those of one client stand together.
+// The ids in order, so that those of one client are together.
 fn by_client(alloc: Global, ids: &[TxId]) -> Result<Vec<TxId>, NoMemory>
     ensures { IfOk result (λ sorted. IsPermutation ids.now sorted.items) }
 {

@@ -41,7 +41,7 @@ IsUndone p calls = Asks p calls (undone p calls) ⊎ (IsAbortFailed p calls × A
 
 ---- conflicts
 
--- the prepare of a write of the key was not met: what stands there is no longer its base
+-- the prepare of a write of the key was not met: what is there is no longer its base
 pub record IsPrepareMoved (p : Work) (c : Call) (key : Key) (found : Option Record) : Type 0 where
   pub write : Write
   pub among : Contains p.writes write
@@ -60,7 +60,7 @@ pub record IsGetMoved (p : Work) (c : Call) (key : Key) (found : Option Record) 
   pub shown : c.reply ≡ reply.Found found
   pub moved : Moved found read.version
 
--- what stands at a key has moved; at a written key of the span, the base isn't the version that the scan found
+-- what is at a key has moved; at a written key of the span, the base isn't the version that the scan found
 abbrev pub HasMovedThere : Option (Option TxId) → Option Record → Option TxId → Type 0
 HasMovedThere None found version = Moved found version
 HasMovedThere (Some base) found version = same_version base version ≡ false
@@ -136,7 +136,7 @@ pub record IsPassed (k : Check) (c : Call) : Type 0 where
   pub served : is_served c.reply ≡ true
   pub same : difference_in k c.reply ≡ None
 
--- the call in its place behind the prepares is that check, and passed
+-- the call in its place after the prepares is that check, and passed
 abbrev pub HasPassed : Work → List Call → ℕ → Type 0
 HasPassed p calls i = (k : Check) → slice_get (checks p) i ≡ Some k → (c : Call) × (slice_get calls (writes_of p + i) ≡ Some c) × IsPassed k c
 
@@ -145,7 +145,7 @@ pub record IsReady (p : Work) (calls : List Call) : Type 0 where
   pub prepared : (i : ℕ) → IsApplied p calls i
   pub checked : (i : ℕ) → HasPassed p calls i
 
--- It stands at its decision or behind it: every prepare was applied, and every check has passed.
+-- It is at its decision or after it: every prepare was applied, and every check has passed.
 abbrev pub has_passed : Stage → Bool
 has_passed (Deciding d) = true
 has_passed (Forward i) = true
@@ -189,7 +189,7 @@ pub record GoesWell (p : Work) (calls : List Call) : Type 0 where
   pub met : (i : ℕ) (c : Call) → slice_get calls i ≡ Some c → i ≤ calls_before p → is_unmet c.reply ≡ false
   pub same : (i : ℕ) (k : Check) (c : Call) → slice_get (checks p) i ≡ Some k → slice_get calls (writes_of p + i) ≡ Some c → difference_in k c.reply ≡ None
 
--- A COMMIT makes these calls, all of them well, and then stands there.
+-- A COMMIT makes these calls, all of them well, and is then at that stage.
 pub record MakesWell (p : Work) (calls : List Call) (s : Stage) : Type 0 where
   pub makes : Makes p calls s
   pub well : GoesWell p calls

@@ -29,7 +29,7 @@ abbrev pub calls_of_path : Work → List Reply → List Call
 calls_of_path p [] = []
 calls_of_path p (r ∷ past) = with_call (pending p (after p past)) r (calls_of_path p past)
 
--- A COMMIT makes these calls, over replies that they can get, and then stands there.
+-- A COMMIT makes these calls, over replies that they can get, and is then at that stage.
 pub record Makes (p : Work) (calls : List Call) (s : Stage) : Type 0 where
   pub past : List Reply
   pub played : Played p past
@@ -55,7 +55,7 @@ requests_of calls = map (λ c. c.request) calls
 abbrev pub replies_of : List Call → List Reply
 replies_of calls = map (λ c. c.reply) calls
 
--- a reply told that the transaction's row says that
+-- a reply showed that the transaction's row says that
 abbrev pub was_told : Work → Decision → List Call → Bool
 was_told p d calls = list_any (λ c. tells p.id d (Some c.request) c.reply) calls
 

@@ -24,7 +24,7 @@ pub fn made()
 {}
 
 /// The calls hold the replies, each in its turn, and each reply is one that its call can get. The first calls are the
-/// prepares, each after the one before was applied. What was learned of the row is what they tell.
+/// prepares, each after the one before was applied. What was learned of the row is what they say.
 pub fn path()
     ensures replies { (p : Work) (past : List Reply) → Played p past → replies_of (calls_of_path p past) ≡ reverse past }
     ensures fits { (p : Work) (calls : List Call) (s : Stage) → Makes p calls s → AllByRecursion (λ c. CanAnswer c.request c.reply) calls }
@@ -62,7 +62,7 @@ pub fn causes()
 {}
 
 /// Each prepare that it went on from was the call in its place, and was applied; each check that it went on from was the call
-/// in its place behind them, and found what it was to find. So did all of them where the deciding put was asked. Where it
+/// in its place after them, and found what it was to find. So did all of them where the deciding put was asked. Where it
 /// rolls forward, or is answered Committed, that put was applied or the row was shown COMMITTED.
 pub fn places()
     ensures prepared { (p : Work) (calls : List Call) (s : Stage) (i : ℕ) → Makes p calls s → is_prepared i s ≡ true → IsApplied p calls i }

@@ -44,7 +44,7 @@ base_of (w ∷ ws) key = if same_key key w.key then Some (version_of w.base) els
 abbrev pub is_written : List Write → Key → Bool
 is_written ws key = list_any (λ w. same_key key w.key) ws
 
--- the record that stands at a key among rows
+-- the record that is at a key among rows
 abbrev pub record_among : List Record → Key → Option Record
 record_among [] key = None
 record_among (r ∷ rs) key = if same_key key r.key then Some r else record_among rs key
@@ -113,7 +113,7 @@ least (key ∷ keys) = Some (lesser key (least keys))
 abbrev pub keys_among : List Wanted → List Record → List Key
 keys_among ws rows = map (λ w. w.key) ws ++ map (λ r. r.key) rows
 
--- The first key in key order at which the rows are not what is wanted, with what stands there.
+-- The first key in key order at which the rows are not what is wanted, with what is there.
 abbrev pub first_difference : List Wanted → List Record → Option (Key × Option Record)
 first_difference ws rows =
     option_map (λ key. (key, record_among rows key)) (least (filter (differs ws rows) (keys_among ws rows)))
@@ -139,7 +139,7 @@ checks p = checks_of p.writes p.reads p.scans
 abbrev pub changed : Bool → Key → Option Record → Option (Key × Option Record)
 changed same key found = if same then None else Some (key, found)
 
--- the first key at which a check doesn't find what it is to find, with what stands there
+-- the first key at which a check doesn't find what it is to find, with what is there
 abbrev pub difference_at : Request → Target → Reply → Option (Key × Option Record)
 difference_at (ask.Get key) (target.Version version) (reply.Found found) = changed (is_unchanged found version) key found
 difference_at (ask.Scan span) (target.Rows ws) (reply.Rows rows) = first_difference ws rows

@@ -18,7 +18,7 @@ use Rattle.sdb_phases.specs.Work.{Work, prepares, forwards, backs, abort_of}
 use Rattle.sdb_phases.specs.Checks.{checks}
 use Rattle.sdb_phases.specs.Steps.{prepare_step, touched_after, validate_step, decide_request_at, decide_next}
 
--- Where a COMMIT stands: at a prepare; at a check; at a call of the decision; at a roll forward; having stopped, at the put
+-- Where a COMMIT is: at a prepare; at a check; at a call of the decision; at a roll forward; having stopped, at the put
 -- of ABORTED; at a roll back; ended. A stop keeps what it will answer, and how many writes may have taken effect.
 pub data Stage : Type 0 where
   Preparing : (i : ℕ) → Stage
@@ -101,13 +101,13 @@ abbrev pub after : Work → List Reply → Stage
 after p [] = preparing p 0
 after p (r ∷ past) = step p (after p past) r
 
----- want of memory in place of a conflict
+---- out of memory in place of a conflict
 
 abbrev pub starved_answer : Outcome → Outcome
 starved_answer (outcome.Conflict key found) = outcome.NoMemory
 starved_answer a = a
 
--- The same stage, but that a conflict that a check found is answered as want of memory. Its calls are the same.
+-- The same stage, but that a conflict that a check found is answered as out of memory. Its calls are the same.
 abbrev pub starved : Stage → Stage
 starved (Stopping a n) = Stopping (starved_answer a) n
 starved (Back a n i) = Back (starved_answer a) n i

@@ -42,7 +42,7 @@ is_decision d (Ok decided) = same_decision d decided.decision
 abbrev pub says : TxId → Decision → Record → Bool
 says id d row = same_key row.key (coordinator_key_of id) && is_decision d (decision_in row)
 
--- The reply to a call tells that the transaction's row says that: a get found it, a put of it was applied, or a put was not
+-- The reply to a call shows that the transaction's row says that: a get found it, a put of it was applied, or a put was not
 -- met and found it.
 abbrev pub tells : TxId → Decision → Option Request → Reply → Bool
 tells id d (Some (ask.Get key)) (reply.Found (Some row)) = says id d row
@@ -50,7 +50,7 @@ tells id d (Some (ask.PutIf rec condition)) reply.Applied = says id d rec
 tells id d (Some (ask.PutIf rec condition)) (reply.NotMet (Some row)) = says id d row
 tells id d q r = false
 
--- a record stands at the transaction's coordinator key, and isn't a well formed row
+-- a record is at the transaction's coordinator key, and isn't a well formed row
 abbrev pub is_malformed : TxId → Record → Bool
 is_malformed id row = same_key row.key (coordinator_key_of id) && is_err (decision_in row)
 
@@ -129,7 +129,7 @@ abbrev pub seen : Work → List Reply → Seen
 seen p [] = nothing_seen
 seen p (r ∷ past) = note p (after p past) (seen p past) r
 
--- the deciding put was not made, or had no effect: want of memory changes nothing
+-- the deciding put was not made, or had no effect: out of memory changes nothing
 abbrev pub without_effect : Option Reply → Bool
 without_effect None = true
 without_effect (Some reply.NoMemory) = true
@@ -139,7 +139,7 @@ without_effect (Some r) = false
 abbrev pub is_unrecorded : Seen → Bool
 is_unrecorded h = without_effect h.put || h.aborted
 
--- Its records may be rolled back: the row is ABORTED, or a row stands, and the deciding put had no effect.
+-- Its records may be rolled back: the row is ABORTED, or there is a row, and the deciding put had no effect.
 abbrev pub may_undo : Seen → Bool
 may_undo h = h.aborted || (h.stopped && without_effect h.put)
 
@@ -159,7 +159,7 @@ abbrev pub exact_calls : Work → ℕ
 exact_calls p = 2 * writes_of p + reads_of p + 1
 
 -- Why a COMMIT that isn't committed is answered so: a conflict is of a prepare that was not met or of a check that failed;
--- another has put the row ABORTED; a call faulted. Want of memory needs no reason.
+-- another has put the row ABORTED; a call faulted. Out of memory needs no reason.
 abbrev pub IsCaused : Work → Seen → Outcome → Type 0
 IsCaused p h (outcome.Conflict key found) = h.passed ≡ false
 IsCaused p h (outcome.Expired id) = (id ≡ p.id) × (h.aborted ≡ true)

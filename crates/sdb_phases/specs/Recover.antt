@@ -21,13 +21,13 @@ use Rattle.sdb_phases.specs.declared.step.RecoverPhase.TheVariants as phase
 use Rattle.sdb_phases.specs.Work.{look_of, abort_of, undo}
 use Rattle.sdb_phases.specs.Steps.{CanGet}
 
--- an unresolved record that was found, what its metadata says, and where its recovery stands
+-- an unresolved record that was found, what its metadata says, and where its recovery is
 pub record Recovers : Type 0 where
   pub rec : Record
   pub meta : Meta
   pub phase : RecoverPhase
 
--- the record still stands as it was found
+-- the record is still as it was found
 abbrev pub stands_found : Meta → Condition
 stands_found meta = condition.Version meta.id meta.state
 
@@ -64,7 +64,7 @@ undecided meta now =
     else (phase.Ended, steps.Busy meta.id meta.prepared_at)
 
 -- The coordinator's row is asked for first, and the record is rolled by it; the roll's reply ends it with the record that it
--- was rolled to, whether the roll was applied or something else stood there.
+-- was rolled to, whether the roll was applied or something else was there.
 abbrev pub recover_next : Record → Meta → RecoverPhase → ℤ → Reply → RecoverPhase × RecoverStep
 recover_next rec meta phase.Look now (reply.Found (Some row)) = row_followed meta row
 recover_next rec meta phase.Look now (reply.Found None) = undecided meta now
@@ -83,7 +83,7 @@ recover_next rec meta phase.Back now (reply.NotMet found) = (phase.Ended, steps.
 recover_next rec meta phase.Back now reply.Fault = (phase.Ended, steps.Faulted)
 recover_next rec meta p now r = (phase.Ended, steps.NoMemory)
 
--- the call that follows is made from what the reply told
+-- the call that follows is made from what the reply showed
 abbrev pub makes_call : RecoverPhase → Bool
 makes_call (phase.Abort now) = true
 makes_call (phase.Forward created_at) = true
@@ -93,8 +93,8 @@ abbrev pub may_starve : RecoverPhase × RecoverStep → Bool
 may_starve (p, steps.NoMemory) = true
 may_starve (p, s) = makes_call p
 
--- It stands and answers as the step says. Want of memory may stand in its place, and ends it, only where that is the step or
--- where the step makes a call.
+-- The phase and the answer are those of the step. Out of memory may be returned in their place, and ends it, only where that is
+-- the step or where the step makes a call.
 abbrev pub Gives : RecoverPhase × RecoverStep → RecoverPhase → RecoverStep → Type 0
 Gives want p steps.NoMemory = (p ≡ phase.Ended) × (may_starve want ≡ true)
 Gives want p s = (p ≡ want.0) × (s ≡ want.1)

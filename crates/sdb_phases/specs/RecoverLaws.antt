@@ -27,7 +27,7 @@ abbrev pub was_committed_at : ℤ → Result Decided (List ℕ) → Bool
 was_committed_at at (Err column) = false
 was_committed_at at (Ok d) = elim d.decision [ decision.Committed ↦ int_eq d.created_at at | decision.Aborted ↦ false ]
 
--- The reply to a call tells that the record's transaction is committed, by a row of that moment.
+-- The reply to a call shows that the record's transaction is committed, by a row of that moment.
 abbrev pub tells_committed_at : ℤ → Option Request → Reply → Bool
 tells_committed_at at (Some (ask.Get key)) (reply.Found (Some row)) = was_committed_at at (decision_in row)
 tells_committed_at at (Some (ask.PutIf rec condition)) (reply.NotMet (Some row)) = was_committed_at at (decision_in row)
@@ -67,7 +67,7 @@ abbrev pub heard_malformed : Meta → List Heard → Bool
 heard_malformed meta [] = false
 heard_malformed meta (c ∷ past) = holds_malformed meta.id c.reply
 
--- The image is what a roll leaves: forward, the committed record of the moment of the row that was learned; back, what stood
+-- The image is what a roll leaves: forward, the committed record of the moment of the row that was learned; back, what was
 -- there before, and ABORTED was learned.
 abbrev pub RollsTo : Record → Meta → List Heard → RecoverPhase → Option Record → Type 0
 RollsTo rec meta past (phase.Forward at) image = (image ≡ Some (forward_record rec at)) × (learned_committed rec meta at past ≡ true)

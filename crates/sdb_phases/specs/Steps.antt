@@ -46,7 +46,7 @@ abbrev pub refused : Option Request → Option Record → PrepareStep
 refused (Some (ask.PutIf rec condition)) found = prepare.Conflict rec.key found
 refused q found = prepare.NoMemory
 
--- A prepare that isn't met is a conflict at its key, with what stands there.
+-- A prepare that isn't met is a conflict at its key, with what is there.
 abbrev pub prepare_step : (more : Bool) → Option Request → Reply → PrepareStep
 prepare_step more q reply.Applied = if more then prepare.More else prepare.Done
 prepare_step more q (reply.NotMet found) = refused q found
@@ -87,7 +87,7 @@ abbrev pub judged : (more : Bool) → Option (Key × Option Record) → Validate
 judged more None = if more then validate.More else validate.Valid
 judged more (Some d) = validate.Conflict d.0 d.1
 
--- A check that doesn't find what it is to find is a conflict at the first such key, with what stands there.
+-- A check that doesn't find what it is to find is a conflict at the first such key, with what is there.
 abbrev pub validate_step : (more : Bool) → Option Check → Reply → ValidateStep
 validate_step more c reply.Fault = validate.Faulted
 validate_step more c reply.NoMemory = validate.NoMemory
@@ -105,7 +105,7 @@ validate_at v s = length v.checks
 abbrev pub validate_next : Validates → ValidateStep → Validates
 validate_next v s = record v { at = validate_at v s }
 
--- A conflict's key is copied: want of memory may stand in its place.
+-- A conflict's key is copied: out of memory may be returned in its place.
 abbrev pub may_starve : ValidateStep → Bool
 may_starve (validate.Conflict key found) = true
 may_starve validate.NoMemory = true
@@ -166,7 +166,7 @@ walk_request w = slice_get w.asks w.at
 
 ---- Abort
 
--- the put of the row ABORTED, the roll backs, where it stands, the next roll back, and how many there are to be
+-- the put of the row ABORTED, the roll backs, where it is, the next roll back, and how many there are to be
 pub record Aborting : Type 0 where
   pub row : Request
   pub asks : List Request

@@ -24,15 +24,15 @@ pub record Work : Type 0 where
   pub reads : List Read
   pub scans : List Scan
 
--- Prepare: the prepared record is put, on condition that the base still stands.
+-- Prepare: the prepared record is put, on condition that the base is still there.
 abbrev pub prepare_of : TxId → ℤ → Write → Request
 prepare_of id now w = ask.PutIf (prepared_record w id now) (condition_of (version_of w.base))
 
--- a write's record still stands as it was prepared
+-- a write's record is still as it was prepared
 abbrev pub stands_prepared : TxId → Write → Condition
 stands_prepared id w = condition.Version id (state_of_change w.change)
 
--- Roll forward: the committed record is put, on condition that the record stands as it was prepared.
+-- Roll forward: the committed record is put, on condition that the record is as it was prepared.
 abbrev pub forward_of : TxId → ℤ → Write → Request
 forward_of id now w = ask.PutIf (forward_record (prepared_record w id now) now) (stands_prepared id w)
 
@@ -41,7 +41,7 @@ abbrev pub undo : Condition → Key → Option Record → Request
 undo condition key None = ask.DeleteIf key condition
 undo condition key (Some base) = ask.PutIf base condition
 
--- Roll back: the base again, on condition that the record stands as it was prepared.
+-- Roll back: the base again, on condition that the record is as it was prepared.
 abbrev pub back_of : TxId → Write → Request
 back_of id w = undo (stands_prepared id w) w.key w.base
 

@@ -17,7 +17,7 @@ pub struct Wanted {
     pub wish: Wish,
 }
 
-// By hand: each drop is then one call, where a derived one stands at each place with a call for each field.
+// By hand: each drop is then one call, where a derived one is written out at each exit, with a call for each field.
 impl Drop for Wanted {
     fn drop(self) {
         let Wanted { key: _, wish: _ } = self;
@@ -31,11 +31,11 @@ pub type Wants = Seq<Wanted>;
 pub enum Target {
     /// The version that a get found, or no record.
     Version(Option<TxId>),
-    /// What stands here, in key order, and no other record.
+    /// What is here, in key order, and no other record.
     Rows(Wants),
 }
 
-// By hand: each drop is then one call, where a derived one stands at each place with a call for each field.
+// By hand: each drop is then one call, where a derived one is written out at each exit, with a call for each field.
 impl Drop for Target {
     fn drop(self) {
         match self {
@@ -52,7 +52,7 @@ pub struct Check {
     pub target: Target,
 }
 
-// By hand: each drop is then one call, where a derived one stands at each place with a call for each field.
+// By hand: each drop is then one call, where a derived one is written out at each exit, with a call for each field.
 impl Drop for Check {
     fn drop(self) {
         let Check {

@@ -58,7 +58,7 @@ pub fn commit_calls()
     ensures most { (p : Work) (past : List Reply) → IsWork p → Played p past → length past ≤ most_calls p }
 {}
 
-/// A COMMIT that answers want of memory in place of a conflict makes the same calls, to the end.
+/// A COMMIT that answers out of memory in place of a conflict makes the same calls, to the end.
 pub fn starved_like()
     ensures calls { (p : Work) (s : Stage) → pending p (starved s) ≡ pending p s }
     ensures steps { (p : Work) (s : Stage) (r : Reply) → has_stopped s ≡ true → step p (starved s) r ≡ starved (step p s r) }

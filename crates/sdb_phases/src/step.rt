@@ -1,11 +1,11 @@
-//! What the phases answer to a reply, and where they stand.
+//! What the phases answer to a reply, and where they are.
 use sdb_types::{Key, Record, TxId};
 
 /// What a COMMIT answers.
 #[derive(Debug, Drop, PartialEq, Eq)]
 pub enum Outcome {
     Committed,
-    /// A key that was read is no longer what was read, with what stands there.
+    /// A key that was read is no longer what was read, with what is there.
     Conflict(Key, Option<Record>),
     /// Another has put the transaction's row ABORTED.
     Expired(TxId),
@@ -41,7 +41,7 @@ pub enum ValidateStep {
     NoMemory,
 }
 
-/// The call at which a decision stands.
+/// The call at which a decision is.
 #[derive(Clone, Copy, Debug, PartialEq, Eq)]
 pub enum DecidePhase {
     /// The put of the row COMMITTED.
@@ -68,7 +68,7 @@ pub enum DecideStep {
     NoMemory,
 }
 
-/// The call at which an abort stands.
+/// The call at which an abort is.
 #[derive(Clone, Copy, Debug, PartialEq, Eq)]
 pub enum AbortPhase {
     /// It wasn't started.
@@ -79,7 +79,7 @@ pub enum AbortPhase {
     Rolling,
 }
 
-/// The call at which a recovery stands.
+/// The call at which a recovery is.
 #[derive(Clone, Copy, Debug, PartialEq, Eq)]
 pub enum RecoverPhase {
     /// The look for the row.
@@ -100,7 +100,7 @@ pub enum RecoverPhase {
 pub enum RecoverStep {
     /// Another call is pending.
     More,
-    /// The committed record that the record stands for, or none.
+    /// The committed record that the record means, or none.
     Image(Option<Record>),
     /// The record's transaction may still decide: its id, and when it prepared the record.
     Busy(TxId, i64),

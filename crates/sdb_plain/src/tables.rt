@@ -18,7 +18,7 @@ pub struct PlainTables {
     rows: BTreeMap<Key, Columns>,
 }
 
-// By hand: each drop is then one call, where a derived one stands at each place with a call for each field.
+// By hand: each drop is then one call, where a derived one is written out at each exit, with a call for each field.
 impl Drop for PlainTables {
     fn drop(self) {
         let PlainTables { alloc: _, rows: _ } = self;

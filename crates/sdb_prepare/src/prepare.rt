@@ -22,7 +22,7 @@ pub struct Prepare {
     touched: usize,
 }
 
-// By hand: each drop is then one call, where a derived one stands at each place with a call for each field.
+// By hand: each drop is then one call, where a derived one is written out at each exit, with a call for each field.
 impl Drop for Prepare {
     fn drop(self) {
         let Prepare {

@@ -35,7 +35,7 @@ kind_of r = if is_taken r then (if is_in state.Committed r.columns then Firm els
 
 ---- the stages
 
--- Where a read stands: its rows are asked for; it resolves a record, with the images of the rows before it and the rows left; or it
+-- Where a read is: its rows are asked for; it resolves a record, with the images of the rows before it and the rows left; or it
 -- has ended.
 pub data ReadStage : Type 0 where
   Asking : ReadStage

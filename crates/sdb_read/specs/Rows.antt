@@ -33,7 +33,7 @@ settled_stage settled.All images left = Ended (step.Images images)
 settled_stage (settled.Open r) images left = open_stage (kind_of r) images r left
 settled_stage (settled.Bad key) images left = Ended (step.BadRecord key)
 
--- the rows of a reply, or how it ends the read: out of memory may stand in place of rows
+-- the rows of a reply, or how it ends the read: out of memory may be returned in place of rows
 abbrev pub AreTaken : Reply → Result (List Record) ReadStep → Type 0
 AreTaken r (Ok rows) = answered r ≡ settle [] rows
 AreTaken r (Err s) = (s ≢ step.More) × (s ≢ step.NoMemory → answered r ≡ Ended s)

@@ -20,7 +20,7 @@ use std::mem;
 pub enum ReadStep {
     /// Another call is pending.
     More,
-    /// The committed records that the rows stand for, in the order of their keys.
+    /// The committed records that the rows mean, in the order of their keys.
     Images(Records),
     /// The record at this key is unresolved, and its transaction may still decide: its id, and when it prepared the record.
     Busy(Key, TxId, i64),
@@ -48,7 +48,7 @@ pub struct ReadPhases {
     phase: Phase,
 }
 
-// By hand: each drop is then one call, where a derived one stands at each place with a call for each field.
+// By hand: each drop is then one call, where a derived one is written out at each exit, with a call for each field.
 impl Drop for ReadPhases {
     fn drop(self) {
         let ReadPhases {

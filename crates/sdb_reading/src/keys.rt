@@ -72,7 +72,7 @@ pub fn span_at(alloc: Global, bytes: &[u8]) -> Result<(Span, &[u8]), Unread>
     Ok((Span { table, partition }, rest))
 }
 
-// The name stands above that of the column before, if there is one.
+// The name is above that of the column before, if there is one.
 fn is_above(before: Option<&Pair>, name: &Name) -> bool
     ensures { result ≡ is_above_lem (option_copied before.entry) name.now }
 {

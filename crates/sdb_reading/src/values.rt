@@ -49,7 +49,7 @@ fn text_at(alloc: Global, bytes: &[u8]) -> Result<(Value, &[u8]), Unread>
     Ok((Value::Text(text_of(alloc, text.as_slice())?), rest))
 }
 
-// Where the next quote stands, or the length.
+// Where the next quote is, or the length.
 fn quote_place(bytes: &[u8]) -> usize
     ensures place { result ≡ prefix_len spec.is_unquoted bytes.now }
     ensures within { result ≤ length bytes.now }

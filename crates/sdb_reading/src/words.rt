@@ -27,7 +27,7 @@ pub fn after<'a>(word: &[u8], bytes: &'a [u8]) -> Option<&'a [u8]>
     Some(rest)
 }
 
-/// The same, of a word that has to stand there.
+/// The same, of a word that has to be there.
 pub fn expect<'a>(word: &[u8], bytes: &'a [u8]) -> Result<&'a [u8], Unread>
     ensures { Gives (λ x. x.now) result (spec.after word.now bytes.now) }
 {

@@ -10,7 +10,7 @@ use Rattle.sdb_record.specs.Names.{same_name}
 abbrev pub is_id_with_text : List ℕ → ℕ → Bool
 is_id_with_text text n = nat_lt n (2 ^ 128) && same_name text (id_text n)
 
--- the id whose text this is, of the bytes that the text stands for
+-- the id whose text this is, of the bytes that the text means
 abbrev pub id_with_text : List ℕ → Option (List ℕ) → Option TxId
 id_with_text text None = None
 id_with_text text (Some bytes) =

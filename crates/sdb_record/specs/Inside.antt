@@ -26,7 +26,7 @@ abbrev pub name_from : Part → List ℕ → List ℕ
 name_from Own name = name
 name_from Before name = before_name name
 
--- the name that a column has in a part, if it stands there
+-- the name that a column has in a part, if it is there
 abbrev pub name_within : Part → List ℕ → Option (List ℕ)
 name_within Own name = Some name
 name_within Before name = base_name name

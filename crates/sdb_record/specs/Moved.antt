@@ -1,4 +1,4 @@
--- Versions, and whether what was read still stands.
+-- Versions, and whether what was read is still there.
 use Rattle.std.specs.Prelude.{◌≡◌, Bool, true, false, ◌==◌, Option, Some, None}
 use Rattle.sdb_types.specs.declared.txid.TxId.{TxId}
 use Rattle.sdb_types.specs.declared.record.Record.{Record}
@@ -8,7 +8,7 @@ use Rattle.sdb_types.specs.declared.record.Condition.TheVariants as condition
 use Rattle.sdb_types.specs.Contents.{holds}
 use Rattle.sdb_record.specs.Meta.{id_in}
 
--- the version of what stands at a key: the transaction that wrote it, or none where there is no record
+-- the version of what is at a key: the transaction that wrote it, or none where there is no record
 abbrev pub version_of : Option Record → Option TxId
 version_of None = None
 version_of (Some r) = id_in r.columns
@@ -19,7 +19,7 @@ same_version None (Some b) = false
 same_version (Some a) None = false
 same_version (Some a) (Some b) = a.0 == b.0
 
--- the condition that a version that was read still stands: the committed record of that transaction, or none
+-- the condition that a version that was read is still there: the committed record of that transaction, or none
 abbrev pub condition_of : Option TxId → Condition
 condition_of None = condition.Absent
 condition_of (Some id) = condition.Version id state.Committed

@@ -28,7 +28,7 @@ before_prefix = codes "before_"
 abbrev pub before_name : List ℕ → List ℕ
 before_name name = before_prefix ++ name
 
--- what follows this front in a text that begins with it
+-- what follows this prefix in a text that begins with it
 abbrev pub after_front : List ℕ → List ℕ → Option (List ℕ)
 after_front [] text = Some text
 after_front (c ∷ cs) [] = None

@@ -7,7 +7,7 @@ abbrev pub IfBad : MetaRefused → (List ℕ → Type 0) → Type 0
 IfBad (BadMeta name) P = P name
 IfBad NoMemory P = Unit {0}
 
--- A refusal is that of a check which failed, and names the column; want of memory may stand in its place.
+-- A refusal is that of a check which failed, and names the column; out of memory may be returned in its place.
 abbrev pub Refuses : {A : Type 0} → Result A (List ℕ) → MetaRefused → Type 0
 Refuses checked (BadMeta name) = checked ≡ Err name
 Refuses checked NoMemory = IsErr checked

@@ -118,15 +118,15 @@ abbrev pub image_under : Record → Option Decided → Option Record
 image_under r None = before_record r
 image_under r (Some d) = elim d.decision [ decision.Committed ↦ Some (forward_record r d.created_at) | decision.Aborted ↦ before_record r ]
 
--- The committed record that a record stands for, under the coordinator's row of its transaction: itself in state 3, else
--- itself rolled forward where the row is COMMITTED, else its before image, or none. A tombstone stands for itself.
+-- The committed record that a record means, under the coordinator's row of its transaction: itself in state 3, else
+-- itself rolled forward where the row is COMMITTED, else its before image, or none. A tombstone means itself.
 abbrev pub image_of : Record → Option Decided → Option Record
 image_of r decided = if is_in state.Committed r.columns then Some r else image_under r decided
 
 abbrev pub is_tombstone : Record → Bool
 is_tombstone r = has_value (column r.columns tx_tombstone) (value.Bool true)
 
--- a tombstone is deleted on condition that it still stands
+-- a tombstone is deleted on condition that it is still there
 abbrev pub remove_request : Record → Option Request
 remove_request b = option_map (λ id. ask.DeleteIf b.key (condition.Version id state.Committed)) (id_in b.columns)
 

@@ -10,7 +10,7 @@ pub enum Access {
     Scan(Span),
 }
 
-// By hand: each drop is then one call, where a derived one stands at each place with a call for each field.
+// By hand: each drop is then one call, where a derived one is written out at each exit, with a call for each field.
 impl Drop for Access {
     fn drop(self) {
         match self {
@@ -27,7 +27,7 @@ pub struct Image {
     pub columns: Columns,
 }
 
-// By hand: each drop is then one call, where a derived one stands at each place with a call for each field.
+// By hand: each drop is then one call, where a derived one is written out at each exit, with a call for each field.
 impl Drop for Image {
     fn drop(self) {
         let Image { key: _, columns: _ } = self;
@@ -44,7 +44,7 @@ pub struct Read {
     pub version: Option<TxId>,
 }
 
-// By hand: each drop is then one call, where a derived one stands at each place with a call for each field.
+// By hand: each drop is then one call, where a derived one is written out at each exit, with a call for each field.
 impl Drop for Read {
     fn drop(self) {
         let Read { key: _, version: _ } = self;
@@ -60,7 +60,7 @@ pub struct Scan {
     pub found: Reads,
 }
 
-// By hand: each drop is then one call, where a derived one stands at each place with a call for each field.
+// By hand: each drop is then one call, where a derived one is written out at each exit, with a call for each field.
 impl Drop for Scan {
     fn drop(self) {
         let Scan { span: _, found: _ } = self;

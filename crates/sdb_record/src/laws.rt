@@ -66,7 +66,7 @@ pub fn version_is_writer()
     ensures writer { (r : Record) (id : TxId) (s : State) → id.0 < 2 ^ 128 → is_version id s r ≡ true → id_in r.columns ≡ Some id }
 {}
 
-/// A coordinator row stands at its transaction's key, and its decision is read back.
+/// A coordinator row is at its transaction's key, and its decision is read back.
 pub fn row_is_decision()
     ensures key { (id : TxId) (d : Decision) (created_at : ℤ) → (coordinator_row_of id d created_at).key ≡ coordinator_key_of id }
     ensures id { (id : TxId) → id.0 < 2 ^ 128 → id_of_key (coordinator_key_of id) ≡ Some id }

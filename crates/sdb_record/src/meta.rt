@@ -120,7 +120,7 @@ fn tombstone_of(committed: bool, value: Option<&Value>) -> Option<bool>
     }
 }
 
-// A column of a part that stands there though it may not, or whose name is too long.
+// A column of a part that is there though it may not be, or whose name is too long.
 fn is_stray(part: Part, name: &str, forbidden: bool) -> bool
     ensures { result ≡ passes_name (is_stray_name forbidden) (name_within part name.now) }
 {
@@ -323,7 +323,7 @@ pub fn refused(alloc: Global, name: &str) -> MetaRefused
     }
 }
 
-// The columns of a record stand in order, and each has a name.
+// The columns of a record are in order, and each has a name.
 fn are_stored(columns: &Columns)
     ensures { are_stored columns.now ≡ true }
 {
@@ -333,7 +333,7 @@ fn are_stored(columns: &Columns)
     }
 }
 
-/// The metadata of a transactional record, or the first column that fails. Want of memory can only stand in place of
+/// The metadata of a transactional record, or the first column that fails. Out of memory is returned only in place of
 /// such a refusal.
 pub fn meta_of(alloc: Global, rec: &Record) -> Result<Meta, MetaRefused>
     ensures ok { IfOk result (λ meta. checked rec.now.columns ≡ Ok meta) }

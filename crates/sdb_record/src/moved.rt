@@ -1,4 +1,4 @@
-//! Whether what was read still stands.
+//! Whether what was read is still there.
 ghost use Rattle.std.specs.Prelude.{◌≡◌};
 ghost use Rattle.sdb_types.specs.declared.value.Value.TheVariants as value;
 ghost use Rattle.sdb_types.specs.Columns.{column};
@@ -27,7 +27,7 @@ fn is_written_by(columns: &Columns, id: TxId) -> bool
     }
 }
 
-/// The version of what stands at a key: the transaction that wrote it, or none where there is no record.
+/// The version of what is at a key: the transaction that wrote it, or none where there is no record.
 pub fn version_of(found: &Option<Record>) -> Option<TxId>
     ensures { result ≡ version_of found.now }
 {
@@ -48,7 +48,7 @@ pub fn is_same_version(a: Option<TxId>, b: Option<TxId>) -> bool
     }
 }
 
-/// The condition that a version that was read still stands.
+/// The condition that a version that was read is still there.
 pub fn condition_of(version: Option<TxId>) -> Condition
     ensures { result ≡ condition_of version }
 {

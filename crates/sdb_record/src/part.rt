@@ -1,4 +1,4 @@
-//! Names of columns, and the parts of a record that they stand in.
+//! Names of columns, and the parts of a record that they are in.
 ghost use Rattle.std.specs.Prelude.{◌≡◌, true, IfSome};
 ghost use Rattle.std.specs.Option.{option_copied};
 ghost use Rattle.sdb_types.specs.Columns.{column};
@@ -114,7 +114,7 @@ impl Part {
     ghost use Rattle.std.specs.Option.{option_copied};
     ghost use Rattle.sdb_record.specs.Inside.{name_within};
 
-    /// The name that a column has in the part, if it stands there.
+    /// The name that a column has in the part, if it is there.
     pub fn name_within(self, name: &str) -> Option<&str>
         ensures { option_copied result ≡ name_within self name.now }
     {

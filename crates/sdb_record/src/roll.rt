@@ -16,14 +16,14 @@ use sdb_types::{
 };
 use std::alloc::Global;
 
-/// What undoes an unresolved record: putting the record that stood before, or removing it.
+/// What undoes an unresolved record: putting the record that was there before, or removing it.
 #[derive(Debug, PartialEq, Eq)]
 pub enum Back {
     Put(Record),
     Remove(Key),
 }
 
-// By hand: each drop is then one call, where a derived one stands at each place with a call for each field.
+// By hand: each drop is then one call, where a derived one is written out at each exit, with a call for each field.
 impl Drop for Back {
     fn drop(self) {
         match self {
@@ -153,7 +153,7 @@ fn lay_kept(alloc: Global, columns: &mut Columns, base: &[Pair]) -> Result<(), N
     Ok(())
 }
 
-// How many columns stand before those of a before image.
+// How many columns come before those of a before image.
 fn kept_place(row: &[Pair]) -> usize
     ensures { result ≤ length row.now }
 {
@@ -309,7 +309,7 @@ pub fn rolled_back(alloc: Global, rec: &Record) -> Result<Back, NoMemory>
     }
 }
 
-/// The committed record that a record stands for, under the coordinator's row of its transaction. A tombstone stands for
+/// The committed record that a record means, under the coordinator's row of its transaction. A tombstone means
 /// itself.
 pub fn committed_image(
     alloc: Global,

@@ -104,7 +104,7 @@ fn decision_of_value(value: Option<&Value>) -> Option<Decision>
     }
 }
 
-/// The decision that a coordinator row records, or the first column that fails. Want of memory can only stand in place
+/// The decision that a coordinator row records, or the first column that fails. Out of memory is returned only in place
 /// of such a refusal.
 #[tactic(auto, unfolding(crate::specs::Coordinator::decision_in))]
 pub fn decision_of(alloc: Global, row: &Record) -> Result<Decided, MetaRefused>

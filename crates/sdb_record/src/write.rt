@@ -10,7 +10,7 @@ pub enum Change {
     Delete,
 }
 
-// By hand: each drop is then one call, where a derived one stands at each place with a call for each field.
+// By hand: each drop is then one call, where a derived one is written out at each exit, with a call for each field.
 impl Drop for Change {
     fn drop(self) {
         match self {
@@ -27,7 +27,7 @@ pub struct Keyed {
     pub change: Change,
 }
 
-// By hand: each drop is then one call, where a derived one stands at each place with a call for each field.
+// By hand: each drop is then one call, where a derived one is written out at each exit, with a call for each field.
 impl Drop for Keyed {
     fn drop(self) {
         let Keyed { key: _, change: _ } = self;
@@ -54,7 +54,7 @@ pub struct Write {
     pub change: Change,
 }
 
-// By hand: each drop is then one call, where a derived one stands at each place with a call for each field.
+// By hand: each drop is then one call, where a derived one is written out at each exit, with a call for each field.
 impl Drop for Write {
     fn drop(self) {
         let Write {

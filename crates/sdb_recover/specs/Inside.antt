@@ -16,7 +16,7 @@ use Rattle.sdb_phases.specs.Work.{abort_of, look_of}
 use Rattle.sdb_phases.specs.Recover.{recover_forward, recover_back}
 use Rattle.sdb_recover.specs.declared.recover.Recover.TheInside.{Inside}
 
--- the call that was made for a phase, from what a reply told
+-- the call that was made for a phase, from what a reply showed
 abbrev pub IsMade : Record → Meta → RecoverPhase → Option Request → Type 0
 IsMade rec meta (phase.Abort now) made = made ≡ Some (abort_of meta.id now)
 IsMade rec meta (phase.Forward created_at) made = made ≡ Some (recover_forward rec meta created_at)

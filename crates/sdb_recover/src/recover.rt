@@ -32,7 +32,7 @@ pub struct Recover {
     made: Option<Request>,
 }
 
-// By hand: each drop is then one call, where a derived one stands at each place with a call for each field.
+// By hand: each drop is then one call, where a derived one is written out at each exit, with a call for each field.
 impl Drop for Recover {
     fn drop(self) {
         let Recover {
@@ -95,7 +95,7 @@ fn forward(alloc: Global, rec: &Record, meta: &Meta, created_at: i64) -> Result<
     Ok(Request::PutIf(image, Condition::Version(meta.id, meta.state)))
 }
 
-// The roll back of a record, to what stood there before.
+// The roll back of a record, to what was there before.
 fn back(rec: &Record, meta: &Meta, base: &Option<Record>) -> Result<Request, NoMemory>
     requires { base.now ≡ before_record rec.now }
     ensures { IfOk result (λ call. call ≡ recover_back rec.now meta.now) }
@@ -107,7 +107,7 @@ fn back(rec: &Record, meta: &Meta, base: &Option<Record>) -> Result<Request, NoM
     }
 }
 
-// What stood at a record's key before.
+// What was at a record's key before.
 fn base_of(alloc: Global, rec: &Record) -> Result<Option<Record>, NoMemory>
     requires { is_unresolved rec.now ≡ true }
     ensures { IfOk result (λ base. base ≡ before_record rec.now) }
@@ -221,7 +221,7 @@ fn put_record(made: Option<Request>) -> Option<Record>
     }
 }
 
-// The roll was answered: the record was rolled to this image, or something else stood there.
+// The roll was answered: the record was rolled to this image, or something else was there.
 fn roll_step(image: Option<Record>, reply: Reply) -> RecoverStep
     ensures { result ≡ rolled image reply }
 {

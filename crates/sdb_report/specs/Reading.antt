@@ -1,4 +1,4 @@
--- Reading a report line by line. What is wrong is told by the bytes left where the bad line begins.
+-- Reading a report line by line. What is wrong is given by the bytes left where the bad line begins.
 use Rattle.std.specs.Prelude.{ℕ, zero, suc, ◌+◌, Bool, true, if◌then◌else◌, List, [], ◌∷◌, ◌++◌, length, take, drop, codes, Option, Some, None, Result, Ok, Err}
 use Rattle.std.specs.List.{prefix_len}
 use Rattle.std.specs.Ordering.{is_lt}
@@ -61,7 +61,7 @@ point_of line = id_at line >>= λ id. after (codes " ") id.1 >>= λ rest. whole 
 abbrev pub row_of : List ℕ → Option (List Value)
 row_of line = whole (row_at line)
 
--- the table stands after the one before
+-- the table comes after the one before
 abbrev pub is_after : Option TableDump → TableName → Bool
 is_after None name = true
 is_after (Some dump) name = is_lt (table_cmp dump.name name)

@@ -178,7 +178,7 @@ pub fn row_line_at(alloc: Global, bytes: &[u8]) -> Result<(Values, &[u8]), Stopp
     }
 }
 
-/// A table's name, which stands after the one before, and how many rows it has.
+/// A table's name, which comes after the one before, and how many rows it has.
 pub fn table_line_at<'a>(
     alloc: Global,
     before: Option<&TableDump>,

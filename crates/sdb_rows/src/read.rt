@@ -16,7 +16,7 @@ use sdb_types::{Duplicate, Name, NoMemory, Seq, Value};
 use std::alloc::Global;
 use std::cmp::Ordering;
 
-/// The value that stands beside a name, or else `rest`.
+/// The value that is beside a name, or else `rest`.
 pub fn value_beside<'a>(
     names: &[Name],
     values: &'a [Value],

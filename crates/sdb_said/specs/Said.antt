@@ -1,4 +1,4 @@
--- What a list of events, newest first, has said: tests on its events that tell the fields of the law's `Talk`.
+-- What a list of events, newest first, has said: tests on its events that give the fields of the law's `Talk`.
 use Rattle.std.specs.Prelude.{ℕ, Bool, true, false, not, ◌&&◌, ◌||◌, ◌==◌, List, find}
 use Rattle.std.specs.Option.{option_map_or}
 use Rattle.std.specs.List.{list_any}

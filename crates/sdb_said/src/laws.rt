@@ -1,4 +1,4 @@
-//! What the searches tell is what the law calls said, shown and settled.
+//! What the searches return is what the law calls said, shown and settled.
 ghost use Rattle.std.specs.Prelude.{◌≡◌, ◌≢◌, ◌↔◌, ℕ, ℤ, List, IsTrue, true, false};
 ghost use Rattle.sdb_types.specs.declared.key.Key.{Key};
 ghost use Rattle.sdb_types.specs.declared.record.Record.{Record};

@@ -1,4 +1,4 @@
-//! What a list of events, newest first, has said and shown, told by search.
+//! What a list of events, newest first, has said and shown, found by search.
 #![tactic(auto)]
 
 pub mod laws;

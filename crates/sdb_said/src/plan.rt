@@ -15,7 +15,7 @@ pub enum Note {
     Scanned(Scan),
 }
 
-// By hand: each drop is then one call, where a derived one stands at each place with a call for each field.
+// By hand: each drop is then one call, where a derived one is written out at each exit, with a call for each field.
 impl Drop for Note {
     fn drop(self) {
         match self {
@@ -73,7 +73,7 @@ pub struct Plan {
     pub now: i64,
 }
 
-// By hand: each drop is then one call, where a derived one stands at each place with a call for each field.
+// By hand: each drop is then one call, where a derived one is written out at each exit, with a call for each field.
 impl Drop for Plan {
     fn drop(self) {
         let Plan {

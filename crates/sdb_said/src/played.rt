@@ -11,7 +11,7 @@ use sdb_model::Event;
 use sdb_record::Decision;
 use sdb_types::{Key, TxId};
 
-/// What its client was told of a put: that it was applied, that its condition failed, nothing, or that memory was wanting.
+/// What its client was told of a put: that it was applied, that its condition failed, nothing, or out of memory.
 #[derive(Clone, Copy, Debug, PartialEq, Eq)]
 pub enum Word {
     Yes,
@@ -47,7 +47,7 @@ pub enum Role {
     Stops(u32),
 }
 
-// By hand: each drop is then one call, where a derived one stands at each place with a call for each field.
+// By hand: each drop is then one call, where a derived one is written out at each exit, with a call for each field.
 impl Drop for Role {
     fn drop(self) {
         match self {
@@ -74,7 +74,7 @@ pub struct Played {
     pub ends: Option<TxId>,
 }
 
-// By hand: each drop is then one call, where a derived one stands at each place with a call for each field.
+// By hand: each drop is then one call, where a derived one is written out at each exit, with a call for each field.
 impl Drop for Played {
     fn drop(self) {
         let Played {

@@ -1,4 +1,4 @@
-//! The records that replies showed, and what they tell.
+//! The records that replies showed, and what they say.
 ghost use Rattle.std.specs.Prelude.{◌≡◌, ◌&&◌, ◌||◌, not, IfOk, OnOk, is_some, [], ◌++◌};
 ghost use Rattle.std.specs.Option.{option_copied};
 ghost use Rattle.std.specs.List.{list_any, cons_option};

@@ -16,7 +16,7 @@ abbrev pub turned_by : Direction → Ordering → Ordering
 turned_by Asc order = order
 turned_by Desc order = ordering_reverse order
 
--- Item by item, each turned as its clustering column is; a front stands before the whole.
+-- Item by item, each turned as its clustering column is; a prefix comes before the whole.
 abbrev pub clustering_cmp : List Order → List Value → List Value → Ordering
 clustering_cmp [] xs ys = slice_cmp value_cmp xs ys
 clustering_cmp (o ∷ os) [] [] = Equal

@@ -59,7 +59,7 @@ abbrev pub row_refusal : Table → List Pair → Option RowRefused
 row_refusal t row =
     refuse_row (null_in_key t row) refused.NullInKey (refuse_row (wrong_type t row) refused.WrongType (refuse_row (out_of_range row) refused.OutOfRange None))
 
--- The refusal that comes; want of memory may stand in its place alone.
+-- The refusal that comes; out of memory alone may be returned in its place.
 abbrev pub RefusesRow : Option RowRefused → RowRefused → Type 0
 RefusesRow r (refused.NullInKey name) = r ≡ Some (refused.NullInKey name)
 RefusesRow r (refused.WrongType name) = r ≡ Some (refused.WrongType name)

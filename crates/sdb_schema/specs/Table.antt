@@ -75,7 +75,7 @@ abbrev pub first_listed_twice : List Column → Option (List ℕ)
 first_listed_twice [] = None
 first_listed_twice (c ∷ cs) = if next_repeats c.name cs then Some c.name else first_listed_twice cs
 
--- the first name that stands before too, or among those passed
+-- the first name that comes before too, or is among those passed
 abbrev pub first_repeated : List (List ℕ) → List (List ℕ) → Option (List ℕ)
 first_repeated passed [] = None
 first_repeated passed (name ∷ names) =
@@ -104,7 +104,7 @@ abbrev pub none_of : List (List ℕ) → Option (Unit {0})
 none_of [] = Some tt
 none_of (n ∷ ns) = None
 
--- The table of columns that stand in order, or the first refusal: no partition column; a column of the key or of an
+-- The table of columns that are in order, or the first refusal: no partition column; a column of the key or of an
 -- index that isn't listed; a column listed twice, or twice in the primary key; a reserved name; too many columns, partition
 -- columns or clustering columns.
 unfoldable pub checked_table : Table → Result Table TableRefused
@@ -127,7 +127,7 @@ is_table t = rises t.columns && (list_all (λ c. is_column_name c.name) t.column
 abbrev pub are_short : List Column → Bool
 are_short cs = list_all (λ c. nat_le (length c.name) 64) cs
 
--- A refusal that comes; want of memory may stand in the place of any outcome.
+-- A refusal that comes; out of memory may be returned in the place of any outcome.
 abbrev pub Refuses : Result Table TableRefused → TableRefused → Type 0
 Refuses r refused.NoPartitionKey = r ≡ Err refused.NoPartitionKey
 Refuses r (refused.UnknownColumn name) = r ≡ Err (refused.UnknownColumn name)

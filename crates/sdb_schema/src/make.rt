@@ -123,7 +123,7 @@ pub fn is_listed(names: &[Name], name: &Name) -> bool
     names.iter().any(|other| name.cmp(other).is_eq())
 }
 
-// The first name that stands before too.
+// The first name that comes before too.
 fn find_repeated(names: &[Name]) -> Option<&Name>
     ensures { option_copied result ≡ first_repeated [] names.now }
 {

@@ -26,7 +26,7 @@ pub struct Column {
     pub kind: Kind,
 }
 
-// By hand: each drop is then one call, where a derived one stands at each place with a call for each field.
+// By hand: each drop is then one call, where a derived one is written out at each exit, with a call for each field.
 impl Drop for Column {
     fn drop(self) {
         let Column { name: _, kind: _ } = self;
@@ -40,7 +40,7 @@ pub struct Order {
     pub direction: Direction,
 }
 
-// By hand: each drop is then one call, where a derived one stands at each place with a call for each field.
+// By hand: each drop is then one call, where a derived one is written out at each exit, with a call for each field.
 impl Drop for Order {
     fn drop(self) {
         let Order {
@@ -65,7 +65,7 @@ pub struct Table {
     pub indexed: Names,
 }
 
-// By hand: each drop is then one call, where a derived one stands at each place with a call for each field.
+// By hand: each drop is then one call, where a derived one is written out at each exit, with a call for each field.
 impl Drop for Table {
     fn drop(self) {
         let Table {

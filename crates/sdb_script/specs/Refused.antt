@@ -10,7 +10,7 @@ abbrev pub refused_for : SchemaFault → LineRefused
 refused_for schema.NoMemory = refused.NoMemory
 refused_for f = refused.Bad (fault.Schema f)
 
--- A refusal that tells the fault of an outcome; out of memory may be returned in its place.
+-- A refusal that names the fault of an outcome; out of memory may be returned in its place.
 abbrev pub Described : {A : Type 0} → Result A SchemaFault → LineRefused → Type 0
 Described r (refused.Bad fault.Text) = ⊥
 Described r (refused.Bad fault.Form) = ⊥

@@ -95,7 +95,7 @@ fn script_in(alloc: Global, bytes: &[u8], stores: &Names) -> Result<Script, Scri
 ///
 /// The text has at most 67,108,864 bytes, in lines of UTF-8 of at most 65,536 bytes. They are any number of `place NS STORE`; at
 /// most one `schema JSON`; at most 64 blocks of `client NAME` and at most 20,000 statements, each after two spaces; `run`; and
-/// moves that count as at most 200,000. The first line that may not come is told, with what is wrong with it.
+/// moves that count as at most 200,000. The first line that may not come is returned, with what is wrong with it.
 /// Takes memory linear in the text's length, and time linear in it, but for the schema, whose JSON `catalog_of` reads, and as far as the
 /// hashes of namespaces don't collide; each place is compared with the stores, and each client with those before it.
 pub fn read_script(alloc: Global, bytes: &[u8], stores: &Names) -> Result<Script, ScriptRefused>

@@ -15,7 +15,7 @@ pub struct Shelf {
     pub rows: PlainTables,
 }
 
-// By hand: each drop is then one call, where a derived one stands at each place with a call for each field.
+// By hand: each drop is then one call, where a derived one is written out at each exit, with a call for each field.
 impl Drop for Shelf {
     fn drop(self) {
         let Shelf { name: _, rows: _ } = self;
@@ -32,7 +32,7 @@ pub struct Stores {
     pub moments: Seq<Shelves>,
 }
 
-// By hand: each drop is then one call, where a derived one stands at each place with a call for each field.
+// By hand: each drop is then one call, where a derived one is written out at each exit, with a call for each field.
 impl Drop for Stores {
     fn drop(self) {
         let Stores {

@@ -21,7 +21,7 @@ pub struct Turn {
     pub end: u64,
 }
 
-// By hand: each drop is then one call, where a derived one stands at each place with a call for each field.
+// By hand: each drop is then one call, where a derived one is written out at each exit, with a call for each field.
 impl Drop for Turn {
     fn drop(self) {
         let Turn {

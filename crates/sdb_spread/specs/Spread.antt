@@ -1,4 +1,4 @@
--- A run whose tables stand on one store, and the same run with its tables spread over several.
+-- A run whose tables lie on one store, and the same run with its tables spread over several.
 use Rattle.std.specs.Prelude.{◌≡◌, Bool, true, ◌||◌, List, [], ◌∷◌, map, is_some, IsSome}
 use Rattle.std.specs.List.{AllByRecursion}
 use Rattle.sdb_types.specs.declared.key.Key.{Key}

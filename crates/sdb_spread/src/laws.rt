@@ -1,4 +1,4 @@
-//! Which store a table stands on changes nothing of a run but the names of the stores in its calls.
+//! Which store a table lies on changes nothing of a run but the names of the stores in its calls.
 ghost use Rattle.std.specs.Prelude.{◌≡◌, ◌≢◌, List, [], true};
 ghost use Rattle.sdb_types.specs.declared.record.Request.{Request};
 ghost use Rattle.sdb_types.specs.declared.record.Reply.{Reply};

@@ -175,12 +175,12 @@ put_params r (Some there) = Blob (key_bytes r.key) ∷ Blob (record_bytes r) ∷
 abbrev pub IsUnmetBy : {S : Type 0} → Condition → Option Record → Connected S → Connected S → Result Written Stopped → Type 0
 IsUnmetBy condition found old new result = (holds condition found ≡ false) × (new ≡ old) × (result ≡ Ok (NotMet found))
 
--- a put, after what stands at its key was found
+-- a put, after what is at its key was found
 abbrev pub PutsOver : {S : Type 0} → Ghosts S → Record → Condition → Connected S → Connected S → Result Written Stopped → Option Record → Type 0
 PutsOver g r condition old new result found =
     IsUnmetBy condition found old new result ⊎ ((holds condition found ≡ true) × Writes g (put_text found) (put_params r found) old new result)
 
--- a delete, after what stands at its key was found: nothing is asked where nothing stands there
+-- a delete, after what is at its key was found: nothing is asked where nothing is there
 abbrev pub RemovesThere : {S : Type 0} → Ghosts S → Key → Connected S → Connected S → Result Written Stopped → Option Record → Type 0
 RemovesThere g key old new result None = (new ≡ old) × (result ≡ Ok Applied)
 RemovesThere g key old new result (Some there) = IsWritten g remove_row (Blob (key_bytes key) ∷ []) old new result
@@ -205,7 +205,7 @@ pub record IsRemoved {S : Type 0} (g : Ghosts S) (key : Key) (condition : Condit
   pub got : IsGot g key old mid found
   pub next : Follows mid new result (RemovesOver g key condition mid new result) found
 
--- A put finds what stands at its key, and writes in one statement where the condition holds of it.
+-- A put finds what is at its key, and writes in one statement where the condition holds of it.
 abbrev pub Puts : {S : Type 0} → Ghosts S → Record → Condition → Connected S → Connected S → Result Written Stopped → Type 0
 Puts g r condition old new result = IsUnfit (RecordFitsFields r) old new result ⊎ (RecordFitsFields r × (IsStarved old new result ⊎ IsPut g r condition old new result))
 

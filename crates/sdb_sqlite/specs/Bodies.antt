@@ -1,4 +1,4 @@
--- What a row of the table stands for.
+-- What a row of the table means.
 use Rattle.std.specs.Prelude.{◌≡◌, ◌≢◌, ◌⊎◌, [], List, ℕ}
 use Rattle.sdb_types.specs.declared.key.Key.{Key}
 use Rattle.sdb_types.specs.declared.record.Record.{Record}
@@ -13,7 +13,7 @@ Spells body r = RecordFitsFields r × (body ≡ record_bytes r)
 abbrev pub IsForeign : List ℕ → Key → Type 0
 IsForeign body key = (r : Record) → record_fits r → Spells body r → r.key ≢ key
 
--- The record that a row of that key with that body stands for: the one of that key that the body spells, or else one without
+-- The record that a row of that key with that body means: the one of that key that the body spells, or else one without
 -- columns.
 pub record StandsFor (body : List ℕ) (key : Key) (r : Record) : Type 0 where
   pub own : r.key ≡ key

@@ -44,12 +44,12 @@ pub record IsBlank (s : State) : Type 0 where
   pub autocommit : s.in_transaction ≡ false
   pub unlimited : s.step_limit ≡ None
 
--- A call on a database that holds what it tells leaves one that does, and is answered as a map answers it.
+-- A call leaves a database that is kept, and is answered as a map answers it.
 pub record IsToldOf (q : Request) (reply : Reply) (old new : State) : Type 0 where
   pub kept : IsKept new
   pub performed : Performs q reply (held old) (held new)
 
--- The database is kept in what tells, and has the form of the store.
+-- The database is kept where contents are known, and has the form of the store.
 abbrev pub TellsIn : {S : Type 0} → Ghosts S → Bool → Connected S → Type 0
 TellsIn g tells connection = IsTrue tells × IsKept (state g connection)
 
@@ -58,7 +58,7 @@ pub record TellsThat {S : Type 0} (g : Ghosts S) (tells : Bool) (contents : Cont
   pub told : TellsIn g tells connection
   pub holds : held (state g connection) ≡ contents
 
--- Over a new database in what tells, the store holds nothing.
+-- Over a new database that is kept where contents are known, the store holds nothing.
 abbrev pub IsKeptNew : {S : Type 0} → Ghosts S → Bool → Connected S → Connected S → Type 0
 IsKeptNew g tells old new = IsTrue tells → IsBlank (state g old) → TellsThat g tells map.empty new
 
@@ -66,11 +66,11 @@ IsKeptNew g tells old new = IsTrue tells → IsBlank (state g old) → TellsThat
 abbrev pub IsKeptOn : {S : Type 0} → Ghosts S → Bool → Connected S → Connected S → Type 0
 IsKeptOn g tells old new = IsTrue tells → IsFormed (state g old) → TellsThat g tells (held (state g old)) new
 
--- The call leaves a database that is kept in what tells and has the form of the store, where it was one, and is then answered as a
--- map answers it.
+-- The call leaves a database that is kept where contents are known and has the form of the store, where it was one, and is then
+-- answered as a map answers it.
 abbrev pub PerformsIn : {S : Type 0} → Ghosts S → Bool → Request → Reply → Connected S → Connected S → Type 0
 PerformsIn g tells q reply old new = TellsIn g tells old → IsToldOf q reply (state g old) (state g new)
 
--- The store over a database as any store: it tells what it holds where the database tells in what it is kept.
+-- The store over a database as any store: its contents are known where those of the database are.
 abbrev pub kept_state : {S : Type 0} → Ghosts S → Bool → Connected S → ℕ → StoreState
 kept_state g tells connection faults = record { tells = TellsIn g tells connection; contents = held (state g connection); faults = faults }

@@ -1,4 +1,4 @@
--- What the rows of the table stand for.
+-- What the rows of the table mean.
 use Rattle.std.specs.Prelude.{◌≡◌, ℕ, ℤ, Bool, if◌then◌else◌, List, [], ◌∷◌, map, filter, Option, Some, None, Result, Ok, Err}
 use Rattle.std.specs.Ordering.{is_eq}
 use Rattle.std.specs.FinMap.{from_entries}
@@ -73,6 +73,6 @@ rows_at key rows = filter (has_key key) rows
 
 ---- a row of a scan's answer: the bytes of a key, and the body
 
--- the record that it stands for
+-- the record that it means
 abbrev pub shown_record : Row → Record
 shown_record row = record_of_body (key_or_none (key_in (bytes (column row 0)))) (bytes (column row 1))

@@ -17,7 +17,7 @@ wants_memory _ = false
 abbrev pub stopped_by : Error → Stopped
 stopped_by e = if wants_memory e then stopped.NoMemory else stopped.Refused
 
--- Want of memory is answered as such, and everything else is a fault.
+-- Out of memory is answered as such, and everything else is a fault.
 abbrev pub stop_reply : Stopped → Reply
 stop_reply stopped.NoMemory = reply.NoMemory
 stop_reply stopped.Refused = reply.Fault

@@ -1,4 +1,4 @@
-//! What the columns of a row stand for.
+//! What the columns of a row mean.
 ghost use Rattle.std.specs.Prelude.{◌≡◌, ◌⊎◌, [], None, Some, IfOk, IfErr};
 ghost use Rattle.sqlite.specs.Order.{column};
 ghost use Rattle.sdb_sqlite.specs.Bodies.{StandsFor};
@@ -28,7 +28,7 @@ fn bare(alloc: Global, key: Key) -> Record
     }
 }
 
-/// The record that a row of that key with that body stands for: the one that the body spells where it is of that key, and
+/// The record that a row of that key with that body means: the one that the body spells where it is of that key, and
 /// else one without columns.
 pub fn record_at(alloc: Global, key: Key, body: &[u8]) -> Result<Record, NoMemory>
     ensures stands { IfOk result (StandsFor body.now key) }

@@ -25,7 +25,7 @@ use std::alloc::Global;
 #[derive(Drop)]
 pub enum Written {
     Applied,
-    /// The condition does not hold of what stands at the key.
+    /// The condition does not hold of what is at the key.
     NotMet(Option<Record>),
 }
 
@@ -94,7 +94,7 @@ pub fn find<S: Held>(
     find_key(alloc, connection, key)
 }
 
-// The records that the rows of an answer stand for.
+// The records that the rows of an answer mean.
 fn listed(alloc: Global, span: &Span, answer: Result<Vec<Row>, Error>) -> Result<Records, Stopped>
     ensures { IsListed span.now (rows_of answer) result }
 {
@@ -279,7 +279,7 @@ fn put_record<S: Held>(
     put_at(alloc, connection, rec, spelled.as_slice(), condition)
 }
 
-/// Puts a record at its key, where the condition holds of what stands there.
+/// Puts a record at its key, where the condition holds of what is there.
 pub fn put<S: Held>(
     alloc: Global,
     connection: &mut Connection<S>,
@@ -345,7 +345,7 @@ fn remove_key<S: Held>(
     remove_at(alloc, connection, key, spelled.as_slice(), condition)
 }
 
-/// Takes the record at a key out, where the condition holds of what stands there.
+/// Takes the record at a key out, where the condition holds of what is there.
 pub fn delete<S: Held>(
     alloc: Global,
     connection: &mut Connection<S>,

@@ -1,16 +1,16 @@
-//! Which databases tell what they hold.
+//! Databases whose contents are known.
 ghost use Rattle.std.specs.Prelude.{◌≡◌, Bool, IsTrue, true, false, refl};
 ghost use Rattle.sqlite.specs.View.{doubt};
 
 use sqlite::{Alter, FileStore, MemStore};
 use sqlite_disk::Disk;
 
-/// What a database is kept in, and whether it tells what it holds: in memory it does, and in a file, which others may change,
-/// it doesn't. The trait has no calls of its own.
+/// What a database is kept in, and whether its contents are known: in memory they are, and in a file, which others may
+/// change, they aren't. The trait has no calls of its own.
 pub trait Held: Alter {
     ghost tells: { Bool };
 
-    /// One that tells is always open, and returns what was written.
+    /// One of known contents is always open, and returns what was written.
     ghost told: { IsTrue tells → (s : Self) → IsTrue (Self.Store.view s).is_open × (doubt (Self.Store.view s).is_clean ≡ 0) };
 }
 

@@ -22,7 +22,7 @@ use std::alloc::Global;
 /// Records in the table `records` of a database.
 ///
 /// A row has the bytes of a key, the table's name, the bytes of the key's partition, and the bytes of the record. A row
-/// whose body spells no record of its key stands for a record without columns. An index by the table's name and the partition
+/// whose body spells no record of its key means a record without columns. An index by the table's name and the partition
 /// finds the rows of a scan. A call that changes anything changes it in one statement.
 pub struct Kept<S: Held + Drop> {
     alloc: Global,
@@ -30,7 +30,7 @@ pub struct Kept<S: Held + Drop> {
     faults: u64,
 }
 
-// By hand: each drop is then one call, where a derived one stands at each place with a call for each field.
+// By hand: each drop is then one call, where a derived one is written out at each exit, with a call for each field.
 impl<S: Held + Drop> Drop for Kept<S> {
     fn drop(self) {
         let Kept {
@@ -80,7 +80,7 @@ impl<S: Held + Drop> Kept<S> {
         }
     }
 
-    /// The connection, as it stands.
+    /// The connection, as it is.
     pub fn release(self) -> Connection<S>
         ensures { result ≡ self.connection }
     {
@@ -116,7 +116,7 @@ fn reply_of(written: Written) -> Reply
 }
 
 impl<S: Held + Drop> Store for Kept<S> {
-    // In memory it tells what it holds, where the database has its table and index and nothing else.
+    // In memory its contents are known, where the database has its table and index and nothing else.
     ghost state = { λ kept. kept_state S.Store S.Held.tells kept.connection kept.faults };
 
     fn get(&mut self, key: &Key) -> Reply

@@ -10,7 +10,7 @@ use thiserror::Error;
 /// Why a store is not made.
 #[derive(Clone, Copy, Debug, PartialEq, Eq, Error)]
 pub enum KeptRefused {
-    /// The database refused to make the table, and not for want of memory.
+    /// The database refused to make the table, and was not out of memory.
     #[error("the database refused to make the table")]
     Database,
     #[error("out of memory")]
@@ -20,7 +20,7 @@ pub enum KeptRefused {
 /// Why a call stops before it has an answer.
 #[derive(Clone, Copy, Debug, PartialEq, Eq)]
 pub enum Stopped {
-    /// The database refused a statement, and not for want of memory.
+    /// The database refused a statement, and was not out of memory.
     Refused,
     /// A count or a length does not fit its field.
     Unfit,

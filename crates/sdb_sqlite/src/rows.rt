@@ -90,7 +90,7 @@ fn in_order(records: Records) -> Result<Records, Stopped>
     Ok(Seq::from_vec(records))
 }
 
-/// The records of a span that its rows stand for, in the order of their keys.
+/// The records of a span that its rows mean, in the order of their keys.
 pub fn records_of(alloc: Global, span: &Span, rows: &[Row]) -> Result<Records, Stopped>
     ensures { IsListedIn span.now rows.now result }
 {

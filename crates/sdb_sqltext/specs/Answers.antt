@@ -1,11 +1,11 @@
--- How the answer of the reader stands to what a text is read as.
+-- How the answer of the reader agrees with what a text is read as.
 use Rattle.std.specs.Prelude.{◌≡◌, Option, Some, None, IfSome, Result, Ok, Err}
 use Rattle.sdb_model.specs.declared.answer.Refusal.{Refusal}
 use Rattle.sdb_model.specs.declared.statement.Statement.{Statement}
 use Rattle.sdb_sqltext.specs.declared.fault.ParseRefused.{ParseRefused}
 use Rattle.sdb_sqltext.specs.declared.fault.ParseRefused.TheVariants as refused
 
--- the number of the kind and the place, as answers tell them; none where memory ran out
+-- the number of the kind and the place, as answers give them; none where memory ran out
 abbrev pub refusal_of : ParseRefused → Option Refusal
 refusal_of refused.NoMemory = None
 refusal_of (refused.BadToken at) = Some (record { kind = 1; place = at })

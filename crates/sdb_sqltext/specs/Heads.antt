@@ -1,4 +1,4 @@
--- What stands before WHERE.
+-- What comes before WHERE.
 use Rattle.std.specs.Prelude.{ℕ, List, Option}
 use Rattle.sdb_types.specs.declared.key.TableName.{TableName}
 use Rattle.sdb_types.specs.declared.pair.Pair.{Pair}

@@ -1,4 +1,4 @@
--- What each part of a statement is read as, from the placed tokens at the front: the part and the tokens behind it, or the
+-- What each part of a statement is read as, from the placed tokens at the start: the part and the tokens after it, or the
 -- place where it breaks off.
 use Rattle.std.specs.Prelude.{ℕ, ℤ, zero, suc, ◌==◌, if◌then◌else◌, List, [], ◌∷◌, ◌++◌, length, Option, Some, None, Result, Ok, Err}
 use Rattle.sdb_types.specs.declared.key.TableName.{TableName}
@@ -24,12 +24,12 @@ use Rattle.sdb_model.specs.declared.answer.Refusal.{Refusal}
 abbrev pub Read : Type 0 → Type 0
 Read A = Result (A × List Placed) ℕ
 
--- where the next token stands, or the text's end
+-- where the next token is, or the text's end
 abbrev pub place : List Placed → ℕ → ℕ
 place [] end = end
 place (p ∷ ps) end = p.at
 
--- the tokens behind this word or sign, where it comes next
+-- the tokens after this word or sign, where it comes next
 abbrev pub next_word : Keyword → List Placed → Option (List Placed)
 next_word k [] = None
 next_word k (p ∷ ps) = if is_word k p.token then Some ps else None
@@ -53,7 +53,7 @@ abbrev pub choose : {A B : Type 0} → Option A → (A → B) → B → B
 choose (Some x) f y = f x
 choose None f y = y
 
--- more items, each behind what stands between, in at most so many turns
+-- more items, each after what comes between, in at most so many turns
 abbrev pub items_on : {A : Type 0} → (List Placed → ℕ → Read A) → (List Placed → Option (List Placed)) → ℕ → ℕ → List A → List Placed → Read (List A)
 items_on item next end zero xs ps = Ok (xs, ps)
 items_on item next end (suc n) xs ps = choose (next ps) (λ more. and_then (item more end) (λ r. items_on item next end n (xs ++ r.0 ∷ []) r.1)) (Ok (xs, ps))
@@ -82,7 +82,7 @@ set_at ps end = and_then (name_at ps end) (λ n. and_then (after_sign sign.Equal
 abbrev pub sets_at : List Placed → ℕ → Read (List Pair)
 sets_at = list_at set_at (next_sign sign.Comma)
 
--- behind a name and IS
+-- after a name and IS
 abbrev pub null_test_at : List ℕ → List Placed → ℕ → Read Test
 null_test_at n ps end = choose (next_word word.Not ps) (λ qs. and_then (after_word word.Null qs end) (λ rest. Ok (test.NotNull n, rest))) (and_then (after_word word.Null ps end) (λ rest. Ok (test.IsNull n, rest)))
 
@@ -144,7 +144,7 @@ abbrev pub statement_at : List Placed → ℕ → Read Statement
 statement_at [] end = Err end
 statement_at (p ∷ ps) end = statement_by p.token p.at ps end
 
--- the tokens behind a `;`, if one comes next
+-- the tokens after a `;`, if one comes next
 abbrev pub behind_semicolon : List Placed → List Placed
 behind_semicolon ps = choose (next_sign sign.Semicolon ps) (λ qs. qs) ps
 

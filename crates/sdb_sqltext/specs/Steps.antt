@@ -1,4 +1,4 @@
--- How what a reader of parts answers stands to what the part is read as.
+-- How what a reader of parts answers agrees with what the part is read as.
 use Rattle.std.specs.Prelude.{◌≡◌, ℕ, Result, Ok, Err}
 use Rattle.sdb_sqltext.specs.declared.fault.StepError.{StepError}
 use Rattle.sdb_sqltext.specs.declared.fault.StepError.TheVariants.{NoMemory, Wrong}

@@ -36,7 +36,7 @@ pub enum ParseRefused {
 }
 
 impl ParseRefused {
-    /// The number of the kind and the place, as answers tell them; none where memory ran out.
+    /// The number of the kind and the place, as answers give them; none where memory ran out.
     pub fn refusal(self) -> Option<Refusal>
         requires { IfSome (refusal_of self) (λ r. r.place < 2 ^ 32) }
         ensures { result ≡ refusal_of self }

@@ -22,7 +22,7 @@ fn set_at(tokens: &[Placed], end: usize) -> Parsed<'_, Pair>
     Ok((Pair { name, value }, tokens))
 }
 
-// A test of a column for NULL, behind its name and IS.
+// A test of a column for NULL, after its name and IS.
 fn null_test_at(name: Name, tokens: &[Placed], end: usize) -> Parsed<'_, Test>
     ensures { Steps (λ x. (x.0, x.1.now)) result (spec.null_test_at name tokens.now end) }
 {
@@ -56,7 +56,7 @@ fn test_at(tokens: &[Placed], end: usize) -> Parsed<'_, Test>
     }
 }
 
-// More names, each behind a comma, in at most so many turns.
+// More names, each after a comma, in at most so many turns.
 fn names_on<'a>(
     alloc: Global,
     first: Name,

@@ -128,7 +128,7 @@ fn select_at(alloc: Global, tokens: &[Placed], end: usize) -> Parsed<'_, Stateme
     Ok((Statement::Select(select), tokens))
 }
 
-// A statement by its first token, which stands at that place.
+// A statement by its first token, which is at that place.
 fn statement_by<'a>(
     alloc: Global,
     first: &Token,
@@ -179,7 +179,7 @@ fn statement_at(alloc: Global, tokens: &[Placed], end: usize) -> Parsed<'_, Stat
     }
 }
 
-// The tokens behind a `;`, if one comes next.
+// The tokens after a `;`, if one comes next.
 fn behind_semicolon(tokens: &[Placed]) -> &[Placed]
     ensures { result.now ≡ spec.behind_semicolon tokens.now }
 {
@@ -216,7 +216,7 @@ fn parse(alloc: Global, text: &str) -> Result<Statement, ParseRefused>
 }
 
 /// The statement of a text: the one that the grammar reads, or the first refusal, with its place. Of the refusals BadToken
-/// and TooWide the one that stands first comes before NotAStatement.
+/// and TooWide the earlier one comes before NotAStatement.
 pub fn parse_statement(alloc: Global, text: &str) -> Result<Statement, ParseRefused>
     // What is answered is a statement that the text is read as.
     ensures read { IfOk result (Reads text.now) }

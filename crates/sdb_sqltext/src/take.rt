@@ -1,4 +1,4 @@
-//! Tokens at the front, and their parts.
+//! Tokens at the start, and their parts.
 ghost use Rattle.std.specs.Prelude.{◌≡◌, IfOk};
 ghost use Rattle.std.specs.Option.{option_map};
 ghost use Rattle.sdb_sqltext.specs.Machine as machine;
@@ -10,10 +10,10 @@ use sdb_model::{Comparison, Keyword, Placed, Sign, Token};
 use sdb_sqltokens::{is_sign, is_word};
 use sdb_types::{Duplicate, Name, NoMemory, Value};
 
-/// A part, and the tokens behind it.
+/// A part, and the tokens after it.
 pub type Parsed<'a, T> = Result<(T, &'a [Placed]), StepError>;
 
-/// Where the next token stands, or the text's end.
+/// Where the next token is, or the text's end.
 pub fn place(tokens: &[Placed], end: usize) -> usize
     ensures { result ≡ spec.place tokens.now end }
 {
@@ -23,7 +23,7 @@ pub fn place(tokens: &[Placed], end: usize) -> usize
     }
 }
 
-/// The tokens behind this word, where it comes next.
+/// The tokens after this word, where it comes next.
 pub fn next_word(tokens: &[Placed], word: Keyword) -> Option<&[Placed]>
     ensures { option_map (λ x. x.now) result ≡ spec.next_word word tokens.now }
 {
@@ -39,7 +39,7 @@ pub fn next_word(tokens: &[Placed], word: Keyword) -> Option<&[Placed]>
     }
 }
 
-/// The tokens behind this sign, where it comes next.
+/// The tokens after this sign, where it comes next.
 pub fn next_sign(tokens: &[Placed], sign: Sign) -> Option<&[Placed]>
     ensures { option_map (λ x. x.now) result ≡ spec.next_sign sign tokens.now }
 {

@@ -1,4 +1,4 @@
--- How what the reader of tokens answers stands to the definition of tokens.
+-- How what the reader of tokens answers agrees with the definition of tokens.
 use Rattle.std.specs.Prelude.{◌≡◌, ◌<◌, ◌≤◌, ℕ, Result, Ok, Err, List}
 use Rattle.sdb_model.specs.SqlTokens.{Fault, Bad, Wide, Lexed}
 use Rattle.sdb_model.specs.declared.token.Placed.{Placed}

@@ -1,4 +1,4 @@
--- A text that is COMMIT, told without its tokens.
+-- A text that is COMMIT, found without its tokens.
 use Rattle.std.specs.Prelude.{ℕ, Bool, true, false, ◌&&◌, ◌==◌, List, [], ◌∷◌, take, drop, Option, Some, None}
 use Rattle.std.specs.List.{list_all, prefix_len}
 use Rattle.sdb_types.specs.Identifier.{is_start}
@@ -8,7 +8,7 @@ use Rattle.sdb_model.specs.declared.token.Token.TheVariants.{Word}
 use Rattle.sdb_model.specs.Sql.{is_word}
 use Rattle.sdb_model.specs.SqlTokens.{begins, is_gap, keyword_of, word_len}
 
--- the bytes behind the blanks at the front
+-- the bytes after the blanks at the start
 abbrev pub behind_gaps : List ℕ → List ℕ
 behind_gaps bytes = drop (prefix_len is_gap bytes) bytes
 
@@ -24,7 +24,7 @@ abbrev pub is_commit : Option Keyword → Bool
 is_commit None = false
 is_commit (Some w) = is_word word.Commit (Word w)
 
--- a word at the front is COMMIT, and nothing else follows
+-- a word at the start is COMMIT, and nothing else follows
 abbrev pub is_commit_at : List ℕ → Bool
 is_commit_at bytes = begins is_start bytes && (is_commit (keyword_of (take (word_len bytes) bytes)) && ends_text (drop (word_len bytes) bytes))
 

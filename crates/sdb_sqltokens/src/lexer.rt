@@ -221,7 +221,7 @@ fn sign_len(sign: Sign) -> usize
     }
 }
 
-/// The token at the front.
+/// The token at the start.
 #[tactic(auto, unfolding(sdb_model::specs::SqlTokens::token_at))]
 fn token_at(alloc: Global, bytes: &[u8]) -> Result<Lexeme, LexError>
     ensures value { Agrees (λ x. x) result (spec.token_at bytes.now) }
@@ -241,7 +241,7 @@ fn token_at(alloc: Global, bytes: &[u8]) -> Result<Lexeme, LexError>
     }
 }
 
-/// Whether a byte stands between tokens.
+/// Whether a byte separates tokens.
 pub fn is_gap(b: u8) -> bool
     ensures { result ≡ spec.is_gap b }
 {
@@ -252,7 +252,7 @@ pub fn is_gap(b: u8) -> bool
 fn read_tokens(alloc: Global, bytes: &[u8]) -> Result<Seq<Placed>, LexRefused>
     ensures { GivesTokens result (spec.lexed bytes.now) }
 {
-    // With the gap behind it, a token takes three bytes or more in most statements.
+    // With the gap after it, a token takes three bytes or more in most statements.
     let mut placed = Seq::from_vec(Vec::with_capacity(alloc, bytes.len() / 3 + 1)?);
     let mut rest = bytes;
     while let [first, more @ ..] = rest {
@@ -276,7 +276,7 @@ fn read_tokens(alloc: Global, bytes: &[u8]) -> Result<Seq<Placed>, LexRefused>
 
 /// The tokens of a text, and where each begins.
 pub fn lex(alloc: Global, bytes: &[u8]) -> Result<Seq<Placed>, LexRefused>
-    // The longest token is taken everywhere, and the first fault is told.
+    // The longest token is taken everywhere, and the first fault is returned.
     ensures value { GivesTokens result (spec.lexed bytes.now) }
     // Tokens that are printed are read again, unless memory runs out.
     ensures printed { (ts : Tokens) → AllByRecursion CanSpell ts → bytes.now ≡ tokens_text ts → GivesAll result ts }

@@ -1,4 +1,4 @@
-//! Kinds of bytes, and how many of a kind stand at the front.
+//! Kinds of bytes, and how many of a kind are at the start.
 ghost use Rattle.std.specs.Prelude.{ℕ, List, ◌∷◌, ◌≡◌, ◌==◌, ◌≤◌, ◌<◌, ◌^◌, true, IsTrue, IfSome, ◌-◌, length, min, find};
 ghost use Rattle.std.specs.List.{starts_with};
 ghost use Rattle.std.specs.Str.{bytes_eq};
@@ -47,7 +47,7 @@ pub fn begins_with(byte: u8, bytes: &[u8]) -> bool
     }
 }
 
-/// How many letters, digits and `_` stand at the front.
+/// How many letters, digits and `_` are at the start.
 pub fn word_len(bytes: &[u8]) -> usize
     ensures len { result ≡ spec.word_len bytes.now }
     ensures some { spec.begins identifier.is_start bytes.now ≡ true → 0 < result }
@@ -56,7 +56,7 @@ pub fn word_len(bytes: &[u8]) -> usize
     bytes.iter().take_while(|b| is_part(**b)).count()
 }
 
-/// How many digits stand at the front.
+/// How many digits are at the start.
 pub fn digits_len(bytes: &[u8]) -> usize
     ensures len { result ≡ spec.digits_len bytes.now }
     ensures some { spec.begins spec.is_digit bytes.now ≡ true → 0 < result }
@@ -78,7 +78,7 @@ fn digits_value(digits: &[u8]) -> u64
     n
 }
 
-/// The number that the digits at the front are, or the largest.
+/// The number that the digits at the start are, or the largest.
 pub fn number_of(bytes: &[u8]) -> u64
     ensures { result ≡ min (spec.number_of bytes.now) (2 ^ 64 - 1) }
 {
@@ -137,7 +137,7 @@ pub fn keyword_of(word: &[u8]) -> Option<Keyword>
     }
 }
 
-/// The longest sign at the front.
+/// The longest sign at the start.
 #[tactic(auto, unfolding(sdb_model::specs::SqlTokens::sign_of))]
 pub fn sign_of(bytes: &[u8]) -> Option<Sign>
     ensures value { result ≡ spec.sign_of bytes.now }
@@ -160,7 +160,7 @@ pub fn sign_of(bytes: &[u8]) -> Option<Sign>
     }
 }
 
-/// Where the next quote stands, or the length.
+/// Where the next quote is, or the length.
 pub fn quote_place(bytes: &[u8]) -> usize
     ensures place { result ≡ spec.quote_place bytes.now }
     ensures within { result ≤ length bytes.now }

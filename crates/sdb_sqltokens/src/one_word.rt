@@ -55,7 +55,7 @@ pub fn reads_word(alloc: Global, text: &[u8], word: Keyword) -> Result<bool, NoM
     }
 }
 
-// How many blanks stand at the front.
+// How many blanks are at the start.
 fn gaps_len(bytes: &[u8]) -> usize
     ensures len { result ≡ prefix_len is_gap_lem bytes.now }
     ensures within { result ≤ length bytes.now }
@@ -63,7 +63,7 @@ fn gaps_len(bytes: &[u8]) -> usize
     bytes.iter().take_while(|b| is_gap(**b)).count()
 }
 
-// The bytes behind the blanks at the front.
+// The bytes after the blanks at the start.
 fn behind_gaps(bytes: &[u8]) -> &[u8]
     ensures { result.now ≡ spec.behind_gaps bytes.now }
 {

@@ -66,7 +66,7 @@ fn put_gap(out: &mut String, first: &Token, second: &Token) -> Result<(), NoMemo
     Ok(())
 }
 
-/// Adds tokens, with one space between two of them but none before `,` `)` `.` and none behind `(` `.`.
+/// Adds tokens, with one space between two of them but none before `,` `)` `.` and none after `(` `.`.
 pub fn put_tokens(out: &mut String, tokens: &[Token]) -> Result<(), NoMemory>
     ensures { OnOk result (string_bytes out.new ≡ string_bytes out.old ++ tokens_text tokens.now) }
 {

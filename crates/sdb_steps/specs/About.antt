@@ -104,8 +104,8 @@ IsSweepIn catalog Over = Unit {0}
 abbrev pub IsVacuumIn : List Table → VacuumAt → Type 0
 IsVacuumIn catalog v = IsSweepIn catalog v.stage × AreListed catalog v.spans
 
--- A client stands on tables of the catalog: all that its open transaction has read, found, written and does is of them, and so is what
--- its VACUUM scans, resolves and removes.
+-- A client is about tables of the catalog: all that its open transaction has read, found, written and does is of them, and so is
+-- what its VACUUM scans, resolves and removes.
 pub record IsOfTables (catalog : List Table) (c : Client) : Type 0 where
   pub txn : IfSome c.txn (λ t. IsDoingIn catalog t.seen t.doing c.plan)
   pub vacuum : IfSome c.vacuum (IsVacuumIn catalog)

@@ -1,4 +1,4 @@
--- The clients of a run, and where each stands in the words of the laws of clients.
+-- The clients of a run, and where each is in the words of the laws of clients.
 use Rattle.std.specs.Prelude.{◌≡◌, ◌≢◌, ℕ, ◌<◌, ◌^◌, Bool, true, false, if◌then◌else◌, List, Option, Some, None, IsSome}
 use Rattle.std.specs.Option.{option_map}
 use Rattle.sdb_types.specs.declared.record.Request.{Request}
@@ -39,7 +39,7 @@ stands_doing t (doing.Read a x) = Reading t.id t.seen a (stands_at x.stage)
 stands_doing t (doing.Commit k) = Committing k.work k.stage
 stands_doing t doing.Over = Resting
 
--- where a client stands by its open transaction
+-- where a client is by its open transaction
 abbrev pub stands_txn : Option TxnAt → ClientAt
 stands_txn None = Resting
 stands_txn (Some t) = stands_doing t t.doing
@@ -52,7 +52,7 @@ stands_by None o = stands_txn o
 abbrev pub stands : Hand → ClientAt
 stands h = if h.stopped then Stopped else stands_by h.client.vacuum h.client.txn
 
--- where all stand, and how many transactions each has begun
+-- where all are, and how many transactions each has begun
 abbrev pub system_of : (ℕ → Hand) → SystemAt
 system_of hands = record { clients = λ c. stands (hands c); begun = λ c. (hands c).client.begun }
 

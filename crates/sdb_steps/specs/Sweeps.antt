@@ -1,4 +1,4 @@
--- Where the machine of a VACUUM stands, as the laws of clients say it.
+-- Where the machine of a VACUUM is, as the laws of clients say it.
 use Rattle.sdb_vacuum.specs.Vacuum as machine
 use Rattle.sdb_turns.specs.Sweep.{SweepAt, Scanning, Resolving, Removing, Between}
 

@@ -11,8 +11,8 @@ ghost use Rattle.sdb_spread.specs.Spread.{is_played};
 ghost use Rattle.sdb_steps.specs.About.{IsOfTables};
 ghost use Rattle.sdb_steps.specs.Hands.{Takes};
 
-/// A client that has done nothing stands on tables of the catalog, and so it does after each text that it takes and each reply that its
-/// call can get. Each call that it has pending is about a table of the catalog, or the coordinator's.
+/// A client that has done nothing is about tables of the catalog, and so it is after each text that it takes and each reply that
+/// its call can get. Each call that it has pending is about a table of the catalog, or the coordinator's.
 pub fn calls_are_about_tables()
     ensures starts { (catalog : List Table) (number : ℕ) → IsOfTables catalog (nothing_done number) }
     ensures takes { (q : Taking) (text : List ℕ) (c d : Client) (result : Option Answer) → IsIdle c → IsOfTables q.catalog c → Takes q text c result d → IsOfTables q.catalog d }

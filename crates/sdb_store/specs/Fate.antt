@@ -26,7 +26,7 @@ pub record Held : Type 0 where
   pub made : ℕ
   pub failed : ℕ
 
--- A store in memory as any store: it always tells what it holds.
+-- A store in memory as any store: it always has known contents.
 abbrev pub memory_state : Held → StoreState
 memory_state held = record { tells = Unit {0}; contents = held.contents; faults = held.failed }
 
@@ -53,7 +53,7 @@ ComesOf fate.FailsBefore q r old new = Faulted r old.contents old new
 ComesOf fate.FailsAfter q r old new = Faulted r (after q old.contents) old new ⊎ Starves r old new
 
 -- One call of a store in memory: it fails exactly where it is listed, and has its effect first where the entry says so.
--- Otherwise it answers as the map does. Want of memory stands in place of both, and then nothing changes.
+-- Otherwise it answers as the map does. Out of memory is returned in place of both, and then nothing changes.
 pub record Serves (q : Request) (r : Reply) (old new : Held) : Type 0 where
   pub failing : new.failing ≡ old.failing
   pub made : new.made ≡ next_number old.made

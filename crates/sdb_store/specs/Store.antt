@@ -12,7 +12,7 @@ abbrev pub Answers : Request → Reply → Contents → Contents → Type 0
 Answers q r old new = (r ≡ reply_to q old) × (new ≡ after q old)
 
 -- A call on a store of known contents: it answers as the map does and leaves what the map leaves. A fault leaves the
--- contents as before or as after the call, and want of memory leaves them as before.
+-- contents as before or as after the call, and out of memory leaves them as before.
 abbrev pub Performs : Request → Reply → Contents → Contents → Type 0
 Performs q reply.Fault old new = (new ≡ old) ⊎ (new ≡ after q old)
 Performs q reply.NoMemory old new = new ≡ old
@@ -30,20 +30,20 @@ HasCause (reply.Rows rows) before now = Unit {0}
 HasCause reply.Applied before now = Unit {0}
 HasCause (reply.NotMet found) before now = Unit {0}
 
--- What a store shows: whether it tells what it holds, what it holds where it does, and how often a call has failed.
+-- What a store shows: whether its contents are known, what it then holds, and how often a call has failed.
 pub record StoreState : Type 1 where
   pub tells : Type 0
   pub contents : Contents
   pub faults : ℕ
 
--- A store that tells what it holds, holds nothing, and of which no call failed.
+-- A store of known contents that holds nothing, and of which no call failed.
 pub record IsNewStore (store : StoreState) : Type 0 where
   pub telling : store.tells
   pub empty : store.contents ≡ map.empty
   pub sound : store.faults ≡ 0
 
--- One call of a store. The reply is one that the request can get from any store. A store that tells what it holds answers as a
--- map does, and goes on telling. The count of faults does not fall, and rises where the call fails.
+-- One call of a store. The reply is one that the request can get from any store. A store of known contents answers as a
+-- map does, and its contents stay known. The count of faults does not fall, and rises where the call fails.
 pub record IsStoreCall (q : Request) (r : Reply) (old new : StoreState) : Type 0 where
   pub telling : old.tells → new.tells
   pub performed : old.tells → Performs q r old.contents new.contents

@@ -1,4 +1,4 @@
-//! Whether a condition holds of what stands at a key.
+//! Whether a condition holds of what is at a key.
 ghost use Rattle.std.specs.Prelude.{◌≡◌, ◌&&◌, Some};
 ghost use Rattle.std.specs.Option.{option_copied, option_map};
 ghost use Rattle.sdb_types.specs.declared.key.Key.{Key};

@@ -38,7 +38,7 @@ pub struct Calls {
     ghost fewer: { failed ≤ made },
 }
 
-// By hand: each drop is then one call, where a derived one stands at each place with a call for each field.
+// By hand: each drop is then one call, where a derived one is written out at each exit, with a call for each field.
 impl Drop for Calls {
     fn drop(self) {
         let Calls {

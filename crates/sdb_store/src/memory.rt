@@ -18,7 +18,7 @@ pub struct Memory<R: Rows> {
     calls: Calls,
 }
 
-// By hand: each drop is then one call, where a derived one stands at each place with a call for each field.
+// By hand: each drop is then one call, where a derived one is written out at each exit, with a call for each field.
 impl<R: Rows> Drop for Memory<R> {
     fn drop(self) {
         let Memory { rows: _, calls: _ } = self;

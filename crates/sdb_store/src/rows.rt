@@ -36,7 +36,7 @@ pub trait Rows: Drop {
         ensures ok { OnOk result (contents self.new ≡ map.remove (contents self.old) key.now) }
         ensures err { OnErr result (contents self.new ≡ contents self.old) };
 
-    /// Puts a record at its key, where the condition holds of what stands there.
+    /// Puts a record at its key, where the condition holds of what is there.
     fn put(&mut self, rec: &Record, condition: &Condition) -> Result<Reply, NoMemory>
         ensures ok { IfOk result (λ reply. Answers (PutIf rec.now condition.now) reply (contents self.old) (contents self.new)) }
         ensures err { OnErr result (contents self.new ≡ contents self.old) }
@@ -49,7 +49,7 @@ pub trait Rows: Drop {
         Ok(Reply::Applied)
     }
 
-    /// Takes the record at a key out, where the condition holds of what stands there.
+    /// Takes the record at a key out, where the condition holds of what is there.
     fn delete(&mut self, key: &Key, condition: &Condition) -> Result<Reply, NoMemory>
         ensures ok { IfOk result (λ reply. Answers (DeleteIf key.now condition.now) reply (contents self.old) (contents self.new)) }
         ensures err { OnErr result (contents self.new ≡ contents self.old) }

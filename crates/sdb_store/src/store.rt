@@ -6,10 +6,10 @@ use sdb_types::{Condition, Key, Record, Reply, Request, Span};
 
 /// Records by key. Each call takes effect at once, wholly or not at all.
 ///
-/// A store that tells what it holds answers as a map from key to record does. `Reply::Fault` says that the call failed:
+/// A store of known contents answers as a map from key to record does. `Reply::Fault` says that the call failed:
 /// it may have taken effect or not. `Reply::NoMemory` says that it took none.
 pub trait Store: Drop {
-    /// What it shows: whether it tells what it holds, what it holds where it does, and how often a call has failed.
+    /// What it shows: whether its contents are known, what it then holds, and how often a call has failed.
     ghost state: { Self → StoreState };
 
     /// Finds the record at a key.
@@ -20,11 +20,11 @@ pub trait Store: Drop {
     fn scan(&mut self, span: &Span) -> Reply
         ensures called { IsStoreCall (Scan span.now) result (state self.old) (state self.new) };
 
-    /// Puts a record at its key, where the condition holds of what stands there.
+    /// Puts a record at its key, where the condition holds of what is there.
     fn put_if(&mut self, rec: &Record, condition: &Condition) -> Reply
         ensures called { IsStoreCall (PutIf rec.now condition.now) result (state self.old) (state self.new) };
 
-    /// Takes the record at a key out, where the condition holds of what stands there.
+    /// Takes the record at a key out, where the condition holds of what is there.
     fn delete_if(&mut self, key: &Key, condition: &Condition) -> Reply
         ensures called { IsStoreCall (DeleteIf key.now condition.now) result (state self.old) (state self.new) };
 }

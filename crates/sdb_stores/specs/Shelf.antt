@@ -12,7 +12,7 @@ use Rattle.sdb_types.specs.Contents.{Contents, CanAnswer}
 use Rattle.sdb_store.specs.Store.{StoreState, Performs, HasCause}
 use Rattle.sdb_stores.specs.declared.place.Place.{Place}
 
--- a store: its name, what it holds where it tells that, and how often it has failed
+-- a store: its name, what it holds where that is known, and how often it has failed
 pub record Shelf : Type 0 where
   pub name : List ℕ
   pub contents : Contents
@@ -23,7 +23,7 @@ abbrev pub shelf_of : List ℕ → StoreState → Shelf
 shelf_of name store = record { name = name; contents = store.contents; faults = store.faults }
 
 -- what a registry shows: the namespaces that have a place, the stores in the order in which they were attached, and which of them, by
--- their indices, tell what they hold
+-- their indices, have known contents
 pub record Attached : Type 1 where
   pub places : List Place
   pub shelves : List Shelf
@@ -40,11 +40,11 @@ attached_as name see places slots = record {
 abbrev pub names_of : List Shelf → List (List ℕ)
 names_of shelves = map (λ s. s.name) shelves
 
--- no name stands twice
+-- no name comes twice
 abbrev pub AreDistinct : List (List ℕ) → Type 0
 AreDistinct names = AllPairs ◌≢◌ names
 
--- where a name stands
+-- where a name is
 abbrev pub place_of : List ℕ → List (List ℕ) → Option ℕ
 place_of name names = position (λ n. bytes_eq n name) names
 
@@ -60,7 +60,7 @@ abbrev pub home_of : Option (List ℕ) → List (List ℕ) → ℕ
 home_of None names = 0
 home_of (Some store) names = unwrap_or (place_of store names) 0
 
--- where the store of a namespace stands: the one that it is placed on, and otherwise the first
+-- where the store of a namespace is: the one that it is placed on, and otherwise the first
 abbrev pub home : List ℕ → List Place → List (List ℕ) → ℕ
 home ns places names = home_of (placed_on ns places) names
 
@@ -83,8 +83,7 @@ table_of (ask.Scan span) = span.table
 table_of (ask.PutIf r condition) = r.key.table
 table_of (ask.DeleteIf key condition) = key.table
 
--- One call on the store at that place. Every other store stays as it was, and each store that told what it holds goes
--- on telling it.
+-- One call on the store at that place. Every other store stays as it was, and known contents stay known.
 pub record IsCallAt (at : ℕ) (q : Request) (r : Reply) (old new : Attached) : Type 0 where
   pub before : Shelf
   pub now : Shelf
@@ -101,7 +100,7 @@ pub record IsCallAt (at : ℕ) (q : Request) (r : Reply) (old new : Attached) : 
 abbrev pub total_faults : List Shelf → ℕ
 total_faults shelves = sum_by (λ s. s.faults) shelves
 
--- These are the places. The stores are as they were, and each that told what it holds goes on telling it.
+-- These are the places. The stores are as they were, and known contents stay known.
 pub record HavePlaces (left : List Place) (old new : Attached) : Type 0 where
   pub places : new.places ≡ left
   pub shelves : new.shelves ≡ old.shelves
@@ -111,7 +110,7 @@ pub record HavePlaces (left : List Place) (old new : Attached) : Type 0 where
 abbrev pub StayTheSame : Attached → Attached → Type 0
 StayTheSame old new = HavePlaces old.places old new
 
--- A store was added after the others, and each tells what it told. The places are as they were.
+-- A store was added after the others, and known contents stay known. The places are as they were.
 pub record IsAdded (name : List ℕ) (store : StoreState) (old new : Attached) : Type 0 where
   pub shelves : new.shelves ≡ old.shelves ++ shelf_of name store ∷ []
   pub places : new.places ≡ old.places
@@ -119,8 +118,8 @@ pub record IsAdded (name : List ℕ) (store : StoreState) (old new : Attached) :
   pub telling : store.tells → new.tells (length old.shelves)
   pub counted : total_faults new.shelves ≡ total_faults old.shelves + store.faults
 
--- The store of that name was taken out, as this one, with the places that name it. The others stay in their order, each telling
--- what it told.
+-- The store of that name was taken out, as this one, with the places that name it. The others stay in their order, and
+-- known contents stay known.
 pub record IsTakenOut (name : List ℕ) (store : StoreState) (old new : Attached) : Type 0 where
   pub at : ℕ
   pub found : place_of name (names_of old.shelves) ≡ Some at
@@ -132,7 +131,7 @@ pub record IsTakenOut (name : List ℕ) (store : StoreState) (old new : Attached
   pub behind : (i : ℕ) → at ≤ i → old.tells (i + 1) → new.tells i
   pub counted : total_faults new.shelves + store.faults ≡ total_faults old.shelves
 
--- The count of all stores rose, or that of one of them stands at the greatest value of its type.
+-- The count of all stores rose, or that of one of them is the greatest value of its type.
 abbrev pub HaveRisen : List Shelf → List Shelf → Type 0
 HaveRisen old new = (total_faults old < total_faults new) ⊎ Any (λ s. 2 ^ 64 - 1 ≤ s.faults) new
 

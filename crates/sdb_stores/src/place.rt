@@ -14,7 +14,7 @@ pub struct Place {
     pub store: Name,
 }
 
-// By hand: each drop is then one call, where a derived one stands at each place with a call for each field.
+// By hand: each drop is then one call, where a derived one is written out at each exit, with a call for each field.
 impl Drop for Place {
     fn drop(self) {
         let Place { ns: _, store: _ } = self;

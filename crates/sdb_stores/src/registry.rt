@@ -7,7 +7,7 @@ use sdb_types::{Name, Names, NoMemory, Reply, Request, TableName};
 
 /// Stores by name, and the namespaces that are placed on them. A namespace without a place belongs to the first store.
 pub trait Registry {
-    /// What it shows: its places, its stores in the order in which they were attached, and which of them tell what they hold.
+    /// What it shows: its places, its stores in the order in which they were attached, and which of them have known contents.
     ghost state: { Self → Attached };
 
     /// How many stores are attached.

@@ -31,7 +31,7 @@ pub struct Stores {
     ghost distinct: { AreDistinct (map (λ slot. slot.name) slots.items) },
 }
 
-// By hand: each drop is then one call, where a derived one stands at each place with a call for each field.
+// By hand: each drop is then one call, where a derived one is written out at each exit, with a call for each field.
 impl Drop for Stores {
     fn drop(self) {
         let Stores {
@@ -56,7 +56,7 @@ impl Named for Slot {
     }
 }
 
-// Where the item of that name stands.
+// Where the item of that name is.
 fn place_in<T: Named>(items: &[T], name: &Name) -> Option<usize>
     ensures { result ≡ position (λ item. bytes_eq (T.name item) name.now) items.now }
 {
@@ -83,14 +83,14 @@ impl Stores {
         }
     }
 
-    // Where the store of that name stands.
+    // Where the store of that name is.
     fn index_of(&self, name: &Name) -> Option<usize>
         ensures { result ≡ index_in (⟦<Stores as Registry>⟧.state self.now) name.now }
     {
         place_in(&self.slots, name)
     }
 
-    // Where the store of a namespace stands.
+    // Where the store of a namespace is.
     fn home_of(&self, ns: &Name) -> usize
         ensures { result ≡ home_in (⟦<Stores as Registry>⟧.state self.now) ns.now }
     {
@@ -100,7 +100,7 @@ impl Stores {
         }
     }
 
-    /// Adds a store behind the others. A store that is refused is handed back.
+    /// Adds a store after the others. A store that is refused is handed back.
     pub fn attach(&mut self, name: Name, store: Box<dyn Store>) -> Result<(), AttachRefused>
         ensures ok { OnOk result (IsAdded name (state store) (⟦<Stores as Registry>⟧.state self.old) (⟦<Stores as Registry>⟧.state self.new)) }
         ensures err { OnErr result (StayTheSame (⟦<Stores as Registry>⟧.state self.old) (⟦<Stores as Registry>⟧.state self.new)) }
@@ -119,7 +119,7 @@ impl Stores {
         }
     }
 
-    /// Takes a store out and hands it back as it stands, with the places that name it.
+    /// Takes a store out and hands it back as it is, with the places that name it.
     pub fn detach(&mut self, name: &Name) -> Option<Box<dyn Store>>
         ensures none { IfNone result (index_in (⟦<Stores as Registry>⟧.state self.old) name.now ≡ None) }
         ensures unchanged { IfNone result (StayTheSame (⟦<Stores as Registry>⟧.state self.old) (⟦<Stores as Registry>⟧.state self.new)) }

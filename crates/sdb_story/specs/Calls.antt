@@ -86,7 +86,7 @@ pub record RowsMade (ms : List Made) (a : Access) (images left : List Record) : 
   pub found : images ≡ somes settled
   pub others : AllByRecursion (λ m. reads_rows m ≡ false) more
 
--- the calls that a read has made where it stands
+-- the calls that a read has made where it is
 abbrev pub ReadMade : List Made → Access → ReadAt → Type 0
 ReadMade ms a Asking = ms ≡ []
 ReadMade ms a (Resolving images rec meta p left) = RowsMade ms a images (rec ∷ left) × IsHeldBy rec meta.id × PhaseLearned ms meta.id p

@@ -99,7 +99,7 @@ IsNotOf t role = Unit {0}
 abbrev pub IsApart : List Played → ℕ → Role → Type 0
 IsApart past c role = (t : ℕ) → (talk past).owner t ≡ c → (talk past).begun t ≢ 0 → IsNotOf t role
 
--- Where the client stands after it, it has begun as many transactions and has none in its hands that it hadn't.
+-- Where the client is after it, it has begun as many transactions and has none in its hands that it hadn't.
 pub record KeepsHold (c : ℕ) (sys next : SystemAt) : Type 0 where
   pub begun : next.begun c ≡ sys.begun c
   pub hold : (t : ℕ) → Has (next.clients c) t → Has (sys.clients c) t
@@ -193,7 +193,7 @@ AllStories events past sys told = (c : ℕ) → StoryOk events past sys c (told 
 abbrev pub with_told : (ℕ → Telling) → ℕ → Telling → ℕ → Telling
 with_told told c x d = at told c x d
 
--- a turn of one client leaves where the others stand, and how many transactions they have begun
+-- a turn of one client leaves where the others are, and how many transactions they have begun
 pub record OthersStand (c : ℕ) (sys next : SystemAt) : Type 0 where
   pub clients : (d : ℕ) → d ≢ c → next.clients d ≡ sys.clients d
   pub begun : (d : ℕ) → d ≢ c → next.begun d ≡ sys.begun d

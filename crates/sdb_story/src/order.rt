@@ -42,8 +42,8 @@ pub fn order_runs_whole()
         → (e : Tables) × RunsWhole catalog fit plan ran order empty e × ShowsTables places (closing opening ss) e }
 {}
 
-/// Over a run whose parts are those that the texts tell, where each recorded transaction did and said so: there are tables to print
-/// with which the run owes its clients nothing, and the order keeps real time.
+/// Over a run whose parts are those that the texts say, where each recorded transaction did and said so: there are tables to
+/// print with which the run owes its clients nothing, and the order keeps real time.
 pub fn run_is_told()
     ensures { (catalog : List Table) (fit : Tables → Bool) (plan : ℕ → Plan) (places : List Place) (opening : List Shelf) (played : List Played) (ss : List (List Shelf)) (ran : ℕ → Execution) (order : List Point) → IsRunOf plan places opening (newest_first played) ss → IsFaithful (events_of played) (newest_first played)
         → IsOrder places (events_of played) (closing opening ss) order → All (λ (p : Point). p.id.0 < 2 ^ 128) order → IsFitting catalog fit → AllBodiesSaid catalog fit plan (events_of played) (newest_first played) ran (numbers_of order)

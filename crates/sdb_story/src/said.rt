@@ -52,7 +52,7 @@ pub fn story_is_filed()
 {}
 
 /// Where a turn of one client leaves all so of all clients, and its own story goes on, all stories go on: it leaves where the others
-/// stand.
+/// are.
 pub fn stories_go_on()
     ensures all { (t : StoryTurn) → AllStories (t.events ++ t.turn.event ∷ []) (t.turn ∷ t.past) t.next (with_told t.told t.client t.more) }
     ensures moved { (sys : SystemAt) (c : ℕ) (x : ClientAt) → OthersStand c sys (with_client sys c x) }

@@ -18,7 +18,7 @@ pub fn story_grows()
     ensures kept { (whole : List Finished) (rest : Rest) (s : Said) → AllByRecursion IsFinished whole → IsRest rest → MayCome rest s → IsStory (settle whole rest s) }
 {}
 
-/// Of a story's transactions the texts tell when each began and what its COMMIT is: of the k-th that ended, of the open one, and
+/// Of a story's transactions the texts say when each began and what its COMMIT is: of the k-th that ended, of the open one, and
 /// that there is no other.
 pub fn story_tells()
     ensures finished { (events : List Event) (id : TxId) (whole : List Finished) (more : List Said) (k : ℕ) (f : Finished) → said (client_of id) events ≡ saids_of whole ++ more → ordinal_of id ≡ suc k → AllByRecursion IsFinished whole → finished_at whole k ≡ Some f
@@ -38,12 +38,12 @@ pub fn story_bodies()
 {}
 
 /// Where each client's story is filed, and no transaction of ordinal 0 was taken, the parts that are played are those that the texts
-/// tell.
+/// say.
 pub fn faithful()
     ensures { (events : List Event) (past : List Played) → ((c : ℕ) → Filed c events past) → ((c : ℕ) → (talk past).taken (c * 2 ^ 64) ≡ true → ⊥) → IsFaithful events past }
 {}
 
-/// Where all is so of all clients, and each client has its story, the parts that are played are those that the texts tell.
+/// Where all is so of all clients, and each client has its story, the parts that are played are those that the texts say.
 pub fn clients_are_faithful()
     ensures { (plan : ℕ → Plan) (events : List Event) (past : List Played) (sys : SystemAt) (told : ℕ → Telling) → SystemOk plan past sys → AllStories events past sys told → IsFaithful events past }
 {}

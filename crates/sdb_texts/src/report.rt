@@ -148,7 +148,7 @@ fn put_take(
     Ok(())
 }
 
-// The front of a call's line, up to its request.
+// The start of a call's line, up to its request.
 fn put_asked(out: &mut String, client: u32, store: &Name, request: &Request) -> Result<(), NoMemory>
     ensures { OnOk result (string_bytes out.new ≡ string_bytes out.old ++ asked_text_of client store.now request.now) }
 {

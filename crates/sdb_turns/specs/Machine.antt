@@ -1,4 +1,4 @@
--- Where the machine of a read stands, as the laws of clients say it.
+-- Where the machine of a read is, as the laws of clients say it.
 use Rattle.sdb_types.specs.declared.record.Record.{Record}
 use Rattle.sdb_read.specs.declared.read.ReadStep.TheVariants as step
 use Rattle.sdb_read.specs.Read as machine

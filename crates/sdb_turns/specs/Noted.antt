@@ -50,7 +50,7 @@ IsReadOk notes r = (is_noted notes r.key ≡ true) × (r.version ≡ version_of 
 abbrev pub is_found : Scan → Key → Bool
 is_found x q = list_any (λ r. same_key q r.key) x.found
 
--- what a scan found stands in the order of keys, and was read at each key of its span
+-- what a scan found is in the order of keys, and was read at each key of its span
 abbrev pub IsScanOk : List Played → Scan → Type 0
 IsScanOk past s = (reads_rise s.found ≡ true) × ((k : Key) → in_span s.span k ≡ true → IsReadThere past k (version_among s.found k))
 

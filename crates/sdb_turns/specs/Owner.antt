@@ -1,4 +1,4 @@
--- What a COMMIT plays in the law of the protocol, and what it knows where it stands.
+-- What a COMMIT plays in the law of the protocol, and what it knows where it is.
 use Rattle.std.specs.Prelude.{◌≡◌, ◌≢◌, ◌⊎◌, ◌≤◌, ◌<◌, ◌^◌, ℕ, true, false, not, if◌then◌else◌, List, ◌++◌, map, filter, length, Option, Some, None, slice_get}
 use Rattle.sdb_types.specs.declared.key.Key.{Key}
 use Rattle.sdb_types.specs.declared.record.Reply.{Reply}
@@ -130,7 +130,7 @@ OverOk plan past p outcome.Committed = IsKnownCommitted plan past p.id.0 p.now
 OverOk plan past p (outcome.Unknown id) = id ≡ p.id
 OverOk plan past p a = IsKnownAborted past p.id.0 ⊎ ((talk past).risked p.id.0 ≡ false) ⊎ IsBadRow past p.id.0
 
--- What the events have said where a COMMIT stands at a stage.
+-- What the events have said where a COMMIT is at a stage.
 abbrev pub StageOk : (ℕ → Plan) → List Played → Work → Stage → Type 0
 StageOk plan past p (Preparing i) = ((talk past).stage p.id.0 ≡ laws.Preparing) × ToldTo (talk past) p i × AskedTo (talk past) p i × UnaskedFrom (talk past) p i × ((talk past).risked p.id.0 ≡ false)
 StageOk plan past p (Checking i) = ((talk past).stage p.id.0 ≢ laws.Deciding) × ToldTo (talk past) p (length p.writes) × AskedTo (talk past) p (length p.writes) × CheckedTo (talk past) p i × AgreesTo p i × ((talk past).risked p.id.0 ≡ false)
@@ -141,7 +141,7 @@ StageOk plan past p (Stopping a n) = AskedTo (talk past) p n × ((talk past).ris
 StageOk plan past p (Back a n i) = AskedTo (talk past) p n × IsKnownAborted past p.id.0 × IsLost a × (i < n)
 StageOk plan past p (Over a) = OverOk plan past p a
 
--- A client's COMMIT stands at a stage: it is open and its own, its plan is what it writes and has noted, and the events said
+-- A client's COMMIT is at a stage: it is open and its own, its plan is what it writes and has noted, and the events said
 -- what the stage needs.
 pub record CommitOk (plan : ℕ → Plan) (past : List Played) (c : ℕ) (p : Work) (s : Stage) : Type 0 where
   pub work : WorkOk p

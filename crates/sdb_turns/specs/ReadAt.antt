@@ -47,8 +47,8 @@ kind_of r = if is_taken r then kind_by (checked r.columns) else Bad
 
 ---- the model
 
--- Where a read stands: its rows are asked for; it resolves a record, with the images of the rows before and the rows left; it
--- has an image of each row that stands for one; or it has failed.
+-- Where a read is: its rows are asked for; it resolves a record, with the images of the rows before and the rows left; it
+-- has an image of each row that means one; or it has failed.
 pub data ReadAt : Type 0 where
   Asking : ReadAt
   Resolving : (images : List Record) (rec : Record) (meta : Meta) (phase : RecoverPhase) (left : List Record) → ReadAt
@@ -124,7 +124,7 @@ keys_of rs = map (λ r. r.key) rs
 abbrev pub IsOfData : Access → Type 0
 IsOfData a = (k : Key) → in_access a k ≡ true → is_data k ≡ true
 
--- What the client knows where a read stands: of each image and each row left; the keys are those of the access, in order.
+-- What the client knows where a read is: of each image and each row left; the keys are those of the access, in order.
 abbrev pub ReadOk : List Played → Access → ReadAt → Type 0
 ReadOk past a Asking = Unit {0}
 ReadOk past a (Resolving images rec meta p left) = AllByRecursion (IsImage past) images × RecoverOk past rec meta p × AllByRecursion (IsLeft past) left × InPlace a (keys_of images ++ rec.key ∷ keys_of left)

@@ -25,7 +25,7 @@ use Rattle.sdb_read.specs.Read.{Kind, Firm, Open, Bad}
 
 ---- the model
 
--- Where a VACUUM stands: the rows of a table are asked for; it resolves a record, with the rows left; it removes a tombstone,
+-- Where a VACUUM is: the rows of a table are asked for; it resolves a record, with the rows left; it removes a tombstone,
 -- with the rows left; or no call is pending: a table is done, or it has failed.
 pub data SweepAt : Type 0 where
   Scanning : (span : Span) → SweepAt
@@ -95,7 +95,7 @@ sweep_role Between r = Other
 
 ---- what its client knows
 
--- What the client knows where a VACUUM stands: of the record in hand, and of each row left.
+-- What the client knows where a VACUUM is: of the record in hand, and of each row left.
 abbrev pub SweepOk : List Played → SweepAt → Type 0
 SweepOk past (Scanning span) = IsOfData (access.Scan span)
 SweepOk past (Resolving rec meta p left) = RecoverOk past rec meta p × AllByRecursion (IsLeft past) left

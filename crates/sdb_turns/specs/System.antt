@@ -1,4 +1,4 @@
--- Several clients: where each stands, and what is so of all of them after the events so far.
+-- Several clients: where each is, and what is so of all of them after the events so far.
 use Rattle.std.specs.Prelude.{◌≡◌, ◌≢◌, ◌⊎◌, ◌≤◌, ◌<◌, ◌+◌, ◌/◌, ◌%◌, ◌^◌, ℕ, ℤ, Bool, true, false, List, Option, Some, None}
 use Rattle.sdb_types.specs.declared.txid.TxId.{TxId}
 use Rattle.sdb_types.specs.declared.record.Request.{Request}
@@ -30,7 +30,7 @@ use Rattle.sdb_turns.specs.Sweep.{SweepAt, SweepOk}
 
 ---- clients
 
--- Where a client stands: no transaction of it is open; one is, with what it has read and written, and makes no call; a statement
+-- Where a client is: no transaction of it is open; one is, with what it has read and written, and makes no call; a statement
 -- of one reads; one commits; the client runs VACUUM; or it has stopped.
 pub data ClientAt : Type 0 where
   Resting : ClientAt
@@ -74,12 +74,12 @@ Gate h = (u : ℕ) → h.is_open u ≡ true → h.stopped (h.owner u) ≡ true
 
 ---- all clients
 
--- Where each client stands, and how many transactions each has begun.
+-- Where each client is, and how many transactions each has begun.
 pub record SystemAt : Type 0 where
   pub clients : ℕ → ClientAt
   pub begun : ℕ → ℕ
 
--- The number of a transaction that has begun tells its client and which of the client's transactions it is, from 1.
+-- The number of a transaction that has begun gives its client and which of the client's transactions it is, from 1.
 pub record IsNumbered (h : Talk) (begun : ℕ → ℕ) (t : ℕ) : Type 0 where
   pub ordinal : 0 < t % 2 ^ 64
   pub most : t % 2 ^ 64 ≤ begun (t / 2 ^ 64)
@@ -95,7 +95,7 @@ pub record SystemOk (plan : ℕ → Plan) (past : List Played) (sys : SystemAt) 
   pub gate : (c : ℕ) → sweeps (sys.clients c) ≡ true → Gate (talk past)
   pub ids : (t : ℕ) → (talk past).begun t ≢ 0 → IsNumbered (talk past) sys.begun t
 
--- with one client standing elsewhere
+-- with one client elsewhere
 abbrev pub with_client : SystemAt → ℕ → ClientAt → SystemAt
 with_client sys c x = record sys { clients = laws.at sys.clients c x }
 
@@ -146,7 +146,7 @@ pub record IsReplyTo (pending : Option Request) (x : ClientCall) : Type 0 where
   pub can : CanAnswer x.request x.reply
   pub moment : is_moment x.now ≡ true
 
--- all is so of all clients, and this one stands there
+-- all is so of all clients, and this one is there
 pub record StandsAt (plan : ℕ → Plan) (past : List Played) (sys : SystemAt) (c : ℕ) (x : ClientAt) : Type 0 where
   pub ok : SystemOk plan past sys
   pub at : sys.clients c ≡ x

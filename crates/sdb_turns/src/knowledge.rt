@@ -62,7 +62,7 @@ pub fn plans_are_free()
     ensures system { (plan other : ℕ → Plan) (past : List Played) (sys : SystemAt) → SamePlans plan other past → SystemOk plan past sys → SystemOk other past sys }
 {}
 
-/// A transaction whose COMMIT was taken has begun, and its number tells which of its client's transactions it is, from 1.
+/// A transaction whose COMMIT was taken has begun, and its number says which of its client's transactions it is, from 1.
 pub fn taken_has_begun()
     ensures { (plan : ℕ → Plan) (past : List Played) (sys : SystemAt) (t : ℕ) → SystemOk plan past sys → (talk past).taken t ≡ true → 0 < t % 2 ^ 64 }
 {}

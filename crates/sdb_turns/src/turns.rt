@@ -1,4 +1,4 @@
-//! Turns: each event of a client, where it stands, keeps what is so of all clients.
+//! Turns: each event of a client, where it is, keeps what is so of all clients.
 ghost use Rattle.std.specs.Prelude.{ℕ, ℤ, List};
 ghost use Rattle.sdb_types.specs.declared.record.Record.{Record};
 ghost use Rattle.sdb_model.specs.declared.event.Event.{Event};
@@ -42,14 +42,14 @@ pub fn vacuum_turn()
     ensures { (k : Knowledge) (kind : Record → Kind) (r : AnsweredSweep k.sys) → AreKinds kind → TurnsAt k (sweep_played r) r.call.client (sweep_after kind r) }
 {}
 
-/// A statement that is taken, answered or not, an idle step, a move of the clock, a get or a scan: all clients stand where they
-/// stood. Such an event may end a transaction that makes no call and whose COMMIT was not taken.
+/// A statement that is taken, answered or not, an idle step, a move of the clock, a get or a scan: all clients are where they
+/// were. Such an event may end a transaction that makes no call and whose COMMIT was not taken.
 pub fn quiet_turn()
     ensures stays { (k : Knowledge) (e : Event) → IsQuiet e → TurnsTo k (plays Other e) k.sys }
     ensures ends { (k : Knowledge) (o : OpenClient k.sys) (e : Event) → IsBy o.client e → IsQuiet e → TurnsAt k (ends_with o.id.0 Other e) o.client Resting }
 {}
 
-/// A client stops, wherever it stands.
+/// A client stops, wherever it is.
 pub fn stop_turn()
     ensures { (k : Knowledge) (c : ℕ) → TurnsAt k (plays (Stops c) (event.Stop c)) c Stopped }
 {}

@@ -40,7 +40,7 @@ pub struct Txn {
     doing: Doing,
 }
 
-// By hand: each drop is then one call, where a derived one stands at each place with a call for each field.
+// By hand: each drop is then one call, where a derived one is written out at each exit, with a call for each field.
 impl Drop for Txn {
     fn drop(self) {
         let Txn {

@@ -78,7 +78,7 @@ abbrev pub is_version : TxId → State → Record → Bool
 is_version id state r =
     has_value (column r.columns tx_id) (value.Text (id_text id.0)) && has_value (column r.columns tx_state) (value.Int (state_number state))
 
--- The condition holds of what stands at a key.
+-- The condition holds of what is at a key.
 abbrev pub holds : Condition → Option Record → Bool
 holds Absent None = true
 holds Absent (Some r) = false
@@ -110,7 +110,7 @@ after (ask.DeleteIf key condition) m = if holds condition (record_at m key) then
 abbrev pub apply : Request → Contents → Reply × Contents
 apply q m = (reply_to q m, after q m)
 
----- what any store may answer, whether or not it tells what it holds
+---- what any store may answer, whether or not its contents are known
 
 abbrev pub starts_after : Key → List Record → Bool
 starts_after key [] = true

@@ -5,7 +5,7 @@ use Rattle.std.specs.Prelude.{◌≡◌, ℕ, zero, suc, ◌+◌, ◌-◌, ◌%�
 abbrev pub IsMoment : ℤ → Type 0
 IsMoment moment = (pos 0 ≤ℤ moment) × (moment ≤ℤ pos (2 ^ 53))
 
--- The answer was added at the end of those given before. What tells its answers after a call told them before it.
+-- The answer was added at the end of those given before. Answers that are known after a call were known before it.
 abbrev pub Tells : {X : Type 0} → X → Option (List X) → Option (List X) → Type 0
 Tells answer old None = Unit {0}
 Tells answer None (Some new) = ⊥
@@ -16,7 +16,7 @@ abbrev pub first_answers : {X : Type 0} → (ℕ → X) → ℕ → List X
 first_answers f zero = []
 first_answers f (suc n) = first_answers f n ++ f n ∷ []
 
--- the answers to the calls made so far, told until call 2^64 - 1
+-- the answers to the calls made so far, known until call 2^64 - 1
 abbrev pub answers_told : {X : Type 0} → (ℕ → X) → ℕ → Option (List X)
 answers_told f made = if nat_lt made (2 ^ 64 - 1) then Some (first_answers f made) else None
 

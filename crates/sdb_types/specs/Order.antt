@@ -52,7 +52,7 @@ name_cmp = slice_cmp nat_cmp
 abbrev pub table_cmp : TableName → TableName → Ordering
 table_cmp a b = ordering_then (name_cmp a.ns b.ns) (name_cmp a.table b.table)
 
--- by table, then by partition and by clustering values, item by item, a front first
+-- by table, then by partition and by clustering values, item by item, a prefix first
 abbrev pub key_cmp : Key → Key → Ordering
 key_cmp a b =
     ordering_then (table_cmp a.table b.table) (ordering_then (slice_cmp value_cmp a.partition b.partition) (slice_cmp value_cmp a.clustering b.clustering))

@@ -30,7 +30,7 @@ impl Model for Columns {
     ghost invariant = { λ c. are_columns c.pairs ≡ true };
 }
 
-// By hand: each drop is then one call, where a derived one stands at each place with a call for each field.
+// By hand: each drop is then one call, where a derived one is written out at each exit, with a call for each field.
 impl Drop for Columns {
     fn drop(self) {
         let Columns { pairs: _ } = self;
@@ -46,7 +46,7 @@ fn is_null_value(value: &Value) -> bool
     }
 }
 
-// Where the name stands, or would stand.
+// Where the name is, or would be.
 fn place_of(pairs: &[Pair], name: &Name) -> usize
     requires { are_columns pairs.now ≡ true }
     ensures { result ≡ place_in name.now pairs.now }

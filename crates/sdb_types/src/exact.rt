@@ -1,4 +1,4 @@
-//! Equality that tells values apart.
+//! Equality that distinguishes values.
 ghost use Rattle.std.specs.Prelude.{◌≡◌, true, IsTrue, ◌↔◌};
 ghost use Rattle.std.specs.Cmp.{unsigned_Decides, signed_Decides, booleans_Decides};
 ghost use Rattle.std.specs.Cmp.Lexicographic.{pointwise_decides, bytes_decides};

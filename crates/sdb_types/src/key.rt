@@ -14,7 +14,7 @@ pub struct TableName {
     pub table: Name,
 }
 
-// By hand: each drop is then one call, where a derived one stands at each place with a call for each field.
+// By hand: each drop is then one call, where a derived one is written out at each exit, with a call for each field.
 impl Drop for TableName {
     fn drop(self) {
         let TableName { ns: _, table: _ } = self;
@@ -38,7 +38,7 @@ pub struct Key {
     pub clustering: Values,
 }
 
-// By hand: each drop is then one call, where a derived one stands at each place with a call for each field.
+// By hand: each drop is then one call, where a derived one is written out at each exit, with a call for each field.
 impl Drop for Key {
     fn drop(self) {
         let Key {
@@ -61,7 +61,7 @@ impl Duplicate for Key {
 
 impl Key {
     /// The order of keys: by namespace and table, then by partition, then by clustering. Lists compare item by
-    /// item, and a front stands before the whole. Takes no memory.
+    /// item, and a prefix comes before the whole. Takes no memory.
     pub fn compare(&self, other: &Key) -> Ordering
         ensures { result ≡ key_cmp self.now other.now }
     {

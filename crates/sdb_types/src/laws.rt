@@ -28,7 +28,7 @@ pub fn value_order()
     ensures itself { (a : Value) → value_cmp a a ≡ Equal }
 {}
 
-/// Tables stand in the order of their texts.
+/// Tables are in the order of their texts.
 pub fn table_order()
     ensures { (a b : TableName) → is_name a.ns ≡ true → is_name b.ns ≡ true → slice_cmp nat_cmp (table_text a) (table_text b) ≡ table_cmp a b }
 {}
@@ -42,7 +42,7 @@ pub fn columns_map()
     ensures equal { (a b : List Pair) → are_columns a ≡ true → are_columns b ≡ true → ((name : List ℕ) → column a name ≡ column b name) → a ≡ b }
 {}
 
-/// What a store that tells its contents answers is a reply that the request can get from any store.
+/// What a store of known contents answers is a reply that the request can get from any store.
 pub fn store_replies()
     ensures { (q : Request) (m : Contents) → CanAnswer q (reply_to q m) }
 {}

@@ -66,7 +66,7 @@ impl Model for Name {
     ghost invariant = { λ n. is_name (text_bytes n.text) ≡ true };
 }
 
-// By hand: each drop is then one call, where a derived one stands at each place with one for each form of the text.
+// By hand: each drop is then one call, where a derived one is written out at each exit, with one for each form of the text.
 impl Drop for Name {
     fn drop(self) {
         let Name { text: _ } = self;

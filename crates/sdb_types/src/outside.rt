@@ -16,13 +16,13 @@ pub enum SinkRefused {
 
 /// Where bytes come from.
 pub trait Source {
-    /// The bytes left, where it tells them.
+    /// The bytes left, where they are known.
     ghost remaining: { Self → Option (List ℕ) };
 
-    /// How often it has failed. The count never falls, and may stand at the greatest u64.
+    /// How often it has failed. The count never falls, and may be the greatest u64.
     ghost faults: { Self → ℕ };
 
-    /// Reads bytes into the front of the buffer, and says how many. None is the end, and comes only there. It fails only
+    /// Reads bytes into the start of the buffer, and says how many. None is the end, and comes only there. It fails only
     /// where the count rose, and then takes nothing.
     fn read(&mut self, buffer: &mut [u8]) -> Result<usize, Failed>
         requires { 0 < length buffer.old }
@@ -36,13 +36,13 @@ pub trait Source {
 
 /// Where bytes go.
 pub trait Sink {
-    /// The bytes written, where it tells them.
+    /// The bytes written, where they are known.
     ghost written: { Self → Option (List ℕ) };
 
-    /// How often it has failed. The count never falls, and may stand at the greatest u64.
+    /// How often it has failed. The count never falls, and may be the greatest u64.
     ghost faults: { Self → ℕ };
 
-    /// Writes bytes from the front of a piece, and says how many. It answers Failed only where the count rose. A refused
+    /// Writes bytes from the start of a piece, and says how many. It answers Failed only where the count rose. A refused
     /// call writes nothing.
     fn write(&mut self, bytes: &[u8]) -> Result<usize, SinkRefused>
         requires { 0 < length bytes.now }
@@ -55,7 +55,7 @@ pub trait Sink {
 
 /// Where the time comes from, in milliseconds.
 pub trait Clock {
-    /// The answers given so far, where it tells them.
+    /// The answers given so far, where they are known.
     ghost told: { Self → Option (List ℤ) };
 
     /// The time, from 0 to 2^53. It takes no memory.
@@ -67,7 +67,7 @@ pub trait Clock {
 
 /// Where ids of transactions come from.
 pub trait Ids {
-    /// The answers given so far, where it tells them.
+    /// The answers given so far, where they are known.
     ghost told: { Self → Option (List ℕ) };
 
     /// An id, of any bits. It takes no memory.

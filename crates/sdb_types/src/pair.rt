@@ -12,7 +12,7 @@ pub struct Pair {
     pub value: Value,
 }
 
-// By hand: each drop is then one call, where a derived one stands at each place with a call for each field.
+// By hand: each drop is then one call, where a derived one is written out at each exit, with a call for each field.
 impl Drop for Pair {
     fn drop(self) {
         let Pair { name: _, value: _ } = self;

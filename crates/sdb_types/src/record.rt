@@ -9,14 +9,14 @@ use crate::seq::Seq;
 use crate::txid::TxId;
 use crate::value::Values;
 
-/// A record of a store. Its key columns stand in its key alone.
+/// A record of a store. Its key columns are in its key alone.
 #[derive(Debug, PartialEq, Eq)]
 pub struct Record {
     pub key: Key,
     pub columns: Columns,
 }
 
-// By hand: each drop is then one call, where a derived one stands at each place with a call for each field.
+// By hand: each drop is then one call, where a derived one is written out at each exit, with a call for each field.
 impl Drop for Record {
     fn drop(self) {
         let Record { key: _, columns: _ } = self;
@@ -51,7 +51,7 @@ pub struct Span {
     pub partition: Option<Values>,
 }
 
-// By hand: each drop is then one call, where a derived one stands at each place with a call for each field.
+// By hand: each drop is then one call, where a derived one is written out at each exit, with a call for each field.
 impl Drop for Span {
     fn drop(self) {
         let Span {

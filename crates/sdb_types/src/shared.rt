@@ -27,7 +27,7 @@ impl<T> Model for SharedSeq<T> {
     ghost view = { λ s. option_map_or (λ shared. shared.value) s.items [] };
 }
 
-// By hand: each drop is then one call, where a derived one stands at each place with a call for each field.
+// By hand: each drop is then one call, where a derived one is written out at each exit, with a call for each field.
 impl<T: Drop> Drop for SharedSeq<T> {
     fn drop(self) {
         let SharedSeq { items: _, alloc: _ } = self;

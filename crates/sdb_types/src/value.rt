@@ -27,7 +27,7 @@ pub enum Value {
     Blob(Octets),
 }
 
-// By hand: each drop is then one call, where a derived one stands at each place with a call for each field.
+// By hand: each drop is then one call, where a derived one is written out at each exit, with a call for each field.
 impl Drop for Value {
     fn drop(self) {
         match self {

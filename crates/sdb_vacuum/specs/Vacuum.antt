@@ -19,10 +19,10 @@ use Rattle.sdb_read.specs.Read.{Kind, Firm, Open, Bad, kind_of}
 use Rattle.sdb_vacuum.specs.declared.work.VacuumStep.{VacuumStep}
 use Rattle.sdb_vacuum.specs.declared.work.VacuumStep.TheVariants as step
 
----- where it stands
+---- where it is
 
--- Where a VACUUM stands: the rows of a table are asked for; it resolves a record, with the rows left; it removes a tombstone, with the
--- rows left; or no call is pending.
+-- Where a VACUUM is: the rows of a table are asked for; it resolves a record, with the rows left; it removes a tombstone, with
+-- the rows left; or no call is pending.
 pub data VacuumStage : Type 0 where
   Scanning : (span : Span) → VacuumStage
   Resolving : (rec : Record) (meta : Meta) (phase : RecoverPhase) (left : List Record) → VacuumStage
@@ -141,7 +141,7 @@ step_at ss n Over now r = ends ss n step.NoMemory
 abbrev pub vacuum_step : VacuumAt → ℤ → Reply → VacuumAt × VacuumStep
 vacuum_step v now r = step_at v.spans v.removed v.stage now r
 
--- It stands and answers as the step says; or it is out of memory, and has ended.
+-- The state and the answer are those of the step; or it is out of memory, and has ended.
 abbrev pub Gives : VacuumAt × VacuumStep → VacuumAt → VacuumStep → Type 0
 Gives want v step.NoMemory = v.stage ≡ Over
 Gives want v s = (v ≡ want.0) × (s ≡ want.1)

@@ -15,13 +15,13 @@ use std::collections::VecDeque;
 use std::marker::Model;
 
 /// A VACUUM under way: each table is scanned, in the order of names. Of its rows each unresolved one is resolved, by a recovery, and
-/// each tombstone is removed, by a delete on condition that it still stands.
+/// each tombstone is removed, by a delete on condition that it is still there.
 pub struct Vacuum {
     work: Work,
     doing: Doing,
 }
 
-// By hand: each drop is then one call, where a derived one stands at each place with a call for each field.
+// By hand: each drop is then one call, where a derived one is written out at each exit, with a call for each field.
 impl Drop for Vacuum {
     fn drop(self) {
         let Vacuum { work: _, doing: _ } = self;

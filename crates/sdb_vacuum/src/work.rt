@@ -52,7 +52,7 @@ pub struct Work {
     pub removed: u64,
 }
 
-// By hand: each drop is then one call, where a derived one stands at each place with a call for each field.
+// By hand: each drop is then one call, where a derived one is written out at each exit, with a call for each field.
 impl Drop for Work {
     fn drop(self) {
         let Work {
@@ -73,7 +73,7 @@ fn ends(step: VacuumStep) -> Next
     }
 }
 
-// The delete of a tombstone, on condition that it still stands.
+// The delete of a tombstone, on condition that it is still there.
 #[tactic(auto, using(crate::proofs::Firm::writer_of))]
 fn removal(alloc: Global, tombstone: &Record) -> Result<Request, NoMemory>
     ensures { IfOk result (λ call. remove_request tombstone.now ≡ Some call) }

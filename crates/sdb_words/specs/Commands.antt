@@ -34,7 +34,7 @@ AreWordsOf command.Sql words = words ≡ codes "sql" ∷ []
 AreWordsOf (command.Load table mode n) words = (words ≡ codes "load" ∷ table_text table ∷ mode_text mode ∷ decimal n ∷ []) × IsTable table × IsWithin most_rows n
 AreWordsOf (command.Export table) words = (words ≡ codes "export" ∷ table_text table ∷ []) × IsTable table
 
--- this word stands alone
+-- this word is alone
 abbrev pub is_alone : List ℕ → List (List ℕ) → Bool
 is_alone word [] = false
 is_alone word (only ∷ []) = bytes_eq only word

@@ -40,7 +40,7 @@ const MOST_TRANSACTIONS: u32 = 20_000;
 
 const MOST_ROWS: u32 = 1_000;
 
-// Whether this word stands alone.
+// Whether this word is alone.
 fn is_alone(word: &str, words: &[String]) -> bool
     ensures { result ≡ is_alone_lem word.now (map string_bytes words.now) }
 {
@@ -50,7 +50,7 @@ fn is_alone(word: &str, words: &[String]) -> bool
     }
 }
 
-// The words behind this one, which stands first.
+// The words after this one, which comes first.
 fn behind<'a>(word: &str, words: &'a [String]) -> Option<&'a [String]>
     ensures { MatchOption result ((rest : List (List ℕ)) → map string_bytes words.now ≢ word.now ∷ rest) (λ rest. map string_bytes words.now ≡ word.now ∷ map string_bytes rest.now) }
 {

@@ -6,6 +6,6 @@ use Rattle.sdb_stores.specs.Shelf.{Shelf, total_faults}
 use Rattle.sdb_board.specs.Board.{IsFull}
 
 -- From one moment to another at most as many events more are Broken as the stores' count of failures rose, unless the count of some store
--- stands at the greatest value of its type.
+-- is the greatest value of its type.
 abbrev pub BreaksWithin : List Event → List Event → List Shelf → List Shelf → Type 0
 BreaksWithin before now old new = (broken_in now + total_faults old ≤ broken_in before + total_faults new) ⊎ IsFull new

@@ -1,4 +1,4 @@
--- Which records stand at every moment of what a world does, which events put them there, and that reads are current.
+-- Which records are there at every moment of what a world does, which events put them there, and that reads are current.
 use Rattle.std.specs.Prelude.{List, [], ◌∷◌, ◌++◌}
 use Rattle.std.specs.FinMap.{empty}
 use Rattle.sdb_model.specs.declared.event.Event.{Event}
@@ -14,8 +14,8 @@ use Rattle.sdb_endings.specs.Stores.{AreTaken}
 use Rattle.sdb_world.specs.World.{WorldAt}
 use Rattle.sdb_world.specs.Linked.{IsLinked}
 
--- What stood at each of these moments is explained by the events of a script's run, what each recorded transaction noted is current at
--- its point, and each record that stood at a key of a table passes the checks.
+-- What was there at each of these moments is explained by the events of a script's run, what each recorded transaction noted is
+-- current at its point, and each record that was at a key of a table passes the checks.
 pub record AreExplained (script : Script) (events : List Event) (opening : List Shelf) (moments : List (List Shelf)) : Type 0 where
   pub explained : Explained script.catalog script.places events opening moments
   pub taken : AreTaken script.catalog script.places opening moments
@@ -28,8 +28,8 @@ IsExplained script events opening = (moments : List (List Shelf)) (closing : Lis
 abbrev pub IsShown : Script → List Event → List Shelf → Type 0
 IsShown script events opening = (moments : List (List Shelf)) (closing : List Shelf) → IsTrace script.places events opening moments closing → AreShown script.catalog script.places events opening moments
 
--- Stores, as they are now, end a trace that goes on from these moments and agrees with a world's events, and by these what stood at each
--- moment is explained, and what was noted is current.
+-- Stores, as they are now, end a trace that goes on from these moments and agrees with a world's events, and by these what was
+-- there at each moment is explained, and what was noted is current.
 pub record GoesOnExplained (places : List Place) (v : WorldAt) (opening : List Shelf) (moments : List (List Shelf)) (now : List Shelf) : Type 0 where
   pub traced : IsTrace places v.events opening (moments ++ now ∷ []) now
   pub explained : Explained v.script.catalog places v.events opening (moments ++ now ∷ [])

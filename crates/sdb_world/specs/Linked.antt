@@ -17,7 +17,7 @@ one_name = codes "stores"
 abbrev pub on_one : List Event → List Event
 on_one events = moved_events (λ ns. one_name) events
 
--- The rules of the protocol hold, and each client knows, has said and has run what the events tell, wherever its tables are kept.
+-- The rules of the protocol hold, and each client knows, has said and has run what the events say, wherever its tables are kept.
 abbrev pub IsLinked : WorldAt → Type 0
 IsLinked w = IsGoing w.script.catalog (tables_fit w.script.catalog) (on_one w.events) (system_of (hands_of w.seats)) (doing_of (hands_of w.seats))
 

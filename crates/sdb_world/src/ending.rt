@@ -17,8 +17,8 @@ use std::alloc::Global;
 impl World {
     /// The outcome of a run: its events, the recorded transactions in their order, and the committed rows of what the stores hold, by one
     /// scan of the coordinator's table and of each table. It changes nothing. Where the script was played on stores that are fit for it and
-    /// held nothing of its tables, the outcome is that of a run of the script, what stands at each moment is explained by its events, what
-    /// each recorded transaction noted is current at its point, and no record is bad.
+    /// held nothing of its tables, the outcome is that of a run of the script, what is there at each moment is explained by its
+    /// events, what each recorded transaction noted is current at its point, and no record is bad.
     pub fn outcome<R: Registry>(
         self,
         alloc: Global,

@@ -10,7 +10,7 @@ pub struct Seat {
     pub stopped: bool,
 }
 
-// By hand: each drop is then one call, where a derived one stands at each place with a call for each field.
+// By hand: each drop is then one call, where a derived one is written out at each exit, with a call for each field.
 impl Drop for Seat {
     fn drop(self) {
         let Seat {
