@@ -119,7 +119,7 @@ impl Plan {
     /// First the rows that the plan wants, whatever rows are handed in; then, on the rows read, the answer and the changes.
     /// Rows are handed in in the order of their keys, as reads give them: then BadRecord names the first key in key order
     /// whose row doesn't fit, and the changes are in key order. Takes time linear in the rows, and n log n comparisons for
-    /// the order of the n rows that a SELECT finds. After out of memory the plan is as it was.
+    /// the order of the n rows that a SELECT finds. After `NoMemory` the plan is as it was.
     pub fn next(&mut self, rows: Images) -> Result<PlanStep, NoMemory>
         ensures step { IfOk result (λ s. s ≡ step_of self.old rows) }
         ensures asked { OnOk result (self.new ≡ record self.old { asked = true }) }

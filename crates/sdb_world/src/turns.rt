@@ -118,7 +118,7 @@ impl World {
         }
     }
 
-    /// Makes all moves of the script, one after the other. After out of memory the world isn't used again.
+    /// Makes all moves of the script, one after the other. After `NoMemory` the world isn't used again.
     pub fn follow<R: Registry>(&mut self, stores: &mut R) -> Result<(), NoMemory>
         requires some { 0 < length (R.state stores.old).shelves }
         requires world { IsWorld self.old }

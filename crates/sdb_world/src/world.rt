@@ -265,7 +265,7 @@ impl World {
     /// Does one act, which gives exactly one event: a step of a client, whose call is made on the store of its table and may be lost
     /// or discarded; a stop; a move of the clock. On stores that are fit for the run, and that held nothing of the script's tables when it
     /// began, what is there at each moment is explained by the events, and what each recorded transaction noted is current at its
-    /// point. After out of memory the world isn't used again.
+    /// point. After `NoMemory` the world isn't used again.
     pub fn step<R: Registry>(&mut self, stores: &mut R, act: Act) -> Result<(), NoMemory>
         requires some { 0 < length (R.state stores.old).shelves }
         requires world { IsWorld self.old }
