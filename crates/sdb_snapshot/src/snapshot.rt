@@ -157,6 +157,9 @@ impl Snapshot {
         ensures differs { (key : KeyValue) (found : Option RecordValue) → result ≡ Err (refused_note.Differs key found) → IsFirstDifference self.now.notes span.now images.now key found }
     {
         let keys = self.notes.keys_in(span)?;
+        if keys.len() == 0 {
+            return Ok(());
+        }
         let mut now = Notes::new(self.alloc);
         now.note_all(images.as_slice())?;
         match first_moved(&self.notes, &now, keys.as_slice()) {
