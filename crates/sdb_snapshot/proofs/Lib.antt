@@ -2,6 +2,7 @@ pub mod Keys
 pub mod Fronts
 pub mod Orders
 pub mod Places
+pub mod Scans
 pub mod Opening
 pub mod Shown
 pub mod Differences

@@ -1,12 +1,17 @@
 -- How a transaction keeps what it has read and written.
-use Rattle.std.specs.Prelude.{◌≡◌, Bool, true, List, [], ◌∷◌, map, is_some}
+use Rattle.std.specs.Prelude.{◌≡◌, ℕ, Bool, true, false, List, [], ◌∷◌, map, Option, Some, is_some, slice_get}
 use Rattle.std.specs.FinMap.{get}
+use Rattle.std.specs.List.{position_or_len}
 use Rattle.std.specs.Map.{keys_of}
+use Rattle.std.specs.Option.{option_map_or}
 use Rattle.sdb_types.specs.declared.key.Key.{Key}
+use Rattle.sdb_types.specs.declared.record.Span.{Span}
 use Rattle.sdb_types.specs.Contents.{Contents}
+use Rattle.sdb_record.specs.declared.access.Scan.{Scan}
 use Rattle.sdb_record.specs.declared.write.Write.{Write}
 use Rattle.sdb_snapshot.specs.Noted.{Note, AreBases, is_noted, note_at, base_at, has_moved}
 use Rattle.sdb_snapshot.specs.Written.{AreWrites, HaveBases, HaveKeysOnce, is_written}
+use Rattle.sdb_snapshot.specs.Seen.{is_scanned, same_span}
 
 -- the keys noted stand in a tree
 abbrev pub InOrder : List Note → Contents → Type 0
@@ -15,6 +20,18 @@ InOrder notes order = (q : Key) → is_noted notes q ≡ true → is_some (get o
 -- the keys of a map are those of the writes, each at its place
 abbrev pub ArePlaces : List (Key × Unit {0}) → List Write → Type 0
 ArePlaces places ws = keys_of places ≡ map (λ w. w.key) ws
+
+-- the place of a span's first scan
+abbrev pub first_scan : List Scan → Span → ℕ
+first_scan scans span = position_or_len (λ s. same_span s.span span) scans
+
+-- each span that was scanned has the place of its first scan
+abbrev pub HaveFirstPlaces : List Scan → (Span → Option ℕ) → Type 0
+HaveFirstPlaces scans place = (q : Span) → is_scanned scans q ≡ true → place q ≡ Some (first_scan scans q)
+
+-- the scan at a place is of a span
+abbrev pub is_scan_at : List Scan → ℕ → Span → Bool
+is_scan_at scans i span = option_map_or (λ s. same_span s.span span) (slice_get scans i) false
 
 -- each key that was written was read
 abbrev pub WereRead : List Note → List Write → Type 0

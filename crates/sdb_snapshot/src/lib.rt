@@ -6,7 +6,9 @@ mod drafts;
 pub mod laws;
 mod notes;
 mod overlay;
+mod prefix;
 mod row;
+mod scan_list;
 mod snapshot;
 
 pub use drafts::{MOST_WRITES, WriteRefused};

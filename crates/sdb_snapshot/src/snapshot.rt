@@ -17,11 +17,12 @@ use crate::difference::{first_moved, versions_of};
 use crate::drafts::{Drafts, WriteRefused};
 use crate::notes::Notes;
 use crate::overlay::{image_of_key, images_of_keys};
+use crate::prefix::cut;
+use crate::scan_list::ScanList;
 use sdb_record::{Changes, Images, Read, Reads, Scan, Scans, Writes, version_of};
-use sdb_types::{Duplicate, Key, NoMemory, Record, Records, Seq, Span};
+use sdb_types::{Duplicate, Key, NoMemory, Record, Records, Span};
 use std::alloc::Global;
 use std::marker::Model;
-use std::mem;
 use thiserror::Error;
 
 /// Why a scan was not noted.
@@ -44,15 +45,15 @@ impl From<NoMemory> for NoteRefused {
 
 /// What a transaction has read and written.
 ///
-/// Noted records are found by a hash of the key and so are own writes: `lookup` takes constant time, and `write` constant
-/// time for each change, as far as hashes don't collide. The noted keys stand in a tree in their own order too, so that
-/// `overlay_span` looks at the keys of its span alone.
+/// Noted records are found by a hash of the key, and so are own writes; noted scans are found by a hash of the span. So
+/// `lookup` and `scanned` take constant time, and `write` constant time for each change, as far as hashes don't collide. The
+/// noted keys stand in a tree in their own order too, so that `overlay_span` looks at the keys of its span alone.
 pub struct Snapshot {
     alloc: Global,
     notes: Notes,
     drafts: Drafts,
     reads: Reads,
-    scans: Scans,
+    scans: ScanList,
 }
 
 // By hand: each drop is then one call, where a derived one stands at each place with a call for each field.
@@ -87,15 +88,6 @@ pub struct Mark {
     pub scans: usize,
 }
 
-// Keeps the first so many.
-fn cut<T: Drop>(alloc: Global, items: &mut Seq<T>, len: usize)
-    ensures { items.new ≡ take len items.old }
-{
-    let mut kept = mem::replace(items, Seq::new(alloc)).into_vec();
-    kept.truncate(len);
-    *items = Seq::from_vec(kept);
-}
-
 impl Snapshot {
     /// Nothing read and nothing written.
     pub fn new(alloc: Global) -> Snapshot
@@ -106,7 +98,7 @@ impl Snapshot {
             notes: Notes::new(alloc),
             drafts: Drafts::new(alloc),
             reads: Reads::new(alloc),
-            scans: Scans::new(alloc),
+            scans: ScanList::new(alloc),
         }
     }
 
@@ -152,11 +144,11 @@ impl Snapshot {
         self.note_read(key, image, read)
     }
 
-    /// Whether a span was scanned. Takes no memory, and time for each scan that was noted.
+    /// Whether a span was scanned. Takes no memory, and constant time as far as the hashes of spans don't collide.
     pub fn scanned(&self, span: &Span) -> bool
         ensures { result ≡ is_scanned self.now.scans span.now }
     {
-        self.scans.iter().any(|scan| scan.span == *span)
+        self.scans.has(span)
     }
 
     // Finds the first difference between what was read and a scan.
@@ -165,6 +157,9 @@ impl Snapshot {
         ensures differs { (key : KeyValue) (found : Option RecordValue) → result ≡ Err (refused_note.Differs key found) → IsFirstDifference self.now.notes span.now images.now key found }
     {
         let keys = self.notes.keys_in(span)?;
+        if keys.len() == 0 {
+            return Ok(());
+        }
         let mut now = Notes::new(self.alloc);
         now.note_all(images.as_slice())?;
         match first_moved(&self.notes, &now, keys.as_slice()) {
@@ -184,7 +179,7 @@ impl Snapshot {
         match self.notes.note_all(images.as_slice()) {
             Ok(()) => Ok(()),
             Err(NoMemory) => {
-                self.scans.remove(len);
+                self.scans.cut(len);
                 Err(NoMemory)
             }
         }
@@ -259,7 +254,7 @@ impl Snapshot {
     {
         self.notes.cut(mark.notes);
         cut(self.alloc, &mut self.reads, mark.reads);
-        cut(self.alloc, &mut self.scans, mark.scans);
+        self.scans.cut(mark.scans);
     }
 
     /// The writes, reads and scans, as a COMMIT takes them. Takes no memory.
@@ -276,7 +271,7 @@ impl Snapshot {
             reads,
             scans,
         } = self;
-        (drafts.into_writes(), reads, scans)
+        (drafts.into_writes(), reads, scans.into_scans())
     }
 
     /// The writes: one for each key, with its base, in the order of first writing. Each may be prepared. Takes no memory.
@@ -300,6 +295,6 @@ impl Snapshot {
     pub fn scans(&self) -> &Scans
         ensures { result.now ≡ self.now.scans }
     {
-        &self.scans
+        self.scans.all()
     }
 }
