@@ -143,7 +143,7 @@ pub rows_from : (span : Span) (es : List (Key × List Pair)) → rows_among span
 rows_from span es = ap (map record_of) (nested (λ (e : Key × List Pair). in_span span e.0) (λ e. is_from span e.0) (λ e h. and_both (is_le (key_cmp (span_start span) e.0)) true (from_start span e.0 h) refl) es)
 
 -- Entries in order, all from the least key of a span on.
-pub record StandsFrom (span : Span) (es : List (Key × List Pair)) : Type 0 where
+pub record StandsFrom {X : Type 0} (span : Span) (es : List (Key × X)) : Type 0 where
   pub sorted : T (is_sorted key_cmp es)
   pub from : AllByRecursion (λ e. is_from span e.0 ≡ true) es
 
@@ -155,19 +155,19 @@ both_t : (a b : Bool) → T a → T b → T (a && b)
 both_t true b p q = q
 both_t false b p q = p
 
-below : (x : Key) (es : List (Key × List Pair)) → AllByRecursion (λ y. key_cmp x y ≡ Less) (keys_of es) → T (below_all key_cmp x es)
+below : {X : Type 0} (x : Key) (es : List (Key × X)) → AllByRecursion (λ y. key_cmp x y ≡ Less) (keys_of es) → T (below_all key_cmp x es)
 below x [] h = tt
 below x (e ∷ es) h = both_t _ _ (subst (λ o. T (is_lt o)) (sym h.0) tt) (below x es h.1)
 
-in_order : (es : List (Key × List Pair)) → IsStrictlySortedBy key_cmp (keys_of es) → T (is_sorted key_cmp es)
+in_order : {X : Type 0} (es : List (Key × X)) → IsStrictlySortedBy key_cmp (keys_of es) → T (is_sorted key_cmp es)
 unfolding IsStrictlySortedBy
 in_order [] h = tt
 in_order (e ∷ es) h = both_t _ _ (below e.0 es h.0) (in_order es h.1)
 
-pub stands_from : (span : Span) (es : List (Key × List Pair)) → IsStrictlySortedBy key_cmp (keys_of es) → StandsFrom span (filter (λ e. is_from span e.0) es)
+pub stands_from : {X : Type 0} (span : Span) (es : List (Key × X)) → IsStrictlySortedBy key_cmp (keys_of es) → StandsFrom span (filter (λ e. is_from span e.0) es)
 stands_from span es h = record { sorted = is_sorted-where_key key_cmp (is_from span) es (in_order es h); from = kept_all (λ e. is_from span e.0) es }
 
-pub stands_later : (span : Span) (e : Key × List Pair) (es : List (Key × List Pair)) → StandsFrom span (e ∷ es) → StandsFrom span es
+pub stands_later : {X : Type 0} (span : Span) (e : Key × X) (es : List (Key × X)) → StandsFrom span (e ∷ es) → StandsFrom span es
 stands_later span e es h = record { sorted = second_t _ _ h.sorted; from = h.from.1 }
 
 is_less : (r : Ordering) → T (is_lt r) → r ≡ Less
@@ -182,16 +182,16 @@ outside span a b low out less =
       | false ↦ λ e. refl
     ] refl
 
-none_above : (span : Span) (a : Key) (es : List (Key × List Pair)) → is_le (key_cmp (span_start span) a) ≡ true → in_span span a ≡ false → T (below_all key_cmp a es) → rows_among span es ≡ []
+none_above : {X : Type 0} (span : Span) (a : Key) (es : List (Key × X)) → is_le (key_cmp (span_start span) a) ≡ true → in_span span a ≡ false → T (below_all key_cmp a es) → filter (λ e. in_span span e.0) es ≡ []
 none_above span a [] low out h = refl
 none_above span a (e ∷ es) low out h =
-    ap (λ b. map record_of (cond b (e ∷ filter (λ x. in_span span x.0) es) (filter (λ x. in_span span x.0) es))) (outside span a e.0 low out (is_less (key_cmp a e.0) (first_t (is_lt (key_cmp a e.0)) (below_all key_cmp a es) h)))
+    ap (λ b. cond b (e ∷ filter (λ x. in_span span x.0) es) (filter (λ x. in_span span x.0) es)) (outside span a e.0 low out (is_less (key_cmp a e.0) (first_t (is_lt (key_cmp a e.0)) (below_all key_cmp a es) h)))
     ∙ none_above span a es low out (second_t (is_lt (key_cmp a e.0)) (below_all key_cmp a es) h)
 
--- past the first key outside, there are no more rows
-pub past_end : (span : Span) (e : Key × List Pair) (es : List (Key × List Pair)) → StandsFrom span (e ∷ es) → in_span span e.0 ≡ false → rows_among span (e ∷ es) ≡ []
+-- after the first key outside, there are no more keys of the span
+pub past_end : {X : Type 0} (span : Span) (e : Key × X) (es : List (Key × X)) → StandsFrom span (e ∷ es) → in_span span e.0 ≡ false → filter (λ x. in_span span x.0) (e ∷ es) ≡ []
 past_end span e es h out =
-    ap (λ b. map record_of (cond b (e ∷ filter (λ x. in_span span x.0) es) (filter (λ x. in_span span x.0) es))) out
+    ap (λ b. cond b (e ∷ filter (λ x. in_span span x.0) es) (filter (λ x. in_span span x.0) es)) out
     ∙ none_above span e.0 es (and_first (is_le (key_cmp (span_start span) e.0)) true h.from.0) out (first_t (below_all key_cmp e.0 es) (is_sorted key_cmp es) h.sorted)
 
 -- one more row
@@ -213,4 +213,4 @@ all_found span found all left none told = sym (append-nil found) ∙ ap (λ es. 
 pub all_passed : (span : Span) (found all : List Record) (left : List (Key × List Pair)) (e : Key × List Pair) (es : List (Key × List Pair)) → left ≡ e ∷ es → StandsFrom span left → in_span span e.0 ≡ false → found ++ rows_among span left ≡ all → found ≡ all
 all_passed span found all left e es next stands out told =
     sym (append-nil found)
-    ∙ ap (λ rs. found ++ rs) (sym (ap (rows_among span) next ∙ past_end span e es (subst (StandsFrom span) next stands) out)) ∙ told
+    ∙ ap (λ rs. found ++ rs) (sym (ap (rows_among span) next ∙ ap (map record_of) (past_end span e es (subst (StandsFrom span) next stands) out))) ∙ told

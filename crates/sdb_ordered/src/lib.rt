@@ -4,7 +4,7 @@
 mod tree;
 
 use sdb_store::Memory;
-pub use tree::Tree;
+pub use tree::{Tree, least_key};
 
 /// The store in memory over a tree. It tells what it holds.
 pub type Ordered = Memory<Tree>;

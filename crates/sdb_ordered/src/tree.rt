@@ -44,8 +44,8 @@ impl Model for Tree {
     ghost view = { λ t. map.from_entries t.rows.entries };
 }
 
-// The least key of a span.
-fn start_of(alloc: Global, span: &Span) -> Result<Key, NoMemory>
+/// The least key that a span may contain. Each key of the span is at it or after it.
+pub fn least_key(alloc: Global, span: &Span) -> Result<Key, NoMemory>
     ensures { IfOk result (λ key. key ≡ span_start span.now) }
 {
     let partition = match &span.partition {
@@ -84,7 +84,7 @@ fn rows_of(alloc: Global, rows: &BTreeMap<Key, Columns>, span: &Span) -> Result<
     ensures rows { IfOk result (λ found. found ≡ rows_among span.now rows.now.entries) }
     ensures ordered { OnOk result (IsOrdered key_cmp rows.now) }
 {
-    let start = start_of(alloc, span)?;
+    let start = least_key(alloc, span)?;
     let mut found = Seq::new(alloc);
     for (key, columns) in rows.range(start..) {
         if !span.contains(key) {

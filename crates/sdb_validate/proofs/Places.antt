@@ -1,19 +1,27 @@
 -- Steps of the loops: through the writes, and through rows and what is wanted.
-use Rattle.std.proofs.Common.{◌≡◌, ℕ, ◌+◌, ◌<◌, ◌≤◌, zero, suc, List, [], ◌∷◌, ◌||◌, Option, Some, None, true, false, is_some, refl, sym, ap, ◌∙◌, cond, drop, length, get_or, add-one, arith}
-use Rattle.std.specs.Prelude.{Bool, slice_get}
-use Rattle.std.specs.FinMap.{get, insert, empty, get-insert, get-empty}
+use Rattle.std.proofs.Common.{◌≡◌, ℕ, ◌+◌, ◌<◌, ◌≤◌, zero, suc, List, [], ◌∷◌, ◌++◌, map, take, append_assoc, ◌||◌, Option, Some, None, true, false, not, refl, sym, ap, ◌∙◌, cond, drop, length, get_or, add-one, arith}
+use Rattle.std.specs.Prelude.{Bool, slice_get, is_none, filter}
+use Rattle.std.proofs.lemmas.List.{map-append}
+use Rattle.std.proofs.lemmas.List.Elements.{filter_more}
+use Rattle.std.specs.Option.{option_or}
+use Rattle.std.specs.BTreeMap.{BTreeMap, get, is_at}
+use Rattle.std.specs.Cmp.{eq_by_cmp_equiv}
 use Rattle.std.proofs.lemmas.Option.{slice_get_within}
 use Rattle.sdb_types.specs.declared.key.Key.{Key}
+use Rattle.sdb_types.specs.declared.txid.TxId.{TxId}
 use Rattle.sdb_types.specs.declared.record.Record.{Record}
 use Rattle.sdb_types.specs.Order.{key_cmp}
 use Rattle.sdb_types.proofs.KeyOrder.{key_total}
+use Rattle.sdb_record.specs.declared.access.Read.{Read}
 use Rattle.sdb_record.specs.declared.write.Write.{Write}
-use Rattle.sdb_phases.specs.declared.check.Wish.{Wish}
+use Rattle.sdb_record.specs.Moved.{version_of}
+use Rattle.sdb_phases.specs.declared.check.Check.{Check}
 use Rattle.sdb_phases.specs.declared.check.Wanted.{Wanted}
-use Rattle.sdb_phases.specs.Checks.{Wishes, same_key, is_written, is_granted}
+use Rattle.sdb_phases.specs.Checks.{same_key, base_of, is_written, is_granted, check_of_read}
 use Rattle.sdb_validate.specs.declared.rescan.Verdict.{Verdict}
 use Rattle.sdb_validate.specs.declared.rescan.Verdict.TheVariants as verdict
 use Rattle.sdb_validate.specs.Merge.{merge, missing_place, row_place, verdict_on}
+use Rattle.sdb_validate.proofs.Firsts.{key_of_same}
 
 head-drop : (rows : List Record) (n : ℕ) → slice_get (drop n rows) 0 ≡ slice_get rows n
 head-drop [] zero = refl
@@ -59,25 +67,55 @@ from-write [] i w h e = absurd (omega arith)
 from-write (x ∷ xs) zero w h e = ap (λ y. y ∷ xs) (sym e)
 from-write (x ∷ xs) (suc i) w h e = from-write xs i w (omega arith) e
 
-moved-over : (b o r : Bool) → (o || (b || r)) ≡ (cond b true o || r)
-moved-over true true r = refl
-moved-over true false r = refl
-moved-over false o r = refl
+pub at_key : (m n : BTreeMap Key (Option TxId)) (ws : List Write) (i : ℕ) (q : Key) → m ≡ n → option_or (get key_cmp n q) (base_of (drop i ws) q) ≡ base_of ws q → option_or (get key_cmp m q) (base_of (drop i ws) q) ≡ base_of ws q
+at_key m n ws i q same h = ap (λ x. option_or (get key_cmp x q) (base_of (drop i ws) q)) same ∙ h
 
-some-choice : (b : Bool) (x : Wish) (o : Option Wish) → is_some (cond b (Some x) o) ≡ cond b true (is_some o)
-some-choice true x o = refl
-some-choice false x o = refl
+-- a write of a key that is not there yet
+pub new_base : (ws : List Write) (i : ℕ) (w : Write) (m n : BTreeMap Key (Option TxId)) (k : Key) (v : Option TxId) (q : Key) → i < length ws → w ≡ get_or ws i w → k ≡ w.key → v ≡ version_of w.base → get key_cmp m w.key ≡ None → ((p : Key) → get key_cmp n p ≡ cond (is_at (key_cmp k) p) (Some v) (get key_cmp m p)) → option_or (get key_cmp m q) (base_of (drop i ws) q) ≡ base_of ws q → option_or (get key_cmp n q) (base_of (drop (i + 1) ws) q) ≡ base_of ws q
+new_base ws i w m n k v q h at same copied free put e =
+    ap (λ o. option_or o (base_of (drop (i + 1) ws) q)) (put q ∙ ap (λ b. cond b (Some v) (get key_cmp m q)) ((eq_by_cmp_equiv key_total).symm k q) ∙ ap (λ x. cond (same_key q x) (Some v) (get key_cmp m q)) same ∙ ap (λ x. cond (same_key q w.key) (Some x) (get key_cmp m q)) copied)
+    ∙ ap (λ j. option_or (cond (same_key q w.key) (Some (version_of w.base)) (get key_cmp m q)) (base_of (drop j ws) q)) (add-one i) ∙ by_test (same_key q w.key) refl ∙ ap (λ xs. option_or (get key_cmp m q) (base_of xs q)) (sym (from-write ws i w h at)) ∙ e
+  where
+    by_test : (b : Bool) → same_key q w.key ≡ b → option_or (cond b (Some (version_of w.base)) (get key_cmp m q)) (base_of (drop (suc i) ws) q) ≡ option_or (get key_cmp m q) (cond b (Some (version_of w.base)) (base_of (drop (suc i) ws) q))
+    by_test false t = refl
+    by_test true t = sym (ap (λ o. option_or o (Some (version_of w.base))) (ap (get key_cmp m) (key_of_same q w.key t) ∙ free))
 
-pub one_written : (ws : List Write) (i : ℕ) (w : Write) (m : Wishes) (x : Wish) (key : Key) → i < length ws → w ≡ get_or ws i w → (is_some (get m key) || is_written (drop i ws) key) ≡ is_written ws key → (is_some (get (insert m w.key x) key) || is_written (drop (i + 1) ws) key) ≡ is_written ws key
-one_written ws i w m x key h at e =
-    ap (λ o. is_some o || is_written (drop (i + 1) ws) key) (get-insert key_total m w.key x key)
-    ∙ ap (λ b. b || is_written (drop (i + 1) ws) key) (some-choice (same_key key w.key) x (get m key))
-    ∙ ap (λ n. cond (same_key key w.key) true (is_some (get m key)) || is_written (drop n ws) key) (add-one i)
-    ∙ sym (moved-over (same_key key w.key) (is_some (get m key)) (is_written (drop (suc i) ws) key))
-    ∙ ap (λ vs. is_some (get m key) || is_written vs key) (sym (from-write ws i w h at)) ∙ e
+-- a later write of a key that is there
+pub old_base : (ws : List Write) (i : ℕ) (w : Write) (m : BTreeMap Key (Option TxId)) (q : Key) → i < length ws → w ≡ get_or ws i w → is_none (get key_cmp m w.key) ≡ false → option_or (get key_cmp m q) (base_of (drop i ws) q) ≡ base_of ws q → option_or (get key_cmp m q) (base_of (drop (i + 1) ws) q) ≡ base_of ws q
+old_base ws i w m q h at there e =
+    ap (λ j. option_or (get key_cmp m q) (base_of (drop j ws) q)) (add-one i) ∙ by_test (same_key q w.key) refl ∙ ap (λ xs. option_or (get key_cmp m q) (base_of xs q)) (sym (from-write ws i w h at)) ∙ e
+  where
+    kept : (o a b : Option (Option TxId)) → is_none o ≡ false → option_or o a ≡ option_or o b
+    kept None a b t = cc
+    kept (Some x) a b t = refl
 
-pub none_written : (m : Wishes) (ws : List Write) (key : Key) → m ≡ empty → (is_some (get m key) || is_written ws key) ≡ is_written ws key
-none_written m ws key e = ap (λ n. is_some (get n key) || is_written ws key) e ∙ ap (λ o. is_some o || is_written ws key) (get-empty key_cmp key)
+    by_test : (b : Bool) → same_key q w.key ≡ b → option_or (get key_cmp m q) (base_of (drop (suc i) ws) q) ≡ option_or (get key_cmp m q) (cond b (Some (version_of w.base)) (base_of (drop (suc i) ws) q))
+    by_test false t = refl
+    by_test true t = kept (get key_cmp m q) (base_of (drop (suc i) ws) q) (Some (version_of w.base)) (ap (λ p. is_none (get key_cmp m p)) (key_of_same q w.key t) ∙ there)
+
+pub none_free : (o : Option (Option TxId)) → is_none o ≡ true → o ≡ None
+none_free None h = refl
+none_free (Some x) h = cc
+
+pub unwritten : (ws : List Write) (key : Key) → is_none (base_of ws key) ≡ not (is_written ws key)
+unwritten [] key = refl
+unwritten (w ∷ ws) key = by_test (same_key key w.key) (unwritten ws key) where
+  by_test : (b : Bool) → is_none (base_of ws key) ≡ not (is_written ws key) → is_none (cond b (Some (version_of w.base)) (base_of ws key)) ≡ not (b || is_written ws key)
+  by_test true rest = refl
+  by_test false rest = rest
+
+-- one read more, which is read again where its key isn't written
+pub one_reread : (own : List Write) (reads : List Read) (i : ℕ) (r : Read) (checks before after : List Check) (b : Bool) → i < length reads → r ≡ get_or reads i r → not (is_written own r.key) ≡ b → before ≡ checks ++ map check_of_read (filter (λ x. not (is_written own x.key)) (take i reads)) → after ≡ before ++ cond b (check_of_read r ∷ []) [] → after ≡ checks ++ map check_of_read (filter (λ x. not (is_written own x.key)) (take (i + 1) reads))
+one_reread own reads i r checks before after b h at test told new =
+    let kept : List Read = filter (λ x. not (is_written own x.key)) (take i reads) in
+    new ∙ ap (λ cs. cs ++ cond b (check_of_read r ∷ []) []) told ∙ append_assoc checks (map check_of_read kept) (cond b (check_of_read r ∷ []) [])
+    ∙ ap (λ cs. checks ++ (map check_of_read kept ++ cs)) (sym (inside b)) ∙ ap (λ cs. checks ++ cs) (sym (map-append check_of_read kept (cond b (r ∷ []) [])))
+    ∙ ap (λ rs. checks ++ map check_of_read rs)
+    (sym (filter_more (λ (x : Read). not (is_written own x.key)) reads i r h ∙ ap (λ x. kept ++ cond (not (is_written own x.key)) (x ∷ []) []) (sym at) ∙ ap (λ t. kept ++ cond t (r ∷ []) []) test))
+  where
+    inside : (t : Bool) → map check_of_read (cond t (r ∷ []) []) ≡ cond t (check_of_read r ∷ []) []
+    inside true = refl
+    inside false = refl
 
 ---- going on
 

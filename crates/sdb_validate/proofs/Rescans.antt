@@ -20,7 +20,7 @@ use Rattle.sdb_phases.specs.declared.check.Wish.{Wish}
 use Rattle.sdb_phases.specs.declared.check.Wish.TheVariants as wish
 use Rattle.sdb_phases.specs.Checks.{same_key, Wishes, with_reads, with_write, with_writes, wishes, wanted, wanted_of, wish_at, wished_version, is_fulfilled, differs, base_of, version_read, record_among, first_difference}
 use Rattle.sdb_validate.specs.Merge.{merge}
-use Rattle.sdb_validate.specs.Rescan.{kept_by, is_kept, starts_behind, reads_rise, IsFirstLost}
+use Rattle.sdb_validate.specs.Rescan.{written_wish, kept_by, is_kept, starts_behind, reads_rise, IsFirstLost}
 use Rattle.sdb_validate.proofs.Firsts.{IsFirst, first_is, key_of_same}
 use Rattle.sdb_validate.proofs.Merges.{merge_is}
 use Rattle.sdb_validate.proofs.Ordered.{wanted_in_order}
@@ -69,14 +69,7 @@ reads-get (r ∷ rs) m q h =
 
 ---- the keys that are written
 
--- what a key is to have, if it is a written key of the span
-written_wish : Bool → Option (Option TxId) → Option Wish → Option Wish
-written_wish false base o = o
-written_wish true None o = o
-written_wish true (Some version) o = Some (wish.Based (wished_version o version))
-
-again : (base : Option (Option TxId)) (o : Option Wish) (version : Option TxId) → written_wish true base (Some (wish.Based (wished_version o version))) ≡ Some (wish.Based (wished_version o version))
-unfolding written_wish
+pub again : (base : Option (Option TxId)) (o : Option Wish) (version : Option TxId) → written_wish true base (Some (wish.Based (wished_version o version))) ≡ Some (wish.Based (wished_version o version))
 again None o version = refl
 again (Some other) o version = refl
 
@@ -85,15 +78,13 @@ write-get-other span w m q true e = get-insert key_total m w.key (wish.Based (wi
 write-get-other span w m q false e = refl
 
 write-get-own : (span : Span) (w : Write) (ws : List Write) (m : Wishes) (q : Key) (b : Bool) → q ≡ w.key → written_wish b (base_of ws q) (get (cond b (insert m w.key (wish.Based (wished_version (get m w.key) (version_of w.base)))) m) q) ≡ written_wish b (Some (version_of w.base)) (get m q)
-unfolding written_wish
 write-get-own span w ws m q false here = refl
 write-get-own span w ws m q true here =
     let wished : Wish = wish.Based (wished_version (get m w.key) (version_of w.base)) in
     ap (written_wish true (base_of ws q)) (get-insert key_total m w.key wished q ∙ ap (λ k. cond (same_key q k) (Some wished) (get m q)) (sym here) ∙ ap (λ b. cond b (Some wished) (get m q)) (same_itself q))
     ∙ again (base_of ws q) (get m w.key) (version_of w.base) ∙ ap (λ k. Some (wish.Based (wished_version (get m k) (version_of w.base)))) (sym here)
 
-writes-get : (span : Span) (ws : List Write) (m : Wishes) (q : Key) → get (with_writes span ws m) q ≡ written_wish (in_span span q) (base_of ws q) (get m q)
-unfolding written_wish
+pub writes-get : (span : Span) (ws : List Write) (m : Wishes) (q : Key) → get (with_writes span ws m) q ≡ written_wish (in_span span q) (base_of ws q) (get m q)
 writes-get span [] m q = none (in_span span q) where
   none : (b : Bool) → get m q ≡ written_wish b None (get m q)
   none true = refl
@@ -142,7 +133,6 @@ read-kept (r ∷ rs) q found = by_test (same_key q r.key) (read-kept rs q found)
   by_test false rest = rest
 
 kept_at : (inside : Bool) (base : Option (Option TxId)) (rs : List Read) (q : Key) (found : Option Record) → is_fulfilled (written_wish inside base (read_wish rs q None)) found ≡ kept_by (cond inside base None) (version_read rs q) found
-unfolding written_wish
 kept_at false base rs q found = read-kept rs q found
 kept_at true None rs q found = read-kept rs q found
 kept_at true (Some base) rs q found = read-based rs q base

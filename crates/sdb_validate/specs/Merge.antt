@@ -39,13 +39,13 @@ abbrev pub missing_place : Option Wanted → Option (Key × Option Record)
 missing_place None = None
 missing_place (Some w) = Some (w.key, None)
 
--- what a place stands for
+-- the difference at a place
 abbrev pub located : List Wanted → List Record → Option Place → Option (Key × Option Record)
 located ws rows None = None
 located ws rows (Some (place.Missing i)) = missing_place (slice_get ws i)
 located ws rows (Some (place.Row j)) = row_place (slice_get rows j)
 
----- what is wanted stands in key order
+---- what is wanted is in key order
 
 abbrev pub below_wanted : Key → List Wanted → Bool
 below_wanted key [] = true

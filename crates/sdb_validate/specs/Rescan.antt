@@ -12,23 +12,31 @@ use Rattle.sdb_record.specs.declared.access.Read.{Read}
 use Rattle.sdb_record.specs.declared.access.Scan.{Scan}
 use Rattle.sdb_record.specs.declared.write.Write.{Write}
 use Rattle.sdb_record.specs.Moved.{same_version, is_unchanged}
-use Rattle.sdb_phases.specs.Checks.{base_of, version_read, record_among}
+use Rattle.sdb_phases.specs.declared.check.Wish.{Wish}
+use Rattle.sdb_phases.specs.declared.check.Wish.TheVariants as wish
+use Rattle.sdb_phases.specs.Checks.{base_of, version_read, record_among, wished_version}
 
 -- the version of the base of a written key of the span
 abbrev pub base_in : Span → List Write → Key → Option (Option TxId)
 base_in span own key = if in_span span key then base_of own key else None
+
+-- what a key is to have, where it may be a written key of the span
+abbrev pub written_wish : Bool → Option (Option TxId) → Option Wish → Option Wish
+written_wish false base o = o
+written_wish true None o = o
+written_wish true (Some version) o = Some (wish.Based (wished_version o version))
 
 abbrev pub kept_by : Option (Option TxId) → Option TxId → Option Record → Bool
 kept_by (Some base) version found = same_version base version
 kept_by None version found = is_unchanged found version
 
 -- At that key the rows are what the scan found: a key that isn't written has the version that the scan found, and the base
--- of a written key of the span has that version, whatever stands there.
+-- of a written key of the span has that version, whatever is there.
 abbrev pub is_kept : List Write → Scan → List Record → Key → Bool
 is_kept own scan rows key =
     kept_by (base_in scan.span own key) (version_read scan.found key) (record_among rows key)
 
----- what a scan found stands in key order
+---- what a scan found is in key order
 
 abbrev pub starts_behind : Key → List Read → Bool
 starts_behind key [] = true
@@ -38,7 +46,7 @@ abbrev pub reads_rise : List Read → Bool
 reads_rise [] = true
 reads_rise (r ∷ rs) = starts_behind r.key rs && reads_rise rs
 
--- A rescan passes where every key is kept. Else its conflict is at the first key in key order that isn't, with what stands
+-- A rescan passes where every key is kept. Else its conflict is at the first key in key order that isn't, with what is
 -- there.
 abbrev pub IsFirstLost : List Write → Scan → List Record → Option (Key × Option Record) → Type 0
 IsFirstLost own scan rows None = (key : Key) → is_kept own scan rows key ≡ true

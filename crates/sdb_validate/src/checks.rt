@@ -1,24 +1,32 @@
 //! The extra reads, made from what a transaction read and wrote.
-ghost use Rattle.std.specs.Prelude.{◌≡◌, IfOk, OnOk, true, ◌++◌, filter, not, map, is_some};
+ghost use Rattle.std.specs.Prelude.{◌≡◌, IfOk, OnOk, ◌++◌, filter, not, map};
 ghost use Rattle.std.specs.Option.{option_copied};
+ghost use Rattle.std.specs.BTreeMap.{get};
 ghost use Rattle.std.specs.FinMap as fin;
 ghost use Rattle.sdb_types.specs.declared.key.Key.{Key as KeyValue};
-ghost use Rattle.sdb_record.specs.Moved.{version_of as version_lem};
-ghost use Rattle.sdb_phases.specs.Checks.{with_reads, with_write, with_writes, wishes as wishes_lem, wanted, wished_version, is_written, check_of_read, check_of_scan, checks_of};
+ghost use Rattle.sdb_types.specs.Contents.{in_span};
+ghost use Rattle.sdb_types.specs.Order.{key_cmp};
+ghost use Rattle.sdb_phases.specs.Checks.{with_reads, wished_version, base_of, is_written, check_of_read, check_of_scan, checks_of};
+ghost use Rattle.sdb_validate.specs.Rescan.{written_wish};
 
 use crate::key_map::WishMap;
+use sdb_ordered::least_key;
 use sdb_phases::{Check, Checks, Target, Wish};
 use sdb_record::{Read, Reads, Scan, Scans, Write, Writes, is_same_version, version_of};
-use sdb_types::{Duplicate, Key, NoMemory, Record, Request, Seq, Span, TxId};
+use sdb_types::{Duplicate, Key, NoMemory, Request, Seq, Span, TxId};
 use std::alloc::Global;
+use std::collections::BTreeMap;
 
-// Whether the base of a write has the version that is wished at its key.
-fn is_based(wish: Option<&Wish>, base: &Option<Record>) -> bool
-    ensures { result ≡ wished_version (option_copied wish.entry) (version_lem base.now) }
+/// The written keys in key order, each with the version of the base of its first write.
+type Bases = BTreeMap<Key, Option<TxId>>;
+
+// Whether a base has the version that is wished at its key.
+fn is_based(wish: Option<&Wish>, base: Option<TxId>) -> bool
+    ensures { result ≡ wished_version (option_copied wish.entry) base }
 {
     match wish {
-        None => version_of(base).is_none(),
-        Some(Wish::Unchanged(version)) => is_same_version(version_of(base), *version),
+        None => base.is_none(),
+        Some(Wish::Unchanged(version)) => is_same_version(base, *version),
         Some(Wish::Based(same)) => *same,
     }
 }
@@ -33,33 +41,35 @@ fn put_reads(wishes: &mut WishMap, reads: &[Read]) -> Result<(), NoMemory>
     Ok(())
 }
 
-fn put_write(wishes: &mut WishMap, span: &Span, write: &Write) -> Result<(), NoMemory>
-    ensures { OnOk result (wishes.new ≡ with_write span.now write.now wishes.old) }
+// Each written key of the span is left out, on condition that its base was found. These keys come together, from the span's
+// least key on.
+fn put_writes(
+    alloc: Global,
+    wishes: &mut WishMap,
+    span: &Span,
+    bases: &Bases,
+) -> Result<(), NoMemory>
+    ensures { OnOk result ((key : KeyValue) → fin.get wishes.new key ≡ written_wish (in_span span.now key) (get key_cmp bases.now key) (fin.get wishes.old key)) }
 {
-    if span.contains(&write.key) {
-        let same = is_based(wishes.find(&write.key), &write.base);
-        wishes.insert(&write.key, Wish::Based(same))?;
-    }
-    Ok(())
-}
-
-// Each written key of the span is left out, on condition that its base was found.
-fn put_writes(wishes: &mut WishMap, span: &Span, own: &[Write]) -> Result<(), NoMemory>
-    ensures { OnOk result (wishes.new ≡ with_writes span.now own.now wishes.old) }
-{
-    for write in own {
-        put_write(wishes, span, write)?;
+    let start = least_key(alloc, span)?;
+    for (key, base) in bases.range(start..) {
+        if !span.contains(key) {
+            break;
+        }
+        let same = is_based(wishes.find(key), *base);
+        wishes.insert(key, Wish::Based(same))?;
     }
     Ok(())
 }
 
 // A scan again, with what it is to find.
-fn rescan(alloc: Global, own: &[Write], scan: &Scan) -> Result<Check, NoMemory>
+fn rescan(alloc: Global, bases: &Bases, own: &[Write], scan: &Scan) -> Result<Check, NoMemory>
+    requires { (key : KeyValue) → get key_cmp bases.now key ≡ base_of own.now key }
     ensures { IfOk result (λ check. check ≡ check_of_scan own.now scan.now) }
 {
     let mut wishes = WishMap::new(alloc);
     put_reads(&mut wishes, scan.found.as_slice())?;
-    put_writes(&mut wishes, &scan.span, own)?;
+    put_writes(alloc, &mut wishes, &scan.span, bases)?;
     Ok(Check {
         request: Request::Scan(scan.span.copy()?),
         target: Target::Rows(wishes.list()?),
@@ -76,28 +86,30 @@ fn reread(read: &Read) -> Result<Check, NoMemory>
     })
 }
 
-// The keys that are written.
-fn written_keys(alloc: Global, own: &[Write]) -> Result<WishMap, NoMemory>
-    ensures { IfOk result (λ keys. (key : KeyValue) → is_some (fin.get keys key) ≡ is_written own.now key) }
+// The written keys, each put in at its first write.
+fn bases_of(alloc: Global, own: &[Write]) -> Result<Bases, NoMemory>
+    ensures { IfOk result (λ bases. (key : KeyValue) → get key_cmp bases key ≡ base_of own.now key) }
 {
-    let mut keys = WishMap::new(alloc);
+    let mut bases = BTreeMap::new(alloc);
     for write in own {
-        keys.insert(&write.key, Wish::Based(true))?;
+        if bases.get(&write.key).is_none() {
+            bases.insert(write.key.copy()?, version_of(&write.base))?;
+        }
     }
-    Ok(keys)
+    Ok(bases)
 }
 
 fn put_rereads(
     checks: &mut Checks,
-    keys: &WishMap,
+    bases: &Bases,
     own: &[Write],
     reads: &[Read],
 ) -> Result<(), NoMemory>
-    requires { (key : KeyValue) → is_some (fin.get keys.now key) ≡ is_written own.now key }
+    requires { (key : KeyValue) → get key_cmp bases.now key ≡ base_of own.now key }
     ensures { OnOk result (checks.new ≡ checks.old ++ map check_of_read (filter (λ r. not (is_written own.now r.key)) reads.now)) }
 {
     for read in reads {
-        if keys.find(&read.key).is_none() {
+        if bases.get(&read.key).is_none() {
             checks.push(reread(read)?)?;
         }
     }
@@ -107,13 +119,15 @@ fn put_rereads(
 fn put_rescans(
     alloc: Global,
     checks: &mut Checks,
+    bases: &Bases,
     own: &[Write],
     scans: &[Scan],
 ) -> Result<(), NoMemory>
+    requires { (key : KeyValue) → get key_cmp bases.now key ≡ base_of own.now key }
     ensures { OnOk result (checks.new ≡ checks.old ++ map (check_of_scan own.now) scans.now) }
 {
     for scan in scans {
-        checks.push(rescan(alloc, own, scan)?)?;
+        checks.push(rescan(alloc, bases, own, scan)?)?;
     }
     Ok(())
 }
@@ -123,9 +137,9 @@ fn put_rescans(
 pub fn checks(alloc: Global, reads: &Reads, scans: &Scans, own: &Writes) -> Result<Checks, NoMemory>
     ensures { IfOk result (λ checks. checks ≡ checks_of own.now reads.now scans.now) }
 {
-    let keys = written_keys(alloc, own.as_slice())?;
+    let bases = bases_of(alloc, own.as_slice())?;
     let mut checks = Seq::new(alloc);
-    put_rereads(&mut checks, &keys, own.as_slice(), reads.as_slice())?;
-    put_rescans(alloc, &mut checks, own.as_slice(), scans.as_slice())?;
+    put_rereads(&mut checks, &bases, own.as_slice(), reads.as_slice())?;
+    put_rescans(alloc, &mut checks, &bases, own.as_slice(), scans.as_slice())?;
     Ok(checks)
 }

@@ -18,7 +18,7 @@ pub struct WishMap {
     wishes: BTreeMap<Key, Wish>,
 }
 
-// By hand: each drop is then one call, where a derived one stands at each place with a call for each field.
+// By hand: each drop is then one call, where a derived one is a call for each field at each place.
 impl Drop for WishMap {
     fn drop(self) {
         let WishMap {

@@ -1,4 +1,4 @@
-//! The extra reads of a COMMIT: whether what the transaction read still stands.
+//! The extra reads of a COMMIT: whether what the transaction read is still there.
 #![tactic(auto)]
 
 mod checks;

@@ -10,7 +10,7 @@ use sdb_record::has_version;
 use sdb_types::{Record, State, TxId};
 use std::cmp::Ordering;
 
-/// Where the first difference stands: at a wanted key without a row, or at a row.
+/// Where the first difference is: at a wanted key without a row, or at a row.
 #[derive(Clone, Copy, Debug, PartialEq, Eq)]
 pub enum Place {
     Missing(usize),
@@ -31,7 +31,7 @@ pub enum Verdict {
 }
 
 // A row is still the version that was read.
-fn stands(row: Option<&Record>, version: Option<TxId>) -> bool
+fn is_version_read(row: Option<&Record>, version: Option<TxId>) -> bool
     ensures { result ≡ is_unchanged (option_copied row.entry) version }
 {
     match (row, version) {
@@ -45,7 +45,7 @@ fn grants(wish: Wish, row: Option<&Record>) -> bool
     ensures { result ≡ is_granted wish (option_copied row.entry) }
 {
     match wish {
-        Wish::Unchanged(version) => stands(row, version),
+        Wish::Unchanged(version) => is_version_read(row, version),
         Wish::Based(same) => same,
     }
 }
@@ -89,7 +89,7 @@ fn row_at(rows: &[Record], i: usize) -> Option<&Record>
     rows.get(i)
 }
 
-/// Where the first difference in key order stands. Both lists are gone through once. Takes no memory.
+/// Where the first difference in key order is. Both lists are gone through once. Takes no memory.
 pub fn first_place(wants: &[Wanted], rows: &[Record]) -> Option<Place>
     ensures { located wants.now rows.now result ≡ merge wants.now rows.now }
 {

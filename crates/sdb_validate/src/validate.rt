@@ -23,7 +23,7 @@ pub struct Validate {
     at: usize,
 }
 
-// By hand: each drop is then one call, where a derived one stands at each place with a call for each field.
+// By hand: each drop is then one call, where a derived one is a call for each field at each place.
 impl Drop for Validate {
     fn drop(self) {
         let Validate { checks: _, at: _ } = self;
@@ -51,7 +51,7 @@ fn go_on(more: bool) -> ValidateStep
     }
 }
 
-// A conflict at a key. Want of memory for the key stands in its place.
+// A conflict at a key. Out of memory for the key is answered in its place.
 fn conflict(key: &Key, found: Option<Record>) -> ValidateStep
     ensures { Judges (ValidateStep.Conflict key.now found) result }
 {
@@ -151,7 +151,7 @@ fn judge(check: &Check, reply: Reply, more: bool) -> ValidateStep
     }
 }
 
-// Where the checks stand after an answer.
+// The place of the next check after an answer.
 fn next_place(step: &ValidateStep, at: usize, count: usize) -> usize
     requires { at < count }
     ensures { result ≡ place_after at count step.now }
@@ -188,7 +188,7 @@ impl Validate {
         }
     }
 
-    /// Takes the reply to the pending call. Want of memory for the key of a conflict stands in place of the conflict.
+    /// Takes the reply to the pending call. Out of memory for the key of a conflict is answered in place of the conflict.
     pub fn take(&mut self, reply: Reply) -> ValidateStep
         requires pending { IsSome (validate_request self.old) }
         requires reply { CanGet (validate_request self.old) reply }

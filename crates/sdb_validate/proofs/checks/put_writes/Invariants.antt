@@ -1,6 +1,16 @@
-use Rattle.std.proofs.Common.{◌≡◌, drop}
-use Rattle.sdb_phases.specs.Checks.{with_writes}
+use Rattle.std.proofs.Common.{◌≡◌}
+use Rattle.std.specs.BTreeMap.{is_at, get}
+use Rattle.std.specs.FinMap as fin
+use Rattle.std.specs.Map.{lookup}
+use Rattle.sdb_types.specs.declared.key.Key.{Key}
+use Rattle.sdb_types.specs.Contents.{in_span}
+use Rattle.sdb_types.specs.Order.{key_cmp}
+use Rattle.sdb_ordered.proofs.SpanLemmas.{StandsFrom}
+use Rattle.sdb_validate.specs.Rescan.{written_wish}
 use Rattle.sdb_validate.proofs.checks.put_writes.Given as goal
 
-abbrev pub invariant-loop-write : goal.invariant-loop-write
-invariant-loop-write l = with_writes l.span (drop l.write-index l.own) l.wishes ≡ with_writes l.span l.own l.initial.wishes
+abbrev pub invariant-loop-key : goal.invariant-loop-key
+invariant-loop-key l = record {
+  wished : (q : Key) → written_wish (in_span l.span q) (lookup (is_at (key_cmp q)) l.key-iterator) (fin.get l.wishes q) ≡ written_wish (in_span l.span q) (get key_cmp l.bases q) (fin.get l.initial.wishes q);
+  stands : StandsFrom l.span l.key-iterator;
+}
