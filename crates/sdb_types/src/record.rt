@@ -45,7 +45,7 @@ impl Record {
 pub type Records = Seq<Record>;
 
 /// One partition of a table, or the whole table where no partition is named.
-#[derive(Debug, PartialEq, Eq)]
+#[derive(Debug, PartialEq, Eq, Hash)]
 pub struct Span {
     pub table: TableName,
     pub partition: Option<Values>,
