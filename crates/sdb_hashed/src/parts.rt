@@ -1,10 +1,9 @@
 //! Records by a part of their keys.
-ghost use Rattle.std.specs.Prelude.{◌≡◌, true, IfOk, OnOk, OnErr};
+ghost use Rattle.std.specs.Prelude.{◌≡◌, true, IfOk, OnOk, OnErr, None, Some};
 ghost use Rattle.std.specs.FinMap as map;
 ghost use Rattle.std.specs.HashMap.{IsUnique, get};
 ghost use Rattle.sdb_types.specs.declared.key.Key.{Key};
 ghost use Rattle.sdb_types.specs.Contents.{in_span, rows_in, put_reply};
-ghost use Rattle.std.specs.Prelude.{None, Some};
 ghost use Rattle.sdb_hashed.specs.Gathered.{held, HasOwnKeys, ChangesAt};
 ghost use Rattle.sdb_hashed.specs.Put.{with_rows};
 
@@ -135,7 +134,7 @@ fn add_part<K: Part + Duplicate, R: Rows>(
     Ok(())
 }
 
-// The records of a span, of all parts.
+// The records of a span among those of all parts.
 fn gather<K: Part, R: Rows>(
     alloc: Global,
     parts: &HashMap<K, R>,
