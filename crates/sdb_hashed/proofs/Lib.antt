@@ -1,3 +1,5 @@
-pub mod Sections
+pub mod Inside
+pub mod Changes
 pub mod Gather
+mod Calls
 pub mod Spans

@@ -1,6 +1,6 @@
 -- Records of a span.
 use Rattle.std.proofs.Common.{◌≡◌, List, [], ◌∷◌, ◌++◌, Bool, true, false, cond, Option, Some, None, refl, sym, ap, subst, ◌∙◌, map}
-use Rattle.std.specs.Ordering.{is_eq, eq_by_cmp}
+use Rattle.std.specs.Ordering.{eq_by_cmp}
 use Rattle.std.specs.declared.cmp.Ordering.TheVariants.{Equal}
 use Rattle.std.specs.List.{filter}
 use Rattle.std.specs.FinMap.{find, get, insert, entries, entries_sorted, get-entries, get-insert}
@@ -13,26 +13,15 @@ use Rattle.sdb_types.specs.Order.{key_cmp}
 use Rattle.sdb_types.specs.Contents.{Contents, record_of, in_span, rows_in}
 use Rattle.sdb_types.proofs.KeyOrder.{key_total, key_exact}
 use Rattle.sdb_hashed.specs.Put.{with_rows}
-use Rattle.std.specs.Prelude.{IfOk, Result, ◌&&◌}
-use Rattle.std.specs.Cmp.Lexicographic.{slice_cmp}
+use Rattle.std.specs.Prelude.{IfOk, Result}
 use Rattle.std.specs.Map.{lookup, keys_of}
 use Rattle.std.specs.List.{IsDistinct}
-use Rattle.std.specs.Str.{bytes_eq}
-use Rattle.std.specs.FinMap.{empty, len-entries, len-empty, get-empty, slice_cmp-IsAntisymmetric}
+use Rattle.std.specs.FinMap.{empty, len-entries, len-empty, get-empty}
 use Rattle.std.proofs.Common.{length, append_assoc, arith}
-use lib.Pointwise.{pointwise}
-use Rattle.sdb_types.specs.declared.key.TableName.{TableName}
-use Rattle.sdb_types.specs.declared.value.Value.{Value}
-use Rattle.sdb_types.specs.Order.{table_cmp, value_cmp}
-use Rattle.sdb_types.specs.Exact.{equal_of}
-use Rattle.sdb_types.specs.ValueLaws.{value_exact}
-use Rattle.sdb_types.specs.Contents.{is_partition}
-use Rattle.sdb_types.proofs.Bools.{and_first, and_second}
-use Rattle.sdb_types.proofs.KeyOrder.{table_exact}
-use Rattle.sdb_hashed.specs.declared.section.Section.{Section}
-use Rattle.sdb_hashed.specs.Section.{section_of, section_eq}
-use Rattle.sdb_hashed.specs.Gathered.{gathered, held, HasOwnKeys}
-use Rattle.sdb_hashed.proofs.Gather.{find_append, in_bucket, held_get, find_gathered}
+use Rattle.std.specs.Option.{option_map}
+use Rattle.std.specs.FinMap.{get-from_entries}
+use Rattle.sdb_hashed.specs.Gathered.{gathered, held, in_part, HasOwnKeys}
+use Rattle.sdb_hashed.proofs.Gather.{find_append, held_get}
 use Rattle.std.proofs.lemmas.List.{append-nil as append_nil}
 use Rattle.sdb_types.proofs.Basics.{or_else}
 
@@ -70,22 +59,7 @@ pub with_last : (rs : List Record) (r : Record) (m : Contents) → with_rows (rs
 with_last [] r m = refl
 with_last (s ∷ rs) r m = ap (λ n. insert n s.key s.columns) (with_last rs r m)
 
----- one partition
-
-table_in : (span : Span) (q : Key) → in_span span q ≡ true → span.table ≡ q.table
-table_in span q h = table_exact span.table q.table (equal_of (table_cmp span.table q.table) (and_first (is_eq (table_cmp span.table q.table)) (is_partition span.partition q) h))
-
-section_in : (span : Span) (part : List Value) (q : Key) → span.partition ≡ Some part → in_span span q ≡ true → ◌≡◌ {A = Section} (record { table = span.table; partition = part }) (section_of q)
-section_in span part q is h =
-    let table : span.table ≡ q.table = table_in span q h in
-    let inside : is_partition (Some part) q ≡ true = subst (λ (o : Option (List Value)). is_partition o q ≡ true) is (and_second (is_eq (table_cmp span.table q.table)) (is_partition span.partition q) h) in
-    let partition : part ≡ q.partition = slice_cmp-IsAntisymmetric value_exact part q.partition (equal_of (slice_cmp value_cmp part q.partition) inside) in
-    λ i. record { table = table i; partition = partition i }
-
--- inside one partition all buckets have what its bucket has
-pub bucket_rows : (es : List (Section × Contents)) (span : Span) (part : List Value) (m : Contents) → span.partition ≡ Some part → IsDistinct section_eq (keys_of es) → HasOwnKeys es → Some m ≡ lookup (section_eq (record { table = span.table; partition = part })) es → rows_in span m ≡ rows_in span (held es)
-bucket_rows es span part m is distinct own found = same_rows span m (held es) (λ q h.
-    ap (λ o. in_bucket o q) (found ∙ ap (λ (s : Section). lookup (section_eq s) es) (section_in span part q is h)) ∙ sym (held_get es distinct own q))
+---- one part
 
 none : {A : Type 0} (es : List A) → length es ≡ 0 → es ≡ []
 none [] e = refl
@@ -94,38 +68,39 @@ none (e ∷ es) h = absurd (omega arith)
 no_rows : (span : Span) → rows_in span empty ≡ []
 no_rows span = ap (λ es. map record_of (filter (λ e. in_span span e.0) es)) (none (entries empty) (sym (len-entries empty) ∙ len-empty key_cmp (List Pair)))
 
-pub no_bucket : (es : List (Section × Contents)) (span : Span) (part : List Value) → span.partition ≡ Some part → IsDistinct section_eq (keys_of es) → HasOwnKeys es → None ≡ lookup (section_eq (record { table = span.table; partition = part })) es → [] ≡ rows_in span (held es)
-no_bucket es span part is distinct own found = sym (no_rows span) ∙ same_rows span empty (held es) (λ q h.
-    get-empty key_cmp q ∙ ap (λ o. in_bucket o q) (found ∙ ap (λ (s : Section). lookup (section_eq s) es) (section_in span part q is h)) ∙ sym (held_get es distinct own q))
+module _ {K V : Type 0} (same : K → K → Bool) (tells : (a b : K) → (same a b ≡ true → a ≡ b) × (a ≡ b → same a b ≡ true)) (part : Key → K) (f : V → Contents) (es : List (K × V)) (distinct : IsDistinct same (keys_of es)) (own : HasOwnKeys same part f es) (span : Span) where
+  -- inside one part all parts have what it has
+  inside : (x : K) (o : Option V) → ((q : Key) → in_span span q ≡ true → part q ≡ x) → o ≡ lookup (same x) es → (q : Key) → in_span span q ≡ true → in_part (option_map f o) q ≡ get (held f es) q
+  inside x o within found q h =
+      ap (λ p. in_part (option_map f p) q) (found ∙ ap (λ s. lookup (same s) es) (sym (within q h))) ∙ sym (held_get same tells part f es distinct own q)
+
+  pub part_rows : (x : K) (v : V) → ((q : Key) → in_span span q ≡ true → part q ≡ x) → Some v ≡ lookup (same x) es → rows_in span (f v) ≡ rows_in span (held f es)
+  part_rows x v within found = same_rows span (f v) (held f es) (inside x (Some v) within found)
+
+  pub no_part : (x : K) → ((q : Key) → in_span span q ≡ true → part q ≡ x) → None ≡ lookup (same x) es → [] ≡ rows_in span (held f es)
+  no_part x within found = sym (no_rows span) ∙ same_rows span empty (held f es) (λ q h. get-empty key_cmp q ∙ inside x None within found q h)
 
 pub rows_along : {E : Type 0} (r : Result (List Record) E) (a b : List Record) → a ≡ b → IfOk r (λ rows. rows ≡ a) → IfOk r (λ rows. rows ≡ b)
 rows_along r a b e h = subst (λ (rs : List Record). IfOk r (λ rows. rows ≡ rs)) e h
 
----- a whole table
+---- all parts
 
-gathered_more : (xs : List (Section × Contents)) (e : Section × Contents) → gathered (xs ++ e ∷ []) ≡ entries e.1 ++ gathered xs
-gathered_more [] e = sym (append_nil (entries e.1))
-gathered_more (x ∷ xs) e = ap (λ ys. ys ++ entries x.1) (gathered_more xs e) ∙ append_assoc (entries e.1) (gathered xs) (entries x.1)
+module _ {K V : Type 0} (f : V → Contents) where
+  gathered_more : (xs : List (K × V)) (e : K × V) → gathered f (xs ++ e ∷ []) ≡ entries (f e.1) ++ gathered f xs
+  gathered_more [] e = sym (append_nil (entries (f e.1)))
+  gathered_more (x ∷ xs) e = ap (λ ys. ys ++ entries (f x.1)) (gathered_more xs e) ∙ append_assoc (entries (f e.1)) (gathered f xs) (entries (f x.1))
 
-find_more : (xs : List (Section × Contents)) (e : Section × Contents) (q : Key) → find key_cmp q (gathered (xs ++ e ∷ [])) ≡ or_else (get e.1 q) (find key_cmp q (gathered xs))
-find_more xs e q = ap (find key_cmp q) (gathered_more xs e) ∙ find_append q (entries e.1) (gathered xs) ∙ ap (λ o. or_else o (find key_cmp q (gathered xs))) (sym (get-entries e.1 q))
+  find_more : (xs : List (K × V)) (e : K × V) (q : Key) → find key_cmp q (gathered f (xs ++ e ∷ [])) ≡ or_else (get (f e.1) q) (find key_cmp q (gathered f xs))
+  find_more xs e q = ap (find key_cmp q) (gathered_more xs e) ∙ find_append q (entries (f e.1)) (gathered f xs) ∙ ap (λ o. or_else o (find key_cmp q (gathered f xs))) (sym (get-entries (f e.1) q))
 
--- m has inside the span what the entries of these buckets are
-abbrev pub HasGathered : Span → Contents → List (Section × Contents) → Type 0
-HasGathered span m es = (q : Key) → in_span span q ≡ true → get m q ≡ find key_cmp q (gathered es)
+  -- m has inside the span what the entries of these parts are
+  abbrev pub HasGathered : Span → Contents → List (K × V) → Type 0
+  HasGathered span m es = (q : Key) → in_span span q ≡ true → get m q ≡ find key_cmp q (gathered f es)
 
-pub gather_more : (span : Span) (m n : Contents) (xs : List (Section × Contents)) (e : Section × Contents) → HasGathered span m xs → n ≡ with_rows (rows_in span e.1) m → HasGathered span n (xs ++ e ∷ [])
-gather_more span m n xs e so is q h =
-    ap (λ o. get o q) is ∙ put_rows span e.1 m q h ∙ ap (or_else (get e.1 q)) (so q h) ∙ sym (find_more xs e q)
+  pub gather_more : (span : Span) (m n : Contents) (xs : List (K × V)) (e : K × V) → HasGathered span m xs → n ≡ with_rows (rows_in span (f e.1)) m → HasGathered span n (xs ++ e ∷ [])
+  gather_more span m n xs e so is q h =
+      ap (λ o. get o q) is ∙ put_rows span (f e.1) m q h ∙ ap (or_else (get (f e.1) q)) (so q h) ∙ sym (find_more xs e q)
 
-other_table : (s : Section) (span : Span) (q : Key) → (bytes_eq s.table.ns span.table.ns && bytes_eq s.table.table span.table.table) ≡ false → in_span span q ≡ true → section_eq s (section_of q) ≡ false
-other_table s span q test h =
-    ap (λ b. b && pointwise (eq_by_cmp value_cmp) s.partition q.partition) (subst (λ (t : TableName). (bytes_eq s.table.ns t.ns && bytes_eq s.table.table t.table) ≡ false) (table_in span q h) test)
-
-pub gather_other : (span : Span) (m : Contents) (xs es : List (Section × Contents)) (e : Section × Contents) → HasOwnKeys es → lookup (section_eq e.0) es ≡ Some e.1 → (bytes_eq e.0.table.ns span.table.ns && bytes_eq e.0.table.table span.table.table) ≡ false → HasGathered span m xs → HasGathered span m (xs ++ e ∷ [])
-gather_other span m xs es e own is test so q h =
-    so q h ∙ sym (ap (λ o. or_else o (find key_cmp q (gathered xs))) (own e.0 e.1 is q (other_table e.0 span q test h))) ∙ sym (find_more xs e q)
-
-pub gathered_all : (span : Span) (m : Contents) (xs es : List (Section × Contents)) → IsDistinct section_eq (keys_of es) → HasOwnKeys es → xs ≡ es → HasGathered span m xs → (q : Key) → in_span span q ≡ true → get m q ≡ get (held es) q
-gathered_all span m xs es distinct own all so q h =
-    so q h ∙ ap (λ ys. find key_cmp q (gathered ys)) all ∙ find_gathered es distinct own q ∙ sym (held_get es distinct own q)
+  pub gathered_all : (span : Span) (m : Contents) (xs es : List (K × V)) → xs ≡ es → HasGathered span m xs → (q : Key) → in_span span q ≡ true → get m q ≡ get (held f es) q
+  gathered_all span m xs es all so q h =
+      so q h ∙ ap (λ ys. find key_cmp q (gathered f ys)) all ∙ sym (get-from_entries key_total (gathered f es) q)

@@ -1,28 +1,35 @@
--- What buckets hold together.
-use Rattle.std.specs.Prelude.{◌≡◌, false, List, [], ◌∷◌, ◌++◌, Option, Some, None}
+-- What parts hold together.
+use Rattle.std.specs.Prelude.{◌≡◌, Bool, false, List, [], ◌∷◌, ◌++◌, Option, Some, None, if◌then◌else◌}
+use Rattle.std.specs.Option.{option_map}
 use Rattle.std.specs.Map.{lookup}
-use Rattle.std.specs.FinMap.{empty, entries, from_entries, get}
+use Rattle.std.specs.FinMap.{entries, from_entries, get}
 use Rattle.sdb_types.specs.declared.key.Key.{Key}
 use Rattle.sdb_types.specs.declared.pair.Pair.{Pair}
 use Rattle.sdb_types.specs.Order.{key_cmp}
 use Rattle.sdb_types.specs.Contents.{Contents}
-use Rattle.sdb_hashed.specs.declared.section.Section.{Section}
-use Rattle.sdb_hashed.specs.Section.{section_of, section_eq}
 
--- the entries of all buckets
-abbrev pub gathered : List (Section × Contents) → List (Key × List Pair)
-gathered [] = []
-gathered (e ∷ es) = gathered es ++ entries e.1
+-- the entries of all parts
+abbrev pub gathered : {K V : Type 0} → (V → Contents) → List (K × V) → List (Key × List Pair)
+gathered f [] = []
+gathered f (e ∷ es) = gathered f es ++ entries (f e.1)
 
 -- the map of all entries
-abbrev pub held : List (Section × Contents) → Contents
-held es = from_entries {R = key_cmp} (gathered es)
+abbrev pub held : {K V : Type 0} → (V → Contents) → List (K × V) → Contents
+held f es = from_entries {R = key_cmp} (gathered f es)
 
--- a bucket, which is empty where there is none
-abbrev pub bucket_of : Option Contents → Contents
-bucket_of None = empty
-bucket_of (Some m) = m
+-- what a part has at a key, which is nothing where there is no such part
+abbrev pub in_part : Option Contents → Key → Option (List Pair)
+in_part None key = None
+in_part (Some m) key = get m key
 
--- Each bucket holds keys of its own partition alone.
-abbrev pub HasOwnKeys : List (Section × Contents) → Type 0
-HasOwnKeys es = (s : Section) (m : Contents) → lookup (section_eq s) es ≡ Some m → (key : Key) → section_eq s (section_of key) ≡ false → get m key ≡ None
+-- what the part s holds, if there is one
+abbrev pub part_at : {K V : Type 0} → (K → K → Bool) → (V → Contents) → List (K × V) → K → Option Contents
+part_at same f es s = option_map f (lookup (same s) es)
+
+-- Each part holds keys of its own alone.
+abbrev pub HasOwnKeys : {K V : Type 0} → (K → K → Bool) → (Key → K) → (V → Contents) → List (K × V) → Type 0
+HasOwnKeys {K} same part f es = (s : K) (key : Key) → same s (part key) ≡ false → in_part (part_at same f es s) key ≡ None
+
+-- fs has m as the part named at, and the other parts of es
+abbrev pub ChangesAt : {K V : Type 0} → (K → K → Bool) → (V → Contents) → K → Contents → List (K × V) → List (K × V) → Type 0
+ChangesAt {K} same f at m es fs = (s : K) → part_at same f fs s ≡ (if same at s then Some m else part_at same f es s)

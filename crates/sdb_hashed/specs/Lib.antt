@@ -1,3 +1,2 @@
-pub mod Section
 pub mod Gathered
 pub mod Put

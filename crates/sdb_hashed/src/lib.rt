@@ -1,11 +1,16 @@
-//! A store in memory that finds a partition by its hash.
+//! A store in memory that finds a table, and a partition in it, by their hashes.
 #![tactic(auto)]
 
-mod buckets;
-mod section;
+mod part;
+mod parts;
 
-pub use buckets::Buckets;
+use parts::Parts;
+use sdb_ordered::Tree;
 use sdb_store::Memory;
+use sdb_types::{TableName, Values};
+
+/// Records by table and partition: each table has partitions of its own, and each partition a tree in the order of keys.
+pub type Buckets = Parts<TableName, Parts<Values, Tree>>;
 
 /// The store in memory over hashed partitions. It tells what it holds.
 pub type Hashed = Memory<Buckets>;

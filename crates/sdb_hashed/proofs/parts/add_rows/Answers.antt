@@ -1,7 +1,7 @@
 use Rattle.std.proofs.Common.{◌∙◌, ap, sym}
 use Rattle.sdb_hashed.specs.Put.{with_rows}
 use Rattle.sdb_hashed.proofs.Spans.{with_last}
-use Rattle.sdb_hashed.proofs.buckets.add_rows.Goals as goal
+use Rattle.sdb_hashed.proofs.parts.add_rows.Goals as goal
 
 pub loop-rec-preserved : goal.loop-rec-preserved
 loop-rec-preserved c =

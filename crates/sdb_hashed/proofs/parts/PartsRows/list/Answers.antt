@@ -1,0 +1,24 @@
+use Rattle.std.proofs.Common.{◌∙◌, ap}
+use Rattle.sdb_types.specs.Contents.{rows_in}
+use Rattle.sdb_hashed.specs.Gathered.{held}
+use Rattle.sdb_hashed.proofs.Spans.{same_rows, rows_along, part_rows, no_part}
+use Rattle.sdb_hashed.proofs.parts.PartsRows.list.Goals as goal
+
+pub returns-in-Some-get : goal.returns-in-Some-get
+returns-in-Some-get g c =
+    let f = g.R.Rows.contents in
+    let span = c.args.span.now in
+    let v = c.in-Some-get.rows.now in
+    let rows = part_rows g.K.PartialEq.eq g.met.K.Exact.decides g.K.Part.part f c.self.inside.rows.entries c.self.invariant.0 c.self.invariant.1 span c.in-Some.part.now v c.in-Some.ensures c.in-Some-get.ensures.value in
+    rows_along c.list.result (rows_in span (f v)) (rows_in span c.args.self.now) (rows ∙ ap (rows_in span) c.self.view_is) c.list.ensures
+
+pub returns-in-None-get : goal.returns-in-None-get
+returns-in-None-get g c =
+    let span = c.args.span.now in
+    c.new.ensures ∙ no_part g.K.PartialEq.eq g.met.K.Exact.decides g.K.Part.part g.R.Rows.contents c.self.inside.rows.entries c.self.invariant.0 c.self.invariant.1 span c.in-Some.part.now c.in-Some.ensures c.in-None-get.ensures.value ∙ ap (rows_in span) c.self.view_is
+
+pub returns-in_ok-gather-in-None : goal.returns-in_ok-gather-in-None
+returns-in_ok-gather-in-None g c =
+    let span = c.args.span.now in
+    let all = c.in_ok-gather-in-None.field-0 in
+    rows_along c.list-in-None.result (rows_in span all) (rows_in span c.args.self.now) (same_rows span all (held g.R.Rows.contents c.self.inside.rows.entries) c.in_ok-gather-in-None.ensures ∙ ap (rows_in span) c.self.view_is) c.list-in-None.ensures
