@@ -12,5 +12,5 @@ use sdb_types::{TableName, Values};
 /// Records by table and partition: each table has partitions of its own, and each partition a tree in the order of keys.
 pub type Buckets = Parts<TableName, Parts<Values, Tree>>;
 
-/// The store in memory over hashed partitions. It tells what it holds.
+/// The store in memory over hashed partitions. Its contents are known.
 pub type Hashed = Memory<Buckets>;

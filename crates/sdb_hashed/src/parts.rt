@@ -21,7 +21,7 @@ pub struct Parts<K: Part, R: Rows> {
     rows: HashMap<K, R>,
 }
 
-// By hand: each drop is then one call, where a derived one stands at each place with a call for each field.
+// By hand: each drop is then one call, where a derived one is written out at each exit, with a call for each field.
 impl<K: Part, R: Rows> Drop for Parts<K, R> {
     fn drop(self) {
         let Parts { alloc: _, rows: _ } = self;

@@ -6,5 +6,5 @@ mod tree;
 use sdb_store::Memory;
 pub use tree::{Tree, least_key};
 
-/// The store in memory over a tree. It tells what it holds.
+/// The store in memory over a tree. Its contents are known.
 pub type Ordered = Memory<Tree>;

@@ -25,7 +25,7 @@ pub struct Tree {
     rows: BTreeMap<Key, Columns>,
 }
 
-// By hand: each drop is then one call, where a derived one stands at each place with a call for each field.
+// By hand: each drop is then one call, where a derived one is written out at each exit, with a call for each field.
 impl Drop for Tree {
     fn drop(self) {
         let Tree { alloc: _, rows: _ } = self;
@@ -69,7 +69,7 @@ fn copied(key: &Key, columns: &Columns) -> Result<Record, NoMemory>
     })
 }
 
-// The record of what stands at a key, if anything does.
+// The record of what is at a key, if anything is.
 fn record_of_found(key: &Key, found: Option<&Columns>) -> Result<Option<Record>, NoMemory>
     ensures { IfOk result (λ rec. rec ≡ option_map (λ columns. record_of (key.now, columns)) (option_copied found.entry)) }
 {
@@ -79,7 +79,7 @@ fn record_of_found(key: &Key, found: Option<&Columns>) -> Result<Option<Record>,
     }
 }
 
-// The records of a span among the entries of a tree: they stand together, from the span's least key on.
+// The records of a span among the entries of a tree: they come together, from the span's least key on.
 fn rows_of(alloc: Global, rows: &BTreeMap<Key, Columns>, span: &Span) -> Result<Records, NoMemory>
     ensures rows { IfOk result (λ found. found ≡ rows_among span.now rows.now.entries) }
     ensures ordered { OnOk result (IsOrdered key_cmp rows.now) }
@@ -95,7 +95,7 @@ fn rows_of(alloc: Global, rows: &BTreeMap<Key, Columns>, span: &Span) -> Result<
     Ok(found)
 }
 
-// Puts a record at its key, where nothing stands there. One search finds the place.
+// Puts a record at its key, where nothing is there. One search finds the place.
 fn put_first(rows: &mut BTreeMap<Key, Columns>, rec: &Record) -> Result<Reply, NoMemory>
     ensures ok { IfOk result (λ reply. Answers (PutIf rec.now Absent) reply (map.from_entries rows.old.entries) (map.from_entries rows.new.entries)) }
     ensures err { OnErr result (rows.new.entries ≡ rows.old.entries) }

@@ -13,7 +13,7 @@ use Rattle.sdb_snapshot.specs.Noted.{Note, AreBases, is_noted, note_at, base_at,
 use Rattle.sdb_snapshot.specs.Written.{AreWrites, HaveBases, HaveKeysOnce, is_written}
 use Rattle.sdb_snapshot.specs.Seen.{is_scanned, same_span}
 
--- the keys noted stand in a tree
+-- the keys noted are in a tree
 abbrev pub InOrder : List Note → Contents → Type 0
 InOrder notes order = (q : Key) → is_noted notes q ≡ true → is_some (get order q) ≡ true
 

@@ -1,4 +1,4 @@
--- How changes are taken: first each new key goes last, then each change stands at its key.
+-- How changes are taken: first each new key goes last, then each change is put at its key.
 use Rattle.std.specs.Prelude.{if◌then◌else◌, List, [], ◌∷◌, ◌++◌}
 use Rattle.sdb_keyed.specs.Entries.{same_key}
 use Rattle.sdb_record.specs.declared.write.Write.{Write}

@@ -35,7 +35,7 @@ pub struct Drafts {
     writes: Writes,
 }
 
-// By hand: each drop is then one call, where a derived one stands at each place with a call for each field.
+// By hand: each drop is then one call, where a derived one is written out at each exit, with a call for each field.
 impl Drop for Drafts {
     fn drop(self) {
         let Drafts {

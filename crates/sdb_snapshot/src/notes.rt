@@ -13,7 +13,7 @@ use sdb_types::{Columns, Duplicate, Key, NoMemory, Record, Records, Span};
 use std::alloc::Global;
 use std::marker::Model;
 
-/// What was found at each key that was read, in the order of first reading. The keys stand in a tree too, in their own
+/// What was found at each key that was read, in the order of first reading. The keys are in a tree too, in their own
 /// order, so that those of a span are found without the others. The tree may hold keys more: those that were put there
 /// before memory ran out in the middle of a scan.
 pub struct Notes {
@@ -22,7 +22,7 @@ pub struct Notes {
     order: Tree,
 }
 
-// By hand: each drop is then one call, where a derived one stands at each place with a call for each field.
+// By hand: each drop is then one call, where a derived one is written out at each exit, with a call for each field.
 impl Drop for Notes {
     fn drop(self) {
         let Notes {

@@ -19,7 +19,7 @@ pub struct ScanList {
     places: IndexMap<Span, usize>,
 }
 
-// By hand: each drop is then one call, where a derived one stands at each place with a call for each field.
+// By hand: each drop is then one call, where a derived one is written out at each exit, with a call for each field.
 impl Drop for ScanList {
     fn drop(self) {
         let ScanList {

@@ -47,7 +47,7 @@ impl From<NoMemory> for NoteRefused {
 ///
 /// Noted records are found by a hash of the key, and so are own writes; noted scans are found by a hash of the span. So
 /// `lookup` and `scanned` take constant time, and `write` constant time for each change, as far as hashes don't collide. The
-/// noted keys stand in a tree in their own order too, so that `overlay_span` looks at the keys of its span alone.
+/// noted keys are in a tree in their own order too, so that `overlay_span` looks at the keys of its span alone.
 pub struct Snapshot {
     alloc: Global,
     notes: Notes,
@@ -56,7 +56,7 @@ pub struct Snapshot {
     scans: ScanList,
 }
 
-// By hand: each drop is then one call, where a derived one stands at each place with a call for each field.
+// By hand: each drop is then one call, where a derived one is written out at each exit, with a call for each field.
 impl Drop for Snapshot {
     fn drop(self) {
         let Snapshot {
@@ -186,7 +186,7 @@ impl Snapshot {
     }
 
     /// Notes a scan that made a call, with the committed records found, tombstones included: those of keys that were not
-    /// read are noted. Where a key that was read has another version among them, it tells the first such key, and notes
+    /// read are noted. Where a key that was read has another version among them, it returns the first such key, and notes
     /// nothing.
     pub fn note_scan(&mut self, span: Span, images: Records) -> Result<(), NoteRefused>
         requires rows { are_rows_of span images ≡ true }

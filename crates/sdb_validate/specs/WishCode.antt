@@ -1,4 +1,4 @@
--- The code of what is wished, by which a proof tells its values apart.
+-- The code of what is wished, by which a proof distinguishes its values.
 use Rattle.std.specs.Coded.{Coded}
 use Rattle.std.specs.FinMap.{code}
 use Rattle.sdb_types.specs.contracts.key.Key as key

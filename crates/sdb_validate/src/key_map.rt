@@ -18,7 +18,7 @@ pub struct WishMap {
     wishes: BTreeMap<Key, Wish>,
 }
 
-// By hand: each drop is then one call, where a derived one is a call for each field at each place.
+// By hand: each drop is then one call, where a derived one is written out at each exit, with a call for each field.
 impl Drop for WishMap {
     fn drop(self) {
         let WishMap {

@@ -23,7 +23,7 @@ pub struct Validate {
     at: usize,
 }
 
-// By hand: each drop is then one call, where a derived one is a call for each field at each place.
+// By hand: each drop is then one call, where a derived one is written out at each exit, with a call for each field.
 impl Drop for Validate {
     fn drop(self) {
         let Validate { checks: _, at: _ } = self;
