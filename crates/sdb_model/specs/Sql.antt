@@ -317,14 +317,14 @@ sticks_before (Mark sign.Dot) = true
 sticks_before _ = false
 
 -- no space comes after these
-abbrev pub sticks_behind : Token → Bool
-sticks_behind (Mark sign.Open) = true
-sticks_behind (Mark sign.Dot) = true
-sticks_behind _ = false
+abbrev pub sticks_after : Token → Bool
+sticks_after (Mark sign.Open) = true
+sticks_after (Mark sign.Dot) = true
+sticks_after _ = false
 
 -- what is between two tokens: one space, but none before `,` `)` `.` and none after `(` `.`
 abbrev pub gap : Token → Token → List ℕ
-gap t u = if sticks_behind t || sticks_before u then [] else codes " "
+gap t u = if sticks_after t || sticks_before u then [] else codes " "
 
 -- the tokens after a first one, each after its gap
 abbrev pub more_text : Token → Tokens → List ℕ

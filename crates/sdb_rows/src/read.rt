@@ -76,13 +76,13 @@ pub fn value_at<'a>(table: &Table, row: &'a Image, name: &Name) -> Option<&'a Va
     )
 }
 
-fn stands_among(names: &[Name], name: &Name) -> bool
+fn is_among(names: &[Name], name: &Name) -> bool
     ensures { result ≡ list_any (λ n. same_name n name.now) names.now }
 {
     names.iter().any(|n| n.cmp(name).is_eq())
 }
 
-fn stands_in_order(orders: &[Order], name: &Name) -> bool
+fn is_in_order(orders: &[Order], name: &Name) -> bool
     ensures { result ≡ list_any (λ o. same_name o.name name.now) orders.now }
 {
     orders.iter().any(|o| o.name.cmp(name).is_eq())
@@ -92,8 +92,7 @@ fn stands_in_order(orders: &[Order], name: &Name) -> bool
 pub fn is_key_name(table: &Table, name: &Name) -> bool
     ensures { result ≡ is_key_column table.now name.now }
 {
-    stands_among(table.partition.as_slice(), name)
-        || stands_in_order(table.clustering.as_slice(), name)
+    is_among(table.partition.as_slice(), name) || is_in_order(table.clustering.as_slice(), name)
 }
 
 fn column_named<'a>(columns: &'a [Column], name: &Name) -> Option<&'a Column>

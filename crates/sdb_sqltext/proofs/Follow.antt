@@ -23,7 +23,7 @@ use Rattle.sdb_sqltext.specs.States as state
 use Rattle.sdb_model.specs.Sql.{is_word, is_sign}
 use Rattle.sdb_sqltext.specs.Machine.{on_word, on_sign, name_of, value_of, literal_of, comparison_of, limit_of, with_name, with_literal, with_test, with_set, inserted, filtered_by, filtered, more_sets, untested, ending, begun, step}
 use Rattle.sdb_sqltext.specs.Parsing.{or_at, then as and_then, parse_from, of_tokens, parsed_by}
-use Rattle.sdb_sqltext.specs.Readers.{Read, place, next_word, next_sign, after_word, after_sign, part_at, choose, list_at, name_at, literal_at, names_at, literals_at, table_at, set_at, sets_at, null_test_at, comparison_at, test_at, where_at, limit_at, columns_at, listed_names_at, listed_literals_at, insert_at, update_at, delete_at, select_at, statement_by, behind_semicolon, nothing_left, whole_at, read_by}
+use Rattle.sdb_sqltext.specs.Readers.{Read, place, next_word, next_sign, after_word, after_sign, part_at, choose, list_at, name_at, literal_at, names_at, literals_at, table_at, set_at, sets_at, null_test_at, comparison_at, test_at, where_at, limit_at, columns_at, listed_names_at, listed_literals_at, insert_at, update_at, delete_at, select_at, statement_by, after_semicolon, nothing_left, whole_at, read_by}
 use Rattle.sdb_sqltext.proofs.Told.{sign_is}
 use Rattle.sdb_sqltext.proofs.Complete.{draft}
 use Rattle.sdb_sqltext.proofs.Linked.{onward, other, all_other, other_part, other_word, other_sign, word_goes, sign_goes, word_stops, sign_stops, left_len, part_shorter, word_shorter, sign_shorter, then_shorter, Follows, list_follows}
@@ -90,25 +90,25 @@ semicolon_by : (end : ℕ) (b : Bool) (st : Statement) (p : Placed) (ps : List P
 semicolon_by end true st p ps = closed_link end st ps
 semicolon_by end false st p ps = refl
 
-ended_link : (end : ℕ) (st : Statement) (ps : List Placed) → parse_from (state.Ended st) ps end ≡ nothing_left st (behind_semicolon ps)
+ended_link : (end : ℕ) (st : Statement) (ps : List Placed) → parse_from (state.Ended st) ps end ≡ nothing_left st (after_semicolon ps)
 ended_link end st [] = refl
 ended_link end st (p ∷ ps) = semicolon_by end (is_sign sign.Semicolon p.token) st p ps
 
 abbrev tail : ℕ → Head → List Test → List Placed → Result Statement ℕ
-tail end (head.Update t sets) ts ps = nothing_left (filtered_by (head.Update t sets) ts None) (behind_semicolon ps)
-tail end (head.Delete t) ts ps = nothing_left (filtered_by (head.Delete t) ts None) (behind_semicolon ps)
-tail end (head.Select t cs) ts ps = and_then (limit_at ps end) (λ l. nothing_left (filtered_by (head.Select t cs) ts l.0) (behind_semicolon l.1))
+tail end (head.Update t sets) ts ps = nothing_left (filtered_by (head.Update t sets) ts None) (after_semicolon ps)
+tail end (head.Delete t) ts ps = nothing_left (filtered_by (head.Delete t) ts None) (after_semicolon ps)
+tail end (head.Select t cs) ts ps = and_then (limit_at ps end) (λ l. nothing_left (filtered_by (head.Select t cs) ts l.0) (after_semicolon l.1))
 
 abbrev limit_read : ℕ → Option (List Placed) → List Placed → Read (Option ℤ)
 limit_read end o ps = choose o (λ qs. and_then (part_at limit_of qs end) (λ n. Ok (Some n.0, n.1))) (Ok (None, ps))
 
 limit_by : (end : ℕ) (b : Bool) (t : TableName) (cs : Option (List (List ℕ))) (ts : List Test) (p : Placed) (ps : List Placed)
     → and_then (or_at p.at (cond b (Some (state.Limit (record { head = head.Select t cs; tests = ts }))) (on_sign sign.Semicolon (state.Closed (filtered_by (head.Select t cs) ts None)) p.token))) (λ n. parse_from n ps end)
-    ≡ and_then (limit_read end (cond b (Some ps) None) (p ∷ ps)) (λ l. nothing_left (filtered_by (head.Select t cs) ts l.0) (behind_semicolon l.1))
+    ≡ and_then (limit_read end (cond b (Some ps) None) (p ∷ ps)) (λ l. nothing_left (filtered_by (head.Select t cs) ts l.0) (after_semicolon l.1))
 limit_by end true t cs ts p ps =
     let f : Filter = record { head = head.Select t cs; tests = ts } in
     all_other (state.Limit f) ps end ∙ other_part limit_of (λ n. state.Ended (filtered f (Some n))) ps end
-    ∙ onward (part_at limit_of ps end) (λ n. Ok (Some n.0, n.1)) (λ (l : Option ℤ × List Placed). nothing_left (filtered_by (head.Select t cs) ts l.0) (behind_semicolon l.1)) (λ r. parse_from (state.Ended (filtered f (Some r.0))) r.1 end) (λ r. ended_link end (filtered f (Some r.0)) r.1)
+    ∙ onward (part_at limit_of ps end) (λ n. Ok (Some n.0, n.1)) (λ (l : Option ℤ × List Placed). nothing_left (filtered_by (head.Select t cs) ts l.0) (after_semicolon l.1)) (λ r. parse_from (state.Ended (filtered f (Some r.0))) r.1 end) (λ r. ended_link end (filtered f (Some r.0)) r.1)
 limit_by end false t cs ts p ps = semicolon_by end (is_sign sign.Semicolon p.token) (filtered_by (head.Select t cs) ts None) p ps
 
 ending_link : (end : ℕ) (h : Head) (ts : List Test) (ps : List Placed) → other (Some (filtered_by h ts None)) (ending (record { head = h; tests = ts })) ps end ≡ tail end h ts ps
@@ -319,7 +319,7 @@ insert_link end u ps =
 
 -- what follows a statement
 abbrev last : Statement × List Placed → Result Statement ℕ
-last r = nothing_left r.0 (behind_semicolon r.1)
+last r = nothing_left r.0 (after_semicolon r.1)
 
 update_link : (end : ℕ) (ps : List Placed) → parse_from (state.Namespace verb.Update) ps end ≡ and_then (update_at ps end) last
 update_link end ps =
@@ -362,7 +362,7 @@ select_link end ps =
     ∙ onward (table_at ps1 end) _ last (λ t. parse_from (state.Target (head.Select t.0 c.0)) t.1 end)
     (λ t. target_link end (head.Select t.0 c.0) t.1 tt
     ∙ onward (where_at t.1 end) _ last (λ w. tail end (head.Select t.0 c.0) w.0 w.1)
-    (λ w. onward (limit_at w.1 end) (λ l. Ok (statement.Select (record { table = t.0; columns = c.0; tests = w.0; limit = l.0 }), l.1)) last (λ l. nothing_left (filtered_by (head.Select t.0 c.0) w.0 l.0) (behind_semicolon l.1)) (λ l. refl)))))
+    (λ w. onward (limit_at w.1 end) (λ l. Ok (statement.Select (record { table = t.0; columns = c.0; tests = w.0; limit = l.0 }), l.1)) last (λ l. nothing_left (filtered_by (head.Select t.0 c.0) w.0 l.0) (after_semicolon l.1)) (λ l. refl)))))
 
 chain : (end : ℕ) (b : Bool) (n : State) (others : Option State) (at : ℕ) (ps : List Placed) (x y : Read Statement) → parse_from n ps end ≡ and_then x last → and_then (or_at at others) (λ n. parse_from n ps end) ≡ and_then y last
     → and_then (or_at at (cond b (Some n) others)) (λ n. parse_from n ps end) ≡ and_then (cond b x y) last

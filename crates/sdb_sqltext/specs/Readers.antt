@@ -145,8 +145,8 @@ statement_at [] end = Err end
 statement_at (p ∷ ps) end = statement_by p.token p.at ps end
 
 -- the tokens after a `;`, if one comes next
-abbrev pub behind_semicolon : List Placed → List Placed
-behind_semicolon ps = choose (next_sign sign.Semicolon ps) (λ qs. qs) ps
+abbrev pub after_semicolon : List Placed → List Placed
+after_semicolon ps = choose (next_sign sign.Semicolon ps) (λ qs. qs) ps
 
 -- no tokens are left
 abbrev pub nothing_left : {A : Type 0} → A → List Placed → Result A ℕ
@@ -155,7 +155,7 @@ nothing_left x (p ∷ ps) = Err p.at
 
 -- the statement that all tokens are
 abbrev pub whole_at : List Placed → ℕ → Result Statement ℕ
-whole_at ps end = and_then (statement_at ps end) (λ r. nothing_left r.0 (behind_semicolon r.1))
+whole_at ps end = and_then (statement_at ps end) (λ r. nothing_left r.0 (after_semicolon r.1))
 
 -- the statement of what a text was lexed to, or the first refusal
 abbrev pub read_by : ℕ → Lexed → Result Statement Refusal

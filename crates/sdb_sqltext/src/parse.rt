@@ -180,8 +180,8 @@ fn statement_at(alloc: Global, tokens: &[Placed], end: usize) -> Parsed<'_, Stat
 }
 
 // The tokens after a `;`, if one comes next.
-fn behind_semicolon(tokens: &[Placed]) -> &[Placed]
-    ensures { result.now ≡ spec.behind_semicolon tokens.now }
+fn after_semicolon(tokens: &[Placed]) -> &[Placed]
+    ensures { result.now ≡ spec.after_semicolon tokens.now }
 {
     match next_sign(tokens, Sign::Semicolon) {
         Some(rest) => rest,
@@ -194,7 +194,7 @@ fn whole_at(alloc: Global, tokens: &[Placed], end: usize) -> Result<Statement, S
     ensures { Steps (λ x. x) result (spec.whole_at tokens.now end) }
 {
     let (statement, rest) = statement_at(alloc, tokens, end)?;
-    match behind_semicolon(rest) {
+    match after_semicolon(rest) {
         [] => Ok(statement),
         [first, ..] => Err(StepError::Wrong(first.at)),
     }

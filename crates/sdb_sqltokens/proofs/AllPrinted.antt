@@ -8,7 +8,7 @@ use Rattle.std.proofs.lemmas.List.Elements.{recursion_from_All}
 use Rattle.std.proofs.lemmas.Fmt.{decimal_by_steps}
 use Rattle.sdb_types.specs.Identifier.{is_start, is_identifier}
 use Rattle.sdb_model.specs.SqlTokens.{Lexed, keyword_text, keyword_of, sign_text, is_gap, begins, token_at, behind, tokens_from, lexed}
-use Rattle.sdb_model.specs.Sql.{Tokens, token_text, sticks_before, sticks_behind, more_text, tokens_text, tokens_of, CanSpell, IsWhole, Reads, statement_tokens, statement_text_of}
+use Rattle.sdb_model.specs.Sql.{Tokens, token_text, sticks_before, sticks_after, more_text, tokens_text, tokens_of, CanSpell, IsWhole, Reads, statement_tokens, statement_text_of}
 use Rattle.sdb_model.specs.declared.statement.Statement.{Statement}
 use Rattle.sdb_model.specs.declared.token.Placed.{Placed}
 use Rattle.sdb_model.specs.declared.token.Sign.{Sign}
@@ -27,9 +27,9 @@ use Rattle.sdb_model.proofs.Basics.{is_bytes}
 -- ---- one token
 
 abbrev Follows : Token → List ℕ → Type 0
-Follows t rest = (sticks_behind t ≡ true) ⊎ (clear rest ≡ true)
+Follows t rest = (sticks_after t ≡ true) ⊎ (clear rest ≡ true)
 
-must_be_clear : (t : Token) (rest : List ℕ) → sticks_behind t ≡ false → Follows t rest → clear rest ≡ true
+must_be_clear : (t : Token) (rest : List ℕ) → sticks_after t ≡ false → Follows t rest → clear rest ≡ true
 must_be_clear t rest no_sign (inl h) = absurd cc
 must_be_clear t rest no_sign (inr h) = h
 
@@ -107,7 +107,7 @@ gap_clear false false text rest h = inr refl
 
 more_clear : (t : Token) (ts : Tokens) → Follows t (more_text t ts)
 more_clear t [] = inr refl
-more_clear t (u ∷ us) = gap_clear (sticks_behind t) (sticks_before u) (token_text u) (more_text u us) (sticks_clear u (more_text u us))
+more_clear t (u ∷ us) = gap_clear (sticks_after t) (sticks_before u) (token_text u) (more_text u us) (sticks_clear u (more_text u us))
 
 abbrev gap_len : Bool → ℕ
 gap_len true = 0
@@ -128,7 +128,7 @@ all_read [] t place fits rest =
 all_read (u ∷ us) t place fits rest =
     let p : Placed = record { at = place; token = t } in
     let first = turn_of (token_text t) (more_text t (u ∷ us)) place t (token_solid t fits) (read_again t (more_text t (u ∷ us)) fits (more_clear t (u ∷ us))) in
-    let g = sticks_behind t || sticks_before u in
+    let g = sticks_after t || sticks_before u in
     let next = over_gap g (place + length (token_text t)) (token_text u) (more_text u us) in
     let more = all_read us u (place + length (token_text t) + gap_len g) rest.0 rest.1 in
     (p ∷ more.0, first ∙ ap (behind (p ∷ [])) (next ∙ more.1), ap (λ (ts : Tokens). t ∷ ts) more.2)

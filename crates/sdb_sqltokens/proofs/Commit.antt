@@ -17,7 +17,7 @@ use Rattle.sdb_model.specs.declared.token.Token.{Token}
 use Rattle.sdb_model.specs.declared.token.Token.TheVariants.{Word, Name, Overlong, Number, Text, Blob, Sign as Mark}
 use Rattle.sdb_model.specs.Sql.{is_lexed_word, is_sign, is_word, reads_commit}
 use Rattle.sdb_model.specs.SqlTokens.{Lexed, Lexeme, Bad, Wide, minus, begins, begins_blob, behind, blob_in, blob_token, closes, enclosed, first_token, digits_len, is_digit, is_gap, is_single_quote, keyword_of, letter_at, lexed, name_token, negative_at, number_at, number_of, or_word, quote_place, quoted_name_at, sign_of, sign_text, sign_token, signs, text_at, text_token, token_at, tokens_from, word_at, word_len, word_or_name}
-use Rattle.sdb_sqltokens.specs.OneWord.{behind_gaps, ends_text, is_commit, is_commit_at, is_end, spells_commit}
+use Rattle.sdb_sqltokens.specs.OneWord.{after_gaps, ends_text, is_commit, is_commit_at, is_end, spells_commit}
 use Rattle.sdb_sqltokens.proofs.Lexing.{gap_turn, token_turn}
 use Rattle.sdb_types.proofs.Basics.{by_test, one_more, cond_by as either}
 use Rattle.sdb_types.proofs.Words.{start_part as start_is_part}
@@ -267,10 +267,10 @@ semicolon_tail place (Ok []) = refl
 semicolon_tail place (Ok (p ∷ ps)) = refl
 semicolon_tail place (Err f) = refl
 
-gap_passed : (b : ℕ) (bs : List ℕ) → is_gap b ≡ true → behind_gaps (b ∷ bs) ≡ behind_gaps bs
+gap_passed : (b : ℕ) (bs : List ℕ) → is_gap b ≡ true → after_gaps (b ∷ bs) ≡ after_gaps bs
 gap_passed b bs g = rw (g, one_more) refl
 
-no_gap : (b : ℕ) (bs : List ℕ) → is_gap b ≡ false → behind_gaps (b ∷ bs) ≡ b ∷ bs
+no_gap : (b : ℕ) (bs : List ℕ) → is_gap b ≡ false → after_gaps (b ∷ bs) ≡ b ∷ bs
 no_gap b bs g = rw g refl
 
 tail_at : (place b : ℕ) (bs : List ℕ) → is_tail (first_token place (token_at (b ∷ bs)) (λ n. tokens_from (place + 1) (n - 1) bs)) ≡ (b == 59 && list_all is_gap bs)

@@ -14,7 +14,7 @@ use Rattle.hex.proofs.HexLemmas.{IsDigits-upper_digits, decode_of-encode_upper}
 use Rattle.sdb_types.specs.Identifier.{is_start, is_part, is_identifier}
 use Rattle.sdb_model.specs.Texts.{doubled, quoted}
 use Rattle.sdb_model.specs.SqlTokens.{keyword_text, keyword_of, sign_text, sign_of, is_digit, is_single_quote, begins, name_token, word_or_name, word_at, quoted_name_at, digits_len, digits_value, number_of, number_at, negative_at, onto_text, enclosed, text_at, quote_place, blob_in, begins_blob, letter_at, sign_token, token_at}
-use Rattle.sdb_model.specs.Sql.{token_text, sticks_behind, CanSpell}
+use Rattle.sdb_model.specs.Sql.{token_text, sticks_after, CanSpell}
 use Rattle.sdb_model.specs.declared.token.Keyword.{Keyword}
 use Rattle.sdb_model.specs.declared.token.Keyword.TheVariants as word
 use Rattle.sdb_model.specs.declared.token.Sign.{Sign}
@@ -171,7 +171,7 @@ name_read n rest fits e =
 sign_clear : (b : ℕ) → ends_token b ≡ true → (eqb 62 b ≡ false) × (eqb 61 b ≡ false)
 sign_clear b h = (grind (arith, nat_tests), grind (arith, nat_tests))
 
-sign_found : (s : Sign) (rest : List ℕ) → ((sticks_behind (Mark s) ≡ true) ⊎ (clear rest ≡ true)) → sign_of (sign_text s ++ rest) ≡ Some s
+sign_found : (s : Sign) (rest : List ℕ) → ((sticks_after (Mark s) ≡ true) ⊎ (clear rest ≡ true)) → sign_of (sign_text s ++ rest) ≡ Some s
 unfolding sign_of
 sign_found sign.NotEqual rest h = refl
 sign_found sign.LessOrEqual rest h = refl
@@ -205,7 +205,7 @@ sign_front sign.Close rest = refl
 sign_front sign.Star rest = refl
 sign_front sign.Semicolon rest = refl
 
-pub sign_read : (s : Sign) (rest : List ℕ) → ((sticks_behind (Mark s) ≡ true) ⊎ (clear rest ≡ true)) → Again (Mark s) rest
+pub sign_read : (s : Sign) (rest : List ℕ) → ((sticks_after (Mark s) ≡ true) ⊎ (clear rest ≡ true)) → Again (Mark s) rest
 sign_read s rest h = sign_front s rest ∙ ap sign_token (sign_found s rest h)
 
 -- ---- numbers

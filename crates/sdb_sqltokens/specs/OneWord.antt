@@ -9,8 +9,8 @@ use Rattle.sdb_model.specs.Sql.{is_word}
 use Rattle.sdb_model.specs.SqlTokens.{begins, is_gap, keyword_of, word_len}
 
 -- the bytes after the blanks at the start
-abbrev pub behind_gaps : List ℕ → List ℕ
-behind_gaps bytes = drop (prefix_len is_gap bytes) bytes
+abbrev pub after_gaps : List ℕ → List ℕ
+after_gaps bytes = drop (prefix_len is_gap bytes) bytes
 
 abbrev pub is_end : List ℕ → Bool
 is_end [] = true
@@ -18,7 +18,7 @@ is_end (b ∷ bs) = b == 59 && list_all is_gap bs
 
 -- nothing but blanks, and one `;` among them at most
 abbrev pub ends_text : List ℕ → Bool
-ends_text bytes = is_end (behind_gaps bytes)
+ends_text bytes = is_end (after_gaps bytes)
 
 abbrev pub is_commit : Option Keyword → Bool
 is_commit None = false
@@ -29,4 +29,4 @@ abbrev pub is_commit_at : List ℕ → Bool
 is_commit_at bytes = begins is_start bytes && (is_commit (keyword_of (take (word_len bytes) bytes)) && ends_text (drop (word_len bytes) bytes))
 
 abbrev pub spells_commit : List ℕ → Bool
-spells_commit text = is_commit_at (behind_gaps text)
+spells_commit text = is_commit_at (after_gaps text)

@@ -64,8 +64,8 @@ fn gaps_len(bytes: &[u8]) -> usize
 }
 
 // The bytes after the blanks at the start.
-fn behind_gaps(bytes: &[u8]) -> &[u8]
-    ensures { result.now ≡ spec.behind_gaps bytes.now }
+fn after_gaps(bytes: &[u8]) -> &[u8]
+    ensures { result.now ≡ spec.after_gaps bytes.now }
 {
     bytes.split_at(gaps_len(bytes)).1
 }
@@ -80,7 +80,7 @@ fn are_gaps(bytes: &[u8]) -> bool
 fn ends(bytes: &[u8]) -> bool
     ensures { result ≡ spec.ends_text bytes.now }
 {
-    match behind_gaps(bytes).split_first() {
+    match after_gaps(bytes).split_first() {
         Some((first, rest)) => *first == b';' && are_gaps(rest),
         None => true,
     }
@@ -98,7 +98,7 @@ fn is_commit(word: Option<Keyword>) -> bool
 fn spells_commit(text: &[u8]) -> bool
     ensures { result ≡ spec.spells_commit text.now }
 {
-    let bytes = behind_gaps(text);
+    let bytes = after_gaps(text);
     let (word, rest) = bytes.split_at(word_len(bytes));
     begins_start(bytes) && is_commit(keyword_of(word)) && ends(rest)
 }

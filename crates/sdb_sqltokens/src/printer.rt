@@ -2,7 +2,7 @@
 ghost use Rattle.std.specs.Prelude.{◌≡◌, ◌++◌, OnOk};
 ghost use Rattle.std.specs.String.{string_bytes};
 ghost use Rattle.sdb_model.specs.SqlTokens.{name_text};
-ghost use Rattle.sdb_model.specs.Sql.{token_text, sticks_before, sticks_behind, gap, tokens_text};
+ghost use Rattle.sdb_model.specs.Sql.{token_text, sticks_before, sticks_after, gap, tokens_text};
 
 use crate::marks::keyword_of;
 use sdb_model::{Sign, Token};
@@ -48,8 +48,8 @@ fn sticks_before(token: &Token) -> bool
     }
 }
 
-fn sticks_behind(token: &Token) -> bool
-    ensures { result ≡ sticks_behind token.now }
+fn sticks_after(token: &Token) -> bool
+    ensures { result ≡ sticks_after token.now }
 {
     match token {
         Token::Sign(Sign::Open | Sign::Dot) => true,
@@ -60,7 +60,7 @@ fn sticks_behind(token: &Token) -> bool
 fn put_gap(out: &mut String, first: &Token, second: &Token) -> Result<(), NoMemory>
     ensures { OnOk result (string_bytes out.new ≡ string_bytes out.old ++ gap first.now second.now) }
 {
-    if !sticks_behind(first) && !sticks_before(second) {
+    if !sticks_after(first) && !sticks_before(second) {
         out.push_str(" ")?;
     }
     Ok(())

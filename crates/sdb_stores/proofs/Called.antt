@@ -190,6 +190,6 @@ taken_out {A} name see xs ys own at x found is out left =
       places = left;
       telling = told_at tells xs at x (slice_get-get_or xs at x inside ∙ ap Some (sym is));
       before = λ i less h. subst (λ (zs : List _). IsSomeAnd (slice_get zs i) tells) (sym out) (told_before tells xs at i less h);
-      behind = λ i most h. subst (λ (zs : List _). IsSomeAnd (slice_get zs i) tells) (sym out) (told_behind tells xs at i most (rw (← add-one) h));
+      after = λ i most h. subst (λ (zs : List _). IsSomeAnd (slice_get zs i) tells) (sym out) (told_behind tells xs at i most (rw (← add-one) h));
       counted = ap (λ (k : List Shelf). total_faults k + (see x).faults) rest ∙ less_one (λ s. s.faults) (map shelf xs) at (shelf x) stands;
     }

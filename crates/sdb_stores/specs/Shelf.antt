@@ -128,7 +128,7 @@ pub record IsTakenOut (name : List ℕ) (store : StoreState) (old new : Attached
   pub places : new.places ≡ places_without name old.places
   pub telling : old.tells at → store.tells
   pub before : (i : ℕ) → i < at → old.tells i → new.tells i
-  pub behind : (i : ℕ) → at ≤ i → old.tells (i + 1) → new.tells i
+  pub after : (i : ℕ) → at ≤ i → old.tells (i + 1) → new.tells i
   pub counted : total_faults new.shelves + store.faults ≡ total_faults old.shelves
 
 -- The count of all stores rose, or that of one of them is the greatest value of its type.

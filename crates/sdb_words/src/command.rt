@@ -51,7 +51,7 @@ fn is_alone(word: &str, words: &[String]) -> bool
 }
 
 // The words after this one, which comes first.
-fn behind<'a>(word: &str, words: &'a [String]) -> Option<&'a [String]>
+fn words_after<'a>(word: &str, words: &'a [String]) -> Option<&'a [String]>
     ensures { MatchOption result ((rest : List (List ℕ)) → map string_bytes words.now ≢ word.now ∷ rest) (λ rest. map string_bytes words.now ≡ word.now ∷ map string_bytes rest.now) }
 {
     let (first, rest) = words.split_first()?;
@@ -76,7 +76,7 @@ fn mode_in(word: &str) -> Option<Mode>
 fn bench_in(words: &[String]) -> Option<u32>
     ensures { MatchOption result ((n : ℕ) → AreWordsOf (command.Bench n) (map string_bytes words.now) → ⊥) (λ n. AreWordsOf (command.Bench n) (map string_bytes words.now)) }
 {
-    match behind("bench", words)? {
+    match words_after("bench", words)? {
         [number] => number_in(number.as_str(), MOST_TRANSACTIONS),
         _ => None,
     }
@@ -87,7 +87,7 @@ fn schema_in(words: &[String]) -> Option<&[String]>
     ensures some { IfSome result (λ places. AreWordsOf (command.Schema places) (map string_bytes words.now)) }
     ensures none { IfNone result ((rest : List (List ℕ)) → are_places rest ≡ true → map string_bytes words.now ≢ codes "schema" ∷ rest) }
 {
-    let places = behind("schema", words)?;
+    let places = words_after("schema", words)?;
     if are_places(places) {
         Some(places)
     } else {
@@ -99,7 +99,7 @@ fn schema_in(words: &[String]) -> Option<&[String]>
 fn load_in(words: &[String]) -> Option<(TableWord<'_>, Mode, u32)>
     ensures { MatchOption result ((table : TableWord) (mode : Mode) (n : ℕ) → AreWordsOf (command.Load table mode n) (map string_bytes words.now) → ⊥) (λ load. AreWordsOf (command.Load load.0 load.1 load.2) (map string_bytes words.now)) }
 {
-    match behind("load", words)? {
+    match words_after("load", words)? {
         [table, mode, number] => Some((
             table_in(table.as_str())?,
             mode_in(mode.as_str())?,
@@ -113,7 +113,7 @@ fn load_in(words: &[String]) -> Option<(TableWord<'_>, Mode, u32)>
 fn export_in(words: &[String]) -> Option<TableWord<'_>>
     ensures { MatchOption result ((table : TableWord) → AreWordsOf (command.Export table) (map string_bytes words.now) → ⊥) (λ table. AreWordsOf (command.Export table) (map string_bytes words.now)) }
 {
-    match behind("export", words)? {
+    match words_after("export", words)? {
         [table] => table_in(table.as_str()),
         _ => None,
     }
