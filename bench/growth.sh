@@ -1,7 +1,7 @@
 #!/bin/bash
-# Plays scripts of 250, 1,000 and 3,300 transactions of one client, first ones that get single rows and then ones that scan, and prints
-# the time and the peak memory of each, and where valgrind is there the instructions too. A client has six statements a transaction, and
-# 20,000 at most.
+# Plays scripts of 250, 1,000 and 3,300 transactions of one client, first ones that get single rows and then ones that scan, on each of
+# the stores, and prints the time and the peak memory of each, and where valgrind is there the instructions too. A client has six
+# statements a transaction, and 20,000 at most. All rows are in one store, those of the coordinator too.
 #
 # Needs GNU time. Build the program first: cd crates/scalardb && rt run -- replay < ../../examples/first.script
 # Another program may be given as the first word.
@@ -10,6 +10,13 @@ root=$(cd "$(dirname "$0")/.." && pwd)
 program=${1:-$root/crates/scalardb/out/scalardb}
 room=$(mktemp -d)
 trap 'rm -rf "$room"' EXIT
+
+# The places of the script's namespaces, all in one store.
+places() {
+    echo "place coordinator $1"
+    echo "place bank $1"
+    echo "place shop $1"
+}
 
 # A script of so many transactions, each with two INSERTs, one of them of a row that is there, and two SELECTs.
 gets() {
@@ -57,14 +64,16 @@ each() {
     if [ "$1" = - ]; then echo -; else awk "BEGIN { printf \"%.$3f\", $1 / $2 }"; fi
 }
 
-printf '%-6s %12s %8s %8s %9s %13s %14s %18s\n' script transactions events seconds 'peak KiB' 'us per event' instructions 'instr. per event'
-for kind in gets scans; do
-    for n in 250 1000 3300; do
-        "$kind" "$n" >"$room/script"
-        /usr/bin/time -o "$room/cost" -f '%e %M' "$program" replay <"$room/script" >"$room/report"
-        read -r seconds most <"$room/cost"
-        events=$(awk 'NR == 2 { print $2 }' "$room/report")
-        count=$(instructions "$room/script")
-        printf '%-6s %12d %8d %8s %9d %13s %14s %18s\n' "$kind" "$n" "$events" "$seconds" "$most" "$(each "${seconds}e6" "$events" 1)" "$count" "$(each "$count" "$events" 0)"
+printf '%-7s %-6s %12s %8s %8s %9s %13s %14s %18s\n' store script transactions events seconds 'peak KiB' 'us per event' instructions 'instr. per event'
+for store in ordered hashed sqlite; do
+    for kind in gets scans; do
+        for n in 250 1000 3300; do
+            { places "$store" && "$kind" "$n"; } >"$room/script"
+            /usr/bin/time -o "$room/cost" -f '%e %M' "$program" replay <"$room/script" >"$room/report"
+            read -r seconds most <"$room/cost"
+            events=$(awk 'NR == 2 { print $2 }' "$room/report")
+            count=$(instructions "$room/script")
+            printf '%-7s %-6s %12d %8d %8s %9d %13s %14s %18s\n' "$store" "$kind" "$n" "$events" "$seconds" "$most" "$(each "${seconds}e6" "$events" 1)" "$count" "$(each "$count" "$events" 0)"
+        done
     done
 done

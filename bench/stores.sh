@@ -1,6 +1,6 @@
 #!/bin/bash
-# Fills each store with 1,000, 10,000 and 100,000 records in partitions of ten, and prints what one call takes: a get of a
-# record, a put over one, and a scan of a partition.
+# Fills each store in memory with 1,000, 10,000 and 100,000 records in partitions of ten, and prints what one call takes: a get of a
+# record, a put over one, and a scan of a partition. What the database takes is in what `growth.sh` prints of whole scripts.
 #
 # Needs GNU time. Build the program first: cd crates/bench_parts && rt run -- stores ordered get 40 6
 # Another program may be given as the first word.
@@ -20,10 +20,9 @@ timed() {
 
 # What one call takes: the time of the run without that of a run that only fills the store and makes the requests.
 printf '%8s %6s %10s %10s %12s\n' store call records calls 'us per call'
-for store in ordered hashed sqlite; do
+for store in ordered hashed; do
     for call in get:500000 put:200000 scan:50000; do
         IFS=: read -r name turns <<<"$call"
-        if [ "$store" = sqlite ]; then turns=$((turns / 100)); fi
         for records in 1000 10000 100000; do
             filling=$(timed "$store" "$name" "$records" 0)
             all=$(timed "$store" "$name" "$records" "$turns")

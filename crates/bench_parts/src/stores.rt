@@ -1,12 +1,10 @@
-//! A store filled with records in partitions of ten, and one kind of call again and again, at keys spread over all of them.
+//! A store in memory filled with records in partitions of ten, and one kind of call again and again, at keys spread over all of them.
 use crate::records::{ID, columns_of, key_of, span_of, table};
 use crate::words::number;
 use sdb_hashed::Hashed;
 use sdb_ordered::Ordered;
-use sdb_sqlite::Kept;
 use sdb_store::{Fails, Store, call};
 use sdb_types::{Condition, Key, Record, Reply, Request, Span, State};
-use sqlite::{Connection, MemStore};
 use std::alloc::Global;
 use std::env::Args;
 
@@ -21,7 +19,6 @@ const STRIDE: i64 = 7919;
 enum StoreKind {
     Ordered,
     Hashed,
-    Sqlite,
 }
 
 /// The call that is made: a get of a record, a put over a record, or a scan of a partition.
@@ -136,17 +133,11 @@ fn play_on<S: Store>(alloc: Global, store: &mut S, load: Load) -> Option<usize> 
     play_requests(alloc, store, load)
 }
 
-// A store over a new database in memory.
-fn kept(alloc: Global) -> Option<Kept<MemStore>> {
-    Kept::new(alloc, Connection::open_in_memory(alloc).ok()?).ok()
-}
-
 fn play_load(alloc: Global, load: Load) -> Option<usize> {
     let fails = Fails::new(alloc);
     match load.store {
         StoreKind::Ordered => play_on(alloc, &mut Ordered::new(alloc, fails), load),
         StoreKind::Hashed => play_on(alloc, &mut Hashed::new(alloc, fails), load),
-        StoreKind::Sqlite => play_on(alloc, &mut kept(alloc)?, load),
     }
 }
 
@@ -154,7 +145,6 @@ fn store_of(word: &str) -> Option<StoreKind> {
     match word {
         "ordered" => Some(StoreKind::Ordered),
         "hashed" => Some(StoreKind::Hashed),
-        "sqlite" => Some(StoreKind::Sqlite),
         _ => None,
     }
 }

@@ -9,7 +9,7 @@ ghost use Rattle.sdb_exec.specs.Plans.{is_unfit as is_unfit_lem, first_unfit as 
 use crate::plan::PlanStep;
 use crate::select::selected;
 use sdb_model::{Answer, Delete, Insert, Refusal, Select, Statement, Update};
-use sdb_record::{Change, Changes, Image, Keyed};
+use sdb_record::{Change, Changes, Image, Images, Keyed};
 use sdb_rows::{deletes, inserted_key, named_columns, passing, updates};
 use sdb_schema::Table;
 use sdb_types::{Columns, Duplicate, Key, NoMemory, Seq};
@@ -91,28 +91,28 @@ fn upsert(alloc: Global, table: &Table, insert: &Insert, rows: &[Image]) -> Step
     Ok(PlanStep::Finished(Answer::Count(1), changes))
 }
 
-fn update(alloc: Global, table: &Table, update: &Update, rows: &[Image]) -> Step
-    ensures { IfOk result (λ s. s ≡ step.Finished (answer_on table.now (statement.Update update.now) rows.now) (changes_on table.now (statement.Update update.now) rows.now)) }
+fn update(alloc: Global, table: &Table, update: &Update, rows: Images) -> Step
+    ensures { IfOk result (λ s. s ≡ step.Finished (answer_on table.now (statement.Update update.now) rows) (changes_on table.now (statement.Update update.now) rows)) }
 {
-    let found = passing(alloc, table, update.tests.as_slice(), rows)?;
+    let found = passing(table, update.tests.as_slice(), rows);
     let changes = updates(alloc, table, update.sets.as_slice(), found.as_slice())?;
     let count = found.len() as u64;
     Ok(PlanStep::Finished(Answer::Count(count), changes))
 }
 
-fn delete(alloc: Global, table: &Table, delete: &Delete, rows: &[Image]) -> Step
-    ensures { IfOk result (λ s. s ≡ step.Finished (answer_on table.now (statement.Delete delete.now) rows.now) (changes_on table.now (statement.Delete delete.now) rows.now)) }
+fn delete(alloc: Global, table: &Table, delete: &Delete, rows: Images) -> Step
+    ensures { IfOk result (λ s. s ≡ step.Finished (answer_on table.now (statement.Delete delete.now) rows) (changes_on table.now (statement.Delete delete.now) rows)) }
 {
-    let found = passing(alloc, table, delete.tests.as_slice(), rows)?;
+    let found = passing(table, delete.tests.as_slice(), rows);
     let changes = deletes(alloc, found.as_slice())?;
     let deleted = found.len() as u64;
     Ok(PlanStep::Finished(Answer::Count(deleted), changes))
 }
 
-fn select(alloc: Global, table: &Table, select: &Select, rows: &[Image]) -> Step
-    ensures { IfOk result (λ s. s ≡ step.Finished (answer_on table.now (statement.Select select.now) rows.now) (changes_on table.now (statement.Select select.now) rows.now)) }
+fn select(alloc: Global, table: &Table, select: &Select, rows: Images) -> Step
+    ensures { IfOk result (λ s. s ≡ step.Finished (answer_on table.now (statement.Select select.now) rows) (changes_on table.now (statement.Select select.now) rows)) }
 {
-    let found = passing(alloc, table, select.tests.as_slice(), rows)?;
+    let found = passing(table, select.tests.as_slice(), rows);
     let shown = selected(alloc, table, select, found)?;
     Ok(PlanStep::Finished(Answer::Rows(shown), Seq::new(alloc)))
 }
@@ -125,15 +125,15 @@ fn not_a_table() -> Answer
 }
 
 /// The answer and the changes of a statement on rows; over rows of which some don't fit, BadRecord of the first.
-pub fn finish(alloc: Global, table: &Table, statement: &Statement, rows: &[Image]) -> Step
-    ensures { IfOk result (λ s. s ≡ finished table.now statement.now rows.now (first_unfit_lem table.now rows.now)) }
+pub fn finish(alloc: Global, table: &Table, statement: &Statement, rows: Images) -> Step
+    ensures { IfOk result (λ s. s ≡ finished table.now statement.now rows (first_unfit_lem table.now rows)) }
 {
-    if let Some(key) = first_unfit(table, rows) {
+    if let Some(key) = first_unfit(table, rows.as_slice()) {
         return Ok(PlanStep::Finished(Answer::BadRecord(key.copy()?), Seq::new(alloc)));
     }
     match statement {
-        Statement::Insert(s) => insert(alloc, table, s, rows),
-        Statement::Upsert(s) => upsert(alloc, table, s, rows),
+        Statement::Insert(s) => insert(alloc, table, s, rows.as_slice()),
+        Statement::Upsert(s) => upsert(alloc, table, s, rows.as_slice()),
         Statement::Update(s) => update(alloc, table, s, rows),
         Statement::Delete(s) => delete(alloc, table, s, rows),
         Statement::Select(s) => select(alloc, table, s, rows),

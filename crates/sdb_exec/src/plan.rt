@@ -126,7 +126,7 @@ impl Plan {
         ensures err { OnErr result (self.new ≡ self.old) }
     {
         if self.asked {
-            return finish(self.alloc, &self.table, &self.statement, rows.as_slice());
+            return finish(self.alloc, &self.table, &self.statement, rows);
         }
         let wanted = access(self.alloc, &self.table, &self.statement)?;
         self.asked = true;

@@ -145,7 +145,7 @@ fn update(alloc: Global, table: &Table, update: &Update, tables: PlainTables) ->
     ensures { IfOk result (λ done. (done.0 ≡ answer_of table.now (statement.Update update.now) tables) × (done.1 ≡ left_by table.now (statement.Update update.now) tables)) }
 {
     let rows = tables.all()?;
-    let found = passing(alloc, table, update.tests.as_slice(), rows.as_slice())?;
+    let found = passing(table, update.tests.as_slice(), rows.copy()?);
     let after = updated_rows(alloc, table, update, rows.as_slice())?;
     let count = found.len() as u64;
     Ok((
@@ -158,7 +158,7 @@ fn delete(alloc: Global, table: &Table, delete: &Delete, tables: PlainTables) ->
     ensures { IfOk result (λ done. (done.0 ≡ answer_of table.now (statement.Delete delete.now) tables) × (done.1 ≡ left_by table.now (statement.Delete delete.now) tables)) }
 {
     let rows = tables.all()?;
-    let found = passing(alloc, table, delete.tests.as_slice(), rows.as_slice())?;
+    let found = passing(table, delete.tests.as_slice(), rows.copy()?);
     let after = kept(alloc, table, delete.tests.as_slice(), rows.as_slice())?;
     let count = found.len() as u64;
     Ok((
@@ -171,7 +171,7 @@ fn select(alloc: Global, table: &Table, select: &Select, tables: PlainTables) ->
     ensures { IfOk result (λ done. (done.0 ≡ answer_of table.now (statement.Select select.now) tables) × (done.1 ≡ left_by table.now (statement.Select select.now) tables)) }
 {
     let rows = tables.all()?;
-    let found = passing(alloc, table, select.tests.as_slice(), rows.as_slice())?;
+    let found = passing(table, select.tests.as_slice(), rows);
     let shown = selected(alloc, table, select, found.as_slice())?;
     Ok((Answer::Rows(shown), tables))
 }

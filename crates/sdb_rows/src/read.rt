@@ -1,5 +1,5 @@
 //! What a row gives a column, and whether it passes tests.
-ghost use Rattle.std.specs.Prelude.{◌≡◌, IfOk, unwrap_or, find, filter};
+ghost use Rattle.std.specs.Prelude.{◌≡◌, unwrap_or, find, filter};
 ghost use Rattle.std.specs.Option.{option_copied};
 ghost use Rattle.std.specs.List.{list_all, list_any};
 ghost use Rattle.sdb_types.specs.Order.{value_cmp};
@@ -12,8 +12,7 @@ ghost use Rattle.sdb_types.specs.Fits.{fits_int as fits_int_lem};
 use sdb_model::{Comparison, Test};
 use sdb_record::{Image, Images};
 use sdb_schema::{Column, Kind, Order, Table};
-use sdb_types::{Duplicate, Name, NoMemory, Seq, Value};
-use std::alloc::Global;
+use sdb_types::{Name, Seq, Value};
 use std::cmp::Ordering;
 
 /// The value that is beside a name, or else `rest`.
@@ -180,20 +179,11 @@ pub fn passes(table: &Table, tests: &[Test], row: &Image) -> bool
     row.key.table.cmp(&table.name).is_eq() && all_pass(table, tests, row)
 }
 
-/// The rows of the table that pass all tests, in their order.
-pub fn passing(
-    alloc: Global,
-    table: &Table,
-    tests: &[Test],
-    rows: &[Image],
-) -> Result<Images, NoMemory>
-    ensures { IfOk result (λ found. found ≡ filter (passes_lem table.now tests.now) rows.now) }
+/// The rows of the table that pass all tests, in their order. Takes no memory.
+pub fn passing(table: &Table, tests: &[Test], rows: Images) -> Images
+    ensures { result ≡ filter (passes_lem table.now tests.now) rows }
 {
-    let mut found = Seq::new(alloc);
-    for row in rows {
-        if passes(table, tests, row) {
-            found.push(row.copy()?)?;
-        }
-    }
-    Ok(found)
+    let mut rows = rows.into_vec();
+    rows.retain(|row| passes(table, tests, row));
+    Seq::from_vec(rows)
 }

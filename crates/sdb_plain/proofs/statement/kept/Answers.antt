@@ -1,7 +1,7 @@
 use Rattle.std.proofs.Common.{◌≡◌, ◌++◌, ◌∷◌, [], true, false, List, Bool}
 use Rattle.std.specs.Prelude.{not}
 use Rattle.sdb_record.specs.declared.access.Image.{Image}
-use Rattle.sdb_rows.proofs.Filters.{filter_kept, filter_passed}
+use Rattle.sdb_plain.proofs.Filters.{filter_kept, filter_passed}
 use Rattle.sdb_model.specs.Exec.{passes}
 use Rattle.sdb_plain.proofs.statement.kept.Goals as goal
 use Rattle.sdb_plain.proofs.statement.kept.Goals.{then-stays+in_ok-copy+in_ok-push, else-stays}
