@@ -42,7 +42,7 @@ fn is_fit(catalog: &Catalog, key: &Key, columns: &Columns) -> bool
 }
 
 // Whether the row that a record means doesn't fit its table.
-fn stands_unfit(
+fn is_unfit(
     alloc: Global,
     catalog: &Catalog,
     calls: &[Made],
@@ -73,7 +73,7 @@ fn is_refused(
     match meta_of(alloc, rec) {
         Ok(_) => {
             if reads {
-                stands_unfit(alloc, catalog, calls, rec)
+                is_unfit(alloc, catalog, calls, rec)
             } else {
                 Ok(false)
             }

@@ -197,7 +197,7 @@ pub fn may_prepare(
 }
 
 // Whether what is found is still of the version.
-fn stands(found: Option<&Record>, version: Option<TxId>) -> bool
+fn is_unmoved(found: Option<&Record>, version: Option<TxId>) -> bool
     ensures { result ≡ is_unchanged_lem (option_copied found.entry) version }
 {
     match (found, version) {
@@ -212,7 +212,7 @@ fn is_as_noted(writes: &[Write], scan: &Scan, rows: &[Record], key: &Key) -> boo
 {
     !scan.span.contains(key)
         || (write_of(writes, key).is_some()
-            || stands(row_of(rows, key), version_among(scan.found.as_slice(), key)))
+            || is_unmoved(row_of(rows, key), version_among(scan.found.as_slice(), key)))
 }
 
 fn rows_as_noted(writes: &[Write], scan: &Scan, rows: &[Record]) -> bool

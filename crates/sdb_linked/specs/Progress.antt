@@ -105,13 +105,13 @@ pub record FromRows (p : Progress) (seen : Seen) (a : Access) : Type 0 where
 pub record AskedRows (p : Progress) : Type 0 where
   pub asked : Asked p
   pub a : Access
-  pub told : FromRows p asked.seen a
+  pub rows : FromRows p asked.seen a
   pub no_commit : reads_commit asked.text ≡ false
-  pub reads : Reads asked.text told.statement
+  pub reads : Reads asked.text rows.statement
 
 -- what its transaction has then read and written
 abbrev pub seen_asked : {p : Progress} → AskedRows p → Seen
-seen_asked q = with_written q.asked.seen q.told.changes
+seen_asked q = with_written q.asked.seen q.rows.changes
 
 ---- replies
 
@@ -123,13 +123,13 @@ pub record ReadReply (p : Progress) : Type 0 where
   pub id : TxId
   pub seen : Seen
   pub asked : Access
-  pub stands : ReadAt
-  pub reads : p.sys.clients call.client ≡ Reading id seen asked stands
-  pub replies : IsReplyTo (read_pending asked stands) call
+  pub stage : ReadAt
+  pub reads : p.sys.clients call.client ≡ Reading id seen asked stage
+  pub replies : IsReplyTo (read_pending asked stage) call
 
 -- where it takes the read to
 abbrev pub read_next : {p : Progress} → ReadReply p → ReadAt
-read_next r = read_step r.kind r.stands r.call.now r.call.reply
+read_next r = read_step r.kind r.stage r.call.now r.call.reply
 
 -- The reply that a read was done with, and the answer to its statement from the rows.
 pub record LastReply (p : Progress) : Type 0 where
@@ -149,13 +149,13 @@ pub record SweepReply (p : Progress) : Type 0 where
   pub kind : Record → Kind
   pub kinds : AreKinds kind
   pub call : ClientCall
-  pub stands : SweepAt
-  pub sweeps : p.sys.clients call.client ≡ Sweeping stands
-  pub replies : IsReplyTo (sweep_pending stands) call
+  pub stage : SweepAt
+  pub sweeps : p.sys.clients call.client ≡ Sweeping stage
+  pub replies : IsReplyTo (sweep_pending stage) call
 
 -- where it takes the sweep to
 abbrev pub sweep_next : {p : Progress} → SweepReply p → SweepAt
-sweep_next r = sweep_step r.kind r.stands r.call.now r.call.reply
+sweep_next r = sweep_step r.kind r.stage r.call.now r.call.reply
 
 ---- the end of the events
 

@@ -58,7 +58,7 @@ pub fn moves()
 pub fn answers()
     ensures outside { (p : Progress) (c : ℕ) (text : List ℕ) (b : Answer) → p.sys.clients c ≡ Resting → IsMild b → After p c (event.Take c text (Some b)) p.sys None }
     ensures idle { (p : Progress) (q : Asked p) (b : Answer) → changes_nothing b ≡ true → reads_commit q.text ≡ false → AfterAsked q (Some b) (Open q.id q.seen) None }
-    ensures rows { (p : Progress) (q : AskedRows p) → AfterAsked q.asked (Some q.told.answer) (Open q.asked.id (seen_asked q)) None }
+    ensures rows { (p : Progress) (q : AskedRows p) → AfterAsked q.asked (Some q.rows.answer) (Open q.asked.id (seen_asked q)) None }
     ensures leaves { (p : Progress) (q : Asked p) (b : Answer) → LeavesAtOnce q.text b → AfterAsked q (Some b) Resting None }
 {}
 

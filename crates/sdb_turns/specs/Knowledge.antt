@@ -73,15 +73,15 @@ pub record OpenClient (sys : SystemAt) : Type 0 where
   pub is_open : sys.clients client ≡ Open id seen
 
 -- A client whose statement reads, and how far it is.
-pub record ReadingClient (sys : SystemAt) (stands : ReadAt) : Type 0 where
+pub record ReadingClient (sys : SystemAt) (stage : ReadAt) : Type 0 where
   pub client : ℕ
   pub id : TxId
   pub seen : Seen
   pub asked : Access
-  pub reads : sys.clients client ≡ Reading id seen asked stands
+  pub reads : sys.clients client ≡ Reading id seen asked stage
 
 -- what its transaction has read once these images are noted
-abbrev pub seen_with : {sys : SystemAt} {stands : ReadAt} → ReadingClient sys stands → List Record → Seen
+abbrev pub seen_with : {sys : SystemAt} {stage : ReadAt} → ReadingClient sys stage → List Record → Seen
 seen_with r images = with_read r.seen r.asked images
 
 ---- replies
@@ -104,40 +104,40 @@ pub record AnsweredRead (sys : SystemAt) : Type 0 where
   pub id : TxId
   pub seen : Seen
   pub asked : Access
-  pub stands : ReadAt
-  pub reads : sys.clients call.client ≡ Reading id seen asked stands
-  pub replies : IsReplyTo (read_pending asked stands) call
+  pub stage : ReadAt
+  pub reads : sys.clients call.client ≡ Reading id seen asked stage
+  pub replies : IsReplyTo (read_pending asked stage) call
   pub answered : Option Answer
   pub other : answered ≢ Some answer.Committed
 
 -- where it takes the read to
 abbrev pub read_after : {sys : SystemAt} → (Record → Kind) → AnsweredRead sys → ClientAt
-read_after kind r = Reading r.id r.seen r.asked (read_step kind r.stands r.call.now r.call.reply)
+read_after kind r = Reading r.id r.seen r.asked (read_step kind r.stage r.call.now r.call.reply)
 
 -- its event, with its part
 abbrev pub read_played : {sys : SystemAt} → AnsweredRead sys → Played
-read_played r = plays (read_role r.stands r.call.reply) (call_event r.call r.answered)
+read_played r = plays (read_role r.stage r.call.reply) (call_event r.call r.answered)
 
 -- the same, where it ends the transaction
 abbrev pub read_ended : {sys : SystemAt} → AnsweredRead sys → Played
-read_ended r = ends_with r.id.0 (read_role r.stands r.call.reply) (call_event r.call r.answered)
+read_ended r = ends_with r.id.0 (read_role r.stage r.call.reply) (call_event r.call r.answered)
 
 -- A reply to the pending call of a sweep, and the answer to VACUUM, if it gives one.
 pub record AnsweredSweep (sys : SystemAt) : Type 0 where
   pub call : ClientCall
-  pub stands : SweepAt
-  pub sweeps : sys.clients call.client ≡ Sweeping stands
-  pub replies : IsReplyTo (sweep_pending stands) call
+  pub stage : SweepAt
+  pub sweeps : sys.clients call.client ≡ Sweeping stage
+  pub replies : IsReplyTo (sweep_pending stage) call
   pub answered : Option Answer
   pub other : answered ≢ Some answer.Committed
 
 -- where it takes the sweep to
 abbrev pub sweep_after : {sys : SystemAt} → (Record → Kind) → AnsweredSweep sys → ClientAt
-sweep_after kind r = Sweeping (sweep_step kind r.stands r.call.now r.call.reply)
+sweep_after kind r = Sweeping (sweep_step kind r.stage r.call.now r.call.reply)
 
 -- its event, with its part
 abbrev pub sweep_played : {sys : SystemAt} → AnsweredSweep sys → Played
-sweep_played r = plays (sweep_role r.stands r.call.reply) (call_event r.call r.answered)
+sweep_played r = plays (sweep_role r.stage r.call.reply) (call_event r.call r.answered)
 
 -- A reply to the pending call of a recovery.
 pub record RecoverReply (past : List Played) : Type 0 where
@@ -174,11 +174,11 @@ pub record AreShown (past : List Played) (a : Access) (images left : List Record
 -- A reply to the pending call of a read of data, whose rows are as they were shown.
 pub record RowsReply (past : List Played) (a : Access) : Type 0 where
   pub call : ClientCall
-  pub stands : ReadAt
+  pub stage : ReadAt
   pub of_data : IsOfData a
-  pub ok : ReadOk past a stands
-  pub replies : IsReplyTo (read_pending a stands) call
+  pub ok : ReadOk past a stage
+  pub replies : IsReplyTo (read_pending a stage) call
 
 -- its rows are so after it
 abbrev pub SettlesOn : {past : List Played} {a : Access} → (Record → Kind) → RowsReply past a → Option Answer → Type 0
-SettlesOn {past} {a} kind r answered = ReadOk (plays (read_role r.stands r.call.reply) (call_event r.call answered) ∷ past) a (read_step kind r.stands r.call.now r.call.reply)
+SettlesOn {past} {a} kind r answered = ReadOk (plays (read_role r.stage r.call.reply) (call_event r.call answered) ∷ past) a (read_step kind r.stage r.call.now r.call.reply)
