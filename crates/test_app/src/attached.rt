@@ -2,14 +2,12 @@
 ghost use Rattle.std.specs.Prelude.{◌≡◌};
 ghost use Rattle.std.specs.FinMap as map;
 
-use crate::run::{Case, ends, ends_by};
+use crate::run::{Call, ends, ends_by};
 use sdb_hashed::Hashed;
 use sdb_ordered::Ordered;
-use sdb_sqlite::Kept;
 use sdb_store::{Fails, Store};
 use sdb_stores::Stores;
 use sdb_types::{Condition, Key, Name, Record, Reply, Span};
-use sqlite::Connection;
 use std::alloc::Global;
 use std::test::Fail;
 
@@ -88,13 +86,6 @@ fn attach_hashed(alloc: Global, stores: &mut Stores) -> Result<bool, Fail> {
     attach(alloc, stores, "hashed", Box::new(alloc, hashed)?)
 }
 
-// The store `sqlite` over a new database in memory.
-fn attach_kept(alloc: Global, stores: &mut Stores) -> Result<bool, Fail> {
-    let database = Connection::open_in_memory(alloc)?;
-    let kept = Box::new(alloc, Kept::new(alloc, database)?)?;
-    attach(alloc, stores, "sqlite", kept)
-}
-
 // The store `ordered`, of which the call with this number finds no memory.
 fn attach_short(alloc: Global, stores: &mut Stores, call: u64) -> Result<bool, Fail> {
     let short = Short {
@@ -111,53 +102,45 @@ fn fails_at(alloc: Global, call: u64, after: bool) -> Result<Fails, Fail> {
     Ok(failing)
 }
 
-/// Whether a case ends as listed on two stores in memory.
-pub fn on_memory(alloc: Global, case: Case<'_>) -> Result<bool, Fail> {
+/// Whether a call of the program ends as listed on two stores in memory.
+pub fn on_memory(alloc: Global, play: Call<'_>) -> Result<bool, Fail> {
     let mut stores = Stores::new(alloc);
     let attached = attach_ordered(alloc, &mut stores, Fails::new(alloc))?
         && attach_hashed(alloc, &mut stores)?;
-    Ok(attached && ends(alloc, &mut stores, case)?)
+    Ok(attached && ends(alloc, &mut stores, play)?)
 }
 
-/// Whether a case ends as listed, by that line and that code, on a store in memory.
-pub fn on_memory_by(alloc: Global, case: Case<'_>, line: &str, code: u8) -> Result<bool, Fail> {
+/// Whether a call of the program ends as listed, by that line and that code, on a store in memory.
+pub fn on_memory_by(alloc: Global, play: Call<'_>, line: &str, code: u8) -> Result<bool, Fail> {
     let mut stores = Stores::new(alloc);
     let attached = attach_ordered(alloc, &mut stores, Fails::new(alloc))?;
-    Ok(attached && ends_by(alloc, &mut stores, case, line, code)?)
+    Ok(attached && ends_by(alloc, &mut stores, play, line, code)?)
 }
 
-/// Whether a case ends as listed on a store in memory and a database.
-pub fn on_kept(alloc: Global, case: Case<'_>) -> Result<bool, Fail> {
-    let mut stores = Stores::new(alloc);
-    let attached = attach_ordered(alloc, &mut stores, Fails::new(alloc))?
-        && attach_kept(alloc, &mut stores)?;
-    Ok(attached && ends(alloc, &mut stores, case)?)
-}
-
-/// Whether a case ends as listed, by that line and that code, on a store whose call of this number fails, after its effect or before
+/// Whether a call of the program ends as listed, by that line and that code, on a store whose call of this number fails, after its effect or before
 /// it.
 pub fn on_failing(
     alloc: Global,
     call: u64,
     after: bool,
-    case: Case<'_>,
+    play: Call<'_>,
     line: &str,
     code: u8,
 ) -> Result<bool, Fail> {
     let mut stores = Stores::new(alloc);
     let attached = attach_ordered(alloc, &mut stores, fails_at(alloc, call, after)?)?;
-    Ok(attached && ends_by(alloc, &mut stores, case, line, code)?)
+    Ok(attached && ends_by(alloc, &mut stores, play, line, code)?)
 }
 
-/// Whether a case ends as listed, by that line and that code, on a store whose call of this number finds no memory.
+/// Whether a call of the program ends as listed, by that line and that code, on a store whose call of this number finds no memory.
 pub fn on_short(
     alloc: Global,
     call: u64,
-    case: Case<'_>,
+    play: Call<'_>,
     line: &str,
     code: u8,
 ) -> Result<bool, Fail> {
     let mut stores = Stores::new(alloc);
     let attached = attach_short(alloc, &mut stores, call)?;
-    Ok(attached && ends_by(alloc, &mut stores, case, line, code)?)
+    Ok(attached && ends_by(alloc, &mut stores, play, line, code)?)
 }

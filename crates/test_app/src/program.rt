@@ -1,19 +1,25 @@
 //! Scripts with their reports, and calls that end otherwise.
-use crate::attached::{attach_ordered, on_failing, on_kept, on_memory, on_memory_by, on_short};
-use crate::run::{Bad, Case, End, Play, REPLAY, ends, ends_by, is_line, played, stopped};
+use crate::attached::{attach_ordered, on_failing, on_memory, on_memory_by, on_short};
+use crate::run::{Bad, Call, End, Play, REPLAY, ends, ends_by, is_line, played, stopped};
 use sdb_app::Status;
 use sdb_model::Which;
 use sdb_store::Fails;
 use sdb_stores::Stores;
 use std::alloc::{AllocError, Global};
 use std::test::Fail;
-use test_builders::{all_hold, hold};
+use test_builders::{Case, all_cases, hold};
 
 const SCRIPT: &[u8] =
     b"schema {\"bank.account\":{\"partition-key\":[\"id\"],\"columns\":{\"id\":\"INT\",\"balance\":\"INT\"}}}\nclient a\n  BEGIN\n  INSERT INTO bank.account (id, balance) VALUES (1, 100)\n  COMMIT\nrun\nrest\n";
 
 const REPORT: &[u8] =
     b"scalardb report 1\nevents 7\n1 take 1 done : BEGIN\n2 take 1 - : INSERT INTO bank.account (id, balance) VALUES (1, 100)\n3 call 1 ordered get bank.account(1) seen found none count 1\n4 take 1 - : COMMIT\n5 call 1 ordered put bank.account(1){balance=100,tx_id='00000000-0000-0001-0000-000000000001',tx_prepared_at=0L,tx_state=1,tx_version=1} if absent seen applied -\n6 call 1 ordered put coordinator.state('00000000-0000-0001-0000-000000000001'){tx_created_at=0L,tx_state=3} if absent seen applied -\n7 call 1 ordered put bank.account(1){balance=100,tx_committed_at=0L,tx_id='00000000-0000-0001-0000-000000000001',tx_prepared_at=0L,tx_state=3,tx_version=1} if 00000000-0000-0001-0000-000000000001 1 seen applied committed\norder 1\n00000000-0000-0001-0000-000000000001 5\ntables 1\ntable bank.account 1\n(100,1)\nend\n";
+
+impl Case for Play {
+    fn holds(self, alloc: Global) -> Result<bool, Fail> {
+        on_memory(alloc, played(self))
+    }
+}
 
 static PLAYED: [Play; 8] = [
     Play {
@@ -57,16 +63,16 @@ static PLAYED: [Play; 8] = [
     },
 ];
 
-// A script of an account that is kept in an SQLite database.
-static KEPT: [Play; 1] = [Play {
-    script: b"place bank sqlite\nschema {\"bank.account\":{\"partition-key\":[\"id\"],\"columns\":{\"id\":\"INT\",\"balance\":\"INT\"}}}\nclient a\n  BEGIN\n  INSERT INTO bank.account (id, balance) VALUES (1, 100)\n  COMMIT\nrun\nrest\n",
-    written: b"scalardb report 1\nevents 7\n1 take 1 done : BEGIN\n2 take 1 - : INSERT INTO bank.account (id, balance) VALUES (1, 100)\n3 call 1 sqlite get bank.account(1) seen found none count 1\n4 take 1 - : COMMIT\n5 call 1 sqlite put bank.account(1){balance=100,tx_id='00000000-0000-0001-0000-000000000001',tx_prepared_at=0L,tx_state=1,tx_version=1} if absent seen applied -\n6 call 1 ordered put coordinator.state('00000000-0000-0001-0000-000000000001'){tx_created_at=0L,tx_state=3} if absent seen applied -\n7 call 1 sqlite put bank.account(1){balance=100,tx_committed_at=0L,tx_id='00000000-0000-0001-0000-000000000001',tx_prepared_at=0L,tx_state=3,tx_version=1} if 00000000-0000-0001-0000-000000000001 1 seen applied committed\norder 1\n00000000-0000-0001-0000-000000000001 5\ntables 1\ntable bank.account 1\n(100,1)\nend\n",
-}];
+impl Case for Call<'static> {
+    fn holds(self, alloc: Global) -> Result<bool, Fail> {
+        on_memory(alloc, self)
+    }
+}
 
 // Calls that end otherwise.
-static STOPPED: [Case<'static>; 3] = [
+static STOPPED: [Call<'static>; 3] = [
     // A read that fails writes nothing, and a write that fails leaves a prefix.
-    Case {
+    Call {
         words: REPLAY,
         script: SCRIPT,
         reads_fail: &[2],
@@ -74,7 +80,7 @@ static STOPPED: [Case<'static>; 3] = [
         end: End::ReadFault,
         written: b"",
     },
-    Case {
+    Call {
         words: REPLAY,
         script: SCRIPT,
         reads_fail: &[],
@@ -83,7 +89,7 @@ static STOPPED: [Case<'static>; 3] = [
         written: b"scalardb r",
     },
     // Other words are no call.
-    Case {
+    Call {
         words: &["Replay"],
         script: SCRIPT,
         reads_fail: &[],
@@ -100,6 +106,12 @@ struct Refused {
     end: End,
     line: &'static str,
     code: u8,
+}
+
+impl Case for Refused {
+    fn holds(self, alloc: Global) -> Result<bool, Fail> {
+        on_memory_by(alloc, stopped(self.script, self.end), self.line, self.code)
+    }
 }
 
 static REFUSED: [Refused; 6] = [
@@ -144,29 +156,17 @@ static REFUSED: [Refused; 6] = [
 
 #[test]
 fn scripts_have_their_reports(rt: HostRuntime) -> Result<(), Fail> {
-    let alloc = rt.alloc();
-    all_hold(PLAYED.as_slice(), |play| on_memory(alloc, played(play)))
-}
-
-#[test]
-fn a_namespace_kept_with_sqlite(rt: HostRuntime) -> Result<(), Fail> {
-    let alloc = rt.alloc();
-    all_hold(KEPT.as_slice(), |play| on_kept(alloc, played(play)))
+    all_cases(rt.alloc(), "scripts", PLAYED.as_slice())
 }
 
 #[test]
 fn calls_end_otherwise(rt: HostRuntime) -> Result<(), Fail> {
-    let alloc = rt.alloc();
-    all_hold(STOPPED.as_slice(), |case| on_memory(alloc, case))
+    all_cases(rt.alloc(), "other ends", STOPPED.as_slice())
 }
 
 #[test]
 fn scripts_are_refused(rt: HostRuntime) -> Result<(), Fail> {
-    let alloc = rt.alloc();
-    all_hold(REFUSED.as_slice(), |refused| {
-        let case = stopped(refused.script, refused.end);
-        on_memory_by(alloc, case, refused.line, refused.code)
-    })
+    all_cases(rt.alloc(), "refused scripts", REFUSED.as_slice())
 }
 
 // A script whose second line has so many bytes.
@@ -199,30 +199,75 @@ fn a_line_has_at_most_so_many_bytes(rt: HostRuntime) -> Result<(), Fail> {
     hold(is_line_limited(alloc, 65_537, limit, "limit at 2: LineBytes", 10))
 }
 
-static LIMITS: [(Which, &str); 5] = [
-    (Which::LineBytes, "limit at 7: LineBytes"),
-    (Which::InputBytes, "limit at 7: InputBytes"),
-    (Which::Clients, "limit at 7: Clients"),
-    (Which::Statements, "limit at 7: Statements"),
-    (Which::Moves, "limit at 7: Moves"),
+// A limit, and the line on standard error of a script beyond it.
+#[derive(Clone, Copy)]
+struct Limit {
+    which: Which,
+    line: &'static str,
+}
+
+impl Case for Limit {
+    fn holds(self, alloc: Global) -> Result<bool, Fail> {
+        is_line(alloc, &Status::Limit(7, self.which), self.line, 10)
+    }
+}
+
+static LIMITS: [Limit; 5] = [
+    Limit {
+        which: Which::LineBytes,
+        line: "limit at 7: LineBytes",
+    },
+    Limit {
+        which: Which::InputBytes,
+        line: "limit at 7: InputBytes",
+    },
+    Limit {
+        which: Which::Clients,
+        line: "limit at 7: Clients",
+    },
+    Limit {
+        which: Which::Statements,
+        line: "limit at 7: Statements",
+    },
+    Limit {
+        which: Which::Moves,
+        line: "limit at 7: Moves",
+    },
 ];
 
 #[test]
 fn limits_have_names(rt: HostRuntime) -> Result<(), Fail> {
-    let alloc = rt.alloc();
-    all_hold(LIMITS.as_slice(), |case| {
-        is_line(alloc, &Status::Limit(7, case.0), case.1, 10)
-    })
+    all_cases(rt.alloc(), "limits", LIMITS.as_slice())
 }
 
-// A failed scan of the opening, and of the closing dump.
+// A call of the first script that scans a table, at the opening or for the closing dump, by its number.
+#[derive(Clone, Copy)]
+struct TableScan {
+    call: u64,
+}
+
+impl Case for TableScan {
+    // Where it fails, or finds no memory, nothing is written.
+    fn holds(self, alloc: Global) -> Result<bool, Fail> {
+        let faulted = stopped(SCRIPT, End::StoreFault);
+        let short = stopped(SCRIPT, End::NoMemory);
+        Ok(
+            on_failing(alloc, self.call, false, faulted, "store fault", 6)?
+                && on_short(alloc, self.call, short, "out of memory", 7)?,
+        )
+    }
+}
+
+static TABLE_SCANS: [TableScan; 4] = [
+    TableScan { call: 1 },
+    TableScan { call: 2 },
+    TableScan { call: 7 },
+    TableScan { call: 8 },
+];
+
 #[test]
 fn a_failed_scan_of_a_table_writes_nothing(rt: HostRuntime) -> Result<(), Fail> {
-    let alloc = rt.alloc();
-    all_hold([1, 2, 7, 8].as_slice(), |call| {
-        let case = stopped(SCRIPT, End::StoreFault);
-        on_failing(alloc, call, false, case, "store fault", 6)
-    })
+    all_cases(rt.alloc(), "scans of tables", TABLE_SCANS.as_slice())
 }
 
 // The first script, where its read fails before its effect.
@@ -245,16 +290,6 @@ const DECISION_FAILS: Play = Play {
 #[test]
 fn a_failed_decision_is_looked_up(rt: HostRuntime) -> Result<(), Fail> {
     hold(on_failing(rt.alloc(), 9, true, played(DECISION_FAILS), "", 0))
-}
-
-// No memory for a scan of the opening, and of the closing dump.
-#[test]
-fn a_scan_of_a_table_without_memory_writes_nothing(rt: HostRuntime) -> Result<(), Fail> {
-    let alloc = rt.alloc();
-    all_hold([1, 2, 7, 8].as_slice(), |call| {
-        let case = stopped(SCRIPT, End::NoMemory);
-        on_short(alloc, call, case, "out of memory", 7)
-    })
 }
 
 // The first script, where its read finds no memory.

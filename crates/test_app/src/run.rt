@@ -59,9 +59,9 @@ fn end_of(status: &Status) -> End {
     }
 }
 
-/// The words and the script of a call, the reads and the writes that fail, how it ends, and what it writes.
+/// The words and the script of a call of the program, the reads and the writes that fail, how it ends, and what it writes.
 #[derive(Clone, Copy)]
-pub struct Case<'a> {
+pub struct Call<'a> {
     pub words: &'static [&'static str],
     pub script: &'a [u8],
     pub reads_fail: &'static [u64],
@@ -81,8 +81,8 @@ pub struct Play {
 pub const REPLAY: &[&str] = &["replay"];
 
 /// A script that is played to its end has its report.
-pub fn played(play: Play) -> Case<'static> {
-    Case {
+pub fn played(play: Play) -> Call<'static> {
+    Call {
         words: REPLAY,
         script: play.script,
         reads_fail: &[],
@@ -93,8 +93,8 @@ pub fn played(play: Play) -> Case<'static> {
 }
 
 /// A script that isn't played to its end writes nothing.
-pub fn stopped(script: &[u8], end: End) -> Case<'_> {
-    Case {
+pub fn stopped(script: &[u8], end: End) -> Call<'_> {
+    Call {
         words: REPLAY,
         script,
         reads_fail: &[],
@@ -138,43 +138,43 @@ fn ran<S: Registry>(
     run(alloc, words, stores, input, output, &mut clock, &mut ids)
 }
 
-// How the program ends on a case, and whether it writes as listed.
+// How the program ends on a call, and whether it writes as listed.
 fn status_of<S: Registry>(
     alloc: Global,
     stores: &mut S,
-    case: Case<'_>,
+    call: Call<'_>,
 ) -> Result<(Status, bool), Fail>
     requires { 0 < length (S.state stores.old).shelves }
 {
-    let words = words_of(alloc, case.words)?;
-    let mut input = feed(alloc, case.script, case.reads_fail)?;
-    let mut output = tray(alloc, case.writes_fail)?;
+    let words = words_of(alloc, call.words)?;
+    let mut input = feed(alloc, call.script, call.reads_fail)?;
+    let mut output = tray(alloc, call.writes_fail)?;
     let status = ran(alloc, stores, words.as_slice(), &mut input, &mut output);
-    Ok((status, output.written().as_slice() == case.written))
+    Ok((status, output.written().as_slice() == call.written))
 }
 
 /// Whether the program ends as listed.
-pub fn ends<S: Registry>(alloc: Global, stores: &mut S, case: Case<'_>) -> Result<bool, Fail> {
+pub fn ends<S: Registry>(alloc: Global, stores: &mut S, call: Call<'_>) -> Result<bool, Fail> {
     if stores.len() == 0 {
         return Ok(false);
     }
-    let (status, writes) = status_of(alloc, stores, case)?;
-    Ok(writes && end_of(&status) == case.end)
+    let (status, writes) = status_of(alloc, stores, call)?;
+    Ok(writes && end_of(&status) == call.end)
 }
 
 /// Whether it ends as listed, by that line and that code.
 pub fn ends_by<S: Registry>(
     alloc: Global,
     stores: &mut S,
-    case: Case<'_>,
+    call: Call<'_>,
     line: &str,
     code: u8,
 ) -> Result<bool, Fail> {
     if stores.len() == 0 {
         return Ok(false);
     }
-    let (status, writes) = status_of(alloc, stores, case)?;
-    Ok(writes && end_of(&status) == case.end && is_line(alloc, &status, line, code)?)
+    let (status, writes) = status_of(alloc, stores, call)?;
+    Ok(writes && end_of(&status) == call.end && is_line(alloc, &status, line, code)?)
 }
 
 /// Whether a status has that line and that code.
