@@ -15,10 +15,9 @@ use Rattle.sdb_types.specs.declared.record.Record.{Record}
 use Rattle.sdb_types.specs.declared.record.Request.TheVariants as ask
 use Rattle.sdb_types.specs.declared.record.Reply.{Reply}
 use Rattle.sdb_types.specs.declared.record.Reply.TheVariants as reply
-use Rattle.sdb_types.specs.Contents.{Contents, record_at, record_of, rows_in, in_span}
+use Rattle.sdb_types.specs.Contents.{Contents, record_at, record_of, rows_in, in_span, record_among}
 use Rattle.sdb_types.specs.Order.{key_cmp}
 use Rattle.sdb_types.proofs.KeyOrder.{table_total}
-use Rattle.sdb_laws.specs.Lawful.{row_among}
 use Rattle.sdb_laws.proofs.Shown.{row_there}
 use Rattle.sdb_schema.specs.declared.table.Table.{Table}
 use Rattle.sdb_stores.specs.Shelf.{Attached}
@@ -40,7 +39,7 @@ inside key = ap (λ (b : Bool). b && true) (ap is_eq (tied_itself table_total ke
 
 -- no rows of a table are no record at its keys
 none_of_table : (m : Contents) (key : Key) → rows_in (whole key.table) m ≡ [] → record_at m key ≡ None
-none_of_table m key e = sym (row_there (whole key.table) key m (inside key)) ∙ ap (λ (rows : List Record). row_among rows key) e
+none_of_table m key e = sym (row_there (whole key.table) key m (inside key)) ∙ ap (λ (rows : List Record). record_among rows key) e
 
 none_there : (o : Option Contents) (key : Key) → option_map_or (rows_in (whole key.table)) o [] ≡ [] → option_map_or (λ (m : Contents). record_at m key) o None ≡ None
 none_there None key e = refl

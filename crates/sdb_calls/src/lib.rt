@@ -14,7 +14,7 @@ pub use clock::{clock_at, prefix};
 pub use made::{Made, calls_of};
 pub use noted::{decision_for, noted_in};
 pub use open::{Work, has_stopped, is_open, runs_vacuum, someone_does, taker};
-pub use reply::{decision_at, decision_found_at, decision_learned_at, record_among, standing_said};
+pub use reply::{decision_at, decision_found_at, decision_learned_at, standing_said};
 pub use request::{asks_row, is_read, is_removal, key_asked, put_by, reads_rows};
 pub use transaction::{
     client_of, commit_of, id_of, inside_of, is_effective, is_from_rows, ordinal_of, rest_of,

@@ -3,7 +3,7 @@ ghost use Rattle.std.specs.Prelude.{◌≡◌, find, is_some};
 ghost use Rattle.std.specs.Option.{option_and_then, option_copied};
 ghost use Rattle.std.specs.Result.{result_ok};
 ghost use Rattle.sdb_record.specs.Coordinator.{decision_in};
-ghost use Rattle.sdb_model.specs.Calls.{put_by, decision_said as decision_said_lem, record_among as record_among_lem, standing_said as standing_said_lem};
+ghost use Rattle.sdb_model.specs.Calls.{put_by, decision_said as decision_said_lem, standing_said as standing_said_lem};
 ghost use Rattle.sdb_calls.specs.Values.{decision_at as decision_at_lem, decision_found_at as decision_found_at_lem, decision_learned_at as decision_learned_at_lem};
 
 use crate::made::Made;
@@ -12,13 +12,6 @@ use sdb_record::Decided;
 use sdb_said::decided;
 use sdb_types::{Key, Record, Reply, Request};
 use std::alloc::Global;
-
-/// The record of a key among some.
-pub fn record_among<'a>(rows: &'a [Record], key: &Key) -> Option<&'a Record>
-    ensures { option_copied result ≡ record_among_lem rows.now key.now }
-{
-    rows.iter().find(|rec| rec.key.compare(key).is_eq())
-}
 
 /// What a reply says is at the one key that was asked.
 pub fn standing_said(reply: &Reply) -> Option<&Option<Record>>

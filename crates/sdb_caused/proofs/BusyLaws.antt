@@ -16,16 +16,17 @@ use Rattle.sdb_model.specs.declared.event.Event.{Event}
 use Rattle.sdb_model.specs.Calls as calls
 use Rattle.sdb_model.specs.Calls.{calls_of, clock_at, is_read, records_read}
 use Rattle.sdb_model.specs.Causes.{IsBusy, IsEarly}
-use Rattle.sdb_model.specs.Noted.{same_key}
 use Rattle.sdb_model.specs.Transactions.{Said}
 use Rattle.sdb_said.proofs.Lists.{right, not_true, true_not, any_some, some_any}
-use Rattle.sdb_said.proofs.ShownLaws.{key_is, is_key, number_is, is_number}
+use Rattle.sdb_said.proofs.ShownLaws.{number_is, is_number}
 use Rattle.sdb_calls.specs.declared.made.Made.{Made}
 use Rattle.sdb_calls.specs.Values.{all_made, made_of}
 use Rattle.sdb_caused.specs.Tests.{busy_among, gets_none, is_at, is_early, is_id, looks_early, prepared_moment}
 use Rattle.sdb_caused.proofs.Finds.{in_contains, contains_in, kept_in, in_kept, made_in, in_made, made_contained, contained_made}
 use Rattle.sdb_types.proofs.Basics.{clash}
 use Rattle.sdb_types.proofs.Bools.{and_first as left, and_both as both}
+use Rattle.sdb_types.specs.Order.{same_key}
+use Rattle.sdb_types.proofs.Keys.{same_key_exact, same_key_of}
 
 ---- single values
 
@@ -45,7 +46,7 @@ is_at_of o at e = ap (λ x. is_at x at) e ∙ (signed_Decides at at).1 refl
 
 got_none : (events : List Event) (row : Key) (at : ℤ) (n : ℕ) (q : Request) (r : Reply) → gets_none events row at n q r ≡ true → (q ≡ ask.Get row) × (r ≡ reply.Found None) × (is_expired at (clock_at events n) ≡ false)
 got_none events row at n (ask.Get key) (reply.Found None) h =
-    (ap ask.Get (key_is key row (left (same_key key row) (not (is_expired at (clock_at events n))) h)), refl, not_true (is_expired at (clock_at events n)) (right (same_key key row) (not (is_expired at (clock_at events n))) h))
+    (ap ask.Get (same_key_exact key row (left (same_key key row) (not (is_expired at (clock_at events n))) h)), refl, not_true (is_expired at (clock_at events n)) (right (same_key key row) (not (is_expired at (clock_at events n))) h))
 got_none events row at n (ask.Get key) (reply.Found (Some x)) h = clash (sym h)
 got_none events row at n (ask.Get key) (reply.Rows rows) h = clash (sym h)
 got_none events row at n (ask.Get key) reply.Applied h = clash (sym h)
@@ -59,7 +60,7 @@ got_none events row at n (ask.DeleteIf key condition) r h = clash (sym h)
 none_got : (events : List Event) (row : Key) (at : ℤ) (n : ℕ) (q : Request) (r : Reply) → q ≡ ask.Get row → r ≡ reply.Found None → is_expired at (clock_at events n) ≡ false → gets_none events row at n q r ≡ true
 none_got events row at n q r e f h =
     ap (λ x. gets_none events row at n x r) e ∙ ap (λ x. gets_none events row at n (ask.Get row) x) f
-    ∙ both (same_key row row) (not (is_expired at (clock_at events n))) (is_key row row refl) (true_not (is_expired at (clock_at events n)) h)
+    ∙ both (same_key row row) (not (is_expired at (clock_at events n))) (same_key_of row row refl) (true_not (is_expired at (clock_at events n)) h)
 
 ---- records that may not be given up yet
 
@@ -115,7 +116,7 @@ module _ (events : List Event) (ms : List Made) (id : TxId) (at : ℤ) where
       record {
         read = made_of m;
         found = r;
-        reads = (subst (λ cs. Contains cs (made_of m)) e (made_contained ms m found.1), left (is_read m.request) (list_any (f m) (records_read m.reply)) found.2, in_contains (records_read m.reply) r rec.1, key_is r.key key (left (same_key r.key key) (is_early events ms m r id row at) rec.2));
+        reads = (subst (λ cs. Contains cs (made_of m)) e (made_contained ms m found.1), left (is_read m.request) (list_any (f m) (records_read m.reply)) found.2, in_contains (records_read m.reply) r rec.1, same_key_exact r.key key (left (same_key r.key key) (is_early events ms m r id row at) rec.2));
         early = subst (λ cs. IsEarly events cs (made_of m) r id at) e (early_is m r (right (same_key r.key key) (is_early events ms m r id row at) rec.2));
       }
 
@@ -128,4 +129,4 @@ module _ (events : List Event) (ms : List Made) (id : TxId) (at : ℤ) where
       some_any (λ (m : Made). is_read m.request && list_any (f m) (records_read m.reply)) ms m c.1
       (both (is_read m.request) (list_any (f m) (records_read m.reply)) (sym (ap (λ (x : calls.Made). is_read x.request) c.2) ∙ b.reads.1)
       (some_any (f m) (records_read m.reply) b.found (contains_in (records_read m.reply) b.found (subst (λ (x : calls.Made). Contains (records_read x.reply) b.found) c.2 b.reads.2))
-      (both (same_key b.found.key key) (is_early events ms m b.found id row at) (is_key b.found.key key b.reads.3) (is_early_of m b.found early))))
+      (both (same_key b.found.key key) (is_early events ms m b.found id row at) (same_key_of b.found.key key b.reads.3) (is_early_of m b.found early))))

@@ -12,20 +12,20 @@ use Rattle.sdb_types.specs.declared.record.Request.TheVariants as ask
 use Rattle.sdb_types.specs.declared.record.Reply.{Reply}
 use Rattle.sdb_types.specs.declared.record.Reply.TheVariants as reply
 use Rattle.sdb_types.specs.declared.record.Span.{Span}
-use Rattle.sdb_types.specs.Contents.{in_span}
+use Rattle.sdb_types.specs.Contents.{in_span, record_among}
 use Rattle.sdb_record.specs.declared.access.Scan.{Scan}
 use Rattle.sdb_record.specs.Meta.{id_in}
 use Rattle.sdb_record.specs.Moved.{is_unchanged, same_version, version_of}
 use Rattle.sdb_record.specs.Parts.{before_part, before_record, record_with}
+use Rattle.sdb_record.specs.Among.{version_among}
 use Rattle.sdb_model.specs.declared.event.Event.{Event}
 use Rattle.sdb_model.specs.Calls as calls
-use Rattle.sdb_model.specs.Calls.{calls_of, key_asked, put_by, record_among}
+use Rattle.sdb_model.specs.Calls.{calls_of, key_asked, put_by}
 use Rattle.sdb_model.specs.Causes.{HasMoved, IsChecked, IsConflict, IsConflictAtCommit, IsConflictAtScan, IsRebased, IsUnmet, ReadShows, prepares_key}
-use Rattle.sdb_model.specs.Noted.{Note, Got, Scanned, noted_in, resolved, same_key, version_among, version_noted}
+use Rattle.sdb_model.specs.Noted.{Note, Got, Scanned, noted_in, resolved, version_noted}
 use Rattle.sdb_model.specs.Sql.{reads_commit}
 use Rattle.sdb_model.specs.Transactions.{Said, prepares}
 use Rattle.sdb_said.proofs.Lists.{none_some, right, or_left, not_true, true_not, In, any_some, some_any}
-use Rattle.sdb_said.proofs.ShownLaws.{key_is, is_key}
 use Rattle.sdb_calls.specs.declared.made.Made.{Made}
 use Rattle.sdb_calls.specs.Values.{all_made, made_of}
 use Rattle.sdb_caused.specs.Tests.{any_id, asks_key, base_put, conflict_at_commit, conflict_at_scan, conflict_of, get_shows, has_moved, has_prepared, is_commit_of, is_found_by, is_in, is_moved, is_rebased, is_unmet, not_met_as, read_shows, resolves, resolves_by, same_found, scan_differs, scan_shows, scan_shows_by}
@@ -33,6 +33,8 @@ use Rattle.sdb_caused.proofs.Finds.{in_contains, contains_in, made_contained, co
 use Rattle.sdb_caused.proofs.IdLaws.{commit_is, is_commit, in_is, is_in_of, id_some, commit_found, in_found}
 use Rattle.sdb_types.proofs.Basics.{clash, or_second as or_right, some_is, either}
 use Rattle.sdb_types.proofs.Bools.{and_first as left, and_both as both}
+use Rattle.sdb_types.specs.Order.{same_key}
+use Rattle.sdb_types.proofs.Keys.{same_key_exact, same_key_of}
 
 ---- what was noted
 
@@ -67,7 +69,7 @@ is_met : (r : Reply) (found : Option Record) → r ≡ reply.NotMet found → no
 is_met r found e = ap (λ x. not_met_as x found) e ∙ is_found found found refl
 
 gets_is : (key : Key) (found : Option Record) (q : Request) (r : Reply) → get_shows q r key found ≡ true → (q ≡ ask.Get key) × (r ≡ reply.Found found)
-gets_is key found (ask.Get k) (reply.Found x) h = (ap (λ y. ask.Get y) (key_is k key (left (same_key k key) (same_found x found) h)), ap (λ y. reply.Found y) (found_is x found (right (same_key k key) (same_found x found) h)))
+gets_is key found (ask.Get k) (reply.Found x) h = (ap (λ y. ask.Get y) (same_key_exact k key (left (same_key k key) (same_found x found) h)), ap (λ y. reply.Found y) (found_is x found (right (same_key k key) (same_found x found) h)))
 gets_is key found (ask.Get k) (reply.Rows rows) h = clash (sym h)
 gets_is key found (ask.Get k) reply.Applied h = clash (sym h)
 gets_is key found (ask.Get k) (reply.NotMet x) h = clash (sym h)
@@ -78,7 +80,7 @@ gets_is key found (ask.PutIf rec condition) r h = clash (sym h)
 gets_is key found (ask.DeleteIf k condition) r h = clash (sym h)
 
 is_gets : (key : Key) (found : Option Record) (q : Request) (r : Reply) → q ≡ ask.Get key → r ≡ reply.Found found → get_shows q r key found ≡ true
-is_gets key found q r e f = ap (λ x. get_shows x r key found) e ∙ ap (λ x. get_shows (ask.Get key) x key found) f ∙ both (same_key key key) (same_found found found) (is_key key key refl) (is_found found found refl)
+is_gets key found q r e f = ap (λ x. get_shows x r key found) e ∙ ap (λ x. get_shows (ask.Get key) x key found) f ∙ both (same_key key key) (same_found found found) (same_key_of key key refl) (is_found found found refl)
 
 abbrev Scans : (List Record → Option Record) → Request → Reply → Key → Option Record → Type 0
 Scans look q r key found = (span : Span) × (rows : List Record) × (q ≡ ask.Scan span) × (in_span span key ≡ true) × (r ≡ reply.Rows rows) × (found ≡ look rows)
@@ -128,13 +130,13 @@ abbrev base_in : Request → Option TxId
 base_in q = option_and_then (λ r. id_in (before_part r.columns)) (put_by q)
 
 puts_is : (id : TxId) (key : Key) (q : Request) → prepares id q ≡ true → option_map_or (λ k. same_key k key) (key_asked q) false ≡ true → (r : Record) × (put_by q ≡ Some r) × (r.key ≡ key) × (version_of (before_record r) ≡ base_in q)
-puts_is id key (ask.PutIf rec condition) p h = (rec, refl, key_is rec.key key h, sym (kept_version rec))
+puts_is id key (ask.PutIf rec condition) p h = (rec, refl, same_key_exact rec.key key h, sym (kept_version rec))
 puts_is id key (ask.Get k) p h = clash (sym p)
 puts_is id key (ask.Scan span) p h = clash (sym p)
 puts_is id key (ask.DeleteIf k condition) p h = clash (sym p)
 
 is_puts : (key : Key) (q : Request) (r : Record) → put_by q ≡ Some r → r.key ≡ key → option_map_or (λ k. same_key k key) (key_asked q) false ≡ true
-is_puts key (ask.PutIf rec condition) r e k = is_key rec.key key (ap (λ (x : Record). x.key) (some_is rec r e) ∙ k)
+is_puts key (ask.PutIf rec condition) r e k = same_key_of rec.key key (ap (λ (x : Record). x.key) (some_is rec r e) ∙ k)
 is_puts key (ask.Get k) r e h = none_some e
 is_puts key (ask.Scan span) r e h = none_some e
 is_puts key (ask.DeleteIf k condition) r e h = none_some e

@@ -13,17 +13,18 @@ use Rattle.sdb_model.specs.declared.event.Event.{Event}
 use Rattle.sdb_model.specs.Calls as calls
 use Rattle.sdb_model.specs.Calls.{calls_of, records_shown}
 use Rattle.sdb_model.specs.Causes.{HasReply, IsBad, IsBadRecord, IsMisfit, is_misfit}
-use Rattle.sdb_model.specs.Noted.{reads_rows, same_key}
+use Rattle.sdb_model.specs.Noted.{reads_rows}
 use Rattle.sdb_model.specs.Sql.{reads_commit, reads_vacuum}
 use Rattle.sdb_model.specs.Transactions.{Said}
 use Rattle.sdb_said.proofs.Lists.{right, or_left, not_true, true_not, any_some, some_any}
-use Rattle.sdb_said.proofs.ShownLaws.{key_is, is_key}
 use Rattle.sdb_calls.specs.declared.made.Made.{Made}
 use Rattle.sdb_calls.specs.Values.{all_made, made_of}
 use Rattle.sdb_caused.specs.Tests.{is_bad, is_refused_there, shows_bad}
 use Rattle.sdb_caused.proofs.Finds.{in_contains, contains_in, made_contained, contained_made}
 use Rattle.sdb_types.proofs.Basics.{clash, or_second as or_right, either}
 use Rattle.sdb_types.proofs.Bools.{and_first as left, and_both as both}
+use Rattle.sdb_types.specs.Order.{same_key}
+use Rattle.sdb_types.proofs.Keys.{same_key_exact, same_key_of}
 
 err_is : {A : Type 0} (x : Result A (List ℕ)) → is_none (result_ok x) ≡ true → (name : List ℕ) × (x ≡ Err name)
 err_is (Ok a) h = clash (sym h)
@@ -86,7 +87,7 @@ module _ (catalog : List Table) (events : List Event) (ms : List Made) (client :
         r.0,
         subst (λ cs. Contains cs (made_of m.0)) e (made_contained ms m.0 m.1),
         in_contains (records_shown m.0.reply) r.0 r.1,
-        key_is r.0.key key (left (same_key r.0.key key) (is_refused_there catalog ms (rows m.0) r.0) r.2),
+        same_key_exact r.0.key key (left (same_key r.0.key key) (is_refused_there catalog ms (rows m.0) r.0) r.2),
         refused_is m.0 r.0 (right (same_key r.0.key key) (is_refused_there catalog ms (rows m.0) r.0) r.2),
       )
 
@@ -95,7 +96,7 @@ module _ (catalog : List Table) (events : List Event) (ms : List Made) (client :
       let m = contained_made ms c (subst (λ cs. Contains cs c) (sym e) k) in
       some_any (shows_bad catalog ms reads key) ms m.0 m.1
       (some_any (λ x. same_key x.key key && is_refused_there catalog ms (rows m.0) x) (records_shown m.0.reply) r (contains_in (records_shown m.0.reply) r (subst (λ (x : calls.Made). Contains (records_shown x.reply) r) m.2 shown))
-      (both (same_key r.key key) (is_refused_there catalog ms (rows m.0) r) (is_key r.key key at) (is_refused_of m.0 r (subst (λ (x : calls.Made). IsBad r ⊎ IsMisfit catalog events client s x r) m.2 bad))))
+      (both (same_key r.key key) (is_refused_there catalog ms (rows m.0) r) (same_key_of r.key key at) (is_refused_of m.0 r (subst (λ (x : calls.Made). IsBad r ⊎ IsMisfit catalog events client s x r) m.2 bad))))
 
 module _ (events : List Event) (ms : List Made) (client : ℕ) (s : Said) (e : all_made ms ≡ calls_of events client s) where
   pub reply_is : (is : Reply → Bool) → list_any (λ (m : Made). is m.reply) ms ≡ true → HasReply is (calls_of events client s)

@@ -6,7 +6,6 @@ use Rattle.std.specs.List.{count_by}
 use Rattle.std.proofs.lemmas.List.Sums.{length-filter}
 use Rattle.sdb_model.specs.declared.statement.Insert.{Insert}
 use Rattle.sdb_model.specs.Exec.{find_table, key_of}
-use Rattle.sdb_model.specs.Noted.{same_key}
 use Rattle.sdb_schema.specs.declared.table.Table.{Table}
 use Rattle.sdb_model.specs.declared.event.Event.{Event}
 use Rattle.sdb_model.specs.declared.statement.Statement.{Statement}
@@ -18,10 +17,12 @@ use Rattle.sdb_types.specs.declared.key.Key.{Key}
 use Rattle.sdb_model.specs.Calls.{calls_of}
 use Rattle.sdb_calls.specs.declared.made.Made.{Made}
 use Rattle.sdb_calls.specs.Values.{all_made, made_of}
-use Rattle.sdb_said.proofs.ShownLaws.{number_is, is_number, key_is, is_key}
+use Rattle.sdb_said.proofs.ShownLaws.{number_is, is_number}
 use Rattle.sdb_caused.specs.Tests.{Inserts, IsOfCount, IsOfDone, IsOfDuplicate, IsOfRows, IsReading, counts_so, is_done, removed_by}
 use Rattle.sdb_caused.proofs.Decided.{never}
 use Rattle.sdb_types.proofs.Basics.{clash, some_is}
+use Rattle.sdb_types.specs.Order.{same_key}
+use Rattle.sdb_types.proofs.Keys.{same_key_exact, same_key_of}
 
 module _ (s : Said) (o : Option Statement) (reading : IsReading s.text o) where
   pub read : (st : Statement) → Reads s.text st → o ≡ Some st
@@ -110,8 +111,8 @@ module _ (events : List Event) (client : ℕ) (s : Said) (ms : List Made) (e : a
 
 pub inserts_is : (catalog : List Table) (o : Option Statement) (key : Key) (t : Table) (i : Insert) (b : Bool) → o ≡ Some (statement.Insert i) → find_table catalog i.table ≡ Some t → b ≡ same_key (key_of t i) key → IsTrue b ↔ Inserts catalog o key
 inserts_is catalog o key t i b e f g = (
-  λ h. (t, i, e, f, key_is (key_of t i) key (sym g ∙ h)),
-  λ (u, j, d, k, at). g ∙ is_key (key_of t i) key (
+  λ h. (t, i, e, f, same_key_exact (key_of t i) key (sym g ∙ h)),
+  λ (u, j, d, k, at). g ∙ same_key_of (key_of t i) key (
       let same : i ≡ j = insert_is i j (some_is (statement.Insert i) (statement.Insert j) (sym e ∙ d)) in
       let table : t ≡ u = some_is t u (sym f ∙ ap (λ (x : Insert). find_table catalog x.table) same ∙ k) in
       ap (λ (x : Table). key_of x i) table ∙ ap (key_of u) same ∙ at

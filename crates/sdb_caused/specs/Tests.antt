@@ -11,7 +11,7 @@ use Rattle.sdb_types.specs.declared.record.Request.{Request}
 use Rattle.sdb_types.specs.declared.record.Request.TheVariants as ask
 use Rattle.sdb_types.specs.declared.record.Reply.{Reply}
 use Rattle.sdb_types.specs.declared.record.Reply.TheVariants as reply
-use Rattle.sdb_types.specs.Contents.{in_span}
+use Rattle.sdb_types.specs.Contents.{in_span, record_among}
 use Rattle.sdb_schema.specs.declared.table.Table.{Table}
 use Rattle.sdb_record.specs.declared.coordinator.Decided.{Decided}
 use Rattle.sdb_record.specs.declared.coordinator.Decision.{Decision}
@@ -20,6 +20,7 @@ use Rattle.sdb_record.specs.Coordinator.{decision_in, is_coordinator_table, is_e
 use Rattle.sdb_record.specs.Meta.{checked, id_in, is_unresolved, moment_in}
 use Rattle.sdb_record.specs.Moved.{is_unchanged, same_version}
 use Rattle.sdb_record.specs.Parts.{before_part}
+use Rattle.sdb_record.specs.Among.{version_among}
 use Rattle.sdb_model.specs.declared.answer.Answer.{Answer}
 use Rattle.sdb_model.specs.declared.answer.Answer.TheVariants as answer
 use Rattle.sdb_model.specs.declared.answer.Refusal.{Refusal}
@@ -33,14 +34,15 @@ use Rattle.sdb_model.specs.Exec.{find_table, key_of}
 use Rattle.sdb_model.specs.Refused.{refusal_of}
 use Rattle.sdb_model.specs.Rows.{same_name}
 use Rattle.sdb_model.specs.Transactions.{Said, client_of, commit_of, id_of, is_effective, ordinal_of, said, statements_of}
-use Rattle.sdb_model.specs.Calls.{clock_at, calls_of, decision_learned, is_read, key_asked, put_by, record_among, records_read, records_shown}
-use Rattle.sdb_model.specs.Noted.{Note, Got, Scanned, noted_in, reads_rows, resolved, same_key, version_among, version_noted}
+use Rattle.sdb_model.specs.Calls.{clock_at, calls_of, decision_learned, is_read, key_asked, put_by, records_read, records_shown}
+use Rattle.sdb_model.specs.Noted.{Note, Got, Scanned, noted_in, reads_rows, resolved, version_noted}
 use Rattle.sdb_model.specs.Causes.{IsCaused, IsCounted, IsTurnedAway, before, is_misfit, is_open, is_select, prepares_key, records_found, refused, removes, counted_by}
 use Rattle.sdb_said.specs.Values.{same_record}
 use Rattle.sdb_calls.specs.declared.made.Made.{Made}
 use Rattle.sdb_calls.specs.declared.open.Work.TheVariants as work
 use Rattle.sdb_calls.specs.Values.{all_made, asks_row, decision_found_at, inside_among, made_of, someone_does, taker}
 use Rattle.sdb_types.specs.Replies.{is_fault}
+use Rattle.sdb_types.specs.Order.{same_key}
 
 ---- equality
 

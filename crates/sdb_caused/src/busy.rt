@@ -4,7 +4,7 @@ ghost use Rattle.std.specs.List.{list_any};
 ghost use Rattle.sdb_record.specs.Meta.{is_unresolved as is_unresolved_lem};
 ghost use Rattle.sdb_model.specs.Causes.{IsBusy};
 ghost use Rattle.sdb_model.specs.Calls.{records_read};
-ghost use Rattle.sdb_model.specs.Noted.{same_key};
+ghost use Rattle.sdb_types.specs.Order.{same_key};
 ghost use Rattle.sdb_order.specs.Commits.{said_of};
 ghost use Rattle.sdb_caused.specs.Tests.{is_id as is_id_lem, is_at as is_at_lem, prepared_moment as prepared_moment_lem, looks_early as looks_early_lem, is_early as is_early_lem, reads_busy as reads_busy_lem, busy_among as busy_among_lem};
 

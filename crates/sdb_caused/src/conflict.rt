@@ -15,14 +15,14 @@ ghost use Rattle.sdb_caused.specs.Tests.{asks_key, conflict_at_scan, is_moved as
 
 use crate::commit::{is_commit_of, is_in};
 use crate::same::is_same_found;
-use sdb_calls::{Made, calls_of, decision_for, id_of, key_asked, noted_in, put_by, record_among};
+use sdb_calls::{Made, calls_of, decision_for, id_of, key_asked, noted_in, put_by};
 use sdb_model::{Event, Keyword};
 use sdb_order::{Said, is_word, statements_said};
 use sdb_plain::is_prepare;
 use sdb_record::{Decided, Decision, Scan, is_same_version, is_unchanged, rolled_forward};
 use sdb_said::{
-    Note, is_committed, is_kept_in, is_same_key, keeps_none, kept_writer, version_among,
-    version_noted,
+    Note, is_committed, is_kept_in, is_same_key, keeps_none, kept_writer, record_among,
+    version_among, version_noted,
 };
 use sdb_types::{Key, NoMemory, Record, Reply, Request, TxId};
 use std::alloc::Global;

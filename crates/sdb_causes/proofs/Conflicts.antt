@@ -1,6 +1,6 @@
 -- Each call of a COMMIT keeps what the calls say of what it prepared and checked.
-use Rattle.std.proofs.Common.{◌≡◌, ◌≢◌, ◌<◌, ◌+◌, ◌⊎◌, inl, inr, ℕ, ℤ, zero, suc, Bool, true, false, not, cond, List, [], ◌∷◌, ◌++◌, map, length, Option, Some, None, refl, sym, ap, subst, ◌∙◌, arith}
-use Rattle.std.specs.Prelude.{if◌then◌else◌, ◌&&◌, ◌||◌, filter, find, nat_lt, slice_get, Contains, IfSome}
+use Rattle.std.proofs.Common.{◌≡◌, ◌<◌, ◌+◌, ◌⊎◌, inl, inr, ℕ, ℤ, zero, suc, Bool, true, false, not, cond, List, [], ◌∷◌, ◌++◌, map, length, Option, Some, None, refl, sym, ap, subst, ◌∙◌, arith}
+use Rattle.std.specs.Prelude.{if◌then◌else◌, ◌&&◌, ◌||◌, filter, find, nat_lt, slice_get, Contains, IfSome, is_some}
 use Rattle.std.specs.List.{AllByRecursion, list_all, list_any}
 use Rattle.std.specs.Option.{option_and_then, option_map, option_map_or}
 use Rattle.std.specs.Ordering.{is_eq}
@@ -21,10 +21,11 @@ use Rattle.sdb_types.specs.declared.record.State.TheVariants as state
 use Rattle.sdb_types.specs.declared.value.Value.TheVariants as value
 use Rattle.sdb_types.specs.Columns.{column}
 use Rattle.sdb_types.specs.TxId.{id_text}
-use Rattle.sdb_types.specs.Contents.{CanAnswer, are_rows_of, has_value, in_span, is_version, rise, state_number, tx_id, tx_state}
-use Rattle.sdb_types.specs.Order.{key_cmp}
+use Rattle.sdb_types.specs.Contents.{CanAnswer, are_rows_of, has_value, in_span, is_version, rise, state_number, tx_id, tx_state, record_among}
+use Rattle.sdb_types.specs.Order.{key_cmp, same_key}
 use Rattle.sdb_types.proofs.Basics.{by_test, clash, none_some, some_is, all_each as each_any, append_all as each_append, and_false}
 use Rattle.sdb_types.proofs.KeyOrder.{key_total}
+use Rattle.sdb_types.proofs.Keys.{same_key_self, same_key_exact}
 use Rattle.sdb_record.specs.declared.access.Read.{Read}
 use Rattle.sdb_record.specs.declared.access.Scan.{Scan}
 use Rattle.sdb_record.specs.declared.write.Change.{Change}
@@ -32,15 +33,15 @@ use Rattle.sdb_record.specs.declared.write.Change.TheVariants as change
 use Rattle.sdb_record.specs.declared.write.Write.{Write}
 use Rattle.sdb_record.specs.Coordinator.{coordinator_row_of}
 use Rattle.sdb_record.specs.Moved.{is_unchanged, same_version, version_of}
-use Rattle.sdb_record.specs.Rolls.{IsBaseOf, IsWrite, prepared_record, state_of_change}
+use Rattle.sdb_record.specs.Rolls.{IsBaseOf, IsWrite, prepared_record, state_of_change, undo}
 use Rattle.sdb_record.proofs.Fine.{has_value-is}
 use Rattle.sdb_record.proofs.ImageLaws.{prepared-version}
 use Rattle.sdb_record.proofs.TakenLaws.{prepared-base, prepared-key}
-use Rattle.sdb_model.specs.Calls.{Made, key_asked, put_by, record_among}
+use Rattle.sdb_record.specs.Among.{version_among, write_among, is_written}
+use Rattle.sdb_model.specs.Calls.{Made, key_asked, put_by}
 use Rattle.sdb_model.specs.Causes.{ConflictsAtCommit, IsUnmet, ScanShows, prepares_key}
-use Rattle.sdb_model.specs.Noted.{Got, Note, Scanned, same_key, version_among, version_noted}
+use Rattle.sdb_model.specs.Noted.{Got, Note, Scanned, version_noted}
 use Rattle.sdb_model.specs.Transactions.{prepares}
-use Rattle.sdb_laws.proofs.Keys.{same_key_self, same_key_tells}
 use Rattle.sdb_phases.specs.declared.check.Check.{Check}
 use Rattle.sdb_phases.specs.declared.step.DecidePhase.{DecidePhase}
 use Rattle.sdb_phases.specs.declared.step.DecidePhase.TheVariants as phase
@@ -48,15 +49,15 @@ use Rattle.sdb_phases.specs.declared.step.DecideStep.{DecideStep}
 use Rattle.sdb_phases.specs.declared.step.DecideStep.TheVariants as decide
 use Rattle.sdb_phases.specs.declared.step.Outcome.{Outcome}
 use Rattle.sdb_phases.specs.declared.step.Outcome.TheVariants as outcome
-use Rattle.sdb_phases.specs.Checks as phases
-use Rattle.sdb_phases.specs.Checks.{base_of, check_of_read, check_of_scan, checks, difference_in, first_difference, is_written, version_read, wanted}
+use Rattle.sdb_phases.specs.Checks.{base_of, check_of_read, check_of_scan, checks, difference_in, first_difference, wanted}
 use Rattle.sdb_phases.specs.Commit.{Stage, Preparing, Checking, Deciding, Forward, Stopping, Back, Over, after_abort, after_check, after_decide, after_prepare, back, checking, forward, pending, preparing, starved, starved_answer, step}
 use Rattle.sdb_phases.specs.Steps.{decide_next, judged, prepare_step, refused, touched_after, validate_step}
-use Rattle.sdb_phases.specs.Work.{Work, abort_of, back_of, backs, prepare_of, undo}
+use Rattle.sdb_phases.specs.Work.{Work, abort_of, back_of, backs, prepare_of}
 use Rattle.sdb_phases.specs.Work as work
 use Rattle.sdb_validate.specs.Rescan.{IsFirstLost, is_kept, kept_by, reads_rise}
 use Rattle.sdb_validate.proofs.Rescans.{first_lost}
 use Rattle.sdb_turns.proofs.Lists.{each_at, each_filter, each_map, each_more}
+use Rattle.sdb_turns.proofs.Work.{no_base}
 use Rattle.sdb_causes.specs.Conflicts.{ChecksBy, ConflictBy, HasPrepared, PreparesOnly}
 use Rattle.sdb_causes.specs.Moves.{IsNotedAt, WorkBy}
 
@@ -65,43 +66,16 @@ use Rattle.sdb_causes.specs.Moves.{IsNotedAt, WorkBy}
 pub key_turned : (a b : Key) → is_eq (key_cmp a b) ≡ is_eq (key_cmp b a)
 key_turned a b = (eq_by_cmp_equiv key_total).symm a b
 
--- the test of the phases, and that of the model
-phases_same : (a b : Key) → phases.same_key a b ≡ same_key a b
-unfolding same_key
-phases_same a b = refl
-
-same_turned : (a b : Key) → phases.same_key a b ≡ same_key b a
-same_turned a b = key_turned a b ∙ phases_same b a
-
-row_is : (rows : List Record) (k : Key) → phases.record_among rows k ≡ record_among rows k
-row_is [] k = refl
-row_is (r ∷ rs) k = ap (λ b. if b then Some r else phases.record_among rs k) (key_turned k r.key) ∙ ap (λ o. if is_eq (key_cmp r.key k) then Some r else o) (row_is rs k)
-
-version_is : (found : List Read) (k : Key) → version_read found k ≡ version_among found k
-version_is [] k = refl
-version_is (r ∷ rs) k = ap (λ b. if b then r.version else version_read rs k) (same_turned k r.key) ∙ by (same_key r.key k) (version_is rs k)
-  where
-    by : (b : Bool) → version_read rs k ≡ version_among rs k → (if b then r.version else version_read rs k) ≡ option_and_then (λ (x : Read). x.version) (if b then Some r else find (λ (x : Read). same_key x.key k) rs)
-    by true ih = refl
-    by false ih = ih
-
-key_is : (a b : Key) → phases.same_key a b ≡ true → a ≡ b
-key_is a b h = by (same_key_tells a b)
-  where
-    by : ((same_key a b ≡ true) × (a ≡ b)) ⊎ ((same_key a b ≡ false) × (a ≢ b)) → a ≡ b
-    by (inl x) = x.1
-    by (inr x) = clash (sym (sym (phases_same a b) ∙ h) ∙ x.0)
-
 ---- writes
 
 written_at : (ws : List Write) (i : ℕ) (w : Write) → slice_get ws i ≡ Some w → is_written ws w.key ≡ true
 written_at [] i w e = none_some w e
-written_at (x ∷ xs) zero w e = let same : x ≡ w = cc in ap (λ (k : Key). phases.same_key w.key k || is_written xs w.key) (ap (λ (y : Write). y.key) same) ∙ ap (λ b. b || is_written xs w.key) (phases_same w.key w.key ∙ same_key_self w.key)
-written_at (x ∷ xs) (suc i) w e = either (phases.same_key w.key x.key) (is_written xs w.key) (written_at xs i w e)
+written_at (x ∷ xs) zero w e = let same : x ≡ w = cc in ap (λ b. is_some (if b then Some x else write_among xs w.key)) (ap (λ (y : Write). same_key w.key y.key) same ∙ same_key_self w.key)
+written_at (x ∷ xs) (suc i) w e = either (same_key w.key x.key) (write_among xs w.key) (written_at xs i w e)
   where
-    either : (a b : Bool) → b ≡ true → (a || b) ≡ true
-    either true b h = refl
-    either false b h = h
+    either : (b : Bool) (o : Option Write) → is_some o ≡ true → is_some (if b then Some x else o) ≡ true
+    either true o h = refl
+    either false o h = h
 
 pub mapped_at : {A B : Type 0} (f : A → B) (xs : List A) (i : ℕ) (y : B) → slice_get (map f xs) i ≡ Some y → (x : A) × (slice_get xs i ≡ Some x) × (f x ≡ y)
 mapped_at f [] i y e = none_some y e
@@ -111,7 +85,7 @@ mapped_at f (x ∷ xs) (suc i) y e = mapped_at f xs i y e
 -- the base of a written key is that of a write of it
 base_at_write : (ws : List Write) (k : Key) (v : Option TxId) → base_of ws k ≡ Some v → (j : ℕ) × (w : Write) × (j < length ws) × (slice_get ws j ≡ Some w) × (w.key ≡ k) × (version_of w.base ≡ v)
 base_at_write [] k v e = none_some v e
-base_at_write (w ∷ ws) k v e = by (phases.same_key k w.key) refl (λ h. base_at_write ws k v h) e
+base_at_write (w ∷ ws) k v e = by (same_key k w.key) refl (λ h. base_at_write ws k v h) e
   where
     up : (j n : ℕ) → j < n → suc j < suc n
     up j n l = omega arith
@@ -119,18 +93,10 @@ base_at_write (w ∷ ws) k v e = by (phases.same_key k w.key) refl (λ h. base_a
     first : 0 < suc (length ws)
     first = omega arith
 
-    by : (b : Bool) → phases.same_key k w.key ≡ b → (base_of ws k ≡ Some v → (j : ℕ) × (x : Write) × (j < length ws) × (slice_get ws j ≡ Some x) × (x.key ≡ k) × (version_of x.base ≡ v)) → (if b then Some (version_of w.base) else base_of ws k) ≡ Some v
+    by : (b : Bool) → same_key k w.key ≡ b → (base_of ws k ≡ Some v → (j : ℕ) × (x : Write) × (j < length ws) × (slice_get ws j ≡ Some x) × (x.key ≡ k) × (version_of x.base ≡ v)) → (if b then Some (version_of w.base) else base_of ws k) ≡ Some v
         → (j : ℕ) × (x : Write) × (j < suc (length ws)) × (slice_get (w ∷ ws) j ≡ Some x) × (x.key ≡ k) × (version_of x.base ≡ v)
-    by true t ih h = (0, w, first, refl, sym (key_is k w.key t), some_is (version_of w.base) v h)
+    by true t ih h = (0, w, first, refl, sym (same_key_exact k w.key t), some_is (version_of w.base) v h)
     by false t ih h = let r = ih h in (suc r.0, r.1, up r.0 (length ws) r.2, r.3, r.4, r.5)
-
-no_base : (ws : List Write) (k : Key) → base_of ws k ≡ None → is_written ws k ≡ false
-no_base [] k h = refl
-no_base (w ∷ ws) k h = by (phases.same_key k w.key) (λ e. no_base ws k e) h
-  where
-    by : (b : Bool) → (base_of ws k ≡ None → is_written ws k ≡ false) → (if b then Some (version_of w.base) else base_of ws k) ≡ None → (b || is_written ws k) ≡ false
-    by true ih e = none_some (version_of w.base) (sym e)
-    by false ih e = ih e
 
 ---- what prepares
 
@@ -229,7 +195,7 @@ module _ (p : Work) (notes : List Note) (w : WorkBy notes p) (calls : List Made)
     prepares_it q t =
         let s : option_map_or (λ k. same_key k q) (key_asked m.request) false ≡ true = (and_parts (prepares p.id m.request) (option_map_or (λ k. same_key k q) (key_asked m.request) false) t).1 in
         let k : same_key (prepared_record x p.id p.now).key q ≡ true = sym (ap (λ (r : Request). option_map_or (λ k. same_key k q) (key_asked r) false) asks) ∙ s in
-        let same : x.key ≡ q = key_is x.key q (phases_same x.key q ∙ sym (ap (λ (z : Key). same_key z q) (prepared-key x p.id p.now)) ∙ k) in
+        let same : x.key ≡ q = same_key_exact x.key q (sym (ap (λ (z : Key). same_key z q) (prepared-key x p.id p.now)) ∙ k) in
         ap (is_written p.writes) (sym same) ∙ written_at p.writes i x at
 
     only_now : PreparesOnly p more
@@ -297,30 +263,30 @@ module _ (p : Work) (notes : List Note) (w : WorkBy notes p) (calls : List Made)
     ---- a rescan
 
     module _ (x : Scan) (noted : Contains notes (Scanned x)) (inside : list_all (λ r. in_span x.span r.key) x.found ≡ true) (rises : reads_rise x.found ≡ true) (rows : List Record) (e : m.request ≡ ask.Scan x.span) (f : m.reply ≡ reply.Rows rows) (can : are_rows_of x.span rows ≡ true) where
-      shows_at : (k : Key) → in_span x.span k ≡ true → ScanShows m k (phases.record_among rows k)
-      shows_at k i = (x.span, rows, e, i, f, row_is rows k)
+      shows_at : (k : Key) → in_span x.span k ≡ true → ScanShows m k (record_among rows k)
+      shows_at k i = (x.span, rows, e, i, f, refl)
 
       -- a key outside of the span has no record, and no version
-      row_outside : (rs : List Record) (k : Key) → list_all (λ (r : Record). in_span x.span r.key) rs ≡ true → in_span x.span k ≡ false → phases.record_among rs k ≡ None
+      row_outside : (rs : List Record) (k : Key) → list_all (λ (r : Record). in_span x.span r.key) rs ≡ true → in_span x.span k ≡ false → record_among rs k ≡ None
       row_outside [] k h o = refl
       row_outside (r ∷ rs) k h o =
           let a = and_parts (in_span x.span r.key) (list_all (λ (y : Record). in_span x.span y.key) rs) h in
-          ap (λ b. if b then Some r else phases.record_among rs k) (by_test (phases.same_key k r.key) (λ t. clash (sym a.0 ∙ ap (in_span x.span) (sym (key_is k r.key t)) ∙ o)) (λ z. z)) ∙ row_outside rs k a.1 o
+          ap (λ b. if b then Some r else record_among rs k) (by_test (same_key k r.key) (λ t. clash (sym a.0 ∙ ap (in_span x.span) (sym (same_key_exact k r.key t)) ∙ o)) (λ z. z)) ∙ row_outside rs k a.1 o
 
-      version_outside : (rs : List Read) (k : Key) → list_all (λ (r : Read). in_span x.span r.key) rs ≡ true → in_span x.span k ≡ false → version_read rs k ≡ None
+      version_outside : (rs : List Read) (k : Key) → list_all (λ (r : Read). in_span x.span r.key) rs ≡ true → in_span x.span k ≡ false → version_among rs k ≡ None
       version_outside [] k h o = refl
       version_outside (r ∷ rs) k h o =
           let a = and_parts (in_span x.span r.key) (list_all (λ (y : Read). in_span x.span y.key) rs) h in
-          ap (λ b. if b then r.version else version_read rs k) (by_test (phases.same_key k r.key) (λ t. clash (sym a.0 ∙ ap (in_span x.span) (sym (key_is k r.key t)) ∙ o)) (λ z. z)) ∙ version_outside rs k a.1 o
+          ap (λ b. option_and_then (λ (y : Read). y.version) (if b then Some r else find (λ (y : Read). same_key k y.key) rs)) (by_test (same_key k r.key) (λ t. clash (sym a.0 ∙ ap (in_span x.span) (sym (same_key_exact k r.key t)) ∙ o)) (λ z. z)) ∙ version_outside rs k a.1 o
 
-      lost_unwritten : (k : Key) → in_span x.span k ≡ true → base_of p.writes k ≡ None → is_unchanged (phases.record_among rows k) (version_read x.found k) ≡ false → ConflictsAtCommit more notes p.id k (phases.record_among rows k)
+      lost_unwritten : (k : Key) → in_span x.span k ≡ true → base_of p.writes k ≡ None → is_unchanged (record_among rows k) (version_among x.found k) ≡ false → ConflictsAtCommit more notes p.id k (record_among rows k)
       lost_unwritten k i free h =
           inl (
-            (Scanned x, version_among x.found k, noted, ap (λ b. if b then Some (version_among x.found k) else None) i, sym (ap (is_unchanged (phases.record_among rows k)) (version_is x.found k)) ∙ h),
+            (Scanned x, version_among x.found k, noted, ap (λ b. if b then Some (version_among x.found k) else None) i, h),
             inr (m, Contains-push calls m, inr (shows_at k i), none_prepares p more k only (no_base p.writes k free)),
           )
 
-      lost_written : (k : Key) (base : Option TxId) → in_span x.span k ≡ true → base_of p.writes k ≡ Some base → same_version base (version_read x.found k) ≡ false → ConflictsAtCommit more notes p.id k (phases.record_among rows k)
+      lost_written : (k : Key) (base : Option TxId) → in_span x.span k ≡ true → base_of p.writes k ≡ Some base → same_version base (version_among x.found k) ≡ false → ConflictsAtCommit more notes p.id k (record_among rows k)
       lost_written k base i own h =
           let b = base_at_write p.writes k base own in
           let made = done b.0 b.1 b.2 b.3 in
@@ -340,26 +306,26 @@ module _ (p : Work) (notes : List Note) (w : WorkBy notes p) (calls : List Made)
                 ap version_of (prepared-base b.1 p.id p.now fine) ∙ b.5,
               ),
               (x, noted, i, refl),
-              sym (ap (same_version base) (version_is x.found k)) ∙ h,
+              h,
             ),
           )
 
-      lost_at : (k : Key) → is_kept p.writes x rows k ≡ false → ConflictsAtCommit more notes p.id k (phases.record_among rows k)
+      lost_at : (k : Key) → is_kept p.writes x rows k ≡ false → ConflictsAtCommit more notes p.id k (record_among rows k)
       lost_at k h = by_test (in_span x.span k) within without
         where
-          without : in_span x.span k ≡ false → ConflictsAtCommit more notes p.id k (phases.record_among rows k)
+          without : in_span x.span k ≡ false → ConflictsAtCommit more notes p.id k (record_among rows k)
           without o =
               clash
-              (sym (ap (λ b. kept_by (if b then base_of p.writes k else None) (version_read x.found k) (phases.record_among rows k)) o
-              ∙ ap (λ v. is_unchanged (phases.record_among rows k) v) (version_outside x.found k inside o)
+              (sym (ap (λ b. kept_by (if b then base_of p.writes k else None) (version_among x.found k) (record_among rows k)) o
+              ∙ ap (λ v. is_unchanged (record_among rows k) v) (version_outside x.found k inside o)
               ∙ ap (λ r. is_unchanged r None) (row_outside rows k (and_parts (rise rows) (list_all (λ (r : Record). in_span x.span r.key) rows) can).1 o)) ∙ h)
 
-          own_case : (o : Option (Option TxId)) → in_span x.span k ≡ true → base_of p.writes k ≡ o → kept_by o (version_read x.found k) (phases.record_among rows k) ≡ false → ConflictsAtCommit more notes p.id k (phases.record_among rows k)
+          own_case : (o : Option (Option TxId)) → in_span x.span k ≡ true → base_of p.writes k ≡ o → kept_by o (version_among x.found k) (record_among rows k) ≡ false → ConflictsAtCommit more notes p.id k (record_among rows k)
           own_case None i own z = lost_unwritten k i own z
           own_case (Some base) i own z = lost_written k base i own z
 
-          within : in_span x.span k ≡ true → ConflictsAtCommit more notes p.id k (phases.record_among rows k)
-          within i = own_case (base_of p.writes k) i refl (sym (ap (λ b. kept_by (if b then base_of p.writes k else None) (version_read x.found k) (phases.record_among rows k)) i) ∙ h)
+          within : in_span x.span k ≡ true → ConflictsAtCommit more notes p.id k (record_among rows k)
+          within i = own_case (base_of p.writes k) i refl (sym (ap (λ b. kept_by (if b then base_of p.writes k else None) (version_among x.found k) (record_among rows k)) i) ∙ h)
 
       scan_lost : (d : Key × Option Record) → first_difference (wanted p.writes x) rows ≡ Some d → ConflictsAtCommit more notes p.id d.0 d.1
       scan_lost d h =

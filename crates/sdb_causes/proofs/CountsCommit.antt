@@ -1,6 +1,6 @@
 -- How many calls a COMMIT has made, one call after the other.
 use Rattle.std.proofs.Common.{subst, ◌≡◌, ◌≢◌, ◌≤◌, ◌<◌, ◌+◌, ◌*◌, ℕ, ℤ, zero, suc, Bool, true, false, not, List, [], ◌∷◌, ◌++◌, length, map, take, Option, Some, None, Result, Ok, Err, refl, sym, ap, ◌∙◌, arith}
-use Rattle.std.specs.Prelude.{if◌then◌else◌, ◌&&◌, ◌||◌, filter, nat_lt, slice_get}
+use Rattle.std.specs.Prelude.{if◌then◌else◌, ◌&&◌, ◌||◌, filter, is_some, nat_lt, slice_get}
 use Rattle.std.specs.List.{AllByRecursion, count_by, list_any}
 use Rattle.std.specs.Option.{option_map, option_map_or}
 use Rattle.std.specs.Ordering.{is_eq}
@@ -23,7 +23,8 @@ use Rattle.sdb_types.specs.declared.value.Value.TheVariants as value
 use Rattle.sdb_types.specs.Columns.{column}
 use Rattle.sdb_types.specs.TxId.{id_text}
 use Rattle.sdb_types.specs.Contents.{has_value, is_version, state_number, tx_id}
-use Rattle.sdb_types.specs.Order.{key_cmp}
+use Rattle.sdb_types.specs.Order.{key_cmp, same_key}
+use Rattle.sdb_types.proofs.Keys.{same_key_is}
 use Rattle.sdb_types.proofs.Basics.{clash, none_some, some_is, append_all as each_append}
 use Rattle.sdb_record.specs.declared.access.Read.{Read}
 use Rattle.sdb_record.specs.declared.access.Scan.{Scan}
@@ -34,6 +35,7 @@ use Rattle.sdb_record.specs.Coordinator.{coordinator_key_of, coordinator_row_of,
 use Rattle.sdb_record.specs.Rolls.{IsWrite, forward_record, prepared_record}
 use Rattle.sdb_record.proofs.RollLaws.{forward-state}
 use Rattle.sdb_record.proofs.TakenLaws.{prepared-key}
+use Rattle.sdb_record.specs.Among.{is_written, write_among}
 use Rattle.sdb_model.specs.declared.answer.Answer.{Answer}
 use Rattle.sdb_model.specs.declared.answer.Answer.TheVariants as answer
 use Rattle.sdb_model.specs.Calls.{Made, key_asked}
@@ -47,7 +49,7 @@ use Rattle.sdb_phases.specs.declared.step.DecideStep.{DecideStep}
 use Rattle.sdb_phases.specs.declared.step.DecideStep.TheVariants as decide
 use Rattle.sdb_phases.specs.declared.step.Outcome.{Outcome}
 use Rattle.sdb_phases.specs.declared.step.Outcome.TheVariants as outcome
-use Rattle.sdb_phases.specs.Checks.{check_of_read, check_of_scan, checks, difference_in, is_written, same_key}
+use Rattle.sdb_phases.specs.Checks.{check_of_read, check_of_scan, checks, difference_in}
 use Rattle.sdb_phases.specs.Commit.{Stage, Preparing, Checking, Deciding, Forward, Stopping, Back, Over, after_abort, after_check, after_decide, after_prepare, back, checking, decided, forward, pending, preparing, starved, starved_answer, step}
 use Rattle.sdb_phases.specs.Steps.{decide_next, decide_request_at, judged, prepare_step, refused, told, touched_after, validate_step}
 use Rattle.sdb_phases.specs.Work.{Work, abort_of, back_of, backs, decide_of, forward_of, forwards, look_of, prepare_of}
@@ -86,7 +88,11 @@ any_asked (m ∷ ms) key = ap (λ b. asks_key key m.request || b) (any_asked ms 
 
 any_written : (p : Work) (ws : List Write) (key : Key) → list_any (asks_key key) (map (prepare_of p.id p.now) ws) ≡ is_written ws key
 any_written p [] key = refl
-any_written p (w ∷ ws) key = ap (λ b. b || list_any (asks_key key) (map (prepare_of p.id p.now) ws)) (ap (λ (k : Key). is_eq (key_cmp k key)) (prepared-key w p.id p.now) ∙ key_turned w.key key) ∙ ap (λ b. same_key key w.key || b) (any_written p ws key)
+any_written p (w ∷ ws) key = ap (λ b. b || list_any (asks_key key) (map (prepare_of p.id p.now) ws)) (ap (λ (k : Key). is_eq (key_cmp k key)) (prepared-key w p.id p.now) ∙ key_turned w.key key ∙ sym (same_key_is key w.key)) ∙ by (same_key key w.key) (any_written p ws key)
+  where
+    by : (b : Bool) → list_any (asks_key key) (map (prepare_of p.id p.now) ws) ≡ is_written ws key → (b || list_any (asks_key key) (map (prepare_of p.id p.now) ws)) ≡ is_some (if b then Some w else write_among ws key)
+    by true e = refl
+    by false e = e
 
 put_keys : (p : Work) (calls : List Made) (key : Key) → AllPut p calls → list_any (is_key_of key) (prepares_in p.id calls) ≡ is_written p.writes key
 put_keys p calls key all = any_asked (prepares_in p.id calls) key ∙ ap (list_any (asks_key key)) all ∙ any_written p p.writes key

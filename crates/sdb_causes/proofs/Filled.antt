@@ -11,22 +11,22 @@ use Rattle.std.proofs.lemmas.List.Sums.{sum_by-cons, sum_by-le-sum_by}
 use Rattle.sdb_types.specs.declared.key.Key.{Key}
 use Rattle.sdb_types.specs.declared.pair.Pair.{Pair}
 use Rattle.sdb_types.specs.declared.record.Record.{Record}
-use Rattle.sdb_types.specs.Order.{key_cmp}
+use Rattle.sdb_types.specs.Order.{key_cmp, same_key}
 use Rattle.sdb_types.proofs.Basics.{by_test, clash, none_some, truth, or_false}
 use Rattle.sdb_types.proofs.KeyOrder.{key_total}
-use Rattle.sdb_keyed.specs.Entries.{same_key}
+use Rattle.sdb_types.proofs.Keys.{same_key_exact}
 use Rattle.sdb_record.specs.declared.access.Access.{Access}
 use Rattle.sdb_record.specs.declared.access.Image.{Image}
 use Rattle.sdb_record.specs.declared.write.Keyed.{Keyed}
 use Rattle.sdb_record.specs.declared.write.Write.{Write}
+use Rattle.sdb_record.specs.Among.{is_written, write_among}
 use Rattle.sdb_exec.proofs.Laid.{by_key}
 use Rattle.sdb_model.specs.Access.{in_access}
 use Rattle.sdb_model.specs.Exec.{row_of_entry}
 use Rattle.sdb_snapshot.specs.Noted.{Note, base_at, note_at}
 use Rattle.sdb_snapshot.specs.Rows.{row_found}
 use Rattle.sdb_snapshot.specs.Seen.{Seen, overlay, row_with, tables_seen}
-use Rattle.sdb_snapshot.specs.Written.{is_written, with_change_of, with_write, with_writes, write_at, write_of}
-use Rattle.sdb_snapshot.proofs.Keys.{same_exact}
+use Rattle.sdb_snapshot.specs.Written.{with_change_of, with_write, with_writes, write_of}
 use Rattle.sdb_snapshot.proofs.Shown.{get_seen}
 use Rattle.sdb_causes.specs.Filled.{records_noted}
 use Rattle.sdb_causes.proofs.Lists.{each_kept}
@@ -70,7 +70,7 @@ length_same (x ∷ xs) w t = by (same_key w.key x.key) t (length_same xs w)
     itself : (n : ℕ) → suc n ≤ suc n
     itself n = omega arith
 
-    by : (b : Bool) → is_some (if b then Some x else write_at xs w.key) ≡ true → (is_written xs w.key ≡ true → length (with_write xs w) ≤ length xs) → length (if b then with_change_of x w ∷ xs else x ∷ with_write xs w) ≤ suc (length xs)
+    by : (b : Bool) → is_some (if b then Some x else write_among xs w.key) ≡ true → (is_written xs w.key ≡ true → length (with_write xs w) ≤ length xs) → length (if b then with_change_of x w ∷ xs else x ∷ with_write xs w) ≤ suc (length xs)
     by true s ih = itself (length xs)
     by false s ih = same_up (length (with_write xs w)) (length xs) (ih s)
 
@@ -84,7 +84,7 @@ written_now [] w q = by (same_key q w.key)
 written_now (x ∷ xs) w q = by_test (same_key w.key x.key) there (later (written_now xs w q))
   where
     there : same_key w.key x.key ≡ true → is_written (with_write (x ∷ xs) w) q ≡ (is_written (x ∷ xs) q || same_key q w.key)
-    there t = ap (λ b. is_written (if b then with_change_of x w ∷ xs else x ∷ with_write xs w) q) t ∙ by (same_key q x.key) (write_at xs q) (ap (same_key q) (sym (same_exact w.key x.key t)))
+    there t = ap (λ b. is_written (if b then with_change_of x w ∷ xs else x ∷ with_write xs w) q) t ∙ by (same_key q x.key) (write_among xs q) (ap (same_key q) (sym (same_key_exact w.key x.key t)))
       where
         by : (b : Bool) (o : Option Write) → b ≡ same_key q w.key → is_some (if b then Some (with_change_of x w) else o) ≡ (is_some (if b then Some x else o) || same_key q w.key)
         by true o e = refl
@@ -93,7 +93,7 @@ written_now (x ∷ xs) w q = by_test (same_key w.key x.key) there (later (writte
     later : is_written (with_write xs w) q ≡ (is_written xs q || same_key q w.key) → same_key w.key x.key ≡ false → is_written (with_write (x ∷ xs) w) q ≡ (is_written (x ∷ xs) q || same_key q w.key)
     later rest f = ap (λ b. is_written (if b then with_change_of x w ∷ xs else x ∷ with_write xs w) q) f ∙ by (same_key q x.key) rest
       where
-        by : (b : Bool) → is_written (with_write xs w) q ≡ (is_written xs q || same_key q w.key) → is_some (if b then Some x else write_at (with_write xs w) q) ≡ (is_some (if b then Some x else write_at xs q) || same_key q w.key)
+        by : (b : Bool) → is_written (with_write xs w) q ≡ (is_written xs q || same_key q w.key) → is_some (if b then Some x else write_among (with_write xs w) q) ≡ (is_some (if b then Some x else write_among xs q) || same_key q w.key)
         by true ih = refl
         by false ih = ih
 
@@ -153,7 +153,7 @@ left_less (e ∷ es) ws w f t = subst (λ n. n + 1 ≤ left (e ∷ es) ws) (sym 
 
     here : same_key w.key e.0 ≡ true → one_if (is_left (with_write ws w) e) + left es (with_write ws w) + 1 ≤ one_if (is_left ws e) + left es ws
     here s =
-        let key : w.key ≡ e.0 = same_exact w.key e.0 s in
+        let key : w.key ≡ e.0 = same_key_exact w.key e.0 s in
         at_first (one_if (is_left (with_write ws w) e)) (one_if (is_left ws e)) (left es (with_write ws w)) (left es ws)
         (ap (λ z. one_if (is_some e.1 && not z)) (written_now ws w e.0 ∙ ap (λ z. is_written ws e.0 || z) (subst (λ (z : Key). same_key z w.key ≡ true) key (subst (λ (z : Key). same_key w.key z ≡ true) (sym key) s)) ∙ or_true (is_written ws e.0)) ∙ ap one_if (and_none (is_some e.1)))
         (ap (λ z. one_if (z && not (is_written ws e.0))) (noted true s) ∙ ap (λ z. one_if (not z)) (ap (is_written ws) (sym key) ∙ f))
@@ -231,12 +231,12 @@ found_all P (e ∷ es) h each =
 pub rows_known : (s : Seen) (a : Access) → AllByRecursion (λ (r : Image). IsKnown s.notes s.writes r.key) (overlay a s)
 rows_known s a =
     each_kept (λ (r : Image). IsKnown s.notes s.writes r.key) (λ r. in_access a r.key) (map row_of_entry (entries (tables_seen s)))
-    (found_all (λ q cs. IsKnown s.notes s.writes q) (entries (tables_seen s)) (truth _ (entries_sorted (tables_seen s))) (λ q cs found. by q cs (write_at s.writes q) refl (sym (get_seen s.notes s.writes q) ∙ get-entries (tables_seen s) q ∙ found)))
+    (found_all (λ q cs. IsKnown s.notes s.writes q) (entries (tables_seen s)) (truth _ (entries_sorted (tables_seen s))) (λ q cs found. by q cs (write_among s.writes q) refl (sym (get_seen s.notes s.writes q) ∙ get-entries (tables_seen s) q ∙ found)))
   where
     noted : (o : Option Record) (cs : List Pair) → row_found o ≡ Some cs → is_some o ≡ true
     noted None cs e = none_some cs e
     noted (Some b) cs e = refl
 
-    by : (q : Key) (cs : List Pair) (o : Option Write) → write_at s.writes q ≡ o → row_with (write_at s.writes q) (base_at s.notes q) ≡ Some cs → IsKnown s.notes s.writes q
+    by : (q : Key) (cs : List Pair) (o : Option Write) → write_among s.writes q ≡ o → row_with (write_among s.writes q) (base_at s.notes q) ≡ Some cs → IsKnown s.notes s.writes q
     by q cs (Some w) e h = inl (ap is_some e)
     by q cs None e h = inr (noted (base_at s.notes q) cs (subst (λ o. row_with o (base_at s.notes q) ≡ Some cs) e h))

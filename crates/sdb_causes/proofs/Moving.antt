@@ -4,7 +4,6 @@ use Rattle.std.specs.Prelude.{if◌then◌else◌, ◌&&◌, ◌||◌, is_some, 
 use Rattle.std.specs.List.{AllByRecursion, cons_option, filter_map, list_all}
 use Rattle.std.specs.Option.{option_and_then}
 use Rattle.std.specs.Ordering.{is_eq}
-use Rattle.std.specs.Cmp.{eq_by_cmp_equiv}
 use Rattle.std.specs.declared.cmp.Ordering.TheVariants.{Less}
 use Rattle.std.proofs.lemmas.Bool.{and_parts}
 use Rattle.std.proofs.lemmas.List.{append-nil}
@@ -17,25 +16,22 @@ use Rattle.sdb_types.specs.declared.record.Request.TheVariants as ask
 use Rattle.sdb_types.specs.declared.record.Span.{Span}
 use Rattle.sdb_types.specs.declared.record.State.TheVariants as state
 use Rattle.sdb_types.specs.Columns.{column}
-use Rattle.sdb_types.specs.Contents.{CanAnswer, holds, in_span, is_version, rise, starts_after, tx_id}
-use Rattle.sdb_types.specs.Exact.{equal_of}
-use Rattle.sdb_types.specs.Order.{key_cmp}
-use Rattle.sdb_types.proofs.Basics.{by_test, clash, less_of, all_each as each_any, itself}
-use Rattle.sdb_types.proofs.KeyOrder.{key_exact, key_total}
-use Rattle.sdb_keyed.specs.Entries as keyed
+use Rattle.sdb_types.specs.Contents.{CanAnswer, holds, in_span, is_version, rise, starts_after, tx_id, record_among}
+use Rattle.sdb_types.specs.Order.{key_cmp, same_key}
+use Rattle.sdb_types.proofs.Basics.{by_test, clash, less_of, all_each as each_any, itself, either}
+use Rattle.sdb_types.proofs.KeyOrder.{key_total}
+use Rattle.sdb_types.proofs.Keys.{same_key_self, same_key_exact, same_key_is, same_key_of}
 use Rattle.sdb_record.specs.declared.access.Read.{Read}
 use Rattle.sdb_record.specs.declared.access.Scan.{Scan}
 use Rattle.sdb_record.specs.Meta.{id_in}
 use Rattle.sdb_record.specs.Moved.{Moved, condition_of, same_version, version_of}
 use Rattle.sdb_record.proofs.ImageLaws.{version-writer}
-use Rattle.sdb_model.specs.Calls.{Made, record_among, records_read}
+use Rattle.sdb_model.specs.Calls.{Made, records_read}
 use Rattle.sdb_model.specs.Causes.{HasMoved}
-use Rattle.sdb_model.specs.Noted.{Got, Note, Scanned, resolved, same_key, version_among}
-use Rattle.sdb_laws.proofs.Keys.{same_key_self}
+use Rattle.sdb_model.specs.Noted.{Got, Note, Scanned, resolved}
 use Rattle.sdb_snapshot.specs.Noted as snapshot
-use Rattle.sdb_snapshot.specs.Noted.{base_at, differs, has_moved, is_noted, note_at, record_in}
+use Rattle.sdb_snapshot.specs.Noted.{base_at, differs, has_moved, is_noted, note_at}
 use Rattle.sdb_snapshot.specs.Seen.{Seen}
-use Rattle.sdb_snapshot.proofs.Keys.{same_exact, same_is, same_itself}
 use Rattle.sdb_turns.specs.Noted.{IsFoundOk, IsReadOk, is_found, was_found, was_read}
 use Rattle.sdb_record.specs.declared.write.Write.{Write}
 use Rattle.sdb_snapshot.specs.Held.{AreKept}
@@ -45,11 +41,9 @@ use Rattle.sdb_validate.specs.Rescan.{reads_rise}
 use Rattle.sdb_causes.specs.Moves.{HasRead, IsNotedAt, IsRows, IsSettledAs, SeenBy, TellOne, WorkBy}
 use Rattle.sdb_causes.proofs.Settling.{resolved_as, settled_keys}
 use Rattle.sdb_record.proofs.IdLemmas.{id_in_value-fits}
+use Rattle.sdb_record.specs.Among.{version_among}
 
 ---- the record of a key
-
-pub turned : (a b : Key) → is_eq (key_cmp a b) ≡ keyed.same_key b a
-turned a b = (eq_by_cmp_equiv key_total).symm a b ∙ sym (same_is b a)
 
 -- each row stands behind a key
 abbrev AreBehind : Key → List (Record × Option Record) → Type 0
@@ -67,45 +61,45 @@ behind k (x ∷ es) s r =
     each (z ∷ zs) all = (key_total.trans k x.0.key z.0.key (less_of (key_cmp k x.0.key) s) all.0, each zs all.1)
 
 -- none of these has the key
-absent : (k : Key) (es : List (Record × Option Record)) → AllByRecursion (λ e. IfSome e.1 (λ b. b.key ≡ e.0.key)) es → AreBehind k es → record_in (filter_map (λ (e : Record × Option Record). e.1) es) k ≡ None
+absent : (k : Key) (es : List (Record × Option Record)) → AllByRecursion (λ e. IfSome e.1 (λ b. b.key ≡ e.0.key)) es → AreBehind k es → record_among (filter_map (λ (e : Record × Option Record). e.1) es) k ≡ None
 absent k [] keys all = refl
 absent k (x ∷ es) keys all = by x.1 keys.0 (absent k es keys.1 all.1)
   where
-    apart : (b : Record) → b.key ≡ x.0.key → keyed.same_key k b.key ≡ false
-    apart b same = same_is k b.key ∙ ap (λ (z : Key). is_eq (key_cmp k z)) same ∙ ap is_eq all.0
+    apart : (b : Record) → b.key ≡ x.0.key → same_key k b.key ≡ false
+    apart b same = same_key_is k b.key ∙ ap (λ (z : Key). is_eq (key_cmp k z)) same ∙ ap is_eq all.0
 
-    by : (o : Option Record) → IfSome o (λ b. b.key ≡ x.0.key) → record_in (filter_map (λ (e : Record × Option Record). e.1) es) k ≡ None → record_in (cons_option o (filter_map (λ (e : Record × Option Record). e.1) es)) k ≡ None
+    by : (o : Option Record) → IfSome o (λ b. b.key ≡ x.0.key) → record_among (filter_map (λ (e : Record × Option Record). e.1) es) k ≡ None → record_among (cons_option o (filter_map (λ (e : Record × Option Record). e.1) es)) k ≡ None
     by None same ih = ih
-    by (Some b) same ih = ap (λ t. if t then Some b else record_in (filter_map (λ (e : Record × Option Record). e.1) es) k) (apart b same) ∙ ih
+    by (Some b) same ih = ap (λ t. if t then Some b else record_among (filter_map (λ (e : Record × Option Record). e.1) es) k) (apart b same) ∙ ih
 
 -- the record of a key among those that a scan found, settled, is that among its images
-scan_found : (calls : List Made) (k : Key) (es : List (Record × Option Record)) → TellOne calls → AllByRecursion (IsSettledAs calls) es → rise (map (λ e. e.0) es) ≡ true → option_and_then (resolved calls) (record_among (map (λ e. e.0) es) k) ≡ record_in (filter_map (λ (e : Record × Option Record). e.1) es) k
+scan_found : (calls : List Made) (k : Key) (es : List (Record × Option Record)) → TellOne calls → AllByRecursion (IsSettledAs calls) es → rise (map (λ e. e.0) es) ≡ true → option_and_then (resolved calls) (record_among (map (λ e. e.0) es) k) ≡ record_among (filter_map (λ (e : Record × Option Record). e.1) es) k
 scan_found calls k [] one all r = refl
-scan_found calls k (x ∷ es) one all r = by (is_eq (key_cmp x.0.key k)) refl (scan_found calls k es one all.1 rest.1)
+scan_found calls k (x ∷ es) one all r = by (same_key k x.0.key) refl (scan_found calls k es one all.1 rest.1)
   where
     rest : (starts_after x.0.key (map (λ e. e.0) es) ≡ true) × (rise (map (λ e. e.0) es) ≡ true)
     rest = and_parts (starts_after x.0.key (map (λ e. e.0) es)) (rise (map (λ e. e.0) es)) r
 
-    here : (o : Option Record) → IfSome o (λ b. b.key ≡ x.0.key) → x.0.key ≡ k → o ≡ record_in (cons_option o (filter_map (λ (e : Record × Option Record). e.1) es)) k
+    here : (o : Option Record) → IfSome o (λ b. b.key ≡ x.0.key) → x.0.key ≡ k → o ≡ record_among (cons_option o (filter_map (λ (e : Record × Option Record). e.1) es)) k
     here None same e = sym (absent k es (settled_keys calls es all.1) (subst (λ (z : Key). AreBehind z es) e (behind x.0.key es rest.0 rest.1)))
-    here (Some b) same e = sym (ap (λ t. if t then Some b else record_in (filter_map (λ (e : Record × Option Record). e.1) es) k) (ap (λ (z : Key). keyed.same_key k z) (same ∙ e) ∙ same_itself k))
+    here (Some b) same e = sym (ap (λ t. if t then Some b else record_among (filter_map (λ (e : Record × Option Record). e.1) es) k) (ap (λ (z : Key). same_key k z) (same ∙ e) ∙ same_key_self k))
 
-    there : (o : Option Record) → IfSome o (λ b. b.key ≡ x.0.key) → is_eq (key_cmp x.0.key k) ≡ false → record_in (filter_map (λ (e : Record × Option Record). e.1) es) k ≡ record_in (cons_option o (filter_map (λ (e : Record × Option Record). e.1) es)) k
+    there : (o : Option Record) → IfSome o (λ b. b.key ≡ x.0.key) → same_key k x.0.key ≡ false → record_among (filter_map (λ (e : Record × Option Record). e.1) es) k ≡ record_among (cons_option o (filter_map (λ (e : Record × Option Record). e.1) es)) k
     there None same f = refl
-    there (Some b) same f = sym (ap (λ t. if t then Some b else record_in (filter_map (λ (e : Record × Option Record). e.1) es) k) (ap (λ (z : Key). keyed.same_key k z) same ∙ sym (turned x.0.key k) ∙ f))
+    there (Some b) same f = sym (ap (λ t. if t then Some b else record_among (filter_map (λ (e : Record × Option Record). e.1) es) k) (ap (λ (z : Key). same_key k z) same ∙ f))
 
-    by : (t : Bool) → is_eq (key_cmp x.0.key k) ≡ t → option_and_then (resolved calls) (record_among (map (λ e. e.0) es) k) ≡ record_in (filter_map (λ (e : Record × Option Record). e.1) es) k
-        → option_and_then (resolved calls) (if t then Some x.0 else record_among (map (λ e. e.0) es) k) ≡ record_in (cons_option x.1 (filter_map (λ (e : Record × Option Record). e.1) es)) k
-    by true e ih = resolved_as calls x one all.0 ∙ here x.1 all.0.key (key_exact x.0.key k (equal_of (key_cmp x.0.key k) e))
+    by : (t : Bool) → same_key k x.0.key ≡ t → option_and_then (resolved calls) (record_among (map (λ e. e.0) es) k) ≡ record_among (filter_map (λ (e : Record × Option Record). e.1) es) k
+        → option_and_then (resolved calls) (if t then Some x.0 else record_among (map (λ e. e.0) es) k) ≡ record_among (cons_option x.1 (filter_map (λ (e : Record × Option Record). e.1) es)) k
+    by true e ih = resolved_as calls x one all.0 ∙ here x.1 all.0.key (sym (same_key_exact k x.0.key e))
     by false e ih = ih ∙ there x.1 all.0.key e
 
-pub scan_shows : (calls : List Made) (span : Span) (images : List Record) (k : Key) (h : HasRead (ask.Scan span) calls images []) → TellOne calls → (rows : List Record) × (h.first.reply ≡ reply.Rows rows) × (option_and_then (resolved calls) (record_among rows k) ≡ record_in images k)
+pub scan_shows : (calls : List Made) (span : Span) (images : List Record) (k : Key) (h : HasRead (ask.Scan span) calls images []) → TellOne calls → (rows : List Record) × (h.first.reply ≡ reply.Rows rows) × (option_and_then (resolved calls) (record_among rows k) ≡ record_among images k)
 scan_shows calls span images k h one = by h.first.reply refl h.can h.told
   where
-    by : (r : Reply) → h.first.reply ≡ r → CanAnswer (ask.Scan span) r → IsRows r → (rows : List Record) × (h.first.reply ≡ reply.Rows rows) × (option_and_then (resolved calls) (record_among rows k) ≡ record_in images k)
+    by : (r : Reply) → h.first.reply ≡ r → CanAnswer (ask.Scan span) r → IsRows r → (rows : List Record) × (h.first.reply ≡ reply.Rows rows) × (option_and_then (resolved calls) (record_among rows k) ≡ record_among images k)
     by (reply.Rows rows) e can told =
         let same : rows ≡ map (λ x. x.0) h.steps = ap records_read (sym e) ∙ h.rows ∙ append-nil (map (λ x. x.0) h.steps) in
-        (rows, e, ap (λ rs. option_and_then (resolved calls) (record_among rs k)) same ∙ scan_found calls k h.steps one h.settled (subst (λ rs. rise rs ≡ true) same (and_parts (rise rows) _ can).0) ∙ ap (λ is. record_in is k) (sym h.images_are))
+        (rows, e, ap (λ rs. option_and_then (resolved calls) (record_among rs k)) same ∙ scan_found calls k h.steps one h.settled (subst (λ rs. rise rs ≡ true) same (and_parts (rise rows) _ can).0) ∙ ap (λ is. record_among is k) (sym h.images_are))
     by (reply.Found found) e can told = absurd can
     by reply.Applied e can told = absurd told
     by (reply.NotMet found) e can told = absurd told
@@ -147,21 +141,14 @@ pub record IsTold (s : Seen) : Type 0 where
   pub found : AllByRecursion (IsFoundOk s.notes) s.scans
   pub noted : (q : Key) → is_noted s.notes q ≡ true → (was_read s.reads q || was_found s.scans q) ≡ true
 
-either_of : (a b : Bool) → (a || b) ≡ true → (a ≡ true) ⊎ (b ≡ true)
-either_of true b e = inl refl
-either_of false b e = inr e
-
-model_same : (a b : Key) → a ≡ b → same_key a b ≡ true
-model_same a b e = subst (λ (z : Key). same_key a z ≡ true) e (same_key_self a)
-
 read_at : (notes : List Note) (ns : List snapshot.Note) (rs : List Read) (q : Key) → AllByRecursion (λ r. Contains notes (Got r)) rs → AllByRecursion (IsReadOk ns) rs → was_read rs q ≡ true → IsNotedAt notes q (version_of (base_at ns q))
 read_at notes ns [] q has ok e = clash (sym e)
-read_at notes ns (r ∷ rs) q has ok e = by (keyed.same_key q r.key) refl (λ k. read_at notes ns rs q has.1 ok.1 k) e
+read_at notes ns (r ∷ rs) q has ok e = by (same_key q r.key) refl (λ k. read_at notes ns rs q has.1 ok.1 k) e
   where
-    by : (b : Bool) → keyed.same_key q r.key ≡ b → (was_read rs q ≡ true → IsNotedAt notes q (version_of (base_at ns q))) → (b || was_read rs q) ≡ true → IsNotedAt notes q (version_of (base_at ns q))
+    by : (b : Bool) → same_key q r.key ≡ b → (was_read rs q ≡ true → IsNotedAt notes q (version_of (base_at ns q))) → (b || was_read rs q) ≡ true → IsNotedAt notes q (version_of (base_at ns q))
     by true t ih k =
-        let same : q ≡ r.key = same_exact q r.key t in
-        record { note = Got r; among = has.0; noted = ap (λ b. if b then Some r.version else None) (model_same r.key q (sym same)) ∙ ap Some (ok.0.1 ∙ ap (λ (z : Key). version_of (base_at ns z)) (sym same)) }
+        let same : q ≡ r.key = same_key_exact q r.key t in
+        record { note = Got r; among = has.0; noted = ap (λ b. if b then Some r.version else None) (same_key_of r.key q (sym same)) ∙ ap Some (ok.0.1 ∙ ap (λ (z : Key). version_of (base_at ns z)) (sym same)) }
     by false t ih k = ih k
 
 scan_at : (notes : List Note) (ns : List snapshot.Note) (xs : List Scan) (q : Key) → AllByRecursion (λ x. Contains notes (Scanned x) × (list_all (λ r. in_span x.span r.key) x.found ≡ true)) xs → AllByRecursion (IsFoundOk ns) xs → was_found xs q ≡ true → IsNotedAt notes q (version_of (base_at ns q))
@@ -175,22 +162,22 @@ scan_at notes ns (x ∷ xs) q has ok e = by (in_span x.span q && is_found x q) r
     by false t ih k = ih k
 
 pub noted_at : (notes : List Note) (s : Seen) (q : Key) → SeenBy notes s → IsTold s → is_noted s.notes q ≡ true → IsNotedAt notes q (version_of (base_at s.notes q))
-noted_at notes s q by_notes told e = by (either_of (was_read s.reads q) (was_found s.scans q) (told.noted q e))
+noted_at notes s q by_notes told e = by (either (was_read s.reads q) (was_found s.scans q) (told.noted q e))
   where
     by : (was_read s.reads q ≡ true) ⊎ (was_found s.scans q ≡ true) → IsNotedAt notes q (version_of (base_at s.notes q))
     by (inl k) = read_at notes s.notes s.reads q by_notes.reads told.reads k
     by (inr k) = scan_at notes s.notes s.scans q by_notes.scans told.found k
 
 -- a key at which a scan differs has moved
-pub differs_moved : (notes : List Note) (s : Seen) (images : List Record) (k : Key) → SeenBy notes s → IsTold s → differs s.notes images k ≡ true → HasMoved notes k (record_in images k)
+pub differs_moved : (notes : List Note) (s : Seen) (images : List Record) (k : Key) → SeenBy notes s → IsTold s → differs s.notes images k ≡ true → HasMoved notes k (record_among images k)
 differs_moved notes s images k by_notes told e = by (note_at s.notes k) refl e
   where
-    by : (o : Option (Option Record)) → note_at s.notes k ≡ o → has_moved o (record_in images k) ≡ true → HasMoved notes k (record_in images k)
+    by : (o : Option (Option Record)) → note_at s.notes k ≡ o → has_moved o (record_among images k) ≡ true → HasMoved notes k (record_among images k)
     by None n t = clash (sym t)
     by (Some noted) n t =
         let at = noted_at notes s k by_notes told (ap is_some n) in
         let base : base_at s.notes k ≡ noted = ap (λ o. option_and_then (λ f. f) o) n in
-        (at.note, version_of noted, at.among, at.noted ∙ ap (λ f. Some (version_of f)) base, has_moved_is noted (record_in images k) t)
+        (at.note, version_of noted, at.among, at.noted ∙ ap (λ f. Some (version_of f)) base, has_moved_is noted (record_among images k) t)
 
 ---- what a COMMIT takes
 

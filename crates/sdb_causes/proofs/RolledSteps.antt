@@ -23,7 +23,7 @@ use Rattle.sdb_record.specs.declared.meta.Meta.{Meta}
 use Rattle.sdb_record.specs.Coordinator.{coordinator_key_of, coordinator_row_of, decision_in, is_expired}
 use Rattle.sdb_record.specs.Meta.{checked, checked_before, checked_part, id_in, is_committed, is_misnamed, is_moment, is_unresolved, refuse, state_in, with_before}
 use Rattle.sdb_record.specs.Parts.{before_part, before_record, is_before_pair}
-use Rattle.sdb_record.specs.Rolls.{back_to, forward_record, is_tombstone}
+use Rattle.sdb_record.specs.Rolls.{back_to, forward_record, is_tombstone, undo}
 use Rattle.sdb_record.proofs.Fine.{refuse-ok, taken}
 use Rattle.sdb_record.proofs.ImageLaws.{row-decision, row-key}
 use Rattle.sdb_model.specs.declared.event.Event.{Event}
@@ -37,7 +37,7 @@ use Rattle.sdb_phases.specs.declared.step.RecoverPhase.TheVariants as phase
 use Rattle.sdb_phases.specs.declared.step.RecoverStep.{RecoverStep}
 use Rattle.sdb_phases.specs.declared.step.RecoverStep.TheVariants as steps
 use Rattle.sdb_phases.specs.Recover.{recover_back, recover_forward, recover_next, recover_request_at, roll_to, stands_found, undecided}
-use Rattle.sdb_phases.specs.Work.{abort_of, look_of, undo}
+use Rattle.sdb_phases.specs.Work.{abort_of, look_of}
 use Rattle.sdb_read.specs.Read.{Asking, Bad, Ended, Firm, Kind, Open, ReadStage, Resolving, answered, kind_of, read_pending_at, read_step, resolved, settle, settle_one}
 use Rattle.sdb_turns.proofs.Meta.{meta_of}
 use Rattle.sdb_vacuum.specs.declared.work.VacuumStep.{VacuumStep}

@@ -23,7 +23,7 @@ use Rattle.sdb_record.specs.declared.meta.Meta.{Meta}
 use Rattle.sdb_record.specs.Coordinator.{coordinator_key_of, coordinator_row_of, decision_in, is_coordinator_table, is_expired}
 use Rattle.sdb_record.specs.Meta.{checked, id_in, is_in, is_moment, is_taken, is_unresolved}
 use Rattle.sdb_record.specs.Parts.{before_record}
-use Rattle.sdb_record.specs.Rolls.{forward_record, image_under}
+use Rattle.sdb_record.specs.Rolls.{forward_record, image_under, undo}
 use Rattle.sdb_record.proofs.ImageLaws.{row-decision, row-key}
 use Rattle.sdb_record.proofs.RollLaws.{before-kept, forward-key}
 use Rattle.sdb_model.specs.Calls.{Made, decision_said, is_of_row, is_read, records_read}
@@ -34,7 +34,7 @@ use Rattle.sdb_phases.specs.declared.step.RecoverPhase.TheVariants as phase
 use Rattle.sdb_phases.specs.declared.step.RecoverStep.{RecoverStep}
 use Rattle.sdb_phases.specs.declared.step.RecoverStep.TheVariants as steps
 use Rattle.sdb_phases.specs.Recover.{recover_back, recover_forward, recover_next, recover_request_at, roll_to, stands_found, undecided}
-use Rattle.sdb_phases.specs.Work.{abort_of, look_of, undo}
+use Rattle.sdb_phases.specs.Work.{abort_of, look_of}
 use Rattle.sdb_read.specs.Read.{Asking, Bad, Ended, Firm, Kind, Open, ReadStage, Resolving, answered, kind_of, opened, read_pending_at, read_step, request_of, resolved, settle, settle_one}
 use Rattle.sdb_turns.proofs.Lists.{each_more}
 use Rattle.sdb_turns.proofs.Meta.{meta_of}

@@ -12,17 +12,20 @@ use Rattle.sdb_types.specs.declared.record.Reply.{Reply}
 use Rattle.sdb_types.specs.declared.record.Reply.TheVariants as reply
 use Rattle.sdb_types.specs.declared.record.Request.{Request}
 use Rattle.sdb_types.specs.declared.record.Request.TheVariants as ask
-use Rattle.sdb_types.specs.Contents.{CanAnswer}
+use Rattle.sdb_types.specs.Contents.{CanAnswer, record_among}
 use Rattle.sdb_types.proofs.Basics.{clash, none_some, some_is, or_else}
 use Rattle.sdb_types.proofs.KeyOrder.{key_total}
-use Rattle.sdb_keyed.specs.Entries.{same_key, value_at}
+use Rattle.sdb_types.specs.Order.{same_key}
+use Rattle.sdb_types.proofs.Keys.{same_key_exact}
+use Rattle.sdb_keyed.specs.Entries.{value_at}
 use Rattle.sdb_record.specs.declared.access.Access.{Access}
 use Rattle.sdb_record.specs.declared.access.Access.TheVariants as access
 use Rattle.sdb_record.specs.declared.write.Write.{Write}
+use Rattle.sdb_record.specs.Among.{is_written, write_among}
 use Rattle.sdb_schema.specs.declared.table.Table.{Table}
 use Rattle.sdb_model.specs.declared.event.Event.{Event}
 use Rattle.sdb_model.specs.Access.{in_access}
-use Rattle.sdb_model.specs.Calls.{Made, calls_of, record_among, records_read}
+use Rattle.sdb_model.specs.Calls.{Made, calls_of, records_read}
 use Rattle.sdb_model.specs.Explained.{IsTableKey, Shows}
 use Rattle.sdb_model.specs.Noted.{is_from_rows}
 use Rattle.sdb_model.specs.Shown.{WasFound}
@@ -30,11 +33,9 @@ use Rattle.sdb_model.specs.Sql.{reads_vacuum}
 use Rattle.sdb_model.specs.Transactions.{Said}
 use Rattle.sdb_read.specs.Read.{request_of}
 use Rattle.sdb_snapshot.specs.Held.{WereRead}
-use Rattle.sdb_snapshot.specs.Noted.{base_at, is_noted, record_in}
+use Rattle.sdb_snapshot.specs.Noted.{base_at, is_noted}
 use Rattle.sdb_snapshot.specs.Rows.{row_found}
 use Rattle.sdb_snapshot.specs.Seen.{row_seen, row_with}
-use Rattle.sdb_snapshot.specs.Written.{is_written, write_at}
-use Rattle.sdb_snapshot.proofs.Keys.{same_exact}
 use Rattle.sdb_txn.specs.Txn.{TxnAt}
 use Rattle.sdb_client.specs.Client.{noting}
 use Rattle.sdb_causes.specs.Moves.{HasRead, IsRows, TellOne}
@@ -75,10 +76,10 @@ found_by calls (access.Get k) images h one q o e = by (same_key q k) refl e
   where
     by : (t : Bool) → same_key q k ≡ t → cond t (Some (slice_get images 0)) None ≡ Some o → WasFound calls q (row_found o)
     by false s f = none_some o f
-    by true s f = subst (λ (x : Option Record). WasFound calls q (row_found x)) (some_is (slice_get images 0) o f) (subst (λ (x : Key). WasFound calls x (row_found (slice_get images 0))) (sym (same_exact q k s)) (got_by calls k images h one))
-found_by calls (access.Scan span) images h one q o e = by (record_in images q) refl e
+    by true s f = subst (λ (x : Option Record). WasFound calls q (row_found x)) (some_is (slice_get images 0) o f) (subst (λ (x : Key). WasFound calls x (row_found (slice_get images 0))) (sym (same_key_exact q k s)) (got_by calls k images h one))
+found_by calls (access.Scan span) images h one q o e = by (record_among images q) refl e
   where
-    found : (b : Record) → record_in images q ≡ Some b → WasFound calls q (row_found (Some b))
+    found : (b : Record) → record_among images q ≡ Some b → WasFound calls q (row_found (Some b))
     found b s =
         let shows = scan_shows calls span images q h one in
         let r : IsReadAt calls h.first (access.Scan span) q b = new_read calls (access.Scan span) images h q b (ap (option_map Some) s) in
@@ -90,7 +91,7 @@ found_by calls (access.Scan span) images h one q o e = by (record_in images q) r
           stands = ap row_found (sym (shows.2 ∙ s));
         }
 
-    by : (x : Option Record) → record_in images q ≡ x → option_map Some x ≡ Some o → WasFound calls q (row_found o)
+    by : (x : Option Record) → record_among images q ≡ x → option_map Some x ≡ Some o → WasFound calls q (row_found o)
     by None s f = none_some o f
     by (Some b) s f = subst (λ (x : Option Record). WasFound calls q (row_found x)) (some_is (Some b) o f) (found b s)
 
@@ -100,24 +101,24 @@ new_inside calls (access.Get k) images h q o e = by (same_key q k) refl e
   where
     by : (t : Bool) → same_key q k ≡ t → cond t (Some (slice_get images 0)) None ≡ Some o → in_access (access.Get k) q ≡ true
     by false s f = none_some o f
-    by true s f = subst (λ (x : Key). in_access (access.Get k) x ≡ true) (sym (same_exact q k s)) (ap is_eq (tied_itself key_total k))
-new_inside calls (access.Scan span) images h q o e = by (record_in images q) refl e
+    by true s f = subst (λ (x : Key). in_access (access.Get k) x ≡ true) (sym (same_key_exact q k s)) (ap is_eq (tied_itself key_total k))
+new_inside calls (access.Scan span) images h q o e = by (record_among images q) refl e
   where
-    by : (x : Option Record) → record_in images q ≡ x → option_map Some x ≡ Some o → in_access (access.Scan span) q ≡ true
+    by : (x : Option Record) → record_among images q ≡ x → option_map Some x ≡ Some o → in_access (access.Scan span) q ≡ true
     by None s f = none_some o f
     by (Some b) s f = let r : IsReadAt calls h.first (access.Scan span) q b = new_read calls (access.Scan span) images h q b (ap (option_map Some) s) in r.inside
 
 ---- what a transaction then sees
 
 -- by what was noted at the key, and what was found there now
-row_now : (t : TxnAt) (a : Access) (images : List Record) (q : Key) → row_seen (noting t a images).seen.notes (noting t a images).seen.writes q ≡ row_with (write_at t.seen.writes q) (at_note (or_else (value_at t.seen.notes q) (found_new a images q)))
-row_now t a images q = ap (λ ws. row_with (write_at ws q) (base_at (noting t a images).seen.notes q)) (same_writes t a images) ∙ ap (λ x. row_with (write_at t.seen.writes q) (at_note x)) (noted_now t a images q)
+row_now : (t : TxnAt) (a : Access) (images : List Record) (q : Key) → row_seen (noting t a images).seen.notes (noting t a images).seen.writes q ≡ row_with (write_among t.seen.writes q) (at_note (or_else (value_at t.seen.notes q) (found_new a images q)))
+row_now t a images q = ap (λ ws. row_with (write_among ws q) (base_at (noting t a images).seen.notes q)) (same_writes t a images) ∙ ap (λ x. row_with (write_among t.seen.writes q) (at_note x)) (noted_now t a images q)
 
 -- a key that wasn't read isn't written
-unwritten : (t : TxnAt) (q : Key) → WereRead t.seen.notes t.seen.writes → is_noted t.seen.notes q ≡ false → write_at t.seen.writes q ≡ None
-unwritten t q kept f = by (write_at t.seen.writes q) refl
+unwritten : (t : TxnAt) (q : Key) → WereRead t.seen.notes t.seen.writes → is_noted t.seen.notes q ≡ false → write_among t.seen.writes q ≡ None
+unwritten t q kept f = by (write_among t.seen.writes q) refl
   where
-    by : (o : Option Write) → write_at t.seen.writes q ≡ o → write_at t.seen.writes q ≡ None
+    by : (o : Option Write) → write_among t.seen.writes q ≡ o → write_among t.seen.writes q ≡ None
     by None e = e
     by (Some w) e = clash (sym (kept q (ap is_some e)) ∙ f)
 
@@ -140,9 +141,9 @@ module _ (catalog : List Table) (events : List Event) (c : ℕ) (body : List Sai
     where
       by : (x y : Option (Option Record)) → value_at t.seen.notes key ≡ x → found_new a images key ≡ y → Has (row_seen (noting t a images).seen.notes (noting t a images).seen.writes key)
       by (Some x) y e f =
-          subst Has (sym (row_now t a images key ∙ ap (λ z. row_with (write_at t.seen.writes key) (at_note (or_else z (found_new a images key)))) e ∙ ap (λ z. row_with (write_at t.seen.writes key) (at_note z)) (sym e)))
+          subst Has (sym (row_now t a images key ∙ ap (λ z. row_with (write_among t.seen.writes key) (at_note (or_else z (found_new a images key)))) e ∙ ap (λ z. row_with (write_among t.seen.writes key) (at_note z)) (sym e)))
           (has_before catalog events c body s key (row_seen t.seen.notes t.seen.writes key) (sees key (ap is_some e)))
       by None (Some o) e f =
-          subst Has (sym (row_now t a images key ∙ ap (λ z. row_with (write_at t.seen.writes key) (at_note (or_else z (found_new a images key)))) e ∙ ap (λ z. row_with (write_at t.seen.writes key) (at_note z)) f ∙ ap (λ w. row_with w o) (unwritten t key kept (ap is_some e))))
+          subst Has (sym (row_now t a images key ∙ ap (λ z. row_with (write_among t.seen.writes key) (at_note (or_else z (found_new a images key)))) e ∙ ap (λ z. row_with (write_among t.seen.writes key) (at_note z)) f ∙ ap (λ w. row_with w o) (unwritten t key kept (ap is_some e))))
           (has_shown catalog events c body s key (row_found o) (record { told = told; no_vacuum = no_vacuum; table = tables key (new_inside (calls_of events c s) a images h key o f); found = found_by (calls_of events c s) a images h one key o f }))
       by None None e f = clash (sym (sym (ap is_some (noted_now t a images key ∙ ap (λ z. or_else z (found_new a images key)) e ∙ f)) ∙ noted))

@@ -23,9 +23,10 @@ use Rattle.sdb_record.specs.declared.coordinator.Decision.TheVariants as decisio
 use Rattle.sdb_record.specs.declared.write.Write.{Write}
 use Rattle.sdb_record.specs.Coordinator.{coordinator_key_of, coordinator_row_of, decision_in}
 use Rattle.sdb_record.specs.Meta.{is_moment}
-use Rattle.sdb_record.specs.Rolls.{IsBaseOf, IsWrite}
+use Rattle.sdb_record.specs.Rolls.{IsBaseOf, IsWrite, undo}
 use Rattle.sdb_record.proofs.ImageLaws.{row-decision, row-key}
 use Rattle.sdb_record.proofs.TakenLaws.{prepared-key}
+use Rattle.sdb_record.specs.Among.{is_written}
 use Rattle.sdb_model.specs.Calls.{Made, decision_learned, decision_said, is_of_row, key_asked, put_by, records_shown, standing_said}
 use Rattle.sdb_model.specs.Causes.{HasReply, IsDecided, PutsRow}
 use Rattle.sdb_laws.specs.Lawful.{is_data}
@@ -35,10 +36,10 @@ use Rattle.sdb_phases.specs.declared.step.DecideStep.{DecideStep}
 use Rattle.sdb_phases.specs.declared.step.DecideStep.TheVariants as decide
 use Rattle.sdb_phases.specs.declared.step.Outcome.{Outcome}
 use Rattle.sdb_phases.specs.declared.step.Outcome.TheVariants as outcome
-use Rattle.sdb_phases.specs.Checks.{check_of_read, check_of_scan, checks, difference_in, is_written}
+use Rattle.sdb_phases.specs.Checks.{check_of_read, check_of_scan, checks, difference_in}
 use Rattle.sdb_phases.specs.Commit.{Stage, Preparing, Checking, Deciding, Forward, Stopping, Back, Over, after_abort, after_check, after_prepare, back, checking, decided, forward, pending, preparing, starved, starved_answer, step}
 use Rattle.sdb_phases.specs.Steps.{decide_next, judged, prepare_step, refused, told, touched_after, validate_step}
-use Rattle.sdb_phases.specs.Work.{Work, abort_of, back_of, backs, decide_of, look_of, prepare_of, prepares, stands_prepared, undo}
+use Rattle.sdb_phases.specs.Work.{Work, abort_of, back_of, backs, decide_of, look_of, prepare_of, prepares, stands_prepared}
 use Rattle.sdb_turns.proofs.Lists.{each_at, each_filter, each_map, each_more}
 use Rattle.sdb_causes.specs.Commits.{EndsBy, HasFailed, HasFaulted, IsFailing, IsUndecided, NoneDecides, NoneOfRow, PutsStarved, StandsBy}
 use Rattle.sdb_causes.proofs.Rows.{after_last, after_more, asks_data, asks_row, bad_stays, decided_stays, found_now, given_up_now, given_up_stays, learned_now, none_learned, none_puts, reply_now, reply_stays, shown_is, shows_bad_row}

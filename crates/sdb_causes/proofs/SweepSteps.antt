@@ -22,7 +22,7 @@ use Rattle.sdb_record.specs.declared.meta.Meta.{Meta}
 use Rattle.sdb_record.specs.Coordinator.{decision_in, is_coordinator_table}
 use Rattle.sdb_record.specs.Meta.{id_in, is_committed, is_taken}
 use Rattle.sdb_record.specs.Parts.{before_record}
-use Rattle.sdb_record.specs.Rolls.{is_tombstone}
+use Rattle.sdb_record.specs.Rolls.{is_tombstone, undo}
 use Rattle.sdb_model.specs.declared.event.Event.{Event}
 use Rattle.sdb_model.specs.Calls.{Made, clock_at, is_removal}
 use Rattle.sdb_model.specs.Causes.{HasReply, removes}
@@ -31,7 +31,6 @@ use Rattle.sdb_phases.specs.declared.step.RecoverPhase.TheVariants as phase
 use Rattle.sdb_phases.specs.declared.step.RecoverStep.{RecoverStep}
 use Rattle.sdb_phases.specs.declared.step.RecoverStep.TheVariants as steps
 use Rattle.sdb_phases.specs.Recover.{recover_next, recover_request_at, stands_found}
-use Rattle.sdb_phases.specs.Work.{undo}
 use Rattle.sdb_read.specs.Read.{Bad, Firm, Kind, Open, kind_of}
 use Rattle.sdb_vacuum.specs.declared.work.VacuumStep.{VacuumStep}
 use Rattle.sdb_vacuum.specs.declared.work.VacuumStep.TheVariants as step

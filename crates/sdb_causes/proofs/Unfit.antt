@@ -15,12 +15,13 @@ use Rattle.sdb_types.specs.declared.pair.Pair.{Pair}
 use Rattle.sdb_types.specs.declared.record.Record.{Record}
 use Rattle.sdb_types.specs.declared.record.Reply.{Reply}
 use Rattle.sdb_types.specs.declared.record.Reply.TheVariants as reply
-use Rattle.sdb_types.specs.Contents.{CanAnswer, in_span, rise}
+use Rattle.sdb_types.specs.Contents.{CanAnswer, in_span, rise, record_among}
 use Rattle.sdb_types.specs.Exact.{equal_of}
-use Rattle.sdb_types.specs.Order.{key_cmp}
+use Rattle.sdb_types.specs.Order.{key_cmp, same_key}
 use Rattle.sdb_types.proofs.Basics.{clash, none_some, some_is, truth, or_else}
 use Rattle.sdb_types.proofs.KeyOrder.{key_exact, key_total}
-use Rattle.sdb_keyed.specs.Entries.{same_key, value_at}
+use Rattle.sdb_types.proofs.Keys.{same_key_exact}
+use Rattle.sdb_keyed.specs.Entries.{value_at}
 use Rattle.sdb_record.specs.declared.access.Access.{Access}
 use Rattle.sdb_record.specs.declared.access.Access.TheVariants as access
 use Rattle.sdb_record.specs.declared.access.Image.{Image}
@@ -31,6 +32,7 @@ use Rattle.sdb_record.specs.Coordinator.{decision_in, is_coordinator_table}
 use Rattle.sdb_record.specs.Meta.{checked, is_taken}
 use Rattle.sdb_record.specs.Parts.{are_stored}
 use Rattle.sdb_record.specs.Rolls.{row_of_image}
+use Rattle.sdb_record.specs.Among.{write_among}
 use Rattle.sdb_schema.specs.declared.table.Table.{Table}
 use Rattle.sdb_schema.specs.Catalog.{is_catalog}
 use Rattle.sdb_schema.specs.Rows.{fits_table}
@@ -47,12 +49,11 @@ use Rattle.sdb_exec.specs.Plans.{Planned, answer_on, changes_on, first_unfit, ha
 use Rattle.sdb_exec.specs.Reads.{access_of}
 use Rattle.sdb_exec.proofs.Laid.{by_key}
 use Rattle.sdb_read.specs.Read.{request_of}
-use Rattle.sdb_snapshot.specs.Noted.{base_at, record_in}
+use Rattle.sdb_snapshot.specs.Noted.{base_at}
 use Rattle.sdb_snapshot.specs.Rows.{tables_of_notes}
 use Rattle.sdb_snapshot.specs.Seen.{Seen, nothing, overlay, row_seen, row_with, tables_seen, with_written}
-use Rattle.sdb_snapshot.specs.Written.{write_at}
 use Rattle.sdb_snapshot.proofs.Differences.{noted_images}
-use Rattle.sdb_snapshot.proofs.Keys.{same_exact, value_last}
+use Rattle.sdb_snapshot.proofs.Keys.{value_last}
 use Rattle.sdb_snapshot.proofs.Shown.{get_seen, own_is}
 use Rattle.sdb_txn.specs.Txn.{TxnAt}
 use Rattle.sdb_client.specs.Client.{given_answer, given_left, gives, noting, written}
@@ -131,7 +132,7 @@ fit_nothing catalog q cs e = none_some cs e
 -- what it found at a key
 abbrev pub found_new : Access → List Record → Key → Option (Option Record)
 found_new (access.Get k) images q = cond (same_key q k) (Some (slice_get images 0)) None
-found_new (access.Scan span) images q = option_map Some (record_in images q)
+found_new (access.Scan span) images q = option_map Some (record_among images q)
 
 pub noted_now : (t : TxnAt) (a : Access) (images : List Record) (q : Key) → value_at (noting t a images).seen.notes q ≡ or_else (value_at t.seen.notes q) (found_new a images q)
 noted_now t (access.Get k) images q = value_last t.seen.notes k (slice_get images 0) q
@@ -148,8 +149,8 @@ at_note o = option_and_then (λ (x : Option Record). x) o
 row_new : (t : TxnAt) (a : Access) (images : List Record) (q : Key) (cs : List Pair) → row_seen (noting t a images).seen.notes (noting t a images).seen.writes q ≡ Some cs
     → (row_seen t.seen.notes t.seen.writes q ≡ Some cs) ⊎ ((b : Record) × (found_new a images q ≡ Some (Some b)) × (row_of_image b ≡ Some cs))
 row_new t a images q cs h =
-    by (write_at t.seen.writes q) (value_at t.seen.notes q) (found_new a images q)
-    (subst (λ x. row_with (write_at t.seen.writes q) (at_note x) ≡ Some cs) (noted_now t a images q) (subst (λ ws. row_with (write_at ws q) (base_at (noting t a images).seen.notes q) ≡ Some cs) (same_writes t a images) h))
+    by (write_among t.seen.writes q) (value_at t.seen.notes q) (found_new a images q)
+    (subst (λ x. row_with (write_among t.seen.writes q) (at_note x) ≡ Some cs) (noted_now t a images q) (subst (λ ws. row_with (write_among ws q) (base_at (noting t a images).seen.notes q) ≡ Some cs) (same_writes t a images) h))
   where
     by : (o : Option Write) (x y : Option (Option Record)) → row_with o (at_note (or_else x y)) ≡ Some cs → (row_with o (at_note x) ≡ Some cs) ⊎ ((b : Record) × (y ≡ Some (Some b)) × (row_of_image b ≡ Some cs))
     by (Some w) x y e = inl e
@@ -181,18 +182,18 @@ first_step (x ∷ es) b h = by x.1 refl (λ k. first_step es b k) h
     by None e ih k = step_later x es b (ih k)
     by (Some c) e ih k = step_first x es b (e ∙ k)
 
-found_step : (q : Key) (es : List (Record × Option Record)) (b : Record) → record_in (filter_map image_in es) q ≡ Some b → IsStepAt es b × (q ≡ b.key)
+found_step : (q : Key) (es : List (Record × Option Record)) (b : Record) → record_among (filter_map image_in es) q ≡ Some b → IsStepAt es b × (q ≡ b.key)
 found_step q [] b h = none_some b h
 found_step q (x ∷ es) b h = by x.1 refl (λ k. found_step q es b k) h
   where
     later : IsStepAt es b × (q ≡ b.key) → IsStepAt (x ∷ es) b × (q ≡ b.key)
     later k = (step_later x es b k.0, k.1)
 
-    here : (c : Record) → x.1 ≡ Some c → (t : Bool) → same_key q c.key ≡ t → (record_in (filter_map image_in es) q ≡ Some b → IsStepAt es b × (q ≡ b.key)) → (if t then Some c else record_in (filter_map image_in es) q) ≡ Some b → IsStepAt (x ∷ es) b × (q ≡ b.key)
-    here c e true s ih k = (step_first x es b (e ∙ k), same_exact q c.key s ∙ ap (λ (r : Record). r.key) (some_is c b k))
+    here : (c : Record) → x.1 ≡ Some c → (t : Bool) → same_key q c.key ≡ t → (record_among (filter_map image_in es) q ≡ Some b → IsStepAt es b × (q ≡ b.key)) → (if t then Some c else record_among (filter_map image_in es) q) ≡ Some b → IsStepAt (x ∷ es) b × (q ≡ b.key)
+    here c e true s ih k = (step_first x es b (e ∙ k), same_key_exact q c.key s ∙ ap (λ (r : Record). r.key) (some_is c b k))
     here c e false s ih k = later (ih k)
 
-    by : (o : Option Record) → x.1 ≡ o → (record_in (filter_map image_in es) q ≡ Some b → IsStepAt es b × (q ≡ b.key)) → record_in (cons_option o (filter_map image_in es)) q ≡ Some b → IsStepAt (x ∷ es) b × (q ≡ b.key)
+    by : (o : Option Record) → x.1 ≡ o → (record_among (filter_map image_in es) q ≡ Some b → IsStepAt es b × (q ≡ b.key)) → record_among (cons_option o (filter_map image_in es)) q ≡ Some b → IsStepAt (x ∷ es) b × (q ≡ b.key)
     by None e ih k = later (ih k)
     by (Some c) e ih k = here c e (same_key q c.key) refl ih k
 
@@ -251,13 +252,13 @@ new_read calls (access.Get k) images h q b e = by (same_key q k) refl e
     by false s f = none_some (Some b) f
     by true s f =
         let step : IsStepAt h.steps b = first_step h.steps b (sym (ap (λ is. slice_get is 0) h.images_are) ∙ some_is (slice_get images 0) (Some b) f) in
-        read_by calls (access.Get k) images h q b step (sym (key_exact k step.step.0.key (equal_of _ (step_inside calls (access.Get k) images h b step))) ∙ sym (same_exact q k s))
-new_read calls (access.Scan span) images h q b e = by (record_in images q) refl e
+        read_by calls (access.Get k) images h q b step (sym (key_exact k step.step.0.key (equal_of _ (step_inside calls (access.Get k) images h b step))) ∙ sym (same_key_exact q k s))
+new_read calls (access.Scan span) images h q b e = by (record_among images q) refl e
   where
-    by : (o : Option Record) → record_in images q ≡ o → option_map Some o ≡ Some (Some b) → IsReadAt calls h.first (access.Scan span) q b
+    by : (o : Option Record) → record_among images q ≡ o → option_map Some o ≡ Some (Some b) → IsReadAt calls h.first (access.Scan span) q b
     by None s f = none_some (Some b) f
     by (Some c) s f =
-        let step : IsStepAt h.steps b × (q ≡ b.key) = found_step q h.steps b (sym (ap (λ is. record_in is q) h.images_are) ∙ s ∙ some_is (Some c) (Some b) f) in
+        let step : IsStepAt h.steps b × (q ≡ b.key) = found_step q h.steps b (sym (ap (λ is. record_among is q) h.images_are) ∙ s ∙ some_is (Some c) (Some b) f) in
         read_by calls (access.Scan span) images h q b step.0 (sym (step_settled calls (access.Scan span) images h b step.0).key ∙ sym step.1)
 
 ---- rows that fit

@@ -3,12 +3,12 @@ use Rattle.std.specs.Prelude.{◌≡◌, ◌<◌, ℕ, true, List, length, Some,
 use Rattle.std.specs.List.{AllByRecursion}
 use Rattle.sdb_types.specs.declared.key.Key.{Key}
 use Rattle.sdb_record.specs.declared.write.Write.{Write}
+use Rattle.sdb_record.specs.Among.{is_written}
 use Rattle.sdb_model.specs.Calls.{Made}
 use Rattle.sdb_model.specs.Causes.{ConflictsAtCommit, prepares_key}
 use Rattle.sdb_model.specs.Noted.{Note}
 use Rattle.sdb_phases.specs.declared.step.Outcome.{Outcome}
 use Rattle.sdb_phases.specs.declared.step.Outcome.TheVariants as outcome
-use Rattle.sdb_phases.specs.Checks.{is_written}
 use Rattle.sdb_phases.specs.Commit.{Stage, Preparing, Checking, Deciding, Forward, Stopping, Back, Over}
 use Rattle.sdb_phases.specs.Work.{Work, prepare_of}
 

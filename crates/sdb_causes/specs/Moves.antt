@@ -11,7 +11,7 @@ use Rattle.sdb_types.specs.declared.record.Request.TheVariants as ask
 use Rattle.sdb_types.specs.declared.record.Span.{Span}
 use Rattle.sdb_types.specs.declared.record.State.TheVariants as state
 use Rattle.sdb_types.specs.declared.key.Key.{Key}
-use Rattle.sdb_types.specs.Contents.{CanAnswer, in_span}
+use Rattle.sdb_types.specs.Contents.{CanAnswer, in_span, record_among}
 use Rattle.sdb_record.specs.declared.coordinator.Decided.{Decided}
 use Rattle.sdb_record.specs.declared.coordinator.Decision.{Decision}
 use Rattle.sdb_record.specs.declared.coordinator.Decision.TheVariants as decision
@@ -19,7 +19,7 @@ use Rattle.sdb_record.specs.Meta.{id_in, is_in, is_moment}
 use Rattle.sdb_record.specs.Moved.{version_of}
 use Rattle.sdb_record.specs.Rolls.{IsWrite, image_under}
 use Rattle.sdb_model.specs.declared.event.Event.{Event}
-use Rattle.sdb_model.specs.Calls.{Made, calls_of, decision_shown, record_among, records_read}
+use Rattle.sdb_model.specs.Calls.{Made, calls_of, decision_shown, records_read}
 use Rattle.sdb_model.specs.Noted.{Got, Note, Scanned, notes_in, reads_rows, resolved, version_noted, is_from_rows}
 use Rattle.sdb_model.specs.Transactions.{Said, ends, from_begin, id_of, is_effective}
 use Rattle.sdb_model.specs.declared.answer.Answer.TheVariants as answer

@@ -13,8 +13,8 @@ use Rattle.sdb_exec.specs.Plans.{Planned, step_of}
 use Rattle.sdb_read.specs.declared.read.ReadStep.{ReadStep}
 use Rattle.sdb_read.specs.declared.read.ReadStep.TheVariants as step
 use Rattle.sdb_read.specs.Read.{ReadAt, ReadStage, read_result, read_step}
-use Rattle.sdb_keyed.specs.Entries.{same_key, value_at}
-use Rattle.sdb_snapshot.proofs.Keys.{same_itself, value_last}
+use Rattle.sdb_keyed.specs.Entries.{value_at}
+use Rattle.sdb_snapshot.proofs.Keys.{value_last}
 use Rattle.sdb_snapshot.specs.Noted.{Note, is_noted}
 use Rattle.sdb_snapshot.specs.declared.snapshot.Mark.{Mark}
 use Rattle.sdb_snapshot.specs.Held.{AreKept}
@@ -32,6 +32,8 @@ use Rattle.sdb_client.specs.declared.next.Next.{Next}
 use Rattle.sdb_client.specs.declared.next.Next.TheVariants as next
 use Rattle.sdb_client.specs.Client.{CallTold, IsAsRead, IsMovedAt, StageTold, gives, given_answer, given_left, noting}
 use Rattle.sdb_types.proofs.Basics.{or_else}
+use Rattle.sdb_types.specs.Order.{same_key}
+use Rattle.sdb_types.proofs.Keys.{same_key_self}
 
 -- neither rows nor a conflict
 abbrev pub IsPlain : Progress → Type 0
@@ -199,7 +201,7 @@ or_some None f b h = rw h refl
 or_some (Some x) f b h = refl
 
 pub last_noted : (notes : List Note) (k : Key) (f : Option Record) → is_noted (notes ++ (k, f) ∷ []) k ≡ true
-last_noted notes k f = ap is_some (value_last notes k f k) ∙ or_some (value_at notes k) f (same_key k k) (same_itself k)
+last_noted notes k f = ap is_some (value_last notes k f k) ∙ or_some (value_at notes k) f (same_key k k) (same_key_self k)
 
 -- the key of a get was read then
 pub noting_read : (t u : TxnAt) (a : Access) (s : ReadStep) (rows : List Image) → IsNoted t u a s rows → IsKeyRead u.seen.notes a

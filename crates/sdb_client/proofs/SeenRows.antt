@@ -11,10 +11,9 @@ use Rattle.std.proofs.lemmas.Bool.{and_parts}
 use Rattle.sdb_types.specs.declared.key.Key.{Key}
 use Rattle.sdb_types.specs.declared.pair.Pair.{Pair}
 use Rattle.sdb_types.specs.declared.record.Record.{Record}
-use Rattle.sdb_types.specs.Order.{key_cmp}
+use Rattle.sdb_types.specs.Order.{key_cmp, same_key}
 use Rattle.sdb_types.specs.Columns.{are_columns}
 use Rattle.sdb_types.proofs.Bools.{and_first}
-use Rattle.sdb_keyed.specs.Entries.{same_key}
 use Rattle.sdb_types.proofs.KeyOrder.{key_total}
 use Rattle.sdb_record.proofs.ColumnLaws.{are_columns-filter}
 use Rattle.sdb_record.specs.Parts.{are_stored, is_user_pair, user_columns}
@@ -24,6 +23,7 @@ use Rattle.sdb_record.specs.declared.access.Image.{Image}
 use Rattle.sdb_record.specs.declared.write.Change.{Change}
 use Rattle.sdb_record.specs.declared.write.Change.TheVariants as change
 use Rattle.sdb_record.specs.declared.write.Write.{Write}
+use Rattle.sdb_record.specs.Among.{write_among}
 use Rattle.sdb_model.specs.Exec.{Tables, row_of_entry}
 use Rattle.sdb_model.specs.Access.{in_access, rows_at}
 use Rattle.sdb_exec.proofs.Laid.{by_key}
@@ -31,7 +31,7 @@ use Rattle.sdb_snapshot.specs.Noted.{Note, AreBases, base_at, is_noted, note_at}
 use Rattle.sdb_snapshot.specs.Held.{AreKept}
 use Rattle.sdb_snapshot.specs.Rows.{row_found}
 use Rattle.sdb_snapshot.specs.Seen.{Seen, overlay, row_seen, row_with, tables_seen}
-use Rattle.sdb_snapshot.specs.Written.{AreWrites, write_at}
+use Rattle.sdb_snapshot.specs.Written.{AreWrites}
 use Rattle.sdb_snapshot.proofs.Shown.{get_seen, no_row}
 use Rattle.sdb_types.proofs.Basics.{less_of, truth as true_from_T}
 
@@ -82,10 +82,10 @@ image_ordered b cs h e =
       | false ↦ λ k. let same : user_columns b.columns ≡ cs = cc in subst (λ ps. are_columns ps ≡ true) same (are_columns-filter is_user_pair b.columns h)
     ] e
 
-write_fine : (ws : List Write) (q : Key) (w : Write) → AreWrites ws → write_at ws q ≡ Some w → is_change w.change ≡ true
+write_fine : (ws : List Write) (q : Key) (w : Write) → AreWrites ws → write_among ws q ≡ Some w → is_change w.change ≡ true
 write_fine [] q w h e = absurd (cc)
 write_fine (x ∷ xs) q w h e =
-    elim (same_key q x.key) as (λ b. cond b (Some x) (write_at xs q) ≡ Some w → is_change w.change ≡ true) [
+    elim (same_key q x.key) as (λ b. cond b (Some x) (write_among xs q) ≡ Some w → is_change w.change ≡ true) [
       | true ↦ λ k. let same : x ≡ w = cc in subst (λ y. is_change y.change ≡ true) same h.0.change
       | false ↦ λ k. write_fine xs q w h.1 k
     ] e
@@ -116,4 +116,4 @@ pub seen_rows : (s : Seen) (a : Access) → AreKept s.notes s.writes → AllByRe
 seen_rows s a kept =
     all_rows_at (λ q cs. (is_noted s.notes q ≡ true) × (are_columns cs ≡ true)) a (tables_seen s) (λ q cs found.
     let here : row_seen s.notes s.writes q ≡ Some cs = sym (get_seen s.notes s.writes q) ∙ found in
-    (no_row s.notes s.writes q kept.read (ap is_some here), row_ordered (write_at s.writes q) (base_at s.notes q) cs (λ w e. write_fine s.writes q w kept.fine e) (note_base s.notes q kept.bases) here))
+    (no_row s.notes s.writes q kept.read (ap is_some here), row_ordered (write_among s.writes q) (base_at s.notes q) cs (λ w e. write_fine s.writes q w kept.fine e) (note_base s.notes q kept.bases) here))

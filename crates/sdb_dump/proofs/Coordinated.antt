@@ -15,12 +15,11 @@ use Rattle.sdb_types.specs.declared.txid.TxId.{TxId}
 use Rattle.sdb_types.specs.declared.value.Value.{Value}
 use Rattle.sdb_types.specs.declared.value.Value.TheVariants as value
 use Rattle.sdb_types.specs.declared.record.Record.{Record}
-use Rattle.sdb_types.specs.Contents.{rise, starts_after}
-use Rattle.sdb_types.specs.Exact.{equal_of}
-use Rattle.sdb_types.specs.Order.{key_cmp}
+use Rattle.sdb_types.specs.Contents.{rise, starts_after, record_among}
+use Rattle.sdb_types.specs.Order.{key_cmp, same_key}
 use Rattle.sdb_types.specs.TxId.{id_text}
 use Rattle.sdb_types.proofs.Bools.{and_both, and_first, and_second}
-use Rattle.sdb_types.proofs.KeyOrder.{key_exact, key_total}
+use Rattle.sdb_types.proofs.KeyOrder.{key_total}
 use Rattle.sdb_record.specs.declared.coordinator.Decided.{Decided}
 use Rattle.sdb_record.specs.declared.coordinator.Decision.{Decision}
 use Rattle.sdb_record.specs.declared.coordinator.Decision.TheVariants as decision
@@ -30,12 +29,10 @@ use Rattle.sdb_record.specs.declared.meta.MetaRefused.{MetaRefused}
 use Rattle.sdb_record.specs.declared.meta.MetaRefused.TheVariants.{BadMeta, NoMemory}
 use Rattle.sdb_record.proofs.IdLemmas.{id_of_text-is}
 use Rattle.sdb_record.proofs.ImageLaws.{key-of-id}
-use Rattle.sdb_model.specs.Noted.{same_key}
-use Rattle.sdb_laws.specs.Lawful.{row_among}
 use Rattle.sdb_dump.specs.Decided.{committed_one, decision_among, is_decided, recorded_among, recorded_by, recorded_in}
 use Rattle.sdb_dump.proofs.Lists.{err_is, first_or_later, here_in, kept_from, kept_in, later_in, none_in, pairs_more}
 use Rattle.sdb_types.proofs.Basics.{by_test, none_some, some_is, clash as true_false}
-use Rattle.sdb_laws.proofs.Keys.{same_key_self as same_itself}
+use Rattle.sdb_types.proofs.Keys.{same_key_self, same_key_exact, same_key_is, same_key_turned}
 use Rattle.sdb_board.proofs.RunTables.{coordinator_is}
 
 ---- the transaction of a row
@@ -65,13 +62,8 @@ less_is Greater e = true_false (sym e)
 below_then : (a b c : Key) → is_lt (key_cmp a b) ≡ true → is_lt (key_cmp b c) ≡ true → is_lt (key_cmp a c) ≡ true
 below_then a b c p q = ap is_lt (key_total.trans a b c (less_is (key_cmp a b) p) (less_is (key_cmp b c) q))
 
-apart : (low high : Key) → is_lt (key_cmp low high) ≡ true → same_key low high ≡ false
-unfolding same_key
-apart low high h = ap is_eq (less_is (key_cmp low high) h)
-
-same_is : (a b : Key) → same_key a b ≡ true → a ≡ b
-unfolding same_key
-same_is a b h = key_exact a b (equal_of (key_cmp a b) h)
+apart : (low high : Key) → is_lt (key_cmp low high) ≡ true → same_key high low ≡ false
+apart low high h = same_key_turned high low ∙ same_key_is low high ∙ ap is_eq (less_is (key_cmp low high) h)
 
 front_starts : (k : Key) (n : ℕ) (rs : List Record) → starts_after k rs ≡ true → starts_after k (take n rs) ≡ true
 front_starts k zero [] h = refl
@@ -90,22 +82,22 @@ below_last k [] r a h = a
 below_last k (x ∷ xs) r a h = below_then k x.key r.key a (below_last x.key xs r (and_first _ _ h) (and_second _ _ h))
 
 -- a later row has another key
-none_before : (xs : List Record) (r : Record) → rise (xs ++ r ∷ []) ≡ true → row_among xs r.key ≡ None
+none_before : (xs : List Record) (r : Record) → rise (xs ++ r ∷ []) ≡ true → record_among xs r.key ≡ None
 none_before [] r h = refl
 none_before (x ∷ xs) r h =
-    ap (λ (b : Bool). cond b (Some x) (row_among xs r.key)) (apart x.key r.key (below_last x.key xs r (and_first _ _ h) (and_second _ _ h)))
+    ap (λ (b : Bool). cond b (Some x) (record_among xs r.key)) (apart x.key r.key (below_last x.key xs r (and_first _ _ h) (and_second _ _ h)))
     ∙ none_before xs r (and_second _ _ h)
 
-found_before : (xs : List Record) (r : Record) (k : Key) → same_key r.key k ≡ false → row_among (xs ++ r ∷ []) k ≡ row_among xs k
+found_before : (xs : List Record) (r : Record) (k : Key) → same_key k r.key ≡ false → record_among (xs ++ r ∷ []) k ≡ record_among xs k
 found_before [] r k e = ap (λ (b : Bool). cond b (Some r) None) e
-found_before (x ∷ xs) r k e = ap (λ (o : Option Record). cond (same_key x.key k) (Some x) o) (found_before xs r k e)
+found_before (x ∷ xs) r k e = ap (λ (o : Option Record). cond (same_key k x.key) (Some x) o) (found_before xs r k e)
 
-found_last : (xs : List Record) (r : Record) → row_among xs r.key ≡ None → row_among (xs ++ r ∷ []) r.key ≡ Some r
-found_last [] r none = ap (λ (b : Bool). cond b (Some r) None) (same_itself r.key)
+found_last : (xs : List Record) (r : Record) → record_among xs r.key ≡ None → record_among (xs ++ r ∷ []) r.key ≡ Some r
+found_last [] r none = ap (λ (b : Bool). cond b (Some r) None) (same_key_self r.key)
 found_last (x ∷ xs) r none =
-    by_test (same_key x.key r.key)
-    (λ t. absurd (none_some x (sym none ∙ ap (λ (b : Bool). cond b (Some x) (row_among xs r.key)) t)))
-    (λ t. ap (λ (b : Bool). cond b (Some x) (row_among (xs ++ r ∷ []) r.key)) t ∙ found_last xs r (sym (ap (λ (b : Bool). cond b (Some x) (row_among xs r.key)) t) ∙ none))
+    by_test (same_key r.key x.key)
+    (λ t. absurd (none_some x (sym none ∙ ap (λ (b : Bool). cond b (Some x) (record_among xs r.key)) t)))
+    (λ t. ap (λ (b : Bool). cond b (Some x) (record_among (xs ++ r ∷ []) r.key)) t ∙ found_last xs r (sym (ap (λ (b : Bool). cond b (Some x) (record_among xs r.key)) t) ∙ none))
 
 ---- what is read of a row
 
@@ -130,10 +122,10 @@ is_decided_by row d h = ap is_ok h
 same_id : (a b : TxId) → a.0 ≡ b.0 → a ≡ b
 same_id a b e = λ i. record { 0 = e i }
 
-other_key : (r : Record) (id other : TxId) → id_of_key r.key ≡ Some id → other.0 < 2 ^ 128 → (other ≡ id → ⊥) → same_key r.key (coordinator_key_of other) ≡ false
+other_key : (r : Record) (id other : TxId) → id_of_key r.key ≡ Some id → other.0 < 2 ^ 128 → (other ≡ id → ⊥) → same_key (coordinator_key_of other) r.key ≡ false
 other_key r id other of small not =
-    by_test (same_key r.key (coordinator_key_of other))
-    (λ t. absurd (not (some_is other id (sym (key-of-id other small) ∙ ap id_of_key (sym (same_is r.key (coordinator_key_of other) t)) ∙ of))))
+    by_test (same_key (coordinator_key_of other) r.key)
+    (λ t. absurd (not (some_is other id (sym (key-of-id other small) ∙ ap id_of_key (same_key_exact (coordinator_key_of other) r.key t) ∙ of))))
     (λ t. t)
 
 -- with a row more, the decision on its transaction is what it says, and every other one is as it was
@@ -144,7 +136,7 @@ decided_more before after xs r id d up of says set was other small =
     (λ t. let e : other.0 ≡ id.0 = grind (arith, nat_tests) in
     let key : coordinator_key_of other ≡ r.key = ap coordinator_key_of (same_id other id e) ∙ sym (key_of r.key id of).1 in
     set other ∙ ap (λ (b : Bool). cond b (Some d) (before other)) t
-    ∙ sym (ap (λ (k : Key). option_and_then (λ row. result_ok (decision_in row)) (row_among (xs ++ r ∷ []) k)) key
+    ∙ sym (ap (λ (k : Key). option_and_then (λ row. result_ok (decision_in row)) (record_among (xs ++ r ∷ []) k)) key
     ∙ ap (option_and_then (λ row. result_ok (decision_in row))) (found_last xs r (none_before xs r up)) ∙ ap result_ok says))
     (λ t. let not : other ≡ id → ⊥ = λ e. true_false (sym (sym t ∙ ap (λ (x : TxId). x.0 == id.0) e ∙ itself id.0)) in
     set other ∙ ap (λ (b : Bool). cond b (Some d) (before other)) t ∙ was other small
@@ -201,33 +193,33 @@ row_above k (x ∷ rs) r h up among = elim (first_or_later x r rs among) [
 ]
 
 -- rows that rise are found by their keys
-pub row_found : (rs : List Record) (r : Record) → rise rs ≡ true → Contains rs r → row_among rs r.key ≡ Some r
+pub row_found : (rs : List Record) (r : Record) → rise rs ≡ true → Contains rs r → record_among rs r.key ≡ Some r
 row_found [] r up among = absurd (none_in r among)
 row_found (x ∷ rs) r up among = elim (first_or_later x r rs among) [
-  | inl same ↦ ap (λ (b : Bool). cond b (Some x) (row_among rs r.key)) (ap (λ (y : Record). same_key y.key r.key) same ∙ same_itself r.key) ∙ ap Some same
-  | inr more ↦ ap (λ (b : Bool). cond b (Some x) (row_among rs r.key)) (apart x.key r.key (row_above x.key rs r (and_first _ _ up) (and_second _ _ up) more)) ∙ row_found rs r (and_second _ _ up) more
+  | inl same ↦ ap (λ (b : Bool). cond b (Some x) (record_among rs r.key)) (ap (λ (y : Record). same_key r.key y.key) same ∙ same_key_self r.key) ∙ ap Some same
+  | inr more ↦ ap (λ (b : Bool). cond b (Some x) (record_among rs r.key)) (apart x.key r.key (row_above x.key rs r (and_first _ _ up) (and_second _ _ up) more)) ∙ row_found rs r (and_second _ _ up) more
 ]
 
-found_in : (rs : List Record) (k : Key) (r : Record) → row_among rs k ≡ Some r → Contains rs r × (r.key ≡ k)
+found_in : (rs : List Record) (k : Key) (r : Record) → record_among rs k ≡ Some r → Contains rs r × (r.key ≡ k)
 found_in [] k r e = absurd (none_some r e)
 found_in (x ∷ rs) k r e =
-    by_test (same_key x.key k)
-    (λ t. let same : x ≡ r = some_is x r (sym (ap (λ (b : Bool). cond b (Some x) (row_among rs k)) t) ∙ e) in
-    (subst (λ (y : Record). Contains (x ∷ rs) y) same (here_in x rs), ap (λ (y : Record). y.key) (sym same) ∙ same_is x.key k t))
-    (λ t. let rest = found_in rs k r (sym (ap (λ (b : Bool). cond b (Some x) (row_among rs k)) t) ∙ e) in (later_in x r rs rest.0, rest.1))
+    by_test (same_key k x.key)
+    (λ t. let same : x ≡ r = some_is x r (sym (ap (λ (b : Bool). cond b (Some x) (record_among rs k)) t) ∙ e) in
+    (subst (λ (y : Record). Contains (x ∷ rs) y) same (here_in x rs), ap (λ (y : Record). y.key) (sym same) ∙ sym (same_key_exact k x.key t)))
+    (λ t. let rest = found_in rs k r (sym (ap (λ (b : Bool). cond b (Some x) (record_among rs k)) t) ∙ e) in (later_in x r rs rest.0, rest.1))
 
 -- the transactions listed are those whose rows say that they are committed
 pub recorded_has : (rs : List Record) → rise rs ≡ true → (id : TxId) → Contains (recorded_among rs) id → IsSomeAnd (decision_among rs id) IsCommitted
 recorded_has rs up id h =
     let from = kept_from recorded_in rs id h in
     let says = recorded_says from.0 id from.2 in
-    let found : row_among rs (coordinator_key_of id) ≡ Some from.0 = ap (row_among rs) (sym (key_of from.0.key id says.0).1) ∙ row_found rs from.0 up from.1 in
+    let found : record_among rs (coordinator_key_of id) ≡ Some from.0 = ap (record_among rs) (sym (key_of from.0.key id says.0).1) ∙ row_found rs from.0 up from.1 in
     subst (λ (o : Option Record). IsSomeAnd (option_and_then (λ row. result_ok (decision_in row)) o) IsCommitted) (sym found) says.1
 
 pub recorded_all : (rs : List Record) (id : TxId) → id.0 < 2 ^ 128 → IsSomeAnd (decision_among rs id) IsCommitted → Contains (recorded_among rs) id
-recorded_all rs id small h = by (row_among rs (coordinator_key_of id)) refl h
+recorded_all rs id small h = by (record_among rs (coordinator_key_of id)) refl h
   where
-    by : (o : Option Record) → row_among rs (coordinator_key_of id) ≡ o → IsSomeAnd (option_and_then (λ row. result_ok (decision_in row)) o) IsCommitted → Contains (recorded_among rs) id
+    by : (o : Option Record) → record_among rs (coordinator_key_of id) ≡ o → IsSomeAnd (option_and_then (λ row. result_ok (decision_in row)) o) IsCommitted → Contains (recorded_among rs) id
     by None e k = absurd k
     by (Some r) e k =
         let there = found_in rs (coordinator_key_of id) r e in

@@ -15,7 +15,7 @@ use Rattle.sdb_types.specs.declared.value.Value.{Value}
 use Rattle.sdb_types.specs.declared.value.Value.TheVariants as value
 use Rattle.sdb_types.specs.declared.record.Record.{Record}
 use Rattle.sdb_types.specs.Columns.{column}
-use Rattle.sdb_types.specs.Contents.{Contents, in_span, record_at, rise, rows_among, rows_in, tx_id}
+use Rattle.sdb_types.specs.Contents.{Contents, in_span, record_at, rise, rows_among, rows_in, tx_id, record_among}
 use Rattle.sdb_types.specs.Exact.{equal_of}
 use Rattle.sdb_types.specs.Order.{key_cmp, table_cmp}
 use Rattle.sdb_types.proofs.Bools.{and_first}
@@ -27,7 +27,6 @@ use Rattle.sdb_record.specs.Coordinator.{coordinator_key_of, coordinator_table, 
 use Rattle.sdb_record.specs.Meta.{id_in, id_in_value}
 use Rattle.sdb_record.specs.Rolls.{image_of, row_of_image}
 use Rattle.sdb_record.proofs.IdLemmas.{id_of_text-is}
-use Rattle.sdb_laws.specs.Lawful.{row_among}
 use Rattle.sdb_laws.proofs.Shown.{row_there}
 use Rattle.sdb_schema.specs.declared.table.Table.{Table}
 use Rattle.sdb_model.specs.declared.script.Place.{Place}
@@ -70,7 +69,7 @@ pub decision_there : (places : List Place) (shelves : List Shelf) (id : TxId) �
 unfolding coordinator_key_of
 decision_there places shelves id = ap (option_and_then (λ (row : Record). result_ok (decision_in row))) (by (held_by shelves (store_of places shelves coordinator_table.ns)))
   where
-    by : (o : Option Contents) → row_among (option_map_or (rows_in (whole coordinator_table)) o []) (coordinator_key_of id) ≡ option_map_or (λ (m : Contents). record_at m (coordinator_key_of id)) o None
+    by : (o : Option Contents) → record_among (option_map_or (rows_in (whole coordinator_table)) o []) (coordinator_key_of id) ≡ option_map_or (λ (m : Contents). record_at m (coordinator_key_of id)) o None
     by None = refl
     by (Some m) = row_there (whole coordinator_table) (coordinator_key_of id) m refl
 

@@ -7,11 +7,11 @@ use Rattle.std.specs.Ordering.{nat_cmp}
 use Rattle.std.specs.Result.{result_ok}
 use Rattle.sdb_types.specs.declared.txid.TxId.{TxId}
 use Rattle.sdb_types.specs.declared.record.Record.{Record}
+use Rattle.sdb_types.specs.Contents.{record_among}
 use Rattle.sdb_record.specs.declared.coordinator.Decided.{Decided}
 use Rattle.sdb_record.specs.declared.coordinator.Decision.{Decision}
 use Rattle.sdb_record.specs.declared.coordinator.Decision.TheVariants as decision
 use Rattle.sdb_record.specs.Coordinator.{coordinator_key_of, decision_in, id_of_key}
-use Rattle.sdb_laws.specs.Lawful.{row_among}
 use Rattle.sdb_dump.specs.declared.decisions.Decisions.{Decisions}
 
 -- the decision on a transaction
@@ -24,7 +24,7 @@ is_decided row = is_ok (decision_in row)
 
 -- the decision on a transaction, in its row
 abbrev pub decision_among : List Record → TxId → Option Decided
-decision_among rows id = option_and_then (λ row. result_ok (decision_in row)) (row_among rows (coordinator_key_of id))
+decision_among rows id = option_and_then (λ row. result_ok (decision_in row)) (record_among rows (coordinator_key_of id))
 
 abbrev pub recorded_by : TxId → Decision → List TxId
 recorded_by id decision.Committed = id ∷ []

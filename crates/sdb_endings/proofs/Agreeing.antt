@@ -17,6 +17,7 @@ use Rattle.sdb_types.specs.Exact.{equal_of}
 use Rattle.sdb_types.specs.Order.{key_cmp}
 use Rattle.sdb_types.proofs.Basics.{clash, none_some, some_is}
 use Rattle.sdb_types.proofs.KeyOrder.{key_exact}
+use Rattle.sdb_types.proofs.Keys.{same_key_self}
 use Rattle.sdb_record.specs.declared.coordinator.Decided.{Decided}
 use Rattle.sdb_record.specs.Coordinator.{coordinator_key_of, decision_in}
 use Rattle.sdb_model.specs.declared.event.Event.{Event}
@@ -25,7 +26,6 @@ use Rattle.sdb_model.specs.Calls.{Made, calls_by, decision_said, decision_shown,
 use Rattle.sdb_model.specs.Events.{IsTrace, Shelf, moment, standing, table_asked}
 use Rattle.sdb_model.specs.Explained.{RowsFinal}
 use Rattle.sdb_laws.proofs.Effects.{AtCall, after_delete, after_put}
-use Rattle.sdb_laws.proofs.Keys.{same_key_self}
 use Rattle.sdb_endings.proofs.Calls.{IsAt, call_at}
 
 ---- one call

@@ -15,13 +15,14 @@ use Rattle.sdb_types.specs.declared.record.Reply.{Reply}
 use Rattle.sdb_types.specs.declared.record.Reply.TheVariants as reply
 use Rattle.sdb_types.specs.declared.record.State.TheVariants as state
 use Rattle.sdb_types.specs.Columns.{column}
-use Rattle.sdb_types.specs.Contents.{Contents, after, holds, is_partition, record_at, tx_id}
+use Rattle.sdb_types.specs.Contents.{Contents, after, holds, is_partition, record_at, tx_id, record_among}
 use Rattle.sdb_types.specs.Exact.{equal_of}
-use Rattle.sdb_types.specs.Order.{key_cmp, table_cmp}
+use Rattle.sdb_types.specs.Order.{table_cmp, same_key}
 use Rattle.sdb_types.proofs.Basics.{all_each, by_test, clash, none_some, not_true, some_is, one_of}
 use Rattle.sdb_types.proofs.Bools.{and_both, and_first}
 use Rattle.sdb_types.proofs.KeyOrder.{table_exact}
 use Rattle.sdb_types.proofs.Replies.{record_at-key}
+use Rattle.sdb_types.proofs.Keys.{same_key_tells}
 use Rattle.sdb_schema.specs.declared.table.Table.{Table}
 use Rattle.sdb_record.specs.declared.access.Image.{Image}
 use Rattle.sdb_record.specs.declared.coordinator.Decided.{Decided}
@@ -35,17 +36,16 @@ use Rattle.sdb_model.specs.declared.answer.Answer.TheVariants as answer
 use Rattle.sdb_model.specs.declared.event.Event.{Event}
 use Rattle.sdb_model.specs.declared.event.Event.TheVariants as event
 use Rattle.sdb_model.specs.declared.script.Place.{Place}
-use Rattle.sdb_model.specs.Calls.{Made, calls_of, decision_learned, decision_shown, end_of, is_read, record_among, records_read}
+use Rattle.sdb_model.specs.Calls.{Made, calls_of, decision_learned, decision_shown, end_of, is_read, records_read}
 use Rattle.sdb_model.specs.Counted.{AreResolved, IsPassedOver, IsResolved}
 use Rattle.sdb_model.specs.Events.{Effect, IsTrace, Shelf, held_by, moment, standing, store_of, table_asked}
 use Rattle.sdb_model.specs.Exec.{find_table}
 use Rattle.sdb_model.specs.Explained.{IsPreparedAfter, IsTableKey, Shows, StandingExplained}
 use Rattle.sdb_model.specs.Images.{decision_at, decision_on}
-use Rattle.sdb_model.specs.Noted.{reads_rows, resolved, same_key}
+use Rattle.sdb_model.specs.Noted.{reads_rows, resolved}
 use Rattle.sdb_model.specs.Shown.{AnswersShow, AreShown, CommittedBy, HasRow, ReadsKey, ShowsOwn, WasCommitted, WasFound}
 use Rattle.sdb_model.specs.Transactions.{Said, client_of}
 use Rattle.sdb_laws.proofs.Effects.{AtCall, after_put, at_call}
-use Rattle.sdb_laws.proofs.Keys.{same_key_tells}
 use Rattle.sdb_laws.proofs.Moments.{apart_from}
 use Rattle.sdb_laws.proofs.Shown.{get_reply, scan_reply}
 use Rattle.sdb_endings.specs.Shown.{FoundDecided, IsDecidedIn, IsReader, ReadBy}
@@ -53,7 +53,6 @@ use Rattle.sdb_endings.specs.Stores.{AreTaken}
 use Rattle.sdb_endings.proofs.Agreeing.{Stands, decisions_agree, same_row, shown_stands}
 use Rattle.sdb_endings.proofs.Calls.{IsAt, IsWithin, a_later, call_at, effect_at, later_call, the_first, within_statement}
 use Rattle.sdb_endings.proofs.Others.{PutsAt, stood_or_put}
-use Rattle.sdb_laws.proofs.Current.{among_is}
 
 ---- one event
 
@@ -98,7 +97,7 @@ standing_key places now key r h = by (held_by now (store_of places now key.table
 
 found_among : (rows : List Record) (key : Key) (r : Record) → record_among rows key ≡ Some r → Contains rows r
 found_among [] key r h = none_some r h
-found_among (x ∷ xs) key r h = by (is_eq (key_cmp x.key key)) h (found_among xs key r)
+found_among (x ∷ xs) key r h = by (same_key key x.key) h (found_among xs key r)
   where
     by : (b : Bool) → (if b then Some x else record_among xs key) ≡ Some r → (record_among xs key ≡ Some r → Contains xs r) → Contains (x ∷ xs) r
     by true e rest = subst (Contains (x ∷ xs)) (some_is x r e) (the_first x xs)
@@ -124,7 +123,7 @@ read_of (ask.Scan span) (reply.Rows rows) key found (inside, is) = record {
   reads = inside;
   is = refl;
   table = table_exact span.table key.table (equal_of (table_cmp span.table key.table) (and_first (is_eq (table_cmp span.table key.table)) (is_partition span.partition key) inside));
-  stood = λ places before now a. sym (scan_reply places span (reply.Rows rows) rows before now a refl key inside) ∙ sym (among_is rows key) ∙ is;
+  stood = λ places before now a. sym (scan_reply places span (reply.Rows rows) rows before now a refl key inside) ∙ is;
   shown = λ y e. found_among rows key y (is ∙ e);
 }
 read_of (ask.Get k) r key found h = absurd h

@@ -10,23 +10,26 @@ use Rattle.sdb_types.specs.declared.record.Request.{Request}
 use Rattle.sdb_types.specs.declared.record.Request.TheVariants as ask
 use Rattle.sdb_types.specs.declared.record.Reply.{Reply}
 use Rattle.sdb_types.specs.Contents.{Contents, after, holds, record_at}
+use Rattle.sdb_types.specs.Order.{same_key}
+use Rattle.sdb_types.proofs.Keys.{same_key_tells}
+use Rattle.sdb_types.specs.declared.record.Condition.TheVariants as condition
 use Rattle.sdb_record.specs.declared.coordinator.Decision.TheVariants.{Committed, Aborted}
 use Rattle.sdb_record.specs.Coordinator.{coordinator_key_of}
 use Rattle.sdb_record.specs.Parts.{before_part, before_record, record_with}
 use Rattle.sdb_record.proofs.ImageLaws.{row-key}
 use Rattle.sdb_record.proofs.RollLaws.{forward-key}
 use Rattle.sdb_record.proofs.TakenLaws.{prepared-key}
+use Rattle.sdb_record.specs.Rolls.{undo}
 use Rattle.sdb_model.specs.declared.event.Event.{Event}
 use Rattle.sdb_model.specs.declared.event.Event.TheVariants as event
 use Rattle.sdb_model.specs.declared.script.Place.{Place}
 use Rattle.sdb_model.specs.Events.{Effect, Shelf, standing}
-use Rattle.sdb_model.specs.Noted.{Got, Note, Scanned, same_key}
+use Rattle.sdb_model.specs.Noted.{Got, Note, Scanned}
 use Rattle.sdb_laws.specs.History.{Role, Other, Begins, Takes, Prepares, Checks, Decides, Aborts, Rolls, Removes, Ends, Stops, History, Talk}
-use Rattle.sdb_laws.specs.Lawful.{IsCallOf, IsLawful, IsUnchanged, MayPlay, MayRoll, Played, back_request, id, is_data, is_quiet}
+use Rattle.sdb_laws.specs.Lawful.{IsCallOf, IsLawful, IsUnchanged, MayPlay, MayRoll, Played, id, is_data, is_quiet}
 use Rattle.sdb_laws.specs.Plan.{Plan}
 use Rattle.sdb_laws.specs.Trace.{IsTraced, StartsEmpty, closing, history}
 use Rattle.sdb_laws.proofs.Effects.{AtCall, after_delete, after_put, at_call}
-use Rattle.sdb_laws.proofs.Keys.{same_key_tells}
 use Rattle.sdb_laws.proofs.Known.{held_key, taken_fits, write_key}
 use Rattle.sdb_laws.proofs.Settled.{Knows, prepared_there}
 use Rattle.sdb_laws.proofs.Whole.{whole}
@@ -117,7 +120,7 @@ key_before r b e = by r.key (before_part r.columns) e
     by key [] e = absurd (cc)
     by key (p ∷ ps) e = cc
 
-back_puts : (k : Key) (t : TxId) (s : State) (o : Option Record) (q : Key) → ((b : Record) → o ≡ Some b → b.key ≡ k) → PutsBy (back_request k t s o) q → k ≡ q
+back_puts : (k : Key) (t : TxId) (s : State) (o : Option Record) (q : Key) → ((b : Record) → o ≡ Some b → b.key ≡ k) → PutsBy (undo (condition.Version t s) k o) q → k ≡ q
 back_puts k t s None q key put = absurd put
 back_puts k t s (Some b) q key put = sym (key b refl) ∙ put
 

@@ -1,13 +1,9 @@
 -- Values by key, as a list of entries in the order in which their keys were first used, each key once.
-use Rattle.std.specs.Prelude.{Bool, List, Option}
+use Rattle.std.specs.Prelude.{List, Option}
 use Rattle.std.specs.Map.{lookup}
 use Rattle.indexmap.specs.IndexMap.{insert_entry}
 use Rattle.sdb_types.specs.declared.key.Key.{Key}
-use Rattle.sdb_types.specs.contracts.key.KeyPartialEq.TheImpl as key_eq
-
--- whether two keys are one, by `==` of keys
-abbrev pub same_key : Key → Key → Bool
-same_key = (key_eq.ghosts).eq
+use Rattle.sdb_types.specs.Order.{same_key}
 
 -- the value of the first entry with that key
 abbrev pub value_at : {V : Type 0} → List (Key × V) → Key → Option V

@@ -3,7 +3,8 @@ ghost use Rattle.std.specs.Prelude.{◌≡◌, [], OnOk, OnErr, slice_get, lengt
 ghost use Rattle.std.specs.Option.{option_copied, option_map};
 ghost use Rattle.std.specs.Map.{keys_of};
 ghost use Rattle.std.specs.Map.Iter.{deref_pair};
-ghost use Rattle.sdb_keyed.specs.Entries.{same_key, value_at, with_value};
+ghost use Rattle.sdb_types.specs.Order.{same_key};
+ghost use Rattle.sdb_keyed.specs.Entries.{value_at, with_value};
 
 use indexmap::IndexMap;
 use sdb_types::{Key, NoMemory};

@@ -16,7 +16,7 @@ use Rattle.sdb_types.specs.declared.record.Request.{Request}
 use Rattle.sdb_types.specs.declared.record.Request.TheVariants as ask
 use Rattle.sdb_types.specs.declared.record.Reply.{Reply}
 use Rattle.sdb_types.specs.declared.record.Reply.TheVariants as reply
-use Rattle.sdb_types.specs.Contents.{in_span}
+use Rattle.sdb_types.specs.Contents.{in_span, record_among}
 use Rattle.sdb_types.specs.Exactness.{span_tells}
 use Rattle.sdb_record.specs.declared.access.Read.{Read}
 use Rattle.sdb_record.specs.declared.access.Scan.{Scan}
@@ -26,28 +26,31 @@ use Rattle.sdb_record.specs.Coordinator.{coordinator_row_of}
 use Rattle.sdb_record.specs.Meta.{is_moment}
 use Rattle.sdb_record.specs.Moved.{version_of, condition_of, is_unchanged, same_version}
 use Rattle.sdb_record.specs.Rolls.{IsWrite, prepared_record}
+use Rattle.sdb_record.specs.Among.{version_among, write_among}
 use Rattle.sdb_model.specs.declared.event.Event.{Event}
 use Rattle.sdb_model.specs.declared.event.Event.TheVariants as event
 use Rattle.sdb_laws.specs.Plan.{written, noted, number_of}
-use Rattle.sdb_model.specs.Noted.{same_key, version_among, version_noted}
+use Rattle.sdb_model.specs.Noted.{version_noted}
 use Rattle.sdb_laws.specs.History.{Stage, Preparing, Checking, Deciding, IsPrepared}
-use Rattle.sdb_laws.specs.Lawful.{id, talk, row_among, word_of as reply_word, InCommit, IsUnchanged, MayPrepare, MayCheck, MayDecide, MayAbort}
+use Rattle.sdb_laws.specs.Lawful.{id, talk, word_of as reply_word, InCommit, IsUnchanged, MayPrepare, MayCheck, MayDecide, MayAbort}
 use Rattle.sdb_said.specs.declared.plan.Plan.{Plan}
 use Rattle.sdb_said.specs.declared.plan.Note.{Note}
 use Rattle.sdb_said.specs.declared.plan.Note.TheVariants as note
 use Rattle.sdb_said.specs.declared.played.Word.{Word}
 use Rattle.sdb_said.specs.declared.played.Word.TheVariants as word
 use Rattle.sdb_said.specs.declared.played.Played.{Played}
-use Rattle.sdb_said.specs.Values.{word_of, all_played, note_of, plan_in, writes_in, notes_in, moment_in, write_in, same_request, same_span}
+use Rattle.sdb_said.specs.Values.{word_of, all_played, note_of, plan_in, writes_in, notes_in, moment_in, same_request, same_span}
 use Rattle.sdb_said.specs.Said.{taken_in, open_in, owner_of, stopped_in, staged_in, deciding_in, asked_in, told_in, checked_in}
 use Rattle.sdb_lawful.specs.Rules.{is_sound, fits_reply, in_commit, is_put, puts_write, prepares_well, is_as_noted, are_as_noted, finds_noted, checks_well, same_noted, agrees_at, agrees, is_note_checked, decides_well, aborts_well}
 use Rattle.sdb_said.proofs.Lists.{none_some, right, or_left, not_true, true_not, not_both, In, all_each, each_all, found_some, got_in, in_got, got_map, placed_each, each_placed}
 use Rattle.sdb_said.proofs.SaidLaws.{is_deciding, is_later, taken_is, open_is, owner_is, stopped_is, staged_is, deciding_is, asked_is, told_is, checked_is}
-use Rattle.sdb_said.proofs.ShownLaws.{number_is, is_number, key_is, is_key}
+use Rattle.sdb_said.proofs.ShownLaws.{number_is, is_number}
 use Rattle.sdb_lawful.proofs.PlanLaws.{is_sound_of, write_is, write_in_is, write_own, written_at, noted_says, says_noted, got_says, says_got, says_scan, among_is}
 use Rattle.sdb_lawful.proofs.TakeLaws.{key_within, is_within}
 use Rattle.sdb_types.proofs.Basics.{clash, or_second as or_right, some_is, either, decides as decide}
 use Rattle.sdb_types.proofs.Bools.{and_first as left, and_both as both}
+use Rattle.sdb_types.specs.Order.{same_key}
+use Rattle.sdb_types.proofs.Keys.{same_key_exact, same_key_of}
 use Rattle.sdb_said.proofs.Requests.{request_is, is_request}
 
 ---- calls
@@ -122,11 +125,11 @@ pub prepare_is : (past : List Played) (plans : List Plan) (e : Event) (t : ℕ) 
 prepare_is past plans (event.Call client store q how r answered) t k w h =
     let new = not (staged_in past t) in
     let once = not (asked_in past t k) in
-    let puts = puts_write t (moment_in plans t) q (write_in (writes_in plans t) k) in
+    let puts = puts_write t (moment_in plans t) q (write_among (writes_in plans t) k) in
     let one = right (in_commit past client t) (fits_reply w r && ((new && once) && puts)) h in
     let two = right (fits_reply w r) ((new && once) && puts) one in
     let three = left (new && once) puts two in
-    let p = puts_is t (moment_in plans t) q (write_in (writes_in plans t) k) (right (new && once) puts two) in
+    let p = puts_is t (moment_in plans t) q (write_among (writes_in plans t) k) (right (new && once) puts two) in
     record {
       client = client;
       write = p.w;
@@ -148,7 +151,7 @@ is_prepare past plans e t k w m sound =
     let q = ask.PutIf (prepared_record m.write (id t) (moment_in plans t)) (condition_of (version_of m.write.base)) in
     let new = not (staged_in past t) in
     let once = not (asked_in past t k) in
-    let puts = puts_write t (moment_in plans t) q (write_in (writes_in plans t) k) in
+    let puts = puts_write t (moment_in plans t) q (write_among (writes_in plans t) k) in
     ap (λ x. prepares_well past plans x t k w) m.call.call
     ∙ both (in_commit past m.client t) (fits_reply w m.r && ((new && once) && puts)) (is_in_commit past m.client t m.within)
     (both (fits_reply w m.r) ((new && once) && puts) (is_fit w m.r m.word_is)
@@ -158,28 +161,28 @@ is_prepare past plans e t k w m sound =
 
 ---- checks
 
-free_is : (plans : List Plan) (t : ℕ) (k : Key) → written (plan_in plans t) k ≡ None → is_some (write_in (writes_in plans t) k) ≡ false
-free_is plans t k h = by (write_in (writes_in plans t) k) (sym (written_at plans t k) ∙ h)
+free_is : (plans : List Plan) (t : ℕ) (k : Key) → written (plan_in plans t) k ≡ None → is_some (write_among (writes_in plans t) k) ≡ false
+free_is plans t k h = by (write_among (writes_in plans t) k) (sym (written_at plans t k) ∙ h)
   where
     by : (o : Option Write) → option_map (λ (w : Write). number_of (version_of w.base)) o ≡ None → is_some o ≡ false
     by None e = refl
     by (Some w) e = none_some (sym e)
 
-is_free : (plans : List Plan) (t : ℕ) (k : Key) → is_some (write_in (writes_in plans t) k) ≡ false → written (plan_in plans t) k ≡ None
-is_free plans t k h = written_at plans t k ∙ by (write_in (writes_in plans t) k) h
+is_free : (plans : List Plan) (t : ℕ) (k : Key) → is_some (write_among (writes_in plans t) k) ≡ false → written (plan_in plans t) k ≡ None
+is_free plans t k h = written_at plans t k ∙ by (write_among (writes_in plans t) k) h
   where
     by : (o : Option Write) → is_some o ≡ false → option_map (λ (w : Write). number_of (version_of w.base)) o ≡ None
     by None e = refl
     by (Some w) e = clash e
 
-as_noted_at : (ws : List Write) (scan : Scan) (rows : List Record) (k : Key) → is_as_noted ws scan rows k ≡ true → in_span scan.span k ≡ true → is_some (write_in ws k) ≡ false → is_unchanged (row_among rows k) (version_among scan.found k) ≡ true
-as_noted_at ws scan rows k h within free = elim (either (not (in_span scan.span k)) (is_some (write_in ws k) || is_unchanged (row_among rows k) (version_among scan.found k)) h) [
+as_noted_at : (ws : List Write) (scan : Scan) (rows : List Record) (k : Key) → is_as_noted ws scan rows k ≡ true → in_span scan.span k ≡ true → is_some (write_among ws k) ≡ false → is_unchanged (record_among rows k) (version_among scan.found k) ≡ true
+as_noted_at ws scan rows k h within free = elim (either (not (in_span scan.span k)) (is_some (write_among ws k) || is_unchanged (record_among rows k) (version_among scan.found k)) h) [
   | inl out ↦ not_both (in_span scan.span k) within (not_true (in_span scan.span k) out)
-  | inr a ↦ elim (either (is_some (write_in ws k)) (is_unchanged (row_among rows k) (version_among scan.found k)) a) [ inl w ↦ not_both (is_some (write_in ws k)) w free | inr u ↦ u ]
+  | inr a ↦ elim (either (is_some (write_among ws k)) (is_unchanged (record_among rows k) (version_among scan.found k)) a) [ inl w ↦ not_both (is_some (write_among ws k)) w free | inr u ↦ u ]
 ]
 
-as_noted_is : (ws : List Write) (scan : Scan) (rows : List Record) → are_as_noted ws scan rows ≡ true → (k : Key) → in_span scan.span k ≡ true → is_some (write_in ws k) ≡ false → is_unchanged (row_among rows k) (version_among scan.found k) ≡ true
-as_noted_is ws scan rows h k within free = by (row_among rows k) refl
+as_noted_is : (ws : List Write) (scan : Scan) (rows : List Record) → are_as_noted ws scan rows ≡ true → (k : Key) → in_span scan.span k ≡ true → is_some (write_among ws k) ≡ false → is_unchanged (record_among rows k) (version_among scan.found k) ≡ true
+as_noted_is ws scan rows h k within free = by (record_among rows k) refl
   where
     of_row : list_all (λ (r : Record). is_as_noted ws scan rows r.key) rows ≡ true
     of_row = left (list_all (λ (r : Record). is_as_noted ws scan rows r.key) rows) (list_all (λ (r : Read). is_as_noted ws scan rows r.key) scan.found) h
@@ -187,43 +190,43 @@ as_noted_is ws scan rows h k within free = by (row_among rows k) refl
     of_found : list_all (λ (r : Read). is_as_noted ws scan rows r.key) scan.found ≡ true
     of_found = right (list_all (λ (r : Record). is_as_noted ws scan rows r.key) rows) (list_all (λ (r : Read). is_as_noted ws scan rows r.key) scan.found) h
 
-    at : is_as_noted ws scan rows k ≡ true → is_unchanged (row_among rows k) (version_among scan.found k) ≡ true
+    at : is_as_noted ws scan rows k ≡ true → is_unchanged (record_among rows k) (version_among scan.found k) ≡ true
     at a = as_noted_at ws scan rows k a within free
 
-    then_found : (v : Option TxId) → version_among scan.found k ≡ v → row_among rows k ≡ None → is_unchanged (row_among rows k) (version_among scan.found k) ≡ true
+    then_found : (v : Option TxId) → version_among scan.found k ≡ v → record_among rows k ≡ None → is_unchanged (record_among rows k) (version_among scan.found k) ≡ true
     then_found None e f = λ i. by_none i
       where
-        by_none : is_unchanged (row_among rows k) (version_among scan.found k) ≡ true
+        by_none : is_unchanged (record_among rows k) (version_among scan.found k) ≡ true
         by_none = ap (λ o. is_unchanged o (version_among scan.found k)) f ∙ ap (is_unchanged None) e
     then_found (Some v) e f = let r = among_is scan.found k v e in at (subst (λ x. is_as_noted ws scan rows x ≡ true) r.2 (all_each (λ (x : Read). is_as_noted ws scan rows x.key) scan.found of_found r.0 r.1))
 
-    by : (o : Option Record) → row_among rows k ≡ o → is_unchanged (row_among rows k) (version_among scan.found k) ≡ true
+    by : (o : Option Record) → record_among rows k ≡ o → is_unchanged (record_among rows k) (version_among scan.found k) ≡ true
     by None e = then_found (version_among scan.found k) refl e
     by (Some row) e =
-        let f = Rattle.sdb_said.proofs.Lists.found_in (λ (x : Record). same_key x.key k) rows row e in
-        at (subst (λ x. is_as_noted ws scan rows x ≡ true) (key_is row.key k f.1) (all_each (λ (x : Record). is_as_noted ws scan rows x.key) rows of_row row f.0))
+        let f = Rattle.sdb_said.proofs.Lists.found_in (λ (x : Record). same_key k x.key) rows row e in
+        at (subst (λ x. is_as_noted ws scan rows x ≡ true) (sym (same_key_exact k row.key f.1)) (all_each (λ (x : Record). is_as_noted ws scan rows x.key) rows of_row row f.0))
 
-is_as_noted_of : (ws : List Write) (scan : Scan) (rows : List Record) → ((k : Key) → in_span scan.span k ≡ true → is_some (write_in ws k) ≡ false → is_unchanged (row_among rows k) (version_among scan.found k) ≡ true) → are_as_noted ws scan rows ≡ true
+is_as_noted_of : (ws : List Write) (scan : Scan) (rows : List Record) → ((k : Key) → in_span scan.span k ≡ true → is_some (write_among ws k) ≡ false → is_unchanged (record_among rows k) (version_among scan.found k) ≡ true) → are_as_noted ws scan rows ≡ true
 is_as_noted_of ws scan rows f = both (list_all (λ (r : Record). is_as_noted ws scan rows r.key) rows) (list_all (λ (r : Read). is_as_noted ws scan rows r.key) scan.found) (each_all (λ (r : Record). is_as_noted ws scan rows r.key) rows (λ r i. by r.key)) (each_all (λ (r : Read). is_as_noted ws scan rows r.key) scan.found (λ r i. by r.key))
   where
     by : (k : Key) → is_as_noted ws scan rows k ≡ true
     by k = elim (decide (in_span scan.span k)) [
-      | inr out ↦ or_left (not (in_span scan.span k)) (is_some (write_in ws k) || is_unchanged (row_among rows k) (version_among scan.found k)) (true_not (in_span scan.span k) out)
-      | inl within ↦ or_right (not (in_span scan.span k)) (is_some (write_in ws k) || is_unchanged (row_among rows k) (version_among scan.found k)) (elim (decide (is_some (write_in ws k))) [
-        | inl w ↦ or_left (is_some (write_in ws k)) (is_unchanged (row_among rows k) (version_among scan.found k)) w
-        | inr free ↦ or_right (is_some (write_in ws k)) (is_unchanged (row_among rows k) (version_among scan.found k)) (f k within free)
+      | inr out ↦ or_left (not (in_span scan.span k)) (is_some (write_among ws k) || is_unchanged (record_among rows k) (version_among scan.found k)) (true_not (in_span scan.span k) out)
+      | inl within ↦ or_right (not (in_span scan.span k)) (is_some (write_among ws k) || is_unchanged (record_among rows k) (version_among scan.found k)) (elim (decide (is_some (write_among ws k))) [
+        | inl w ↦ or_left (is_some (write_among ws k)) (is_unchanged (record_among rows k) (version_among scan.found k)) w
+        | inr free ↦ or_right (is_some (write_among ws k)) (is_unchanged (record_among rows k) (version_among scan.found k)) (f k within free)
       ])
     ]
 
 finds_is : (plans : List Plan) (t : ℕ) (n : Note) (q : Request) (r : Reply) → finds_noted (writes_in plans t) n q r ≡ true → IsUnchanged (plan_in plans t) (note_of n) q r
 finds_is plans t (note.Got read) (ask.Get key) (reply.Found found) h =
-    (found, ap ask.Get (key_is key read.key (left (same_key key read.key) (is_unchanged found read.version) h)), refl, right (same_key key read.key) (is_unchanged found read.version) h)
+    (found, ap ask.Get (same_key_exact key read.key (left (same_key key read.key) (is_unchanged found read.version) h)), refl, right (same_key key read.key) (is_unchanged found read.version) h)
 finds_is plans t (note.Scanned scan) (ask.Scan span) (reply.Rows rows) h =
     (rows, ap ask.Scan (span_is span scan.span (left (same_span span scan.span) (are_as_noted (writes_in plans t) scan rows) h)), refl, λ k within free. as_noted_is (writes_in plans t) scan rows (right (same_span span scan.span) (are_as_noted (writes_in plans t) scan rows) h) k within (free_is plans t k free))
 finds_is plans t _ _ _ h = clash (sym h)
 
 is_finds : (plans : List Plan) (t : ℕ) (n : Note) (q : Request) (r : Reply) → IsUnchanged (plan_in plans t) (note_of n) q r → finds_noted (writes_in plans t) n q r ≡ true
-is_finds plans t (note.Got read) q r u = (λ i. finds_noted (writes_in plans t) (note.Got read) (u.1 i) (u.2 i)) ∙ both (same_key read.key read.key) (is_unchanged u.0 read.version) (is_key read.key read.key refl) u.3
+is_finds plans t (note.Got read) q r u = (λ i. finds_noted (writes_in plans t) (note.Got read) (u.1 i) (u.2 i)) ∙ both (same_key read.key read.key) (is_unchanged u.0 read.version) (same_key_of read.key read.key refl) u.3
 is_finds plans t (note.Scanned scan) q r u =
     (λ i. finds_noted (writes_in plans t) (note.Scanned scan) (u.1 i) (u.2 i))
     ∙ both (same_span scan.span scan.span) (are_as_noted (writes_in plans t) scan u.0) (is_span scan.span scan.span refl) (is_as_noted_of (writes_in plans t) scan u.0 (λ k within free. u.3 k within (is_free plans t k free)))
@@ -287,14 +290,14 @@ is_same_version (Some a) None e = none_some (sym e)
 is_same_version (Some a) (Some b) e = is_number a.0 b.0 (some_is a.0 b.0 e)
 
 -- a write of each key that is written
-written_some : (plans : List Plan) (t : ℕ) (k : Key) (base : Option ℕ) → written (plan_in plans t) k ≡ Some base → (w : Write) × (write_in (writes_in plans t) k ≡ Some w) × (number_of (version_of w.base) ≡ base)
-written_some plans t k base h = by (write_in (writes_in plans t) k) refl (sym (written_at plans t k) ∙ h)
+written_some : (plans : List Plan) (t : ℕ) (k : Key) (base : Option ℕ) → written (plan_in plans t) k ≡ Some base → (w : Write) × (write_among (writes_in plans t) k ≡ Some w) × (number_of (version_of w.base) ≡ base)
+written_some plans t k base h = by (write_among (writes_in plans t) k) refl (sym (written_at plans t k) ∙ h)
   where
-    by : (o : Option Write) → write_in (writes_in plans t) k ≡ o → option_map (λ (w : Write). number_of (version_of w.base)) o ≡ Some base → (w : Write) × (write_in (writes_in plans t) k ≡ Some w) × (number_of (version_of w.base) ≡ base)
+    by : (o : Option Write) → write_among (writes_in plans t) k ≡ o → option_map (λ (w : Write). number_of (version_of w.base)) o ≡ Some base → (w : Write) × (write_among (writes_in plans t) k ≡ Some w) × (number_of (version_of w.base) ≡ base)
     by None e f = none_some f
     by (Some w) e f = (w, e, some_is (number_of (version_of w.base)) base f)
 
-some_written : (plans : List Plan) (t : ℕ) (k : Key) (w : Write) → write_in (writes_in plans t) k ≡ Some w → written (plan_in plans t) k ≡ Some (number_of (version_of w.base))
+some_written : (plans : List Plan) (t : ℕ) (k : Key) (w : Write) → write_among (writes_in plans t) k ≡ Some w → written (plan_in plans t) k ≡ Some (number_of (version_of w.base))
 some_written plans t k w e = written_at plans t k ∙ ap (option_map (λ (x : Write). number_of (version_of x.base))) e
 
 -- clustering values that no write has
@@ -314,8 +317,8 @@ long_above (x ∷ ws) w (inr i) = by (length (x.key.clustering ++ long ws)) (len
     by : (n : ℕ) → n ≡ length x.key.clustering + length (long ws) → length w.key.clustering < length (long ws) → length w.key.clustering < suc n
     by n e h = omega arith
 
-fresh_key : (ws : List Write) (span : Span) → is_some (write_in ws (key_within span (long ws))) ≡ false
-fresh_key ws span = by (write_in ws (key_within span (long ws))) refl
+fresh_key : (ws : List Write) (span : Span) → is_some (write_among ws (key_within span (long ws))) ≡ false
+fresh_key ws span = by (write_among ws (key_within span (long ws))) refl
   where
     apart : (w : Write) → In ws w → w.key ≡ key_within span (long ws) → ⊥
     apart w i e = less (length w.key.clustering) (length (long ws)) (long_above ws w i) (ap (λ (x : Key). length x.clustering) e)
@@ -323,7 +326,7 @@ fresh_key ws span = by (write_in ws (key_within span (long ws))) refl
         less : (a b : ℕ) → a < b → a ≡ b → ⊥
         less a b h e = absurd (omega arith)
 
-    by : (o : Option Write) → write_in ws (key_within span (long ws)) ≡ o → is_some o ≡ false
+    by : (o : Option Write) → write_among ws (key_within span (long ws)) ≡ o → is_some o ≡ false
     by None e = refl
     by (Some w) e = let i = write_in_is ws (key_within span (long ws)) w e in absurd (apart w i.0 i.1)
 
@@ -335,9 +338,9 @@ module _ (past : List Played) (plans : List Plan) (t : ℕ) where
   Agrees = (i : ℕ) (k : Key) (version base : Option ℕ) → noted (plan_in plans t) i k ≡ Some version → written (plan_in plans t) k ≡ Some base → version ≡ base
 
   told_all : list_all (λ (w : Write). told_in past t w.key) (writes_in plans t) ≡ true → IsPrepared (plan_in plans) (talk (all_played past)) t
-  told_all h k f = by (write_in (writes_in plans t) k) refl
+  told_all h k f = by (write_among (writes_in plans t) k) refl
     where
-      by : (o : Option Write) → write_in (writes_in plans t) k ≡ o → (talk (all_played past)).told t k ≡ true
+      by : (o : Option Write) → write_among (writes_in plans t) k ≡ o → (talk (all_played past)).told t k ≡ true
       by None e = absurd (f (is_free plans t k (ap is_some e)))
       by (Some w) e = let i = write_in_is (writes_in plans t) k w e in told_is past t k ∙ subst (λ x. told_in past t x ≡ true) i.1 (all_each (λ (x : Write). told_in past t x.key) (writes_in plans t) h w i.0)
 
@@ -345,7 +348,7 @@ module _ (past : List Played) (plans : List Plan) (t : ℕ) where
   all_told f = each_all (λ (w : Write). told_in past t w.key) (writes_in plans t) (λ w i. sym (told_is past t w.key) ∙ f w.key (λ e. by w i e))
     where
       by : (w : Write) → In (writes_in plans t) w → written (plan_in plans t) w.key ≡ None → ⊥
-      by w i e = let s = found_some (λ (x : Write). same_key x.key w.key) (writes_in plans t) w i (is_key w.key w.key refl) in none_some (sym e ∙ some_written plans t w.key s.0 s.1)
+      by w i e = let s = found_some (λ (x : Write). same_key w.key x.key) (writes_in plans t) w i (same_key_of w.key w.key refl) in none_some (sym e ∙ some_written plans t w.key s.0 s.1)
 
   agrees_all : list_all (agrees (writes_in plans t)) (notes_in plans t) ≡ true → Agrees
   agrees_all h i k version base n wr =
@@ -358,21 +361,21 @@ module _ (past : List Played) (plans : List Plan) (t : ℕ) where
       sym s.number ∙ same_version_is s.version (version_of w.0.base) c ∙ w.2
 
   all_agree : Agrees → list_all (agrees (writes_in plans t)) (notes_in plans t) ≡ true
-  all_agree f = each_all (agrees (writes_in plans t)) (notes_in plans t) (λ n i. let a = in_got (notes_in plans t) n i in each_all (agrees_at (writes_in plans t) n) (writes_in plans t) (λ w j. by n a.0 a.1 w.key (write_in (writes_in plans t) w.key) refl))
+  all_agree f = each_all (agrees (writes_in plans t)) (notes_in plans t) (λ n i. let a = in_got (notes_in plans t) n i in each_all (agrees_at (writes_in plans t) n) (writes_in plans t) (λ w j. by n a.0 a.1 w.key (write_among (writes_in plans t) w.key) refl))
     where
-      then_noted : (n : Note) (i : ℕ) → slice_get (notes_in plans t) i ≡ Some n → (k : Key) (x : Write) → write_in (writes_in plans t) k ≡ Some x → (o : Option (Option TxId)) → version_noted (note_of n) k ≡ o → same_noted o (version_of x.base) ≡ true
+      then_noted : (n : Note) (i : ℕ) → slice_get (notes_in plans t) i ≡ Some n → (k : Key) (x : Write) → write_among (writes_in plans t) k ≡ Some x → (o : Option (Option TxId)) → version_noted (note_of n) k ≡ o → same_noted o (version_of x.base) ≡ true
       then_noted n i at k x e None g = refl
       then_noted n i at k x e (Some v) g = is_same_version v (version_of x.base) (f i k (number_of v) (number_of (version_of x.base)) (says_noted plans t i k n v at g) (some_written plans t k x e))
 
-      by : (n : Note) (i : ℕ) → slice_get (notes_in plans t) i ≡ Some n → (k : Key) (o : Option Write) → write_in (writes_in plans t) k ≡ o → option_map_or (λ (x : Write). same_noted (version_noted (note_of n) k) (version_of x.base)) o true ≡ true
+      by : (n : Note) (i : ℕ) → slice_get (notes_in plans t) i ≡ Some n → (k : Key) (o : Option Write) → write_among (writes_in plans t) k ≡ o → option_map_or (λ (x : Write). same_noted (version_noted (note_of n) k) (version_of x.base)) o true ≡ true
       by n i at k None e = refl
       by n i at k (Some x) e = then_noted n i at k x e (version_noted (note_of n) k) refl
 
   checked_note : (i : ℕ) (n : Note) (k : Key) (version : Option TxId) → is_note_checked past t (writes_in plans t) i n ≡ true → version_noted (note_of n) k ≡ Some version → written (plan_in plans t) k ≡ None → checked_in past t i ≡ true
   checked_note i (note.Got read) k version h s free =
       let g = got_says read k version s in
-      elim (either (is_some (write_in (writes_in plans t) read.key)) (checked_in past t i) h) [
-        | inl w ↦ not_both (is_some (write_in (writes_in plans t) read.key)) w (ap (λ x. is_some (write_in (writes_in plans t) x)) g.0 ∙ free_is plans t k free)
+      elim (either (is_some (write_among (writes_in plans t) read.key)) (checked_in past t i) h) [
+        | inl w ↦ not_both (is_some (write_among (writes_in plans t) read.key)) w (ap (λ x. is_some (write_among (writes_in plans t) x)) g.0 ∙ free_is plans t k free)
         | inr c ↦ c
       ]
   checked_note i (note.Scanned scan) k version h s free = h
@@ -392,9 +395,9 @@ module _ (past : List Played) (plans : List Plan) (t : ℕ) where
       plus_zero i = omega arith
 
       by : (i : ℕ) (n : Note) → slice_get (notes_in plans t) i ≡ Some n → is_note_checked past t (writes_in plans t) i n ≡ true
-      by i (note.Got read) at = elim (decide (is_some (write_in (writes_in plans t) read.key))) [
-        | inl w ↦ or_left (is_some (write_in (writes_in plans t) read.key)) (checked_in past t i) w
-        | inr free ↦ or_right (is_some (write_in (writes_in plans t) read.key)) (checked_in past t i) (sym (checked_is past t i) ∙ f i read.key (number_of read.version) (says_noted plans t i read.key (note.Got read) read.version at (says_got read)) (is_free plans t read.key free))
+      by i (note.Got read) at = elim (decide (is_some (write_among (writes_in plans t) read.key))) [
+        | inl w ↦ or_left (is_some (write_among (writes_in plans t) read.key)) (checked_in past t i) w
+        | inr free ↦ or_right (is_some (write_among (writes_in plans t) read.key)) (checked_in past t i) (sym (checked_is past t i) ∙ f i read.key (number_of read.version) (says_noted plans t i read.key (note.Got read) read.version at (says_got read)) (is_free plans t read.key free))
       ]
       by i (note.Scanned scan) at =
           let k = key_within scan.span (long (writes_in plans t)) in

@@ -8,13 +8,12 @@ use Rattle.sdb_record.specs.declared.write.Write.{Write}
 use Rattle.sdb_record.specs.Coordinator.{coordinator_key_of}
 use Rattle.sdb_record.specs.Rolls.{IsWrite, prepared_record}
 use Rattle.sdb_laws.specs.Plan.{write_at}
-use Rattle.sdb_model.specs.Noted.{same_key}
 use Rattle.sdb_laws.specs.Lawful.{id, talk, IsKnownCommitted, IsKnownAborted, prepared_at, IsLawful, MayPlay}
 use Rattle.sdb_said.specs.declared.plan.Plan.{Plan}
 use Rattle.sdb_said.specs.declared.played.Role.{Role}
 use Rattle.sdb_said.specs.declared.played.Role.TheVariants as role
 use Rattle.sdb_said.specs.declared.played.Played.{Played}
-use Rattle.sdb_said.specs.Values.{all_played, role_of, plan_in, writes_in, moment_in, write_in}
+use Rattle.sdb_said.specs.Values.{all_played, role_of, plan_in, writes_in, moment_in}
 use Rattle.sdb_said.specs.Said.{is_take_of, is_prepare_of, taken_in, asked_in, risked_in, won_in, dead_in, met_in}
 use Rattle.sdb_said.specs.Shown.{shown, moments, shows_commit, shows_abort}
 use Rattle.sdb_lawful.specs.Rules.{is_sound, is_known_committed, is_known_aborted, prepared_by, own, with_own, has_own_moment, known_moments}
@@ -24,6 +23,8 @@ use Rattle.sdb_said.proofs.ShownLaws.{in_more, more_in, last_in, number_is, comm
 use Rattle.sdb_lawful.proofs.PlanLaws.{is_sound_of, write_is}
 use Rattle.sdb_types.proofs.Basics.{clash, or_second as or_right, some_is, either}
 use Rattle.sdb_types.proofs.Bools.{and_first as left, and_both as both}
+use Rattle.sdb_types.specs.Order.{same_key}
+use Rattle.sdb_record.specs.Among.{write_among}
 
 ---- decisions that are known
 
@@ -100,14 +101,14 @@ own_is past plans t k r h = by (asked_in past t k) refl h
     of_write None e = none_some e
     of_write (Some w) e = ap Some (of_sound w (is_sound w) e)
 
-    by : (b : Bool) → asked_in past t k ≡ b → (if b then prepared_by t (moment_in plans t) (write_in (writes_in plans t) k) else None) ≡ Some r → ((talk (all_played past)).asked t k ≡ true) × (prepared_at (plan_in plans) t k ≡ Some r)
-    by true e f = (asked_is past t k ∙ e, ap (option_map (λ w. prepared_record w (id t) (moment_in plans t))) (write_is plans t k) ∙ of_write (write_in (writes_in plans t) k) f)
+    by : (b : Bool) → asked_in past t k ≡ b → (if b then prepared_by t (moment_in plans t) (write_among (writes_in plans t) k) else None) ≡ Some r → ((talk (all_played past)).asked t k ≡ true) × (prepared_at (plan_in plans) t k ≡ Some r)
+    by true e f = (asked_is past t k ∙ e, ap (option_map (λ w. prepared_record w (id t) (moment_in plans t))) (write_is plans t k) ∙ of_write (write_among (writes_in plans t) k) f)
     by false e f = none_some f
 
 pub is_own : (past : List Played) (plans : List Plan) (t : ℕ) (k : Key) (r : Record) → ((w : Write) → write_at (plan_in plans t) k ≡ Some w → IsWrite w) → (talk (all_played past)).asked t k ≡ true → prepared_at (plan_in plans) t k ≡ Some r → own past plans t k ≡ Some r
 is_own past plans t k r sound asked there =
-    ap (λ b. if b then prepared_by t (moment_in plans t) (write_in (writes_in plans t) k) else None) (sym (asked_is past t k) ∙ asked)
-    ∙ of_write (write_in (writes_in plans t) k) (write_is plans t k) (sym (ap (option_map (λ w. prepared_record w (id t) (moment_in plans t))) (write_is plans t k)) ∙ there)
+    ap (λ b. if b then prepared_by t (moment_in plans t) (write_among (writes_in plans t) k) else None) (sym (asked_is past t k) ∙ asked)
+    ∙ of_write (write_among (writes_in plans t) k) (write_is plans t k) (sym (ap (option_map (λ w. prepared_record w (id t) (moment_in plans t))) (write_is plans t k)) ∙ there)
   where
     of_write : (o : Option Write) → write_at (plan_in plans t) k ≡ o → option_map (λ w. prepared_record w (id t) (moment_in plans t)) o ≡ Some r → prepared_by t (moment_in plans t) o ≡ Some r
     of_write None e f = f

@@ -13,17 +13,19 @@ use Rattle.sdb_record.specs.declared.write.Write.{Write}
 use Rattle.sdb_record.specs.Meta.{is_in, is_taken}
 use Rattle.sdb_record.specs.Moved.{version_of}
 use Rattle.sdb_record.specs.Rolls.{IsWrite, IsBaseOf, is_change}
+use Rattle.sdb_record.specs.Among.{version_among, write_among}
 use Rattle.sdb_laws.specs.Plan.{write_at, written, noted, number_of}
-use Rattle.sdb_model.specs.Noted.{same_key, version_noted, version_among}
+use Rattle.sdb_model.specs.Noted.{version_noted}
 use Rattle.sdb_said.specs.declared.plan.Plan.{Plan}
 use Rattle.sdb_said.specs.declared.plan.Note.{Note}
 use Rattle.sdb_said.specs.declared.plan.Note.TheVariants as note
-use Rattle.sdb_said.specs.Values.{note_of, plan_in, writes_in, notes_in, write_in}
+use Rattle.sdb_said.specs.Values.{note_of, plan_in, writes_in, notes_in}
 use Rattle.sdb_lawful.specs.Rules.{is_base, is_sound}
 use Rattle.sdb_said.proofs.Lists.{none_some, right, In, found_in, got_map}
-use Rattle.sdb_said.proofs.ShownLaws.{key_is, is_key}
 use Rattle.sdb_types.proofs.Basics.{some_is}
 use Rattle.sdb_types.proofs.Bools.{and_first as left, and_both as both}
+use Rattle.sdb_types.specs.Order.{same_key}
+use Rattle.sdb_types.proofs.Keys.{same_key_exact, same_key_of}
 
 ---- writes
 
@@ -34,28 +36,28 @@ sound_is w h = record { base = by w.base (left (option_map_or (is_base w.key) w.
     by None e = tt
     by (Some b) e =
         let rest = right (same_key b.key w.key) (is_taken b && is_in state.Committed b.columns) e in
-        (key_is b.key w.key (left (same_key b.key w.key) (is_taken b && is_in state.Committed b.columns) e), left (is_taken b) (is_in state.Committed b.columns) rest, right (is_taken b) (is_in state.Committed b.columns) rest)
+        (same_key_exact b.key w.key (left (same_key b.key w.key) (is_taken b && is_in state.Committed b.columns) e), left (is_taken b) (is_in state.Committed b.columns) rest, right (is_taken b) (is_in state.Committed b.columns) rest)
 
 pub is_sound_of : (w : Write) → IsWrite w → is_sound w ≡ true
 is_sound_of w s = both (option_map_or (is_base w.key) w.base true) (is_change w.change) (by w.base s.base) s.change
   where
     by : (o : Option Record) → IfSome o (IsBaseOf w.key) → option_map_or (is_base w.key) o true ≡ true
     by None e = refl
-    by (Some b) e = both (same_key b.key w.key) (is_taken b && is_in state.Committed b.columns) (is_key b.key w.key e.0) (both (is_taken b) (is_in state.Committed b.columns) e.1 e.2)
+    by (Some b) e = both (same_key b.key w.key) (is_taken b && is_in state.Committed b.columns) (same_key_of b.key w.key e.0) (both (is_taken b) (is_in state.Committed b.columns) e.1 e.2)
 
-pub write_is : (plans : List Plan) (t : ℕ) (k : Key) → write_at (plan_in plans t) k ≡ write_in (writes_in plans t) k
+pub write_is : (plans : List Plan) (t : ℕ) (k : Key) → write_at (plan_in plans t) k ≡ write_among (writes_in plans t) k
 unfolding write_at
 write_is plans t k = refl
 
 -- the write of a key is among them, and is of that key
-pub write_in_is : (ws : List Write) (k : Key) (w : Write) → write_in ws k ≡ Some w → In ws w × (w.key ≡ k)
-write_in_is ws k w h = let f = found_in (λ (x : Write). same_key x.key k) ws w h in (f.0, key_is w.key k f.1)
+pub write_in_is : (ws : List Write) (k : Key) (w : Write) → write_among ws k ≡ Some w → In ws w × (w.key ≡ k)
+write_in_is ws k w h = let f = found_in (λ (x : Write). same_key k x.key) ws w h in (f.0, sym (same_key_exact k w.key f.1))
 
 -- and it is the write of its own key
-pub write_own : (ws : List Write) (k : Key) (w : Write) → write_in ws k ≡ Some w → write_in ws w.key ≡ Some w
-write_own ws k w h = subst (λ x. write_in ws x ≡ Some w) (sym (write_in_is ws k w h).1) h
+pub write_own : (ws : List Write) (k : Key) (w : Write) → write_among ws k ≡ Some w → write_among ws w.key ≡ Some w
+write_own ws k w h = subst (λ x. write_among ws x ≡ Some w) (sym (write_in_is ws k w h).1) h
 
-pub written_at : (plans : List Plan) (t : ℕ) (k : Key) → written (plan_in plans t) k ≡ option_map (λ (w : Write). number_of (version_of w.base)) (write_in (writes_in plans t) k)
+pub written_at : (plans : List Plan) (t : ℕ) (k : Key) → written (plan_in plans t) k ≡ option_map (λ (w : Write). number_of (version_of w.base)) (write_among (writes_in plans t) k)
 unfolding written write_at
 written_at plans t k = refl
 
@@ -91,11 +93,11 @@ pub got_says : (read : Read) (k : Key) (version : Option TxId) → version_noted
 got_says read k version h = by (same_key read.key k) refl h
   where
     by : (b : Bool) → same_key read.key k ≡ b → (if b then Some read.version else None) ≡ Some version → (read.key ≡ k) × (version ≡ read.version)
-    by true e f = (key_is read.key k e, sym (some_is read.version version f))
+    by true e f = (same_key_exact read.key k e, sym (some_is read.version version f))
     by false e f = none_some f
 
 pub says_got : (read : Read) → version_noted (note_of (note.Got read)) read.key ≡ Some read.version
-says_got read = ap (λ b. if b then Some read.version else None) (is_key read.key read.key refl)
+says_got read = ap (λ b. if b then Some read.version else None) (same_key_of read.key read.key refl)
 
 pub scan_says : (scan : Scan) (k : Key) (version : Option TxId) → version_noted (note_of (note.Scanned scan)) k ≡ Some version → (in_span scan.span k ≡ true) × (version ≡ version_among scan.found k)
 scan_says scan k version h = by (in_span scan.span k) refl h
@@ -109,8 +111,8 @@ says_scan scan k h = ap (λ b. if b then Some (version_among scan.found k) else 
 
 -- a version that a scan found is that of one of its reads
 pub among_is : (found : List Read) (k : Key) (v : TxId) → version_among found k ≡ Some v → (read : Read) × In found read × (read.key ≡ k)
-among_is found k v h = by (find (λ (r : Read). same_key r.key k) found) refl h
+among_is found k v h = by (find (λ (r : Read). same_key k r.key) found) refl h
   where
-    by : (o : Option Read) → find (λ (r : Read). same_key r.key k) found ≡ o → option_and_then (λ (r : Read). r.version) o ≡ Some v → (read : Read) × In found read × (read.key ≡ k)
+    by : (o : Option Read) → find (λ (r : Read). same_key k r.key) found ≡ o → option_and_then (λ (r : Read). r.version) o ≡ Some v → (read : Read) × In found read × (read.key ≡ k)
     by None e h = none_some h
-    by (Some r) e h = let f = found_in (λ (r : Read). same_key r.key k) found r e in (r, f.0, key_is r.key k f.1)
+    by (Some r) e h = let f = found_in (λ (r : Read). same_key k r.key) found r e in (r, f.0, sym (same_key_exact k r.key f.1))

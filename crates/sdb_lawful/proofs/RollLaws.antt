@@ -3,6 +3,7 @@ use Rattle.std.proofs.Common.{◌≡◌, ℕ, Bool, true, false, List, Option, S
 use Rattle.std.specs.Prelude.{◌&&◌, ◌||◌, ◌==◌, not, find}
 use Rattle.std.specs.Option.{option_map_or}
 use Rattle.std.specs.List.{list_any}
+use Rattle.sdb_types.specs.Order.{same_key}
 use Rattle.sdb_types.specs.declared.key.Key.{Key}
 use Rattle.sdb_types.specs.declared.record.Record.{Record}
 use Rattle.sdb_types.specs.declared.record.State.{State}
@@ -17,14 +18,14 @@ use Rattle.sdb_record.specs.declared.coordinator.Decision.TheVariants as decisio
 use Rattle.sdb_record.specs.declared.write.Write.{Write}
 use Rattle.sdb_record.specs.Meta.{is_committed}
 use Rattle.sdb_record.specs.Parts.{before_record}
-use Rattle.sdb_record.specs.Rolls.{IsWrite, forward_record}
+use Rattle.sdb_record.specs.Rolls.{IsWrite, forward_record, undo}
 use Rattle.sdb_model.specs.declared.answer.Answer.{Answer}
 use Rattle.sdb_model.specs.declared.event.Event.{Event}
 use Rattle.sdb_model.specs.declared.event.Event.TheVariants as event
 use Rattle.sdb_model.specs.declared.event.How.{How}
 use Rattle.sdb_model.specs.Rows.{Name}
 use Rattle.sdb_laws.specs.Plan.{write_at}
-use Rattle.sdb_laws.specs.Lawful.{id, is_data, talk, IsPreparedThere, back_request, MayRollForward, MayRollBack, MayRollBy, MayRemove}
+use Rattle.sdb_laws.specs.Lawful.{id, is_data, talk, IsPreparedThere, MayRollForward, MayRollBack, MayRollBy, MayRemove}
 use Rattle.sdb_said.specs.declared.plan.Plan.{Plan}
 use Rattle.sdb_said.specs.declared.played.Role.{Role}
 use Rattle.sdb_said.specs.declared.played.Role.TheVariants as role
@@ -35,11 +36,12 @@ use Rattle.sdb_said.specs.Shown.{shown, is_held_by, is_kept_in, keeps_none, is_f
 use Rattle.sdb_lawful.specs.Rules.{own, known_moments, is_rolled_forward, rolls_open, rolls_forward, is_put_back, is_taken_back, undoes, rolls_back, rolls_well, is_left, is_shut, are_shut, removes_version, removes_well, is_known_aborted}
 use Rattle.sdb_said.proofs.Lists.{right, or_left, not_true, true_not, not_both, any_some, some_any, all_each, each_all, found_in}
 use Rattle.sdb_said.proofs.SaidLaws.{open_is, owner_is, stopped_is}
-use Rattle.sdb_said.proofs.ShownLaws.{number_is, is_number, key_is, is_key, is_shown, forward_is, is_forward_at, kept_is, is_kept_of, keeps_none_is, is_keeps_none}
+use Rattle.sdb_said.proofs.ShownLaws.{number_is, is_number, is_shown, forward_is, is_forward_at, kept_is, is_kept_of, keeps_none_is, is_keeps_none}
 use Rattle.sdb_said.proofs.SettledLaws.{held_by, is_held_by_of, gone_is, gone_of}
 use Rattle.sdb_lawful.proofs.KnownLaws.{moment_known, known_moment, aborted_is, is_aborted, own_is, is_own}
 use Rattle.sdb_types.proofs.Basics.{clash, or_second as or_right, either, decides as decide}
 use Rattle.sdb_types.proofs.Bools.{and_first as left, and_both as both}
+use Rattle.sdb_types.proofs.Keys.{same_key_exact, same_key_of}
 
 -- each write of a key that it has asked to prepare has the form of records
 abbrev pub Sound : List Played → List Plan → ℕ → Key → Type 0
@@ -132,18 +134,18 @@ undo_is past plans client store (ask.PutIf base c) how r answered t k outside kn
     record {
       roll = record { client = client; rolled = x.r; s = o.s; r = r; is_open = o.is_open; outside = outside; prepared = x.there };
       known = aborted_is past t known;
-      call = record { store = store; how = how; answer = answered; call = (λ i. event.Call client store (ask.PutIf base (o.is i)) how r answered) ∙ ap (λ b. event.Call client store (back_request k (id t) o.s b) how r answered) (sym (kept_is x.r base x.holds)) };
+      call = record { store = store; how = how; answer = answered; call = (λ i. event.Call client store (ask.PutIf base (o.is i)) how r answered) ∙ ap (λ b. event.Call client store (undo (condition.Version (id t) o.s) k b) how r answered) (sym (kept_is x.r base x.holds)) };
     }
 undo_is past plans client store (ask.DeleteIf key c) how r answered t k outside known h =
     let back = is_taken_back (shown past) (own past plans t k) t k in
-    let rest = right (rolls_open c t) ((Rattle.sdb_model.specs.Noted.same_key key k) && back) h in
-    let o = opens_is c t (left (rolls_open c t) ((Rattle.sdb_model.specs.Noted.same_key key k) && back) h) in
-    let at = key_is key k (left (Rattle.sdb_model.specs.Noted.same_key key k) back rest) in
-    let x = rolled_is past plans t k keeps_none (right (Rattle.sdb_model.specs.Noted.same_key key k) back rest) in
+    let rest = right (rolls_open c t) ((same_key key k) && back) h in
+    let o = opens_is c t (left (rolls_open c t) ((same_key key k) && back) h) in
+    let at = same_key_exact key k (left (same_key key k) back rest) in
+    let x = rolled_is past plans t k keeps_none (right (same_key key k) back rest) in
     record {
       roll = record { client = client; rolled = x.r; s = o.s; r = r; is_open = o.is_open; outside = outside; prepared = x.there };
       known = aborted_is past t known;
-      call = record { store = store; how = how; answer = answered; call = (λ i. event.Call client store (ask.DeleteIf (at i) (o.is i)) how r answered) ∙ ap (λ b. event.Call client store (back_request k (id t) o.s b) how r answered) (sym (keeps_none_is x.r x.holds)) };
+      call = record { store = store; how = how; answer = answered; call = (λ i. event.Call client store (ask.DeleteIf (at i) (o.is i)) how r answered) ∙ ap (λ b. event.Call client store (undo (condition.Version (id t) o.s) k b) how r answered) (sym (keeps_none_is x.r x.holds)) };
     }
 undo_is past plans client store (ask.Get key) how r answered t k outside known h = clash (sym h)
 undo_is past plans client store (ask.Scan span) how r answered t k outside known h = clash (sym h)
@@ -159,16 +161,16 @@ roll_back_is past plans (event.Clock moment) t k h = clash (sym h)
 roll_back_is past plans (event.Idle client) t k h = clash (sym h)
 
 is_undo : (past : List Played) (plans : List Plan) (t : ℕ) (k : Key) (s : State) (r : Record) (b : Option Record) → Sound past plans t k → is_committed s ≡ false → IsPreparedThere (plan_in plans) (all_played past) t k r → before_record r ≡ b
-    → undoes (shown past) (own past plans t k) (back_request k (id t) s b) t k ≡ true
+    → undoes (shown past) (own past plans t k) (undo (condition.Version (id t) s) k b) t k ≡ true
 is_undo past plans t k s r None sound open_state there e =
-    both (rolls_open (condition.Version (id t) s) t) (Rattle.sdb_model.specs.Noted.same_key k k && is_taken_back (shown past) (own past plans t k) t k) (is_opens t s open_state)
-    (both (Rattle.sdb_model.specs.Noted.same_key k k) (is_taken_back (shown past) (own past plans t k) t k) (is_key k k refl) (is_rolled past plans t k keeps_none r sound there (is_keeps_none r e)))
+    both (rolls_open (condition.Version (id t) s) t) (same_key k k && is_taken_back (shown past) (own past plans t k) t k) (is_opens t s open_state)
+    (both (same_key k k) (is_taken_back (shown past) (own past plans t k) t k) (same_key_of k k refl) (is_rolled past plans t k keeps_none r sound there (is_keeps_none r e)))
 is_undo past plans t k s r (Some base) sound open_state there e =
     both (rolls_open (condition.Version (id t) s) t) (is_put_back (shown past) (own past plans t k) t k base) (is_opens t s open_state) (is_rolled past plans t k (λ y. is_kept_in y base) r sound there (is_kept_of r base e))
 
 pub is_roll_back : (past : List Played) (plans : List Plan) (e : Event) (t : ℕ) (k : Key) → Sound past plans t k → MayRollBack (plan_in plans) (all_played past) e t k → rolls_back (shown past) past plans e t k ≡ true
 is_roll_back past plans e t k sound m =
-    let q = back_request k (id t) m.roll.s (before_record m.roll.rolled) in
+    let q = undo (condition.Version (id t) m.roll.s) k (before_record m.roll.rolled) in
     let u = undoes (shown past) (own past plans t k) q t k in
     ap (λ x. rolls_back (shown past) past plans x t k) m.call.call
     ∙ both (is_data k) (is_known_aborted (shown past) past t && u) m.roll.outside
@@ -228,12 +230,12 @@ removes_is (condition.Version i s) t h =
 remove_call : (past : List Played) (plans : List Plan) (client : ℕ) (store : Name) (key : Key) (c : Condition) (how : How) (r : Reply) (answered : Option Answer) (k : Key) (t : ℕ)
     → removes_well (shown past) past (event.Call client store (ask.DeleteIf key c) how r answered) k t ≡ true → MayRemove (all_played past) (event.Call client store (ask.DeleteIf key c) how r answered) k t
 remove_call past plans client store key c how r answered k t h =
-    let at = Rattle.sdb_model.specs.Noted.same_key key k in
+    let at = same_key key k in
     let gone = settles_gone (shown past) k t in
     let one = right at (removes_version c t && (is_data k && (are_shut past && gone))) h in
     let two = right (removes_version c t) (is_data k && (are_shut past && gone)) one in
     let three = right (is_data k) (are_shut past && gone) two in
-    let same = key_is key k (left at (removes_version c t && (is_data k && (are_shut past && gone))) h) in
+    let same = same_key_exact key k (left at (removes_version c t && (is_data k && (are_shut past && gone))) h) in
     let is = removes_is c t (left (removes_version c t) (is_data k && (are_shut past && gone)) one) in
     let g = gone_is past k t (right (are_shut past) gone three) in
     let shut = left (are_shut past) gone three in
@@ -261,11 +263,11 @@ remove_is past plans (event.Idle client) k t h = clash (sym h)
 
 pub is_remove : (past : List Played) (e : Event) (k : Key) (t : ℕ) → MayRemove (all_played past) e k t → removes_well (shown past) past e k t ≡ true
 is_remove past e k t m =
-    let at = Rattle.sdb_model.specs.Noted.same_key k k in
+    let at = same_key k k in
     let version = removes_version (condition.Version (id t) state.Committed) t in
     let gone = settles_gone (shown past) k t in
     ap (λ x. removes_well (shown past) past x k t) m.call.call
-    ∙ both at (version && (is_data k && (are_shut past && gone))) (is_key k k refl)
+    ∙ both at (version && (is_data k && (are_shut past && gone))) (same_key_of k k refl)
     (both version (is_data k && (are_shut past && gone)) (both (t == t) true (is_number t t refl) refl)
     (both (is_data k) (are_shut past && gone) m.outside
     (both (are_shut past) gone

@@ -22,19 +22,20 @@ use Rattle.sdb_record.specs.declared.write.Write.{Write}
 use Rattle.sdb_record.specs.Coordinator.{is_coordinator_table}
 use Rattle.sdb_record.specs.Meta.{id_in, is_moment}
 use Rattle.sdb_record.specs.Rolls.{IsWrite}
+use Rattle.sdb_record.specs.Among.{version_among, write_among}
 use Rattle.sdb_model.specs.declared.answer.Answer.{Answer}
 use Rattle.sdb_model.specs.declared.answer.Answer.TheVariants as answer
 use Rattle.sdb_model.specs.declared.event.Event.{Event}
 use Rattle.sdb_model.specs.declared.event.Event.TheVariants as event
 use Rattle.sdb_model.specs.Sql.{reads_begin, reads_commit}
 use Rattle.sdb_laws.specs.Plan.{write_at, noted, number_of}
-use Rattle.sdb_model.specs.Noted.{version_among, version_noted}
+use Rattle.sdb_model.specs.Noted.{version_noted}
 use Rattle.sdb_laws.specs.Lawful.{id, is_data, talk, IsSettled, MayBegin, MayTake}
 use Rattle.sdb_said.specs.declared.plan.Plan.{Plan}
 use Rattle.sdb_said.specs.declared.plan.Note.{Note}
 use Rattle.sdb_said.specs.declared.plan.Note.TheVariants as note
 use Rattle.sdb_said.specs.declared.played.Played.{Played}
-use Rattle.sdb_said.specs.Values.{all_played, note_of, plan_in, writes_in, notes_in, moment_in, write_in}
+use Rattle.sdb_said.specs.Values.{all_played, note_of, plan_in, writes_in, notes_in, moment_in}
 use Rattle.sdb_said.specs.Said.{begun_in, taken_in, open_in, owner_of, stopped_in}
 use Rattle.sdb_said.specs.Shown.{shown, is_settled}
 use Rattle.sdb_lawful.specs.Rules.{is_sound, is_fine_write, is_fine_key, are_fine_writes, is_fine_version, is_fine_found, is_fine_note, begins_well, takes_well}
@@ -127,7 +128,7 @@ is_within span clustering = both (is_eq (table_cmp span.table span.table)) (is_p
 ---- the taking of a COMMIT
 
 module _ (past : List Played) (plans : List Plan) (t : ℕ) where
-  fine_key_is : are_fine_writes (shown past) (writes_in plans t) (writes_in plans t) ≡ true → (k : Key) (w : Write) → write_in (writes_in plans t) k ≡ Some w → is_fine_write (shown past) k w ≡ true
+  fine_key_is : are_fine_writes (shown past) (writes_in plans t) (writes_in plans t) ≡ true → (k : Key) (w : Write) → write_among (writes_in plans t) k ≡ Some w → is_fine_write (shown past) k w ≡ true
   fine_key_is h k w e =
       let i = write_in_is (writes_in plans t) k w e in
       subst (λ x. is_fine_write (shown past) x w ≡ true) i.1 (ap (λ o. option_map_or (is_fine_write (shown past) w.key) o true) (sym (write_own (writes_in plans t) k w e)) ∙ all_each (is_fine_key (shown past) (writes_in plans t)) (writes_in plans t) h w i.0)
@@ -146,13 +147,13 @@ module _ (past : List Played) (plans : List Plan) (t : ℕ) where
 
   are_writes : ((k : Key) (w : Write) → write_at (plan_in plans t) k ≡ Some w → IsWrite w × (is_data k ≡ true)) → ((k : Key) (w : Write) (b : Record) → write_at (plan_in plans t) k ≡ Some w → w.base ≡ Some b → IsSettled (all_played past) k b)
       → are_fine_writes (shown past) (writes_in plans t) (writes_in plans t) ≡ true
-  are_writes ws bs = each_all (is_fine_key (shown past) (writes_in plans t)) (writes_in plans t) (λ w i. by w.key (write_in (writes_in plans t) w.key) refl)
+  are_writes ws bs = each_all (is_fine_key (shown past) (writes_in plans t)) (writes_in plans t) (λ w i. by w.key (write_among (writes_in plans t) w.key) refl)
     where
-      base : (k : Key) (w : Write) → write_in (writes_in plans t) k ≡ Some w → (o : Option Record) → w.base ≡ o → option_map_or (is_settled (shown past) k) o true ≡ true
+      base : (k : Key) (w : Write) → write_among (writes_in plans t) k ≡ Some w → (o : Option Record) → w.base ≡ o → option_map_or (is_settled (shown past) k) o true ≡ true
       base k w e None f = refl
       base k w e (Some b) f = is_settled_of past k b (bs k w b (write_is plans t k ∙ e) f)
 
-      by : (k : Key) (o : Option Write) → write_in (writes_in plans t) k ≡ o → option_map_or (is_fine_write (shown past) k) o true ≡ true
+      by : (k : Key) (o : Option Write) → write_among (writes_in plans t) k ≡ o → option_map_or (is_fine_write (shown past) k) o true ≡ true
       by k None e = refl
       by k (Some w) e =
           let a = ws k w (write_is plans t k ∙ e) in

@@ -12,7 +12,8 @@ use Rattle.sdb_types.specs.declared.record.Request.{Request}
 use Rattle.sdb_types.specs.declared.record.Request.TheVariants as ask
 use Rattle.sdb_types.specs.declared.record.Reply.{Reply}
 use Rattle.sdb_types.specs.declared.record.Reply.TheVariants as reply
-use Rattle.sdb_types.specs.Contents.{in_span}
+use Rattle.sdb_types.specs.Contents.{in_span, record_among}
+use Rattle.sdb_types.specs.Order.{same_key}
 use Rattle.sdb_record.specs.declared.access.Read.{Read}
 use Rattle.sdb_record.specs.declared.access.Scan.{Scan}
 use Rattle.sdb_record.specs.declared.coordinator.Decision.{Decision}
@@ -22,12 +23,13 @@ use Rattle.sdb_record.specs.Coordinator.{coordinator_key_of, coordinator_row_of,
 use Rattle.sdb_record.specs.Meta.{is_in, is_taken, is_moment, is_committed}
 use Rattle.sdb_record.specs.Moved.{version_of, condition_of, is_unchanged, same_version}
 use Rattle.sdb_record.specs.Rolls.{is_change, prepared_record}
+use Rattle.sdb_record.specs.Among.{version_among, write_among}
 use Rattle.sdb_model.specs.declared.answer.Answer.{Answer}
 use Rattle.sdb_model.specs.declared.event.Event.{Event}
 use Rattle.sdb_model.specs.declared.event.Event.TheVariants as event
 use Rattle.sdb_model.specs.Sql.{reads_begin, reads_commit}
-use Rattle.sdb_model.specs.Noted.{same_key, version_among, version_noted}
-use Rattle.sdb_laws.specs.Lawful.{id, is_data, is_quiet, is_denial, answer_of, row_among}
+use Rattle.sdb_model.specs.Noted.{version_noted}
+use Rattle.sdb_laws.specs.Lawful.{id, is_data, is_quiet, is_denial, answer_of}
 use Rattle.sdb_said.specs.declared.plan.Note.{Note}
 use Rattle.sdb_said.specs.declared.plan.Note.TheVariants as note
 use Rattle.sdb_said.specs.declared.plan.Plan.{Plan}
@@ -36,7 +38,7 @@ use Rattle.sdb_said.specs.declared.played.Word.TheVariants as word
 use Rattle.sdb_said.specs.declared.played.Role.{Role}
 use Rattle.sdb_said.specs.declared.played.Role.TheVariants as role
 use Rattle.sdb_said.specs.declared.played.Played.{Played}
-use Rattle.sdb_said.specs.Values.{note_of, writes_in, notes_in, moment_in, write_in, same_request, same_span}
+use Rattle.sdb_said.specs.Values.{note_of, writes_in, notes_in, moment_in, same_request, same_span}
 use Rattle.sdb_said.specs.Said.{taken_in, begun_in, asked_in, told_in, checked_in, staged_in, deciding_in, risked_in, won_in, dead_in, met_in, stopped_in, owner_of, open_in}
 use Rattle.sdb_said.specs.Shown.{shown, is_held_by, is_kept_in, keeps_none, is_forward, moments, shows_commit, shows_abort, shows_bad_row, is_settled, settles, settles_gone}
 use Rattle.sdb_model.specs.Transactions.{is_done, is_committed_answer}
@@ -55,7 +57,7 @@ abbrev pub is_fine_write : List Record → Key → Write → Bool
 is_fine_write rs k w = is_sound w && (is_data k && option_map_or (is_settled rs k) w.base true)
 
 abbrev pub is_fine_key : List Record → List Write → Write → Bool
-is_fine_key rs ws w = option_map_or (is_fine_write rs w.key) (write_in ws w.key) true
+is_fine_key rs ws w = option_map_or (is_fine_write rs w.key) (write_among ws w.key) true
 
 abbrev pub are_fine_writes : List Record → List Write → List Write → Bool
 are_fine_writes rs ws some = list_all (is_fine_key rs ws) some
@@ -113,12 +115,12 @@ abbrev pub puts_write : ℕ → ℤ → Request → Option Write → Bool
 puts_write t now q o = is_put q o (prepared_by t now o)
 
 abbrev pub prepares_well : List Played → List Plan → Event → ℕ → Key → Word → Bool
-prepares_well past plans (event.Call client store q how r answered) t k w = in_commit past client t && (fits_reply w r && ((not (staged_in past t) && not (asked_in past t k)) && puts_write t (moment_in plans t) q (write_in (writes_in plans t) k)))
+prepares_well past plans (event.Call client store q how r answered) t k w = in_commit past client t && (fits_reply w r && ((not (staged_in past t) && not (asked_in past t k)) && puts_write t (moment_in plans t) q (write_among (writes_in plans t) k)))
 prepares_well past plans _ t k w = false
 
 -- a key is as it was noted, or is written
 abbrev pub is_as_noted : List Write → Scan → List Record → Key → Bool
-is_as_noted ws scan rows k = not (in_span scan.span k) || (is_some (write_in ws k) || is_unchanged (row_among rows k) (version_among scan.found k))
+is_as_noted ws scan rows k = not (in_span scan.span k) || (is_some (write_among ws k) || is_unchanged (record_among rows k) (version_among scan.found k))
 
 abbrev pub are_as_noted : List Write → Scan → List Record → Bool
 are_as_noted ws scan rows = list_all (λ r. is_as_noted ws scan rows r.key) rows && list_all (λ r. is_as_noted ws scan rows r.key) scan.found
@@ -138,13 +140,13 @@ same_noted (Some version) base = same_version version base
 
 -- the base of a key that is written is what was noted of it
 abbrev pub agrees_at : List Write → Note → Write → Bool
-agrees_at ws n w = option_map_or (λ x. same_noted (version_noted (note_of n) w.key) (version_of x.base)) (write_in ws w.key) true
+agrees_at ws n w = option_map_or (λ x. same_noted (version_noted (note_of n) w.key) (version_of x.base)) (write_among ws w.key) true
 
 abbrev pub agrees : List Write → Note → Bool
 agrees ws n = list_all (agrees_at ws n) ws
 
 abbrev pub is_note_checked : List Played → ℕ → List Write → ℕ → Note → Bool
-is_note_checked past t ws i (note.Got read) = is_some (write_in ws read.key) || checked_in past t i
+is_note_checked past t ws i (note.Got read) = is_some (write_among ws read.key) || checked_in past t i
 is_note_checked past t ws i (note.Scanned scan) = checked_in past t i
 
 abbrev pub is_ready : List Played → ℕ → List Write → List Note → Bool
@@ -166,7 +168,7 @@ is_known_aborted rs past t = (dead_in past t || (met_in past t && not (risked_in
 
 -- what it has prepared itself at a key
 abbrev pub own : List Played → List Plan → ℕ → Key → Option Record
-own past plans t k = if asked_in past t k then prepared_by t (moment_in plans t) (write_in (writes_in plans t) k) else None
+own past plans t k = if asked_in past t k then prepared_by t (moment_in plans t) (write_among (writes_in plans t) k) else None
 
 abbrev pub with_own : Bool → ℤ → List ℤ → List ℤ
 with_own true moment ms = ms ++ moment ∷ []

@@ -1,10 +1,10 @@
 -- Each recorded writer of a key is the one whose record is shown there, or stands before it.
 use Rattle.std.proofs.Common.{◌≡◌, ◌≢◌, ℕ, ℤ, ◌<◌, ◌≤◌, Bool, true, Option, Some, None, ◌⊎◌, inl, inr, refl, sym, subst, arith}
 use Rattle.sdb_types.specs.declared.key.Key.{Key}
+use Rattle.sdb_types.proofs.Keys.{tests}
 use Rattle.sdb_record.specs.declared.coordinator.Decision.TheVariants.{Committed}
 use Rattle.sdb_laws.specs.Plan.{Plan, written}
 use Rattle.sdb_laws.specs.History.{Role, Other, Begins, Takes, Prepares, Checks, Decides, Aborts, Rolls, Removes, Ends, Stops, Word, History, start, happens, shadow, IsWriter, Covers}
-use Rattle.sdb_laws.proofs.Keys.{tests}
 use Rattle.sdb_laws.proofs.Allowed.{Allowed}
 use Rattle.sdb_laws.proofs.Small.{PointOk, TakenOk, AskedOk, TookOk, BegunOk, ApartOk, DecidedOk, HeardOk, FirmOk, HeldOk, BaseOk, NotedOk, GoneOk, StandsOk, point_kept, taken_kept, asked_kept, took_kept, begun_kept, apart_kept, decided_ok, heard_kept, firm_kept, held_kept, base_kept, noted_kept, gone_kept, stands_kept, earlier_kept, removed_kept, point_fixed}
 use Rattle.sdb_laws.proofs.Shadow.{shadow_writer, shadow_prepare, shadow_roll, shadow_remove, shadow_abort, UnderOk, OverOk, SawOk, under_kept, over_kept, saw_kept}

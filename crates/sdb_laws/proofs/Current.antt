@@ -31,20 +31,18 @@ use Rattle.sdb_model.specs.Rows.{Name}
 use Rattle.sdb_model.specs.Exec.{find_table}
 use Rattle.sdb_model.specs.Events.{Shelf, Effect, standing, moment}
 use Rattle.sdb_model.specs.Images.{image_at}
-use Rattle.sdb_model.specs.Calls.{record_among}
-use Rattle.sdb_model.specs.Noted.{Note, same_key, version_noted}
+use Rattle.sdb_model.specs.Noted.{Note, version_noted}
 use Rattle.sdb_model.specs.Transactions.{Recorded, begun, point}
 use Rattle.sdb_model.specs.Explained as model
 use Rattle.sdb_model.specs.Explained.{IsTableKey, IsPreparedAfter, Shows, UnchangedResolved, IsOfOrLater, WritesStand, IsLastBefore, ReadsCurrent, closing_of}
 use Rattle.sdb_laws.specs.Plan.{Plan, written, deletes, is_delete, noted, number_of}
 use Rattle.sdb_laws.specs.History.{Role, Other, Begins, Takes, Prepares, Checks, Decides, Aborts, Rolls, Removes, Ends, Stops, Talk, History, IsWriter, happens, heard}
-use Rattle.sdb_laws.specs.Lawful.{Played, MayPlay, IsLawful, id, is_data, row_among, talk, ended}
+use Rattle.sdb_laws.specs.Lawful.{Played, MayPlay, IsLawful, id, is_data, talk, ended}
 use Rattle.sdb_laws.specs.Trace.{closing, history}
 use Rattle.sdb_laws.specs.Records.{held_record, write_there}
 use Rattle.sdb_laws.specs.Explained.{IsRunOf, IsLastWriter, ImageOf, IsAsFound, newest_first, events_of}
 use Rattle.sdb_laws.specs.Explained as laws
 use Rattle.sdb_laws.specs.Faithful.{AreNoted, IsFaithful}
-use Rattle.sdb_laws.proofs.Keys.{tests}
 use Rattle.sdb_laws.proofs.Canon.{firm_writer, version_state, not_firm_version}
 use Rattle.sdb_laws.proofs.Allowed.{Allowed}
 use Rattle.sdb_laws.proofs.Small.{any_key, row_kept, decided_kept}
@@ -59,6 +57,7 @@ use Rattle.sdb_laws.proofs.ModelTime.{point_of}
 use Rattle.sdb_laws.proofs.Moments.{IsApart, IsCut, apart_from, at_cut, cut, early_run, moment_at, open_put, put_after, stands_at, took_of, trace_length, turned_append, turned_length}
 use Rattle.sdb_laws.proofs.Unchecked.{got}
 use Rattle.sdb_types.proofs.Basics.{clash, some_is}
+use Rattle.sdb_types.proofs.Keys.{tests}
 
 some_none : {A : Type 0} (a : A) → Some a ≡ None → ⊥
 some_none a e = cc
@@ -119,14 +118,10 @@ open_changed : (x : Record) (version : Option TxId) → is_in state.Committed x.
 open_changed x None h e = clash (sym e)
 open_changed x (Some v) h e = clash (sym e ∙ not_firm_version v x h)
 
-pub among_is : (rows : List Record) (key : Key) → record_among rows key ≡ row_among rows key
-unfolding same_key
-among_is rows key = refl
-
 shows_stands : (places : List Place) (client : ℕ) (store : Name) (q : Request) (how : How) (r : Reply) (answer : Option Answer) (before now : List Shelf) (key : Key) (found : Option Record) → Effect places (event.Call client store q how r answer) before now → Shows q r key found → found ≡ standing places before key
 shows_stands places client store (ask.Get k) how (reply.Found x) answer before now key found c (same, is) = sym is ∙ get_reply places k (reply.Found x) x before now (at_call places store (ask.Get k) how (reply.Found x) before now c) refl ∙ ap (standing places before) same
 shows_stands places client store (ask.Scan span) how (reply.Rows rows) answer before now key found c (inside, is) =
-    sym is ∙ among_is rows key ∙ scan_reply places span (reply.Rows rows) rows before now (at_call places store (ask.Scan span) how (reply.Rows rows) before now c) refl key inside
+    sym is ∙ scan_reply places span (reply.Rows rows) rows before now (at_call places store (ask.Scan span) how (reply.Rows rows) before now c) refl key inside
 shows_stands places client store (ask.Get k) how (reply.Rows rows) answer before now key found c h = absurd h
 shows_stands places client store (ask.Get k) how reply.Applied answer before now key found c h = absurd h
 shows_stands places client store (ask.Get k) how (reply.NotMet x) answer before now key found c h = absurd h

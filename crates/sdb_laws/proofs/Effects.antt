@@ -12,14 +12,14 @@ use Rattle.sdb_types.specs.declared.record.Reply.{Reply}
 use Rattle.sdb_types.specs.declared.record.Reply.TheVariants as reply
 use Rattle.sdb_types.specs.Contents.{Contents, record_at, record_of, holds, reply_to, after}
 use Rattle.sdb_types.proofs.KeyOrder.{key_total}
+use Rattle.sdb_types.specs.Order.{same_key}
+use Rattle.sdb_types.proofs.Keys.{same_key_tells}
 use Rattle.sdb_record.proofs.NameLemmas.{same_name-true, same_name-itself}
 use Rattle.sdb_model.specs.declared.event.How.{How}
 use Rattle.sdb_model.specs.declared.event.How.TheVariants.{Seen, Lost, Discarded, Broken}
 use Rattle.sdb_model.specs.declared.script.Place.{Place}
 use Rattle.sdb_model.specs.Rows.{Name, same_name}
 use Rattle.sdb_model.specs.Events.{Shelf, held_by, with_contents, store_of, first_name, standing, table_asked, IsPerformed, IsCall}
-use Rattle.sdb_model.specs.Noted.{same_key}
-use Rattle.sdb_laws.proofs.Keys.{same_key_tells}
 
 ---- contents
 

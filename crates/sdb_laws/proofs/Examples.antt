@@ -24,20 +24,21 @@ use Rattle.sdb_model.specs.declared.event.Event.TheVariants as event
 use Rattle.sdb_model.specs.declared.event.How.{How}
 use Rattle.sdb_model.specs.Transactions.{rest_of}
 use Rattle.sdb_laws.specs.Plan.{Plan, write_at, written, noted, number_of}
-use Rattle.sdb_model.specs.Noted.{Note, Got, same_key}
+use Rattle.sdb_model.specs.Noted.{Note, Got}
 use Rattle.sdb_laws.specs.Lawful.{Played, id, is_data, IsLawful, IsShown, IsRowShown, IsHeldShown, IsSettled, Itself, Forward, InReply, IsUnchanged, is_denial, talk}
 use Rattle.sdb_laws.specs.Worked.{account, one, two, three, inserts, updates, deletes_it, prepared, forward, read_at, plan_with, first_run, second_run, lost_decision, recovery, vacuumed, decided_early, prepared_twice, rolled_blindly, checked_moved, removed_while_open, update_text, delete_text, row}
-use Rattle.sdb_laws.proofs.Keys.{same_key_tells, same_key_self}
 use Rattle.sdb_laws.proofs.Canon.{version_state, not_firm_version}
 use Rattle.sdb_laws.proofs.Reading.{noted_got}
 use Rattle.sdb_laws.proofs.Texts.{begin_begins, commit_commits}
 use Rattle.sdb_types.proofs.Basics.{clash}
+use Rattle.sdb_types.specs.Order.{same_key}
+use Rattle.sdb_types.proofs.Keys.{same_key_tells, same_key_self}
 
 ---- plans of one write and one note
 
 pub only_write : (plan : Plan) (x : Write) (k : Key) (w : Write) → plan.writes ≡ x ∷ [] → write_at plan k ≡ Some w → (w ≡ x) × (k ≡ x.key)
 unfolding write_at
-only_write plan x k w e h = by (same_key_tells x.key k) (sym (ap (λ ws. Rattle.std.specs.Prelude.find (λ (y : Write). same_key y.key k) ws) e) ∙ h)
+only_write plan x k w e h = by (same_key_tells k x.key) (sym (ap (λ ws. Rattle.std.specs.Prelude.find (λ (y : Write). same_key k y.key) ws) e) ∙ h)
   where
     some_is : (a b : Write) → Some a ≡ Some b → b ≡ a
     some_is a b e = cc
@@ -45,8 +46,8 @@ only_write plan x k w e h = by (same_key_tells x.key k) (sym (ap (λ ws. Rattle.
     none : ◌≡◌ {A = Option Write} None (Some w) → ⊥
     none x = cc
 
-    by : ((same_key x.key k ≡ true) × (x.key ≡ k)) ⊎ ((same_key x.key k ≡ false) × (x.key ≢ k)) → Rattle.std.specs.Prelude.find (λ (y : Write). same_key y.key k) (x ∷ []) ≡ Some w → (w ≡ x) × (k ≡ x.key)
-    by (inl s) f = (some_is x w (sym (rw s.0 refl) ∙ f), sym s.1)
+    by : ((same_key k x.key ≡ true) × (k ≡ x.key)) ⊎ ((same_key k x.key ≡ false) × (k ≢ x.key)) → Rattle.std.specs.Prelude.find (λ (y : Write). same_key k y.key) (x ∷ []) ≡ Some w → (w ≡ x) × (k ≡ x.key)
+    by (inl s) f = (some_is x w (sym (rw s.0 refl) ∙ f), s.1)
     by (inr s) f = absurd (none (sym (rw s.0 refl) ∙ f))
 
 only_written : (plan : Plan) (x : Write) (k : Key) → plan.writes ≡ x ∷ [] → written plan k ≢ None → k ≡ x.key

@@ -11,7 +11,7 @@ use Rattle.sdb_types.specs.declared.record.Request.{Request}
 use Rattle.sdb_types.specs.declared.record.Request.TheVariants as ask
 use Rattle.sdb_types.specs.declared.record.Reply.{Reply}
 use Rattle.sdb_types.specs.declared.record.Reply.TheVariants as reply
-use Rattle.sdb_types.specs.Order.{key_cmp}
+use Rattle.sdb_types.specs.Order.{key_cmp, same_key}
 use Rattle.sdb_types.specs.Contents.{Contents, record_at, record_of, holds, reply_to, after}
 use Rattle.sdb_record.specs.declared.coordinator.Decision.TheVariants.{Committed}
 use Rattle.sdb_record.specs.declared.write.Write.{Write}
@@ -21,7 +21,6 @@ use Rattle.sdb_record.proofs.RollLaws.{forward-key}
 use Rattle.sdb_record.proofs.TakenLaws.{prepared-key}
 use Rattle.sdb_model.specs.declared.event.How.TheVariants.{Seen}
 use Rattle.sdb_model.specs.Events.{IsCall}
-use Rattle.sdb_model.specs.Noted.{same_key}
 use Rattle.sdb_laws.specs.Lawful.{id}
 use Rattle.sdb_laws.specs.Trace.{IsTraced, StartsEmpty, history}
 use Rattle.sdb_laws.proofs.Times.{told_recorded}

@@ -4,6 +4,8 @@ use Rattle.std.specs.Prelude.{find, unwrap_or, Result, Ok, if◌then◌else◌}
 use Rattle.std.specs.Option.{option_map}
 use Rattle.sdb_types.specs.declared.key.Key.{Key}
 use Rattle.sdb_types.specs.declared.record.Record.{Record}
+use Rattle.sdb_types.specs.Order.{same_key}
+use Rattle.sdb_types.proofs.Keys.{tests, same_key_exact}
 use Rattle.sdb_record.specs.declared.coordinator.Decided.{Decided}
 use Rattle.sdb_record.specs.declared.coordinator.Decision.{Decision}
 use Rattle.sdb_record.specs.declared.coordinator.Decision.TheVariants.{Committed}
@@ -19,12 +21,10 @@ use Rattle.sdb_record.proofs.RollLaws.{forward-key}
 use Rattle.sdb_model.specs.declared.script.Place.{Place}
 use Rattle.sdb_model.specs.Events.{Shelf, standing}
 use Rattle.sdb_laws.specs.Plan.{Plan, write_at, written, number_of, noted}
-use Rattle.sdb_model.specs.Noted.{same_key}
 use Rattle.sdb_laws.specs.History.{Role, History, Standing, Firm, Held, base_of, happens, IsWriter}
 use Rattle.sdb_laws.specs.Lawful.{Played, id, is_data, IsShown, IsRowShown}
 use Rattle.sdb_laws.specs.Trace.{after_end}
 use Rattle.sdb_laws.specs.Records.{write_there, held_record, firm_record, record_for, row_for, IsHeld}
-use Rattle.sdb_laws.proofs.Keys.{tests, same_key_tells}
 use Rattle.sdb_laws.proofs.Allowed.{Allowed}
 use Rattle.sdb_laws.proofs.Small.{TakenOk, TookOk, BegunOk, writer_kept}
 use Rattle.sdb_laws.proofs.Cover.{Inv}
@@ -51,10 +51,7 @@ found_holds {X = X} p (y ∷ ys) x e = by (found_holds p ys x) (p y) refl e
 
 pub write_key : (plan : Plan) (k : Key) (w : Write) → write_at plan k ≡ Some w → w.key ≡ k
 unfolding write_at
-write_key plan k w e = by (same_key_tells w.key k) (found_holds (λ (x : Write). same_key x.key k) plan.writes w e)
-  where
-    by : ((same_key w.key k ≡ true) × (w.key ≡ k)) ⊎ ((same_key w.key k ≡ false) × (w.key ≢ k)) → same_key w.key k ≡ true → w.key ≡ k
-    by c h = grind arith
+write_key plan k w e = sym (same_key_exact k w.key (found_holds (λ (x : Write). same_key k x.key) plan.writes w e))
 
 pub write_is : (plan : Plan) (k : Key) (w : Write) → write_at plan k ≡ Some w → write_there plan k ≡ w
 write_is plan k w e = ap (λ o. unwrap_or o (record { key = k; base = None; change = Rattle.sdb_record.specs.declared.write.Change.TheVariants.Delete })) e

@@ -1,5 +1,4 @@
 pub mod Texts
-pub mod Keys
 pub mod Allowed
 pub mod Small
 pub mod Shadow

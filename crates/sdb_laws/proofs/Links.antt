@@ -11,17 +11,17 @@ use Rattle.sdb_types.specs.declared.record.Reply.{Reply}
 use Rattle.sdb_record.specs.declared.coordinator.Decision.{Decision}
 use Rattle.sdb_record.specs.Coordinator.{coordinator_key_of, coordinator_row_of, id_of_key}
 use Rattle.sdb_types.specs.Contents.{holds}
+use Rattle.sdb_types.specs.Order.{same_key}
+use Rattle.sdb_types.proofs.Keys.{tests, same_key_tells}
 use Rattle.sdb_record.proofs.ImageLaws.{key-of-id}
 use Rattle.sdb_model.specs.declared.event.Event.{Event}
 use Rattle.sdb_model.specs.declared.script.Place.{Place}
 use Rattle.sdb_model.specs.Events.{Shelf, Effect, standing, IsCall}
 use Rattle.sdb_laws.specs.Plan.{Plan}
-use Rattle.sdb_model.specs.Noted.{same_key}
 use Rattle.sdb_laws.specs.History.{History, Standing}
 use Rattle.sdb_laws.specs.Lawful.{id, is_data, IsCallOf}
 use Rattle.sdb_laws.specs.Records.{record_for, row_for, IsHeld}
 use Rattle.sdb_laws.specs.Trace.{took_at, has_effect}
-use Rattle.sdb_laws.proofs.Keys.{tests, same_key_tells}
 use Rattle.sdb_laws.proofs.Writes.{IsWritten, put_written, delete_written}
 
 ---- keys of rows

@@ -33,13 +33,11 @@ use Rattle.sdb_model.specs.Events.{Shelf, standing, moment}
 use Rattle.sdb_model.specs.Transactions.{prepares}
 use Rattle.sdb_model.specs.Explained.{IsTableKey, CommittedRecorded, AbortedGone, IsAborted, RowsFinal, UnresolvedPrepared, PreparedStands, IsPreparedAfter}
 use Rattle.sdb_laws.specs.Plan.{Plan}
-use Rattle.sdb_model.specs.Noted.{same_key}
 use Rattle.sdb_laws.specs.History.{Role, Other, Begins, Takes, Prepares, Checks, Decides, Aborts, Rolls, Removes, Ends, Stops, Word, History, Held, happens}
 use Rattle.sdb_laws.specs.Lawful.{Played, MayPlay, MayPrepare, id, is_data}
 use Rattle.sdb_laws.specs.Trace.{closing, history, has_effect, after_end, IsTraced}
 use Rattle.sdb_laws.specs.Records.{held_record, record_for, row_for}
 use Rattle.sdb_laws.specs.Explained.{IsRunOf, IsPreparedRecord, newest_first, events_of}
-use Rattle.sdb_laws.proofs.Keys.{tests, same_key_self, same_key_tells}
 use Rattle.sdb_laws.proofs.Canon.{same_writer}
 use Rattle.sdb_laws.proofs.Known.{held_key, taken_fits, took_is_taken, took_stays}
 use Rattle.sdb_laws.proofs.Moves.{held_is}
@@ -50,6 +48,8 @@ use Rattle.sdb_laws.proofs.Points.{held_prepares, firm_no}
 use Rattle.sdb_record.proofs.ImageLaws.{version-writer}
 use Rattle.sdb_types.specs.Contents.{is_version}
 use Rattle.sdb_types.proofs.Basics.{clash}
+use Rattle.sdb_types.specs.Order.{same_key}
+use Rattle.sdb_types.proofs.Keys.{tests, same_key_self, same_key_tells}
 
 -- the keys of a catalog's tables are keys of records
 pub record IsApart (catalog : List Table) : Type 0 where

@@ -25,12 +25,10 @@ use Rattle.sdb_model.specs.declared.event.Event.{Event}
 use Rattle.sdb_model.specs.declared.script.Place.{Place}
 use Rattle.sdb_model.specs.Events.{Shelf, Effect, standing}
 use Rattle.sdb_laws.specs.Plan.{Plan, write_at, written}
-use Rattle.sdb_model.specs.Noted.{same_key}
 use Rattle.sdb_laws.specs.History.{Role, Prepares, Decides, Aborts, Word, is_yes, is_met, is_wanting, Talk, History, Standing, Firm, Held, base_of, has_version, happens, with_row, IsLive, IsWriter, IsPrepared}
 use Rattle.sdb_laws.specs.Lawful.{Played, talk, id, word_of, InCommit, IsCallOf, MayPrepare, MayDecide, MayAbort}
 use Rattle.sdb_laws.specs.Records.{held_record, firm_record, record_for, row_for, IsHeld}
 use Rattle.sdb_laws.specs.Trace.{took_at, has_effect}
-use Rattle.sdb_laws.proofs.Keys.{tests}
 use Rattle.sdb_laws.proofs.Allowed.{Allowed}
 use Rattle.sdb_laws.proofs.Canon.{held_writer, held_open, firm_writer, firm_committed, same_writer, not_open_version, not_firm_version}
 use Rattle.sdb_laws.proofs.Writes.{IsWritten}
@@ -38,6 +36,8 @@ use Rattle.sdb_laws.proofs.Known.{written_some, write_is, held_key, taken_fits, 
 use Rattle.sdb_laws.proofs.Settled.{Knows}
 use Rattle.sdb_laws.proofs.Links.{link_write, link_row, put_call, took_held}
 use Rattle.sdb_types.proofs.Basics.{clash}
+use Rattle.sdb_types.specs.Order.{same_key}
+use Rattle.sdb_types.proofs.Keys.{tests}
 
 pub record Moves (plan : ℕ → Plan) (places : List Place) (w : History) (r : Role) (done : Bool) (now : List Shelf) : Type 0 where
   pub allowed : Allowed plan w r done

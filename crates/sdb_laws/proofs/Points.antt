@@ -24,7 +24,7 @@ use Rattle.sdb_record.specs.declared.write.Change.TheVariants as change
 use Rattle.sdb_record.specs.Coordinator.{coordinator_row_of}
 use Rattle.sdb_record.specs.Meta.{is_in}
 use Rattle.sdb_record.specs.Parts.{before_record}
-use Rattle.sdb_record.specs.Rolls.{forward_record, prepared_record, state_of_change}
+use Rattle.sdb_record.specs.Rolls.{forward_record, prepared_record, state_of_change, undo}
 use Rattle.sdb_record.proofs.ImageLaws.{prepared-version, version-writer}
 use Rattle.sdb_record.proofs.RollLaws.{forward-committed}
 use Rattle.sdb_model.specs.declared.answer.Answer.{Answer}
@@ -38,17 +38,17 @@ use Rattle.sdb_model.specs.Transactions.{prepares, is_prepared_by, last_prepare}
 use Rattle.sdb_laws.specs.Plan.{Plan, written}
 use Rattle.sdb_model.specs.Noted.{Got, Scanned, Note}
 use Rattle.sdb_laws.specs.History.{Role, Other, Begins, Takes, Prepares, Checks, Decides, Aborts, Rolls, Removes, Ends, Stops, is_yes, Talk, History, heard, base_of}
-use Rattle.sdb_laws.specs.Lawful.{Played, talk, ended, id, word_of, back_request, is_quiet, IsCallOf, IsUnchanged, MayPlay, MayRollBack}
+use Rattle.sdb_laws.specs.Lawful.{Played, talk, ended, id, word_of, is_quiet, IsCallOf, IsUnchanged, MayPlay, MayRollBack}
 use Rattle.sdb_laws.specs.Records.{write_there, held_record, firm_record}
 use Rattle.sdb_laws.specs.Trace.{closing, history}
 use Rattle.sdb_laws.specs.Explained.{IsRunOf, newest_first, events_of}
-use Rattle.sdb_laws.proofs.Keys.{tests}
 use Rattle.sdb_laws.proofs.Canon.{held_writer, firm_committed, not_open_version, same_writer}
 use Rattle.sdb_laws.proofs.Known.{taken_fits, held_before}
 use Rattle.sdb_laws.proofs.Settled.{Knows, IsOwn, prepared_there}
 use Rattle.sdb_laws.proofs.Moves.{held_is}
 use Rattle.sdb_laws.proofs.Whole.{Whole, whole}
 use Rattle.sdb_types.proofs.Basics.{clash}
+use Rattle.sdb_types.proofs.Keys.{tests}
 
 ---- which events are prepares
 
@@ -182,7 +182,7 @@ note_no : (plan : Plan) (t : TxId) (note : Note) (q : Request) (r : Reply) → I
 note_no plan t (Got read) q r u = ap (prepares t) u.1
 note_no plan t (Scanned scan) q r u = ap (prepares t) u.1
 
-back_no : (plan : ℕ → Plan) (t : TxId) (k : Key) (u : ℕ) (s : State) (v : Option ℕ) → prepares t (back_request k (id u) s (option_map (λ x. firm_record plan x k) v)) ≡ false
+back_no : (plan : ℕ → Plan) (t : TxId) (k : Key) (u : ℕ) (s : State) (v : Option ℕ) → prepares t (undo (condition.Version (id u) s) k (option_map (λ x. firm_record plan x k) v)) ≡ false
 back_no plan t k u s None = refl
 back_no plan t k u s (Some x) = firm_no t (firm_record plan x k) (condition.Version (id u) s) (firm_committed plan x k)
 
@@ -203,7 +203,7 @@ prepared_by plan places w past e before now (Rolls u k Committed) t knows effect
 prepared_by plan places w past e before now (Rolls u k Aborted) t knows effect m fits = back m (prepared_there plan w past u k m.roll.rolled knows m.roll.outside m.roll.prepared)
   where
     back : (m : MayRollBack plan past e u k) → IsOwn plan w u k m.roll.rolled → is_prepared_by (id t) e ≡ false
-    back m own = no_call (id t) e m.roll.client _ m.roll.r m.call (ap (λ o. prepares (id t) (back_request k (id u) m.roll.s o)) (ap before_record own.same ∙ held_before plan u k (knows.planned u own.taken) own.writes) ∙ back_no plan (id t) k u m.roll.s (base_of (written (plan u) k)))
+    back m own = no_call (id t) e m.roll.client _ m.roll.r m.call (ap (λ o. prepares (id t) (undo (condition.Version (id u) m.roll.s) k o)) (ap before_record own.same ∙ held_before plan u k (knows.planned u own.taken) own.writes) ∙ back_no plan (id t) k u m.roll.s (base_of (written (plan u) k)))
 prepared_by plan places w past e before now (Removes k u) t knows effect m fits = no_call (id t) e m.client _ m.r m.call refl
 prepared_by plan places w past e before now (Ends u) t knows effect m fits = absurd m
 prepared_by plan places w past e before now (Stops c) t knows effect m fits = ap (is_prepared_by (id t)) m

@@ -14,16 +14,16 @@ use Rattle.sdb_record.specs.declared.access.Scan.{Scan}
 use Rattle.sdb_record.specs.declared.write.Write.{Write}
 use Rattle.sdb_record.specs.Meta.{id_in}
 use Rattle.sdb_record.specs.Moved.{version_of, condition_of}
+use Rattle.sdb_record.specs.Among.{version_among}
 use Rattle.sdb_model.specs.declared.event.Event.{Event}
 use Rattle.sdb_model.specs.declared.event.Event.TheVariants as event
 use Rattle.sdb_model.specs.declared.script.Place.{Place}
 use Rattle.sdb_model.specs.Events.{Shelf, Effect, standing, IsCall}
 use Rattle.sdb_laws.specs.Plan.{Plan, write_at, written, noted, number_of}
-use Rattle.sdb_model.specs.Noted.{Note, Got, Scanned, same_key, version_noted, version_among}
+use Rattle.sdb_model.specs.Noted.{Note, Got, Scanned, version_noted}
 use Rattle.sdb_laws.specs.History.{Other, Begins, Takes, Checks, Stops, Talk, History, base_of, happens, IsLive, IsWriter, Deciding}
 use Rattle.sdb_laws.specs.Lawful.{Played, talk, id, is_quiet, IsUnchanged, MayBegin, MayTake, MayCheck}
 use Rattle.sdb_laws.specs.Records.{firm_record, IsHeld}
-use Rattle.sdb_laws.proofs.Keys.{same_key_tells}
 use Rattle.sdb_laws.proofs.Canon.{firm_writer, same_writer}
 use Rattle.sdb_laws.proofs.Effects.{AtCall, at_call}
 use Rattle.sdb_laws.proofs.Shown.{get_reply, scan_reply, read_leaves}
@@ -32,6 +32,8 @@ use Rattle.sdb_laws.proofs.Settled.{Knows, firm_of as settled_of}
 use Rattle.sdb_laws.proofs.Links.{link_same}
 use Rattle.sdb_laws.proofs.Moves.{Moves, live, version_stands, writer_fits}
 use Rattle.sdb_types.proofs.Basics.{clash}
+use Rattle.sdb_types.specs.Order.{same_key}
+use Rattle.sdb_types.proofs.Keys.{same_key_tells}
 
 ---- checks
 

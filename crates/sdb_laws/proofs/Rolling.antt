@@ -15,15 +15,14 @@ use Rattle.sdb_record.specs.declared.write.Change.{Change}
 use Rattle.sdb_record.specs.declared.write.Change.TheVariants as change
 use Rattle.sdb_record.specs.Meta.{id_in, is_committed}
 use Rattle.sdb_record.specs.Parts.{before_record}
-use Rattle.sdb_record.specs.Rolls.{IsWrite, forward_record, is_tombstone, row_of_image, row_of_change}
+use Rattle.sdb_record.specs.Rolls.{IsWrite, forward_record, is_tombstone, row_of_image, row_of_change, undo}
 use Rattle.sdb_record.proofs.ImageLaws.{forward-prepared-row}
 use Rattle.sdb_model.specs.declared.event.Event.{Event}
 use Rattle.sdb_model.specs.declared.script.Place.{Place}
 use Rattle.sdb_model.specs.Events.{Shelf, Effect}
 use Rattle.sdb_laws.specs.Plan.{Plan, written, deletes, is_delete}
-use Rattle.sdb_model.specs.Noted.{same_key}
 use Rattle.sdb_laws.specs.History.{Rolls, Removes, Talk, History, Firm, base_of, firm_of, rolled, happens, IsWriter}
-use Rattle.sdb_laws.specs.Lawful.{Played, id, back_request, IsCallOf, MayRollForward, MayRollBack, MayRemove}
+use Rattle.sdb_laws.specs.Lawful.{Played, id, IsCallOf, MayRollForward, MayRollBack, MayRemove}
 use Rattle.sdb_laws.specs.Records.{write_there, held_record, firm_record, record_for, IsHeld}
 use Rattle.sdb_laws.specs.Trace.{took_at, has_effect}
 use Rattle.sdb_laws.proofs.Canon.{firm_writer, firm_committed, same_writer, not_open_version}
@@ -33,6 +32,7 @@ use Rattle.sdb_laws.proofs.Settled.{Knows, firm_of as settled_of, forward_at, pr
 use Rattle.sdb_laws.proofs.Links.{link_write, put_call, delete_call, took_held}
 use Rattle.sdb_laws.proofs.Moves.{Moves, open_stands, firm_stands, writer_fits}
 use Rattle.sdb_types.proofs.Basics.{clash}
+use Rattle.sdb_types.specs.Order.{same_key}
 
 rolled_rows : (plan : ℕ → Plan) (w : History) (t : ℕ) (k : Key) (d : Decision) (b : Bool) (q : Key) → (happens plan w (Rolls t k d) b).rows q ≡ (if b && same_key q k then rolled (plan t) t k d else w.rows q)
 rolled_rows plan w t k d true q = refl
@@ -59,7 +59,7 @@ record Backs (plan : ℕ → Plan) (places : List Place) (e : Event) (t : ℕ) (
   took : has_effect places e before now ≡ took_at places k (condition.Version (id t) s) before now
 
 backs : (plan : ℕ → Plan) (places : List Place) (e : Event) (client t : ℕ) (k : Key) (s : State) (v : Option ℕ) (r : Reply) (before now : List Shelf) → is_committed s ≡ false → ((u : ℕ) → v ≡ Some u → written (plan u) k ≢ None)
-    → IsCallOf e client (back_request k (id t) s (option_map (λ u. firm_record plan u k) v)) r → Effect places e before now → Backs plan places e t k s v r before now
+    → IsCallOf e client (undo (condition.Version (id t) s) k (option_map (λ u. firm_record plan u k) v)) r → Effect places e before now → Backs plan places e t k s v r before now
 backs plan places e client t k s None r before now is writer call effect =
     let dc = delete_call places e client k (condition.Version (id t) s) r before now call effect refl in
     record { written = dc.0; took = dc.1 }
@@ -80,7 +80,7 @@ back_moves plan places w past e before now t k done knows held effect is m =
     let v = base_of (written (plan t) k) in
     let c = condition.Version (id t) roll.s in
     let to : before_record roll.rolled ≡ option_map (λ u. firm_record plan u k) (base_of (written (plan t) k)) = ap before_record own.same ∙ held_before plan t k (knows.planned t own.taken) own.writes in
-    let b = backs plan places e roll.client t k roll.s v roll.r before now roll.is_open (λ u h. (knows.inv.base t k u own.taken h).1) (subst (λ x. IsCallOf e roll.client (back_request k (id t) roll.s x) roll.r) to m.call) effect in
+    let b = backs plan places e roll.client t k roll.s v roll.r before now roll.is_open (λ u h. (knows.inv.base t k u own.taken h).1) (subst (λ x. IsCallOf e roll.client (undo (condition.Version (id t) roll.s) k x) roll.r) to m.call) effect in
     let took : took_at places k (condition.Version (id t) m.roll.s) before now ≡ done = sym b.took ∙ is in
     record {
       allowed = λ h. (open_stands plan w past k t roll.s knows own.fits roll.is_open (subst (λ x. holds c x ≡ true) (held.records k roll.outside) (took_held places k c before now (took ∙ h))), known);

@@ -9,7 +9,7 @@ use Rattle.sdb_laws.specs.Plan.{Plan, written, noted}
 use Rattle.sdb_laws.specs.History.{Role, Other, Begins, Takes, Prepares, Checks, Decides, Aborts, Rolls, Removes, Ends, Stops, Word, Preparing, History, start, at, Held, base_of, has_version, happens, shadow, IsWriter, IsLive, Covers}
 use Rattle.sdb_laws.specs.Trace.{after_end}
 use Rattle.sdb_types.proofs.Basics.{clash}
-use Rattle.sdb_laws.proofs.Keys.{tests}
+use Rattle.sdb_types.proofs.Keys.{tests}
 use Rattle.sdb_laws.proofs.Allowed.{Allowed}
 use Rattle.sdb_laws.proofs.Small.{IsDecided, PointOk, TookOk, decided_kept, writer_kept, point_fixed}
 use Rattle.sdb_laws.proofs.Shadow.{saw_same, saw_now, at_prepare, begun_stays, took_taken}

@@ -1,11 +1,11 @@
 -- Only a deciding put changes a shadow.
 use Rattle.std.proofs.Common.{◌≡◌, ◌≢◌, ℕ, ℤ, ◌+◌, ◌<◌, ◌≤◌, Bool, true, Option, Some, None, ◌⊎◌, inl, inr, refl, ◌∙◌, arith}
 use Rattle.sdb_types.specs.declared.key.Key.{Key}
+use Rattle.sdb_types.proofs.Keys.{tests}
 use Rattle.sdb_record.specs.declared.coordinator.Decision.{Decision}
 use Rattle.sdb_record.specs.declared.coordinator.Decision.TheVariants.{Committed}
 use Rattle.sdb_laws.specs.Plan.{Plan, written}
 use Rattle.sdb_laws.specs.History.{Role, Other, Begins, Takes, Prepares, Checks, Decides, Aborts, Rolls, Removes, Ends, Stops, Word, Deciding, History, Firm, Held, base_of, has_version, happens, Standing, image_in, or_else, shadow, IsLive, IsWriter}
-use Rattle.sdb_laws.proofs.Keys.{tests}
 use Rattle.sdb_laws.proofs.Allowed.{Allowed}
 use Rattle.sdb_laws.proofs.Small.{writer_kept, decided_kept, TakenOk, AskedOk, TookOk, BegunOk, HeardOk, FirmOk, HeldOk, BaseOk, GoneOk, StandsOk}
 use Rattle.sdb_laws.specs.Explained.{IsAsFound as Saw, RemovedBeforeBegin}

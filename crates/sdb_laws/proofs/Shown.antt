@@ -15,18 +15,17 @@ use Rattle.sdb_types.specs.declared.record.Request.{Request}
 use Rattle.sdb_types.specs.declared.record.Request.TheVariants as ask
 use Rattle.sdb_types.specs.declared.record.Reply.{Reply}
 use Rattle.sdb_types.specs.declared.record.Reply.TheVariants as reply
-use Rattle.sdb_types.specs.Order.{key_cmp, table_cmp}
-use Rattle.sdb_types.specs.Contents.{Contents, record_at, record_of, in_span, is_partition, rows_among, rows_in, holds, put_reply, reply_to, after}
+use Rattle.sdb_types.specs.Order.{key_cmp, table_cmp, same_key}
+use Rattle.sdb_types.specs.Contents.{Contents, record_at, record_of, in_span, is_partition, rows_among, rows_in, holds, put_reply, reply_to, after, record_among}
 use Rattle.sdb_types.proofs.Bools.{and_first}
 use Rattle.sdb_types.proofs.KeyOrder.{table_exact}
 use Rattle.sdb_types.proofs.Replies.{record_at-key}
+use Rattle.sdb_types.proofs.Keys.{same_key_tells}
 use Rattle.sdb_model.specs.declared.event.Event.{Event}
 use Rattle.sdb_model.specs.declared.event.Event.TheVariants as event
 use Rattle.sdb_model.specs.declared.script.Place.{Place}
 use Rattle.sdb_model.specs.Events.{Shelf, Effect, standing, table_asked}
-use Rattle.sdb_model.specs.Noted.{same_key}
-use Rattle.sdb_laws.specs.Lawful.{row_among, InReply, InEvent}
-use Rattle.sdb_laws.proofs.Keys.{same_key_tells}
+use Rattle.sdb_laws.specs.Lawful.{InReply, InEvent}
 use Rattle.sdb_laws.proofs.Effects.{AtCall, at_call}
 
 ---- rows of a scan
@@ -39,38 +38,35 @@ equal_is Greater h = absurd (cc)
 pub span_table : (span : Span) (k : Key) → in_span span k ≡ true → k.table.ns ≡ span.table.ns
 span_table span k h = ap (λ t. t.ns) (sym (table_exact span.table k.table (equal_is (table_cmp span.table k.table) (and_first (is_eq (table_cmp span.table k.table)) (is_partition span.partition k) h))))
 
-row_found : (span : Span) (k : Key) (es : List (Key × List Pair)) → in_span span k ≡ true → row_among (rows_among span es) k ≡ option_map (λ columns. record_of (k, columns)) (map_of.find key_cmp k es)
+row_found : (span : Span) (k : Key) (es : List (Key × List Pair)) → in_span span k ≡ true → record_among (rows_among span es) k ≡ option_map (λ columns. record_of (k, columns)) (map_of.find key_cmp k es)
 unfolding same_key
 row_found span k [] h = refl
-row_found span k (e ∷ es) h = by (row_found span k es h) (same_key_tells e.0 k) (same_key_tells k e.0) (in_span span e.0) refl
+row_found span k (e ∷ es) h = by (row_found span k es h) (same_key_tells k e.0) (in_span span e.0) refl
   where
-    by : row_among (rows_among span es) k ≡ option_map (λ columns. record_of (k, columns)) (map_of.find key_cmp k es)
-        → ((same_key e.0 k ≡ true) × (e.0 ≡ k)) ⊎ ((same_key e.0 k ≡ false) × (e.0 ≢ k))
+    by : record_among (rows_among span es) k ≡ option_map (λ columns. record_of (k, columns)) (map_of.find key_cmp k es)
         → ((same_key k e.0 ≡ true) × (k ≡ e.0)) ⊎ ((same_key k e.0 ≡ false) × (k ≢ e.0))
         → (b : Bool) → in_span span e.0 ≡ b
-        → row_among (rows_among span (e ∷ es)) k ≡ option_map (λ columns. record_of (k, columns)) (map_of.find key_cmp k (e ∷ es))
-    by rest (inl x) (inl y) true f = rw f (rw x.0 (rw y.0 (ap (λ z. Some (record_of (z, e.1))) x.1)))
-    by rest (inl x) (inl y) false f = absurd (clash (sym f ∙ ap (in_span span) x.1 ∙ h))
+        → record_among (rows_among span (e ∷ es)) k ≡ option_map (λ columns. record_of (k, columns)) (map_of.find key_cmp k (e ∷ es))
+    by rest (inl x) true f = rw f (rw x.0 (ap (λ z. Some (record_of (z, e.1))) (sym x.1)))
+    by rest (inl x) false f = absurd (clash (sym f ∙ ap (in_span span) (sym x.1) ∙ h))
       where
         clash : false ≡ true → ⊥
         clash z = cc
-    by rest (inl x) (inr y) b f = absurd (y.1 (sym x.1))
-    by rest (inr x) (inl y) b f = absurd (x.1 (sym y.1))
-    by rest (inr x) (inr y) true f = rw f (rw x.0 (rw y.0 rest))
-    by rest (inr x) (inr y) false f = rw f (rw y.0 rest)
+    by rest (inr x) true f = rw f (rw x.0 rest)
+    by rest (inr x) false f = rw f (rw x.0 rest)
 
-pub row_there : (span : Span) (k : Key) (m : Contents) → in_span span k ≡ true → row_among (rows_in span m) k ≡ record_at m k
+pub row_there : (span : Span) (k : Key) (m : Contents) → in_span span k ≡ true → record_among (rows_in span m) k ≡ record_at m k
 row_there span k m h = row_found span k (entries m) h ∙ ap (option_map (λ columns. record_of (k, columns))) (sym (get-entries m k))
 
-row_within : (span : Span) (k : Key) (x : Record) (es : List (Key × List Pair)) → row_among (rows_among span es) k ≡ Some x → in_span span x.key ≡ true
+row_within : (span : Span) (k : Key) (x : Record) (es : List (Key × List Pair)) → record_among (rows_among span es) k ≡ Some x → in_span span x.key ≡ true
 row_within span k x [] e = absurd (cc)
-row_within span k x (d ∷ es) e = by (row_within span k x es) (in_span span d.0) refl (same_key d.0 k) refl e
+row_within span k x (d ∷ es) e = by (row_within span k x es) (in_span span d.0) refl (same_key k d.0) refl e
   where
     some_is : (a b : Record) → Some a ≡ Some b → a ≡ b
     some_is a b e = cc
 
-    by : (row_among (rows_among span es) k ≡ Some x → in_span span x.key ≡ true) → (b : Bool) → in_span span d.0 ≡ b → (c : Bool) → same_key d.0 k ≡ c
-        → row_among (map record_of (cond b (d ∷ filter (λ f. in_span span f.0) es) (filter (λ f. in_span span f.0) es))) k ≡ Some x → in_span span x.key ≡ true
+    by : (record_among (rows_among span es) k ≡ Some x → in_span span x.key ≡ true) → (b : Bool) → in_span span d.0 ≡ b → (c : Bool) → same_key k d.0 ≡ c
+        → record_among (map record_of (cond b (d ∷ filter (λ f. in_span span f.0) es) (filter (λ f. in_span span f.0) es))) k ≡ Some x → in_span span x.key ≡ true
     by rest true f true g e = subst (λ (z : Record). in_span span z.key ≡ true) (some_is (record_of d) x (sym (rw g refl) ∙ e)) f
     by rest true f false g e = rest (sym (rw g refl) ∙ e)
     by rest false f c g e = rest e
@@ -152,10 +148,10 @@ get_reply places key r found before now a e = elim a.moved [
     wanting : reply.Found found ≡ reply.NoMemory → ⊥
     wanting x = cc
 
-pub scan_reply : (places : List Place) (span : Span) (r : Reply) (rows : List Record) (before now : List Shelf) → AtCall places (ask.Scan span) r before now → r ≡ reply.Rows rows → (k : Key) → in_span span k ≡ true → row_among rows k ≡ standing places before k
+pub scan_reply : (places : List Place) (span : Span) (r : Reply) (rows : List Record) (before now : List Shelf) → AtCall places (ask.Scan span) r before now → r ≡ reply.Rows rows → (k : Key) → in_span span k ≡ true → record_among rows k ≡ standing places before k
 scan_reply places span r rows before now a e k h = elim a.moved [
   | inl m ↦ elim m.1 [
-    | inl x ↦ ap (λ z. row_among z k) (some (sym e ∙ x)) ∙ row_there span k a.held h ∙ sym (a.here k (span_table span k h)).0
+    | inl x ↦ ap (λ z. record_among z k) (some (sym e ∙ x)) ∙ row_there span k a.held h ∙ sym (a.here k (span_table span k h)).0
     | inr x ↦ absurd (fault (sym e ∙ x))
   ]
   | inr m ↦ elim m.1 [ inl x ↦ absurd (wanting (sym e ∙ x)) | inr x ↦ absurd (fault (sym e ∙ x)) ]

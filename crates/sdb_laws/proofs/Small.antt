@@ -1,11 +1,11 @@
 -- Each small invariant is kept by each part.
 use Rattle.std.proofs.Common.{◌≡◌, ◌≢◌, ℕ, ◌+◌, ◌<◌, ◌≤◌, Bool, true, false, [], Option, Some, None, ◌⊎◌, inl, inr, refl, arith}
 use Rattle.sdb_types.specs.declared.key.Key.{Key}
+use Rattle.sdb_types.proofs.Keys.{tests}
 use Rattle.sdb_record.specs.declared.coordinator.Decision.{Decision}
 use Rattle.sdb_record.specs.declared.coordinator.Decision.TheVariants.{Committed, Aborted}
 use Rattle.sdb_laws.specs.Plan.{Plan, written, deletes, noted}
 use Rattle.sdb_laws.specs.History.{Role, Other, Begins, Takes, Prepares, Checks, Decides, Aborts, Rolls, Removes, Ends, Stops, Word, Deciding, History, Firm, Held, base_of, happens, IsWriter}
-use Rattle.sdb_laws.proofs.Keys.{tests}
 use Rattle.sdb_laws.proofs.Allowed.{Allowed}
 use Rattle.sdb_laws.specs.Explained.{EarlierPrepareHadRow, RemovedBeforeBegin}
 

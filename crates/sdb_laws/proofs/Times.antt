@@ -10,6 +10,7 @@ use Rattle.sdb_record.proofs.ImageLaws.{row-decision}
 use Rattle.sdb_types.specs.declared.record.Record.{Record}
 use Rattle.sdb_model.specs.declared.answer.Answer.{Answer}
 use Rattle.sdb_types.specs.declared.key.Key.{Key}
+use Rattle.sdb_types.proofs.Keys.{tests}
 use Rattle.sdb_record.specs.declared.coordinator.Decision.TheVariants.{Committed, Aborted}
 use Rattle.sdb_model.specs.declared.script.Place.{Place}
 use Rattle.sdb_model.specs.Events.{Shelf, IsTrace}
@@ -19,7 +20,6 @@ use Rattle.sdb_laws.specs.Lawful.{Played, talk, id, answer_of, is_denial, IsBadR
 use Rattle.sdb_laws.specs.Trace.{closing, IsTraced, has_effect, after_end, history}
 use Rattle.sdb_laws.specs.Records.{firm_record, record_for, row_for}
 use Rattle.sdb_laws.specs.Explained.{IsRunOf, RowsFinal, IsTold, IsDenied, StoodBefore, newest_first, events_of}
-use Rattle.sdb_laws.proofs.Keys.{tests}
 use Rattle.sdb_laws.proofs.Allowed.{Allowed}
 use Rattle.sdb_laws.proofs.Small.{row_kept, point_fixed}
 use Rattle.sdb_laws.proofs.Seen.{All, all_kept, closed_still}

@@ -5,7 +5,7 @@ use Rattle.std.specs.Prelude.{Contains}
 use Rattle.std.specs.Option.{option_map, option_and_then}
 use Rattle.std.specs.List.{slice_get}
 use Rattle.sdb_model.specs.declared.event.Event.{Event}
-use Rattle.sdb_model.specs.Noted.{Note, Got, noted_in, same_key, version_noted}
+use Rattle.sdb_model.specs.Noted.{Note, Got, noted_in, version_noted}
 use Rattle.sdb_laws.specs.Plan.{Plan, noted, number_of, written}
 use Rattle.sdb_laws.specs.Explained.{newest_first, events_of}
 use Rattle.sdb_laws.specs.Faithful.{AreNoted}
@@ -13,6 +13,7 @@ use Rattle.sdb_laws.specs.Forged.{unchecked}
 use Rattle.sdb_laws.specs.Lawful.{IsLawful, id}
 use Rattle.sdb_laws.specs.Worked.{account, one, read_at}
 use Rattle.sdb_laws.proofs.Texts.{begin_begins, commit_commits, select_commits_not, select_rolls_not}
+use Rattle.sdb_types.specs.Order.{same_key}
 
 abbrev told : List Event
 told = newest_first (events_of unchecked)

@@ -12,7 +12,7 @@ use Rattle.sdb_laws.specs.History.{Role, Other, Begins, Takes, Prepares, Checks,
 use Rattle.sdb_laws.specs.Lawful.{Played, MayPlay, IsLawful}
 use Rattle.sdb_laws.specs.Records.{IsHeld}
 use Rattle.sdb_laws.specs.Trace.{closing, IsTraced, StartsEmpty, has_effect, after_end, history}
-use Rattle.sdb_laws.proofs.Keys.{tests}
+use Rattle.sdb_types.proofs.Keys.{tests}
 use Rattle.sdb_laws.proofs.Allowed.{Allowed}
 use Rattle.sdb_laws.proofs.Seen.{All, all_closed, all_kept, all_start}
 use Rattle.sdb_laws.proofs.Shown.{stood}

@@ -9,13 +9,13 @@ use Rattle.sdb_types.specs.declared.record.Request.TheVariants as ask
 use Rattle.sdb_types.specs.declared.record.Reply.{Reply}
 use Rattle.sdb_types.specs.declared.record.Reply.TheVariants as reply
 use Rattle.sdb_types.specs.Contents.{Contents, record_at, holds, put_reply, reply_to, after}
+use Rattle.sdb_types.specs.Order.{same_key}
+use Rattle.sdb_types.proofs.Keys.{same_key_self, same_key_tells}
 use Rattle.sdb_model.specs.declared.event.How.{How}
 use Rattle.sdb_model.specs.declared.script.Place.{Place}
 use Rattle.sdb_model.specs.Rows.{Name}
 use Rattle.sdb_model.specs.Events.{Shelf, standing, table_asked, IsCall}
-use Rattle.sdb_model.specs.Noted.{same_key}
 use Rattle.sdb_laws.specs.Trace.{took_at}
-use Rattle.sdb_laws.proofs.Keys.{same_key_self, same_key_tells}
 use Rattle.sdb_laws.proofs.Effects.{AtCall, at_call, after_put, after_delete}
 
 -- Where a write took effect, its key has what it puts or nothing; every other key is as it was. Applied says that it did,

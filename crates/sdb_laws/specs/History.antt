@@ -1,10 +1,10 @@
 -- The parts that events play in the protocol, and what a list of them has come to: what was said, and what was done.
 use Rattle.std.specs.Prelude.{◌≡◌, ◌≢◌, ◌⊎◌, ℕ, ℤ, pos, ◌+◌, ◌<◌, Bool, true, false, ◌&&◌, ◌==◌, if◌then◌else◌, Option, Some, None}
 use Rattle.sdb_types.specs.declared.key.Key.{Key}
+use Rattle.sdb_types.specs.Order.{same_key}
 use Rattle.sdb_record.specs.declared.coordinator.Decision.{Decision}
 use Rattle.sdb_record.specs.declared.coordinator.Decision.TheVariants.{Committed, Aborted}
 use Rattle.sdb_laws.specs.Plan.{Plan, written}
-use Rattle.sdb_model.specs.Noted.{same_key}
 
 ---- parts
 

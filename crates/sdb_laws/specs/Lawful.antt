@@ -1,6 +1,6 @@
 -- The rules of the protocol: which event may come after which. They quote the events so far, and what replies said in them,
 -- never what the stores hold. Lists have the newest event first.
-use Rattle.std.specs.Prelude.{◌≡◌, ◌≢◌, ◌⊎◌, ℕ, ℤ, ◌^◌, ◌<◌, Bool, true, false, not, List, [], ◌∷◌, Option, Some, None, Ok, find, slice_get}
+use Rattle.std.specs.Prelude.{◌≡◌, ◌≢◌, ◌⊎◌, ℕ, ℤ, ◌^◌, ◌<◌, Bool, true, false, not, List, [], ◌∷◌, Option, Some, None, Ok, slice_get}
 use Rattle.std.specs.Option.{option_map}
 use Rattle.std.specs.Result.{result_ok}
 use Rattle.sdb_types.specs.declared.key.Key.{Key}
@@ -13,7 +13,7 @@ use Rattle.sdb_types.specs.declared.record.Request.{Request}
 use Rattle.sdb_types.specs.declared.record.Request.TheVariants as ask
 use Rattle.sdb_types.specs.declared.record.Reply.{Reply}
 use Rattle.sdb_types.specs.declared.record.Reply.TheVariants as reply
-use Rattle.sdb_types.specs.Contents.{in_span}
+use Rattle.sdb_types.specs.Contents.{in_span, record_among}
 use Rattle.sdb_record.specs.declared.coordinator.Decision.{Decision}
 use Rattle.sdb_record.specs.declared.coordinator.Decision.TheVariants as decision
 use Rattle.sdb_record.specs.declared.write.Write.{Write}
@@ -21,7 +21,8 @@ use Rattle.sdb_record.specs.Coordinator.{coordinator_key_of, coordinator_row_of,
 use Rattle.sdb_record.specs.Meta.{id_in, is_in, is_moment, is_committed}
 use Rattle.sdb_record.specs.Moved.{version_of, condition_of, is_unchanged}
 use Rattle.sdb_record.specs.Parts.{before_record}
-use Rattle.sdb_record.specs.Rolls.{IsWrite, prepared_record, forward_record, is_tombstone}
+use Rattle.sdb_record.specs.Rolls.{IsWrite, prepared_record, forward_record, is_tombstone, undo}
+use Rattle.sdb_record.specs.Among.{version_among}
 use Rattle.sdb_model.specs.declared.answer.Answer.{Answer}
 use Rattle.sdb_model.specs.declared.answer.Answer.TheVariants as answer
 use Rattle.sdb_model.specs.declared.event.Event.{Event}
@@ -30,7 +31,7 @@ use Rattle.sdb_model.specs.declared.event.How.{How}
 use Rattle.sdb_model.specs.Sql.{reads_begin, reads_commit}
 use Rattle.sdb_model.specs.Rows.{Name}
 use Rattle.sdb_laws.specs.Plan.{Plan, write_at, written, noted}
-use Rattle.sdb_model.specs.Noted.{Note, Got, Scanned, same_key, version_among}
+use Rattle.sdb_model.specs.Noted.{Note, Got, Scanned}
 use Rattle.sdb_laws.specs.History.{Role, Other, Begins, Takes, Prepares, Checks, Decides, Aborts, Rolls, Removes, Ends, Stops, Word, Yes, No, Silence, Wanting, Talk, Preparing, Deciding, silence, heard, says, IsPrepared}
 
 -- An event, the part that it plays, and the transaction that its answer ends, if one is ended.
@@ -57,14 +58,10 @@ is_data key = not (is_coordinator_table key.table)
 
 ---- what replies said
 
--- the row of a key among the rows of a scan
-abbrev pub row_among : List Record → Key → Option Record
-row_among rows k = find (λ r. same_key r.key k) rows
-
 -- a reply shows a record
 abbrev pub InReply : Reply → Record → Type 0
 InReply (reply.Found (Some r)) x = x ≡ r
-InReply (reply.Rows rs) x = row_among rs x.key ≡ Some x
+InReply (reply.Rows rs) x = record_among rs x.key ≡ Some x
 InReply (reply.NotMet (Some r)) x = x ≡ r
 InReply _ x = ⊥
 
@@ -202,7 +199,7 @@ pub record MayPrepare (plan : ℕ → Plan) (past : List Played) (e : Event) (t 
 -- record where none was noted. Of a scan this is so of each key of its span.
 abbrev pub IsUnchanged : Plan → Note → Request → Reply → Type 0
 IsUnchanged plan (Got read) q r = (found : Option Record) × (q ≡ ask.Get read.key) × (r ≡ reply.Found found) × (is_unchanged found read.version ≡ true)
-IsUnchanged plan (Scanned scan) q r = (rows : List Record) × (q ≡ ask.Scan scan.span) × (r ≡ reply.Rows rows) × ((k : Key) → in_span scan.span k ≡ true → written plan k ≡ None → is_unchanged (row_among rows k) (version_among scan.found k) ≡ true)
+IsUnchanged plan (Scanned scan) q r = (rows : List Record) × (q ≡ ask.Scan scan.span) × (r ≡ reply.Rows rows) × ((k : Key) → in_span scan.span k ≡ true → written plan k ≡ None → is_unchanged (record_among rows k) (version_among scan.found k) ≡ true)
 
 -- a check
 pub record MayCheck (plan : ℕ → Plan) (past : List Played) (e : Event) (t i : ℕ) : Type 0 where
@@ -241,11 +238,6 @@ pub record MayAbort (past : List Played) (e : Event) (t : ℕ) (moment : ℤ) (w
   pub fits : t < 2 ^ 128
   pub moment_is : is_moment moment ≡ true
 
--- what a roll back asks
-abbrev pub back_request : Key → TxId → State → Option Record → Request
-back_request k t s None = ask.DeleteIf k (condition.Version t s)
-back_request k t s (Some b) = ask.PutIf b (condition.Version t s)
-
 -- A roll, by anybody: of what the transaction prepared there, where it is still there.
 pub record MayRoll (plan : ℕ → Plan) (past : List Played) (e : Event) (t : ℕ) (k : Key) : Type 0 where
   pub client : ℕ
@@ -267,7 +259,7 @@ pub record MayRollBack (plan : ℕ → Plan) (past : List Played) (e : Event) (t
   pub roll : MayRoll plan past e t k
   -- only what is known to be aborted is rolled back
   pub known : IsKnownAborted past t
-  pub call : IsCallOf e roll.client (back_request k (id t) roll.s (before_record roll.rolled)) roll.r
+  pub call : IsCallOf e roll.client (undo (condition.Version (id t) roll.s) k (before_record roll.rolled)) roll.r
 
 abbrev pub MayRollBy : (ℕ → Plan) → List Played → Event → ℕ → Key → Decision → Type 0
 MayRollBy plan past e t k decision.Committed = MayRollForward plan past e t k

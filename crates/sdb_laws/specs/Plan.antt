@@ -1,5 +1,5 @@
 -- What a transaction has read, and is to write, when its COMMIT is taken.
-use Rattle.std.specs.Prelude.{ℕ, ℤ, Bool, true, false, List, Option, find, slice_get}
+use Rattle.std.specs.Prelude.{ℕ, ℤ, Bool, true, false, List, Option, slice_get}
 use Rattle.std.specs.Option.{option_map, option_map_or, option_and_then}
 use Rattle.sdb_types.specs.declared.key.Key.{Key}
 use Rattle.sdb_types.specs.declared.txid.TxId.{TxId}
@@ -7,7 +7,8 @@ use Rattle.sdb_record.specs.declared.write.Change.{Change}
 use Rattle.sdb_record.specs.declared.write.Change.TheVariants as change
 use Rattle.sdb_record.specs.declared.write.Write.{Write}
 use Rattle.sdb_record.specs.Moved.{version_of}
-use Rattle.sdb_model.specs.Noted.{Note, same_key, version_noted}
+use Rattle.sdb_record.specs.Among.{write_among}
+use Rattle.sdb_model.specs.Noted.{Note, version_noted}
 
 -- What a transaction goes into its COMMIT with: its writes, its noted reads, in the order in which they are checked, and
 -- the moment of the COMMIT.
@@ -18,7 +19,7 @@ pub record Plan : Type 0 where
 
 -- the write of a key
 unfoldable pub write_at : Plan → Key → Option Write
-write_at plan key = find (λ w. same_key w.key key) plan.writes
+write_at plan key = write_among plan.writes key
 
 -- the number of a version
 abbrev pub number_of : Option TxId → Option ℕ

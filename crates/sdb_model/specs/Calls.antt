@@ -1,5 +1,5 @@
 -- What a client did for one statement: the calls that it made, what they asked, and what their replies showed.
-use Rattle.std.specs.Prelude.{ℕ, ℤ, pos, Bool, true, false, ◌&&◌, ◌==◌, nat_le, nat_lt, if◌then◌else◌, List, [], ◌∷◌, filter, fold, find, length, take, Option, Some, None, is_some}
+use Rattle.std.specs.Prelude.{ℕ, ℤ, pos, Bool, true, false, ◌&&◌, ◌==◌, nat_le, nat_lt, if◌then◌else◌, List, [], ◌∷◌, filter, fold, length, take, Option, Some, None, is_some}
 use Rattle.std.specs.Option.{option_and_then, option_map_or}
 use Rattle.std.specs.List.{filter_map}
 use Rattle.std.specs.Result.{result_ok}
@@ -106,10 +106,6 @@ records_read r = []
 abbrev pub records_shown : Reply → List Record
 records_shown (reply.NotMet (Some r)) = r ∷ []
 records_shown r = records_read r
-
--- the record of a key among some
-abbrev pub record_among : List Record → Key → Option Record
-record_among rows key = find (λ r. is_eq (key_cmp r.key key)) rows
 
 -- what a reply says is at the one key that was asked
 abbrev pub standing_said : Reply → Option (Option Record)

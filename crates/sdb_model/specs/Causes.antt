@@ -11,7 +11,7 @@ use Rattle.sdb_types.specs.declared.record.Request.TheVariants as ask
 use Rattle.sdb_types.specs.declared.record.Reply.{Reply}
 use Rattle.sdb_types.specs.declared.record.Reply.TheVariants as reply
 use Rattle.sdb_types.specs.declared.record.Span.{Span}
-use Rattle.sdb_types.specs.Contents.{in_span}
+use Rattle.sdb_types.specs.Contents.{in_span, record_among}
 use Rattle.sdb_schema.specs.declared.table.Table.{Table}
 use Rattle.sdb_schema.specs.Rows.{fits_table}
 use Rattle.sdb_record.specs.declared.access.Scan.{Scan}
@@ -23,6 +23,7 @@ use Rattle.sdb_record.specs.Meta.{checked, id_in, is_unresolved, moment_in}
 use Rattle.sdb_record.specs.Moved.{Moved, same_version, version_of}
 use Rattle.sdb_record.specs.Parts.{before_record}
 use Rattle.sdb_record.specs.Rolls.{row_of_image}
+use Rattle.sdb_record.specs.Among.{version_among}
 use Rattle.sdb_model.specs.declared.answer.Answer.{Answer}
 use Rattle.sdb_model.specs.declared.answer.Answer.TheVariants as answer
 use Rattle.sdb_model.specs.declared.answer.Refusal.{Refusal}
@@ -35,9 +36,10 @@ use Rattle.sdb_model.specs.Exec.{find_table, key_of, table_of}
 use Rattle.sdb_model.specs.Refused.{refusal_of}
 use Rattle.sdb_model.specs.Follows.{has_stopped}
 use Rattle.sdb_model.specs.Transactions.{Said, said, begins, ends, body, client_of, commit_of, statements_of, prepares}
-use Rattle.sdb_model.specs.Calls.{Made, calls_of, calls_after, calls_before, clock_at, decision_found, decision_learned, is_of_row, is_read, is_removal, key_asked, put_by, record_among, records_read, records_shown}
-use Rattle.sdb_model.specs.Noted.{Note, Scanned, noted_in, reads_rows, resolved, same_key, version_among, version_noted}
+use Rattle.sdb_model.specs.Calls.{Made, calls_of, calls_after, calls_before, clock_at, decision_found, decision_learned, is_of_row, is_read, is_removal, key_asked, put_by, records_read, records_shown}
+use Rattle.sdb_model.specs.Noted.{Note, Scanned, noted_in, reads_rows, resolved, version_noted}
 use Rattle.sdb_types.specs.Replies.{is_applied, is_fault}
+use Rattle.sdb_types.specs.Order.{same_key}
 
 -- the events before a statement was taken
 abbrev pub before : Said → List Event → List Event

@@ -12,7 +12,7 @@ use Rattle.sdb_types.specs.declared.record.State.TheVariants as state
 use Rattle.sdb_schema.specs.declared.table.Table.{Table}
 use Rattle.sdb_record.specs.declared.coordinator.Decision.TheVariants as decision
 use Rattle.sdb_record.specs.Coordinator.{coordinator_key_of}
-use Rattle.sdb_types.specs.Contents.{in_span}
+use Rattle.sdb_types.specs.Contents.{in_span, record_among}
 use Rattle.sdb_record.specs.Meta.{id_in, is_in}
 use Rattle.sdb_record.specs.Moved.{is_unchanged}
 use Rattle.sdb_record.specs.Parts.{before_record}
@@ -25,7 +25,6 @@ use Rattle.sdb_model.specs.Rows.{Name}
 use Rattle.sdb_model.specs.Exec.{find_table}
 use Rattle.sdb_model.specs.Events.{Shelf, standing, moment}
 use Rattle.sdb_model.specs.Images.{decision_at, image_at}
-use Rattle.sdb_model.specs.Calls.{record_among}
 use Rattle.sdb_model.specs.Noted.{Note, noted_in, version_noted}
 use Rattle.sdb_model.specs.Transactions.{Recorded, begun, point, prepares}
 

@@ -1,8 +1,7 @@
 -- What the statements of a transaction noted: the records that they read, resolved, with the versions found.
-use Rattle.std.specs.Prelude.{Bool, false, List, filter, Option, Some, None, find, if◌then◌else◌}
+use Rattle.std.specs.Prelude.{Bool, false, List, filter, Option, Some, None, if◌then◌else◌}
 use Rattle.std.specs.Option.{option_and_then, option_map, option_map_or}
 use Rattle.std.specs.List.{filter_map, flat_map}
-use Rattle.std.specs.Ordering.{is_eq}
 use Rattle.sdb_types.specs.declared.txid.TxId.{TxId}
 use Rattle.sdb_types.specs.declared.key.Key.{Key}
 use Rattle.sdb_types.specs.declared.record.Record.{Record}
@@ -10,7 +9,7 @@ use Rattle.sdb_types.specs.declared.record.Request.{Request}
 use Rattle.sdb_types.specs.declared.record.Request.TheVariants as ask
 use Rattle.sdb_types.specs.declared.record.Reply.{Reply}
 use Rattle.sdb_types.specs.declared.record.Reply.TheVariants as reply
-use Rattle.sdb_types.specs.Order.{key_cmp}
+use Rattle.sdb_types.specs.Order.{same_key}
 use Rattle.sdb_types.specs.Contents.{in_span}
 use Rattle.sdb_record.specs.declared.access.Read.{Read}
 use Rattle.sdb_record.specs.declared.access.Scan.{Scan}
@@ -18,6 +17,7 @@ use Rattle.sdb_record.specs.Coordinator.{is_coordinator_table}
 use Rattle.sdb_record.specs.Meta.{id_in}
 use Rattle.sdb_record.specs.Moved.{version_of}
 use Rattle.sdb_record.specs.Rolls.{image_of}
+use Rattle.sdb_record.specs.Among.{version_among}
 use Rattle.sdb_model.specs.declared.answer.Answer.TheVariants as answer
 use Rattle.sdb_model.specs.declared.event.Event.{Event}
 use Rattle.sdb_model.specs.Events.{table_asked}
@@ -28,12 +28,6 @@ use Rattle.sdb_model.specs.Transactions.{Said, body, client_of, is_answered_from
 pub data Note : Type 0 where
   Got : (read : Read) → Note
   Scanned : (scan : Scan) → Note
-
-unfoldable pub same_key : Key → Key → Bool
-same_key a b = is_eq (key_cmp a b)
-
-abbrev pub version_among : List Read → Key → Option TxId
-version_among found key = option_and_then (λ r. r.version) (find (λ r. same_key r.key key) found)
 
 -- what a noted read says of a key: nothing, or the version found there, none where there was no record
 abbrev pub version_noted : Note → Key → Option (Option TxId)

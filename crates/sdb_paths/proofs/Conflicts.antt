@@ -9,16 +9,17 @@ use Rattle.sdb_types.specs.declared.record.Record.{Record}
 use Rattle.sdb_types.specs.declared.record.Request.TheVariants as ask
 use Rattle.sdb_types.specs.declared.record.Reply.{Reply}
 use Rattle.sdb_types.specs.declared.record.Reply.TheVariants as reply
-use Rattle.sdb_types.specs.Contents.{CanAnswer, in_span, rise}
+use Rattle.sdb_types.specs.Contents.{CanAnswer, in_span, rise, record_among}
 use Rattle.std.specs.List.{list_all}
 use Rattle.sdb_types.proofs.Bools.{and_first}
 use Rattle.sdb_record.specs.declared.access.Read.{Read}
 use Rattle.sdb_record.specs.declared.access.Scan.{Scan}
 use Rattle.sdb_record.specs.Moved.{Moved, is_unchanged}
+use Rattle.sdb_record.specs.Among.{is_written, version_among}
 use Rattle.sdb_phases.specs.declared.check.Check.{Check}
 use Rattle.sdb_phases.specs.declared.check.Wanted.{Wanted}
 use Rattle.sdb_phases.specs.Work.{Work}
-use Rattle.sdb_phases.specs.Checks.{changed, check_of_read, check_of_scan, differs, first_difference, keys_among, least, wanted, difference_in, is_written, record_among, version_read}
+use Rattle.sdb_phases.specs.Checks.{changed, check_of_read, check_of_scan, differs, first_difference, keys_among, least, wanted, difference_in}
 use Rattle.sdb_validate.specs.Rescan.{IsFirstLost, base_in, kept_by, reads_rise}
 use Rattle.sdb_validate.proofs.Rescans.{first_lost}
 use Rattle.sdb_paths.specs.Paths.{Call}
@@ -98,7 +99,7 @@ rescan_moved p c key found s j (reply.Rows rows) at asked shown fits differs =
       asked = asked;
       shown = shown;
       there = there;
-      moved = λ up. subst (λ f. HasMovedThere (base_in s.span p.writes key) f (version_read s.found key)) (sym there) (moved_there (base_in s.span p.writes key) (version_read s.found key) (record_among rows key) (lost up).1);
+      moved = λ up. subst (λ f. HasMovedThere (base_in s.span p.writes key) f (version_among s.found key)) (sym there) (moved_there (base_in s.span p.writes key) (version_among s.found key) (record_among rows key) (lost up).1);
     }
 rescan_moved p c key found s j (reply.Found f) at asked shown fits differs = absurd (cc)
 rescan_moved p c key found s j reply.Applied at asked shown fits differs = absurd (cc)

@@ -14,11 +14,11 @@ use Rattle.sdb_record.specs.declared.meta.Meta.{Meta}
 use Rattle.sdb_record.specs.Coordinator.{coordinator_key_of, decision_in, is_expired}
 use Rattle.sdb_record.specs.Parts.{before_record}
 use Rattle.sdb_record.proofs.ImageLaws.{row-key}
+use Rattle.sdb_record.specs.Rolls.{undo}
 use Rattle.sdb_phases.specs.declared.step.RecoverStep.{RecoverStep}
 use Rattle.sdb_phases.specs.declared.step.RecoverStep.TheVariants as steps
 use Rattle.sdb_phases.specs.declared.step.RecoverPhase.{RecoverPhase}
 use Rattle.sdb_phases.specs.declared.step.RecoverPhase.TheVariants as phase
-use Rattle.sdb_phases.specs.Work.{undo}
 use Rattle.sdb_phases.specs.Steps.{CanGet}
 use Rattle.sdb_phases.specs.CommitLaws.{is_malformed, holds_malformed}
 use Rattle.sdb_phases.specs.Recover.{Heard, RecoverPlayed, recover_after, recover_answer, recover_next, recover_pending, recover_request_at, roll_to, stands_found}

@@ -14,11 +14,12 @@ use Rattle.sdb_record.specs.declared.write.Write.{Write}
 use Rattle.sdb_record.specs.Coordinator.{coordinator_row_of}
 use Rattle.sdb_record.specs.Rolls.{prepared_record, state_of_change}
 use Rattle.sdb_record.proofs.ImageLaws.{prepared-version}
+use Rattle.sdb_record.specs.Among.{is_written}
 use Rattle.sdb_phases.specs.declared.check.Check.{Check}
 use Rattle.sdb_phases.specs.declared.step.Outcome.{Outcome}
 use Rattle.sdb_phases.specs.declared.step.Outcome.TheVariants as outcome
 use Rattle.sdb_phases.specs.Work.{Work, prepare_of, decide_of, abort_of, look_of}
-use Rattle.sdb_phases.specs.Checks.{checks, check_of_read, check_of_scan, is_written}
+use Rattle.sdb_phases.specs.Checks.{checks, check_of_read, check_of_scan}
 use Rattle.sdb_phases.specs.Commit.{Preparing, Checking, Stopping, Back, pending}
 use Rattle.sdb_phases.proofs.DecidingPut.{asks_deciding_put}
 use Rattle.sdb_types.proofs.Basics.{some_is}

@@ -8,7 +8,7 @@ use Rattle.sdb_types.specs.declared.record.Request.{Request}
 use Rattle.sdb_types.specs.declared.record.Request.TheVariants as ask
 use Rattle.sdb_types.specs.declared.record.Reply.{Reply}
 use Rattle.sdb_types.specs.declared.record.Reply.TheVariants as reply
-use Rattle.sdb_types.specs.Contents.{CanAnswer}
+use Rattle.sdb_types.specs.Contents.{CanAnswer, record_among}
 use Rattle.sdb_record.specs.declared.access.Read.{Read}
 use Rattle.sdb_record.specs.declared.access.Scan.{Scan}
 use Rattle.sdb_record.specs.declared.coordinator.Decision.{Decision}
@@ -16,11 +16,12 @@ use Rattle.sdb_record.specs.declared.coordinator.Decision.TheVariants as decisio
 use Rattle.sdb_record.specs.declared.write.Write.{Write}
 use Rattle.sdb_record.specs.Coordinator.{coordinator_key_of, decision_in}
 use Rattle.sdb_record.specs.Moved.{Moved, version_of, same_version}
+use Rattle.sdb_record.specs.Among.{is_written, version_among}
 use Rattle.sdb_validate.specs.Rescan.{base_in, reads_rise}
 use Rattle.sdb_phases.specs.declared.check.Check.{Check}
 use Rattle.sdb_phases.specs.declared.step.Outcome.TheVariants as outcome
 use Rattle.sdb_phases.specs.Work.{Work, prepares, prepare_of, decide_of, abort_of}
-use Rattle.sdb_phases.specs.Checks.{checks, difference_in, is_written, record_among, version_read}
+use Rattle.sdb_phases.specs.Checks.{checks, difference_in}
 use Rattle.sdb_phases.specs.Commit.{Stage, Preparing, Checking, Deciding, Forward, Over}
 use Rattle.sdb_phases.specs.CommitLaws.{writes_of, reads_of}
 use Rattle.sdb_paths.specs.Paths.{Call, Asks, IsForRow, Makes, undone}
@@ -73,7 +74,7 @@ pub record IsRescanMoved (p : Work) (c : Call) (key : Key) (found : Option Recor
   pub asked : c.request ≡ ask.Scan scan.span
   pub shown : c.reply ≡ reply.Rows rows
   pub there : found ≡ record_among rows key
-  pub moved : reads_rise scan.found ≡ true → HasMovedThere (base_in scan.span p.writes key) found (version_read scan.found key)
+  pub moved : reads_rise scan.found ≡ true → HasMovedThere (base_in scan.span p.writes key) found (version_among scan.found key)
 
 -- A call of a prepare or of a check showed this at a key, and it isn't what was read there.
 abbrev pub ShowsMoved : Work → Key → Option Record → Call → Type 0

@@ -17,14 +17,15 @@ use Rattle.sdb_record.specs.declared.coordinator.Decision.TheVariants as decisio
 use Rattle.sdb_record.specs.declared.write.Write.{Write}
 use Rattle.sdb_record.specs.Coordinator.{coordinator_row_of}
 use Rattle.sdb_record.specs.Meta.{is_in}
-use Rattle.sdb_record.specs.Rolls.{prepared_record, forward_record, state_of_change}
+use Rattle.sdb_record.specs.Rolls.{prepared_record, forward_record, state_of_change, undo}
 use Rattle.sdb_record.proofs.ImageLaws.{prepared-version, forward-prepared-version}
 use Rattle.sdb_phases.specs.declared.check.Check.{Check}
 use Rattle.sdb_phases.specs.declared.step.DecidePhase.TheVariants as phase
-use Rattle.sdb_phases.specs.Work.{Work, prepare_of, forward_of, back_of, decide_of, abort_of, undo}
-use Rattle.sdb_phases.specs.Checks.{checks, check_of_read, check_of_scan, is_written}
+use Rattle.sdb_phases.specs.Work.{Work, prepare_of, forward_of, back_of, decide_of, abort_of}
+use Rattle.sdb_phases.specs.Checks.{checks, check_of_read, check_of_scan}
 use Rattle.sdb_record.specs.declared.access.Read.{Read}
 use Rattle.sdb_record.specs.declared.access.Scan.{Scan}
+use Rattle.sdb_record.specs.Among.{is_written}
 use Rattle.sdb_phases.specs.Commit.{Stage, Preparing, Checking, Deciding, Forward, Stopping, Back, Over, pending}
 
 row_no_version : (id other : TxId) (s : State) (d : Decision) (now : ℤ) → is_version id s (coordinator_row_of other d now) ≡ false

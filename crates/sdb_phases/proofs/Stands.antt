@@ -1,8 +1,6 @@
 -- Where a COMMIT stands, what the replies said.
 use Rattle.std.proofs.Common.{◌≡◌, ◌≤◌, ℕ, ◌+◌, ◌&&◌, ◌||◌, List, [], ◌∷◌, length, arith, Option, Some, None, Result, Ok, Err, is_err, refl, true, false, cond, ◌∙◌, ap}
 use Rattle.std.specs.Prelude.{Bool, slice_get, nat_lt}
-use Rattle.std.specs.Ordering.{is_eq}
-use Rattle.std.specs.Cmp.{tied_itself}
 use Rattle.std.proofs.lemmas.Bool.Decides.{nat_tests}
 use Rattle.sdb_types.specs.declared.key.Key.{Key}
 use Rattle.sdb_types.specs.declared.txid.TxId.{TxId}
@@ -11,7 +9,7 @@ use Rattle.sdb_types.specs.declared.record.Request.{Request}
 use Rattle.sdb_types.specs.declared.record.Request.TheVariants as ask
 use Rattle.sdb_types.specs.declared.record.Reply.{Reply}
 use Rattle.sdb_types.specs.declared.record.Reply.TheVariants as reply
-use Rattle.sdb_types.proofs.KeyOrder.{key_total}
+use Rattle.sdb_types.proofs.Keys.{same_key_self}
 use Rattle.sdb_record.specs.declared.coordinator.Decided.{Decided}
 use Rattle.sdb_record.specs.declared.coordinator.Decision.{Decision}
 use Rattle.sdb_record.specs.declared.coordinator.Decision.TheVariants as decision
@@ -27,7 +25,7 @@ use Rattle.sdb_phases.specs.declared.step.DecideStep.TheVariants as steps
 use Rattle.sdb_phases.specs.declared.step.DecidePhase.{DecidePhase}
 use Rattle.sdb_phases.specs.declared.step.DecidePhase.TheVariants as phase
 use Rattle.sdb_phases.specs.Work.{Work, prepares}
-use Rattle.sdb_phases.specs.Checks.{checks, same_key, difference_in}
+use Rattle.sdb_phases.specs.Checks.{checks, difference_in}
 use Rattle.sdb_phases.specs.Steps as small
 use Rattle.sdb_phases.specs.Steps.{CanGet, told}
 use Rattle.sdb_phases.specs.Commit.{Stage, Preparing, Checking, Deciding, Forward, Stopping, Back, Over, pending, step, after, preparing, checking, forward, back, after_prepare, after_check, after_decide}
@@ -35,6 +33,7 @@ use Rattle.sdb_phases.specs.CommitLaws.{IsWork, Seen, seen, note, nothing_seen, 
 use Rattle.sdb_types.proofs.Basics.{or_second as right, fails_second}
 use Rattle.sdb_types.specs.Replies.{is_fault}
 use Rattle.sdb_types.proofs.Bools.{and_both}
+use Rattle.sdb_types.specs.Order.{same_key}
 use Rattle.sdb_record.proofs.States.{decision_itself}
 
 ---- tests
@@ -57,11 +56,8 @@ by_test p h false x y t f = f refl
 
 ---- rows
 
-pub same_key_itself : (k : Key) → same_key k k ≡ true
-same_key_itself k = ap is_eq (tied_itself key_total k)
-
 pub at_key : (r : Record) (id : TxId) → r.key ≡ coordinator_key_of id → same_key r.key (coordinator_key_of id) ≡ true
-at_key r id e = ap (λ k. same_key k (coordinator_key_of id)) e ∙ same_key_itself (coordinator_key_of id)
+at_key r id e = ap (λ k. same_key k (coordinator_key_of id)) e ∙ same_key_self (coordinator_key_of id)
 
 pub row_says : (id : TxId) (d : Decision) (row : Record) → row.key ≡ coordinator_key_of id → is_decision d (decision_in row) ≡ true → says id d row ≡ true
 row_says id d row key is = and_both (same_key row.key (coordinator_key_of id)) (is_decision d (decision_in row)) (at_key row id key) is

@@ -1,8 +1,7 @@
 -- The extra reads of a COMMIT, and what each is to find.
 use Rattle.std.specs.Prelude.{Bool, not, if◌then◌else◌, List, [], ◌∷◌, ◌++◌, map, filter, Option, Some, None, is_none}
 use Rattle.std.specs.Option.{option_map}
-use Rattle.std.specs.List.{list_any}
-use Rattle.std.specs.Ordering.{is_eq, is_lt}
+use Rattle.std.specs.Ordering.{is_lt}
 use Rattle.std.specs.FinMap.{FinMap, get, insert, empty, entries}
 use Rattle.sdb_types.specs.declared.key.Key.{Key}
 use Rattle.sdb_types.specs.declared.txid.TxId.{TxId}
@@ -12,12 +11,13 @@ use Rattle.sdb_types.specs.declared.record.Request.{Request}
 use Rattle.sdb_types.specs.declared.record.Request.TheVariants as ask
 use Rattle.sdb_types.specs.declared.record.Reply.{Reply}
 use Rattle.sdb_types.specs.declared.record.Reply.TheVariants as reply
-use Rattle.sdb_types.specs.Order.{key_cmp}
-use Rattle.sdb_types.specs.Contents.{in_span}
+use Rattle.sdb_types.specs.Order.{key_cmp, same_key}
+use Rattle.sdb_types.specs.Contents.{in_span, record_among}
 use Rattle.sdb_record.specs.declared.access.Read.{Read}
 use Rattle.sdb_record.specs.declared.access.Scan.{Scan}
 use Rattle.sdb_record.specs.declared.write.Write.{Write}
 use Rattle.sdb_record.specs.Moved.{version_of, same_version, is_unchanged}
+use Rattle.sdb_record.specs.Among.{is_written}
 use Rattle.sdb_phases.specs.declared.check.Wish.{Wish}
 use Rattle.sdb_phases.specs.declared.check.Wish.TheVariants as wish
 use Rattle.sdb_phases.specs.declared.check.Wanted.{Wanted}
@@ -26,28 +26,10 @@ use Rattle.sdb_phases.specs.declared.check.Target.TheVariants as target
 use Rattle.sdb_phases.specs.declared.check.Check.{Check}
 use Rattle.sdb_phases.specs.Work.{Work}
 
-abbrev pub same_key : Key → Key → Bool
-same_key a b = is_eq (key_cmp a b)
-
----- what a transaction read and wrote, by key
-
--- the version that a scan found at a key, or none where it found no record
-abbrev pub version_read : List Read → Key → Option TxId
-version_read [] key = None
-version_read (r ∷ rs) key = if same_key key r.key then r.version else version_read rs key
-
 -- the version of the base of the write of a key, or none where the key isn't written
 abbrev pub base_of : List Write → Key → Option (Option TxId)
 base_of [] key = None
 base_of (w ∷ ws) key = if same_key key w.key then Some (version_of w.base) else base_of ws key
-
-abbrev pub is_written : List Write → Key → Bool
-is_written ws key = list_any (λ w. same_key key w.key) ws
-
--- the record that is at a key among rows
-abbrev pub record_among : List Record → Key → Option Record
-record_among [] key = None
-record_among (r ∷ rs) key = if same_key key r.key then Some r else record_among rs key
 
 ---- what a rescan is to find
 

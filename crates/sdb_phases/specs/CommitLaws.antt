@@ -17,10 +17,11 @@ use Rattle.sdb_phases.specs.declared.step.ValidateStep.{ValidateStep}
 use Rattle.sdb_phases.specs.declared.step.ValidateStep.TheVariants as validate
 use Rattle.sdb_phases.specs.declared.step.DecidePhase.TheVariants as phase
 use Rattle.sdb_phases.specs.Work.{Work}
-use Rattle.sdb_phases.specs.Checks.{checks, same_key}
+use Rattle.sdb_phases.specs.Checks.{checks}
 use Rattle.sdb_phases.specs.Steps.{CanGet, validate_step}
 use Rattle.sdb_phases.specs.Commit.{Stage, Preparing, Checking, Deciding, Forward, Stopping, Back, Over, pending, after}
 use Rattle.sdb_types.specs.Replies.{is_fault, is_applied}
+use Rattle.sdb_types.specs.Order.{same_key}
 
 -- ids have 128 bits, and moments are from 0 to 2^53
 pub record IsWork (p : Work) : Type 0 where

@@ -13,12 +13,12 @@ use Rattle.sdb_record.specs.declared.meta.Meta.{Meta}
 use Rattle.sdb_record.specs.Coordinator.{coordinator_key_of, decision_in, is_expired}
 use Rattle.sdb_record.specs.Meta.{is_moment}
 use Rattle.sdb_record.specs.Parts.{before_record}
-use Rattle.sdb_record.specs.Rolls.{forward_record}
+use Rattle.sdb_record.specs.Rolls.{forward_record, undo}
 use Rattle.sdb_phases.specs.declared.step.RecoverStep.{RecoverStep}
 use Rattle.sdb_phases.specs.declared.step.RecoverStep.TheVariants as steps
 use Rattle.sdb_phases.specs.declared.step.RecoverPhase.{RecoverPhase}
 use Rattle.sdb_phases.specs.declared.step.RecoverPhase.TheVariants as phase
-use Rattle.sdb_phases.specs.Work.{look_of, abort_of, undo}
+use Rattle.sdb_phases.specs.Work.{look_of, abort_of}
 use Rattle.sdb_phases.specs.Steps.{CanGet}
 
 -- an unresolved record that was found, what its metadata says, and where its recovery is

@@ -1,8 +1,6 @@
 -- What is committed, and the calls that write it.
-use Rattle.std.specs.Prelude.{ℤ, List, map, Option, Some, None}
-use Rattle.sdb_types.specs.declared.key.Key.{Key}
+use Rattle.std.specs.Prelude.{ℤ, List, map}
 use Rattle.sdb_types.specs.declared.txid.TxId.{TxId}
-use Rattle.sdb_types.specs.declared.record.Record.{Record}
 use Rattle.sdb_types.specs.declared.record.Condition.{Condition}
 use Rattle.sdb_types.specs.declared.record.Condition.TheVariants as condition
 use Rattle.sdb_types.specs.declared.record.Request.{Request}
@@ -13,7 +11,7 @@ use Rattle.sdb_record.specs.declared.access.Scan.{Scan}
 use Rattle.sdb_record.specs.declared.write.Write.{Write}
 use Rattle.sdb_record.specs.Coordinator.{coordinator_key_of, coordinator_row_of}
 use Rattle.sdb_record.specs.Moved.{version_of, condition_of}
-use Rattle.sdb_record.specs.Rolls.{prepared_record, forward_record, state_of_change}
+use Rattle.sdb_record.specs.Rolls.{prepared_record, forward_record, state_of_change, undo}
 
 -- A transaction as its COMMIT takes it, at a moment: what it writes, in order of first writing; the keys that it read by
 -- gets, in order of first reading; the spans that it scanned.
@@ -35,11 +33,6 @@ stands_prepared id w = condition.Version id (state_of_change w.change)
 -- Roll forward: the committed record is put, on condition that the record is as it was prepared.
 abbrev pub forward_of : TxId → ℤ → Write → Request
 forward_of id now w = ask.PutIf (forward_record (prepared_record w id now) now) (stands_prepared id w)
-
--- what was there before is put again, or the record is removed where there was none
-abbrev pub undo : Condition → Key → Option Record → Request
-undo condition key None = ask.DeleteIf key condition
-undo condition key (Some base) = ask.PutIf base condition
 
 -- Roll back: the base again, on condition that the record is as it was prepared.
 abbrev pub back_of : TxId → Write → Request

@@ -26,6 +26,7 @@ use Rattle.std.specs.List.{AllByRecursion}
 use Rattle.std.specs.Option.{option_map}
 use Rattle.sdb_types.specs.declared.record.Request.{Request}
 use Rattle.sdb_types.specs.declared.record.Request.TheVariants as ask
+use Rattle.sdb_types.specs.declared.record.Condition.{Condition}
 use Rattle.sdb_types.specs.declared.record.Condition.TheVariants as condition
 
 ---- prepared
@@ -111,6 +112,11 @@ back_to key (Some base) = back.Put base
 -- An unresolved record rolled back: its before image is put, or it is removed where it has none.
 abbrev pub back_of : Record → Back
 back_of r = back_to r.key (before_record r)
+
+-- what was there before is put again, or the record is removed where there was none
+abbrev pub undo : Condition → Key → Option Record → Request
+undo condition key None = ask.DeleteIf key condition
+undo condition key (Some base) = ask.PutIf base condition
 
 ---- the committed image
 

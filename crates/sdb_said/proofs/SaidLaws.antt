@@ -4,7 +4,6 @@ use Rattle.std.specs.Prelude.{◌&&◌, ◌||◌, ◌==◌, ◌↔◌, not, find
 use Rattle.std.specs.Option.{option_map_or, option_map}
 use Rattle.sdb_types.specs.declared.key.Key.{Key}
 use Rattle.sdb_types.specs.declared.txid.TxId.{TxId}
-use Rattle.sdb_model.specs.Noted.{same_key}
 use Rattle.sdb_laws.specs.History.{Talk, heard, Stage, Preparing, Checking, Deciding, is_yes, is_met, is_wanting, says}
 use Rattle.sdb_laws.specs.Lawful.{talk, ended}
 use Rattle.sdb_said.specs.declared.played.Role.{Role}
@@ -14,6 +13,7 @@ use Rattle.sdb_said.specs.Values.{role_of, all_played, word_of}
 use Rattle.sdb_said.specs.Said.{is_begin_of, owner_in, is_take_of, is_prepare_of, is_applied, is_check_of, is_stage_of, is_decision, is_risk_of, is_win_of, is_death_of, is_meeting_of, is_stop_of, is_end_of, touches, opens, begun_in, owner_of, open_in, stopped_in, taken_in, asked_in, told_in, checked_in, staged_in, deciding_in, risked_in, won_in, dead_in, met_in}
 use Rattle.sdb_said.proofs.Lists.{if_or}
 use Rattle.sdb_types.proofs.Basics.{clash}
+use Rattle.sdb_types.specs.Order.{same_key}
 
 -- a test of a pair of conditions
 and_or : (a b x : Bool) → (if a && b then true else x) ≡ ((a && b) || x)

@@ -18,15 +18,16 @@ use Rattle.sdb_record.specs.Meta.{id_in, is_in}
 use Rattle.sdb_record.specs.Rolls.{forward_record, is_tombstone}
 use Rattle.sdb_record.proofs.RollLaws.{forward-writer, forward-tombstone, mark_value}
 use Rattle.sdb_record.proofs.Within.{column-before_part}
-use Rattle.sdb_model.specs.Noted.{same_key}
 use Rattle.sdb_laws.specs.Lawful.{id, IsHeldShown, IsSettled, Itself, Forward, Back}
 use Rattle.sdb_said.specs.declared.played.Played.{Played}
 use Rattle.sdb_said.specs.Values.{all_played, same_record}
 use Rattle.sdb_said.specs.Shown.{shown, writer_is, kept_writer, keeps_tombstone, is_kept_in, is_held, is_held_by, shows_commit, moments, is_forward, is_itself, is_back, forward_from, is_settled, settles, settles_gone}
 use Rattle.sdb_said.proofs.Lists.{right, or_left, not_true, true_not, In, any_some, some_any}
-use Rattle.sdb_said.proofs.ShownLaws.{key_is, is_key, record_is, is_record, number_is, is_number, shown_is, is_shown, commit_shown, shows_commit_of, moment_shown, shown_moment, forward_is, is_forward_at, kept_is, is_kept_of, kept_writer_is, kept_some, before_columns}
+use Rattle.sdb_said.proofs.ShownLaws.{record_is, is_record, number_is, is_number, shown_is, is_shown, commit_shown, shows_commit_of, moment_shown, shown_moment, forward_is, is_forward_at, kept_is, is_kept_of, kept_writer_is, kept_some, before_columns}
 use Rattle.sdb_types.proofs.Basics.{clash, or_second as or_right, either}
 use Rattle.sdb_types.proofs.Bools.{and_first as left, and_both as both}
+use Rattle.sdb_types.specs.Order.{same_key}
+use Rattle.sdb_types.proofs.Keys.{same_key_exact, same_key_of}
 use Rattle.sdb_laws.proofs.Canon.{some_id}
 
 ---- writers
@@ -47,13 +48,13 @@ some_one (Some x) h = (x, refl)
 pub held_shown : (past : List Played) (t : ℕ) (k : Key) (r : Record) → In (shown past) r → is_held k r ≡ true → id_in r.columns ≡ Some (id t) → IsHeldShown (all_played past) t k r
 held_shown past t k r i h w = record {
   shown = shown_is past r i;
-  key = key_is r.key k (left (same_key r.key k) (not (is_in state.Committed r.columns)) h);
+  key = same_key_exact r.key k (left (same_key r.key k) (not (is_in state.Committed r.columns)) h);
   held = not_true (is_in state.Committed r.columns) (right (same_key r.key k) (not (is_in state.Committed r.columns)) h);
   writer = w;
 }
 
 pub is_held_of : (past : List Played) (t : ℕ) (k : Key) (r : Record) → IsHeldShown (all_played past) t k r → is_held k r ≡ true
-is_held_of past t k r s = both (same_key r.key k) (not (is_in state.Committed r.columns)) (is_key r.key k s.key) (true_not (is_in state.Committed r.columns) s.held)
+is_held_of past t k r s = both (same_key r.key k) (not (is_in state.Committed r.columns)) (same_key_of r.key k s.key) (true_not (is_in state.Committed r.columns) s.held)
 
 pub held_by : (past : List Played) (t : ℕ) (k : Key) (r : Record) → In (shown past) r → is_held_by t k r ≡ true → IsHeldShown (all_played past) t k r
 held_by past t k r i h = held_shown past t k r i (left (is_held k r) (writer_is t (id_in r.columns)) h) (writer_of t (id_in r.columns) (right (is_held k r) (writer_is t (id_in r.columns)) h))
@@ -68,7 +69,7 @@ module _ (past : List Played) (k : Key) (b : Record) where
   itself_is h =
       let rest = right (list_any (λ r. same_record r b) (shown past)) (same_key b.key k && is_in state.Committed b.columns) h in
       let a = any_some (λ r. same_record r b) (shown past) (left (list_any (λ r. same_record r b) (shown past)) (same_key b.key k && is_in state.Committed b.columns) h) in
-      Itself (shown_is past b (subst (λ x. In (shown past) x) (record_is a.0 b a.2) a.1)) (key_is b.key k (left (same_key b.key k) (is_in state.Committed b.columns) rest)) (right (same_key b.key k) (is_in state.Committed b.columns) rest)
+      Itself (shown_is past b (subst (λ x. In (shown past) x) (record_is a.0 b a.2) a.1)) (same_key_exact b.key k (left (same_key b.key k) (is_in state.Committed b.columns) rest)) (right (same_key b.key k) (is_in state.Committed b.columns) rest)
 
   back_is : is_back (shown past) k b ≡ true → IsSettled (all_played past) k b
   back_is h =
@@ -99,7 +100,7 @@ module _ (past : List Played) (k : Key) (b : Record) where
   is_settled_of (Itself s key firm) =
       or_left (is_itself (shown past) k b) (is_back (shown past) k b || list_any (forward_from (shown past) k b) (shown past))
       (both (list_any (λ r. same_record r b) (shown past)) (same_key b.key k && is_in state.Committed b.columns) (some_any (λ r. same_record r b) (shown past) b (is_shown past b s) (is_record b b refl))
-      (both (same_key b.key k) (is_in state.Committed b.columns) (is_key b.key k key) firm))
+      (both (same_key b.key k) (is_in state.Committed b.columns) (same_key_of b.key k key) firm))
   is_settled_of (Forward t r m held row same) =
       or_right (is_itself (shown past) k b) (is_back (shown past) k b || list_any (forward_from (shown past) k b) (shown past))
       (or_right (is_back (shown past) k b) (list_any (forward_from (shown past) k b) (shown past))
@@ -133,7 +134,7 @@ module _ (past : List Played) (k : Key) (u : ℕ) where
       let rest = right (same_key a.0.key k) (is_in state.Committed a.0.columns && writer_is u (id_in a.0.columns)) a.2 in
       record {
         b = a.0;
-        settled = Itself (shown_is past a.0 a.1) (key_is a.0.key k (left (same_key a.0.key k) (is_in state.Committed a.0.columns && writer_is u (id_in a.0.columns)) a.2)) (left (is_in state.Committed a.0.columns) (writer_is u (id_in a.0.columns)) rest);
+        settled = Itself (shown_is past a.0 a.1) (same_key_exact a.0.key k (left (same_key a.0.key k) (is_in state.Committed a.0.columns && writer_is u (id_in a.0.columns)) a.2)) (left (is_in state.Committed a.0.columns) (writer_is u (id_in a.0.columns)) rest);
         writer = writer_of u (id_in a.0.columns) (right (is_in state.Committed a.0.columns) (writer_is u (id_in a.0.columns)) rest);
       }
 
@@ -169,7 +170,7 @@ module _ (past : List Played) (k : Key) (u : ℕ) where
   settles_by : (b : Record) → IsSettled (all_played past) k b → id_in b.columns ≡ Some (id u) → settles (shown past) k u ≡ true
   settles_by b (Itself s key firm) w =
       or_left (list_any own_of (shown past)) (list_any back_of (shown past) || (list_any (is_held_by u k) (shown past) && shows_commit (shown past) (coordinator_key_of (id u))))
-      (some_any own_of (shown past) b (is_shown past b s) (both (same_key b.key k) (is_in state.Committed b.columns && writer_is u (id_in b.columns)) (is_key b.key k key) (both (is_in state.Committed b.columns) (writer_is u (id_in b.columns)) firm (is_writer_of u (id_in b.columns) w))))
+      (some_any own_of (shown past) b (is_shown past b s) (both (same_key b.key k) (is_in state.Committed b.columns && writer_is u (id_in b.columns)) (same_key_of b.key k key) (both (is_in state.Committed b.columns) (writer_is u (id_in b.columns)) firm (is_writer_of u (id_in b.columns) w))))
   settles_by b (Forward t r m held row same) w =
       let t_is : t ≡ u = some_id t u (sym held.writer ∙ sym (forward-writer r m) ∙ ap (λ (x : Record). id_in x.columns) (sym same) ∙ w) in
       or_right (list_any own_of (shown past)) (list_any back_of (shown past) || (list_any (is_held_by u k) (shown past) && shows_commit (shown past) (coordinator_key_of (id u))))
@@ -223,7 +224,7 @@ module _ (past : List Played) (k : Key) (u : ℕ) where
       let two = right (is_in state.Committed a.0.columns) (writer_is u (id_in a.0.columns) && is_tombstone a.0) one in
       record {
         b = a.0;
-        settled = Itself (shown_is past a.0 a.1) (key_is a.0.key k (left (same_key a.0.key k) (is_in state.Committed a.0.columns && (writer_is u (id_in a.0.columns) && is_tombstone a.0)) a.2)) (left (is_in state.Committed a.0.columns) (writer_is u (id_in a.0.columns) && is_tombstone a.0) one);
+        settled = Itself (shown_is past a.0 a.1) (same_key_exact a.0.key k (left (same_key a.0.key k) (is_in state.Committed a.0.columns && (writer_is u (id_in a.0.columns) && is_tombstone a.0)) a.2)) (left (is_in state.Committed a.0.columns) (writer_is u (id_in a.0.columns) && is_tombstone a.0) one);
         gone = right (writer_is u (id_in a.0.columns)) (is_tombstone a.0) two;
         writer = writer_of u (id_in a.0.columns) (left (writer_is u (id_in a.0.columns)) (is_tombstone a.0) two);
       }
@@ -263,7 +264,7 @@ module _ (past : List Played) (k : Key) (u : ℕ) where
   goes_by b (Itself s key firm) g w =
       or_left (list_any own_gone (shown past)) (list_any back_gone (shown past) || (list_any held_gone (shown past) && shows_commit (shown past) (coordinator_key_of (id u))))
       (some_any own_gone (shown past) b (is_shown past b s)
-      (both (same_key b.key k) (is_in state.Committed b.columns && (writer_is u (id_in b.columns) && is_tombstone b)) (is_key b.key k key)
+      (both (same_key b.key k) (is_in state.Committed b.columns && (writer_is u (id_in b.columns) && is_tombstone b)) (same_key_of b.key k key)
       (both (is_in state.Committed b.columns) (writer_is u (id_in b.columns) && is_tombstone b) firm (both (writer_is u (id_in b.columns)) (is_tombstone b) (is_writer_of u (id_in b.columns) w) g))))
   goes_by b (Forward t r m held row same) g w =
       let t_is : t ≡ u = some_id t u (sym held.writer ∙ sym (forward-writer r m) ∙ ap (λ (x : Record). id_in x.columns) (sym same) ∙ w) in

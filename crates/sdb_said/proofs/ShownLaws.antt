@@ -13,9 +13,9 @@ use Rattle.sdb_types.specs.declared.value.Value.{Value}
 use Rattle.sdb_types.specs.declared.record.Record.{Record}
 use Rattle.sdb_types.specs.declared.record.Reply.{Reply}
 use Rattle.sdb_types.specs.declared.record.Reply.TheVariants as reply
-use Rattle.sdb_types.specs.Contents.{tx_id}
+use Rattle.sdb_types.specs.Contents.{tx_id, record_among}
 use Rattle.sdb_types.specs.Columns.{column}
-use Rattle.sdb_types.specs.Order.{value_cmp}
+use Rattle.sdb_types.specs.Order.{value_cmp, same_key}
 use Rattle.sdb_types.specs.Exactness.{record_tells, value_tells}
 use Rattle.sdb_record.specs.declared.coordinator.Decided.{Decided}
 use Rattle.sdb_record.specs.declared.coordinator.Decision.{Decision}
@@ -30,24 +30,17 @@ use Rattle.sdb_record.proofs.Within.{column-before_part}
 use Rattle.sdb_record.proofs.RollLaws.{before_part-any}
 use Rattle.sdb_model.specs.declared.event.Event.{Event}
 use Rattle.sdb_model.specs.declared.event.Event.TheVariants as event
-use Rattle.sdb_model.specs.Noted.{same_key}
-use Rattle.sdb_laws.specs.Lawful.{row_among, id, InReply, InEvent, IsShown, IsRowShown, IsBadRow}
-use Rattle.sdb_laws.proofs.Keys.{same_key_self, same_key_tells}
+use Rattle.sdb_laws.specs.Lawful.{id, InReply, InEvent, IsShown, IsRowShown, IsBadRow}
 use Rattle.sdb_said.specs.declared.played.Played.{Played}
 use Rattle.sdb_said.specs.Values.{all_played, same_record}
 use Rattle.sdb_said.specs.Shown.{is_first, with_rows, with_reply, with_event, gathered, shown, kept_writer, no_more, keeps_next, keeps, is_kept_in, keeps_none, decided, commits, aborts, commit_moment, row_moment, shows_commit, shows_abort, shows_bad_row, moments, is_forward}
-use Rattle.sdb_said.proofs.Lists.{none_some, right, not_true, true_not, not_both, In, any_some, some_any, found_in}
+use Rattle.sdb_said.proofs.Lists.{none_some, right, not_true, true_not, In, any_some, some_any, found_in}
 use Rattle.sdb_types.proofs.Basics.{clash, some_is}
 use Rattle.sdb_types.proofs.Bools.{and_first as left, and_both as both}
+use Rattle.sdb_types.proofs.Keys.{same_key_exact, same_key_of}
 use Rattle.sdb_model.specs.Counted.{is_committed as is_commit}
 
 ---- equality
-
-pub key_is : (a b : Key) → same_key a b ≡ true → a ≡ b
-key_is a b h = elim (same_key_tells a b) [ inl e ↦ e.1 | inr e ↦ not_both (same_key a b) h e.0 ]
-
-pub is_key : (a b : Key) → a ≡ b → same_key a b ≡ true
-is_key a b e = ap (same_key a) (sym e) ∙ same_key_self a
 
 pub record_is : (a b : Record) → same_record a b ≡ true → a ≡ b
 unfolding same_record
@@ -80,24 +73,24 @@ pub last_in : {X : Type 0} (xs : List X) (y : X) → In (xs ++ y ∷ []) y
 last_in [] y = inl refl
 last_in (z ∷ zs) y = inr (last_in zs y)
 
-first_is : (rows : List Record) (r : Record) (o : Option Record) → row_among rows r.key ≡ o → option_map_or (λ x. same_record x r) o false ≡ true → row_among rows r.key ≡ Some r
+first_is : (rows : List Record) (r : Record) (o : Option Record) → record_among rows r.key ≡ o → option_map_or (λ x. same_record x r) o false ≡ true → record_among rows r.key ≡ Some r
 first_is rows r None e h = clash (sym h)
 first_is rows r (Some x) e h = e ∙ ap Some (record_is x r h)
 
-is_first_of : (rows : List Record) (r : Record) → row_among rows r.key ≡ Some r → is_first rows r ≡ true
+is_first_of : (rows : List Record) (r : Record) → record_among rows r.key ≡ Some r → is_first rows r ≡ true
 is_first_of rows r e = ap (λ o. option_map_or (λ x. same_record x r) o false) e ∙ is_record r r refl
 
-rows_in : (rows rs found : List Record) (x : Record) → In (with_rows rows rs found) x → In found x ⊎ (row_among rows x.key ≡ Some x)
+rows_in : (rows rs found : List Record) (x : Record) → In (with_rows rows rs found) x → In found x ⊎ (record_among rows x.key ≡ Some x)
 rows_in rows [] found x i = inl i
 rows_in rows (r ∷ rs) found x i = elim (rows_in rows rs (if is_first rows r then found ++ r ∷ [] else found) x i) [
   | inr e ↦ inr e
   | inl a ↦ by (is_first rows r) refl a
 ]
   where
-    by : (b : Bool) → is_first rows r ≡ b → In (if b then found ++ r ∷ [] else found) x → In found x ⊎ (row_among rows x.key ≡ Some x)
+    by : (b : Bool) → is_first rows r ≡ b → In (if b then found ++ r ∷ [] else found) x → In found x ⊎ (record_among rows x.key ≡ Some x)
     by true e a = elim (in_more found r x a) [
       | inl k ↦ inl k
-      | inr same ↦ inr (subst (λ y. row_among rows y.key ≡ Some y) (sym same) (first_is rows r (row_among rows r.key) refl e))
+      | inr same ↦ inr (subst (λ y. record_among rows y.key ≡ Some y) (sym same) (first_is rows r (record_among rows r.key) refl e))
     ]
     by false e a = inl a
 
@@ -109,10 +102,10 @@ rows_keep : (rows rs found : List Record) (x : Record) → In found x → In (wi
 rows_keep rows [] found x i = i
 rows_keep rows (r ∷ rs) found x i = rows_keep rows rs (if is_first rows r then found ++ r ∷ [] else found) x (kept_if (is_first rows r) found r x i)
 
-rows_have : (rows rs found : List Record) (x : Record) → In rs x → row_among rows x.key ≡ Some x → In (with_rows rows rs found) x
+rows_have : (rows rs found : List Record) (x : Record) → In rs x → record_among rows x.key ≡ Some x → In (with_rows rows rs found) x
 rows_have rows [] found x i e = absurd i
 rows_have rows (r ∷ rs) found x (inl same) e =
-    rows_keep rows rs (if is_first rows r then found ++ r ∷ [] else found) x (subst (λ b. In (if b then found ++ r ∷ [] else found) x) (sym (is_first_of rows r (subst (λ y. row_among rows y.key ≡ Some y) same e))) (subst (λ y. In (found ++ r ∷ []) y) (sym same) (last_in found r)))
+    rows_keep rows rs (if is_first rows r then found ++ r ∷ [] else found) x (subst (λ b. In (if b then found ++ r ∷ [] else found) x) (sym (is_first_of rows r (subst (λ y. record_among rows y.key ≡ Some y) same e))) (subst (λ y. In (found ++ r ∷ []) y) (sym same) (last_in found r)))
 rows_have rows (r ∷ rs) found x (inr i) e = rows_have rows rs (if is_first rows r then found ++ r ∷ [] else found) x i e
 
 reply_in : (r : Reply) (found : List Record) (x : Record) → In (with_reply r found) x → In found x ⊎ InReply r x
@@ -138,7 +131,7 @@ reply_keeps reply.NoMemory found x i = i
 reply_has : (r : Reply) (found : List Record) (x : Record) → InReply r x → In (with_reply r found) x
 reply_has (reply.Found None) found x i = absurd i
 reply_has (reply.Found (Some r)) found x i = subst (λ y. In (found ++ r ∷ []) y) (sym i) (last_in found r)
-reply_has (reply.Rows rows) found x i = rows_have rows rows found x (found_in (λ (r : Record). same_key r.key x.key) rows x i).0 i
+reply_has (reply.Rows rows) found x i = rows_have rows rows found x (found_in (λ (r : Record). same_key x.key r.key) rows x i).0 i
 reply_has reply.Applied found x i = absurd i
 reply_has (reply.NotMet None) found x i = absurd i
 reply_has (reply.NotMet (Some r)) found x i = subst (λ y. In (found ++ r ∷ []) y) (sym i) (last_in found r)
@@ -222,21 +215,21 @@ pub commit_shown : (past : List Played) (t : ℕ) → shows_commit (shown past) 
 commit_shown past t h =
     let a = any_some (λ (r : Record). same_key r.key (coordinator_key_of (id t)) && commits (decided r)) (shown past) h in
     let m = commits_is a.0 (right (same_key a.0.key (coordinator_key_of (id t))) (commits (decided a.0)) a.2) in
-    (m.0, record { row = a.0; shown = shown_is past a.0 a.1; key = key_is a.0.key (coordinator_key_of (id t)) (left (same_key a.0.key (coordinator_key_of (id t))) (commits (decided a.0)) a.2); says = m.1 })
+    (m.0, record { row = a.0; shown = shown_is past a.0 a.1; key = same_key_exact a.0.key (coordinator_key_of (id t)) (left (same_key a.0.key (coordinator_key_of (id t))) (commits (decided a.0)) a.2); says = m.1 })
 
 pub shows_commit_of : (past : List Played) (t : ℕ) (m : ℤ) → IsRowShown (all_played past) t decision.Committed m → shows_commit (shown past) (coordinator_key_of (id t)) ≡ true
 shows_commit_of past t m s =
-    some_any (λ (r : Record). same_key r.key (coordinator_key_of (id t)) && commits (decided r)) (shown past) s.row (is_shown past s.row s.shown) (both (same_key s.row.key (coordinator_key_of (id t))) (commits (decided s.row)) (is_key s.row.key (coordinator_key_of (id t)) s.key) (ap (λ o. commits (result_ok o)) s.says))
+    some_any (λ (r : Record). same_key r.key (coordinator_key_of (id t)) && commits (decided r)) (shown past) s.row (is_shown past s.row s.shown) (both (same_key s.row.key (coordinator_key_of (id t))) (commits (decided s.row)) (same_key_of s.row.key (coordinator_key_of (id t)) s.key) (ap (λ o. commits (result_ok o)) s.says))
 
 pub abort_shown : (past : List Played) (t : ℕ) → shows_abort (shown past) (coordinator_key_of (id t)) ≡ true → (m : ℤ) × IsRowShown (all_played past) t decision.Aborted m
 abort_shown past t h =
     let a = any_some (λ (r : Record). same_key r.key (coordinator_key_of (id t)) && aborts (decided r)) (shown past) h in
     let m = aborts_is a.0 (right (same_key a.0.key (coordinator_key_of (id t))) (aborts (decided a.0)) a.2) in
-    (m.0, record { row = a.0; shown = shown_is past a.0 a.1; key = key_is a.0.key (coordinator_key_of (id t)) (left (same_key a.0.key (coordinator_key_of (id t))) (aborts (decided a.0)) a.2); says = m.1 })
+    (m.0, record { row = a.0; shown = shown_is past a.0 a.1; key = same_key_exact a.0.key (coordinator_key_of (id t)) (left (same_key a.0.key (coordinator_key_of (id t))) (aborts (decided a.0)) a.2); says = m.1 })
 
 pub shows_abort_of : (past : List Played) (t : ℕ) (m : ℤ) → IsRowShown (all_played past) t decision.Aborted m → shows_abort (shown past) (coordinator_key_of (id t)) ≡ true
 shows_abort_of past t m s =
-    some_any (λ (r : Record). same_key r.key (coordinator_key_of (id t)) && aborts (decided r)) (shown past) s.row (is_shown past s.row s.shown) (both (same_key s.row.key (coordinator_key_of (id t))) (aborts (decided s.row)) (is_key s.row.key (coordinator_key_of (id t)) s.key) (ap (λ o. aborts (result_ok o)) s.says))
+    some_any (λ (r : Record). same_key r.key (coordinator_key_of (id t)) && aborts (decided r)) (shown past) s.row (is_shown past s.row s.shown) (both (same_key s.row.key (coordinator_key_of (id t))) (aborts (decided s.row)) (same_key_of s.row.key (coordinator_key_of (id t)) s.key) (ap (λ o. aborts (result_ok o)) s.says))
 
 none_is : {A : Type 0} (o : Option A) → is_none o ≡ true → o ≡ None
 none_is None h = refl
@@ -245,11 +238,11 @@ none_is (Some x) h = clash (sym h)
 pub bad_row_shown : (past : List Played) (t : ℕ) → shows_bad_row (shown past) (coordinator_key_of (id t)) ≡ true → IsBadRow (all_played past) t
 bad_row_shown past t h =
     let a = any_some (λ (r : Record). same_key r.key (coordinator_key_of (id t)) && is_none (decided r)) (shown past) h in
-    record { row = a.0; shown = shown_is past a.0 a.1; key = key_is a.0.key (coordinator_key_of (id t)) (left (same_key a.0.key (coordinator_key_of (id t))) (is_none (decided a.0)) a.2); bad = none_is (decided a.0) (right (same_key a.0.key (coordinator_key_of (id t))) (is_none (decided a.0)) a.2) }
+    record { row = a.0; shown = shown_is past a.0 a.1; key = same_key_exact a.0.key (coordinator_key_of (id t)) (left (same_key a.0.key (coordinator_key_of (id t))) (is_none (decided a.0)) a.2); bad = none_is (decided a.0) (right (same_key a.0.key (coordinator_key_of (id t))) (is_none (decided a.0)) a.2) }
 
 pub shows_bad_row_of : (past : List Played) (t : ℕ) → IsBadRow (all_played past) t → shows_bad_row (shown past) (coordinator_key_of (id t)) ≡ true
 shows_bad_row_of past t s =
-    some_any (λ (r : Record). same_key r.key (coordinator_key_of (id t)) && is_none (decided r)) (shown past) s.row (is_shown past s.row s.shown) (both (same_key s.row.key (coordinator_key_of (id t))) (is_none (decided s.row)) (is_key s.row.key (coordinator_key_of (id t)) s.key) (ap is_none s.bad))
+    some_any (λ (r : Record). same_key r.key (coordinator_key_of (id t)) && is_none (decided r)) (shown past) s.row (is_shown past s.row s.shown) (both (same_key s.row.key (coordinator_key_of (id t))) (is_none (decided s.row)) (same_key_of s.row.key (coordinator_key_of (id t)) s.key) (ap is_none s.bad))
 
 ---- moments
 
@@ -283,7 +276,7 @@ moment_says r row m h = by (same_key r.key row) refl h
     says (Ok d) e k = let t = told d.decision d.created_at k in e ∙ (λ i. Ok (record { decision = t.0 i; created_at = t.1 i }))
 
     by : (b : Bool) → same_key r.key row ≡ b → (if b then commit_moment (decided r) else None) ≡ Some m → (r.key ≡ row) × (decision_in r ≡ Ok (record { decision = decision.Committed; created_at = m }))
-    by true e k = (key_is r.key row e, says (decision_in r) refl k)
+    by true e k = (same_key_exact r.key row e, says (decision_in r) refl k)
     by false e k = none_some k
 
 pub moment_shown : (past : List Played) (t : ℕ) (m : ℤ) → In (moments (shown past) (coordinator_key_of (id t))) m → IsRowShown (all_played past) t decision.Committed m
@@ -294,7 +287,7 @@ moment_shown past t m i =
 
 pub shown_moment : (past : List Played) (t : ℕ) (m : ℤ) → IsRowShown (all_played past) t decision.Committed m → In (moments (shown past) (coordinator_key_of (id t))) m
 shown_moment past t m s =
-    in_kept (row_moment (coordinator_key_of (id t))) (shown past) s.row m (is_shown past s.row s.shown) (ap (λ b. if b then commit_moment (decided s.row) else None) (is_key s.row.key (coordinator_key_of (id t)) s.key) ∙ ap (λ o. commit_moment (result_ok o)) s.says)
+    in_kept (row_moment (coordinator_key_of (id t))) (shown past) s.row m (is_shown past s.row s.shown) (ap (λ b. if b then commit_moment (decided s.row) else None) (same_key_of s.row.key (coordinator_key_of (id t)) s.key) ∙ ap (λ o. commit_moment (result_ok o)) s.says)
 
 ---- rolled
 
@@ -355,7 +348,7 @@ is_keeps (p ∷ ps) bs e = by (base_name p.name) p.value bs (is_keeps ps) e
 pub kept_is : (r b : Record) → is_kept_in r b ≡ true → before_record r ≡ Some b
 unfolding before_record
 kept_is r b h =
-    let k = key_is r.key b.key (left (same_key r.key b.key) (not (no_more b.columns) && keeps r.columns b.columns) h) in
+    let k = same_key_exact r.key b.key (left (same_key r.key b.key) (not (no_more b.columns) && keeps r.columns b.columns) h) in
     let rest = right (same_key r.key b.key) (not (no_more b.columns) && keeps r.columns b.columns) h in
     let c = keeps_is r.columns b.columns (right (not (no_more b.columns)) (keeps r.columns b.columns) rest) in
     by (before_part r.columns) c (ap (λ x. not (no_more x)) c ∙ left (not (no_more b.columns)) (keeps r.columns b.columns) rest) k
@@ -372,7 +365,7 @@ is_kept_of r b h = by (before_part r.columns) refl h
     by [] e h = none_some h
     by (p ∷ ps) e h =
         let same = some_is (record { key = r.key; columns = p ∷ ps }) b h in
-        both (same_key r.key b.key) (not (no_more b.columns) && keeps r.columns b.columns) (is_key r.key b.key (ap (λ (x : Record). x.key) same))
+        both (same_key r.key b.key) (not (no_more b.columns) && keeps r.columns b.columns) (same_key_of r.key b.key (ap (λ (x : Record). x.key) same))
         (both (not (no_more b.columns)) (keeps r.columns b.columns) (ap (λ (x : Record). not (no_more x.columns)) (sym same)) (is_keeps r.columns b.columns (e ∙ ap (λ (x : Record). x.columns) same)))
 
 any_kept : (ps : List Pair) → before_part ps ≡ [] → list_any is_before_pair ps ≡ false

@@ -3,7 +3,7 @@ use Rattle.std.specs.Prelude.{ℕ, Bool, true, false, not, ◌&&◌, ◌||◌, �
 use Rattle.std.specs.Option.{option_map_or}
 use Rattle.std.specs.List.{list_any}
 use Rattle.sdb_types.specs.declared.key.Key.{Key}
-use Rattle.sdb_model.specs.Noted.{same_key}
+use Rattle.sdb_types.specs.Order.{same_key}
 use Rattle.sdb_laws.specs.History.{is_yes, is_met, is_wanting}
 use Rattle.sdb_said.specs.declared.played.Role.{Role}
 use Rattle.sdb_said.specs.declared.played.Role.TheVariants as role

@@ -14,8 +14,8 @@ use Rattle.sdb_types.specs.declared.record.State.TheVariants.{Deleted, Committed
 use Rattle.sdb_types.specs.declared.record.Reply.{Reply}
 use Rattle.sdb_types.specs.declared.record.Reply.TheVariants as reply
 use Rattle.sdb_types.specs.Columns.{column}
-use Rattle.sdb_types.specs.Contents.{tx_id, has_value}
-use Rattle.sdb_types.specs.Order.{value_cmp}
+use Rattle.sdb_types.specs.Contents.{tx_id, has_value, record_among}
+use Rattle.sdb_types.specs.Order.{value_cmp, same_key}
 use Rattle.sdb_record.specs.declared.coordinator.Decided.{Decided}
 use Rattle.sdb_record.specs.declared.coordinator.Decision.TheVariants as decision
 use Rattle.sdb_record.specs.Coordinator.{coordinator_key_of, decision_in}
@@ -25,8 +25,7 @@ use Rattle.sdb_record.specs.Parts.{is_before_pair}
 use Rattle.sdb_record.specs.Rolls.{forward_record, is_tombstone}
 use Rattle.sdb_model.specs.declared.event.Event.{Event}
 use Rattle.sdb_model.specs.declared.event.Event.TheVariants as event
-use Rattle.sdb_model.specs.Noted.{same_key}
-use Rattle.sdb_laws.specs.Lawful.{row_among, id}
+use Rattle.sdb_laws.specs.Lawful.{id}
 use Rattle.sdb_said.specs.Values.{same_record}
 use Rattle.sdb_said.specs.declared.played.Played.{Played}
 use Rattle.sdb_model.specs.Counted.{is_committed as is_commit}
@@ -35,7 +34,7 @@ use Rattle.sdb_model.specs.Counted.{is_committed as is_commit}
 
 -- the first row of its key
 abbrev pub is_first : List Record → Record → Bool
-is_first rows r = option_map_or (λ x. same_record x r) (row_among rows r.key) false
+is_first rows r = option_map_or (λ x. same_record x r) (record_among rows r.key) false
 
 abbrev pub with_rows : List Record → List Record → List Record → List Record
 with_rows rows [] found = found

@@ -1,7 +1,6 @@
 -- What the values mean in the words of the law.
 use Rattle.std.specs.Prelude.{ℕ, ℤ, pos, Bool, ◌==◌, List, [], map, Option, find}
 use Rattle.std.specs.Option.{option_map, option_map_or}
-use Rattle.sdb_types.specs.declared.key.Key.{Key}
 use Rattle.sdb_types.specs.declared.record.Record.{Record}
 use Rattle.sdb_types.specs.declared.record.Request.{Request}
 use Rattle.sdb_types.specs.declared.record.Span.{Span}
@@ -11,7 +10,6 @@ use Rattle.sdb_types.specs.contracts.record.RequestPartialEq.TheImpl as request_
 use Rattle.sdb_record.specs.declared.write.Write.{Write}
 use Rattle.sdb_model.specs.Noted as noted
 use Rattle.sdb_laws.specs.Plan as law
-use Rattle.sdb_model.specs.Noted.{same_key}
 use Rattle.sdb_laws.specs.History as part
 use Rattle.sdb_laws.specs.Lawful as lawful
 use Rattle.sdb_said.specs.declared.plan.Note.{Note}
@@ -69,10 +67,6 @@ moment_in plans t = option_map_or (λ p. p.now) (planned plans t) (pos 0)
 -- What a transaction goes into its COMMIT with, as the law has it. One that has no plan here writes and notes nothing.
 abbrev pub plan_in : List Plan → ℕ → law.Plan
 plan_in plans t = record { writes = writes_in plans t; notes = map note_of (notes_in plans t); now = moment_in plans t }
-
--- the write of a key
-abbrev pub write_in : List Write → Key → Option Write
-write_in writes key = find (λ w. same_key w.key key) writes
 
 ---- equality
 

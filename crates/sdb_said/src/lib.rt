@@ -16,7 +16,7 @@ pub use played::{
 };
 pub use records::{
     decided, is_committed, is_forward, is_held_by, is_kept_in, is_settled, keeps_none, kept_writer,
-    moments, row_of, settles, settles_gone, shown, shows_abort, shows_bad_row, shows_commit,
+    moments, record_among, settles, settles_gone, shown, shows_abort, shows_bad_row, shows_commit,
     writer,
 };
 pub use same::{is_same_key, is_same_record, is_same_request, is_same_span};

@@ -1,8 +1,10 @@
 //! What transactions go into their COMMITs with.
 ghost use Rattle.std.specs.Prelude.{◌≡◌, find};
 ghost use Rattle.std.specs.Option.{option_copied};
-ghost use Rattle.sdb_model.specs.Noted.{same_key, version_among as version_among_lem, version_noted as version_noted_lem};
-ghost use Rattle.sdb_said.specs.Values.{note_of, planned, writes_in, notes_in, moment_in, write_in};
+ghost use Rattle.sdb_model.specs.Noted.{version_noted as version_noted_lem};
+ghost use Rattle.sdb_said.specs.Values.{note_of, planned, writes_in, notes_in, moment_in};
+ghost use Rattle.sdb_types.specs.Order.{same_key};
+ghost use Rattle.sdb_record.specs.Among.{version_among as version_among_lem, write_among};
 
 use crate::same::is_same_key;
 use sdb_record::{Read, Scan, Write, Writes};
@@ -26,9 +28,9 @@ impl Drop for Note {
 }
 
 fn read_of<'a>(found: &'a [Read], key: &Key) -> Option<&'a Read>
-    ensures { option_copied result ≡ find (λ r. same_key r.key key.now) found.now }
+    ensures { option_copied result ≡ find (λ r. same_key key.now r.key) found.now }
 {
-    found.iter().find(|read| is_same_key(&read.key, key))
+    found.iter().find(|read| is_same_key(key, &read.key))
 }
 
 /// The version that a scan found at a key.
@@ -121,7 +123,7 @@ pub fn moment_of(plans: &[Plan], id: TxId) -> i64
 
 /// The write of a key.
 pub fn write_of<'a>(writes: &'a [Write], key: &Key) -> Option<&'a Write>
-    ensures { option_copied result ≡ write_in writes.now key.now }
+    ensures { option_copied result ≡ write_among writes.now key.now }
 {
-    writes.iter().find(|write| is_same_key(&write.key, key))
+    writes.iter().find(|write| is_same_key(key, &write.key))
 }

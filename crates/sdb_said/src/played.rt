@@ -1,7 +1,7 @@
 //! Events with the parts that they play, and what a list of them, newest first, has said of a transaction.
 ghost use Rattle.std.specs.Prelude.{◌≡◌, find};
 ghost use Rattle.std.specs.Option.{option_copied};
-ghost use Rattle.sdb_model.specs.Noted.{same_key};
+ghost use Rattle.sdb_types.specs.Order.{same_key};
 ghost use Rattle.sdb_laws.specs.History.{is_yes, is_met, is_wanting};
 ghost use Rattle.sdb_said.specs.Values.{word_of};
 ghost use Rattle.sdb_said.specs.Said.{is_begin_of, is_take_of, is_prepare_of, is_applied, is_check_of, is_stage_of, is_decision, is_risk_of, is_win_of, is_death_of, is_meeting_of, is_stop_of, is_end_of, ends_with, owner_in, touches, opens, taken_in, begun_in, asked_in, told_in, checked_in, staged_in, deciding_in, risked_in, won_in, dead_in, met_in, stopped_in, owner_of, open_in};

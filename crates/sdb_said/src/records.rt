@@ -3,13 +3,13 @@ ghost use Rattle.std.specs.Prelude.{◌≡◌, ◌&&◌, ◌||◌, not, IfOk, On
 ghost use Rattle.std.specs.Option.{option_copied};
 ghost use Rattle.std.specs.List.{list_any, cons_option};
 ghost use Rattle.sdb_types.specs.declared.record.State.TheVariants.{Committed, Deleted};
+ghost use Rattle.sdb_types.specs.Contents.{record_among as record_among_lem};
+ghost use Rattle.sdb_types.specs.Order.{same_key};
 ghost use Rattle.sdb_record.specs.Ids.{id_of_text};
 ghost use Rattle.sdb_record.specs.Meta.{id_in, id_in_value, is_in};
 ghost use Rattle.sdb_record.specs.Names.{base_name, is_before, same_name};
 ghost use Rattle.sdb_record.specs.Parts.{is_before_pair};
 ghost use Rattle.sdb_record.specs.Rolls.{forward_record, is_tombstone as is_tombstone_lem};
-ghost use Rattle.sdb_laws.specs.Lawful.{row_among};
-ghost use Rattle.sdb_model.specs.Noted.{same_key};
 ghost use Rattle.sdb_said.specs.Values.{same_record};
 ghost use Rattle.sdb_said.specs.Shown.{is_first as is_first_lem, with_rows, with_found, with_reply, with_event, shown as shown_lem, writer_is as writer_is_lem, kept_writer as kept_writer_lem, keeps_tombstone as keeps_tombstone_lem, keeps as keeps_lem, is_kept_in as is_kept_in_lem, keeps_none as keeps_none_lem, is_held as is_held_lem, is_held_by as is_held_by_lem, decided as decided_lem, commits as commits_lem, aborts as aborts_lem, commit_moment as commit_moment_lem, row_moment as row_moment_lem, shows_commit as shows_commit_lem, shows_abort as shows_abort_lem, shows_bad_row as shows_bad_row_lem, moments as moments_lem, is_forward as is_forward_lem, is_itself as is_itself_lem, is_back as is_back_lem, forward_from as forward_from_lem, is_settled as is_settled_lem, settles as settles_lem, settles_gone as settles_gone_lem};
 
@@ -26,17 +26,17 @@ use sdb_types::{
 };
 use std::alloc::Global;
 
-/// The first row of a key.
-pub fn row_of<'a>(rows: &'a [Record], key: &Key) -> Option<&'a Record>
-    ensures { option_copied result ≡ row_among rows.now key.now }
+/// The first record of a key among some.
+pub fn record_among<'a>(rows: &'a [Record], key: &Key) -> Option<&'a Record>
+    ensures { option_copied result ≡ record_among_lem rows.now key.now }
 {
-    rows.iter().find(|row| is_same_key(&row.key, key))
+    rows.iter().find(|row| is_same_key(key, &row.key))
 }
 
 fn is_first(rows: &[Record], rec: &Record) -> bool
     ensures { result ≡ is_first_lem rows.now rec.now }
 {
-    match row_of(rows, &rec.key) {
+    match record_among(rows, &rec.key) {
         Some(row) => is_same_record(row, rec),
         None => false,
     }

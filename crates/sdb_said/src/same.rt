@@ -1,11 +1,11 @@
 //! Equality of keys, records and requests.
 ghost use Rattle.std.specs.Prelude.{◌≡◌};
-ghost use Rattle.sdb_model.specs.Noted.{same_key};
+ghost use Rattle.sdb_types.specs.Order.{same_key};
 ghost use Rattle.sdb_said.specs.Values.{same_record, same_request, same_span};
 
 use sdb_types::{Key, Record, Request, Span};
 
-#[tactic(auto, unfolding(sdb_model::specs::Noted::same_key))]
+#[tactic(auto, unfolding(sdb_types::specs::Order::same_key))]
 pub fn is_same_key(a: &Key, b: &Key) -> bool
     ensures { result ≡ same_key a.now b.now }
 {

@@ -8,6 +8,7 @@ use Rattle.sdb_types.specs.declared.pair.Pair.{Pair}
 use Rattle.sdb_types.specs.declared.record.Request.{Request}
 use Rattle.sdb_types.specs.declared.record.Request.TheVariants as ask
 use Rattle.sdb_types.proofs.Basics.{clash}
+use Rattle.sdb_types.proofs.Keys.{same_key_exact, same_key_of}
 use Rattle.sdb_schema.specs.declared.table.Table.{Table}
 use Rattle.sdb_record.specs.declared.access.Image.{Image}
 use Rattle.sdb_model.specs.declared.event.Event.{Event}
@@ -18,7 +19,6 @@ use Rattle.sdb_model.specs.Transactions.{Said}
 use Rattle.sdb_snapshot.specs.Seen.{images_with}
 use Rattle.sdb_order.specs.Commits.{said_of}
 use Rattle.sdb_said.proofs.Lists.{In, any_some, some_any}
-use Rattle.sdb_said.proofs.ShownLaws.{key_is, is_key}
 use Rattle.sdb_calls.specs.Values.{made_of}
 use Rattle.sdb_caused.specs.Tests.{same_said}
 use Rattle.sdb_caused.proofs.Finds.{contained_made, made_contained}
@@ -33,13 +33,13 @@ use Rattle.sdb_shown.proofs.Members.{below_in, flat_in, in_below, in_either, in_
 ---- what a statement was shown
 
 reads_is : (key : Key) (q : Request) → reads_key key q ≡ true → ReadsKey key q
-reads_is key (ask.Get k) h = key_is k key h
+reads_is key (ask.Get k) h = same_key_exact k key h
 reads_is key (ask.Scan span) h = h
 reads_is key (ask.PutIf rec condition) h = clash (sym h)
 reads_is key (ask.DeleteIf k condition) h = clash (sym h)
 
 is_reads : (key : Key) (q : Request) → ReadsKey key q → reads_key key q ≡ true
-is_reads key (ask.Get k) h = is_key k key h
+is_reads key (ask.Get k) h = same_key_of k key h
 is_reads key (ask.Scan span) h = h
 is_reads key (ask.PutIf rec condition) h = absurd h
 is_reads key (ask.DeleteIf k condition) h = absurd h

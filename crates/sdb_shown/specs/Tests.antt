@@ -10,7 +10,7 @@ use Rattle.sdb_types.specs.declared.record.Request.{Request}
 use Rattle.sdb_types.specs.declared.record.Request.TheVariants as ask
 use Rattle.sdb_types.specs.declared.value.Value.{Value}
 use Rattle.sdb_types.specs.Contents.{in_span}
-use Rattle.sdb_types.specs.Order.{value_cmp}
+use Rattle.sdb_types.specs.Order.{value_cmp, same_key}
 use Rattle.sdb_schema.specs.declared.table.Table.{Table}
 use Rattle.sdb_record.specs.declared.access.Image.{Image}
 use Rattle.sdb_model.specs.declared.answer.Answer.{Answer}
@@ -20,7 +20,6 @@ use Rattle.sdb_model.specs.declared.statement.Select.{Select}
 use Rattle.sdb_model.specs.declared.statement.Statement.{Statement}
 use Rattle.sdb_model.specs.declared.statement.Statement.TheVariants as statement
 use Rattle.sdb_model.specs.Exec.{all_rows, find_table, key_of, shown}
-use Rattle.sdb_model.specs.Noted.{same_key}
 use Rattle.sdb_model.specs.Shown.{row_left}
 use Rattle.sdb_model.specs.Transactions.{Said}
 use Rattle.sdb_snapshot.specs.Seen.{images_with}

@@ -9,20 +9,22 @@ use Rattle.std.specs.Cmp.{tied_itself}
 use Rattle.sdb_types.specs.declared.key.Key.{Key}
 use Rattle.sdb_types.specs.declared.record.Record.{Record}
 use Rattle.sdb_types.specs.declared.record.Span.{Span}
-use Rattle.sdb_types.specs.Order.{key_cmp}
+use Rattle.sdb_types.specs.Order.{key_cmp, same_key}
 use Rattle.sdb_types.specs.Exact.{equal_of}
-use Rattle.sdb_types.specs.Contents.{in_span, starts_after, rise}
+use Rattle.sdb_types.specs.Contents.{in_span, starts_after, rise, record_among}
 use Rattle.sdb_types.proofs.Bools.{and_first, and_second}
 use Rattle.sdb_types.proofs.KeyOrder.{key_total, key_exact}
-use Rattle.sdb_keyed.specs.Entries.{same_key, value_at}
+use Rattle.sdb_keyed.specs.Entries.{value_at}
 use Rattle.sdb_record.specs.declared.write.Write.{Write}
 use Rattle.sdb_record.specs.declared.write.Keyed.{Keyed}
 use Rattle.sdb_record.specs.Rolls.{IsBaseOf, IsWrite, AreCommitted}
-use Rattle.sdb_snapshot.specs.Noted.{Note, is_noted, base_at, with_note, with_images, has_key, record_in, has_moved, differs, IsFirstDifference, IsUnmoved, AreKeysOf, AreBases}
-use Rattle.sdb_snapshot.specs.Written.{write_at, with_write, with_writes, with_change_of, write_of, AreWrites, AreChanges}
+use Rattle.sdb_record.specs.Among.{write_among}
+use Rattle.sdb_snapshot.specs.Noted.{Note, is_noted, base_at, with_note, with_images, has_key, has_moved, differs, IsFirstDifference, IsUnmoved, AreKeysOf, AreBases}
+use Rattle.sdb_snapshot.specs.Written.{with_write, with_writes, with_change_of, write_of, AreWrites, AreChanges}
 use Rattle.sdb_snapshot.specs.Held.{WereRead, differs_from}
-use Rattle.sdb_snapshot.proofs.Keys.{same_exact, value_last}
+use Rattle.sdb_snapshot.proofs.Keys.{value_last}
 use Rattle.sdb_types.proofs.Basics.{by_test, less_of, some_is, all_last, or_else, or_none}
+use Rattle.sdb_types.proofs.Keys.{same_key_exact}
 
 ---- what is noted of a scan
 
@@ -39,7 +41,7 @@ note_step notes k f q =
     by_test (is_noted notes k)
     (λ t. ap (λ b. value_at (cond b notes (notes ++ (k, f) ∷ [])) q) t
     ∙ by_test (same_key q k)
-    (λ u. sym (or_there (value_at notes q) (cond (same_key q k) (Some f) None) (subst (λ (x : Key). is_some (value_at notes x) ≡ true) (sym (same_exact q k u)) t)))
+    (λ u. sym (or_there (value_at notes q) (cond (same_key q k) (Some f) None) (subst (λ (x : Key). is_some (value_at notes x) ≡ true) (sym (same_key_exact q k u)) t)))
     (λ u. sym (ap (λ b. or_else (value_at notes q) (cond b (Some f) None)) u ∙ or_none (value_at notes q))))
     (λ t. ap (λ b. value_at (cond b notes (notes ++ (k, f) ∷ [])) q) t ∙ value_last notes k f q)
 
@@ -47,27 +49,27 @@ found_first : (b : Bool) (r : Record) (o : Option Record) → or_else (cond b (S
 found_first true r o = refl
 found_first false r o = refl
 
-pub noted_images : (notes : List Note) (rs : List Record) (q : Key) → value_at (with_images notes rs) q ≡ or_else (value_at notes q) (option_map Some (record_in rs q))
+pub noted_images : (notes : List Note) (rs : List Record) (q : Key) → value_at (with_images notes rs) q ≡ or_else (value_at notes q) (option_map Some (record_among rs q))
 noted_images notes [] q = sym (or_none (value_at notes q))
 noted_images notes (r ∷ rs) q =
     noted_images (with_note notes r.key (Some r)) rs q
-    ∙ ap (λ o. or_else o (option_map Some (record_in rs q))) (note_step notes r.key (Some r) q)
-    ∙ or_or (value_at notes q) (cond (same_key q r.key) (Some (Some r)) None) (option_map Some (record_in rs q))
-    ∙ ap (or_else (value_at notes q)) (found_first (same_key q r.key) r (record_in rs q))
+    ∙ ap (λ o. or_else o (option_map Some (record_among rs q))) (note_step notes r.key (Some r) q)
+    ∙ or_or (value_at notes q) (cond (same_key q r.key) (Some (Some r)) None) (option_map Some (record_among rs q))
+    ∙ ap (or_else (value_at notes q)) (found_first (same_key q r.key) r (record_among rs q))
 
 joined : (o : Option Record) → option_and_then (λ x. x) (option_map Some o) ≡ o
 joined None = refl
 joined (Some r) = refl
 
 -- the records of a scan, noted alone
-pub base_images : (rs : List Record) (q : Key) → base_at (with_images [] rs) q ≡ record_in rs q
-base_images rs q = ap (option_and_then (λ x. x)) (noted_images [] rs q) ∙ joined (record_in rs q)
+pub base_images : (rs : List Record) (q : Key) → base_at (with_images [] rs) q ≡ record_among rs q
+base_images rs q = ap (option_and_then (λ x. x)) (noted_images [] rs q) ∙ joined (record_among rs q)
 
-pub stands_is : (now : List Note) (rs : List Record) (q : Key) → now ≡ with_images [] rs → base_at now q ≡ record_in rs q
+pub stands_is : (now : List Note) (rs : List Record) (q : Key) → now ≡ with_images [] rs → base_at now q ≡ record_among rs q
 stands_is now rs q is = ap (λ (ns : List Note). base_at ns q) is ∙ base_images rs q
 
 pub still_noted : (notes : List Note) (rs : List Record) (q : Key) → is_noted notes q ≡ true → is_noted (with_images notes rs) q ≡ true
-still_noted notes rs q h = ap is_some (noted_images notes rs q) ∙ ap is_some (or_there (value_at notes q) (option_map Some (record_in rs q)) h) ∙ h
+still_noted notes rs q h = ap is_some (noted_images notes rs q) ∙ ap is_some (or_there (value_at notes q) (option_map Some (record_among rs q)) h) ∙ h
 
 pub noted_last_keeps : (notes : List Note) (k : Key) (f : Option Record) (q : Key) → is_noted notes q ≡ true → is_noted (notes ++ (k, f) ∷ []) q ≡ true
 noted_last_keeps notes k f q h = ap is_some (value_last notes k f q) ∙ ap is_some (or_there (value_at notes q) (cond (same_key q k) (Some f) None) h) ∙ h
@@ -125,18 +127,18 @@ moved_noted : (o : Option (Option Record)) (f : Option Record) → has_moved o f
 moved_noted None f h = absurd (cc)
 moved_noted (Some x) f h = refl
 
-pub first_difference : (notes : List Note) (span : Span) (images ks : List Record) (r : Record) (found : Option Record) → AreKeysOf notes span ks → find (λ s. differs notes images s.key) ks ≡ Some r → found ≡ record_in images r.key → IsFirstDifference notes span images r.key found
+pub first_difference : (notes : List Note) (span : Span) (images ks : List Record) (r : Record) (found : Option Record) → AreKeysOf notes span ks → find (λ s. differs notes images s.key) ks ≡ Some r → found ≡ record_among images r.key → IsFirstDifference notes span images r.key found
 first_difference notes span images ks r found keys at is = record {
   inside = inside_all span (differs notes images) ks r (and_second (rise ks) (list_all (λ s. in_span span s.key) ks) keys.rows) at;
   moved = passes (differs notes images) ks r at;
   stands = is;
-  first = λ q inside moved. least (differs notes images) ks r q (and_first (rise ks) (list_all (λ s. in_span span s.key) ks) keys.rows) at (keys.noted q inside (moved_noted (value_at notes q) (record_in images q) moved)) moved;
+  first = λ q inside moved. least (differs notes images) ks r q (and_first (rise ks) (list_all (λ s. in_span span s.key) ks) keys.rows) at (keys.noted q inside (moved_noted (value_at notes q) (record_among images q) moved)) moved;
 }
 
 pub none_differs : (notes : List Note) (span : Span) (images ks : List Record) → AreKeysOf notes span ks → find (λ s. differs notes images s.key) ks ≡ None → IsUnmoved notes span images
 none_differs notes span images ks keys at q inside =
     by_test (differs notes images q)
-    (λ t. t ∙ sym t ∙ none_passes (differs notes images) ks q at (keys.noted q inside (moved_noted (value_at notes q) (record_in images q) t)))
+    (λ t. t ∙ sym t ∙ none_passes (differs notes images) ks q at (keys.noted q inside (moved_noted (value_at notes q) (record_among images q) t)))
     (λ t. t)
 
 -- other notes that are those of a scan's records alone
@@ -175,7 +177,7 @@ base_fine : (notes : List Note) (key : Key) → AreBases notes → IfSome (base_
 base_fine [] key h = tt
 base_fine (e ∷ notes) key h =
     by_test (same_key key e.0)
-    (λ t. subst (λ (o : Option (Option Record)). IfSome (option_and_then (λ x. x) o) (IsBaseOf key)) (sym (ap (λ (b : Bool). cond b (Some e.1) (value_at notes key)) t)) (subst (λ (k : Key). IfSome e.1 (IsBaseOf k)) (sym (same_exact key e.0 t)) h.0))
+    (λ t. subst (λ (o : Option (Option Record)). IfSome (option_and_then (λ x. x) o) (IsBaseOf key)) (sym (ap (λ (b : Bool). cond b (Some e.1) (value_at notes key)) t)) (subst (λ (k : Key). IfSome e.1 (IsBaseOf k)) (sym (same_key_exact key e.0 t)) h.0))
     (λ t. subst (λ (o : Option (Option Record)). IfSome (option_and_then (λ x. x) o) (IsBaseOf key)) (sym (ap (λ (b : Bool). cond b (Some e.1) (value_at notes key)) t)) (base_fine notes key h.1))
 
 write_fine : (ws : List Write) (w : Write) → AreWrites ws → IsWrite w → AreWrites (with_write ws w)
@@ -192,23 +194,23 @@ writes_fine notes ws (k ∷ ks) bases h g =
     writes_fine notes (with_write ws (write_of notes k)) ks bases (write_fine ws (write_of notes k) h (record { base = base_fine notes k.key bases; change = g.0.1 })) g.1
 
 read_rest : (notes : List Note) (x : Write) (xs : List Write) → WereRead notes (x ∷ xs) → WereRead notes xs
-read_rest notes x xs read q there = read q (step (same_key q x.key) (write_at xs q) there)
+read_rest notes x xs read q there = read q (step (same_key q x.key) (write_among xs q) there)
   where
     step : (b : Bool) (o : Option Write) → is_some o ≡ true → is_some (cond b (Some x) o) ≡ true
     step true o g = refl
     step false o g = g
 
-kept_or_later : (notes : List Note) (x w : Write) (xs : List Write) (q : Key) (b : Bool) → WereRead notes xs → (is_some (write_at (with_write xs w) q) ≡ true → is_noted notes q ≡ true)
-    → is_some (write_at (cond b (with_change_of x w ∷ xs) (x ∷ with_write xs w)) q) ≡ true → same_key q x.key ≡ false → is_noted notes q ≡ true
-kept_or_later notes x w xs q true read more g t = read q (sym (ap (λ b. is_some (cond b (Some (with_change_of x w)) (write_at xs q))) t) ∙ g)
-kept_or_later notes x w xs q false read more g t = more (sym (ap (λ b. is_some (cond b (Some x) (write_at (with_write xs w) q))) t) ∙ g)
+kept_or_later : (notes : List Note) (x w : Write) (xs : List Write) (q : Key) (b : Bool) → WereRead notes xs → (is_some (write_among (with_write xs w) q) ≡ true → is_noted notes q ≡ true)
+    → is_some (write_among (cond b (with_change_of x w ∷ xs) (x ∷ with_write xs w)) q) ≡ true → same_key q x.key ≡ false → is_noted notes q ≡ true
+kept_or_later notes x w xs q true read more g t = read q (sym (ap (λ b. is_some (cond b (Some (with_change_of x w)) (write_among xs q))) t) ∙ g)
+kept_or_later notes x w xs q false read more g t = more (sym (ap (λ b. is_some (cond b (Some x) (write_among (with_write xs w) q))) t) ∙ g)
 
 write_keeps : (notes : List Note) (ws : List Write) (w : Write) → is_noted notes w.key ≡ true → WereRead notes ws → WereRead notes (with_write ws w)
 write_keeps notes [] w h read q at = by_test (same_key q w.key)
-    (λ t. subst (λ (k : Key). is_noted notes k ≡ true) (sym (same_exact q w.key t)) h)
+    (λ t. subst (λ (k : Key). is_noted notes k ≡ true) (sym (same_key_exact q w.key t)) h)
     (λ t. let no : false ≡ true = sym (ap (λ b. is_some (cond b (Some w) None)) t) ∙ at in absurd (cc))
 write_keeps notes (x ∷ xs) w h read q at = by_test (same_key q x.key)
-    (λ t. read q (ap (λ b. is_some (cond b (Some x) (write_at xs q))) t))
+    (λ t. read q (ap (λ b. is_some (cond b (Some x) (write_among xs q))) t))
     (λ t. kept_or_later notes x w xs q (same_key w.key x.key) (read_rest notes x xs read) (write_keeps notes xs w h (read_rest notes x xs read) q) at t)
 
 pub writes_read : (notes : List Note) (ws : List Write) (ks : List Keyed) → WereRead notes ws → AreChanges notes ks → WereRead notes (with_writes notes ws ks)

@@ -1,37 +1,17 @@
 -- Notes and writes under their keys.
-use Rattle.std.proofs.Common.{◌≡◌, ℕ, zero, suc, Bool, true, false, cond, List, [], ◌∷◌, ◌++◌, take, Option, Some, None, refl, sym, ap, subst, ◌∙◌}
+use Rattle.std.proofs.Common.{◌≡◌, ℕ, zero, suc, Bool, true, false, cond, List, [], ◌∷◌, ◌++◌, take, Option, Some, None, refl, ap, ◌∙◌}
 use Rattle.std.specs.Prelude.{is_some}
 use Rattle.std.specs.FinMap.{find}
 use Rattle.std.specs.Ordering.{is_eq}
-use Rattle.std.specs.Cmp.{tied_itself}
 use Rattle.sdb_types.specs.declared.key.Key.{Key}
-use Rattle.sdb_types.specs.Order.{key_cmp}
-use Rattle.sdb_types.specs.Exact.{equal_of}
-use Rattle.sdb_types.specs.Exactness.{key_tells}
-use Rattle.sdb_types.proofs.KeyOrder.{key_total, key_exact}
-use Rattle.sdb_keyed.specs.Entries.{same_key, value_at, with_value}
+use Rattle.sdb_types.specs.Order.{key_cmp, same_key}
+use Rattle.sdb_keyed.specs.Entries.{value_at, with_value}
+use Rattle.sdb_types.proofs.Keys.{same_key_is}
 use Rattle.sdb_types.proofs.Basics.{by_test, or_else}
-
-pub same_itself : (a : Key) → same_key a a ≡ true
-same_itself a = (key_tells a a).1 refl
-
-pub same_exact : (a b : Key) → same_key a b ≡ true → a ≡ b
-same_exact a b h = (key_tells a b).0 h
-
--- `==` of keys is the tie of their order
-pub same_is : (a b : Key) → same_key a b ≡ is_eq (key_cmp a b)
-same_is a b =
-    by_test (is_eq (key_cmp a b))
-    (λ t. (key_tells a b).1 (key_exact a b (equal_of (key_cmp a b) t)) ∙ sym t)
-    (λ t. by_test (same_key a b)
-    (λ u. let same : a ≡ b = (key_tells a b).0 u in
-    let tied : is_eq (key_cmp a b) ≡ true = subst (λ (x : Key). is_eq (key_cmp a x) ≡ true) same (ap is_eq (tied_itself key_total a)) in
-    u ∙ sym tied)
-    (λ u. u ∙ sym t))
 
 pub value_is : {V : Type 0} (es : List (Key × V)) (key : Key) → value_at es key ≡ find key_cmp key es
 value_is [] key = refl
-value_is (e ∷ es) key = ap (λ (b : Bool). cond b (Some e.1) (value_at es key)) (same_is key e.0) ∙ ap (λ o. cond (is_eq (key_cmp key e.0)) (Some e.1) o) (value_is es key)
+value_is (e ∷ es) key = ap (λ (b : Bool). cond b (Some e.1) (value_at es key)) (same_key_is key e.0) ∙ ap (λ o. cond (is_eq (key_cmp key e.0)) (Some e.1) o) (value_is es key)
 
 some_none : {A : Type 0} (b : Bool) (x : A) (o : Option A) → is_some (cond b (Some x) o) ≡ false → b ≡ true → ⊥
 some_none true x o h t = absurd (cc)

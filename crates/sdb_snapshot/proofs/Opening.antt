@@ -2,15 +2,16 @@
 use Rattle.std.proofs.Common.{◌≡◌, suc, Bool, true, false, cond, List, [], ◌∷◌, ◌++◌, length, Option, Some, None, refl, sym, ap, ◌∙◌}
 use Rattle.std.specs.Prelude.{is_some}
 use Rattle.sdb_types.specs.declared.key.Key.{Key}
-use Rattle.sdb_keyed.specs.Entries.{same_key}
+use Rattle.sdb_types.specs.Order.{same_key}
+use Rattle.sdb_types.proofs.Keys.{same_key_self}
 use Rattle.sdb_record.specs.declared.write.Write.{Write}
 use Rattle.sdb_record.specs.declared.write.Keyed.{Keyed}
+use Rattle.sdb_record.specs.Among.{write_among, is_written}
 use Rattle.sdb_snapshot.specs.Held.{StartsWith}
 use Rattle.sdb_snapshot.specs.Noted.{Note}
-use Rattle.sdb_snapshot.specs.Written.{write_at, is_written, with_write, with_writes, write_of}
+use Rattle.sdb_snapshot.specs.Written.{with_write, with_writes, write_of}
 use Rattle.sdb_snapshot.specs.Opened.{with_new, with_news, with_laid, with_laids}
 use Rattle.sdb_snapshot.proofs.Fronts.{starts_more}
-use Rattle.sdb_snapshot.proofs.Keys.{same_itself}
 use Rattle.sdb_snapshot.proofs.Places.{laid_on}
 
 abbrev pub opened : List Write → Write → List Write
@@ -25,13 +26,13 @@ opened_is : (ws : List Write) (w : Write) → with_new ws w ≡ opened ws w
 opened_is [] w = refl
 opened_is (x ∷ xs) w =
     let rest : with_new xs w ≡ opened xs w = opened_is xs w in
-    elim (same_key w.key x.key) as (λ b. cond (is_some (cond b (Some x) (write_at xs w.key))) (x ∷ xs) (x ∷ (xs ++ w ∷ [])) ≡ cond b (x ∷ xs) (x ∷ opened xs w)) [
+    elim (same_key w.key x.key) as (λ b. cond (is_some (cond b (Some x) (write_among xs w.key))) (x ∷ xs) (x ∷ (xs ++ w ∷ [])) ≡ cond b (x ∷ xs) (x ∷ opened xs w)) [
       | true ↦ refl
-      | false ↦ cons_cond (is_some (write_at xs w.key)) x xs (xs ++ w ∷ []) ∙ ap (λ ys. x ∷ ys) rest
+      | false ↦ cons_cond (is_some (write_among xs w.key)) x xs (xs ++ w ∷ []) ∙ ap (λ ys. x ∷ ys) rest
     ]
 
 laid_opened : (notes : List Note) (ws : List Write) (k : Keyed) → with_laid (opened ws (write_of notes k)) k ≡ with_write ws (write_of notes k)
-laid_opened notes [] k = ap (λ (b : Bool). cond b (laid_on (write_of notes k) k ∷ []) (write_of notes k ∷ [])) (same_itself k.key)
+laid_opened notes [] k = ap (λ (b : Bool). cond b (laid_on (write_of notes k) k ∷ []) (write_of notes k ∷ [])) (same_key_self k.key)
 laid_opened notes (x ∷ xs) k =
     let rest : with_laid (opened xs (write_of notes k)) k ≡ with_write xs (write_of notes k) = laid_opened notes xs k in
     elim (same_key k.key x.key) as (λ b. same_key k.key x.key ≡ b → with_laid (cond b (x ∷ xs) (x ∷ opened xs (write_of notes k))) k ≡ cond b (laid_on x k ∷ xs) (x ∷ with_write xs (write_of notes k))) [
@@ -46,7 +47,7 @@ written_step false x o p h g = g h
 laid_past_one : (ws : List Write) (k : Keyed) (v : Write) → is_written ws k.key ≡ true → opened (with_laid ws k) v ≡ with_laid (opened ws v) k
 laid_past_one [] k v h = absurd (cc)
 laid_past_one (x ∷ xs) k v h =
-    elim (same_key k.key x.key) as (λ b. same_key k.key x.key ≡ b → is_some (cond b (Some x) (write_at xs k.key)) ≡ true
+    elim (same_key k.key x.key) as (λ b. same_key k.key x.key ≡ b → is_some (cond b (Some x) (write_among xs k.key)) ≡ true
     → opened (cond b (laid_on x k ∷ xs) (x ∷ with_laid xs k)) v ≡ with_laid (cond (same_key v.key x.key) (x ∷ xs) (x ∷ opened xs v)) k) [
       | true ↦ λ t g. elim (same_key v.key x.key) as (λ c. cond c (laid_on x k ∷ xs) (laid_on x k ∷ opened xs v) ≡ with_laid (cond c (x ∷ xs) (x ∷ opened xs v)) k) [
         | true ↦ sym (ap (λ (b : Bool). cond b (laid_on x k ∷ xs) (x ∷ with_laid xs k)) t)
@@ -65,15 +66,15 @@ opened_keeps [] v q h = absurd (cc)
 opened_keeps (x ∷ xs) v q h =
     elim (same_key v.key x.key) as (λ c. is_written (cond c (x ∷ xs) (x ∷ opened xs v)) q ≡ true) [
       | true ↦ h
-      | false ↦ written_step (same_key q x.key) x (write_at xs q) (write_at (opened xs v) q) h (opened_keeps xs v q)
+      | false ↦ written_step (same_key q x.key) x (write_among xs q) (write_among (opened xs v) q) h (opened_keeps xs v q)
     ]
 
 opened_has : (ws : List Write) (v : Write) → is_written (opened ws v) v.key ≡ true
-opened_has [] v = ap (λ b. is_some (cond b (Some v) None)) (same_itself v.key)
+opened_has [] v = ap (λ b. is_some (cond b (Some v) None)) (same_key_self v.key)
 opened_has (x ∷ xs) v =
     elim (same_key v.key x.key) as (λ c. same_key v.key x.key ≡ c → is_written (cond c (x ∷ xs) (x ∷ opened xs v)) v.key ≡ true) [
-      | true ↦ λ t. ap (λ b. is_some (cond b (Some x) (write_at xs v.key))) t
-      | false ↦ λ t. ap (λ b. is_some (cond b (Some x) (write_at (opened xs v) v.key))) t ∙ opened_has xs v
+      | true ↦ λ t. ap (λ b. is_some (cond b (Some x) (write_among xs v.key))) t
+      | false ↦ λ t. ap (λ b. is_some (cond b (Some x) (write_among (opened xs v) v.key))) t ∙ opened_has xs v
     ] refl
 
 new_keeps : (ws : List Write) (v : Write) (q : Key) → is_written ws q ≡ true → is_written (with_new ws v) q ≡ true

@@ -7,19 +7,20 @@ use Rattle.sdb_types.specs.declared.key.Key.{Key}
 use Rattle.sdb_types.specs.declared.pair.Pair.{Pair}
 use Rattle.sdb_types.specs.declared.record.Record.{Record}
 use Rattle.sdb_types.specs.declared.record.Span.{Span}
-use Rattle.sdb_types.specs.Order.{key_cmp}
+use Rattle.sdb_types.specs.Order.{key_cmp, same_key}
 use Rattle.sdb_types.specs.Exact.{equal_of}
 use Rattle.sdb_types.specs.Contents.{Contents, in_span, rows_among, rows_in, record_of}
 use Rattle.sdb_types.proofs.KeyOrder.{key_total, key_exact}
 use Rattle.sdb_types.proofs.Replies.{rows_in-are_rows_of}
-use Rattle.sdb_keyed.specs.Entries.{same_key, value_at, with_value}
+use Rattle.sdb_keyed.specs.Entries.{value_at, with_value}
 use Rattle.sdb_snapshot.specs.Held.{InOrder}
 use Rattle.sdb_snapshot.specs.Noted.{Note, is_noted, has_key, AreKeysOf}
 use Rattle.sdb_snapshot.specs.Noted.{with_note}
 use Rattle.sdb_snapshot.specs.Held.{StartsWith}
 use Rattle.sdb_snapshot.proofs.Fronts.{starts_more}
-use Rattle.sdb_snapshot.proofs.Keys.{same_is, value_last, value_take, put_new}
+use Rattle.sdb_snapshot.proofs.Keys.{value_last, value_take, put_new}
 use Rattle.sdb_types.proofs.Basics.{by_test, or_else}
+use Rattle.sdb_types.proofs.Keys.{same_key_is}
 
 pub nothing_noted : (m : Contents) → InOrder [] m
 nothing_noted m q h = absurd (cc)
@@ -41,7 +42,7 @@ either false f c (Some x) p g h = g refl
 pub in_order_new : (notes : List Note) (m : Contents) (k : Key) (f : Option Record) (c : List Pair) → InOrder notes m → InOrder (notes ++ (k, f) ∷ []) (insert m k c)
 in_order_new notes m k f c h q noted =
     let at : is_some (or_else (value_at notes q) (cond (same_key q k) (Some f) None)) ≡ true = sym (ap is_some (value_last notes k f q)) ∙ noted in
-    let tied : is_some (or_else (value_at notes q) (cond (is_eq (key_cmp q k)) (Some f) None)) ≡ true = subst (λ (b : Bool). is_some (or_else (value_at notes q) (cond b (Some f) None)) ≡ true) (same_is q k) at in
+    let tied : is_some (or_else (value_at notes q) (cond (is_eq (key_cmp q k)) (Some f) None)) ≡ true = subst (λ (b : Bool). is_some (or_else (value_at notes q) (cond b (Some f) None)) ≡ true) (same_key_is q k) at in
     ap is_some (get-insert key_total m k c q) ∙ either (is_eq (key_cmp q k)) f c (value_at notes q) (get m q) (h q) tied
 
 pub in_order_take : (notes : List Note) (m : Contents) (n : ℕ) → InOrder notes m → InOrder (take n notes) m

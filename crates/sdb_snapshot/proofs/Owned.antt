@@ -4,16 +4,19 @@ use Rattle.std.specs.Prelude.{is_some, Result, Ok, Err, OnOk, OnErr}
 use Rattle.std.specs.Option.{option_and_then}
 use Rattle.sdb_types.specs.declared.key.Key.{Key}
 use Rattle.sdb_types.specs.declared.record.Record.{Record}
-use Rattle.sdb_keyed.specs.Entries.{same_key, value_at}
+use Rattle.sdb_keyed.specs.Entries.{value_at}
 use Rattle.sdb_record.specs.declared.write.Write.{Write}
 use Rattle.sdb_record.specs.declared.write.Keyed.{Keyed}
 use Rattle.sdb_record.specs.Rolls.{IsBaseOf, AreCommitted}
+use Rattle.sdb_record.specs.Among.{is_written, write_among}
 use Rattle.sdb_snapshot.specs.Noted.{Note, is_noted, base_at, with_images}
-use Rattle.sdb_snapshot.specs.Written.{AreChanges, HaveBases, HaveKeysOnce, is_written, write_at, with_write, with_writes, with_change_of, write_of}
+use Rattle.sdb_snapshot.specs.Written.{AreChanges, HaveBases, HaveKeysOnce, with_write, with_writes, with_change_of, write_of}
 use Rattle.sdb_snapshot.specs.Held.{AreKept}
-use Rattle.sdb_snapshot.proofs.Keys.{same_itself, same_exact, value_last}
+use Rattle.sdb_snapshot.proofs.Keys.{value_last}
 use Rattle.sdb_snapshot.proofs.Differences.{or_there, noted_images, noted_last_keeps, still_noted, bases_last, bases_images, writes_fine, writes_read}
 use Rattle.sdb_types.proofs.Basics.{by_test}
+use Rattle.sdb_types.specs.Order.{same_key}
+use Rattle.sdb_types.proofs.Keys.{same_key_self, same_key_exact}
 
 ---- bases
 
@@ -51,7 +54,7 @@ based_writes notes ws (k ∷ ks) h g = based_writes notes (with_write ws (write_
 other_way : (a b : Key) → same_key a b ≡ false → same_key b a ≡ false
 other_way a b h =
     by_test (same_key b a)
-    (λ t. let tied : same_key a b ≡ true = subst (λ (x : Key). same_key a x ≡ true) (sym (same_exact b a t)) (same_itself a) in
+    (λ t. let tied : same_key a b ≡ true = subst (λ (x : Key). same_key a x ≡ true) (sym (same_key_exact b a t)) (same_key_self a) in
     let no : true ≡ false = sym tied ∙ h in absurd (cc))
     (λ t. t)
 
@@ -64,8 +67,8 @@ written_other [] w q t = ap (λ (b : Bool). is_some (cond b (Some w) None)) t
 written_other (x ∷ xs) w q t = by_same (same_key w.key x.key) (written_other xs w q t)
   where
     by_same : (b : Bool) → is_written (with_write xs w) q ≡ is_written xs q → is_written (cond b (with_change_of x w ∷ xs) (x ∷ with_write xs w)) q ≡ is_written (x ∷ xs) q
-    by_same true rest = same_either (same_key q x.key) (with_change_of x w) x (write_at xs q) (write_at xs q) refl
-    by_same false rest = same_either (same_key q x.key) x x (write_at (with_write xs w) q) (write_at xs q) rest
+    by_same true rest = same_either (same_key q x.key) (with_change_of x w) x (write_among xs q) (write_among xs q) refl
+    by_same false rest = same_either (same_key q x.key) x x (write_among (with_write xs w) q) (write_among xs q) rest
 
 once_write : (ws : List Write) (w : Write) → HaveKeysOnce ws → HaveKeysOnce (with_write ws w)
 once_write [] w h = (refl, tt)

@@ -8,15 +8,16 @@ use Rattle.std.proofs.lemmas.List.Folds.{find_at}
 use Rattle.std.proofs.lemmas.Option.{slice_get_past}
 use Rattle.std.proofs.lemmas.Bool.Decides.{nat_tests}
 use Rattle.sdb_types.specs.declared.key.Key.{Key}
-use Rattle.sdb_keyed.specs.Entries.{same_key, value_at, with_value}
+use Rattle.sdb_keyed.specs.Entries.{value_at, with_value}
 use Rattle.sdb_record.specs.declared.write.Write.{Write}
 use Rattle.sdb_record.specs.declared.write.Keyed.{Keyed}
+use Rattle.sdb_record.specs.Among.{write_among, is_written}
 use Rattle.sdb_snapshot.specs.Held.{ArePlaces}
-use Rattle.sdb_snapshot.specs.Written.{write_at, is_written}
 use Rattle.sdb_snapshot.specs.Opened.{with_new, with_laid}
 use Rattle.sdb_snapshot.proofs.Fronts.{starts_itself, starts_more, starts_take}
 use Rattle.sdb_snapshot.proofs.Keys.{put_new}
 use Rattle.sdb_types.proofs.Basics.{by_test, one_more}
+use Rattle.sdb_types.specs.Order.{same_key}
 
 abbrev pub key_of : Write → Key
 key_of w = w.key
@@ -40,7 +41,7 @@ place_is places ws key h =
     ∙ ap (λ m. cond (nat_lt (position_or_len (λ (w : Write). same_key key w.key) ws) m) (Some (position_or_len (λ (w : Write). same_key key w.key) ws)) None) (length_map ws)
 
 -- what stands at that place
-pub found_at : (ws : List Write) (key : Key) (i : ℕ) → place_in ws key ≡ Some i → slice_get ws i ≡ write_at ws key
+pub found_at : (ws : List Write) (key : Key) (i : ℕ) → place_in ws key ≡ Some i → slice_get ws i ≡ write_among ws key
 found_at ws key i h =
     let n = position_or_len (λ (w : Write). same_key key w.key) ws in
     by_test (nat_lt n (length ws))
@@ -49,7 +50,7 @@ found_at ws key i h =
     ap (slice_get ws) (sym at) ∙ sym (find_at (λ (w : Write). same_key key w.key) ws))
     (λ t. let none : ◌≡◌ {A = Option ℕ} None (Some i) = sym (ap (λ b. cond b (Some n) None) t) ∙ h in absurd (cc))
 
-pub found_none : (ws : List Write) (key : Key) → place_in ws key ≡ None → write_at ws key ≡ None
+pub found_none : (ws : List Write) (key : Key) → place_in ws key ≡ None → write_among ws key ≡ None
 found_none ws key h =
     let n = position_or_len (λ (w : Write). same_key key w.key) ws in
     by_test (nat_lt n (length ws))
@@ -109,10 +110,10 @@ pub none_later : {A : Type 0} (b : Bool) (x : A) (o : Option A) → ◌≡◌ {A
 none_later true x o h = absurd (cc)
 none_later false x o h = (refl, h)
 
-pub laid_none : (ws : List Write) (k : Keyed) → write_at ws k.key ≡ None → with_laid ws k ≡ ws
+pub laid_none : (ws : List Write) (k : Keyed) → write_among ws k.key ≡ None → with_laid ws k ≡ ws
 laid_none [] k h = refl
 laid_none (w ∷ ws) k h =
-    let p = none_later (same_key k.key w.key) w (write_at ws k.key) h in
+    let p = none_later (same_key k.key w.key) w (write_among ws k.key) h in
     ap (λ (b : Bool). cond b (laid_on w k ∷ ws) (w ∷ with_laid ws k)) p.0 ∙ ap (λ (ys : List Write). w ∷ ys) (laid_none ws k p.1)
 
 pub keys_laid : (ws : List Write) (k : Keyed) → map key_of (with_laid ws k) ≡ map key_of ws
@@ -171,14 +172,14 @@ none_is (Some i) h = absurd (cc)
 
 some_written : (ws : List Write) (k : Key) (o : Option ℕ) → place_in ws k ≡ o → is_some o ≡ true → is_written ws k ≡ true
 some_written ws k None h some = absurd (cc)
-some_written ws k (Some i) h some = written (slice_get ws i) (write_at ws k) (found_at ws k i h) (place_within ws k i h)
+some_written ws k (Some i) h some = written (slice_get ws i) (write_among ws k) (found_at ws k i h) (place_within ws k i h)
   where
     there : (xs : List Write) (n : ℕ) → n < length xs → is_some (slice_get xs n) ≡ true
     there [] n g = absurd (omega (arith, g))
     there (x ∷ xs) zero g = refl
     there (x ∷ xs) (suc n) g = there xs n (omega (arith, g))
 
-    written : (x y : Option Write) → slice_get ws i ≡ write_at ws k → i < length ws → is_written ws k ≡ true
+    written : (x y : Option Write) → slice_get ws i ≡ write_among ws k → i < length ws → is_written ws k ≡ true
     written x y e g = sym (ap is_some e) ∙ there ws i g
 
 -- a key that has a place is written

@@ -11,27 +11,28 @@ use Rattle.sdb_types.specs.declared.key.Key.{Key}
 use Rattle.sdb_types.specs.declared.pair.Pair.{Pair}
 use Rattle.sdb_types.specs.declared.record.Record.{Record}
 use Rattle.sdb_types.specs.declared.record.Span.{Span}
-use Rattle.sdb_types.specs.Order.{key_cmp}
+use Rattle.sdb_types.specs.Order.{key_cmp, same_key}
 use Rattle.sdb_types.specs.Exact.{equal_of}
 use Rattle.sdb_types.specs.Contents.{in_span, starts_after, rise, are_rows_of}
 use Rattle.sdb_types.proofs.Bools.{and_first, and_second}
 use Rattle.sdb_types.proofs.KeyOrder.{key_total, key_exact, starts_trans}
-use Rattle.sdb_keyed.specs.Entries.{same_key, value_at}
+use Rattle.sdb_keyed.specs.Entries.{value_at}
 use Rattle.sdb_record.specs.declared.access.Access.{Access}
 use Rattle.sdb_record.specs.declared.access.Access.TheVariants as access
 use Rattle.sdb_record.specs.declared.access.Image.{Image}
 use Rattle.sdb_record.specs.declared.write.Write.{Write}
 use Rattle.sdb_record.specs.declared.write.Keyed.{Keyed}
 use Rattle.sdb_record.specs.Rolls.{row_of_change}
+use Rattle.sdb_record.specs.Among.{write_among}
 use Rattle.sdb_model.specs.Exec.{Tables, all_rows, row_of_entry}
 use Rattle.sdb_snapshot.specs.Noted.{Note, is_noted, base_at, has_key, AreKeysOf}
-use Rattle.sdb_snapshot.specs.Written.{write_at, with_write, with_writes, with_change_of, write_of}
+use Rattle.sdb_snapshot.specs.Written.{with_write, with_writes, with_change_of, write_of}
 use Rattle.sdb_model.specs.Access.{in_access, rows_at, with_row, with_changes}
 use Rattle.sdb_snapshot.specs.Rows.{with_own, row_found, tables_of_notes}
 use Rattle.sdb_snapshot.specs.Held.{WereRead}
 use Rattle.sdb_snapshot.specs.Seen.{Seen, tables_seen, overlay, Agrees, row_with, row_seen, images_with, images_at}
-use Rattle.sdb_snapshot.proofs.Keys.{same_is, same_exact}
 use Rattle.sdb_types.proofs.Basics.{by_test, less_of, t_both, both_t as t_two, cond_some as each}
+use Rattle.sdb_types.proofs.Keys.{same_key_is, same_key_exact}
 use Rattle.sdb_model.proofs.Basics.{where_rows}
 
 ---- what tables have at a key
@@ -48,7 +49,7 @@ pub get_notes : (notes : List Note) (q : Key) → get (tables_of_notes notes) q 
 get_notes [] q = get-empty key_cmp q
 get_notes (e ∷ es) q =
     get-with_row (tables_of_notes es) e.0 (row_found e.1) q
-    ∙ ap (λ b. cond b (row_found e.1) (get (tables_of_notes es) q)) (sym (same_is q e.0))
+    ∙ ap (λ b. cond b (row_found e.1) (get (tables_of_notes es) q)) (sym (same_key_is q e.0))
     ∙ ap (λ o. cond (same_key q e.0) (row_found e.1) o) (get_notes es q)
     ∙ found_step (same_key q e.0) e.1 (value_at es q)
 
@@ -60,20 +61,20 @@ own_step : (b : Bool) (w : Write) (x : Option Write) (o : Option (List Pair)) �
 own_step true w x o = refl
 own_step false w x o = refl
 
-pub get_own : (d : Tables) (ws : List Write) (q : Key) → get (with_own d ws) q ≡ own_row (write_at ws q) (get d q)
+pub get_own : (d : Tables) (ws : List Write) (q : Key) → get (with_own d ws) q ≡ own_row (write_among ws q) (get d q)
 get_own d [] q = refl
 get_own d (w ∷ ws) q =
     get-with_row (with_own d ws) w.key (row_of_change w.change) q
-    ∙ ap (λ b. cond b (row_of_change w.change) (get (with_own d ws) q)) (sym (same_is q w.key))
+    ∙ ap (λ b. cond b (row_of_change w.change) (get (with_own d ws) q)) (sym (same_key_is q w.key))
     ∙ ap (λ o. cond (same_key q w.key) (row_of_change w.change) o) (get_own d ws q)
-    ∙ own_step (same_key q w.key) w (write_at ws q) (get d q)
+    ∙ own_step (same_key q w.key) w (write_among ws q) (get d q)
 
 row_is : (x : Option Write) (found : Option Record) → own_row x (row_found found) ≡ row_with x found
 row_is None found = refl
 row_is (Some w) found = refl
 
 pub get_seen : (notes : List Note) (ws : List Write) (q : Key) → get (with_own (tables_of_notes notes) ws) q ≡ row_seen notes ws q
-get_seen notes ws q = get_own (tables_of_notes notes) ws q ∙ ap (own_row (write_at ws q)) (get_notes notes q) ∙ row_is (write_at ws q) (base_at notes q)
+get_seen notes ws q = get_own (tables_of_notes notes) ws q ∙ ap (own_row (write_among ws q)) (get_notes notes q) ∙ row_is (write_among ws q) (base_at notes q)
 
 ---- rows at the keys of an access
 
@@ -192,7 +193,7 @@ shown_key f d k is =
     ∙ each (is_eq (key_cmp k q)) (f k) (get d q) (λ t. ap f (key_exact k q (equal_of (key_cmp k q) t)) ∙ sym (is q)))
 
 pub no_row : (notes : List Note) (ws : List Write) (q : Key) → WereRead notes ws → is_some (row_seen notes ws q) ≡ true → is_noted notes q ≡ true
-no_row notes ws q read h = by_write (write_at ws q) (value_at notes q) (read q) h
+no_row notes ws q read h = by_write (write_among ws q) (value_at notes q) (read q) h
   where
     by_write : (x : Option Write) (o : Option (Option Record)) → (is_some x ≡ true → is_some o ≡ true) → is_some (row_with x (option_and_then (λ y. y) o)) ≡ true → is_some o ≡ true
     by_write (Some w) o g h = g refl
@@ -211,34 +212,34 @@ key_shown notes ws k = shown_key (row_seen notes ws) (with_own (tables_of_notes 
 pub overlay_is : (s : Seen) (a : Access) (d : Tables) → Agrees s a d → overlay a s ≡ rows_at a (with_own d s.writes)
 overlay_is s a d h =
     agree_rows a (tables_seen s) (with_own d s.writes) (λ q inside.
-    get_own (tables_of_notes s.notes) s.writes q ∙ ap (own_row (write_at s.writes q)) (get_notes s.notes q ∙ h q inside) ∙ sym (get_own d s.writes q))
+    get_own (tables_of_notes s.notes) s.writes q ∙ ap (own_row (write_among s.writes q)) (get_notes s.notes q ∙ h q inside) ∙ sym (get_own d s.writes q))
 
 ---- own writes are changes
 
-own_written : (ws : List Write) (w : Write) (q : Key) (o : Option (List Pair)) → own_row (write_at (with_write ws w) q) o ≡ cond (same_key q w.key) (row_of_change w.change) (own_row (write_at ws q) o)
+own_written : (ws : List Write) (w : Write) (q : Key) (o : Option (List Pair)) → own_row (write_among (with_write ws w) q) o ≡ cond (same_key q w.key) (row_of_change w.change) (own_row (write_among ws q) o)
 own_written [] w q o = sym (own_step (same_key q w.key) w None o)
 own_written (x ∷ xs) w q o =
     by_test (same_key w.key x.key)
-    (λ t. ap (λ b. own_row (write_at (cond b (with_change_of x w ∷ xs) (x ∷ with_write xs w)) q) o) t
+    (λ t. ap (λ b. own_row (write_among (cond b (with_change_of x w ∷ xs) (x ∷ with_write xs w)) q) o) t
     ∙ by_test (same_key q x.key)
-    (λ u. ap (λ b. own_row (cond b (Some (with_change_of x w)) (write_at xs q)) o) u
-    ∙ sym (ap (λ b. cond b (row_of_change w.change) (own_row (write_at (x ∷ xs) q) o)) (ap (same_key q) (same_exact w.key x.key t) ∙ u)))
-    (λ u. ap (λ b. own_row (cond b (Some (with_change_of x w)) (write_at xs q)) o) u
-    ∙ sym (ap (λ b. cond b (row_of_change w.change) (own_row (write_at (x ∷ xs) q) o)) (ap (same_key q) (same_exact w.key x.key t) ∙ u) ∙ ap (λ b. own_row (cond b (Some x) (write_at xs q)) o) u)))
-    (λ t. ap (λ b. own_row (write_at (cond b (with_change_of x w ∷ xs) (x ∷ with_write xs w)) q) o) t
+    (λ u. ap (λ b. own_row (cond b (Some (with_change_of x w)) (write_among xs q)) o) u
+    ∙ sym (ap (λ b. cond b (row_of_change w.change) (own_row (write_among (x ∷ xs) q) o)) (ap (same_key q) (same_key_exact w.key x.key t) ∙ u)))
+    (λ u. ap (λ b. own_row (cond b (Some (with_change_of x w)) (write_among xs q)) o) u
+    ∙ sym (ap (λ b. cond b (row_of_change w.change) (own_row (write_among (x ∷ xs) q) o)) (ap (same_key q) (same_key_exact w.key x.key t) ∙ u) ∙ ap (λ b. own_row (cond b (Some x) (write_among xs q)) o) u)))
+    (λ t. ap (λ b. own_row (write_among (cond b (with_change_of x w ∷ xs) (x ∷ with_write xs w)) q) o) t
     ∙ by_test (same_key q x.key)
     (λ u. let other : same_key q w.key ≡ false = by_test (same_key q w.key)
-    (λ v. let both : same_key w.key x.key ≡ true = subst (λ (k : Key). same_key k x.key ≡ true) (same_exact q w.key v) u in v ∙ sym both ∙ t)
+    (λ v. let both : same_key w.key x.key ≡ true = subst (λ (k : Key). same_key k x.key ≡ true) (same_key_exact q w.key v) u in v ∙ sym both ∙ t)
     (λ v. v) in
-    ap (λ b. own_row (cond b (Some x) (write_at (with_write xs w) q)) o) u
-    ∙ sym (ap (λ b. cond b (row_of_change w.change) (own_row (write_at (x ∷ xs) q) o)) other ∙ ap (λ b. own_row (cond b (Some x) (write_at xs q)) o) u))
-    (λ u. ap (λ b. own_row (cond b (Some x) (write_at (with_write xs w) q)) o) u ∙ own_written xs w q o
-    ∙ ap (λ p. cond (same_key q w.key) (row_of_change w.change) p) (sym (ap (λ b. own_row (cond b (Some x) (write_at xs q)) o) u))))
+    ap (λ b. own_row (cond b (Some x) (write_among (with_write xs w) q)) o) u
+    ∙ sym (ap (λ b. cond b (row_of_change w.change) (own_row (write_among (x ∷ xs) q) o)) other ∙ ap (λ b. own_row (cond b (Some x) (write_among xs q)) o) u))
+    (λ u. ap (λ b. own_row (cond b (Some x) (write_among (with_write xs w) q)) o) u ∙ own_written xs w q o
+    ∙ ap (λ p. cond (same_key q w.key) (row_of_change w.change) p) (sym (ap (λ b. own_row (cond b (Some x) (write_among xs q)) o) u))))
 
 own_one : (d : Tables) (ws : List Write) (w : Write) → with_own d (with_write ws w) ≡ with_row (with_own d ws) w.key (row_of_change w.change)
 own_one d ws w = same_map key_total key_exact _ _ (λ q.
     get_own d (with_write ws w) q ∙ own_written ws w q (get d q)
-    ∙ ap (λ b. cond b (row_of_change w.change) (own_row (write_at ws q) (get d q))) (same_is q w.key)
+    ∙ ap (λ b. cond b (row_of_change w.change) (own_row (write_among ws q) (get d q))) (same_key_is q w.key)
     ∙ ap (λ o. cond (is_eq (key_cmp q w.key)) (row_of_change w.change) o) (sym (get_own d ws q))
     ∙ sym (get-with_row (with_own d ws) w.key (row_of_change w.change) q))
 

@@ -9,8 +9,9 @@ use Rattle.sdb_types.specs.declared.record.Span.{Span}
 use Rattle.sdb_types.specs.Contents.{Contents}
 use Rattle.sdb_record.specs.declared.access.Scan.{Scan}
 use Rattle.sdb_record.specs.declared.write.Write.{Write}
+use Rattle.sdb_record.specs.Among.{is_written}
 use Rattle.sdb_snapshot.specs.Noted.{Note, AreBases, is_noted, note_at, base_at, has_moved}
-use Rattle.sdb_snapshot.specs.Written.{AreWrites, HaveBases, HaveKeysOnce, is_written}
+use Rattle.sdb_snapshot.specs.Written.{AreWrites, HaveBases, HaveKeysOnce}
 use Rattle.sdb_snapshot.specs.Seen.{is_scanned, same_span}
 
 -- the keys noted are in a tree

@@ -1,5 +1,5 @@
 -- What was found at the keys that were read.
-use Rattle.std.specs.Prelude.{◌≡◌, Bool, true, false, not, if◌then◌else◌, List, [], ◌∷◌, ◌++◌, map, Option, Some, None, is_some, IfSome, find}
+use Rattle.std.specs.Prelude.{◌≡◌, Bool, true, false, not, if◌then◌else◌, List, [], ◌∷◌, ◌++◌, map, Option, Some, None, is_some, IfSome}
 use Rattle.std.specs.List.{list_any, AllByRecursion}
 use Rattle.std.specs.Option.{option_and_then}
 use Rattle.std.specs.Ordering.{is_eq, is_le}
@@ -7,8 +7,8 @@ use Rattle.sdb_types.specs.declared.key.Key.{Key}
 use Rattle.sdb_types.specs.declared.record.Record.{Record}
 use Rattle.sdb_types.specs.declared.record.Span.{Span}
 use Rattle.sdb_types.specs.Order.{key_cmp}
-use Rattle.sdb_types.specs.Contents.{in_span, are_rows_of}
-use Rattle.sdb_keyed.specs.Entries.{same_key, value_at}
+use Rattle.sdb_types.specs.Contents.{in_span, are_rows_of, record_among}
+use Rattle.sdb_keyed.specs.Entries.{value_at}
 use Rattle.sdb_record.specs.declared.access.Read.{Read}
 use Rattle.sdb_record.specs.Moved.{version_of, same_version}
 use Rattle.sdb_record.specs.Rolls.{IsBaseOf}
@@ -46,10 +46,6 @@ AreBases notes = AllByRecursion (λ e. IfSome e.1 (IsBaseOf e.0)) notes
 abbrev pub has_key : List Record → Key → Bool
 has_key rs key = list_any (λ r. is_eq (key_cmp key r.key)) rs
 
--- the record of a key among those of a scan
-abbrev pub record_in : List Record → Key → Option Record
-record_in images key = find (λ r. same_key key r.key) images
-
 -- the keys of a scan's records, with their versions
 abbrev pub read_of : Record → Read
 read_of r = record { key = r.key; version = version_of (Some r) }
@@ -63,13 +59,13 @@ has_moved (Some noted) found = not (same_version (version_of noted) (version_of 
 
 -- A key that was read has another version among the records of a scan, where a key that isn't among them is absent.
 abbrev pub differs : List Note → List Record → Key → Bool
-differs notes images key = has_moved (note_at notes key) (record_in images key)
+differs notes images key = has_moved (note_at notes key) (record_among images key)
 
 -- The first key of a span, in the order of keys, that differs, with its record among those of the scan, or none.
 pub record IsFirstDifference (notes : List Note) (span : Span) (images : List Record) (key : Key) (found : Option Record) : Type 0 where
   pub inside : in_span span key ≡ true
   pub moved : differs notes images key ≡ true
-  pub stands : found ≡ record_in images key
+  pub stands : found ≡ record_among images key
   pub first : (q : Key) → in_span span q ≡ true → differs notes images q ≡ true → is_le (key_cmp key q) ≡ true
 
 -- no key of the span differs

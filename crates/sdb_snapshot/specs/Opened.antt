@@ -1,10 +1,11 @@
 -- How changes are taken: first each new key goes last, then each change is put at its key.
 use Rattle.std.specs.Prelude.{if◌then◌else◌, List, [], ◌∷◌, ◌++◌}
-use Rattle.sdb_keyed.specs.Entries.{same_key}
+use Rattle.sdb_types.specs.Order.{same_key}
 use Rattle.sdb_record.specs.declared.write.Write.{Write}
 use Rattle.sdb_record.specs.declared.write.Keyed.{Keyed}
+use Rattle.sdb_record.specs.Among.{is_written}
 use Rattle.sdb_snapshot.specs.Noted.{Note}
-use Rattle.sdb_snapshot.specs.Written.{is_written, write_of}
+use Rattle.sdb_snapshot.specs.Written.{write_of}
 
 -- with a write whose key is new
 abbrev pub with_new : List Write → Write → List Write

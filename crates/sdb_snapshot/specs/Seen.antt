@@ -14,11 +14,12 @@ use Rattle.sdb_record.specs.declared.write.Keyed.{Keyed}
 use Rattle.sdb_record.specs.declared.write.Write.{Write}
 use Rattle.sdb_record.specs.Moved.{version_of}
 use Rattle.sdb_record.specs.Rolls.{row_of_change}
+use Rattle.sdb_record.specs.Among.{write_among}
 use Rattle.sdb_model.specs.Exec.{Tables}
 use Rattle.sdb_types.specs.contracts.record.SpanPartialEq.TheImpl as span_eq
 use Rattle.sdb_snapshot.specs.declared.snapshot.Mark.{Mark}
 use Rattle.sdb_snapshot.specs.Noted.{Note, base_at, reads_of, with_images}
-use Rattle.sdb_snapshot.specs.Written.{write_at, with_writes}
+use Rattle.sdb_snapshot.specs.Written.{with_writes}
 use Rattle.sdb_model.specs.Access.{in_access, rows_at}
 use Rattle.sdb_snapshot.specs.Rows.{with_own, tables_of_notes, row_found}
 
@@ -81,7 +82,7 @@ row_with None found = row_found found
 row_with (Some w) found = row_of_change w.change
 
 abbrev pub row_seen : List Note → List Write → Key → Option (List Pair)
-row_seen notes ws key = row_with (write_at ws key) (base_at notes key)
+row_seen notes ws key = row_with (write_among ws key) (base_at notes key)
 
 -- the images of the rows that are seen at keys
 abbrev pub images_with : Key → Option (List Pair) → List Image

@@ -1,19 +1,12 @@
 -- What a transaction writes: one entry for each key, in the order of first writing.
-use Rattle.std.specs.Prelude.{◌≡◌, ℕ, Bool, true, false, if◌then◌else◌, List, [], ◌∷◌, Option, is_some, find}
+use Rattle.std.specs.Prelude.{◌≡◌, ℕ, true, false, if◌then◌else◌, List, [], ◌∷◌}
 use Rattle.std.specs.List.{AllByRecursion}
-use Rattle.sdb_types.specs.declared.key.Key.{Key}
-use Rattle.sdb_keyed.specs.Entries.{same_key}
+use Rattle.sdb_types.specs.Order.{same_key}
 use Rattle.sdb_record.specs.declared.write.Write.{Write}
 use Rattle.sdb_record.specs.declared.write.Keyed.{Keyed}
 use Rattle.sdb_record.specs.Rolls.{IsWrite, is_change}
+use Rattle.sdb_record.specs.Among.{is_written}
 use Rattle.sdb_snapshot.specs.Noted.{Note, base_at, is_noted}
-
--- the write of a key
-abbrev pub write_at : List Write → Key → Option Write
-write_at ws key = find (λ w. same_key key w.key) ws
-
-abbrev pub is_written : List Write → Key → Bool
-is_written ws key = is_some (write_at ws key)
 
 abbrev pub with_change_of : Write → Write → Write
 with_change_of w later = record { key = w.key; base = w.base; change = later.change }

@@ -1,7 +1,8 @@
 //! What a transaction writes.
 ghost use Rattle.std.specs.Prelude.{◌≡◌, ◌≤◌, ◌<◌, ◌++◌, [], ◌∷◌, IfOk, OnOk, OnErr, length, take, true, Err};
 ghost use Rattle.std.specs.Option.{option_copied};
-ghost use Rattle.sdb_snapshot.specs.Written.{most_writes, with_writes, write_at, write_of};
+ghost use Rattle.sdb_record.specs.Among.{write_among};
+ghost use Rattle.sdb_snapshot.specs.Written.{most_writes, with_writes, write_of};
 ghost use Rattle.sdb_snapshot.specs.Held.{ArePlaces, StartsWith};
 ghost use Rattle.sdb_snapshot.specs.Opened.{with_laid, with_laids, with_new, with_news};
 ghost use Rattle.sdb_snapshot.specs.declared.drafts.WriteRefused.TheVariants as refused;
@@ -104,7 +105,7 @@ impl Drafts {
 
     /// The write of a key, where it was written.
     pub fn get(&self, key: &Key) -> Option<&Write>
-        ensures { option_copied result ≡ write_at self.now key.now }
+        ensures { option_copied result ≡ write_among self.now key.now }
     {
         match self.places.place(key) {
             Some(i) => self.writes.at(i),

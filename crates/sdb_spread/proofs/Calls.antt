@@ -12,7 +12,7 @@ use Rattle.sdb_types.specs.declared.record.Reply.TheVariants as reply
 use Rattle.sdb_types.specs.declared.record.Span.{Span}
 use Rattle.sdb_types.specs.Contents.{Contents, record_at, record_of, in_span, is_partition, holds, put_reply, reply_to, after}
 use Rattle.sdb_types.specs.Exact.{equal_of}
-use Rattle.sdb_types.specs.Order.{table_cmp}
+use Rattle.sdb_types.specs.Order.{table_cmp, same_key}
 use Rattle.sdb_types.proofs.Bools.{and_first}
 use Rattle.sdb_types.proofs.KeyOrder.{table_exact}
 use Rattle.sdb_schema.specs.declared.table.Table.{Table}
@@ -22,11 +22,10 @@ use Rattle.sdb_model.specs.declared.event.How.TheVariants.{Seen}
 use Rattle.sdb_model.specs.declared.script.Place.{Place}
 use Rattle.sdb_model.specs.Rows.{Name}
 use Rattle.sdb_model.specs.Events.{Shelf, store_of, table_asked, IsCall}
-use Rattle.sdb_model.specs.Noted.{same_key}
-use Rattle.sdb_laws.proofs.Keys.{same_key_tells}
 use Rattle.sdb_laws.proofs.Effects.{after_put, after_delete, stands_in_store, stands_anywhere}
 use Rattle.sdb_spread.specs.Spread.{is_played, HoldAs}
 use Rattle.sdb_types.proofs.Basics.{and_false}
+use Rattle.sdb_types.proofs.Keys.{same_key_tells}
 
 ---- contents that agree on a table
 

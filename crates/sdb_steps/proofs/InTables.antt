@@ -20,9 +20,9 @@ use Rattle.sdb_types.specs.declared.record.Condition.TheVariants as condition
 use Rattle.sdb_types.specs.declared.record.State.TheVariants as state
 use Rattle.sdb_types.specs.declared.record.Span.{Span}
 use Rattle.sdb_types.specs.Contents.{CanAnswer, are_rows_of, in_span, rise}
-use Rattle.sdb_types.specs.Order.{table_cmp}
+use Rattle.sdb_types.specs.Order.{table_cmp, same_key}
 use Rattle.sdb_types.proofs.KeyOrder.{key_exact, table_exact}
-use Rattle.sdb_keyed.specs.Entries.{same_key, value_at}
+use Rattle.sdb_keyed.specs.Entries.{value_at}
 use Rattle.sdb_record.specs.declared.access.Access.{Access}
 use Rattle.sdb_record.specs.declared.access.Access.TheVariants as access
 use Rattle.sdb_record.specs.declared.access.Image.{Image}
@@ -39,9 +39,10 @@ use Rattle.sdb_record.specs.Coordinator.{coordinator_key_of, coordinator_row_of,
 use Rattle.sdb_record.specs.Moved.{version_of}
 use Rattle.sdb_record.specs.Parts.{before_part, before_record, record_with}
 use Rattle.sdb_record.specs.Meta.{id_in}
-use Rattle.sdb_record.specs.Rolls.{forward_record, is_tombstone, prepared_record}
+use Rattle.sdb_record.specs.Rolls.{forward_record, is_tombstone, prepared_record, undo}
 use Rattle.sdb_record.proofs.RollLaws.{forward-key}
 use Rattle.sdb_record.proofs.TakenLaws.{prepared-key}
+use Rattle.sdb_record.specs.Among.{is_written}
 use Rattle.sdb_schema.specs.declared.table.Table.{Table}
 use Rattle.sdb_model.specs.declared.statement.Statement.{Statement}
 use Rattle.sdb_model.specs.declared.statement.Test.{Test}
@@ -60,10 +61,10 @@ use Rattle.sdb_phases.specs.declared.step.RecoverStep.{RecoverStep}
 use Rattle.sdb_phases.specs.declared.step.RecoverStep.TheVariants as steps
 use Rattle.sdb_phases.specs.declared.step.RecoverPhase.{RecoverPhase}
 use Rattle.sdb_phases.specs.declared.step.RecoverPhase.TheVariants as recover
-use Rattle.sdb_phases.specs.Checks.{check_of_read, check_of_scan, checks, is_written}
+use Rattle.sdb_phases.specs.Checks.{check_of_read, check_of_scan, checks}
 use Rattle.sdb_phases.specs.Commit.{Stage, Preparing, Checking, Deciding, Forward, Stopping, Back, Over, pending}
 use Rattle.sdb_phases.specs.Recover.{recover_back, recover_forward, recover_next, recover_request_at, roll_to, stands_found, undecided}
-use Rattle.sdb_phases.specs.Work.{Work, abort_of, back_of, backs, decide_of, forward_of, forwards, look_of, prepare_of, prepares, stands_prepared, undo}
+use Rattle.sdb_phases.specs.Work.{Work, abort_of, back_of, backs, decide_of, forward_of, forwards, look_of, prepare_of, prepares, stands_prepared}
 use Rattle.sdb_read.specs.Read.{Asking, Bad, Ended, Firm, Kind, Open, ReadStage, Resolving, answered, kind_of, read_pending_at, read_step, request_of, resolved, settle, settle_one}
 use Rattle.sdb_snapshot.specs.Noted.{Note, base_at, is_noted, reads_of, with_images, with_note}
 use Rattle.sdb_snapshot.specs.Seen.{Seen, overlay, tables_seen, with_get, with_scan, with_written}

@@ -8,10 +8,11 @@ use Rattle.std.specs.Ordering.{is_eq}
 use Rattle.sdb_types.specs.declared.key.Key.{Key}
 use Rattle.sdb_types.specs.declared.record.Record.{Record}
 use Rattle.sdb_types.specs.declared.record.Span.{Span}
-use Rattle.sdb_types.specs.Order.{key_cmp}
+use Rattle.sdb_types.specs.Order.{key_cmp, same_key}
 use Rattle.sdb_types.specs.Contents.{in_span}
 use Rattle.sdb_types.proofs.KeyOrder.{key_exact}
-use Rattle.sdb_keyed.specs.Entries.{same_key, value_at}
+use Rattle.sdb_types.proofs.Keys.{same_key_exact}
+use Rattle.sdb_keyed.specs.Entries.{value_at}
 use Rattle.sdb_record.specs.declared.access.Access.{Access}
 use Rattle.sdb_record.specs.declared.access.Access.TheVariants as access
 use Rattle.sdb_record.specs.declared.access.Read.{Read}
@@ -28,7 +29,7 @@ use Rattle.sdb_snapshot.specs.Noted.{Note, note_at, base_at, is_noted, reads_of}
 use Rattle.sdb_snapshot.specs.Rows.{row_found, with_own}
 use Rattle.sdb_snapshot.specs.Seen.{Seen, Agrees, nothing, overlay, with_written, same_span, is_scanned}
 use Rattle.sdb_snapshot.proofs.Differences.{or_there, noted_images}
-use Rattle.sdb_snapshot.proofs.Keys.{same_exact, value_last}
+use Rattle.sdb_snapshot.proofs.Keys.{value_last}
 use Rattle.sdb_snapshot.proofs.Shown.{overlay_is, own_is}
 use Rattle.sdb_laws.specs.Lawful.{Played}
 use Rattle.sdb_turns.specs.Noted.{IsFoundOk, IsReadOk, SeenOk, first_image, is_found, was_found, was_read, with_read}
@@ -43,7 +44,7 @@ read_tells s d q [] all h = absurd (cc (h))
 read_tells s d q (r ∷ rs) all h = by (same_key q r.key) refl h (λ e. read_tells s d q rs all.1 e)
   where
     by : (b : Bool) → same_key q r.key ≡ b → (b || was_read rs q) ≡ true → (was_read rs q ≡ true → row_found (base_at s.notes q) ≡ get d q) → row_found (base_at s.notes q) ≡ get d q
-    by true t e ih = subst (λ k. row_found (base_at s.notes k) ≡ get d k) (sym (same_exact q r.key t)) all.0
+    by true t e ih = subst (λ k. row_found (base_at s.notes k) ≡ get d k) (sym (same_key_exact q r.key t)) all.0
     by false t e ih = ih e
 
 scan_tells : (s : Seen) (d : Tables) (q : Key) (xs : List Scan) → AllByRecursion (ScanAgrees s d) xs → was_found xs q ≡ true → row_found (base_at s.notes q) ≡ get d q

@@ -13,13 +13,13 @@ use Rattle.sdb_turns.specs.Noted.{first_image, with_read, work_of}
 use Rattle.sdb_story.specs.Calls.{note_with}
 use Rattle.sdb_record.specs.declared.access.Read.{Read}
 use Rattle.sdb_record.specs.declared.access.Scan.{Scan}
+use Rattle.sdb_record.specs.Among.{is_written}
 use Rattle.sdb_model.specs.declared.event.Event.{Event}
 use Rattle.sdb_model.specs.Noted.{Note, Got, Scanned}
 use Rattle.sdb_laws.specs.Plan.{Plan}
 use Rattle.sdb_laws.specs.Lawful.{Played, talk}
 use Rattle.sdb_laws.specs.Faithful.{AreNoted}
 use Rattle.sdb_phases.specs.Work.{Work}
-use Rattle.sdb_phases.specs.Checks.{is_written}
 use Rattle.sdb_turns.specs.Owner.{notes_of, checked_notes, own_notes}
 use Rattle.std.specs.List.{AllByRecursion}
 use Rattle.std.proofs.lemmas.List.Elements.{All-contains, All-from_recursion}

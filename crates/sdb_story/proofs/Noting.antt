@@ -34,7 +34,7 @@ use Rattle.sdb_record.specs.Parts.{before_part, before_record, record_with}
 use Rattle.sdb_types.specs.declared.pair.Pair.{Pair}
 use Rattle.sdb_laws.specs.Lawful.{Played}
 use Rattle.sdb_turns.specs.Reader.{PhaseOk}
-use Rattle.sdb_record.specs.Rolls.{forward_record, image_of, image_under}
+use Rattle.sdb_record.specs.Rolls.{forward_record, image_of, image_under, undo}
 use Rattle.sdb_record.proofs.IdLemmas.{id_of_text-is}
 use Rattle.sdb_record.proofs.ImageLaws.{row-key, row-decision, image-open, image-settled}
 use Rattle.sdb_record.proofs.RollLaws.{forward-key, forward-writer}
@@ -48,7 +48,7 @@ use Rattle.sdb_phases.specs.declared.step.RecoverStep.{RecoverStep}
 use Rattle.sdb_phases.specs.declared.step.RecoverStep.TheVariants as steps
 use Rattle.sdb_phases.specs.declared.step.RecoverPhase.{RecoverPhase}
 use Rattle.sdb_phases.specs.declared.step.RecoverPhase.TheVariants as phase
-use Rattle.sdb_phases.specs.Work.{look_of, abort_of, undo}
+use Rattle.sdb_phases.specs.Work.{look_of, abort_of}
 use Rattle.sdb_phases.specs.Recover.{recover_request_at, recover_next, recover_forward, recover_back, roll_to, stands_found}
 use Rattle.sdb_turns.specs.ReadAt.{AreKinds, IsKind, ReadAt, Asking, Resolving, Done, Failed, settle, settle_one, settle_reply, after_recovery, read_pending, read_step, ReadOk}
 use Rattle.sdb_turns.proofs.Lists.{each_more}

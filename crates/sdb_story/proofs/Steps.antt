@@ -10,33 +10,30 @@ use Rattle.sdb_types.specs.declared.pair.Pair.{Pair}
 use Rattle.sdb_types.specs.declared.txid.TxId.{TxId}
 use Rattle.sdb_types.specs.declared.record.Record.{Record}
 use Rattle.sdb_types.specs.Contents.{in_span}
-use Rattle.sdb_keyed.specs.Entries as keyed
 use Rattle.sdb_record.specs.declared.access.Read.{Read}
 use Rattle.sdb_record.specs.declared.access.Scan.{Scan}
 use Rattle.sdb_record.specs.declared.write.Write.{Write}
 use Rattle.sdb_record.specs.Moved.{version_of}
 use Rattle.sdb_record.specs.Rolls.{row_of_change}
+use Rattle.sdb_record.specs.Among.{version_among, write_among, is_written}
 use Rattle.sdb_model.specs.Exec.{Tables}
 use Rattle.sdb_snapshot.specs.Noted.{base_at}
 use Rattle.sdb_snapshot.specs.Rows.{row_found, with_own}
 use Rattle.sdb_snapshot.specs.Seen.{Seen}
-use Rattle.sdb_snapshot.specs.Written as own
-use Rattle.sdb_snapshot.proofs.Keys.{same_is}
 use Rattle.sdb_snapshot.proofs.Shown.{own_row, get_own}
-use Rattle.sdb_model.specs.Noted.{Note, Got, Scanned, same_key, version_among, version_noted}
+use Rattle.sdb_model.specs.Noted.{Note, Got, Scanned, version_noted}
 use Rattle.sdb_laws.specs.Plan.{Plan, write_at, written, noted, number_of}
 use Rattle.sdb_laws.specs.History.{History, or_else}
 use Rattle.sdb_laws.specs.Serial.{last_writer, row_left, if_written, ReadsSerial}
-use Rattle.sdb_laws.proofs.Keys.{same_key_self}
 use Rattle.sdb_phases.specs.Work.{Work}
-use Rattle.sdb_phases.specs.Checks.{is_written}
 use Rattle.sdb_turns.specs.Owner.{plan_of, notes_of, checked_notes, own_notes}
 use Rattle.sdb_laws.specs.Lawful.{Played}
 use Rattle.sdb_turns.specs.Noted.{IsFoundOk, IsReadOk, SeenOk}
 use Rattle.sdb_story.specs.Body.{ReadAgrees, ScanAgrees, AgreesAll}
-use Rattle.sdb_turns.proofs.Work.{same_turned}
 use Rattle.sdb_story.specs.Left.{AreLeft, AreAfter}
 use Rattle.sdb_types.proofs.Basics.{all_each as each_any}
+use Rattle.sdb_types.proofs.Keys.{same_key_self}
+use Rattle.sdb_types.specs.Order.{same_key}
 
 ---- places of notes
 
@@ -106,11 +103,11 @@ scan_noted : (x : Scan) (q : Key) → in_span x.span q ≡ true → option_map n
 scan_noted x q e = ap (λ b. option_map number_of (if b then Some (version_among x.found q) else None)) e
 
 -- where no record was found, there is no version
-unfound : (rs : List Read) (q : Key) → list_any (λ (r : Read). keyed.same_key q r.key) rs ≡ false → version_among rs q ≡ None
+unfound : (rs : List Read) (q : Key) → list_any (λ (r : Read). same_key q r.key) rs ≡ false → version_among rs q ≡ None
 unfound [] q e = refl
-unfound (r ∷ rs) q e = by (same_key r.key q) (ap (λ b. b || list_any (λ (r : Read). keyed.same_key q r.key) rs) (sym (same_is q r.key ∙ same_turned q r.key)) ∙ e) (λ h. unfound rs q h)
+unfound (r ∷ rs) q e = by (same_key q r.key) e (λ h. unfound rs q h)
   where
-    by : (b : Bool) → (b || list_any (λ (r : Read). keyed.same_key q r.key) rs) ≡ false → (list_any (λ (r : Read). keyed.same_key q r.key) rs ≡ false → version_among rs q ≡ None) → option_and_then (λ (x : Read). x.version) (if b then Some r else find (λ (x : Read). same_key x.key q) rs) ≡ None
+    by : (b : Bool) → (b || list_any (λ (r : Read). same_key q r.key) rs) ≡ false → (list_any (λ (r : Read). same_key q r.key) rs ≡ false → version_among rs q ≡ None) → option_and_then (λ (x : Read). x.version) (if b then Some r else find (λ (x : Read). same_key q x.key) rs) ≡ None
     by true e ih = absurd (cc (e))
     by false e ih = ih e
 
@@ -160,10 +157,6 @@ last_more plan k (u ∷ us) t = ap (λ o. or_else o (if_written u (written (plan
     or_or None b c = refl
     or_or (Some x) b c = refl
 
-own_found : (ws : List Write) (k : Key) → own.write_at ws k ≡ find (λ (w : Write). same_key w.key k) ws
-own_found [] k = refl
-own_found (w ∷ ws) k = ap (λ b. if b then Some w else own.write_at ws k) (same_is k w.key ∙ same_turned k w.key) ∙ ap (λ o. if same_key w.key k then Some w else o) (own_found ws k)
-
 abbrev write_or : Key → Option Write → Write
 write_or k o = Rattle.std.specs.Prelude.unwrap_or o (record { key = k; base = None; change = Rattle.sdb_record.specs.declared.write.Change.TheVariants.Delete })
 
@@ -175,12 +168,12 @@ pub next : (plan : ℕ → Plan) (front : List ℕ) (t : ℕ) (p : Work) (s : Se
 unfolding written write_at
 next plan front t p s d is writes after = record { row = row }
   where
-    there : (k : Key) → find (λ (w : Write). same_key w.key k) (plan t).writes ≡ own.write_at s.writes k
-    there k = ap (λ (x : Plan). find (λ (w : Write). same_key w.key k) x.writes) is ∙ ap (find (λ (w : Write). same_key w.key k)) writes ∙ sym (own_found s.writes k)
+    there : (k : Key) → write_among (plan t).writes k ≡ write_among s.writes k
+    there k = ap (λ (x : Plan). write_among x.writes k) is ∙ ap (λ ws. write_among ws k) writes
 
     row : (k : Key) → get (with_own d s.writes) k ≡ row_left plan k (last_writer plan k (front ++ t ∷ []))
-    row k = get_own d s.writes k ∙ by (own.write_at s.writes k) (there k) ∙ ap (row_left plan k) (sym (last_more plan k front t))
+    row k = get_own d s.writes k ∙ by (write_among s.writes k) (there k) ∙ ap (row_left plan k) (sym (last_more plan k front t))
       where
-        by : (o : Option Write) → find (λ (w : Write). same_key w.key k) (plan t).writes ≡ o → own_row o (get d k) ≡ row_left plan k (or_else (if_written t (option_map (λ (w : Write). number_of (version_of w.base)) (find (λ (w : Write). same_key w.key k) (plan t).writes))) (last_writer plan k front))
+        by : (o : Option Write) → write_among (plan t).writes k ≡ o → own_row o (get d k) ≡ row_left plan k (or_else (if_written t (option_map (λ (w : Write). number_of (version_of w.base)) (write_among (plan t).writes k))) (last_writer plan k front))
         by None e = after.row k ∙ ap (λ x. row_left plan k (or_else (if_written t (option_map (λ (w : Write). number_of (version_of w.base)) x)) (last_writer plan k front))) (sym e)
         by (Some w) e = ap (row_there k) (sym e) ∙ ap (λ x. row_left plan k (or_else (if_written t (option_map (λ (w : Write). number_of (version_of w.base)) x)) (last_writer plan k front))) (sym e)

@@ -8,7 +8,7 @@ use Rattle.std.proofs.lemmas.Bool.Decides.{nat_tests}
 use Rattle.sdb_types.specs.declared.record.Record.{Record}
 use Rattle.sdb_types.specs.declared.record.Request.TheVariants as ask
 use Rattle.sdb_types.specs.declared.record.Reply.TheVariants as reply
-use Rattle.sdb_types.specs.Order.{key_cmp}
+use Rattle.sdb_types.specs.Order.{key_cmp, same_key}
 use Rattle.sdb_types.proofs.KeyOrder.{key_exact}
 use Rattle.sdb_record.specs.declared.access.Access.TheVariants as access
 use Rattle.sdb_model.specs.declared.answer.Answer.{Answer}
@@ -97,7 +97,7 @@ abbrev sys5 : SystemAt
 sys5 = with_client sys4 1 (client.Open first_id wrote_once)
 
 inserted_fits : AreChanges read_once.notes inserted
-unfolding is_meta base_name
+unfolding is_meta base_name same_key
 inserted_fits = ((refl, refl), tt)
 
 row_written : SystemOk plans past3 sys5
@@ -114,6 +114,7 @@ abbrev sys6 : SystemAt
 sys6 = with_client sys5 1 (Committing first_work (Preparing 0))
 
 commit_taken : SystemOk plans2 past4 sys6
+unfolding same_key
 commit_taken = take_turn plans past3 sys5 1 first_id wrote_once (pos 0) (codes "COMMIT") (record { ok = row_written; at = refl }) (record { reads = commit_commits; moment = refl })
 
 abbrev prepared_call : ClientCall
@@ -126,6 +127,7 @@ abbrev sys7 : SystemAt
 sys7 = with_client sys6 1 (Committing first_work (Deciding phase.Put))
 
 row_prepared : SystemOk plans2 past5 sys7
+unfolding same_key
 row_prepared = commit_turn plans2 past4 sys6 prepared_call first_work (Preparing 0) (record { ok = commit_taken; at = refl }) (record { asked = refl; can = tt; moment = refl })
 
 abbrev decided_call : ClientCall
@@ -138,10 +140,12 @@ abbrev sys8 : SystemAt
 sys8 = with_client sys7 1 (Committing first_work (Forward 0))
 
 put_applied : SystemOk plans2 past6 sys8
+unfolding same_key
 put_applied = commit_turn plans2 past5 sys7 decided_call first_work (Deciding phase.Put) (record { ok = row_prepared; at = refl }) (record { asked = refl; can = tt; moment = refl })
 
 is_won : (h : Talk) (t : ℕ) → (heard h (Decides t Yes)).won t ≡ true
 is_won h t = grind (arith, nat_tests)
 
 pub some_commit : SomeCommit
+unfolding same_key
 some_commit = record { plan = plans2; past = past6; sys = sys8; ok = put_applied; won = is_won (talk past5) first_id.0 }

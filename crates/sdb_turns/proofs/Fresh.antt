@@ -2,12 +2,12 @@
 use Rattle.std.proofs.Common.{◌≡◌, ℕ, true, false, List, [], ◌∷◌, Option, Some, None, refl, arith}
 use Rattle.std.proofs.lemmas.Bool.Decides.{nat_tests}
 use Rattle.sdb_types.specs.declared.key.Key.{Key}
+use Rattle.sdb_types.proofs.Keys.{tests}
 use Rattle.sdb_model.specs.declared.event.Event.{Event}
 use Rattle.sdb_laws.specs.Plan.{Plan}
 use Rattle.sdb_laws.specs.History as laws
 use Rattle.sdb_laws.specs.History.{Role, Other, Begins, Takes, Prepares, Checks, Decides, Aborts, Rolls, Removes, Ends, Stops, Talk, heard, says}
 use Rattle.sdb_laws.specs.Lawful.{Played, IsLawful, MayPlay, talk, ended}
-use Rattle.sdb_laws.proofs.Keys.{tests}
 use Rattle.sdb_laws.proofs.Seen.{closed_still}
 
 -- a transaction is open, and its COMMIT is taken, only after it has begun; and its calls come only after its COMMIT was taken

@@ -25,7 +25,6 @@ use Rattle.sdb_laws.specs.Plan.{Plan}
 use Rattle.sdb_laws.specs.History.{Other, Prepares, Checks, Decides, Aborts, Rolls, Talk, Word, Yes, No, Silence, Wanting, heard}
 use Rattle.sdb_laws.specs.History as laws
 use Rattle.sdb_laws.specs.Lawful.{Played, id, talk, word_of, IsShown, IsRowShown, IsKnownCommitted, IsKnownAborted, IsBadRow, plays}
-use Rattle.sdb_laws.proofs.Keys.{tests}
 use Rattle.sdb_phases.specs.declared.check.Check.{Check}
 use Rattle.sdb_phases.specs.declared.step.Outcome.{Outcome}
 use Rattle.sdb_phases.specs.declared.step.Outcome.TheVariants as outcome
@@ -40,6 +39,7 @@ use Rattle.sdb_phases.specs.Commit.{Stage, Preparing, Checking, Deciding, Forwar
 use Rattle.sdb_phases.specs.CommitLaws.{as_wished, IsLost}
 use Rattle.sdb_turns.specs.Owner.{NoteAgrees, WorkOk, CommitOk, StageOk, ToldTo, AskedTo, UnaskedFrom, CheckedTo, AgreesTo, OverOk}
 use Rattle.sdb_types.proofs.Basics.{lt_of as less, some_is}
+use Rattle.sdb_types.proofs.Keys.{tests}
 
 pub by_test : (plan : ℕ → Plan) (past : List Played) (p : Work) (b : Bool) (x y : Stage) → (b ≡ true → StageOk plan past p x) → (b ≡ false → StageOk plan past p y) → StageOk plan past p (cond b x y)
 by_test plan past p true x y t f = t refl

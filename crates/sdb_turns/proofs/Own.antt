@@ -3,25 +3,25 @@ use Rattle.std.proofs.Common.{◌≡◌, ◌≢◌, ◌≤◌, ◌<◌, ℕ, tru
 use Rattle.std.specs.Prelude.{slice_get}
 use Rattle.std.specs.Option.{option_map}
 use Rattle.sdb_types.specs.declared.key.Key.{Key}
-use Rattle.sdb_types.specs.declared.record.Record.{Record}
 use Rattle.sdb_types.specs.declared.record.Reply.{Reply}
 use Rattle.sdb_types.specs.declared.record.Request.{Request}
 use Rattle.sdb_types.specs.Contents.{CanAnswer}
+use Rattle.sdb_types.specs.declared.record.Condition.TheVariants as condition
 use Rattle.sdb_record.specs.declared.write.Write.{Write}
-use Rattle.sdb_record.specs.Rolls.{prepared_record, state_of_change}
+use Rattle.sdb_record.specs.Rolls.{prepared_record, state_of_change, undo}
 use Rattle.sdb_record.proofs.TakenLaws.{prepared-base, open-left as open_state}
 use Rattle.sdb_model.specs.declared.answer.Answer.{Answer}
 use Rattle.sdb_model.specs.declared.event.How.{How}
 use Rattle.sdb_model.specs.declared.event.Event.TheVariants as event
 use Rattle.sdb_model.specs.Rows.{Name}
 use Rattle.sdb_laws.specs.Plan.{Plan, write_at, written, noted}
-use Rattle.sdb_laws.specs.Lawful.{Played, id, talk, word_of, MayPrepare, MayCheck, MayDecide, MayAbort, MayRoll, MayRollForward, MayRollBack, back_request}
+use Rattle.sdb_laws.specs.Lawful.{Played, id, talk, word_of, MayPrepare, MayCheck, MayDecide, MayAbort, MayRoll, MayRollForward, MayRollBack}
 use Rattle.sdb_laws.proofs.Known.{writes_it, write_key}
 use Rattle.sdb_laws.specs.Records.{write_there}
 use Rattle.sdb_phases.specs.declared.check.Check.{Check}
 use Rattle.sdb_phases.specs.declared.step.Outcome.{Outcome}
 use Rattle.sdb_phases.specs.declared.step.DecidePhase.TheVariants as phase
-use Rattle.sdb_phases.specs.Work.{Work, prepare_of, forward_of, back_of, decide_of, abort_of, undo}
+use Rattle.sdb_phases.specs.Work.{Work, prepare_of, forward_of, back_of, decide_of, abort_of}
 use Rattle.sdb_phases.specs.Checks.{checks}
 use Rattle.sdb_phases.specs.Commit.{Stage, Preparing, Checking, Deciding, Forward, Back}
 use Rattle.sdb_phases.specs.CommitLaws.{as_wished}
@@ -142,9 +142,5 @@ pub back_lawful : (plan : ℕ → Plan) (past : List Played) (c i n : ℕ) (b : 
 back_lawful plan past c i n b p w store how r a ok less here = record {
   roll = roll plan past c i n p (Back b n i) w store (back_of p.id w) how r a ok ok.stage.0 less here;
   known = ok.stage.1;
-  call = record { store = store; how = how; answer = a; call = ap (λ q. event.Call c store q how r a) (same w.base ∙ ap (back_request w.key p.id (state_of_change w.change)) (sym (prepared-base w p.id p.now (ok.work.fine i w here).0))) };
+  call = record { store = store; how = how; answer = a; call = ap (λ q. event.Call c store q how r a) (ap (undo (condition.Version p.id (state_of_change w.change)) w.key) (sym (prepared-base w p.id p.now (ok.work.fine i w here).0))) };
 }
-  where
-    same : (o : Option Record) → undo (Rattle.sdb_types.specs.declared.record.Condition.TheVariants.Version p.id (state_of_change w.change)) w.key o ≡ back_request w.key p.id (state_of_change w.change) o
-    same None = refl
-    same (Some x) = refl

@@ -23,13 +23,13 @@ use Rattle.sdb_model.specs.declared.event.Event.TheVariants as event
 use Rattle.sdb_model.specs.Rows.{Name}
 use Rattle.sdb_laws.specs.Plan.{Plan}
 use Rattle.sdb_laws.specs.History.{Other, Aborts, Talk, Yes, heard}
-use Rattle.sdb_laws.specs.Lawful.{Played, talk, IsShown, IsHeldShown, IsKnownAborted, IsSettled, Forward, Back, MayPlay, MayRoll, back_request, plays}
+use Rattle.sdb_laws.specs.Lawful.{Played, talk, IsShown, IsHeldShown, IsKnownAborted, IsSettled, Forward, Back, MayPlay, MayRoll, plays}
 use Rattle.sdb_phases.specs.declared.step.RecoverStep.{RecoverStep}
 use Rattle.sdb_phases.specs.declared.step.RecoverStep.TheVariants as steps
 use Rattle.sdb_phases.specs.declared.step.RecoverPhase.{RecoverPhase}
 use Rattle.sdb_phases.specs.declared.step.RecoverPhase.TheVariants as phase
-use Rattle.sdb_phases.specs.Work.{look_of, abort_of, undo}
-use Rattle.sdb_phases.specs.Recover.{recover_request_at, recover_next, recover_forward, recover_back, roll_to, undecided, stands_found}
+use Rattle.sdb_phases.specs.Work.{look_of, abort_of}
+use Rattle.sdb_phases.specs.Recover.{recover_request_at, recover_next, recover_forward, recover_back, roll_to, undecided}
 use Rattle.sdb_turns.specs.Reader.{recover_role, PhaseOk, IsLearnedAborted, RecoverOk}
 use Rattle.sdb_turns.proofs.Meta.{IsFirm, forward_firm, before_firm}
 use Rattle.sdb_read.proofs.Images.{decided_at}
@@ -79,15 +79,11 @@ recover_lawful plan past c rec meta (phase.Forward at) store q how r a ok e = re
 recover_lawful plan past c rec meta phase.Back store q how r a ok e = record {
   roll = rolls plan past c rec meta phase.Back store q how r a ok;
   known = learned past meta.id.0 ok.phase;
-  call = record { store = store; how = how; answer = a; call = ap (λ x. event.Call c store x how r a) (some_is q (recover_back rec meta) (sym e) ∙ same (before_record rec)) };
+  call = record { store = store; how = how; answer = a; call = ap (λ x. event.Call c store x how r a) (some_is q (recover_back rec meta) (sym e)) };
 }
   where
     some_is : (x y : Request) → Some x ≡ Some y → x ≡ y
     some_is x y e = cc
-
-    same : (o : Option Record) → undo (stands_found meta) rec.key o ≡ back_request rec.key meta.id meta.state o
-    same None = refl
-    same (Some x) = refl
 recover_lawful plan past c rec meta phase.Ended store q how r a ok e = absurd (cc)
 
 ---- it goes on knowing what it needs

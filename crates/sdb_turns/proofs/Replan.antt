@@ -9,9 +9,9 @@ use Rattle.sdb_model.specs.declared.event.Event.{Event}
 use Rattle.sdb_laws.specs.Plan.{Plan, write_at, written, noted}
 use Rattle.sdb_laws.specs.History.{Role, Other, Begins, Takes, Prepares, Checks, Decides, Aborts, Rolls, Removes, Ends, Stops, Talk, Word, heard}
 use Rattle.sdb_laws.specs.Lawful.{Played, talk, ended, id, IsLawful, MayPlay, MayTake, MayPrepare, MayCheck, MayDecide, MayRoll, IsUnchanged, IsPreparedThere, IsKnownCommitted}
-use Rattle.sdb_laws.proofs.Keys.{tests}
 use Rattle.sdb_turns.specs.System.{SamePlans}
 use Rattle.sdb_types.proofs.Basics.{clash, decides as is_taken}
+use Rattle.sdb_types.proofs.Keys.{tests}
 
 -- before its COMMIT is taken nothing is said of a transaction's calls
 pub record Unsaid (h : Talk) (t : ℕ) : Type 0 where

@@ -13,8 +13,8 @@ use Rattle.sdb_types.specs.declared.record.Reply.{Reply}
 use Rattle.sdb_types.specs.declared.record.Reply.TheVariants as reply
 use Rattle.sdb_types.specs.declared.record.Request.{Request}
 use Rattle.sdb_types.specs.declared.record.Request.TheVariants as ask
-use Rattle.sdb_types.specs.Order.{key_cmp}
-use Rattle.sdb_types.specs.Contents.{CanAnswer, in_span, rise, starts_after}
+use Rattle.sdb_types.specs.Order.{key_cmp, same_key}
+use Rattle.sdb_types.specs.Contents.{CanAnswer, in_span, rise, starts_after, record_among}
 use Rattle.sdb_types.proofs.Bools.{and_first, and_second}
 use Rattle.sdb_types.proofs.KeyOrder.{key_total}
 use Rattle.sdb_record.specs.declared.access.Access.{Access}
@@ -23,13 +23,11 @@ use Rattle.sdb_record.specs.declared.coordinator.Decision.TheVariants as decisio
 use Rattle.sdb_record.specs.declared.meta.Meta.{Meta}
 use Rattle.sdb_record.specs.Meta.{is_moment}
 use Rattle.sdb_model.specs.Access.{in_access}
-use Rattle.sdb_model.specs.Noted.{same_key}
 use Rattle.sdb_model.specs.declared.answer.Answer.{Answer}
 use Rattle.sdb_model.specs.declared.event.Event.TheVariants as event
 use Rattle.sdb_model.specs.declared.event.How.{How}
 use Rattle.sdb_model.specs.Rows.{Name}
-use Rattle.sdb_laws.specs.Lawful.{Played, is_data, row_among, IsShown, IsHeldShown, IsSettled, Itself, Forward, Back, plays}
-use Rattle.sdb_laws.proofs.Keys.{same_key_self}
+use Rattle.sdb_laws.specs.Lawful.{Played, is_data, IsShown, IsHeldShown, IsSettled, Itself, Forward, Back, plays}
 use Rattle.sdb_phases.specs.declared.step.RecoverStep.{RecoverStep}
 use Rattle.sdb_phases.specs.declared.step.RecoverStep.TheVariants as steps
 use Rattle.sdb_phases.specs.declared.step.RecoverPhase.{RecoverPhase}
@@ -41,6 +39,7 @@ use Rattle.sdb_turns.proofs.Lists.{each_both, each_drop, each_more, each_unmap}
 use Rattle.sdb_turns.proofs.Meta.{meta_of}
 use Rattle.sdb_turns.proofs.Reading.{IsImageOf, phase_kept, image_settled}
 use Rattle.sdb_types.proofs.Basics.{less_of, all_each as each_any}
+use Rattle.sdb_types.proofs.Keys.{same_key_self, same_key_is, same_key_turned}
 use Rattle.sdb_read.specs.Read.{request_of, Kind, Firm, Open, Bad}
 
 ---- what stays
@@ -89,17 +88,16 @@ keys_more images b ks = sym (append_assoc (keys_of images) (b.key ∷ []) ks) �
 place_more : (a : Access) (images : List Record) (b : Record) (k : Key) (ks : List Key) → b.key ≡ k → InPlace a (keys_of images ++ k ∷ ks) → InPlace a (keys_of (images ++ b ∷ []) ++ ks)
 place_more a images b k ks e h = subst (InPlace a) (ap (λ q. keys_of images ++ q ∷ ks) (sym e) ∙ keys_more images b ks) h
 
-differ_of : (k q : Key) → key_cmp k q ≡ Less → same_key k q ≡ false
-unfolding same_key
-differ_of k q l = ap is_eq l
+differ_of : (k q : Key) → key_cmp k q ≡ Less → same_key q k ≡ false
+differ_of k q l = same_key_turned q k ∙ same_key_is k q ∙ ap is_eq l
 
 -- each of rows that rise is found by its key
-pub found_each : (rs : List Record) → Rise (keys_of rs) → AllByRecursion (λ x. row_among rs x.key ≡ Some x) rs
+pub found_each : (rs : List Record) → Rise (keys_of rs) → AllByRecursion (λ x. record_among rs x.key ≡ Some x) rs
 found_each [] h = tt
 found_each (r ∷ rs) h = (
-  ap (λ b. if b then Some r else row_among rs r.key) (same_key_self r.key),
-  each_both (λ x. row_among rs x.key ≡ Some x) (λ x. key_cmp r.key x.key ≡ Less) (λ x. row_among (r ∷ rs) x.key ≡ Some x) rs
-      (λ x f l. ap (λ b. if b then Some r else row_among rs x.key) (differ_of r.key x.key l) ∙ f)
+  ap (λ b. if b then Some r else record_among rs r.key) (same_key_self r.key),
+  each_both (λ x. record_among rs x.key ≡ Some x) (λ x. key_cmp r.key x.key ≡ Less) (λ x. record_among (r ∷ rs) x.key ≡ Some x) rs
+      (λ x f l. ap (λ b. if b then Some r else record_among rs x.key) (differ_of r.key x.key l) ∙ f)
       (found_each rs h.1) (each_unmap (λ q. key_cmp r.key q ≡ Less) (λ (x : Record). x.key) rs h.0),
 )
 
@@ -121,8 +119,8 @@ settle_ok kind past a images (r ∷ left) kinds i l place = by (kind r) (kinds r
 ---- the first reply
 
 -- the rows of a reply were shown
-pub rows_left : (past : List Played) (q : Played) (rs : List Record) → ((x : Record) → row_among rs x.key ≡ Some x → IsShown (q ∷ past) x) → Rise (keys_of rs) → AllByRecursion (λ k. is_data k ≡ true) (keys_of rs) → AllByRecursion (IsLeft (q ∷ past)) rs
-rows_left past q rs shown up outside = each_both (λ x. row_among rs x.key ≡ Some x) (λ x. is_data x.key ≡ true) (IsLeft (q ∷ past)) rs (λ x f d. (shown x f, d)) (found_each rs up) (each_unmap (λ k. is_data k ≡ true) (λ (x : Record). x.key) rs outside)
+pub rows_left : (past : List Played) (q : Played) (rs : List Record) → ((x : Record) → record_among rs x.key ≡ Some x → IsShown (q ∷ past) x) → Rise (keys_of rs) → AllByRecursion (λ k. is_data k ≡ true) (keys_of rs) → AllByRecursion (IsLeft (q ∷ past)) rs
+rows_left past q rs shown up outside = each_both (λ x. record_among rs x.key ≡ Some x) (λ x. is_data x.key ≡ true) (IsLeft (q ∷ past)) rs (λ x f d. (shown x f, d)) (found_each rs up) (each_unmap (λ k. is_data k ≡ true) (λ (x : Record). x.key) rs outside)
 
 key_itself : (k q : Key) → q ≡ k → in_access (access.Get k) q ≡ true
 key_itself k q e = subst (λ x. is_eq (key_cmp k x) ≡ true) (sym e) (ap is_eq (tied_itself key_total k))

@@ -11,10 +11,9 @@ use Rattle.sdb_types.specs.declared.key.Key.{Key}
 use Rattle.sdb_types.specs.declared.txid.TxId.{TxId}
 use Rattle.sdb_types.specs.declared.record.Record.{Record}
 use Rattle.sdb_types.specs.declared.record.Span.{Span}
-use Rattle.sdb_types.specs.Order.{key_cmp}
-use Rattle.sdb_types.specs.Contents.{in_span}
+use Rattle.sdb_types.specs.Order.{key_cmp, same_key}
+use Rattle.sdb_types.specs.Contents.{in_span, record_among}
 use Rattle.sdb_types.proofs.KeyOrder.{key_exact}
-use Rattle.sdb_keyed.specs.Entries as keyed
 use Rattle.sdb_keyed.specs.Entries.{value_at}
 use Rattle.sdb_record.specs.declared.access.Access.{Access}
 use Rattle.sdb_record.specs.declared.access.Access.TheVariants as access
@@ -25,24 +24,23 @@ use Rattle.sdb_record.specs.declared.write.Write.{Write}
 use Rattle.sdb_record.specs.Meta.{id_in, is_moment}
 use Rattle.sdb_record.specs.Moved.{version_of, same_version}
 use Rattle.sdb_record.specs.Rolls.{IsBaseOf, IsWrite}
-use Rattle.sdb_model.specs.Noted.{same_key, version_among}
+use Rattle.sdb_record.specs.Among.{version_among}
 use Rattle.sdb_laws.specs.Lawful.{Played, is_data, IsSettled}
-use Rattle.sdb_laws.proofs.Keys.{same_key_tells}
-use Rattle.sdb_phases.specs.Checks as phases
 use Rattle.sdb_phases.specs.Checks.{base_of}
-use Rattle.sdb_snapshot.specs.Noted.{Note, IsUnmoved, has_moved, is_noted, base_at, record_in, with_note, with_images, reads_of}
+use Rattle.sdb_snapshot.specs.Noted.{Note, IsUnmoved, has_moved, is_noted, base_at, with_note, with_images, reads_of}
 use Rattle.sdb_snapshot.specs.Written as snap
-use Rattle.sdb_snapshot.specs.Written.{AreChanges, HaveBases, HaveKeysOnce}
+use Rattle.sdb_snapshot.specs.Written.{AreChanges, HaveBases}
 use Rattle.sdb_snapshot.specs.Seen.{Seen, nothing, with_get, with_scan, with_written}
-use Rattle.sdb_snapshot.proofs.Keys.{same_itself, same_exact, same_is, value_last}
+use Rattle.sdb_snapshot.proofs.Keys.{value_last}
 use Rattle.sdb_snapshot.proofs.Differences.{or_there, noted_images}
 use Rattle.sdb_snapshot.proofs.Owned.{kept_get, kept_scan, kept_either, Keeps}
 use Rattle.sdb_validate.specs.Rescan.{reads_rise, starts_behind}
-use Rattle.sdb_turns.specs.Noted.{VersionSettled, IsReadThere, IsNoteOk, IsReadOk, IsScanOk, IsFoundOk, is_found, was_read, was_found, SeenOk, first_image, with_read, MayNote, work_of, Once, ReadAgrees, Sound, Settled}
+use Rattle.sdb_turns.specs.Noted.{VersionSettled, IsReadThere, IsNoteOk, IsReadOk, IsScanOk, IsFoundOk, is_found, was_read, was_found, SeenOk, first_image, with_read, MayNote, work_of, ReadAgrees, Sound, Settled}
 use Rattle.sdb_turns.specs.ReadAt.{IsImage, IsOfData, Rise, InPlace, keys_of}
 use Rattle.sdb_turns.proofs.Lists.{each_both, each_more, each_unmap}
 use Rattle.sdb_turns.proofs.Rows.{settled_later}
 use Rattle.sdb_types.proofs.Basics.{or_else, all_each as each_any}
+use Rattle.sdb_types.proofs.Keys.{same_key_tells, same_key_self, same_key_exact}
 
 ---- what stays
 
@@ -82,8 +80,8 @@ scans_keep : (notes later : List Note) (xs : List Scan) → Keeps notes later �
 scans_keep notes later xs keeps all = each_any (IsFoundOk notes) (IsFoundOk later) xs (λ x ok. found_keeps notes later x keeps ok) all
 
 -- one read more, or one scan more
-read_more : (rs : List Read) (xs : List Scan) (r : Read) (q : Key) → ((was_read rs q || was_found xs q) ≡ true) ⊎ (keyed.same_key q r.key ≡ true) → (was_read (rs ++ r ∷ []) q || was_found xs q) ≡ true
-read_more rs xs r q h = ap (λ b. b || was_found xs q) (list_any-append (λ (y : Read). keyed.same_key q y.key) rs (r ∷ [])) ∙ by (was_read rs q) (keyed.same_key q r.key) (was_found xs q) h
+read_more : (rs : List Read) (xs : List Scan) (r : Read) (q : Key) → ((was_read rs q || was_found xs q) ≡ true) ⊎ (same_key q r.key ≡ true) → (was_read (rs ++ r ∷ []) q || was_found xs q) ≡ true
+read_more rs xs r q h = ap (λ b. b || was_found xs q) (list_any-append (λ (y : Read). same_key q y.key) rs (r ∷ [])) ∙ by (was_read rs q) (same_key q r.key) (was_found xs q) h
   where
     by : (a b c : Bool) → ((a || c) ≡ true) ⊎ (b ≡ true) → ((a || (b || false)) || c) ≡ true
     by a b c h = grind (Rattle.std.proofs.Common.arith)
@@ -100,7 +98,7 @@ none_is (Some x) h = absurd (cc)
 
 -- what was noted last, at a key that was not noted
 last_noted : (notes : List Note) (k : Key) (f : Option Record) → is_noted notes k ≡ false → value_at (notes ++ (k, f) ∷ []) k ≡ Some f
-last_noted notes k f free = value_last notes k f k ∙ ap (λ o. or_else o (cond (keyed.same_key k k) (Some f) None)) (none_is (value_at notes k) free) ∙ ap (λ b. cond b (Some f) None) (same_itself k)
+last_noted notes k f free = value_last notes k f k ∙ ap (λ o. or_else o (cond (same_key k k) (Some f) None)) (none_is (value_at notes k) free) ∙ ap (λ b. cond b (Some f) None) (same_key_self k)
 
 ---- a get
 
@@ -119,13 +117,13 @@ get_noted : (past : List Played) (s : Seen) (k : Key) (f : Option Record) → Se
 get_noted past s k f ok outside free found = record {
   kept = kept_get s.notes s.writes k f ok.kept (base f found);
   notes = each_more (IsNoteOk past) s.notes (k, f) ok.notes (outside, settled f found);
-  reads = each_more (IsReadOk later) s.reads (record { key = k; version = version_of f }) (reads_keep s.notes later s.reads (λ q h. value_last s.notes k f q ∙ or_there (value_at s.notes q) (cond (keyed.same_key q k) (Some f) None) h) ok.reads) (ap is_some (last_noted s.notes k f free), ap (λ o. version_of (option_and_then (λ x. x) o)) (sym (last_noted s.notes k f free)));
+  reads = each_more (IsReadOk later) s.reads (record { key = k; version = version_of f }) (reads_keep s.notes later s.reads (λ q h. value_last s.notes k f q ∙ or_there (value_at s.notes q) (cond (same_key q k) (Some f) None) h) ok.reads) (ap is_some (last_noted s.notes k f free), ap (λ o. version_of (option_and_then (λ x. x) o)) (sym (last_noted s.notes k f free)));
   scans = ok.scans;
-  found = scans_keep s.notes later s.scans (λ q h. value_last s.notes k f q ∙ or_there (value_at s.notes q) (cond (keyed.same_key q k) (Some f) None) h) ok.found;
-  noted = λ q n. read_more s.reads s.scans (record { key = k; version = version_of f }) q (by q (value_at s.notes q) (keyed.same_key q k) refl refl (ap is_some (sym (value_last s.notes k f q)) ∙ n));
+  found = scans_keep s.notes later s.scans (λ q h. value_last s.notes k f q ∙ or_there (value_at s.notes q) (cond (same_key q k) (Some f) None) h) ok.found;
+  noted = λ q n. read_more s.reads s.scans (record { key = k; version = version_of f }) q (by q (value_at s.notes q) (same_key q k) refl refl (ap is_some (sym (value_last s.notes k f q)) ∙ n));
 }
   where
-    by : (q : Key) (o : Option (Option Record)) (b : Bool) → value_at s.notes q ≡ o → keyed.same_key q k ≡ b → is_some (or_else o (cond b (Some f) None)) ≡ true → ((was_read s.reads q || was_found s.scans q) ≡ true) ⊎ (keyed.same_key q k ≡ true)
+    by : (q : Key) (o : Option (Option Record)) (b : Bool) → value_at s.notes q ≡ o → same_key q k ≡ b → is_some (or_else o (cond b (Some f) None)) ≡ true → ((was_read s.reads q || was_found s.scans q) ≡ true) ⊎ (same_key q k ≡ true)
     by q (Some x) b e t n = inl (ok.noted q (ap is_some e))
     by q None true e t n = inr t
     by q None false e t n = absurd (cc (n))
@@ -169,47 +167,37 @@ version_here past k b (Some u) s e = (b, s, e)
 
 version_read : (past : List Played) (rs : List Record) (k : Key) → AllByRecursion (IsImage past) rs → VersionSettled past k (version_among (reads_of rs) k)
 version_read past [] k all = tt
-version_read past (r ∷ rs) k all = by (same_key_tells r.key k) (version_read past rs k all.1)
+version_read past (r ∷ rs) k all = by (same_key_tells k r.key) (version_read past rs k all.1)
   where
-    by : ((same_key r.key k ≡ true) × (r.key ≡ k)) ⊎ ((same_key r.key k ≡ false) × (r.key ≢ k)) → VersionSettled past k (version_among (reads_of rs) k) → VersionSettled past k (version_among (reads_of (r ∷ rs)) k)
-    by (inl x) ih = subst (λ b. VersionSettled past k (option_and_then (λ (y : Read). y.version) (if b then Some (record { key = r.key; version = version_of (Some r) }) else find (λ (y : Read). same_key y.key k) (reads_of rs)))) (sym x.0) (version_here past k r (id_in r.columns) (subst (λ y. IsSettled past y r) x.1 all.0.0) refl)
-    by (inr x) ih = subst (λ b. VersionSettled past k (option_and_then (λ (y : Read). y.version) (if b then Some (record { key = r.key; version = version_of (Some r) }) else find (λ (y : Read). same_key y.key k) (reads_of rs)))) (sym x.0) ih
-
-turned : (a b : Key) → same_key a b ≡ keyed.same_key b a
-unfolding same_key
-turned a b = by (same_key_tells a b) (same_key_tells b a) ∙ sym (same_is b a)
-  where
-    by : ((same_key a b ≡ true) × (a ≡ b)) ⊎ ((same_key a b ≡ false) × (a ≢ b)) → ((same_key b a ≡ true) × (b ≡ a)) ⊎ ((same_key b a ≡ false) × (b ≢ a)) → same_key a b ≡ same_key b a
-    by (inl x) (inl y) = x.0 ∙ sym y.0
-    by (inl x) (inr y) = absurd (y.1 (sym x.1))
-    by (inr x) (inl y) = absurd (x.1 (sym y.1))
-    by (inr x) (inr y) = x.0 ∙ sym y.0
+    by : ((same_key k r.key ≡ true) × (k ≡ r.key)) ⊎ ((same_key k r.key ≡ false) × (k ≢ r.key)) → VersionSettled past k (version_among (reads_of rs) k) → VersionSettled past k (version_among (reads_of (r ∷ rs)) k)
+    by (inl x) ih = subst (λ b. VersionSettled past k (option_and_then (λ (y : Read). y.version) (if b then Some (record { key = r.key; version = version_of (Some r) }) else find (λ (y : Read). same_key k y.key) (reads_of rs)))) (sym x.0) (version_here past k r (id_in r.columns) (subst (λ y. IsSettled past y r) (sym x.1) all.0.0) refl)
+    by (inr x) ih = subst (λ b. VersionSettled past k (option_and_then (λ (y : Read). y.version) (if b then Some (record { key = r.key; version = version_of (Some r) }) else find (λ (y : Read). same_key k y.key) (reads_of rs)))) (sym x.0) ih
 
 -- the version of what a scan found at a key
-version_found : (rs : List Record) (q : Key) → version_among (reads_of rs) q ≡ version_of (record_in rs q)
+version_found : (rs : List Record) (q : Key) → version_among (reads_of rs) q ≡ version_of (record_among rs q)
 version_found [] q = refl
-version_found (r ∷ rs) q = ap (λ b. option_and_then (λ (y : Read). y.version) (if b then Some (record { key = r.key; version = id_in r.columns }) else find (λ (y : Read). same_key y.key q) (reads_of rs))) (turned r.key q) ∙ by (keyed.same_key q r.key) (version_found rs q)
+version_found (r ∷ rs) q = by (same_key q r.key) (version_found rs q)
   where
-    by : (b : Bool) → version_among (reads_of rs) q ≡ version_of (record_in rs q) → option_and_then (λ (y : Read). y.version) (if b then Some (record { key = r.key; version = id_in r.columns }) else find (λ (y : Read). same_key y.key q) (reads_of rs)) ≡ version_of (if b then Some r else record_in rs q)
+    by : (b : Bool) → version_among (reads_of rs) q ≡ version_of (record_among rs q) → option_and_then (λ (y : Read). y.version) (if b then Some (record { key = r.key; version = id_in r.columns }) else find (λ (y : Read). same_key q y.key) (reads_of rs)) ≡ version_of (if b then Some r else record_among rs q)
     by true ih = refl
     by false ih = ih
 
 -- a scan found a record where it stands among its records
-found_is : (rs : List Record) (q : Key) → list_any (λ (r : Read). keyed.same_key q r.key) (reads_of rs) ≡ is_some (record_in rs q)
+found_is : (rs : List Record) (q : Key) → list_any (λ (r : Read). same_key q r.key) (reads_of rs) ≡ is_some (record_among rs q)
 found_is [] q = refl
-found_is (r ∷ rs) q = by (keyed.same_key q r.key) (found_is rs q)
+found_is (r ∷ rs) q = by (same_key q r.key) (found_is rs q)
   where
-    by : (b : Bool) → list_any (λ (x : Read). keyed.same_key q x.key) (reads_of rs) ≡ is_some (record_in rs q) → (b || list_any (λ (x : Read). keyed.same_key q x.key) (reads_of rs)) ≡ is_some (if b then Some r else record_in rs q)
+    by : (b : Bool) → list_any (λ (x : Read). same_key q x.key) (reads_of rs) ≡ is_some (record_among rs q) → (b || list_any (λ (x : Read). same_key q x.key) (reads_of rs)) ≡ is_some (if b then Some r else record_among rs q)
     by true ih = refl
     by false ih = ih
 
 -- and lies in its span
-found_inside : (span : Span) (rs : List Record) (q : Key) → AllByRecursion (λ k. in_span span k ≡ true) (keys_of rs) → is_some (record_in rs q) ≡ true → in_span span q ≡ true
+found_inside : (span : Span) (rs : List Record) (q : Key) → AllByRecursion (λ k. in_span span k ≡ true) (keys_of rs) → is_some (record_among rs q) ≡ true → in_span span q ≡ true
 found_inside span [] q all h = absurd (cc (h))
-found_inside span (r ∷ rs) q all h = by (keyed.same_key q r.key) refl h (λ e. found_inside span rs q all.1 e)
+found_inside span (r ∷ rs) q all h = by (same_key q r.key) refl h (λ e. found_inside span rs q all.1 e)
   where
-    by : (b : Bool) → keyed.same_key q r.key ≡ b → is_some (if b then Some r else record_in rs q) ≡ true → (is_some (record_in rs q) ≡ true → in_span span q ≡ true) → in_span span q ≡ true
-    by true t e ih = subst (λ k. in_span span k ≡ true) (sym (same_exact q r.key t)) all.0
+    by : (b : Bool) → same_key q r.key ≡ b → is_some (if b then Some r else record_among rs q) ≡ true → (is_some (record_among rs q) ≡ true → in_span span q ≡ true) → in_span span q ≡ true
+    by true t e ih = subst (λ k. in_span span k ≡ true) (sym (same_key_exact q r.key t)) all.0
     by false t e ih = ih e
 
 same_is_one : (a b : Option TxId) → same_version a b ≡ true → a ≡ b
@@ -223,27 +211,27 @@ same_is_one (Some a) (Some b) h = ap (λ n. Some (record { 0 = n })) (equal a.0 
 
 -- what a scan that differs nowhere found is noted
 found_noted : (notes : List Note) (span : Span) (rs : List Record) → IsUnmoved notes span rs → AllByRecursion (λ k. in_span span k ≡ true) (keys_of rs) → IsFoundOk (with_images notes rs) (record { span = span; found = reads_of rs })
-found_noted notes span rs unmoved inside q f = by (value_at notes q) (record_in rs q) refl refl
+found_noted notes span rs unmoved inside q f = by (value_at notes q) (record_among rs q) refl refl
   where
-    there : is_some (record_in rs q) ≡ true
+    there : is_some (record_among rs q) ≡ true
     there = sym (found_is rs q) ∙ f
 
     not_false : (b : Bool) → not b ≡ false → b ≡ true
     not_false true e = refl
     not_false false e = absurd (cc (e))
 
-    by : (o : Option (Option Record)) (p : Option Record) → value_at notes q ≡ o → record_in rs q ≡ p → (is_noted (with_images notes rs) q ≡ true) × (version_of (base_at (with_images notes rs) q) ≡ version_among (reads_of rs) q)
+    by : (o : Option (Option Record)) (p : Option Record) → value_at notes q ≡ o → record_among rs q ≡ p → (is_noted (with_images notes rs) q ≡ true) × (version_of (base_at (with_images notes rs) q) ≡ version_among (reads_of rs) q)
     by o None e g = absurd (clash (sym there ∙ ap is_some g))
       where
         clash : true ≡ false → ⊥
         clash x = cc
     by None (Some b) e g =
-        let at : value_at (with_images notes rs) q ≡ Some (Some b) = noted_images notes rs q ∙ ap (λ x. or_else x (option_map Some (record_in rs q))) e ∙ ap (option_map Some) g in
+        let at : value_at (with_images notes rs) q ≡ Some (Some b) = noted_images notes rs q ∙ ap (λ x. or_else x (option_map Some (record_among rs q))) e ∙ ap (option_map Some) g in
         (ap is_some at, ap (λ x. version_of (option_and_then (λ y. y) x)) at ∙ sym (version_found rs q ∙ ap version_of g))
     by (Some x) (Some b) e g =
-        let at : value_at (with_images notes rs) q ≡ Some x = noted_images notes rs q ∙ ap (λ y. or_else y (option_map Some (record_in rs q))) e in
-        let same : same_version (version_of x) (version_of (record_in rs q)) ≡ true = not_false (same_version (version_of x) (version_of (record_in rs q))) (sym (ap (λ y. has_moved y (record_in rs q)) e) ∙ unmoved q (found_inside span rs q inside there)) in
-        (ap is_some at, ap (λ y. version_of (option_and_then (λ z. z) y)) at ∙ same_is_one (version_of x) (version_of (record_in rs q)) same ∙ sym (version_found rs q))
+        let at : value_at (with_images notes rs) q ≡ Some x = noted_images notes rs q ∙ ap (λ y. or_else y (option_map Some (record_among rs q))) e in
+        let same : same_version (version_of x) (version_of (record_among rs q)) ≡ true = not_false (same_version (version_of x) (version_of (record_among rs q))) (sym (ap (λ y. has_moved y (record_among rs q)) e) ∙ unmoved q (found_inside span rs q inside there)) in
+        (ap is_some at, ap (λ y. version_of (option_and_then (λ z. z) y)) at ∙ same_is_one (version_of x) (version_of (record_among rs q)) same ∙ sym (version_found rs q))
 
 scan_noted : (past : List Played) (s : Seen) (span : Span) (rs : List Record) → SeenOk past s → IsOfData (access.Scan span) → IsUnmoved s.notes span rs → AllByRecursion (IsImage past) rs → InPlace (access.Scan span) (keys_of rs) → SeenOk past (with_scan s span rs)
 scan_noted past s span rs ok tables unmoved all place = record {
@@ -252,12 +240,12 @@ scan_noted past s span rs ok tables unmoved all place = record {
   reads = reads_keep s.notes (with_images s.notes rs) s.reads (λ q h. noted_images s.notes rs q ∙ or_there (value_at s.notes q) _ h) ok.reads;
   scans = each_more (IsScanOk past) s.scans (record { span = span; found = reads_of rs }) ok.scans (rise_read rs place.0, λ k inside. (tables k inside, version_read past rs k all));
   found = each_more (IsFoundOk (with_images s.notes rs)) s.scans (record { span = span; found = reads_of rs }) (scans_keep s.notes (with_images s.notes rs) s.scans (λ q h. noted_images s.notes rs q ∙ or_there (value_at s.notes q) _ h) ok.found) (found_noted s.notes span rs unmoved place.1);
-  noted = λ q n. scan_more s.reads s.scans (record { span = span; found = reads_of rs }) q (by q (value_at s.notes q) (record_in rs q) refl refl (ap is_some (sym (noted_images s.notes rs q)) ∙ n));
+  noted = λ q n. scan_more s.reads s.scans (record { span = span; found = reads_of rs }) q (by q (value_at s.notes q) (record_among rs q) refl refl (ap is_some (sym (noted_images s.notes rs q)) ∙ n));
 }
   where
-    by : (q : Key) (o : Option (Option Record)) (p : Option Record) → value_at s.notes q ≡ o → record_in rs q ≡ p → is_some (or_else o (option_map Some (record_in rs q))) ≡ true → ((was_read s.reads q || was_found s.scans q) ≡ true) ⊎ ((in_span span q && list_any (λ (r : Read). keyed.same_key q r.key) (reads_of rs)) ≡ true)
+    by : (q : Key) (o : Option (Option Record)) (p : Option Record) → value_at s.notes q ≡ o → record_among rs q ≡ p → is_some (or_else o (option_map Some (record_among rs q))) ≡ true → ((was_read s.reads q || was_found s.scans q) ≡ true) ⊎ ((in_span span q && list_any (λ (r : Read). same_key q r.key) (reads_of rs)) ≡ true)
     by q (Some x) p e g n = inl (ok.noted q (ap is_some e))
-    by q None (Some b) e g n = inr (and_both (in_span span q) (list_any (λ (r : Read). keyed.same_key q r.key) (reads_of rs)) (found_inside span rs q place.1 (ap is_some g)) (found_is rs q ∙ ap is_some g))
+    by q None (Some b) e g n = inr (and_both (in_span span q) (list_any (λ (r : Read). same_key q r.key) (reads_of rs)) (found_inside span rs q place.1 (ap is_some g)) (found_is rs q ∙ ap is_some g))
     by q None None e g n = absurd (clash (sym (ap (λ y. is_some (option_map Some y)) g) ∙ n))
       where
         clash : false ≡ true → ⊥
@@ -287,13 +275,13 @@ write_kept past s changes ok fine = record {
 -- what is noted at a key
 value_says : (past : List Played) (notes : List Note) (k : Key) (f : Option Record) → AllByRecursion (IsNoteOk past) notes → value_at notes k ≡ Some f → IsNoteOk past (k, f)
 value_says past [] k f all h = absurd (cc)
-value_says past (e ∷ es) k f all h = by (keyed.same_key k e.0) refl h (λ s. value_says past es k f all.1 s)
+value_says past (e ∷ es) k f all h = by (same_key k e.0) refl h (λ s. value_says past es k f all.1 s)
   where
     some_is : (x y : Option Record) → Some x ≡ Some y → x ≡ y
     some_is x y s = cc
 
-    by : (b : Bool) → keyed.same_key k e.0 ≡ b → cond b (Some e.1) (value_at es k) ≡ Some f → (value_at es k ≡ Some f → IsNoteOk past (k, f)) → IsNoteOk past (k, f)
-    by true t s ih = subst (IsNoteOk past) (sym (both (same_exact k e.0 t) (some_is e.1 f s))) all.0
+    by : (b : Bool) → same_key k e.0 ≡ b → cond b (Some e.1) (value_at es k) ≡ Some f → (value_at es k ≡ Some f → IsNoteOk past (k, f)) → IsNoteOk past (k, f)
+    by true t s ih = subst (IsNoteOk past) (sym (both (same_key_exact k e.0 t) (some_is e.1 f s))) all.0
       where
         both : k ≡ e.0 → e.1 ≡ f → (k, f) ≡ e
         both x y = ap (λ q. (q, f)) x ∙ ap (λ o. (e.0, o)) (sym y)
@@ -332,27 +320,15 @@ base_version past notes k all = by (base_at notes k) refl
     by None e = tt
     by (Some b) e = version_here past k b (id_in b.columns) (base_settled past notes k b all e) refl
 
-written_is : (ws : List Write) (k : Key) → phases.is_written ws k ≡ snap.is_written ws k
-written_is [] k = refl
-written_is (w ∷ ws) k = ap (λ b. b || phases.is_written ws k) (sym (same_is k w.key)) ∙ by (keyed.same_key k w.key) (written_is ws k)
-  where
-    by : (b : Bool) → phases.is_written ws k ≡ snap.is_written ws k → (b || phases.is_written ws k) ≡ is_some (cond b (Some w) (snap.write_at ws k))
-    by true ih = refl
-    by false ih = ih
-
-once_is : (ws : List Write) → HaveKeysOnce ws → Once ws
-once_is [] h = tt
-once_is (w ∷ ws) h = (written_is ws w.key ∙ h.0, once_is ws h.1)
-
 base_noted : (notes : List Note) (ws : List Write) (k : Key) (v : Option TxId) → HaveBases notes ws → base_of ws k ≡ Some v → version_of (base_at notes k) ≡ v
 base_noted notes [] k v h e = absurd (cc)
-base_noted notes (w ∷ ws) k v h e = by (phases.same_key k w.key) refl e (λ s. base_noted notes ws k v h.1 s)
+base_noted notes (w ∷ ws) k v h e = by (same_key k w.key) refl e (λ s. base_noted notes ws k v h.1 s)
   where
     some_is : (x y : Option TxId) → Some x ≡ Some y → x ≡ y
     some_is x y s = cc
 
-    by : (b : Bool) → phases.same_key k w.key ≡ b → cond b (Some (version_of w.base)) (base_of ws k) ≡ Some v → (base_of ws k ≡ Some v → version_of (base_at notes k) ≡ v) → version_of (base_at notes k) ≡ v
-    by true t s ih = ap (λ q. version_of (base_at notes q)) (same_exact k w.key (same_is k w.key ∙ t)) ∙ ap version_of (sym h.0.1) ∙ some_is (version_of w.base) v s
+    by : (b : Bool) → same_key k w.key ≡ b → cond b (Some (version_of w.base)) (base_of ws k) ≡ Some v → (base_of ws k ≡ Some v → version_of (base_at notes k) ≡ v) → version_of (base_at notes k) ≡ v
+    by true t s ih = ap (λ q. version_of (base_at notes q)) (same_key_exact k w.key t) ∙ ap version_of (sym h.0.1) ∙ some_is (version_of w.base) v s
     by false t s ih = ih s
 
 -- What a transaction has read and written is fit for its COMMIT.
@@ -361,7 +337,7 @@ sound_of past id now s fits moment ok = record {
   fits = fits;
   moment = moment;
   fine = each_both IsWrite (λ w. (is_noted s.notes w.key ≡ true) × (w.base ≡ base_at s.notes w.key)) (λ w. IsWrite w × (is_data w.key ≡ true)) s.writes (λ w f b. (f, noted_table past s.notes w.key ok.notes b.0)) ok.kept.fine ok.kept.based;
-  once = once_is s.writes ok.kept.once;
+  once = ok.kept.once;
   reads = each_any (IsReadOk s.notes) (ReadAgrees s.writes) s.reads (λ r h v e. h.1 ∙ base_noted s.notes s.writes r.key v ok.kept.based e) ok.reads;
   scans = each_any (IsScanOk past) (λ x. reads_rise x.found ≡ true) s.scans (λ x h. h.0) ok.scans;
 }

@@ -11,7 +11,8 @@ use Rattle.sdb_types.specs.Contents.{in_span}
 use Rattle.sdb_record.specs.declared.access.Read.{Read}
 use Rattle.sdb_record.specs.declared.write.Write.{Write}
 use Rattle.sdb_record.specs.Meta.{id_in, is_moment}
-use Rattle.sdb_model.specs.Noted.{Note, Got, Scanned, version_among, version_noted}
+use Rattle.sdb_record.specs.Among.{version_among, is_written}
+use Rattle.sdb_model.specs.Noted.{Note, Got, Scanned, version_noted}
 use Rattle.sdb_model.specs.declared.answer.Answer.TheVariants as answer
 use Rattle.sdb_model.specs.declared.event.Event.TheVariants as event
 use Rattle.sdb_model.specs.Sql.{reads_commit}
@@ -24,7 +25,7 @@ use Rattle.sdb_phases.specs.declared.step.DecidePhase.TheVariants as phase
 use Rattle.sdb_phases.specs.declared.step.Outcome.{Outcome}
 use Rattle.sdb_phases.specs.declared.step.Outcome.TheVariants as outcome
 use Rattle.sdb_phases.specs.Work.{Work}
-use Rattle.sdb_phases.specs.Checks.{checks, is_written}
+use Rattle.sdb_phases.specs.Checks.{checks}
 use Rattle.sdb_phases.specs.Commit.{Stage, Preparing, Checking, Deciding, Forward, Stopping, Back, Over, preparing, checking}
 use Rattle.sdb_snapshot.specs.Seen.{Seen}
 use Rattle.sdb_turns.specs.Owner.{plan_of, notes_of, checked_notes, own_notes, CommitOk, StageOk, OverOk}

@@ -1,6 +1,6 @@
 -- What a transaction takes into its COMMIT is a plan of the protocol, and its checks are of the plan's notes.
 use Rattle.std.proofs.Common.{◌≡◌, ◌≢◌, ◌≤◌, ◌<◌, ℕ, zero, suc, Bool, true, false, List, [], ◌∷◌, ◌++◌, length, map, Option, Some, None, refl, sym, ap, subst, ◌∙◌, arith, ◌⊎◌, inl, inr}
-use Rattle.std.specs.Prelude.{slice_get, find, filter, not, ◌||◌, ◌==◌, if◌then◌else◌}
+use Rattle.std.specs.Prelude.{slice_get, is_some, filter, not, ◌==◌, if◌then◌else◌}
 use Rattle.std.specs.List.{AllByRecursion}
 use Rattle.std.specs.Option.{option_map, option_and_then}
 use Rattle.std.proofs.lemmas.Option.{slice_get-map}
@@ -12,114 +12,77 @@ use Rattle.sdb_types.specs.declared.record.Record.{Record}
 use Rattle.sdb_types.specs.declared.record.Reply.{Reply}
 use Rattle.sdb_types.specs.declared.record.Reply.TheVariants as reply
 use Rattle.sdb_types.specs.declared.record.Request.TheVariants as ask
-use Rattle.sdb_types.specs.Contents.{CanAnswer, in_span, rise}
+use Rattle.sdb_types.specs.Contents.{CanAnswer, in_span, rise, record_among}
 use Rattle.sdb_record.specs.declared.access.Read.{Read}
 use Rattle.sdb_record.specs.declared.access.Scan.{Scan}
 use Rattle.sdb_record.specs.declared.write.Write.{Write}
 use Rattle.sdb_record.specs.Moved.{version_of, same_version, is_unchanged}
 use Rattle.sdb_record.specs.Rolls.{IsWrite}
+use Rattle.sdb_record.specs.Among.{version_among, write_among, is_written}
 use Rattle.sdb_laws.specs.Plan.{write_at, written, noted, number_of}
-use Rattle.sdb_model.specs.Noted.{Note, Got, Scanned, same_key, version_among, version_noted}
-use Rattle.sdb_laws.specs.Lawful.{is_data, row_among}
-use Rattle.sdb_laws.proofs.Keys.{same_key_tells, same_key_self}
+use Rattle.sdb_model.specs.Noted.{Note, Got, Scanned, version_noted}
+use Rattle.sdb_laws.specs.Lawful.{is_data}
 use Rattle.sdb_phases.specs.declared.check.Check.{Check}
 use Rattle.sdb_phases.specs.Work.{Work}
-use Rattle.sdb_phases.specs.Checks as phases
-use Rattle.sdb_phases.specs.Checks.{checks, check_of_read, check_of_scan, is_written, base_of, version_read, record_among, first_difference, wanted, changed}
+use Rattle.sdb_phases.specs.Checks.{checks, check_of_read, check_of_scan, base_of, first_difference, wanted, changed}
 use Rattle.sdb_phases.specs.Steps.{validate_step, judged}
 use Rattle.sdb_phases.specs.CommitLaws.{is_more}
 use Rattle.sdb_validate.specs.Rescan.{reads_rise, base_in, kept_by, is_kept, IsFirstLost}
 use Rattle.sdb_validate.proofs.Rescans.{first_lost}
 use Rattle.sdb_turns.specs.Owner.{plan_of, notes_of, checked_notes, own_notes, NoteAgrees, CheckTells, WorkOk, IsReading}
 use Rattle.sdb_turns.proofs.Lists.{each_at, each_map, each_filter}
-use Rattle.sdb_turns.specs.Noted.{Once, ReadAgrees, Sound}
+use Rattle.sdb_snapshot.specs.Written.{HaveKeysOnce}
+use Rattle.sdb_turns.specs.Noted.{ReadAgrees, Sound}
 use Rattle.sdb_types.proofs.Basics.{none_some as some_apart, not_true, append_all as each_append, all_each as each_any}
 use Rattle.sdb_types.proofs.Bools.{and_first as rises}
+use Rattle.sdb_types.specs.Order.{same_key}
+use Rattle.sdb_types.proofs.Keys.{same_key_tells, same_key_self}
 
----- keys, in either order
+---- the write of a key
 
-pub same_turned : (a b : Key) → phases.same_key a b ≡ same_key b a
-unfolding same_key
-same_turned a b = by (same_key_tells a b) (same_key_tells b a)
-  where
-    by : ((same_key a b ≡ true) × (a ≡ b)) ⊎ ((same_key a b ≡ false) × (a ≢ b)) → ((same_key b a ≡ true) × (b ≡ a)) ⊎ ((same_key b a ≡ false) × (b ≢ a)) → phases.same_key a b ≡ same_key b a
-    by (inl x) (inl y) = x.0 ∙ sym y.0
-    by (inl x) (inr y) = absurd (y.1 (sym x.1))
-    by (inr x) (inl y) = absurd (x.1 (sym y.1))
-    by (inr x) (inr y) = x.0 ∙ sym y.0
-
-row_is : (rows : List Record) (k : Key) → record_among rows k ≡ row_among rows k
-row_is [] k = refl
-row_is (r ∷ rs) k = ap (λ b. if b then Some r else record_among rs k) (same_turned k r.key) ∙ ap (λ o. if same_key r.key k then Some r else o) (row_is rs k)
-
-version_is : (found : List Read) (k : Key) → version_read found k ≡ version_among found k
-version_is [] k = refl
-version_is (r ∷ rs) k = ap (λ b. if b then r.version else version_read rs k) (same_turned k r.key) ∙ by (same_key r.key k) (version_is rs k) ∙ sym (pick (same_key r.key k))
-  where
-    by : (b : Bool) → version_read rs k ≡ version_among rs k → (if b then r.version else version_read rs k) ≡ (if b then r.version else version_among rs k)
-    by true ih = refl
-    by false ih = ih
-
-    pick : (b : Bool) → option_and_then (λ (x : Read). x.version) (if b then Some r else find (λ (x : Read). same_key x.key k) rs) ≡ (if b then r.version else version_among rs k)
-    pick true = refl
-    pick false = refl
-
-base_is : (ws : List Write) (k : Key) → base_of ws k ≡ option_map (λ (w : Write). version_of w.base) (find (λ (w : Write). same_key w.key k) ws)
+base_is : (ws : List Write) (k : Key) → base_of ws k ≡ option_map (λ (w : Write). version_of w.base) (write_among ws k)
 base_is [] k = refl
-base_is (w ∷ ws) k = ap (λ b. if b then Some (version_of w.base) else base_of ws k) (same_turned k w.key) ∙ by (same_key w.key k) (base_is ws k)
+base_is (w ∷ ws) k = by (same_key k w.key) (base_is ws k)
   where
-    by : (b : Bool) → base_of ws k ≡ option_map (λ (x : Write). version_of x.base) (find (λ (x : Write). same_key x.key k) ws) → (if b then Some (version_of w.base) else base_of ws k) ≡ option_map (λ (x : Write). version_of x.base) (if b then Some w else find (λ (x : Write). same_key x.key k) ws)
+    by : (b : Bool) → base_of ws k ≡ option_map (λ (x : Write). version_of x.base) (write_among ws k) → (if b then Some (version_of w.base) else base_of ws k) ≡ option_map (λ (x : Write). version_of x.base) (if b then Some w else write_among ws k)
     by true ih = refl
     by false ih = ih
-
-written_here : (ws : List Write) (k : Key) → is_written ws k ≡ false → find (λ (w : Write). same_key w.key k) ws ≡ None
-written_here [] k h = refl
-written_here (w ∷ ws) k h = by (same_key w.key k) (ap (λ b. b || is_written ws k) (sym (same_turned k w.key)) ∙ h) (λ e. written_here ws k e)
-  where
-    by : (b : Bool) → (b || is_written ws k) ≡ false → (is_written ws k ≡ false → find (λ (x : Write). same_key x.key k) ws ≡ None) → (if b then Some w else find (λ (x : Write). same_key x.key k) ws) ≡ None
-    by true e ih = absurd (cc (e))
-    by false e ih = ih e
-
-written_there : (ws : List Write) (k : Key) (w : Write) → find (λ (x : Write). same_key x.key k) ws ≡ Some w → is_written ws k ≡ true
-written_there [] k w h = absurd (cc)
-written_there (x ∷ xs) k w h = ap (λ b. b || is_written xs k) (same_turned k x.key) ∙ by (same_key x.key k) h (λ e. written_there xs k w e)
-  where
-    by : (b : Bool) → (if b then Some x else find (λ (y : Write). same_key y.key k) xs) ≡ Some w → (find (λ (y : Write). same_key y.key k) xs ≡ Some w → is_written xs k ≡ true) → (b || is_written xs k) ≡ true
-    by true e ih = refl
-    by false e ih = ih e
 
 -- the plan's writes
 written_base : (p : Work) (k : Key) (base : Option ℕ) → written (plan_of p) k ≡ Some base → (v : Option TxId) × (base_of p.writes k ≡ Some v) × (number_of v ≡ base)
 unfolding written write_at
-written_base p k base h = by (find (λ (w : Write). same_key w.key k) p.writes) refl h
+written_base p k base h = by (write_among p.writes k) refl h
   where
     some_is : (x y : Option ℕ) → Some x ≡ Some y → x ≡ y
     some_is x y e = cc
 
-    by : (o : Option Write) → find (λ (w : Write). same_key w.key k) p.writes ≡ o → option_map (λ (w : Write). number_of (version_of w.base)) o ≡ Some base → (v : Option TxId) × (base_of p.writes k ≡ Some v) × (number_of v ≡ base)
+    by : (o : Option Write) → write_among p.writes k ≡ o → option_map (λ (w : Write). number_of (version_of w.base)) o ≡ Some base → (v : Option TxId) × (base_of p.writes k ≡ Some v) × (number_of v ≡ base)
     by None at e = absurd (cc)
     by (Some w) at e = (version_of w.base, base_is p.writes k ∙ ap (option_map (λ (x : Write). version_of x.base)) at, some_is (number_of (version_of w.base)) base e)
 
 free_base : (p : Work) (k : Key) → written (plan_of p) k ≡ None → base_of p.writes k ≡ None
 unfolding written write_at
-free_base p k h = by (find (λ (w : Write). same_key w.key k) p.writes) refl h
+free_base p k h = by (write_among p.writes k) refl h
   where
-    by : (o : Option Write) → find (λ (w : Write). same_key w.key k) p.writes ≡ o → option_map (λ (w : Write). number_of (version_of w.base)) o ≡ None → base_of p.writes k ≡ None
+    by : (o : Option Write) → write_among p.writes k ≡ o → option_map (λ (w : Write). number_of (version_of w.base)) o ≡ None → base_of p.writes k ≡ None
     by None at e = base_is p.writes k ∙ ap (option_map (λ (x : Write). version_of x.base)) at
     by (Some w) at e = absurd (cc)
 
 -- a key that is not written has no base
 unwritten_base : (ws : List Write) (k : Key) → is_written ws k ≡ false → base_of ws k ≡ None
-unwritten_base ws k h = base_is ws k ∙ ap (option_map (λ (x : Write). version_of x.base)) (written_here ws k h)
+unwritten_base ws k h = base_is ws k ∙ by (write_among ws k) h
+  where
+    by : (o : Option Write) → is_some o ≡ false → option_map (λ (w : Write). version_of w.base) o ≡ None
+    by None h = refl
+    by (Some w) h = absurd (cc)
 
 -- and a key without one is not written
-no_base : (ws : List Write) (k : Key) → base_of ws k ≡ None → is_written ws k ≡ false
-no_base [] k h = refl
-no_base (w ∷ ws) k h = by (phases.same_key k w.key) h (λ e. no_base ws k e)
+pub no_base : (ws : List Write) (k : Key) → base_of ws k ≡ None → is_written ws k ≡ false
+no_base ws k h = by (write_among ws k) (sym (base_is ws k) ∙ h)
   where
-    by : (b : Bool) → (if b then Some (version_of w.base) else base_of ws k) ≡ None → (base_of ws k ≡ None → is_written ws k ≡ false) → (b || is_written ws k) ≡ false
-    by true e ih = absurd (cc (e))
-    by false e ih = ih e
+    by : (o : Option Write) → option_map (λ (w : Write). version_of w.base) o ≡ None → is_some o ≡ false
+    by None e = refl
+    by (Some w) e = absurd (cc)
 
 pub not_noted : {A : Type 0} (p : Work) (j : ℕ) (k : Key) (version : Option ℕ) → slice_get (notes_of p) j ≡ None → noted (plan_of p) j k ≡ Some version → A
 unfolding noted
@@ -256,13 +219,13 @@ scan_agrees p i s rows at kept k version base h w =
     let says = scan_says s k version (noted_by p i k version (Scanned s) at h) in
     let b = written_base p k base w in
     let own : base_in s.span p.writes k ≡ Some b.0 = ap (λ t. if t then base_of p.writes k else None) says.0 ∙ b.1 in
-    let same : same_version b.0 (version_read s.found k) ≡ true = ap (λ o. kept_by o (version_read s.found k) (record_among rows k)) (sym own) ∙ kept k in
-    sym says.1 ∙ ap number_of (sym (version_is s.found k)) ∙ same_number b.0 (version_read s.found k) same ∙ b.2
+    let same : same_version b.0 (version_among s.found k) ≡ true = ap (λ o. kept_by o (version_among s.found k) (record_among rows k)) (sym own) ∙ kept k in
+    sym says.1 ∙ same_number b.0 (version_among s.found k) same ∙ b.2
 
-scan_unchanged : (p : Work) (s : Scan) (rows : List Record) → ((k : Key) → is_kept p.writes s rows k ≡ true) → (k : Key) → in_span s.span k ≡ true → written (plan_of p) k ≡ None → is_unchanged (row_among rows k) (version_among s.found k) ≡ true
+scan_unchanged : (p : Work) (s : Scan) (rows : List Record) → ((k : Key) → is_kept p.writes s rows k ≡ true) → (k : Key) → in_span s.span k ≡ true → written (plan_of p) k ≡ None → is_unchanged (record_among rows k) (version_among s.found k) ≡ true
 scan_unchanged p s rows kept k inside free =
     let own : base_in s.span p.writes k ≡ None = ap (λ t. if t then base_of p.writes k else None) inside ∙ free_base p k free in
-    ap (λ f. is_unchanged f (version_among s.found k)) (sym (row_is rows k)) ∙ ap (is_unchanged (record_among rows k)) (sym (version_is s.found k)) ∙ ap (λ o. kept_by o (version_read s.found k) (record_among rows k)) (sym own) ∙ kept k
+    ap (λ o. kept_by o (version_among s.found k) (record_among rows k)) (sym own) ∙ kept k
 
 scan_tells : (p : Work) (i : ℕ) (s : Scan) (r : Reply) → slice_get (notes_of p) i ≡ Some (Scanned s) → reads_rise s.found ≡ true → CanAnswer (ask.Scan s.span) r → is_more (validate_step true (Some (check_of_scan p.writes s)) r) ≡ true → CheckTells p i (ask.Scan s.span) r
 scan_tells p i s reply.Fault at found can more = absurd (cc)
@@ -278,24 +241,24 @@ scan_tells p i s (reply.Rows rows) at found can more =
 
 unwritten_other : (ws : List Write) (i : ℕ) (k : Key) (w : Write) → is_written ws k ≡ false → slice_get ws i ≡ Some w → w.key ≢ k
 unwritten_other [] i k w free at = some_apart w at
-unwritten_other (x ∷ xs) zero k w free at = λ e. absurd (clash (sym (both (phases.same_key k x.key) (is_written xs k) free) ∙ same_turned k x.key ∙ ap (λ y. same_key y k) (key_is x w at ∙ e) ∙ same_key_self k))
+unwritten_other (x ∷ xs) zero k w free at = λ e. absurd (clash (sym (other (same_key k x.key) free) ∙ ap (same_key k) (key_is x w at ∙ e) ∙ same_key_self k))
   where
     key_is : (x w : Write) → Some x ≡ Some w → x.key ≡ w.key
     key_is x w e = cc
 
-    both : (a b : Bool) → (a || b) ≡ false → a ≡ false
-    both true b e = absurd (cc)
-    both false b e = refl
+    other : (b : Bool) → is_some (if b then Some x else write_among xs k) ≡ false → b ≡ false
+    other true e = absurd (cc)
+    other false e = refl
 
     clash : false ≡ true → ⊥
     clash e = cc
-unwritten_other (x ∷ xs) (suc i) k w free at = unwritten_other xs i k w (both (phases.same_key k x.key) (is_written xs k) free) at
+unwritten_other (x ∷ xs) (suc i) k w free at = unwritten_other xs i k w (rest (same_key k x.key) free) at
   where
-    both : (a b : Bool) → (a || b) ≡ false → b ≡ false
-    both true b e = absurd (cc)
-    both false b e = e
+    rest : (b : Bool) → is_some (if b then Some x else write_among xs k) ≡ false → is_written xs k ≡ false
+    rest true e = absurd (cc)
+    rest false e = e
 
-once_apart : (ws : List Write) (i j : ℕ) (v w : Write) → Once ws → i < j → slice_get ws i ≡ Some v → slice_get ws j ≡ Some w → w.key ≢ v.key
+once_apart : (ws : List Write) (i j : ℕ) (v w : Write) → HaveKeysOnce ws → i < j → slice_get ws i ≡ Some v → slice_get ws j ≡ Some w → w.key ≢ v.key
 once_apart [] i j v w once l at there = some_apart v at
 once_apart (x ∷ xs) i zero v w once l at there = absurd (omega arith)
 once_apart (x ∷ xs) zero (suc j) v w once l at there = subst (λ k. w.key ≢ k) (key_is x v at) (unwritten_other xs j x.key w once.0 there)
@@ -304,23 +267,23 @@ once_apart (x ∷ xs) zero (suc j) v w once l at there = subst (λ k. w.key ≢ 
     key_is x v e = cc
 once_apart (x ∷ xs) (suc i) (suc j) v w once l at there = once_apart xs i j v w once.1 (omega arith) at there
 
-once_at : (ws : List Write) (i : ℕ) (w : Write) → Once ws → slice_get ws i ≡ Some w → find (λ (x : Write). same_key x.key w.key) ws ≡ Some w
+once_at : (ws : List Write) (i : ℕ) (w : Write) → HaveKeysOnce ws → slice_get ws i ≡ Some w → write_among ws w.key ≡ Some w
 once_at [] i w once at = some_apart w at
-once_at (x ∷ xs) zero w once at = ap (λ b. if b then Some x else find (λ (y : Write). same_key y.key w.key) xs) (ap (λ k. same_key k w.key) (key_is x w at) ∙ same_key_self w.key) ∙ at
+once_at (x ∷ xs) zero w once at = ap (λ b. if b then Some x else write_among xs w.key) (ap (same_key w.key) (key_is x w at) ∙ same_key_self w.key) ∙ at
   where
     key_is : (x v : Write) → Some x ≡ Some v → x.key ≡ v.key
     key_is x v e = cc
-once_at (x ∷ xs) (suc i) w once at = by (same_key_tells x.key w.key) (once_at xs i w once.1 at)
+once_at (x ∷ xs) (suc i) w once at = by (same_key_tells w.key x.key) (once_at xs i w once.1 at)
   where
-    by : ((same_key x.key w.key ≡ true) × (x.key ≡ w.key)) ⊎ ((same_key x.key w.key ≡ false) × (x.key ≢ w.key)) → find (λ (y : Write). same_key y.key w.key) xs ≡ Some w → find (λ (y : Write). same_key y.key w.key) (x ∷ xs) ≡ Some w
-    by (inl y) ih = absurd (unwritten_other xs i x.key w once.0 at (sym y.1))
-    by (inr n) ih = ap (λ b. if b then Some x else find (λ (y : Write). same_key y.key w.key) xs) n.0 ∙ ih
+    by : ((same_key w.key x.key ≡ true) × (w.key ≡ x.key)) ⊎ ((same_key w.key x.key ≡ false) × (w.key ≢ x.key)) → write_among xs w.key ≡ Some w → write_among (x ∷ xs) w.key ≡ Some w
+    by (inl y) ih = absurd (unwritten_other xs i x.key w once.0 at y.1)
+    by (inr n) ih = ap (λ b. if b then Some x else write_among xs w.key) n.0 ∙ ih
 
-found_at : (ws : List Write) (k : Key) (w : Write) → find (λ (x : Write). same_key x.key k) ws ≡ Some w → (i : ℕ) × (slice_get ws i ≡ Some w)
+found_at : (ws : List Write) (k : Key) (w : Write) → write_among ws k ≡ Some w → (i : ℕ) × (slice_get ws i ≡ Some w)
 found_at [] k w h = some_apart w h
-found_at (x ∷ xs) k w h = by (same_key x.key k) h (λ e. found_at xs k w e)
+found_at (x ∷ xs) k w h = by (same_key k x.key) h (λ e. found_at xs k w e)
   where
-    by : (b : Bool) → (if b then Some x else find (λ (y : Write). same_key y.key k) xs) ≡ Some w → (find (λ (y : Write). same_key y.key k) xs ≡ Some w → (i : ℕ) × (slice_get xs i ≡ Some w)) → (i : ℕ) × (slice_get (x ∷ xs) i ≡ Some w)
+    by : (b : Bool) → (if b then Some x else write_among xs k) ≡ Some w → (write_among xs k ≡ Some w → (i : ℕ) × (slice_get xs i ≡ Some w)) → (i : ℕ) × (slice_get (x ∷ xs) i ≡ Some w)
     by true e ih = (zero, e)
     by false e ih = let f = ih e in (suc f.0, f.1)
 

@@ -5,7 +5,7 @@ use Rattle.sdb_types.specs.declared.key.Key.{Key}
 use Rattle.sdb_types.specs.declared.txid.TxId.{TxId}
 use Rattle.sdb_types.specs.declared.record.Record.{Record}
 use Rattle.sdb_types.specs.Contents.{in_span}
-use Rattle.sdb_keyed.specs.Entries.{same_key}
+use Rattle.sdb_types.specs.Order.{same_key}
 use Rattle.sdb_record.specs.declared.access.Access.{Access}
 use Rattle.sdb_record.specs.declared.access.Access.TheVariants as access
 use Rattle.sdb_record.specs.declared.access.Read.{Read}
@@ -14,13 +14,14 @@ use Rattle.sdb_record.specs.declared.write.Write.{Write}
 use Rattle.sdb_record.specs.Meta.{is_moment, id_in}
 use Rattle.sdb_record.specs.Moved.{version_of}
 use Rattle.sdb_record.specs.Rolls.{IsWrite}
-use Rattle.sdb_model.specs.Noted.{version_among}
+use Rattle.sdb_record.specs.Among.{version_among}
 use Rattle.sdb_laws.specs.History as laws
 use Rattle.sdb_laws.specs.History.{Talk}
 use Rattle.sdb_laws.specs.Lawful.{Played, is_data, IsSettled}
 use Rattle.sdb_phases.specs.Work.{Work}
-use Rattle.sdb_phases.specs.Checks.{is_written, base_of}
+use Rattle.sdb_phases.specs.Checks.{base_of}
 use Rattle.sdb_snapshot.specs.Noted.{Note, IsUnmoved, is_noted, base_at}
+use Rattle.sdb_snapshot.specs.Written.{HaveKeysOnce}
 use Rattle.sdb_snapshot.specs.Seen.{Seen, with_get, with_scan}
 use Rattle.sdb_snapshot.specs.Held.{AreKept}
 use Rattle.sdb_validate.specs.Rescan.{reads_rise}
@@ -109,11 +110,6 @@ MayNote s (access.Scan span) images = IsUnmoved s.notes span images
 abbrev pub work_of : TxId → ℤ → Seen → Work
 work_of id now s = record { id = id; now = now; writes = s.writes; reads = s.reads; scans = s.scans }
 
--- each key is written once
-abbrev pub Once : List Write → Type 0
-Once [] = Unit {0}
-Once (w ∷ ws) = (is_written ws w.key ≡ false) × Once ws
-
 -- a get that noted a key which is written found the version of the base
 abbrev pub ReadAgrees : List Write → Read → Type 0
 ReadAgrees own r = (version : Option TxId) → base_of own r.key ≡ Some version → r.version ≡ version
@@ -123,7 +119,7 @@ pub record Sound (p : Work) : Type 0 where
   pub fits : p.id.0 < 2 ^ 128
   pub moment : is_moment p.now ≡ true
   pub fine : AllByRecursion (λ w. IsWrite w × (is_data w.key ≡ true)) p.writes
-  pub once : Once p.writes
+  pub once : HaveKeysOnce p.writes
   pub reads : AllByRecursion (ReadAgrees p.writes) p.reads
   pub scans : AllByRecursion (λ s. reads_rise s.found ≡ true) p.scans
 

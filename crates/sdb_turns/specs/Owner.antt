@@ -10,6 +10,7 @@ use Rattle.sdb_record.specs.declared.coordinator.Decision.TheVariants as decisio
 use Rattle.sdb_record.specs.declared.write.Write.{Write}
 use Rattle.sdb_record.specs.Meta.{is_moment}
 use Rattle.sdb_record.specs.Rolls.{IsWrite}
+use Rattle.sdb_record.specs.Among.{is_written}
 use Rattle.sdb_laws.specs.Plan.{Plan, write_at, written, noted}
 use Rattle.sdb_model.specs.Noted.{Note, Got, Scanned}
 use Rattle.sdb_laws.specs.History as laws
@@ -20,7 +21,7 @@ use Rattle.sdb_phases.specs.declared.step.Outcome.TheVariants as outcome
 use Rattle.sdb_phases.specs.declared.check.Check.{Check}
 use Rattle.sdb_phases.specs.declared.step.DecidePhase.TheVariants as phase
 use Rattle.sdb_phases.specs.Work.{Work}
-use Rattle.sdb_phases.specs.Checks.{checks, is_written}
+use Rattle.sdb_phases.specs.Checks.{checks}
 use Rattle.sdb_phases.specs.Commit.{Stage, Preparing, Checking, Deciding, Forward, Stopping, Back, Over}
 use Rattle.sdb_phases.specs.CommitLaws.{as_wished, IsLost}
 

@@ -1,6 +1,7 @@
 pub mod Basics
 pub mod Bools
 pub mod KeyOrder
+pub mod Keys
 pub mod ColumnLemmas
 pub mod TxIdLemmas
 pub mod Pieces

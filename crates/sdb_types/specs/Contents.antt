@@ -1,5 +1,5 @@
 -- What a store holds, and what a call answers and leaves.
-use Rattle.std.specs.Prelude.{◌≡◌, ℕ, ℤ, pos, Bool, true, false, ◌&&◌, if◌then◌else◌, List, [], ◌∷◌, map, filter, Option, Some, None, IfSome, codes}
+use Rattle.std.specs.Prelude.{◌≡◌, ℕ, ℤ, pos, Bool, true, false, ◌&&◌, if◌then◌else◌, List, [], ◌∷◌, map, filter, Option, Some, None, IfSome, codes, find}
 use Rattle.std.specs.Option.{option_map}
 use Rattle.std.specs.List.{list_all}
 use Rattle.std.specs.Ordering.{is_eq, is_lt}
@@ -9,7 +9,7 @@ use Rattle.sdb_types.specs.declared.key.Key.{Key}
 use Rattle.sdb_types.specs.declared.pair.Pair.{Pair}
 use Rattle.sdb_types.specs.declared.value.Value.{Value}
 use Rattle.sdb_types.specs.declared.value.Value.TheVariants as value
-use Rattle.sdb_types.specs.Order.{key_cmp, table_cmp, value_cmp}
+use Rattle.sdb_types.specs.Order.{key_cmp, table_cmp, value_cmp, same_key}
 use Rattle.sdb_types.specs.Columns.{column}
 use Rattle.sdb_types.specs.declared.txid.TxId.{TxId}
 use Rattle.sdb_types.specs.declared.record.Record.{Record}
@@ -34,6 +34,10 @@ record_of e = record { key = e.0; columns = e.1 }
 -- the record at a key, if there is one
 abbrev pub record_at : Contents → Key → Option Record
 record_at m key = option_map (λ columns. record_of (key, columns)) (get m key)
+
+-- the record of a key among some
+abbrev pub record_among : List Record → Key → Option Record
+record_among rows key = find (λ r. same_key key r.key) rows
 
 ---- spans
 

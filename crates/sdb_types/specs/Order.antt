@@ -1,7 +1,7 @@
 -- The order of values, tables and keys.
 use Rattle.std.specs.Prelude.{ℕ, ℤ, pos, Bool, false, List, [], ◌∷◌, ◌++◌}
 use Rattle.std.specs.declared.cmp.Ordering.{Ordering}
-use Rattle.std.specs.Ordering.{nat_cmp, int_cmp, bool_cmp, ordering_then}
+use Rattle.std.specs.Ordering.{nat_cmp, int_cmp, bool_cmp, ordering_then, is_eq}
 use Rattle.std.specs.Cmp.Lexicographic.{slice_cmp}
 use Rattle.sdb_types.specs.declared.value.Value.{Value}
 use Rattle.sdb_types.specs.declared.value.Value.TheVariants as value
@@ -56,6 +56,10 @@ table_cmp a b = ordering_then (name_cmp a.ns b.ns) (name_cmp a.table b.table)
 abbrev pub key_cmp : Key → Key → Ordering
 key_cmp a b =
     ordering_then (table_cmp a.table b.table) (ordering_then (slice_cmp value_cmp a.partition b.partition) (slice_cmp value_cmp a.clustering b.clustering))
+
+-- two keys are one
+unfoldable pub same_key : Key → Key → Bool
+same_key a b = is_eq (key_cmp a b)
 
 -- `ns.table`
 abbrev pub table_text : TableName → List ℕ

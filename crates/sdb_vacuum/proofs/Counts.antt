@@ -21,7 +21,7 @@ use Rattle.sdb_record.specs.declared.meta.Meta.{Meta}
 use Rattle.sdb_record.specs.Coordinator.{decision_in, is_expired}
 use Rattle.sdb_record.specs.Meta.{checked, id_in, is_committed, is_in, is_taken, is_unresolved}
 use Rattle.sdb_record.specs.Parts.{before_record}
-use Rattle.sdb_record.specs.Rolls.{IsBaseOf, is_tombstone, AreCommitted, remove_request}
+use Rattle.sdb_record.specs.Rolls.{IsBaseOf, is_tombstone, AreCommitted, remove_request, undo}
 use Rattle.sdb_record.proofs.ImageLaws.{checked-state}
 use Rattle.sdb_schema.specs.declared.table.Table.{Table}
 use Rattle.sdb_phases.specs.declared.step.RecoverStep.{RecoverStep}
@@ -29,7 +29,6 @@ use Rattle.sdb_phases.specs.declared.step.RecoverStep.TheVariants as steps
 use Rattle.sdb_phases.specs.declared.step.RecoverPhase.{RecoverPhase}
 use Rattle.sdb_phases.specs.declared.step.RecoverPhase.TheVariants as recover
 use Rattle.sdb_phases.specs.Recover.{Heard, recover_next, recover_request_at, roll_to, stands_found, undecided}
-use Rattle.sdb_phases.specs.Work.{undo}
 use Rattle.sdb_phases.specs.Steps.{CanGet}
 use Rattle.sdb_read.specs.Read.{Kind, Firm, Open, Bad, kind_of}
 use Rattle.sdb_vacuum.specs.declared.work.VacuumStep.{VacuumStep}

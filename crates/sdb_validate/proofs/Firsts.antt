@@ -8,17 +8,14 @@ use Rattle.std.specs.declared.cmp.Ordering.{Ordering}
 use Rattle.std.specs.declared.cmp.Ordering.TheVariants.{Less, Equal, Greater}
 use Rattle.sdb_types.specs.declared.key.Key.{Key}
 use Rattle.sdb_types.specs.declared.record.Record.{Record}
-use Rattle.sdb_types.specs.Order.{key_cmp}
+use Rattle.sdb_types.specs.Order.{key_cmp, same_key}
 use Rattle.sdb_types.proofs.KeyOrder.{key_total, key_exact}
 use Rattle.sdb_phases.specs.declared.check.Wanted.{Wanted}
-use Rattle.sdb_phases.specs.Checks.{same_key, wish_at, record_among, is_fulfilled, differs, lesser, least, keys_among, first_difference}
+use Rattle.sdb_phases.specs.Checks.{wish_at, is_fulfilled, differs, lesser, least, keys_among, first_difference}
 use Rattle.std.proofs.lemmas.Bool.{not-true as not_true}
-use Rattle.sdb_types.specs.Exact.{equal_of}
+use Rattle.sdb_types.specs.Contents.{record_among}
 
 ---- orders
-
-pub key_of_same : (a b : Key) → same_key a b ≡ true → a ≡ b
-key_of_same a b h = key_exact a b (equal_of (key_cmp a b) h)
 
 pub turned : (a b : Key) → key_cmp a b ≡ Greater → key_cmp b a ≡ Less
 turned a b h = key_total.antisymm b a ∙ ap ordering_reverse h
@@ -69,6 +66,7 @@ module _ (D : Key → Bool) where
     keeps (Some m) n = ap (λ b. cond b m k) n
 
     pub least_is : (cs : List Key) → D k ≡ true → list_any (λ c. same_key k c) cs ≡ true → least (filter D cs) ≡ Some k
+    unfolding same_key
     least_is [] h among = cc
     least_is (c ∷ cs) h among = by_test (D c) refl (key_cmp k c) refl (least_is cs h) where
       by_test : (b : Bool) → D c ≡ b → (o : Ordering) → key_cmp k c ≡ o → (list_any (λ x. same_key k x) cs ≡ true → least (filter D cs) ≡ Some k) → least (cond b (c ∷ filter D cs) (filter D cs)) ≡ Some k

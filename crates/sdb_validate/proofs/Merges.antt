@@ -7,19 +7,19 @@ use Rattle.std.specs.declared.cmp.Ordering.{Ordering}
 use Rattle.std.specs.declared.cmp.Ordering.TheVariants.{Less, Equal, Greater}
 use Rattle.sdb_types.specs.declared.key.Key.{Key}
 use Rattle.sdb_types.specs.declared.record.Record.{Record}
-use Rattle.sdb_types.specs.Order.{key_cmp}
-use Rattle.sdb_types.specs.Contents.{rise, starts_after}
+use Rattle.sdb_types.specs.Order.{key_cmp, same_key}
+use Rattle.sdb_types.specs.Contents.{rise, starts_after, record_among}
 use Rattle.sdb_types.proofs.KeyOrder.{key_total, key_exact}
 use Rattle.sdb_types.proofs.Bools.{and_first, and_second, and_both}
 use Rattle.sdb_phases.specs.declared.check.Wish.{Wish}
 use Rattle.sdb_phases.specs.declared.check.Wanted.{Wanted}
-use Rattle.sdb_phases.specs.Checks.{same_key, wish_at, record_among, is_fulfilled, is_granted, differs, first_difference}
+use Rattle.sdb_phases.specs.Checks.{wish_at, is_fulfilled, is_granted, differs, first_difference}
 use Rattle.sdb_validate.specs.declared.rescan.Verdict.{Verdict}
 use Rattle.sdb_validate.specs.declared.rescan.Verdict.TheVariants as verdict
 use Rattle.sdb_validate.specs.Merge.{merge, row_place, below_wanted, wanted_rise}
-use Rattle.sdb_validate.proofs.Firsts.{IsFirst, first_is, key_of_same, turned}
+use Rattle.sdb_validate.proofs.Firsts.{IsFirst, first_is, turned}
 use Rattle.sdb_types.proofs.Basics.{less_of}
-use Rattle.sdb_phases.proofs.Stands.{same_key_itself as same_itself}
+use Rattle.sdb_types.proofs.Keys.{same_key_exact, same_key_self as same_itself}
 
 ---- below all
 
@@ -31,6 +31,7 @@ after_trans q k [] h s = refl
 after_trans q k (r ∷ rs) h s = is_less q r.key (key_total.trans q k r.key h (less_of (key_cmp k r.key) s))
 
 none_below : (q : Key) (rows : List Record) → rise rows ≡ true → starts_after q rows ≡ true → record_among rows q ≡ None
+unfolding same_key
 none_below q [] h s = refl
 none_below q (r ∷ rs) h s =
     let less : key_cmp q r.key ≡ Less = less_of (key_cmp q r.key) s in
@@ -45,6 +46,7 @@ below_trans q k (w ∷ ws) h b =
     and_both (is_lt (key_cmp q w.key)) (below_wanted q ws) (is_less q w.key (key_total.trans q k w.key h (less_of (key_cmp k w.key) first))) (below_trans q k ws h rest)
 
 no_wish_below : (q : Key) (ws : List Wanted) → below_wanted q ws ≡ true → wish_at ws q ≡ None
+unfolding same_key
 no_wish_below q [] b = refl
 no_wish_below q (w ∷ ws) b =
     let less : key_cmp q w.key ≡ Less = less_of (key_cmp q w.key) (and_first (is_lt (key_cmp q w.key)) (below_wanted q ws) b) in
@@ -88,7 +90,7 @@ passed_absent w ws rows up rows_up later granted q = by_test (same_key q w.key) 
   by_test : (b : Bool) → same_key q w.key ≡ b → not (is_fulfilled (cond b (Some w.wish) (wish_at ws q)) (record_among rows q)) ≡ differs ws rows q
   by_test false e = refl
   by_test true e =
-      let here : q ≡ w.key = key_of_same q w.key e in
+      let here : q ≡ w.key = same_key_exact q w.key e in
       let none : record_among rows q ≡ None = ap (record_among rows) here ∙ none_below w.key rows rows_up later in
       let no_wish : wish_at ws q ≡ None = ap (wish_at ws) here ∙ no_wish_below w.key ws (and_first (below_wanted w.key ws) (wanted_rise ws) up) in
       ap (λ f. not (is_granted w.wish f)) none ∙ ap not granted ∙ sym (differs_as ws rows q None None no_wish none)
@@ -105,13 +107,13 @@ passed_here w ws r rs up rows_up same granted q = by_test (same_key q w.key) ref
   by_test false e = ap (λ b. not (is_fulfilled (wish_at ws q) (cond b (Some r) (record_among rs q)))) (sym (ap (same_key q) same) ∙ e)
   by_test true e =
       ap (λ b. not (is_granted w.wish (cond b (Some r) (record_among rs q)))) (sym (ap (same_key q) same) ∙ e) ∙ ap not granted
-      ∙ sym (gone w ws r rs q up rows_up same (key_of_same q w.key e))
+      ∙ sym (gone w ws r rs q up rows_up same (same_key_exact q w.key e))
 
 rest_rows : (w : Wanted) (ws : List Wanted) (r : Record) (rs : List Record) → wanted_rise (w ∷ ws) ≡ true → rise (r ∷ rs) ≡ true → w.key ≡ r.key → (q : Key) → differs ws rs q ≡ true → record_among (r ∷ rs) q ≡ record_among rs q
 rest_rows w ws r rs up rows_up same q differing = by_test (same_key q r.key) refl where
   by_test : (b : Bool) → same_key q r.key ≡ b → cond b (Some r) (record_among rs q) ≡ record_among rs q
   by_test false e = refl
-  by_test true e = let no = gone w ws r rs q up rows_up same (key_of_same q r.key e ∙ sym same) in cc
+  by_test true e = let no = gone w ws r rs q up rows_up same (same_key_exact q r.key e ∙ sym same) in cc
 
 ---- the merge
 

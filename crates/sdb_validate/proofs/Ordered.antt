@@ -11,9 +11,10 @@ use Rattle.sdb_types.proofs.Bools.{and_first, and_second, and_both}
 use Rattle.sdb_record.specs.declared.access.Read.{Read}
 use Rattle.sdb_record.specs.declared.access.Scan.{Scan}
 use Rattle.sdb_record.specs.declared.write.Write.{Write}
+use Rattle.sdb_record.specs.Among.{is_written}
 use Rattle.sdb_phases.specs.declared.check.Check.{Check}
 use Rattle.sdb_phases.specs.declared.check.Wish.{Wish}
-use Rattle.sdb_phases.specs.Checks.{wanted, wanted_of, wishes, check_of_read, check_of_scan, checks_of, is_written}
+use Rattle.sdb_phases.specs.Checks.{wanted, wanted_of, wishes, check_of_read, check_of_scan, checks_of}
 use Rattle.sdb_validate.specs.Merge.{below_wanted, wanted_rise, target_rises}
 use Rattle.sdb_validate.specs.Inside.{AreOrdered}
 use Rattle.sdb_types.proofs.Basics.{truth as is_true}

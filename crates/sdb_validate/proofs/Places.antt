@@ -1,6 +1,6 @@
 -- Steps of the loops: through the writes, and through rows and what is wanted.
-use Rattle.std.proofs.Common.{◌≡◌, ℕ, ◌+◌, ◌<◌, ◌≤◌, zero, suc, List, [], ◌∷◌, ◌++◌, map, take, append_assoc, ◌||◌, Option, Some, None, true, false, not, refl, sym, ap, ◌∙◌, cond, drop, length, get_or, add-one, arith}
-use Rattle.std.specs.Prelude.{Bool, slice_get, is_none, filter}
+use Rattle.std.proofs.Common.{◌≡◌, ℕ, ◌+◌, ◌<◌, ◌≤◌, zero, suc, List, [], ◌∷◌, ◌++◌, map, take, append_assoc, Option, Some, None, true, false, not, refl, sym, ap, ◌∙◌, cond, drop, length, get_or, add-one, arith}
+use Rattle.std.specs.Prelude.{Bool, slice_get, is_none, is_some, filter}
 use Rattle.std.proofs.lemmas.List.{map-append}
 use Rattle.std.proofs.lemmas.List.Elements.{filter_more}
 use Rattle.std.specs.Option.{option_or}
@@ -10,18 +10,19 @@ use Rattle.std.proofs.lemmas.Option.{slice_get_within}
 use Rattle.sdb_types.specs.declared.key.Key.{Key}
 use Rattle.sdb_types.specs.declared.txid.TxId.{TxId}
 use Rattle.sdb_types.specs.declared.record.Record.{Record}
-use Rattle.sdb_types.specs.Order.{key_cmp}
+use Rattle.sdb_types.specs.Order.{key_cmp, same_key}
 use Rattle.sdb_types.proofs.KeyOrder.{key_total}
+use Rattle.sdb_types.proofs.Keys.{same_key_exact}
 use Rattle.sdb_record.specs.declared.access.Read.{Read}
 use Rattle.sdb_record.specs.declared.write.Write.{Write}
 use Rattle.sdb_record.specs.Moved.{version_of}
+use Rattle.sdb_record.specs.Among.{is_written, write_among}
 use Rattle.sdb_phases.specs.declared.check.Check.{Check}
 use Rattle.sdb_phases.specs.declared.check.Wanted.{Wanted}
-use Rattle.sdb_phases.specs.Checks.{same_key, base_of, is_written, is_granted, check_of_read}
+use Rattle.sdb_phases.specs.Checks.{base_of, is_granted, check_of_read}
 use Rattle.sdb_validate.specs.declared.rescan.Verdict.{Verdict}
 use Rattle.sdb_validate.specs.declared.rescan.Verdict.TheVariants as verdict
 use Rattle.sdb_validate.specs.Merge.{merge, missing_place, row_place, verdict_on}
-use Rattle.sdb_validate.proofs.Firsts.{key_of_same}
 
 head-drop : (rows : List Record) (n : ℕ) → slice_get (drop n rows) 0 ≡ slice_get rows n
 head-drop [] zero = refl
@@ -72,13 +73,14 @@ at_key m n ws i q same h = ap (λ x. option_or (get key_cmp x q) (base_of (drop 
 
 -- a write of a key that is not there yet
 pub new_base : (ws : List Write) (i : ℕ) (w : Write) (m n : BTreeMap Key (Option TxId)) (k : Key) (v : Option TxId) (q : Key) → i < length ws → w ≡ get_or ws i w → k ≡ w.key → v ≡ version_of w.base → get key_cmp m w.key ≡ None → ((p : Key) → get key_cmp n p ≡ cond (is_at (key_cmp k) p) (Some v) (get key_cmp m p)) → option_or (get key_cmp m q) (base_of (drop i ws) q) ≡ base_of ws q → option_or (get key_cmp n q) (base_of (drop (i + 1) ws) q) ≡ base_of ws q
+unfolding same_key
 new_base ws i w m n k v q h at same copied free put e =
     ap (λ o. option_or o (base_of (drop (i + 1) ws) q)) (put q ∙ ap (λ b. cond b (Some v) (get key_cmp m q)) ((eq_by_cmp_equiv key_total).symm k q) ∙ ap (λ x. cond (same_key q x) (Some v) (get key_cmp m q)) same ∙ ap (λ x. cond (same_key q w.key) (Some x) (get key_cmp m q)) copied)
     ∙ ap (λ j. option_or (cond (same_key q w.key) (Some (version_of w.base)) (get key_cmp m q)) (base_of (drop j ws) q)) (add-one i) ∙ by_test (same_key q w.key) refl ∙ ap (λ xs. option_or (get key_cmp m q) (base_of xs q)) (sym (from-write ws i w h at)) ∙ e
   where
     by_test : (b : Bool) → same_key q w.key ≡ b → option_or (cond b (Some (version_of w.base)) (get key_cmp m q)) (base_of (drop (suc i) ws) q) ≡ option_or (get key_cmp m q) (cond b (Some (version_of w.base)) (base_of (drop (suc i) ws) q))
     by_test false t = refl
-    by_test true t = sym (ap (λ o. option_or o (Some (version_of w.base))) (ap (get key_cmp m) (key_of_same q w.key t) ∙ free))
+    by_test true t = sym (ap (λ o. option_or o (Some (version_of w.base))) (ap (get key_cmp m) (same_key_exact q w.key t) ∙ free))
 
 -- a later write of a key that is there
 pub old_base : (ws : List Write) (i : ℕ) (w : Write) (m : BTreeMap Key (Option TxId)) (q : Key) → i < length ws → w ≡ get_or ws i w → is_none (get key_cmp m w.key) ≡ false → option_or (get key_cmp m q) (base_of (drop i ws) q) ≡ base_of ws q → option_or (get key_cmp m q) (base_of (drop (i + 1) ws) q) ≡ base_of ws q
@@ -91,7 +93,7 @@ old_base ws i w m q h at there e =
 
     by_test : (b : Bool) → same_key q w.key ≡ b → option_or (get key_cmp m q) (base_of (drop (suc i) ws) q) ≡ option_or (get key_cmp m q) (cond b (Some (version_of w.base)) (base_of (drop (suc i) ws) q))
     by_test false t = refl
-    by_test true t = kept (get key_cmp m q) (base_of (drop (suc i) ws) q) (Some (version_of w.base)) (ap (λ p. is_none (get key_cmp m p)) (key_of_same q w.key t) ∙ there)
+    by_test true t = kept (get key_cmp m q) (base_of (drop (suc i) ws) q) (Some (version_of w.base)) (ap (λ p. is_none (get key_cmp m p)) (same_key_exact q w.key t) ∙ there)
 
 pub none_free : (o : Option (Option TxId)) → is_none o ≡ true → o ≡ None
 none_free None h = refl
@@ -100,7 +102,7 @@ none_free (Some x) h = cc
 pub unwritten : (ws : List Write) (key : Key) → is_none (base_of ws key) ≡ not (is_written ws key)
 unwritten [] key = refl
 unwritten (w ∷ ws) key = by_test (same_key key w.key) (unwritten ws key) where
-  by_test : (b : Bool) → is_none (base_of ws key) ≡ not (is_written ws key) → is_none (cond b (Some (version_of w.base)) (base_of ws key)) ≡ not (b || is_written ws key)
+  by_test : (b : Bool) → is_none (base_of ws key) ≡ not (is_written ws key) → is_none (cond b (Some (version_of w.base)) (base_of ws key)) ≡ not (is_some (cond b (Some w) (write_among ws key)))
   by_test true rest = refl
   by_test false rest = rest
 

@@ -10,17 +10,17 @@ use Rattle.sdb_types.specs.declared.key.Key.{Key}
 use Rattle.sdb_types.specs.declared.txid.TxId.{TxId}
 use Rattle.sdb_types.specs.declared.record.Span.{Span}
 use Rattle.sdb_types.specs.Contents.{in_span}
-use Rattle.sdb_types.specs.Order.{key_cmp}
+use Rattle.sdb_types.specs.Order.{key_cmp, same_key}
 use Rattle.sdb_types.proofs.Bools.{and_both}
 use Rattle.sdb_types.proofs.KeyOrder.{key_total, key_exact}
+use Rattle.sdb_types.proofs.Keys.{same_key_exact}
 use Rattle.sdb_record.specs.declared.write.Write.{Write}
 use Rattle.sdb_phases.specs.declared.check.Wish.{Wish}
 use Rattle.sdb_phases.specs.declared.check.Wish.TheVariants as wish
-use Rattle.sdb_phases.specs.Checks.{same_key, Wishes, with_writes, wished_version, base_of}
+use Rattle.sdb_phases.specs.Checks.{Wishes, with_writes, wished_version, base_of}
 use Rattle.sdb_ordered.specs.Start.{span_start}
 use Rattle.sdb_ordered.proofs.SpanLemmas.{StandsFrom, from_start, is_from, past_end}
 use Rattle.sdb_validate.specs.Rescan.{written_wish}
-use Rattle.sdb_validate.proofs.Firsts.{key_of_same}
 use Rattle.sdb_validate.proofs.Rescans.{again, writes-get}
 
 abbrev Bases : Type 0
@@ -32,13 +32,15 @@ at q es = lookup (is_at (key_cmp q)) es
 
 -- a key of the span is among the entries from the least key on, if it is among all
 from_same : (span : Span) (es : Bases) (q : Key) → in_span span q ≡ true → at q (filter (λ e. is_from span e.0) es) ≡ at q es
+unfolding same_key
 from_same span es q h =
-    lookup-filter-keys (is_at (key_cmp q)) (is_from span) true (λ k e. subst (λ x. is_from span x ≡ true) (key_of_same q k e) (and_both (is_le (key_cmp (span_start span) q)) true (from_start span q h) refl)) es
+    lookup-filter-keys (is_at (key_cmp q)) (is_from span) true (λ k e. subst (λ x. is_from span x ≡ true) (same_key_exact q k e) (and_both (is_le (key_cmp (span_start span) q)) true (from_start span q h) refl)) es
 
 -- after the first key outside, there is no key of the span
 none_after : (span : Span) (e : Key × Option TxId) (es : Bases) (q : Key) → StandsFrom span (e ∷ es) → in_span span e.0 ≡ false → in_span span q ≡ true → at q (e ∷ es) ≡ None
+unfolding same_key
 none_after span e es q stands out h =
-    sym (lookup-filter-keys (is_at (key_cmp q)) (in_span span) true (λ k t. subst (λ x. in_span span x ≡ true) (key_of_same q k t) h) (e ∷ es))
+    sym (lookup-filter-keys (is_at (key_cmp q)) (in_span span) true (λ k t. subst (λ x. in_span span x ≡ true) (same_key_exact q k t) h) (e ∷ es))
     ∙ ap (at q) (past_end span e es stands out)
 
 ---- steps of the loop through a range
@@ -50,12 +52,13 @@ from_least span fs es o q same = by_test (in_span span q) refl where
   by_test true h = ap (λ x. written_wish true x o) (ap (at q) same ∙ from_same span es q h)
 
 pub one_based : (span : Span) (e : Key × Option TxId) (es : Bases) (m : Wishes) (q : Key) → in_span span e.0 ≡ true → written_wish (in_span span q) (at q es) (get (insert m e.0 (wish.Based (wished_version (get m e.0) e.1))) q) ≡ written_wish (in_span span q) (at q (e ∷ es)) (get m q)
+unfolding same_key
 one_based span e es m q h =
     ap (written_wish (in_span span q) (at q es)) (get-insert key_total m e.0 (wish.Based (wished_version (get m e.0) e.1)) q) ∙ by_test (same_key q e.0) refl where
       by_test : (b : Bool) → same_key q e.0 ≡ b → written_wish (in_span span q) (at q es) (cond b (Some (wish.Based (wished_version (get m e.0) e.1))) (get m q)) ≡ written_wish (in_span span q) (cond b (Some e.1) (at q es)) (get m q)
       by_test false t = refl
       by_test true t =
-          let here : q ≡ e.0 = key_of_same q e.0 t in
+          let here : q ≡ e.0 = same_key_exact q e.0 t in
           let inside : in_span span q ≡ true = ap (in_span span) here ∙ h in
           ap (λ b. written_wish b (at q es) (Some (wish.Based (wished_version (get m e.0) e.1)))) inside ∙ again (at q es) (get m e.0) e.1
           ∙ ap (λ k. Some (wish.Based (wished_version (get m k) e.1))) (sym here) ∙ ap (λ b. written_wish b (Some e.1) (get m q)) (sym inside)

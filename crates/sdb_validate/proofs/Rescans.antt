@@ -1,6 +1,7 @@
 -- What a rescan is to find, by key.
 use Rattle.std.proofs.Common.{◌≡◌, List, [], ◌∷◌, Option, Some, None, true, false, not, refl, sym, ap, ◌∙◌, cond, subst}
-use Rattle.std.specs.Prelude.{Bool, is_none, map}
+use Rattle.std.specs.Prelude.{Bool, is_none, map, find as first}
+use Rattle.std.specs.Option.{option_and_then}
 use Rattle.std.specs.Ordering.{is_eq, is_lt}
 use Rattle.std.specs.FinMap.{get, insert, empty, entries, find, get-entries, get-insert, get-empty}
 use Rattle.std.specs.declared.cmp.Ordering.TheVariants.{Less}
@@ -8,27 +9,29 @@ use Rattle.sdb_types.specs.declared.key.Key.{Key}
 use Rattle.sdb_types.specs.declared.txid.TxId.{TxId}
 use Rattle.sdb_types.specs.declared.record.Record.{Record}
 use Rattle.sdb_types.specs.declared.record.Span.{Span}
-use Rattle.sdb_types.specs.Order.{key_cmp}
-use Rattle.sdb_types.specs.Contents.{in_span, rise}
+use Rattle.sdb_types.specs.Order.{key_cmp, same_key}
+use Rattle.sdb_types.specs.Contents.{in_span, rise, record_among}
 use Rattle.sdb_types.proofs.KeyOrder.{key_total}
 use Rattle.sdb_types.proofs.Bools.{and_first, and_second}
 use Rattle.sdb_record.specs.declared.access.Read.{Read}
 use Rattle.sdb_record.specs.declared.access.Scan.{Scan}
 use Rattle.sdb_record.specs.declared.write.Write.{Write}
 use Rattle.sdb_record.specs.Moved.{version_of, same_version, is_unchanged}
+use Rattle.sdb_record.specs.Among.{version_among}
 use Rattle.sdb_phases.specs.declared.check.Wish.{Wish}
 use Rattle.sdb_phases.specs.declared.check.Wish.TheVariants as wish
-use Rattle.sdb_phases.specs.Checks.{same_key, Wishes, with_reads, with_write, with_writes, wishes, wanted, wanted_of, wish_at, wished_version, is_fulfilled, differs, base_of, version_read, record_among, first_difference}
+use Rattle.sdb_phases.specs.Checks.{Wishes, with_reads, with_write, with_writes, wishes, wanted, wanted_of, wish_at, wished_version, is_fulfilled, differs, base_of, first_difference}
 use Rattle.sdb_validate.specs.Merge.{merge}
 use Rattle.sdb_validate.specs.Rescan.{written_wish, kept_by, is_kept, starts_behind, reads_rise, IsFirstLost}
-use Rattle.sdb_validate.proofs.Firsts.{IsFirst, first_is, key_of_same}
+use Rattle.sdb_validate.proofs.Firsts.{IsFirst, first_is}
 use Rattle.sdb_validate.proofs.Merges.{merge_is}
 use Rattle.sdb_validate.proofs.Ordered.{wanted_in_order}
 use Rattle.sdb_types.proofs.Basics.{less_of}
+use Rattle.sdb_types.proofs.Keys.{same_key_exact, same_key_self as same_itself}
 use Rattle.std.proofs.lemmas.Bool.{not-false as not_false, not-true as not_true}
-use Rattle.sdb_phases.proofs.Stands.{same_key_itself as same_itself}
 
 wish-find : (es : List (Key × Wish)) (q : Key) → wish_at (map wanted_of es) q ≡ find key_cmp q es
+unfolding same_key
 wish-find [] q = refl
 wish-find (e ∷ es) q = ap (cond (same_key q e.0) (Some e.1)) (wish-find es q)
 
@@ -47,7 +50,7 @@ behind_trans q k [] h s = refl
 behind_trans q k (r ∷ rs) h s = ap is_lt (key_total.trans q k r.key h (less_of (key_cmp k r.key) s))
 
 not_behind : (q : Key) (rs : List Read) (o : Option Wish) → reads_rise rs ≡ true → starts_behind q rs ≡ true → read_wish rs q o ≡ o
-unfolding read_wish
+unfolding read_wish same_key
 not_behind q [] o h s = refl
 not_behind q (r ∷ rs) o h s =
     let less : key_cmp q r.key ≡ Less = less_of (key_cmp q r.key) s in
@@ -55,7 +58,7 @@ not_behind q (r ∷ rs) o h s =
     ∙ not_behind q rs o (and_second (starts_behind r.key rs) (reads_rise rs) h) (behind_trans q r.key rs less (and_first (starts_behind r.key rs) (reads_rise rs) h))
 
 reads-get : (rs : List Read) (m : Wishes) (q : Key) → reads_rise rs ≡ true → get (with_reads rs m) q ≡ read_wish rs q (get m q)
-unfolding read_wish
+unfolding read_wish same_key
 reads-get [] m q h = refl
 reads-get (r ∷ rs) m q h =
     reads-get rs (insert m r.key (wish.Unchanged r.version)) q (and_second (starts_behind r.key rs) (reads_rise rs) h)
@@ -64,7 +67,7 @@ reads-get (r ∷ rs) m q h =
       by_test : (b : Bool) → same_key q r.key ≡ b → read_wish rs q (cond b (Some (wish.Unchanged r.version)) (get m q)) ≡ cond b (Some (wish.Unchanged r.version)) (read_wish rs q (get m q))
       by_test false e = refl
       by_test true e =
-          let here : starts_behind q rs ≡ true = ap (λ k. starts_behind k rs) (key_of_same q r.key e) ∙ and_first (starts_behind r.key rs) (reads_rise rs) h in
+          let here : starts_behind q rs ≡ true = ap (λ k. starts_behind k rs) (same_key_exact q r.key e) ∙ and_first (starts_behind r.key rs) (reads_rise rs) h in
           not_behind q rs (Some (wish.Unchanged r.version)) (and_second (starts_behind r.key rs) (reads_rise rs) h) here
 
 ---- the keys that are written
@@ -74,10 +77,12 @@ again None o version = refl
 again (Some other) o version = refl
 
 write-get-other : (span : Span) (w : Write) (m : Wishes) (q : Key) (b : Bool) → same_key q w.key ≡ false → get (cond b (insert m w.key (wish.Based (wished_version (get m w.key) (version_of w.base)))) m) q ≡ get m q
+unfolding same_key
 write-get-other span w m q true e = get-insert key_total m w.key (wish.Based (wished_version (get m w.key) (version_of w.base))) q ∙ ap (λ b. cond b (Some (wish.Based (wished_version (get m w.key) (version_of w.base)))) (get m q)) e
 write-get-other span w m q false e = refl
 
 write-get-own : (span : Span) (w : Write) (ws : List Write) (m : Wishes) (q : Key) (b : Bool) → q ≡ w.key → written_wish b (base_of ws q) (get (cond b (insert m w.key (wish.Based (wished_version (get m w.key) (version_of w.base)))) m) q) ≡ written_wish b (Some (version_of w.base)) (get m q)
+unfolding same_key
 write-get-own span w ws m q false here = refl
 write-get-own span w ws m q true here =
     let wished : Wish = wish.Based (wished_version (get m w.key) (version_of w.base)) in
@@ -92,7 +97,7 @@ writes-get span [] m q = none (in_span span q) where
 writes-get span (w ∷ ws) m q = writes-get span ws (with_write span w m) q ∙ by_test (same_key q w.key) refl where
   by_test : (b : Bool) → same_key q w.key ≡ b → written_wish (in_span span q) (base_of ws q) (get (with_write span w m) q) ≡ written_wish (in_span span q) (cond b (Some (version_of w.base)) (base_of ws q)) (get m q)
   by_test true e =
-      let here : q ≡ w.key = key_of_same q w.key e in
+      let here : q ≡ w.key = same_key_exact q w.key e in
       ap (λ b. written_wish (in_span span q) (base_of ws q) (get (cond b (insert m w.key (wish.Based (wished_version (get m w.key) (version_of w.base)))) m) q)) (ap (in_span span) (sym here))
       ∙ write-get-own span w ws m q (in_span span q) here
   by_test false e = ap (written_wish (in_span span q) (base_of ws q)) (write-get-other span w m q (in_span span w.key) e)
@@ -115,24 +120,27 @@ unchanged_none : (found : Option Record) → is_none found ≡ is_unchanged foun
 unchanged_none None = refl
 unchanged_none (Some r) = refl
 
+abbrev first_at : List Read → Key → Option Read
+first_at rs q = first (λ r. same_key q r.key) rs
+
 -- what was read at a key is as it is wished
-read-based : (rs : List Read) (q : Key) (base : Option TxId) → wished_version (read_wish rs q None) base ≡ same_version base (version_read rs q)
+read-based : (rs : List Read) (q : Key) (base : Option TxId) → wished_version (read_wish rs q None) base ≡ same_version base (version_among rs q)
 unfolding read_wish
 read-based [] q base = same_none base
 read-based (r ∷ rs) q base = by_test (same_key q r.key) (read-based rs q base) where
-  by_test : (b : Bool) → wished_version (read_wish rs q None) base ≡ same_version base (version_read rs q) → wished_version (cond b (Some (wish.Unchanged r.version)) (read_wish rs q None)) base ≡ same_version base (cond b r.version (version_read rs q))
+  by_test : (b : Bool) → wished_version (read_wish rs q None) base ≡ same_version base (version_among rs q) → wished_version (cond b (Some (wish.Unchanged r.version)) (read_wish rs q None)) base ≡ same_version base (option_and_then (λ x. x.version) (cond b (Some r) (first_at rs q)))
   by_test true rest = refl
   by_test false rest = rest
 
-read-kept : (rs : List Read) (q : Key) (found : Option Record) → is_fulfilled (read_wish rs q None) found ≡ is_unchanged found (version_read rs q)
+read-kept : (rs : List Read) (q : Key) (found : Option Record) → is_fulfilled (read_wish rs q None) found ≡ is_unchanged found (version_among rs q)
 unfolding read_wish
 read-kept [] q found = unchanged_none found
 read-kept (r ∷ rs) q found = by_test (same_key q r.key) (read-kept rs q found) where
-  by_test : (b : Bool) → is_fulfilled (read_wish rs q None) found ≡ is_unchanged found (version_read rs q) → is_fulfilled (cond b (Some (wish.Unchanged r.version)) (read_wish rs q None)) found ≡ is_unchanged found (cond b r.version (version_read rs q))
+  by_test : (b : Bool) → is_fulfilled (read_wish rs q None) found ≡ is_unchanged found (version_among rs q) → is_fulfilled (cond b (Some (wish.Unchanged r.version)) (read_wish rs q None)) found ≡ is_unchanged found (option_and_then (λ x. x.version) (cond b (Some r) (first_at rs q)))
   by_test true rest = refl
   by_test false rest = rest
 
-kept_at : (inside : Bool) (base : Option (Option TxId)) (rs : List Read) (q : Key) (found : Option Record) → is_fulfilled (written_wish inside base (read_wish rs q None)) found ≡ kept_by (cond inside base None) (version_read rs q) found
+kept_at : (inside : Bool) (base : Option (Option TxId)) (rs : List Read) (q : Key) (found : Option Record) → is_fulfilled (written_wish inside base (read_wish rs q None)) found ≡ kept_by (cond inside base None) (version_among rs q) found
 kept_at false base rs q found = read-kept rs q found
 kept_at true None rs q found = read-kept rs q found
 kept_at true (Some base) rs q found = read-based rs q base

@@ -7,14 +7,15 @@ use Rattle.sdb_types.specs.declared.txid.TxId.{TxId}
 use Rattle.sdb_types.specs.declared.record.Record.{Record}
 use Rattle.sdb_types.specs.declared.record.Span.{Span}
 use Rattle.sdb_types.specs.Order.{key_cmp}
-use Rattle.sdb_types.specs.Contents.{in_span}
+use Rattle.sdb_types.specs.Contents.{in_span, record_among}
 use Rattle.sdb_record.specs.declared.access.Read.{Read}
 use Rattle.sdb_record.specs.declared.access.Scan.{Scan}
 use Rattle.sdb_record.specs.declared.write.Write.{Write}
 use Rattle.sdb_record.specs.Moved.{same_version, is_unchanged}
+use Rattle.sdb_record.specs.Among.{version_among}
 use Rattle.sdb_phases.specs.declared.check.Wish.{Wish}
 use Rattle.sdb_phases.specs.declared.check.Wish.TheVariants as wish
-use Rattle.sdb_phases.specs.Checks.{base_of, version_read, record_among, wished_version}
+use Rattle.sdb_phases.specs.Checks.{base_of, wished_version}
 
 -- the version of the base of a written key of the span
 abbrev pub base_in : Span → List Write → Key → Option (Option TxId)
@@ -34,7 +35,7 @@ kept_by None version found = is_unchanged found version
 -- of a written key of the span has that version, whatever is there.
 abbrev pub is_kept : List Write → Scan → List Record → Key → Bool
 is_kept own scan rows key =
-    kept_by (base_in scan.span own key) (version_read scan.found key) (record_among rows key)
+    kept_by (base_in scan.span own key) (version_among scan.found key) (record_among rows key)
 
 ---- what a scan found is in key order
 

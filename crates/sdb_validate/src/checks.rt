@@ -6,8 +6,9 @@ ghost use Rattle.std.specs.FinMap as fin;
 ghost use Rattle.sdb_types.specs.declared.key.Key.{Key as KeyValue};
 ghost use Rattle.sdb_types.specs.Contents.{in_span};
 ghost use Rattle.sdb_types.specs.Order.{key_cmp};
-ghost use Rattle.sdb_phases.specs.Checks.{with_reads, wished_version, base_of, is_written, check_of_read, check_of_scan, checks_of};
+ghost use Rattle.sdb_phases.specs.Checks.{with_reads, wished_version, base_of, check_of_read, check_of_scan, checks_of};
 ghost use Rattle.sdb_validate.specs.Rescan.{written_wish};
+ghost use Rattle.sdb_record.specs.Among.{is_written};
 
 use crate::key_map::WishMap;
 use sdb_ordered::least_key;

@@ -1,7 +1,7 @@
 use Rattle.std.proofs.Common.{◌≡◌, drop}
 use Rattle.std.specs.Prelude.{◌&&◌}
 use Rattle.std.specs.List.{list_any}
-use Rattle.sdb_model.specs.Noted.{same_key}
+use Rattle.sdb_types.specs.Order.{same_key}
 use Rattle.sdb_caused.specs.Tests.{is_refused_there}
 use Rattle.sdb_caused.proofs.bad.any_refused.Given as goal
 

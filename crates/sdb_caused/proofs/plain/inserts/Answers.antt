@@ -1,7 +1,7 @@
 use Rattle.std.proofs.Common.{◌≡◌, Some, rules}
 use Rattle.sdb_model.specs.declared.statement.Statement.TheVariants as statement
 use Rattle.sdb_model.specs.Exec.{find_table, key_of}
-use Rattle.sdb_model.specs.Noted.{same_key}
+use Rattle.sdb_types.specs.Order.{same_key}
 use Rattle.sdb_caused.proofs.ReadLaws.{inserts_is}
 use Rattle.sdb_caused.proofs.plain.inserts.Goals as goal
 
