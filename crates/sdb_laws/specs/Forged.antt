@@ -4,6 +4,14 @@ use Rattle.sdb_types.specs.declared.value.Value.TheVariants as value
 use Rattle.sdb_model.specs.declared.answer.Answer.TheVariants as answer
 use Rattle.sdb_model.specs.declared.event.Event.{Event}
 use Rattle.sdb_model.specs.declared.event.Event.TheVariants as event
+use Rattle.sdb_model.specs.declared.event.Point.{Point}
+use Rattle.sdb_model.specs.declared.event.TableDump.{TableDump}
+use Rattle.sdb_model.specs.declared.script.Place.{Place}
+use Rattle.sdb_model.specs.declared.script.Script.{Script}
+use Rattle.sdb_model.specs.Events.{Shelf}
+use Rattle.sdb_model.specs.Shown.{AreShown}
+use Rattle.sdb_model.specs.Told.{IsRun}
+use Rattle.sdb_schema.specs.declared.table.Table.{Table}
 use Rattle.sdb_types.specs.declared.record.Request.TheVariants as ask
 use Rattle.sdb_types.specs.declared.record.Reply.TheVariants as reply
 use Rattle.sdb_laws.specs.History.{Other, Begins, Takes, Decides, Yes}
@@ -57,3 +65,11 @@ unchecked =
     ∷ plays Other (taken 1 (codes "SELECT balance FROM bank.account WHERE id = 1") None)
     ∷ plays (Begins one 1) (taken 1 (codes "BEGIN") (Some answer.Done))
     ∷ []
+
+-- A report of these events is the report of no run, whatever its script, stores, order and rows.
+abbrev pub AreOfNoRun : List Event → Type 0
+AreOfNoRun events = (script : Script) (opening closing : List Shelf) (order : List Point) (tables : List TableDump) → IsRun script opening closing (record { events = events; order = order; tables = tables }) → ⊥
+
+-- The calls of these events show no cause of their answers, whatever the catalog, the places and the stores.
+abbrev pub AreNeverShown : List Event → Type 0
+AreNeverShown events = (catalog : List Table) (places : List Place) (opening : List Shelf) (moments : List (List Shelf)) → AreShown catalog places events opening moments → ⊥

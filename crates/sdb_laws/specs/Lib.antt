@@ -8,3 +8,4 @@ pub mod Worked
 pub mod Forged
 pub mod Serial
 pub mod Faithful
+pub mod Runs

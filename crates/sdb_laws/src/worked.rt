@@ -3,18 +3,11 @@ ghost use Rattle.std.specs.Prelude.{◌≡◌, ℕ, List, [], Some};
 ghost use Rattle.std.specs.FinMap.{empty};
 ghost use Rattle.sdb_record.specs.declared.coordinator.Decision.TheVariants.{Committed};
 ghost use Rattle.sdb_record.specs.declared.write.Write.{Write};
-ghost use Rattle.sdb_model.specs.declared.event.Point.{Point};
-ghost use Rattle.sdb_model.specs.declared.event.TableDump.{TableDump};
-ghost use Rattle.sdb_model.specs.declared.script.Script.{Script};
-ghost use Rattle.sdb_model.specs.Events.{Shelf};
 ghost use Rattle.sdb_schema.specs.declared.table.Table.{Table};
-ghost use Rattle.sdb_model.specs.declared.script.Place.{Place};
 ghost use Rattle.sdb_model.specs.Causes.{AreCaused};
-ghost use Rattle.sdb_model.specs.Shown.{AreShown};
-ghost use Rattle.sdb_model.specs.Told.{IsRun};
 ghost use Rattle.sdb_laws.specs.Plan.{Plan};
 ghost use Rattle.sdb_laws.specs.Faithful.{AreNoted};
-ghost use Rattle.sdb_laws.specs.Forged.{accused, broken, counting, liar, oracle, twice, unchecked};
+ghost use Rattle.sdb_laws.specs.Forged.{AreNeverShown, AreOfNoRun, accused, broken, counting, liar, oracle, twice, unchecked};
 ghost use Rattle.sdb_laws.specs.Lawful.{Played, IsLawful};
 ghost use Rattle.sdb_laws.specs.Trace.{history};
 ghost use Rattle.sdb_laws.specs.Explained.{IsRunOf, events_of, newest_first};
@@ -47,14 +40,14 @@ pub fn other_runs_are_refused()
 /// A report in which Committed is answered to a COMMIT of no transaction is the report of no run, whatever its script, stores, order
 /// and rows.
 pub fn forged_reports_are_no_runs()
-    ensures liar { (script : Script) (opening closing : List Shelf) (order : List Point) (tables : List TableDump) → IsRun script opening closing (record { events = liar; order = order; tables = tables }) → ⊥ }
-    ensures twice { (script : Script) (opening closing : List Shelf) (order : List Point) (tables : List TableDump) → IsRun script opening closing (record { events = twice; order = order; tables = tables }) → ⊥ }
+    ensures liar { AreOfNoRun liar }
+    ensures twice { AreOfNoRun twice }
 {}
 
 /// Answers that no call explains have no cause, whatever the catalog, the places and the stores: a row that was not found, a Conflict
 /// without a read, a fault without a call, and a count of tombstones that were not removed.
 pub fn forged_answers_have_no_cause()
-    ensures oracle { (catalog : List Table) (places : List Place) (opening : List Shelf) (moments : List (List Shelf)) → AreShown catalog places oracle opening moments → ⊥ }
+    ensures oracle { AreNeverShown oracle }
     ensures accused { (catalog : List Table) → AreCaused catalog accused → ⊥ }
     ensures broken { (catalog : List Table) → AreCaused catalog broken → ⊥ }
     ensures counting { (catalog : List Table) → AreCaused catalog counting → ⊥ }

@@ -2,4 +2,4 @@ use Rattle.sdb_laws.proofs.explained.aborted_is_gone.Goals as goal
 use Rattle.sdb_laws.proofs.Moments.{gone_at}
 
 pub returns : goal.returns
-returns c = gone_at
+returns c = λ r d n. gone_at r.plan r.places r.opening r.played r.moments d.catalog n r.run d.apart

@@ -2,4 +2,4 @@ use Rattle.sdb_laws.proofs.images.earlier_prepare_had_row.Goals as goal
 use Rattle.sdb_laws.proofs.Times.{whole_of}
 
 pub returns : goal.returns
-returns c = λ plan places opening past ss r. (whole_of plan places opening past ss r).all.one.earlier
+returns c = λ r. (whole_of r.plan r.places r.opening r.past r.moments r.run).all.one.earlier

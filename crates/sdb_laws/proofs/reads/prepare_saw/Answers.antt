@@ -1,7 +1,7 @@
 use Rattle.sdb_laws.proofs.reads.prepare_saw.Goals as goal
-use Rattle.sdb_laws.specs.Trace.{history}
+use Rattle.sdb_laws.specs.Runs.{history_of}
 use Rattle.sdb_laws.proofs.Times.{whole_of}
 use Rattle.sdb_laws.proofs.Derived.{prepare_saw}
 
 pub returns : goal.returns
-returns c = λ plan places opening past ss r. prepare_saw plan (history plan places opening past ss) (whole_of plan places opening past ss r).all
+returns c = λ r. prepare_saw r.plan (history_of r) (whole_of r.plan r.places r.opening r.past r.moments r.run).all

@@ -1,5 +1,6 @@
 use Rattle.sdb_laws.proofs.real_time.answers_are_true.Goals as goal
+use Rattle.sdb_laws.specs.Explained.{newest_first}
 use Rattle.sdb_laws.proofs.ModelTime.{answers_true}
 
 pub returns : goal.returns
-returns c = λ plan places opening played ss r faithful. answers_true plan places opening played ss r faithful
+returns c = λ r faithful. answers_true r.plan r.places r.opening r.played (newest_first r.moments) r.run faithful

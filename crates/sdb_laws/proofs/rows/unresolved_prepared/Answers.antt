@@ -1,7 +1,7 @@
 use Rattle.sdb_laws.proofs.rows.unresolved_prepared.Goals as goal
-use Rattle.sdb_laws.specs.Trace.{closing, history}
+use Rattle.sdb_laws.specs.Runs.{history_of, shelves_of}
 use Rattle.sdb_laws.proofs.Times.{whole_of}
 use Rattle.sdb_laws.proofs.Derived.{unresolved_prepared}
 
 pub returns : goal.returns
-returns c = λ plan places opening past ss r. unresolved_prepared plan places (history plan places opening past ss) past (closing opening ss) (whole_of plan places opening past ss r)
+returns c = λ r. unresolved_prepared r.plan r.places (history_of r) r.past (shelves_of r) (whole_of r.plan r.places r.opening r.past r.moments r.run)

@@ -1,5 +1,6 @@
 use Rattle.sdb_laws.proofs.runs.point_is_last_prepare.Goals as goal
+use Rattle.sdb_laws.specs.Explained.{newest_first}
 use Rattle.sdb_laws.proofs.Points.{point_is_last}
 
 pub returns : goal.returns
-returns c = λ plan places opening played ss t r fits taken. point_is_last plan places opening played ss t r fits taken
+returns c = λ r t is. point_is_last r.plan r.places r.opening r.played (newest_first r.moments) t r.run is.fits is.taken

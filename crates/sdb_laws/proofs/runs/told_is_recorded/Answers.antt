@@ -2,4 +2,4 @@ use Rattle.sdb_laws.proofs.runs.told_is_recorded.Goals as goal
 use Rattle.sdb_laws.proofs.Times.{told_recorded}
 
 pub returns : goal.returns
-returns c = λ plan places opening past ss t r told. told_recorded plan places opening past ss t r told
+returns c = λ r t told. told_recorded r.plan r.places r.opening r.past r.moments t r.run told
