@@ -9,3 +9,4 @@ pub mod Filled
 pub mod Unfit
 pub mod Rolled
 pub mod Shows
+pub mod Turns

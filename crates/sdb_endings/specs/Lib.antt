@@ -4,3 +4,4 @@ pub mod Points
 pub mod Stores
 pub mod Decisions
 pub mod Shown
+pub mod Traces

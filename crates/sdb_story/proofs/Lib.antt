@@ -1,4 +1,5 @@
 pub mod Places
+pub mod Seeking
 pub mod Faith
 pub mod Bodies
 pub mod Steps

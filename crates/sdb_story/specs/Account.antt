@@ -12,7 +12,8 @@ use Rattle.sdb_model.specs.Transactions.{Said, said}
 use Rattle.sdb_laws.specs.Lawful.{Played}
 use Rattle.sdb_laws.specs.Plan.{Plan}
 use Rattle.sdb_turns.specs.System.{IsBy, SystemAt, SystemOk}
-use Rattle.sdb_story.specs.Telling.{AllStories, BeginsNext, IsSaid, KeepsHold, LeavesHold, OthersStand, StoryOk, Telling, TellsOn, taken_said, with_answered, with_waiting}
+use Rattle.sdb_story.specs.Story.{MayCome}
+use Rattle.sdb_story.specs.Telling.{AllStories, BeginsNext, IsOrdinary, IsSaid, KeepsHold, LeavesHold, OthersStand, StoryOk, Telling, TellsOn, taken_said, with_answered, with_waiting}
 
 -- The events so far, where the clients are, and the story of one of them.
 pub record Account : Type 0 where
@@ -38,6 +39,11 @@ SaysNothing k q = said k.client (k.events ++ q.event ∷ []) ≡ said k.client k
 -- With the event the client has said this statement more.
 abbrev pub Says : Account → Played → Said → Type 0
 Says k q s = IsSaid k.events k.client k.told q s
+
+-- The statement is an ordinary one, and leaves the story in form.
+pub record ComesOrdinary (k : Account) (s : Said) : Type 0 where
+  pub may : MayCome k.told.rest s
+  pub ordinary : IsOrdinary k.told.rest s
 
 -- The event is the taking of a text while none waits.
 pub record TakesText (k : Account) (q : Played) (text : List ℕ) (answered : Option Answer) : Type 0 where

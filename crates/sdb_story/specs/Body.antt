@@ -15,10 +15,11 @@ use Rattle.sdb_model.specs.declared.statement.Statement.{Statement}
 use Rattle.sdb_model.specs.Access.{rows_at, with_changes}
 use Rattle.sdb_model.specs.Exec.{Tables, exec}
 use Rattle.sdb_model.specs.Told.{run_body}
+use Rattle.sdb_laws.specs.Lawful.{Played}
 use Rattle.sdb_snapshot.specs.Noted.{base_at, is_noted}
 use Rattle.sdb_snapshot.specs.Rows.{row_found, with_own}
 use Rattle.sdb_snapshot.specs.Seen.{Seen, is_scanned, overlay}
-use Rattle.sdb_turns.specs.Noted.{is_found}
+use Rattle.sdb_turns.specs.Noted.{SeenOk, is_found}
 
 ---- tables that agree, note by note
 
@@ -52,3 +53,27 @@ IsCovered s (access.Scan span) = is_scanned s.scans span ≡ true
 -- with these changes over them, which fit too.
 abbrev pub AnswersOn : List Table → (Tables → Bool) → Seen → Statement → Access → Answer → List Keyed → Type 0
 AnswersOn catalog fit s statement a answer changes = (e : Tables) → fit e ≡ true → rows_at a e ≡ overlay a s → (exec catalog statement e ≡ (answer, with_changes e changes)) × (fit (with_changes e changes) ≡ true)
+
+-- What a transaction has read and written after some events, the statements that it ran, and their answers, to which these come.
+pub record Body : Type 0 where
+  pub past : List Played
+  pub catalog : List Table
+  pub fit : Tables → Bool
+  pub statements : List Statement
+  pub answers : List Answer
+  pub seen : Seen
+  pub ok : SeenOk past seen
+  pub comes : BodyOk catalog fit statements answers seen
+
+-- Statements come to these answers, and to what is then read and written, over the same catalog.
+abbrev pub ComeTo : Body → List Statement → List Answer → Seen → Type 0
+ComeTo b statements answers seen = BodyOk b.catalog b.fit statements answers seen
+
+-- A statement whose access was read, with its answer from the rows that the transaction sees there, and its changes.
+pub record NextStatement (b : Body) : Type 0 where
+  pub statement : Statement
+  pub a : Access
+  pub answer : Answer
+  pub changes : List Keyed
+  pub covered : IsCovered b.seen a
+  pub answers : AnswersOn b.catalog b.fit b.seen statement a answer changes

@@ -13,21 +13,27 @@ use Rattle.sdb_record.specs.declared.access.Access.TheVariants as access
 use Rattle.sdb_record.specs.declared.coordinator.Decided.{Decided}
 use Rattle.sdb_record.specs.declared.coordinator.Decision.{Decision}
 use Rattle.sdb_record.specs.declared.coordinator.Decision.TheVariants as decision
+use Rattle.sdb_record.specs.Coordinator.{is_coordinator_table}
 use Rattle.sdb_record.specs.Meta.{id_in, is_in}
 use Rattle.sdb_record.specs.Parts.{before_record}
 use Rattle.sdb_record.specs.Rolls.{forward_record}
 use Rattle.sdb_model.specs.declared.event.Event.{Event}
+use Rattle.sdb_model.specs.Events.{table_asked}
 use Rattle.sdb_model.specs.Calls.{Made, calls_by, calls_of, decision_shown, made_by}
-use Rattle.sdb_model.specs.Transactions.{Said, is_effective}
+use Rattle.sdb_model.specs.Transactions.{Said, body, client_of, is_effective}
 use Rattle.sdb_record.specs.Moved.{version_of}
 use Rattle.sdb_model.specs.Noted.{Note, Got, Scanned, notes_in, reads_rows, is_from_rows as from_rows}
 use Rattle.sdb_snapshot.specs.Noted.{reads_of}
 use Rattle.sdb_snapshot.specs.Seen.{Seen}
-use Rattle.sdb_turns.specs.Noted.{first_image}
+use Rattle.sdb_laws.specs.Lawful.{Played, id}
+use Rattle.sdb_laws.specs.Plan.{Plan}
+use Rattle.sdb_turns.specs.Noted.{first_image, work_of}
+use Rattle.sdb_turns.specs.Owner.{plan_of}
+use Rattle.sdb_turns.specs.System.{ClientCall, IsReplyTo}
 use Rattle.sdb_phases.specs.declared.step.RecoverPhase.{RecoverPhase}
 use Rattle.sdb_phases.specs.declared.step.RecoverPhase.TheVariants as phase
-use Rattle.sdb_turns.specs.ReadAt.{ReadAt, Asking, Resolving, Done, Failed}
-use Rattle.sdb_read.specs.Read.{request_of}
+use Rattle.sdb_turns.specs.ReadAt.{AreKinds, ReadAt, ReadOk, Asking, Resolving, Done, Failed, read_pending, read_step}
+use Rattle.sdb_read.specs.Read.{Kind, request_of}
 
 -- one of the calls showed that decision in a transaction's row
 abbrev pub Learned : List Made → TxId → Decision → Type 0
@@ -97,10 +103,31 @@ ReadMade ms a Failed = Unit {0}
 abbrev pub AgreeOn : List Made → Type 0
 AgreeOn ms = (id : TxId) (c d : Decision) → id.0 < 2 ^ 128 → Learned ms id c → Learned ms id d → c ≡ d
 
+-- A reply to the pending call of a read, whose rows are as they were shown, and the calls that it has made.
+pub record MadeReply : Type 0 where
+  pub kind : Record → Kind
+  pub kinds : AreKinds kind
+  pub past : List Played
+  pub asked : Access
+  pub stage : ReadAt
+  pub ok : ReadOk past asked stage
+  pub made : List Made
+  pub shown : ReadMade made asked stage
+  pub call : ClientCall
+  pub replies : IsReplyTo (read_pending asked stage) call
+
+-- where it takes the read to
+abbrev pub stage_after : MadeReply → ReadAt
+stage_after r = read_step r.kind r.stage r.call.now r.call.reply
+
 -- the note of a read that is done with these images
 abbrev pub note_with : Access → List Record → Note
 note_with (access.Get key) images = Got (record { key = key; version = version_of (first_image images) })
 note_with (access.Scan span) images = Scanned (record { span = span; found = reads_of images })
+
+-- an access asks for rows of another table than the coordinator's
+abbrev pub AsksRows : Access → Type 0
+AsksRows a = is_coordinator_table (table_asked (request_of a)) ≡ false
 
 -- a call has that request and that reply
 pub record IsMade (m : Made) (q : Request) (r : Reply) : Type 0 where
@@ -124,9 +151,13 @@ pub record WasAnswered (events : List Event) (s : Said) : Type 0 where
 abbrev pub noted_by : List Event → ℕ → List Said → List Note
 noted_by events c ss = flat_map (λ s. notes_in (calls_of events c s)) (filter from_rows (filter is_effective ss))
 
+-- What a transaction has read has this note.
+abbrev pub HasNoted : Seen → Note → Type 0
+HasNoted seen n = Contains (map Got seen.reads ++ map Scanned seen.scans) n
+
 -- What a transaction has read is what the statements so far noted.
 abbrev pub IsNotedSo : List Event → ℕ → List Said → Seen → Type 0
-IsNotedSo events c ss seen = (n : Note) → Contains (map Got seen.reads ++ map Scanned seen.scans) n ↔ Contains (noted_by events c ss) n
+IsNotedSo events c ss seen = (n : Note) → HasNoted seen n ↔ Contains (noted_by events c ss) n
 
 -- a statement noted nothing: it changed nothing, was not answered from rows, or made no read
 abbrev pub NotesNothing : List Event → ℕ → Said → Type 0
@@ -137,3 +168,21 @@ pub record NotesRead (events : List Event) (c : ℕ) (s : Said) (a : Access) (im
   pub effective : is_effective s ≡ true
   pub rows : from_rows s ≡ true
   pub notes : notes_in (calls_of events c s) ≡ note_with a images ∷ []
+
+-- The statements that a client said of a transaction, and what this has read, which is what they noted.
+pub record NotedBody : Type 0 where
+  pub events : List Event
+  pub client : ℕ
+  pub said : List Said
+  pub seen : Seen
+  pub noted : IsNotedSo events client said seen
+
+-- With one statement more, so is what is then read.
+abbrev pub NotedWith : NotedBody → Said → Seen → Type 0
+NotedWith b s seen = IsNotedSo b.events b.client (b.said ++ s ∷ []) seen
+
+-- They are those of a transaction of that number and client, whose COMMIT took what it has read and written at that moment.
+pub record IsTakenSo (plan : ℕ → Plan) (b : NotedBody) (t : ℕ) (now : ℤ) : Type 0 where
+  pub owner : client_of (id t) ≡ b.client
+  pub said : body b.events (id t) ≡ filter is_effective b.said
+  pub planned : plan t ≡ plan_of (work_of (id t) now b.seen)

@@ -22,7 +22,7 @@ use Rattle.sdb_model.specs.declared.statement.Statement.{Statement}
 use Rattle.sdb_model.specs.Events.{Shelf}
 use Rattle.sdb_model.specs.Images.{row_at}
 use Rattle.sdb_model.specs.Told.{AreRead, serial}
-use Rattle.sdb_laws.specs.Lawful.{Played, is_data}
+use Rattle.sdb_laws.specs.Lawful.{Played, is_data, talk}
 use Rattle.sdb_turns.specs.Noted.{SeenOk, work_of}
 use Rattle.sdb_model.specs.Noted.{Note, Got, Scanned, noted_in}
 use Rattle.sdb_phases.specs.Work.{Work}
@@ -93,3 +93,7 @@ reads_and_scans p = map Got p.reads ++ map Scanned p.scans
 pub record AreReads (plan : ℕ → Plan) (events : List Event) (p : Work) (t : ℕ) : Type 0 where
   pub planned : plan t ≡ plan_of p
   pub noted : (note : Note) → Contains (reads_and_scans p) note ↔ Contains (noted_in events (id t)) note
+
+-- so it is of each transaction whose COMMIT was taken
+abbrev pub AllAreReads : (ℕ → Plan) → List Event → List Played → (ℕ → Work) → Type 0
+AllAreReads plan events past works = (t : ℕ) → (talk past).taken t ≡ true → AreReads plan events (works t) t

@@ -1,4 +1,5 @@
 pub mod Story
+pub mod Sought
 pub mod Filed
 pub mod Body
 pub mod Left
@@ -7,3 +8,4 @@ pub mod BodyTexts
 pub mod Linked
 pub mod Calls
 pub mod Account
+pub mod Ordered

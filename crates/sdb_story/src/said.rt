@@ -7,10 +7,9 @@ ghost use Rattle.sdb_model.specs.Transactions.{Said, said};
 ghost use Rattle.sdb_laws.specs.Plan.{Plan};
 ghost use Rattle.sdb_laws.specs.Lawful.{Played, MayPlay};
 ghost use Rattle.sdb_turns.specs.System.{ClientAt, SystemAt, SystemOk, IsBy, idle, with_begun, with_client};
-ghost use Rattle.sdb_story.specs.Account.{Account, AnswersWaiting, GoesOn, Leaves, Says, SaysNothing, StoryTurn, TakesBegin, TakesCommit, TakesText, answered_with, waits_with};
-ghost use Rattle.sdb_story.specs.Story.{MayCome};
+ghost use Rattle.sdb_story.specs.Account.{Account, AnswersWaiting, ComesOrdinary, GoesOn, Leaves, Says, SaysNothing, StoryTurn, TakesBegin, TakesCommit, TakesText, answered_with, waits_with};
 ghost use Rattle.sdb_story.specs.Filed.{Filed};
-ghost use Rattle.sdb_story.specs.Telling.{AllStories, OthersStand, with_told, nothing_yet, with_answered, StoryOk, IsApart, IsOrdinary, EndsOpen, taken_said, answered_said, begun_played, commit_taken};
+ghost use Rattle.sdb_story.specs.Telling.{AllStories, OthersStand, with_told, nothing_yet, with_answered, StoryOk, IsApart, EndsOpen, taken_said, answered_said, begun_played, commit_taken};
 
 /// Before the first event a client has said nothing.
 pub fn nothing_yet_said()
@@ -40,7 +39,7 @@ pub fn statement_is_said()
 /// A story goes on with an answered statement: an ordinary one, a BEGIN that is answered Done, or one that ends the open
 /// transaction.
 pub fn story_goes_on()
-    ensures ordinary { (k : Account) (next : SystemAt) (q : Played) (s : Said) → Says k q s → MayCome k.told.rest s → IsOrdinary k.told.rest s → Leaves k q next → GoesOn k q next (with_answered k.told s) }
+    ensures ordinary { (k : Account) (next : SystemAt) (q : Played) (s : Said) → Says k q s → ComesOrdinary k s → Leaves k q next → GoesOn k q next (with_answered k.told s) }
     ensures begins { (k : Account) (next : SystemAt) (text : List ℕ) → TakesBegin k next text → GoesOn k (begun_played k.client k.told text) next (answered_with k text answer.Done) }
     ensures ends { (k : Account) (next : SystemAt) (q : Played) (s : Said) → Says k q s → EndsOpen k.past k.sys next k.client k.told q s → GoesOn k q next (with_answered k.told s) }
 {}

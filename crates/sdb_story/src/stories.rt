@@ -1,15 +1,14 @@
 //! Stories: a client's statements in order, and where each transaction of it begins and ends.
-ghost use Rattle.std.specs.Prelude.{◌≡◌, ◌≤◌, ◌<◌, ◌*◌, ◌^◌, ℕ, suc, List, ◌++◌, ◌∷◌, [], length, filter, Option, Some, None, true};
+ghost use Rattle.std.specs.Prelude.{◌≡◌, ◌≤◌, ◌<◌, ◌*◌, ◌^◌, ℕ, List, ◌++◌, ◌∷◌, [], length, filter, Some, None, true};
 ghost use Rattle.std.specs.List.{AllByRecursion};
-ghost use Rattle.sdb_types.specs.declared.txid.TxId.{TxId};
 ghost use Rattle.sdb_model.specs.declared.event.Event.{Event};
-ghost use Rattle.sdb_model.specs.Transactions.{Said, said, begun, commit_of, client_of, ordinal_of, body, is_effective};
-ghost use Rattle.sdb_laws.specs.Plan.{Plan};
+ghost use Rattle.sdb_model.specs.Transactions.{Said, body, is_effective};
 ghost use Rattle.sdb_laws.specs.Lawful.{Played, talk};
 ghost use Rattle.sdb_laws.specs.Faithful.{IsFaithful};
-ghost use Rattle.sdb_story.specs.Story.{Finished, Rest, Closed, Opened, Story, settle, saids_of, said_of, all_of, commit_in, IsFinished, IsRest, IsPlain, IsStory, MayCome, finished_at};
-ghost use Rattle.sdb_turns.specs.System.{SystemAt, SystemOk};
+ghost use Rattle.sdb_story.specs.Story.{Finished, Rest, Closed, settle, saids_of, said_of, all_of, commit_in, IsFinished, IsRest, IsStory, MayCome, finished_at};
+ghost use Rattle.sdb_turns.specs.Knowledge.{Knowledge};
 ghost use Rattle.sdb_story.specs.Filed.{Filed};
+ghost use Rattle.sdb_story.specs.Sought.{IsOpenWith, Sought, TextsSay};
 ghost use Rattle.sdb_story.specs.Telling.{AllStories, Telling};
 
 /// One statement more, with its answer, goes last in a client's story and leaves it one.
@@ -21,20 +20,16 @@ pub fn story_grows()
 /// Of a story's transactions the texts say when each began and what its COMMIT is: of the k-th that ended, of the open one, and
 /// that there is no other.
 pub fn story_tells()
-    ensures finished { (events : List Event) (id : TxId) (whole : List Finished) (more : List Said) (k : ℕ) (f : Finished) → said (client_of id) events ≡ saids_of whole ++ more → ordinal_of id ≡ suc k → AllByRecursion IsFinished whole → finished_at whole k ≡ Some f
-        → (begun events id ≡ Some f.begin.taken) × (commit_of events id ≡ commit_in f.last) }
-    ensures opened { (events : List Event) (id : TxId) (whole : List Finished) (gap : List Said) (b : Said) (body : List Said) → said (client_of id) events ≡ saids_of whole ++ (gap ++ b ∷ body) → ordinal_of id ≡ suc (length whole) → AllByRecursion IsFinished whole → IsRest (Opened gap b body)
-        → (begun events id ≡ Some b.taken) × (commit_of events id ≡ None) }
-    ensures none { (events : List Event) (id : TxId) (whole : List Finished) (gap : List Said) (k : ℕ) → said (client_of id) events ≡ saids_of whole ++ gap → ordinal_of id ≡ suc k → length whole ≤ k → AllByRecursion IsFinished whole → AllByRecursion IsPlain gap
-        → (begun events id ≡ None) × (commit_of events id ≡ None) }
-    ensures past { (events : List Event) (id : TxId) (whole : List Finished) (gap : List Said) (b : Said) (body : List Said) (k : ℕ) → said (client_of id) events ≡ saids_of whole ++ (gap ++ b ∷ body) → ordinal_of id ≡ suc k → length whole < k → AllByRecursion IsFinished whole → IsRest (Opened gap b body)
-        → (begun events id ≡ None) × (commit_of events id ≡ None) }
+    ensures finished { (x : Sought) (f : Finished) → finished_at x.whole x.k ≡ Some f → TextsSay x (Some f.begin.taken) (commit_in f.last) }
+    ensures opened { (x : Sought) (b : Said) (body : List Said) → IsOpenWith x b body → x.k ≡ length x.whole → TextsSay x (Some b.taken) None }
+    ensures none { (x : Sought) (gap : List Said) → x.rest ≡ Closed gap → IsRest x.rest → length x.whole ≤ x.k → TextsSay x None None }
+    ensures past { (x : Sought) (b : Said) (body : List Said) → IsOpenWith x b body → length x.whole < x.k → TextsSay x None None }
 {}
 
 /// The body of a transaction is what changed something of its statements: of one that ended, and of an open one.
 pub fn story_bodies()
-    ensures finished { (events : List Event) (id : TxId) (whole : List Finished) (more : List Said) (k : ℕ) (f : Finished) → said (client_of id) events ≡ saids_of whole ++ more → ordinal_of id ≡ suc k → AllByRecursion IsFinished whole → finished_at whole k ≡ Some f → body events id ≡ filter is_effective f.body }
-    ensures opened { (events : List Event) (id : TxId) (whole : List Finished) (gap : List Said) (b : Said) (inside : List Said) → said (client_of id) events ≡ saids_of whole ++ (gap ++ b ∷ inside) → ordinal_of id ≡ suc (length whole) → AllByRecursion IsFinished whole → IsRest (Opened gap b inside) → body events id ≡ filter is_effective inside }
+    ensures finished { (x : Sought) (f : Finished) → finished_at x.whole x.k ≡ Some f → body x.events x.id ≡ filter is_effective f.body }
+    ensures opened { (x : Sought) (b : Said) (inside : List Said) → IsOpenWith x b inside → x.k ≡ length x.whole → body x.events x.id ≡ filter is_effective inside }
 {}
 
 /// Where each client's story is filed, and no transaction of ordinal 0 was taken, the parts that are played are those that the texts
@@ -45,5 +40,5 @@ pub fn faithful()
 
 /// Where all is so of all clients, and each client has its story, the parts that are played are those that the texts say.
 pub fn clients_are_faithful()
-    ensures { (plan : ℕ → Plan) (events : List Event) (past : List Played) (sys : SystemAt) (told : ℕ → Telling) → SystemOk plan past sys → AllStories events past sys told → IsFaithful events past }
+    ensures { (k : Knowledge) (events : List Event) (told : ℕ → Telling) → AllStories events k.past k.sys told → IsFaithful events k.past }
 {}

@@ -2,4 +2,4 @@ use Rattle.sdb_causes.proofs.Whole.{takes_all}
 use Rattle.sdb_causes.proofs.taking.takes.Goals as goal
 
 pub returns : goal.returns
-returns x = λ q events hands c text result d apart ready gate moment is es fit g few told ex. takes_all q events hands c text result d ex ready gate moment is es fit g apart few told
+returns x = λ t events may ex. let g = may.reached in takes_all t.q events t.hands t.client t.text t.result t.after ex t.ready may.gate t.moment t.of_data.is g.events g.fit g.going t.of_data.apart t.few t.takes

@@ -3,6 +3,6 @@ use Rattle.sdb_endings.proofs.order.points_are_order.Goals as goal
 
 pub returns : goal.returns
 returns c = record {
-  order = is_order;
+  order = λ r have. is_order r.places r.events r.closing r.ids r.order r.fit r.recorded have r.risen;
   fits = risen_fits;
 }

@@ -3,4 +3,4 @@ use Rattle.sdb_endings.proofs.Runs.{by_laws}
 use Rattle.sdb_endings.proofs.points.recorded_have_points.Goals as goal
 
 pub returns : goal.returns
-returns c = λ catalog fit events sys doing places opening closing moments going trace empty. have_points places events opening closing (by_laws catalog fit events sys doing places opening closing moments going trace empty)
+returns c = λ t. let p = t.progress in have_points t.places p.events t.opening t.closing (by_laws p.catalog p.fit p.events p.sys p.doing t.places t.opening t.closing t.moments p.going t.trace t.empty)

@@ -2,4 +2,4 @@ use Rattle.sdb_endings.proofs.Finding.{resolved_decided}
 use Rattle.sdb_endings.proofs.shown.resolved_are_decided.Goals as goal
 
 pub returns : goal.returns
-returns c catalog places events opening closing moments client s key none trace taken resolved reader table = resolved_decided catalog places events opening closing moments client s key trace table none taken resolved reader
+returns c = λ t x apart. resolved_decided t.catalog t.places t.events t.opening t.closing t.moments x.client x.said x.key t.trace x.of_table apart

@@ -3,7 +3,7 @@ use Rattle.sdb_story.proofs.said.story_goes_on.Goals as goal
 
 pub returns : goal.returns
 returns c = record {
-  ordinary = λ k next q s is may plain leaves. story_answers k.events k.past k.sys next k.client k.told q s k.story is may plain leaves.counts leaves.apart leaves.keeps;
+  ordinary = λ k next q s is comes leaves. story_answers k.events k.past k.sys next k.client k.told q s k.story is comes.may comes.ordinary leaves.counts leaves.apart leaves.keeps;
   begins = λ k next text t.
       let b = t.begins in
       story_begins k.events k.past k.sys next k.client k.told b.gap text k.story t.none_waits b.closed b.begin b.client b.ordinal b.fresh b.hold;

@@ -2,4 +2,4 @@ use Rattle.sdb_story.proofs.Noting.{read_made}
 use Rattle.sdb_story.proofs.statements.calls_show_rows.Goals as goal
 
 pub returns : goal.returns
-returns c = λ kind past ms m a s x kinds ok made reply is. read_made kind past ms m a s x.now x.request x.reply kinds ok made reply.asked reply.can is
+returns c = λ r m is. let x = r.call in read_made r.kind r.past r.made m r.asked r.stage x.now x.request x.reply r.kinds r.ok r.shown r.replies.asked r.replies.can is
