@@ -23,7 +23,7 @@ use sdb_record::{
 use sdb_said::{
     Note, Plan, Played, Role, Word, is_asked, is_begun, is_checked, is_deciding, is_open,
     is_past_prepares, is_same_key, is_same_request, is_same_span, is_stopped, is_taken, is_told,
-    moment_of, notes_of, owner, row_of, version_among, version_noted, write_of, writes_of,
+    moment_of, notes_of, owner, record_among, version_among, version_noted, write_of, writes_of,
 };
 use sdb_sqltokens::reads_word;
 use sdb_types::{Condition, Key, NoMemory, Record, Reply, Request, State, TxId, Txt};
@@ -212,7 +212,10 @@ fn is_as_noted(writes: &[Write], scan: &Scan, rows: &[Record], key: &Key) -> boo
 {
     !scan.span.contains(key)
         || (write_of(writes, key).is_some()
-            || is_unmoved(row_of(rows, key), version_among(scan.found.as_slice(), key)))
+            || is_unmoved(
+                record_among(rows, key),
+                version_among(scan.found.as_slice(), key),
+            ))
 }
 
 fn rows_as_noted(writes: &[Write], scan: &Scan, rows: &[Record]) -> bool

@@ -1,12 +1,12 @@
 //! Laws of the definitions that contracts cite.
-ghost use Rattle.std.specs.Prelude.{◌≡◌, ◌∷◌, ◌++◌, ℕ, List, true, Some};
+ghost use Rattle.std.specs.Prelude.{◌≡◌, ℕ, List, true, Some};
 ghost use Rattle.sdb_types.specs.declared.key.TableName.{TableName};
 ghost use Rattle.sdb_types.specs.Order.{table_text};
 ghost use Rattle.sdb_record.specs.Parts.{is_column_name};
-ghost use Rattle.sdb_schema.specs.declared.table.Direction.{Direction};
 ghost use Rattle.sdb_schema.specs.declared.table.Direction.TheVariants.{Asc};
 ghost use Rattle.sdb_schema.specs.declared.table.Order.{Order};
-ghost use Rattle.sdb_loader.specs.Words.{names_table, table_named, direction_named, order_named, IsOrderText};
+ghost use Rattle.sdb_loader.specs.Words.{names_table, table_named, order_named, IsOrderText};
+ghost use Rattle.sdb_loader.specs.Directed.{DirectedColumn, directed_order, directed_text};
 
 /// A text names a table where it is the text of that table, whose names a schema may use, and nowhere else.
 pub fn table_texts()
@@ -19,6 +19,6 @@ pub fn table_texts()
 /// the name, and nowhere else.
 pub fn order_texts()
     ensures alone { (name : List ℕ) → is_column_name name ≡ true → order_named name ≡ Some (record { name = name; direction = Asc }) }
-    ensures behind { (name word : List ℕ) (d : Direction) → is_column_name name ≡ true → direction_named word ≡ Some d → order_named (name ++ 32 ∷ word) ≡ Some (record { name = name; direction = d }) }
+    ensures behind { (c : DirectedColumn) → order_named (directed_text c) ≡ Some (directed_order c) }
     ensures only { (text : List ℕ) (o : Order) → order_named text ≡ Some o → IsOrderText text o }
 {}

@@ -5,3 +5,4 @@ pub mod Commit
 pub mod CommitLaws
 pub mod Recover
 pub mod RecoverLaws
+pub mod Run

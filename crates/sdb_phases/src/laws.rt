@@ -1,11 +1,10 @@
 //! Laws of the phases, for every list of replies that the calls can get.
-ghost use Rattle.std.specs.Prelude.{◌≡◌, ◌≤◌, ◌<◌, ◌^◌, ◌+◌, ℕ, ℤ, true, false, Option, Some, List, length};
+ghost use Rattle.std.specs.Prelude.{◌≡◌, ◌≤◌, ◌+◌, ℕ, ℤ, true, false, Option, Some, length};
 ghost use Rattle.sdb_types.specs.declared.key.Key.{Key};
 ghost use Rattle.sdb_types.specs.declared.txid.TxId.{TxId};
 ghost use Rattle.sdb_types.specs.declared.record.Record.{Record};
 ghost use Rattle.sdb_types.specs.declared.record.Reply.{Reply};
 ghost use Rattle.sdb_types.specs.declared.record.Reply.TheVariants as reply;
-ghost use Rattle.sdb_record.specs.declared.meta.Meta.{Meta};
 ghost use Rattle.sdb_record.specs.Coordinator.{coordinator_key_of};
 ghost use Rattle.sdb_phases.specs.declared.step.Outcome.{Outcome};
 ghost use Rattle.sdb_phases.specs.declared.step.Outcome.TheVariants as outcome;
@@ -13,18 +12,18 @@ ghost use Rattle.sdb_phases.specs.declared.step.DecidePhase.TheVariants as phase
 ghost use Rattle.sdb_phases.specs.declared.step.RecoverPhase.TheVariants as recovering;
 ghost use Rattle.sdb_phases.specs.declared.step.RecoverStep.TheVariants as recover_step;
 ghost use Rattle.sdb_phases.specs.Work.{Work, decide_of};
-ghost use Rattle.sdb_phases.specs.Commit.{Stage, Preparing, Checking, Deciding, Forward, Back, Over, after, step, pending, starved, has_stopped};
-ghost use Rattle.sdb_phases.specs.CommitLaws.{IsWork, Played, seen, may_undo, IsLost, is_unrecorded, writes_of, reads_of, exact_calls, most_calls};
-ghost use Rattle.sdb_phases.specs.Recover.{Heard, RecoverPlayed, recover_after, recover_answer};
+ghost use Rattle.sdb_phases.specs.Commit.{Stage, Preparing, Checking, Deciding, Forward, Back, Over, step, pending, starved, has_stopped};
+ghost use Rattle.sdb_phases.specs.CommitLaws.{may_undo, IsLost, is_unrecorded, writes_of, reads_of, exact_calls, most_calls};
 ghost use Rattle.sdb_phases.specs.RecoverLaws.{learned_committed, learned_aborted, found_expired, found_pending, WasRolled, heard_fault, heard_malformed};
+ghost use Rattle.sdb_phases.specs.Run.{CommitRun, RecoverRun, answer_of, phase_after, seen_in, stage_after};
 
 /// A COMMIT asks for its prepares in order, each after all before it were applied, and then for its checks in order, each
 /// after all before it have passed. It asks for the deciding put only after every prepare was applied and every check has
 /// passed, and at no other number of replies, so at most once.
 pub fn commit_order()
-    ensures prepares { (p : Work) (past : List Reply) (i : ℕ) → IsWork p → Played p past → after p past ≡ Preparing i → (length past ≡ i) × ((seen p past).passed ≡ true) }
-    ensures checks { (p : Work) (past : List Reply) (i : ℕ) → IsWork p → Played p past → after p past ≡ Checking i → (length past ≡ writes_of p + i) × ((seen p past).passed ≡ true) }
-    ensures decides { (p : Work) (past : List Reply) → IsWork p → Played p past → after p past ≡ Deciding phase.Put → (length past ≡ writes_of p + reads_of p) × ((seen p past).passed ≡ true) }
+    ensures prepares { (r : CommitRun) (i : ℕ) → stage_after r ≡ Preparing i → (length r.past ≡ i) × ((seen_in r).passed ≡ true) }
+    ensures checks { (r : CommitRun) (i : ℕ) → stage_after r ≡ Checking i → (length r.past ≡ writes_of r.work + i) × ((seen_in r).passed ≡ true) }
+    ensures decides { (r : CommitRun) → stage_after r ≡ Deciding phase.Put → (length r.past ≡ writes_of r.work + reads_of r.work) × ((seen_in r).passed ≡ true) }
     ensures alone { (p : Work) (s : Stage) → pending p s ≡ Some (decide_of p.id p.now) → s ≡ Deciding phase.Put }
 {}
 
@@ -32,8 +31,8 @@ pub fn commit_order()
 /// is ABORTED, or where its own put of ABORTED after a stop was applied or found a row, and its deciding put was not made or
 /// had no effect.
 pub fn commit_rolls()
-    ensures forward { (p : Work) (past : List Reply) (i : ℕ) → IsWork p → Played p past → after p past ≡ Forward i → (seen p past).committed ≡ true }
-    ensures back { (p : Work) (past : List Reply) (a : Outcome) (n i : ℕ) → IsWork p → Played p past → after p past ≡ Back a n i → may_undo (seen p past) ≡ true }
+    ensures forward { (r : CommitRun) (i : ℕ) → stage_after r ≡ Forward i → (seen_in r).committed ≡ true }
+    ensures back { (r : CommitRun) (a : Outcome) (n i : ℕ) → stage_after r ≡ Back a n i → may_undo (seen_in r) ≡ true }
 {}
 
 /// Committed is answered only where COMMITTED was learned. Conflict, Expired, Faulted and NoMemory are answered only where
@@ -42,20 +41,20 @@ pub fn commit_rolls()
 /// faulted and a later call for the row was answered Fault or NoMemory. BadRecord comes only where the newest reply holds a
 /// record at the transaction's coordinator key that isn't a well formed row.
 pub fn commit_ends()
-    ensures committed { (p : Work) (past : List Reply) → IsWork p → Played p past → after p past ≡ Over outcome.Committed → (seen p past).committed ≡ true }
-    ensures lost { (p : Work) (past : List Reply) (a : Outcome) → IsWork p → Played p past → after p past ≡ Over a → IsLost a → is_unrecorded (seen p past) ≡ true }
-    ensures unknown { (p : Work) (past : List Reply) (id : TxId) → IsWork p → Played p past → after p past ≡ Over (outcome.Unknown id) → (id ≡ p.id) × ((seen p past).put ≡ Some reply.Fault) × ((seen p past).failed ≡ true) }
-    ensures bad { (p : Work) (past : List Reply) (key : Key) → IsWork p → Played p past → after p past ≡ Over (outcome.BadRecord key) → (key ≡ coordinator_key_of p.id) × ((seen p past).malformed ≡ true) }
-    ensures conflict { (p : Work) (past : List Reply) (key : Key) (found : Option Record) → IsWork p → Played p past → after p past ≡ Over (outcome.Conflict key found) → (seen p past).passed ≡ false }
-    ensures expired { (p : Work) (past : List Reply) (id : TxId) → IsWork p → Played p past → after p past ≡ Over (outcome.Expired id) → (id ≡ p.id) × ((seen p past).aborted ≡ true) }
-    ensures faulted { (p : Work) (past : List Reply) → IsWork p → Played p past → after p past ≡ Over outcome.Faulted → (seen p past).faulted ≡ true }
+    ensures committed { (r : CommitRun) → stage_after r ≡ Over outcome.Committed → (seen_in r).committed ≡ true }
+    ensures lost { (r : CommitRun) (a : Outcome) → stage_after r ≡ Over a → IsLost a → is_unrecorded (seen_in r) ≡ true }
+    ensures unknown { (r : CommitRun) (id : TxId) → stage_after r ≡ Over (outcome.Unknown id) → (id ≡ r.work.id) × ((seen_in r).put ≡ Some reply.Fault) × ((seen_in r).failed ≡ true) }
+    ensures bad { (r : CommitRun) (key : Key) → stage_after r ≡ Over (outcome.BadRecord key) → (key ≡ coordinator_key_of r.work.id) × ((seen_in r).malformed ≡ true) }
+    ensures conflict { (r : CommitRun) (key : Key) (found : Option Record) → stage_after r ≡ Over (outcome.Conflict key found) → (seen_in r).passed ≡ false }
+    ensures expired { (r : CommitRun) (id : TxId) → stage_after r ≡ Over (outcome.Expired id) → (id ≡ r.work.id) × ((seen_in r).aborted ≡ true) }
+    ensures faulted { (r : CommitRun) → stage_after r ≡ Over outcome.Faulted → (seen_in r).faulted ≡ true }
 {}
 
 /// A COMMIT that is answered Committed makes exactly two calls for each write, one for each extra read, and the deciding
 /// put, where none faulted; and no COMMIT makes more than three calls above that.
 pub fn commit_calls()
-    ensures exact { (p : Work) (past : List Reply) → IsWork p → Played p past → after p past ≡ Over outcome.Committed → (seen p past).faulted ≡ false → length past ≡ exact_calls p }
-    ensures most { (p : Work) (past : List Reply) → IsWork p → Played p past → length past ≤ most_calls p }
+    ensures exact { (r : CommitRun) → stage_after r ≡ Over outcome.Committed → (seen_in r).faulted ≡ false → length r.past ≡ exact_calls r.work }
+    ensures most { (r : CommitRun) → length r.past ≤ most_calls r.work }
 {}
 
 /// A COMMIT that answers out of memory in place of a conflict makes the same calls, to the end.
@@ -69,18 +68,18 @@ pub fn starved_like()
 /// at which the record had expired. It rolls forward only after it learned that the row is COMMITTED, to what that row
 /// says, and back only after it learned that the row is ABORTED.
 pub fn recovers()
-    ensures most { (rec : Record) (meta : Meta) (past : List Heard) → meta.id.0 < 2 ^ 128 → RecoverPlayed rec meta past → length past ≤ 4 }
-    ensures aborts { (rec : Record) (meta : Meta) (past : List Heard) (now : ℤ) → meta.id.0 < 2 ^ 128 → RecoverPlayed rec meta past → recover_after rec meta past ≡ recovering.Abort now → (length past ≡ 1) × (found_expired meta past ≡ true) }
-    ensures forward { (rec : Record) (meta : Meta) (past : List Heard) (at : ℤ) → meta.id.0 < 2 ^ 128 → RecoverPlayed rec meta past → recover_after rec meta past ≡ recovering.Forward at → learned_committed rec meta at past ≡ true }
-    ensures back { (rec : Record) (meta : Meta) (past : List Heard) → meta.id.0 < 2 ^ 128 → RecoverPlayed rec meta past → recover_after rec meta past ≡ recovering.Back → learned_aborted rec meta past ≡ true }
+    ensures most { (r : RecoverRun) → length r.past ≤ 4 }
+    ensures aborts { (r : RecoverRun) (now : ℤ) → phase_after r ≡ recovering.Abort now → (length r.past ≡ 1) × (found_expired r.meta r.past ≡ true) }
+    ensures forward { (r : RecoverRun) (at : ℤ) → phase_after r ≡ recovering.Forward at → learned_committed r.found r.meta at r.past ≡ true }
+    ensures back { (r : RecoverRun) → phase_after r ≡ recovering.Back → learned_aborted r.found r.meta r.past ≡ true }
 {}
 
 /// A recovery is Busy only where its first look, and only call, found no row before the record has expired. Its image is what
 /// the roll leaves, and comes only with the roll's reply. It is Faulted only where a call faulted. BadRecord comes only where
 /// the newest reply holds a record at the coordinator key that isn't a well formed row.
 pub fn recover_ends()
-    ensures busy { (rec : Record) (meta : Meta) (past : List Heard) (id : TxId) (prepared_at : ℤ) → meta.id.0 < 2 ^ 128 → RecoverPlayed rec meta past → recover_answer rec meta past ≡ recover_step.Busy id prepared_at → (id ≡ meta.id) × (prepared_at ≡ meta.prepared_at) × (found_pending meta past ≡ true) }
-    ensures image { (rec : Record) (meta : Meta) (past : List Heard) (image : Option Record) → meta.id.0 < 2 ^ 128 → RecoverPlayed rec meta past → recover_answer rec meta past ≡ recover_step.Image image → WasRolled rec meta past image }
-    ensures faulted { (rec : Record) (meta : Meta) (past : List Heard) → meta.id.0 < 2 ^ 128 → RecoverPlayed rec meta past → recover_answer rec meta past ≡ recover_step.Faulted → heard_fault past ≡ true }
-    ensures bad { (rec : Record) (meta : Meta) (past : List Heard) (key : Key) → meta.id.0 < 2 ^ 128 → RecoverPlayed rec meta past → recover_answer rec meta past ≡ recover_step.BadRecord key → (key ≡ coordinator_key_of meta.id) × (heard_malformed meta past ≡ true) }
+    ensures busy { (r : RecoverRun) (id : TxId) (at : ℤ) → answer_of r ≡ recover_step.Busy id at → (id ≡ r.meta.id) × (at ≡ r.meta.prepared_at) × (found_pending r.meta r.past ≡ true) }
+    ensures image { (r : RecoverRun) (image : Option Record) → answer_of r ≡ recover_step.Image image → WasRolled r.found r.meta r.past image }
+    ensures faulted { (r : RecoverRun) → answer_of r ≡ recover_step.Faulted → heard_fault r.past ≡ true }
+    ensures bad { (r : RecoverRun) (key : Key) → answer_of r ≡ recover_step.BadRecord key → (key ≡ coordinator_key_of r.meta.id) × (heard_malformed r.meta r.past ≡ true) }
 {}

@@ -7,3 +7,5 @@ pub mod Refused
 pub mod Coordinator
 pub mod Rolls
 pub mod Moved
+pub mod Among
+pub mod Prepared

@@ -4,3 +4,4 @@ pub mod Inside
 pub mod Calls
 pub mod Fine
 pub mod Ends
+pub mod Run

@@ -2,4 +2,13 @@ use Rattle.sdb_phases.proofs.Derived.{ends_committed, ends_lost, ends_unknown, e
 use Rattle.sdb_phases.proofs.laws.commit_ends.Goals as goal
 
 pub returns : goal.returns
-returns c = record { committed = ends_committed; lost = ends_lost; unknown = ends_unknown; bad = ends_bad; conflict = ends_conflict; expired = ends_expired; faulted = ends_faulted }
+returns c =
+    record {
+      committed = λ r. ends_committed r.work r.past r.sound r.played;
+      lost = λ r a. ends_lost r.work r.past a r.sound r.played;
+      unknown = λ r id. ends_unknown r.work r.past id r.sound r.played;
+      bad = λ r key. ends_bad r.work r.past key r.sound r.played;
+      conflict = λ r key found. ends_conflict r.work r.past key found r.sound r.played;
+      expired = λ r id. ends_expired r.work r.past id r.sound r.played;
+      faulted = λ r. ends_faulted r.work r.past r.sound r.played;
+    }

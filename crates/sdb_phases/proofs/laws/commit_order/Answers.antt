@@ -3,4 +3,10 @@ use Rattle.sdb_phases.proofs.DecidingPut.{asks_deciding_put}
 use Rattle.sdb_phases.proofs.laws.commit_order.Goals as goal
 
 pub returns : goal.returns
-returns c = record { prepares = prepares_in_order; checks = checks_in_order; decides = decides_after_checks; alone = asks_deciding_put }
+returns c =
+    record {
+      prepares = λ r i. prepares_in_order r.work r.past i r.sound r.played;
+      checks = λ r i. checks_in_order r.work r.past i r.sound r.played;
+      decides = λ r. decides_after_checks r.work r.past r.sound r.played;
+      alone = asks_deciding_put;
+    }

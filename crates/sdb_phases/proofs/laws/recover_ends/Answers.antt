@@ -2,4 +2,10 @@ use Rattle.sdb_phases.proofs.RecoverAnswers.{busy_pending, image_rolled, faulted
 use Rattle.sdb_phases.proofs.laws.recover_ends.Goals as goal
 
 pub returns : goal.returns
-returns c = record { busy = busy_pending; image = image_rolled; faulted = faulted_fault; bad = bad_malformed }
+returns c =
+    record {
+      busy = λ r id at. busy_pending r.found r.meta r.past id at r.fits r.played;
+      image = λ r image. image_rolled r.found r.meta r.past image r.fits r.played;
+      faulted = λ r. faulted_fault r.found r.meta r.past r.fits r.played;
+      bad = λ r key. bad_malformed r.found r.meta r.past key r.fits r.played;
+    }

@@ -2,4 +2,10 @@ use Rattle.sdb_phases.proofs.RecoverStands.{recovers_in_four, aborts_expired, fo
 use Rattle.sdb_phases.proofs.laws.recovers.Goals as goal
 
 pub returns : goal.returns
-returns c = record { most = recovers_in_four; aborts = aborts_expired; forward = forwards_committed; back = backs_aborted }
+returns c =
+    record {
+      most = λ r. recovers_in_four r.found r.meta r.past r.fits r.played;
+      aborts = λ r now. aborts_expired r.found r.meta r.past now r.fits r.played;
+      forward = λ r at. forwards_committed r.found r.meta r.past at r.fits r.played;
+      back = λ r. backs_aborted r.found r.meta r.past r.fits r.played;
+    }

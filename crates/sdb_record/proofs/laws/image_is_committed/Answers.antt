@@ -5,7 +5,7 @@ pub returns : goal.returns
 returns c =
     record {
       itself = image-settled;
-      key = λ r i d h m k. (image-is r i d h m k).key;
-      taken = λ r i d h m k. (image-is r i d h m k).taken;
-      committed = λ r i d h m k. (image-is r i d h m k).committed;
+      key = λ i. (image-is i.found i.image i.decided i.taken i.moment i.is_image).key;
+      taken = λ i. (image-is i.found i.image i.decided i.taken i.moment i.is_image).taken;
+      committed = λ i. (image-is i.found i.image i.decided i.taken i.moment i.is_image).committed;
     }

@@ -1,6 +1,6 @@
 use Rattle.std.proofs.Common.{◌∙◌, Some, None}
 use Rattle.sdb_record.specs.declared.coordinator.Decision.TheVariants as decision
-use Rattle.sdb_record.specs.Rolls.{prepared_record}
+use Rattle.sdb_record.specs.Prepared.{decided_at, record_put}
 use Rattle.sdb_record.proofs.TakenLaws.{prepared-base}
 use Rattle.sdb_record.proofs.ImageLaws.{image-open, prepared-unsettled}
 use Rattle.sdb_record.proofs.laws.image_of_prepared.Goals as goal
@@ -8,7 +8,7 @@ use Rattle.sdb_record.proofs.laws.image_of_prepared.Goals as goal
 pub returns : goal.returns
 returns c =
     record {
-      undecided = λ w id now h. image-open (prepared_record w id now) None (prepared-unsettled w id now) ∙ prepared-base w id now h;
-      aborted = λ w id now created_at h. image-open (prepared_record w id now) (Some (record { decision = decision.Aborted; created_at = created_at })) (prepared-unsettled w id now) ∙ prepared-base w id now h;
-      committed = λ w id now created_at. image-open (prepared_record w id now) (Some (record { decision = decision.Committed; created_at = created_at })) (prepared-unsettled w id now);
+      undecided = λ p h. image-open (record_put p) None (prepared-unsettled p.write p.id p.now) ∙ prepared-base p.write p.id p.now h;
+      aborted = λ p at h. image-open (record_put p) (Some (decided_at decision.Aborted at)) (prepared-unsettled p.write p.id p.now) ∙ prepared-base p.write p.id p.now h;
+      committed = λ p at. image-open (record_put p) (Some (decided_at decision.Committed at)) (prepared-unsettled p.write p.id p.now);
     }

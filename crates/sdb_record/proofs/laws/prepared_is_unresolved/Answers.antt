@@ -7,8 +7,8 @@ use Rattle.sdb_record.proofs.laws.prepared_is_unresolved.Goals as goal
 pub returns : goal.returns
 returns c =
     record {
-      key = prepared-key;
-      version = prepared-version;
-      unresolved = prepared-unresolved;
-      meta = λ w id now h small moment. ap checked (prepared-columns w id now) ∙ left-checked w id now h small moment;
+      key = λ p. prepared-key p.write p.id p.now;
+      version = λ p. prepared-version p.write p.id p.now;
+      unresolved = λ p m. prepared-unresolved p.write p.id p.now m.write m.id m.now;
+      meta = λ p m. ap checked (prepared-columns p.write p.id p.now) ∙ left-checked p.write p.id p.now m.write m.id m.now;
     }

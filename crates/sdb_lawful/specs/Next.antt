@@ -1,0 +1,38 @@
+-- What the law of the tests speaks of.
+use Rattle.std.specs.Prelude.{ℕ, List}
+use Rattle.sdb_types.specs.declared.key.Key.{Key}
+use Rattle.sdb_record.specs.declared.coordinator.Decision.{Decision}
+use Rattle.sdb_model.specs.declared.event.Event.{Event}
+use Rattle.sdb_laws.specs.Lawful as lawful
+use Rattle.sdb_laws.specs.Lawful.{IsLawful, MayPrepare, MayRollBy}
+use Rattle.sdb_laws.specs.Plan as law
+use Rattle.sdb_said.specs.declared.plan.Plan.{Plan}
+use Rattle.sdb_said.specs.declared.played.Played.{Played}
+use Rattle.sdb_said.specs.declared.played.Word.{Word}
+use Rattle.sdb_said.specs.Values.{all_played, plan_in, word_of}
+
+-- An event, with the events before it, newest first, and the plans.
+pub record NextEvent : Type 0 where
+  pub past : List Played
+  pub plans : List Plan
+  pub event : Event
+
+-- the plans, by transaction
+abbrev pub plan_of : NextEvent → ℕ → law.Plan
+plan_of n = plan_in n.plans
+
+-- the events before it, as the rules speak of them
+abbrev pub past_of : NextEvent → List lawful.Played
+past_of n = all_played n.past
+
+-- the events before it keep the rules
+abbrev pub IsAfterLawful : NextEvent → Type 0
+IsAfterLawful n = IsLawful (plan_of n) (past_of n)
+
+-- It may prepare a key of a transaction, with that outcome.
+abbrev pub MayPrepareKey : NextEvent → ℕ → Key → Word → Type 0
+MayPrepareKey n t k w = MayPrepare (plan_of n) (past_of n) n.event t k (word_of w)
+
+-- It may roll a record of a transaction by that decision.
+abbrev pub MayRollKey : NextEvent → ℕ → Key → Decision → Type 0
+MayRollKey n t k d = MayRollBy (plan_of n) (past_of n) n.event t k d
