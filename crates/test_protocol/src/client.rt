@@ -50,20 +50,39 @@ fn put_call(out: &mut String, request: &Request) -> Result<(), NoMemory> {
     }
 }
 
-// Whether this call is pending.
-fn asks(alloc: Global, client: &Client, call: &str) -> Result<bool, Fail> {
+fn has_text(alloc: Global, request: &Request, call: &str) -> bool {
     let mut out = String::new(alloc);
-    if let Some(request) = client.pending() {
-        put_call(&mut out, request)?;
-    }
-    Ok(out.as_str() == call)
+    put_call(&mut out, request).is_ok() && out.as_str() == call
 }
 
-// The text of what a statement is answered; none where a call is pending.
-fn told(alloc: Global, answer: Option<sdb_model::Answer>) -> Result<Option<Txt>, Fail> {
+// Whether this call is pending.
+fn asks(alloc: Global, client: &Client, call: &str) -> bool {
+    match client.pending() {
+        Some(request) => has_text(alloc, request, call),
+        None => false,
+    }
+}
+
+// What a statement leads to: an answer with this text, or another one, or a call.
+#[derive(Clone, Copy, PartialEq, Eq)]
+enum Outcome {
+    Told,
+    Other,
+    Pending,
+}
+
+fn is_text(alloc: Global, answer: &sdb_model::Answer, text: &str) -> bool {
+    match answer_text(alloc, answer) {
+        Ok(found) => found.as_str() == text,
+        Err(_) => false,
+    }
+}
+
+fn outcome_of(alloc: Global, answer: &Option<sdb_model::Answer>, text: &str) -> Outcome {
     match answer {
-        Some(answer) => Ok(Some(answer_text(alloc, &answer)?)),
-        None => Ok(None),
+        Some(answer) if is_text(alloc, answer, text) => Outcome::Told,
+        Some(_) => Outcome::Other,
+        None => Outcome::Pending,
     }
 }
 
@@ -72,49 +91,40 @@ const QUIET: Gate = Gate {
     open_elsewhere: false,
 };
 
+// What a statement leads to, where it may be taken.
 fn take(
     alloc: Global,
     client: &mut Client,
     catalog: &Catalog,
-    text: &str,
-) -> Result<Option<Txt>, Fail> {
-    let text = Txt::new(alloc, text)?;
-    if text.as_str().len() < 1_000 && client.is_idle() {
-        told(alloc, client.take(catalog, &text, 0, QUIET))
-    } else {
-        Err(Fail::from("it may not be taken"))
-    }
-}
-
-fn give(alloc: Global, client: &mut Client, answer: Answer) -> Result<Option<Txt>, Fail> {
-    match reply_to(alloc, client.pending(), answer)? {
-        Some(reply) => told(alloc, client.advance(reply, 0)),
-        None => Err(Fail::from("no such reply")),
-    }
-}
-
-// What a statement is answered in the end, if each of its calls is the one that is pending in turn.
-fn answered(
-    alloc: Global,
-    client: &mut Client,
-    catalog: &Catalog,
-    step: &Step,
-) -> Result<Option<Txt>, Fail> {
-    let mut answer = take(alloc, client, catalog, step.0)?;
-    for (call, reply) in step.1 {
-        if answer.is_some() || !asks(alloc, client, call)? {
-            return Err(Fail::from("another call"));
+    statement: &str,
+    told: &str,
+) -> Outcome {
+    match Txt::new(alloc, statement) {
+        Ok(text) if text.as_str().len() < 1_000 && client.is_idle() => {
+            outcome_of(alloc, &client.take(catalog, &text, 0, QUIET), told)
         }
-        answer = give(alloc, client, *reply)?;
+        _ => Outcome::Other,
     }
-    Ok(answer)
 }
 
-fn goes(alloc: Global, client: &mut Client, catalog: &Catalog, step: &Step) -> Result<bool, Fail> {
-    match answered(alloc, client, catalog, step)? {
-        Some(answer) => Ok(answer.as_str() == step.2),
-        None => Ok(false),
+// What such a reply leads to, where the pending call has one.
+fn give(alloc: Global, client: &mut Client, answer: Answer, told: &str) -> Outcome {
+    match reply_to(alloc, client.pending(), answer) {
+        Some(reply) => outcome_of(alloc, &client.advance(reply, 0), told),
+        None => Outcome::Other,
     }
+}
+
+// Whether a statement is answered so in the end, and each of its calls is the one that is pending in turn.
+fn goes(alloc: Global, client: &mut Client, catalog: &Catalog, step: &Step) -> bool {
+    let mut outcome = take(alloc, client, catalog, step.0, step.2);
+    for (call, reply) in step.1 {
+        if outcome != Outcome::Pending || !asks(alloc, client, call) {
+            return false;
+        }
+        outcome = give(alloc, client, *reply, step.2);
+    }
+    outcome == Outcome::Told
 }
 
 #[derive(Clone, Copy)]
@@ -126,25 +136,20 @@ struct Script {
     begun: u64,
 }
 
-fn play(
-    alloc: Global,
-    client: &mut Client,
-    catalog: &Catalog,
-    steps: &[Step],
-) -> Result<bool, Fail> {
+fn play(alloc: Global, client: &mut Client, catalog: &Catalog, steps: &[Step]) -> bool {
     for step in steps {
-        if !goes(alloc, client, catalog, step)? {
-            return Ok(false);
+        if !goes(alloc, client, catalog, step) {
+            return false;
         }
     }
-    Ok(true)
+    true
 }
 
 impl Case for Script {
     fn holds(self, alloc: Global) -> Result<bool, Fail> {
         let catalog = catalog_of(alloc, self.schema)?;
         let mut client = Client::new(alloc, 1);
-        let played = play(alloc, &mut client, &catalog, self.steps)?;
+        let played = play(alloc, &mut client, &catalog, self.steps);
         Ok(played && client.is_open() == self.open && client.begun() == self.begun)
     }
 }

@@ -1,4 +1,7 @@
 //! Whole COMMITs: of two deletes, and of one read.
+ghost use Rattle.std.specs.Prelude.{All};
+ghost use Rattle.sdb_record.specs.Rolls.{IsWrite};
+
 use crate::machine::{Machine, Told, conflict_at, plays_out};
 use crate::replies::{ABORTED, Answer, BAD_ROW, COMMITTED, reply_to};
 use crate::writes::two_deletes;
@@ -30,10 +33,10 @@ fn told_by(answer: &Option<Outcome>) -> Told {
 }
 
 impl Machine for CommitPhases {
-    fn give(&mut self, alloc: Global, answer: Answer, _now: i64) -> Result<Told, NameRefused> {
-        match reply_to(alloc, self.request(), answer)? {
-            Some(reply) => Ok(told_by(&self.take(reply))),
-            None => Ok(Told::Other),
+    fn give(&mut self, alloc: Global, answer: Answer, _now: i64) -> Told {
+        match reply_to(alloc, self.request(), answer) {
+            Some(reply) => told_by(&self.take(reply)),
+            None => Told::Other,
         }
     }
 
@@ -50,16 +53,20 @@ enum Steps {
     OfARead(&'static [(Answer, Told)]),
 }
 
-fn commit_of(alloc: Global, reads: Reads) -> Result<CommitPhases, NameRefused> {
-    let scans = Scans::new(alloc);
-    if reads.is_empty() {
-        return Ok(CommitPhases::new(alloc, OWN, 7, two_deletes(alloc)?, reads, scans)?);
+fn commit_plays(alloc: Global, writes: Writes, reads: Reads, steps: &[(Answer, Told)]) -> bool
+    requires { All IsWrite writes }
+{
+    match CommitPhases::new(alloc, OWN, 7, writes, reads, Scans::new(alloc)) {
+        Ok(commit) => plays_out(alloc, commit, steps),
+        Err(_) => false,
     }
-    Ok(CommitPhases::new(alloc, OWN, 7, Writes::new(alloc), reads, scans)?)
 }
 
-fn of_writes(alloc: Global, steps: &[(Answer, Told)]) -> Result<bool, Fail> {
-    Ok(plays_out(alloc, commit_of(alloc, Reads::new(alloc))?, steps)?)
+fn of_writes(alloc: Global, steps: &[(Answer, Told)]) -> bool {
+    match two_deletes(alloc) {
+        Ok(writes) => commit_plays(alloc, writes, Reads::new(alloc), steps),
+        Err(_) => false,
+    }
 }
 
 fn one_read(alloc: Global) -> Result<Reads, NameRefused> {
@@ -71,15 +78,18 @@ fn one_read(alloc: Global) -> Result<Reads, NameRefused> {
     Ok(reads)
 }
 
-fn of_a_read(alloc: Global, steps: &[(Answer, Told)]) -> Result<bool, Fail> {
-    Ok(plays_out(alloc, commit_of(alloc, one_read(alloc)?)?, steps)?)
+fn of_a_read(alloc: Global, steps: &[(Answer, Told)]) -> bool {
+    match one_read(alloc) {
+        Ok(reads) => commit_plays(alloc, Writes::new(alloc), reads, steps),
+        Err(_) => false,
+    }
 }
 
 impl Case for Steps {
     fn holds(self, alloc: Global) -> Result<bool, Fail> {
         match self {
-            Steps::OfWrites(steps) => of_writes(alloc, steps),
-            Steps::OfARead(steps) => of_a_read(alloc, steps),
+            Steps::OfWrites(steps) => Ok(of_writes(alloc, steps)),
+            Steps::OfARead(steps) => Ok(of_a_read(alloc, steps)),
         }
     }
 }

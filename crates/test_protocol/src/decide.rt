@@ -2,10 +2,10 @@
 use crate::machine::{EXPIRED, Machine, Told, if_row_of, told_after};
 use crate::replies::{ABORTED, Answer, BAD_ROW, COMMITTED, reply_to};
 use sdb_decide::{Decide, DecideStep};
-use sdb_types::{NameRefused, TxId};
+use sdb_types::TxId;
 use std::alloc::Global;
 use std::test::Fail;
-use test_builders::wrong_at;
+use test_builders::{Case, all_cases};
 
 const OWN: TxId = TxId(0x2_0000_0000_0000_0001);
 
@@ -28,10 +28,10 @@ fn told_by(step: &DecideStep) -> Told {
 }
 
 impl Machine for Decide {
-    fn give(&mut self, alloc: Global, answer: Answer, _now: i64) -> Result<Told, NameRefused> {
-        match reply_to(alloc, self.request(), answer)? {
-            Some(reply) => Ok(told_by(&self.take(reply))),
-            None => Ok(Told::Other),
+    fn give(&mut self, alloc: Global, answer: Answer, _now: i64) -> Told {
+        match reply_to(alloc, self.request(), answer) {
+            Some(reply) => told_by(&self.take(reply)),
+            None => Told::Other,
         }
     }
 
@@ -41,78 +41,83 @@ impl Machine for Decide {
 }
 
 // Whether this answer after those tells that.
-fn tells(alloc: Global, before: &[Answer], answer: Answer, told: Told) -> Result<bool, Fail> {
-    let decide = Decide::new(alloc, OWN, 7)?;
-    Ok(told_after(alloc, decide, before, answer, EXPIRED)? == told)
-}
-
-// Fails at the first of these answers after those that tells otherwise than listed.
-fn all_tell(alloc: Global, before: &[Answer], answers: &[(Answer, Told)]) -> Result<(), Fail> {
-    for (place, case) in answers.iter().enumerate() {
-        if !tells(alloc, before, case.0, case.1)? {
-            return Err(wrong_at(place));
-        }
+fn tells(alloc: Global, before: &[Answer], answer: Answer, told: Told) -> bool {
+    match Decide::new(alloc, OWN, 7) {
+        Ok(decide) => told_after(alloc, decide, before, answer, EXPIRED) == told,
+        Err(_) => false,
     }
-    Ok(())
 }
 
-static TO_PUT: [(Answer, Told); 6] = [
-    (Answer::Applied, Told::Committed),
-    (ABORTED, Told::Expired),
-    (COMMITTED, Told::Committed),
-    (Answer::Starved, Told::NoMemory),
-    (Answer::Fault, Told::More),
-    (BAD_ROW, Told::BadRecord),
-];
-
-static TO_LOOK: [(Answer, Told); 6] = [
-    (COMMITTED, Told::Committed),
-    (ABORTED, Told::Expired),
-    (Answer::NoRow, Told::More),
-    (Answer::Fault, Told::Unknown),
-    (Answer::Starved, Told::Unknown),
-    (BAD_ROW, Told::BadRecord),
-];
-
-// COMMITTED is found only where the deciding put takes effect late.
-static TO_ABORT: [(Answer, Told); 6] = [
-    (Answer::Applied, Told::Faulted),
-    (COMMITTED, Told::Committed),
-    (ABORTED, Told::Expired),
-    (Answer::Starved, Told::Unknown),
-    (Answer::Fault, Told::More),
-    (BAD_ROW, Told::BadRecord),
-];
-
-// COMMITTED is found only where the deciding put takes effect late.
-static TO_SECOND_LOOK: [(Answer, Told); 6] = [
-    (COMMITTED, Told::Committed),
-    (ABORTED, Told::Faulted),
-    (Answer::NoRow, Told::Unknown),
-    (Answer::Fault, Told::Unknown),
-    (Answer::Starved, Told::Unknown),
-    (BAD_ROW, Told::BadRecord),
-];
-
-// The deciding put faults; then there is no row; then the put of ABORTED faults.
-static FAULTS: [Answer; 3] = [Answer::Fault, Answer::NoRow, Answer::Fault];
-
-#[test]
-fn deciding_put_is_answered(rt: HostRuntime) -> Result<(), Fail> {
-    all_tell(rt.alloc(), &[], TO_PUT.as_slice())
+// Answers, and those that may come after them, each with what it tells.
+#[derive(Clone, Copy)]
+struct Asked {
+    before: &'static [Answer],
+    answers: &'static [(Answer, Told)],
 }
 
-#[test]
-fn row_is_looked_for_after_a_fault(rt: HostRuntime) -> Result<(), Fail> {
-    all_tell(rt.alloc(), &FAULTS[..1], TO_LOOK.as_slice())
+impl Case for Asked {
+    fn holds(self, alloc: Global) -> Result<bool, Fail> {
+        for (answer, told) in self.answers {
+            if !tells(alloc, self.before, *answer, *told) {
+                return Ok(false);
+            }
+        }
+        Ok(true)
+    }
 }
 
-#[test]
-fn put_of_aborted_is_answered(rt: HostRuntime) -> Result<(), Fail> {
-    all_tell(rt.alloc(), &FAULTS[..2], TO_ABORT.as_slice())
-}
+static CASES: [Asked; 4] = [
+    // The deciding put.
+    Asked {
+        before: &[],
+        answers: &[
+            (Answer::Applied, Told::Committed),
+            (ABORTED, Told::Expired),
+            (COMMITTED, Told::Committed),
+            (Answer::Starved, Told::NoMemory),
+            (Answer::Fault, Told::More),
+            (BAD_ROW, Told::BadRecord),
+        ],
+    },
+    // The row is looked for after a fault.
+    Asked {
+        before: &[Answer::Fault],
+        answers: &[
+            (COMMITTED, Told::Committed),
+            (ABORTED, Told::Expired),
+            (Answer::NoRow, Told::More),
+            (Answer::Fault, Told::Unknown),
+            (Answer::Starved, Told::Unknown),
+            (BAD_ROW, Told::BadRecord),
+        ],
+    },
+    // The put of ABORTED, where there is no row. COMMITTED is found only where the deciding put takes effect late.
+    Asked {
+        before: &[Answer::Fault, Answer::NoRow],
+        answers: &[
+            (Answer::Applied, Told::Faulted),
+            (COMMITTED, Told::Committed),
+            (ABORTED, Told::Expired),
+            (Answer::Starved, Told::Unknown),
+            (Answer::Fault, Told::More),
+            (BAD_ROW, Told::BadRecord),
+        ],
+    },
+    // The row is looked for a second time. COMMITTED is found only where the deciding put takes effect late.
+    Asked {
+        before: &[Answer::Fault, Answer::NoRow, Answer::Fault],
+        answers: &[
+            (COMMITTED, Told::Committed),
+            (ABORTED, Told::Faulted),
+            (Answer::NoRow, Told::Unknown),
+            (Answer::Fault, Told::Unknown),
+            (Answer::Starved, Told::Unknown),
+            (BAD_ROW, Told::BadRecord),
+        ],
+    },
+];
 
 #[test]
-fn row_is_looked_for_a_second_time(rt: HostRuntime) -> Result<(), Fail> {
-    all_tell(rt.alloc(), &FAULTS, TO_SECOND_LOOK.as_slice())
+fn decisions_are_answered(rt: HostRuntime) -> Result<(), Fail> {
+    all_cases(rt.alloc(), "decide", CASES.as_slice())
 }

@@ -1,6 +1,6 @@
 //! The driver of the machines.
 use crate::replies::Answer;
-use sdb_types::{Key, NameRefused, Request, TxId, Value};
+use sdb_types::{Key, Request, TxId, Value};
 use std::alloc::Global;
 use test_builders::number_of;
 
@@ -33,7 +33,7 @@ pub enum Told {
 /// What takes replies, one after the other.
 pub trait Machine {
     /// What an answer to the pending call tells, at a moment.
-    fn give(&mut self, alloc: Global, answer: Answer, now: i64) -> Result<Told, NameRefused>;
+    fn give(&mut self, alloc: Global, answer: Answer, now: i64) -> Told;
 
     /// Whether no call is pending.
     fn is_over(&self) -> bool;
@@ -44,15 +44,10 @@ pub const EXPIRED: i64 = 16_000;
 
 pub const EARLIER: i64 = 15_999;
 
-fn give_all<M: Machine>(
-    alloc: Global,
-    machine: &mut M,
-    answers: &[Answer],
-) -> Result<(), NameRefused> {
+fn give_all<M: Machine>(alloc: Global, machine: &mut M, answers: &[Answer]) {
     for answer in answers {
-        machine.give(alloc, *answer, EXPIRED)?;
+        machine.give(alloc, *answer, EXPIRED);
     }
-    Ok(())
 }
 
 /// What one more answer tells, at a moment. The others come when the record has expired.
@@ -62,32 +57,24 @@ pub fn told_after<M: Machine + Drop>(
     before: &[Answer],
     answer: Answer,
     now: i64,
-) -> Result<Told, NameRefused> {
+) -> Told {
     let mut machine = machine;
-    give_all(alloc, &mut machine, before)?;
+    give_all(alloc, &mut machine, before);
     machine.give(alloc, answer, now)
 }
 
 /// Whether each answer tells what stands beside it, and no call is pending in the end.
-pub fn plays<M: Machine>(
-    alloc: Global,
-    machine: &mut M,
-    steps: &[(Answer, Told)],
-) -> Result<bool, NameRefused> {
+pub fn plays<M: Machine>(alloc: Global, machine: &mut M, steps: &[(Answer, Told)]) -> bool {
     for (answer, told) in steps {
-        if machine.give(alloc, *answer, EXPIRED)? != *told {
-            return Ok(false);
+        if machine.give(alloc, *answer, EXPIRED) != *told {
+            return false;
         }
     }
-    Ok(machine.is_over())
+    machine.is_over()
 }
 
 /// The same of a machine that is not needed afterwards.
-pub fn plays_out<M: Machine + Drop>(
-    alloc: Global,
-    machine: M,
-    steps: &[(Answer, Told)],
-) -> Result<bool, NameRefused> {
+pub fn plays_out<M: Machine + Drop>(alloc: Global, machine: M, steps: &[(Answer, Told)]) -> bool {
     let mut machine = machine;
     plays(alloc, &mut machine, steps)
 }

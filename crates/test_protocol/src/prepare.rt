@@ -3,7 +3,7 @@ use crate::machine::{Machine, Told, conflict_at, plays};
 use crate::replies::{Answer, BAD_ROW, reply_to};
 use crate::writes::two_deletes;
 use sdb_prepare::{Prepare, PrepareStep};
-use sdb_types::{NameRefused, TxId};
+use sdb_types::TxId;
 use std::alloc::Global;
 use std::test::Fail;
 use test_builders::{Case, all_cases};
@@ -23,10 +23,10 @@ fn told_by(step: &PrepareStep) -> Told {
 }
 
 impl Machine for Prepare {
-    fn give(&mut self, alloc: Global, answer: Answer, _now: i64) -> Result<Told, NameRefused> {
-        match reply_to(alloc, self.request(), answer)? {
-            Some(reply) => Ok(told_by(&self.take(reply))),
-            None => Ok(Told::Other),
+    fn give(&mut self, alloc: Global, answer: Answer, _now: i64) -> Told {
+        match reply_to(alloc, self.request(), answer) {
+            Some(reply) => told_by(&self.take(reply)),
+            None => Told::Other,
         }
     }
 
@@ -68,14 +68,19 @@ static CASES: [Prepared; 4] = [
     },
 ];
 
-fn begin(alloc: Global) -> Result<Prepare, Fail> {
-    Ok(Prepare::new(alloc, &two_deletes(alloc)?, OWN, 7)?)
+impl Prepared {
+    fn plays(self, alloc: Global, prepare: Prepare) -> bool {
+        let mut prepare = prepare;
+        plays(alloc, &mut prepare, self.steps) && prepare.touched() == self.touched
+    }
 }
 
 impl Case for Prepared {
     fn holds(self, alloc: Global) -> Result<bool, Fail> {
-        let mut prepare = begin(alloc)?;
-        Ok(plays(alloc, &mut prepare, self.steps)? && prepare.touched() == self.touched)
+        match Prepare::new(alloc, &two_deletes(alloc)?, OWN, 7) {
+            Ok(prepare) => Ok(self.plays(alloc, prepare)),
+            Err(_) => Ok(false),
+        }
     }
 }
 

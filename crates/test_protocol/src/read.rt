@@ -3,7 +3,7 @@ use crate::machine::{Machine, Told, plays_out};
 use crate::replies::{ABORTED, Answer, BAD_ROW, COMMITTED, reply_to};
 use sdb_read::{ReadPhases, ReadStep};
 use sdb_record::Access;
-use sdb_types::{NameRefused, Record, Records, TxId};
+use sdb_types::{Record, Records, TxId};
 use std::alloc::Global;
 use std::test::Fail;
 use test_builders::{Case, Cell, account, account_with, all_cases, number_of};
@@ -60,10 +60,10 @@ fn told_by(step: &ReadStep, image: &Record) -> Told {
 }
 
 impl Machine for Run {
-    fn give(&mut self, alloc: Global, answer: Answer, now: i64) -> Result<Told, NameRefused> {
-        match reply_to(alloc, self.read.request(), answer)? {
-            Some(reply) => Ok(told_by(&self.read.take(reply, now), &self.image)),
-            None => Ok(Told::Other),
+    fn give(&mut self, alloc: Global, answer: Answer, now: i64) -> Told {
+        match reply_to(alloc, self.read.request(), answer) {
+            Some(reply) => told_by(&self.read.take(reply, now), &self.image),
+            None => Told::Other,
         }
     }
 
@@ -113,7 +113,7 @@ impl Case for Steps {
     fn holds(self, alloc: Global) -> Result<bool, Fail> {
         let image = account_with(alloc, 1, IMAGE)?;
         let read = begin(alloc)?;
-        Ok(plays_out(alloc, Run { read, image }, self.0)?)
+        Ok(plays_out(alloc, Run { read, image }, self.0))
     }
 }
 

@@ -3,10 +3,10 @@ use crate::machine::{EARLIER, EXPIRED, Machine, Told, if_row_of, told_after};
 use crate::replies::{ABORTED, Answer, BAD_ROW, COMMITTED, reply_to};
 use sdb_record::meta_of;
 use sdb_recover::{Recover, RecoverStep};
-use sdb_types::{NameRefused, NoMemory, Record, TxId};
+use sdb_types::{NoMemory, Record, TxId};
 use std::alloc::Global;
 use std::test::Fail;
-use test_builders::{Cell, account_with, wrong_at};
+use test_builders::{Case, Cell, account_with, all_cases};
 
 const OTHER: TxId = TxId(0x1_0000_0000_0000_0001);
 
@@ -67,10 +67,10 @@ fn told_by(step: &RecoverStep, image: &Record) -> Told {
 }
 
 impl Machine for Run {
-    fn give(&mut self, alloc: Global, answer: Answer, now: i64) -> Result<Told, NameRefused> {
-        match reply_to(alloc, self.recover.request(), answer)? {
-            Some(reply) => Ok(told_by(&self.recover.take(reply, now), &self.image)),
-            None => Ok(Told::Other),
+    fn give(&mut self, alloc: Global, answer: Answer, now: i64) -> Told {
+        match reply_to(alloc, self.recover.request(), answer) {
+            Some(reply) => told_by(&self.recover.take(reply, now), &self.image),
+            None => Told::Other,
         }
     }
 
@@ -90,40 +90,50 @@ fn recovery(alloc: Global, rec: Record) -> Result<Recover, NoMemory> {
     Recover::new(alloc, rec)
 }
 
-fn begin(alloc: Global) -> Result<Run, Fail> {
-    let image = account_with(alloc, 1, IMAGE.as_slice())?;
-    let rec = account_with(alloc, 1, PREPARED.as_slice())?;
-    let recover = recovery(alloc, rec)?;
-    Ok(Run { recover, image })
+fn run_of(alloc: Global, rec: Record, image: Record) -> Option<Run> {
+    match recovery(alloc, rec) {
+        Ok(recover) => Some(Run { recover, image }),
+        Err(_) => None,
+    }
+}
+
+fn begin(alloc: Global) -> Option<Run> {
+    if let Ok(image) = account_with(alloc, 1, IMAGE.as_slice())
+        && let Ok(rec) = account_with(alloc, 1, PREPARED.as_slice())
+    {
+        return run_of(alloc, rec, image);
+    }
+    None
 }
 
 // Whether this answer after those tells that, at a moment. The others come when the record has expired.
-fn tells(
-    alloc: Global,
-    before: &[Answer],
-    now: i64,
-    answer: Answer,
-    told: Told,
-) -> Result<bool, Fail> {
-    Ok(told_after(alloc, begin(alloc)?, before, answer, now)? == told)
-}
-
-// Fails at the first of these answers after those that tells otherwise than listed, at a moment.
-fn all_tell(
-    alloc: Global,
-    before: &[Answer],
-    now: i64,
-    answers: &[(Answer, Told)],
-) -> Result<(), Fail> {
-    for (place, case) in answers.iter().enumerate() {
-        if !tells(alloc, before, now, case.0, case.1)? {
-            return Err(wrong_at(place));
-        }
+fn tells(alloc: Global, before: &[Answer], now: i64, answer: Answer, told: Told) -> bool {
+    match begin(alloc) {
+        Some(run) => told_after(alloc, run, before, answer, now) == told,
+        None => false,
     }
-    Ok(())
 }
 
-static TO_EARLY_LOOK: [(Answer, Told); 6] = [
+// Answers, and those that may come after them at a moment, each with what it tells.
+#[derive(Clone, Copy)]
+struct Asked {
+    before: &'static [Answer],
+    now: i64,
+    answers: &'static [(Answer, Told)],
+}
+
+impl Case for Asked {
+    fn holds(self, alloc: Global) -> Result<bool, Fail> {
+        for (answer, told) in self.answers {
+            if !tells(alloc, self.before, self.now, *answer, *told) {
+                return Ok(false);
+            }
+        }
+        Ok(true)
+    }
+}
+
+const TO_EARLY_LOOK: &[(Answer, Told)] = &[
     (Answer::NoRow, Told::Busy),
     (COMMITTED, Told::More),
     (ABORTED, Told::More),
@@ -132,7 +142,7 @@ static TO_EARLY_LOOK: [(Answer, Told); 6] = [
     (BAD_ROW, Told::BadRecord),
 ];
 
-static TO_LATE_LOOK: [(Answer, Told); 6] = [
+const TO_LATE_LOOK: &[(Answer, Told)] = &[
     (Answer::NoRow, Told::More),
     (COMMITTED, Told::More),
     (ABORTED, Told::More),
@@ -141,7 +151,7 @@ static TO_LATE_LOOK: [(Answer, Told); 6] = [
     (BAD_ROW, Told::BadRecord),
 ];
 
-static TO_ABORT: [(Answer, Told); 6] = [
+const TO_ABORT: &[(Answer, Told)] = &[
     (Answer::Applied, Told::More),
     (COMMITTED, Told::More),
     (ABORTED, Told::More),
@@ -150,7 +160,7 @@ static TO_ABORT: [(Answer, Told); 6] = [
     (BAD_ROW, Told::BadRecord),
 ];
 
-static TO_SECOND_LOOK: [(Answer, Told); 6] = [
+const TO_SECOND_LOOK: &[(Answer, Told)] = &[
     (COMMITTED, Told::More),
     (ABORTED, Told::More),
     (Answer::NoRow, Told::Faulted),
@@ -159,73 +169,93 @@ static TO_SECOND_LOOK: [(Answer, Told); 6] = [
     (BAD_ROW, Told::BadRecord),
 ];
 
-static TO_FORWARD: [(Answer, Told); 4] = [
+const TO_FORWARD: &[(Answer, Told)] = &[
     (Answer::Applied, Told::Forward),
     (Answer::NotMet, Told::Forward),
     (Answer::Fault, Told::Faulted),
     (Answer::Starved, Told::NoMemory),
 ];
 
-static TO_BACK: [(Answer, Told); 4] = [
+const TO_BACK: &[(Answer, Told)] = &[
     (Answer::Applied, Told::Back),
     (Answer::NotMet, Told::Back),
     (Answer::Fault, Told::Faulted),
     (Answer::Starved, Told::NoMemory),
 ];
 
-// Whether each answer to the roll that these lead to tells as listed.
-fn all_roll(alloc: Global, cases: &[Before], answers: &[(Answer, Told)]) -> Result<(), Fail> {
-    for (before, now) in cases {
-        all_tell(alloc, before, *now, answers)?;
-    }
-    Ok(())
-}
-
-// What leads to a roll, and the moment of its answer.
-type Before = (&'static [Answer], i64);
-
-static TO_COMMITTED: [Before; 3] = [
-    (&[COMMITTED], EARLIER),
-    (&[Answer::NoRow, COMMITTED], EXPIRED),
-    (&[Answer::NoRow, Answer::Fault, COMMITTED], EXPIRED),
+// The row is looked for before 15 seconds have passed, and then; ABORTED is put, and the row is looked for a second time.
+static LOOKS: [Asked; 4] = [
+    Asked {
+        before: &[],
+        now: EARLIER,
+        answers: TO_EARLY_LOOK,
+    },
+    Asked {
+        before: &[],
+        now: EXPIRED,
+        answers: TO_LATE_LOOK,
+    },
+    Asked {
+        before: &[Answer::NoRow],
+        now: EXPIRED,
+        answers: TO_ABORT,
+    },
+    Asked {
+        before: &[Answer::NoRow, Answer::Fault],
+        now: EXPIRED,
+        answers: TO_SECOND_LOOK,
+    },
 ];
 
-static TO_ABORTED: [Before; 4] = [
-    (&[ABORTED], EARLIER),
-    (&[Answer::NoRow, ABORTED], EXPIRED),
-    (&[Answer::NoRow, Answer::Fault, ABORTED], EXPIRED),
-    (&[Answer::NoRow, Answer::Applied], EXPIRED),
+// A row that says COMMITTED is followed, and one that says ABORTED; the last of these is the recovery's own put.
+static ROLLS: [Asked; 7] = [
+    Asked {
+        before: &[COMMITTED],
+        now: EARLIER,
+        answers: TO_FORWARD,
+    },
+    Asked {
+        before: &[Answer::NoRow, COMMITTED],
+        now: EXPIRED,
+        answers: TO_FORWARD,
+    },
+    Asked {
+        before: &[Answer::NoRow, Answer::Fault, COMMITTED],
+        now: EXPIRED,
+        answers: TO_FORWARD,
+    },
+    Asked {
+        before: &[ABORTED],
+        now: EARLIER,
+        answers: TO_BACK,
+    },
+    Asked {
+        before: &[Answer::NoRow, ABORTED],
+        now: EXPIRED,
+        answers: TO_BACK,
+    },
+    Asked {
+        before: &[Answer::NoRow, Answer::Fault, ABORTED],
+        now: EXPIRED,
+        answers: TO_BACK,
+    },
+    Asked {
+        before: &[Answer::NoRow, Answer::Applied],
+        now: EXPIRED,
+        answers: TO_BACK,
+    },
 ];
 
-#[test]
-fn busy_before_15_seconds_have_passed(rt: HostRuntime) -> Result<(), Fail> {
-    all_tell(rt.alloc(), &[], EARLIER, TO_EARLY_LOOK.as_slice())
+fn looks(alloc: Global) -> Result<(), Fail> {
+    all_cases(alloc, "looks", LOOKS.as_slice())
+}
+
+fn rolls(alloc: Global) -> Result<(), Fail> {
+    all_cases(alloc, "rolls", ROLLS.as_slice())
 }
 
 #[test]
-fn puts_aborted_when_15_seconds_have_passed(rt: HostRuntime) -> Result<(), Fail> {
-    all_tell(rt.alloc(), &[], EXPIRED, TO_LATE_LOOK.as_slice())
-}
-
-#[test]
-fn put_of_aborted_is_answered(rt: HostRuntime) -> Result<(), Fail> {
-    let before = [Answer::NoRow];
-    all_tell(rt.alloc(), &before, EXPIRED, TO_ABORT.as_slice())
-}
-
-#[test]
-fn row_is_looked_for_a_second_time(rt: HostRuntime) -> Result<(), Fail> {
-    let before = [Answer::NoRow, Answer::Fault];
-    all_tell(rt.alloc(), &before, EXPIRED, TO_SECOND_LOOK.as_slice())
-}
-
-#[test]
-fn committed_row_is_followed(rt: HostRuntime) -> Result<(), Fail> {
-    all_roll(rt.alloc(), TO_COMMITTED.as_slice(), TO_FORWARD.as_slice())
-}
-
-// The last of these is the recovery's own put of ABORTED.
-#[test]
-fn aborted_row_is_followed(rt: HostRuntime) -> Result<(), Fail> {
-    all_roll(rt.alloc(), TO_ABORTED.as_slice(), TO_BACK.as_slice())
+fn recoveries_are_answered(rt: HostRuntime) -> Result<(), Fail> {
+    looks(rt.alloc())?;
+    rolls(rt.alloc())
 }

@@ -3,6 +3,8 @@ ghost use Rattle.std.specs.Prelude.{◌≡◌, IfOk, IfSome, IsSome};
 ghost use Rattle.std.specs.Option.{option_copied};
 ghost use Rattle.sdb_types.specs.Contents.{CanAnswer};
 ghost use Rattle.sdb_phases.specs.Steps.{CanGet};
+ghost use Rattle.sdb_types.specs.declared.record.Request.TheVariants.{Get, PutIf};
+ghost use Rattle.sdb_types.specs.declared.record.Condition.TheVariants.{Absent};
 
 use sdb_types::{Columns, Condition, Duplicate, Key, NameRefused, Record, Records, Reply, Request};
 use std::alloc::Global;
@@ -43,16 +45,32 @@ fn row_at(key: &Key, columns: Columns) -> Result<Record, NameRefused>
     })
 }
 
+fn found_at(key: &Key, columns: Columns) -> Option<Reply>
+    ensures { IfSome result (CanAnswer (Get key.now)) }
+{
+    match row_at(key, columns) {
+        Ok(row) => Some(Reply::Found(Some(row))),
+        Err(_) => None,
+    }
+}
+
+fn not_met_at(rec: &Record, columns: Columns) -> Option<Reply>
+    ensures { IfSome result (CanAnswer (PutIf rec.now Absent)) }
+{
+    match row_at(&rec.key, columns) {
+        Ok(row) => Some(Reply::NotMet(Some(row))),
+        Err(_) => None,
+    }
+}
+
 // A get finds the row; a put where nothing is to be isn't met.
-fn found(request: &Request, columns: Columns) -> Result<Option<Reply>, NameRefused>
-    ensures { IfOk result (λ told. IfSome told (CanAnswer request.now)) }
+fn found(request: &Request, columns: Columns) -> Option<Reply>
+    ensures { IfSome result (CanAnswer request.now) }
 {
     match request {
-        Request::Get(key) => Ok(Some(Reply::Found(Some(row_at(key, columns)?)))),
-        Request::PutIf(rec, Condition::Absent) => {
-            Ok(Some(Reply::NotMet(Some(row_at(&rec.key, columns)?))))
-        }
-        _ => Ok(None),
+        Request::Get(key) => found_at(key, columns),
+        Request::PutIf(rec, Condition::Absent) => not_met_at(rec, columns),
+        _ => None,
     }
 }
 
@@ -86,30 +104,39 @@ fn not_met(request: &Request) -> Option<Reply>
     }
 }
 
-fn answered(alloc: Global, request: &Request, answer: Answer) -> Result<Option<Reply>, NameRefused>
-    ensures { IfOk result (λ told. IfSome told (CanAnswer request.now)) }
+fn row_found(
+    alloc: Global,
+    request: &Request,
+    cells: &'static [(&'static str, Cell)],
+) -> Option<Reply>
+    ensures { IfSome result (CanAnswer request.now) }
+{
+    match columns_of(alloc, cells) {
+        Ok(columns) => found(request, columns),
+        Err(_) => None,
+    }
+}
+
+fn answered(alloc: Global, request: &Request, answer: Answer) -> Option<Reply>
+    ensures { IfSome result (CanAnswer request.now) }
 {
     match answer {
-        Answer::Applied => Ok(applied(request)),
-        Answer::Fault => Ok(Some(Reply::Fault)),
-        Answer::Starved => Ok(Some(Reply::NoMemory)),
-        Answer::NoRow => Ok(no_row(alloc, request)),
-        Answer::Row(columns) => found(request, columns_of(alloc, columns)?),
-        Answer::NotMet => Ok(not_met(request)),
+        Answer::Applied => applied(request),
+        Answer::Fault => Some(Reply::Fault),
+        Answer::Starved => Some(Reply::NoMemory),
+        Answer::NoRow => no_row(alloc, request),
+        Answer::Row(cells) => row_found(alloc, request, cells),
+        Answer::NotMet => not_met(request),
     }
 }
 
 /// The reply that answers the pending call so; none where no call is pending, or none that is answered so.
-pub fn reply_to(
-    alloc: Global,
-    pending: Option<&Request>,
-    answer: Answer,
-) -> Result<Option<Reply>, NameRefused>
-    ensures asked { IfOk result (λ told. IfSome told (λ _. IsSome (option_copied pending.entry))) }
-    ensures fits { IfOk result (λ told. IfSome told (CanGet (option_copied pending.entry))) }
+pub fn reply_to(alloc: Global, pending: Option<&Request>, answer: Answer) -> Option<Reply>
+    ensures asked { IfSome result (λ _. IsSome (option_copied pending.entry)) }
+    ensures fits { IfSome result (CanGet (option_copied pending.entry)) }
 {
     match pending {
         Some(request) => answered(alloc, request, answer),
-        None => Ok(None),
+        None => None,
     }
 }

@@ -1,9 +1,13 @@
 //! The rolls of two deletes, forward and back.
+ghost use Rattle.std.specs.Prelude.{All};
+ghost use Rattle.sdb_record.specs.Rolls.{IsWrite};
+
 use crate::machine::{Machine, Told, plays_out, written_key};
 use crate::replies::{Answer, reply_to};
 use crate::writes::two_deletes;
 use sdb_decide::{Abort, Commit};
-use sdb_types::{Condition, NameRefused, Request, TxId};
+use sdb_record::Writes;
+use sdb_types::{Condition, NoMemory, Request, TxId};
 use std::alloc::Global;
 use std::test::Fail;
 use test_builders::{Case, all_cases, number_of};
@@ -42,11 +46,11 @@ fn told_of(pending: Pending, left: bool) -> Told {
 }
 
 impl Machine for Commit {
-    fn give(&mut self, alloc: Global, answer: Answer, _now: i64) -> Result<Told, NameRefused> {
+    fn give(&mut self, alloc: Global, answer: Answer, _now: i64) -> Told {
         let pending = pending_of(self.request());
-        match reply_to(alloc, self.request(), answer)? {
-            Some(reply) => Ok(told_of(pending, self.take(reply))),
-            None => Ok(Told::Other),
+        match reply_to(alloc, self.request(), answer) {
+            Some(reply) => told_of(pending, self.take(reply)),
+            None => Told::Other,
         }
     }
 
@@ -56,11 +60,11 @@ impl Machine for Commit {
 }
 
 impl Machine for Abort {
-    fn give(&mut self, alloc: Global, answer: Answer, _now: i64) -> Result<Told, NameRefused> {
+    fn give(&mut self, alloc: Global, answer: Answer, _now: i64) -> Told {
         let pending = pending_of(self.request());
-        match reply_to(alloc, self.request(), answer)? {
-            Some(reply) => Ok(told_of(pending, self.take(reply))),
-            None => Ok(Told::Other),
+        match reply_to(alloc, self.request(), answer) {
+            Some(reply) => told_of(pending, self.take(reply)),
+            None => Told::Other,
         }
     }
 
@@ -99,28 +103,57 @@ static ROLLS: [Rolls; 4] = [
     Rolls::Back(2, true, &[(Answer::Fault, Told::Put(false))]),
 ];
 
-// The abort of two deletes.
-fn begin(alloc: Global, touched: usize, with_row: bool) -> Result<Abort, Fail> {
-    let writes = two_deletes(alloc)?;
-    let mut abort = Abort::new(alloc, &writes, OWN, 7)?;
+// The abort of these writes.
+fn begin(alloc: Global, writes: &Writes, touched: usize, with_row: bool) -> Result<Abort, NoMemory>
+    requires { All IsWrite writes.now }
+{
+    let mut abort = Abort::new(alloc, writes, OWN, 7)?;
     if touched <= writes.len() {
         abort.start(touched, with_row);
     }
     Ok(abort)
 }
 
-fn forward(alloc: Global) -> Result<Commit, Fail> {
-    Ok(Commit::new(alloc, &two_deletes(alloc)?, OWN, 7)?)
+fn plays_back(
+    alloc: Global,
+    writes: &Writes,
+    touched: usize,
+    with_row: bool,
+    steps: &[(Answer, Told)],
+) -> bool
+    requires { All IsWrite writes.now }
+{
+    match begin(alloc, writes, touched, with_row) {
+        Ok(abort) => plays_out(alloc, abort, steps),
+        Err(_) => false,
+    }
+}
+
+fn plays_forward(alloc: Global, writes: &Writes, steps: &[(Answer, Told)]) -> bool
+    requires { All IsWrite writes.now }
+{
+    match Commit::new(alloc, writes, OWN, 7) {
+        Ok(commit) => plays_out(alloc, commit, steps),
+        Err(_) => false,
+    }
+}
+
+impl Rolls {
+    fn is_answered(self, alloc: Global, writes: &Writes) -> bool
+        requires { All IsWrite writes.now }
+    {
+        match self {
+            Rolls::Forward(steps) => plays_forward(alloc, writes, steps),
+            Rolls::Back(touched, with_row, steps) => {
+                plays_back(alloc, writes, touched, with_row, steps)
+            }
+        }
+    }
 }
 
 impl Case for Rolls {
     fn holds(self, alloc: Global) -> Result<bool, Fail> {
-        match self {
-            Rolls::Forward(steps) => Ok(plays_out(alloc, forward(alloc)?, steps)?),
-            Rolls::Back(touched, with_row, steps) => {
-                Ok(plays_out(alloc, begin(alloc, touched, with_row)?, steps)?)
-            }
-        }
+        Ok(self.is_answered(alloc, &two_deletes(alloc)?))
     }
 }
 

@@ -4,7 +4,7 @@ use crate::replies::{Answer, reply_to};
 use crate::seen::{ROW, accounts, one_change};
 use sdb_record::{Change, version_of};
 use sdb_txn::{Progress, Txn};
-use sdb_types::{Columns, NameRefused, TxId};
+use sdb_types::{Columns, Key, TxId};
 use std::alloc::Global;
 use std::test::Fail;
 use test_builders::{Case, account, all_cases};
@@ -31,10 +31,10 @@ fn told_by(progress: &Progress) -> Told {
 }
 
 impl Machine for Txn {
-    fn give(&mut self, alloc: Global, answer: Answer, now: i64) -> Result<Told, NameRefused> {
-        match reply_to(alloc, self.pending(), answer)? {
-            Some(reply) => Ok(told_by(&self.advance(reply, now))),
-            None => Ok(Told::Other),
+    fn give(&mut self, alloc: Global, answer: Answer, now: i64) -> Told {
+        match reply_to(alloc, self.pending(), answer) {
+            Some(reply) => told_by(&self.advance(reply, now)),
+            None => Told::Other,
         }
     }
 
@@ -54,31 +54,35 @@ enum Act {
     Reply(Answer),
 }
 
-fn get(alloc: Global, txn: &mut Txn, id: i32) -> Result<Told, NameRefused> {
-    let key = account(alloc, id)?;
-    if txn.is_idle() {
-        Ok(told_by(&txn.get(key)))
-    } else {
-        Ok(Told::Other)
+fn get(alloc: Global, txn: &mut Txn, id: i32) -> Told {
+    match account(alloc, id) {
+        Ok(key) if txn.is_idle() => told_by(&txn.get(key)),
+        _ => Told::Other,
     }
 }
 
-fn scan(alloc: Global, txn: &mut Txn) -> Result<Told, NameRefused> {
-    let span = accounts(alloc)?;
-    if txn.is_idle() {
-        Ok(told_by(&txn.scan(span)))
-    } else {
-        Ok(Told::Other)
+fn scan(alloc: Global, txn: &mut Txn) -> Told {
+    match accounts(alloc) {
+        Ok(span) if txn.is_idle() => told_by(&txn.scan(span)),
+        _ => Told::Other,
     }
 }
 
-fn insert(alloc: Global, txn: &mut Txn, id: i32) -> Result<Told, NameRefused> {
-    let key = account(alloc, id)?;
-    let changes = one_change(alloc, &key, Change::Row(Columns::new(alloc)))?;
-    if txn.is_idle() && txn.has_read(&key) && txn.write(changes).is_ok() {
-        Ok(Told::Done)
-    } else {
-        Ok(Told::Other)
+fn insert_at(alloc: Global, txn: &mut Txn, key: &Key) -> Told {
+    if let Ok(changes) = one_change(alloc, key, Change::Row(Columns::new(alloc)))
+        && txn.is_idle()
+        && txn.has_read(key)
+        && txn.write(changes).is_ok()
+    {
+        return Told::Done;
+    }
+    Told::Other
+}
+
+fn insert(alloc: Global, txn: &mut Txn, id: i32) -> Told {
+    match account(alloc, id) {
+        Ok(key) => insert_at(alloc, txn, &key),
+        Err(_) => Told::Other,
     }
 }
 
@@ -90,12 +94,12 @@ fn commit(txn: &mut Txn) -> Told {
     }
 }
 
-fn perform(alloc: Global, txn: &mut Txn, act: Act) -> Result<Told, NameRefused> {
+fn perform(alloc: Global, txn: &mut Txn, act: Act) -> Told {
     match act {
         Act::Get(id) => get(alloc, txn, id),
         Act::Scan => scan(alloc, txn),
         Act::Insert(id) => insert(alloc, txn, id),
-        Act::Commit => Ok(commit(txn)),
+        Act::Commit => commit(txn),
         Act::Reply(answer) => txn.give(alloc, answer, EXPIRED),
     }
 }
@@ -103,13 +107,13 @@ fn perform(alloc: Global, txn: &mut Txn, act: Act) -> Result<Told, NameRefused> 
 #[derive(Clone, Copy)]
 struct Steps(&'static [(Act, Told)]);
 
-fn plays(alloc: Global, txn: &mut Txn, steps: &[(Act, Told)]) -> Result<bool, NameRefused> {
+fn plays(alloc: Global, txn: &mut Txn, steps: &[(Act, Told)]) -> bool {
     for (act, told) in steps {
-        if perform(alloc, txn, *act)? != *told {
-            return Ok(false);
+        if perform(alloc, txn, *act) != *told {
+            return false;
         }
     }
-    Ok(txn.is_over())
+    txn.is_over()
 }
 
 // What a transaction does, with what each act tells.
@@ -178,7 +182,7 @@ static CASES: [Steps; 7] = [
 impl Case for Steps {
     fn holds(self, alloc: Global) -> Result<bool, Fail> {
         let mut txn = Txn::begin(alloc, OWN);
-        let played = plays(alloc, &mut txn, self.0)?;
+        let played = plays(alloc, &mut txn, self.0);
         txn.rollback();
         Ok(played)
     }

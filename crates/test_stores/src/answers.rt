@@ -2,11 +2,13 @@
 ghost use Rattle.std.specs.Prelude.{IfOk, IsTrue};
 ghost use Rattle.sqlite_disk.specs.Memory.{memory_is_usable};
 
+use crate::attached::{attach_both, plays};
 use crate::calls::{replies, replies_of};
 use sdb_hashed::Hashed;
 use sdb_ordered::Ordered;
 use sdb_sqlite::{Held, Kept, KeptRefused};
-use sdb_store::{Fails, Store};
+use sdb_store::Fails;
+use sdb_stores::Stores;
 use sqlite::{Connection, FileStore, Files, MemStore, Options};
 use sqlite_disk::Memory;
 use std::alloc::Global;
@@ -35,13 +37,23 @@ fn ordered(alloc: Global) -> Result<(), Fail> {
 }
 
 fn hashed(alloc: Global) -> Result<(), Fail> {
-    let store: Box<dyn Store> = Box::new(alloc, Hashed::new(alloc, Fails::new(alloc)))?;
-    replies_of(alloc, "hashed", store, STEPS)
+    replies_of(
+        alloc,
+        "hashed",
+        Hashed::new(alloc, Fails::new(alloc)),
+        STEPS,
+    )
 }
 
 // Over a new database.
 fn kept(alloc: Global) -> Result<(), Fail> {
     replies_of(alloc, "kept", Kept::in_memory(alloc)?, STEPS)
+}
+
+// Through a box.
+fn boxed(alloc: Global) -> bool {
+    let mut stores = Stores::new(alloc);
+    attach_both(alloc, &mut stores, &[]) && plays(alloc, &mut stores, STEPS)
 }
 
 // The third call fails before its effect, though it is listed as failing after it too, and the first after it.
@@ -67,29 +79,32 @@ fn stores_answer_as_a_map_does(rt: HostRuntime) -> Result<(), Fail> {
     ordered(rt.alloc())?;
     hashed(rt.alloc())?;
     kept(rt.alloc())?;
+    hold(Ok(boxed(rt.alloc())))?;
     failing(rt.alloc())
 }
 
 // The connection, after these calls on a store over it.
-fn filled<S: Held + Drop>(alloc: Global, connection: Connection<S>) -> Result<Connection<S>, Fail> {
+fn answered<S: Held + Drop>(
+    alloc: Global,
+    connection: Connection<S>,
+    name: &'static str,
+    report: &str,
+) -> Result<Connection<S>, Fail> {
     let mut store = Kept::new(alloc, connection)?;
-    replies(alloc, "filled", &mut store, STEPS)?;
+    replies(alloc, name, &mut store, report)?;
     Ok(store.release())
 }
 
-fn answers_then<S: Held + Drop>(alloc: Global, connection: Connection<S>) -> Result<(), Fail> {
-    replies_of(alloc, "filled before", Kept::new(alloc, connection)?, THEN)
-}
-
 fn made_again(alloc: Global) -> Result<(), Fail> {
-    let connection = filled(alloc, Connection::open_in_memory(alloc)?)?;
-    answers_then(alloc, connection)
+    let filled = answered(alloc, Connection::open_in_memory(alloc)?, "filled", STEPS)?;
+    answered(alloc, filled, "filled before", THEN)?;
+    Ok(())
 }
 
-fn opened(alloc: Global, log: Memory, db: Memory) -> Result<Connection<FileStore<Memory>>, Fail>
-    requires { IsTrue (memory_is_usable log) × IsTrue (memory_is_usable db) }
+fn opened(alloc: Global, files: Files<Memory>) -> Result<Connection<FileStore<Memory>>, Fail>
+    requires { IsTrue (memory_is_usable files.log) × IsTrue (memory_is_usable files.db) }
 {
-    match Connection::open_files(alloc, Files { log, db }, Options::new(1)) {
+    match Connection::open_files(alloc, files, Options::new(1)) {
         Ok(connection) => Ok(connection),
         Err(_) => Err("no database in the files")?,
     }
@@ -107,17 +122,28 @@ fn closed(connection: Connection<FileStore<Memory>>) -> Result<Files<Memory>, Fa
     }
 }
 
-// The files of a database that is filled, which are in memory.
-fn filled_files(alloc: Global) -> Result<Files<Memory>, Fail>
+// The files of a database, which are in memory, after these calls on a store over it.
+fn answered_in_files(
+    alloc: Global,
+    files: Files<Memory>,
+    name: &'static str,
+    report: &str,
+) -> Result<Files<Memory>, Fail>
+    requires { IsTrue (memory_is_usable files.log) × IsTrue (memory_is_usable files.db) }
     ensures { IfOk result (λ files. IsTrue (memory_is_usable files.log) × IsTrue (memory_is_usable files.db)) }
 {
-    let connection = opened(alloc, Memory::new(alloc), Memory::new(alloc))?;
-    closed(filled(alloc, connection)?)
+    let connection = opened(alloc, files)?;
+    closed(answered(alloc, connection, name, report)?)
 }
 
 fn opened_again(alloc: Global) -> Result<(), Fail> {
-    let files = filled_files(alloc)?;
-    answers_then(alloc, opened(alloc, files.log, files.db)?)
+    let files = Files {
+        log: Memory::new(alloc),
+        db: Memory::new(alloc),
+    };
+    let filled = answered_in_files(alloc, files, "filled files", STEPS)?;
+    answered_in_files(alloc, filled, "files filled before", THEN)?;
+    Ok(())
 }
 
 // A database in which an index has the name of the table.

@@ -1,89 +1,15 @@
 //! Catalogs in stores: what is written of one, what its rows open as, and which rows are refused.
+use crate::attached::{attach_both, attach_kept, plays};
 use sdb_catalog::{CatalogRefused, open_catalog, store_catalog};
 use sdb_loader::catalog_of;
-use sdb_model::Event;
-use sdb_ordered::Ordered;
-use sdb_report::read_report;
 use sdb_schema::Catalog;
-use sdb_sqlite::Kept as Database;
-use sdb_store::{Fail as Failing, Fails, Store};
+use sdb_store::Fail as Failing;
 use sdb_stores::{Place as Placed, Registry, Stores};
 use sdb_texts::key_text;
-use sdb_types::{Name, Txt};
-use sqlite::Connection;
-use std::alloc::Global;
+use sdb_types::{Key, Name, NameRefused, TableName, Txt};
+use std::alloc::{AllocError, Global};
 use std::test::Fail;
 use test_builders::{Case, all_cases, table_of};
-
-fn attach(
-    alloc: Global,
-    stores: &mut Stores,
-    name: &str,
-    store: Box<dyn Store>,
-) -> Result<(), Fail> {
-    match stores.attach(Name::new(alloc, name)?, store) {
-        Ok(()) => Ok(()),
-        Err(_) => Err(Fail::from("a store was not attached")),
-    }
-}
-
-// A store that fails at these calls.
-fn attach_failing(
-    alloc: Global,
-    stores: &mut Stores,
-    name: &str,
-    failing: &[Failing],
-) -> Result<(), Fail> {
-    let fails = Fails::from_slice(alloc, failing)?;
-    let store = Box::new(alloc, Ordered::new(alloc, fails))?;
-    attach(alloc, stores, name, store)
-}
-
-fn attach_database(alloc: Global, stores: &mut Stores, name: &str) -> Result<(), Fail> {
-    let database = Database::new(alloc, Connection::open_in_memory(alloc)?)?;
-    let store = Box::new(alloc, database)?;
-    attach(alloc, stores, name, store)
-}
-
-// Stores `ordered` and `other`, of which the first fails at these calls.
-fn stores_failing(alloc: Global, failing: &[Failing]) -> Result<Stores, Fail> {
-    let mut stores = Stores::new(alloc);
-    attach_failing(alloc, &mut stores, "ordered", failing)?;
-    attach_failing(alloc, &mut stores, "other", &[])?;
-    Ok(stores)
-}
-
-// Stores `ordered`, which is a database, and `other`.
-fn stores_kept(alloc: Global) -> Result<Stores, Fail> {
-    let mut stores = Stores::new(alloc);
-    attach_database(alloc, &mut stores, "ordered")?;
-    attach_failing(alloc, &mut stores, "other", &[])?;
-    Ok(stores)
-}
-
-fn performs(stores: &mut Stores, event: &Event) -> bool {
-    match event {
-        Event::Call(_, _, request, _, reply, _) if stores.len() != 0 => {
-            stores.perform(request) == *reply
-        }
-        _ => false,
-    }
-}
-
-fn perform_all(stores: &mut Stores, events: &[Event]) -> bool {
-    for event in events {
-        if !performs(stores, event) {
-            return false;
-        }
-    }
-    true
-}
-
-// Whether the calls of a report have its replies: rows that somebody else puts, and what is there.
-fn plays(alloc: Global, stores: &mut Stores, report: &str) -> Result<bool, Fail> {
-    let report = read_report(alloc, report.as_bytes())?;
-    Ok(perform_all(stores, report.events.as_slice()))
-}
 
 // How a catalog is opened: no namespace is placed, and a store is attached.
 fn open(alloc: Global, stores: &mut Stores) -> Result<Catalog, CatalogRefused> {
@@ -96,18 +22,18 @@ fn open(alloc: Global, stores: &mut Stores) -> Result<Catalog, CatalogRefused> {
 
 type Places = &'static [(&'static str, &'static str)];
 
-fn placed_of(alloc: Global, ns: &str, store: &str) -> Result<Placed, Fail> {
+fn placed_of(alloc: Global, ns: &str, store: &str) -> Result<Placed, NameRefused> {
     let ns = Name::new(alloc, ns)?;
     let store = Name::new(alloc, store)?;
     Ok(Placed { ns, store })
 }
 
-fn all_placed(alloc: Global, places: Places) -> Result<Vec<Placed>, Fail> {
+fn all_placed(alloc: Global, places: Places) -> Option<Vec<Placed>> {
     let mut placed = Vec::new(alloc);
     for (ns, store) in places {
-        placed.push(placed_of(alloc, ns, store)?)?;
+        placed.push(placed_of(alloc, ns, store).ok()?).ok()?;
     }
-    Ok(placed)
+    Some(placed)
 }
 
 fn store_placed(
@@ -123,10 +49,30 @@ fn store_placed(
     store_catalog(alloc, stores, catalog, placed)
 }
 
-fn store(alloc: Global, stores: &mut Stores, json: &str, places: Places) -> Result<Txt, Fail> {
-    let catalog = catalog_of(alloc, json.as_bytes())?;
-    let placed = all_placed(alloc, places)?;
-    Ok(store_placed(alloc, stores, &catalog, placed.as_slice())?)
+fn written(
+    alloc: Global,
+    stores: &mut Stores,
+    json: &str,
+    places: Places,
+) -> Result<Txt, CatalogRefused> {
+    if let Ok(catalog) = catalog_of(alloc, json.as_bytes())
+        && let Some(placed) = all_placed(alloc, places)
+    {
+        return store_placed(alloc, stores, &catalog, placed.as_slice());
+    }
+    Err(CatalogRefused::NoMemory)
+}
+
+fn is_written(alloc: Global, stores: &mut Stores, json: &str, places: Places) -> bool {
+    written(alloc, stores, json, places).is_ok()
+}
+
+// Whether this is the answer to a schema that is stored.
+fn answers(alloc: Global, stores: &mut Stores, json: &str, places: Places, answer: &str) -> bool {
+    match written(alloc, stores, json, places) {
+        Ok(text) => text.as_str() == answer,
+        Err(_) => false,
+    }
 }
 
 // What is stored: the rows before, the schema and its places, and then the answer and the rows after.
@@ -140,32 +86,26 @@ struct Stored {
 }
 
 impl Stored {
-    fn is_answered(self, alloc: Global, stores: &mut Stores) -> Result<bool, Fail> {
-        Ok(store(alloc, stores, self.json, self.places)?.as_str() == self.answer)
+    fn is_stored(self, alloc: Global, stores: &mut Stores) -> bool {
+        plays(alloc, stores, self.before)
+            && answers(alloc, stores, self.json, self.places, self.answer)
+            && plays(alloc, stores, self.after)
     }
 
-    fn is_stored(self, alloc: Global, stores: &mut Stores) -> Result<bool, Fail> {
-        Ok(
-            plays(alloc, stores, self.before)?
-                && self.is_answered(alloc, stores)?
-                && plays(alloc, stores, self.after)?,
-        )
+    fn is_stored_in_memory(self, alloc: Global) -> bool {
+        let mut stores = Stores::new(alloc);
+        attach_both(alloc, &mut stores, &[]) && self.is_stored(alloc, &mut stores)
     }
 
-    fn is_stored_in_memory(self, alloc: Global) -> Result<bool, Fail> {
-        let mut stores = stores_failing(alloc, &[])?;
-        self.is_stored(alloc, &mut stores)
-    }
-
-    fn is_stored_in_a_database(self, alloc: Global) -> Result<bool, Fail> {
-        let mut stores = stores_kept(alloc)?;
-        self.is_stored(alloc, &mut stores)
+    fn is_stored_in_a_database(self, alloc: Global) -> bool {
+        let mut stores = Stores::new(alloc);
+        attach_kept(alloc, &mut stores) && self.is_stored(alloc, &mut stores)
     }
 }
 
 impl Case for Stored {
     fn holds(self, alloc: Global) -> Result<bool, Fail> {
-        Ok(self.is_stored_in_memory(alloc)? && self.is_stored_in_a_database(alloc)?)
+        Ok(self.is_stored_in_memory(alloc) && self.is_stored_in_a_database(alloc))
     }
 }
 
@@ -236,22 +176,23 @@ enum Ask {
 #[derive(Clone, Copy)]
 struct Check(&'static [Failing], Ask);
 
+fn is_placed(stores: &Stores, name: &TableName, store: &str) -> bool {
+    stores.len() != 0 && stores.store_of(name).as_str() == store
+}
+
 fn is_table(
     alloc: Global,
     stores: &Stores,
     catalog: &Catalog,
     i: usize,
     told: (&str, &str, &str),
-) -> Result<bool, Fail> {
-    let name = table_of(alloc, told.0, told.1)?;
-    if stores.len() == 0 {
-        return Ok(false);
+) -> bool {
+    if let Some(table) = catalog.at(i)
+        && let Ok(name) = table_of(alloc, told.0, told.1)
+    {
+        return table.name == name && is_placed(stores, &table.name, told.2);
     }
-    let placed = stores.store_of(&name).as_str() == told.2;
-    match catalog.at(i) {
-        Some(table) => Ok(placed && table.name == name),
-        None => Ok(false),
-    }
+    false
 }
 
 fn has_tables(
@@ -259,59 +200,64 @@ fn has_tables(
     stores: &Stores,
     catalog: &Catalog,
     tables: &[(&str, &str, &str)],
-) -> Result<bool, Fail> {
+) -> bool {
     for (i, told) in tables.iter().enumerate() {
-        if !is_table(alloc, stores, catalog, i, *told)? {
-            return Ok(false);
+        if !is_table(alloc, stores, catalog, i, *told) {
+            return false;
         }
     }
-    Ok(catalog.len() == tables.len())
+    catalog.len() == tables.len()
 }
 
-fn opens(alloc: Global, stores: &mut Stores, tables: &[(&str, &str, &str)]) -> Result<bool, Fail> {
-    let catalog = open(alloc, stores)?;
-    has_tables(alloc, stores, &catalog, tables)
-}
-
-fn is_opened(
-    alloc: Global,
-    stores: &mut Stores,
-    rows: &str,
-    tables: &[(&str, &str, &str)],
-) -> Result<bool, Fail> {
-    Ok(plays(alloc, stores, rows)? && opens(alloc, stores, tables)?)
-}
-
-fn is_both(alloc: Global, catalog: &Catalog) -> Result<bool, Fail> {
-    Ok(catalog.at(1) == catalog_of(alloc, BOTH.as_bytes())?.at(1))
-}
-
-fn reads_back(alloc: Global, stores: &mut Stores) -> Result<bool, Fail> {
-    store(alloc, stores, BOTH, &[("shop", "other")])?;
-    is_both(alloc, &open(alloc, stores)?)
-}
-
-fn names_bad(alloc: Global, stores: &mut Stores, key: &str) -> Result<bool, Fail> {
+fn opens(alloc: Global, stores: &mut Stores, tables: &[(&str, &str, &str)]) -> bool {
     match open(alloc, stores) {
-        Err(CatalogRefused::BadRow(bad)) => Ok(key_text(alloc, &bad)?.as_str() == key),
-        _ => Ok(false),
+        Ok(catalog) => has_tables(alloc, stores, &catalog, tables),
+        Err(_) => false,
     }
 }
 
-fn is_bad(alloc: Global, stores: &mut Stores, rows: &str, key: &str) -> Result<bool, Fail> {
-    Ok(plays(alloc, stores, rows)? && names_bad(alloc, stores, key)?)
+fn is_both(alloc: Global, catalog: &Catalog) -> bool {
+    match catalog_of(alloc, BOTH.as_bytes()) {
+        Ok(both) => catalog.at(1) == both.at(1),
+        Err(_) => false,
+    }
 }
 
-fn put_table(alloc: Global, json: &mut String, i: u32) -> Result<(), Fail> {
+fn opens_both(alloc: Global, stores: &mut Stores) -> bool {
+    match open(alloc, stores) {
+        Ok(catalog) => is_both(alloc, &catalog),
+        Err(_) => false,
+    }
+}
+
+fn is_key(alloc: Global, found: &Key, key: &str) -> bool {
+    match key_text(alloc, found) {
+        Ok(text) => text.as_str() == key,
+        Err(_) => false,
+    }
+}
+
+fn names_bad(alloc: Global, stores: &mut Stores, key: &str) -> bool {
+    match open(alloc, stores) {
+        Err(CatalogRefused::BadRow(bad)) => is_key(alloc, &bad, key),
+        _ => false,
+    }
+}
+
+fn is_bad(alloc: Global, stores: &mut Stores, rows: &str, key: &str) -> bool {
+    plays(alloc, stores, rows) && names_bad(alloc, stores, key)
+}
+
+fn put_table(alloc: Global, json: &mut String, i: u32) -> Result<(), AllocError> {
     let comma = if i == 10 { "" } else { "," };
     let table = format!(in alloc;
         "{comma}\"s.t{i}\":{{\"partition-key\":[\"k\"],\"columns\":{{\"k\":\"INT\"}}}}"
     )?;
-    Ok(json.push_str(table.as_str())?)
+    json.push_str(table.as_str())
 }
 
 // The JSON of a schema with the tables `s.t10` to `s.t73`.
-fn many(alloc: Global) -> Result<String, Fail> {
+fn many(alloc: Global) -> Result<String, AllocError> {
     let mut json = String::from_str(alloc, "{")?;
     for i in 10..74 {
         put_table(alloc, &mut json, i)?;
@@ -320,57 +266,56 @@ fn many(alloc: Global) -> Result<String, Fail> {
     Ok(json)
 }
 
-fn store_many(alloc: Global, stores: &mut Stores) -> Result<(), Fail> {
-    let json = many(alloc)?;
-    store(alloc, stores, json.as_str(), &[])?;
-    Ok(())
+fn is_many_written(alloc: Global, stores: &mut Stores) -> bool {
+    match many(alloc) {
+        Ok(json) => is_written(alloc, stores, json.as_str(), &[]),
+        Err(_) => false,
+    }
 }
 
 const LATE_JSON: &str =
     "{\"s.u\":{\"partition-key\":[\"k\"],\"columns\":{\"k\":\"INT\"}},\"s.t10\":{\"partition-key\":[\"k\"],\"columns\":{\"k\":\"INT\"}}}";
 
-fn says_full(alloc: Global, stores: &mut Stores) -> Result<bool, Fail> {
-    let answer = store(alloc, stores, LATE_JSON, &[])?;
-    Ok(answer.as_str() == "exists coordinator.state\nexists s.t10\nfull s.u\n")
-}
+const LATE_ANSWER: &str = "exists coordinator.state\nexists s.t10\nfull s.u\n";
 
-fn opens_64(alloc: Global, stores: &mut Stores) -> Result<bool, Fail> {
-    Ok(open(alloc, stores)?.len() == 64)
-}
-
-fn is_full(alloc: Global, stores: &mut Stores, rows: &str, key: &str) -> Result<bool, Fail> {
-    store_many(alloc, stores)?;
-    let full = says_full(alloc, stores)? && opens_64(alloc, stores)?;
-    stores.clear_places();
-    Ok(full && is_bad(alloc, stores, rows, key)?)
-}
-
-fn is_store_fault(alloc: Global, stores: &mut Stores) -> Result<bool, Fail> {
-    let catalog = catalog_of(alloc, BOTH.as_bytes())?;
-    match store_placed(alloc, stores, &catalog, &[]) {
-        Err(CatalogRefused::StoreFault) => Ok(true),
-        _ => Ok(false),
+fn opens_64(alloc: Global, stores: &mut Stores) -> bool {
+    match open(alloc, stores) {
+        Ok(catalog) => catalog.len() == 64,
+        Err(_) => false,
     }
 }
 
-fn is_failed(alloc: Global, stores: &mut Stores, rows: &str) -> Result<bool, Fail> {
-    Ok(is_store_fault(alloc, stores)? && plays(alloc, stores, rows)?)
+fn is_full(alloc: Global, stores: &mut Stores, rows: &str, key: &str) -> bool {
+    let full = is_many_written(alloc, stores)
+        && answers(alloc, stores, LATE_JSON, &[], LATE_ANSWER)
+        && opens_64(alloc, stores);
+    stores.clear_places();
+    full && is_bad(alloc, stores, rows, key)
 }
 
-fn answered(alloc: Global, stores: &mut Stores, asked: Ask) -> Result<bool, Fail> {
+fn is_store_fault(alloc: Global, stores: &mut Stores) -> bool {
+    match written(alloc, stores, BOTH, &[]) {
+        Err(CatalogRefused::StoreFault) => true,
+        _ => false,
+    }
+}
+
+fn answered(alloc: Global, stores: &mut Stores, asked: Ask) -> bool {
     match asked {
-        Ask::Opened(rows, tables) => is_opened(alloc, stores, rows, tables),
-        Ask::ReadBack => reads_back(alloc, stores),
+        Ask::Opened(rows, tables) => { plays(alloc, stores, rows) && opens(alloc, stores, tables) }
+        Ask::ReadBack => {
+            is_written(alloc, stores, BOTH, &[("shop", "other")]) && opens_both(alloc, stores)
+        }
         Ask::Bad(rows, key) => is_bad(alloc, stores, rows, key),
         Ask::Full(rows, key) => is_full(alloc, stores, rows, key),
-        Ask::Failed(rows) => is_failed(alloc, stores, rows),
+        Ask::Failed(rows) => is_store_fault(alloc, stores) && plays(alloc, stores, rows),
     }
 }
 
 impl Case for Check {
     fn holds(self, alloc: Global) -> Result<bool, Fail> {
-        let mut stores = stores_failing(alloc, self.0)?;
-        answered(alloc, &mut stores, self.1)
+        let mut stores = Stores::new(alloc);
+        Ok(attach_both(alloc, &mut stores, self.0) && answered(alloc, &mut stores, self.1))
     }
 }
 

@@ -4,6 +4,8 @@
 #[cfg(test)]
 mod answers;
 #[cfg(test)]
+mod attached;
+#[cfg(test)]
 mod calls;
 #[cfg(test)]
 mod catalog;
@@ -11,5 +13,3 @@ mod catalog;
 mod foreign;
 #[cfg(test)]
 mod registry;
-#[cfg(test)]
-mod steps;

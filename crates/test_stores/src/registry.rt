@@ -4,13 +4,12 @@ ghost use Rattle.std.specs.FinMap as map;
 ghost use Rattle.sdb_types.specs.declared.record.Reply.TheVariants.{Fault};
 ghost use Rattle.sdb_store.specs.Store.{HasCause};
 
-use crate::steps::{answers_as_told, is_reply};
-use sdb_store::Store;
+use sdb_store::{Store, call};
 use sdb_stores::{AttachRefused, PlaceRefused, Registry, Stores};
 use sdb_types::{Condition, Key, Name, Record, Reply, Span};
 use std::alloc::Global;
 use std::test::Fail;
-use test_builders::{Ask, Place, Told, hold, request_of};
+use test_builders::{Ask, Place, hold, request_of};
 
 // Each call fails.
 #[derive(Drop)]
@@ -129,123 +128,160 @@ const ITEM: Place = Place {
     clustering: &[],
 };
 
-fn attach_broken(alloc: Global, stores: &mut Stores, name: &str) -> Result<bool, Fail> {
-    let name = Name::new(alloc, name)?;
-    let broken = Box::new(alloc, Broken { failed: 0 })?;
-    Ok(stores.attach(name, broken).is_ok())
+fn attach_broken(alloc: Global, stores: &mut Stores, name: &str) -> bool {
+    if let Ok(name) = Name::new(alloc, name)
+        && let Ok(broken) = Box::new(alloc, Broken { failed: 0 })
+    {
+        return stores.attach(name, broken).is_ok();
+    }
+    false
 }
 
-fn attach_full(alloc: Global, stores: &mut Stores, name: &str) -> Result<bool, Fail> {
-    let name = Name::new(alloc, name)?;
-    let full = Box::new(alloc, Full)?;
-    Ok(stores.attach(name, full).is_ok())
+fn attach_full(alloc: Global, stores: &mut Stores, name: &str) -> bool {
+    if let Ok(name) = Name::new(alloc, name)
+        && let Ok(full) = Box::new(alloc, Full)
+    {
+        return stores.attach(name, full).is_ok();
+    }
+    false
 }
 
-fn attach_turns(alloc: Global, stores: &mut Stores, name: &str) -> Result<bool, Fail> {
-    let name = Name::new(alloc, name)?;
+fn attach_turns(alloc: Global, stores: &mut Stores, name: &str) -> bool {
     let broken = Broken { failed: 0 };
-    let turns = Box::new(alloc, Turns { odd: false, broken })?;
-    Ok(stores.attach(name, turns).is_ok())
+    if let Ok(name) = Name::new(alloc, name)
+        && let Ok(turns) = Box::new(alloc, Turns { odd: false, broken })
+    {
+        return stores.attach(name, turns).is_ok();
+    }
+    false
 }
 
-fn count(stores: &Stores) -> Result<usize, Fail> {
-    Ok(stores.names()?.len())
+// How a call is answered.
+#[derive(Clone, Copy, PartialEq, Eq)]
+enum Answer {
+    Fault,
+    NoMemory,
+    Other,
 }
 
-fn is_full<S: Store>(alloc: Global, store: S) -> Result<bool, Fail> {
-    let step = (Ask::Get(ITEM), Told::NoMemory);
-    answers_as_told(alloc, store, [step].as_slice())?;
-    Ok(true)
-}
-
-// Whether a store that has no memory is handed back, since its name is taken.
-fn hands_full_back(alloc: Global, stores: &mut Stores, name: &str) -> Result<bool, Fail> {
-    let name = Name::new(alloc, name)?;
-    let full = Box::new(alloc, Full)?;
-    match stores.attach(name, full) {
-        Err(AttachRefused::NameTaken(store)) => is_full(alloc, store),
-        _ => Ok(false),
+fn answer_of(reply: &Reply) -> Answer {
+    match reply {
+        Reply::Fault => Answer::Fault,
+        Reply::NoMemory => Answer::NoMemory,
+        _ => Answer::Other,
     }
 }
 
-fn hands_back(alloc: Global) -> Result<bool, Fail> {
+fn is_full(alloc: Global, store: Box<dyn Store>) -> bool {
+    let mut store = store;
+    match request_of(alloc, Ask::Get(ITEM)) {
+        Ok(request) => answer_of(&call(&mut store, &request)) == Answer::NoMemory,
+        Err(_) => false,
+    }
+}
+
+fn is_full_back(alloc: Global, attached: Result<(), AttachRefused>) -> bool {
+    match attached {
+        Err(AttachRefused::NameTaken(store)) => is_full(alloc, store),
+        _ => false,
+    }
+}
+
+// Whether a store that has no memory is handed back, since its name is taken.
+fn hands_full_back(alloc: Global, stores: &mut Stores, name: &str) -> bool {
+    if let Ok(name) = Name::new(alloc, name)
+        && let Ok(full) = Box::new(alloc, Full)
+    {
+        return is_full_back(alloc, stores.attach(name, full));
+    }
+    false
+}
+
+fn has_one_name(stores: &Stores) -> bool {
+    match stores.names() {
+        Ok(names) => names.len() == 1,
+        Err(_) => false,
+    }
+}
+
+fn hands_back(alloc: Global) -> bool {
     let mut stores = Stores::new(alloc);
-    let attached = attach_broken(alloc, &mut stores, "ordered")?;
-    let back = hands_full_back(alloc, &mut stores, "ordered")?;
-    Ok(attached && back && count(&stores)? == 1)
+    attach_broken(alloc, &mut stores, "ordered")
+        && hands_full_back(alloc, &mut stores, "ordered")
+        && has_one_name(&stores)
+}
+
+// How the namespace `shop` is placed on a store.
+fn place(alloc: Global, stores: &mut Stores, store: &str) -> Option<PlaceRefused> {
+    if let Ok(store) = Name::new(alloc, store)
+        && let Ok(shop) = Name::new(alloc, "shop")
+    {
+        return stores.place(shop, &store).err();
+    }
+    Some(PlaceRefused::NoMemory)
+}
+
+fn detach(alloc: Global, stores: &mut Stores, store: &str) -> bool {
+    match Name::new(alloc, store) {
+        Ok(store) => stores.detach(&store).is_some(),
+        Err(_) => false,
+    }
+}
+
+// How a call about the item is answered.
+fn asked(alloc: Global, stores: &mut Stores) -> Answer {
+    if stores.len() == 0 {
+        return Answer::Other;
+    }
+    match request_of(alloc, Ask::Get(ITEM)) {
+        Ok(request) => answer_of(&stores.perform(&request)),
+        Err(_) => Answer::Other,
+    }
+}
+
+// Places the namespace on no store, on a store, and again.
+fn places(alloc: Global, stores: &mut Stores) -> bool {
+    place(alloc, stores, "none") == Some(PlaceRefused::NoStore)
+        && place(alloc, stores, "hashed") == None
+        && place(alloc, stores, "hashed") == Some(PlaceRefused::AlreadyPlaced)
+}
+
+// The placed store is asked, and once it is gone the first.
+fn asks_placed(alloc: Global, stores: &mut Stores) -> bool {
+    asked(alloc, stores) == Answer::NoMemory
+        && detach(alloc, stores, "hashed")
+        && asked(alloc, stores) == Answer::Fault
+        && stores.len() == 1
+}
+
+fn asks(alloc: Global) -> bool {
+    let mut stores = Stores::new(alloc);
+    attach_broken(alloc, &mut stores, "ordered")
+        && attach_full(alloc, &mut stores, "hashed")
+        && places(alloc, &mut stores)
+        && asks_placed(alloc, &mut stores)
+}
+
+// Whether the first calls that stores are asked for have the replies of the first calls of one store, so that each was made once.
+fn asks_in_turn(alloc: Global) -> bool {
+    let mut stores = Stores::new(alloc);
+    attach_turns(alloc, &mut stores, "ordered")
+        && asked(alloc, &mut stores) == Answer::NoMemory
+        && asked(alloc, &mut stores) == Answer::Fault
+        && asked(alloc, &mut stores) == Answer::NoMemory
 }
 
 #[test]
 fn hands_a_second_store_of_one_name_back(rt: HostRuntime) -> Result<(), Fail> {
-    hold(hands_back(rt.alloc()))
-}
-
-// How the namespace `shop` is placed on a store.
-fn place(alloc: Global, stores: &mut Stores, store: &str) -> Result<Option<PlaceRefused>, Fail> {
-    let store = Name::new(alloc, store)?;
-    let shop = Name::new(alloc, "shop")?;
-    Ok(stores.place(shop, &store).err())
-}
-
-fn detach(alloc: Global, stores: &mut Stores, store: &str) -> Result<bool, Fail> {
-    Ok(stores.detach(&Name::new(alloc, store)?).is_some())
-}
-
-// Whether a call about the item is answered so.
-fn performs(alloc: Global, stores: &mut Stores, told: Told) -> Result<bool, Fail> {
-    if stores.len() == 0 {
-        return Ok(false);
-    }
-    let request = request_of(alloc, Ask::Get(ITEM))?;
-    let reply = stores.perform(&request);
-    Ok(is_reply(alloc, &reply, told)?)
-}
-
-// Places the namespace on no store, on a store, and again.
-fn places(alloc: Global, stores: &mut Stores) -> Result<bool, Fail> {
-    let none = place(alloc, stores, "none")?;
-    let placed = place(alloc, stores, "hashed")?;
-    let again = place(alloc, stores, "hashed")?;
-    Ok(
-        none == Some(PlaceRefused::NoStore)
-            && placed == None
-            && again == Some(PlaceRefused::AlreadyPlaced),
-    )
-}
-
-// The placed store is asked, and once it is gone the first.
-fn asks_placed(alloc: Global, stores: &mut Stores) -> Result<bool, Fail> {
-    let full = performs(alloc, stores, Told::NoMemory)?;
-    let detached = detach(alloc, stores, "hashed")?;
-    let broken = performs(alloc, stores, Told::Fault)?;
-    Ok(full && detached && broken && stores.len() == 1)
-}
-
-fn asks(alloc: Global) -> Result<bool, Fail> {
-    let mut stores = Stores::new(alloc);
-    let attached = attach_broken(alloc, &mut stores, "ordered")?
-        && attach_full(alloc, &mut stores, "hashed")?;
-    Ok(attached && places(alloc, &mut stores)? && asks_placed(alloc, &mut stores)?)
+    hold(Ok(hands_back(rt.alloc())))
 }
 
 #[test]
 fn asks_the_placed_store(rt: HostRuntime) -> Result<(), Fail> {
-    hold(asks(rt.alloc()))
-}
-
-// Whether the first calls that stores are asked for have the replies of the first calls of one store, so that each was made once.
-fn asks_in_turn(alloc: Global) -> Result<bool, Fail> {
-    let mut stores = Stores::new(alloc);
-    let attached = attach_turns(alloc, &mut stores, "ordered")?;
-    Ok(
-        attached
-            && performs(alloc, &mut stores, Told::NoMemory)?
-            && performs(alloc, &mut stores, Told::Fault)?
-            && performs(alloc, &mut stores, Told::NoMemory)?,
-    )
+    hold(Ok(asks(rt.alloc())))
 }
 
 #[test]
 fn makes_one_call_for_a_request(rt: HostRuntime) -> Result<(), Fail> {
-    hold(asks_in_turn(rt.alloc()))
+    hold(Ok(asks_in_turn(rt.alloc())))
 }
