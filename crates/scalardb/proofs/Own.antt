@@ -17,7 +17,7 @@ one_store name contents faults = record { name = name; contents = contents; faul
 new_of : (name n : List ℕ) (store : StoreState) → n ≡ name → IsNewStore store → shelf_of n store ≡ new_store name
 new_of name n store same new = λ i. one_store (same i) (new.empty i) (new.sound i)
 
--- These are the stores of the program, and each tells what it holds.
+-- These are the stores of the program, and the contents of each are known.
 pub record AreOwn (stores : Attached) : Type 0 where
   pub are : stores.shelves ≡ own_stores
   pub telling : (at : ℕ) → at < 3 → stores.tells at
@@ -49,7 +49,7 @@ abbrev run_on : Attached → List Shelf → Option (List ℕ) → Option (List �
 run_on stores left old_input new_input old_output new_output =
     record { old = stores; left = left; old_input = old_input; new_input = new_input; old_output = old_output; new_output = new_output }
 
--- The headline, where each of the stores tells.
+-- The headline, where the contents of each store are known.
 pub played_on_own : (stores : Attached) (left : List Shelf) (old_input new_input old_output new_output : Option (List ℕ)) → AreOwn stores → IsReplayed (run_on stores left old_input new_input old_output new_output)
     → IsPlayedOnOwn old_input new_input old_output new_output
 played_on_own stores left old_input new_input old_output new_output own h =

@@ -36,7 +36,7 @@ use Rattle.sdb_loader.proofs.Values.{are_short-columns_in}
 use Rattle.sdb_script.proofs.Pieces.{bind_is, map_is, no_some}
 use Rattle.sdb_types.proofs.Basics.{by_test, some_is}
 
----- members that are read stand in the order of their names, each once
+---- members that are read are in the order of their names, each once
 
 abbrev IsUnder : List ℕ → Members → Type 0
 IsUnder k no_members = Unit {0}

@@ -69,7 +69,7 @@ module _ (script : Script) (w v : WorldAt) (old mid : Attached) (same : w.script
   pub run_played : (new : Attached) (o : Outcome) → IsOutcomeOf v mid new o → AreReady script old → IsRun script (shown old.shelves) (shown new.shelves) o
   run_played new o out ready = subst (λ (s : Script). IsRun s (shown old.shelves) (shown new.shelves) o) vs (out (shown old.shelves) (played ready))
 
-  -- what stood at each moment is explained by its events
+  -- what was there at each moment is explained by its events
   pub explained_played : (events : List Event) → IsPlayExplained v mid events → AreReady script old → IsExplained script events (shown old.shelves)
   explained_played events out ready = subst (λ (s : Script). IsExplained s events (shown old.shelves)) vs (out (shown old.shelves) (played ready).played)
 

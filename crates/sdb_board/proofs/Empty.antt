@@ -108,7 +108,7 @@ looked_at ts i t within is = slice_get-get_or ts i t within ∙ ap Some (sym is)
 
 ---- table by table
 
--- a table that is scanned behind others holds what it held at first
+-- a table that is scanned after others holds what it held at first
 pub scanned_behind : (catalog : List Table) (old mid : Attached) (table : TableName) (rows : List Record) → GoOn old mid → (AreFit catalog old → HoldTheSame old mid)
     → (AreFitFor table mid → rows ≡ records_in mid table) → is_played catalog table ≡ true → AreFit catalog old → rows ≡ records_in old table
 scanned_behind catalog old mid table rows goes still found about fit =

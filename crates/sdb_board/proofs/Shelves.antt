@@ -44,7 +44,7 @@ later_names s ss d i j e less inside = d (suc i) (suc j) e (omega arith) (omega 
 
 ---- the store of a name
 
--- the store that stands somewhere is the one of its name
+-- the store that is somewhere is the one of its name
 pub held_at : (shelves : List Counted) (at : ℕ) (s : Counted) → AreDistinct (names_of shelves) → slice_get shelves at ≡ Some s → held_by (shown shelves) s.name ≡ Some s.contents
 held_at [] at s d e = absurd (cc (e))
 held_at (x ∷ xs) zero s d e = let same : x ≡ s = some_is x s e in rw (same, same_name-itself s.name) refl
@@ -88,7 +88,7 @@ first_shown : (shelves : List Counted) → 0 < length shelves → slice_get (nam
 first_shown [] some = absurd (omega arith)
 first_shown (s ∷ ss) some = refl
 
--- a store that has a place stands there
+-- a store that has a place is there
 stands_there : (names : List Name) (store : Name) (at : ℕ) → place_of store names ≡ Some at → slice_get names at ≡ Some store
 stands_there names store at e =
     let found = position-Some (λ n. bytes_eq n store) names at [] e in

@@ -129,7 +129,7 @@ risen_more old mid new a h =
       | inr most ↦ inr most
     ]
 
--- a call that stopped behind others
+-- a call that stopped after others
 pub stopped_more : (old mid : Attached) (new : List Shelf) (e : CatalogRefused) → GoOn old mid → IsStopped mid.shelves new e → IsStopped old.shelves new e
 stopped_more old mid new refused.StoreFault a h = risen_more old mid new a h
 stopped_more old mid new (refused.BadRow key) a h = h

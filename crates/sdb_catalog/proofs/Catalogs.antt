@@ -117,7 +117,7 @@ key_of_row : (e : Entry) → (row_of e).key ≡ metadata_key_of e.table.name
 unfolding row_of
 key_of_row e = refl
 
--- the keys of rows stand in the order of the tables' names
+-- the keys of rows are in the order of the tables' names
 pub key_order : (a b : Entry) → is_name a.table.name.ns ≡ true → is_name b.table.name.ns ≡ true → key_cmp (row_of a).key (row_of b).key ≡ table_cmp a.table.name b.table.name
 key_order a b h k =
     ap (λ x. key_cmp x (row_of b).key) (key_of_row a) ∙ ap (key_cmp (metadata_key_of a.table.name)) (key_of_row b) ∙ key_is a.table.name b.table.name ∙ by_text a.table.name b.table.name h k

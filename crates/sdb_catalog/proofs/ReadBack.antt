@@ -32,7 +32,7 @@ use Rattle.sdb_catalog.proofs.OneReading.{one_reading}
 rows_same : (a b : List Record) → Rows a ≡ Rows b → a ≡ b
 rows_same a b h = cc
 
--- a store that tells what it holds shows the rows that it holds
+-- a store of known contents shows the rows that it holds
 rows_shown : (rows : List Record) (old : Attached) (new : List Shelf) → old.tells 0 → Called (Scan metadata_span) (Rows rows) old new → rows ≡ rows_in metadata_span (first_contents old.shelves)
 rows_shown rows old new t call =
     rows_same rows (rows_in metadata_span call.before.contents) (call.performed t).0 ∙ ap (rows_in metadata_span) (sym (first_before old.shelves call.before call.stood))

@@ -65,7 +65,7 @@ pub own_rises : rises coordinators.columns ≡ true
 unfolding coordinators
 own_rises = refl
 
--- the columns of a table that may have a row stand in the order of their names
+-- the columns of a table that may have a row are in the order of their names
 pub kept_rises : (t : Table) → MayHaveRow t → rises t.columns ≡ true
 kept_rises t h =
     elim h [

@@ -50,7 +50,7 @@ written_from known e outcome.Full old mid new goes h = h
 
 ---- one line more
 
--- the entries that are known behind lines
+-- the entries that are known after lines
 abbrev pub known_after : List Place → List ℕ → List Entry → List Line → List Entry
 known_after places first known [] = known
 known_after places first known (l ∷ ls) = known_after places first (grown known (entry_for known places first l.table) l.outcome) ls
@@ -123,7 +123,7 @@ each_table : (ts : List Table) → is_catalog ts ≡ true → list_all is_table 
 each_table ts h =
     and_second (nat_le (length ts) 64) (list_all is_table ts) (and_second (names_rise ts) (nat_le (length ts) 64 && list_all is_table ts) h)
 
--- the columns of each written table stand in the order of their names
+-- the columns of each written table are in the order of their names
 pub written_rise : (ts : List Table) → is_catalog ts ≡ true → list_all (λ (u : Table). rises u.columns) (written_tables ts) ≡ true
 written_rise ts h = all_with (λ (u : Table). rises u.columns) coordinators ts own_rises (each_rises ts (each_table ts h))
 

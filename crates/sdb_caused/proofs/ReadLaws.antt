@@ -1,4 +1,4 @@
--- The causes that stand in the text of a statement are told by what it is read as.
+-- The causes that are in the text of a statement are told by what it is read as.
 use Rattle.std.proofs.Common.{◌≡◌, ℕ, Bool, true, false, List, [], ◌∷◌, Option, Some, None, inl, inr, refl, sym, ap, ◌∙◌}
 use Rattle.std.specs.Prelude.{◌↔◌, IsTrue, filter, length, suc, if◌then◌else◌}
 use Rattle.std.specs.Option.{option_map_or}

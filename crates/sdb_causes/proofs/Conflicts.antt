@@ -430,7 +430,7 @@ module _ (p : Work) (notes : List Note) (w : WorkBy notes p) (calls : List Made)
   checks_on (Back a n i) h e can = back_at a n (i + 1) (by_more a (back_prepares_none i e) h)
   checks_on (Over a) h e can = none_some m.request e
 
--- want of memory in place of a conflict
+-- out of memory in place of a conflict
 pub starved_checks : (notes : List Note) (p : Work) (calls : List Made) (s : Stage) → ChecksBy notes p calls s → ChecksBy notes p calls (starved s)
 starved_checks notes p calls (Preparing i) h = h
 starved_checks notes p calls (Checking i) h = h

@@ -180,7 +180,7 @@ ordinal_small id = small id.0
     small : (n : ℕ) → n % 2 ^ 64 < 2 ^ 64
     small n = omega arith
 
--- what a search finds stands behind what fails
+-- what a search finds is after what fails
 found_split : (ss : List Said) (s : Said) → find ends ss ≡ Some s → (body : List Said) × (tail : List Said) × (ss ≡ body ++ s ∷ tail) × AllByRecursion (λ x. ends x ≡ false) body × (ends s ≡ true)
 found_split [] s e = none_some s e
 found_split (x ∷ xs) s e = by (ends x) refl (λ h. found_split xs s h) e

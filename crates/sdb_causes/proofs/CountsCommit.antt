@@ -437,7 +437,7 @@ module _ (notes : List Note) (p : Work) (noted : NotesAre notes p.reads p.scans)
     further : (d : DecidePhase) → decides d ≡ k + 1 → (NoneFaulted more → ⊥) → CommitCounted notes p more (Deciding d)
     further d e none = (all, then_long ∙ ap (later_by p) (sym e), λ n. absurd (none n))
 
-  -- want of memory at the first call of the decision
+  -- out of memory at the first call of the decision
   starved_counted : AllPut p more → length calls ≡ later_by p 0 → CommitCounted notes p more (Stopping outcome.NoMemory (length p.writes))
   starved_counted all long = ((λ e. cc), all_fit (length more + (1 + length p.writes)) all (by (length calls) (length more) (length p.writes) (length (checks p)) (calls_more calls m) long))
     where
@@ -567,7 +567,7 @@ module _ (notes : List Note) (p : Work) (noted : NotesAre notes p.reads p.scans)
       by x y z w k l g = omega (arith, k, l, g)
   commit_more (Over a) h e = none_some m.request e
 
----- where a COMMIT begins, and want of memory
+---- where a COMMIT begins, and out of memory
 
 starved_other : (a : Outcome) → (a ≢ outcome.Committed) → (starved_answer a ≢ outcome.Committed)
 starved_other outcome.Committed other e = absurd (other refl)

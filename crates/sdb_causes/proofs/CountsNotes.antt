@@ -96,7 +96,7 @@ noted_idle notes s d e h = subst (NotedDoing notes s) (sym e) h
 
 ---- one statement more
 
--- it stands behind those since a BEGIN, or none began
+-- it is after those since a BEGIN, or none began
 since_split : (n : ℕ) (told : List Said) (s : Said) → (rest_of (from_begin n (told ++ s ∷ [])) ≡ rest_of (from_begin n told) ++ s ∷ []) ⊎ ((rest_of (from_begin n (told ++ s ∷ [])) ≡ []) × (rest_of (from_begin n told) ≡ []))
 since_split n told s = by (from_begin n told) refl
   where

@@ -20,7 +20,7 @@ find_more {X = X} p (y ∷ xs) ys x e = by (p y) (λ h. find_more p xs ys x h) e
     by true ih h = h
     by false ih h = ih h
 
--- what is found stood there before one more came, or is that
+-- what is found was there before one more came, or is that
 pub find_front : {X : Type 0} (p : X → Bool) (xs : List X) (w x : X) → find p (xs ++ w ∷ []) ≡ Some x → (find p xs ≡ Some x) ⊎ (w ≡ x)
 find_front {X = X} p [] w x e = by (p w) e
   where
@@ -46,13 +46,13 @@ each_kept P p (x ∷ xs) all = by (p x) (each_kept P p xs all.1)
     by true ih = (all.0, ih)
     by false ih = ih
 
--- what a filter keeps stood there
+-- what a filter keeps was there
 pub kept_in : {X : Type 0} (p : X → Bool) (xs : List X) (x : X) → Contains (filter p xs) x → Contains xs x
 kept_in p xs x has = each_in (Contains xs) (filter p xs) x (each_kept (Contains xs) p xs (recursion_from_All (Contains xs) xs (All-contains_itself xs))) has
 
 ---- where a transaction begins
 
--- one statement more behind a BEGIN
+-- one statement more after a BEGIN
 pub since_more : (n : ℕ) (ss : List Said) (s b : Said) (body : List Said) → from_begin n ss ≡ b ∷ body → from_begin n (ss ++ s ∷ []) ≡ b ∷ (body ++ s ∷ [])
 since_more zero ss s b body e = absurd (cc)
 since_more (suc k) [] s b body e = absurd (cc)
@@ -123,7 +123,7 @@ ending_stays n ss x s e = by (from_begin n ss) refl
     by [] k = none_some s (sym (ap (λ r. find ends (rest_of r)) k) ∙ e)
     by (b ∷ body) k = ap (λ r. find ends (rest_of r)) (since_more n ss x b body k) ∙ find_more ends body (x ∷ []) s (sym (ap (λ r. find ends (rest_of r)) k) ∙ e)
 
--- and stood there before one more came, or is that
+-- and was there before one more came, or is that
 pub ending_front : (n : ℕ) (ss : List Said) (w s : Said) → find ends (rest_of (from_begin n (ss ++ w ∷ []))) ≡ Some s → (find ends (rest_of (from_begin n ss)) ≡ Some s) ⊎ (w ≡ s)
 ending_front n ss w s e = by (from_begin n ss) refl
   where

@@ -45,7 +45,7 @@ use Rattle.sdb_record.specs.Among.{version_among}
 
 ---- the record of a key
 
--- each row stands behind a key
+-- each row is after a key
 abbrev AreBehind : Key → List (Record × Option Record) → Type 0
 AreBehind k es = AllByRecursion (λ e. key_cmp k e.0.key ≡ Less) es
 

@@ -106,7 +106,7 @@ each_last P (x ∷ ss) s all = each_last P ss s all.1
 
 ---- one statement more
 
--- what it noted stands behind what was noted
+-- what it noted is after what was noted
 pub notes_more : (events : List Event) (c : ℕ) (ss : List Said) (s : Said) → notes_told events c (ss ++ s ∷ []) ≡ notes_told events c ss ++ notes_told events c (s ∷ [])
 notes_more events c ss s =
     ap (λ xs. flat_map (λ x. notes_in (calls_of events c x)) (filter is_from_rows xs)) (filter-append is_effective ss (s ∷ []))

@@ -96,7 +96,7 @@ taken_before c events told s e = by told (subst Rises e (rises_all c 1 events []
 abbrev pub Grows : List Said → List Said → Type 0
 Grows ss ts = (ts ≡ ss) ⊎ ((x : Said) × (ts ≡ ss ++ x ∷ [])) ⊎ ((front : List Said) × (w : Said) × (x : Said) × (ss ≡ front ++ w ∷ []) × (w.answer ≡ None) × (ts ≡ front ++ x ∷ []))
 
--- with at most one statement behind
+-- with at most one statement after
 abbrev Adds : List Said → List Said → Said → Type 0
 Adds ss ts x = (y : List Said) × ((y ≡ []) ⊎ (y ≡ x ∷ [])) × (ts ≡ ss ++ y)
 
@@ -187,7 +187,7 @@ least n = omega arith
 pub through : (a b c : ℕ) → a ≤ b → b ≤ c → a ≤ c
 through a b c l m = omega arith
 
--- a statement that was answered stands before one that waits
+-- a statement that was answered is before one that waits
 apart_last : (front : List Said) (w s : Said) (a : Answer) → w.answer ≡ None → s.answer ≡ Some a → Contains (front ++ w ∷ []) s → Contains front s
 apart_last front w s a none is has = by (Contains-push_cases front w s has)
   where

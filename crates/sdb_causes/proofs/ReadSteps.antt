@@ -1,4 +1,4 @@
--- Each call of a read keeps what the calls say of where it stands.
+-- Each call of a read keeps what the calls say of where it is.
 use Rattle.std.proofs.Common.{◌≡◌, ◌<◌, ℕ, ℤ, Bool, true, false, not, cond, List, [], ◌∷◌, ◌++◌, Some, None, Result, Ok, Err, refl, sym, ap, subst, ◌∙◌, arith}
 use Rattle.std.specs.Prelude.{if◌then◌else◌, ◌&&◌, MatchBool, is_ok, codes, find, Contains}
 use Rattle.std.specs.List.{AllByRecursion, list_all, list_any}

@@ -265,7 +265,7 @@ module _ (catalog : List Table) (events : List Event) (hands : ℕ → Hand) (y 
         let g : ShowsBad (calls_of (E (Some (answer.BadRecord key))) c (done (answer.BadRecord key))) key = subst (λ cs. ShowsBad cs key) (sym (calls_done (answer.BadRecord key))) b in
         (g.call, g.found, g.among, g.shown, g.same, inl (shown_bad (calls_of (E (Some (answer.BadRecord key))) c (done (answer.BadRecord key))) key (calls_stored (answer.BadRecord key)) g))
 
-    ---- where it stands then
+    ---- where it is then
 
     module _ (t : TxnAt) (some : h.txn ≡ Some t) (free : h.vacuum ≡ None) where
       stands_open : StandsIn events c h.begun k.told k.waiting h.plan (Some t)

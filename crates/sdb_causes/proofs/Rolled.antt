@@ -126,7 +126,7 @@ module _ (c : ℕ) (events : List Event) (e : Event) (w : Said) where
   pub sweeps_so_far : (x : VacuumStage) → SweepRolls events (reads_vacuum w.text) (calls_of events c w) x → SweepRolls (events ++ e ∷ []) (reads_vacuum w.text) (calls_of events c w) x
   sweeps_so_far = sweep_still events e (reads_vacuum w.text) (calls_of events c w) (of_within c events w)
 
--- no outcome of a COMMIT tells what rows were seen
+-- no outcome of a COMMIT says what rows were seen
 pub outcome_rows : (a : Outcome) → is_answered_from_rows (answer_of_outcome a) ≡ false
 outcome_rows outcome.Committed = refl
 outcome_rows (outcome.Conflict key found) = refl

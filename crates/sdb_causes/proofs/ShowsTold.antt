@@ -71,7 +71,7 @@ in_still catalog events e c body v (doing.Read a x) all h = sees_still catalog e
 in_still catalog events e c body v (doing.Commit k) all h = tt
 in_still catalog events e c body v doing.Over all h = sees_still catalog events e c body v all h
 
--- what is so of all statements is so of those behind a BEGIN
+-- what is so of all statements is so of those after a BEGIN
 rest_all : (P : Said → Type 0) (n : ℕ) (ss : List Said) → AllByRecursion P ss → AllByRecursion P (rest_of (from_begin n ss))
 rest_all P n ss all = by (from_begin n ss) refl
   where

@@ -1,4 +1,4 @@
--- Each call of a COMMIT keeps what the calls say of where it stands.
+-- Each call of a COMMIT keeps what the calls say of where it is.
 use Rattle.std.proofs.Common.{◌≡◌, ◌<◌, ◌^◌, ◌+◌, ◌⊎◌, inl, inr, ℕ, Bool, true, false, not, cond, List, [], ◌∷◌, ◌++◌, map, length, Option, Some, None, Result, Ok, Err, refl, sym, ap, subst, ◌∙◌}
 use Rattle.std.specs.Prelude.{if◌then◌else◌, filter, nat_lt, slice_get, IfSome}
 use Rattle.std.specs.List.{AllByRecursion}
@@ -353,7 +353,7 @@ module _ (p : Work) (is : IsOfData p) where
     stands_on fine (Back a n i) h e can = back_is a n (i + 1) (ends_more a (back_asked fine i e) h)
     stands_on fine (Over a) h e can = none_some m.request e
 
--- want of memory in place of a conflict changes nothing
+-- out of memory in place of a conflict changes nothing
 starved_ends : (id : TxId) (calls : List Made) (a : Outcome) → EndsBy id calls a → EndsBy id calls (starved_answer a)
 starved_ends id calls outcome.Committed h = h
 starved_ends id calls (outcome.Conflict key found) h = starves id calls h

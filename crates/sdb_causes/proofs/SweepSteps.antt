@@ -1,4 +1,4 @@
--- Each call of a VACUUM keeps what the calls say of where it stands.
+-- Each call of a VACUUM keeps what the calls say of where it is.
 use Rattle.std.proofs.Common.{◌≡◌, ◌<◌, ◌+◌, ℕ, ℤ, Bool, true, false, cond, not, List, [], ◌∷◌, ◌++◌, Option, Some, None, Err, refl, sym, ap, subst, ◌∙◌, arith}
 use Rattle.std.specs.Prelude.{if◌then◌else◌, ◌&&◌, MatchBool}
 use Rattle.std.specs.List.{AllByRecursion, count_by}

@@ -426,7 +426,7 @@ module _ (q : Taking) (events : List Event) (hands : ℕ → Hand) (ex : AreTied
       let free : d.vacuum ≡ None = same ∙ ready.idle.free in
       waits d turned no_begin (no_vacuum ∙ sym (ap is_some free)) (open_txn ∙ sym (ap (λ o. not (is_some o)) free)) number begun (subst (StandsOn (E None) c d.begun k.told (Some (one None)) d.plan d.txn) (sym free) stands) (begins_counted.0, subst (λ v. WaitCounted q.catalog text so_id so_noted [] v d.txn) (sym free) begins_counted.1) filled fits (subst (λ v. WaitRolls (E None) (reads_vacuum text) [] v d.txn) (sym free) rolls) sees
 
-  ---- where it stands then
+  ---- where it is then
 
   -- it runs no VACUUM
   on_free : (result : Option Answer) (n : ℕ) (told : List Said) (w : Option Said) (p : Option Planned) (o : Option TxnAt) → StandsIn (E result) c n told w p o → StandsOn (E result) c n told w p o h.vacuum

@@ -131,7 +131,7 @@ takes_all q events hands c text result d ex ready gate moment is es fit g apart 
   each = moved_all q.catalog events (event.Take c text result) hands c d ex.each (takes_known q events hands ex c ready gate moment is (λ t some. going_taken q.catalog fit es hands g c ready t some) apart text result d few x) (λ n apart. take_apart n c events text result apart) (λ n apart. refl);
 }
 
--- what a client that reads has read tells what is noted, and it had read what it wrote
+-- what a client that reads has read says what is noted, and it had read what it wrote
 going_told : (catalog : List Table) (fit : Tables → Bool) (es : List Event) (hands : ℕ → Hand) (g : IsGoing catalog fit es (system_of hands) (doing_of hands)) (c : ℕ) → (hands c).stopped ≡ false → (hands c).client.vacuum ≡ None → (t : TxnAt) (a : Access) (x : ReadAt) → (hands c).client.txn ≡ Some t → t.doing ≡ doing.Read a x → IsTold t.seen × WereRead t.seen.notes t.seen.writes
 going_told catalog fit es hands g c goes_on free t a x some reads = (record { reads = ok.1.reads; found = ok.1.found; noted = ok.1.noted }, ok.1.kept.read)
   where

@@ -33,7 +33,7 @@ use Rattle.sdb_client.specs.Inside.{IsFine, IsKeyRead, MayWrite}
 use Rattle.sdb_client.proofs.Fine.{fitting_user, named_ordered, sets_ordered}
 use Rattle.sdb_client.proofs.SeenRows.{IsSeenRow, seen_rows}
 
--- the columns of a row that a change leaves stand in order
+-- the columns of a row that a change leaves are in order
 abbrev is_ordered : Change → Bool
 is_ordered (change.Row columns) = are_columns columns
 is_ordered change.Delete = true

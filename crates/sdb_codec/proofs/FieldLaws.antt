@@ -48,7 +48,7 @@ passed_ok false d x y e = absurd cc
 pub ok_is : {A : Type 0} (x y : A) → done x ≡ done y → x ≡ y
 ok_is x y e = cc
 
--- what a reader took from the front
+-- what a reader took from the start
 pub record Takes (bytes text rest : List ℕ) : Type 0 where
   pub parts : bytes ≡ text ++ rest
   pub rest_fits : IsBytes rest
@@ -107,7 +107,7 @@ number_again w limit wide left n rest lt =
     let long : ltb (length (to_be_bytes w n ++ rest)) (byte_len w) ≡ false = le-ltb _ _ (omega (arith, length-append (to_be_bytes w n) rest)) in
     rw (long, take_at (to_be_bytes w n) rest (byte_len w) len, drop_at (to_be_bytes w n) rest (byte_len w) len, wide.again n lt) refl
 
----- bytes behind a length
+---- bytes after a length
 
 pub sized_takes : (left : ℕ) (bytes : List ℕ) (x : List ℕ × List ℕ) → IsBytes bytes → sized_at left bytes ≡ Ok x → Takes bytes (sized_bytes x.0) x.1 × (length x.0 < 2 ^ 32)
 unfolding sized_at

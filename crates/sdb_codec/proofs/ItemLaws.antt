@@ -48,7 +48,7 @@ module _ {X : Type 0} (item_at : Option X → List ℕ → Result (X × List ℕ
       let regrouped : flat_map text (x ∷ xs) ++ rest ≡ text x ++ (flat_map text xs ++ rest) = ap (λ (t : List ℕ). t ++ rest) (flat_map-cons text x xs) ∙ append_assoc (text x) (flat_map text xs) rest in
       ap (items_at item_at before (suc (length xs))) regrouped ∙ rw (each before x (flat_map text xs ++ rest) h.0, items_again each (Some x) xs rest h.1) refl
 
----- values behind a count
+---- values after a count
 
 abbrev pub values_after : Option Value → List ℕ → Result (Value × List ℕ) ℕ
 values_after before rest = value_at rest

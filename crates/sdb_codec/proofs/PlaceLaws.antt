@@ -539,7 +539,7 @@ key_refused bytes r fits h = refused_at key_due bytes (key_at bytes) (λ l e. ke
 
 ---- one place
 
--- two fields of the form that is due, at the front of the same bytes
+-- two fields of the form that is due, at the start of the same bytes
 field_same : (d : Due) (f g : Field) (r s : List ℕ) → HasForm d f → HasForm d g → field_bytes f ++ r ≡ field_bytes g ++ s → (due_after d f ≡ due_after d g) × (r ≡ s)
 field_same FormatDue Format Format r s p q e = (refl, cc)
 field_same TableDue (Table t) (Table u) r s p q e =

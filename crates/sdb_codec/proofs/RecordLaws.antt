@@ -290,7 +290,7 @@ pub key_round_trip : (k : Key) → key_fits k → KeyFitsFields k → key_in (ke
 key_round_trip k known fits =
     ap (from_front (length (key_bytes k))) (whole_again key_at key_bytes KeyFitsFields (λ x. key_fits x × KeyFitsFields x) (λ x rest h. key_again x rest h.0 h.1) k (known, fits))
 
--- and tells its record apart
+-- and parts its record from others
 pub record_apart : (r s : Record) → record_fits r → record_fits s → RecordFitsFields r → RecordFitsFields s → record_bytes r ≡ record_bytes s → r ≡ s
 record_apart r s known also fits fit e = ok_is r s (sym (record_round_trip r known fits) ∙ ap record_in e ∙ record_round_trip s also fit)
 

@@ -92,7 +92,7 @@ none-at p xs h =
     let t : nat_lt (length xs) (length xs) ≡ false = grind (arith, nat_tests) in
     rw (no-position p xs h, t) refl
 
--- the list from a place on, with its front one column longer
+-- the list from a place on, with its prefix one column longer
 shift : (front : List Column) (c : Column) (back : List Column) → (front ++ c ∷ []) ++ back ≡ front ++ c ∷ back
 shift front c back = append_assoc front (c ∷ []) back
 

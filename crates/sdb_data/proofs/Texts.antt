@@ -16,7 +16,7 @@ use Rattle.sdb_data.specs.Fields.{begins_backslash, blob_in, decoded, has_blob_f
 pub no-utf8 : (bs : List ℕ) → (IsUtf8 bs → ⊥) → false ≡ is_utf8 bs
 no-utf8 bs not_so = sym (false_from_ne_true (is_utf8 bs) (λ e. not_so (IsUtf8-from_is_utf8 bs e)))
 
--- a text that doesn't begin with `\` stands for itself
+-- a text that doesn't begin with `\` means itself
 pub plain : (field : List ℕ) → ((rest : List ℕ) → field ≡ 92 ∷ rest → ⊥) → unescaped field ≡ Some field
 plain [] h = refl
 plain (b ∷ bs) h =
@@ -25,7 +25,7 @@ plain (b ∷ bs) h =
       | false ↦ λ q. refl
     ] refl
 
--- behind a `\`, the text is what follows, where that begins with one too
+-- after a `\`, the text is what follows, where that begins with one too
 pub behind : (field rest : List ℕ) → field ≡ 92 ∷ rest → unescaped field ≡ cond (begins_backslash rest) (Some rest) None
 behind field rest e = ap unescaped e
 

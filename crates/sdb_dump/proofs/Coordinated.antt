@@ -184,7 +184,7 @@ above_next : (k : Key) (r : Record) (rs : List Record) → is_lt (key_cmp k r.ke
 above_next k r [] h up = refl
 above_next k r (x ∷ rs) h up = below_then k r.key x.key h (and_first _ _ up)
 
--- a row behind a key is above it
+-- a row after a key is above it
 row_above : (k : Key) (rs : List Record) (r : Record) → starts_after k rs ≡ true → rise rs ≡ true → Contains rs r → is_lt (key_cmp k r.key) ≡ true
 row_above k [] r h up among = absurd (none_in r among)
 row_above k (x ∷ rs) r h up among = elim (first_or_later x r rs among) [

@@ -18,7 +18,7 @@ err_is P (Err y) h e = (y, h)
 
 ---- the first that passes
 
--- the first of all is the first behind those that don't pass
+-- the first of all is the first after those that don't pass
 pub found_first : {A : Type 0} (q : A → Bool) (xs : List A) (i : ℕ) (x : A) → slice_get xs i ≡ Some x → find q (take i xs) ≡ None → q x ≡ true → find q xs ≡ Some x
 found_first q [] i x here none t = absurd (none_some x here)
 found_first q (y ∷ ys) zero x here none t = ap (λ (z : _). cond (q z) (Some z) (find q ys)) (some_is y x here) ∙ ap (λ (b : Bool). cond b (Some x) (find q ys)) t

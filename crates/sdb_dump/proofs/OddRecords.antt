@@ -1,4 +1,4 @@
--- The records that a scan shows to break the rules stand at their keys.
+-- The records that a scan shows to break the rules are at their keys.
 use Rattle.std.proofs.Common.{◌≡◌, ◌∙◌, inl, inr, ℕ, zero, suc, Bool, true, false, cond, List, [], ◌∷◌, ◌++◌, take, Option, Some, None, refl, sym, ap}
 use Rattle.std.specs.Prelude.{Contains, find, is_some, not, slice_get}
 use Rattle.std.specs.List.{AllByRecursion, flat_map, list_all}
@@ -40,7 +40,7 @@ all_in p (x ∷ rs) r all among = elim (first_or_later x r rs among) [
   | inr more ↦ all_in p rs r (and_second (p x) (list_all p rs) all) more
 ]
 
--- a record of a table, in the order of its scan, stands at its key
+-- a record of a table, in the order of its scan, is at its key
 pub record Scanned (places : List Place) (shelves : List Shelf) (table : TableName) (r : Record) : Type 0 where
   pub stands : standing places shelves r.key ≡ Some r
   pub table_is : table ≡ r.key.table
@@ -132,7 +132,7 @@ odd_among catalog places shelves (t ∷ ts) key known h =
     by None e rest k = rest k
     by (Some x) e rest k = odd_record catalog places shelves t key known.0 (e ∙ k)
 
--- the first odd record stands at its key
+-- the first odd record is at its key
 pub odd_first : (catalog : List Table) (places : List Place) (shelves : List Shelf) (key : Key) → first_odd catalog places shelves ≡ Some key → IsOddAt catalog places shelves key
 odd_first catalog places shelves key h = by (first_unlike is_decided (records_of places shelves coordinator_table)) refl h
   where

@@ -30,7 +30,7 @@ use Rattle.sdb_endings.proofs.Calls.{IsAt, call_at}
 
 ---- one call
 
--- the row from which a decision was read stands at a key
+-- the row from which a decision was read is at a key
 pub record Stands (at : Option Record) (d : Decided) : Type 0 where
   pub row : Record
   pub stands : at ≡ Some row
@@ -45,7 +45,7 @@ of_get : (q : Request) (o : Option Record) (d : Decided) → decision_said q (re
 of_get q None d h = none_some d h
 of_get q (Some row) d h = record { row = row; stands = refl; decided = h }
 
--- what a reply of a store shows of a decision is what then stands at the key that was asked
+-- what a reply of a store shows of a decision is what then is at the key that was asked
 said_stands : (q : Request) (k : Key) (m : Contents) (d : Decided) → key_asked q ≡ Some k → decision_said q (reply_to q m) ≡ Some d → Stands (record_at (after q m) k) d
 said_stands (ask.Get key) k m d asked h = subst (λ (x : Key). Stands (record_at m x) d) (some_is key k asked) (of_get (ask.Get key) (record_at m key) d h)
 said_stands (ask.Scan span) k m d asked h = none_some k asked
@@ -71,7 +71,7 @@ said_stands (ask.DeleteIf key c) k m d asked h = subst (λ (x : Key). Stands (re
         subst (λ (o : Option Record). Stands o d) (sym (left e))
         (of_found (ask.DeleteIf key c) (record_at m key) d (sym (ap (λ (b : Bool). decision_said (ask.DeleteIf key c) (if b then reply.Applied else reply.NotMet (record_at m key))) e) ∙ said))
 
--- a fault shows none, nor does want of memory
+-- a fault shows none, nor does out of memory
 fault_says : (q : Request) (r : Reply) (d : Decided) → (r ≡ reply.NoMemory) ⊎ (r ≡ reply.Fault) → decision_said q r ≡ Some d → ⊥
 fault_says q r d (inl e) h = no q (sym (ap (decision_said q) e) ∙ h)
   where
@@ -94,7 +94,7 @@ key_table (ask.Scan span) k e = none_some k e
 key_table (ask.PutIf rec c) k e = ap (λ (x : Key). x.table.ns) (sym (some_is rec.key k e))
 key_table (ask.DeleteIf key c) k e = ap (λ (x : Key). x.table.ns) (sym (some_is key k e))
 
--- after a call that showed a decision the row stands with it
+-- after a call that showed a decision the row is there with it
 call_stands : (places : List Place) (q : Request) (r : Reply) (before now : List Shelf) (k : Key) (d : Decided) → AtCall places q r before now → key_asked q ≡ Some k → decision_said q r ≡ Some d → Stands (standing places now k) d
 call_stands places q r before now k d a asked h = by a.moved
   where
@@ -123,7 +123,7 @@ shown_said id m d h = by (is_of_row id m.request) refl h
     by true e k = (e, k)
     by false e k = none_some d k
 
--- after a call that showed a decision the row stands with it
+-- after a call that showed a decision the row is there with it
 pub shown_stands : (places : List Place) (opening : List Shelf) (moments : List (List Shelf)) (first : ℕ) (id : TxId) (m : Made) (d : Decided) (p : IsAt places opening moments first m) → decision_shown id m ≡ Some d → Stands (standing places (moment opening moments (suc p.n)) (coordinator_key_of id)) d
 shown_stands places opening moments first id m d p shown =
     let s = shown_said id m d shown in

@@ -1,4 +1,4 @@
--- Where the calls of clients stand among the events of a trace, and what they did there.
+-- Where the calls of clients are among the events of a trace, and what they did there.
 use Rattle.std.proofs.Common.{◌≡◌, ◌⊎◌, inl, inr, ℕ, zero, suc, ◌+◌, ◌<◌, ◌≤◌, Bool, true, false, List, [], ◌∷◌, length, Option, Some, None, refl, sym, ap, subst, ◌∙◌, arith}
 use Rattle.std.specs.Prelude.{◌==◌, ◌&&◌, if◌then◌else◌, filter, nat_le, nat_lt, Contains}
 use Rattle.std.specs.List.{cons_option, enumerate_from, filter_map}
@@ -20,7 +20,7 @@ the_first x xs = Contains-append_left (x ∷ []) xs x (Contains-push [] x)
 pub a_later : {X : Type 0} (x y : X) (xs : List X) → Contains xs y → Contains (x ∷ xs) y
 a_later x y xs has = Contains-append_right (x ∷ []) xs y has
 
--- what a filter keeps stood there, and passes
+-- what a filter keeps was there, and passes
 kept : {X : Type 0} (p : X → Bool) (xs : List X) (x : X) → Contains (filter p xs) x → Contains xs x × (p x ≡ true)
 kept p [] x has = absurd (omega (arith, has.1))
 kept p (y ∷ ys) x has = by (p y) refl has (kept p ys x)

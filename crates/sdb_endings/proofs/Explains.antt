@@ -1,4 +1,4 @@
--- Which records stand at every moment of several stores, which events put them there, and that reads are current, by what is so of the one
+-- Which records there are at every moment of several stores, which events put them there, and that reads are current, by what is so of the one
 -- store.
 use Rattle.std.proofs.Common.{◌≡◌, ℕ, suc, ◌<◌, ◌≤◌, Bool, true, false, List, [], ◌∷◌, ◌++◌, length, Option, Some, None, inl, inr, refl, sym, ap, subst, ◌∙◌}
 use Rattle.std.specs.Prelude.{Contains, IsSomeAnd, is_some}

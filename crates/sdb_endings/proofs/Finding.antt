@@ -56,7 +56,7 @@ use Rattle.sdb_endings.proofs.Others.{PutsAt, stood_or_put}
 
 ---- one event
 
--- A put at one key leaves what stands at another.
+-- A put at one key leaves what is at another.
 put_leaves : (places : List Place) (e : Event) (before now : List Shelf) (k j : Key) → Effect places e before now → PutsAt e k → k ≢ j → standing places now j ≡ standing places before j
 put_leaves places (event.Call client store (ask.PutIf rec c) how r answer) before now k j effect put apart = stays (at_call places store (ask.PutIf rec c) how r before now effect)
   where
@@ -81,7 +81,7 @@ put_leaves places (event.Call client store (ask.PutIf rec c) how r answer) befor
         same = elim a.moved [ inl m ↦ ap (λ (y : Contents). record_at y j) m.0 ∙ left a.held | inr m ↦ ap (λ (y : Contents). record_at y j) m.0 ]
 put_leaves places e before now k j effect put apart = absurd put
 
--- what stands at a key has that key
+-- what is at a key has that key
 standing_key : (places : List Place) (now : List Shelf) (key : Key) (r : Record) → standing places now key ≡ Some r → r.key ≡ key
 standing_key places now key r h = by (held_by now (store_of places now key.table.ns)) h
   where
@@ -103,7 +103,7 @@ found_among (x ∷ xs) key r h = by (same_key key x.key) h (found_among xs key r
     by true e rest = subst (Contains (x ∷ xs)) (some_is x r e) (the_first x xs)
     by false e rest = a_later x r xs (rest e)
 
--- a read that showed what stood at a key
+-- a read that showed what was at a key
 record IsRead (q : Request) (r : Reply) (key : Key) (found : Option Record) : Type 0 where
   reads : ReadsKey key q
   is : is_read q ≡ true
@@ -157,7 +157,7 @@ learned_of id (x ∷ xs) m d has shown = by (decision_shown id x) refl (λ (h : 
 image_told : (decide : TxId → Option Decided) (r : Record) (id : TxId) (d : Decided) → id_in r.columns ≡ Some id → decide id ≡ Some d → image_of r (option_and_then decide (id_in r.columns)) ≡ image_of r (Some d)
 image_told decide r id d writer is = ap (λ (o : Option TxId). image_of r (option_and_then decide o)) writer ∙ ap (image_of r) is
 
----- the first moment at which something stands
+---- the first moment at which something is there
 
 record Comes (at : ℕ → Option Record) (low high : ℕ) : Type 0 where
   p : ℕ
@@ -197,7 +197,7 @@ module _ (catalog : List Table) (places : List Place) (events : List Event) (ope
   abbrev calls : List Made
   calls = calls_of events client s
 
-  -- a call of the statement: where it stands among the events
+  -- a call of the statement: where it is among the events
   within : (m : Made) → Contains calls m → IsWithin events client s m
   within m has = within_statement events client s m has
 
@@ -268,7 +268,7 @@ module _ (catalog : List Table) (places : List Place) (events : List Event) (ope
           let l = learned_of d.id calls d.look d.decided d.among d.shown in
           l.learned ∙ ap Some (decisions_agree places events opening closing moments trace x.rows_final client client d.id l.m d.look l.d d.decided fits (within l.m l.among).among (within d.look d.among).among l.shown d.shown)
 
-      -- and where the row stands it is that of the stores
+      -- and where there is a row, it is that of the stores
       decided_at : (at : ℕ) (y : Record) → at ≤ length moments → row_of at ≡ Some y → decision_at places (now at) d.id ≡ Some d.decided
       decided_at at y l stands =
           ap (option_and_then (λ (z : Record). result_ok (decision_in z))) stands
@@ -284,7 +284,7 @@ module _ (catalog : List Table) (places : List Place) (events : List Event) (ope
       own : r.key ≡ key
       own = standing_key places (now n) key r here
 
-      -- the row comes at a moment between, at which the record still stands
+      -- the row comes at a moment between, at which the record is still there
       module _ (c : Comes row_of n (suc q.n)) where
         past : suc c.p ≤ length moments
         past = most c.p q.n (length moments) c.before q.within

@@ -1,4 +1,4 @@
--- In the coordinator's table records stand at the keys of transactions' rows alone.
+-- In the coordinator's table records are at the keys of transactions' rows alone.
 use Rattle.std.proofs.Common.{◌≡◌, ◌≢◌, ℕ, ◌<◌, ◌^◌, Bool, true, false, List, [], ◌∷◌, Option, Some, None, ◌⊎◌, inl, inr, refl, sym, ap, subst, ◌∙◌}
 use Rattle.std.specs.Prelude.{◌&&◌, if◌then◌else◌}
 use Rattle.sdb_types.specs.declared.key.Key.{Key}
@@ -40,7 +40,7 @@ pub record IsRowKey (k : Key) : Type 0 where
   pub fits : t < 2 ^ 128
   pub same : k ≡ coordinator_key_of (id t)
 
----- what stands at a key stood there before the event, or the event puts it there
+---- what is at a key was there before the event, or the event puts it there
 
 abbrev pub PutsBy : Request → Key → Type 0
 PutsBy (ask.Get key) k = ⊥
@@ -158,7 +158,7 @@ puts_row plan w past e (Stops c) q knows m row put = absurd (subst (λ x. PutsAt
 
 ---- every event
 
--- After a lawful list of events from empty stores, each record of the coordinator's table stands at the key of a transaction's row.
+-- After a lawful list of events from empty stores, each record of the coordinator's table is at the key of a transaction's row.
 pub only_rows : (plan : ℕ → Plan) (places : List Place) (opening : List Shelf) (past : List Played) (ss : List (List Shelf)) (k : Key) (row : Record) → StartsEmpty places opening → IsLawful plan past → IsTraced places opening past ss → is_data k ≡ false → standing places (closing opening ss) k ≡ Some row → IsRowKey k
 only_rows plan places opening [] [] k row empty l t outside h = absurd (none (sym (empty k) ∙ h))
   where

@@ -1,4 +1,4 @@
--- What stands at the keys of tables are transactional records, and what stands in the coordinator's table are well formed rows.
+-- What is at the keys of tables are transactional records, and what is in the coordinator's table are well formed rows.
 use Rattle.std.proofs.Common.{◌≡◌, ◌≢◌, ◌<◌, ◌^◌, ℕ, Bool, true, false, List, take, drop, Option, Some, None, refl, sym, ap, ◌∙◌, subst}
 use Rattle.std.specs.Prelude.{◌&&◌, not, IsOk, Result, Ok, Err, is_ok}
 use Rattle.std.specs.Option.{option_map}
@@ -63,7 +63,7 @@ meta_ok r h = ok_of (checked r.columns) (right (are_stored r.columns) (is_ok (ch
 some_is : (x y : Record) → Some x ≡ Some y → x ≡ y
 some_is x y e = cc
 
--- Each record that stands passes the checks.
+-- Each record that is there passes the checks.
 taken_held : (plan : ℕ → Plan) (places : List Place) (w : History) (past : List Played) (shelves : List Shelf) → Whole plan places w past shelves → (k : Key) (r : Record) → is_data k ≡ true → standing places shelves k ≡ Some r → is_taken r ≡ true
 taken_held plan places w past shelves i k r outside at = by (w.rows k) refl (sym (i.held.records k outside) ∙ at)
   where

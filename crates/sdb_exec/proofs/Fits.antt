@@ -243,7 +243,7 @@ values_fit t ns vs (key ∷ keys) l h k f =
 pub same_self : (n : Name) → same_name n n ≡ true
 same_self n = ap is_eq (tied_itself name_total n)
 
--- each of the names stands among those of which they are the end
+-- each of the names is among those of which they are the end
 selves : (xs ys : List Name) → list_all (λ y. list_any (λ n. same_name n y) (xs ++ ys)) ys ≡ true
 selves xs [] = refl
 selves xs (y ∷ ys) =

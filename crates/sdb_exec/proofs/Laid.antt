@@ -46,7 +46,7 @@ by_key q e P tied other =
       | Greater ↦ λ h. other (ap is_eq h)
     ] refl
 
--- the entry's own change is laid last: its key stands nowhere else
+-- the entry's own change is laid last: its key is nowhere else
 own : (p : Image → Bool) (new : Image → Change) (q : Key) (e : Key × List Pair) (f old : Option (List Pair)) → p (row_of_entry e) ≡ true → q ≡ e.0 → f ≡ None
     → outcome p new q f (row_of_change (new (row_of_entry e))) ≡ outcome p new q (Some e.1) old
 own p new q e f old b i none =

@@ -98,7 +98,7 @@ any_right p (x ∷ xs) ys h =
     let rest = any_right p xs ys parts.1 in
     (rw parts.0 rest.0, rest.1)
 
--- columns that stand beside none of the names
+-- columns that are beside none of the names
 past : (ns ms : List Name) (vs : List Value) (f : Name → Value) → are_distinct (ns ++ ms) ≡ true → map (λ m. value_in ns vs m (f m)) ms ≡ map f ms
 past [] ms vs f h = refl
 past (n ∷ ns) ms [] f h = refl

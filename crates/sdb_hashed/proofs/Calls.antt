@@ -97,11 +97,11 @@ pub answers_along : {E : Type 0} (q : Request) (r : Result Reply E) (m n m' n' :
 answers_along q (Ok reply) m n m' n' e done h = (h.0 ∙ e, done)
 answers_along q (Err e') m n m' n' e done h = tt
 
--- the reply to a write depends on what stands at its key
+-- the reply to a write depends on what is at its key
 pub write_reply : (condition : Condition) (k : Key) (o p : Option (List Pair)) → o ≡ p → put_reply condition (option_map (λ columns. record_of (k, columns)) o) ≡ put_reply condition (option_map (λ columns. record_of (k, columns)) p)
 write_reply condition k o p e = ap (λ q. put_reply condition (option_map (λ columns. record_of (k, columns)) q)) e
 
----- writes where nothing stands at the key
+---- writes where there is nothing at the key
 
 module _ (condition : Condition) (m n : Contents) (k : Key) (none : None ≡ get m k) where
   pub put_unmet : (v : List Pair) → false ≡ holds condition None → n ≡ m → Answers (PutIf (record_of (k, v)) condition) (NotMet None) m n

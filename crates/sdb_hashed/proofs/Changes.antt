@@ -1,4 +1,4 @@
--- Changes of what stands at one key.
+-- Changes of what is at one key.
 use Rattle.std.proofs.Common.{◌≡◌, Bool, List, true, false, cond, Option, Some, None, refl, sym, ap, ◌∙◌}
 use Rattle.std.specs.Prelude.{if◌then◌else◌}
 use Rattle.std.specs.Option.{option_map}
@@ -14,7 +14,7 @@ use Rattle.sdb_types.specs.Contents.{Contents, record_of, holds, after}
 use Rattle.sdb_types.specs.Exact.{equal_of}
 use Rattle.sdb_types.proofs.KeyOrder.{key_total, key_exact}
 
--- A change of what stands at k alone: other keys keep what they have, and what k then has comes from what it had.
+-- A change of what is at k alone: other keys keep what they have, and what k then has comes from what it had.
 pub record IsLocal (k : Key) (op : Contents → Contents) : Type 0 where
   pub elsewhere : (m : Contents) (q : Key) → eq_by_cmp key_cmp q k ≡ false → get (op m) q ≡ get m q
   pub alike : (m n : Contents) (q : Key) → get m q ≡ get n q → get m k ≡ get n k → get (op m) q ≡ get (op n) q
@@ -34,7 +34,7 @@ remove_local k = record {
   alike = λ m n q e at. get-remove key_total m k q ∙ ap (cond (eq_by_cmp key_cmp q k) None) e ∙ sym (get-remove key_total n k q);
 }
 
--- a change that is made where a condition holds of what stands at the key
+-- a change that is made where a condition holds of what is at the key
 if_local : (k : Key) (op : Contents → Contents) (test : Option (List Pair) → Bool) → IsLocal k op → IsLocal k (λ m. if test (get m k) then op m else m)
 if_local k op test local = record {
   elsewhere = λ m q h. elim (test (get m k)) as (λ b. get (cond b (op m) m) q ≡ get m q) [ true ↦ local.elsewhere m q h | false ↦ refl ];
@@ -49,7 +49,7 @@ put_local rec condition = if_local rec.key (λ m. insert m rec.key rec.columns) 
 pub delete_local : (k : Key) (condition : Condition) → IsLocal k (after (DeleteIf k condition))
 delete_local k condition = if_local k (λ m. remove m k) (λ o. holds condition (option_map (λ columns. record_of (k, columns)) o)) (remove_local k)
 
--- nothing is removed where nothing stands
+-- nothing is removed where there is nothing
 pub remove_absent : (m : Contents) (k : Key) → get m k ≡ None → remove m k ≡ m
 remove_absent m k none = same_map key_total key_exact (remove m k) m (λ q.
     get-remove key_total m k q

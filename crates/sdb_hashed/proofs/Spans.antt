@@ -48,7 +48,7 @@ put_get (e ∷ es) m q =
     get-insert key_total (with_rows (map record_of es) m) e.0 e.1 q ∙ ap (cond (eq_by_cmp key_cmp q e.0) (Some e.1)) (put_get es m q)
     ∙ elim (eq_by_cmp key_cmp q e.0) as (λ b. cond b (Some e.1) (or_else (find key_cmp q es) (get m q)) ≡ or_else (cond b (Some e.1) (find key_cmp q es)) (get m q)) [ true ↦ refl | false ↦ refl ]
 
--- what stands in a span after the rows of a bucket are put
+-- what is in a span after the rows of a bucket are put
 pub put_rows : (span : Span) (bucket m : Contents) (q : Key) → in_span span q ≡ true → get (with_rows (rows_in span bucket) m) q ≡ or_else (get bucket q) (get m q)
 put_rows span bucket m q h =
     put_get (where_key key_cmp (in_span span) (entries bucket)) m q

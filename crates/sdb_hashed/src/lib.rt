@@ -6,7 +6,6 @@ mod part;
 mod parts;
 
 pub use buckets::Buckets;
-
 use sdb_store::Memory;
 
 /// The store in memory over hashed partitions. Its contents are known.

@@ -1,4 +1,4 @@
--- Each recorded writer of a key is the one whose record is shown there, or stands before it.
+-- Each recorded writer of a key is the one whose record is shown there, or is before it.
 use Rattle.std.proofs.Common.{◌≡◌, ◌≢◌, ℕ, ℤ, ◌<◌, ◌≤◌, Bool, true, Option, Some, None, ◌⊎◌, inl, inr, refl, sym, subst, arith}
 use Rattle.sdb_types.specs.declared.key.Key.{Key}
 use Rattle.sdb_types.proofs.Keys.{tests}
@@ -64,7 +64,7 @@ decide_shadow : (plan : ℕ → Plan) (w : History) (t0 : ℕ) (word : Word) (do
     → (shadow plan (happens plan w (Decides t0 word) done) k ≡ shadow plan w k) ⊎ ((w.row t0 ≡ None) × (w.took t0 k ≡ true) × IdIs (shadow plan (happens plan w (Decides t0 word) done) k) t0)
 decide_shadow plan w t0 word done k held a = grind (arith, tests, held k)
 
--- what the deciding one found there stands before it
+-- what the deciding one found there is before it
 decide_over : (plan : ℕ → Plan) (w : History) (t0 t : ℕ) (k : Key) → Inv plan w → w.row t0 ≡ None → w.took t0 k ≡ true → w.talk.told t0 k ≡ true → IsWriter plan w k t → w.talk.point t < w.talk.point t0
 decide_over plan w t0 t k i n h told r = over (shadow plan w k) (w.under t0 k) (i.under t0 k h n) (i.cover t k r) (λ u e. below u (i.over t0 k u h e) ((i.took t0 k).1 told).1)
   where

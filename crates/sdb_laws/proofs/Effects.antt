@@ -1,4 +1,4 @@
--- What one call does to what stands at each key.
+-- What one call does to what is at each key.
 use Rattle.std.proofs.Common.{◌≡◌, ◌≢◌, Bool, true, false, cond, List, [], ◌∷◌, Option, Some, None, ◌⊎◌, inl, inr, refl, sym, ap, ◌∙◌, option_map}
 use Rattle.std.specs.Prelude.{find, ◌&&◌, if◌then◌else◌}
 use Rattle.std.specs.Option.{option_map_or}
@@ -103,7 +103,7 @@ moved q Broken r held left p = elim p.1 [
   | inr e ↦ inl (e, inr p.0)
 ]
 
--- what stands at a key is what the call's store has there, before and after, or the call leaves it as it was
+-- what is at a key is what the call's store has there, before and after, or the call leaves it as it was
 pub record AtCall (places : List Place) (q : Request) (r : Reply) (before now : List Shelf) : Type 0 where
   pub held : Contents
   pub left : Contents

@@ -48,7 +48,7 @@ data_apart k t h = elim (same_key_tells k (coordinator_key_of (id t))) [
     clash : true ≡ false → ⊥
     clash e = cc
 
--- rows of two transactions stand at two keys
+-- rows of two transactions are at two keys
 pub rows_apart : (t u : ℕ) → t < 2 ^ 128 → u < 2 ^ 128 → same_key (coordinator_key_of (id t)) (coordinator_key_of (id u)) ≡ (t == u)
 rows_apart t u a b = elim (same_key_tells (coordinator_key_of (id t)) (coordinator_key_of (id u))) [
   | inl e ↦ e.0 ∙ sym (same t u (some_number (sym (key-of-id (id t) a) ∙ ap id_of_key e.1 ∙ key-of-id (id u) b)))

@@ -1,4 +1,4 @@
--- At every moment of a run, in the words of the model: which records stand, and which event put them.
+-- At every moment of a run, in the words of the model: which records there are, and which event put them.
 use Rattle.std.proofs.Common.{◌≡◌, ◌≢◌, ℕ, suc, ◌+◌, ◌-◌, ◌<◌, ◌≤◌, ◌^◌, Bool, true, false, List, [], ◌∷◌, ◌++◌, length, take, drop, append_assoc, add-one, Option, Some, None, ◌⊎◌, inl, inr, refl, sym, ap, subst, ◌∙◌, arith}
 use Rattle.std.specs.Prelude.{IsSomeAnd, fold, ◌==◌, ◌||◌, ◌&&◌, not, is_some}
 use Rattle.std.specs.Option.{option_map}
@@ -342,7 +342,7 @@ unresolved plan places opening front back ms more catalog same r apart key x tab
     u : IsPreparedRecord plan (history plan places opening (newest_first front) (newest_first ms)) key x
     u = unresolved_prepared plan places (history plan places opening (newest_first front) (newest_first ms)) (newest_first front) (closing opening (newest_first ms)) (whole_of plan places opening (newest_first front) (newest_first ms) run) key x (apart.outside key table) (ap (λ y. standing places y key) (sym (moment_at opening ms more)) ∙ at) open_state
 
----- what a transaction without a row prepared stands
+---- what a transaction without a row prepared is there
 
 pub open_put : (t : TxId) (r : Record) (c : Condition) → prepares t (ask.PutIf r c) ≡ true → is_in state.Committed r.columns ≡ false
 open_put t r c h = by (is_in state.Committed r.columns) refl

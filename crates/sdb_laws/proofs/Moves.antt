@@ -43,13 +43,13 @@ pub record Moves (plan : ℕ → Plan) (places : List Place) (w : History) (r : 
   pub allowed : Allowed plan w r done
   pub held : IsHeld plan places (happens plan w r done) now
 
----- who stands there
+---- who is there
 
 fits_standing : (plan : ℕ → Plan) (w : History) (past : List Played) (k : Key) (t : ℕ) → Knows plan w past → (w.rows k ≡ Some (Firm t)) ⊎ (w.rows k ≡ Some (Held t)) → t < 2 ^ 128
 fits_standing plan w past k t knows (inl e) = taken_fits w t knows.inv.begun knows.fits (writer_taken plan w k t knows.inv.taken (knows.inv.firm k t e))
 fits_standing plan w past k t knows (inr e) = taken_fits w t knows.inv.begun knows.fits (took_is_taken w t k knows.inv.taken (knows.inv.held k t e))
 
--- what a version that holds says of what stands
+-- what a version that holds says of what is there
 pub version_stands : (plan : ℕ → Plan) (w : History) (past : List Played) (k : Key) (v : Option ℕ) → Knows plan w past → ((u : ℕ) → v ≡ Some u → u < 2 ^ 128) → holds (condition_of (option_map id v)) (option_map (record_for plan k) (w.rows k)) ≡ true → has_version (w.rows k) v ≡ true
 version_stands plan w past k v knows fits h = by (w.rows k) refl v fits h
   where

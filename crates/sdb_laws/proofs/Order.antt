@@ -66,7 +66,7 @@ newest : (plan : ℕ → Plan) (w : History) (k : Key) (ts : List ℕ) → IsRis
 newest plan w k [] r = λ u m. absurd m
 newest plan w k (t ∷ ts) r = newest_more plan w k t ts (last_writer plan k ts) (above w (w.talk.point t) ts r.0) (newest plan w k ts r.1)
 
----- the front of the order
+---- the prefix of the order
 
 in_front : (front : List ℕ) (t : ℕ) (back : List ℕ) (u : ℕ) → IsIn u front → IsIn u (front ++ t ∷ back)
 in_front [] t back u m = absurd m
@@ -122,7 +122,7 @@ found_row plan w t k (Some u) x e = ap (row_left plan k) (sym e)
 found_row plan w t k None None e = refl
 found_row plan w t k None (Some u) e = sym (deleted_row plan u k e.0)
 
--- the writer that was current is the last one of the front
+-- the writer that was current is the last one of the prefix
 same_writer : (plan : ℕ → Plan) (w : History) (k : Key) (front : List ℕ) (x y : Option ℕ)
     → ((u : ℕ) → IsIn u front → (w.row u ≡ Some Committed)) → ((u : ℕ) → x ≡ Some u → IsIn u front × (written (plan u) k ≢ None))
     → ((v : ℕ) → IsIn v front → written (plan v) k ≢ None → (u : ℕ) × (x ≡ Some u) × ((u ≡ v) ⊎ (w.talk.point v < w.talk.point u)))

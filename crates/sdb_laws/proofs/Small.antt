@@ -184,7 +184,7 @@ HeardOk w = (t : ℕ) → (w.talk.won t ≡ true → w.row t ≡ Some Committed)
 pub heard_kept : (plan : ℕ → Plan) (w : History) (r : Role) (done : Bool) → HeardOk w → Allowed plan w r done → HeardOk (happens plan w r done)
 heard_kept plan w r done ok a t = grind (arith, tests, ok t)
 
----- what stands
+---- what is there
 
 abbrev pub FirmOk : (ℕ → Plan) → History → Type 0
 FirmOk plan w = (k : Key) (t : ℕ) → w.rows k ≡ Some (Firm t) → IsWriter plan w k t
@@ -203,7 +203,7 @@ NotedOk plan w = (t i : ℕ) (k : Key) (u : ℕ) → w.talk.taken t ≡ true →
 abbrev pub GoneOk : (ℕ → Plan) → History → Type 0
 GoneOk plan w = (k : Key) (u : ℕ) → w.gone k ≡ Some u → IsWriter plan w k u × (deletes (plan u) k ≡ true)
 
--- what a transaction prepared stands while it has no row
+-- what a transaction prepared is there while it has no row
 abbrev pub StandsOk : History → Type 0
 StandsOk w = (t : ℕ) (k : Key) → w.took t k ≡ true → w.row t ≡ None → w.rows k ≡ Some (Held t)
 

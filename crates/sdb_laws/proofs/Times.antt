@@ -115,7 +115,7 @@ at_begin : (plan : ℕ → Plan) (w : History) (t u c : ℕ) (done : Bool) (ends
 at_begin plan w t u c done None i h = grind (arith, tests, i.one.point t)
 at_begin plan w t u c done (Some e) i h = grind (arith, tests, i.one.point t)
 
--- Who was told Committed before another began stands before it.
+-- Who was told Committed before another began is before it.
 pub real_time : (plan : ℕ → Plan) (places : List Place) (opening : List Shelf) (later past : List Played) (p : Played) (more ss : List (List Shelf)) (s : List Shelf) (t u c : ℕ) → length later ≡ length more → IsRunOf plan places opening (later ++ p ∷ past) (more ++ s ∷ ss)
     → IsTold past t → p.role ≡ Begins u c → (history plan places opening (later ++ p ∷ past) (more ++ s ∷ ss)).row u ≡ Some Committed
     → (history plan places opening (later ++ p ∷ past) (more ++ s ∷ ss)).talk.point t < (history plan places opening (later ++ p ∷ past) (more ++ s ∷ ss)).talk.point u

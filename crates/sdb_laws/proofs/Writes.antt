@@ -19,7 +19,7 @@ use Rattle.sdb_laws.specs.Trace.{took_at}
 use Rattle.sdb_laws.proofs.Effects.{AtCall, at_call, after_put, after_delete}
 
 -- Where a write took effect, its key has what it puts or nothing; every other key is as it was. Applied says that it did,
--- not met that its condition failed, want of memory that it did not.
+-- not met that its condition failed, out of memory that it did not.
 pub record IsWritten (places : List Place) (key : Key) (c : Condition) (new : Option Record) (r : Reply) (before now : List Shelf) : Type 0 where
   pub at : (k : Key) → standing places now k ≡ (if took_at places key c before now && same_key k key then new else standing places before k)
   pub applied : r ≡ reply.Applied → took_at places key c before now ≡ true

@@ -412,7 +412,7 @@ module _ (catalog : List Table) (fit : Tables → Bool) (events : List Event) (s
       none_some_swept : ◌≡◌ {A = Option Answer} None (Some answer.Committed) → ⊥
       none_some_swept e = cc
 
-      -- it goes on, and makes a further call, wherever it then stands
+      -- it goes on, and makes a further call, wherever it then is
       swept_on : (w : SweepAt) → SystemOk g.plan (swept None ∷ g.past) (with_client sys c (Sweeping w)) → IsGoing catalog fit (events ++ call_event y None ∷ []) (with_client sys c (Sweeping w)) (at doing c None)
       swept_on w system = turned catalog fit events sys (with_client sys c (Sweeping w)) doing g c None q (record {
         plan = g.plan;

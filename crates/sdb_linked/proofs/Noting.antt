@@ -224,7 +224,7 @@ noted_stays events c e y x ran none ok = record {
 }
 
 module _ (events : List Event) (c : ℕ) (e : Event) (y : ClientAt) (x : Telling) (ran : ℕ → Execution) (was : ClientNoted events c y x ran) where
-  -- no statement was answered, and the client stands elsewhere
+  -- no statement was answered, and the client is elsewhere
   pub noted_elsewhere : (z : ClientAt) → IsMadeSince (events ++ e ∷ []) c x.waiting z → ClientNoted (events ++ e ∷ []) c z x ran
   noted_elsewhere z made = record {
     ended = ended_noted_later events c e x.whole ran was.ended;

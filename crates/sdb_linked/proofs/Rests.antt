@@ -99,7 +99,7 @@ module _ (catalog : List Table) (fit : Tables → Bool) where
     is : (m k : ℕ) → (m == k) ≡ true → m ≡ k
     is m k e = grind (arith, nat_tests)
 
-    -- a client stands where it stood, but for the stage
+    -- a client is where it was, but for the stage
     by_client : (P : ℕ → ClientAt → Type 0) → (P c (Committing p s) → P c (Committing p (starved s))) → ((d : ℕ) → P d (sys.clients d)) → (d : ℕ) → P d (short.clients d)
     by_client P f all d = on (d == c) refl
       where

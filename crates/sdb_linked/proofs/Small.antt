@@ -1,4 +1,4 @@
--- Small lemmas on numbers, on what waits, and on where clients stand.
+-- Small lemmas on numbers, on what waits, and on where clients are.
 use Rattle.std.proofs.Common.{◌≡◌, ◌≢◌, ◌<◌, ◌+◌, ◌*◌, ◌^◌, ℕ, pos, suc, Bool, true, false, [], Option, Some, None, refl, arith}
 use Rattle.std.specs.Prelude.{◌==◌, if◌then◌else◌}
 use Rattle.std.proofs.lemmas.Bool.Decides.{nat_tests}
@@ -43,7 +43,7 @@ pub running_as : (st : Statement) (o : Option Said) → IsRunning (Some st) o �
 running_as st None h = absurd h
 running_as st (Some w) h = (w, refl, h.0, h.1)
 
--- a client that stands elsewhere, and then elsewhere again
+-- a client that is elsewhere, and then elsewhere again
 pub twice : (sys : SystemAt) (c : ℕ) (y z : ClientAt) → with_client (with_client sys c y) c z ≡ with_client sys c z
 twice sys c y z = λ j. record { clients = λ u. by u (u == c) j; begun = sys.begun }
   where

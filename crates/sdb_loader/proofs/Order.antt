@@ -33,7 +33,7 @@ below_last : (u : Table) (us : List Table) (t : Table) → rises (u ∷ (us ++ t
 below_last u us t r =
     last_above u.name us t (and_second (stands_above u.name (us ++ t ∷ [])) (rises (us ++ t ∷ [])) r) (and_first (stands_above u.name (us ++ t ∷ [])) (rises (us ++ t ∷ [])) r)
 
--- a table whose name stands above all others goes to the end
+-- a table whose name is above all others goes to the end
 pub with_table-end : (ts : List Table) (t : Table) → rises (ts ++ t ∷ []) ≡ true → with_table t ts ≡ ts ++ t ∷ []
 with_table-end [] t r = refl
 with_table-end (u ∷ us) t r =

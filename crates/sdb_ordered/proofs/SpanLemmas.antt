@@ -1,4 +1,4 @@
--- The records of a span stand together, from its least key on.
+-- The records of a span come together, from its least key on.
 use Rattle.std.proofs.Common.{◌≡◌, List, [], ◌∷◌, ◌++◌, Bool, true, false, cond, Option, Some, None, refl, sym, ap, subst, ◌∙◌, map, append_assoc}
 use Rattle.std.proofs.lemmas.List.{append-nil}
 use Rattle.std.specs.Prelude.{T, ◌&&◌}
@@ -92,7 +92,7 @@ part_from : (part : Option (List Value)) (q : Key) → is_partition part q ≡ t
 part_from None q h = le_then (slice_cmp value_cmp [] q.partition) (slice_cmp value_cmp [] q.clustering) (front_le q.partition) (front_le q.clustering)
 part_from (Some part) q h = le_then (slice_cmp value_cmp part q.partition) (slice_cmp value_cmp [] q.clustering) (eq_le (slice_cmp value_cmp part q.partition) h) (front_le q.clustering)
 
--- each key of a span stands at its least key or behind it
+-- each key of a span is at its least key or after it
 pub from_start : (span : Span) (q : Key) → in_span span q ≡ true → is_le (key_cmp (span_start span) q) ≡ true
 from_start span q h =
     le_then (table_cmp span.table q.table) (ordering_then (slice_cmp value_cmp (partition_or_none span.partition) q.partition) (slice_cmp value_cmp [] q.clustering))
@@ -107,7 +107,7 @@ part_closed (Some part) a b low high h =
     let here : part ≡ a.partition = squeezed (lists_total value_total) (slice_cmp-IsAntisymmetric value_exact) part a.partition low up in
     subst (λ (p : List Value). is_eq (slice_cmp value_cmp part p) ≡ true) (sym same ∙ here) h
 
--- a key from the least one on that stands before a key of the span is one of the span
+-- a key from the least one on that is before a key of the span is one of the span
 pub between : (span : Span) (a b : Key) → is_le (key_cmp (span_start span) a) ≡ true → key_cmp a b ≡ Less → in_span span b ≡ true → in_span span a ≡ true
 between span a b low less h =
     let from : is_gt (key_cmp (span_start span) a) ≡ false = le_is (key_cmp (span_start span) a) low in
@@ -123,7 +123,7 @@ between span a b low less h =
 
 ---- the entries from the least key on
 
--- whether a key stands at the least key of a span or behind it
+-- whether a key is at the least key of a span or after it
 abbrev pub is_from : Span → Key → Bool
 is_from span key = range_contains key_cmp (Included (span_start span)) Unbounded key
 

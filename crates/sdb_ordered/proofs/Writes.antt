@@ -19,7 +19,7 @@ use Rattle.sdb_types.proofs.KeyOrder.{key_total, key_exact}
 use Rattle.sdb_store.specs.Store.{Answers}
 use Rattle.sdb_ordered.proofs.TreeLemmas.{get_entries, inserted}
 
--- the record of what stands at a key
+-- the record of what is at a key
 abbrev pub standing : Key → Option (List Pair) → Option Record
 standing key = option_map (λ columns. record_of (key, columns))
 

@@ -80,7 +80,7 @@ moved_there : (b : Option (Option TxId)) (version : Option TxId) (found : Option
 moved_there None version found h = h
 moved_there (Some base) version found h = h
 
--- what a first difference shows is what stands at its key
+-- what a first difference shows is what is at its key
 first_there : (ws : List Wanted) (rows : List Record) (key : Key) (found : Option Record) → first_difference ws rows ≡ Some (key, found) → found ≡ record_among rows key
 first_there ws rows key found e = by (least (filter (differs ws rows) (keys_among ws rows))) e
   where

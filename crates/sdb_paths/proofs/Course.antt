@@ -26,7 +26,7 @@ use Rattle.sdb_paths.proofs.Lists.{get_front, get_last}
 use Rattle.sdb_paths.proofs.Calls.{calls_long}
 use Rattle.sdb_paths.proofs.Steps.{one}
 
--- where it stands after so many calls
+-- where it is after so many calls
 abbrev Course : Work → ℕ → Stage → Type 0
 Course p n (Preparing i) = (n ≡ i) × (i < writes_of p)
 Course p n (Checking i) = (n ≡ writes_of p + i) × (i < reads_of p)

@@ -1,4 +1,4 @@
--- What the calls of a COMMIT are where it stands.
+-- What the calls of a COMMIT are where it is.
 use Rattle.std.proofs.Common.{◌≡◌, ◌≢◌, ◌<◌, ◌⊎◌, ℕ, ◌+◌, List, [], ◌∷◌, ◌++◌, take, map, Option, Some, true, false, refl, sym, ap, ◌∙◌, append_assoc, cond}
 use Rattle.std.specs.Prelude.{Bool, slice_get, Contains}
 use Rattle.std.specs.List.{AllByRecursion, AllZip}
@@ -141,7 +141,7 @@ caused_more p calls c (outcome.BadRecord key) other caused = tt
 pub learned_more : (p : Work) (calls : List Call) (c : Call) → IsLearned p calls → IsLearned p (calls ++ c ∷ [])
 learned_more p calls c l = record { call = l.call; among = Contains-append_left calls (c ∷ []) l.call l.among; for_row = l.for_row; learned = l.learned }
 
----- where it stands
+---- where it is
 
 -- no call was for the row, but a look
 abbrev pub Clear : Work → List Call → Type 0

@@ -407,6 +407,6 @@ pub goes : (p : Work) (past : List Reply) → Played p past → Goes p (calls_of
 goes p [] played = begins p
 goes p (r ∷ past) played = goes_step p (calls_of_path p past) (after p past) r (goes p past played.0) played.1
 
--- the calls that it makes, where it stands
+-- the calls that it makes, where it is
 pub goes_made : (p : Work) (calls : List Call) (s : Stage) → Makes p calls s → Goes p calls s
 goes_made p calls s m = subst (λ cs. Goes p cs s) m.made (subst (Goes p (calls_of_path p m.past)) m.stands (goes p m.past m.played))

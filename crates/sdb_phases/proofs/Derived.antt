@@ -1,4 +1,4 @@
--- What follows for a COMMIT from where it stands.
+-- What follows for a COMMIT from where it is.
 use Rattle.std.proofs.Common.{◌≡◌, ◌≤◌, ℕ, ◌+◌, List, [], ◌∷◌, length, arith, Option, Some, refl, true, false, subst, sym, ◌∙◌}
 use Rattle.sdb_types.specs.declared.key.Key.{Key}
 use Rattle.sdb_types.specs.declared.txid.TxId.{TxId}
@@ -74,7 +74,7 @@ lost_so p h (outcome.BadRecord key) lost stands = absurd lost
 pub ends_lost : (p : Work) (past : List Reply) (a : Outcome) → IsWork p → Played p past → after p past ≡ Over a → IsLost a → is_unrecorded (seen p past) ≡ true
 ends_lost p past a is played e lost = lost_so p (seen p past) a lost (stands_at p past (Over a) is played e)
 
--- no stage stands after more calls
+-- no stage is after more calls
 bound : (p : Work) (h : Seen) (s : Stage) → Stands p h s → h.calls ≤ most_calls p
 bound p h (Preparing i) (calls, within, passed, put) = omega arith
 bound p h (Checking i) (calls, within, passed, put) = omega arith

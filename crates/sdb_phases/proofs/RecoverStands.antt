@@ -1,4 +1,4 @@
--- Where a recovery stands, what the replies said.
+-- Where a recovery is, what the replies said.
 use Rattle.std.proofs.Common.{◌≡◌, ◌<◌, ◌≤◌, ◌^◌, ℕ, ℤ, List, [], ◌∷◌, length, arith, Some, None, Result, Ok, Err, refl, true, false, cond, ◌∙◌, ap, subst, rules}
 use Rattle.std.specs.Prelude.{Bool}
 use Rattle.std.specs.Ordering.{int_eq}

@@ -1,4 +1,4 @@
--- Where a COMMIT stands, what the replies said.
+-- Where a COMMIT is, what the replies said.
 use Rattle.std.proofs.Common.{◌≡◌, ◌≤◌, ℕ, ◌+◌, ◌&&◌, ◌||◌, List, [], ◌∷◌, length, arith, Option, Some, None, Result, Ok, Err, is_err, refl, true, false, cond, ◌∙◌, ap}
 use Rattle.std.specs.Prelude.{Bool, slice_get, nat_lt}
 use Rattle.std.proofs.lemmas.Bool.Decides.{nat_tests}

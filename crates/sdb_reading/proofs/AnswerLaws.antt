@@ -1,4 +1,4 @@
--- Answers: what is read stands there, and what stands there is read.
+-- Answers: what is read is there, and what is there is read.
 use Rattle.std.proofs.Common.{◌≡◌, ℕ, ◌^◌, ◌<◌, true, List, [], ◌∷◌, ◌++◌, length, All, Option, Some, None, IfSome, refl, sym, ap, subst, ◌∙◌, append_assoc, arith, flat_map}
 use Rattle.std.specs.Prelude.{codes, FitsSigned}
 use Rattle.std.specs.Char.{is_ascii_digit}
@@ -220,7 +220,7 @@ given_sound bytes x h =
     let s = answer_sound bytes a.0 a.1 in
     subst (Says given_text_of IsPlainGiven bytes) (same_Some (Some a.0.0, a.0.1) x a.2) (record { parts = s.parts; fits = s.fits }))
 
----- what stands there is read
+---- what is there is read
 
 busy_pieces : (k i t rest : List ℕ) → (codes "busy " ++ k ++ codes " " ++ i ++ codes " " ++ t) ++ rest ≡ codes "busy " ++ (k ++ 32 ∷ (i ++ 32 ∷ (t ++ rest)))
 busy_pieces k i t rest = simp append_assoc

@@ -188,7 +188,7 @@ event_again (event.Stop client) fits = rw (client_again client fits) refl
 event_again (event.Clock moment) fits = rw (moment_again moment fits) refl
 event_again (event.Idle client) fits = rw (client_again client fits) refl
 
----- with the number in front
+---- with the number first
 
 pub numbered_is : (n : ℕ) (line : List ℕ) (e : Event) → numbered_event_of n line ≡ Some e → (line ≡ decimal n ++ codes " " ++ event_text_of e) × HasPlainParts e
 unfolding numbered_event_of

@@ -126,7 +126,7 @@ value_one (value.BigInt n) fits h = lines_joined (signed_decimal n) (codes "L") 
 value_one (value.Text text) fits h = lines_joined (flat_map doubled text) (codes "'") (doubled_one text h) refl
 value_one (value.Blob bytes) fits h = lines_joined (encode_upper bytes) (codes "'") (hex_one bytes (recursion_from_All (λ b. b < 256) bytes fits)) refl
 
--- texts one after another, each after a front
+-- texts one after another, each after a prefix
 flat_one : {X : Type 0} (front : List ℕ) (text : X → List ℕ) → One front → (xs : List X) → AllByRecursion (λ x. One (text x)) xs → One (flat_map (λ x. front ++ text x) xs)
 flat_one front text f [] h = refl
 flat_one front text f (x ∷ xs) h = lines_joined (front ++ text x) (flat_map (λ y. front ++ text y) xs) (lines_joined front (text x) f h.0) (flat_one front text f xs h.1)

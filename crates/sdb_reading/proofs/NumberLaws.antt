@@ -1,4 +1,4 @@
--- Numbers and ids: what is read stands there, and what stands there is read.
+-- Numbers and ids: what is read is there, and what is there is read.
 use Rattle.std.proofs.Common.{◌≡◌, ℕ, zero, suc, ◌+◌, ◌/◌, ◌%◌, ◌^◌, ◌<◌, ◌≤◌, Bool, true, false, cond, ltb, ◌==◌, List, [], ◌∷◌, ◌++◌, length, take, drop, Option, Some, None, refl, sym, ap, subst, ◌∙◌, append_assoc, arith, ℤ, pos, negsuc, inl}
 use Rattle.std.specs.Prelude.{FitsSigned, codes}
 use Rattle.std.specs.Char.{is_ascii_digit}

@@ -1,4 +1,4 @@
--- Values and rows: what is read stands there, and what stands there is read.
+-- Values and rows: what is read is there, and what is there is read.
 use Rattle.std.proofs.Common.{◌≡◌, ℕ, suc, ◌^◌, ◌<◌, Bool, true, false, cond, ltb, ◌==◌, ◌||◌, List, [], ◌∷◌, ◌++◌, length, take, Option, Some, None, Result, Ok, Err, refl, sym, ap, subst, ◌∙◌, append_assoc, arith, ℤ, pos, negsuc, inl, inr, flat_map, ◌/◌, ◌%◌}
 use Rattle.std.specs.Prelude.{FitsSigned, codes, slice_index}
 use Rattle.std.specs.Char.{is_ascii_digit}
@@ -215,7 +215,7 @@ value_sound bytes x h =
     case_some (after (codes "X'") bytes) blob_at None (Some x) k
     (λ rest q e. subst (λ (b : List ℕ). ValueSays b x) (sym (after_is (codes "X'") bytes rest q)) (blob_sound rest x e)) (λ q k. absurd cc))))))
 
--- what may stand after a value
+-- what may come after a value
 abbrev pub ends_value : List ℕ → Bool
 ends_value [] = false
 ends_value (c ∷ cs) = c == 44 || c == 59 || c == 41 || c == 125
@@ -308,7 +308,7 @@ values_sound bytes x h =
     (λ y q k. let s = some_values_sound bytes y q in subst (Says values_text_of values_fit bytes) (same_Some y x k) (record { parts = s.parts; fits = s.fits.0 }))
     (λ q k. subst (Says values_text_of values_fit bytes) (same_Some ([], bytes) x k) (record { parts = refl; fits = All-from_recursion value_fits [] tt }))
 
--- what may stand after values
+-- what may come after values
 abbrev pub ends_values : List ℕ → Bool
 ends_values [] = false
 ends_values (c ∷ cs) = c == 59 || c == 41

@@ -49,7 +49,7 @@ put-apart p q es apart =
 pub with_column-put : (p : Pair) (es : List Pair) → is_null p.value ≡ false → with_column p es ≡ put_pair p es
 with_column-put p es h = simp h refl
 
----- two lists of columns in either order, whose names a test tells apart
+---- two lists of columns in either order, whose names a test keeps apart
 
 -- a column with a value, whose name passes a test
 abbrev pub stays : (List ℕ → Bool) → Pair → Bool
@@ -87,7 +87,7 @@ with_columns-append (x ∷ xs) ys es = with_columns-append xs ys (with_column x 
 
 ---- columns in order, set one after another
 
--- what stands above the front of columns is above each, the last too
+-- what is above the prefix of columns is above each, the last too
 last_above : (name : List ℕ) (es : List Pair) (p : Pair) → are_columns (es ++ p ∷ []) ≡ true → starts_above name (es ++ p ∷ []) ≡ true → is_lt (name_cmp name p.name) ≡ true
 last_above name [] p c h = h
 last_above name (e ∷ es) p c h =

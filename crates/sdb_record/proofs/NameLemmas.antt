@@ -20,7 +20,7 @@ use Rattle.sdb_record.specs.Names.{before_prefix, before_name, after_front, base
 use Rattle.sdb_types.proofs.Basics.{nat_at_most, at_most_nat, longer}
 use Rattle.sdb_record.specs.Parts.{is_column_name}
 
--- what follows a front in a text that begins with it
+-- what follows a prefix in a text that begins with it
 pub after_front-append : (front rest : List ℕ) → after_front front (front ++ rest) ≡ Some rest
 after_front-append [] rest = refl
 after_front-append (c ∷ cs) rest = simp ((Decides-eqb c c).1 refl) (after_front-append cs rest)

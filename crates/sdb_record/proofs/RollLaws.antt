@@ -280,7 +280,7 @@ forward-version_of r n id =
     ap (λ o. has_value o (value.Text (id_text id.0)) && is_in Committed (forward_columns r.columns n)) (forward-id r.columns n)
     ∙ ap (λ b. has_value (column r.columns tx_id) (value.Text (id_text id.0)) && b) (forward-in r.columns n) ∙ and-true _
 
----- the record that stood before
+---- the record that was there before
 
 record_with-key : (key : Key) (ps : List Pair) (b : Record) → record_with key ps ≡ Some b → (b.key ≡ key) × (b.columns ≡ ps)
 record_with-key key [] b h = absurd (cc)

@@ -1,4 +1,4 @@
--- Readers of lines: what is read stands there, and what stands there is read.
+-- Readers of lines: what is read is there, and what is there is read.
 use Rattle.std.proofs.Common.{◌≡◌, ℕ, zero, suc, ◌+◌, true, List, [], ◌∷◌, ◌++◌, length, Option, Some, None, Ok, Err, refl, sym, ap, subst, ◌∙◌, append_assoc, arith}
 use Rattle.std.specs.Prelude.{codes}
 use Rattle.std.proofs.Common.{◌^◌, ◌<◌}

@@ -27,7 +27,7 @@ use Rattle.sdb_report.proofs.StopLaws.{Halt, halted, report_stopping, dead_of, c
 use Rattle.sdb_types.proofs.Basics.{by_test, done}
 use Rattle.sdb_codec.specs.Reading.{last_of}
 
----- the first table that doesn't stand after the one before
+---- the first table that doesn't come after the one before
 
 -- Tables of which the first rise, and the next one doesn't.
 record Falls (before ds : List TableDump) : Type 0 where

@@ -101,7 +101,7 @@ each_placed f (y ∷ ys) n h = both (f n y) (list_all (λ e. f e.0 e.1) (enumera
 
 ---- a list newest first, read by a search
 
--- one more item in front of what a test of the rest says
+-- one more item before what a test of the rest says
 pub if_or : (b x : Bool) → (if b then true else x) ≡ (b || x)
 if_or true x = refl
 if_or false x = refl

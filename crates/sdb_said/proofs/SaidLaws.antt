@@ -179,7 +179,7 @@ begun_is (p ∷ past) u =
 
 ---- of the newest that matters
 
--- what the newest item that passes says, with one more item in front
+-- what the newest item that passes says, with one more item first
 newest : {X A : Type 0} (f : X → Bool) (g : X → A) (y : X) (ys : List X) (d : A) → option_map_or g (find f (y ∷ ys)) d ≡ (if f y then g y else option_map_or g (find f ys) d)
 newest {X = X} f g y ys d = by (f y) (find f ys)
   where

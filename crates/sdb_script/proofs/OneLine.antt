@@ -1,4 +1,4 @@
--- No LF stands in the JSON of a catalog.
+-- No LF is in the JSON of a catalog.
 use Rattle.std.proofs.Common.{◌≡◌, ℕ, ◌+◌, ◌/◌, ◌%◌, ◌==◌, Bool, true, false, not, ◌&&◌, ◌||◌, List, [], ◌∷◌, ◌++◌, length, map, flat_map, Option, Some, None, Result, Ok, Err, refl, sym, subst, ◌∙◌, arith, codes}
 use Rattle.std.specs.Prelude.{nat_lt, nat_le}
 use Rattle.std.specs.Char.{digit_char}
@@ -29,7 +29,7 @@ use Rattle.sdb_script.specs.Printed.{member_text, catalog_text}
 use Rattle.sdb_script.specs.Printed as printed
 use Rattle.sdb_types.proofs.Basics.{by_test}
 
--- no LF stands in a text
+-- no LF is in a text
 abbrev pub is_single : List ℕ → Bool
 is_single text = list_all (λ b. not (b == 10)) text
 

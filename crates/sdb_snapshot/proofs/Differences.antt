@@ -84,7 +84,7 @@ behind k q (r ∷ rs) s h has =
     (λ t. key_total.trans k r.key q (less_of (key_cmp k r.key) s)
     (behind r.key q rs (and_first (starts_after r.key rs) (rise rs) h) (and_second (starts_after r.key rs) (rise rs) h) (sym (ap (λ b. b || has_key rs q) t) ∙ has)))
 
--- what is found first among keys that rise stands at the least key
+-- what is found first among keys that rise is at the least key
 least : (p : Key → Bool) (rs : List Record) (r : Record) (q : Key) → rise rs ≡ true → find (λ s. p s.key) rs ≡ Some r → has_key rs q ≡ true → p q ≡ true → is_le (key_cmp r.key q) ≡ true
 least p [] r q h found has pq = absurd (cc)
 least p (s ∷ rs) r q h found has pq =

@@ -1,4 +1,4 @@
--- What is noted goes behind what was noted before, so that it may be forgotten.
+-- What is noted goes after what was noted before, so that it may be forgotten.
 use Rattle.std.proofs.Common.{◌≡◌, Bool, true, false, List, [], ◌∷◌, ◌++◌, Option, Some, refl, sym, ap, ◌∙◌, length, take}
 use Rattle.std.specs.Prelude.{if◌then◌else◌}
 use Rattle.std.proofs.lemmas.List.{append_assoc, append-nil}

@@ -1,4 +1,4 @@
--- Changes taken in two steps: new keys go last, then each change stands at its key.
+-- Changes taken in two steps: new keys go last, then each change is at its key.
 use Rattle.std.proofs.Common.{◌≡◌, suc, Bool, true, false, cond, List, [], ◌∷◌, ◌++◌, length, Option, Some, None, refl, sym, ap, ◌∙◌}
 use Rattle.std.specs.Prelude.{is_some}
 use Rattle.sdb_types.specs.declared.key.Key.{Key}
@@ -108,7 +108,7 @@ length_laids ws (k ∷ ks) = length_laids (with_laid ws k) ks ∙ length_laid ws
 pub length_writes : (notes : List Note) (ws : List Write) (ks : List Keyed) → length (with_writes notes ws ks) ≡ length (with_news notes ws ks)
 length_writes notes ws ks = sym (ap length (laid_all notes ws ks)) ∙ length_laids (with_news notes ws ks) ks
 
--- what was written stays in front
+-- what was written stays first
 pub new_front : (xs ws : List Write) (w : Write) → StartsWith xs ws → StartsWith xs (with_new ws w)
 new_front xs ws w h = by_written (is_written ws w.key)
   where

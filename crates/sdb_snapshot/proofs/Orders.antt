@@ -1,4 +1,4 @@
--- The keys noted stand in a tree.
+-- The keys noted are in a tree.
 use Rattle.std.proofs.Common.{◌≡◌, ℕ, Bool, true, false, cond, List, [], ◌∷◌, ◌++◌, take, map, Option, Some, None, refl, sym, ap, subst, ◌∙◌}
 use Rattle.std.specs.Prelude.{is_some, filter, ◌||◌, Result, Ok, Err, OnOk, OnErr, IfOk}
 use Rattle.std.specs.FinMap.{get, insert, entries, find, get-insert, get-entries}
@@ -76,7 +76,7 @@ pub noted_last : {A E : Type 0} (r : Result A E) (notes later : List Note) (k : 
 noted_last (Ok x) notes later k f new ok = ok ∙ put_new notes k f new
 noted_last (Err e) notes later k f new ok = tt
 
--- what was noted stays in front
+-- what was noted stays first
 pub note_front : (xs notes : List Note) (k : Key) (f : Option Record) → StartsWith xs notes → StartsWith xs (with_note notes k f)
 note_front xs notes k f h = by_noted (is_noted notes k)
   where

@@ -30,7 +30,7 @@ length_map : (ws : List Write) → length (map key_of ws) ≡ length ws
 length_map [] = refl
 length_map (w ∷ ws) = ap suc (length_map ws)
 
--- where a key stands among the writes
+-- where a key is among the writes
 abbrev pub place_in : List Write → Key → Option ℕ
 place_in ws key = position (λ w. same_key key w.key) ws
 
@@ -40,7 +40,7 @@ place_is places ws key h =
     ∙ ap (λ n. cond (nat_lt n (length (map key_of ws))) (Some n) None) (count_map key ws)
     ∙ ap (λ m. cond (nat_lt (position_or_len (λ (w : Write). same_key key w.key) ws) m) (Some (position_or_len (λ (w : Write). same_key key w.key) ws)) None) (length_map ws)
 
--- what stands at that place
+-- what is at that place
 pub found_at : (ws : List Write) (key : Key) (i : ℕ) → place_in ws key ≡ Some i → slice_get ws i ≡ write_among ws key
 found_at ws key i h =
     let n = position_or_len (λ (w : Write). same_key key w.key) ws in

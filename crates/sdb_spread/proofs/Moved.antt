@@ -36,7 +36,7 @@ numbers_moved : {A : Type 0} (g : A → ℕ × Event → A) (f : Event → Event
 numbers_moved g f h a n [] = refl
 numbers_moved g f h a n (e ∷ es) = ap (λ x. fold g x (enumerate_from (n + 1) (map f es))) (h a n e) ∙ numbers_moved g f h (g a (n, e)) (n + 1) es
 
----- where a client stands
+---- where a client is
 
 takes_moved : (at : Name → Name) (c : ℕ) (e : Event) → takes_by c (moved_event at e) ≡ takes_by c e
 takes_moved at c (event.Take i text given) = refl

@@ -36,7 +36,7 @@ use Rattle.sdb_spread.proofs.Moved.{begun_moved, body_moved, commit_moved, point
 use Rattle.sdb_spread.proofs.Followed.{follows_moved}
 use Rattle.sdb_types.proofs.Basics.{or_true}
 
----- what stands
+---- what is there
 
 pub one_standing : (name : Name) (m : Contents) (key : Key) → standing [] (one_shelf name m) key ≡ record_at m key
 one_standing name m key = rw (same_name-itself name) refl

@@ -117,7 +117,7 @@ record ManyCall (catalog : List Table) (places : List Place) (at : Name → Name
   shelved : AreShelved places now
   ats : AreAt places now at
 
--- what stands at a key of the call's table
+-- what is at a key of the call's table
 stands_here : (places : List Place) (at : Name → Name) (q : Request) (before : List Shelf) (h : Contents) → AreAt places before at → held_by before (at (table_asked q).ns) ≡ Some h
     → (k : Key) → k.table ≡ table_asked q → standing places before k ≡ record_at h k
 stands_here places at q before h ats found k e =

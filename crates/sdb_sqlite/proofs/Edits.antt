@@ -178,7 +178,7 @@ kept_tied id rows all = weaker (λ r. IsTied r × (not (has_rowid id r) ≡ true
 pub kept_table : (id : ℤ) (rows : List Row) → IsTable rows → IsTable (without_rowid id rows)
 kept_table id rows up = ascending-filter _ (λ r. not (has_rowid id r)) rows up
 
--- the row that a found record stands in
+-- the row that a found record is in
 pub found_row : (q : Key) (rows : List Row) (there : Record) → length (rows_at q rows) ≤ 1 → Some there ≡ record_at (held_in rows) q → (y : Row) × (rows_at q rows ≡ y ∷ [])
 found_row q rows there few is = go (rows_at q rows) few (is ∙ ap (λ o. option_map (λ (columns : List Pair). record_of (q, columns)) o) (held_at q rows))
   where
@@ -187,7 +187,7 @@ found_row q rows there few is = go (rows_at q rows) few (is ∙ ap (λ o. option
     go (x ∷ []) few e = (x, refl)
     go (x ∷ y ∷ xs) few e = absurd (omega arith)
 
--- and none stands in a row
+-- and none is in a row
 pub no_row : (q : Key) (rows : List Row) → None ≡ record_at (held_in rows) q → rows_at q rows ≡ []
 no_row q rows is = go (rows_at q rows) (is ∙ ap (λ o. option_map (λ (columns : List Pair). record_of (q, columns)) o) (held_at q rows))
   where

@@ -1,4 +1,4 @@
--- What any reply of the store is, whether or not it tells what it holds.
+-- What any reply of the store is, whether or not its contents are known.
 use Rattle.std.proofs.Common.{◌≡◌, inl, inr, ℕ, List, [], ◌∷◌, true, false, cond, None, Some, Option, Ok, Err, Result, IfOk, IfSome, refl, sym, subst}
 use Rattle.std.specs.List.{AllByRecursion}
 use Rattle.std.proofs.lemmas.List.Elements.{All-from_recursion}

@@ -52,14 +52,14 @@ kept_if : (c : Condition) (found there : Option Record) (b : Bool) (m n : Conten
 kept_if c found there b m n e h = ap (λ o. cond (holds c o) n m) (sym e) ∙ ap (λ b. cond b n m) h
 
 module _ (q : Request) (c : Condition) (m n : Contents) (found there : Option Record) (e : found ≡ there) where
-  -- the answer and what is left, where the call is a put or a delete of which that record stands there
+  -- the answer and what is left, where the call is a put or a delete of which that record is there
   unmet_performs : reply_to q m ≡ put_reply c there → after q m ≡ cond (holds c there) n m → holds c found ≡ false → Performs q (reply.NotMet found) m m
   unmet_performs r a h = (not_met c found there e h ∙ sym r, sym (a ∙ kept_if c found there false m n e h))
 
   met_performs : reply_to q m ≡ put_reply c there → after q m ≡ cond (holds c there) n m → holds c found ≡ true → (l : Contents) → l ≡ n → Performs q reply.Applied m l
   met_performs r a h l is = (met c found there e h ∙ sym r, is ∙ sym (a ∙ kept_if c found there true m n e h))
 
--- where nothing stands at a key, nothing is left out without it
+-- where there is nothing at a key, nothing is left out without it
 none_left : (m : Contents) (k : Key) → None ≡ record_at m k → remove m k ≡ m
 none_left m k is = same_map key_total key_exact _ _ (λ q. get-remove key_total m k q
     ∙ elim (is_eq (key_cmp q k)) as (λ b. is_eq (key_cmp q k) ≡ b → cond b None (get m q) ≡ get m q) [

@@ -1,4 +1,4 @@
--- How the reader's answer stands to the grammar: it is what a text is read as, or what it is refused for, and each text has
+-- What the reader's answer is to the grammar: it is what a text is read as, or what it is refused for, and each text has
 -- one such answer.
 use Rattle.std.proofs.Common.{◌≡◌, ℕ, Bool, List, [], ◌∷◌, ◌++◌, length, Option, Some, None, Result, Ok, Err, refl, sym, ap, subst, ◌∙◌, inl, inr}
 use Rattle.std.specs.List.{AllByRecursion}

@@ -1,4 +1,4 @@
--- Where a fault stands: at the first token with which no statement begins.
+-- Where a fault is: at the first token with which no statement begins.
 use Rattle.std.proofs.Common.{◌≡◌, ℕ, Bool, List, [], ◌∷◌, ◌++◌, Option, Some, None, Result, Ok, Err, refl, sym, ap, subst, ◌∙◌, append_assoc, ◌⊎◌, inl, inr}
 use Rattle.std.specs.List.{AllByRecursion}
 use Rattle.std.proofs.lemmas.List.{append-nil}
@@ -95,7 +95,7 @@ stuck front t n more h none =
     let first : run state.Start (front ++ (t ∷ more)) ≡ None = run_append front (t ∷ more) state.Start ∙ ap (λ (r : Option State). r >>= λ n. run n (t ∷ more)) h ∙ ap (λ (r : Option State). r >>= λ n. run n more) none in
     ap (run state.Start) (append_assoc front (t ∷ []) more) ∙ first
 
--- what stands before the last token has each front that does not reach it
+-- what is before the last token has each prefix that does not reach it
 pub front_of : (xs : Tokens) (y : Token) (ys zs : Tokens) (w : Token) → xs ++ y ∷ ys ≡ zs ++ w ∷ [] → (r : Tokens) × (zs ≡ xs ++ r)
 front_of [] y ys zs w e = (zs, refl)
 front_of (x ∷ []) y ys [] w e = absurd cc

@@ -51,7 +51,7 @@ tabled v ns t = ((verb_so v ++ one (Name ns)) ++ one (Mark sign.Dot)) ++ one (Na
 abbrev pub table_so : Verb → TableName → Tokens
 table_so v t = tabled v t.ns t.table
 
--- what stands before one more item
+-- what is before one more item
 abbrev pub before_item : {X : Type 0} → Tokens → Token → (X → Tokens) → List X → Tokens
 before_item front between f [] = front
 before_item front between f (x ∷ xs) = (front ++ separated between f (x ∷ xs)) ++ one between
@@ -386,7 +386,7 @@ shape_limit c a b d e l n = simp (append_assoc, append-nil)
 shape_tested_limit : (c items : Tokens) (a b d e w l n : Token) → (((((((c ++ one a) ++ one b) ++ one d) ++ one e) ++ one w) ++ items) ++ one l) ++ one n ≡ ((c ++ (a ∷ b ∷ d ∷ e ∷ [])) ++ (w ∷ items)) ++ (l ∷ n ∷ [])
 shape_tested_limit c items a b d e w l n = simp append_assoc
 
--- a statement that ends behind its tests
+-- a statement that ends after its tests
 pub filter_is : (h : Head) (ts : List Test) → tested (record { head = h; tests = ts }) ≡ statement_tokens (filtered_by h ts None)
 filter_is (head.Update t sets) [] =
     ap (λ (x : Tokens). Word word.Update ∷ Name t.ns ∷ Mark sign.Dot ∷ Name t.table ∷ Word word.Set ∷ x) (sym (append-nil (separated (Mark sign.Comma) set_tokens sets)))

@@ -92,7 +92,7 @@ turn_of (b ∷ bs) rest place t g e =
     token_turn place b (bs ++ rest) t (length (b ∷ bs)) (no_gap b g) e (omega arith) most
     ∙ ap (λ r. behind (record { at = place; token = t } ∷ []) (tokens_from (place + length (b ∷ bs)) 0 r)) (drop_seam (b ∷ bs) rest)
 
--- ---- the gap behind a token
+-- ---- the gap after a token
 
 sticks_clear : (u : Token) (rest : List ℕ) → sticks_before u ≡ true → clear (token_text u ++ rest) ≡ true
 sticks_clear (Mark sign.Comma) rest h = refl

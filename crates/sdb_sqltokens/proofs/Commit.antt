@@ -60,7 +60,7 @@ abbrev FailsIf : (Token → Bool) → Option (Token × ℕ) → Type 0
 FailsIf f (Some p) = f p.0 ≡ false
 FailsIf f None = Unit {0}
 
--- a keyword that the front spells, or a sign there, doesn't pass
+-- a keyword that the start spells, or a sign there, doesn't pass
 abbrev NoWord : (Token → Bool) → Option Keyword → Type 0
 NoWord f None = Unit {0}
 NoWord f (Some k) = f (Word k) ≡ false
@@ -187,7 +187,7 @@ semicolon : (bs : List ℕ) → token_at (59 ∷ bs) ≡ Ok (Mark sign.Semicolon
 unfolding token_at sign_of
 semicolon bs = refl
 
----- COMMIT at the front
+---- COMMIT at the start
 
 commit_is : (k : Option Keyword) → is_commit k ≡ true → k ≡ Some word.Commit
 commit_is None h = absurd (cc)
@@ -224,7 +224,7 @@ token_commit : (bytes : List ℕ) → begins is_start bytes ≡ true → is_comm
 unfolding token_at
 token_commit bytes s h = rw s (letter_commit bytes h)
 
----- what stands behind it
+---- what is after it
 
 abbrev is_none_left : Lexed → Bool
 is_none_left (Ok []) = true

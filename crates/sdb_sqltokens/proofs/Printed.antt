@@ -48,7 +48,7 @@ pub clear_of : (p : ℕ → Bool) → ((b : ℕ) → ends_token b ≡ true → p
 clear_of p fails [] h = refl
 clear_of p fails (b ∷ bs) h = fails b h
 
--- what passes at the front, where what follows doesn't
+-- what passes at the start, where what follows doesn't
 pub front_len : (p : ℕ → Bool) (w rest : List ℕ) → list_all p w ≡ true → begins p rest ≡ false → prefix_len p (w ++ rest) ≡ length w
 front_len p [] [] all e = refl
 front_len p [] (b ∷ bs) all e = rw e refl

@@ -1,4 +1,4 @@
--- What letters, digits and `_` at the front make.
+-- What letters, digits and `_` at the start make.
 use Rattle.std.proofs.Common.{◌≡◌, ℕ, zero, suc, true, false, List, [], ◌∷◌, take, arith}
 use Rattle.std.specs.List.{list_all}
 use Rattle.std.specs.Str.{IsAscii, IsUtf8, is_utf8}

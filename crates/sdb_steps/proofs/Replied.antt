@@ -53,7 +53,7 @@ use Rattle.sdb_steps.proofs.Taken.{moved, moved_so}
 
 ---- where a COMMIT goes
 
--- want of memory stands in place of a conflict alone
+-- out of memory comes in place of a conflict alone
 pub verdict : (p : Work) (i : ℕ) (want v : ValidateStep) → Judges want v → (after_check p i v ≡ after_check p i want) ⊎ (after_check p i v ≡ starved_stage (after_check p i want))
 verdict p i (validate.Conflict key found) validate.NoMemory h = inr refl
 verdict p i validate.NoMemory validate.NoMemory h = inl refl
@@ -122,7 +122,7 @@ module _ (catalog : List Table) (events : List Event) (hands : ℕ → Hand) (g 
     abbrev then_at : Stage
     then_at = commit_step k.work k.stage y.reply
 
-    -- the events are tied to the client where it then stands
+    -- the events are tied to the client where it then is
     abbrev Goes : Option Answer → ClientAt → Type 0
     Goes b z = IsGoing catalog (tables_fit catalog) (events ++ call_event y b ∷ []) (with_client (system_of hands) y.client z) (at (doing_of hands) y.client None)
 
@@ -210,7 +210,7 @@ module _ (catalog : List Table) (events : List Event) (hands : ℕ → Hand) (g 
     no_statement : option_map (λ (p : Planned). p.statement) now.plan ≡ None
     no_statement = ap (λ (o : Option Planned). option_map (λ (p : Planned). p.statement) o) free
 
-    -- where the machine then stands
+    -- where the machine then is
     abbrev then_machine : VacuumAt × VacuumStep
     then_machine = vacuum_step v y.now y.reply
 

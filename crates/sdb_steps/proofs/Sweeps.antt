@@ -44,7 +44,7 @@ sweep_asks machine.Over = refl
 
 ---- where a reply leads
 
--- Where another call is pending, it stands where the laws lead it, or its table is done and it scans the next.
+-- Where another call is pending, it is where the laws lead it, or its table is done and it scans the next.
 abbrev pub Leads : List Span → SweepAt → VacuumAt × VacuumStep → Type 0
 Leads ss w (v, step.More) = ((sweep_at v.stage ≡ w) × (v.spans ≡ ss)) ⊎ ((span : Span) × (v.stage ≡ machine.Scanning span) × (ss ≡ span ∷ v.spans))
 Leads ss w (v, s) = Unit {0}

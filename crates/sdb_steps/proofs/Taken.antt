@@ -53,13 +53,13 @@ module _ (catalog : List Table) (fit : Tables → Bool) (hands : ℕ → Hand) (
   abbrev pub IsSo : Type 0
   IsSo = IsGoing catalog fit events (system_of (with_hand hands c d)) (doing_of (with_hand hands c d))
 
-  -- where all clients stand as these do
+  -- where all clients are as these are
   placed : (sys : SystemAt) (does : ℕ → Option Statement) → IsGoing catalog fit events sys does → ((e : ℕ) → sys.clients e ≡ stands (with_hand hands c d e)) → ((e : ℕ) → sys.begun e ≡ (with_hand hands c d e).client.begun)
       → ((e : ℕ) → does e ≡ doing_of (with_hand hands c d) e) → IsSo
   placed sys does g here begun doing =
       subst (λ ds. IsGoing catalog fit events (system_of (with_hand hands c d)) ds) (λ i k. doing k i) (subst (λ (y : SystemAt). IsGoing catalog fit events y does) (λ i. record { clients = λ k. here k i; begun = λ k. begun k i }) g)
 
-  -- one client stands elsewhere, and has begun as many transactions
+  -- one client is elsewhere, and has begun as many transactions
   pub moved_so : d.begun ≡ (hands c).client.begun → IsGoing catalog fit events (with_client (system_of hands) c (stands_by d.vacuum d.txn)) (at (doing_of hands) c (runs d)) → IsSo
   moved_so same g =
       placed (with_client (system_of hands) c (stands_by d.vacuum d.txn)) (at (doing_of hands) c (runs d)) g (mapped_at stands hands c (hand_of d)) (kept_at (λ (h : Hand). h.client.begun) hands c (hand_of d) same)
@@ -69,7 +69,7 @@ module _ (catalog : List Table) (fit : Tables → Bool) (hands : ℕ → Hand) (
   pub moved : d.vacuum ≡ None → d.begun ≡ (hands c).client.begun → IsGoing catalog fit events (with_client (system_of hands) c (stands_txn d.txn)) (at (doing_of hands) c (runs d)) → IsSo
   moved free same g = moved_so same (subst (λ (v : Option VacuumAt). IsGoing catalog fit events (with_client (system_of hands) c (stands_by v d.txn)) (at (doing_of hands) c (runs d))) (sym free) g)
 
-  -- one client stands as it stood
+  -- one client is as it was
   pub unmoved : d.begun ≡ (hands c).client.begun → stands_by d.vacuum d.txn ≡ stands (hands c) → runs d ≡ None → IsGoing catalog fit events (system_of hands) (at (doing_of hands) c None) → IsSo
   unmoved same as_before none g =
       placed (system_of hands) (at (doing_of hands) c None) g (kept_at stands hands c (hand_of d) as_before) (kept_at (λ (h : Hand). h.client.begun) hands c (hand_of d) same)

@@ -17,7 +17,7 @@ same_text false t x h =
       | false ↦ λ e. refl
     ] refl
 
--- the id that is read from a text tells whether the text is a number's
+-- the id that is read from a text says whether the text is a number's
 pub read_own : (own n : ℕ) (t : List ℕ) → t ≡ id_text own → (t ≡ id_text n → own ≡ n) → nat_eq own n ≡ is_eq (slice_cmp nat_cmp t (id_text n))
 read_own own n t found read = same_text (nat_eq own n) t (id_text n) (λ e. found ∙ ap id_text (eqb-true own n e), λ e. eq-eqb own n (read e))
 

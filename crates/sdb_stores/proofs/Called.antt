@@ -55,7 +55,7 @@ within_home : (o : Option (List ℕ)) (names : List (List ℕ)) → 0 < length n
 within_home None names some = some
 within_home (Some store) names some = place_within store names some
 
--- the store of a namespace stands among the stores
+-- the store of a namespace is among the stores
 pub home_within : {A : Type 0} (shelf : A → Shelf) (xs : List A) (places : List Place) (ns : List ℕ) (at : ℕ) → 0 < length (map shelf xs) → at ≡ home ns places (names_of (map shelf xs)) → at < length xs
 home_within shelf xs places ns at some is =
     let same : length (names_of (map shelf xs)) ≡ length xs = length-map (map shelf xs) (λ s. s.name) ∙ length-map xs shelf in
@@ -161,7 +161,7 @@ told_behind P (x ∷ xs) zero i most h = h
 told_behind P (x ∷ xs) (suc at) zero most h = absurd (omega arith)
 told_behind P (x ∷ xs) (suc at) (suc i) most h = told_behind P xs at i (omega arith) h
 
--- a store that has a place stands among the stores
+-- a store that has a place is among the stores
 pub found_within : {A : Type 0} (shelf : A → Shelf) (xs : List A) (name : List ℕ) (at : ℕ) → Some at ≡ place_of name (names_of (map shelf xs)) → at < length xs
 found_within shelf xs name at found =
     let place : at < length (names_of (map shelf xs)) = (position-Some (λ n. bytes_eq n name) (names_of (map shelf xs)) at [] (sym found)).0 in

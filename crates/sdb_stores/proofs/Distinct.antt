@@ -36,7 +36,7 @@ attached shelf xs ys x true o h found free is =
     let none : place_of (shelf x).name (map (λ a. (shelf a).name) xs) ≡ None = ap (place_of (shelf x).name) (sym (names_of-map shelf xs)) ∙ sym found ∙ none_of o free in
     subst AreDistinct (sym (ap (map (λ a. (shelf a).name)) is ∙ map-append (λ a. (shelf a).name) xs (x ∷ []))) (all_pairs_push ◌≢◌ (map (λ a. (shelf a).name) xs) (shelf x).name h (apart (shelf x).name (map (λ a. (shelf a).name) xs) none))
 
--- each that told goes on, and the one that comes tells where it told
+-- known contents stay known, and those of the one that comes are known where they were
 kept : {A : Type 0} (P : A → Type 0) (xs : List A) (y : A) (i : ℕ) → IsSomeAnd (slice_get xs i) P → IsSomeAnd (slice_get (xs ++ y ∷ []) i) P
 kept P [] y i h = absurd h
 kept P (x ∷ xs) y zero h = h

@@ -141,7 +141,7 @@ telling_of t = record { whole = t.whole; rest = t.rest; waiting = None }
 pub commit_ends : (s : Said) → reads_commit s.text ≡ true → ends s ≡ true
 commit_ends s e = ap (λ b. b || is_conflict s.answer || (reads_rollback s.text && is_done s.answer)) e
 
--- what stands in a story after an answer, whatever it is
+-- what is in a story after an answer, whatever it is
 settles : (events : List Event) (past : List Played) (sys next : SystemAt) (c : ℕ) (x : Telling) (q : Played) (s : Said) (t : Story) → StoryOk events past sys c x → IsSaid events c x q s → IsCounted q.role → MayCome x.rest s → settle x.whole x.rest s ≡ t
     → next.begun c ≡ count_of (telling_of t) → ((k : ℕ) → k < count_of (telling_of t) → HasBegun (q ∷ past) c k) → ((k : ℕ) (f : Finished) → finished_at t.whole k ≡ Some f → IsFiledAt (q ∷ past) (number c k) f) → OpenFiled (q ∷ past) c (telling_of t) t.rest → ((u : ℕ) → Has (next.clients c) u → IsOpened t.rest × (u ≡ number c (length t.whole)))
     → StoryOk (events ++ q.event ∷ []) (q ∷ past) next c (with_answered x s)

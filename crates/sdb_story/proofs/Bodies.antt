@@ -37,7 +37,7 @@ use Rattle.sdb_turns.proofs.Lists.{each_both}
 use Rattle.sdb_story.specs.Body.{ReadAgrees, ScanAgrees, AgreesAll, BodyOk, IsCovered}
 use Rattle.sdb_snapshot.proofs.Owned.{Keeps}
 
----- what was read tells the rows of tables that agree
+---- what was read gives the rows of tables that agree
 
 read_tells : (s : Seen) (d : Tables) (q : Key) (rs : List Read) → AllByRecursion (ReadAgrees s d) rs → was_read rs q ≡ true → row_found (base_at s.notes q) ≡ get d q
 read_tells s d q [] all h = absurd (cc (h))

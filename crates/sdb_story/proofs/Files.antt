@@ -41,7 +41,7 @@ taken_counts plan past sys c k ok small taken = by ((talk past).begun (number c 
     by zero e = clash (sym taken ∙ (in_turn plan past (number c k) ok.lawful).taken e)
     by (suc n) e = less k (sys.begun c) (subst (λ m. m ≤ sys.begun c) (rest c (suc k) small) (subst (λ d. number c k % 2 ^ 64 ≤ sys.begun d) (half c (suc k) small) (ok.ids (number c k) (λ z. positive n (sym e ∙ z))).most))
 
--- what stands of a story where nothing waits, and the open transaction's COMMIT was not taken
+-- what there is of a story where nothing waits, and the open transaction's COMMIT was not taken
 files : (plan : ℕ → Plan) (events : List Event) (past : List Played) (sys : SystemAt) (c : ℕ) (x : Telling) (t : Story) → SystemOk plan past sys → StoryOk events past sys c x → said c events ≡ all_of t → IsStory t → length t.whole + begun_in t.rest ≡ count_of x
     → ((k : ℕ) (f : Finished) → finished_at t.whole k ≡ Some f → IsFiledAt past (number c k) f) → ((gap : List Said) (b : Said) (body : List Said) → t.rest ≡ Opened gap b body → IsOpenAt past (number c (length t.whole)) b) → Filed c events past
 files plan events past sys c x t ok story same is count filed opened = record {

@@ -394,7 +394,7 @@ before_key r b e = by (before_part r.columns) e
     by [] e = absurd (cc (e))
     by (p ∷ ps) e = key_is (record { key = r.key; columns = p ∷ ps }) e
 
--- what is read of a record that stands for some record, by the calls
+-- what is read of a record that means some record, by the calls
 abbrev read_by : List Made → Record → Option Read
 read_by ms r = option_map (λ (image : Record). noted.read_of r.key (Some image)) (resolved ms r)
 

@@ -94,7 +94,7 @@ since (g ∷ fs) more (suc k) f w e =
     let r = since fs more k f w.1 e in
     (r.0, ap (from_begin (suc (suc k))) (assoc g.gap (g.begin ∷ (g.body ++ g.last ∷ saids_of fs)) more ∙ ap (λ x. g.gap ++ g.begin ∷ x) (assoc g.body (g.last ∷ saids_of fs) more)) ∙ behind k g (saids_of fs ++ more) w.0 ∙ r.1)
 
--- the open one, and none behind it
+-- the open one, and none after it
 pub since_open : (whole : List Finished) (gap : List Said) (b : Said) (body : List Said) → AllByRecursion IsFinished whole → AllByRecursion IsPlain gap → begins b ≡ true → from_begin (suc (length whole)) (saids_of whole ++ (gap ++ b ∷ body)) ≡ b ∷ body
 since_open [] gap b body w p t = skip 0 gap (b ∷ body) p ∙ first b body t
 since_open (g ∷ fs) gap b body w p t =

@@ -141,7 +141,7 @@ pub apart_of : (d c : ℕ) → (d == c) ≡ false → c ≢ d
 apart_of d c f e = absurd (grind (arith, nat_tests))
 
 -- What a turn of a client has to show: its event is its own and lawful, ends nothing but its own and begins nothing; the client
--- knows what it needs where it then stands; a transaction of it that stays open is in its hands, and it starts no VACUUM.
+-- knows what it needs where it then is; a transaction of it that stays open is in its hands, and it starts no VACUUM.
 pub record Turn (plan : ℕ → Plan) (past : List Played) (sys : SystemAt) (c : ℕ) (q : Played) (x : ClientAt) : Type 0 where
   pub by : IsBy c q.event
   pub may : MayPlay plan past q.event q.role
@@ -177,7 +177,7 @@ turned plan past sys c q x ok t = record {
     opened u o (inl s) = inl (go.stopped ((talk past).owner u) s)
     opened u o (inr h) = with_here sys c x (λ d y. Has (sys.clients d) u → ((talk (q ∷ past)).stopped d ≡ true) ⊎ Has y u) ((talk past).owner u) (λ h. t.holds u h o) (λ apart h. inr h) h
 
--- A client may stand elsewhere without an event, where it knows what it needs there, its transaction stays in its hands, and it
+-- A client may be elsewhere without an event, where it knows what it needs there, its transaction stays in its hands, and it
 -- starts VACUUM only while the gate is shut.
 pub moved : (plan : ℕ → Plan) (past : List Played) (sys : SystemAt) (c : ℕ) (x : ClientAt) → SystemOk plan past sys → ClientOk plan past c x → ((u : ℕ) → Has (sys.clients c) u → Has x u) → (sweeps x ≡ true → Gate (talk past)) → SystemOk plan past (with_client sys c x)
 moved plan past sys c x ok here holds gate = record {

@@ -344,7 +344,7 @@ commit_turn plan past sys x p s stands reply = turned plan past sys c (commit_pl
     holds u h (Stopping b n) o = inr h
     holds u h (Back b n i) o = inr h
 
----- want of memory in place of a conflict
+---- out of memory in place of a conflict
 
 starved_lost : (a : Outcome) → IsLost a → IsLost (starved_answer a)
 starved_lost outcome.Committed l = l

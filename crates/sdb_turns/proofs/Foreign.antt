@@ -226,7 +226,7 @@ stage_later plan past q c p (Over a) f ok = over_later plan past q p a c f ok
 within_later : (t c : ℕ) (h v : Talk) → SameFor t c h v → InCommit h c t → InCommit v c t
 within_later t c h v s ok = record { taken = s.taken ∙ ok.taken; is_open = s.is_open ∙ ok.is_open; owner = s.owner ∙ ok.owner; goes_on = s.stopped ∙ ok.goes_on }
 
--- Another client's event leaves a COMMIT as it stood.
+-- Another client's event leaves a COMMIT as it was.
 pub commit_later : (plan : ℕ → Plan) (past : List Played) (q : Played) (c : ℕ) (p : Work) (s : Stage) → IsForeignEvent p.id.0 c q → CommitOk plan past c p s → CommitOk plan (q ∷ past) c p s
 commit_later plan past q c p s f ok = let same = event_same p.id.0 c past q f in record {
   work = ok.work;

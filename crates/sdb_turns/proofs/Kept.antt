@@ -100,7 +100,7 @@ whole told xs i e all j w l at = all j w (less (length xs) l e) at
 stops : (plan : ℕ → Plan) (past : List Played) (p : Work) (n m : ℕ) (a : Outcome) → n ≤ m → IsLost a → AskedTo (talk past) p m → (talk past).risked p.id.0 ≡ false → StageOk plan past p (Stopping a n)
 stops plan past p n m a l lost asked safe = (asked_less (talk past) p n m l asked, safe, lost)
 
--- behind the last prepare the checks begin, or the decision
+-- after the last prepare the checks begin, or the decision
 pub checks_begin : (plan : ℕ → Plan) (past : List Played) (p : Work) → ((talk past).stage p.id.0 ≢ laws.Deciding) → ToldTo (talk past) p (length p.writes) → AskedTo (talk past) p (length p.writes) → ((talk past).risked p.id.0 ≡ false) → StageOk plan past p (checking p 0)
 checks_begin plan past p stage told asked safe = by_test plan past p (nat_lt 0 (length (checks p))) (Checking 0) (Deciding phase.Put)
     (λ t. (stage, told, asked, λ j l. absurd (below j l), λ j l. absurd (below j l), safe))

@@ -63,7 +63,7 @@ left_later past q left all = each_any (IsLeft past) (IsLeft (q ∷ past)) left (
 
 ---- keys that rise
 
--- all rows behind a key have greater ones
+-- all rows after a key have greater ones
 behind : (k : Key) (rs : List Record) → starts_after k rs ≡ true → rise rs ≡ true → AllByRecursion (λ q. key_cmp k q ≡ Less) (keys_of rs)
 behind k [] s h = tt
 behind k (r ∷ rs) s h =

@@ -182,7 +182,7 @@ version_found (r ∷ rs) q = by (same_key q r.key) (version_found rs q)
     by true ih = refl
     by false ih = ih
 
--- a scan found a record where it stands among its records
+-- a scan found a record where it is among its records
 found_is : (rs : List Record) (q : Key) → list_any (λ (r : Read). same_key q r.key) (reads_of rs) ≡ is_some (record_among rs q)
 found_is [] q = refl
 found_is (r ∷ rs) q = by (same_key q r.key) (found_is rs q)

@@ -178,7 +178,7 @@ scan_says s k version h = by (in_span s.span k) refl h
     by true t e = (t, some_is (number_of (version_among s.found k)) version e)
     by false f e = some_apart version e
 
----- what a check that passes tells
+---- what a check that passes says
 
 same_number : (a b : Option TxId) → same_version a b ≡ true → number_of b ≡ number_of a
 same_number None None h = refl

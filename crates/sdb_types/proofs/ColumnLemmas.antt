@@ -51,7 +51,7 @@ take_none name (e ∷ es) h =
     (λ q. let t = simp q at h in cc)
     (λ q. simp q refl)
 
--- what stands above a name that is above another stands above that one
+-- what is above a name that is above another is above that one
 not_above : (name : List ℕ) (p : Pair) (es : List Pair) → is_lt (name_cmp name p.name) ≡ true → starts_above name es ≡ true → starts_above name (put_pair p es) ≡ true
 not_above name p [] h k = h
 not_above name p (e ∷ es) h k =
@@ -111,7 +111,7 @@ place_within name (e ∷ es) =
 
 ---- where a search among columns ends
 
--- what stands behind columns that are above a name is above it
+-- what is after columns that are above a name is above it
 all_above : (name : List ℕ) (es : List Pair) (j : ℕ) (d : Pair) → are_columns es ≡ true → starts_above name es ≡ true → j < length es → name_cmp name (get_or es j d).name ≡ Less
 all_above name [] j d c k l = absurd (omega (arith, l))
 all_above name (e ∷ es) zero d c k l = less_of _ k

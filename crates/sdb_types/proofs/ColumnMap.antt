@@ -1,4 +1,4 @@
--- Columns are a map from names to values: what stands at a name after a column is set, and columns that agree at every
+-- Columns are a map from names to values: what is at a name after a column is set, and columns that agree at every
 -- name are equal.
 use Rattle.std.proofs.Common.{◌≡◌, ℕ, List, [], ◌∷◌, true, false, not, cond, Some, None, option_map, refl, sym, ap, ◌∙◌, subst}
 use Rattle.std.specs.Prelude.{if◌then◌else◌, find}
@@ -14,7 +14,7 @@ use Rattle.sdb_types.proofs.KeyOrder.{name_exact, name_total}
 use Rattle.sdb_types.proofs.ColumnLemmas.{by_order, above_more}
 use Rattle.sdb_types.proofs.Basics.{less_of}
 
--- what follows a column stands above it
+-- what follows a column is above it
 pub tail_above : (e : Pair) (es : List Pair) → are_columns (e ∷ es) ≡ true → starts_above e.name es ≡ true
 tail_above e es c = and_first (starts_above e.name es) (are_columns es) (and_second (not (is_null e.value)) _ c)
 
@@ -29,7 +29,7 @@ itself = tied_itself name_total
 pub turned : (a b : List ℕ) (r : Ordering) → name_cmp a b ≡ r → name_cmp b a ≡ ordering_reverse r
 turned a b r e = name_total.antisymm b a ∙ ap ordering_reverse e
 
--- no column stands below the first
+-- no column is below the first
 pub column_above : (name : List ℕ) (ps : List Pair) → are_columns ps ≡ true → starts_above name ps ≡ true → column ps name ≡ None
 column_above name [] c h = refl
 column_above name (e ∷ es) c h =
@@ -105,7 +105,7 @@ column-with_column_other p ps name n =
       | false ↦ column-put_other p ps name n
     ]
 
--- what stands first is told, and what stands above it isn't
+-- what is first is told, and what is above it isn't
 first_told : (e : Pair) (es : List Pair) → column (e ∷ es) e.name ≡ Some e.value
 first_told e es = simp (itself e.name) refl
 

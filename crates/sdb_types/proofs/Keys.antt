@@ -1,4 +1,4 @@
--- What the test of two keys tells.
+-- What the test of two keys says.
 use Rattle.std.proofs.Common.{◌≡◌, ◌≢◌, Bool, true, false, ◌⊎◌, inl, inr, refl, sym, ◌∙◌, ap}
 use Rattle.std.specs.Ordering.{is_eq}
 use Rattle.std.specs.Cmp.{tied_itself}

@@ -13,7 +13,7 @@ pub takes_more : (a b : List ℕ) (x y z : Option (List ℕ)) → Takes a x y �
 takes_more a b x y None p q = p ∙ ap (option_map (λ rest. a ++ rest)) q
 takes_more a b x y (Some z) p q = p ∙ ap (option_map (λ rest. a ++ rest)) q ∙ ap Some (sym (append_assoc a b z))
 
--- the piece that follows the front
+-- the piece that follows the prefix
 pub take_piece : (bytes : List ℕ) (at n : ℕ) → take (at + n) bytes ≡ take at bytes ++ take n (take (length bytes - at) (drop at bytes))
 take_piece bytes at n = take-add at n bytes ∙ ap (λ xs. take at bytes ++ take n xs) (sym (take_all (length bytes - at) (drop at bytes) (simp length-drop (omega arith))))
 
@@ -21,7 +21,7 @@ take_piece bytes at n = take-add at n bytes ∙ ap (λ xs. take at bytes ++ take
 pub appends_piece : (bytes : List ℕ) (at n : ℕ) (x y z : Option (List ℕ)) → Appends (take at bytes) x y → Appends (take n (take (length bytes - at) (drop at bytes))) y z → Appends (take (at + n) bytes) x z
 appends_piece bytes at n x y z p q = rw take_piece (appends_more (take at bytes) _ x y z p q)
 
--- a buffer that was filled from the front of what is left
+-- a buffer that was filled from the start of what is left
 pub filled : (n m at : ℕ) (bytes back put : List ℕ) → put ≡ take m (drop at bytes) → m ≡ n → n ≤ length bytes - at → drop at bytes ≡ take n (put ++ back) ++ drop (at + n) bytes
 filled n m at bytes back put is same fits =
     let xs : List ℕ = drop at bytes in

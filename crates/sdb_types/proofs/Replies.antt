@@ -1,4 +1,4 @@
--- What a store that tells its contents answers is what any store may answer.
+-- What a store of known contents answers is what any store may answer.
 use Rattle.std.proofs.Common.{◌≡◌, List, [], ◌∷◌, true, false, cond, map, filter, IfSome, Option, Some, None, option_map, refl}
 use Rattle.std.specs.Prelude.{if◌then◌else◌}
 use Rattle.std.specs.List.{list_all}

@@ -1,4 +1,4 @@
--- What each rescan is to find stands in key order.
+-- What each rescan is to find is in key order.
 use Rattle.std.proofs.Common.{◌≡◌, ℕ, List, [], ◌∷◌, ◌++◌, Some, true, not, refl, ap, sym, ◌∙◌, zero, suc}
 use Rattle.std.specs.Prelude.{filter, map, slice_get}
 use Rattle.std.specs.List.{list_all}

@@ -12,7 +12,7 @@ use Rattle.sdb_types.proofs.Basics.{false_true}
 abbrev Words : Type 0
 Words = List (List ℕ)
 
--- a word that stands alone is all of the words
+-- a word that is alone is all of the words
 pub alone_is : (word : List ℕ) (words : Words) → is_alone word words ≡ true → words ≡ word ∷ []
 alone_is word [] h = false_true h
 alone_is word (only ∷ []) h = ap (λ (w : List ℕ). w ∷ []) ((bytes_eq-Decides only word).0 h)
@@ -32,7 +32,7 @@ none_of words replay sql bench schema load export command.Sql h = sql h
 none_of words replay sql bench schema load export (command.Load table mode n) h = load table mode n h
 none_of words replay sql bench schema load export (command.Export table) h = export table h
 
--- the words behind the first
+-- the words after the first
 pub tail_is : (a b : List ℕ) (xs ys : Words) → a ∷ xs ≡ b ∷ ys → xs ≡ ys
 tail_is a b xs ys h = cc
 

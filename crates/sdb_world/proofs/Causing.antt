@@ -29,7 +29,7 @@ use Rattle.sdb_world.proofs.Linked.{fresh_hand, on_hand}
 use Rattle.sdb_world.proofs.Seats.{hands_moved}
 use Rattle.sdb_world.proofs.Gates.{gated_at}
 
--- what is so of clients that stand the same
+-- what is so of clients that are in the same place
 same_kept : (catalog : List Table) (events : List Event) (moment : ℤ) (f g : ℕ → Hand) → ((c : ℕ) → f c ≡ g c) → AreTied catalog events moment f → AreTied catalog events moment g
 same_kept catalog events moment f g same h = subst (λ (x : ℕ → Hand). AreTied catalog events moment x) (λ i c. same c i) h
 

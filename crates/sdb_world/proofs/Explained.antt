@@ -1,4 +1,4 @@
--- What stands at every moment is explained by the events of a world.
+-- What is there at every moment is explained by the events of a world.
 use Rattle.std.proofs.Common.{◌≡◌, List, [], ◌∷◌, ◌++◌, Option, Some, None, refl, sym, ap, subst, ◌∙◌}
 use Rattle.std.specs.Prelude.{is_some, OnOk, Result, Ok, Err}
 use Rattle.std.specs.FinMap.{empty}

@@ -63,7 +63,7 @@ world_ticks w m is apart h = record {
   about = all_more (IsAbout w.script.catalog) w.events (event.Clock m) h.about tt;
 }
 
--- a client stands elsewhere, and the event is its own
+-- a client is elsewhere, and the event is its own
 pub world_moves : (w : WorldAt) (i : ℕ) (s t : Seat) (e : Event) → slice_get w.seats i ≡ Some s → ((j : ℕ) → (i ≡ j → ⊥) → IsApart (suc j) e) → IsSeat w.script (w.events ++ e ∷ []) i t → IsAbout w.script.catalog e → IsWorld w → IsWorld (with_event (with_seat w i t) e)
 world_moves w i s t e at apart own about h = record {
   playable = h.playable;

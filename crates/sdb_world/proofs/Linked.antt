@@ -38,7 +38,7 @@ use Rattle.sdb_world.proofs.Ties.{itself}
 pub on_one_more : (es : List Event) (e : Event) → on_one (es ++ e ∷ []) ≡ on_one es ++ moved_event (λ ns. one_name) e ∷ []
 on_one_more es e = moved_more (λ ns. one_name) es (e ∷ [])
 
--- what is so of clients that stand the same
+-- what is so of clients that are in the same place
 same_going : (catalog : List Table) (events : List Event) (f g : ℕ → Hand) → ((c : ℕ) → f c ≡ g c) → IsGoing catalog (tables_fit catalog) events (system_of f) (doing_of f) → IsGoing catalog (tables_fit catalog) events (system_of g) (doing_of g)
 same_going catalog events f g same h = subst (λ (x : ℕ → Hand). IsGoing catalog (tables_fit catalog) events (system_of x) (doing_of x)) (λ i c. same c i) h
 
@@ -72,7 +72,7 @@ linked_by w i s t e here g =
     subst (λ (es : List Event). IsGoing w.script.catalog (tables_fit w.script.catalog) es (system_of (hands_of (slice_set w.seats i t))) (doing_of (hands_of (slice_set w.seats i t)))) (sym (on_one_more w.events e))
     (same_going w.script.catalog (on_one w.events ++ moved_event (λ ns. one_name) e ∷ []) (at (hands_of w.seats) (suc i) (record { client = t.client; stopped = t.stopped })) (hands_of (slice_set w.seats i t)) (λ c. sym (hands_moved w.seats i s t c here)) g)
 
--- where a client goes on, it is as it stands
+-- where a client goes on, it is as it was
 pub on_hand : (P : Hand → Type 0) (seats : List Seat) (i : ℕ) (s : Seat) → slice_get seats i ≡ Some s → P (record { client = s.client; stopped = s.stopped }) → P (hands_of seats (suc i))
 on_hand P seats i s here p = subst (λ (o : Option Seat). P (hand_in o (suc i))) (sym here) p
 

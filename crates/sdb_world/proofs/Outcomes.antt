@@ -68,7 +68,7 @@ module _ (w : WorldAt) (h : IsWorld w) (opening closing : List Shelf) (p : HasPl
   sound : AreSound w.script.catalog w.script.places closing
   sound = sound_on_stores w.script one_name (tables_fit w.script.catalog) w.events (system_of (hands_of w.seats)) (doing_of (hands_of w.seats)) opening closing p.linked on_stores
 
-  -- a record that stands at a key has that key
+  -- a record that is at a key has that key
   key_is : (key : Key) (r : Record) → standing w.script.places closing key ≡ Some r → r.key ≡ key
   key_is key r e = by (held_by closing (store_of w.script.places closing key.table.ns)) e
     where
@@ -109,7 +109,7 @@ module _ (w : WorldAt) (h : IsWorld w) (opening closing : List Shelf) (p : HasPl
       same : odd.found.key ≡ key
       same = key_is key odd.found odd.stands
 
----- what a dump of the stores tells of them
+---- what a dump of the stores says of them
 
 -- What was read of stores that are fit for a catalog: the recorded transactions, and the rows of the images.
 pub record IsReadOf (F : List Table → Type 0) (catalog : List Table) (places : List Place) (old new : List Shelf) (recorded : List TxId) (tables : List TableDump) : Type 0 where

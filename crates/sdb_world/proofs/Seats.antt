@@ -7,13 +7,13 @@ use Rattle.sdb_world.specs.declared.seat.Seat.{Seat}
 use Rattle.sdb_world.specs.World.{hand_in, hands_of}
 use Rattle.sdb_types.proofs.Basics.{none_some}
 
--- at the place that is set stands what was set
+-- at the place that is set is what was set
 pub set_here : {A : Type 0} (xs : List A) (i : ℕ) (x y : A) → slice_get xs i ≡ Some x → slice_get (slice_set xs i y) i ≡ Some y
 set_here [] i x y e = absurd (none_some x e)
 set_here (z ∷ zs) zero x y e = refl
 set_here (z ∷ zs) (suc i) x y e = set_here zs i x y e
 
--- elsewhere stands what stood there
+-- elsewhere is what was there
 pub set_other : {A : Type 0} (xs : List A) (i j : ℕ) (y : A) → j ≢ i → slice_get (slice_set xs i y) j ≡ slice_get xs j
 set_other [] i j y n = refl
 set_other (z ∷ zs) zero zero y n = absurd (n refl)

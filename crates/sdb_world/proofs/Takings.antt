@@ -30,7 +30,7 @@ use Rattle.sdb_world.specs.World.{IsWorld, WorldAt}
 use Rattle.sdb_world.specs.Step.{HasCalled, HasLeft, HasTaken, IsGateAt, IsHowOf, IsPendingAt}
 use Rattle.sdb_types.proofs.Basics.{some_is}
 
--- the client that was read at a place stands there
+-- the client that was read at a place is there
 pub read_there : (seats : List Seat) (i : ℕ) (s : Seat) → i < length seats → s ≡ get_or seats i s → slice_get seats i ≡ Some s
 read_there seats i s low read = slice_get_read seats (length seats) i s refl low read
 

@@ -1,4 +1,4 @@
--- What an event more says of where a client stands.
+-- What an event more says of where a client is.
 use Rattle.std.proofs.Common.{◌≡◌, ℕ, ℤ, ◌+◌, Bool, true, false, cond, List, [], ◌∷◌, ◌++◌, Option, refl, ap, ◌∙◌, arith}
 use Rattle.std.specs.Prelude.{◌||◌, ◌==◌, is_none, if◌then◌else◌}
 use Rattle.std.specs.List.{count_by}

@@ -1,4 +1,4 @@
--- Which client has work, by where it stands.
+-- Which client has work, by where it is.
 use Rattle.std.proofs.Common.{◌≡◌, ◌≢◌, ℕ, suc, ◌<◌, Bool, true, false, length, Option, Some, None, IfSome, refl, sym, ap, ◌∙◌, ◌⊎◌, inl, inr, get_or}
 use Rattle.std.specs.Prelude.{◌&&◌, ◌||◌, not, nat_lt, IsSome, IsSomeAnd, slice_get}
 use Rattle.std.proofs.lemmas.Option.{slice_get_read}

@@ -17,7 +17,7 @@ pub fn record_of(alloc: Global, row: Row) -> Result<Record, NameRefused> {
     Ok(Record { key, columns })
 }
 
-/// What stands at a key.
+/// What is at a key.
 pub fn found_of(alloc: Global, row: Option<Row>) -> Result<Option<Record>, NameRefused> {
     match row {
         Some(row) => Ok(Some(record_of(alloc, row)?)),

@@ -257,7 +257,7 @@ static OTHER_MOVES: [Case; 6] = [
 ];
 
 // An id begins again, a COMMIT is taken again, a key is prepared again; a client stops in the name of another; a put plays no
-// part; Committed is answered where nothing tells it.
+// part; Committed is answered where nothing says so.
 #[test]
 fn other_moves(rt: HostRuntime) -> Result<(), Fail> {
     all_judged(rt.alloc(), Second::Updates, OTHER_MOVES.as_slice())

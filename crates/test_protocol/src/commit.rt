@@ -45,7 +45,7 @@ impl Machine for CommitPhases {
     }
 }
 
-// Answers to the calls of a COMMIT, with what each tells: of one that deletes two accounts, and of one that read an account
+// Answers to the calls of a COMMIT, with what each comes to: of one that deletes two accounts, and of one that read an account
 // and didn't find it.
 #[derive(Clone, Copy)]
 enum Steps {

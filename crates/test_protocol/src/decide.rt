@@ -40,7 +40,7 @@ impl Machine for Decide {
     }
 }
 
-// Whether this answer after those tells that.
+// Whether this answer after those says that.
 fn tells(alloc: Global, before: &[Answer], answer: Answer, told: Told) -> bool {
     match Decide::new(alloc, OWN, 7) {
         Ok(decide) => told_after(alloc, decide, before, answer, EXPIRED) == told,
@@ -48,7 +48,7 @@ fn tells(alloc: Global, before: &[Answer], answer: Answer, told: Told) -> bool {
     }
 }
 
-// Answers, and those that may come after them, each with what it tells.
+// Answers, and those that may come after them, each with what it says.
 #[derive(Clone, Copy)]
 struct Asked {
     before: &'static [Answer],

@@ -4,7 +4,7 @@ use sdb_types::{Key, Request, TxId, Value};
 use std::alloc::Global;
 use test_builders::number_of;
 
-/// What a step tells. Other is anything else, or a call that the answer isn't for.
+/// What a step answers. Other is anything else, or a call that the answer isn't for.
 #[derive(Clone, Copy, PartialEq, Eq)]
 pub enum Told {
     More,
@@ -18,7 +18,7 @@ pub enum Told {
     Busy,
     /// So many rows are seen.
     Rows(usize),
-    /// The account of that number, and the version that stands there.
+    /// The account of that number, and the version that is there.
     Conflict(i32, Option<TxId>),
     /// The roll of the account of that number was pending, and whether another is left.
     Rolled(i32, bool),
@@ -32,7 +32,7 @@ pub enum Told {
 
 /// What takes replies, one after the other.
 pub trait Machine {
-    /// What an answer to the pending call tells, at a moment.
+    /// What an answer to the pending call says, at a moment.
     fn give(&mut self, alloc: Global, answer: Answer, now: i64) -> Told;
 
     /// Whether no call is pending.
@@ -50,7 +50,7 @@ fn give_all<M: Machine>(alloc: Global, machine: &mut M, answers: &[Answer]) {
     }
 }
 
-/// What one more answer tells, at a moment. The others come when the record has expired.
+/// What one more answer says, at a moment. The others come when the record has expired.
 pub fn told_after<M: Machine + Drop>(
     alloc: Global,
     machine: M,
@@ -63,7 +63,7 @@ pub fn told_after<M: Machine + Drop>(
     machine.give(alloc, answer, now)
 }
 
-/// Whether each answer tells what stands beside it, and no call is pending in the end.
+/// Whether each answer says what is beside it, and no call is pending in the end.
 pub fn plays<M: Machine>(alloc: Global, machine: &mut M, steps: &[(Answer, Told)]) -> bool {
     for (answer, told) in steps {
         if machine.give(alloc, *answer, EXPIRED) != *told {

@@ -48,7 +48,7 @@ static CASES: [Prepared; 4] = [
         steps: &[(Answer::Applied, Told::More), (Answer::Applied, Told::Done)],
         touched: 2,
     },
-    // What stands there is a conflict.
+    // What is there is a conflict.
     Prepared {
         steps: &[
             (Answer::Applied, Told::More),

@@ -72,7 +72,7 @@ impl Machine for Run {
     }
 }
 
-// Answers to the calls of a read of an account, with what each tells.
+// Answers to the calls of a read of an account, with what each comes to.
 #[derive(Clone, Copy)]
 struct Steps(&'static [(Answer, Told)]);
 

@@ -106,7 +106,7 @@ fn begin(alloc: Global) -> Option<Run> {
     None
 }
 
-// Whether this answer after those tells that, at a moment. The others come when the record has expired.
+// Whether this answer after those says that, at a moment. The others come when the record has expired.
 fn tells(alloc: Global, before: &[Answer], now: i64, answer: Answer, told: Told) -> bool {
     match begin(alloc) {
         Some(run) => told_after(alloc, run, before, answer, now) == told,
@@ -114,7 +114,7 @@ fn tells(alloc: Global, before: &[Answer], now: i64, answer: Answer, told: Told)
     }
 }
 
-// Answers, and those that may come after them at a moment, each with what it tells.
+// Answers, and those that may come after them at a moment, each with what it says.
 #[derive(Clone, Copy)]
 struct Asked {
     before: &'static [Answer],

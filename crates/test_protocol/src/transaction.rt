@@ -44,7 +44,7 @@ impl Machine for Txn {
 }
 
 // What a transaction does: it gets an account, scans all accounts, inserts an account without columns, takes its COMMIT, or has its
-// pending call answered. Where it may not, that tells Other.
+// pending call answered. Where it may not, that is Other.
 #[derive(Clone, Copy)]
 enum Act {
     Get(i32),
@@ -116,7 +116,7 @@ fn plays(alloc: Global, txn: &mut Txn, steps: &[(Act, Told)]) -> bool {
     txn.is_over()
 }
 
-// What a transaction does, with what each act tells.
+// What a transaction does, with what each act answers.
 static CASES: [Steps; 7] = [
     // An absent account is read and inserted: one prepare, the deciding put, one roll forward.
     Steps(&[

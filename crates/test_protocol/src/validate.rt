@@ -204,8 +204,8 @@ fn rescan_finds(
     }
 }
 
-// Answers to rereads with what each tells; or what a scan found of the keys 1, 2 and 3, the base of an own delete of the key
-// 1, and what a rescan tells that finds one row, or two.
+// Answers to rereads with what each comes to; or what a scan found of the keys 1, 2 and 3, the base of an own delete of the key
+// 1, and what a rescan comes to that finds one row, or two.
 #[derive(Clone, Copy)]
 enum Check {
     Rereads(&'static [(Answer, Told)]),

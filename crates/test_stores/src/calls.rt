@@ -1,4 +1,4 @@
-//! The driver of calls and replies that stand as the events of a report.
+//! The driver of calls and replies that are written as the events of a report.
 use sdb_model::Event;
 use sdb_report::read_report;
 use sdb_store::{Store, call};

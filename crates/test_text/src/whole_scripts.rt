@@ -174,7 +174,7 @@ fn put_often(out: &mut String, piece: &str, count: usize) -> Result<(), AllocErr
     Ok(())
 }
 
-// A front, so many copies of a piece, and an end.
+// A prefix, so many copies of a piece, and an end.
 fn repeated(
     alloc: Global,
     front: &str,
@@ -226,7 +226,7 @@ fn tells_clients(alloc: Global, count: u32, wanted: &str) -> Result<bool, Fail> 
 enum Check {
     Tells(&'static str, &'static str),
     Bytes(&'static [u8], &'static str),
-    // A front, a piece, how often it comes, and an end.
+    // A prefix, a piece, how often it comes, and an end.
     Long(&'static str, &'static str, usize, &'static str, &'static str),
     // So many clients.
     Clients(u32, &'static str),
@@ -250,7 +250,7 @@ impl Case for Check {
     }
 }
 
-// Worked scripts, bytes that are no text, alone and behind a fault of form, and limits.
+// Worked scripts, bytes that are no text, alone and after a fault of form, and limits.
 static WORKED: [Check; 19] = [
     Check::Tells(
         "schema {\"bank.account\":{\"partition-key\":[\"id\"],\"columns\":{\"id\":\"INT\",\"balance\":\"INT\"}}}\nclient a\n  BEGIN\n  INSERT INTO bank.account (id, balance) VALUES (1, 100)\n  COMMIT\nrun\nrest\n",

@@ -59,7 +59,7 @@ fn refusal_of(alloc: Global, table: &Table, mode: Mode, text: &[u8]) -> CsvRefus
     }
 }
 
-// A header and one record, whose text has so many bytes behind a first one.
+// A header and one record, whose text has so many bytes after a first one.
 fn long_text(alloc: Global, first: &[u8], length: usize) -> Result<Vec<u8>, Fail> {
     let mut text = Vec::from_slice(alloc, b"t\n")?;
     text.extend_from_slice(first)?;
@@ -139,7 +139,7 @@ static READ: [Check; 3] = [
             ],
         ),
     ),
-    // Lines end with CR and LF, or with CR; blank lines are none, and the mark at the front is dropped.
+    // Lines end with CR and LF, or with CR; blank lines are none, and the mark at the start is dropped.
     Check(
         ORDERS,
         Ask::Read(
@@ -175,7 +175,7 @@ fn are_read(alloc: Global) -> Result<(), Fail> {
 }
 
 static READ_TOO: [Check; 7] = [
-    // A second backslash stands in front of a text that begins with one.
+    // A second backslash comes before a text that begins with one.
     Check(
         TAG,
         Ask::Read(
@@ -240,7 +240,7 @@ static READ_TOO: [Check; 7] = [
             ]],
         ),
     ),
-    // Names may stand in quotes, and quotes around a number mean nothing.
+    // Names may be in quotes, and quotes around a number mean nothing.
     Check(
         ITEM,
         Ask::Read(
@@ -260,7 +260,7 @@ static READ_TOO: [Check; 7] = [
             &[&[Cell::Text("t")], &[Cell::Text("x")]],
         ),
     ),
-    // A quote inside a field that has none in front is a byte like others.
+    // A quote inside a field that doesn't begin with one is a byte like others.
     Check(
         TAG,
         Ask::Read(

@@ -46,7 +46,7 @@ enum Check {
     Decided(Decision, i64),
     // Whether what was prepared at the moment 0 has expired at another.
     Expired(i64, bool),
-    // A delete where nothing was stands for no record, and can be rolled back.
+    // A delete where nothing was means no record, and can be rolled back.
     Deleted,
     // The prepared record is rolled forward to the committed one.
     Forward,
@@ -105,7 +105,7 @@ fn deleted(alloc: Global) -> Result<Record, Fail> {
     Ok(prepared(alloc, &write, FIRST, 3)?)
 }
 
-// Whether it stands for no record, and can be rolled back.
+// Whether it means no record, and can be rolled back.
 fn rolls(alloc: Global, rec: &Record) -> Result<bool, Fail> {
     let meta = meta_of(alloc, rec)?;
     let is_none = committed_image(alloc, rec, None)?.is_none();

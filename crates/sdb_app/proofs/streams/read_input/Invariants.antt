@@ -2,7 +2,7 @@ use Rattle.std.proofs.Common.{◌≤◌, ◌≡◌, ◌-◌, ◌+◌, length, ve
 use Rattle.sdb_types.specs.Bytes.{Takes}
 use Rattle.sdb_app.proofs.streams.read_input.Given as goal
 
--- what was read so far is the front of what was left
+-- what was read so far is the prefix of what was left
 abbrev pub invariant-loop-piece : goal.invariant-loop-piece
 invariant-loop-piece g l = record {
   front : Takes l.bytes.items (g.R.Source.remaining l.fn.source) (g.R.Source.remaining l.source);
