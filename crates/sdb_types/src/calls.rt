@@ -11,7 +11,7 @@ pub type Calls = Seq<u64>;
 
 /// How many calls were made, and how many of them failed. It counts up to call 2^64 - 1, and that call and later ones
 /// never fail.
-#[derive(Debug, Drop)]
+#[derive(Drop)]
 pub struct CallCounter {
     made: u64,
     failed: u64,

@@ -63,15 +63,6 @@ fn is_at(pairs: &[Pair], place: usize, name: &Name) -> bool
     }
 }
 
-fn find_value<'a>(pairs: &'a [Pair], name: &Name) -> Option<&'a Value>
-    ensures { option_copied result ≡ column pairs.now name.now }
-{
-    pairs
-        .iter()
-        .find(|pair| pair.name.cmp(name).is_eq())
-        .map(|pair| &pair.value)
-}
-
 /// The value of the column whose name is this text, if there is one. Takes no memory.
 pub fn value_named<'a>(pairs: &'a [Pair], name: &str) -> Option<&'a Value>
     ensures { option_copied result ≡ column pairs.now name.now }
@@ -140,7 +131,7 @@ impl Columns {
     pub fn get(&self, name: &Name) -> Option<&Value>
         ensures { option_copied result ≡ column self.now name.now }
     {
-        find_value(self.pairs.as_slice(), name)
+        value_named(self.pairs.as_slice(), name.as_str())
     }
 
     pub fn set(&mut self, name: Name, value: Value) -> Result<(), NoMemory>

@@ -1,15 +1,13 @@
 //! Equality that distinguishes values.
 ghost use Rattle.std.specs.Prelude.{◌≡◌, true, IsTrue, ◌↔◌};
-ghost use Rattle.std.specs.Cmp.{unsigned_Decides, signed_Decides, booleans_Decides};
 ghost use Rattle.std.specs.Cmp.Lexicographic.{pointwise_decides, bytes_decides};
-ghost use Rattle.sdb_types.specs.Exactness.{maybe_tells, value_tells, table_tells, pair_tells, id_tells, key_tells, columns_tell, record_tells, span_tells, state_tells, condition_tells, request_tells, reply_tells};
+ghost use Rattle.sdb_types.specs.Exactness.{value_tells, table_tells, pair_tells, id_tells, key_tells, columns_tell, record_tells, span_tells, state_tells, condition_tells, request_tells, reply_tells};
 
 use crate::columns::Columns;
 use crate::key::{Key, TableName};
 use crate::name::Name;
 use crate::pair::Pair;
 use crate::record::{Condition, Record, Reply, Request, Span, State};
-use crate::seq::Seq;
 use crate::shared::SharedSeq;
 use crate::text::Txt;
 use crate::txid::TxId;
@@ -25,50 +23,6 @@ pub fn same<T: Exact>(a: &T, b: &T) -> bool
     ensures { IsTrue result ↔ (a.now ≡ b.now) }
 {
     a == b
-}
-
-impl Exact for bool {
-    ghost decides = { booleans_Decides };
-}
-
-impl Exact for u8 {
-    ghost decides = { unsigned_Decides };
-}
-
-impl Exact for u16 {
-    ghost decides = { unsigned_Decides };
-}
-
-impl Exact for u32 {
-    ghost decides = { unsigned_Decides };
-}
-
-impl Exact for u64 {
-    ghost decides = { unsigned_Decides };
-}
-
-impl Exact for u128 {
-    ghost decides = { unsigned_Decides };
-}
-
-impl Exact for usize {
-    ghost decides = { unsigned_Decides };
-}
-
-impl Exact for i32 {
-    ghost decides = { signed_Decides };
-}
-
-impl Exact for i64 {
-    ghost decides = { signed_Decides };
-}
-
-impl<T: Exact> Exact for Option<T> {
-    ghost decides = { maybe_tells T.decides };
-}
-
-impl<T: Exact> Exact for Seq<T> {
-    ghost decides = { pointwise_decides T.decides };
 }
 
 impl<T: Exact> Exact for SharedSeq<T> {

@@ -10,7 +10,7 @@ use std::marker::Model;
 
 /// A source of bytes in memory. A call takes at most `most` bytes, and fails exactly where its number, from 1, is
 /// listed.
-#[derive(Debug, Drop)]
+#[derive(Drop)]
 pub struct Feed {
     bytes: Octets,
     at: usize,

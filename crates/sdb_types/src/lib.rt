@@ -28,7 +28,7 @@ mod txid;
 mod value;
 mod value_order;
 
-pub use calls::{CallCounter, Calls};
+pub use calls::Calls;
 pub use columns::{Columns, value_named};
 pub use exact::{Exact, same};
 pub use feed::Feed;

@@ -6,7 +6,7 @@ use crate::outside::Ids;
 use std::marker::Model;
 
 /// A source of ids that rise by one per draw, and wrap.
-#[derive(Debug, Drop)]
+#[derive(Drop)]
 pub struct Numbers {
     first: u128,
     next: u128,

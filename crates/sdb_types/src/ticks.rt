@@ -10,7 +10,7 @@ use std::marker::Model;
 pub type Moments = Seq<i64>;
 
 /// A clock that gives the moments in turn, and then the last one again and again. With no moments it gives 0.
-#[derive(Debug, Drop)]
+#[derive(Drop)]
 pub struct Ticks {
     moments: Moments,
     made: u64,
