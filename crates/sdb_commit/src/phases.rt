@@ -19,7 +19,7 @@ use std::alloc::Global;
 use std::marker::Model;
 
 // The phase that asks the pending call.
-#[derive(Clone, Copy, Debug, PartialEq, Eq)]
+#[derive(Clone, Copy)]
 enum Phase {
     Prepare,
     Validate,

@@ -2,7 +2,7 @@
 use sdb_types::{Key, Request, Seq, TxId};
 
 /// What a rescan is to find at a key.
-#[derive(Clone, Copy, Debug, PartialEq, Eq)]
+#[derive(Clone, Copy)]
 pub enum Wish {
     /// The key isn't written: the version that the scan found, or no record.
     Unchanged(Option<TxId>),
@@ -11,7 +11,6 @@ pub enum Wish {
 }
 
 /// A key, with what a rescan is to find there.
-#[derive(Debug, PartialEq, Eq)]
 pub struct Wanted {
     pub key: Key,
     pub wish: Wish,
@@ -27,7 +26,6 @@ impl Drop for Wanted {
 pub type Wants = Seq<Wanted>;
 
 /// What an extra read is to find.
-#[derive(Debug, PartialEq, Eq)]
 pub enum Target {
     /// The version that a get found, or no record.
     Version(Option<TxId>),
@@ -46,7 +44,6 @@ impl Drop for Target {
 }
 
 /// An extra read, with what it is to find.
-#[derive(Debug, PartialEq, Eq)]
 pub struct Check {
     pub request: Request,
     pub target: Target,

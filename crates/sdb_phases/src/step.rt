@@ -42,7 +42,7 @@ pub enum ValidateStep {
 }
 
 /// The call at which a decision is.
-#[derive(Clone, Copy, Debug, PartialEq, Eq)]
+#[derive(Clone, Copy)]
 pub enum DecidePhase {
     /// The put of the row COMMITTED.
     Put,
@@ -69,7 +69,7 @@ pub enum DecideStep {
 }
 
 /// The call at which an abort is.
-#[derive(Clone, Copy, Debug, PartialEq, Eq)]
+#[derive(Clone, Copy)]
 pub enum AbortPhase {
     /// It wasn't started.
     Idle,
@@ -80,7 +80,7 @@ pub enum AbortPhase {
 }
 
 /// The call at which a recovery is.
-#[derive(Clone, Copy, Debug, PartialEq, Eq)]
+#[derive(Clone, Copy)]
 pub enum RecoverPhase {
     /// The look for the row.
     Look,

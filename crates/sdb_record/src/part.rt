@@ -9,14 +9,14 @@ ghost use Rattle.sdb_record.specs.Inside.{meta_name, name_from, name_within, col
 use sdb_types::{Columns, Known, Value, value_named};
 
 /// A part of a record that holds metadata: its own columns, or the before image that it keeps.
-#[derive(Clone, Copy, Debug, PartialEq, Eq)]
+#[derive(Clone, Copy)]
 pub enum Part {
     Own,
     Before,
 }
 
 /// A metadata column.
-#[derive(Clone, Copy, Debug, PartialEq, Eq)]
+#[derive(Clone, Copy)]
 pub enum MetaColumn {
     Id,
     State,

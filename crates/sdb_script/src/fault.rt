@@ -27,7 +27,7 @@ pub enum LineFault {
 }
 
 /// Why a line isn't taken.
-#[derive(Debug, Drop)]
+#[derive(Drop)]
 pub enum LineRefused {
     Bad(LineFault),
     Limit(Which),

@@ -7,7 +7,7 @@ use sdb_types::NoMemory;
 use std::alloc::{AllocError, AllocFailed};
 use thiserror::Error;
 
-#[derive(Clone, Copy, Debug, PartialEq, Eq)]
+#[derive(Clone, Copy)]
 pub enum LexError {
     NoMemory,
     /// No token begins here.
