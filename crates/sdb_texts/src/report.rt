@@ -2,14 +2,13 @@
 ghost use Rattle.std.specs.Prelude.{◌≡◌, ◌++◌, OnOk, IfOk, decimal};
 ghost use Rattle.std.specs.List.{flat_map};
 ghost use Rattle.std.specs.String.{string_bytes};
-ghost use Rattle.sdb_types.specs.Contents.{state_number};
 ghost use Rattle.sdb_model.specs.Report.{given_text_of, condition_text_of, request_text_of, how_text_of, found_text_of, records_text_of, reply_text_of, take_text_of, asked_text_of, came_text_of, event_text_of, event_line, event_lines, point_line, row_line, table_lines, heading, events_text_of, order_text_of, tables_text_of, report_text_of};
 
 use crate::text::{
     put_answer, put_id, put_key, put_number, put_record, put_row, put_signed, put_span, put_table,
 };
 use sdb_model::{Answer, Event, Events, How, Outcome, Point, Points, TableDump, TableRows};
-use sdb_types::{Condition, Name, NoMemory, Record, Reply, Request, State, Txt, Values};
+use sdb_types::{Condition, Name, NoMemory, Record, Reply, Request, Txt, Values};
 use std::alloc::Global;
 
 /// Adds an answer's text, or `-` where there is none.
@@ -23,17 +22,6 @@ fn put_given(out: &mut String, given: &Option<Answer>) -> Result<(), NoMemory>
     Ok(())
 }
 
-fn state_number(state: State) -> i64
-    ensures { result ≡ state_number state }
-{
-    match state {
-        State::Prepared => 1,
-        State::Deleted => 2,
-        State::Committed => 3,
-        State::Aborted => 4,
-    }
-}
-
 fn put_condition(out: &mut String, condition: Condition) -> Result<(), NoMemory>
     ensures { OnOk result (string_bytes out.new ≡ string_bytes out.old ++ condition_text_of condition) }
 {
@@ -42,7 +30,7 @@ fn put_condition(out: &mut String, condition: Condition) -> Result<(), NoMemory>
         Condition::Version(id, state) => {
             put_id(out, id)?;
             out.push_str(" ")?;
-            put_signed(out, state_number(state))?;
+            put_signed(out, i64::from(state.number()))?;
         }
     }
     Ok(())

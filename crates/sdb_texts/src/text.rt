@@ -266,34 +266,48 @@ fn put_with_id(out: &mut String, word: &str, id: TxId) -> Result<(), NoMemory>
     put_id(out, id)
 }
 
+fn put_word(out: &mut String, word: &str) -> Result<(), NoMemory>
+    ensures { OnOk result (string_bytes out.new ≡ string_bytes out.old ++ word.now) }
+{
+    out.push_str(word)?;
+    Ok(())
+}
+
+fn put_count(out: &mut String, n: u64) -> Result<(), NoMemory>
+    ensures { OnOk result (string_bytes out.new ≡ string_bytes out.old ++ codes "count " ++ decimal n) }
+{
+    out.push_str("count ")?;
+    put_number(out, n)
+}
+
+fn put_found_rows(out: &mut String, rows: &[Values]) -> Result<(), NoMemory>
+    ensures { OnOk result (string_bytes out.new ≡ string_bytes out.old ++ codes "rows " ++ rows_text_of rows.now) }
+{
+    out.push_str("rows ")?;
+    put_rows(out, rows)
+}
+
 /// Adds an answer's text.
 pub fn put_answer(out: &mut String, answer: &Answer) -> Result<(), NoMemory>
     ensures { OnOk result (string_bytes out.new ≡ string_bytes out.old ++ answer_text_of answer.now) }
 {
     match answer {
-        Answer::Rows(rows) => {
-            out.push_str("rows ")?;
-            put_rows(out, rows.as_slice())?;
-        }
-        Answer::Count(n) => {
-            out.push_str("count ")?;
-            put_number(out, *n)?;
-        }
-        Answer::Done => out.push_str("done")?,
-        Answer::Committed => out.push_str("committed")?,
-        Answer::Duplicate(key) => put_with_key(out, "duplicate ", key)?,
-        Answer::Busy(key, id, at) => put_busy(out, key, *id, at)?,
-        Answer::Conflict(key, found) => put_conflict(out, key, found)?,
-        Answer::Expired(id) => put_with_id(out, "expired ", *id)?,
-        Answer::Faulted => out.push_str("faulted")?,
-        Answer::Unknown(id) => put_with_id(out, "unknown ", *id)?,
-        Answer::BadRecord(key) => put_with_key(out, "badrecord ", key)?,
-        Answer::Refused(refusal) => put_refusal(out, *refusal)?,
-        Answer::Vacuuming => out.push_str("vacuuming")?,
-        Answer::OpenTransactions => out.push_str("opentransactions")?,
-        Answer::NoMemory => out.push_str("nomemory")?,
+        Answer::Rows(rows) => put_found_rows(out, rows.as_slice()),
+        Answer::Count(n) => put_count(out, *n),
+        Answer::Done => put_word(out, "done"),
+        Answer::Committed => put_word(out, "committed"),
+        Answer::Duplicate(key) => put_with_key(out, "duplicate ", key),
+        Answer::Busy(key, id, at) => put_busy(out, key, *id, at),
+        Answer::Conflict(key, found) => put_conflict(out, key, found),
+        Answer::Expired(id) => put_with_id(out, "expired ", *id),
+        Answer::Faulted => put_word(out, "faulted"),
+        Answer::Unknown(id) => put_with_id(out, "unknown ", *id),
+        Answer::BadRecord(key) => put_with_key(out, "badrecord ", key),
+        Answer::Refused(refusal) => put_refusal(out, *refusal),
+        Answer::Vacuuming => put_word(out, "vacuuming"),
+        Answer::OpenTransactions => put_word(out, "opentransactions"),
+        Answer::NoMemory => put_word(out, "nomemory"),
     }
-    Ok(())
 }
 
 /// The text of a key, as `bank.item(1;2,'a')`.
