@@ -11,7 +11,6 @@ use Rattle.sdb_types.specs.declared.pair.Pair.{Pair}
 use Rattle.sdb_types.specs.Order.{key_cmp}
 use Rattle.sdb_types.proofs.KeyOrder.{key_exact, key_total}
 use Rattle.sdb_record.specs.declared.write.Change.{Change}
-use Rattle.sdb_record.specs.declared.write.Change.TheVariants as change
 use Rattle.sdb_record.specs.declared.write.Keyed.{Keyed}
 use Rattle.sdb_record.specs.declared.access.Image.{Image}
 use Rattle.sdb_model.specs.Exec.{Tables, row_of_entry, entry_of_row}

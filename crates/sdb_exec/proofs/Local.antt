@@ -16,9 +16,6 @@ use Rattle.sdb_record.specs.declared.access.Access.{Access}
 use Rattle.sdb_record.specs.declared.access.Access.TheVariants as access
 use Rattle.sdb_model.specs.declared.answer.Answer.TheVariants as answer
 use Rattle.sdb_record.specs.declared.write.Change.TheVariants as change
-use Rattle.sdb_model.specs.declared.statement.Update.{Update}
-use Rattle.sdb_model.specs.declared.statement.Delete.{Delete}
-use Rattle.sdb_model.specs.declared.statement.Insert.{Insert}
 use Rattle.sdb_record.specs.declared.access.Image.{Image}
 use Rattle.sdb_schema.specs.Table.{is_table}
 use Rattle.sdb_model.specs.Exec.{Tables, all_rows, row_of_entry, tables_of_rows, is_row_of, passes, with_sets, key_of, with_named, answer_of, left_by, shown, cut, sorted}

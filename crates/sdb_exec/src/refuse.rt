@@ -13,6 +13,7 @@ use sdb_rows::{is_key_name, kind_of};
 use sdb_schema::{Column, Kind, Table};
 use sdb_types::{Duplicate, Name, Names, NoMemory, Seq, Value};
 use std::alloc::Global;
+use std::marker::Model;
 
 const LARGEST: i64 = 9_007_199_254_740_992;
 
@@ -20,15 +21,25 @@ const LONGEST: usize = 4096;
 
 const MOST: usize = 1 << 32;
 
-// A refusal's kind, and the index, from 0, of the mention or the column of the key that it names.
-#[derive(Clone, Copy)]
+// A refusal's kind, and the index, from 0, of the mention or the column of the key that it names. It is seen as the refusal,
+// whose place counts from 1.
+#[derive(Drop)]
 struct Fault {
     kind: u8,
     index: usize,
 }
 
+impl Model for Fault {
+    ghost use Rattle.std.specs.Prelude.{◌+◌};
+    ghost use Rattle.sdb_model.specs.declared.answer.Refusal.{Refusal};
+
+    ghost Value = { Refusal };
+
+    ghost view = { λ f. record { kind = f.kind; place = f.index + 1 } };
+}
+
 fn of_kind(kind: u8, index: Option<usize>) -> Option<Fault>
-    ensures { option_map (λ f. record { kind = f.kind; place = f.index + 1 }) result ≡ refusal kind (option_map (λ i. i + 1) index) }
+    ensures { result ≡ refusal kind (option_map (λ i. i + 1) index) }
 {
     match index {
         Some(index) => Some(Fault { kind, index }),
@@ -211,7 +222,7 @@ fn find_unlisted(keys: &[Name], names: &[Name]) -> Option<usize>
 }
 
 fn column_fault(table: &Table, written: &[Mention], mentions: &[Mention]) -> Option<Fault>
-    ensures { option_map (λ f. record { kind = f.kind; place = f.index + 1 }) result ≡ or_next (refusal 7 (first_place (is_unknown_lem table.now) mentions.now)) (refusal 8 (repeat_place [] written.now)) }
+    ensures { result ≡ or_next (refusal 7 (first_place (is_unknown_lem table.now) mentions.now)) (refusal 8 (repeat_place [] written.now)) }
 {
     match of_kind(7, find_unknown(table, mentions)) {
         Some(found) => Some(found),
@@ -220,7 +231,7 @@ fn column_fault(table: &Table, written: &[Mention], mentions: &[Mention]) -> Opt
 }
 
 fn kind_fault(table: &Table, mentions: &[Mention]) -> Option<Fault>
-    ensures { option_map (λ f. record { kind = f.kind; place = f.index + 1 }) result ≡ or_next (refusal 10 (first_place (is_of_other_kind_lem table.now) mentions.now)) (refusal 11 (first_place (is_null_in_key_lem table.now) mentions.now)) }
+    ensures { result ≡ or_next (refusal 10 (first_place (is_of_other_kind_lem table.now) mentions.now)) (refusal 11 (first_place (is_null_in_key_lem table.now) mentions.now)) }
 {
     match of_kind(10, find_other_kind(table, mentions)) {
         Some(found) => Some(found),
@@ -229,7 +240,7 @@ fn kind_fault(table: &Table, mentions: &[Mention]) -> Option<Fault>
 }
 
 fn size_fault(table: &Table, mentions: &[Mention]) -> Option<Fault>
-    ensures { option_map (λ f. record { kind = f.kind; place = f.index + 1 }) result ≡ or_next (refusal 12 (first_place (is_out_of_range_lem table.now) mentions.now)) (refusal 13 (first_place is_too_long_lem mentions.now)) }
+    ensures { result ≡ or_next (refusal 12 (first_place (is_out_of_range_lem table.now) mentions.now)) (refusal 13 (first_place is_too_long_lem mentions.now)) }
 {
     match of_kind(12, find_outside(table, mentions)) {
         Some(found) => Some(found),
@@ -238,7 +249,7 @@ fn size_fault(table: &Table, mentions: &[Mention]) -> Option<Fault>
 }
 
 fn literal_fault(table: &Table, mentions: &[Mention]) -> Option<Fault>
-    ensures { option_map (λ f. record { kind = f.kind; place = f.index + 1 }) result ≡ literal_refusal table.now mentions.now }
+    ensures { result ≡ literal_refusal table.now mentions.now }
 {
     match kind_fault(table, mentions) {
         Some(found) => Some(found),
@@ -248,7 +259,7 @@ fn literal_fault(table: &Table, mentions: &[Mention]) -> Option<Fault>
 
 fn key_fault(table: &Table, statement: &Statement, written: &[Mention]) -> Option<Fault>
     requires { written.now ≡ written_lem statement.now }
-    ensures { option_map (λ f. record { kind = f.kind; place = f.index + 1 }) result ≡ key_refusal table.now statement.now }
+    ensures { result ≡ key_refusal table.now statement.now }
 {
     match statement {
         Statement::Update(_) => of_kind(9, find_key(table, written)),
@@ -258,14 +269,14 @@ fn key_fault(table: &Table, statement: &Statement, written: &[Mention]) -> Optio
 
 // The first column of the key that an insert lacks.
 fn insert_fault(keys: &[Name], insert: &Insert) -> Option<Fault>
-    ensures { option_map (λ f. record { kind = f.kind; place = f.index + 1 }) result ≡ refusal 14 (first_place (λ key. not (list_any (λ n. same_name n key) insert.now.columns)) keys.now) }
+    ensures { result ≡ refusal 14 (first_place (λ key. not (list_any (λ n. same_name n key) insert.now.columns)) keys.now) }
 {
     of_kind(14, find_unlisted(keys, insert.columns.as_slice()))
 }
 
 fn missing_fault(table: &Table, keys: &[Name], statement: &Statement) -> Option<Fault>
     requires { keys.now ≡ key_names_lem table.now }
-    ensures { option_map (λ f. record { kind = f.kind; place = f.index + 1 }) result ≡ missing_refusal table.now statement.now }
+    ensures { result ≡ missing_refusal table.now statement.now }
 {
     match statement {
         Statement::Insert(s) => insert_fault(keys, s),
@@ -284,7 +295,7 @@ fn first_fault(
     requires keys { keys.now ≡ key_names_lem table.now }
     requires written { written.now ≡ written_lem statement.now }
     requires mentions { mentions.now ≡ mentions_lem statement.now }
-    ensures { option_map (λ f. record { kind = f.kind; place = f.index + 1 }) result ≡ refusal_on table.now statement.now }
+    ensures { result ≡ refusal_on table.now statement.now }
 {
     if let Some(found) = column_fault(table, written, mentions) {
         return Some(found);
