@@ -1,5 +1,5 @@
 -- Two names with one byte between them.
-use Rattle.std.proofs.Common.{◌≡◌, ℕ, ◌+◌, List, ◌∷◌, ◌++◌, length, Bool, true, false, ◌&&◌, ◌==◌, cond, refl, sym, ap, ◌∙◌, Option, Some, None}
+use Rattle.std.proofs.Common.{◌≡◌, ℕ, List, ◌∷◌, ◌++◌, length, Bool, true, false, ◌&&◌, ◌==◌, cond, refl, sym, ap, ◌∙◌, Option, Some, None}
 use Rattle.std.specs.Prelude.{nat_lt}
 use Rattle.std.specs.List.{before_first, after_first, position_or_len}
 use Rattle.sdb_types.proofs.Bools.{and_both}

@@ -5,6 +5,7 @@ use Rattle.sdb_words.specs.declared.command.Command.{Command}
 use Rattle.sdb_words.specs.declared.command.Command.TheVariants as command
 use Rattle.sdb_words.specs.declared.command.Mode.{Mode}
 use Rattle.sdb_words.specs.declared.command.Mode.TheVariants as mode
+use Rattle.sdb_words.specs.declared.names.TableWord.{TableWord}
 use Rattle.sdb_words.specs.Names.{IsTable, table_text}
 use Rattle.sdb_words.specs.Places.{are_places}
 
@@ -33,6 +34,10 @@ AreWordsOf (command.Schema places) words = (words ≡ codes "schema" ∷ map str
 AreWordsOf command.Sql words = words ≡ codes "sql" ∷ []
 AreWordsOf (command.Load table mode n) words = (words ≡ codes "load" ∷ table_text table ∷ mode_text mode ∷ decimal n ∷ []) × IsTable table × IsWithin most_rows n
 AreWordsOf (command.Export table) words = (words ≡ codes "export" ∷ table_text table ∷ []) × IsTable table
+
+-- These are the words of no `load`.
+abbrev pub AreOfNoLoad : List (List ℕ) → Type 0
+AreOfNoLoad words = (table : TableWord) (mode : Mode) (n : ℕ) → AreWordsOf (command.Load table mode n) words → ⊥
 
 -- this word is alone
 abbrev pub is_alone : List ℕ → List (List ℕ) → Bool

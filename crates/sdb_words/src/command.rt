@@ -4,7 +4,7 @@ ghost use Rattle.sdb_words.specs.declared.command.Command.{Command};
 ghost use Rattle.sdb_words.specs.declared.command.Command.TheVariants as command;
 ghost use Rattle.sdb_words.specs.declared.command.Mode.{Mode};
 ghost use Rattle.sdb_words.specs.declared.names.TableWord.{TableWord};
-ghost use Rattle.sdb_words.specs.Commands.{AreWordsOf, is_alone as is_alone_lem, mode_text};
+ghost use Rattle.sdb_words.specs.Commands.{AreWordsOf, AreOfNoLoad, is_alone as is_alone_lem, mode_text};
 ghost use Rattle.sdb_words.specs.Places.{are_places};
 
 use crate::names::{TableWord, table_in};
@@ -97,7 +97,7 @@ fn schema_in(words: &[String]) -> Option<&[String]>
 
 // The table, the mode and the number of rows in the words of `load`.
 fn load_in(words: &[String]) -> Option<(TableWord<'_>, Mode, u32)>
-    ensures { MatchOption result ((table : TableWord) (mode : Mode) (n : ℕ) → AreWordsOf (command.Load table mode n) (map string_bytes words.now) → ⊥) (λ load. AreWordsOf (command.Load load.0 load.1 load.2) (map string_bytes words.now)) }
+    ensures { MatchOption result (AreOfNoLoad (map string_bytes words.now)) (λ load. AreWordsOf (command.Load load.0 load.1 load.2) (map string_bytes words.now)) }
 {
     match words_after("load", words)? {
         [table, mode, number] => Some((
