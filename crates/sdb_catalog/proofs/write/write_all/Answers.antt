@@ -27,3 +27,25 @@ loop-table-preserved g c =
 pub returns-in_err-put_line-clause-goes : goal.returns-in_err-put_line-clause-goes
 returns-in_err-put_line-clause-goes g c =
     goes_more (g.R.Registry.state c.args.stores.now) (g.R.Registry.state c.loop-table.stores) (g.R.Registry.state c.write_table.new.stores) c.loop-table.invariant.goes c.in_ok-outcome.ensures.goes
+
+pub returns-in_err-put_line-clause-places : goal.returns-in_err-put_line-clause-places
+returns-in_err-put_line-clause-places g c = c.in_ok-outcome.ensures.places ∙ c.loop-table.invariant.bare
+
+pub returns-in_err-outcome-clause-places : goal.returns-in_err-outcome-clause-places
+returns-in_err-outcome-clause-places g c = c.in_err-outcome.ensures.places ∙ c.loop-table.invariant.bare
+
+pub returns-in_err-outcome-clause-goes : goal.returns-in_err-outcome-clause-goes
+returns-in_err-outcome-clause-goes g c =
+    goes_more (g.R.Registry.state c.args.stores.now) (g.R.Registry.state c.loop-table.stores) (g.R.Registry.state c.write_table.new.stores) c.loop-table.invariant.goes c.in_err-outcome.ensures.goes
+
+pub returns-in_err-entry-clause-places : goal.returns-in_err-entry-clause-places
+returns-in_err-entry-clause-places g c = c.loop-table.invariant.bare
+
+pub returns-in_err-entry-clause-goes : goal.returns-in_err-entry-clause-goes
+returns-in_err-entry-clause-goes g c = c.loop-table.invariant.goes
+
+pub returns-clause-places : goal.returns-clause-places
+returns-clause-places g c = c.loop-table.invariant.bare
+
+pub returns-clause-goes : goal.returns-clause-goes
+returns-clause-goes g c = c.loop-table.invariant.goes
