@@ -1,9 +1,10 @@
 use Rattle.std.proofs.Common.{◌∙◌, ◌+◌, List, ap, take}
 use Rattle.std.specs.Prelude.{string_bytes}
+use Rattle.sdb_schema.specs.Table.{rises}
 use Rattle.sdb_catalog.specs.declared.entry.Entry.{Entry}
 use Rattle.sdb_catalog.specs.Written.{entry_for}
 use Rattle.sdb_catalog.proofs.Calling.{goes_more}
-use Rattle.sdb_catalog.proofs.Writes.{item_more, written_one}
+use Rattle.sdb_catalog.proofs.Writes.{item_more, rises_at, written_one}
 use Rattle.sdb_catalog.proofs.write.write_all.Goals as goal
 
 pub loop-table-preserved : goal.loop-table-preserved
@@ -49,3 +50,8 @@ returns-clause-places g c = c.loop-table.invariant.bare
 
 pub returns-clause-goes : goal.returns-clause-goes
 returns-clause-goes g c = c.loop-table.invariant.goes
+
+pub write_table-requires-clause-columns : goal.write_table-requires-clause-columns
+write_table-requires-clause-columns g c =
+    ap (λ (e : Entry). rises e.table.columns) c.in_ok-entry.ensures
+    ∙ rises_at c.args.tables.now c.loop-table.table-index c.table-item.result c.requires.columns c.loop-table-test.true c.table-item.is
