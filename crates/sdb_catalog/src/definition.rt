@@ -1,12 +1,12 @@
 //! Tables as JSON.
-ghost use Rattle.std.specs.Prelude.{◌≡◌, ◌++◌, ◌∷◌, true, IfOk, codes, string_bytes};
-ghost use Rattle.serde_json.specs.Data.{member, no_members, object, string};
+ghost use Rattle.std.specs.Prelude.{◌≡◌, ◌++◌, ◌∷◌, true, IfOk, OnOk, codes, string_bytes};
+ghost use Rattle.serde_json.specs.Data.{member, no_members, object, string, put as with_member};
 ghost use Rattle.serde_json.specs.View.{view, members_view};
 ghost use Rattle.sdb_schema.specs.Table.{rises};
 ghost use Rattle.sdb_catalog.specs.Definition.{columns_data, definition_of, definition_text as definition_text_lem, direction_text as direction_text_lem, kind_text as kind_text_lem, names_data, order_text as order_text_lem, orders_data};
 
-use sdb_schema::{Column, Direction, Kind, Order, Table};
-use sdb_types::{Name, NoMemory, Txt};
+use sdb_schema::{Column, Direction, Kind, Order, Orders, Table};
+use sdb_types::{Name, Names, NoMemory, Txt};
 use serde_json::{Map, Value, put};
 use std::alloc::Global;
 
@@ -82,17 +82,40 @@ fn columns_map(alloc: Global, columns: &[Column]) -> Result<Map<String, Value>, 
     Ok(map)
 }
 
+fn put_names(
+    alloc: Global,
+    map: &mut Map<String, Value>,
+    key: &str,
+    names: &Names,
+) -> Result<(), NoMemory>
+    ensures { OnOk result (members_view map.new.entries ≡ with_member key.now (names_data names.now) (members_view map.old.entries)) }
+{
+    let value = names_value(alloc, names.as_slice())?;
+    put(map, alloc, key, value)?;
+    Ok(())
+}
+
+fn put_orders(
+    alloc: Global,
+    map: &mut Map<String, Value>,
+    key: &str,
+    orders: &Orders,
+) -> Result<(), NoMemory>
+    ensures { OnOk result (members_view map.new.entries ≡ with_member key.now (orders_data orders.now) (members_view map.old.entries)) }
+{
+    let value = orders_value(alloc, orders.as_slice())?;
+    put(map, alloc, key, value)?;
+    Ok(())
+}
+
 // The members of a table's value, but for its columns.
 fn keys_map(alloc: Global, table: &Table) -> Result<Map<String, Value>, NoMemory>
     ensures { IfOk result (λ map. members_view map.entries ≡ member (codes "clustering-key") (orders_data table.now.clustering) (member (codes "partition-key") (names_data table.now.partition) (member (codes "secondary-index") (names_data table.now.indexed) no_members))) }
 {
     let mut map = Map::new(alloc);
-    let clustering = orders_value(alloc, table.clustering.as_slice())?;
-    put(&mut map, alloc, "clustering-key", clustering)?;
-    let partition = names_value(alloc, table.partition.as_slice())?;
-    put(&mut map, alloc, "partition-key", partition)?;
-    let indexed = names_value(alloc, table.indexed.as_slice())?;
-    put(&mut map, alloc, "secondary-index", indexed)?;
+    put_orders(alloc, &mut map, "clustering-key", &table.clustering)?;
+    put_names(alloc, &mut map, "partition-key", &table.partition)?;
+    put_names(alloc, &mut map, "secondary-index", &table.indexed)?;
     Ok(map)
 }
 

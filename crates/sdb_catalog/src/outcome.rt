@@ -1,7 +1,7 @@
 //! What comes of a table that is to be written.
 
 /// What came of a table's row.
-#[derive(Clone, Copy, Debug, PartialEq, Eq)]
+#[derive(Clone, Copy)]
 pub enum Outcome {
     /// It was put.
     Created,

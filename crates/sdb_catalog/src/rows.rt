@@ -1,8 +1,10 @@
 //! The rows of the catalog, as they are made.
-ghost use Rattle.std.specs.Prelude.{◌≡◌, ◌∷◌, [], true, IfOk, string_bytes};
+ghost use Rattle.std.specs.Prelude.{◌≡◌, ◌∷◌, [], true, IfOk, OnOk, string_bytes};
+ghost use Rattle.sdb_types.specs.declared.value.Value.TheVariants as value;
+ghost use Rattle.sdb_types.specs.Columns.{with_column};
 ghost use Rattle.sdb_types.specs.Order.{table_text as table_text_lem};
 ghost use Rattle.sdb_schema.specs.Table.{rises};
-ghost use Rattle.sdb_catalog.specs.Rows.{coordinators as coordinators_lem, metadata_columns_of, metadata_key_of, metadata_table as metadata_table_lem, row_of as row_of_lem};
+ghost use Rattle.sdb_catalog.specs.Rows.{coordinators as coordinators_lem, definition_column, metadata_columns_of, metadata_key_of, metadata_table as metadata_table_lem, row_of as row_of_lem, store_column};
 
 use crate::definition::definition_text;
 use crate::entry::Entry;
@@ -49,6 +51,20 @@ fn metadata_key(alloc: Global, table: &TableName) -> Result<Key, NoMemory>
     })
 }
 
+// Sets what a table's row says of the table and of its store.
+fn set_texts(
+    alloc: Global,
+    columns: &mut Columns,
+    definition: Txt,
+    store: &Name,
+) -> Result<(), NoMemory>
+    ensures { OnOk result (columns.new ≡ with_column (record { name = store_column; value = value.Text store.now }) (with_column (record { name = definition_column; value = value.Text definition }) columns.old)) }
+{
+    columns.set(known_name(alloc, "definition")?, Value::Text(definition))?;
+    let store = Value::Text(Txt::new(alloc, store.as_str())?);
+    columns.set(known_name(alloc, "store")?, store)
+}
+
 // The columns of a table's row.
 fn metadata_columns(
     alloc: Global,
@@ -59,9 +75,7 @@ fn metadata_columns(
     ensures { IfOk result (λ columns. columns ≡ metadata_columns_of definition store.now revision) }
 {
     let mut columns = Columns::new(alloc);
-    columns.set(known_name(alloc, "definition")?, Value::Text(definition))?;
-    let store = Value::Text(Txt::new(alloc, store.as_str())?);
-    columns.set(known_name(alloc, "store")?, store)?;
+    set_texts(alloc, &mut columns, definition, store)?;
     let revision = Value::Text(revision.text(alloc)?);
     columns.set(Name::known(Known::TxId), revision)?;
     columns.set(Name::known(Known::TxState), Value::Int(3))?;

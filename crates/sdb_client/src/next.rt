@@ -1,7 +1,7 @@
 //! What a call of a client leads to.
 use sdb_model::Answer;
 
-#[derive(Debug, Drop)]
+#[derive(Drop)]
 pub enum Next {
     /// Another call.
     Call,

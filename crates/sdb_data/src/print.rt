@@ -2,16 +2,17 @@
 ghost use Rattle.std.specs.Prelude.{◌≡◌, ◌++◌, ◌∷◌, [], IfOk, OnOk, map};
 ghost use Rattle.std.specs.List.{flat_map};
 ghost use Rattle.std.specs.Fmt.{signed_decimal};
+ghost use Rattle.std.specs.Io.KnownBytes.{Appends};
 ghost use Rattle.hex.specs.Hex.{encode_upper};
 ghost use Rattle.csv.specs.Records.{fields_of, partial_of};
 ghost use Rattle.csv.specs.Writing.{row_text};
 ghost use Rattle.sdb_schema.specs.Table as schema;
 ghost use Rattle.sdb_data.specs.Fields.{field_of, escaped};
 ghost use Rattle.sdb_data.specs.Printed.{fields_of_row, printed};
-ghost use Rattle.sdb_data.specs.Lenient.{lenient};
+ghost use Rattle.sdb_data.specs.Lenient.{AreWhole, lenient, written};
 
 use crate::field::begins_backslash;
-use csv::{ByteRecord, WriterBuilder};
+use csv::{ByteRecord, Writer, WriterBuilder};
 use itoa::Buffer;
 use sdb_schema::{Column, Table};
 use sdb_types::{NoMemory, Octets, Seq, Value, Values};
@@ -103,6 +104,27 @@ fn header_of(alloc: Global, columns: &[Column]) -> Result<ByteRecord, NoMemory>
     Ok(fields)
 }
 
+// Writes a record after those that a writer has.
+fn write_record(wtr: &mut Writer<Vec<u8>>, fields: &ByteRecord) -> Result<(), NoMemory>
+    requires { AreWhole wtr.old }
+    ensures text { OnOk result (Appends (written wtr.old) (written wtr.new) (row_text lenient (fields_of fields.now))) }
+    ensures whole { OnOk result (AreWhole wtr.new) }
+{
+    match wtr.write_byte_record(fields) {
+        Ok(()) => Ok(()),
+        Err(_) => Err(NoMemory),
+    }
+}
+
+fn write_row(alloc: Global, wtr: &mut Writer<Vec<u8>>, row: &[Value]) -> Result<(), NoMemory>
+    requires { AreWhole wtr.old }
+    ensures text { OnOk result (Appends (written wtr.old) (written wtr.new) (row_text lenient (fields_of_row row.now))) }
+    ensures whole { OnOk result (AreWhole wtr.new) }
+{
+    let fields = record_of(alloc, row)?;
+    write_record(wtr, &fields)
+}
+
 // The text of a header and of each row.
 fn text_of(alloc: Global, header: &ByteRecord, rows: &[Values]) -> Result<Vec<u8>, NoMemory>
     ensures { IfOk result (λ v. v.items ≡ row_text lenient (fields_of header.now) ++ flat_map (λ row. row_text lenient (fields_of_row row)) rows.now) }
@@ -110,14 +132,9 @@ fn text_of(alloc: Global, header: &ByteRecord, rows: &[Values]) -> Result<Vec<u8
     let mut wtr = WriterBuilder::new()
         .flexible(true)
         .from_writer(Vec::new(alloc));
-    if wtr.write_byte_record(header).is_err() {
-        return Err(NoMemory);
-    }
+    write_record(&mut wtr, header)?;
     for row in rows {
-        let fields = record_of(alloc, row.as_slice())?;
-        if wtr.write_byte_record(&fields).is_err() {
-            return Err(NoMemory);
-        }
+        write_row(alloc, &mut wtr, row.as_slice())?;
     }
     match wtr.into_inner() {
         Ok(text) => Ok(text),

@@ -21,15 +21,11 @@ fn quoted_at(alloc: Global, bytes: &[u8]) -> Result<(Vec<u8>, &[u8]), Unread>
     let mut rest = bytes;
     let mut second = false;
     while let [b, more @ ..] = rest {
-        if second {
-            if *b != b'\'' {
-                return Ok((text, rest));
-            }
-            text.push(*b)?;
-            second = false;
-        } else if *b == b'\'' {
-            second = true;
-        } else {
+        if second && *b != b'\'' {
+            return Ok((text, rest));
+        }
+        second = !second && *b == b'\'';
+        if !second {
             text.push(*b)?;
         }
         rest = more;

@@ -8,6 +8,7 @@ ghost use Rattle.sdb_snapshot.specs.Opened.{with_laid, with_laids, with_new, wit
 ghost use Rattle.sdb_snapshot.specs.declared.drafts.WriteRefused.TheVariants as refused;
 
 use crate::notes::Notes;
+use crate::prefix::cut;
 use sdb_keyed::KeyMap;
 use sdb_record::{Changes, Keyed, Write, Writes};
 use sdb_types::{Duplicate, Key, NoMemory};
@@ -62,11 +63,9 @@ impl Model for Drafts {
 fn write_with_base(notes: &Notes, keyed: &Keyed) -> Result<Write, NoMemory>
     ensures { IfOk result (λ write. write ≡ write_of notes.now keyed.now) }
 {
-    Ok(Write {
-        key: keyed.key.copy()?,
-        base: notes.base(&keyed.key)?,
-        change: keyed.change.copy()?,
-    })
+    let base = notes.base(&keyed.key)?;
+    let (key, change) = keyed.copy()?.into_parts();
+    Ok(Write { key, base, change })
 }
 
 // Puts a change in the place of what was written at its key.
@@ -166,9 +165,7 @@ impl Drafts {
     fn cut(&mut self, len: usize)
         ensures { self.new ≡ take len self.old }
     {
-        let mut writes = mem::replace(&mut self.writes, Writes::new(self.alloc)).into_vec();
-        writes.truncate(len);
-        self.writes = Writes::from_vec(writes);
+        cut(self.alloc, &mut self.writes, len);
         self.places.truncate(len);
     }
 

@@ -7,7 +7,7 @@ use sdb_model::Refusal;
 use sdb_types::NoMemory;
 use thiserror::Error;
 
-#[derive(Clone, Copy, Debug, PartialEq, Eq)]
+#[derive(Clone, Copy)]
 pub enum StepError {
     NoMemory,
     /// No statement goes on with the token at this offset, or with none at the text's end.

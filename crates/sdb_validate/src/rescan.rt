@@ -11,14 +11,14 @@ use sdb_types::{Record, State, TxId};
 use std::cmp::Ordering;
 
 /// Where the first difference is: at a wanted key without a row, or at a row.
-#[derive(Clone, Copy, Debug, PartialEq, Eq)]
+#[derive(Clone, Copy)]
 pub enum Place {
     Missing(usize),
     Row(usize),
 }
 
 /// What is wanted at a key, against the next row.
-#[derive(Clone, Copy, Debug, PartialEq, Eq)]
+#[derive(Clone, Copy)]
 pub enum Verdict {
     /// There is no such row, and none is wanted.
     Absent,

@@ -1,5 +1,6 @@
 use Rattle.std.proofs.Common.{◌∙◌, refl}
 use Rattle.std.specs.Prelude.{string_bytes}
+use Rattle.sdb_catalog.proofs.Calling.{goes_more}
 use Rattle.sdb_catalog.proofs.ReadBack.{kept}
 use Rattle.sdb_catalog.proofs.Writes.{stored}
 use Rattle.sdb_catalog.proofs.write.store_catalog.Goals as goal
@@ -20,3 +21,30 @@ returns-clause-kept g c =
     kept c.args.places.now c.args.catalog.now (string_bytes c.in_ok-text.text) old new c.in_ok-tables.ensures.catalog (c.in_ok-text.ensures.goes.names ∙ c.in_ok-known.ensures.goes.names)
     (stored c.args.places.now c.args.catalog.now c.as_slice.result.now c.in_ok-first.first (string_bytes c.in_ok-text.text) (string_bytes c.in_ok-text.text) c.in_ok-known.known old mid new
     c.in_ok-known.ensures.read c.in_ok-first.ensures c.in_ok-known.ensures.goes.telling c.in_ok-text.ensures.written (c.as_slice.ensures ∙ c.in_ok-tables.ensures.tables) refl)
+
+pub returns-in_err-known-clause-places : goal.returns-in_err-known-clause-places
+returns-in_err-known-clause-places g c = c.in_err-known.ensures.places
+
+pub returns-in_err-known-clause-goes : goal.returns-in_err-known-clause-goes
+returns-in_err-known-clause-goes g c = c.in_err-known.ensures.goes
+
+pub returns-in_err-text-clause-places : goal.returns-in_err-text-clause-places
+returns-in_err-text-clause-places g c = c.in_err-text.ensures.places ∙ c.in_ok-known.ensures.places
+
+pub returns-in_err-text-clause-goes : goal.returns-in_err-text-clause-goes
+returns-in_err-text-clause-goes g c =
+    goes_more (g.R.Registry.state c.args.stores.now) (g.R.Registry.state c.read_entries.new.stores) (g.R.Registry.state c.write_all.new.stores) c.in_ok-known.ensures.goes c.in_err-text.ensures.goes
+
+pub returns-in_err-new-clause-places : goal.returns-in_err-new-clause-places
+returns-in_err-new-clause-places g c = c.in_ok-text.ensures.places ∙ c.in_ok-known.ensures.places
+
+pub returns-in_err-new-clause-goes : goal.returns-in_err-new-clause-goes
+returns-in_err-new-clause-goes g c =
+    goes_more (g.R.Registry.state c.args.stores.now) (g.R.Registry.state c.read_entries.new.stores) (g.R.Registry.state c.write_all.new.stores) c.in_ok-known.ensures.goes c.in_ok-text.ensures.goes
+
+pub returns-clause-places : goal.returns-clause-places
+returns-clause-places g c = c.in_ok-text.ensures.places ∙ c.in_ok-known.ensures.places
+
+pub returns-clause-goes : goal.returns-clause-goes
+returns-clause-goes g c =
+    goes_more (g.R.Registry.state c.args.stores.now) (g.R.Registry.state c.read_entries.new.stores) (g.R.Registry.state c.write_all.new.stores) c.in_ok-known.ensures.goes c.in_ok-text.ensures.goes

@@ -1,9 +1,10 @@
 use Rattle.std.proofs.Common.{◌∙◌, ◌+◌, List, ap, take}
 use Rattle.std.specs.Prelude.{string_bytes}
+use Rattle.sdb_schema.specs.Table.{rises}
 use Rattle.sdb_catalog.specs.declared.entry.Entry.{Entry}
 use Rattle.sdb_catalog.specs.Written.{entry_for}
 use Rattle.sdb_catalog.proofs.Calling.{goes_more}
-use Rattle.sdb_catalog.proofs.Writes.{item_more, written_one}
+use Rattle.sdb_catalog.proofs.Writes.{item_more, rises_at, written_one}
 use Rattle.sdb_catalog.proofs.write.write_all.Goals as goal
 
 pub loop-table-preserved : goal.loop-table-preserved
@@ -27,3 +28,30 @@ loop-table-preserved g c =
 pub returns-in_err-put_line-clause-goes : goal.returns-in_err-put_line-clause-goes
 returns-in_err-put_line-clause-goes g c =
     goes_more (g.R.Registry.state c.args.stores.now) (g.R.Registry.state c.loop-table.stores) (g.R.Registry.state c.write_table.new.stores) c.loop-table.invariant.goes c.in_ok-outcome.ensures.goes
+
+pub returns-in_err-put_line-clause-places : goal.returns-in_err-put_line-clause-places
+returns-in_err-put_line-clause-places g c = c.in_ok-outcome.ensures.places ∙ c.loop-table.invariant.bare
+
+pub returns-in_err-outcome-clause-places : goal.returns-in_err-outcome-clause-places
+returns-in_err-outcome-clause-places g c = c.in_err-outcome.ensures.places ∙ c.loop-table.invariant.bare
+
+pub returns-in_err-outcome-clause-goes : goal.returns-in_err-outcome-clause-goes
+returns-in_err-outcome-clause-goes g c =
+    goes_more (g.R.Registry.state c.args.stores.now) (g.R.Registry.state c.loop-table.stores) (g.R.Registry.state c.write_table.new.stores) c.loop-table.invariant.goes c.in_err-outcome.ensures.goes
+
+pub returns-in_err-entry-clause-places : goal.returns-in_err-entry-clause-places
+returns-in_err-entry-clause-places g c = c.loop-table.invariant.bare
+
+pub returns-in_err-entry-clause-goes : goal.returns-in_err-entry-clause-goes
+returns-in_err-entry-clause-goes g c = c.loop-table.invariant.goes
+
+pub returns-clause-places : goal.returns-clause-places
+returns-clause-places g c = c.loop-table.invariant.bare
+
+pub returns-clause-goes : goal.returns-clause-goes
+returns-clause-goes g c = c.loop-table.invariant.goes
+
+pub write_table-requires-clause-columns : goal.write_table-requires-clause-columns
+write_table-requires-clause-columns g c =
+    ap (λ (e : Entry). rises e.table.columns) c.in_ok-entry.ensures
+    ∙ rises_at c.args.tables.now c.loop-table.table-index c.table-item.result c.requires.columns c.loop-table-test.true c.table-item.is

@@ -1,4 +1,4 @@
-use Rattle.std.proofs.Common.{◌≡◌, List, take, subst, sym, rules}
+use Rattle.std.proofs.Common.{◌≡◌, List, take, subst, sym}
 use Rattle.sdb_types.specs.declared.key.Key.{Key}
 use Rattle.sdb_record.specs.declared.write.Write.{Write}
 use Rattle.sdb_snapshot.specs.Held.{ArePlaces}
@@ -7,7 +7,7 @@ use Rattle.sdb_snapshot.proofs.drafts.Drafts.cut.Goals as goal
 
 pub invariant_of-self : goal.invariant_of-self
 invariant_of-self c =
-    let ws : c.from_vec.result ≡ take c.args.len c.self.inside.writes = search rules in
-    let ps : c.truncate-2.new.self ≡ take c.args.len c.self.inside.places = c.truncate-2.ensures in
-    subst (λ (x : List Write). ArePlaces c.truncate-2.new.self x) (sym ws)
+    let ws : c.cut.new.items ≡ take c.args.len c.self.inside.writes = c.cut.ensures in
+    let ps : c.truncate.new.self ≡ take c.args.len c.self.inside.places = c.truncate.ensures in
+    subst (λ (x : List Write). ArePlaces c.truncate.new.self x) (sym ws)
     (subst (λ (y : List (Key × Unit {0})). ArePlaces y (take c.args.len c.self.inside.writes)) (sym ps) (placed_first c.self.inside.places c.self.inside.writes c.args.len c.self.invariant))
