@@ -137,9 +137,13 @@ fn told(alloc: Global, text: &[u8], stores: &Names) -> Result<String, AllocError
     }
 }
 
+fn is_printed(alloc: Global, script: &Script, wanted: &str) -> Result<bool, Fail> {
+    Ok(print_script(alloc, script)?.as_str() == wanted)
+}
+
 fn printed(alloc: Global, text: &[u8], stores: &Names, wanted: &str) -> Result<bool, Fail> {
     match read_script(alloc, text, stores) {
-        Ok(script) => Ok(print_script(alloc, &script)?.as_str() == wanted),
+        Ok(script) => is_printed(alloc, &script, wanted),
         Err(_) => Ok(false),
     }
 }

@@ -5,7 +5,7 @@ use std::test::Fail;
 use test_builders::{Case, all_cases};
 
 /// What words ask for, the table by its two names and the namespaces by their number.
-#[derive(Clone, Copy, PartialEq, Eq)]
+#[derive(Clone, Copy)]
 enum Asked {
     Usage,
     Replay,
