@@ -49,18 +49,28 @@ fn store_placed(
     store_catalog(alloc, stores, catalog, placed)
 }
 
+fn store_at(
+    alloc: Global,
+    stores: &mut Stores,
+    catalog: &Catalog,
+    places: Places,
+) -> Result<Txt, CatalogRefused> {
+    match all_placed(alloc, places) {
+        Some(placed) => store_placed(alloc, stores, catalog, placed.as_slice()),
+        None => Err(CatalogRefused::NoMemory),
+    }
+}
+
 fn written(
     alloc: Global,
     stores: &mut Stores,
     json: &str,
     places: Places,
 ) -> Result<Txt, CatalogRefused> {
-    if let Ok(catalog) = catalog_of(alloc, json.as_bytes())
-        && let Some(placed) = all_placed(alloc, places)
-    {
-        return store_placed(alloc, stores, &catalog, placed.as_slice());
+    match catalog_of(alloc, json.as_bytes()) {
+        Ok(catalog) => store_at(alloc, stores, &catalog, places),
+        Err(_) => Err(CatalogRefused::NoMemory),
     }
-    Err(CatalogRefused::NoMemory)
 }
 
 fn is_written(alloc: Global, stores: &mut Stores, json: &str, places: Places) -> bool {
@@ -292,10 +302,10 @@ fn is_full(alloc: Global, stores: &mut Stores, rows: &str, key: &str) -> bool {
 }
 
 fn is_store_fault(alloc: Global, stores: &mut Stores) -> bool {
-    match written(alloc, stores, BOTH, &[]) {
-        Err(CatalogRefused::StoreFault) => true,
-        _ => false,
-    }
+    matches!(
+        written(alloc, stores, BOTH, &[]),
+        Err(CatalogRefused::StoreFault)
+    )
 }
 
 fn answered(alloc: Global, stores: &mut Stores, asked: Ask) -> bool {
