@@ -2,7 +2,7 @@
 ghost use Rattle.std.specs.Prelude.{◌≡◌};
 ghost use Rattle.std.specs.FinMap as map;
 
-use crate::run::{Call, ends, ends_by};
+use crate::run::{Call, On, ends};
 use sdb_hashed::Hashed;
 use sdb_ordered::Ordered;
 use sdb_store::{Fails, Store};
@@ -71,8 +71,8 @@ fn attach(
     Ok(stores.attach(name, store).is_ok())
 }
 
-/// Attaches the store `ordered`, of which these calls fail.
-pub fn attach_ordered(alloc: Global, stores: &mut Stores, failing: Fails) -> Result<bool, Fail> {
+// The store `ordered`, of which these calls fail.
+fn attach_ordered(alloc: Global, stores: &mut Stores, failing: Fails) -> Result<bool, Fail> {
     attach(
         alloc,
         stores,
@@ -102,45 +102,20 @@ fn fails_at(alloc: Global, call: u64, after: bool) -> Result<Fails, Fail> {
     Ok(failing)
 }
 
-/// Whether a call of the program ends as listed on two stores in memory.
-pub fn on_memory(alloc: Global, play: Call<'_>) -> Result<bool, Fail> {
-    let mut stores = Stores::new(alloc);
-    let attached = attach_ordered(alloc, &mut stores, Fails::new(alloc))?
-        && attach_hashed(alloc, &mut stores)?;
-    Ok(attached && ends(alloc, &mut stores, play)?)
+/// Attaches the stores of a call.
+pub fn attach_all(alloc: Global, stores: &mut Stores, on: On) -> Result<bool, Fail> {
+    match on {
+        On::Two => {
+            Ok(attach_ordered(alloc, stores, Fails::new(alloc))? && attach_hashed(alloc, stores)?)
+        }
+        On::One => attach_ordered(alloc, stores, Fails::new(alloc)),
+        On::Failing(call, after) => { attach_ordered(alloc, stores, fails_at(alloc, call, after)?) }
+        On::Short(call) => attach_short(alloc, stores, call),
+    }
 }
 
-/// Whether a call of the program ends as listed, by that line and that code, on a store in memory.
-pub fn on_memory_by(alloc: Global, play: Call<'_>, line: &str, code: u8) -> Result<bool, Fail> {
+/// Whether a call of the program ends as listed.
+pub fn comes_out(alloc: Global, call: Call<'_>) -> Result<bool, Fail> {
     let mut stores = Stores::new(alloc);
-    let attached = attach_ordered(alloc, &mut stores, Fails::new(alloc))?;
-    Ok(attached && ends_by(alloc, &mut stores, play, line, code)?)
-}
-
-/// Whether a call of the program ends as listed, by that line and that code, on a store whose call of this number fails, after its effect or before
-/// it.
-pub fn on_failing(
-    alloc: Global,
-    call: u64,
-    after: bool,
-    play: Call<'_>,
-    line: &str,
-    code: u8,
-) -> Result<bool, Fail> {
-    let mut stores = Stores::new(alloc);
-    let attached = attach_ordered(alloc, &mut stores, fails_at(alloc, call, after)?)?;
-    Ok(attached && ends_by(alloc, &mut stores, play, line, code)?)
-}
-
-/// Whether a call of the program ends as listed, by that line and that code, on a store whose call of this number finds no memory.
-pub fn on_short(
-    alloc: Global,
-    call: u64,
-    play: Call<'_>,
-    line: &str,
-    code: u8,
-) -> Result<bool, Fail> {
-    let mut stores = Stores::new(alloc);
-    let attached = attach_short(alloc, &mut stores, call)?;
-    Ok(attached && ends_by(alloc, &mut stores, play, line, code)?)
+    Ok(attach_all(alloc, &mut stores, call.on)? && ends(alloc, &mut stores, call)?)
 }

@@ -59,22 +59,47 @@ fn end_of(status: &Status) -> End {
     }
 }
 
-/// The words and the script of a call of the program, the reads and the writes that fail, how it ends, and what it writes.
+/// The stores that a call is made on: `ordered` and `hashed` in memory, or `ordered` alone; one of its calls, by its number, may fail,
+/// after its effect or before it, or find no memory.
+#[derive(Clone, Copy)]
+pub enum On {
+    Two,
+    One,
+    Failing(u64, bool),
+    Short(u64),
+}
+
+/// The stores, the words and the script of a call of the program, the reads and the writes that fail, how it ends, by which line and
+/// which code, and what it writes.
 #[derive(Clone, Copy)]
 pub struct Call<'a> {
+    pub on: On,
     pub words: &'static [&'static str],
     pub script: &'a [u8],
     pub reads_fail: &'static [u64],
     pub writes_fail: &'static [u64],
     pub end: End,
+    pub line: &'static str,
+    pub code: u8,
     pub written: &'static [u8],
 }
 
 /// A script, and its report.
 #[derive(Clone, Copy)]
 pub struct Play {
+    pub on: On,
     pub script: &'static [u8],
     pub written: &'static [u8],
+}
+
+/// A script that isn't played to its end: how the call ends, by which line and which code.
+#[derive(Clone, Copy)]
+pub struct Stop<'a> {
+    pub on: On,
+    pub script: &'a [u8],
+    pub end: End,
+    pub line: &'static str,
+    pub code: u8,
 }
 
 /// The word of the command that plays a script.
@@ -83,23 +108,29 @@ pub const REPLAY: &[&str] = &["replay"];
 /// A script that is played to its end has its report.
 pub fn played(play: Play) -> Call<'static> {
     Call {
+        on: play.on,
         words: REPLAY,
         script: play.script,
         reads_fail: &[],
         writes_fail: &[],
         end: End::Done,
+        line: "",
+        code: 0,
         written: play.written,
     }
 }
 
 /// A script that isn't played to its end writes nothing.
-pub fn stopped(script: &[u8], end: End) -> Call<'_> {
+pub fn stopped(stop: Stop<'_>) -> Call<'_> {
     Call {
+        on: stop.on,
         words: REPLAY,
-        script,
+        script: stop.script,
         reads_fail: &[],
         writes_fail: &[],
-        end,
+        end: stop.end,
+        line: stop.line,
+        code: stop.code,
         written: b"",
     }
 }
@@ -123,61 +154,60 @@ fn tray(alloc: Global, failing: &[u64]) -> Result<Tray, NoMemory> {
     Ok(Tray::new(alloc, 10, failing))
 }
 
-// How the program ends on these words and this input.
-fn ran<S: Registry>(
+/// Whether a status has that line and that code.
+pub fn is_line(alloc: Global, status: &Status, line: &str, code: u8) -> bool {
+    match status.line(alloc) {
+        Ok(text) => text.as_str() == line && status.code() == code,
+        Err(_) => false,
+    }
+}
+
+fn is_ended(alloc: Global, status: &Status, call: Call<'_>) -> bool {
+    end_of(status) == call.end && is_line(alloc, status, call.line, call.code)
+}
+
+// Whether the program ends as listed, on these words and this input.
+fn runs<S: Registry>(
     alloc: Global,
     stores: &mut S,
     words: &[String],
     input: &mut Feed,
     output: &mut Tray,
-) -> Status
+    call: Call<'_>,
+) -> bool
     requires { 0 < length (S.state stores.old).shelves }
 {
     let mut clock = Ticks::new(Moments::new(alloc));
     let mut ids = Numbers::new(1);
-    run(alloc, words, stores, input, output, &mut clock, &mut ids)
+    is_ended(
+        alloc,
+        &run(alloc, words, stores, input, output, &mut clock, &mut ids),
+        call,
+    )
 }
 
-// How the program ends on a call, and whether it writes as listed.
-fn status_of<S: Registry>(
+// Whether it ends as listed, and writes as listed.
+fn runs_and_writes<S: Registry>(
     alloc: Global,
     stores: &mut S,
+    words: &[String],
     call: Call<'_>,
-) -> Result<(Status, bool), Fail>
+) -> Result<bool, Fail>
     requires { 0 < length (S.state stores.old).shelves }
 {
-    let words = words_of(alloc, call.words)?;
     let mut input = feed(alloc, call.script, call.reads_fail)?;
     let mut output = tray(alloc, call.writes_fail)?;
-    let status = ran(alloc, stores, words.as_slice(), &mut input, &mut output);
-    Ok((status, output.written().as_slice() == call.written))
+    Ok(
+        runs(alloc, stores, words, &mut input, &mut output, call)
+            && output.written().as_slice() == call.written,
+    )
 }
 
-/// Whether the program ends as listed.
+/// Whether a call of the program ends as listed, on these stores.
 pub fn ends<S: Registry>(alloc: Global, stores: &mut S, call: Call<'_>) -> Result<bool, Fail> {
+    let words = words_of(alloc, call.words)?;
     if stores.len() == 0 {
         return Ok(false);
     }
-    let (status, writes) = status_of(alloc, stores, call)?;
-    Ok(writes && end_of(&status) == call.end)
-}
-
-/// Whether it ends as listed, by that line and that code.
-pub fn ends_by<S: Registry>(
-    alloc: Global,
-    stores: &mut S,
-    call: Call<'_>,
-    line: &str,
-    code: u8,
-) -> Result<bool, Fail> {
-    if stores.len() == 0 {
-        return Ok(false);
-    }
-    let (status, writes) = status_of(alloc, stores, call)?;
-    Ok(writes && end_of(&status) == call.end && is_line(alloc, &status, line, code)?)
-}
-
-/// Whether a status has that line and that code.
-pub fn is_line(alloc: Global, status: &Status, line: &str, code: u8) -> Result<bool, Fail> {
-    Ok(status.code() == code && status.line(alloc)?.as_str() == line)
+    runs_and_writes(alloc, stores, words.as_slice(), call)
 }

@@ -2,17 +2,6 @@
 use std::alloc::Global;
 use std::test::Fail;
 
-/// The place of a case, or of a step, that is answered otherwise.
-#[derive(Debug, Drop)]
-pub struct Wrong {
-    pub place: usize,
-}
-
-/// The failure of the case at that place.
-pub fn wrong_at(place: usize) -> Fail {
-    Fail::from(Wrong { place })
-}
-
 /// A case of a table: what is asked, and how it is answered.
 pub trait Case: Copy {
     /// Whether it is answered so.
@@ -31,18 +20,6 @@ pub fn all_cases<C: Case>(alloc: Global, table: &'static str, cases: &[C]) -> Re
     for (place, case) in cases.iter().enumerate() {
         if !case.holds(alloc)? {
             return Err(Fail::from(Otherwise { table, place }));
-        }
-    }
-    Ok(())
-}
-
-/// Fails at the first case that does not hold.
-pub fn all_hold<C: Copy, F: Fn(C) -> Result<bool, Fail>>(cases: &[C], holds: F) -> Result<(), Fail>
-    requires { F.IsAlwaysCallable holds }
-{
-    for (place, case) in cases.iter().enumerate() {
-        if !holds(*case)? {
-            return Err(wrong_at(place));
         }
     }
     Ok(())

@@ -11,7 +11,7 @@ mod rows;
 mod said;
 
 pub use asked::{Ask, Told, reply_of, request_of};
-pub use cases::{Case, Otherwise, Wrong, all_cases, all_hold, hold, wrong_at};
+pub use cases::{Case, Otherwise, all_cases, hold};
 pub use cells::{Cell, columns_of, names_of, set_column, set_columns, value_of, values_of};
 pub use events::{Happening, event_of, events_of};
 pub use keys::{Place, account, key_of, number_of, span_of, table_of};

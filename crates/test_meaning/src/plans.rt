@@ -10,7 +10,7 @@ use sdb_texts::answer_text;
 use sdb_types::{Columns, Duplicate, Key, Seq, Span};
 use std::alloc::Global;
 use std::test::Fail;
-use test_builders::{Cell, Place, hold, key_of, wrong_at};
+use test_builders::{Cell, Otherwise, Place, hold, key_of};
 
 fn is_in(span: &Span, key: &Key) -> bool {
     match &span.partition {
@@ -267,7 +267,12 @@ fn all_answered(alloc: Global, catalog: &Catalog) -> Result<(), Fail> {
     for (place, case) in STATEMENTS.iter().enumerate() {
         match after(alloc, catalog, *case, rows.as_slice())? {
             Some(left) => rows = left,
-            None => return Err(wrong_at(place)),
+            None => {
+                return Err(Fail::from(Otherwise {
+                    table: "statements",
+                    place,
+                }));
+            }
         }
     }
     Ok(())

@@ -1,5 +1,6 @@
 //! Statements that are refused, one or more for each kind.
 use crate::shop::shop;
+use crate::whole_scripts::put_often;
 use sdb_exec::{Plan, PlanRefused};
 use sdb_model::{Refusal, Statement};
 use sdb_schema::Catalog;
@@ -29,17 +30,10 @@ fn has_fate(alloc: Global, catalog: &Catalog, text: &str, fate: Fate) -> Result<
     Ok(fate_of(alloc, catalog, &statement) == fate)
 }
 
-fn put_often(out: &mut String, mark: char, count: usize) -> Result<(), AllocError> {
-    for _ in 0..count {
-        out.push(mark)?;
-    }
-    Ok(())
-}
-
 // A statement that tests a note against a text of so many bytes.
 fn long_test(alloc: Global, length: usize) -> Result<String, AllocError> {
     let mut text = String::from_str(alloc, "SELECT n FROM shop.item WHERE qty = 1 AND note < '")?;
-    put_often(&mut text, 'x', length)?;
+    put_often(&mut text, "x", length)?;
     text.push('\'')?;
     Ok(text)
 }

@@ -64,7 +64,7 @@ fn asks(alloc: Global, client: &Client, call: &str) -> bool {
 }
 
 // What a statement leads to: an answer with this text, or another one, or a call.
-#[derive(Clone, Copy, PartialEq, Eq)]
+#[derive(Clone, Copy)]
 enum Outcome {
     Told,
     Other,
@@ -119,12 +119,12 @@ fn give(alloc: Global, client: &mut Client, answer: Answer, told: &str) -> Outco
 fn goes(alloc: Global, client: &mut Client, catalog: &Catalog, step: &Step) -> bool {
     let mut outcome = take(alloc, client, catalog, step.0, step.2);
     for (call, reply) in step.1 {
-        if outcome != Outcome::Pending || !asks(alloc, client, call) {
+        if !matches!(outcome, Outcome::Pending) || !asks(alloc, client, call) {
             return false;
         }
         outcome = give(alloc, client, *reply, step.2);
     }
-    outcome == Outcome::Told
+    matches!(outcome, Outcome::Told)
 }
 
 #[derive(Clone, Copy)]

@@ -2,7 +2,7 @@
 ghost use Rattle.std.specs.Prelude.{All};
 ghost use Rattle.sdb_record.specs.Rolls.{IsWrite};
 
-use crate::machine::{Machine, Told, conflict_at, plays_out};
+use crate::machine::{Machine, Told, conflict_at, if_own, plays_out};
 use crate::replies::{ABORTED, Answer, BAD_ROW, COMMITTED, reply_to};
 use crate::writes::two_deletes;
 use sdb_commit::CommitPhases;
@@ -15,18 +15,14 @@ use test_builders::{Case, account, all_cases};
 
 const OWN: TxId = TxId(0x1_0000_0000_0000_0001);
 
-fn if_own(id: TxId, told: Told) -> Told {
-    if id.0 == OWN.0 { told } else { Told::Other }
-}
-
 fn told_by(answer: &Option<Outcome>) -> Told {
     match answer {
         None => Told::More,
         Some(Outcome::Committed) => Told::Committed,
         Some(Outcome::Conflict(key, found)) => conflict_at(key, version_of(found)),
-        Some(Outcome::Expired(id)) => if_own(*id, Told::Expired),
+        Some(Outcome::Expired(id)) => if_own(*id, OWN, Told::Expired),
         Some(Outcome::Faulted) => Told::Faulted,
-        Some(Outcome::Unknown(id)) => if_own(*id, Told::Unknown),
+        Some(Outcome::Unknown(id)) => if_own(*id, OWN, Told::Unknown),
         Some(Outcome::BadRecord(_)) => Told::BadRecord,
         Some(Outcome::NoMemory) => Told::NoMemory,
     }

@@ -1,5 +1,5 @@
 //! The decision on a transaction.
-use crate::machine::{EXPIRED, Machine, Told, if_row_of, told_after};
+use crate::machine::{EXPIRED, Machine, Told, if_own, if_row_of, told_after};
 use crate::replies::{ABORTED, Answer, BAD_ROW, COMMITTED, reply_to};
 use sdb_decide::{Decide, DecideStep};
 use sdb_types::TxId;
@@ -11,17 +11,13 @@ const OWN: TxId = TxId(0x2_0000_0000_0000_0001);
 
 const OWN_TEXT: &str = "00000000-0000-0002-0000-000000000001";
 
-fn if_own(id: TxId, told: Told) -> Told {
-    if id.0 == OWN.0 { told } else { Told::Other }
-}
-
 fn told_by(step: &DecideStep) -> Told {
     match step {
         DecideStep::More => Told::More,
         DecideStep::Committed => Told::Committed,
-        DecideStep::Expired(id) => if_own(*id, Told::Expired),
+        DecideStep::Expired(id) => if_own(*id, OWN, Told::Expired),
         DecideStep::Faulted => Told::Faulted,
-        DecideStep::Unknown(id) => if_own(*id, Told::Unknown),
+        DecideStep::Unknown(id) => if_own(*id, OWN, Told::Unknown),
         DecideStep::BadRecord(key) => if_row_of(key, OWN_TEXT, Told::BadRecord),
         DecideStep::NoMemory => Told::NoMemory,
     }

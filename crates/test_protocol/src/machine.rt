@@ -87,6 +87,11 @@ pub fn conflict_at(key: &Key, version: Option<TxId>) -> Told {
     }
 }
 
+/// What is told of a transaction, where it is this one.
+pub fn if_own(id: TxId, own: TxId, told: Told) -> Told {
+    if id.0 == own.0 { told } else { Told::Other }
+}
+
 /// What is told of the transaction whose id is the key of its row.
 pub fn if_row_of(key: &Key, id: &str, told: Told) -> Told {
     match key.partition.at(0) {

@@ -127,22 +127,19 @@ fn scan_nothing(alloc: Global, seen: &mut Snapshot) -> Result<(), Fail> {
     Ok(seen.note_scan(accounts(alloc)?, Records::new(alloc))?)
 }
 
-fn insert(alloc: Global, seen: &mut Snapshot, id: i32) -> Result<(), Fail> {
+fn write(alloc: Global, seen: &mut Snapshot, id: i32, change: Change) -> Result<(), Fail>
+    requires { is_change change ≡ true }
+{
     let key = account(alloc, id)?;
-    Ok(write_at(alloc, seen, &key, Change::Row(Columns::new(alloc)))?)
-}
-
-fn delete(alloc: Global, seen: &mut Snapshot, id: i32) -> Result<(), Fail> {
-    let key = account(alloc, id)?;
-    Ok(write_at(alloc, seen, &key, Change::Delete)?)
+    Ok(write_at(alloc, seen, &key, change)?)
 }
 
 fn perform(alloc: Global, seen: &mut Snapshot, act: Act) -> Result<(), Fail> {
     match act {
         Act::Scan => scan_nothing(alloc, seen),
         Act::Read(id, cells) => read(alloc, seen, id, cells),
-        Act::Insert(id) => insert(alloc, seen, id),
-        Act::Delete(id) => delete(alloc, seen, id),
+        Act::Insert(id) => write(alloc, seen, id, Change::Row(Columns::new(alloc))),
+        Act::Delete(id) => write(alloc, seen, id, Change::Delete),
     }
 }
 
@@ -266,7 +263,7 @@ fn refuses_one_more(alloc: Global, seen: &mut Snapshot, id: i32) -> Result<bool,
 }
 
 fn writes_again(alloc: Global, seen: &mut Snapshot, id: i32) -> Result<bool, Fail> {
-    insert(alloc, seen, id)?;
+    perform(alloc, seen, Act::Insert(id))?;
     Ok(seen.overlay_key(&account(alloc, id)?)?.len() == 1)
 }
 

@@ -1,5 +1,5 @@
 //! Whole transactions: what they read and write, and their COMMITs.
-use crate::machine::{EXPIRED, Machine, Told, conflict_at};
+use crate::machine::{EXPIRED, Machine, Told, conflict_at, if_own};
 use crate::replies::{Answer, reply_to};
 use crate::seen::{ROW, accounts, one_change};
 use sdb_record::{Change, version_of};
@@ -11,10 +11,6 @@ use test_builders::{Case, account, all_cases};
 
 const OWN: TxId = TxId(0x1_0000_0000_0000_0001);
 
-fn if_own(id: TxId, told: Told) -> Told {
-    if id.0 == OWN.0 { told } else { Told::Other }
-}
-
 fn told_by(progress: &Progress) -> Told {
     match progress {
         Progress::More => Told::More,
@@ -25,8 +21,8 @@ fn told_by(progress: &Progress) -> Told {
         Progress::NoMemory => Told::NoMemory,
         Progress::Conflict(key, found) => conflict_at(key, version_of(found)),
         Progress::Committed => Told::Committed,
-        Progress::Expired(id) => if_own(*id, Told::Expired),
-        Progress::Unknown(id) => if_own(*id, Told::Unknown),
+        Progress::Expired(id) => if_own(*id, OWN, Told::Expired),
+        Progress::Unknown(id) => if_own(*id, OWN, Told::Unknown),
     }
 }
 

@@ -49,18 +49,28 @@ fn store_placed(
     store_catalog(alloc, stores, catalog, placed)
 }
 
+fn store_at(
+    alloc: Global,
+    stores: &mut Stores,
+    catalog: &Catalog,
+    places: Places,
+) -> Result<Txt, CatalogRefused> {
+    match all_placed(alloc, places) {
+        Some(placed) => store_placed(alloc, stores, catalog, placed.as_slice()),
+        None => Err(CatalogRefused::NoMemory),
+    }
+}
+
 fn written(
     alloc: Global,
     stores: &mut Stores,
     json: &str,
     places: Places,
 ) -> Result<Txt, CatalogRefused> {
-    if let Ok(catalog) = catalog_of(alloc, json.as_bytes())
-        && let Some(placed) = all_placed(alloc, places)
-    {
-        return store_placed(alloc, stores, &catalog, placed.as_slice());
+    match catalog_of(alloc, json.as_bytes()) {
+        Ok(catalog) => store_at(alloc, stores, &catalog, places),
+        Err(_) => Err(CatalogRefused::NoMemory),
     }
-    Err(CatalogRefused::NoMemory)
 }
 
 fn is_written(alloc: Global, stores: &mut Stores, json: &str, places: Places) -> bool {
@@ -164,8 +174,6 @@ enum Ask {
     Opened(&'static str, &'static [(&'static str, &'static str, &'static str)]),
     // What is read back is what was written.
     ReadBack,
-    // Rows, and the place of the one that is refused.
-    Bad(&'static str, &'static str),
     // 64 tables are written, and the 65th isn't; its row, put by somebody else, is a bad one.
     Full(&'static str, &'static str),
     // A catalog is not written, and these rows are there.
@@ -294,10 +302,10 @@ fn is_full(alloc: Global, stores: &mut Stores, rows: &str, key: &str) -> bool {
 }
 
 fn is_store_fault(alloc: Global, stores: &mut Stores) -> bool {
-    match written(alloc, stores, BOTH, &[]) {
-        Err(CatalogRefused::StoreFault) => true,
-        _ => false,
-    }
+    matches!(
+        written(alloc, stores, BOTH, &[]),
+        Err(CatalogRefused::StoreFault)
+    )
 }
 
 fn answered(alloc: Global, stores: &mut Stores, asked: Ask) -> bool {
@@ -306,7 +314,6 @@ fn answered(alloc: Global, stores: &mut Stores, asked: Ask) -> bool {
         Ask::ReadBack => {
             is_written(alloc, stores, BOTH, &[("shop", "other")]) && opens_both(alloc, stores)
         }
-        Ask::Bad(rows, key) => is_bad(alloc, stores, rows, key),
         Ask::Full(rows, key) => is_full(alloc, stores, rows, key),
         Ask::Failed(rows) => is_store_fault(alloc, stores) && plays(alloc, stores, rows),
     }
@@ -389,127 +396,87 @@ fn are_opened(alloc: Global) -> Result<(), Fail> {
     all_cases(alloc, "opened", OPENED.as_slice())
 }
 
-static DEFINED: [Check; 17] = [
+// Rows, and the key of the one that is refused.
+#[derive(Clone, Copy)]
+struct BadRow(&'static str, &'static str);
+
+impl Case for BadRow {
+    fn holds(self, alloc: Global) -> Result<bool, Fail> {
+        let mut stores = Stores::new(alloc);
+        Ok(attach_both(alloc, &mut stores, &[]) && is_bad(alloc, &mut stores, self.0, self.1))
+    }
+}
+
+static DEFINED: [BadRow; 17] = [
     // Definitions that are no JSON, none of a table, or no compact text of one.
-    Check(
-        &[],
-        Ask::Bad(
-            "scalardb report 1\nevents 1\n1 call 1 s put scalardb.metadata('bank.account'){definition='{',store='ordered',tx_id='00000000-0000-0000-0000-000000000001',tx_state=3} if absent seen applied -\norder 0\ntables 0\nend\n",
-            "scalardb.metadata('bank.account')",
-        ),
+    BadRow(
+        "scalardb report 1\nevents 1\n1 call 1 s put scalardb.metadata('bank.account'){definition='{',store='ordered',tx_id='00000000-0000-0000-0000-000000000001',tx_state=3} if absent seen applied -\norder 0\ntables 0\nend\n",
+        "scalardb.metadata('bank.account')",
     ),
-    Check(
-        &[],
-        Ask::Bad(
-            "scalardb report 1\nevents 1\n1 call 1 s put scalardb.metadata('bank.account'){definition='[]',store='ordered',tx_id='00000000-0000-0000-0000-000000000001',tx_state=3} if absent seen applied -\norder 0\ntables 0\nend\n",
-            "scalardb.metadata('bank.account')",
-        ),
+    BadRow(
+        "scalardb report 1\nevents 1\n1 call 1 s put scalardb.metadata('bank.account'){definition='[]',store='ordered',tx_id='00000000-0000-0000-0000-000000000001',tx_state=3} if absent seen applied -\norder 0\ntables 0\nend\n",
+        "scalardb.metadata('bank.account')",
     ),
-    Check(
-        &[],
-        Ask::Bad(
-            "scalardb report 1\nevents 1\n1 call 1 s put scalardb.metadata('bank.account'){definition='{\"clustering-key\": [],\"columns\":{\"balance\":\"INT\",\"id\":\"INT\"},\"partition-key\":[\"id\"],\"secondary-index\":[]}',store='ordered',tx_id='00000000-0000-0000-0000-000000000001',tx_state=3} if absent seen applied -\norder 0\ntables 0\nend\n",
-            "scalardb.metadata('bank.account')",
-        ),
+    BadRow(
+        "scalardb report 1\nevents 1\n1 call 1 s put scalardb.metadata('bank.account'){definition='{\"clustering-key\": [],\"columns\":{\"balance\":\"INT\",\"id\":\"INT\"},\"partition-key\":[\"id\"],\"secondary-index\":[]}',store='ordered',tx_id='00000000-0000-0000-0000-000000000001',tx_state=3} if absent seen applied -\norder 0\ntables 0\nend\n",
+        "scalardb.metadata('bank.account')",
     ),
-    Check(
-        &[],
-        Ask::Bad(
-            "scalardb report 1\nevents 1\n1 call 1 s put scalardb.metadata('bank.account'){definition='{\"clustering-key\":[],\"columns\":{\"balance\":\"INT\",\"id\":\"int\"},\"partition-key\":[\"id\"],\"secondary-index\":[]}',store='ordered',tx_id='00000000-0000-0000-0000-000000000001',tx_state=3} if absent seen applied -\norder 0\ntables 0\nend\n",
-            "scalardb.metadata('bank.account')",
-        ),
+    BadRow(
+        "scalardb report 1\nevents 1\n1 call 1 s put scalardb.metadata('bank.account'){definition='{\"clustering-key\":[],\"columns\":{\"balance\":\"INT\",\"id\":\"int\"},\"partition-key\":[\"id\"],\"secondary-index\":[]}',store='ordered',tx_id='00000000-0000-0000-0000-000000000001',tx_state=3} if absent seen applied -\norder 0\ntables 0\nend\n",
+        "scalardb.metadata('bank.account')",
     ),
-    Check(
-        &[],
-        Ask::Bad(
-            "scalardb report 1\nevents 1\n1 call 1 s put scalardb.metadata('bank.account'){definition='{\"columns\":{\"balance\":\"INT\",\"id\":\"INT\"},\"clustering-key\":[],\"partition-key\":[\"id\"],\"secondary-index\":[]}',store='ordered',tx_id='00000000-0000-0000-0000-000000000001',tx_state=3} if absent seen applied -\norder 0\ntables 0\nend\n",
-            "scalardb.metadata('bank.account')",
-        ),
+    BadRow(
+        "scalardb report 1\nevents 1\n1 call 1 s put scalardb.metadata('bank.account'){definition='{\"columns\":{\"balance\":\"INT\",\"id\":\"INT\"},\"clustering-key\":[],\"partition-key\":[\"id\"],\"secondary-index\":[]}',store='ordered',tx_id='00000000-0000-0000-0000-000000000001',tx_state=3} if absent seen applied -\norder 0\ntables 0\nend\n",
+        "scalardb.metadata('bank.account')",
     ),
-    Check(
-        &[],
-        Ask::Bad(
-            "scalardb report 1\nevents 1\n1 call 1 s put scalardb.metadata('bank.account'){definition='{\"clustering-key\":[],\"columns\":{\"balance\":\"FLOAT\",\"id\":\"INT\"},\"partition-key\":[\"id\"],\"secondary-index\":[]}',store='ordered',tx_id='00000000-0000-0000-0000-000000000001',tx_state=3} if absent seen applied -\norder 0\ntables 0\nend\n",
-            "scalardb.metadata('bank.account')",
-        ),
+    BadRow(
+        "scalardb report 1\nevents 1\n1 call 1 s put scalardb.metadata('bank.account'){definition='{\"clustering-key\":[],\"columns\":{\"balance\":\"FLOAT\",\"id\":\"INT\"},\"partition-key\":[\"id\"],\"secondary-index\":[]}',store='ordered',tx_id='00000000-0000-0000-0000-000000000001',tx_state=3} if absent seen applied -\norder 0\ntables 0\nend\n",
+        "scalardb.metadata('bank.account')",
     ),
-    Check(
-        &[],
-        Ask::Bad(
-            "scalardb report 1\nevents 1\n1 call 1 s put scalardb.metadata('bank.account'){definition='{\"clustering-key\":[],\"columns\":{\"balance\":\"INT\",\"id\":\"INT\"},\"partition-key\":[],\"secondary-index\":[]}',store='ordered',tx_id='00000000-0000-0000-0000-000000000001',tx_state=3} if absent seen applied -\norder 0\ntables 0\nend\n",
-            "scalardb.metadata('bank.account')",
-        ),
+    BadRow(
+        "scalardb report 1\nevents 1\n1 call 1 s put scalardb.metadata('bank.account'){definition='{\"clustering-key\":[],\"columns\":{\"balance\":\"INT\",\"id\":\"INT\"},\"partition-key\":[],\"secondary-index\":[]}',store='ordered',tx_id='00000000-0000-0000-0000-000000000001',tx_state=3} if absent seen applied -\norder 0\ntables 0\nend\n",
+        "scalardb.metadata('bank.account')",
     ),
-    Check(
-        &[],
-        Ask::Bad(
-            "scalardb report 1\nevents 1\n1 call 1 s put scalardb.metadata('bank.account'){definition='{\"clustering-key\":[\"balance\"],\"columns\":{\"balance\":\"INT\",\"id\":\"INT\"},\"partition-key\":[\"id\"],\"secondary-index\":[]}',store='ordered',tx_id='00000000-0000-0000-0000-000000000001',tx_state=3} if absent seen applied -\norder 0\ntables 0\nend\n",
-            "scalardb.metadata('bank.account')",
-        ),
+    BadRow(
+        "scalardb report 1\nevents 1\n1 call 1 s put scalardb.metadata('bank.account'){definition='{\"clustering-key\":[\"balance\"],\"columns\":{\"balance\":\"INT\",\"id\":\"INT\"},\"partition-key\":[\"id\"],\"secondary-index\":[]}',store='ordered',tx_id='00000000-0000-0000-0000-000000000001',tx_state=3} if absent seen applied -\norder 0\ntables 0\nend\n",
+        "scalardb.metadata('bank.account')",
     ),
-    Check(
-        &[],
-        Ask::Bad(
-            "scalardb report 1\nevents 1\n1 call 1 s put scalardb.metadata('bank.account'){definition='{\"clustering-key\":[],\"columns\":{\"balance\":\"INT\",\"id\":\"INT\"},\"partition-key\":[\"id\"],\"secondary-index\":[],\"transaction\":true}',store='ordered',tx_id='00000000-0000-0000-0000-000000000001',tx_state=3} if absent seen applied -\norder 0\ntables 0\nend\n",
-            "scalardb.metadata('bank.account')",
-        ),
+    BadRow(
+        "scalardb report 1\nevents 1\n1 call 1 s put scalardb.metadata('bank.account'){definition='{\"clustering-key\":[],\"columns\":{\"balance\":\"INT\",\"id\":\"INT\"},\"partition-key\":[\"id\"],\"secondary-index\":[],\"transaction\":true}',store='ordered',tx_id='00000000-0000-0000-0000-000000000001',tx_state=3} if absent seen applied -\norder 0\ntables 0\nend\n",
+        "scalardb.metadata('bank.account')",
     ),
-    Check(
-        &[],
-        Ask::Bad(
-            "scalardb report 1\nevents 1\n1 call 1 s put scalardb.metadata('bank.account'){definition='{\"clustering-key\":[],\"columns\":{\"tx_created_at\":\"BIGINT\",\"tx_id\":\"TEXT\",\"tx_state\":\"INT\"},\"partition-key\":[\"tx_id\"],\"secondary-index\":[]}',store='ordered',tx_id='00000000-0000-0000-0000-000000000001',tx_state=3} if absent seen applied -\norder 0\ntables 0\nend\n",
-            "scalardb.metadata('bank.account')",
-        ),
+    BadRow(
+        "scalardb report 1\nevents 1\n1 call 1 s put scalardb.metadata('bank.account'){definition='{\"clustering-key\":[],\"columns\":{\"tx_created_at\":\"BIGINT\",\"tx_id\":\"TEXT\",\"tx_state\":\"INT\"},\"partition-key\":[\"tx_id\"],\"secondary-index\":[]}',store='ordered',tx_id='00000000-0000-0000-0000-000000000001',tx_state=3} if absent seen applied -\norder 0\ntables 0\nend\n",
+        "scalardb.metadata('bank.account')",
     ),
-    Check(
-        &[],
-        Ask::Bad(
-            "scalardb report 1\nevents 1\n1 call 1 s put scalardb.metadata('coordinator.state'){definition='{\"clustering-key\":[],\"columns\":{\"balance\":\"INT\",\"id\":\"INT\"},\"partition-key\":[\"id\"],\"secondary-index\":[]}',store='ordered',tx_id='00000000-0000-0000-0000-000000000001',tx_state=3} if absent seen applied -\norder 0\ntables 0\nend\n",
-            "scalardb.metadata('coordinator.state')",
-        ),
+    BadRow(
+        "scalardb report 1\nevents 1\n1 call 1 s put scalardb.metadata('coordinator.state'){definition='{\"clustering-key\":[],\"columns\":{\"balance\":\"INT\",\"id\":\"INT\"},\"partition-key\":[\"id\"],\"secondary-index\":[]}',store='ordered',tx_id='00000000-0000-0000-0000-000000000001',tx_state=3} if absent seen applied -\norder 0\ntables 0\nend\n",
+        "scalardb.metadata('coordinator.state')",
     ),
     // Keys of another form, and namespaces that are not a schema's.
-    Check(
-        &[],
-        Ask::Bad(
-            "scalardb report 1\nevents 1\n1 call 1 s put scalardb.metadata('bank'){definition='{\"clustering-key\":[],\"columns\":{\"balance\":\"INT\",\"id\":\"INT\"},\"partition-key\":[\"id\"],\"secondary-index\":[]}',store='ordered',tx_id='00000000-0000-0000-0000-000000000001',tx_state=3} if absent seen applied -\norder 0\ntables 0\nend\n",
-            "scalardb.metadata('bank')",
-        ),
+    BadRow(
+        "scalardb report 1\nevents 1\n1 call 1 s put scalardb.metadata('bank'){definition='{\"clustering-key\":[],\"columns\":{\"balance\":\"INT\",\"id\":\"INT\"},\"partition-key\":[\"id\"],\"secondary-index\":[]}',store='ordered',tx_id='00000000-0000-0000-0000-000000000001',tx_state=3} if absent seen applied -\norder 0\ntables 0\nend\n",
+        "scalardb.metadata('bank')",
     ),
-    Check(
-        &[],
-        Ask::Bad(
-            "scalardb report 1\nevents 1\n1 call 1 s put scalardb.metadata('bank.account.x'){definition='{\"clustering-key\":[],\"columns\":{\"balance\":\"INT\",\"id\":\"INT\"},\"partition-key\":[\"id\"],\"secondary-index\":[]}',store='ordered',tx_id='00000000-0000-0000-0000-000000000001',tx_state=3} if absent seen applied -\norder 0\ntables 0\nend\n",
-            "scalardb.metadata('bank.account.x')",
-        ),
+    BadRow(
+        "scalardb report 1\nevents 1\n1 call 1 s put scalardb.metadata('bank.account.x'){definition='{\"clustering-key\":[],\"columns\":{\"balance\":\"INT\",\"id\":\"INT\"},\"partition-key\":[\"id\"],\"secondary-index\":[]}',store='ordered',tx_id='00000000-0000-0000-0000-000000000001',tx_state=3} if absent seen applied -\norder 0\ntables 0\nend\n",
+        "scalardb.metadata('bank.account.x')",
     ),
-    Check(
-        &[],
-        Ask::Bad(
-            "scalardb report 1\nevents 1\n1 call 1 s put scalardb.metadata('scalardb.metadata'){definition='{\"clustering-key\":[],\"columns\":{\"balance\":\"INT\",\"id\":\"INT\"},\"partition-key\":[\"id\"],\"secondary-index\":[]}',store='ordered',tx_id='00000000-0000-0000-0000-000000000001',tx_state=3} if absent seen applied -\norder 0\ntables 0\nend\n",
-            "scalardb.metadata('scalardb.metadata')",
-        ),
+    BadRow(
+        "scalardb report 1\nevents 1\n1 call 1 s put scalardb.metadata('scalardb.metadata'){definition='{\"clustering-key\":[],\"columns\":{\"balance\":\"INT\",\"id\":\"INT\"},\"partition-key\":[\"id\"],\"secondary-index\":[]}',store='ordered',tx_id='00000000-0000-0000-0000-000000000001',tx_state=3} if absent seen applied -\norder 0\ntables 0\nend\n",
+        "scalardb.metadata('scalardb.metadata')",
     ),
-    Check(
-        &[],
-        Ask::Bad(
-            "scalardb report 1\nevents 1\n1 call 1 s put scalardb.metadata('coordinator.other'){definition='{\"clustering-key\":[],\"columns\":{\"tx_created_at\":\"BIGINT\",\"tx_id\":\"TEXT\",\"tx_state\":\"INT\"},\"partition-key\":[\"tx_id\"],\"secondary-index\":[]}',store='ordered',tx_id='00000000-0000-0000-0000-000000000001',tx_state=3} if absent seen applied -\norder 0\ntables 0\nend\n",
-            "scalardb.metadata('coordinator.other')",
-        ),
+    BadRow(
+        "scalardb report 1\nevents 1\n1 call 1 s put scalardb.metadata('coordinator.other'){definition='{\"clustering-key\":[],\"columns\":{\"tx_created_at\":\"BIGINT\",\"tx_id\":\"TEXT\",\"tx_state\":\"INT\"},\"partition-key\":[\"tx_id\"],\"secondary-index\":[]}',store='ordered',tx_id='00000000-0000-0000-0000-000000000001',tx_state=3} if absent seen applied -\norder 0\ntables 0\nend\n",
+        "scalardb.metadata('coordinator.other')",
     ),
-    Check(
-        &[],
-        Ask::Bad(
-            "scalardb report 1\nevents 1\n1 call 1 s put scalardb.metadata(1){definition='{\"clustering-key\":[],\"columns\":{\"balance\":\"INT\",\"id\":\"INT\"},\"partition-key\":[\"id\"],\"secondary-index\":[]}',store='ordered',tx_id='00000000-0000-0000-0000-000000000001',tx_state=3} if absent seen applied -\norder 0\ntables 0\nend\n",
-            "scalardb.metadata(1)",
-        ),
+    BadRow(
+        "scalardb report 1\nevents 1\n1 call 1 s put scalardb.metadata(1){definition='{\"clustering-key\":[],\"columns\":{\"balance\":\"INT\",\"id\":\"INT\"},\"partition-key\":[\"id\"],\"secondary-index\":[]}',store='ordered',tx_id='00000000-0000-0000-0000-000000000001',tx_state=3} if absent seen applied -\norder 0\ntables 0\nend\n",
+        "scalardb.metadata(1)",
     ),
-    Check(
-        &[],
-        Ask::Bad(
-            "scalardb report 1\nevents 1\n1 call 1 s put scalardb.metadata('bank.account',NULL){definition='{\"clustering-key\":[],\"columns\":{\"balance\":\"INT\",\"id\":\"INT\"},\"partition-key\":[\"id\"],\"secondary-index\":[]}',store='ordered',tx_id='00000000-0000-0000-0000-000000000001',tx_state=3} if absent seen applied -\norder 0\ntables 0\nend\n",
-            "scalardb.metadata('bank.account',NULL)",
-        ),
+    BadRow(
+        "scalardb report 1\nevents 1\n1 call 1 s put scalardb.metadata('bank.account',NULL){definition='{\"clustering-key\":[],\"columns\":{\"balance\":\"INT\",\"id\":\"INT\"},\"partition-key\":[\"id\"],\"secondary-index\":[]}',store='ordered',tx_id='00000000-0000-0000-0000-000000000001',tx_state=3} if absent seen applied -\norder 0\ntables 0\nend\n",
+        "scalardb.metadata('bank.account',NULL)",
     ),
 ];
 
@@ -517,93 +484,57 @@ fn are_bad_definitions(alloc: Global) -> Result<(), Fail> {
     all_cases(alloc, "defined", DEFINED.as_slice())
 }
 
-static ROWS: [Check; 12] = [
+static ROWS: [BadRow; 12] = [
     // Columns that are missing, further ones, and values of another form.
-    Check(
-        &[],
-        Ask::Bad(
-            "scalardb report 1\nevents 1\n1 call 1 s put scalardb.metadata('bank.account'){store='ordered',tx_id='00000000-0000-0000-0000-000000000001',tx_state=3} if absent seen applied -\norder 0\ntables 0\nend\n",
-            "scalardb.metadata('bank.account')",
-        ),
+    BadRow(
+        "scalardb report 1\nevents 1\n1 call 1 s put scalardb.metadata('bank.account'){store='ordered',tx_id='00000000-0000-0000-0000-000000000001',tx_state=3} if absent seen applied -\norder 0\ntables 0\nend\n",
+        "scalardb.metadata('bank.account')",
     ),
-    Check(
-        &[],
-        Ask::Bad(
-            "scalardb report 1\nevents 1\n1 call 1 s put scalardb.metadata('bank.account'){definition='{\"clustering-key\":[],\"columns\":{\"balance\":\"INT\",\"id\":\"INT\"},\"partition-key\":[\"id\"],\"secondary-index\":[]}',tx_id='00000000-0000-0000-0000-000000000001',tx_state=3} if absent seen applied -\norder 0\ntables 0\nend\n",
-            "scalardb.metadata('bank.account')",
-        ),
+    BadRow(
+        "scalardb report 1\nevents 1\n1 call 1 s put scalardb.metadata('bank.account'){definition='{\"clustering-key\":[],\"columns\":{\"balance\":\"INT\",\"id\":\"INT\"},\"partition-key\":[\"id\"],\"secondary-index\":[]}',tx_id='00000000-0000-0000-0000-000000000001',tx_state=3} if absent seen applied -\norder 0\ntables 0\nend\n",
+        "scalardb.metadata('bank.account')",
     ),
-    Check(
-        &[],
-        Ask::Bad(
-            "scalardb report 1\nevents 1\n1 call 1 s put scalardb.metadata('bank.account'){definition='{\"clustering-key\":[],\"columns\":{\"balance\":\"INT\",\"id\":\"INT\"},\"partition-key\":[\"id\"],\"secondary-index\":[]}',store='ordered',tx_state=3} if absent seen applied -\norder 0\ntables 0\nend\n",
-            "scalardb.metadata('bank.account')",
-        ),
+    BadRow(
+        "scalardb report 1\nevents 1\n1 call 1 s put scalardb.metadata('bank.account'){definition='{\"clustering-key\":[],\"columns\":{\"balance\":\"INT\",\"id\":\"INT\"},\"partition-key\":[\"id\"],\"secondary-index\":[]}',store='ordered',tx_state=3} if absent seen applied -\norder 0\ntables 0\nend\n",
+        "scalardb.metadata('bank.account')",
     ),
-    Check(
-        &[],
-        Ask::Bad(
-            "scalardb report 1\nevents 1\n1 call 1 s put scalardb.metadata('bank.account'){definition='{\"clustering-key\":[],\"columns\":{\"balance\":\"INT\",\"id\":\"INT\"},\"partition-key\":[\"id\"],\"secondary-index\":[]}',store='ordered',tx_id='00000000-0000-0000-0000-000000000001'} if absent seen applied -\norder 0\ntables 0\nend\n",
-            "scalardb.metadata('bank.account')",
-        ),
+    BadRow(
+        "scalardb report 1\nevents 1\n1 call 1 s put scalardb.metadata('bank.account'){definition='{\"clustering-key\":[],\"columns\":{\"balance\":\"INT\",\"id\":\"INT\"},\"partition-key\":[\"id\"],\"secondary-index\":[]}',store='ordered',tx_id='00000000-0000-0000-0000-000000000001'} if absent seen applied -\norder 0\ntables 0\nend\n",
+        "scalardb.metadata('bank.account')",
     ),
-    Check(
-        &[],
-        Ask::Bad(
-            "scalardb report 1\nevents 1\n1 call 1 s put scalardb.metadata('bank.account'){definition='{\"clustering-key\":[],\"columns\":{\"balance\":\"INT\",\"id\":\"INT\"},\"partition-key\":[\"id\"],\"secondary-index\":[]}',store='ordered',tx_id='00000000-0000-0000-0000-000000000001',tx_state=1} if absent seen applied -\norder 0\ntables 0\nend\n",
-            "scalardb.metadata('bank.account')",
-        ),
+    BadRow(
+        "scalardb report 1\nevents 1\n1 call 1 s put scalardb.metadata('bank.account'){definition='{\"clustering-key\":[],\"columns\":{\"balance\":\"INT\",\"id\":\"INT\"},\"partition-key\":[\"id\"],\"secondary-index\":[]}',store='ordered',tx_id='00000000-0000-0000-0000-000000000001',tx_state=1} if absent seen applied -\norder 0\ntables 0\nend\n",
+        "scalardb.metadata('bank.account')",
     ),
-    Check(
-        &[],
-        Ask::Bad(
-            "scalardb report 1\nevents 1\n1 call 1 s put scalardb.metadata('bank.account'){definition='{\"clustering-key\":[],\"columns\":{\"balance\":\"INT\",\"id\":\"INT\"},\"partition-key\":[\"id\"],\"secondary-index\":[]}',store='ordered',tx_id='00000000-0000-0000-0000-000000000001',tx_state=3L} if absent seen applied -\norder 0\ntables 0\nend\n",
-            "scalardb.metadata('bank.account')",
-        ),
+    BadRow(
+        "scalardb report 1\nevents 1\n1 call 1 s put scalardb.metadata('bank.account'){definition='{\"clustering-key\":[],\"columns\":{\"balance\":\"INT\",\"id\":\"INT\"},\"partition-key\":[\"id\"],\"secondary-index\":[]}',store='ordered',tx_id='00000000-0000-0000-0000-000000000001',tx_state=3L} if absent seen applied -\norder 0\ntables 0\nend\n",
+        "scalardb.metadata('bank.account')",
     ),
-    Check(
-        &[],
-        Ask::Bad(
-            "scalardb report 1\nevents 1\n1 call 1 s put scalardb.metadata('bank.account'){definition='{\"clustering-key\":[],\"columns\":{\"balance\":\"INT\",\"id\":\"INT\"},\"partition-key\":[\"id\"],\"secondary-index\":[]}',store='ordered',tx_id='1',tx_state=3} if absent seen applied -\norder 0\ntables 0\nend\n",
-            "scalardb.metadata('bank.account')",
-        ),
+    BadRow(
+        "scalardb report 1\nevents 1\n1 call 1 s put scalardb.metadata('bank.account'){definition='{\"clustering-key\":[],\"columns\":{\"balance\":\"INT\",\"id\":\"INT\"},\"partition-key\":[\"id\"],\"secondary-index\":[]}',store='ordered',tx_id='1',tx_state=3} if absent seen applied -\norder 0\ntables 0\nend\n",
+        "scalardb.metadata('bank.account')",
     ),
-    Check(
-        &[],
-        Ask::Bad(
-            "scalardb report 1\nevents 1\n1 call 1 s put scalardb.metadata('bank.account'){definition='{\"clustering-key\":[],\"columns\":{\"balance\":\"INT\",\"id\":\"INT\"},\"partition-key\":[\"id\"],\"secondary-index\":[]}',store='ordered',tx_id='00000000-0000-0000-0000-00000000000A',tx_state=3} if absent seen applied -\norder 0\ntables 0\nend\n",
-            "scalardb.metadata('bank.account')",
-        ),
+    BadRow(
+        "scalardb report 1\nevents 1\n1 call 1 s put scalardb.metadata('bank.account'){definition='{\"clustering-key\":[],\"columns\":{\"balance\":\"INT\",\"id\":\"INT\"},\"partition-key\":[\"id\"],\"secondary-index\":[]}',store='ordered',tx_id='00000000-0000-0000-0000-00000000000A',tx_state=3} if absent seen applied -\norder 0\ntables 0\nend\n",
+        "scalardb.metadata('bank.account')",
     ),
-    Check(
-        &[],
-        Ask::Bad(
-            "scalardb report 1\nevents 1\n1 call 1 s put scalardb.metadata('bank.account'){definition='{\"clustering-key\":[],\"columns\":{\"balance\":\"INT\",\"id\":\"INT\"},\"partition-key\":[\"id\"],\"secondary-index\":[]}',indexed=TRUE,store='ordered',tx_id='00000000-0000-0000-0000-000000000001',tx_state=3} if absent seen applied -\norder 0\ntables 0\nend\n",
-            "scalardb.metadata('bank.account')",
-        ),
+    BadRow(
+        "scalardb report 1\nevents 1\n1 call 1 s put scalardb.metadata('bank.account'){definition='{\"clustering-key\":[],\"columns\":{\"balance\":\"INT\",\"id\":\"INT\"},\"partition-key\":[\"id\"],\"secondary-index\":[]}',indexed=TRUE,store='ordered',tx_id='00000000-0000-0000-0000-000000000001',tx_state=3} if absent seen applied -\norder 0\ntables 0\nend\n",
+        "scalardb.metadata('bank.account')",
     ),
     // A store that is not attached.
-    Check(
-        &[],
-        Ask::Bad(
-            "scalardb report 1\nevents 1\n1 call 1 s put scalardb.metadata('bank.account'){definition='{\"clustering-key\":[],\"columns\":{\"balance\":\"INT\",\"id\":\"INT\"},\"partition-key\":[\"id\"],\"secondary-index\":[]}',store='none',tx_id='00000000-0000-0000-0000-000000000001',tx_state=3} if absent seen applied -\norder 0\ntables 0\nend\n",
-            "scalardb.metadata('bank.account')",
-        ),
+    BadRow(
+        "scalardb report 1\nevents 1\n1 call 1 s put scalardb.metadata('bank.account'){definition='{\"clustering-key\":[],\"columns\":{\"balance\":\"INT\",\"id\":\"INT\"},\"partition-key\":[\"id\"],\"secondary-index\":[]}',store='none',tx_id='00000000-0000-0000-0000-000000000001',tx_state=3} if absent seen applied -\norder 0\ntables 0\nend\n",
+        "scalardb.metadata('bank.account')",
     ),
     // A namespace in two stores, whose later row is the bad one, and the first of two bad rows in the order of keys.
-    Check(
-        &[],
-        Ask::Bad(
-            "scalardb report 1\nevents 3\n1 call 1 s put scalardb.metadata('shop.orders'){definition='{\"clustering-key\":[\"placed DESC\",\"line ASC\"],\"columns\":{\"customer\":\"TEXT\",\"line\":\"INT\",\"paid\":\"BOOLEAN\",\"placed\":\"BIGINT\",\"scan\":\"BLOB\"},\"partition-key\":[\"customer\"],\"secondary-index\":[\"paid\"]}',store='other',tx_id='00000000-0000-0000-0000-000000000001',tx_state=3} if absent seen applied -\n2 call 1 s put scalardb.metadata('bank.account'){definition='{\"clustering-key\":[],\"columns\":{\"balance\":\"INT\",\"id\":\"INT\"},\"partition-key\":[\"id\"],\"secondary-index\":[]}',store='ordered',tx_id='00000000-0000-0000-0000-000000000001',tx_state=3} if absent seen applied -\n3 call 1 s put scalardb.metadata('shop.pay'){definition='{\"clustering-key\":[],\"columns\":{\"t\":\"TEXT\"},\"partition-key\":[\"t\"],\"secondary-index\":[]}',store='ordered',tx_id='00000000-0000-0000-0000-000000000001',tx_state=3} if absent seen applied -\norder 0\ntables 0\nend\n",
-            "scalardb.metadata('shop.pay')",
-        ),
+    BadRow(
+        "scalardb report 1\nevents 3\n1 call 1 s put scalardb.metadata('shop.orders'){definition='{\"clustering-key\":[\"placed DESC\",\"line ASC\"],\"columns\":{\"customer\":\"TEXT\",\"line\":\"INT\",\"paid\":\"BOOLEAN\",\"placed\":\"BIGINT\",\"scan\":\"BLOB\"},\"partition-key\":[\"customer\"],\"secondary-index\":[\"paid\"]}',store='other',tx_id='00000000-0000-0000-0000-000000000001',tx_state=3} if absent seen applied -\n2 call 1 s put scalardb.metadata('bank.account'){definition='{\"clustering-key\":[],\"columns\":{\"balance\":\"INT\",\"id\":\"INT\"},\"partition-key\":[\"id\"],\"secondary-index\":[]}',store='ordered',tx_id='00000000-0000-0000-0000-000000000001',tx_state=3} if absent seen applied -\n3 call 1 s put scalardb.metadata('shop.pay'){definition='{\"clustering-key\":[],\"columns\":{\"t\":\"TEXT\"},\"partition-key\":[\"t\"],\"secondary-index\":[]}',store='ordered',tx_id='00000000-0000-0000-0000-000000000001',tx_state=3} if absent seen applied -\norder 0\ntables 0\nend\n",
+        "scalardb.metadata('shop.pay')",
     ),
-    Check(
-        &[],
-        Ask::Bad(
-            "scalardb report 1\nevents 2\n1 call 1 s put scalardb.metadata('shop.orders'){} if absent seen applied -\n2 call 1 s put scalardb.metadata('bank.account'){tx_state=3} if absent seen applied -\norder 0\ntables 0\nend\n",
-            "scalardb.metadata('bank.account')",
-        ),
+    BadRow(
+        "scalardb report 1\nevents 2\n1 call 1 s put scalardb.metadata('shop.orders'){} if absent seen applied -\n2 call 1 s put scalardb.metadata('bank.account'){tx_state=3} if absent seen applied -\norder 0\ntables 0\nend\n",
+        "scalardb.metadata('bank.account')",
     ),
 ];
 

@@ -172,12 +172,17 @@ fn answer_of(reply: &Reply) -> Answer {
     }
 }
 
+// How a get of the item is answered.
+fn got<S: Store>(alloc: Global, store: &mut S) -> Answer {
+    match request_of(alloc, Ask::Get(ITEM)) {
+        Ok(request) => answer_of(&call(store, &request)),
+        Err(_) => Answer::Other,
+    }
+}
+
 fn is_full(alloc: Global, store: Box<dyn Store>) -> bool {
     let mut store = store;
-    match request_of(alloc, Ask::Get(ITEM)) {
-        Ok(request) => answer_of(&call(&mut store, &request)) == Answer::NoMemory,
-        Err(_) => false,
-    }
+    got(alloc, &mut store) == Answer::NoMemory
 }
 
 fn is_full_back(alloc: Global, attached: Result<(), AttachRefused>) -> bool {

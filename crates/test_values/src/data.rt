@@ -52,10 +52,10 @@ fn reads(
     Ok(read_table(alloc, table, mode, text)? == rows)
 }
 
-fn refusal_of(alloc: Global, table: &Table, mode: Mode, text: &[u8]) -> CsvRefused {
+fn refuses(alloc: Global, table: &Table, mode: Mode, text: &[u8], refused: CsvRefused) -> bool {
     match read_table(alloc, table, mode, text) {
-        Ok(_) => CsvRefused::NoMemory,
-        Err(refused) => refused,
+        Ok(_) => false,
+        Err(found) => found == refused,
     }
 }
 
@@ -69,9 +69,16 @@ fn long_text(alloc: Global, first: &[u8], length: usize) -> Result<Vec<u8>, Fail
     Ok(text)
 }
 
-fn reads_long(alloc: Global, table: &Table, first: &[u8], length: usize) -> Result<bool, Fail> {
+// Whether it is so that such a text is read.
+fn reads_long(
+    alloc: Global,
+    table: &Table,
+    first: &[u8],
+    length: usize,
+    wanted: bool,
+) -> Result<bool, Fail> {
     let text = long_text(alloc, first, length)?;
-    Ok(read_table(alloc, table, Mode::Insert, text.as_slice()).is_ok())
+    Ok(read_table(alloc, table, Mode::Insert, text.as_slice()).is_ok() == wanted)
 }
 
 // Whether the rows that are read begin with one more, and then are these.
@@ -94,21 +101,24 @@ fn is_read_back(
 
 fn is_printed(alloc: Global, table: &Table, rows: &Seq<Values>, text: &[u8]) -> Result<bool, Fail> {
     Ok(
-        print_table(alloc, table, rows)?.as_slice() == text
-            && is_read_back(alloc, table, text, rows)?,
+        is_read_back(alloc, table, text, rows)?
+            && print_table(alloc, table, rows)?.as_slice() == text,
     )
+}
+
+fn prints(alloc: Global, table: &Table, rows: &[&[Cell]], text: &[u8]) -> Result<bool, Fail> {
+    let rows = rows_of(alloc, rows)?;
+    is_printed(alloc, table, &rows, text)
 }
 
 fn answers(alloc: Global, table: &Table, ask: Ask) -> Result<bool, Fail> {
     match ask {
         Ask::Read(mode, text, rows) => reads(alloc, table, mode, text, rows),
         Ask::Refused(mode, text, at, fault) => {
-            Ok(refusal_of(alloc, table, mode, text) == CsvRefused::BadCsv(at, fault))
+            Ok(refuses(alloc, table, mode, text, CsvRefused::BadCsv(at, fault)))
         }
-        Ask::Long(first, length, wanted) => {
-            Ok(reads_long(alloc, table, first, length)? == wanted)
-        }
-        Ask::Printed(rows, text) => is_printed(alloc, table, &rows_of(alloc, rows)?, text),
+        Ask::Long(first, length, wanted) => reads_long(alloc, table, first, length, wanted),
+        Ask::Printed(rows, text) => prints(alloc, table, rows, text),
     }
 }
 

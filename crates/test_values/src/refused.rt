@@ -178,22 +178,6 @@ fn wide(alloc: Global, count: usize, keys: usize) -> Result<String, AllocError> 
     format!(in alloc; "{{\"a.b\":{{\"columns\":{{{columns_text}}},\"partition-key\":[{key}]}}}}")
 }
 
-fn members_have_fault(alloc: Global, members: &str, fault: Fault) -> Result<bool, Fail> {
-    Ok(has_fault(alloc, schema_with(alloc, members)?.as_bytes(), fault))
-}
-
-fn nests(alloc: Global, depth: usize, fault: Fault) -> Result<bool, Fail> {
-    Ok(has_fault(alloc, nested(alloc, depth)?.as_bytes(), fault))
-}
-
-fn has_tables(alloc: Global, count: usize, fault: Fault) -> Result<bool, Fail> {
-    Ok(has_fault(alloc, tables(alloc, count)?.as_bytes(), fault))
-}
-
-fn is_wide(alloc: Global, count: usize, keys: usize, fault: Fault) -> Result<bool, Fail> {
-    Ok(has_fault(alloc, wide(alloc, count, keys)?.as_bytes(), fault))
-}
-
 // A schema, and the fault for which it is refused.
 #[derive(Clone, Copy)]
 enum Check {
@@ -209,29 +193,40 @@ enum Check {
     Wide(usize, usize, Kind, At),
 }
 
-fn fault_of(kind: Kind, at: At, what: &'static str) -> Fault {
-    Fault {
-        kind,
-        table: names_of(at),
-        what,
+impl Check {
+    fn fault(self) -> Fault {
+        let (kind, at, what) = match self {
+            Check::Bytes(_, kind) | Check::Nested(_, kind) | Check::Tables(_, kind) => {
+                (kind, At::Nothing, "")
+            }
+            Check::Text(_, kind, at, what) | Check::Members(_, kind, at, what) => (kind, at, what),
+            Check::Wide(_, _, kind, at) => (kind, at, ""),
+        };
+        Fault {
+            kind,
+            table: names_of(at),
+            what,
+        }
+    }
+
+    // The schema, but for one of bytes.
+    fn text(self, alloc: Global) -> Result<String, AllocError> {
+        match self {
+            Check::Bytes(_, _) => Ok(String::new(alloc)),
+            Check::Text(json, _, _, _) => String::from_str(alloc, json),
+            Check::Members(members, _, _, _) => schema_with(alloc, members),
+            Check::Nested(depth, _) => nested(alloc, depth),
+            Check::Tables(count, _) => tables(alloc, count),
+            Check::Wide(count, keys, _, _) => wide(alloc, count, keys),
+        }
     }
 }
 
 impl Case for Check {
     fn holds(self, alloc: Global) -> Result<bool, Fail> {
         match self {
-            Check::Bytes(json, kind) => Ok(has_fault(alloc, json, fault_of(kind, At::Nothing, ""))),
-            Check::Text(json, kind, table, what) => {
-                Ok(has_fault(alloc, json.as_bytes(), fault_of(kind, table, what)))
-            }
-            Check::Members(members, kind, table, what) => {
-                members_have_fault(alloc, members, fault_of(kind, table, what))
-            }
-            Check::Nested(depth, kind) => nests(alloc, depth, fault_of(kind, At::Nothing, "")),
-            Check::Tables(count, kind) => has_tables(alloc, count, fault_of(kind, At::Nothing, "")),
-            Check::Wide(count, keys, kind, table) => {
-                is_wide(alloc, count, keys, fault_of(kind, table, ""))
-            }
+            Check::Bytes(json, _) => Ok(has_fault(alloc, json, self.fault())),
+            _ => Ok(has_fault(alloc, self.text(alloc)?.as_bytes(), self.fault())),
         }
     }
 }

@@ -7,23 +7,18 @@ use std::alloc::{AllocError, Global};
 use std::test::Fail;
 use test_builders::{Case, all_cases, names_of};
 
-fn put_number(alloc: Global, out: &mut String, front: &str, n: u64) -> Result<(), AllocError> {
-    let text = format!(in alloc; "{front}{n}")?;
-    out.push_str(text.as_str())
-}
-
-fn put_clock(alloc: Global, out: &mut String, ms: i64) -> Result<(), AllocError> {
-    let text = format!(in alloc; " clock {ms}")?;
+fn put_number(alloc: Global, out: &mut String, prefix: &str, n: i64) -> Result<(), AllocError> {
+    let text = format!(in alloc; "{prefix}{n}")?;
     out.push_str(text.as_str())
 }
 
 fn put_act(alloc: Global, out: &mut String, act: Act) -> Result<(), AllocError> {
     match act {
-        Act::Step(client) => put_number(alloc, out, " step ", u64::from(client)),
-        Act::Lose(client) => put_number(alloc, out, " lose ", u64::from(client)),
-        Act::Discard(client) => put_number(alloc, out, " drop ", u64::from(client)),
-        Act::Stop(client) => put_number(alloc, out, " stop ", u64::from(client)),
-        Act::Clock(ms) => put_clock(alloc, out, ms),
+        Act::Step(client) => put_number(alloc, out, " step ", i64::from(client)),
+        Act::Lose(client) => put_number(alloc, out, " lose ", i64::from(client)),
+        Act::Discard(client) => put_number(alloc, out, " drop ", i64::from(client)),
+        Act::Stop(client) => put_number(alloc, out, " stop ", i64::from(client)),
+        Act::Clock(ms) => put_number(alloc, out, " clock ", ms),
     }
 }
 
@@ -31,8 +26,8 @@ fn put_move(alloc: Global, out: &mut String, m: Move) -> Result<(), AllocError> 
     match m {
         Move::Act(act) => put_act(alloc, out, act),
         Move::Repeat(client, count) => {
-            put_number(alloc, out, " step ", u64::from(client))?;
-            put_number(alloc, out, "x", u64::from(count))
+            put_number(alloc, out, " step ", i64::from(client))?;
+            put_number(alloc, out, "x", i64::from(count))
         }
         Move::Rest => out.push_str(" rest"),
     }
@@ -76,7 +71,7 @@ fn put_clients(out: &mut String, script: &Script) -> Result<(), AllocError> {
 
 fn put_script(alloc: Global, out: &mut String, script: &Script) -> Result<(), AllocError> {
     put_places(out, script)?;
-    put_number(alloc, out, "tables ", script.catalog.len() as u64)?;
+    put_number(alloc, out, "tables ", script.catalog.len() as i64)?;
     put_clients(out, script)?;
     put_moves(alloc, out, &script.moves)
 }
@@ -122,18 +117,14 @@ fn limit_word(which: Which) -> &'static str {
     }
 }
 
-fn told_at(alloc: Global, n: u64, word: &str) -> Result<String, AllocError> {
-    format!(in alloc; "{n} {word}")
-}
-
-fn over_limit(alloc: Global, n: u64, word: &str) -> Result<String, AllocError> {
-    format!(in alloc; "{n} over {word}")
+fn told_at(alloc: Global, n: u64, over: &str, word: &str) -> Result<String, AllocError> {
+    format!(in alloc; "{n} {over}{word}")
 }
 
 fn refusal(alloc: Global, refused: &ScriptRefused) -> Result<String, AllocError> {
     match refused {
-        ScriptRefused::BadLine(line, fault) => told_at(alloc, *line, line_word(fault)),
-        ScriptRefused::Limit(line, which) => over_limit(alloc, *line, limit_word(*which)),
+        ScriptRefused::BadLine(line, fault) => told_at(alloc, *line, "", line_word(fault)),
+        ScriptRefused::Limit(line, which) => told_at(alloc, *line, "over ", limit_word(*which)),
         ScriptRefused::NoMemory => String::from_str(alloc, "no memory"),
     }
 }
@@ -146,9 +137,13 @@ fn told(alloc: Global, text: &[u8], stores: &Names) -> Result<String, AllocError
     }
 }
 
+fn is_printed(alloc: Global, script: &Script, wanted: &str) -> Result<bool, Fail> {
+    Ok(print_script(alloc, script)?.as_str() == wanted)
+}
+
 fn printed(alloc: Global, text: &[u8], stores: &Names, wanted: &str) -> Result<bool, Fail> {
     match read_script(alloc, text, stores) {
-        Ok(script) => Ok(print_script(alloc, &script)?.as_str() == wanted),
+        Ok(script) => is_printed(alloc, &script, wanted),
         Err(_) => Ok(false),
     }
 }
@@ -167,7 +162,8 @@ fn prints(alloc: Global, text: &str, wanted: &str) -> Result<bool, Fail> {
     printed(alloc, text.as_bytes(), &stores, wanted)
 }
 
-fn put_often(out: &mut String, piece: &str, count: usize) -> Result<(), AllocError> {
+/// Puts so many copies of a piece.
+pub fn put_often(out: &mut String, piece: &str, count: usize) -> Result<(), AllocError> {
     for _ in 0..count {
         out.push_str(piece)?;
     }
@@ -202,7 +198,7 @@ fn counts(
 
 fn put_numbered(alloc: Global, out: &mut String, count: u32) -> Result<(), AllocError> {
     for i in 0..count {
-        put_number(alloc, out, "client c", u64::from(i))?;
+        put_number(alloc, out, "client c", i64::from(i))?;
         out.push_str("\n")?;
     }
     Ok(())

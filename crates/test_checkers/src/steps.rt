@@ -89,14 +89,16 @@ fn answered(
     }
 }
 
-fn is_answered(alloc: Global, asked: Asked, events: &[Event]) -> Result<bool, Fail> {
-    let catalog = catalog_of(alloc, catalog_asked(asked).as_bytes())?;
-    answered(alloc, &catalog, events, asked)
+impl Judged {
+    fn is_answered(self, alloc: Global, events: &[Event]) -> Result<bool, Fail> {
+        let catalog = catalog_of(alloc, catalog_asked(self.0).as_bytes())?;
+        Ok(answered(alloc, &catalog, events, self.0)? == self.2)
+    }
 }
 
 impl Case for Judged {
     fn holds(self, alloc: Global) -> Result<bool, Fail> {
         let report = read_report(alloc, self.1.as_bytes())?;
-        Ok(is_answered(alloc, self.0, report.events.as_slice())? == self.2)
+        self.is_answered(alloc, report.events.as_slice())
     }
 }

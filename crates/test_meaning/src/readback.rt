@@ -1,6 +1,6 @@
 //! Reports that are read back: worked ones, one of every form, and wrong ones with their first bad line.
+use crate::reports::is_reported;
 use sdb_report::{ReportRefused, read_report};
-use sdb_texts::report_text;
 use std::alloc::Global;
 use std::test::Fail;
 use test_builders::{Case, all_cases};
@@ -13,10 +13,7 @@ enum Read {
 }
 
 fn reads_back(alloc: Global, text: &str) -> Result<bool, Fail> {
-    match read_report(alloc, text.as_bytes()) {
-        Ok(outcome) => Ok(report_text(alloc, &outcome)?.as_str() == text),
-        Err(_) => Ok(false),
-    }
+    is_reported(alloc, &read_report(alloc, text.as_bytes())?, text)
 }
 
 fn is_bad_at(alloc: Global, text: &str, line: u64) -> bool {

@@ -116,7 +116,8 @@ fn first_transaction(alloc: Global) -> Result<Outcome, NameRefused> {
 const FIRST: &str =
     "scalardb report 1\nevents 7\n1 take 1 done : BEGIN\n2 take 1 - : INSERT INTO bank.account (id, balance) VALUES (1, 100)\n3 call 1 ordered get bank.account(1) seen found none count 1\n4 take 1 - : COMMIT\n5 call 1 ordered put bank.account(1){balance=100,tx_id='00000000-0000-0001-0000-000000000001',tx_prepared_at=0L,tx_state=1,tx_version=1} if absent seen applied -\n6 call 1 ordered put coordinator.state('00000000-0000-0001-0000-000000000001'){tx_created_at=0L,tx_state=3} if absent seen applied -\n7 call 1 ordered put bank.account(1){balance=100,tx_committed_at=0L,tx_id='00000000-0000-0001-0000-000000000001',tx_prepared_at=0L,tx_state=3,tx_version=1} if 00000000-0000-0001-0000-000000000001 1 seen applied committed\norder 1\n00000000-0000-0001-0000-000000000001 5\ntables 1\ntable bank.account 1\n(100,1)\nend\n";
 
-fn is_reported(alloc: Global, outcome: &Outcome, text: &str) -> Result<bool, Fail> {
+/// Whether an outcome has this report.
+pub fn is_reported(alloc: Global, outcome: &Outcome, text: &str) -> Result<bool, Fail> {
     Ok(report_text(alloc, outcome)?.as_str() == text)
 }
 

@@ -219,24 +219,29 @@ fn event_of(alloc: Global, second: Second, step: Step) -> Result<Event, Fail> {
     }
 }
 
+// The part of a step that is about the account.
+fn part_of(step: Step, key: Key) -> Role {
+    match step {
+        Step::Prepares(id, _) => Role::Prepares(id, key, Word::Yes),
+        Step::Rolls(id, _) | Step::Finishes(id, _) => Role::Rolls(id, key, Decision::Committed),
+        Step::Undoes(id, _) => Role::Rolls(id, key, Decision::Aborted),
+        Step::Removes(id, _) => Role::Removes(key, id),
+        _ => Role::Other,
+    }
+}
+
 fn role_of(alloc: Global, step: Step) -> Result<Role, Fail> {
     match step {
         Step::Begins(id, client) => Ok(Role::Begins(id, client)),
         Step::Takes(id, _) => Ok(Role::Takes(id)),
-        Step::Prepares(id, _) => Ok(Role::Prepares(id, account(alloc)?, Word::Yes)),
         Step::Checks(id, _, _) => Ok(Role::Checks(id, 0)),
-        Step::Decides(id, _) => Ok(Role::Decides(id, Word::Yes)),
-        Step::Loses(id, _) => Ok(Role::Decides(id, Word::Silence)),
-        Step::Ends(id, _) => Ok(Role::Decides(id, Word::Yes)),
+        Step::Decides(id, _) | Step::Ends(id, _) => Ok(Role::Decides(id, Word::Yes)),
+        Step::Loses(id, _) | Step::Denies(id, _) => Ok(Role::Decides(id, Word::Silence)),
         Step::Aborts(id, _, _) => Ok(Role::Aborts(id, 0, Word::Yes)),
-        Step::Rolls(id, _) => Ok(Role::Rolls(id, account(alloc)?, Decision::Committed)),
-        Step::Finishes(id, _) => Ok(Role::Rolls(id, account(alloc)?, Decision::Committed)),
-        Step::Undoes(id, _) => Ok(Role::Rolls(id, account(alloc)?, Decision::Aborted)),
-        Step::Removes(id, _) => Ok(Role::Removes(account(alloc)?, id)),
         Step::Stops(_, client) => Ok(Role::Stops(client)),
-        Step::Denies(id, _) => Ok(Role::Decides(id, Word::Silence)),
         Step::Reads(_, _) | Step::Sees(_, _) | Step::Scans(_) => Ok(Role::Other),
         Step::Puts(_, _) | Step::Claims(_, _) => Ok(Role::Other),
+        _ => Ok(part_of(step, account(alloc)?)),
     }
 }
 
@@ -308,9 +313,12 @@ fn plan_of(alloc: Global, second: Second, id: TxId, version: Option<TxId>) -> Re
     })
 }
 
+// The transactions, and the version that each has read.
+static READERS: [(TxId, Option<TxId>); 3] = [(ONE, None), (TWO, Some(ONE)), (THREE, Some(TWO))];
+
 pub fn add_plans(alloc: Global, plans: &mut Vec<Plan>, second: Second) -> Result<(), Fail> {
-    plans.push(plan_of(alloc, second, ONE, None)?)?;
-    plans.push(plan_of(alloc, second, TWO, Some(ONE))?)?;
-    plans.push(plan_of(alloc, second, THREE, Some(TWO))?)?;
+    for (id, version) in READERS.iter() {
+        plans.push(plan_of(alloc, second, *id, *version)?)?;
+    }
     Ok(())
 }

@@ -1,0 +1,21 @@
+//! What the checkers of runs judge: tests against worked runs from outside, runs that leave a rule, and forged answers.
+#![tactic(auto)]
+
+#[cfg(test)]
+mod counted;
+#[cfg(test)]
+mod events;
+#[cfg(test)]
+mod forged;
+#[cfg(test)]
+mod lawful;
+#[cfg(test)]
+mod moments;
+#[cfg(test)]
+mod runs;
+#[cfg(test)]
+mod shown;
+#[cfg(test)]
+mod steps;
+#[cfg(test)]
+mod writes;
