@@ -44,7 +44,12 @@ fn is_user_column(name: &str) -> bool
 fn are_user_columns(pairs: &[Pair]) -> bool
     ensures { result ≡ are_user_columns_lem pairs.now }
 {
-    pairs.iter().all(|pair| is_user_column(pair.name.as_str()))
+    for pair in pairs {
+        if !is_user_column(pair.name.as_str()) {
+            return false;
+        }
+    }
+    true
 }
 
 fn is_change(change: &Change) -> bool

@@ -209,9 +209,12 @@ fn own_keeps(own: &Option<Record>, base: Option<&Record>) -> bool
 fn any_keeps(shown: &[Record], id: TxId, key: &Key, base: Option<&Record>) -> bool
     ensures { result ≡ list_any (λ r. is_held_by_lem id.0 key.now r && is_kept_lem (option_copied base.entry) r) shown.now }
 {
-    shown
-        .iter()
-        .any(|rec| is_held_by(rec, key, id) && is_kept(rec, base))
+    for rec in shown {
+        if is_held_by(rec, key, id) && is_kept(rec, base) {
+            return true;
+        }
+    }
+    false
 }
 
 // Whether a record that the transaction prepared keeps this.
