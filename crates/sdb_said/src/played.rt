@@ -290,7 +290,12 @@ fn has_sign(played: &Played, sign: Sign) -> bool
 fn last<'a>(past: &'a [Played], sign: Sign) -> Option<&'a Played>
     ensures { option_copied result ≡ find (has_sign_lem sign.entry) past.now }
 {
-    past.iter().find(|played| has_sign(played, sign))
+    for played in past {
+        if has_sign(played, sign) {
+            return Some(played);
+        }
+    }
+    None
 }
 
 fn any(past: &[Played], sign: Sign) -> bool

@@ -30,7 +30,12 @@ use std::alloc::Global;
 pub fn record_among<'a>(rows: &'a [Record], key: &Key) -> Option<&'a Record>
     ensures { option_copied result ≡ record_among_lem rows.now key.now }
 {
-    rows.iter().find(|row| is_same_key(key, &row.key))
+    for row in rows {
+        if is_same_key(key, &row.key) {
+            return Some(row);
+        }
+    }
+    None
 }
 
 fn is_first(rows: &[Record], rec: &Record) -> bool
@@ -205,7 +210,12 @@ fn is_before_name(name: &str) -> bool
 fn has_kept(pairs: &[Pair]) -> bool
     ensures { result ≡ list_any is_before_pair pairs.now }
 {
-    pairs.iter().any(|pair| is_before_name(pair.name.as_str()))
+    for pair in pairs {
+        if is_before_name(pair.name.as_str()) {
+            return true;
+        }
+    }
+    false
 }
 
 /// Whether it keeps none.
@@ -360,7 +370,12 @@ fn has_trace(alloc: Global, rec: &Record, trace: Trace) -> bool
 fn any(alloc: Global, shown: &[Record], trace: Trace) -> bool
     ensures { result ≡ list_any (has_trace_lem trace.entry) shown.now }
 {
-    shown.iter().any(|rec| has_trace(alloc, rec, trace))
+    for rec in shown {
+        if has_trace(alloc, rec, trace) {
+            return true;
+        }
+    }
+    false
 }
 
 /// Whether a row of this key was shown that says COMMITTED.
