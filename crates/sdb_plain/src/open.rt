@@ -74,7 +74,12 @@ fn stops(client: u64, event: &Event) -> bool
 pub fn has_stopped(past: &[Event], client: u64) -> bool
     ensures { result ≡ has_stopped_lem client past.now }
 {
-    past.iter().any(|event| stops(client, event))
+    for event in past {
+        if stops(client, event) {
+            return true;
+        }
+    }
+    false
 }
 
 fn is_doing(alloc: Global, work: Work, past: &[Event], client: u64) -> Result<bool, NoMemory>

@@ -81,9 +81,12 @@ pub fn decision_found_at(alloc: Global, row: &Key, made: &Made) -> Option<Decide
 fn first_decided<'a>(alloc: Global, calls: &'a [Made], row: &Key) -> Option<&'a Made>
     ensures { option_copied result ≡ find (λ m. is_some (decision_at_lem row.now m)) calls.now }
 {
-    calls
-        .iter()
-        .find(|made| decision_at(alloc, row, made).is_some())
+    for made in calls {
+        if decision_at(alloc, row, made).is_some() {
+            return Some(made);
+        }
+    }
+    None
 }
 
 /// The decision in the row of this key that calls showed first.
