@@ -190,9 +190,12 @@ pub fn is_expired(
 fn expired_among(alloc: Global, calls: &[Made], row: &Key) -> bool
     ensures { result ≡ expired_among_lem calls.now row.now }
 {
-    calls
-        .iter()
-        .any(|made| found_aborted(alloc, calls, row, made))
+    for made in calls {
+        if found_aborted(alloc, calls, row, made) {
+            return true;
+        }
+    }
+    false
 }
 
 /// Whether a call for a transaction's row after an event was answered with a fault or out of memory.
@@ -213,7 +216,12 @@ fn is_lost_put(alloc: Global, calls: &[Made], row: &Key, put: &Made) -> bool
 fn unknown_among(alloc: Global, calls: &[Made], row: &Key) -> bool
     ensures { result ≡ unknown_among_lem calls.now row.now }
 {
-    calls.iter().any(|put| is_lost_put(alloc, calls, row, put))
+    for put in calls {
+        if is_lost_put(alloc, calls, row, put) {
+            return true;
+        }
+    }
+    false
 }
 
 /// Whether the deciding put of the COMMIT was answered with a fault, and a later call for the row with a fault or out of memory.

@@ -39,7 +39,12 @@ fn is_moved(note: &Note, key: &Key, found: &Option<Record>) -> bool
 fn any_moved(notes: &[Note], key: &Key, found: &Option<Record>) -> bool
     ensures { result ≡ list_any (λ n. is_moved_lem key.now found.now (note_of n)) notes.now }
 {
-    notes.iter().any(|note| is_moved(note, key, found))
+    for note in notes {
+        if is_moved(note, key, found) {
+            return true;
+        }
+    }
+    false
 }
 
 fn has_moved(notes: &[Note], key: &Key, found: &Option<Record>) -> bool
@@ -144,7 +149,12 @@ fn scan_differs(note: &Note, key: &Key, base: Option<TxId>) -> bool
 fn any_scan_differs(notes: &[Note], key: &Key, base: Option<TxId>) -> bool
     ensures { result ≡ list_any (λ n. scan_differs_lem key.now base (note_of n)) notes.now }
 {
-    notes.iter().any(|note| scan_differs(note, key, base))
+    for note in notes {
+        if scan_differs(note, key, base) {
+            return true;
+        }
+    }
+    false
 }
 
 fn any_differs(notes: &[Note], key: &Key, base: Option<TxId>) -> bool
@@ -163,9 +173,12 @@ fn differs_from(notes: &[Note], id: TxId, key: &Key, prepare: &Made) -> bool
 fn is_rebased(calls: &[Made], notes: &[Note], id: TxId, key: &Key) -> bool
     ensures { result ≡ is_rebased_lem calls.now (all_notes notes.now) id key.now }
 {
-    calls
-        .iter()
-        .any(|prepare| differs_from(notes, id, key, prepare))
+    for prepare in calls {
+        if differs_from(notes, id, key, prepare) {
+            return true;
+        }
+    }
+    false
 }
 
 fn conflicts_at_commit(

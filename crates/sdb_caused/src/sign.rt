@@ -49,5 +49,10 @@ fn has_sign(alloc: Global, made: &Made, sign: Sign) -> bool
 pub fn any(alloc: Global, calls: &[Made], sign: Sign) -> bool
     ensures { result ≡ list_any (has_sign_lem sign.entry) calls.now }
 {
-    calls.iter().any(|made| has_sign(alloc, made, sign))
+    for made in calls {
+        if has_sign(alloc, made, sign) {
+            return true;
+        }
+    }
+    false
 }
