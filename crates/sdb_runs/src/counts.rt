@@ -3,7 +3,6 @@ ghost use Rattle.std.specs.Prelude.{◌≡◌, ◌↔◌, ◌≤◌, IfOk, IsTru
 ghost use Rattle.std.specs.List.{list_all, list_any};
 ghost use Rattle.sdb_record.specs.Meta.{is_unresolved as is_unresolved_lem};
 ghost use Rattle.sdb_model.specs.Calls.{is_removal as is_removal_lem};
-ghost use Rattle.sdb_model.specs.Counted.{is_seen as is_seen_lem};
 ghost use Rattle.sdb_model.specs.Transactions.{id_of as id_of_lem, prepares as prepares_lem, is_committed_answer as is_told_committed_lem};
 ghost use Rattle.sdb_order.specs.Commits.{said_of};
 ghost use Rattle.sdb_said.specs.Values.{note_of};
@@ -20,22 +19,26 @@ use sdb_schema::Catalog;
 use sdb_types::{Key, NoMemory, Record, Reply, TxId};
 use std::alloc::Global;
 
-fn is_seen(how: How) -> bool
-    ensures { result ≡ is_seen_lem how }
-{
-    matches!(how, How::Seen)
-}
-
 fn are_seen(calls: &[Made]) -> bool
     ensures { result ≡ all_seen calls.now }
 {
-    calls.iter().all(|made| is_seen(made.how))
+    for made in calls {
+        if !matches!(made.how, How::Seen) {
+            return false;
+        }
+    }
+    true
 }
 
 fn is_prepared(calls: &[Made], id: TxId, key: &Key) -> bool
     ensures { result ≡ is_prepared_lem calls.now id key.now }
 {
-    calls.iter().any(|made| is_prepare(&made.request, id) && asks_row(key, &made.request))
+    for made in calls {
+        if is_prepare(&made.request, id) && asks_row(key, &made.request) {
+            return true;
+        }
+    }
+    false
 }
 
 // Whether a COMMIT checks a note: a scan, or a get of a key that it doesn't prepare.

@@ -89,7 +89,12 @@ fn is_roll(after: u64, request: &Request, made: &Made) -> bool
 fn rolled_after(calls: &[Made], after: u64, request: &Request) -> bool
     ensures { result ≡ rolled_after_lem calls.now after request.now }
 {
-    calls.iter().any(|made| is_roll(after, request, made))
+    for made in calls {
+        if is_roll(after, request, made) {
+            return true;
+        }
+    }
+    false
 }
 
 // Whether a call after the read showed the decision, and a later one rolled the record by it.

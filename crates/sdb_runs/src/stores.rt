@@ -59,13 +59,23 @@ pub fn moment_at<'a>(opening: &'a [Shelf], moments: &'a [Shelves], n: u64) -> &'
 fn placed<'a>(places: &'a [Place], ns: &Name) -> Option<&'a Place>
     ensures { option_copied result ≡ find (λ p. same_name p.ns ns.now) places.now }
 {
-    places.iter().find(|place| place.ns.cmp(ns).is_eq())
+    for place in places {
+        if place.ns.cmp(ns).is_eq() {
+            return Some(place);
+        }
+    }
+    None
 }
 
 fn find_shelf<'a>(shelves: &'a [Shelf], name: &Name) -> Option<&'a Shelf>
     ensures { option_copied result ≡ find (λ s. same_name s.name name.now) shelves.now }
 {
-    shelves.iter().find(|shelf| shelf.name.cmp(name).is_eq())
+    for shelf in shelves {
+        if shelf.name.cmp(name).is_eq() {
+            return Some(shelf);
+        }
+    }
+    None
 }
 
 // What the store of a name contains.
