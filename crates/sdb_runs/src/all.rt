@@ -190,12 +190,6 @@ pub fn rows_are_shown(
     are_takers_kept(alloc, Law::Rows(stores), catalog, events, events)
 }
 
-fn is_broken(event: &Event) -> bool
-    ensures { result ≡ is_broken_lem event.now }
-{
-    matches!(event, Event::Call(_, _, _, How::Broken, _, _))
-}
-
 fn broken(events: &[Event]) -> usize
     ensures count { result ≡ length (filter is_broken_lem events.now) }
     ensures most { result ≤ length events.now }
@@ -204,7 +198,10 @@ fn broken(events: &[Event]) -> usize
         return 0;
     };
     let more = broken(rest);
-    if is_broken(first) { more + 1 } else { more }
+    match first {
+        Event::Call(_, _, _, How::Broken, _, _) => more + 1,
+        _ => more,
+    }
 }
 
 /// How many calls the stores themselves failed.

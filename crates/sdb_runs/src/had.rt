@@ -6,7 +6,7 @@ ghost use Rattle.sdb_order.specs.Commits.{said_of};
 ghost use Rattle.sdb_runs.specs.Rows.{bases as bases_lem, had, had_at, image_then, reads_key as reads_key_lem, rows_below, rows_from};
 ghost use Rattle.sdb_runs.specs.Values.{row_then as row_then_lem};
 
-use crate::row::{row_at, row_left};
+use crate::row::{copied, row_at, row_left};
 use crate::stores::{Stores, moment_at};
 use crate::turn::Turn;
 use sdb_caused::is_same_said;
@@ -149,7 +149,8 @@ fn add_from_all(
     let Some((first, rest)) = bases.split_first() else {
         return Ok(());
     };
-    add_from(alloc, images, catalog, said, key, first.copy()?, turns)?;
+    let base = copied(first.as_ref())?;
+    add_from(alloc, images, catalog, said, key, base, turns)?;
     add_from_all(alloc, images, catalog, said, key, rest, turns)
 }
 

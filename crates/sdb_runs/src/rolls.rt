@@ -1,5 +1,4 @@
 //! How unresolved records are rolled.
-ghost use Rattle.sdb_types.specs.Replies.{is_answered as is_answered_lem};
 ghost use Rattle.std.specs.Prelude.{◌≡◌, ◌↔◌, true, IfOk, IsTrue};
 ghost use Rattle.std.specs.List.{list_all, list_any};
 ghost use Rattle.sdb_record.specs.Meta.{is_unresolved as is_unresolved_lem, numbered_state, state_in};
@@ -72,18 +71,13 @@ fn roll_by(
     }
 }
 
-fn is_answered(reply: &Reply) -> bool
-    ensures { result ≡ is_answered_lem reply.now }
-{
-    matches!(reply, Reply::Applied | Reply::NotMet(_))
-}
-
 fn is_roll(after: u64, request: &Request, made: &Made) -> bool
     ensures { result ≡ is_roll_lem after request.now made.now }
 {
     after < made.at
         && (matches!(made.how, How::Seen)
-            && (is_answered(&made.reply) && is_same_request(&made.request, request)))
+            && (matches!(made.reply, Reply::Applied | Reply::NotMet(_))
+                && is_same_request(&made.request, request)))
 }
 
 fn rolled_after(calls: &[Made], after: u64, request: &Request) -> bool

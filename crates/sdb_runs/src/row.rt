@@ -20,8 +20,8 @@ use sdb_snapshot::row_of;
 use sdb_types::{Columns, Duplicate, Key, NoMemory, Record, TxId};
 use std::alloc::Global;
 
-// A copy of the columns that were found.
-fn copied(found: Option<&Columns>) -> Result<Option<Columns>, NoMemory>
+/// A copy of the columns that were found.
+pub fn copied(found: Option<&Columns>) -> Result<Option<Columns>, NoMemory>
     ensures { IfOk result (λ copy. copy ≡ option_copied found.entry) }
 {
     match found {
