@@ -4,12 +4,11 @@ ghost use Rattle.std.specs.Option.{option_copied};
 ghost use Rattle.std.specs.List.{list_any, cons_option};
 ghost use Rattle.sdb_types.specs.declared.record.State.TheVariants.{Committed, Deleted};
 ghost use Rattle.sdb_types.specs.Contents.{record_among as record_among_lem};
-ghost use Rattle.sdb_types.specs.Order.{same_key};
 ghost use Rattle.sdb_record.specs.Ids.{id_of_text};
 ghost use Rattle.sdb_record.specs.Meta.{id_in, id_in_value, is_in};
 ghost use Rattle.sdb_record.specs.Names.{base_name, is_before, same_name};
 ghost use Rattle.sdb_record.specs.Parts.{is_before_pair};
-ghost use Rattle.sdb_record.specs.Rolls.{forward_record, is_tombstone as is_tombstone_lem};
+ghost use Rattle.sdb_record.specs.Rolls.{forward_record};
 ghost use Rattle.sdb_said.specs.Values.{same_record};
 ghost use Rattle.sdb_said.specs.Shown.{is_first as is_first_lem, with_rows, with_found, with_reply, with_event, shown as shown_lem, writer_is as writer_is_lem, kept_writer as kept_writer_lem, keeps_tombstone as keeps_tombstone_lem, keeps as keeps_lem, is_kept_in as is_kept_in_lem, keeps_none as keeps_none_lem, is_held as is_held_lem, is_held_by as is_held_by_lem, decided as decided_lem, commits as commits_lem, aborts as aborts_lem, commit_moment as commit_moment_lem, row_moment as row_moment_lem, shows_commit as shows_commit_lem, shows_abort as shows_abort_lem, shows_bad_row as shows_bad_row_lem, moments as moments_lem, is_forward as is_forward_lem, is_itself as is_itself_lem, is_back_to as is_back_to_lem, is_committed_by as is_committed_by_lem, keeps_by as keeps_by_lem, is_gone_by as is_gone_by_lem, keeps_gone_by as keeps_gone_by_lem, is_held_gone_by as is_held_gone_by_lem, has_trace as has_trace_lem, forward_from as forward_from_lem, is_settled as is_settled_lem, settles as settles_lem, settles_gone as settles_gone_lem};
 
