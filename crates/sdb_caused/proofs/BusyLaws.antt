@@ -19,8 +19,8 @@ use Rattle.sdb_model.specs.Causes.{IsBusy, IsEarly}
 use Rattle.sdb_model.specs.Transactions.{Said}
 use Rattle.sdb_said.proofs.Lists.{right, not_true, true_not, any_some, some_any}
 use Rattle.sdb_said.proofs.ShownLaws.{number_is, is_number}
-use Rattle.sdb_calls.specs.declared.made.Made.{Made}
-use Rattle.sdb_calls.specs.Values.{all_made, made_of}
+use Rattle.sdb_plain.specs.declared.made.Made.{Made}
+use Rattle.sdb_plain.specs.Values.{all_made, made_of}
 use Rattle.sdb_caused.specs.Tests.{busy_among, gets_none, is_at, is_early, is_id, looks_early, prepared_moment}
 use Rattle.sdb_caused.proofs.Finds.{in_contains, contains_in, kept_in, in_kept, made_in, in_made, made_contained, contained_made}
 use Rattle.sdb_types.proofs.Basics.{clash}

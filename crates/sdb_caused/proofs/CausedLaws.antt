@@ -11,7 +11,7 @@ use Rattle.sdb_model.specs.Causes.{AreCaused, IsTurnedAway, before}
 use Rattle.sdb_model.specs.Transactions.{Said, said}
 use Rattle.sdb_said.proofs.Lists.{none_some, right, In}
 use Rattle.sdb_said.proofs.ShownLaws.{number_is, is_number}
-use Rattle.sdb_calls.specs.Values.{taker}
+use Rattle.sdb_plain.specs.Values.{taker}
 use Rattle.sdb_caused.specs.Tests.{IsAnsweredWith, IsTurned, IsTurnedIfDue, answered_with, is_no_memory, same_answer, AreTakersWell, IsWellAnswered}
 use Rattle.sdb_caused.proofs.Finds.{in_contains, contains_in}
 use Rattle.sdb_caused.proofs.SameLaws.{answer_is, is_answer}

@@ -19,8 +19,8 @@ use Rattle.sdb_model.specs.Calls.{calls_of, decision_learned, is_of_row, put_by}
 use Rattle.sdb_model.specs.Causes.{IsCommitOf, IsDecided, IsExpired, IsOfCommit, IsUnknown, PutsRow}
 use Rattle.sdb_model.specs.Transactions.{Said}
 use Rattle.sdb_said.proofs.Lists.{right, not_true, true_not, not_both, In, any_some, some_any}
-use Rattle.sdb_calls.specs.declared.made.Made.{Made}
-use Rattle.sdb_calls.specs.Values.{all_made, asks_row, decision_found_at, made_of}
+use Rattle.sdb_plain.specs.declared.made.Made.{Made}
+use Rattle.sdb_plain.specs.Values.{all_made, asks_row, decision_found_at, made_of}
 use Rattle.sdb_caused.specs.Tests.{any_id, commits_as, is_commit_of, expired_among, fails_later, found_aborted, has_failed, is_decided, is_lost_put, put_before, puts_row, unknown_among}
 use Rattle.sdb_caused.proofs.IdLaws.{commit_found, commit_is, id_some, is_commit}
 use Rattle.sdb_caused.proofs.Finds.{in_contains, contains_in, kept_in, in_kept, made_in, in_made, made_contained, contained_made}

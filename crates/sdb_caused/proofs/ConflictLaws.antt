@@ -26,8 +26,8 @@ use Rattle.sdb_model.specs.Noted.{Note, Got, Scanned, noted_in, resolved, versio
 use Rattle.sdb_model.specs.Sql.{reads_commit}
 use Rattle.sdb_model.specs.Transactions.{Said, prepares}
 use Rattle.sdb_said.proofs.Lists.{none_some, right, or_left, not_true, true_not, In, any_some, some_any}
-use Rattle.sdb_calls.specs.declared.made.Made.{Made}
-use Rattle.sdb_calls.specs.Values.{all_made, made_of}
+use Rattle.sdb_plain.specs.declared.made.Made.{Made}
+use Rattle.sdb_plain.specs.Values.{all_made, made_of}
 use Rattle.sdb_caused.specs.Tests.{any_id, asks_key, base_put, conflict_at_commit, conflict_at_scan, conflict_of, get_shows, has_moved, has_prepared, is_commit_of, is_found_by, is_in, is_moved, is_rebased, is_unmet, not_met_as, read_shows, resolves, resolves_by, same_found, scan_differs, scan_shows, scan_shows_by}
 use Rattle.sdb_caused.proofs.Finds.{in_contains, contains_in, made_contained, contained_made, found_is, is_found}
 use Rattle.sdb_caused.proofs.IdLaws.{commit_is, is_commit, in_is, is_in_of, id_some, commit_found, in_found}

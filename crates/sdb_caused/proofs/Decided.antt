@@ -15,8 +15,8 @@ use Rattle.sdb_model.specs.Sql.{reads_commit, reads_vacuum}
 use Rattle.sdb_model.specs.Transactions.{Said, id_of, said}
 use Rattle.sdb_order.specs.declared.said.Said.{Said as Plain}
 use Rattle.sdb_order.specs.Commits.{all_said}
-use Rattle.sdb_calls.specs.declared.made.Made.{Made}
-use Rattle.sdb_calls.specs.Values.{all_made}
+use Rattle.sdb_plain.specs.declared.made.Made.{Made}
+use Rattle.sdb_plain.specs.Values.{all_made}
 use Rattle.sdb_caused.specs.Tests.{any_upto, busy_among, commits_as, conflict_of, expired_among, is_commit_of, shows_bad, unknown_among}
 use Rattle.sdb_caused.proofs.BusyLaws.{busy_is, is_busy_of}
 use Rattle.sdb_caused.proofs.CommitLaws.{of_commit_is, is_of_commit, expired_is, is_expired_of, unknown_is, is_unknown_of}

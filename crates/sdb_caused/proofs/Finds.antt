@@ -12,8 +12,8 @@ use Rattle.sdb_said.proofs.ShownLaws.{record_is, is_record, kept_is, is_kept_of,
 use Rattle.sdb_caused.specs.Tests.{same_found}
 use Rattle.sdb_model.specs.Calls as calls
 use Rattle.sdb_said.proofs.Lists.{In}
-use Rattle.sdb_calls.specs.declared.made.Made.{Made}
-use Rattle.sdb_calls.specs.Values.{all_made, all_notes, made_of}
+use Rattle.sdb_plain.specs.declared.made.Made.{Made}
+use Rattle.sdb_plain.specs.Values.{all_made, all_notes, made_of}
 use Rattle.sdb_types.proofs.Basics.{clash}
 
 pub in_contains : {X : Type 0} (xs : List X) (x : X) → In xs x → Contains xs x

@@ -14,8 +14,8 @@ use Rattle.sdb_model.specs.Noted.{reads_rows}
 use Rattle.sdb_model.specs.Causes.{MayPassMost, body_before, may_pass, records_found, counted_by}
 use Rattle.sdb_model.specs.Transactions.{Said, client_of, id_of, is_effective, ordinal_of, said}
 use Rattle.sdb_said.proofs.Lists.{right}
-use Rattle.sdb_calls.specs.declared.made.Made.{Made}
-use Rattle.sdb_calls.specs.Values.{all_made, inside_among, made_of}
+use Rattle.sdb_plain.specs.declared.made.Made.{Made}
+use Rattle.sdb_plain.specs.Values.{all_made, inside_among, made_of}
 use Rattle.sdb_caused.specs.Tests.{IsReading, any_id, any_upto, found_among, found_by, found_left, is_in, passes_left, passes_most, total_before, written_left}
 use Rattle.sdb_caused.proofs.Decided.{decide_by}
 use Rattle.sdb_caused.proofs.IdLaws.{id_some, in_found, in_is, is_in_of}

@@ -17,8 +17,8 @@ use Rattle.sdb_model.specs.Noted.{reads_rows}
 use Rattle.sdb_model.specs.Sql.{reads_commit, reads_vacuum}
 use Rattle.sdb_model.specs.Transactions.{Said}
 use Rattle.sdb_said.proofs.Lists.{right, or_left, not_true, true_not, any_some, some_any}
-use Rattle.sdb_calls.specs.declared.made.Made.{Made}
-use Rattle.sdb_calls.specs.Values.{all_made, made_of}
+use Rattle.sdb_plain.specs.declared.made.Made.{Made}
+use Rattle.sdb_plain.specs.Values.{all_made, made_of}
 use Rattle.sdb_caused.specs.Tests.{is_bad, is_refused_there, shows_bad}
 use Rattle.sdb_caused.proofs.Finds.{in_contains, contains_in, made_contained, contained_made}
 use Rattle.sdb_types.proofs.Basics.{clash, or_second as or_right, either}

@@ -15,8 +15,8 @@ use Rattle.sdb_model.specs.Causes.{IsCounted, before, is_open, is_select, remove
 use Rattle.sdb_model.specs.Transactions.{Said}
 use Rattle.sdb_types.specs.declared.key.Key.{Key}
 use Rattle.sdb_model.specs.Calls.{calls_of}
-use Rattle.sdb_calls.specs.declared.made.Made.{Made}
-use Rattle.sdb_calls.specs.Values.{all_made, made_of}
+use Rattle.sdb_plain.specs.declared.made.Made.{Made}
+use Rattle.sdb_plain.specs.Values.{all_made, made_of}
 use Rattle.sdb_said.proofs.ShownLaws.{number_is, is_number}
 use Rattle.sdb_caused.specs.Tests.{Inserts, IsOfCount, IsOfDone, IsOfDuplicate, IsOfRows, IsReading, counts_so, is_done, removed_by}
 use Rattle.sdb_caused.proofs.Decided.{never}

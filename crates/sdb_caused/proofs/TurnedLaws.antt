@@ -19,9 +19,9 @@ use Rattle.sdb_model.specs.Transactions.{Said, said, said_after}
 use Rattle.sdb_model.specs.Causes.{IsTurnedAway, NeedsTransaction, is_open, is_open_after, refused, runs_vacuum}
 use Rattle.sdb_said.proofs.Lists.{none_some, right, not_true, true_not, In, any_some, some_any}
 use Rattle.sdb_said.proofs.ShownLaws.{number_is}
-use Rattle.sdb_calls.specs.declared.open.Work.{Work}
-use Rattle.sdb_calls.specs.declared.open.Work.TheVariants as work
-use Rattle.sdb_calls.specs.Values.{is_client_doing, is_doing, someone_does, taker}
+use Rattle.sdb_plain.specs.declared.open.Work.{Work}
+use Rattle.sdb_plain.specs.declared.open.Work.TheVariants as work
+use Rattle.sdb_plain.specs.Values.{is_client_doing, is_doing, someone_does, taker}
 use Rattle.sdb_caused.specs.Tests.{IsTurned, inside_turned, refusal_met, turned_by}
 use Rattle.sdb_types.proofs.Basics.{clash, some_is, either, decides as decide}
 use Rattle.sdb_types.proofs.Bools.{and_first as left, and_both as both}

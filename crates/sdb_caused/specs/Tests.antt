@@ -38,9 +38,11 @@ use Rattle.sdb_model.specs.Calls.{clock_at, calls_of, decision_learned, is_read,
 use Rattle.sdb_model.specs.Noted.{Note, Got, Scanned, noted_in, reads_rows, resolved, version_noted}
 use Rattle.sdb_model.specs.Causes.{IsCaused, IsCounted, IsTurnedAway, before, is_misfit, is_open, is_select, prepares_key, records_found, refused, removes, counted_by}
 use Rattle.sdb_said.specs.Values.{same_record}
-use Rattle.sdb_calls.specs.declared.made.Made.{Made}
-use Rattle.sdb_calls.specs.declared.open.Work.TheVariants as work
-use Rattle.sdb_calls.specs.Values.{all_made, asks_row, decision_found_at, inside_among, made_of, someone_does, taker}
+use Rattle.sdb_plain.specs.declared.made.Made.{Made}
+use Rattle.sdb_caused.specs.declared.sign.Sign.{Sign}
+use Rattle.sdb_caused.specs.declared.sign.Sign.TheVariants as sign
+use Rattle.sdb_plain.specs.declared.open.Work.TheVariants as work
+use Rattle.sdb_plain.specs.Values.{all_made, asks_row, decision_found_at, inside_among, made_of, someone_does, taker}
 use Rattle.sdb_types.specs.Replies.{is_fault}
 use Rattle.sdb_types.specs.Order.{same_key}
 
@@ -215,6 +217,17 @@ abbrev pub conflict_of : List Event → ℕ → Said → List Made → Key → O
 conflict_of events client s ms key found id =
     (is_commit_of events client s id && conflict_at_commit ms (noted_in events id) id key found)
     || (not (reads_commit s.text) && (is_in events client s id && conflict_at_scan ms (noted_in events id) key found))
+
+-- a call is one that is looked for
+abbrev pub has_sign : Sign → Made → Bool
+has_sign (sign.Look events after row at) m = looks_early events.now after row.now at m
+has_sign (sign.Abort row n) m = put_before row.now n m
+has_sign (sign.Failure row n) m = fails_later row.now n m
+has_sign (sign.Prepare id key) m = prepares_key id key.now (made_of m)
+has_sign (sign.Unmet id key found) m = is_unmet id key.now found.now m
+has_sign (sign.Read key found) m = read_shows m key.now found.now
+has_sign (sign.Scan key found) m = scan_shows m key.now found.now
+has_sign sign.Fault m = is_fault m.reply
 
 ---- too many keys
 

@@ -7,13 +7,13 @@ ghost use Rattle.sdb_record.specs.Rolls.{row_of_image};
 ghost use Rattle.sdb_model.specs.Noted.{resolved};
 ghost use Rattle.sdb_model.specs.Causes.{IsBadRecord, is_fit as is_fit_lem};
 ghost use Rattle.sdb_order.specs.Commits.{said_of};
-ghost use Rattle.sdb_calls.specs.Values.{all_made};
+ghost use Rattle.sdb_plain.specs.Values.{all_made};
 ghost use Rattle.sdb_caused.specs.Tests.{is_refused_there, shows_bad as shows_bad_lem};
 ghost use Rattle.sdb_types.specs.Order.{same_key};
 
-use sdb_calls::{Made, calls_of, decision_for, reads_rows};
 use sdb_model::{Event, Keyword};
 use sdb_order::{Said, is_word};
+use sdb_plain::{Made, calls_of, decision_for, reads_rows};
 use sdb_record::{committed_image, is_coordinator, meta_of};
 use sdb_said::{decided, is_same_key};
 use sdb_schema::Catalog;

@@ -8,9 +8,10 @@ ghost use Rattle.sdb_types.specs.Order.{same_key};
 ghost use Rattle.sdb_order.specs.Commits.{said_of};
 ghost use Rattle.sdb_caused.specs.Tests.{is_id as is_id_lem, is_at as is_at_lem, prepared_moment as prepared_moment_lem, looks_early as looks_early_lem, is_early as is_early_lem, reads_busy as reads_busy_lem, busy_among as busy_among_lem};
 
-use sdb_calls::{Made, calls_of, clock_at, is_read};
+use crate::sign::{Sign, any};
 use sdb_model::Event;
 use sdb_order::Said;
+use sdb_plain::{Made, calls_of, clock_at, is_read};
 use sdb_record::{coordinator_key, expired, meta_of};
 use sdb_said::{is_committed, is_same_key, writer};
 use sdb_types::{Key, NoMemory, Record, Reply, Request, TxId, Value, value_named};
@@ -57,8 +58,8 @@ pub fn is_unresolved(alloc: Global, rec: &Record) -> bool
     }
 }
 
-// Whether a call after this event found no row of the transaction, and the record was not expired then.
-fn looks_early(events: &[Event], after: u64, row: &Key, at: i64, made: &Made) -> bool
+/// Whether a call after this event found no row of the transaction, and the record was not expired then.
+pub fn looks_early(events: &[Event], after: u64, row: &Key, at: i64, made: &Made) -> bool
     ensures { result ≡ looks_early_lem events.now after row.now at made.now }
 {
     if made.at <= after {
@@ -72,12 +73,10 @@ fn looks_early(events: &[Event], after: u64, row: &Key, at: i64, made: &Made) ->
     }
 }
 
-fn any_look(events: &[Event], calls: &[Made], after: u64, row: &Key, at: i64) -> bool
+fn any_look(alloc: Global, events: &[Event], calls: &[Made], after: u64, row: &Key, at: i64) -> bool
     ensures { result ≡ list_any (looks_early_lem events.now after row.now at) calls.now }
 {
-    calls
-        .iter()
-        .any(|made| looks_early(events, after, row, at, made))
+    any(alloc, calls, Sign::Look(events, after, row, at))
 }
 
 /// Whether a record that a read found may not be given up yet: it is unresolved, of this transaction and moment, and a later
@@ -96,7 +95,8 @@ pub fn is_early(
 {
     is_unresolved(alloc, rec)
         && (is_id(writer(rec), id)
-            && (is_at(prepared_moment(rec), at) && any_look(events, calls, read.at, row, at)))
+            && (is_at(prepared_moment(rec), at)
+                && any_look(alloc, events, calls, read.at, row, at)))
 }
 
 fn is_busy_at(

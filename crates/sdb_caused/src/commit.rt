@@ -6,17 +6,17 @@ ghost use Rattle.sdb_model.specs.Calls.{decision_learned};
 ghost use Rattle.sdb_model.specs.Causes.{IsExpired, IsOfCommit, IsUnknown};
 ghost use Rattle.sdb_model.specs.Transactions.{id_of as id_of_lem, through_end};
 ghost use Rattle.sdb_order.specs.Commits.{said_of, all_said};
-ghost use Rattle.sdb_calls.specs.Values.{all_made};
-ghost use Rattle.sdb_caused.specs.Tests.{any_upto, commits_as as commits_as_lem, is_commit_of as is_commit_of_lem, is_in as is_in_lem, same_said, is_decided as is_decided_lem, puts_row as puts_row_lem, put_before, found_aborted as found_aborted_lem, expired_among as expired_among_lem, fails_later as fails_later_lem, is_lost_put as is_lost_put_lem, unknown_among as unknown_among_lem};
+ghost use Rattle.sdb_plain.specs.Values.{all_made};
+ghost use Rattle.sdb_caused.specs.Tests.{any_upto, commits_as as commits_as_lem, is_commit_of as is_commit_of_lem, is_in as is_in_lem, same_said, is_decided as is_decided_lem, puts_row as puts_row_lem, found_aborted as found_aborted_lem, expired_among as expired_among_lem, fails_later as fails_later_lem, is_lost_put as is_lost_put_lem, unknown_among as unknown_among_lem};
 
 use crate::same::is_same_said;
-use sdb_calls::{
-    Made, asks_row, calls_of, client_of, commit_of, decision_found_at, decision_learned_at, id_of,
-    ordinal_of, put_by, rest_of,
-};
+use crate::sign::{Sign, any};
 use sdb_model::Event;
 use sdb_order::{Said, ends, statements_said};
-use sdb_plain::from_begin;
+use sdb_plain::{
+    Made, asks_row, calls_of, client_of, commit_of, decision_found_at, decision_learned_at,
+    from_begin, id_of, ordinal_of, put_by, rest_of,
+};
 use sdb_record::{Decided, Decision, coordinator_key};
 use sdb_said::decided;
 use sdb_types::{Key, NoMemory, Reply, TxId};
@@ -87,7 +87,7 @@ fn is_decided(found: Option<Decided>, wanted: Decision) -> bool
 }
 
 // Whether the first decision on a transaction that calls showed is COMMITTED.
-#[tactic(auto, using(sdb_calls::proofs::Walks::learned_is))]
+#[tactic(auto, using(sdb_plain::proofs::Walks::learned_is))]
 fn is_learned(alloc: Global, calls: &[Made], id: TxId) -> Result<bool, NoMemory>
     ensures { IfOk result (λ is. is ≡ is_decided_lem decision.Committed (decision_learned (all_made calls.now) id)) }
 {
@@ -150,8 +150,8 @@ pub fn is_of_commit(
     is_among_commits(alloc, events, client, said, calls.as_slice(), count)
 }
 
-// Whether a call puts a transaction's row with this decision.
-fn puts_row(alloc: Global, row: &Key, wanted: Decision, made: &Made) -> bool
+/// Whether a call puts a transaction's row with this decision.
+pub fn puts_row(alloc: Global, row: &Key, wanted: Decision, made: &Made) -> bool
     ensures { result ≡ puts_row_lem row.now wanted made.now }
 {
     asks_row(row, &made.request)
@@ -161,17 +161,11 @@ fn puts_row(alloc: Global, row: &Key, wanted: Decision, made: &Made) -> bool
         }
 }
 
-fn has_put_before(alloc: Global, calls: &[Made], row: &Key, at: u64) -> bool
-    ensures { result ≡ list_any (put_before row.now at) calls.now }
-{
-    calls.iter().any(|made| made.at < at && puts_row(alloc, row, Decision::Aborted, made))
-}
-
 fn found_aborted(alloc: Global, calls: &[Made], row: &Key, made: &Made) -> bool
     ensures { result ≡ found_aborted_lem calls.now row.now made.now }
 {
     is_decided(decision_found_at(alloc, row, made), Decision::Aborted)
-        && !has_put_before(alloc, calls, row, made.at)
+        && !any(alloc, calls, Sign::Abort(row, made.at))
 }
 
 /// Whether a call of the COMMIT found its transaction's row ABORTED, and none of it before had put that row.
@@ -196,35 +190,38 @@ pub fn is_expired(
 fn expired_among(alloc: Global, calls: &[Made], row: &Key) -> bool
     ensures { result ≡ expired_among_lem calls.now row.now }
 {
-    calls
-        .iter()
-        .any(|made| found_aborted(alloc, calls, row, made))
+    for made in calls {
+        if found_aborted(alloc, calls, row, made) {
+            return true;
+        }
+    }
+    false
 }
 
-fn fails_later(row: &Key, at: u64, made: &Made) -> bool
+/// Whether a call for a transaction's row after an event was answered with a fault or out of memory.
+pub fn fails_later(row: &Key, at: u64, made: &Made) -> bool
     ensures { result ≡ fails_later_lem row.now at made.now }
 {
     at < made.at
         && (asks_row(row, &made.request) && matches!(made.reply, Reply::Fault | Reply::NoMemory))
 }
 
-fn fails_after(calls: &[Made], row: &Key, at: u64) -> bool
-    ensures { result ≡ list_any (fails_later_lem row.now at) calls.now }
-{
-    calls.iter().any(|made| fails_later(row, at, made))
-}
-
 fn is_lost_put(alloc: Global, calls: &[Made], row: &Key, put: &Made) -> bool
     ensures { result ≡ is_lost_put_lem calls.now row.now put.now }
 {
     puts_row(alloc, row, Decision::Committed, put)
-        && (matches!(put.reply, Reply::Fault) && fails_after(calls, row, put.at))
+        && (matches!(put.reply, Reply::Fault) && any(alloc, calls, Sign::Failure(row, put.at)))
 }
 
 fn unknown_among(alloc: Global, calls: &[Made], row: &Key) -> bool
     ensures { result ≡ unknown_among_lem calls.now row.now }
 {
-    calls.iter().any(|put| is_lost_put(alloc, calls, row, put))
+    for put in calls {
+        if is_lost_put(alloc, calls, row, put) {
+            return true;
+        }
+    }
+    false
 }
 
 /// Whether the deciding put of the COMMIT was answered with a fault, and a later call for the row with a fault or out of memory.

@@ -10,15 +10,15 @@ ghost use Rattle.sdb_record.specs.Moved.{is_unchanged as is_unchanged_lem};
 ghost use Rattle.sdb_record.specs.Parts.{before_record};
 ghost use Rattle.sdb_record.specs.Rolls.{forward_record};
 ghost use Rattle.sdb_said.specs.Values.{note_of};
-ghost use Rattle.sdb_calls.specs.Values.{all_made, all_notes, made_of};
-ghost use Rattle.sdb_caused.specs.Tests.{asks_key, conflict_at_scan, is_moved as is_moved_lem, has_moved as has_moved_lem, get_shows as get_shows_lem, has_prepared as has_prepared_lem, is_found_by as is_found_by_lem, is_unmet as is_unmet_lem, not_met_as as not_met_as_lem, read_shows as read_shows_lem, scan_shows as scan_shows_lem, base_put as base_put_lem, scan_differs as scan_differs_lem, is_rebased as is_rebased_lem, conflict_at_commit as conflict_at_commit_lem, same_found, resolves as resolves_lem, any_upto, conflict_of as conflict_of_lem};
+ghost use Rattle.sdb_plain.specs.Values.{all_made, all_notes, made_of};
+ghost use Rattle.sdb_caused.specs.Tests.{asks_key, conflict_at_scan, is_moved as is_moved_lem, has_moved as has_moved_lem, get_shows as get_shows_lem, is_found_by as is_found_by_lem, is_unmet as is_unmet_lem, not_met_as as not_met_as_lem, read_shows as read_shows_lem, scan_shows as scan_shows_lem, base_put as base_put_lem, scan_differs as scan_differs_lem, is_rebased as is_rebased_lem, conflict_at_commit as conflict_at_commit_lem, same_found, resolves as resolves_lem, any_upto, conflict_of as conflict_of_lem};
 
 use crate::commit::{is_commit_of, is_in};
 use crate::same::is_same_found;
-use sdb_calls::{Made, calls_of, decision_for, id_of, key_asked, noted_in, put_by};
+use crate::sign::{Sign, any};
 use sdb_model::{Event, Keyword};
 use sdb_order::{Said, is_word, statements_said};
-use sdb_plain::is_prepare;
+use sdb_plain::{Made, calls_of, decision_for, id_of, is_prepare, key_asked, noted_in, put_by};
 use sdb_record::{Decided, Decision, Scan, is_same_version, is_unchanged, rolled_forward};
 use sdb_said::{
     Note, is_committed, is_kept_in, is_same_key, keeps_none, kept_writer, record_among,
@@ -39,7 +39,12 @@ fn is_moved(note: &Note, key: &Key, found: &Option<Record>) -> bool
 fn any_moved(notes: &[Note], key: &Key, found: &Option<Record>) -> bool
     ensures { result ≡ list_any (λ n. is_moved_lem key.now found.now (note_of n)) notes.now }
 {
-    notes.iter().any(|note| is_moved(note, key, found))
+    for note in notes {
+        if is_moved(note, key, found) {
+            return true;
+        }
+    }
+    false
 }
 
 fn has_moved(notes: &[Note], key: &Key, found: &Option<Record>) -> bool
@@ -48,7 +53,8 @@ fn has_moved(notes: &[Note], key: &Key, found: &Option<Record>) -> bool
     any_moved(notes, key, found)
 }
 
-fn scan_shows(made: &Made, key: &Key, found: &Option<Record>) -> bool
+/// Whether a scan shows this at a key.
+pub fn scan_shows(made: &Made, key: &Key, found: &Option<Record>) -> bool
     ensures { result ≡ scan_shows_lem made.now key.now found.now }
 {
     match (&made.request, &made.reply) {
@@ -68,7 +74,8 @@ fn is_asked(made: &Made, key: &Key) -> bool
     }
 }
 
-fn prepares_key(id: TxId, key: &Key, made: &Made) -> bool
+/// Whether a call is a prepare of the key.
+pub fn prepares_key(id: TxId, key: &Key, made: &Made) -> bool
     ensures { result ≡ prepares_key_lem id key.now (made_of made.now) }
 {
     is_prepare(&made.request, id) && is_asked(made, key)
@@ -83,23 +90,11 @@ fn not_met_as(reply: &Reply, found: &Option<Record>) -> bool
     }
 }
 
-// Whether a call is a prepare of the key that was not met, where this was found.
-fn is_unmet(id: TxId, key: &Key, found: &Option<Record>, made: &Made) -> bool
+/// Whether a call is a prepare of the key that was not met, where this was found.
+pub fn is_unmet(id: TxId, key: &Key, found: &Option<Record>, made: &Made) -> bool
     ensures { result ≡ is_unmet_lem id key.now found.now made.now }
 {
     prepares_key(id, key, made) && not_met_as(&made.reply, found)
-}
-
-fn any_unmet(calls: &[Made], id: TxId, key: &Key, found: &Option<Record>) -> bool
-    ensures { result ≡ list_any (is_unmet_lem id key.now found.now) calls.now }
-{
-    calls.iter().any(|made| is_unmet(id, key, found, made))
-}
-
-fn has_prepared(calls: &[Made], id: TxId, key: &Key) -> bool
-    ensures { result ≡ has_prepared_lem calls.now id key.now }
-{
-    calls.iter().any(|made| prepares_key(id, key, made))
 }
 
 fn get_shows(made: &Made, key: &Key, found: &Option<Record>) -> bool
@@ -113,24 +108,19 @@ fn get_shows(made: &Made, key: &Key, found: &Option<Record>) -> bool
     }
 }
 
-fn read_shows(made: &Made, key: &Key, found: &Option<Record>) -> bool
+/// Whether a get or a scan shows this at a key.
+pub fn read_shows(made: &Made, key: &Key, found: &Option<Record>) -> bool
     ensures { result ≡ read_shows_lem made.now key.now found.now }
 {
     get_shows(made, key, found) || scan_shows(made, key, found)
 }
 
-fn any_read_shows(calls: &[Made], key: &Key, found: &Option<Record>) -> bool
-    ensures { result ≡ list_any (λ m. read_shows_lem m key.now found.now) calls.now }
-{
-    calls.iter().any(|made| read_shows(made, key, found))
-}
-
 // Whether this was found by a prepare that was not met, or by a check of a key that was not prepared.
-fn is_found_by(calls: &[Made], id: TxId, key: &Key, found: &Option<Record>) -> bool
+fn is_found_by(alloc: Global, calls: &[Made], id: TxId, key: &Key, found: &Option<Record>) -> bool
     ensures { result ≡ is_found_by_lem calls.now id key.now found.now }
 {
-    any_unmet(calls, id, key, found)
-        || (!has_prepared(calls, id, key) && any_read_shows(calls, key, found))
+    any(alloc, calls, Sign::Unmet(id, key, found))
+        || (!any(alloc, calls, Sign::Prepare(id, key)) && any(alloc, calls, Sign::Read(key, found)))
 }
 
 // The version of the base of a record that is put.
@@ -159,7 +149,12 @@ fn scan_differs(note: &Note, key: &Key, base: Option<TxId>) -> bool
 fn any_scan_differs(notes: &[Note], key: &Key, base: Option<TxId>) -> bool
     ensures { result ≡ list_any (λ n. scan_differs_lem key.now base (note_of n)) notes.now }
 {
-    notes.iter().any(|note| scan_differs(note, key, base))
+    for note in notes {
+        if scan_differs(note, key, base) {
+            return true;
+        }
+    }
+    false
 }
 
 fn any_differs(notes: &[Note], key: &Key, base: Option<TxId>) -> bool
@@ -178,18 +173,16 @@ fn differs_from(notes: &[Note], id: TxId, key: &Key, prepare: &Made) -> bool
 fn is_rebased(calls: &[Made], notes: &[Note], id: TxId, key: &Key) -> bool
     ensures { result ≡ is_rebased_lem calls.now (all_notes notes.now) id key.now }
 {
-    calls
-        .iter()
-        .any(|prepare| differs_from(notes, id, key, prepare))
-}
-
-fn any_scan_shows(calls: &[Made], key: &Key, found: &Option<Record>) -> bool
-    ensures { result ≡ list_any (λ m. scan_shows_lem m key.now found.now) calls.now }
-{
-    calls.iter().any(|made| scan_shows(made, key, found))
+    for prepare in calls {
+        if differs_from(notes, id, key, prepare) {
+            return true;
+        }
+    }
+    false
 }
 
 fn conflicts_at_commit(
+    alloc: Global,
     calls: &[Made],
     notes: &[Note],
     id: TxId,
@@ -198,8 +191,8 @@ fn conflicts_at_commit(
 ) -> bool
     ensures { result ≡ conflict_at_commit_lem calls.now (all_notes notes.now) id key.now found.now }
 {
-    (has_moved(notes, key, found) && is_found_by(calls, id, key, found))
-        || (any_scan_shows(calls, key, found) && is_rebased(calls, notes, id, key))
+    (has_moved(notes, key, found) && is_found_by(alloc, calls, id, key, found))
+        || (any(alloc, calls, Sign::Scan(key, found)) && is_rebased(calls, notes, id, key))
 }
 
 // Whether a before image keeps this, where there is one.
@@ -310,7 +303,7 @@ fn commit_conflicts(
     ensures { IfOk result (λ is. is ≡ conflict_at_commit_lem calls.now (noted_in_lem events.now id) id key.now found.now) }
 {
     let notes = noted_in(alloc, events, id)?;
-    Ok(conflicts_at_commit(calls, notes.as_slice(), id, key, found))
+    Ok(conflicts_at_commit(alloc, calls, notes.as_slice(), id, key, found))
 }
 
 fn scan_conflicts(

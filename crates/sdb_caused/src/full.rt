@@ -9,9 +9,9 @@ ghost use Rattle.sdb_caused.specs.Tests.{any_upto, before_only, found_among, fou
 
 use crate::commit::is_in;
 use crate::reading::statement_in;
-use sdb_calls::{Made, calls_of, id_of, inside_of, is_effective, ordinal_of, reads_rows};
 use sdb_model::{Answer, Event, Statement};
 use sdb_order::{Said, statements_said};
+use sdb_plain::{Made, calls_of, id_of, inside_of, is_effective, ordinal_of, reads_rows};
 use sdb_types::{NoMemory, Reply, TxId};
 use std::alloc::Global;
 
@@ -138,7 +138,7 @@ fn both_left(
 ) -> Result<(u64, u64), NoMemory>
     ensures { IfOk result (λ left. left ≡ (written_left_lem events.now id said.now.taken, found_left_lem events.now client id (said_of said.now))) }
 {
-    let all = statements_said(alloc, sdb_calls::client_of(id), events)?;
+    let all = statements_said(alloc, sdb_plain::client_of(id), events)?;
     let inside = inside_of(alloc, all.as_slice(), ordinal_of(id))?;
     let written = without_all_counted(inside, said.taken, 4097);
     let before = without_all_found(alloc, events, client, inside, said.taken, written)?;

@@ -11,6 +11,7 @@ mod full;
 mod plain;
 mod reading;
 mod same;
+mod sign;
 mod turned;
 
 pub use busy::{is_early, is_unresolved, prepared_moment};

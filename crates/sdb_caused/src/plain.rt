@@ -2,17 +2,17 @@
 ghost use Rattle.sdb_types.specs.Replies.{is_fault as is_fault_lem};
 ghost use Rattle.std.specs.Prelude.{◌≡◌, IfOk, IsTrue, ◌↔◌, ◌≤◌, false, length};
 ghost use Rattle.std.specs.Option.{option_map_or};
-ghost use Rattle.std.specs.List.{list_any};
 ghost use Rattle.sdb_model.specs.Calls.{calls_of as calls_of_lem};
 ghost use Rattle.sdb_model.specs.Causes.{HasReply, before as before_lem, is_select as is_select_lem, removes as removes_lem};
 ghost use Rattle.sdb_order.specs.Commits.{said_of};
-ghost use Rattle.sdb_calls.specs.Values.{made_of};
+ghost use Rattle.sdb_plain.specs.Values.{made_of};
 ghost use Rattle.sdb_caused.specs.Tests.{Inserts, counts_so as counts_so_lem, is_done as is_done_lem, IsOfRows, IsOfCount, IsOfDone, IsOfDuplicate, removed_by};
 
 use crate::reading::statement_in;
-use sdb_calls::{Made, calls_of, is_open, is_removal, prefix};
+use crate::sign::{Sign, any};
 use sdb_model::{Event, Statement};
 use sdb_order::Said;
+use sdb_plain::{Made, calls_of, is_open, is_removal, prefix};
 use sdb_rows::inserted_key;
 use sdb_said::is_same_key;
 use sdb_schema::Catalog;
@@ -146,12 +146,6 @@ pub fn is_of_duplicate(
     inserts(alloc, catalog, &statement, key)
 }
 
-fn any_fault(calls: &[Made]) -> bool
-    ensures { result ≡ list_any (λ m. is_fault_lem m.reply) calls.now }
-{
-    calls.iter().any(|made| matches!(made.reply, Reply::Fault))
-}
-
 /// The cause of Faulted: a call of the statement was answered with a fault.
 pub fn has_fault(
     alloc: Global,
@@ -162,5 +156,5 @@ pub fn has_fault(
     ensures { IfOk result (λ is. IsTrue is ↔ HasReply is_fault_lem (calls_of_lem events.now client (said_of said.now))) }
 {
     let calls = calls_of(alloc, events, client, said)?;
-    Ok(any_fault(calls.as_slice()))
+    Ok(any(alloc, calls.as_slice(), Sign::Fault))
 }

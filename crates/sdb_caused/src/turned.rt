@@ -4,9 +4,9 @@ ghost use Rattle.sdb_model.specs.Causes.{refused as refused_lem};
 ghost use Rattle.sdb_caused.specs.Tests.{refusal_met, begin_turned as begin_turned_lem, vacuum_turned as vacuum_turned_lem, inside_turned as inside_turned_lem, turned_by as turned_by_lem, IsTurned};
 
 use crate::reading::{refusal_in, statement_in};
-use sdb_calls::{Work, is_open, someone_does};
 use sdb_exec::{Plan, PlanRefused};
 use sdb_model::{Answer, Event, Refusal, Statement};
+use sdb_plain::{Work, is_open, someone_does};
 use sdb_schema::Catalog;
 use sdb_sqltext::laws::one_reading;
 use sdb_types::{NoMemory, Txt};

@@ -196,11 +196,19 @@ abbrev pub rolls_forward : List Record → List Played → List Plan → Event �
 rolls_forward rs past plans (event.Call client store (ask.PutIf target c) how r answered) t k = rolls_open c t && (is_data k && is_rolled_forward rs (own past plans t k) (known_moments rs past plans t) t k target)
 rolls_forward rs past plans _ t k = false
 
+-- a record keeps this one as its before image, or keeps none
+abbrev pub is_kept : Option Record → Record → Bool
+is_kept (Some base) r = is_kept_in r base
+is_kept None r = keeps_none r
+
+abbrev pub is_back : List Record → Option Record → ℕ → Key → Option Record → Bool
+is_back rs o t k base = option_map_or (is_kept base) o false || list_any (λ r. is_held_by t k r && is_kept base r) rs
+
 abbrev pub is_put_back : List Record → Option Record → ℕ → Key → Record → Bool
-is_put_back rs o t k base = option_map_or (λ r. is_kept_in r base) o false || list_any (λ r. is_held_by t k r && is_kept_in r base) rs
+is_put_back rs o t k base = is_back rs o t k (Some base)
 
 abbrev pub is_taken_back : List Record → Option Record → ℕ → Key → Bool
-is_taken_back rs o t k = option_map_or keeps_none o false || list_any (λ r. is_held_by t k r && keeps_none r) rs
+is_taken_back rs o t k = is_back rs o t k None
 
 abbrev pub undoes : List Record → Option Record → Request → ℕ → Key → Bool
 undoes rs o (ask.PutIf base c) t k = rolls_open c t && is_put_back rs o t k base

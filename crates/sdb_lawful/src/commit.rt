@@ -3,7 +3,7 @@ ghost use Rattle.std.specs.Prelude.{◌≡◌, ◌&&◌, if◌then◌else◌, If
 ghost use Rattle.std.specs.Option.{option_copied, option_map_or};
 ghost use Rattle.std.specs.List.{list_all};
 ghost use Rattle.sdb_record.specs.Moved.{is_unchanged as is_unchanged_lem};
-ghost use Rattle.sdb_record.specs.Names.{is_user, same_name};
+ghost use Rattle.sdb_record.specs.Names.{is_user};
 ghost use Rattle.sdb_record.specs.Parts.{are_user_columns as are_user_columns_lem, is_column_name};
 ghost use Rattle.sdb_record.specs.Rolls.{is_change as is_change_lem, prepared_record};
 ghost use Rattle.sdb_laws.specs.Lawful.{is_data as is_data_lem};
@@ -16,12 +16,6 @@ use sdb_record::{
 use sdb_said::{Note, is_same_key, is_settled, settles, version_among, write_of};
 use sdb_types::{Key, NoMemory, Pair, Record, TxId, is_identifier_text};
 use std::alloc::Global;
-
-fn is_text(name: &str, text: &str) -> bool
-    ensures { result ≡ same_name name.now text.now }
-{
-    name.cmp(text).is_eq()
-}
 
 /// Whether it is the key of a table of records.
 pub fn is_data(key: &Key) -> bool
@@ -50,7 +44,12 @@ fn is_user_column(name: &str) -> bool
 fn are_user_columns(pairs: &[Pair]) -> bool
     ensures { result ≡ are_user_columns_lem pairs.now }
 {
-    pairs.iter().all(|pair| is_user_column(pair.name.as_str()))
+    for pair in pairs {
+        if !is_user_column(pair.name.as_str()) {
+            return false;
+        }
+    }
+    true
 }
 
 fn is_change(change: &Change) -> bool

@@ -4,8 +4,8 @@ ghost use Rattle.std.specs.Option.{option_copied, option_map_or};
 ghost use Rattle.std.specs.List.{list_any};
 ghost use Rattle.sdb_record.specs.Meta.{is_committed as is_committed_lem};
 ghost use Rattle.sdb_laws.specs.Lawful.{answer_of as answer_of_lem, is_denial as is_denial_lem};
-ghost use Rattle.sdb_said.specs.Shown.{is_kept_in as is_kept_in_lem, keeps_none as keeps_none_lem, is_held_by as is_held_by_lem, is_forward as is_forward_lem};
-ghost use Rattle.sdb_lawful.specs.Rules.{is_known_committed as is_known_committed_lem, is_known_aborted as is_known_aborted_lem, own as own_lem, with_own, has_own_moment as has_own_moment_lem, known_moments as known_moments_lem, any_held_forward as any_held_forward_lem, is_rolled_forward as is_rolled_forward_lem, rolls_open as rolls_open_lem, rolls_forward, is_put_back as is_put_back_lem, is_taken_back as is_taken_back_lem, undoes as undoes_lem, rolls_back, rolls_well, removes_version as removes_version_lem, removes_well, denies as denies_lem, may_tell as may_tell_lem, may_deny as may_deny_lem, answers_well};
+ghost use Rattle.sdb_said.specs.Shown.{is_held_by as is_held_by_lem, is_forward as is_forward_lem};
+ghost use Rattle.sdb_lawful.specs.Rules.{is_known_committed as is_known_committed_lem, is_known_aborted as is_known_aborted_lem, own as own_lem, with_own, has_own_moment as has_own_moment_lem, known_moments as known_moments_lem, any_held_forward as any_held_forward_lem, is_rolled_forward as is_rolled_forward_lem, rolls_open as rolls_open_lem, rolls_forward, is_kept as is_kept_lem, is_back as is_back_lem, undoes as undoes_lem, rolls_back, rolls_well, removes_version as removes_version_lem, removes_well, denies as denies_lem, may_tell as may_tell_lem, may_deny as may_deny_lem, answers_well};
 ghost use Rattle.sdb_model.specs.Transactions.{is_committed_answer as is_committed_answer_lem};
 
 use crate::commit::{is_data, prepared_by};
@@ -187,50 +187,47 @@ pub fn may_roll_forward(
     }
 }
 
-fn own_keeps(own: &Option<Record>, base: &Record) -> bool
-    ensures { result ≡ option_map_or (λ r. is_kept_in_lem r base.now) own.now false }
+// Whether a record keeps this one as its before image, or keeps none.
+fn is_kept(rec: &Record, base: Option<&Record>) -> bool
+    ensures { result ≡ is_kept_lem (option_copied base.entry) rec.now }
+{
+    match base {
+        Some(base) => is_kept_in(rec, base),
+        None => keeps_none(rec),
+    }
+}
+
+fn own_keeps(own: &Option<Record>, base: Option<&Record>) -> bool
+    ensures { result ≡ option_map_or (is_kept_lem (option_copied base.entry)) own.now false }
 {
     match own {
-        Some(rec) => is_kept_in(rec, base),
+        Some(rec) => is_kept(rec, base),
         None => false,
     }
 }
 
-fn any_keeps(shown: &[Record], id: TxId, key: &Key, base: &Record) -> bool
-    ensures { result ≡ list_any (λ r. is_held_by_lem id.0 key.now r && is_kept_in_lem r base.now) shown.now }
+fn any_keeps(shown: &[Record], id: TxId, key: &Key, base: Option<&Record>) -> bool
+    ensures { result ≡ list_any (λ r. is_held_by_lem id.0 key.now r && is_kept_lem (option_copied base.entry) r) shown.now }
 {
-    shown
-        .iter()
-        .any(|rec| is_held_by(rec, key, id) && is_kept_in(rec, base))
+    for rec in shown {
+        if is_held_by(rec, key, id) && is_kept(rec, base) {
+            return true;
+        }
+    }
+    false
 }
 
-fn is_put_back(shown: &[Record], own: &Option<Record>, id: TxId, key: &Key, base: &Record) -> bool
-    ensures { result ≡ is_put_back_lem shown.now own.now id.0 key.now base.now }
+// Whether a record that the transaction prepared keeps this.
+fn is_put_back(
+    shown: &[Record],
+    own: &Option<Record>,
+    id: TxId,
+    key: &Key,
+    base: Option<&Record>,
+) -> bool
+    ensures { result ≡ is_back_lem shown.now own.now id.0 key.now (option_copied base.entry) }
 {
     own_keeps(own, base) || any_keeps(shown, id, key, base)
-}
-
-fn own_keeps_none(own: &Option<Record>) -> bool
-    ensures { result ≡ option_map_or keeps_none_lem own.now false }
-{
-    match own {
-        Some(rec) => keeps_none(rec),
-        None => false,
-    }
-}
-
-fn any_keeps_none(shown: &[Record], id: TxId, key: &Key) -> bool
-    ensures { result ≡ list_any (λ r. is_held_by_lem id.0 key.now r && keeps_none_lem r) shown.now }
-{
-    shown
-        .iter()
-        .any(|rec| is_held_by(rec, key, id) && keeps_none(rec))
-}
-
-fn is_taken_back(shown: &[Record], own: &Option<Record>, id: TxId, key: &Key) -> bool
-    ensures { result ≡ is_taken_back_lem shown.now own.now id.0 key.now }
-{
-    own_keeps_none(own) || any_keeps_none(shown, id, key)
 }
 
 fn undoes(shown: &[Record], own: &Option<Record>, request: &Request, id: TxId, key: &Key) -> bool
@@ -238,11 +235,11 @@ fn undoes(shown: &[Record], own: &Option<Record>, request: &Request, id: TxId, k
 {
     match request {
         Request::PutIf(base, condition) => {
-            rolls_open(*condition, id) && is_put_back(shown, own, id, key, base)
+            rolls_open(*condition, id) && is_put_back(shown, own, id, key, Some(base))
         }
         Request::DeleteIf(at, condition) => {
             rolls_open(*condition, id)
-                && (is_same_key(at, key) && is_taken_back(shown, own, id, key))
+                && (is_same_key(at, key) && is_put_back(shown, own, id, key, None))
         }
         Request::Get(_) => false,
         Request::Scan(_) => false,

@@ -221,16 +221,23 @@ fn is_as_noted(writes: &[Write], scan: &Scan, rows: &[Record], key: &Key) -> boo
 fn rows_as_noted(writes: &[Write], scan: &Scan, rows: &[Record]) -> bool
     ensures { result ≡ list_all (λ r. is_as_noted_lem writes.now scan.now rows.now r.key) rows.now }
 {
-    rows.iter()
-        .all(|row| is_as_noted(writes, scan, rows, &row.key))
+    for row in rows {
+        if !is_as_noted(writes, scan, rows, &row.key) {
+            return false;
+        }
+    }
+    true
 }
 
 fn found_as_noted(writes: &[Write], scan: &Scan, rows: &[Record], found: &[Read]) -> bool
     ensures { result ≡ list_all (λ r. is_as_noted_lem writes.now scan.now rows.now r.key) found.now }
 {
-    found
-        .iter()
-        .all(|read| is_as_noted(writes, scan, rows, &read.key))
+    for read in found {
+        if !is_as_noted(writes, scan, rows, &read.key) {
+            return false;
+        }
+    }
+    true
 }
 
 fn are_as_noted(writes: &[Write], scan: &Scan, rows: &[Record]) -> bool
@@ -297,7 +304,12 @@ fn agrees_at(writes: &[Write], note: &Note, write: &Write) -> bool
 fn agrees(writes: &[Write], note: &Note) -> bool
     ensures { result ≡ agrees_lem writes.now note.now }
 {
-    writes.iter().all(|write| agrees_at(writes, note, write))
+    for write in writes {
+        if !agrees_at(writes, note, write) {
+            return false;
+        }
+    }
+    true
 }
 
 fn is_note_checked(past: &[Played], id: TxId, writes: &[Write], i: usize, note: &Note) -> bool
@@ -312,13 +324,23 @@ fn is_note_checked(past: &[Played], id: TxId, writes: &[Write], i: usize, note: 
 fn all_told(past: &[Played], id: TxId, writes: &[Write]) -> bool
     ensures { result ≡ list_all (λ w. told_in past.now id.0 w.key) writes.now }
 {
-    writes.iter().all(|write| is_told(past, id, &write.key))
+    for write in writes {
+        if !is_told(past, id, &write.key) {
+            return false;
+        }
+    }
+    true
 }
 
 fn all_agree(writes: &[Write], notes: &[Note]) -> bool
     ensures { result ≡ list_all (agrees_lem writes.now) notes.now }
 {
-    notes.iter().all(|note| agrees(writes, note))
+    for note in notes {
+        if !agrees(writes, note) {
+            return false;
+        }
+    }
+    true
 }
 
 fn all_checked(past: &[Played], id: TxId, writes: &[Write], notes: &[Note]) -> bool
@@ -456,5 +478,10 @@ fn is_shut(past: &[Played], role: &Role) -> bool
 pub fn are_shut(past: &[Played]) -> bool
     ensures { result ≡ are_shut_lem past.now }
 {
-    past.iter().all(|played| is_shut(past, &played.role))
+    for played in past {
+        if !is_shut(past, &played.role) {
+            return false;
+        }
+    }
+    true
 }

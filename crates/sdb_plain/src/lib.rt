@@ -1,12 +1,29 @@
-//! Plain tables computed: slow functions that say in code what the definitions say in words, for tests to compare.
+//! Plain tables, and what a client did for one statement: the calls that it made, what they showed, and what a transaction noted. Slow
+//! functions that say in code what the definitions say in words, for tests to compare.
 #![tactic(auto)]
 
+mod clock;
+mod made;
+mod noted;
+mod open;
 mod order;
 mod points;
+mod reply;
+mod request;
 mod statement;
 mod tables;
+mod transaction;
 
+pub use clock::{clock_at, prefix};
+pub use made::{Made, calls_of, end_of};
+pub use noted::{decision_for, noted_in};
+pub use open::{Work, has_stopped, is_open, runs_vacuum, someone_does, taker};
 pub use order::{Answers, Bodies, Body, run_body, serial};
 pub use points::{first_ending, from_begin, is_prepare, last_prepare, order_of, point};
+pub use reply::{decision_at, decision_found_at, decision_learned_at, standing_said};
+pub use request::{asks_row, is_read, is_removal, key_asked, put_by, reads_rows};
 pub use statement::exec;
 pub use tables::PlainTables;
+pub use transaction::{
+    client_of, commit_of, id_of, inside_of, is_effective, is_from_rows, ordinal_of, rest_of,
+};

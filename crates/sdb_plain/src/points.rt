@@ -2,10 +2,11 @@
 ghost use Rattle.std.specs.Prelude.{◌≡◌, ◌<◌, [], IfOk, OnOk, Some, None, map, fold, length, option_map, find, take_while, nat_le};
 ghost use Rattle.sdb_model.specs.Transactions.{from_begin as from_begin_lem, ends as ends_lem, prepares as prepares_lem, is_prepared_by, last_prepare as last_prepare_lem, point as point_lem, point_at};
 ghost use Rattle.sdb_order.specs.Commits.{said_of, all_said};
-ghost use Rattle.sdb_plain.specs.Points.{commit_among, placed_point, order_of as order_of_lem};
+ghost use Rattle.sdb_plain.specs.Points.{placed_point, order_of as order_of_lem};
 
-use sdb_model::{Event, How, Keyword, Point, Points};
-use sdb_order::{Said, begins, ends, is_word, statements_said};
+use crate::transaction::{client_of, commit_of, ordinal_of};
+use sdb_model::{Event, How, Point, Points};
+use sdb_order::{Said, begins, ends, statements_said};
 use sdb_record::has_version;
 use sdb_types::{NoMemory, Reply, Request, State, TxId};
 use std::alloc::Global;
@@ -82,23 +83,6 @@ pub fn first_ending(alloc: Global, said: &[Said]) -> Result<Option<&Said>, NoMem
     }
 }
 
-// The number of the event at which a transaction's COMMIT was taken, where it ends by one.
-fn commit_taken(alloc: Global, said: &[Said]) -> Result<Option<u64>, NoMemory>
-    ensures { IfOk result (λ taken. taken ≡ option_map (λ s. s.taken) (commit_among (all_said said.now))) }
-{
-    let Some((_, rest)) = said.split_first() else {
-        return Ok(None);
-    };
-    let Some(last) = first_ending(alloc, rest)? else {
-        return Ok(None);
-    };
-    if is_word(alloc, last, Keyword::Commit)? {
-        Ok(Some(last.taken))
-    } else {
-        Ok(None)
-    }
-}
-
 /// A transaction's point: the number of its last prepare that was seen and applied; without one that of the event that took
 /// its COMMIT, and 0 without that.
 pub fn point(alloc: Global, events: &[Event], id: TxId) -> Result<u64, NoMemory>
@@ -107,11 +91,9 @@ pub fn point(alloc: Global, events: &[Event], id: TxId) -> Result<u64, NoMemory>
     if let Some(number) = last_prepare(events, id) {
         return Ok(number);
     }
-    let client = (id.0 >> 64) as u64;
-    let all = statements_said(alloc, client, events)?;
-    let since = from_begin(alloc, (id.0 & 0xffff_ffff_ffff_ffff) as u64, all.as_slice())?;
-    match commit_taken(alloc, since)? {
-        Some(number) => Ok(number),
+    let all = statements_said(alloc, client_of(id), events)?;
+    match commit_of(alloc, all.as_slice(), ordinal_of(id))? {
+        Some(commit) => Ok(commit.taken),
         None => Ok(0),
     }
 }

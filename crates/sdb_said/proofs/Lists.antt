@@ -1,7 +1,7 @@
 -- Lemmas on tests, and on tests of lists.
-use Rattle.std.proofs.Common.{◌≡◌, ℕ, zero, suc, ◌+◌, Bool, true, false, List, [], ◌∷◌, Option, Some, None, ◌⊎◌, inl, inr, refl, sym, ap, ◌∙◌, arith}
+use Rattle.std.proofs.Common.{◌≡◌, ℕ, zero, suc, ◌+◌, Bool, true, false, List, [], ◌∷◌, Option, Some, None, ◌⊎◌, inl, inr, refl, sym, ap, ◌∙◌, arith, Bor}
 use Rattle.std.specs.Prelude.{◌&&◌, ◌||◌, not, find, map, slice_get, if◌then◌else◌}
-use Rattle.std.specs.Option.{option_map}
+use Rattle.std.specs.Option.{option_map, option_copied, is_some}
 use Rattle.std.specs.List.{list_any, list_all, enumerate_from}
 use Rattle.sdb_types.proofs.Basics.{clash, or_second as or_right, some_is, either}
 use Rattle.sdb_types.proofs.Bools.{and_first as left, and_both as both}
@@ -73,6 +73,19 @@ found_in f (y ∷ ys) x h = found_by f y ys x (λ k. found_in f ys x k) (f y) re
 pub found_some : {X : Type 0} (f : X → Bool) (xs : List X) (x : X) → In xs x → f x ≡ true → (y : X) × (find f xs ≡ Some y)
 found_some f [] x i e = absurd i
 found_some f (y ∷ ys) x i e = some_by f y ys x e (λ k. found_some f ys x k e) (f y) refl i
+
+found_or : {X : Type 0} (x : X) (o : Option X) (more : Bool) → is_some o ≡ more → (b : Bool) → is_some (if b then Some x else o) ≡ (b || more)
+found_or x o more e true = refl
+found_or x o more e false = e
+
+pub found_entry : {X : Type 0} (o : Option (Bor X)) → is_some o ≡ is_some (option_copied o)
+found_entry None = refl
+found_entry (Some x) = refl
+
+-- a search finds something where an item passes
+pub found_any : {X : Type 0} (f : X → Bool) (xs : List X) → is_some (find f xs) ≡ list_any f xs
+found_any f [] = refl
+found_any f (x ∷ xs) = found_or x (find f xs) (list_any f xs) (found_any f xs) (f x)
 
 pub got_in : {X : Type 0} (xs : List X) (i : ℕ) (x : X) → slice_get xs i ≡ Some x → In xs x
 got_in [] i x h = none_some h

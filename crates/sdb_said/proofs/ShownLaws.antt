@@ -1,5 +1,5 @@
 -- The records that are gathered are those that the law calls shown; and what the tests on records tell.
-use Rattle.std.proofs.Common.{◌≡◌, ℕ, ◌+◌, Bool, true, false, List, [], ◌∷◌, ◌++◌, Option, Some, None, ◌⊎◌, inl, inr, refl, sym, ap, subst, ◌∙◌}
+use Rattle.std.proofs.Common.{◌≡◌, ℕ, Bool, true, false, List, [], ◌∷◌, ◌++◌, Option, Some, None, ◌⊎◌, inl, inr, refl, sym, ap, subst, ◌∙◌}
 use Rattle.std.specs.Prelude.{ℤ, ◌&&◌, ◌||◌, ◌==◌, not, if◌then◌else◌, is_some, is_none, Result, Ok, Err}
 use Rattle.std.specs.Option.{option_map_or, option_map}
 use Rattle.std.specs.Result.{result_ok}
@@ -14,7 +14,6 @@ use Rattle.sdb_types.specs.declared.record.Record.{Record}
 use Rattle.sdb_types.specs.declared.record.Reply.{Reply}
 use Rattle.sdb_types.specs.declared.record.Reply.TheVariants as reply
 use Rattle.sdb_types.specs.Contents.{tx_id, record_among}
-use Rattle.sdb_types.specs.Columns.{column}
 use Rattle.sdb_types.specs.Order.{value_cmp, same_key}
 use Rattle.sdb_types.specs.Exactness.{record_tells, value_tells}
 use Rattle.sdb_record.specs.declared.coordinator.Decided.{Decided}

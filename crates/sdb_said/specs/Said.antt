@@ -8,6 +8,8 @@ use Rattle.sdb_laws.specs.History.{is_yes, is_met, is_wanting}
 use Rattle.sdb_said.specs.declared.played.Role.{Role}
 use Rattle.sdb_said.specs.declared.played.Role.TheVariants as role
 use Rattle.sdb_said.specs.declared.played.Played.{Played}
+use Rattle.sdb_said.specs.declared.played.Sign.{Sign}
+use Rattle.sdb_said.specs.declared.played.Sign.TheVariants as sign
 use Rattle.sdb_said.specs.Values.{word_of}
 
 ---- single parts
@@ -81,6 +83,20 @@ touches u p = ends_with u p || (is_end_of u p.role || is_begin_of u p.role)
 -- and leaves it open
 abbrev pub opens : ℕ → Played → Bool
 opens u p = not (ends_with u p) && is_begin_of u p.role
+
+-- an event is one that is looked for
+abbrev pub has_sign : Sign → Played → Bool
+has_sign (sign.Begin t) p = is_begin_of t.0 p.role
+has_sign (sign.Touch t) p = touches t.0 p
+has_sign (sign.Take t) p = is_take_of t.0 p.role
+has_sign (sign.Prepare t k) p = is_prepare_of t.0 k.now p.role
+has_sign (sign.Check t i) p = is_check_of t.0 i p.role
+has_sign (sign.Stage t) p = is_stage_of t.0 p.role
+has_sign (sign.Risk t) p = is_risk_of t.0 p.role
+has_sign (sign.Win t) p = is_win_of t.0 p.role
+has_sign (sign.Death t) p = is_death_of t.0 p.role
+has_sign (sign.Meeting t) p = is_meeting_of t.0 p.role
+has_sign (sign.Stop c) p = is_stop_of c p.role
 
 ---- lists of them, newest first
 

@@ -17,7 +17,6 @@ use Rattle.sdb_types.specs.Columns.{column}
 use Rattle.sdb_types.specs.Contents.{tx_id, has_value, record_among}
 use Rattle.sdb_types.specs.Order.{value_cmp, same_key}
 use Rattle.sdb_record.specs.declared.coordinator.Decided.{Decided}
-use Rattle.sdb_record.specs.declared.coordinator.Decision.TheVariants as decision
 use Rattle.sdb_record.specs.Coordinator.{coordinator_key_of, decision_in}
 use Rattle.sdb_record.specs.Meta.{id_in, id_in_value, is_in}
 use Rattle.sdb_record.specs.Names.{tx_tombstone, before_name, base_name, same_name}
@@ -28,6 +27,8 @@ use Rattle.sdb_model.specs.declared.event.Event.TheVariants as event
 use Rattle.sdb_laws.specs.Lawful.{id}
 use Rattle.sdb_said.specs.Values.{same_record}
 use Rattle.sdb_said.specs.declared.played.Played.{Played}
+use Rattle.sdb_said.specs.declared.records.Trace.{Trace}
+use Rattle.sdb_said.specs.declared.records.Trace.TheVariants as trace
 use Rattle.sdb_model.specs.Counted.{is_committed as is_commit}
 
 ---- the records shown
@@ -108,6 +109,27 @@ is_held k r = same_key r.key k && not (is_in Committed r.columns)
 abbrev pub is_held_by : ℕ → Key → Record → Bool
 is_held_by u k r = is_held k r && writer_is u (id_in r.columns)
 
+-- not committed, at a key, and keeps this one
+abbrev pub is_back_to : Key → Record → Record → Bool
+is_back_to k b r = is_held k r && (is_some (id_in r.columns) && is_kept_in r b)
+
+-- a committed record of this writer at a key; one that isn't, and keeps one of this writer
+abbrev pub is_committed_by : ℕ → Key → Record → Bool
+is_committed_by u k r = same_key r.key k && (is_in Committed r.columns && writer_is u (id_in r.columns))
+
+abbrev pub keeps_by : ℕ → Key → Record → Bool
+keeps_by u k r = is_held k r && (is_some (id_in r.columns) && writer_is u (kept_writer r.columns))
+
+-- the same, and one that isn't committed, where what a read comes to is a tombstone
+abbrev pub is_gone_by : ℕ → Key → Record → Bool
+is_gone_by u k r = same_key r.key k && (is_in Committed r.columns && (writer_is u (id_in r.columns) && is_tombstone r))
+
+abbrev pub keeps_gone_by : ℕ → Key → Record → Bool
+keeps_gone_by u k r = is_held k r && (is_some (id_in r.columns) && (writer_is u (kept_writer r.columns) && keeps_tombstone r.columns))
+
+abbrev pub is_held_gone_by : ℕ → Key → Record → Bool
+is_held_gone_by u k r = is_held_by u k r && (is_in Deleted r.columns || is_tombstone r)
+
 ---- rows of the coordinator
 
 abbrev pub decided : Record → Option Decided
@@ -125,6 +147,20 @@ commit_moment (Some d) = if is_commit d.decision then Some d.created_at else Non
 
 abbrev pub row_moment : Key → Record → Option ℤ
 row_moment row r = if same_key r.key row then commit_moment (decided r) else None
+
+-- a record is one that is looked for
+abbrev pub has_trace : Trace → Record → Bool
+has_trace (trace.Itself b) r = same_record r b.now
+has_trace (trace.Back k b) r = is_back_to k.now b.now r
+has_trace (trace.Committed k t) r = is_committed_by t.0 k.now r
+has_trace (trace.Kept k t) r = keeps_by t.0 k.now r
+has_trace (trace.Held k t) r = is_held_by t.0 k.now r
+has_trace (trace.CommittedTombstone k t) r = is_gone_by t.0 k.now r
+has_trace (trace.KeptTombstone k t) r = keeps_gone_by t.0 k.now r
+has_trace (trace.HeldTombstone k t) r = is_held_gone_by t.0 k.now r
+has_trace (trace.Commit row) r = same_key r.key row.now && commits (decided r)
+has_trace (trace.Abort row) r = same_key r.key row.now && aborts (decided r)
+has_trace (trace.BadRow row) r = same_key r.key row.now && is_none (decided r)
 
 -- a row of this key was shown that says COMMITTED, or ABORTED, or is none
 abbrev pub shows_commit : List Record → Key → Bool
@@ -149,7 +185,7 @@ abbrev pub is_itself : List Record → Key → Record → Bool
 is_itself rs k b = list_any (λ r. same_record r b) rs && (same_key b.key k && is_in Committed b.columns)
 
 abbrev pub is_back : List Record → Key → Record → Bool
-is_back rs k b = list_any (λ r. is_held k r && (is_some (id_in r.columns) && is_kept_in r b)) rs
+is_back rs k b = list_any (is_back_to k b) rs
 
 abbrev pub forward_from : List Record → Key → Record → Record → Bool
 forward_from rs k b r = is_held k r && option_map_or (λ i. is_forward r (moments rs (coordinator_key_of i)) b) (id_in r.columns) false
@@ -160,13 +196,13 @@ is_settled rs k b = is_itself rs k b || (is_back rs k b || list_any (forward_fro
 -- a record of this writer that a read of the key comes to
 abbrev pub settles : List Record → Key → ℕ → Bool
 settles rs k u =
-    list_any (λ r. same_key r.key k && (is_in Committed r.columns && writer_is u (id_in r.columns))) rs
-    || (list_any (λ r. is_held k r && (is_some (id_in r.columns) && writer_is u (kept_writer r.columns))) rs
+    list_any (is_committed_by u k) rs
+    || (list_any (keeps_by u k) rs
     || (list_any (is_held_by u k) rs && shows_commit rs (coordinator_key_of (id u))))
 
 -- and that is a tombstone
 abbrev pub settles_gone : List Record → Key → ℕ → Bool
 settles_gone rs k u =
-    list_any (λ r. same_key r.key k && (is_in Committed r.columns && (writer_is u (id_in r.columns) && is_tombstone r))) rs
-    || (list_any (λ r. is_held k r && (is_some (id_in r.columns) && (writer_is u (kept_writer r.columns) && keeps_tombstone r.columns))) rs
-    || (list_any (λ r. is_held_by u k r && (is_in Deleted r.columns || is_tombstone r)) rs && shows_commit rs (coordinator_key_of (id u))))
+    list_any (is_gone_by u k) rs
+    || (list_any (keeps_gone_by u k) rs
+    || (list_any (is_held_gone_by u k) rs && shows_commit rs (coordinator_key_of (id u))))

@@ -30,7 +30,12 @@ impl Drop for Note {
 fn read_of<'a>(found: &'a [Read], key: &Key) -> Option<&'a Read>
     ensures { option_copied result ≡ find (λ r. same_key key.now r.key) found.now }
 {
-    found.iter().find(|read| is_same_key(key, &read.key))
+    for read in found {
+        if is_same_key(key, &read.key) {
+            return Some(read);
+        }
+    }
+    None
 }
 
 /// The version that a scan found at a key.
@@ -90,7 +95,12 @@ impl Drop for Plan {
 fn plan_of(plans: &[Plan], id: TxId) -> Option<&Plan>
     ensures { option_copied result ≡ planned plans.now id.0 }
 {
-    plans.iter().find(|plan| id.0 == plan.id.0)
+    for plan in plans {
+        if id.0 == plan.id.0 {
+            return Some(plan);
+        }
+    }
+    None
 }
 
 /// The writes of a transaction, none where it has no plan.
@@ -125,5 +135,10 @@ pub fn moment_of(plans: &[Plan], id: TxId) -> i64
 pub fn write_of<'a>(writes: &'a [Write], key: &Key) -> Option<&'a Write>
     ensures { option_copied result ≡ write_among writes.now key.now }
 {
-    writes.iter().find(|write| is_same_key(key, &write.key))
+    for write in writes {
+        if is_same_key(key, &write.key) {
+            return Some(write);
+        }
+    }
+    None
 }

@@ -1,10 +1,11 @@
 //! Events with the parts that they play, and what a list of them, newest first, has said of a transaction.
 ghost use Rattle.std.specs.Prelude.{◌≡◌, find};
 ghost use Rattle.std.specs.Option.{option_copied};
+ghost use Rattle.std.specs.List.{list_any};
 ghost use Rattle.sdb_types.specs.Order.{same_key};
 ghost use Rattle.sdb_laws.specs.History.{is_yes, is_met, is_wanting};
 ghost use Rattle.sdb_said.specs.Values.{word_of};
-ghost use Rattle.sdb_said.specs.Said.{is_begin_of, is_take_of, is_prepare_of, is_applied, is_check_of, is_stage_of, is_decision, is_risk_of, is_win_of, is_death_of, is_meeting_of, is_stop_of, is_end_of, ends_with, owner_in, touches, opens, taken_in, begun_in, asked_in, told_in, checked_in, staged_in, deciding_in, risked_in, won_in, dead_in, met_in, stopped_in, owner_of, open_in};
+ghost use Rattle.sdb_said.specs.Said.{is_begin_of, is_take_of, is_prepare_of, is_applied, is_check_of, is_stage_of, is_decision, is_risk_of, is_win_of, is_death_of, is_meeting_of, is_stop_of, is_end_of, ends_with, owner_in, touches, opens, has_sign as has_sign_lem, taken_in, begun_in, asked_in, told_in, checked_in, staged_in, deciding_in, risked_in, won_in, dead_in, met_in, stopped_in, owner_of, open_in};
 
 use crate::same::is_same_key;
 use sdb_model::Event;
@@ -249,37 +250,79 @@ fn is_opened(played: &Played, id: TxId) -> bool
     !is_ended_by(played, id) && begins(&played.role, id)
 }
 
+/// What is looked for among events.
+#[derive(Clone, Copy)]
+enum Sign<'a> {
+    Begin(TxId),
+    /// Its begin or its end.
+    Touch(TxId),
+    Take(TxId),
+    Prepare(TxId, &'a Key),
+    Check(TxId, usize),
+    /// A check, or the put of COMMITTED.
+    Stage(TxId),
+    Risk(TxId),
+    Win(TxId),
+    Death(TxId),
+    Meeting(TxId),
+    Stop(u32),
+}
+
+fn has_sign(played: &Played, sign: Sign) -> bool
+    ensures { result ≡ has_sign_lem sign.entry played.now }
+{
+    match sign {
+        Sign::Begin(id) => begins(&played.role, id),
+        Sign::Touch(id) => is_touched(played, id),
+        Sign::Take(id) => takes(&played.role, id),
+        Sign::Prepare(id, key) => prepares(&played.role, id, key),
+        Sign::Check(id, note) => checks(&played.role, id, note),
+        Sign::Stage(id) => moves_stage(&played.role, id),
+        Sign::Risk(id) => risks(&played.role, id),
+        Sign::Win(id) => wins(&played.role, id),
+        Sign::Death(id) => kills(&played.role, id),
+        Sign::Meeting(id) => meets(&played.role, id),
+        Sign::Stop(client) => stops(&played.role, client),
+    }
+}
+
+// The newest event with this sign.
+fn last<'a>(past: &'a [Played], sign: Sign) -> Option<&'a Played>
+    ensures { option_copied result ≡ find (has_sign_lem sign.entry) past.now }
+{
+    for played in past {
+        if has_sign(played, sign) {
+            return Some(played);
+        }
+    }
+    None
+}
+
+fn any(past: &[Played], sign: Sign) -> bool
+    ensures { result ≡ list_any (has_sign_lem sign.entry) past.now }
+{
+    last(past, sign).is_some()
+}
+
 pub fn is_begun(past: &[Played], id: TxId) -> bool
     ensures { result ≡ begun_in past.now id.0 }
 {
-    past.iter().any(|p| begins(&p.role, id))
-}
-
-fn first_begin(past: &[Played], id: TxId) -> Option<&Played>
-    ensures { option_copied result ≡ find (λ p. is_begin_of id.0 p.role) past.now }
-{
-    past.iter().find(|p| begins(&p.role, id))
+    any(past, Sign::Begin(id))
 }
 
 pub fn owner(past: &[Played], id: TxId) -> u32
     ensures { result ≡ owner_of past.now id.0 }
 {
-    match first_begin(past, id) {
+    match last(past, Sign::Begin(id)) {
         Some(played) => begun_by(&played.role),
         None => 0,
     }
 }
 
-fn first_touch(past: &[Played], id: TxId) -> Option<&Played>
-    ensures { option_copied result ≡ find (touches id.0) past.now }
-{
-    past.iter().find(|p| is_touched(p, id))
-}
-
 pub fn is_open(past: &[Played], id: TxId) -> bool
     ensures { result ≡ open_in past.now id.0 }
 {
-    match first_touch(past, id) {
+    match last(past, Sign::Touch(id)) {
         Some(played) => is_opened(played, id),
         None => false,
     }
@@ -288,31 +331,25 @@ pub fn is_open(past: &[Played], id: TxId) -> bool
 pub fn is_stopped(past: &[Played], client: u32) -> bool
     ensures { result ≡ stopped_in past.now client }
 {
-    past.iter().any(|p| stops(&p.role, client))
+    any(past, Sign::Stop(client))
 }
 
 pub fn is_taken(past: &[Played], id: TxId) -> bool
     ensures { result ≡ taken_in past.now id.0 }
 {
-    past.iter().any(|p| takes(&p.role, id))
+    any(past, Sign::Take(id))
 }
 
 pub fn is_asked(past: &[Played], id: TxId, key: &Key) -> bool
     ensures { result ≡ asked_in past.now id.0 key.now }
 {
-    past.iter().any(|p| prepares(&p.role, id, key))
-}
-
-fn first_prepare<'a>(past: &'a [Played], id: TxId, key: &Key) -> Option<&'a Played>
-    ensures { option_copied result ≡ find (λ p. is_prepare_of id.0 key.now p.role) past.now }
-{
-    past.iter().find(|p| prepares(&p.role, id, key))
+    any(past, Sign::Prepare(id, key))
 }
 
 pub fn is_told(past: &[Played], id: TxId, key: &Key) -> bool
     ensures { result ≡ told_in past.now id.0 key.now }
 {
-    match first_prepare(past, id, key) {
+    match last(past, Sign::Prepare(id, key)) {
         Some(played) => is_applied_prepare(&played.role),
         None => false,
     }
@@ -321,26 +358,20 @@ pub fn is_told(past: &[Played], id: TxId, key: &Key) -> bool
 pub fn is_checked(past: &[Played], id: TxId, note: usize) -> bool
     ensures { result ≡ checked_in past.now id.0 note }
 {
-    past.iter().any(|p| checks(&p.role, id, note))
+    any(past, Sign::Check(id, note))
 }
 
 /// Whether it has gone on from its prepares.
 pub fn is_past_prepares(past: &[Played], id: TxId) -> bool
     ensures { result ≡ staged_in past.now id.0 }
 {
-    past.iter().any(|p| moves_stage(&p.role, id))
-}
-
-fn first_stage(past: &[Played], id: TxId) -> Option<&Played>
-    ensures { option_copied result ≡ find (λ p. is_stage_of id.0 p.role) past.now }
-{
-    past.iter().find(|p| moves_stage(&p.role, id))
+    any(past, Sign::Stage(id))
 }
 
 pub fn is_deciding(past: &[Played], id: TxId) -> bool
     ensures { result ≡ deciding_in past.now id.0 }
 {
-    match first_stage(past, id) {
+    match last(past, Sign::Stage(id)) {
         Some(played) => decides(&played.role),
         None => false,
     }
@@ -349,23 +380,23 @@ pub fn is_deciding(past: &[Played], id: TxId) -> bool
 pub fn is_risked(past: &[Played], id: TxId) -> bool
     ensures { result ≡ risked_in past.now id.0 }
 {
-    past.iter().any(|p| risks(&p.role, id))
+    any(past, Sign::Risk(id))
 }
 
 pub fn is_won(past: &[Played], id: TxId) -> bool
     ensures { result ≡ won_in past.now id.0 }
 {
-    past.iter().any(|p| wins(&p.role, id))
+    any(past, Sign::Win(id))
 }
 
 pub fn is_dead(past: &[Played], id: TxId) -> bool
     ensures { result ≡ dead_in past.now id.0 }
 {
-    past.iter().any(|p| kills(&p.role, id))
+    any(past, Sign::Death(id))
 }
 
 pub fn is_met_once(past: &[Played], id: TxId) -> bool
     ensures { result ≡ met_in past.now id.0 }
 {
-    past.iter().any(|p| meets(&p.role, id))
+    any(past, Sign::Meeting(id))
 }

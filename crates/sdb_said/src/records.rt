@@ -4,14 +4,13 @@ ghost use Rattle.std.specs.Option.{option_copied};
 ghost use Rattle.std.specs.List.{list_any, cons_option};
 ghost use Rattle.sdb_types.specs.declared.record.State.TheVariants.{Committed, Deleted};
 ghost use Rattle.sdb_types.specs.Contents.{record_among as record_among_lem};
-ghost use Rattle.sdb_types.specs.Order.{same_key};
 ghost use Rattle.sdb_record.specs.Ids.{id_of_text};
 ghost use Rattle.sdb_record.specs.Meta.{id_in, id_in_value, is_in};
 ghost use Rattle.sdb_record.specs.Names.{base_name, is_before, same_name};
 ghost use Rattle.sdb_record.specs.Parts.{is_before_pair};
-ghost use Rattle.sdb_record.specs.Rolls.{forward_record, is_tombstone as is_tombstone_lem};
+ghost use Rattle.sdb_record.specs.Rolls.{forward_record};
 ghost use Rattle.sdb_said.specs.Values.{same_record};
-ghost use Rattle.sdb_said.specs.Shown.{is_first as is_first_lem, with_rows, with_found, with_reply, with_event, shown as shown_lem, writer_is as writer_is_lem, kept_writer as kept_writer_lem, keeps_tombstone as keeps_tombstone_lem, keeps as keeps_lem, is_kept_in as is_kept_in_lem, keeps_none as keeps_none_lem, is_held as is_held_lem, is_held_by as is_held_by_lem, decided as decided_lem, commits as commits_lem, aborts as aborts_lem, commit_moment as commit_moment_lem, row_moment as row_moment_lem, shows_commit as shows_commit_lem, shows_abort as shows_abort_lem, shows_bad_row as shows_bad_row_lem, moments as moments_lem, is_forward as is_forward_lem, is_itself as is_itself_lem, is_back as is_back_lem, forward_from as forward_from_lem, is_settled as is_settled_lem, settles as settles_lem, settles_gone as settles_gone_lem};
+ghost use Rattle.sdb_said.specs.Shown.{is_first as is_first_lem, with_rows, with_found, with_reply, with_event, shown as shown_lem, writer_is as writer_is_lem, kept_writer as kept_writer_lem, keeps_tombstone as keeps_tombstone_lem, keeps as keeps_lem, is_kept_in as is_kept_in_lem, keeps_none as keeps_none_lem, is_held as is_held_lem, is_held_by as is_held_by_lem, decided as decided_lem, commits as commits_lem, aborts as aborts_lem, commit_moment as commit_moment_lem, row_moment as row_moment_lem, shows_commit as shows_commit_lem, shows_abort as shows_abort_lem, shows_bad_row as shows_bad_row_lem, moments as moments_lem, is_forward as is_forward_lem, is_itself as is_itself_lem, is_back_to as is_back_to_lem, is_committed_by as is_committed_by_lem, keeps_by as keeps_by_lem, is_gone_by as is_gone_by_lem, keeps_gone_by as keeps_gone_by_lem, is_held_gone_by as is_held_gone_by_lem, has_trace as has_trace_lem, forward_from as forward_from_lem, is_settled as is_settled_lem, settles as settles_lem, settles_gone as settles_gone_lem};
 
 use crate::played::Played;
 use crate::same::{is_same_key, is_same_record};
@@ -30,7 +29,12 @@ use std::alloc::Global;
 pub fn record_among<'a>(rows: &'a [Record], key: &Key) -> Option<&'a Record>
     ensures { option_copied result ≡ record_among_lem rows.now key.now }
 {
-    rows.iter().find(|row| is_same_key(key, &row.key))
+    for row in rows {
+        if is_same_key(key, &row.key) {
+            return Some(row);
+        }
+    }
+    None
 }
 
 fn is_first(rows: &[Record], rec: &Record) -> bool
@@ -205,7 +209,12 @@ fn is_before_name(name: &str) -> bool
 fn has_kept(pairs: &[Pair]) -> bool
     ensures { result ≡ list_any is_before_pair pairs.now }
 {
-    pairs.iter().any(|pair| is_before_name(pair.name.as_str()))
+    for pair in pairs {
+        if is_before_name(pair.name.as_str()) {
+            return true;
+        }
+    }
+    false
 }
 
 /// Whether it keeps none.
@@ -277,24 +286,115 @@ fn row_moment(alloc: Global, row: &Key, rec: &Record) -> Option<i64>
     }
 }
 
+/// What is looked for among records that were shown.
+#[derive(Clone, Copy)]
+enum Trace<'a> {
+    /// This record.
+    Itself(&'a Record),
+    /// A record of the key that isn't committed, and keeps this one.
+    Back(&'a Key, &'a Record),
+    /// A committed record of the key and the transaction.
+    Committed(&'a Key, TxId),
+    /// A record of the key that isn't committed, and keeps one of the transaction.
+    Kept(&'a Key, TxId),
+    /// A record of the key and the transaction that isn't committed.
+    Held(&'a Key, TxId),
+    /// The same three, where what a read comes to is a tombstone.
+    CommittedTombstone(&'a Key, TxId),
+    KeptTombstone(&'a Key, TxId),
+    HeldTombstone(&'a Key, TxId),
+    /// A row of the coordinator at this key that says COMMITTED, that says ABORTED, or that is none.
+    Commit(&'a Key),
+    Abort(&'a Key),
+    BadRow(&'a Key),
+}
+
+fn is_back_to(rec: &Record, key: &Key, base: &Record) -> bool
+    ensures { result ≡ is_back_to_lem key.now base.now rec.now }
+{
+    is_held(rec, key) && (writer(rec).is_some() && is_kept_in(rec, base))
+}
+
+fn is_committed_by(rec: &Record, key: &Key, id: TxId) -> bool
+    ensures { result ≡ is_committed_by_lem id.0 key.now rec.now }
+{
+    is_same_key(&rec.key, key) && (is_committed(rec) && is_writer(writer(rec), id))
+}
+
+fn keeps_by(rec: &Record, key: &Key, id: TxId) -> bool
+    ensures { result ≡ keeps_by_lem id.0 key.now rec.now }
+{
+    is_held(rec, key) && (writer(rec).is_some() && is_writer(kept_writer(&rec.columns), id))
+}
+
+fn is_gone_by(rec: &Record, key: &Key, id: TxId) -> bool
+    ensures { result ≡ is_gone_by_lem id.0 key.now rec.now }
+{
+    is_same_key(&rec.key, key)
+        && (is_committed(rec) && (is_writer(writer(rec), id) && is_tombstone(rec)))
+}
+
+fn keeps_gone_by(rec: &Record, key: &Key, id: TxId) -> bool
+    ensures { result ≡ keeps_gone_by_lem id.0 key.now rec.now }
+{
+    is_held(rec, key)
+        && (writer(rec).is_some()
+            && (is_writer(kept_writer(&rec.columns), id) && keeps_tombstone(&rec.columns)))
+}
+
+fn is_held_gone_by(rec: &Record, key: &Key, id: TxId) -> bool
+    ensures { result ≡ is_held_gone_by_lem id.0 key.now rec.now }
+{
+    is_held_by(rec, key, id) && (is_deleted(rec) || is_tombstone(rec))
+}
+
+fn has_trace(alloc: Global, rec: &Record, trace: Trace) -> bool
+    ensures { result ≡ has_trace_lem trace.entry rec.now }
+{
+    match trace {
+        Trace::Itself(base) => is_same_record(rec, base),
+        Trace::Back(key, base) => is_back_to(rec, key, base),
+        Trace::Committed(key, id) => is_committed_by(rec, key, id),
+        Trace::Kept(key, id) => keeps_by(rec, key, id),
+        Trace::Held(key, id) => is_held_by(rec, key, id),
+        Trace::CommittedTombstone(key, id) => is_gone_by(rec, key, id),
+        Trace::KeptTombstone(key, id) => keeps_gone_by(rec, key, id),
+        Trace::HeldTombstone(key, id) => is_held_gone_by(rec, key, id),
+        Trace::Commit(row) => is_same_key(&rec.key, row) && commits(decided(alloc, rec)),
+        Trace::Abort(row) => is_same_key(&rec.key, row) && aborts(decided(alloc, rec)),
+        Trace::BadRow(row) => is_same_key(&rec.key, row) && decided(alloc, rec).is_none(),
+    }
+}
+
+fn any(alloc: Global, shown: &[Record], trace: Trace) -> bool
+    ensures { result ≡ list_any (has_trace_lem trace.entry) shown.now }
+{
+    for rec in shown {
+        if has_trace(alloc, rec, trace) {
+            return true;
+        }
+    }
+    false
+}
+
 /// Whether a row of this key was shown that says COMMITTED.
 pub fn shows_commit(alloc: Global, shown: &[Record], row: &Key) -> bool
     ensures { result ≡ shows_commit_lem shown.now row.now }
 {
-    shown.iter().any(|rec| is_same_key(&rec.key, row) && commits(decided(alloc, rec)))
+    any(alloc, shown, Trace::Commit(row))
 }
 
 pub fn shows_abort(alloc: Global, shown: &[Record], row: &Key) -> bool
     ensures { result ≡ shows_abort_lem shown.now row.now }
 {
-    shown.iter().any(|rec| is_same_key(&rec.key, row) && aborts(decided(alloc, rec)))
+    any(alloc, shown, Trace::Abort(row))
 }
 
 /// Whether a row of this key was shown that is none.
 pub fn shows_bad_row(alloc: Global, shown: &[Record], row: &Key) -> bool
     ensures { result ≡ shows_bad_row_lem shown.now row.now }
 {
-    shown.iter().any(|rec| is_same_key(&rec.key, row) && decided(alloc, rec).is_none())
+    any(alloc, shown, Trace::BadRow(row))
 }
 
 fn add_moment(alloc: Global, found: &mut Seq<i64>, row: &Key, rec: &Record) -> Result<(), NoMemory>
@@ -346,22 +446,10 @@ pub fn is_forward(
     Ok(false)
 }
 
-fn is_among(shown: &[Record], base: &Record) -> bool
-    ensures { result ≡ list_any (λ r. same_record r base.now) shown.now }
-{
-    shown.iter().any(|rec| is_same_record(rec, base))
-}
-
-fn is_itself(shown: &[Record], key: &Key, base: &Record) -> bool
+fn is_itself(alloc: Global, shown: &[Record], key: &Key, base: &Record) -> bool
     ensures { result ≡ is_itself_lem shown.now key.now base.now }
 {
-    is_among(shown, base) && (is_same_key(&base.key, key) && is_committed(base))
-}
-
-fn is_back(shown: &[Record], key: &Key, base: &Record) -> bool
-    ensures { result ≡ is_back_lem shown.now key.now base.now }
-{
-    shown.iter().any(|rec| is_held(rec, key) && (writer(rec).is_some() && is_kept_in(rec, base)))
+    any(alloc, shown, Trace::Itself(base)) && (is_same_key(&base.key, key) && is_committed(base))
 }
 
 fn forward_from(
@@ -406,77 +494,32 @@ pub fn is_settled(
 ) -> Result<bool, NoMemory>
     ensures { IfOk result (λ found. found ≡ is_settled_lem shown.now key.now base.now) }
 {
-    if is_itself(shown, key, base) || is_back(shown, key, base) {
+    if is_itself(alloc, shown, key, base) || any(alloc, shown, Trace::Back(key, base)) {
         return Ok(true);
     }
     any_forward(alloc, shown, key, base)
-}
-
-fn settles_itself(shown: &[Record], key: &Key, id: TxId) -> bool
-    ensures { result ≡ list_any (λ r. same_key r.key key.now && (is_in Committed r.columns && writer_is_lem id.0 (id_in r.columns))) shown.now }
-{
-    shown.iter().any(|rec| {
-        is_same_key(&rec.key, key) && (is_committed(rec) && is_writer(writer(rec), id))
-    })
-}
-
-fn settles_back(shown: &[Record], key: &Key, id: TxId) -> bool
-    ensures { result ≡ list_any (λ r. is_held_lem key.now r && (is_some (id_in r.columns) && writer_is_lem id.0 (kept_writer_lem r.columns))) shown.now }
-{
-    shown.iter().any(|rec| {
-        is_held(rec, key) && (writer(rec).is_some() && is_writer(kept_writer(&rec.columns), id))
-    })
-}
-
-fn any_held(shown: &[Record], key: &Key, id: TxId) -> bool
-    ensures { result ≡ list_any (is_held_by_lem id.0 key.now) shown.now }
-{
-    shown.iter().any(|rec| is_held_by(rec, key, id))
 }
 
 /// Whether a read of the key comes to a committed record of this transaction.
 pub fn settles(alloc: Global, shown: &[Record], key: &Key, id: TxId) -> Result<bool, NoMemory>
     ensures { IfOk result (λ found. found ≡ settles_lem shown.now key.now id.0) }
 {
-    if settles_itself(shown, key, id) || settles_back(shown, key, id) {
+    if any(alloc, shown, Trace::Committed(key, id)) || any(alloc, shown, Trace::Kept(key, id)) {
         return Ok(true);
     }
     let row = coordinator_key(alloc, id)?;
-    Ok(any_held(shown, key, id) && shows_commit(alloc, shown, &row))
-}
-
-fn gone_itself(shown: &[Record], key: &Key, id: TxId) -> bool
-    ensures { result ≡ list_any (λ r. same_key r.key key.now && (is_in Committed r.columns && (writer_is_lem id.0 (id_in r.columns) && is_tombstone_lem r))) shown.now }
-{
-    shown.iter().any(|rec| {
-        is_same_key(&rec.key, key)
-            && (is_committed(rec) && (is_writer(writer(rec), id) && is_tombstone(rec)))
-    })
-}
-
-fn gone_back(shown: &[Record], key: &Key, id: TxId) -> bool
-    ensures { result ≡ list_any (λ r. is_held_lem key.now r && (is_some (id_in r.columns) && (writer_is_lem id.0 (kept_writer_lem r.columns) && keeps_tombstone_lem r.columns))) shown.now }
-{
-    shown.iter().any(|rec| {
-        is_held(rec, key)
-            && (writer(rec).is_some()
-                && (is_writer(kept_writer(&rec.columns), id) && keeps_tombstone(&rec.columns)))
-    })
-}
-
-fn gone_forward(shown: &[Record], key: &Key, id: TxId) -> bool
-    ensures { result ≡ list_any (λ r. is_held_by_lem id.0 key.now r && (is_in Deleted r.columns || is_tombstone_lem r)) shown.now }
-{
-    shown.iter().any(|rec| is_held_by(rec, key, id) && (is_deleted(rec) || is_tombstone(rec)))
+    Ok(any(alloc, shown, Trace::Held(key, id)) && shows_commit(alloc, shown, &row))
 }
 
 /// Whether a read of the key comes to a tombstone of this transaction.
 pub fn settles_gone(alloc: Global, shown: &[Record], key: &Key, id: TxId) -> Result<bool, NoMemory>
     ensures { IfOk result (λ found. found ≡ settles_gone_lem shown.now key.now id.0) }
 {
-    if gone_itself(shown, key, id) || gone_back(shown, key, id) {
+    if any(alloc, shown, Trace::CommittedTombstone(key, id))
+        || any(alloc, shown, Trace::KeptTombstone(key, id))
+    {
         return Ok(true);
     }
     let row = coordinator_key(alloc, id)?;
-    Ok(gone_forward(shown, key, id) && shows_commit(alloc, shown, &row))
+    Ok(any(alloc, shown, Trace::HeldTombstone(key, id)) && shows_commit(alloc, shown, &row))
 }

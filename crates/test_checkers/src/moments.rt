@@ -2,7 +2,7 @@
 use sdb_model::{Event, How, Places};
 use sdb_ordered::Tree;
 use sdb_plain::PlainTables;
-use sdb_shown::{Shelf, Shelves, Stores};
+use sdb_runs::{Shelf, Shelves, Stores};
 use sdb_store::Rows;
 use sdb_types::{Duplicate, Name, NameRefused, NoMemory, Record, Request, Seq};
 use std::alloc::Global;

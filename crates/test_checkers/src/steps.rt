@@ -1,12 +1,11 @@
 //! Events read from reports, and what is asked of them.
 use crate::moments::stores_of;
 use sdb_caused::answers_have_causes;
-use sdb_counted::{broken_in, calls_are_counted, records_are_resolved};
 use sdb_loader::catalog_of;
 use sdb_model::Event;
 use sdb_report::read_report;
+use sdb_runs::{broken_in, calls_are_counted, records_are_resolved, rows_are_shown};
 use sdb_schema::Catalog;
-use sdb_shown::rows_are_shown;
 use std::alloc::Global;
 use std::test::Fail;
 use test_builders::Case;

@@ -1,7 +1,7 @@
 use Rattle.std.proofs.Common.{◌≡◌, ap, subst, ◌∙◌}
 use Rattle.std.specs.List.{list_any}
 use Rattle.sdb_order.specs.Commits.{said_of}
-use Rattle.sdb_calls.specs.Values.{all_made}
+use Rattle.sdb_plain.specs.Values.{all_made}
 use Rattle.sdb_caused.specs.Tests.{shows_bad}
 use Rattle.sdb_caused.proofs.Decided.{bad_record, if_ok}
 use Rattle.sdb_caused.proofs.bad.is_bad_record.Goals as goal

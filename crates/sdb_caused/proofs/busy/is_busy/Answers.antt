@@ -1,6 +1,6 @@
 use Rattle.std.proofs.Common.{◌≡◌, ap, ◌∙◌, rules}
 use Rattle.sdb_order.specs.Commits.{said_of}
-use Rattle.sdb_calls.specs.Values.{all_made}
+use Rattle.sdb_plain.specs.Values.{all_made}
 use Rattle.sdb_caused.specs.Tests.{busy_among}
 use Rattle.sdb_caused.proofs.Decided.{busy}
 use Rattle.sdb_caused.proofs.busy.is_busy.Goals as goal

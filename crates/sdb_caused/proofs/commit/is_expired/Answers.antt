@@ -1,6 +1,6 @@
 use Rattle.std.proofs.Common.{ap, ◌∙◌}
 use Rattle.sdb_order.specs.Commits.{said_of}
-use Rattle.sdb_calls.specs.Values.{all_made}
+use Rattle.sdb_plain.specs.Values.{all_made}
 use Rattle.sdb_caused.proofs.Decided.{expired, not_expired}
 use Rattle.sdb_caused.proofs.commit.is_expired.Goals as goal
 

@@ -1,7 +1,7 @@
 use Rattle.std.proofs.Common.{ap, ◌∙◌}
 use Rattle.sdb_model.specs.Transactions.{said}
 use Rattle.sdb_order.specs.Commits.{said_of}
-use Rattle.sdb_calls.specs.Values.{all_made}
+use Rattle.sdb_plain.specs.Values.{all_made}
 use Rattle.sdb_caused.proofs.Decided.{if_ok, of_commit, count_said}
 use Rattle.sdb_caused.proofs.commit.is_of_commit.Goals as goal
 

@@ -1,7 +1,7 @@
 use Rattle.std.proofs.Common.{false, ap, ◌∙◌}
 use Rattle.std.specs.Option.{option_map_or}
 use Rattle.sdb_order.specs.Commits.{said_of}
-use Rattle.sdb_calls.specs.Values.{all_made}
+use Rattle.sdb_plain.specs.Values.{all_made}
 use Rattle.sdb_caused.specs.Tests.{counts_so}
 use Rattle.sdb_caused.proofs.ReadLaws.{of_count}
 use Rattle.sdb_caused.proofs.plain.is_of_count.Goals as goal

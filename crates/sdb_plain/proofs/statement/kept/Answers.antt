@@ -1,4 +1,4 @@
-use Rattle.std.proofs.Common.{◌≡◌, ◌++◌, ◌∷◌, [], true, false, List, Bool}
+use Rattle.std.proofs.Common.{◌≡◌, true, false, Bool}
 use Rattle.std.specs.Prelude.{not}
 use Rattle.sdb_record.specs.declared.access.Image.{Image}
 use Rattle.sdb_plain.proofs.Filters.{filter_kept, filter_passed}

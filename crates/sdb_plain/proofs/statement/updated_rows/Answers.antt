@@ -1,4 +1,3 @@
-use Rattle.std.proofs.Common.{◌≡◌, ◌++◌, ◌∷◌, []}
 use Rattle.sdb_model.specs.Exec.{updated}
 use Rattle.sdb_plain.proofs.Shown.{map_step}
 use Rattle.sdb_plain.proofs.statement.updated_rows.Goals as goal

@@ -1,4 +1,0 @@
-pub mod Maps
-pub mod CountLaws
-pub mod RollLaws
-pub mod KeptLaws

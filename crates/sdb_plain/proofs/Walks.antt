@@ -1,0 +1,104 @@
+-- Lemmas on walks over calls and statements.
+use Rattle.std.proofs.Common.{◌≡◌, ℕ, zero, suc, Bool, true, false, List, [], ◌∷◌, ◌++◌, length, take, map, Option, Some, None, refl, sym, ap, ◌∙◌}
+use Rattle.std.specs.Prelude.{filter, find, is_some, if◌then◌else◌, ◌&&◌}
+use Rattle.std.specs.Option.{option_and_then, option_map}
+use Rattle.std.specs.List.{cons_option, filter_map, flat_map}
+use Rattle.std.proofs.lemmas.List.{append_assoc, append-nil}
+use Rattle.sdb_types.specs.declared.txid.TxId.{TxId}
+use Rattle.sdb_types.specs.declared.key.Key.{Key}
+use Rattle.sdb_types.specs.declared.pair.Pair.{Pair}
+use Rattle.sdb_types.specs.declared.record.Record.{Record}
+use Rattle.sdb_record.specs.declared.coordinator.Decided.{Decided}
+use Rattle.sdb_record.specs.Coordinator.{coordinator_key_of}
+use Rattle.sdb_record.specs.Meta.{id_in}
+use Rattle.sdb_record.specs.Parts.{before_part, before_record, record_with}
+use Rattle.sdb_model.specs.declared.event.Event.{Event}
+use Rattle.sdb_model.specs.Calls as calls
+use Rattle.sdb_model.specs.Calls.{calls_of, decision_learned}
+use Rattle.sdb_model.specs.Noted.{Note, note_of, notes_in, reads_rows, is_from_rows}
+use Rattle.sdb_model.specs.Transactions.{Said, is_effective}
+use Rattle.sdb_order.specs.declared.said.Said as plain
+use Rattle.sdb_order.specs.Commits.{all_said, said_of}
+use Rattle.sdb_said.specs.Shown.{keeps_none, kept_writer}
+use Rattle.sdb_said.proofs.Lists.{not_both}
+use Rattle.sdb_said.proofs.ShownLaws.{kept_writer_is, keeps_none_is, is_keeps_none}
+use Rattle.sdb_plain.specs.declared.made.Made.{Made}
+use Rattle.sdb_plain.specs.Values.{all_made, decision_at, decision_learned_at, notes_by, said_notes}
+
+pub taken_again : {X : Type 0} (n : ℕ) (xs : List X) → take (length (take n xs)) xs ≡ take n xs
+taken_again zero [] = refl
+taken_again zero (x ∷ xs) = refl
+taken_again (suc n) [] = refl
+taken_again (suc n) (x ∷ xs) = ap (λ ys. x ∷ ys) (taken_again n xs)
+
+pub map_taken : {X Y : Type 0} (f : X → Y) (n : ℕ) (xs : List X) → map f (take n xs) ≡ take n (map f xs)
+map_taken f zero [] = refl
+map_taken f zero (x ∷ xs) = refl
+map_taken f (suc n) [] = refl
+map_taken f (suc n) (x ∷ xs) = ap (λ ys. f x ∷ ys) (map_taken f n xs)
+
+pub flat_more : {X A : Type 0} (f : X → List A) (zs : List A) (xs : List X) (x : X) → (zs ++ flat_map f xs) ++ f x ≡ zs ++ flat_map f (xs ++ x ∷ [])
+flat_more f [] [] x = sym (append-nil (f x))
+flat_more f [] (y ∷ ys) x = append_assoc (f y) (flat_map f ys) (f x) ∙ ap (λ ws. f y ++ ws) (flat_more f [] ys x)
+flat_more f (z ∷ zs) xs x = ap (λ ws. z ∷ ws) (flat_more f zs xs x)
+
+---- decisions that calls showed
+
+pub learned_is : (id : TxId) (ms : List Made) → decision_learned (all_made ms) id ≡ decision_learned_at ms (coordinator_key_of id)
+learned_is id [] = refl
+learned_is id (m ∷ ms) = by (learned_is id ms) (decision_at (coordinator_key_of id) m) refl
+  where
+    row : Key
+    row = coordinator_key_of id
+
+    by : decision_learned (all_made ms) id ≡ decision_learned_at ms row → (o : Option Decided) → decision_at row m ≡ o → (if is_some o then o else decision_learned (all_made ms) id) ≡ option_and_then (decision_at row) (if is_some o then Some m else find (λ x. is_some (decision_at row x)) ms)
+    by more None e = more
+    by more (Some d) e = sym e
+
+---- notes
+
+pub notes_are : (all ms : List calls.Made) → flat_map (notes_by all) ms ≡ filter_map (λ m. note_of all m.request m.reply) (filter reads_rows ms)
+notes_are all [] = refl
+notes_are all (m ∷ ms) = by (reads_rows m) (notes_are all ms)
+  where
+    with_option : (o : Option Note) (xs : List Note) → cons_option o [] ++ xs ≡ cons_option o xs
+    with_option None xs = refl
+    with_option (Some x) xs = refl
+
+    by : (b : Bool) → flat_map (notes_by all) ms ≡ filter_map (λ m. note_of all m.request m.reply) (filter reads_rows ms)
+        → (if b then cons_option (note_of all m.request m.reply) [] else []) ++ flat_map (notes_by all) ms ≡ filter_map (λ m. note_of all m.request m.reply) (if b then m ∷ filter reads_rows ms else filter reads_rows ms)
+    by true more = ap (λ xs. cons_option (note_of all m.request m.reply) [] ++ xs) more ∙ with_option (note_of all m.request m.reply) (filter_map (λ m. note_of all m.request m.reply) (filter reads_rows ms))
+    by false more = more
+
+said_notes_are : (events : List Event) (client : ℕ) (ss : List Said) → flat_map (said_notes events client) ss ≡ flat_map (λ s. notes_in (calls_of events client s)) (filter is_from_rows (filter is_effective ss))
+said_notes_are events client [] = refl
+said_notes_are events client (s ∷ ss) = by (is_effective s) (is_from_rows s) refl (said_notes_are events client ss)
+  where
+    all : List Said → List Note
+    all = flat_map (λ s. notes_in (calls_of events client s))
+
+    by : (b c : Bool) → is_from_rows s ≡ c → flat_map (said_notes events client) ss ≡ all (filter is_from_rows (filter is_effective ss))
+        → (if b && c then notes_in (calls_of events client s) else []) ++ flat_map (said_notes events client) ss ≡ all (filter is_from_rows (if b then s ∷ filter is_effective ss else filter is_effective ss))
+    by false c e more = more
+    by true true e more = ap (λ xs. notes_in (calls_of events client s) ++ xs) more ∙ sym (ap (λ c. all (if c then s ∷ filter is_from_rows (filter is_effective ss) else filter is_from_rows (filter is_effective ss))) e)
+    by true false e more = more ∙ sym (ap (λ c. all (if c then s ∷ filter is_from_rows (filter is_effective ss) else filter is_from_rows (filter is_effective ss))) e)
+
+composed : (events : List Event) (client : ℕ) (ss : List plain.Said) → flat_map (λ s. said_notes events client (said_of s)) ss ≡ flat_map (said_notes events client) (all_said ss)
+composed events client [] = refl
+composed events client (s ∷ ss) = ap (λ xs. said_notes events client (said_of s) ++ xs) (composed events client ss)
+
+pub all_noted : (events : List Event) (client : ℕ) (ss : List plain.Said) → flat_map (λ s. said_notes events client (said_of s)) ss ≡ flat_map (λ s. notes_in (calls_of events client s)) (filter is_from_rows (filter is_effective (all_said ss)))
+all_noted events client ss = composed events client ss ∙ said_notes_are events client (all_said ss)
+
+---- before images
+
+pub kept_version : (r : Record) → keeps_none r ≡ false → option_map (λ (b : Record). id_in b.columns) (before_record r) ≡ Some (kept_writer r.columns)
+unfolding before_record
+kept_version r h = by (before_part r.columns) refl
+  where
+    by : (ps : List Pair) → before_part r.columns ≡ ps → option_map (λ (b : Record). id_in b.columns) (record_with r.key ps) ≡ Some (kept_writer r.columns)
+    by [] e = not_both (keeps_none r) (is_keeps_none r (ap (record_with r.key) e)) h
+    by (p ∷ ps) e = ap Some (ap id_in (sym e) ∙ kept_writer_is r.columns)
+
+pub kept_nothing : (r : Record) → keeps_none r ≡ true → option_map (λ (b : Record). id_in b.columns) (before_record r) ≡ None
+kept_nothing r h = ap (option_map (λ (b : Record). id_in b.columns)) (keeps_none_is r h)

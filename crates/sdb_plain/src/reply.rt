@@ -1,0 +1,100 @@
+//! What replies show.
+ghost use Rattle.std.specs.Prelude.{◌≡◌, find, is_some};
+ghost use Rattle.std.specs.Option.{option_and_then, option_copied};
+ghost use Rattle.std.specs.Result.{result_ok};
+ghost use Rattle.sdb_record.specs.Coordinator.{decision_in};
+ghost use Rattle.sdb_model.specs.Calls.{put_by, decision_said as decision_said_lem, standing_said as standing_said_lem};
+ghost use Rattle.sdb_plain.specs.Values.{decision_at as decision_at_lem, decision_found_at as decision_found_at_lem, decision_learned_at as decision_learned_at_lem};
+
+use crate::made::Made;
+use crate::request::asks_row;
+use sdb_record::Decided;
+use sdb_said::decided;
+use sdb_types::{Key, Record, Reply, Request};
+use std::alloc::Global;
+
+/// What a reply says is at the one key that was asked.
+pub fn standing_said(reply: &Reply) -> Option<&Option<Record>>
+    ensures { option_copied result ≡ standing_said_lem reply.now }
+{
+    match reply {
+        Reply::Found(found) => Some(found),
+        Reply::NotMet(found) => Some(found),
+        _ => None,
+    }
+}
+
+fn decided_in(alloc: Global, found: &Option<Record>) -> Option<Decided>
+    ensures { result ≡ option_and_then (λ r. result_ok (decision_in r)) found.now }
+{
+    match found {
+        Some(row) => decided(alloc, row),
+        None => None,
+    }
+}
+
+fn put_decided(alloc: Global, request: &Request) -> Option<Decided>
+    ensures { result ≡ option_and_then (λ r. result_ok (decision_in r)) (put_by request.now) }
+{
+    match request {
+        Request::PutIf(row, _) => decided(alloc, row),
+        _ => None,
+    }
+}
+
+fn decision_said(alloc: Global, request: &Request, reply: &Reply) -> Option<Decided>
+    ensures { result ≡ decision_said_lem request.now reply.now }
+{
+    match reply {
+        Reply::Found(found) => decided_in(alloc, found),
+        Reply::NotMet(found) => decided_in(alloc, found),
+        Reply::Applied => put_decided(alloc, request),
+        _ => None,
+    }
+}
+
+/// The decision that a call on the row of this key showed: that of the row found, or of the row that was put.
+pub fn decision_at(alloc: Global, row: &Key, made: &Made) -> Option<Decided>
+    ensures { result ≡ decision_at_lem row.now made.now }
+{
+    if asks_row(row, &made.request) {
+        decision_said(alloc, &made.request, &made.reply)
+    } else {
+        None
+    }
+}
+
+/// The decision in the row of this key that a call found, and did not put.
+pub fn decision_found_at(alloc: Global, row: &Key, made: &Made) -> Option<Decided>
+    ensures { result ≡ decision_found_at_lem row.now made.now }
+{
+    if !asks_row(row, &made.request) {
+        return None;
+    }
+    match standing_said(&made.reply) {
+        Some(found) => decided_in(alloc, found),
+        None => None,
+    }
+}
+
+// The first call that showed a decision.
+fn first_decided<'a>(alloc: Global, calls: &'a [Made], row: &Key) -> Option<&'a Made>
+    ensures { option_copied result ≡ find (λ m. is_some (decision_at_lem row.now m)) calls.now }
+{
+    for made in calls {
+        if decision_at(alloc, row, made).is_some() {
+            return Some(made);
+        }
+    }
+    None
+}
+
+/// The decision in the row of this key that calls showed first.
+pub fn decision_learned_at(alloc: Global, calls: &[Made], row: &Key) -> Option<Decided>
+    ensures { result ≡ decision_learned_at_lem calls.now row.now }
+{
+    match first_decided(alloc, calls, row) {
+        Some(made) => decision_at(alloc, row, made),
+        None => None,
+    }
+}

@@ -1,0 +1,11 @@
+pub mod StoreLaws
+pub mod TurnLaws
+pub mod Members
+pub mod HadLaws
+pub mod KeyLaws
+pub mod AnswerLaws
+pub mod WholeLaws
+pub mod Maps
+pub mod CountLaws
+pub mod RollLaws
+pub mod KeptLaws

@@ -1,0 +1,6 @@
+pub mod Values
+pub mod Turns
+pub mod Rows
+pub mod All
+pub mod Counts
+pub mod Kept

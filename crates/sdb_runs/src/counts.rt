@@ -1,0 +1,230 @@
+//! How many calls single statements make.
+ghost use Rattle.std.specs.Prelude.{◌≡◌, ◌↔◌, ◌≤◌, IfOk, IsTrue, count_by, filter, length};
+ghost use Rattle.std.specs.List.{list_all, list_any};
+ghost use Rattle.sdb_record.specs.Meta.{is_unresolved as is_unresolved_lem};
+ghost use Rattle.sdb_model.specs.Calls.{is_removal as is_removal_lem};
+ghost use Rattle.sdb_model.specs.Transactions.{id_of as id_of_lem, prepares as prepares_lem, is_committed_answer as is_told_committed_lem};
+ghost use Rattle.sdb_order.specs.Commits.{said_of};
+ghost use Rattle.sdb_said.specs.Values.{note_of};
+ghost use Rattle.sdb_plain.specs.Values.{all_notes};
+ghost use Rattle.sdb_caused.specs.Tests.{any_upto};
+ghost use Rattle.sdb_runs.specs.Counts.{IsSaidCounted, all_seen, commit_counted as commit_counted_lem, covered as covered_lem, is_check as is_check_lem, is_prepared as is_prepared_lem, miscounted, others_counted as others_counted_lem, read_counted as read_counted_lem, unresolved_by, vacuum_counted as vacuum_counted_lem, wanted as wanted_lem};
+
+use sdb_caused::{is_commit_of, is_unresolved};
+use sdb_model::{Answer, Event, How, Keyword};
+use sdb_order::{Said, is_word, statements_said};
+use sdb_plain::{Made, asks_row, calls_of, id_of, is_prepare, is_removal, noted_in, reads_rows};
+use sdb_said::Note;
+use sdb_schema::Catalog;
+use sdb_types::{Key, NoMemory, Record, Reply, TxId};
+use std::alloc::Global;
+
+fn are_seen(calls: &[Made]) -> bool
+    ensures { result ≡ all_seen calls.now }
+{
+    for made in calls {
+        if !matches!(made.how, How::Seen) {
+            return false;
+        }
+    }
+    true
+}
+
+fn is_prepared(calls: &[Made], id: TxId, key: &Key) -> bool
+    ensures { result ≡ is_prepared_lem calls.now id key.now }
+{
+    for made in calls {
+        if is_prepare(&made.request, id) && asks_row(key, &made.request) {
+            return true;
+        }
+    }
+    false
+}
+
+// Whether a COMMIT checks a note: a scan, or a get of a key that it doesn't prepare.
+fn is_check(calls: &[Made], id: TxId, note: &Note) -> bool
+    ensures { result ≡ is_check_lem calls.now id (note_of note.now) }
+{
+    match note {
+        Note::Got(read) => !is_prepared(calls, id, &read.key),
+        Note::Scanned(_) => true,
+    }
+}
+
+fn prepares(calls: &[Made], id: TxId) -> usize
+    ensures { result ≡ count_by (λ m. prepares_lem id m.request) calls.now }
+{
+    calls
+        .iter()
+        .filter(|made| is_prepare(&made.request, id))
+        .count()
+}
+
+#[tactic(auto, using(crate::proofs::Maps::count_mapped))]
+fn checks(calls: &[Made], notes: &[Note], id: TxId) -> usize
+    ensures { result ≡ count_by (is_check_lem calls.now id) (all_notes notes.now) }
+{
+    notes
+        .iter()
+        .filter(|note| is_check(calls, id, note))
+        .count()
+}
+
+// How many calls a COMMIT makes but for its deciding put: two for each prepare, and one for each check.
+fn wanted(calls: &[Made], notes: &[Note], id: TxId) -> u128
+    ensures { result ≡ wanted_lem calls.now (all_notes notes.now) id }
+{
+    2 * (prepares(calls, id) as u128) + checks(calls, notes, id) as u128
+}
+
+fn is_told_committed(said: &Said) -> bool
+    ensures { result ≡ is_told_committed_lem said.now.answer }
+{
+    matches!(said.answer, Some(Answer::Committed))
+}
+
+fn commit_counted(calls: &[Made], notes: &[Note], id: TxId, said: &Said) -> bool
+    ensures { result ≡ commit_counted_lem calls.now (all_notes notes.now) id (said_of said.now) }
+{
+    let wanted = wanted(calls, notes, id);
+    let made = calls.len() as u128;
+    made <= wanted + 4 && (!(is_told_committed(said) && are_seen(calls)) || made == wanted + 1)
+}
+
+// Whether a statement is the COMMIT of a transaction, and its calls are not counted.
+fn is_miscounted(
+    alloc: Global,
+    events: &[Event],
+    client: u64,
+    said: &Said,
+    calls: &[Made],
+    id: TxId,
+) -> Result<bool, NoMemory>
+    ensures { IfOk result (λ is. is ≡ miscounted events.now client (said_of said.now) calls.now id) }
+{
+    let commits = is_commit_of(alloc, events, client, said, id)?;
+    if !commits {
+        return Ok(false);
+    }
+    let notes = noted_in(alloc, events, id)?;
+    Ok(!commit_counted(calls, notes.as_slice(), id, said))
+}
+
+// Whether it is so of one of a client's first transactions.
+fn any_miscounted(
+    alloc: Global,
+    events: &[Event],
+    client: u64,
+    said: &Said,
+    calls: &[Made],
+    count: u64,
+) -> Result<bool, NoMemory>
+    ensures { IfOk result (λ is. is ≡ any_upto (λ k. miscounted events.now client (said_of said.now) calls.now (id_of_lem client k)) count) }
+{
+    if count == 0 {
+        return Ok(false);
+    }
+    let wrong = is_miscounted(alloc, events, client, said, calls, id_of(client, count))?;
+    if wrong {
+        return Ok(true);
+    }
+    any_miscounted(alloc, events, client, said, calls, count - 1)
+}
+
+fn unresolved_among(alloc: Global, rows: &[Record]) -> usize
+    ensures { result ≡ count_by is_unresolved_lem rows.now }
+{
+    rows.iter().filter(|rec| is_unresolved(alloc, rec)).count()
+}
+
+// How many unresolved records a read found.
+fn unresolved_in(alloc: Global, made: &Made) -> usize
+    ensures { result ≡ unresolved_by made.now }
+{
+    if !reads_rows(made) {
+        return 0;
+    }
+    match &made.reply {
+        Reply::Found(Some(rec)) => { if is_unresolved(alloc, rec) { 1 } else { 0 } }
+        Reply::Rows(rows) => unresolved_among(alloc, rows.as_slice()),
+        _ => 0,
+    }
+}
+
+// Whether so many calls are at most so many for each unresolved record that was found.
+fn covered(alloc: Global, each: u128, count: u128, calls: &[Made]) -> bool
+    requires { each ≤ 5 }
+    ensures { result ≡ covered_lem each count calls.now }
+{
+    let Some((first, rest)) = calls.split_first() else {
+        return count == 0;
+    };
+    let found = unresolved_in(alloc, first) as u128;
+    covered(alloc, each, count.saturating_sub(each * found), rest)
+}
+
+fn removals(calls: &[Made]) -> usize
+    ensures count { result ≡ length (filter (λ m. is_removal_lem m.request) calls.now) }
+    ensures most { result ≤ length calls.now }
+{
+    let Some((first, rest)) = calls.split_first() else {
+        return 0;
+    };
+    let more = removals(rest);
+    if is_removal(&first.request) {
+        more + 1
+    } else {
+        more
+    }
+}
+
+fn vacuum_counted(alloc: Global, catalog: &Catalog, calls: &[Made]) -> bool
+    ensures { result ≡ vacuum_counted_lem catalog.now calls.now }
+{
+    let free = catalog.len() as u128 + removals(calls) as u128;
+    let made = calls.len() as u128;
+    covered(alloc, 5, made.saturating_sub(free), calls)
+}
+
+fn read_counted(alloc: Global, calls: &[Made]) -> bool
+    ensures { result ≡ read_counted_lem calls.now }
+{
+    let made = calls.len() as u128;
+    covered(alloc, 4, made.saturating_sub(1), calls)
+}
+
+fn others_counted(
+    alloc: Global,
+    catalog: &Catalog,
+    said: &Said,
+    calls: &[Made],
+) -> Result<bool, NoMemory>
+    ensures { IfOk result (λ is. is ≡ others_counted_lem catalog.now (said_of said.now) calls.now) }
+{
+    let vacuums = is_word(alloc, said, Keyword::Vacuum)?;
+    if vacuums {
+        return Ok(vacuum_counted(alloc, catalog, calls));
+    }
+    let commits = is_word(alloc, said, Keyword::Commit)?;
+    Ok(commits || read_counted(alloc, calls))
+}
+
+/// Whether the calls of a statement are counted.
+pub fn is_said_counted(
+    alloc: Global,
+    catalog: &Catalog,
+    events: &[Event],
+    client: u64,
+    said: &Said,
+) -> Result<bool, NoMemory>
+    ensures { IfOk result (λ is. IsTrue is ↔ IsSaidCounted catalog.now events.now client (said_of said.now)) }
+{
+    let all = statements_said(alloc, client, events)?;
+    let calls = calls_of(alloc, events, client, said)?;
+    let made = calls.as_slice();
+    let miscounted = any_miscounted(alloc, events, client, said, made, all.len() as u64)?;
+    if miscounted {
+        return Ok(false);
+    }
+    others_counted(alloc, catalog, said, made)
+}

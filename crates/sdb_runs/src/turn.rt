@@ -1,0 +1,106 @@
+//! The effective statements of a transaction, with what is asked of each.
+ghost use Rattle.std.specs.Prelude.{◌≡◌, ◌++◌, ◌∷◌, [], IfOk, OnOk, List, filter};
+ghost use Rattle.sdb_model.specs.Transactions.{Said as SaidOf, client_of as client_of_lem, is_effective as is_effective_lem, statements_of, through_end};
+ghost use Rattle.sdb_order.specs.Commits.{all_said, said_of};
+ghost use Rattle.sdb_runs.specs.Turns.{AreTurns, IsTurn};
+
+use sdb_caused::statement_in;
+use sdb_model::{Event, Statement};
+use sdb_order::{Said, ends, statements_said};
+use sdb_plain::{Made, calls_of, client_of, end_of, from_begin, is_effective, ordinal_of, rest_of};
+use sdb_types::{Duplicate, NoMemory, Seq, TxId};
+use std::alloc::Global;
+
+/// A statement that was said, what its text is read as, its calls, and the number of the event that it ends at.
+pub struct Turn {
+    pub said: Said,
+    pub statement: Option<Statement>,
+    pub calls: Seq<Made>,
+    pub end: u64,
+}
+
+// By hand: each drop is then one call, where a derived one is written out at each exit, with a call for each field.
+impl Drop for Turn {
+    fn drop(self) {
+        let Turn {
+            said: _,
+            statement: _,
+            calls: _,
+            end: _,
+        } = self;
+    }
+}
+
+pub type Turns = Seq<Turn>;
+
+fn copied(said: &Said) -> Result<Said, NoMemory>
+    ensures { IfOk result (λ copy. copy ≡ said.now) }
+{
+    Ok(Said {
+        taken: said.taken,
+        text: said.text.copy()?,
+        answer: said.answer.copy()?,
+        reached: said.reached,
+    })
+}
+
+fn turn_of(alloc: Global, events: &[Event], client: u64, said: &Said) -> Result<Turn, NoMemory>
+    ensures { IfOk result (IsTurn events.now client (said_of said.now)) }
+{
+    Ok(Turn {
+        said: copied(said)?,
+        statement: statement_in(alloc, &said.text)?,
+        calls: calls_of(alloc, events, client, said)?,
+        end: end_of(events, said),
+    })
+}
+
+// Adds the statement, where it is effective.
+fn add_turn(
+    alloc: Global,
+    turns: &mut Turns,
+    events: &[Event],
+    client: u64,
+    said: &Said,
+) -> Result<(), NoMemory>
+    ensures { OnOk result ((past : List SaidOf) → AreTurns events.now client past turns.old → AreTurns events.now client (past ++ filter is_effective_lem (said_of said.now ∷ [])) turns.new) }
+{
+    if !is_effective(said) {
+        return Ok(());
+    }
+    let turn = turn_of(alloc, events, client, said)?;
+    turns.push(turn)?;
+    Ok(())
+}
+
+// Adds the effective statements up to the one that ends the transaction.
+fn add_turns(
+    alloc: Global,
+    turns: &mut Turns,
+    events: &[Event],
+    client: u64,
+    said: &[Said],
+) -> Result<(), NoMemory>
+    ensures { OnOk result ((past : List SaidOf) → AreTurns events.now client past turns.old → AreTurns events.now client (past ++ filter is_effective_lem (through_end (all_said said.now))) turns.new) }
+{
+    let Some((first, rest)) = said.split_first() else {
+        return Ok(());
+    };
+    add_turn(alloc, turns, events, client, first)?;
+    if ends(alloc, first)? {
+        return Ok(());
+    }
+    add_turns(alloc, turns, events, client, rest)
+}
+
+/// The effective statements of a transaction.
+pub fn turns_of(alloc: Global, events: &[Event], id: TxId) -> Result<Turns, NoMemory>
+    ensures { IfOk result (AreTurns events.now (client_of_lem id) (filter is_effective_lem (statements_of events.now id))) }
+{
+    let client = client_of(id);
+    let all = statements_said(alloc, client, events)?;
+    let since = from_begin(alloc, ordinal_of(id), all.as_slice())?;
+    let mut turns = Turns::new(alloc);
+    add_turns(alloc, &mut turns, events, client, rest_of(since))?;
+    Ok(turns)
+}

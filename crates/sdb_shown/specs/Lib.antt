@@ -1,4 +1,0 @@
-pub mod Values
-pub mod Turns
-pub mod Tests
-pub mod All
