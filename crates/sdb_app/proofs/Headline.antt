@@ -9,7 +9,7 @@ use Rattle.sdb_types.specs.Bytes.{Appends}
 use Rattle.sdb_types.proofs.Basics.{clash}
 use Rattle.sdb_record.specs.Coordinator.{coordinator_table}
 use Rattle.sdb_model.specs.declared.event.Event.{Event}
-use Rattle.sdb_stores.specs.Shelf.{Attached, Shelf as Counted, AreDistinct, HaveRisen, names_of}
+use Rattle.sdb_stores.specs.Shelf.{Attached, Shelf as Counted, AreDistinct, HaveRisen, names_of, total_faults}
 use Rattle.sdb_model.specs.declared.event.Outcome.{Outcome}
 use Rattle.sdb_model.specs.declared.script.Place.{Place}
 use Rattle.sdb_model.specs.declared.script.Script.{Script}
@@ -87,6 +87,17 @@ stops_after old mid new near far was found status.ReadFault goes f g h = absurd 
 stops_after old mid new near far was found status.WriteFault goes f g h = absurd h
 stops_after old mid new near far was found (status.BadInput n line) goes f g h = absurd h
 stops_after old mid new near far was found (status.Limit n which) goes f g h = absurd h
+
+-- stores that go on from ones that are the same have the same names, no fewer faults, and known contents that stay known
+module _ (old mid new : Attached) (same : mid.shelves ≡ old.shelves) (goes : GoOn mid new) where
+  pub names_kept : names_of new.shelves ≡ names_of old.shelves
+  names_kept = goes.names ∙ ap names_of same
+
+  pub counted_kept : total_faults old.shelves ≤ total_faults new.shelves
+  counted_kept = subst (λ (ss : List Counted). total_faults ss ≤ total_faults new.shelves) same goes.counted
+
+  pub telling_kept : ((at : ℕ) → old.tells at → mid.tells at) → (at : ℕ) → old.tells at → new.tells at
+  telling_kept telling at told = goes.telling at (telling at told)
 
 -- stores that are the same go on to tell
 pub tell_on : (script : Script) (before mid : Attached) → mid.shelves ≡ before.shelves → ((i : ℕ) → before.tells i → mid.tells i) → TellOf script before → TellOf script mid
