@@ -1,4 +1,4 @@
-use Rattle.std.proofs.Common.{◌≡◌, ◌∙◌, Err, List, ap, inl, inr, refl, subst}
+use Rattle.std.proofs.Common.{◌≡◌, ◌∙◌, ◌<◌, Err, List, ap, inl, inr, length, refl, subst, sym}
 use Rattle.std.specs.String.{string_bytes}
 use Rattle.sdb_stores.specs.Shelf.{Shelf as Counted, HaveRisen, names_of}
 use Rattle.sdb_model.specs.Rows.{Name}
@@ -199,3 +199,9 @@ returns-clause-counted_stores g c = cleared_faults (g.S.Registry.state c.args.st
 
 pub returns-clause-telling : goal.returns-clause-telling
 returns-clause-telling g c = λ at told. c.replay.ensures.telling at (c.clear_places.ensures.cleared.telling at told)
+
+pub replay-requires-clause-some : goal.replay-requires-clause-some
+replay-requires-clause-some g c = subst (λ (ss : List Counted). 0 < length ss) (sym c.clear_places.ensures.cleared.shelves) c.requires
+
+pub replay-requires-clause-unplaced : goal.replay-requires-clause-unplaced
+replay-requires-clause-unplaced g c = c.clear_places.ensures.cleared.places

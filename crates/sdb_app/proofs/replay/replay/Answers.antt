@@ -1,7 +1,9 @@
+use Rattle.std.proofs.Common.{List, ◌<◌, length, subst, sym}
 use Rattle.std.specs.String.{string_bytes}
 use Rattle.std.proofs.lemmas.Result.{IfOk-from_err}
+use Rattle.sdb_stores.specs.Shelf.{Shelf as Counted}
 use Rattle.sdb_board.specs.Board.{shown}
-use Rattle.sdb_board.proofs.GoesOn.{goes_more, goes_none}
+use Rattle.sdb_board.proofs.GoesOn.{goes_more, goes_none, some_more}
 use Rattle.sdb_app.specs.declared.status.Status.TheVariants as status
 use Rattle.sdb_app.specs.Run.{TellOf}
 use Rattle.sdb_world.proofs.Explained.{no_coordinator}
@@ -141,3 +143,25 @@ pub returns-clause-telling : goal.returns-clause-telling
 returns-clause-telling g c =
     telling_kept (g.R.Registry.state c.args.stores.now) (g.R.Registry.state c.place_all.new.stores) (g.R.Registry.state c.play.new.stores) c.place_all.ensures.stores
     (goes_more (g.R.Registry.state c.place_all.new.stores) (g.R.Registry.state c.be_empty.new.stores) (g.R.Registry.state c.play.new.stores) c.in_ok-be_empty.ensures.goes c.play.ensures.goes) c.place_all.ensures.telling
+
+---- what the calls require
+
+pub place_all-requires-clause-none : goal.place_all-requires-clause-none
+place_all-requires-clause-none g c = c.requires.unplaced
+
+pub place_all-requires-clause-fit : goal.place_all-requires-clause-fit
+place_all-requires-clause-fit g c = c.requires.places
+
+pub be_empty-requires : goal.be_empty-requires
+be_empty-requires g c = record { some = subst (λ (ss : List Counted). 0 < length ss) (sym c.place_all.ensures.stores) c.requires.some }
+
+pub play-requires-clause-some : goal.play-requires-clause-some
+play-requires-clause-some g c =
+    some_more (g.R.Registry.state c.place_all.new.stores).shelves (g.R.Registry.state c.be_empty.new.stores).shelves c.in_ok-be_empty.ensures.goes.names
+    (subst (λ (ss : List Counted). 0 < length ss) (sym c.place_all.ensures.stores) c.requires.some)
+
+pub play-requires-clause-playable : goal.play-requires-clause-playable
+play-requires-clause-playable g c = c.requires.playable
+
+pub play-requires-clause-can : goal.play-requires-clause-can
+play-requires-clause-can g c = c.requires.can
