@@ -3,12 +3,13 @@ use Rattle.std.specs.String.{string_bytes}
 use Rattle.sdb_stores.specs.Shelf.{Shelf as Counted, HaveRisen, names_of}
 use Rattle.sdb_model.specs.Rows.{Name}
 use Rattle.sdb_model.specs.declared.script.Script.{Script}
+use Rattle.sdb_script.specs.Begun.{ArePlaces}
 use Rattle.sdb_board.specs.Board.{shown}
 use Rattle.sdb_app.specs.declared.status.Status.{Status}
 use Rattle.sdb_app.specs.declared.status.Status.TheVariants as status
 use Rattle.sdb_app.specs.Run.{IsFirstFound, IsRefusedAs, StopsReplay, ends, refuses_input}
 use Rattle.sdb_app.proofs.Headline.{cleared_faults, cleared_names, found_of, of_kind, prefix_replayed, read_and, replayed, stops_foreign, stops_found, stops_played, stops_unrefused}
-use Rattle.sdb_app.proofs.Playable.{followable, playable}
+use Rattle.sdb_app.proofs.Playable.{followable, places_are, playable}
 use Rattle.sdb_app.proofs.program.replay_input.Goals as goal
 
 pub returns-in-Err-replay-clause-not_empty : goal.returns-in-Err-replay-clause-not_empty
@@ -205,3 +206,22 @@ replay-requires-clause-some g c = subst (λ (ss : List Counted). 0 < length ss) 
 
 pub replay-requires-clause-unplaced : goal.replay-requires-clause-unplaced
 replay-requires-clause-unplaced g c = c.clear_places.ensures.cleared.places
+
+pub replay-requires-clause-distinct : goal.replay-requires-clause-distinct
+replay-requires-clause-distinct g c = c.names.ensures.distinct
+
+pub replay-requires-clause-places : goal.replay-requires-clause-places
+replay-requires-clause-places g c =
+    subst (λ (ns : List Name). ArePlaces ns c.in-Ok-read_input_script.script.places) c.in-Ok.ensures.names
+    (places_are c.in-Ok.names _ c.in-Ok-read_input_script.script c.in-Ok-read_input_script.ensures.read.form)
+
+---- names for which there is no memory
+
+pub returns-in_default-clause-out_of_memory : goal.returns-in_default-clause-out_of_memory
+returns-in_default-clause-out_of_memory g c = λ _. inl refl
+
+pub returns-in_default-clause-names : goal.returns-in_default-clause-names
+returns-in_default-clause-names g c = cleared_names (g.S.Registry.state c.args.stores.now) (g.S.Registry.state c.clear_places.new.self) (g.S.Registry.state c.clear_places.new.self) c.clear_places.ensures.cleared.shelves refl
+
+pub returns-in_default-clause-telling : goal.returns-in_default-clause-telling
+returns-in_default-clause-telling g c = c.clear_places.ensures.cleared.telling
