@@ -1,10 +1,8 @@
 use mir.Val.{of_z, to_z}
 use Rattle.std.proofs.Common.{rules, ◌≡◌, ◌∙◌, ◌+◌, ◌++◌, ◌∷◌, [], ℤ, ap, get_or, subst, w64}
-use Rattle.std.proofs.lemmas.Result.{IfOk-from_err}
 use Rattle.sdb_client.specs.Client.{ReplyTold}
 use Rattle.sdb_types.specs.declared.record.Reply.{Reply}
 use Rattle.sdb_model.specs.declared.event.Event.TheVariants as event
-use Rattle.sdb_board.proofs.GoesOn.{goes_none}
 use Rattle.sdb_world.specs.World.{WorldAt}
 use Rattle.sdb_world.proofs.Takings.{called, named_store}
 use Rattle.sdb_world.proofs.Broken.{breaks_called}
@@ -28,44 +26,3 @@ returns-clause-broken g c =
     let made = c.perform-how.ensures in
     let came = c.in_ok-push.ensures.ok ∙ ap (λ (r : Reply). c.self.inside.events ++ event.Call (c.args.at + 1) c.in_ok-store.store c.in_ok-request.request c.perform-how.result.0 r c.advance-answer.result ∷ []) c.in_ok-told.ensures in
     breaks_called _ c.args.self.now c.self.view_is c.push.new.self (c.args.at + 1) c.in_ok-store.store c.in_ok-request.request c.perform-how.result.0 c.perform-how.result.1 c.advance-answer.result (g.R.Registry.state c.args.stores.now).shelves (g.R.Registry.state c.perform-how.new.stores).shelves came made.broken made.goes.counted
-
-pub returns-clause-goes : goal.returns-clause-goes
-returns-clause-goes g c = c.perform-how.ensures.goes
-
----- memory that ran out
-
-pub returns-in_err-request-clause-called : goal.returns-in_err-request-clause-called
-returns-in_err-request-clause-called g c = IfOk-from_err c.from_residual.result _ c.from_residual.ensures.0
-
-pub returns-in_err-request-clause-broken : goal.returns-in_err-request-clause-broken
-returns-in_err-request-clause-broken g c = IfOk-from_err c.from_residual.result _ c.from_residual.ensures.0
-
-pub returns-in_err-request-clause-goes : goal.returns-in_err-request-clause-goes
-returns-in_err-request-clause-goes g c = goes_none (g.R.Registry.state c.args.stores.now)
-
-pub returns-in_err-store-clause-called : goal.returns-in_err-store-clause-called
-returns-in_err-store-clause-called g c = IfOk-from_err c.from_residual-in_err-store.result _ c.from_residual-in_err-store.ensures.0
-
-pub returns-in_err-store-clause-broken : goal.returns-in_err-store-clause-broken
-returns-in_err-store-clause-broken g c = IfOk-from_err c.from_residual-in_err-store.result _ c.from_residual-in_err-store.ensures.0
-
-pub returns-in_err-store-clause-goes : goal.returns-in_err-store-clause-goes
-returns-in_err-store-clause-goes g c = goes_none (g.R.Registry.state c.args.stores.now)
-
-pub returns-in_err-told-clause-called : goal.returns-in_err-told-clause-called
-returns-in_err-told-clause-called g c = IfOk-from_err c.from_residual-in_err-told.result _ c.from_residual-in_err-told.ensures.0
-
-pub returns-in_err-told-clause-broken : goal.returns-in_err-told-clause-broken
-returns-in_err-told-clause-broken g c = IfOk-from_err c.from_residual-in_err-told.result _ c.from_residual-in_err-told.ensures.0
-
-pub returns-in_err-told-clause-goes : goal.returns-in_err-told-clause-goes
-returns-in_err-told-clause-goes g c = c.perform-how.ensures.goes
-
-pub returns-in_err-push-clause-called : goal.returns-in_err-push-clause-called
-returns-in_err-push-clause-called g c = IfOk-from_err c.from_residual-in_err-push.result _ c.from_residual-in_err-push.ensures.0
-
-pub returns-in_err-push-clause-broken : goal.returns-in_err-push-clause-broken
-returns-in_err-push-clause-broken g c = IfOk-from_err c.from_residual-in_err-push.result _ c.from_residual-in_err-push.ensures.0
-
-pub returns-in_err-push-clause-goes : goal.returns-in_err-push-clause-goes
-returns-in_err-push-clause-goes g c = c.perform-how.ensures.goes

@@ -1,5 +1,4 @@
 use Rattle.std.proofs.Common.{◌≡◌, ◌+◌, take, refl}
-use Rattle.std.proofs.lemmas.Result.{IfOk-from_err}
 use Rattle.sdb_model.specs.Follows.{AreMoved, IsMoved}
 use Rattle.sdb_board.proofs.GoesOn.{goes_more, goes_none, some_more}
 use Rattle.sdb_world.proofs.Broken.{breaks_more, breaks_none}
@@ -15,15 +14,6 @@ loop-i-init g c = record {
   broken = breaks_none c.args.self.now.events (g.R.Registry.state c.args.stores.now).shelves;
   come = come_none (AreMoved c.args.self.now.script.clients (take 0 c.args.self.now.script.moves) c.args.self.now.events) (g.R.Registry.state c.args.stores.now) c.args.self.now refl;
 }
-
-pub returns-in_err-make-clause-world : goal.returns-in_err-make-clause-world
-returns-in_err-make-clause-world g c = IfOk-from_err c.from_residual.result _ c.from_residual.ensures.0
-
-pub returns-in_err-make-clause-come : goal.returns-in_err-make-clause-come
-returns-in_err-make-clause-come g c = IfOk-from_err c.from_residual.result _ c.from_residual.ensures.0
-
-pub returns-in_err-make-clause-broken : goal.returns-in_err-make-clause-broken
-returns-in_err-make-clause-broken g c = IfOk-from_err c.from_residual.result _ c.from_residual.ensures.0
 
 pub returns-in_err-make-clause-goes : goal.returns-in_err-make-clause-goes
 returns-in_err-make-clause-goes g c = goes_more _ _ _ c.loop-i.invariant.goes c.in_err-make.ensures.goes
@@ -49,12 +39,3 @@ loop-i-preserved g c =
           c.args.self.now c.loop-i.self c.make.new.self before.goes before.come done.come
           (λ es more at h k. follows_more script later i made past now es more same at c.move_at-made.ensures h k);
     }
-
-pub returns-clause-world : goal.returns-clause-world
-returns-clause-world g c = c.loop-i.invariant.world
-
-pub returns-clause-broken : goal.returns-clause-broken
-returns-clause-broken g c = c.loop-i.invariant.broken
-
-pub returns-clause-goes : goal.returns-clause-goes
-returns-clause-goes g c = c.loop-i.invariant.goes
