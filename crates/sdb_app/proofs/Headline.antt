@@ -1,5 +1,5 @@
 -- A script that was read and played is a run of the headline.
-use Rattle.std.proofs.Common.{◌≡◌, ◌∙◌, refl, Result, Ok, Err, IfErr, ℕ, ◌≤◌, ◌<◌, true, false, List, [], Option, Some, None, length, take, sym, ap, subst}
+use Rattle.std.proofs.Common.{◌≡◌, ◌∙◌, refl, Result, Ok, Err, IfErr, ℕ, ◌≤◌, ◌<◌, Bool, true, false, true≢false, List, [], Option, Some, None, length, take, sym, ap, subst}
 use Rattle.std.specs.FinMap.{empty}
 use Rattle.std.specs.Prelude.{Contains, slice_get, IsErrAnd, nat_le, nat_lt, ◌&&◌}
 use Rattle.std.specs.Option.{option_map_or}
@@ -9,7 +9,7 @@ use Rattle.sdb_types.specs.Bytes.{Appends}
 use Rattle.sdb_types.proofs.Basics.{clash}
 use Rattle.sdb_record.specs.Coordinator.{coordinator_table}
 use Rattle.sdb_model.specs.declared.event.Event.{Event}
-use Rattle.sdb_stores.specs.Shelf.{Attached, Shelf as Counted, AreDistinct, HaveRisen, names_of}
+use Rattle.sdb_stores.specs.Shelf.{Attached, Shelf as Counted, AreDistinct, HaveRisen, names_of, total_faults}
 use Rattle.sdb_model.specs.declared.event.Outcome.{Outcome}
 use Rattle.sdb_model.specs.declared.script.Place.{Place}
 use Rattle.sdb_model.specs.declared.script.Script.{Script}
@@ -48,7 +48,7 @@ use Rattle.sdb_world.specs.Explained.{IsExplained, IsShown}
 use Rattle.sdb_world.proofs.Broken.{breaks_after}
 use Rattle.sdb_app.specs.declared.status.Status.{Status}
 use Rattle.sdb_app.specs.declared.status.Status.TheVariants as status
-use Rattle.sdb_app.specs.Run.{AreReady, Ends, TellOf, IsFirstFound, IsOutcome, IsPlayed, IsPrefixWritten, IsReadAnd, IsReplayed, IsReported, IsScriptRead, Stops, is_unplayed}
+use Rattle.sdb_app.specs.Run.{AreReady, Ends, TellOf, IsFirstFound, IsOutcome, IsPlayed, IsPrefixWritten, IsReadAnd, IsReplayed, IsReported, IsScriptRead, Stops, is_refusal, is_unplayed}
 use Rattle.sdb_script.specs.Begun.{ArePlaces}
 use Rattle.sdb_app.proofs.Placing.{fit_for}
 
@@ -87,6 +87,17 @@ stops_after old mid new near far was found status.ReadFault goes f g h = absurd 
 stops_after old mid new near far was found status.WriteFault goes f g h = absurd h
 stops_after old mid new near far was found (status.BadInput n line) goes f g h = absurd h
 stops_after old mid new near far was found (status.Limit n which) goes f g h = absurd h
+
+-- stores that go on from ones that are the same have the same names, no fewer faults, and known contents that stay known
+module _ (old mid new : Attached) (same : mid.shelves ≡ old.shelves) (goes : GoOn mid new) where
+  pub names_kept : names_of new.shelves ≡ names_of old.shelves
+  names_kept = goes.names ∙ ap names_of same
+
+  pub counted_kept : total_faults old.shelves ≤ total_faults new.shelves
+  counted_kept = subst (λ (ss : List Counted). total_faults ss ≤ total_faults new.shelves) same goes.counted
+
+  pub telling_kept : ((at : ℕ) → old.tells at → mid.tells at) → (at : ℕ) → old.tells at → new.tells at
+  telling_kept telling at told = goes.telling at (telling at told)
 
 -- stores that are the same go on to tell
 pub tell_on : (script : Script) (before mid : Attached) → mid.shelves ≡ before.shelves → ((i : ℕ) → before.tells i → mid.tells i) → TellOf script before → TellOf script mid
@@ -263,3 +274,23 @@ stops_played old new foreign found status.NoMemory h is = absurd (cc)
 stops_played old new foreign found (status.NotEmpty key) h is = absurd (cc)
 stops_played old new foreign found (status.BadStore key) h is = absurd (cc)
 stops_played old new foreign found _ h is = absurd h
+
+-- what stopped a run is no refusal of its script
+pub stops_unrefused : {A : Type 0} (old new : Attached) (foreign : Type 0) (found : Key → Type 0) (s : Status) → Stops old new foreign found s → is_refusal s ≡ true → A
+stops_unrefused old new foreign found status.StoreFault h is = absurd (cc)
+stops_unrefused old new foreign found status.NoMemory h is = absurd (cc)
+stops_unrefused old new foreign found (status.NotEmpty key) h is = absurd (cc)
+stops_unrefused old new foreign found (status.BadStore key) h is = absurd (cc)
+stops_unrefused old new foreign found _ h is = absurd h
+
+-- an ending of one kind is none of another
+pub of_kind : {A : Type 0} (P : Status → Bool) (s t : Status) → P s ≡ true → P t ≡ false → s ≡ t → A
+of_kind P s t holds fails is = absurd (true≢false (sym (subst (λ (x : Status). P x ≡ true) is holds) ∙ fails))
+
+-- where the places were taken away first, the stores have the same names, and no fewer faults
+module _ (old mid new : Attached) (same : mid.shelves ≡ old.shelves) where
+  pub cleared_names : names_of new.shelves ≡ names_of mid.shelves → names_of new.shelves ≡ names_of old.shelves
+  cleared_names e = e ∙ ap names_of same
+
+  pub cleared_faults : total_faults mid.shelves ≤ total_faults new.shelves → total_faults old.shelves ≤ total_faults new.shelves
+  cleared_faults h = subst (λ (ss : List Counted). total_faults ss ≤ total_faults new.shelves) same h

@@ -1,5 +1,5 @@
 -- A call that stops, as a call of a store.
-use Rattle.std.proofs.Common.{◌≡◌, inl, inr, ℕ, ◌+◌, ◌-◌, ◌^◌, ◌<◌, ◌≤◌, Bool, cond, sym, subst, arith}
+use Rattle.std.proofs.Common.{◌≡◌, inl, inr, Ok, ℕ, ◌+◌, ◌-◌, ◌^◌, ◌<◌, ◌≤◌, Bool, cond, sym, subst, arith}
 use Rattle.std.proofs.lemmas.Bool.{cases_lt, lt-ltb, le-ltb}
 use Rattle.sqlite.specs.Store.{Ghosts}
 use Rattle.sqlite.specs.Held.{Held as Connected}
@@ -7,7 +7,11 @@ use Rattle.sdb_types.specs.declared.record.Request.{Request}
 use Rattle.sdb_types.specs.declared.record.Reply.{Reply}
 use Rattle.sdb_types.specs.Draws.{counted as next_number}
 use Rattle.sdb_types.specs.Bytes.{HasRisen}
+use Rattle.sdb_types.specs.Contents.{CanAnswer}
 use Rattle.sdb_store.specs.Store.{IsStoreCall, HasCause}
+use Rattle.sdb_sqlite.specs.declared.calls.Written.{Written}
+use Rattle.sdb_sqlite.specs.declared.calls.Written.TheVariants.{Applied, NotMet}
+use Rattle.sdb_sqlite.specs.Asked.{write_reply}
 use Rattle.sdb_sqlite.specs.declared.refused.Stopped.{Stopped}
 use Rattle.sdb_sqlite.specs.declared.refused.Stopped.TheVariants as stopped
 use Rattle.sdb_sqlite.specs.Stopping.{stop_reply, stop_faults}
@@ -41,6 +45,24 @@ caused stopped.Refused n = risen n
 caused stopped.Unfit n = risen n
 caused stopped.Foreign n = risen n
 caused stopped.Tied n = risen n
+
+-- a call with an answer that is no fault, as a call of a store
+pub answered_call : {S : Type 0} (g : Ghosts S) (tells : Bool) (q : Request) (old new : Connected S) (r due : Reply) (faults : ℕ) → r ≡ due → CanAnswer q due → HasCause due faults faults → PerformsIn g tells q due old new
+    → IsStoreCall q r (kept_state g tells old faults) (kept_state g tells new faults)
+answered_call g tells q old new r due faults is lawful cause performs =
+    subst (λ (x : Reply). IsStoreCall q x (kept_state g tells old faults) (kept_state g tells new faults)) (sym is)
+    (record {
+      telling = λ h. (h.0, (performs h).kept);
+      performed = λ h. (performs h).performed;
+      lawful = lawful;
+      counted = omega arith;
+      cause = cause;
+    })
+
+-- no write that has an answer is a fault
+pub written_cause : (w : Written) (n : ℕ) → HasCause (write_reply (Ok w)) n n
+written_cause Applied n = tt
+written_cause (NotMet found) n = tt
 
 -- a call that stops is answered as such, and its fault is counted
 pub stopped_call : {S : Type 0} (g : Ghosts S) (tells : Bool) (q : Request) (old new : Connected S) (s : Stopped) (r : Reply) (before now : ℕ) → r ≡ stop_reply s → now ≡ stop_faults s before → PerformsIn g tells q (stop_reply s) old new

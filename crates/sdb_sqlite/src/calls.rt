@@ -1,15 +1,10 @@
 //! The calls on the table.
-ghost use Rattle.std.specs.Prelude.{◌≡◌, ◌∷◌, [], Some, None};
-ghost use Rattle.sdb_sqlite.specs.Kept.{PerformsIn};
-ghost use Rattle.sqlite.specs.declared.types.Value.TheVariants.{Blob};
-ghost use Rattle.sdb_types.specs.declared.record.Request.TheVariants.{Get, Scan, PutIf, DeleteIf};
-ghost use Rattle.sdb_types.specs.Contents.{CanAnswer};
+ghost use Rattle.std.specs.Prelude.{◌≡◌, Some, None};
 ghost use Rattle.sdb_codec.specs.Spelling.{key_bytes, record_bytes, RecordFitsFields};
-ghost use Rattle.sdb_sqlite.specs.Asked.{IsDue, found_in, found_by, IsGot, Gets, IsListed, Scans, Writes, PutsOver, RemovesOver, IsPut, IsRemoved, Puts, Removes, put_params, put_text, got_reply, rows_reply, write_reply, rows_of, written_by};
-ghost use Rattle.sdb_sqlite.specs.Statements.{add_row as add_text, change_row as change_text};
+ghost use Rattle.sdb_sqlite.specs.Asked.{IsDue, found_in, found_by, IsGot, Gets, IsListed, Scans, Writes, PutsOver, RemovesOver, IsPut, IsRemoved, Puts, Removes, put_params, put_text, rows_of, written_by};
+ghost use Rattle.sdb_sqlite.specs.Statements.{add_row as add_text};
 
 use crate::body::{blob_at, record_at};
-use crate::facts::{key_facts, record_facts, span_facts};
 use crate::held::Held;
 use crate::refused::Stopped;
 use crate::rows::records_of;
@@ -69,7 +64,8 @@ fn find_at<S: Held>(
     found(alloc, key, answer)
 }
 
-fn find_key<S: Held>(
+/// The record at a key.
+pub fn find<S: Held>(
     alloc: Global,
     connection: &mut Connection<S>,
     key: &Key,
@@ -78,20 +74,6 @@ fn find_key<S: Held>(
 {
     let spelled = key_spelling(alloc, key)?;
     find_at(alloc, connection, key, spelled.as_slice())
-}
-
-/// The record at a key.
-pub fn find<S: Held>(
-    alloc: Global,
-    connection: &mut Connection<S>,
-    key: &Key,
-) -> Result<Option<Record>, Stopped>
-    ensures asked { Gets S.Store key.now connection.old connection.new result }
-    ensures lawful { CanAnswer (Get key.now) (got_reply result) }
-    ensures told { PerformsIn S.Store S.Held.tells (Get key.now) (got_reply result) connection.old connection.new }
-{
-    key_facts(key);
-    find_key(alloc, connection, key)
 }
 
 // The records that the rows of an answer mean.
@@ -134,7 +116,8 @@ fn list_partition<S: Held>(
     listed(alloc, span, answer)
 }
 
-fn list_span<S: Held>(
+/// The records of a span, in the order of their keys.
+pub fn list<S: Held>(
     alloc: Global,
     connection: &mut Connection<S>,
     span: &Span,
@@ -147,20 +130,6 @@ fn list_span<S: Held>(
     }
 }
 
-/// The records of a span, in the order of their keys.
-pub fn list<S: Held>(
-    alloc: Global,
-    connection: &mut Connection<S>,
-    span: &Span,
-) -> Result<Records, Stopped>
-    ensures asked { Scans S.Store span.now connection.old connection.new result }
-    ensures lawful { CanAnswer (Scan span.now) (rows_reply result) }
-    ensures told { PerformsIn S.Store S.Held.tells (Scan span.now) (rows_reply result) connection.old connection.new }
-{
-    span_facts(span);
-    list_span(alloc, connection, span)
-}
-
 fn written_as(answer: Result<usize, Error>) -> Result<Written, Stopped>
     ensures { result ≡ written_by answer }
 {
@@ -170,43 +139,22 @@ fn written_as(answer: Result<usize, Error>) -> Result<Written, Stopped>
     }
 }
 
-// Adds the row of a record.
+// Adds the row of a record, whose bytes are these.
 fn add<S: Held>(
     alloc: Global,
     connection: &mut Connection<S>,
     rec: &Record,
     spelled: &[u8],
+    body: &[u8],
 ) -> Result<Written, Stopped>
     requires fits { RecordFitsFields rec.now }
     requires spelled { spelled.now ≡ key_bytes rec.now.key }
+    requires body { body.now ≡ record_bytes rec.now }
     ensures { Writes S.Store add_text (put_params rec.now None) connection.old connection.new result }
 {
-    let body = write_record(alloc, rec)?;
     let table = table_text(alloc, &rec.key.table)?;
     let partition = partition_spelling(alloc, &rec.key.table, &rec.key.partition)?;
-    let answer = add_row(
-        connection,
-        spelled,
-        &table,
-        partition.as_slice(),
-        body.as_slice(),
-    );
-    written_as(answer)
-}
-
-// Changes the row of a record's key.
-fn change<S: Held>(
-    alloc: Global,
-    connection: &mut Connection<S>,
-    rec: &Record,
-    spelled: &[u8],
-) -> Result<Written, Stopped>
-    requires fits { RecordFitsFields rec.now }
-    requires spelled { spelled.now ≡ key_bytes rec.now.key }
-    ensures { Writes S.Store change_text (Blob (key_bytes rec.now.key) ∷ Blob (record_bytes rec.now) ∷ []) connection.old connection.new result }
-{
-    let body = write_record(alloc, rec)?;
-    let answer = change_row(connection, spelled, body.as_slice());
+    let answer = add_row(connection, spelled, &table, partition.as_slice(), body);
     written_as(answer)
 }
 
@@ -222,9 +170,10 @@ fn write_over<S: Held>(
     requires spelled { spelled.now ≡ key_bytes rec.now.key }
     ensures { Writes S.Store (put_text found) (put_params rec.now found) connection.old connection.new result }
 {
+    let body = write_record(alloc, rec)?;
     match found {
-        None => add(alloc, connection, rec, spelled),
-        Some(_) => change(alloc, connection, rec, spelled),
+        None => add(alloc, connection, rec, spelled, body.as_slice()),
+        Some(_) => written_as(change_row(connection, spelled, body.as_slice())),
     }
 }
 
@@ -264,7 +213,8 @@ fn put_at<S: Held>(
     }
 }
 
-fn put_record<S: Held>(
+/// Puts a record at its key, where the condition holds of what is there.
+pub fn put<S: Held>(
     alloc: Global,
     connection: &mut Connection<S>,
     rec: &Record,
@@ -277,21 +227,6 @@ fn put_record<S: Held>(
     }
     let spelled = key_spelling(alloc, &rec.key)?;
     put_at(alloc, connection, rec, spelled.as_slice(), condition)
-}
-
-/// Puts a record at its key, where the condition holds of what is there.
-pub fn put<S: Held>(
-    alloc: Global,
-    connection: &mut Connection<S>,
-    rec: &Record,
-    condition: &Condition,
-) -> Result<Written, Stopped>
-    ensures asked { Puts S.Store rec.now condition.now connection.old connection.new result }
-    ensures lawful { CanAnswer (PutIf rec.now condition.now) (write_reply result) }
-    ensures told { PerformsIn S.Store S.Held.tells (PutIf rec.now condition.now) (write_reply result) connection.old connection.new }
-{
-    record_facts(rec);
-    put_record(alloc, connection, rec, condition)
 }
 
 // Takes what was found at a key out, where the condition holds of it.
@@ -333,7 +268,8 @@ fn remove_at<S: Held>(
     }
 }
 
-fn remove_key<S: Held>(
+/// Takes the record at a key out, where the condition holds of what is there.
+pub fn delete<S: Held>(
     alloc: Global,
     connection: &mut Connection<S>,
     key: &Key,
@@ -343,19 +279,4 @@ fn remove_key<S: Held>(
 {
     let spelled = key_spelling(alloc, key)?;
     remove_at(alloc, connection, key, spelled.as_slice(), condition)
-}
-
-/// Takes the record at a key out, where the condition holds of what is there.
-pub fn delete<S: Held>(
-    alloc: Global,
-    connection: &mut Connection<S>,
-    key: &Key,
-    condition: &Condition,
-) -> Result<Written, Stopped>
-    ensures asked { Removes S.Store key.now condition.now connection.old connection.new result }
-    ensures lawful { CanAnswer (DeleteIf key.now condition.now) (write_reply result) }
-    ensures told { PerformsIn S.Store S.Held.tells (DeleteIf key.now condition.now) (write_reply result) connection.old connection.new }
-{
-    key_facts(key);
-    remove_key(alloc, connection, key, condition)
 }

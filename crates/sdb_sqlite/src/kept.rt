@@ -6,14 +6,15 @@ ghost use Rattle.sdb_codec.specs.Spelling.{KeyFitsFields, RecordFitsFields};
 ghost use Rattle.sdb_store.specs.Store.{IsNewStore, IsStoreCall};
 ghost use Rattle.sdb_sqlite.specs.Spans.{SpanFitsFields};
 ghost use Rattle.sdb_sqlite.specs.Kept.{IsKeptNew, IsKeptOn, kept_state};
-ghost use Rattle.sdb_sqlite.specs.Making.{IsMade, IsNotMade, IsRefusedIn, Makes, refused_by};
+ghost use Rattle.sdb_sqlite.specs.Making.{IsMade, IsNotMade, IsRefusedIn, refused_by};
 ghost use Rattle.sdb_sqlite.specs.Asked.{Gets, Scans, Puts, Removes, IsAnswered, got_reply, rows_reply, write_reply};
 ghost use Rattle.sdb_sqlite.specs.Stopping.{stopped_by};
 
 use crate::calls::{Written, delete, find, list, put};
+use crate::facts::{key_facts, record_facts, span_facts};
 use crate::held::Held;
 use crate::refused::{KeptRefused, stop};
-use crate::statements::{make_index, make_table};
+use crate::statements::make_table;
 use sdb_store::Store;
 use sdb_types::{Condition, Key, Record, Reply, Span};
 use sqlite::{Connection, Error, ErrorCode, MemStore};
@@ -50,16 +51,6 @@ fn refused(error: Error) -> KeptRefused
     }
 }
 
-// Makes the table and its index, where they aren't there.
-fn make<S: Held>(connection: &mut Connection<S>) -> Result<usize, Error>
-    ensures { Makes S.Store connection.old connection.new result }
-{
-    match make_table(connection) {
-        Ok(_) => make_index(connection),
-        Err(error) => Err(error),
-    }
-}
-
 impl<S: Held + Drop> Kept<S> {
     /// A store over a connection. The table is made where there is none of its name, and so is its index by table and
     /// partition. The connection is dropped where that is refused: `Database` comes only for another cause than memory.
@@ -70,7 +61,7 @@ impl<S: Held + Drop> Kept<S> {
         ensures blank { IfOk result (λ kept. IsKeptNew S.Store S.Held.tells connection kept.connection) }
         ensures found { IfOk result (λ kept. IsKeptOn S.Store S.Held.tells connection kept.connection) }
     {
-        match make(&mut connection) {
+        match make_table(&mut connection) {
             Ok(_) => Ok(Kept {
                 alloc,
                 connection,
@@ -124,6 +115,7 @@ impl<S: Held + Drop> Store for Kept<S> {
         ensures asked { IsAnswered got_reply (Gets S.Store key.now self.old.connection self.new.connection) result }
         ensures unfit { ¬ KeyFitsFields key.now → (result ≡ Reply.Fault) × (self.new.connection ≡ self.old.connection) }
     {
+        key_facts(key);
         match find(self.alloc, &mut self.connection, key) {
             Ok(found) => Reply::Found(found),
             Err(stopped) => stop(&mut self.faults, stopped),
@@ -135,6 +127,7 @@ impl<S: Held + Drop> Store for Kept<S> {
         ensures asked { IsAnswered rows_reply (Scans S.Store span.now self.old.connection self.new.connection) result }
         ensures unfit { ¬ SpanFitsFields span.now → ((result ≡ Reply.Fault) ⊎ (result ≡ Reply.NoMemory)) × (self.new.connection ≡ self.old.connection) }
     {
+        span_facts(span);
         match list(self.alloc, &mut self.connection, span) {
             Ok(rows) => Reply::Rows(rows),
             Err(stopped) => stop(&mut self.faults, stopped),
@@ -146,6 +139,7 @@ impl<S: Held + Drop> Store for Kept<S> {
         ensures asked { IsAnswered write_reply (Puts S.Store rec.now condition.now self.old.connection self.new.connection) result }
         ensures unfit { ¬ RecordFitsFields rec.now → (result ≡ Reply.Fault) × (self.new.connection ≡ self.old.connection) }
     {
+        record_facts(rec);
         match put(self.alloc, &mut self.connection, rec, condition) {
             Ok(written) => reply_of(written),
             Err(stopped) => stop(&mut self.faults, stopped),
@@ -157,6 +151,7 @@ impl<S: Held + Drop> Store for Kept<S> {
         ensures asked { IsAnswered write_reply (Removes S.Store key.now condition.now self.old.connection self.new.connection) result }
         ensures unfit { ¬ KeyFitsFields key.now → (result ≡ Reply.Fault) × (self.new.connection ≡ self.old.connection) }
     {
+        key_facts(key);
         match delete(self.alloc, &mut self.connection, key, condition) {
             Ok(written) => reply_of(written),
             Err(stopped) => stop(&mut self.faults, stopped),

@@ -18,7 +18,7 @@ pub enum KeptRefused {
 }
 
 /// Why a call stops before it has an answer.
-#[derive(Clone, Copy, Debug, PartialEq, Eq)]
+#[derive(Clone, Copy)]
 pub enum Stopped {
     /// The database refused a statement, and was not out of memory.
     Refused,
@@ -55,9 +55,11 @@ pub fn stop(faults: &mut u64, stopped: Stopped) -> Reply
     ensures reply { result ≡ stop_reply stopped }
     ensures faults { faults.new ≡ stop_faults stopped faults.old }
 {
-    if stopped == Stopped::NoMemory {
-        return Reply::NoMemory;
+    match stopped {
+        Stopped::NoMemory => Reply::NoMemory,
+        Stopped::Refused | Stopped::Unfit | Stopped::Foreign | Stopped::Tied => {
+            *faults = faults.saturating_add(1);
+            Reply::Fault
+        }
     }
-    *faults = faults.saturating_add(1);
-    Reply::Fault
 }

@@ -3,29 +3,26 @@ ghost use Rattle.std.specs.Prelude.{◌≡◌, [], ◌∷◌};
 ghost use Rattle.sqlite.specs.declared.types.Value.TheVariants.{Text, Blob};
 ghost use Rattle.std.specs.String.{string_bytes};
 ghost use Rattle.sdb_sqlite.specs.Asked.{Asked, Ran, rows_of};
+ghost use Rattle.sdb_sqlite.specs.Making.{Makes};
 ghost use Rattle.sdb_sqlite.specs.Statements as text;
 
 use crate::held::Held;
 use sqlite::{Connection, Error, Row, params};
 
-/// Makes the table, where there is none of that name.
+/// Makes the table and its index by table and partition, where there are none of their names.
 pub fn make_table<S: Held>(connection: &mut Connection<S>) -> Result<usize, Error>
-    ensures { Ran S.Store text.make_table [] connection.old connection.new result }
+    ensures { Makes S.Store connection.old connection.new result }
 {
-    connection.execute(
+    match connection.execute(
         "CREATE TABLE IF NOT EXISTS records(k BLOB NOT NULL PRIMARY KEY, t TEXT NOT NULL, p BLOB NOT NULL, r BLOB NOT NULL) STRICT",
         &[],
-    )
-}
-
-/// Makes the table's index by table and partition, where there is none of that name.
-pub fn make_index<S: Held>(connection: &mut Connection<S>) -> Result<usize, Error>
-    ensures { Ran S.Store text.make_index [] connection.old connection.new result }
-{
-    connection.execute(
-        "CREATE INDEX IF NOT EXISTS records_by_partition ON records(t, p)",
-        &[],
-    )
+    ) {
+        Ok(_) => connection.execute(
+            "CREATE INDEX IF NOT EXISTS records_by_partition ON records(t, p)",
+            &[],
+        ),
+        Err(error) => Err(error),
+    }
 }
 
 /// The body of the row with a key.

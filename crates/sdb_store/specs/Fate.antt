@@ -1,5 +1,6 @@
 -- Which calls of a store in memory fail, and what comes of a call.
-use Rattle.std.specs.Prelude.{◌≡◌, ◌⊎◌, ◌==◌, ◌+◌, ◌-◌, ◌^◌, ℕ, nat_lt, if◌then◌else◌, List, Option, Some, None, find}
+use Rattle.std.specs.Prelude.{◌≡◌, ◌⊎◌, ◌==◌, ◌+◌, ◌-◌, ◌^◌, ℕ, nat_lt, if◌then◌else◌, List, Option, Some, None, Result, Ok, Err, find}
+use Rattle.sdb_types.specs.declared.memory.NoMemory.{NoMemory}
 use Rattle.sdb_types.specs.declared.record.Request.{Request}
 use Rattle.sdb_types.specs.declared.record.Reply.{Reply}
 use Rattle.sdb_types.specs.declared.record.Reply.TheVariants as reply
@@ -18,6 +19,16 @@ listed_fate (Some fail) = if fail.after then fate.FailsAfter else fate.FailsBefo
 -- after it. The call numbered 2^64 - 1 and later ones never fail.
 abbrev pub fate_of : ℕ → List Fail → Fate
 fate_of n failing = if nat_lt n (2 ^ 64 - 1) then listed_fate (find (λ fail. fail.call == n) failing) else fate.Answers
+
+-- the reply to a call that fails after its effect, by the answer that it would have had
+abbrev pub reply_after : Result Reply NoMemory → Reply
+reply_after (Ok r) = reply.Fault
+reply_after (Err e) = reply.NoMemory
+
+-- how many calls have failed then
+abbrev pub failed_after : Result Reply NoMemory → ℕ → ℕ
+failed_after (Ok r) failed = failed + 1
+failed_after (Err e) failed = failed
 
 -- A store in memory as its callers see it: what it holds, which calls fail, how many were made and how many failed.
 pub record Held : Type 0 where

@@ -1,15 +1,21 @@
 -- What the calls of a store mean.
-use Rattle.std.specs.Prelude.{◌≡◌, ◌⊎◌, ◌≤◌, ℕ}
+use Rattle.std.specs.Prelude.{◌≡◌, ◌⊎◌, ◌≤◌, ℕ, Option, Some, None, if◌then◌else◌}
 use Rattle.std.specs.FinMap as map
+use Rattle.sdb_types.specs.declared.record.Condition.{Condition}
+use Rattle.sdb_types.specs.declared.record.Record.{Record}
 use Rattle.sdb_types.specs.declared.record.Request.{Request}
 use Rattle.sdb_types.specs.declared.record.Reply.{Reply}
 use Rattle.sdb_types.specs.declared.record.Reply.TheVariants as reply
-use Rattle.sdb_types.specs.Contents.{Contents, CanAnswer, reply_to, after}
+use Rattle.sdb_types.specs.Contents.{Contents, CanAnswer, holds, reply_to, after}
 use Rattle.sdb_types.specs.Bytes.{HasRisen}
 
 -- The answer is the map's reply, and the contents are what the map then holds.
 abbrev pub Answers : Request → Reply → Contents → Contents → Type 0
 Answers q r old new = (r ≡ reply_to q old) × (new ≡ after q old)
+
+-- the reply to a write whose condition does not hold of what is at its key
+abbrev pub unmet_reply : Condition → Option Record → Option Reply
+unmet_reply condition found = if holds condition found then None else Some (reply.NotMet found)
 
 -- A call on a store of known contents: it answers as the map does and leaves what the map leaves. A fault leaves the
 -- contents as before or as after the call, and out of memory leaves them as before.

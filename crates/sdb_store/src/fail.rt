@@ -2,7 +2,7 @@
 ghost use Rattle.sdb_types.specs.Draws.{counted as next_number};
 ghost use Rattle.std.specs.Prelude.{◌≡◌, ◌≢◌, ◌+◌, ◌<◌, ◌≤◌, find, ◌==◌};
 ghost use Rattle.std.specs.Option.{option_copied};
-ghost use Rattle.sdb_store.specs.Fate.{fate_of, listed_fate};
+ghost use Rattle.sdb_store.specs.Fate.{failed_after, fate_of, listed_fate, reply_after};
 
 use sdb_types::{Duplicate, NoMemory, Reply, Seq};
 
@@ -23,7 +23,7 @@ impl Duplicate for Fail {
 pub type Fails = Seq<Fail>;
 
 /// What becomes of a call.
-#[derive(Clone, Copy, Debug, PartialEq, Eq)]
+#[derive(Clone, Copy)]
 pub enum Fate {
     Answers,
     FailsBefore,
@@ -110,5 +110,19 @@ impl Calls {
     {
         self.failed += 1;
         Reply::Fault
+    }
+
+    /// Counts a call that had its effect and fails, or that memory ran out for.
+    pub fn fail_after(&mut self, answer: Result<Reply, NoMemory>) -> Reply
+        requires { self.old.failed < self.old.made }
+        ensures reply { result ≡ reply_after answer }
+        ensures failing { self.new.failing ≡ self.old.failing }
+        ensures made { self.new.made ≡ self.old.made }
+        ensures failed { self.new.failed ≡ failed_after answer self.old.failed }
+    {
+        match answer {
+            Ok(_) => self.fail(),
+            Err(NoMemory) => Reply::NoMemory,
+        }
     }
 }

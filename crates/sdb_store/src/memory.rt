@@ -81,10 +81,7 @@ impl<R: Rows> Store for Memory<R> {
         match self.calls.next() {
             Fate::Answers => reply_of(found(&self.rows, key)),
             Fate::FailsBefore => self.calls.fail(),
-            Fate::FailsAfter => match found(&self.rows, key) {
-                Ok(_) => self.calls.fail(),
-                Err(NoMemory) => Reply::NoMemory,
-            },
+            Fate::FailsAfter => self.calls.fail_after(found(&self.rows, key)),
         }
     }
 
@@ -96,10 +93,7 @@ impl<R: Rows> Store for Memory<R> {
         match self.calls.next() {
             Fate::Answers => reply_of(listed(&self.rows, span)),
             Fate::FailsBefore => self.calls.fail(),
-            Fate::FailsAfter => match listed(&self.rows, span) {
-                Ok(_) => self.calls.fail(),
-                Err(NoMemory) => Reply::NoMemory,
-            },
+            Fate::FailsAfter => self.calls.fail_after(listed(&self.rows, span)),
         }
     }
 
@@ -110,10 +104,7 @@ impl<R: Rows> Store for Memory<R> {
         match self.calls.next() {
             Fate::Answers => reply_of(self.rows.put(rec, condition)),
             Fate::FailsBefore => self.calls.fail(),
-            Fate::FailsAfter => match self.rows.put(rec, condition) {
-                Ok(_) => self.calls.fail(),
-                Err(NoMemory) => Reply::NoMemory,
-            },
+            Fate::FailsAfter => self.calls.fail_after(self.rows.put(rec, condition)),
         }
     }
 
@@ -124,10 +115,7 @@ impl<R: Rows> Store for Memory<R> {
         match self.calls.next() {
             Fate::Answers => reply_of(self.rows.delete(key, condition)),
             Fate::FailsBefore => self.calls.fail(),
-            Fate::FailsAfter => match self.rows.delete(key, condition) {
-                Ok(_) => self.calls.fail(),
-                Err(NoMemory) => Reply::NoMemory,
-            },
+            Fate::FailsAfter => self.calls.fail_after(self.rows.delete(key, condition)),
         }
     }
 }

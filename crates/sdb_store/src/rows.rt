@@ -3,11 +3,22 @@ ghost use Rattle.std.specs.Prelude.{◌≡◌, IfOk, OnOk, OnErr};
 ghost use Rattle.std.specs.FinMap as map;
 ghost use Rattle.sdb_types.specs.declared.record.Request.TheVariants.{PutIf, DeleteIf};
 ghost use Rattle.sdb_types.specs.Contents.{Contents, record_at, rows_in};
-ghost use Rattle.sdb_store.specs.Store.{Answers};
+ghost use Rattle.sdb_store.specs.Store.{Answers, unmet_reply};
 
 use crate::condition::holds;
 use sdb_types::{Condition, Duplicate, Key, NoMemory, Record, Records, Reply, Span};
 use std::alloc::Global;
+
+// The reply to a write whose condition does not hold of what was found at its key.
+fn unmet(condition: &Condition, found: Option<Record>) -> Option<Reply>
+    ensures { result ≡ unmet_reply condition.now found }
+{
+    if holds(condition, found.as_ref()) {
+        None
+    } else {
+        Some(Reply::NotMet(found))
+    }
+}
 
 /// Records by key, kept in memory.
 pub trait Rows: Drop {
@@ -41,12 +52,13 @@ pub trait Rows: Drop {
         ensures ok { IfOk result (λ reply. Answers (PutIf rec.now condition.now) reply (contents self.old) (contents self.new)) }
         ensures err { OnErr result (contents self.new ≡ contents self.old) }
     {
-        let found = self.find(&rec.key)?;
-        if !holds(condition, found.as_ref()) {
-            return Ok(Reply::NotMet(found));
+        match unmet(condition, self.find(&rec.key)?) {
+            Some(reply) => Ok(reply),
+            None => {
+                self.insert(rec.copy()?)?;
+                Ok(Reply::Applied)
+            }
         }
-        self.insert(rec.copy()?)?;
-        Ok(Reply::Applied)
     }
 
     /// Takes the record at a key out, where the condition holds of what is there.
@@ -54,11 +66,12 @@ pub trait Rows: Drop {
         ensures ok { IfOk result (λ reply. Answers (DeleteIf key.now condition.now) reply (contents self.old) (contents self.new)) }
         ensures err { OnErr result (contents self.new ≡ contents self.old) }
     {
-        let found = self.find(key)?;
-        if !holds(condition, found.as_ref()) {
-            return Ok(Reply::NotMet(found));
+        match unmet(condition, self.find(key)?) {
+            Some(reply) => Ok(reply),
+            None => {
+                self.remove(key)?;
+                Ok(Reply::Applied)
+            }
         }
-        self.remove(key)?;
-        Ok(Reply::Applied)
     }
 }

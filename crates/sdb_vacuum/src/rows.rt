@@ -10,7 +10,7 @@ use std::alloc::Global;
 use std::collections::VecDeque;
 
 /// The first of some rows that needs a call, or is no record of a transaction.
-#[derive(Debug, Drop)]
+#[derive(Drop)]
 pub enum Found {
     Nothing,
     Tombstone(Record),

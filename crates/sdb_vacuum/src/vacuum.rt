@@ -145,13 +145,14 @@ impl Vacuum {
         ensures more { result ≡ VacuumStep.More → IsSome (vacuum_pending self.new) }
         ensures ended { result ≢ VacuumStep.More → vacuum_pending self.new ≡ None }
     {
-        let step = recover_on(&mut self.doing, reply, now);
-        if step == RecoverStep::More {
-            return VacuumStep::More;
+        match recover_on(&mut self.doing, reply, now) {
+            RecoverStep::More => VacuumStep::More,
+            step => {
+                let next = self.work.resolved(step);
+                self.doing = next.doing;
+                next.step
+            }
         }
-        let next = self.work.resolved(step);
-        self.doing = next.doing;
-        next.step
     }
 
     // Takes the reply to the delete of a tombstone.

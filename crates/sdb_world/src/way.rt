@@ -1,7 +1,7 @@
 //! The ways in which a client's call is made.
 
 /// What becomes of a call and of its reply.
-#[derive(Clone, Copy, Debug, PartialEq, Eq)]
+#[derive(Clone, Copy)]
 pub enum Way {
     /// It is made, and its reply is seen.
     Step,

@@ -1,7 +1,60 @@
-use Rattle.sdb_board.proofs.GoesOn.{goes_more}
-use Rattle.sdb_app.proofs.Headline.{stops_after}
+use Rattle.std.proofs.Common.{subst, sym}
+use Rattle.std.proofs.lemmas.Result.{IfOk-from_err}
+use Rattle.sdb_model.specs.declared.script.Script.{Script}
+use Rattle.sdb_board.proofs.GoesOn.{goes_more, goes_none, some_more}
+use Rattle.sdb_world.specs.Step.{CanFollow}
+use Rattle.sdb_app.specs.declared.status.Status.TheVariants as status
+use Rattle.sdb_app.proofs.Headline.{passed_on, stops_after}
 use Rattle.sdb_app.proofs.Playing.{broken_played, caused_played, err_then, explained_played, none_played, ok_then, run_played}
 use Rattle.sdb_app.proofs.replay.play.Goals as goal
+
+---- a world for which there is no memory
+
+pub returns-in_err-world-clause-follows : goal.returns-in_err-world-clause-follows
+returns-in_err-world-clause-follows g c = IfOk-from_err c.from_residual.result _ c.from_residual.ensures.0
+
+pub returns-in_err-world-clause-caused : goal.returns-in_err-world-clause-caused
+returns-in_err-world-clause-caused g c = IfOk-from_err c.from_residual.result _ c.from_residual.ensures.0
+
+pub returns-in_err-world-clause-broken : goal.returns-in_err-world-clause-broken
+returns-in_err-world-clause-broken g c = IfOk-from_err c.from_residual.result _ c.from_residual.ensures.0
+
+pub returns-in_err-world-clause-explained : goal.returns-in_err-world-clause-explained
+returns-in_err-world-clause-explained g c = IfOk-from_err c.from_residual.result _ c.from_residual.ensures.0
+
+pub returns-in_err-world-clause-run : goal.returns-in_err-world-clause-run
+returns-in_err-world-clause-run g c = IfOk-from_err c.from_residual.result _ c.from_residual.ensures.0
+
+pub returns-in_err-world-clause-goes : goal.returns-in_err-world-clause-goes
+returns-in_err-world-clause-goes g c = goes_none (g.R.Registry.state c.args.stores.now)
+
+pub returns-in_err-world-clause-err : goal.returns-in_err-world-clause-err
+returns-in_err-world-clause-err g c = passed_on _ c.from_residual.result status.NoMemory c.from_residual.ensures.1 tt
+
+---- a script that memory ran out for
+
+pub returns-in_err-follow-clause-follows : goal.returns-in_err-follow-clause-follows
+returns-in_err-follow-clause-follows g c = IfOk-from_err c.from_residual-in_err-follow.result _ c.from_residual-in_err-follow.ensures.0
+
+pub returns-in_err-follow-clause-caused : goal.returns-in_err-follow-clause-caused
+returns-in_err-follow-clause-caused g c = IfOk-from_err c.from_residual-in_err-follow.result _ c.from_residual-in_err-follow.ensures.0
+
+pub returns-in_err-follow-clause-broken : goal.returns-in_err-follow-clause-broken
+returns-in_err-follow-clause-broken g c = IfOk-from_err c.from_residual-in_err-follow.result _ c.from_residual-in_err-follow.ensures.0
+
+pub returns-in_err-follow-clause-explained : goal.returns-in_err-follow-clause-explained
+returns-in_err-follow-clause-explained g c = IfOk-from_err c.from_residual-in_err-follow.result _ c.from_residual-in_err-follow.ensures.0
+
+pub returns-in_err-follow-clause-run : goal.returns-in_err-follow-clause-run
+returns-in_err-follow-clause-run g c = IfOk-from_err c.from_residual-in_err-follow.result _ c.from_residual-in_err-follow.ensures.0
+
+pub returns-in_err-follow-clause-goes : goal.returns-in_err-follow-clause-goes
+returns-in_err-follow-clause-goes g c = c.follow.ensures.goes
+
+pub returns-in_err-follow-clause-err : goal.returns-in_err-follow-clause-err
+returns-in_err-follow-clause-err g c = passed_on _ c.from_residual-in_err-follow.result status.NoMemory c.from_residual-in_err-follow.ensures.1 tt
+
+---- an outcome, or why there is none
 
 pub returns-clause-run : goal.returns-clause-run
 returns-clause-run g c =
@@ -46,3 +99,23 @@ returns-clause-err g c =
     let mid = g.R.Registry.state c.follow.new.stores in
     err_then _ _ c.ended.result
     (λ s. stops_after old mid (g.R.Registry.state c.ended.new.stores) _ _ _ _ s made.goes (none_played c.args.script c.in_ok-world.world c.follow.new.self old mid before.script before.events before.linked made.come made.goes) (λ key never. never)) c.ended.ensures.err
+
+---- what the calls require
+
+pub new-requires : goal.new-requires
+new-requires g c = record { playable = c.requires.playable }
+
+pub follow-requires-clause-some : goal.follow-requires-clause-some
+follow-requires-clause-some g c = c.requires.some
+
+pub follow-requires-clause-world : goal.follow-requires-clause-world
+follow-requires-clause-world g c = c.in_ok-world.ensures.world
+
+pub follow-requires-clause-can : goal.follow-requires-clause-can
+follow-requires-clause-can g c = subst (λ (s : Script). CanFollow s) (sym c.in_ok-world.ensures.script) c.requires.can
+
+pub ended-requires-clause-some : goal.ended-requires-clause-some
+ended-requires-clause-some g c = some_more (g.R.Registry.state c.args.stores.now).shelves (g.R.Registry.state c.follow.new.stores).shelves c.in_ok-follow.ensures.goes.names c.requires.some
+
+pub ended-requires-clause-world : goal.ended-requires-clause-world
+ended-requires-clause-world g c = c.in_ok-follow.ensures.world

@@ -3,10 +3,10 @@ use Rattle.sdb_sqlite.proofs.kept.Kept.new.Goals as goal
 
 pub returns-in-Ok-clause-blank : goal.returns-in-Ok-clause-blank
 returns-in-Ok-clause-blank g c tells blank =
-    let is = blank_told g.S.Store (λ h. g.met.S.Held.told tells h.store) c.args.connection c.make.new.connection c.in-Ok.ensures blank in
+    let is = blank_told g.S.Store (λ h. g.met.S.Held.told tells h.store) c.args.connection c.make_table.new.connection c.in-Ok.ensures blank in
     record { told = (tells, is.0); holds = is.1 }
 
 pub returns-in-Ok-clause-found : goal.returns-in-Ok-clause-found
 returns-in-Ok-clause-found g c tells formed =
-    let is = found_told g.S.Store (λ h. g.met.S.Held.told tells h.store) c.args.connection c.make.new.connection c.in-Ok.ensures formed in
+    let is = found_told g.S.Store (λ h. g.met.S.Held.told tells h.store) c.args.connection c.make_table.new.connection c.in-Ok.ensures formed in
     record { told = (tells, is.0); holds = is.1 }

@@ -1,4 +1,0 @@
-use Rattle.sdb_sqlite.proofs.statements.make_index.Goals as goal
-
-pub returns : goal.returns
-returns g c = record { runs = λ clean. c.execute.ensures.runs clean; limit = c.execute.ensures.survives.limit }
