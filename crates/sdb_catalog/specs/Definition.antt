@@ -40,6 +40,13 @@ abbrev pub columns_data : List Column → Members
 columns_data [] = no_members
 columns_data (c ∷ cs) = member c.name (string (kind_text c.kind)) (columns_data cs)
 
+-- the members of a table's value but its columns
+abbrev pub keys_of : Table → Members
+keys_of t =
+    member clustering_key (orders_data t.clustering)
+    (member partition_key (names_data t.partition)
+    (member secondary_index (names_data t.indexed) no_members))
+
 -- the value of a table in a schema, its members in the order of their names
 abbrev pub definition_of : Table → Data
 definition_of t = object

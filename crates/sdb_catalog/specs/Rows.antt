@@ -8,7 +8,7 @@ use Rattle.sdb_types.specs.declared.key.TableName.{TableName}
 use Rattle.sdb_types.specs.declared.txid.TxId.{TxId}
 use Rattle.sdb_types.specs.declared.pair.Pair.{Pair}
 use Rattle.sdb_types.specs.declared.record.Record.{Record}
-use Rattle.sdb_types.specs.Columns.{column}
+use Rattle.sdb_types.specs.Columns.{column, with_column}
 use Rattle.sdb_types.specs.Order.{table_text}
 use Rattle.sdb_types.specs.TxId.{id_text}
 use Rattle.sdb_types.specs.Contents.{tx_id, tx_state}
@@ -35,6 +35,12 @@ definition_column = codes "definition"
 
 abbrev pub store_column : List ℕ
 store_column = codes "store"
+
+-- columns with the definition of a table and its store
+abbrev pub with_texts : List ℕ → List ℕ → List Pair → List Pair
+with_texts definition store columns =
+    with_column (record { name = store_column; value = value.Text store })
+    (with_column (record { name = definition_column; value = value.Text definition }) columns)
 
 -- the columns of a table's row: its definition, the store, the revision as an id, and the state 3
 abbrev pub metadata_columns_of : List ℕ → List ℕ → TxId → List Pair

@@ -1,9 +1,9 @@
 //! Tables as JSON.
-ghost use Rattle.std.specs.Prelude.{◌≡◌, ◌++◌, ◌∷◌, true, IfOk, OnOk, codes, string_bytes};
-ghost use Rattle.serde_json.specs.Data.{member, no_members, object, string, put as with_member};
+ghost use Rattle.std.specs.Prelude.{◌≡◌, true, IfOk, OnOk, string_bytes};
+ghost use Rattle.serde_json.specs.Data.{object, string, put as with_member};
 ghost use Rattle.serde_json.specs.View.{view, members_view};
 ghost use Rattle.sdb_schema.specs.Table.{rises};
-ghost use Rattle.sdb_catalog.specs.Definition.{columns_data, definition_of, definition_text as definition_text_lem, direction_text as direction_text_lem, kind_text as kind_text_lem, names_data, order_text as order_text_lem, orders_data};
+ghost use Rattle.sdb_catalog.specs.Definition.{columns_data, definition_of, definition_text as definition_text_lem, direction_text as direction_text_lem, keys_of, kind_text as kind_text_lem, names_data, order_text as order_text_lem, orders_data};
 
 use sdb_schema::{Column, Direction, Kind, Order, Orders, Table};
 use sdb_types::{Name, Names, NoMemory, Txt};
@@ -110,7 +110,7 @@ fn put_orders(
 
 // The members of a table's value, but for its columns.
 fn keys_map(alloc: Global, table: &Table) -> Result<Map<String, Value>, NoMemory>
-    ensures { IfOk result (λ map. members_view map.entries ≡ member (codes "clustering-key") (orders_data table.now.clustering) (member (codes "partition-key") (names_data table.now.partition) (member (codes "secondary-index") (names_data table.now.indexed) no_members))) }
+    ensures { IfOk result (λ map. members_view map.entries ≡ keys_of table.now) }
 {
     let mut map = Map::new(alloc);
     put_orders(alloc, &mut map, "clustering-key", &table.clustering)?;

@@ -1,10 +1,8 @@
 //! The rows of the catalog, as they are made.
 ghost use Rattle.std.specs.Prelude.{◌≡◌, ◌∷◌, [], true, IfOk, OnOk, string_bytes};
-ghost use Rattle.sdb_types.specs.declared.value.Value.TheVariants as value;
-ghost use Rattle.sdb_types.specs.Columns.{with_column};
 ghost use Rattle.sdb_types.specs.Order.{table_text as table_text_lem};
 ghost use Rattle.sdb_schema.specs.Table.{rises};
-ghost use Rattle.sdb_catalog.specs.Rows.{coordinators as coordinators_lem, definition_column, metadata_columns_of, metadata_key_of, metadata_table as metadata_table_lem, row_of as row_of_lem, store_column};
+ghost use Rattle.sdb_catalog.specs.Rows.{coordinators as coordinators_lem, metadata_columns_of, metadata_key_of, metadata_table as metadata_table_lem, row_of as row_of_lem, with_texts};
 
 use crate::definition::definition_text;
 use crate::entry::Entry;
@@ -58,7 +56,7 @@ fn set_texts(
     definition: Txt,
     store: &Name,
 ) -> Result<(), NoMemory>
-    ensures { OnOk result (columns.new ≡ with_column (record { name = store_column; value = value.Text store.now }) (with_column (record { name = definition_column; value = value.Text definition }) columns.old)) }
+    ensures { OnOk result (columns.new ≡ with_texts definition store.now columns.old) }
 {
     columns.set(known_name(alloc, "definition")?, Value::Text(definition))?;
     let store = Value::Text(Txt::new(alloc, store.as_str())?);

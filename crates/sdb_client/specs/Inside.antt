@@ -31,7 +31,7 @@ use Rattle.sdb_model.specs.declared.statement.Statement.TheVariants as statement
 use Rattle.sdb_client.specs.declared.next.Next.{Next}
 use Rattle.sdb_client.specs.declared.next.Next.TheVariants as next
 use Rattle.sdb_vacuum.specs.Vacuum.{VacuumAt, vacuum_pending}
-use Rattle.sdb_client.specs.Client.{ClientAt, NextTold, given_answer, given_left, gives, is_covered, resting}
+use Rattle.sdb_client.specs.Client.{ClientAt, NextTold, given_answer, given_left, gives, is_covered, plan_of, resting}
 
 -- A plan that was asked for its rows, of a statement that its table doesn't refuse.
 pub record IsFine (p : Planned) : Type 0 where
@@ -103,6 +103,11 @@ IfRows p P = Unit {0}
 pub record TxnReads (p : Planned) (a : Access) (t : TxnAt) (result : Option Answer) (u : TxnAt) (v : Option Planned) : Type 0 where
   pub known : is_covered t.seen a ≡ true → (result ≡ Some (given_answer t (gives p a t))) × (u ≡ given_left t t (gives p a t)) × (v ≡ None)
   pub unknown : is_covered t.seen a ≡ false → (result ≡ None) × (u ≡ reading t a) × (v ≡ Some p)
+
+-- a statement that the catalog takes reads so, by its plan on its table
+abbrev pub StatementReads : List Table → Statement → TxnAt → Option Answer → TxnAt → Option Planned → Type 0
+StatementReads catalog s t result u v =
+    (table : Table) → refusal_of catalog s ≡ None → named_table catalog s ≡ Some table → TxnReads (plan_of table s) (access_of table s) t result u v
 
 -- the transaction that is open after a call
 abbrev pub txn_after : Option TxnAt → Next → Option TxnAt

@@ -1,18 +1,16 @@
 //! A statement on a table is planned, and begins to read.
 ghost use Rattle.std.specs.Prelude.{◌≡◌, ◌≢◌, true, false, IfOk, IfErr, IsSomeAnd, Some, None};
-ghost use Rattle.sdb_schema.specs.declared.table.Table.{Table as TableValue};
 ghost use Rattle.sdb_schema.specs.Catalog.{is_catalog};
 ghost use Rattle.sdb_model.specs.declared.answer.Answer.TheVariants as answer;
 ghost use Rattle.sdb_model.specs.declared.answer.Refusal.{Refusal as RefusalValue};
-ghost use Rattle.sdb_model.specs.Exec.{named_table};
 ghost use Rattle.sdb_model.specs.Refused.{refusal_of};
 ghost use Rattle.sdb_exec.specs.Plans.{has_all_literals};
 ghost use Rattle.sdb_exec.specs.Reads.{access_of};
 ghost use Rattle.sdb_snapshot.specs.Seen.{overlay};
 ghost use Rattle.sdb_txn.specs.declared.txn.Doing.TheVariants as doing;
 ghost use Rattle.sdb_txn.specs.Txn.{reading};
-ghost use Rattle.sdb_client.specs.Client.{given_answer, given_left, gives, is_covered, plan_of};
-ghost use Rattle.sdb_client.specs.Inside.{IfRows, IsFine, IsPlanOf, IsUnder, TxnReads};
+ghost use Rattle.sdb_client.specs.Client.{is_covered};
+ghost use Rattle.sdb_client.specs.Inside.{IfRows, IsFine, IsPlanOf, IsUnder, StatementReads, TxnReads};
 
 use crate::finish::finish;
 use sdb_exec::{Plan, PlanRefused, PlanStep};
@@ -77,8 +75,7 @@ fn begin_read(
     requires alone { running.old ≡ None }
     ensures under { IsUnder txn.new.doing running.new }
     ensures memory { result ≡ Some answer.NoMemory → (txn.new ≡ txn.old) × (running.new ≡ None) }
-    ensures known { result ≢ Some answer.NoMemory → is_covered txn.old.seen access ≡ true → (result ≡ Some (given_answer txn.old (gives plan access txn.old))) × (txn.new ≡ given_left txn.old txn.old (gives plan access txn.old)) × (running.new ≡ None) }
-    ensures unknown { result ≢ Some answer.NoMemory → is_covered txn.old.seen access ≡ false → (result ≡ None) × (txn.new ≡ reading txn.old access) × (running.new ≡ Some plan) }
+    ensures reads { result ≢ Some answer.NoMemory → TxnReads plan access txn.old result txn.new running.new }
 {
     match read(txn, &access) {
         Progress::More => {
@@ -104,7 +101,7 @@ pub fn ask(
     ensures under { IsUnder txn.new.doing running.new }
     ensures memory { result ≡ Some answer.NoMemory → (txn.new ≡ txn.old) × (running.new ≡ None) }
     ensures refused { result ≢ Some answer.NoMemory → (r : RefusalValue) → refusal_of catalog.now statement.now ≡ Some r → (result ≡ Some (answer.Refused r)) × (txn.new ≡ txn.old) × (running.new ≡ None) }
-    ensures reads { result ≢ Some answer.NoMemory → (table : TableValue) → refusal_of catalog.now statement.now ≡ None → named_table catalog.now statement.now ≡ Some table → TxnReads (plan_of table statement.now) (access_of table statement.now) txn.old result txn.new running.new }
+    ensures reads { result ≢ Some answer.NoMemory → StatementReads catalog.now statement.now txn.old result txn.new running.new }
 {
     match planned(alloc, catalog, statement) {
         Ok((plan, access)) => begin_read(txn, running, plan, access),
