@@ -1,22 +1,29 @@
--- The stores of the program, and a run on them.
-use Rattle.std.specs.Prelude.{ℕ, List, [], ◌∷◌, Option, codes}
+-- The stores of the program, and how a call of it on them may end.
+use Rattle.std.specs.Prelude.{ℕ, ◌<◌, List, [], ◌∷◌, codes}
 use Rattle.std.specs.FinMap.{empty}
-use Rattle.sdb_stores.specs.Shelf.{Attached, Shelf}
-use Rattle.sdb_app.specs.Run.{IsReplayed}
+use Rattle.sdb_store.specs.Store.{StoreState}
+use Rattle.sdb_stores.specs.Shelf.{Attached, Shelf, shelf_of}
+use Rattle.sdb_app.specs.declared.status.Status.{Status}
+use Rattle.sdb_app.specs.Ends.{Stream}
+use Rattle.sdb_app.specs.Promise.{HasEnded}
 
 -- a store that holds nothing, and of which no call failed
 abbrev pub new_store : List ℕ → Shelf
 new_store name = record { name = name; contents = empty; faults = 0 }
 
--- the stores of the program, as they are attached
+-- the program's own stores, as they are attached
 abbrev pub own_stores : List Shelf
 own_stores = new_store (codes "ordered") ∷ new_store (codes "hashed") ∷ new_store (codes "sqlite") ∷ []
 
 -- what its registry shows at the entry: no place, and stores of known contents
 abbrev pub own_attached : Attached
-own_attached = record { places = []; shelves = own_stores; tells = λ _. Unit {0} }
+own_attached = record { places = []; shelves = own_stores; tells = λ at. at < 3 }
 
--- A script over the stores of the program was played on them, and each of them has known contents: so whatever the script places
--- on which of them, the report is that of a run of the script.
-abbrev pub IsPlayedOnOwn : Option (List ℕ) → Option (List ℕ) → Option (List ℕ) → Option (List ℕ) → Type 0
-IsPlayedOnOwn old_input new_input old_output new_output = (left : List Shelf) × IsReplayed (record { old = own_attached; left = left; old_input = old_input; new_input = new_input; old_output = old_output; new_output = new_output })
+-- the same, where a database in a file comes first, whose contents are not known
+abbrev pub attached_over : StoreState → Attached
+attached_over file = record { places = []; shelves = shelf_of (codes "file") file ∷ own_stores; tells = λ at. (0 < at) × (at < 4) }
+
+-- A call of the program on these words and stores ends so, with the input and the output before and after it.
+abbrev pub HasEndedOn : Attached → List (List ℕ) → Stream → Stream → Stream → Stream → Status → Type 0
+HasEndedOn stores words input rest output written s =
+    (left : List Shelf) × HasEnded words (record { work = record { old = stores; left = left; input = input; rest = rest }; output = output; written = written }) s

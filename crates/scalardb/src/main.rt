@@ -1,4 +1,4 @@
-//! The program: hands its words, standard input and output, the clock and random ids to the top call.
+//! The program: hands its words, standard input and output, and its stores to the top call.
 #![tactic(auto)]
 
 ghost use Rattle.sdb_store.specs.Store.{IsNewStore};
@@ -6,23 +6,50 @@ ghost use Rattle.sdb_store.specs.Store.{IsNewStore};
 mod outside;
 mod stores;
 
-use crate::outside::{Input, Output, RandomIds, Time};
-use crate::stores::play;
+use crate::outside::{Input, Output};
+use crate::stores::{run_on_own, run_over_file};
 use sdb_app::Status;
 use sdb_sqlite::{Kept, KeptRefused};
 use sdb_store::Store;
-use sqlite::MemStore;
+use sqlite::{Connection, Error, ErrorCode, FileStore, MemStore};
+use sqlite_std_file::File;
 use std::alloc::Global;
-use std::env;
+use std::env::{self, VarError};
 use std::io::ErrorKind;
 use std::process::ExitCode;
 use std::rt::HostRuntime;
 
-const NO_MEMORY: u8 = 7;
+/// Why the program ends before it runs a command.
+#[derive(Clone, Copy)]
+enum Unstarted {
+    NoMemory,
+    NoDatabase,
+}
 
-const NO_DATABASE: u8 = 14;
+impl Unstarted {
+    fn code(self) -> u8 {
+        match self {
+            Unstarted::NoMemory => 7,
+            Unstarted::NoDatabase => 14,
+        }
+    }
 
-const NO_SEED: u8 = 15;
+    fn line(self) -> &'static str {
+        match self {
+            Unstarted::NoMemory => "out of memory",
+            Unstarted::NoDatabase => "no database",
+        }
+    }
+}
+
+impl From<KeptRefused> for Unstarted {
+    fn from(refused: KeptRefused) -> Unstarted {
+        match refused {
+            KeptRefused::NoMemory => Unstarted::NoMemory,
+            KeptRefused::Database => Unstarted::NoDatabase,
+        }
+    }
+}
 
 fn ended(rt: &HostRuntime, line: &str, code: u8) -> ExitCode {
     let _ = eprintln!(rt; "{line}");
@@ -44,29 +71,70 @@ fn words(alloc: Global, rt: &HostRuntime) -> Result<Vec<String>, Status> {
     Ok(words)
 }
 
-// Runs the program on standard input and output.
-fn play_streams(
-    rt: HostRuntime,
+// The path of the database in a file, where the environment names one.
+fn file_path(rt: &HostRuntime) -> Result<Option<String>, Unstarted> {
+    match env::var(rt, "SCALARDB_FILE") {
+        Ok(path) => Ok(Some(path)),
+        Err(VarError::NotPresent) => Ok(None),
+        Err(VarError::OutOfMemory) => Err(Unstarted::NoMemory),
+        Err(VarError::NotUnicode) => Err(Unstarted::NoDatabase),
+    }
+}
+
+// The database in the file at a path, which is made where there is none.
+fn open_file(rt: &HostRuntime, path: &str) -> Result<Kept<FileStore<File>>, Unstarted> {
+    match Connection::open(rt, path) {
+        Ok(connection) => match Kept::new(rt.alloc(), connection) {
+            Ok(database) => Ok(database),
+            Err(refused) => Err(Unstarted::from(refused)),
+        },
+        Err(Error::SqliteFailure(ErrorCode::OutOfMemory)) => Err(Unstarted::NoMemory),
+        Err(_) => Err(Unstarted::NoDatabase),
+    }
+}
+
+// Runs the program on standard input and output, and on its own stores.
+fn run_streams(rt: &HostRuntime, words: &[String], database: Kept<MemStore>) -> ExitCode
+    requires new { IsNewStore (⟦<Kept<MemStore> as Store>⟧.state database) }
+{
+    let alloc = rt.alloc();
+    let mut input = Input::new(rt);
+    let mut output = Output::new(rt);
+    let status = run_on_own(alloc, words, database, &mut input, &mut output);
+    status_end(alloc, rt, status)
+}
+
+// The same, over the file at a path.
+fn run_streams_over(
+    rt: &HostRuntime,
     words: &[String],
-    mut ids: RandomIds,
+    path: &str,
     database: Kept<MemStore>,
 ) -> ExitCode
     requires new { IsNewStore (⟦<Kept<MemStore> as Store>⟧.state database) }
 {
     let alloc = rt.alloc();
-    let mut input = Input::new(&rt);
-    let mut output = Output::new(&rt);
-    let mut clock = Time::new(rt);
-    let status = play(
-        alloc,
-        words,
-        database,
-        &mut input,
-        &mut output,
-        &mut clock,
-        &mut ids,
-    );
-    status_end(alloc, &rt, status)
+    let file = match open_file(rt, path) {
+        Ok(file) => file,
+        Err(cause) => return ended(rt, cause.line(), cause.code()),
+    };
+    let mut input = Input::new(rt);
+    let mut output = Output::new(rt);
+    let status = run_over_file(alloc, words, file, database, &mut input, &mut output);
+    status_end(alloc, rt, status)
+}
+
+// Runs the program on these words.
+fn run_words(rt: &HostRuntime, words: &[String]) -> Result<ExitCode, Unstarted> {
+    let path = file_path(rt)?;
+    let database = match Kept::in_memory(rt.alloc()) {
+        Ok(database) => database,
+        Err(refused) => return Err(Unstarted::from(refused)),
+    };
+    match path {
+        Some(path) => Ok(run_streams_over(rt, words, path.as_str(), database)),
+        None => Ok(run_streams(rt, words, database)),
+    }
 }
 
 fn main(rt: HostRuntime) -> ExitCode {
@@ -75,13 +143,9 @@ fn main(rt: HostRuntime) -> ExitCode {
         Ok(words) => words,
         Err(status) => return status_end(alloc, &rt, status),
     };
-    let Some(ids) = RandomIds::new(&rt) else {
-        return ended(&rt, "no seed", NO_SEED);
-    };
-    match Kept::in_memory(alloc) {
-        Ok(database) => play_streams(rt, &words, ids, database),
-        Err(KeptRefused::NoMemory) => ended(&rt, "out of memory", NO_MEMORY),
-        Err(KeptRefused::Database) => ended(&rt, "no database", NO_DATABASE),
+    match run_words(&rt, &words) {
+        Ok(code) => code,
+        Err(cause) => ended(&rt, cause.line(), cause.code()),
     }
 }
 
@@ -91,6 +155,6 @@ fn status_end(alloc: Global, rt: &HostRuntime, status: Status) -> ExitCode {
     }
     match status.line(alloc) {
         Ok(line) => ended(rt, line.as_str(), status.code()),
-        Err(_) => ended(rt, "out of memory", NO_MEMORY),
+        Err(_) => ended(rt, "out of memory", 7),
     }
 }

@@ -1,7 +1,8 @@
-//! A run on the stores of the program.
-ghost use Rattle.std.specs.Prelude.{◌≡◌, IfOk, codes};
+//! A call of the program on its stores.
+ghost use Rattle.std.specs.Prelude.{◌≡◌, map, string_bytes, IfOk, codes};
 ghost use Rattle.sdb_store.specs.Store.{IsNewStore};
-ghost use Rattle.scalardb.specs.Stores.{IsPlayedOnOwn};
+ghost use Rattle.sdb_app.specs.Ends.{stream};
+ghost use Rattle.scalardb.specs.Stores.{HasEndedOn, attached_over, own_attached};
 
 use sdb_app::{Status, run};
 use sdb_hashed::Hashed;
@@ -9,8 +10,9 @@ use sdb_ordered::Ordered;
 use sdb_sqlite::Kept;
 use sdb_store::{Fails, Store};
 use sdb_stores::Stores;
-use sdb_types::{Clock, Ids, Name, NameRefused, Sink, Source};
-use sqlite::MemStore;
+use sdb_types::{Name, NameRefused, Sink, Source};
+use sqlite::{FileStore, MemStore};
+use sqlite_std_file::File;
 use std::alloc::Global;
 
 fn store_names(alloc: Global) -> Result<(Name, Name, Name), NameRefused>
@@ -22,20 +24,17 @@ fn store_names(alloc: Global) -> Result<(Name, Name, Name), NameRefused>
     Ok((ordered, hashed, sqlite))
 }
 
-/// Runs the program on its stores: two in memory that never fail, one in the order of its keys and one hashed, and a database that
-/// holds nothing.
-pub fn play<R: Source, W: Sink, C: Clock, I: Ids>(
+/// Runs the program on its own stores: two in memory that never fail, one in the order of its keys and one hashed, and a database in
+/// memory that holds nothing. All that `run` promises of known contents holds, since each of them has.
+pub fn run_on_own<R: Source, W: Sink>(
     alloc: Global,
     words: &[String],
     database: Kept<MemStore>,
     input: &mut R,
     output: &mut W,
-    clock: &mut C,
-    ids: &mut I,
 ) -> Status
     requires new { IsNewStore (⟦<Kept<MemStore> as Store>⟧.state database) }
-    // The headline, of the program's own stores: each has known contents, the database too.
-    ensures done { result ≡ Status.Done → IsPlayedOnOwn (R.remaining input.old) (R.remaining input.new) (W.written output.old) (W.written output.new) }
+    ensures ended { HasEndedOn own_attached (map string_bytes words.now) (stream R.remaining R.faults input.old) (stream R.remaining R.faults input.new) (stream W.written W.faults output.old) (stream W.written W.faults output.new) result }
 {
     let (Ok(names), Ok(ordered), Ok(hashed), Ok(kept)) = (
         store_names(alloc),
@@ -52,5 +51,39 @@ pub fn play<R: Source, W: Sink, C: Clock, I: Ids>(
     if !first || !second || !third {
         return Status::NoMemory;
     }
-    run(alloc, words, &mut stores, input, output, clock, ids)
+    run(alloc, words, &mut stores, input, output)
+}
+
+/// Runs the program on a database in a file, which comes first, and on its own stores. Of the contents of the file nothing is known.
+pub fn run_over_file<R: Source, W: Sink>(
+    alloc: Global,
+    words: &[String],
+    file: Kept<FileStore<File>>,
+    database: Kept<MemStore>,
+    input: &mut R,
+    output: &mut W,
+) -> Status
+    requires new { IsNewStore (⟦<Kept<MemStore> as Store>⟧.state database) }
+    ensures ended { HasEndedOn (attached_over (⟦<Kept<FileStore<File>> as Store>⟧.state file)) (map string_bytes words.now) (stream R.remaining R.faults input.old) (stream R.remaining R.faults input.new) (stream W.written W.faults output.old) (stream W.written W.faults output.new) result }
+{
+    let (Ok(name), Ok(names)) = (Name::new(alloc, "file"), store_names(alloc)) else {
+        return Status::NoMemory;
+    };
+    let (Ok(file), Ok(ordered), Ok(hashed), Ok(kept)) = (
+        Box::new(alloc, file),
+        Box::new(alloc, Ordered::new(alloc, Fails::new(alloc))),
+        Box::new(alloc, Hashed::new(alloc, Fails::new(alloc))),
+        Box::new(alloc, database),
+    ) else {
+        return Status::NoMemory;
+    };
+    let mut stores = Stores::new(alloc);
+    let zeroth = stores.attach(name, file).is_ok();
+    let first = stores.attach(names.0, ordered).is_ok();
+    let second = stores.attach(names.1, hashed).is_ok();
+    let third = stores.attach(names.2, kept).is_ok();
+    if !zeroth || !first || !second || !third {
+        return Status::NoMemory;
+    }
+    run(alloc, words, &mut stores, input, output)
 }

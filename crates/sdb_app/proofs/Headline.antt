@@ -1,11 +1,10 @@
 -- A script that was read and played is a run of the headline.
-use Rattle.std.proofs.Common.{◌≡◌, ◌∙◌, refl, Result, Ok, Err, IfErr, ℕ, ◌≤◌, ◌<◌, Bool, true, false, true≢false, List, [], Option, Some, None, length, take, sym, ap, subst}
+use Rattle.std.proofs.Common.{◌≡◌, ◌∙◌, refl, Result, Ok, Err, IfErr, ℕ, ◌≤◌, ◌<◌, true, false, List, [], Option, Some, None, length, sym, ap, subst, arith}
 use Rattle.std.specs.FinMap.{empty}
 use Rattle.std.specs.Prelude.{Contains, slice_get, IsErrAnd, nat_le, nat_lt, ◌&&◌}
 use Rattle.std.specs.Option.{option_map_or}
 use Rattle.sdb_types.specs.declared.key.Key.{Key}
 use Rattle.sdb_types.specs.declared.pair.Pair.{Pair}
-use Rattle.sdb_types.specs.Bytes.{Appends}
 use Rattle.sdb_types.proofs.Basics.{clash}
 use Rattle.sdb_record.specs.Coordinator.{coordinator_table}
 use Rattle.sdb_model.specs.declared.event.Event.{Event}
@@ -20,8 +19,6 @@ use Rattle.sdb_model.specs.Causes.{AreCaused, IsCaused}
 use Rattle.sdb_model.specs.Counted.{AreResolved}
 use Rattle.sdb_model.specs.Events.{IsTrace, Shelf, store_of}
 use Rattle.sdb_model.specs.Exec.{find_table}
-use Rattle.sdb_model.specs.Report.{report_text_of}
-use Rattle.sdb_model.specs.Rows.{Name}
 use Rattle.sdb_model.specs.Follows.{Follows}
 use Rattle.sdb_model.specs.Told.{IsRun}
 use Rattle.sdb_model.specs.Transactions.{Said, is_answered_from_rows, said}
@@ -44,11 +41,14 @@ use Rattle.sdb_endings.specs.Shown.{IsReader, ReadBy}
 use Rattle.sdb_endings.proofs.Agreeing.{decisions_agree}
 use Rattle.sdb_endings.proofs.Finding.{answers_as, answers_committed}
 use Rattle.sdb_world.specs.Broken.{BreaksWithin}
+use Rattle.sdb_world.specs.Execution.{IsExecution}
 use Rattle.sdb_world.specs.Explained.{IsExplained, IsShown}
 use Rattle.sdb_world.proofs.Broken.{breaks_after}
 use Rattle.sdb_app.specs.declared.status.Status.{Status}
 use Rattle.sdb_app.specs.declared.status.Status.TheVariants as status
-use Rattle.sdb_app.specs.Run.{AreReady, Ends, TellOf, IsFirstFound, IsOutcome, IsPlayed, IsPrefixWritten, IsReadAnd, IsReplayed, IsReported, IsScriptRead, Stops, is_refusal, is_unplayed}
+use Rattle.sdb_app.specs.Ends.{AreKept, Work}
+use Rattle.sdb_app.specs.Run.{AreReady, TellOf, IsFirstFound, IsOutcome, IsPlayed, IsReplayed, IsScriptRead, IsUnread, Stops, StopsPlay, StopsReplay}
+use Rattle.sdb_app.specs.Run.StopsReplay.{Unread, Unplayed}
 use Rattle.sdb_script.specs.Begun.{ArePlaces}
 use Rattle.sdb_app.proofs.Placing.{fit_for}
 
@@ -60,11 +60,11 @@ passed_on P (Ok x) e h p = absurd h
 passed_on P (Err y) e h p = subst P (sym h) p
 
 -- what stopped the look for records stopped the whole
-pub stops_as : (old mid new : Attached) (near far : Type 0) (was found : Key → Type 0) (s : Status) → mid.shelves ≡ old.shelves → (near → far) → ((key : Key) → was key → found key) → Stops mid new near was s → Stops old new far found s
-stops_as old mid new near far was found s same f g h = by s h
+pub stops_as : (old mid left : List Counted) (near far : Type 0) (was found : Key → Type 0) (s : Status) → mid ≡ old → (near → far) → ((key : Key) → was key → found key) → Stops mid left near was s → Stops old left far found s
+stops_as old mid left near far was found s same f g h = by s h
   where
-    by : (s : Status) → Stops mid new near was s → Stops old new far found s
-    by status.StoreFault h = subst (λ (x : List Counted). HaveRisen x new.shelves) same h
+    by : (s : Status) → Stops mid left near was s → Stops old left far found s
+    by status.StoreFault h = subst (λ (x : List Counted). HaveRisen x left) same h
     by status.NoMemory h = tt
     by (status.NotEmpty key) h = g key h
     by (status.BadStore key) h = f h
@@ -76,28 +76,41 @@ stops_as old mid new near far was found s same f g h = by s h
     by (status.Limit n which) h = absurd h
 
 -- what stopped a later part stopped the whole
-pub stops_after : (old mid new : Attached) (near far : Type 0) (was found : Key → Type 0) (s : Status) → GoOn old mid → (near → far) → ((key : Key) → was key → found key) → Stops mid new near was s → Stops old new far found s
-stops_after old mid new near far was found status.StoreFault goes f g h = refused_after old mid new.shelves refused.StoreFault goes h
-stops_after old mid new near far was found status.NoMemory goes f g h = tt
-stops_after old mid new near far was found (status.NotEmpty key) goes f g h = g key h
-stops_after old mid new near far was found (status.BadStore key) goes f g h = f h
-stops_after old mid new near far was found status.Done goes f g h = absurd h
-stops_after old mid new near far was found status.Usage goes f g h = absurd h
-stops_after old mid new near far was found status.ReadFault goes f g h = absurd h
-stops_after old mid new near far was found status.WriteFault goes f g h = absurd h
-stops_after old mid new near far was found (status.BadInput n line) goes f g h = absurd h
-stops_after old mid new near far was found (status.Limit n which) goes f g h = absurd h
+pub stops_after : (old mid : Attached) (left : List Counted) (near far : Type 0) (was found : Key → Type 0) (s : Status) → GoOn old mid → (near → far) → ((key : Key) → was key → found key) → Stops mid.shelves left near was s → Stops old.shelves left far found s
+stops_after old mid left near far was found status.StoreFault goes f g h = refused_after old mid left refused.StoreFault goes h
+stops_after old mid left near far was found status.NoMemory goes f g h = tt
+stops_after old mid left near far was found (status.NotEmpty key) goes f g h = g key h
+stops_after old mid left near far was found (status.BadStore key) goes f g h = f h
+stops_after old mid left near far was found status.Done goes f g h = absurd h
+stops_after old mid left near far was found status.Usage goes f g h = absurd h
+stops_after old mid left near far was found status.ReadFault goes f g h = absurd h
+stops_after old mid left near far was found status.WriteFault goes f g h = absurd h
+stops_after old mid left near far was found (status.BadInput n line) goes f g h = absurd h
+stops_after old mid left near far was found (status.Limit n which) goes f g h = absurd h
 
--- stores that go on from ones that are the same have the same names, no fewer faults, and known contents that stay known
-module _ (old mid new : Attached) (same : mid.shelves ≡ old.shelves) (goes : GoOn mid new) where
-  pub names_kept : names_of new.shelves ≡ names_of old.shelves
-  names_kept = goes.names ∙ ap names_of same
+-- stores that go on from ones that are the same are kept
+pub kept_after : (old mid new : Attached) → mid.shelves ≡ old.shelves → ((at : ℕ) → old.tells at → mid.tells at) → GoOn mid new → AreKept old new
+kept_after old mid new same telling goes = record {
+  names = goes.names ∙ ap names_of same;
+  counted = subst (λ (ss : List Counted). total_faults ss ≤ total_faults new.shelves) same goes.counted;
+  telling = λ at told. goes.telling at (telling at told);
+}
 
-  pub counted_kept : total_faults old.shelves ≤ total_faults new.shelves
-  counted_kept = subst (λ (ss : List Counted). total_faults ss ≤ total_faults new.shelves) same goes.counted
+-- so are stores of which none has changed
+pub kept_same : (old new : Attached) → new.shelves ≡ old.shelves → ((at : ℕ) → old.tells at → new.tells at) → AreKept old new
+kept_same old new same telling = record {
+  names = ap names_of same;
+  counted = subst (λ (ss : List Counted). total_faults ss ≤ total_faults new.shelves) same (omega arith);
+  telling = telling;
+}
 
-  pub telling_kept : ((at : ℕ) → old.tells at → mid.tells at) → (at : ℕ) → old.tells at → new.tells at
-  telling_kept telling at told = goes.telling at (telling at told)
+-- and stores that are kept once more
+pub kept_more : (old mid new : Attached) → AreKept old mid → AreKept mid new → AreKept old new
+kept_more old mid new first second = record {
+  names = second.names ∙ first.names;
+  counted = let a = first.counted in let b = second.counted in omega arith;
+  telling = λ at told. second.telling at (first.telling at told);
+}
 
 -- stores that are the same go on to tell
 pub tell_on : (script : Script) (before mid : Attached) → mid.shelves ≡ before.shelves → ((i : ℕ) → before.tells i → mid.tells i) → TellOf script before → TellOf script mid
@@ -184,20 +197,18 @@ played_on script old mid then new o same still goes fit none quiet run explained
     explained_now : IsExplained script o.events (shown old.shelves)
     explained_now = subst (λ (ss : List Shelf). IsExplained script o.events ss) (quiet ∙ ap shown still) (explained (ready_after script mid then same goes fit none quiet))
 
-pub reported : (script : Script) (old mid then : Attached) (new : List Counted) (o : Outcome) (text : List ℕ) → placed mid.places ≡ script.places → mid.shelves ≡ old.shelves → GoOn mid then → (TellOf script old → AreFit script.catalog mid)
+pub outcome_is : (script : Script) (old mid then : Attached) (new : List Counted) (o : Outcome) → placed mid.places ≡ script.places → mid.shelves ≡ old.shelves → GoOn mid then → (TellOf script old → AreFit script.catalog mid)
     → (AreFit script.catalog mid → first_key (opening_in script.catalog mid) ≡ None) → (AreFit script.catalog mid → HoldTheSame mid then)
-    → Follows script.clients script.moves o.events → AnswersHaveCauses script.catalog o.events → BreaksWithin [] o.events then.shelves new → (AreReady script then → IsRun script (shown then.shelves) (shown new) o) → (AreReady script then → IsExplained script o.events (shown then.shelves)) → find_table script.catalog coordinator_table ≡ None → text ≡ report_text_of o → IsReported script old new text
-reported script old mid then new o text same still goes fit none quiet follows caused broken run explained apart is = record {
-  outcome = o;
-  text = is;
-  made = record {
-    follows = follows;
-    caused = caused;
-    counted = all_counted script.catalog o.events caused.counted (seen_no_faults script.clients script.moves o.events follows);
-    resolved = resolved;
-    broken = subst (λ (ss : List Counted). BreaksWithin [] o.events ss new) still (breaks_after [] o.events mid then new goes broken);
-    played = λ all. played_on script old mid then (shown new) o same still goes (fit all) (none (fit all)) (quiet (fit all)) run explained caused apart resolved;
-  };
+    → Follows script.clients script.moves o.events → IsExecution script o.events → AnswersHaveCauses script.catalog o.events → BreaksWithin [] o.events then.shelves new → (AreReady script then → IsRun script (shown then.shelves) (shown new) o) → (AreReady script then → IsExplained script o.events (shown then.shelves)) → find_table script.catalog coordinator_table ≡ None
+    → IsOutcome (TellOf script old) script old.shelves new o
+outcome_is script old mid then new o same still goes fit none quiet follows executed caused broken run explained apart = record {
+  follows = follows;
+  executed = executed;
+  caused = caused;
+  counted = all_counted script.catalog o.events caused.counted (seen_no_faults script.clients script.moves o.events follows);
+  resolved = resolved;
+  broken = subst (λ (ss : List Counted). BreaksWithin [] o.events ss new) still (breaks_after [] o.events mid then new goes broken);
+  played = λ all. played_on script old mid then (shown new) o same still goes (fit all) (none (fit all)) (quiet (fit all)) run explained caused apart resolved;
 }
   where
     resolved : AreResolved o.events
@@ -214,18 +225,12 @@ found_first script old mid new key same still found = record {
   left = found.1 ∙ ap shown still;
 }
 
--- a script that was read, and what is so of it where the stores of its tables tell
-pub read_and : (P Q : Script → Type 0) (script : Script) (old new : Option (List ℕ)) (names : List Name) (before mid : Attached) → names ≡ names_of mid.shelves → mid.shelves ≡ before.shelves → ((i : ℕ) → before.tells i → mid.tells i) → IsScriptRead names old new script → (TellOf script mid → P script) → (P script → Q script)
-    → IsReadAnd before old new Q
-read_and P Q script old new names before mid named same telling h so then = record {
-  script = script;
-  read = subst (λ (ns : List Name). IsScriptRead ns old new script) (named ∙ ap names_of same) h;
-  so = λ all. then (so (tell_on script before mid same telling all));
-}
+---- stores whose places were taken away first
 
 made_of : (script : Script) (before mid : Attached) (new : List Counted) (o : Outcome) → mid.shelves ≡ before.shelves → ((at : ℕ) → before.tells at → mid.tells at) → IsOutcome (TellOf script mid) script mid.shelves new o → IsOutcome (TellOf script before) script before.shelves new o
 made_of script before mid new o same telling made = record {
   follows = made.follows;
+  executed = made.executed;
   caused = made.caused;
   counted = made.counted;
   resolved = made.resolved;
@@ -233,64 +238,25 @@ made_of script before mid new o same telling made = record {
   played = λ all. subst (λ (ss : List Counted). IsPlayed script (shown ss) (shown new) o) same (made.played (tell_on script before mid same telling all));
 }
 
--- the report of a script that was read was written
-pub replayed : (script : Script) (names : List Name) (mid : Attached) (run : Ends) (text bytes : List ℕ) → names ≡ names_of mid.shelves → mid.shelves ≡ run.old.shelves → ((at : ℕ) → run.old.tells at → mid.tells at) → IsScriptRead names run.old_input run.new_input script
-    → bytes ≡ text → Appends bytes run.old_output run.new_output → IsReported script mid run.left text → IsReplayed run
-replayed script names mid run text bytes named same telling h is written r = record {
-  script = script;
-  read = subst (λ (ns : List Name). IsScriptRead ns run.old_input run.new_input script) (named ∙ ap names_of same) h;
-  outcome = r.outcome;
-  made = made_of script run.old mid run.left r.outcome same telling r.made;
-  written = subst (λ (x : List ℕ). Appends x run.old_output run.new_output) (is ∙ r.text) written;
+-- what stopped a play
+stops_of : (script : Script) (before mid : Attached) (left : List Counted) (s : Status) → mid.shelves ≡ before.shelves → ((at : ℕ) → before.tells at → mid.tells at) → StopsPlay script mid left s → StopsPlay script before left s
+stops_of script before mid left s same telling h =
+    stops_as before.shelves mid.shelves left _ _ _ _ s same (λ never all. never (tell_on script before mid same telling all)) (λ key found all. subst (λ (ss : List Counted). IsFirstFound script (shown ss) (shown left) key) same (found (tell_on script before mid same telling all))) h
+
+-- The work of a command, begun with the places that there were before.
+abbrev pub begun_with : Attached → Work → Work
+begun_with before work = record { old = before; left = work.left; input = work.input; rest = work.rest }
+
+-- what `replay` answers, and why it answers nothing
+pub replayed_before : (before : Attached) (work : Work) (report : List ℕ) → work.old.shelves ≡ before.shelves → ((at : ℕ) → before.tells at → work.old.tells at) → IsReplayed work report → IsReplayed (begun_with before work) report
+replayed_before before work report same telling h = record {
+  script = h.script;
+  read = subst (λ (ss : List Counted). IsScriptRead (names_of ss) work.input.bytes work.rest.bytes h.script) same h.read;
+  outcome = h.outcome;
+  made = made_of h.script before work.old work.left h.outcome same telling h.made;
+  text = h.text;
 }
 
--- a prefix of it
-pub prefix_replayed : (script : Script) (names : List Name) (mid : Attached) (run : Ends) (text bytes : List ℕ) → names ≡ names_of mid.shelves → mid.shelves ≡ run.old.shelves → ((at : ℕ) → run.old.tells at → mid.tells at) → IsScriptRead names run.old_input run.new_input script
-    → bytes ≡ text → (k : ℕ) × (k ≤ length bytes) × Appends (take k bytes) run.old_output run.new_output → IsReported script mid run.left text → IsPrefixWritten run
-prefix_replayed script names mid run text bytes named same telling h is w r = record {
-  script = script;
-  read = subst (λ (ns : List Name). IsScriptRead ns run.old_input run.new_input script) (named ∙ ap names_of same) h;
-  outcome = r.outcome;
-  made = made_of script run.old mid run.left r.outcome same telling r.made;
-  size = w.0;
-  within = subst (λ (x : List ℕ). w.0 ≤ length x) (is ∙ r.text) w.1;
-  written = subst (λ (x : List ℕ). Appends (take w.0 x) run.old_output run.new_output) (is ∙ r.text) w.2;
-}
-
--- what stopped a script that was read
-pub found_of : (script : Script) (before mid : List Counted) (new : List Shelf) (key : Key) → mid ≡ before → IsFirstFound script (shown mid) new key → IsFirstFound script (shown before) new key
-found_of script before mid new key same found = subst (λ (ss : List Counted). IsFirstFound script (shown ss) new key) same found
-
-pub stops_found : (old new : Attached) (foreign : Type 0) (found : Key → Type 0) (s : Status) (key : Key) → Stops old new foreign found s → s ≡ status.NotEmpty key → found key
-stops_found old new foreign found s key h is = subst (Stops old new foreign found) is h
-
-pub stops_foreign : (old new : Attached) (foreign : Type 0) (found : Key → Type 0) (s : Status) (key : Key) → Stops old new foreign found s → s ≡ status.BadStore key → foreign
-stops_foreign old new foreign found s key h is = subst (Stops old new foreign found) is h
-
--- a play that stopped had read its script
-pub stops_played : {A : Type 0} (old new : Attached) (foreign : Type 0) (found : Key → Type 0) (s : Status) → Stops old new foreign found s → is_unplayed s ≡ true → A
-stops_played old new foreign found status.StoreFault h is = absurd (cc)
-stops_played old new foreign found status.NoMemory h is = absurd (cc)
-stops_played old new foreign found (status.NotEmpty key) h is = absurd (cc)
-stops_played old new foreign found (status.BadStore key) h is = absurd (cc)
-stops_played old new foreign found _ h is = absurd h
-
--- what stopped a run is no refusal of its script
-pub stops_unrefused : {A : Type 0} (old new : Attached) (foreign : Type 0) (found : Key → Type 0) (s : Status) → Stops old new foreign found s → is_refusal s ≡ true → A
-stops_unrefused old new foreign found status.StoreFault h is = absurd (cc)
-stops_unrefused old new foreign found status.NoMemory h is = absurd (cc)
-stops_unrefused old new foreign found (status.NotEmpty key) h is = absurd (cc)
-stops_unrefused old new foreign found (status.BadStore key) h is = absurd (cc)
-stops_unrefused old new foreign found _ h is = absurd h
-
--- an ending of one kind is none of another
-pub of_kind : {A : Type 0} (P : Status → Bool) (s t : Status) → P s ≡ true → P t ≡ false → s ≡ t → A
-of_kind P s t holds fails is = absurd (true≢false (sym (subst (λ (x : Status). P x ≡ true) is holds) ∙ fails))
-
--- where the places were taken away first, the stores have the same names, and no fewer faults
-module _ (old mid new : Attached) (same : mid.shelves ≡ old.shelves) where
-  pub cleared_names : names_of new.shelves ≡ names_of mid.shelves → names_of new.shelves ≡ names_of old.shelves
-  cleared_names e = e ∙ ap names_of same
-
-  pub cleared_faults : total_faults mid.shelves ≤ total_faults new.shelves → total_faults old.shelves ≤ total_faults new.shelves
-  cleared_faults h = subst (λ (ss : List Counted). total_faults ss ≤ total_faults new.shelves) same h
+pub replay_stops_before : (before : Attached) (work : Work) (s : Status) → work.old.shelves ≡ before.shelves → ((at : ℕ) → before.tells at → work.old.tells at) → StopsReplay work s → StopsReplay (begun_with before work) s
+replay_stops_before before work s same telling (Unread unread unchanged) = Unread (subst (λ (ss : List Counted). IsUnread (names_of ss) work.input work.rest s) same unread) (unchanged ∙ same)
+replay_stops_before before work s same telling (Unplayed script read stops) = Unplayed script (subst (λ (ss : List Counted). IsScriptRead (names_of ss) work.input.bytes work.rest.bytes script) same read) (stops_of script before work.old work.left s same telling stops)

@@ -3,3 +3,4 @@ pub mod Placing
 pub mod Playable
 pub mod Headline
 pub mod Playing
+pub mod Promising

@@ -20,7 +20,8 @@ use Rattle.sdb_dump.specs.declared.refused.ClosingRefused.TheVariants as closing
 use Rattle.sdb_causes.specs.Tied.{AnswersHaveCauses}
 use Rattle.sdb_world.specs.Broken.{BreaksWithin}
 use Rattle.sdb_world.specs.Explained.{IsExplained}
-use Rattle.sdb_world.specs.World.{WorldAt}
+use Rattle.sdb_world.specs.World.{WorldAt, state_of}
+use Rattle.sdb_world.specs.Execution.{IsExecution, IsInitial}
 use Rattle.sdb_world.specs.Linked.{HaveCauses, IsLinked}
 use Rattle.sdb_world.specs.Played.{HasNotPlayed, HasPlayed, HasPlayedOn, IsOutcomeOf, IsPlayExplained}
 use Rattle.sdb_world.specs.Step.{HasFollowed}
@@ -33,6 +34,13 @@ has_followed old new script w v same none came =
     let all : v.events ≡ came.es = came.gone.events ∙ ap (λ (xs : List Event). xs ++ came.es) none in
     subst (λ (xs : List Event). Follows script.clients script.moves xs) (sym all)
     (subst (λ (s : Script). AreMoved s.clients s.moves [] came.es) same (subst (λ (xs : List Event). AreMoved w.script.clients w.script.moves xs came.es) none came.so))
+
+-- they are an execution of its clients
+pub executed_played : (old new : Attached) (script : Script) (w v : WorldAt) → w.script ≡ script → w.events ≡ [] → IsInitial w.script (state_of w) → HasFollowed old new w v → (events : List Event) → events ≡ v.events → IsExecution script events
+executed_played old new script w v same none initial came events is =
+    let all : v.events ≡ came.es = came.gone.events ∙ ap (λ (xs : List Event). xs ++ came.es) none in
+    subst (λ (xs : List Event). IsExecution script xs) (sym (is ∙ all))
+    (subst (λ (s : Script). IsExecution s came.es) same (record { first = state_of w; last = state_of v; initial = initial; path = came.gone.executed }))
 
 has_played : (old new : Attached) (script : Script) (w v : WorldAt) → w.script ≡ script → w.events ≡ [] → IsLinked w → HasFollowed old new w v → AreReady script old → HasPlayed v (shown old.shelves) (shown new.shelves)
 has_played old new script w v same none linked came ready =
@@ -93,13 +101,18 @@ pub err_then : {T E : Type 0} (P Q : E → Type 0) (r : Result T E) → ((e : E)
 err_then P Q (Ok x) f h = tt
 err_then P Q (Err e) f h = f e h
 
+-- what six clauses say of a result gives what another says
+pub ok_six : {T E : Type 0} (A B C D F G Q : T → Type 0) (r : Result T E) → IfOk r A → IfOk r B → IfOk r C → IfOk r D → IfOk r F → IfOk r G → ((x : T) → A x → B x → C x → D x → F x → G x → Q x) → IfOk r Q
+ok_six A B C D F G Q (Ok x) a b c d f g h = h x a b c d f g
+ok_six A B C D F G Q (Err e) a b c d f g h = tt
+
 ---- why it stopped
 
-pub call_stops : (old new : Attached) (foreign : Type 0) (found : Key → Type 0) (e : CallRefused) → Refuses old.shelves new.shelves e → Stops old new foreign found (status_of_call e)
+pub call_stops : (old new : Attached) (foreign : Type 0) (found : Key → Type 0) (e : CallRefused) → Refuses old.shelves new.shelves e → Stops old.shelves new.shelves foreign found (status_of_call e)
 call_stops old new foreign found call.StoreFault h = h
 call_stops old new foreign found call.NoMemory h = tt
 
-pub closing_stops : (old new : Attached) (bad found : Key → Type 0) (foreign : Type 0) (e : ClosingRefused) → ((key : Key) → bad key → foreign) → ClosingRefuses bad (HaveRisen old.shelves new.shelves) e → Stops old new foreign found (status_of_closing e)
+pub closing_stops : (old new : Attached) (bad found : Key → Type 0) (foreign : Type 0) (e : ClosingRefused) → ((key : Key) → bad key → foreign) → ClosingRefuses bad (HaveRisen old.shelves new.shelves) e → Stops old.shelves new.shelves foreign found (status_of_closing e)
 closing_stops old new bad found foreign closing.StoreFault f h = h
 closing_stops old new bad found foreign (closing.BadRecord key) f h = f key h
 closing_stops old new bad found foreign closing.NoMemory f h = tt

@@ -1,43 +1,39 @@
--- What the program promises of one of its runs.
-use Rattle.std.specs.Prelude.{◌≡◌, ◌⊎◌, ℕ, ◌≤◌, ◌<◌, Bool, true, false, List, [], length, slice_get, take, Option, Some, None, codes}
-use Rattle.sdb_words.specs.Commands.{is_alone}
-use Rattle.sdb_types.specs.declared.key.Key.{Key}
-use Rattle.sdb_types.specs.Bytes.{Takes, Appends, IsAtEnd}
-use Rattle.sdb_stores.specs.Shelf.{Attached, Shelf as Counted, HaveRisen, names_of}
-use Rattle.sdb_types.specs.declared.key.TableName.{TableName}
-use Rattle.sdb_model.specs.Events.{store_of}
-use Rattle.sdb_spread.specs.Spread.{HoldAs, is_played}
-use Rattle.sdb_board.specs.Board.{AreFit, HoldTheSame, placed, shown}
-use Rattle.sdb_schema.specs.declared.table.Table.{Table}
+-- What the program promises of the play of a script.
+use Rattle.std.specs.Prelude.{◌≡◌, ◌⊎◌, ℕ, ◌<◌, Bool, true, false, List, [], length, slice_get, Option, None, Some}
 use Rattle.std.specs.FinMap.{empty}
-use Rattle.sdb_board.specs.Opening.{first_key, opening_in, opening_records}
+use Rattle.sdb_types.specs.declared.key.Key.{Key}
+use Rattle.sdb_types.specs.declared.key.TableName.{TableName}
+use Rattle.sdb_types.specs.Bytes.{HasRisen, Takes, IsAtEnd}
+use Rattle.sdb_schema.specs.declared.table.Table.{Table}
+use Rattle.sdb_stores.specs.Shelf.{Attached, Shelf as Counted, HaveRisen, names_of}
 use Rattle.sdb_model.specs.declared.event.Outcome.{Outcome}
 use Rattle.sdb_model.specs.declared.script.Script.{Script}
-use Rattle.sdb_model.specs.Events.{Shelf}
+use Rattle.sdb_model.specs.Causes.{AreCaused}
+use Rattle.sdb_model.specs.Counted.{AreCounted, AreResolved}
+use Rattle.sdb_model.specs.Events.{Shelf, store_of}
+use Rattle.sdb_model.specs.Follows.{Follows}
+use Rattle.sdb_model.specs.Report.{report_text_of}
 use Rattle.sdb_model.specs.Rows.{Name}
+use Rattle.sdb_model.specs.Told.{IsRun}
 use Rattle.sdb_script.specs.declared.fault.ScriptRefused.{ScriptRefused}
 use Rattle.sdb_script.specs.declared.fault.ScriptRefused.TheVariants.{BadLine, Limit as Limited, NoMemory as OutOfMemory}
 use Rattle.sdb_script.specs.Lines.{most_bytes}
 use Rattle.sdb_script.specs.Whole.{IsScript, IsRefused as IsRefusedText}
+use Rattle.sdb_spread.specs.Spread.{HoldAs, is_played}
+use Rattle.sdb_board.specs.Board.{AreFit, HoldTheSame, placed, shown}
+use Rattle.sdb_board.specs.Opening.{first_key, opening_in, opening_records}
 use Rattle.sdb_board.specs.declared.refused.CallRefused.{CallRefused}
 use Rattle.sdb_board.specs.declared.refused.CallRefused.TheVariants as call
 use Rattle.sdb_dump.specs.declared.refused.ClosingRefused.{ClosingRefused}
 use Rattle.sdb_dump.specs.declared.refused.ClosingRefused.TheVariants as closing
 use Rattle.sdb_causes.specs.Tied.{AnswersHaveCauses}
 use Rattle.sdb_world.specs.Broken.{BreaksWithin}
+use Rattle.sdb_world.specs.Execution.{IsExecution}
 use Rattle.sdb_world.specs.Explained.{IsExplained, IsShown}
 use Rattle.sdb_app.specs.declared.status.InputFault.TheVariants.{Line}
 use Rattle.sdb_app.specs.declared.status.Status.{Status}
 use Rattle.sdb_app.specs.declared.status.Status.TheVariants as status
-use Rattle.sdb_model.specs.Report.{report_text_of}
-use Rattle.sdb_model.specs.Causes.{AreCaused}
-use Rattle.sdb_model.specs.Counted.{AreCounted, AreResolved}
-use Rattle.sdb_model.specs.Follows.{Follows}
-use Rattle.sdb_model.specs.Told.{IsRun}
-
--- the words of the command that plays a script, the only one that is there so far
-abbrev pub is_replay : List (List ℕ) → Bool
-is_replay = is_alone (codes "replay")
+use Rattle.sdb_app.specs.Ends.{AreUnchanged, Stream, Work}
 
 -- The input was read to its end and is the text of a script over these stores.
 pub record IsScriptRead (stores : List Name) (old_input new_input : Option (List ℕ)) (script : Script) : Type 0 where
@@ -62,75 +58,30 @@ pub record IsPlayed (script : Script) (opening closing : List Shelf) (outcome : 
   pub caused : AreCaused script.catalog outcome.events
   pub shown : IsShown script outcome.events opening
 
--- One outcome of a script on any stores: its events follow the script's moves, the answers have their causes among them, the calls are
--- counted, whoever was answered from rows had each unresolved record that it found rolled first, and no more calls are Broken than the
+-- One outcome of a script on any stores: its events follow the script's moves, and are an execution of its clients: each takes, asks and
+-- answers as the protocol says, whatever the stores reply. The answers have their causes among the events, the calls are counted, whoever was answered from rows had each unresolved record that it found rolled first, and no more calls are Broken than the
 -- stores failed; and where the stores have known contents, it is that of a run of the script, whose tables were empty.
 pub record IsOutcome (telling : Type 0) (script : Script) (old new : List Counted) (outcome : Outcome) : Type 0 where
   pub follows : Follows script.clients script.moves outcome.events
+  pub executed : IsExecution script outcome.events
   pub caused : AnswersHaveCauses script.catalog outcome.events
   pub counted : AreCounted script.catalog outcome.events
   pub resolved : AreResolved outcome.events
   pub broken : BreaksWithin [] outcome.events old new
   pub played : telling → IsPlayed script (shown old) (shown new) outcome
 
--- What a run begins with and ends with: the attached stores, and what they hold when it has ended; what remains of the input before and
--- after it; and what the output contains before and after it.
-pub record Ends : Type 1 where
-  pub old : Attached
-  pub left : List Counted
-  pub old_input : Option (List ℕ)
-  pub new_input : Option (List ℕ)
-  pub old_output : Option (List ℕ)
-  pub new_output : Option (List ℕ)
-
--- the ends of a run, of its registry, its input and its output at the entry and at the exit
-abbrev pub ends : {S R W : Type 0} → (S → Attached) → (R → Option (List ℕ)) → (W → Option (List ℕ)) → S → S → R → R → W → W → Ends
-ends state remaining written s0 s1 r0 r1 w0 w1 =
-    record { old = state s0; left = (state s1).shelves; old_input = remaining r0; new_input = remaining r1; old_output = written w0; new_output = written w1 }
-
--- The headline: the input is a script over the attached stores, and the report of one outcome of it was written, whole and nothing else.
-pub record IsReplayed (run : Ends) : Type 0 where
+-- A script was read, and this is the report of one outcome of it.
+pub record IsReplayed (work : Work) (report : List ℕ) : Type 0 where
   pub script : Script
-  pub read : IsScriptRead (names_of run.old.shelves) run.old_input run.new_input script
+  pub read : IsScriptRead (names_of work.old.shelves) work.input.bytes work.rest.bytes script
   pub outcome : Outcome
-  pub made : IsOutcome (TellOf script run.old) script run.old.shelves run.left outcome
-  pub written : Appends (report_text_of outcome) run.old_output run.new_output
-
--- The same, but only a prefix of the report was written.
-pub record IsPrefixWritten (run : Ends) : Type 0 where
-  pub script : Script
-  pub read : IsScriptRead (names_of run.old.shelves) run.old_input run.new_input script
-  pub outcome : Outcome
-  pub made : IsOutcome (TellOf script run.old) script run.old.shelves run.left outcome
-  pub size : ℕ
-  pub within : size ≤ length (report_text_of outcome)
-  pub written : Appends (take size (report_text_of outcome)) run.old_output run.new_output
-
--- Nothing was written, or a prefix of the report of a run.
-abbrev pub IsCutShort : Ends → Type 0
-IsCutShort run = (run.new_output ≡ run.old_output) ⊎ IsPrefixWritten run
-
--- A script was read over these stores, and this is so of it where the stores of its tables have known contents.
-pub record IsReadAnd (stores : Attached) (old_input new_input : Option (List ℕ)) (P : Script → Type 0) : Type 0 where
-  pub script : Script
-  pub read : IsScriptRead (names_of stores.shelves) old_input new_input script
-  pub so : TellOf script stores → P script
+  pub made : IsOutcome (TellOf script work.old) script work.old.shelves work.left outcome
+  pub text : report ≡ report_text_of outcome
 
 -- The key is that of the first record in the tables of the script, and the stores hold what they held.
 pub record IsFirstFound (script : Script) (old new : List Shelf) (key : Key) : Type 0 where
   pub first : first_key (opening_records script.catalog script.places old) ≡ Some key
   pub left : new ≡ old
-
-abbrev pub IsNotEmpty : Ends → Key → Type 0
-IsNotEmpty run key = IsReadAnd run.old run.old_input run.new_input (λ script. IsFirstFound script (shown run.old.shelves) (shown run.left) key)
-
--- This is so of the key, where the program ends as not empty for one.
-abbrev pub IfNotEmpty : Status → (Key → Type 0) → Type 0
-IfNotEmpty s P = (key : Key) → s ≡ status.NotEmpty key → P key
-
--- Some store of the script's tables has no known contents.
-abbrev pub IsUntold : Attached → Option (List ℕ) → Option (List ℕ) → Type 0
-IsUntold old old_input new_input = IsReadAnd old old_input new_input (λ script. ⊥)
 
 -- Bytes that were read of the input are no script over these stores, for that cause: they are all of it, or more than are read of a
 -- script, and the rest is left.
@@ -152,27 +103,23 @@ pub record IsRefusedAs (stores : List Name) (old_input new_input : Option (List 
   pub refused : IsRefused stores old_input new_input cause
   pub ends : s ≡ status_of_text cause
 
--- Bytes that were read of the input: all of it, or more than are read of a script.
+-- Bytes that were read of the input: all of it, or more than a command reads.
 abbrev pub IsTextRead : List ℕ → Option (List ℕ) → Option (List ℕ) → Type 0
 IsTextRead text old_input new_input = Takes text old_input new_input × (IsAtEnd new_input ⊎ (most_bytes < length text))
 
--- the endings while reading
-abbrev pub stops_reading : Status → Bool
-stops_reading status.ReadFault = true
-stops_reading status.NoMemory = true
-stops_reading _ = false
+-- Why the bytes of the input were not read.
+abbrev pub StopsReading : Stream → Stream → Status → Type 0
+StopsReading input rest status.ReadFault = HasRisen input.faults rest.faults
+StopsReading input rest status.NoMemory = Unit {0}
+StopsReading input rest _ = ⊥
 
--- the endings because of a script's text, but out of memory
-abbrev pub is_refusal : Status → Bool
-is_refusal (status.BadInput n f) = true
-is_refusal (status.Limit n which) = true
-is_refusal _ = false
-
--- The text is the report of one outcome of a script.
-pub record IsReported (script : Script) (old : Attached) (left : List Counted) (report : List ℕ) : Type 0 where
-  pub outcome : Outcome
-  pub text : report ≡ report_text_of outcome
-  pub made : IsOutcome (TellOf script old) script old.shelves left outcome
+-- Why no script was read.
+abbrev pub IsUnread : List Name → Stream → Stream → Status → Type 0
+IsUnread stores input rest status.ReadFault = HasRisen input.faults rest.faults
+IsUnread stores input rest status.NoMemory = Unit {0}
+IsUnread stores input rest (status.BadInput n fault) = IsRefusedAs stores input.bytes rest.bytes (status.BadInput n fault)
+IsUnread stores input rest (status.Limit n which) = IsRefusedAs stores input.bytes rest.bytes (status.Limit n which)
+IsUnread stores input rest _ = ⊥
 
 -- The stores of a script's tables are fit for a run of it, as it places them, and hold nothing of them.
 pub record AreReady (script : Script) (stores : Attached) : Type 0 where
@@ -185,51 +132,30 @@ abbrev pub IsFoundIn : List Table → Attached → Attached → Key → Type 0
 IsFoundIn catalog old new key = AreFit catalog old → (first_key (opening_in catalog old) ≡ Some key) × HoldTheSame old new
 
 -- Why a script was not played to its end.
-abbrev pub Stops : Attached → Attached → Type 0 → (Key → Type 0) → Status → Type 0
-Stops old new foreign found status.StoreFault = HaveRisen old.shelves new.shelves
-Stops old new foreign found status.NoMemory = Unit {0}
-Stops old new foreign found (status.NotEmpty key) = found key
-Stops old new foreign found (status.BadStore key) = foreign
-Stops old new foreign found _ = ⊥
+abbrev pub Stops : List Counted → List Counted → Type 0 → (Key → Type 0) → Status → Type 0
+Stops old left foreign found status.StoreFault = HaveRisen old left
+Stops old left foreign found status.NoMemory = Unit {0}
+Stops old left foreign found (status.NotEmpty key) = found key
+Stops old left foreign found (status.BadStore key) = foreign
+Stops old left foreign found _ = ⊥
 
 -- Why the look for records stopped.
 abbrev pub StopsLook : List Table → Attached → Attached → Status → Type 0
-StopsLook catalog old new = Stops old new ⊥ (IsFoundIn catalog old new)
+StopsLook catalog old new = Stops old.shelves new.shelves ⊥ (IsFoundIn catalog old new)
 
 -- Why a script that was placed was not played to its end.
-abbrev pub StopsPlay : Script → Attached → Attached → Status → Type 0
-StopsPlay script old new = Stops old new (AreReady script old → ⊥) (λ key. ⊥)
+abbrev pub StopsWorld : Script → Attached → Attached → Status → Type 0
+StopsWorld script old new = Stops old.shelves new.shelves (AreReady script old → ⊥) (λ key. ⊥)
 
--- Why a script that was read was not played to its end.
-abbrev pub StopsReplay : Script → Attached → Attached → Status → Type 0
-StopsReplay script old new = Stops old new (TellOf script old → ⊥) (λ key. TellOf script old → IsFirstFound script (shown old.shelves) (shown new.shelves) key)
+-- Why a script was not played to its end: a fault raised the count of the stores, or memory ran out. Not empty names the first record
+-- in its tables, where their stores have known contents; a bad record comes only where some of them has none.
+abbrev pub StopsPlay : Script → Attached → List Counted → Status → Type 0
+StopsPlay script old left = Stops old.shelves left (TellOf script old → ⊥) (λ key. TellOf script old → IsFirstFound script (shown old.shelves) (shown left) key)
 
--- the endings without a script
-abbrev pub refuses_input : Status → Bool
-refuses_input status.ReadFault = true
-refuses_input status.NoMemory = true
-refuses_input (status.BadInput n f) = true
-refuses_input (status.Limit n which) = true
-refuses_input _ = false
-
--- the endings before anything is written
-abbrev pub writes_nothing : Status → Bool
-writes_nothing status.Usage = true
-writes_nothing status.ReadFault = true
-writes_nothing status.StoreFault = true
-writes_nothing (status.NotEmpty key) = true
-writes_nothing (status.BadStore key) = true
-writes_nothing (status.BadInput n f) = true
-writes_nothing (status.Limit n which) = true
-writes_nothing _ = false
-
--- the endings before a script was read
-abbrev pub is_unplayed : Status → Bool
-is_unplayed status.Usage = true
-is_unplayed status.ReadFault = true
-is_unplayed (status.BadInput n f) = true
-is_unplayed (status.Limit n which) = true
-is_unplayed _ = false
+-- Why `replay` has no report: no script was read, and the stores are as they were; or one was, and it was not played to its end.
+pub data StopsReplay (work : Work) (s : Status) : Type 0 where
+  Unread : IsUnread (names_of work.old.shelves) work.input work.rest s → AreUnchanged work → StopsReplay work s
+  Unplayed : (script : Script) → IsScriptRead (names_of work.old.shelves) work.input.bytes work.rest.bytes script → StopsPlay script work.old work.left s → StopsReplay work s
 
 ---- what stopped a scan, and the closing dump
 

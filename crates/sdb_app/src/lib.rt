@@ -1,7 +1,9 @@
 //! The top call of the program.
 #![tactic(auto)]
 
+mod input;
 mod places;
+mod play;
 mod program;
 mod replay;
 mod status;

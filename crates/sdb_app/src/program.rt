@@ -1,115 +1,66 @@
 //! The top call.
-ghost use Rattle.std.specs.Prelude.{◌≡◌, ◌↔◌, ◌⊎◌, ◌<◌, ◌≤◌, ℕ, length, true, false, map, string_bytes, IfOk, IfErr, IsErrOf};
-ghost use Rattle.sdb_types.specs.declared.key.Key.{Key};
-ghost use Rattle.sdb_types.specs.Bytes.{HasRisen};
-ghost use Rattle.sdb_stores.specs.Shelf.{HaveRisen, names_of, total_faults};
-ghost use Rattle.sdb_app.specs.Run.{ends, is_replay as is_replay_lem, IfNotEmpty, IsCutShort, IsReplayed, IsPrefixWritten, IsNotEmpty, IsUntold, IsRefusedAs, IsScriptRead, IsTextRead, is_refusal, is_unplayed, refuses_input, status_of_text, stops_reading, writes_nothing};
+ghost use Rattle.std.specs.Prelude.{◌≡◌, ◌<◌, ◌≤◌, [], length, map, string_bytes, IfOk, IfErr};
+ghost use Rattle.sdb_stores.specs.Shelf.{AreDistinct, names_of};
+ghost use Rattle.sdb_words.specs.Commands.{AreWordsOf};
+ghost use Rattle.sdb_app.specs.Ends.{AreKept, ends, stream, work_of};
+ghost use Rattle.sdb_app.specs.Promise.{HasEnded, IsNoCommand, IsWritten, promise_of};
 
 use crate::replay::replay;
-use crate::status::{InputFault, Status};
-use crate::streams::{Input, ReadRefused, read_input, write_all};
-use sdb_model::Script;
-use sdb_script::{MOST_SCRIPT_BYTES, ScriptRefused, read_script};
+use crate::status::Status;
+use crate::streams::write_all;
 use sdb_stores::Registry;
-use sdb_types::{Clock, Ids, Names, NoMemory, Sink, SinkRefused, Source};
-use sdb_words::replays;
+use sdb_types::{Names, Sink, SinkRefused, Source};
+use sdb_words::{Command, WordsRefused, command_of};
 use std::alloc::Global;
 
-// The bytes of the input: all, or more than are read of a script.
-fn read_bytes<R: Source>(alloc: Global, input: &mut R) -> Result<Vec<u8>, Status>
-    ensures read { IfOk result (λ bytes. IsTextRead bytes.items (R.remaining input.old) (R.remaining input.new)) }
-    ensures read_fault { IsErrOf result Status.ReadFault → HasRisen (R.faults input.old) (R.faults input.new) }
-    ensures kinds { IfErr result (λ status. stops_reading status ≡ true) }
-    ensures counted { R.faults input.old ≤ R.faults input.new }
+// The command of these words, over stores of these names.
+fn command_in(alloc: Global, words: &[String], stores: &Names) -> Result<Command, Status>
+    ensures ok { IfOk result (λ c. AreWordsOf stores.now c (map string_bytes words.now)) }
+    ensures err { IfErr result (IsNoCommand stores.now (map string_bytes words.now)) }
 {
-    match read_input(alloc, input, MOST_SCRIPT_BYTES) {
-        Ok(Input::Whole(bytes)) => Ok(bytes),
-        Ok(Input::Longer(bytes)) => Ok(bytes),
-        Err(ReadRefused::Failed) => Err(Status::ReadFault),
-        Err(ReadRefused::NoMemory) => Err(Status::NoMemory),
+    match command_of(alloc, words, stores) {
+        Ok(command) => Ok(command),
+        Err(WordsRefused::Usage) => Err(Status::Usage),
+        Err(WordsRefused::NoMemory) => Err(Status::NoMemory),
     }
 }
 
-// How the program ends where a text was refused.
-fn refused_status(refused: ScriptRefused) -> Status
-    ensures { result ≡ status_of_text refused }
-{
-    match refused {
-        ScriptRefused::BadLine(n, fault) => Status::BadInput(n, InputFault::Line(fault)),
-        ScriptRefused::Limit(n, which) => Status::Limit(n, which),
-        ScriptRefused::NoMemory => Status::NoMemory,
-    }
-}
-
-// Reads a script over stores of these names, or says how the program ends without one.
-fn read_input_script<R: Source>(
+// What a command answers.
+fn answer<S: Registry, R: Source>(
     alloc: Global,
-    input: &mut R,
-    stores: &Names,
-) -> Result<Script, Status>
-    ensures read { IfOk result (IsScriptRead stores.now (R.remaining input.old) (R.remaining input.new)) }
-    ensures read_fault { IsErrOf result Status.ReadFault → HasRisen (R.faults input.old) (R.faults input.new) }
-    ensures refused { IfErr result (λ s. is_refusal s ≡ true → IsRefusedAs stores.now (R.remaining input.old) (R.remaining input.new) s) }
-    ensures kinds { IfErr result (λ status. refuses_input status ≡ true) }
-    ensures counted { R.faults input.old ≤ R.faults input.new }
-{
-    let bytes = read_bytes(alloc, input)?;
-    match read_script(alloc, &bytes, stores) {
-        Ok(script) => Ok(script),
-        Err(refused) => Err(refused_status(refused)),
-    }
-}
-
-// Reads a script, plays it on the stores, and writes the report of the run.
-fn replay_input<S: Registry, R: Source, W: Sink>(
-    alloc: Global,
+    command: &Command,
     stores: &mut S,
     input: &mut R,
-    output: &mut W,
-) -> Status
-    requires { 0 < length (S.state stores.old).shelves }
-    ensures known { (result ≡ Status.Usage) → ⊥ }
-    ensures read_fault { result ≡ Status.ReadFault → HasRisen (R.faults input.old) (R.faults input.new) }
-    // The text that was read is no script, or passes a limit, at that line and for that cause.
-    ensures refused { is_refusal result ≡ true → IsRefusedAs (names_of (S.state stores.old).shelves) (R.remaining input.old) (R.remaining input.new) result }
-    ensures store_fault { result ≡ Status.StoreFault → HaveRisen (S.state stores.old).shelves (S.state stores.new).shelves }
-    // A script was read. Where the stores of its tables have known contents, the record is the first in these tables, and the
-    // stores hold what they held.
-    ensures not_empty { IfNotEmpty result (IsNotEmpty (ends S.state R.remaining W.written stores.old stores.new input.old input.new output.old output.new)) }
-    // A script was read, and some store of its tables has no known contents.
-    ensures bad_store { (key : Key) → result ≡ Status.BadStore key → IsUntold (S.state stores.old) (R.remaining input.old) (R.remaining input.new) }
-    // A prefix of the report was written.
-    ensures write_fault { result ≡ Status.WriteFault → HasRisen (W.faults output.old) (W.faults output.new) }
-    ensures prefix { result ≡ Status.WriteFault → IsPrefixWritten (ends S.state R.remaining W.written stores.old stores.new input.old input.new output.old output.new) }
-    // The headline.
-    ensures done { result ≡ Status.Done → IsReplayed (ends S.state R.remaining W.written stores.old stores.new input.old input.new output.old output.new) }
-    // Where memory ran out nothing was written, or a prefix of the report of a run.
-    ensures out_of_memory { result ≡ Status.NoMemory → IsCutShort (ends S.state R.remaining W.written stores.old stores.new input.old input.new output.old output.new) }
-    // The stores are as they were where no script was read.
-    ensures unplayed { is_unplayed result ≡ true → (S.state stores.new).shelves ≡ (S.state stores.old).shelves }
-    // Nothing is written before the run has ended.
-    ensures unwritten { writes_nothing result ≡ true → W.written output.new ≡ W.written output.old }
+    names: &Names,
+) -> Result<String, Status>
+    requires some { 0 < length (S.state stores.old).shelves }
+    requires unplaced { (S.state stores.old).places ≡ [] }
+    requires distinct { AreDistinct (names_of (S.state stores.old).shelves) }
+    requires names { names.now ≡ names_of (S.state stores.old).shelves }
+    ensures answered { IfOk result (λ text. (promise_of command.now (work_of S.state (stream R.remaining R.faults) stores.old stores.new input.old input.new)).answers (string_bytes text)) }
+    ensures err { IfErr result (promise_of command.now (work_of S.state (stream R.remaining R.faults) stores.old stores.new input.old input.new)).stops }
+    ensures kept { AreKept (S.state stores.old) (S.state stores.new) }
     ensures counted { R.faults input.old ≤ R.faults input.new }
-    ensures counted_output { W.faults output.old ≤ W.faults output.new }
-    // The stores are those that were attached, in their order.
-    ensures names { names_of (S.state stores.new).shelves ≡ names_of (S.state stores.old).shelves }
-    ensures counted_stores { total_faults (S.state stores.old).shelves ≤ total_faults (S.state stores.new).shelves }
-    // Known contents of stores stay known.
-    ensures telling { (at : ℕ) → (S.state stores.old).tells at → (S.state stores.new).tells at }
 {
-    stores.clear_places();
-    let Ok(names) = stores.names() else {
-        return Status::NoMemory;
-    };
-    let script = match read_input_script(alloc, input, &names) {
-        Ok(script) => script,
-        Err(status) => return status,
-    };
-    let text = match replay(alloc, stores, script) {
-        Ok(text) => text,
-        Err(status) => return status,
-    };
-    match write_all(output, text.as_str().as_bytes()) {
+    match command {
+        Command::Replay => replay(alloc, stores, input, names),
+        Command::Bench(_)
+        | Command::Schema(_)
+        | Command::Sql
+        | Command::Load(_, _, _)
+        | Command::Export(_)
+        | Command::Retire(_, _)
+        | Command::Alter(_, _, _)
+        | Command::Audit => Err(Status::Usage),
+    }
+}
+
+// Writes the answer of a command.
+fn write<W: Sink>(output: &mut W, text: &str) -> Status
+    ensures written { IsWritten text.now (stream W.written W.faults output.old) (stream W.written W.faults output.new) result }
+    ensures counted { W.faults output.old ≤ W.faults output.new }
+{
+    match write_all(output, text.as_bytes()) {
         Ok(()) => Status::Done,
         Err(SinkRefused::Failed) => Status::WriteFault,
         Err(SinkRefused::NoMemory) => Status::NoMemory,
@@ -118,51 +69,32 @@ fn replay_input<S: Registry, R: Source, W: Sink>(
 
 /// Runs the program on its words, those after its name, and on the stores of a registry, at least one.
 ///
-/// `replay` takes all places away and reads a script. It places the namespaces as the script says, sees to it that the script's tables
-/// are empty, plays it on the stores, and writes the report of the run. Nothing is written before the run has ended. What is said of a
-/// run and of records is said where the stores of the script's tables have known contents.
-pub fn run<S: Registry, R: Source, W: Sink, C: Clock, I: Ids>(
+/// It takes all places away first. Each command does its work before it writes anything, and what it answers is then written as one
+/// text. What is said of the contents of stores is said where they are known.
+pub fn run<S: Registry, R: Source, W: Sink>(
     alloc: Global,
     words: &[String],
     stores: &mut S,
     input: &mut R,
     output: &mut W,
-    _clock: &mut C,
-    _ids: &mut I,
 ) -> Status
     requires { 0 < length (S.state stores.old).shelves }
-    // The words are not those of a command that is there so far.
-    ensures usage { (result ≡ Status.Usage) ↔ (is_replay_lem (map string_bytes words.now) ≡ false) }
-    ensures read_fault { result ≡ Status.ReadFault → HasRisen (R.faults input.old) (R.faults input.new) }
-    // The text that was read is no script, or passes a limit, at that line and for that cause.
-    ensures refused { is_refusal result ≡ true → IsRefusedAs (names_of (S.state stores.old).shelves) (R.remaining input.old) (R.remaining input.new) result }
-    ensures store_fault { result ≡ Status.StoreFault → HaveRisen (S.state stores.old).shelves (S.state stores.new).shelves }
-    // A script was read. Where the stores of its tables have known contents, the record is the first in these tables, and the
-    // stores hold what they held.
-    ensures not_empty { IfNotEmpty result (IsNotEmpty (ends S.state R.remaining W.written stores.old stores.new input.old input.new output.old output.new)) }
-    // A script was read, and some store of its tables has no known contents.
-    ensures bad_store { (key : Key) → result ≡ Status.BadStore key → IsUntold (S.state stores.old) (R.remaining input.old) (R.remaining input.new) }
-    // A prefix of the report was written.
-    ensures write_fault { result ≡ Status.WriteFault → HasRisen (W.faults output.old) (W.faults output.new) }
-    ensures prefix { result ≡ Status.WriteFault → IsPrefixWritten (ends S.state R.remaining W.written stores.old stores.new input.old input.new output.old output.new) }
-    // The headline.
-    ensures done { result ≡ Status.Done → IsReplayed (ends S.state R.remaining W.written stores.old stores.new input.old input.new output.old output.new) }
-    // Where memory ran out nothing was written, or a prefix of the report of a run.
-    ensures out_of_memory { result ≡ Status.NoMemory → IsCutShort (ends S.state R.remaining W.written stores.old stores.new input.old input.new output.old output.new) }
-    // The stores are as they were where no script was read.
-    ensures unplayed { is_unplayed result ≡ true → (S.state stores.new).shelves ≡ (S.state stores.old).shelves }
-    // Nothing is written before the run has ended.
-    ensures unwritten { writes_nothing result ≡ true → W.written output.new ≡ W.written output.old }
+    // It ends as a command of these words may end, or as words of no command do.
+    ensures ended { HasEnded (map string_bytes words.now) (ends S.state (stream R.remaining R.faults) (stream W.written W.faults) stores.old stores.new input.old input.new output.old output.new) result }
+    ensures kept { AreKept (S.state stores.old) (S.state stores.new) }
     ensures counted { R.faults input.old ≤ R.faults input.new }
     ensures counted_output { W.faults output.old ≤ W.faults output.new }
-    // The stores are those that were attached, in their order.
-    ensures names { names_of (S.state stores.new).shelves ≡ names_of (S.state stores.old).shelves }
-    ensures counted_stores { total_faults (S.state stores.old).shelves ≤ total_faults (S.state stores.new).shelves }
-    // Known contents of stores stay known.
-    ensures telling { (at : ℕ) → (S.state stores.old).tells at → (S.state stores.new).tells at }
 {
-    if !replays(words) {
-        return Status::Usage;
+    stores.clear_places();
+    let Ok(names) = stores.names() else {
+        return Status::NoMemory;
+    };
+    let command = match command_in(alloc, words, &names) {
+        Ok(command) => command,
+        Err(status) => return status,
+    };
+    match answer(alloc, &command, stores, input, &names) {
+        Ok(text) => write(output, text.as_str()),
+        Err(status) => status,
     }
-    replay_input(alloc, stores, input, output)
 }

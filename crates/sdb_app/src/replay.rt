@@ -1,131 +1,85 @@
-//! Playing a script on stores.
-ghost use Rattle.std.specs.Prelude.{◌≡◌, ◌<◌, ◌≤◌, ℕ, List, [], length, Some, None, IfOk, IfErr, OnOk};
-ghost use Rattle.std.specs.String.{string_bytes};
-ghost use Rattle.sdb_stores.specs.Shelf.{AreDistinct, names_of, total_faults};
-ghost use Rattle.sdb_model.specs.Follows.{Follows};
-ghost use Rattle.sdb_model.specs.Told.{IsRun};
-ghost use Rattle.sdb_script.specs.Begun.{ArePlaces};
-ghost use Rattle.sdb_board.specs.Board.{AreFit, GoOn, HoldTheSame, shown};
-ghost use Rattle.sdb_board.specs.Opening.{first_key, opening_in};
-ghost use Rattle.sdb_causes.specs.Tied.{AnswersHaveCauses};
-ghost use Rattle.sdb_world.specs.Broken.{BreaksWithin};
-ghost use Rattle.sdb_world.specs.Explained.{IsExplained};
-ghost use Rattle.sdb_world.specs.Linked.{HaveCauses};
-ghost use Rattle.sdb_world.specs.Played.{HasNotPlayed, IsOutcomeOf, IsPlayExplained};
-ghost use Rattle.sdb_world.specs.World.{IsPlayable, IsWorld};
-ghost use Rattle.sdb_world.specs.Step.{CanFollow};
-ghost use Rattle.sdb_app.specs.Run.{AreReady, IsReported, Stops, StopsLook, StopsPlay, StopsReplay, status_of_call, status_of_closing};
+//! The command `replay`: a script that is read, and the report of its run.
+ghost use Rattle.std.specs.Prelude.{◌≡◌, ◌<◌, ◌≤◌, [], length, IfOk, IfErr, string_bytes};
+ghost use Rattle.sdb_stores.specs.Shelf.{AreDistinct, names_of};
+ghost use Rattle.sdb_model.specs.Report.{report_text_of};
+ghost use Rattle.sdb_app.specs.Ends.{AreKept, stream, work_of};
+ghost use Rattle.sdb_app.specs.Run.{IsReplayed, IsScriptRead, IsUnread, StopsReplay, status_of_text};
 
-use crate::places::place_all;
-use crate::status::Status;
-use sdb_board::{CallRefused, first_record};
-use sdb_dump::ClosingRefused;
+use crate::input::read_bytes;
+use crate::play::play;
+use crate::status::{InputFault, Status};
 use sdb_model::{Outcome, Script};
-use sdb_schema::Catalog;
+use sdb_script::{ScriptRefused, read_script};
 use sdb_stores::Registry;
 use sdb_texts::report_text;
-use sdb_types::NoMemory;
-use sdb_world::World;
+use sdb_types::{Names, Source};
 use std::alloc::Global;
 
-impl From<NoMemory> for Status {
-    ghost use Rattle.std.specs.Prelude.{◌≡◌};
-    ghost use Rattle.sdb_app.specs.declared.status.Status.TheVariants as status;
-
-    ghost from_gives = { λ _ s. s ≡ status.NoMemory };
-
-    fn from(_e: NoMemory) -> Status {
-        Status::NoMemory
-    }
-}
-
-// How the program ends where a scan stopped.
-fn scan_status(refused: CallRefused) -> Status
-    ensures { result ≡ status_of_call refused }
+// How the program ends where a text was refused.
+fn refused_status(refused: ScriptRefused) -> Status
+    ensures { result ≡ status_of_text refused }
 {
     match refused {
-        CallRefused::StoreFault => Status::StoreFault,
-        CallRefused::NoMemory => Status::NoMemory,
+        ScriptRefused::BadLine(n, fault) => Status::BadInput(n, InputFault::Line(fault)),
+        ScriptRefused::Limit(n, which) => Status::Limit(n, which),
+        ScriptRefused::NoMemory => Status::NoMemory,
     }
 }
 
-// How the program ends where the closing dump stopped.
-fn closing_status(refused: ClosingRefused) -> Status
-    ensures { result ≡ status_of_closing refused }
+// Reads a script over stores of these names.
+fn read_input_script<R: Source>(
+    alloc: Global,
+    input: &mut R,
+    stores: &Names,
+) -> Result<Script, Status>
+    ensures read { IfOk result (IsScriptRead stores.now (R.remaining input.old) (R.remaining input.new)) }
+    ensures err { IfErr result (IsUnread stores.now (stream R.remaining R.faults input.old) (stream R.remaining R.faults input.new)) }
+    ensures counted { R.faults input.old ≤ R.faults input.new }
 {
-    match refused {
-        ClosingRefused::StoreFault => Status::StoreFault,
-        ClosingRefused::BadRecord(key) => Status::BadStore(key),
-        ClosingRefused::NoMemory => Status::NoMemory,
+    let bytes = match read_bytes(alloc, input) {
+        Ok(bytes) => bytes,
+        Err(status) => return Err(status),
+    };
+    match read_script(alloc, &bytes, stores) {
+        Ok(script) => Ok(script),
+        Err(refused) => Err(refused_status(refused)),
     }
 }
 
-// Sees to it that the tables of a script are empty.
-fn be_empty<R: Registry>(alloc: Global, stores: &mut R, catalog: &Catalog) -> Result<(), Status>
-    requires some { 0 < length (R.state stores.old).shelves }
-    ensures empty { OnOk result (AreFit catalog.now (R.state stores.old) → first_key (opening_in catalog.now (R.state stores.old)) ≡ None) }
-    ensures still { OnOk result (AreFit catalog.now (R.state stores.old) → HoldTheSame (R.state stores.old) (R.state stores.new)) }
-    ensures goes { GoOn (R.state stores.old) (R.state stores.new) }
-    ensures err { IfErr result (StopsLook catalog.now (R.state stores.old) (R.state stores.new)) }
+// The text of a report.
+fn text_of(alloc: Global, outcome: &Outcome) -> Result<String, Status>
+    ensures ok { IfOk result (λ text. string_bytes text ≡ report_text_of outcome.now) }
+    ensures err { IfErr result (λ s. s ≡ Status.NoMemory) }
 {
-    match first_record(alloc, stores, catalog) {
-        Ok(None) => Ok(()),
-        Ok(Some(key)) => Err(Status::NotEmpty(key)),
-        Err(refused) => Err(scan_status(refused)),
+    match report_text(alloc, outcome) {
+        Ok(text) => Ok(text),
+        Err(_) => Err(Status::NoMemory),
     }
 }
 
-// The outcome of a world that has played its script.
-fn ended<R: Registry>(alloc: Global, stores: &mut R, world: World) -> Result<Outcome, Status>
-    requires some { 0 < length (R.state stores.old).shelves }
-    requires world { IsWorld world }
-    ensures events { IfOk result (λ o. o.events ≡ world.events) }
-    ensures caused { IfOk result (λ o. HaveCauses world → AnswersHaveCauses world.script.catalog o.events) }
-    ensures explained { IfOk result (λ o. IsPlayExplained world (R.state stores.old) o.events) }
-    ensures run { IfOk result (IsOutcomeOf world (R.state stores.old) (R.state stores.new)) }
-    ensures goes { GoOn (R.state stores.old) (R.state stores.new) }
-    ensures err { IfErr result (Stops (R.state stores.old) (R.state stores.new) (HasNotPlayed world (R.state stores.old)) (λ key. ⊥)) }
+/// Reads a script, places its namespaces as it says, sees to it that its tables are empty, plays it on the stores, and returns the report
+/// of its run.
+pub fn replay<S: Registry, R: Source>(
+    alloc: Global,
+    stores: &mut S,
+    input: &mut R,
+    names: &Names,
+) -> Result<String, Status>
+    requires some { 0 < length (S.state stores.old).shelves }
+    requires unplaced { (S.state stores.old).places ≡ [] }
+    requires distinct { AreDistinct (names_of (S.state stores.old).shelves) }
+    requires names { names.now ≡ names_of (S.state stores.old).shelves }
+    ensures answered { IfOk result (λ text. IsReplayed (work_of S.state (stream R.remaining R.faults) stores.old stores.new input.old input.new) (string_bytes text)) }
+    ensures err { IfErr result (StopsReplay (work_of S.state (stream R.remaining R.faults) stores.old stores.new input.old input.new)) }
+    ensures kept { AreKept (S.state stores.old) (S.state stores.new) }
+    ensures counted { R.faults input.old ≤ R.faults input.new }
 {
-    match world.outcome(alloc, stores) {
-        Ok(outcome) => Ok(outcome),
-        Err(refused) => Err(closing_status(refused)),
+    let script = match read_input_script(alloc, input, names) {
+        Ok(script) => script,
+        Err(status) => return Err(status),
+    };
+    match play(alloc, stores, script) {
+        Ok(outcome) => text_of(alloc, &outcome),
+        Err(status) => Err(status),
     }
-}
-
-// Plays a script on stores where its namespaces are placed.
-fn play<R: Registry>(alloc: Global, stores: &mut R, script: Script) -> Result<Outcome, Status>
-    requires some { 0 < length (R.state stores.old).shelves }
-    requires playable { IsPlayable script }
-    requires can { CanFollow script }
-    ensures follows { IfOk result (λ o. Follows script.clients script.moves o.events) }
-    ensures caused { IfOk result (λ o. AnswersHaveCauses script.catalog o.events) }
-    ensures broken { IfOk result (λ o. BreaksWithin [] o.events (R.state stores.old).shelves (R.state stores.new).shelves) }
-    ensures explained { IfOk result (λ o. AreReady script (R.state stores.old) → IsExplained script o.events (shown (R.state stores.old).shelves)) }
-    ensures run { IfOk result (λ o. AreReady script (R.state stores.old) → IsRun script (shown (R.state stores.old).shelves) (shown (R.state stores.new).shelves) o) }
-    ensures goes { GoOn (R.state stores.old) (R.state stores.new) }
-    ensures err { IfErr result (StopsPlay script (R.state stores.old) (R.state stores.new)) }
-{
-    let mut world = World::new(alloc, script)?;
-    world.follow(stores)?;
-    ended(alloc, stores, world)
-}
-
-/// Plays a script on stores of which none has a place yet, and gives the text of its report.
-pub fn replay<R: Registry>(alloc: Global, stores: &mut R, script: Script) -> Result<String, Status>
-    requires some { 0 < length (R.state stores.old).shelves }
-    requires unplaced { (R.state stores.old).places ≡ [] }
-    requires distinct { AreDistinct (names_of (R.state stores.old).shelves) }
-    requires playable { IsPlayable script }
-    requires can { CanFollow script }
-    requires places { ArePlaces (names_of (R.state stores.old).shelves) script.places }
-    ensures report { IfOk result (λ text. IsReported script (R.state stores.old) (R.state stores.new).shelves (string_bytes text)) }
-    ensures names { names_of (R.state stores.new).shelves ≡ names_of (R.state stores.old).shelves }
-    ensures counted { total_faults (R.state stores.old).shelves ≤ total_faults (R.state stores.new).shelves }
-    ensures err { IfErr result (StopsReplay script (R.state stores.old) (R.state stores.new)) }
-    ensures telling { (at : ℕ) → (R.state stores.old).tells at → (R.state stores.new).tells at }
-{
-    place_all(stores, &script.places)?;
-    be_empty(alloc, stores, &script.catalog)?;
-    let outcome = play(alloc, stores, script)?;
-    Ok(report_text(alloc, &outcome)?)
 }

@@ -4,7 +4,8 @@ use Rattle.std.specs.Prelude.{pos, slice_get}
 use Rattle.sdb_model.specs.declared.event.Event.{Event}
 use Rattle.sdb_model.specs.declared.script.Script.{Script}
 use Rattle.sdb_world.specs.declared.seat.Seat.{Seat}
-use Rattle.sdb_world.specs.World.{IsPlayable, IsSeat, IsWorld}
+use Rattle.sdb_world.specs.World.{IsPlayable, IsSeat, IsWorld, state_of}
+use Rattle.sdb_world.specs.Execution.{IsInitial}
 use Rattle.sdb_world.specs.Linked.{IsLinked}
 use Rattle.sdb_world.specs.Step.{AreFresh, fresh_seat}
 use Rattle.sdb_world.proofs.Linked.{linked_first}
@@ -50,3 +51,6 @@ world_first script count seats events playable few h none = subst (λ (es : List
 
 pub linked_new : (script : Script) (count : ℕ) (seats : List Seat) (events : List Event) (clock : ℤ) → AreFresh count seats → events ≡ [] → IsLinked (record { script = script; seats = seats; events = events; clock = clock })
 linked_new script count seats events clock h none = subst (λ (es : List Event). IsLinked (record { script = script; seats = seats; events = es; clock = clock })) (sym none) (linked_first script.catalog count seats h)
+
+pub initial_new : (script : Script) (count : ℕ) (seats : List Seat) (events : List Event) → count ≡ length script.clients → AreFresh count seats → IsInitial script (state_of (record { script = script; seats = seats; events = events; clock = pos 0 }))
+initial_new script count seats events few h = record { fresh = subst (λ (n : ℕ). AreFresh n seats) few h; clock = refl }

@@ -1,3 +1,4 @@
+pub mod Execution
 pub mod World
 pub mod Step
 pub mod Linked

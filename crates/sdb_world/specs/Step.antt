@@ -1,5 +1,5 @@
 -- The steps of a world, and what they do to the stores.
-use Rattle.std.specs.Prelude.{◌≡◌, ◌≢◌, ℕ, suc, ◌+◌, ◌≤◌, ◌<◌, ◌^◌, true, false, List, [], ◌∷◌, ◌++◌, length, Option, Some, None, IfSome, IsSomeAnd, is_some, slice_get}
+use Rattle.std.specs.Prelude.{◌≡◌, ℕ, suc, ◌≤◌, ◌<◌, ◌^◌, true, List, [], ◌∷◌, ◌++◌, length, Option, Some, IfSome, slice_get}
 use Rattle.std.specs.List.{AllByRecursion}
 use Rattle.sdb_types.specs.declared.record.Reply.{Reply}
 use Rattle.sdb_types.specs.declared.record.Request.{Request}
@@ -18,7 +18,7 @@ use Rattle.sdb_model.specs.declared.script.ScriptClient.{ScriptClient}
 use Rattle.sdb_model.specs.Rows.{Name}
 use Rattle.sdb_model.specs.Events.{IsTrace, Shelf, store_of, table_asked}
 use Rattle.sdb_model.specs.Follows.{AllIdle, AreMoved, AreStepsOf, IsActed, IsAmong, IsHowOfDiscard, IsHowOfLose, IsHowOfStep, IsMoved, has_work, texts_of}
-use Rattle.sdb_client.specs.Client.{ClientAt, IsBusy, IsIdle, ReplyTold, client_pending, nothing_done}
+use Rattle.sdb_client.specs.Client.{ClientAt, IsBusy, IsIdle, ReplyTold, client_pending}
 use Rattle.sdb_client.specs.declared.gate.Gate.{Gate}
 use Rattle.sdb_spread.specs.Spread.{is_played}
 use Rattle.sdb_stores.specs.Shelf.{Attached}
@@ -28,7 +28,9 @@ use Rattle.sdb_steps.specs.Hands.{Takes}
 use Rattle.sdb_world.specs.declared.seat.Seat.{Seat}
 use Rattle.sdb_world.specs.declared.way.Way.{Way}
 use Rattle.sdb_world.specs.declared.way.Way.TheVariants as way
-use Rattle.sdb_world.specs.World.{WorldAt, with_event, with_seat}
+use Rattle.sdb_world.specs.World.{WorldAt, state_of, with_event, with_seat}
+pub use Rattle.sdb_world.specs.Execution.{AreFresh, IsGateAt, IsOpenAt, IsSweepingAt, IsUnopened, IsUnswept, SomeAt, fresh_seat, moved_seat, stopped_seat}
+use Rattle.sdb_world.specs.Execution.{IsPath}
 use Rattle.sdb_world.specs.Linked.{HaveCauses, IsLinked}
 
 -- a client has that number
@@ -63,42 +65,11 @@ IsBusyAt w i = IfSome (slice_get w.seats i) (λ s. IsBusy s.client)
 abbrev pub HasLeft : WorldAt → ℕ → Type 0
 HasLeft w i = IfSome (slice_get w.seats i) (λ s. s.taken < length (texts_of w.script.clients (suc i)))
 
--- it has stopped, or runs no VACUUM
-abbrev pub IsUnswept : List Seat → ℕ → Type 0
-IsUnswept seats i = IfSome (slice_get seats i) (λ s. s.stopped ≡ false → s.client.vacuum ≡ None)
-
--- it has stopped, or has no transaction open
-abbrev pub IsUnopened : List Seat → ℕ → Type 0
-IsUnopened seats i = IfSome (slice_get seats i) (λ s. s.stopped ≡ false → s.client.txn ≡ None)
-
--- it goes on, and runs VACUUM
-abbrev pub IsSweepingAt : List Seat → ℕ → Type 0
-IsSweepingAt seats i = IsSomeAnd (slice_get seats i) (λ s. (s.stopped ≡ false) × (is_some s.client.vacuum ≡ true))
-
--- it goes on, and has a transaction open
-abbrev pub IsOpenAt : List Seat → ℕ → Type 0
-IsOpenAt seats i = IsSomeAnd (slice_get seats i) (λ s. (s.stopped ≡ false) × (is_some s.client.txn ≡ true))
-
--- A client at another place is so.
-abbrev pub SomeAt : (List Seat → ℕ → Type 0) → List Seat → ℕ → Type 0
-SomeAt P seats i = (j : ℕ) × (j ≢ i) × P seats j
-
--- A gate says whether a client at another place that goes on runs VACUUM, and whether one has a transaction open.
-pub record IsGateAt (gate : Gate) (seats : List Seat) (i : ℕ) : Type 0 where
-  pub sweeps : gate.vacuum_runs ≡ false → (j : ℕ) → j ≢ i → IsUnswept seats j
-  pub opens : gate.open_elsewhere ≡ false → (j : ℕ) → j ≢ i → IsUnopened seats j
-  pub swept : gate.vacuum_runs ≡ true → SomeAt IsSweepingAt seats i
-  pub opened : gate.open_elsewhere ≡ true → SomeAt IsOpenAt seats i
-
 -- that call of it is pending
 abbrev pub IsPendingAt : WorldAt → ℕ → Request → Type 0
 IsPendingAt w i q = IfSome (slice_get w.seats i) (λ s. client_pending s.client ≡ Some q)
 
 ---- one step of one client
-
--- a client after a statement or a reply
-abbrev pub moved_seat : Seat → ℕ → ClientAt → Seat
-moved_seat s more client = record { client = client; taken = s.taken + more; stopped = s.stopped }
 
 -- A client takes its next statement.
 pub record HasTaken (w : WorldAt) (i : ℕ) (v : WorldAt) : Type 0 where
@@ -132,10 +103,6 @@ pub record HasCalled (old new : Attached) (w : WorldAt) (i : ℕ) (way : Way) (v
   pub made : AreFit w.script.catalog old → is_played w.script.catalog (table_asked request) ≡ true → (store ≡ store_of (placed old.places) (shown old.shelves) (table_asked request).ns) × IsMade request how reply old new
   pub left : v ≡ with_event (with_seat w i (moved_seat seat 0 client)) (event.Call (suc i) store request how reply answer)
 
--- the client has stopped
-abbrev pub stopped_seat : Seat → Seat
-stopped_seat s = record { client = s.client; taken = s.taken; stopped = true }
-
 -- A client stops.
 pub record HasStopped (w : WorldAt) (c : ℕ) (v : WorldAt) : Type 0 where
   pub place : ℕ
@@ -143,15 +110,6 @@ pub record HasStopped (w : WorldAt) (c : ℕ) (v : WorldAt) : Type 0 where
   pub number : c ≡ suc place
   pub at : slice_get w.seats place ≡ Some seat
   pub left : v ≡ with_event (with_seat w place (stopped_seat seat)) (event.Stop c)
-
--- a client that has done nothing
-abbrev pub fresh_seat : ℕ → Seat
-fresh_seat i = record { client = nothing_done (suc i); taken = 0; stopped = false }
-
--- so many clients that have done nothing
-pub record AreFresh (count : ℕ) (seats : List Seat) : Type 0 where
-  pub size : length seats ≡ count
-  pub each : (i : ℕ) (s : Seat) → slice_get seats i ≡ Some s → s ≡ fresh_seat i
 
 -- the act of a client's step, by the way in which its call is made
 abbrev pub act_of : Way → ℕ → Act
@@ -168,6 +126,7 @@ pub record HasGone (old new : Attached) (w v : WorldAt) (es : List Event) : Type
   pub events : v.events ≡ w.events ++ es
   pub linked : IsLinked w → IsLinked v
   pub caused : IsLinked w → HaveCauses w → HaveCauses v
+  pub executed : IsPath w.script (state_of w) es (state_of v)
   pub traced : AreFit w.script.catalog old → (moments : List (List Shelf)) × IsTrace (placed old.places) es (shown old.shelves) moments (shown new.shelves)
 
 -- Events came, and they are so.

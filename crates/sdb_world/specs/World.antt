@@ -13,6 +13,7 @@ use Rattle.sdb_client.specs.Client.{IsBusy, IsIdle, nothing_done}
 use Rattle.sdb_steps.specs.About.{IsOfTables}
 use Rattle.sdb_steps.specs.Hands.{Hand, IsFitted}
 use Rattle.sdb_world.specs.declared.seat.Seat.{Seat}
+use Rattle.sdb_world.specs.Execution.{State}
 
 -- the script, its clients in their order, the events so far, and the moment
 pub record WorldAt : Type 0 where
@@ -20,6 +21,10 @@ pub record WorldAt : Type 0 where
   pub seats : List Seat
   pub events : List Event
   pub clock : ℤ
+
+-- where its clients and the clock are
+abbrev pub state_of : WorldAt → State
+state_of w = record { seats = w.seats; clock = w.clock }
 
 -- with an event more
 abbrev pub with_event : WorldAt → Event → WorldAt

@@ -2,7 +2,8 @@
 ghost use Rattle.std.specs.Prelude.{◌≡◌, ◌≢◌, ◌⊎◌, ◌<◌, ◌≤◌, ◌-◌, [], ◌^◌, suc, true, false, length, Some, IfOk, OnOk, IfSome, slice_get};
 ghost use Rattle.sdb_model.specs.Follows.{has_work as has_work_lem, texts_of};
 ghost use Rattle.sdb_board.specs.Board.{GoOn};
-ghost use Rattle.sdb_world.specs.World.{IsPlayable, IsWorld};
+ghost use Rattle.sdb_world.specs.Execution.{IsInitial};
+ghost use Rattle.sdb_world.specs.World.{IsPlayable, IsWorld, state_of};
 ghost use Rattle.sdb_world.specs.Broken.{BreaksWithin};
 ghost use Rattle.sdb_world.specs.Explained.{IsExplainedAfter};
 ghost use Rattle.sdb_world.specs.Linked.{HaveCauses, IsLinked};
@@ -70,6 +71,7 @@ impl World {
         ensures world { IfOk result IsWorld }
         ensures script { IfOk result (λ w. w.script ≡ script) }
         ensures events { IfOk result (λ w. w.events ≡ []) }
+        ensures initial { IfOk result (λ w. IsInitial w.script (state_of w)) }
         ensures linked { IfOk result IsLinked }
         ensures caused { IfOk result HaveCauses }
     {

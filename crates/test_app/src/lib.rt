@@ -4,6 +4,8 @@
 #[cfg(test)]
 mod attached;
 #[cfg(test)]
+mod commands;
+#[cfg(test)]
 mod program;
 #[cfg(test)]
 mod run;

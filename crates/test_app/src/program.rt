@@ -99,7 +99,7 @@ static STOPPED: [Call<'static>; 3] = [
     Call {
         on: On::Two,
         words: REPLAY,
-        script: SCRIPT,
+        input: SCRIPT,
         reads_fail: &[2],
         writes_fail: &[],
         end: End::ReadFault,
@@ -110,7 +110,7 @@ static STOPPED: [Call<'static>; 3] = [
     Call {
         on: On::Two,
         words: REPLAY,
-        script: SCRIPT,
+        input: SCRIPT,
         reads_fail: &[],
         writes_fail: &[2],
         end: End::WriteFault,
@@ -122,7 +122,7 @@ static STOPPED: [Call<'static>; 3] = [
     Call {
         on: On::Two,
         words: &["Replay"],
-        script: SCRIPT,
+        input: SCRIPT,
         reads_fail: &[],
         writes_fail: &[],
         end: End::Usage,

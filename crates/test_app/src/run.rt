@@ -5,11 +5,11 @@ use sdb_app::{InputFault, Status, run};
 use sdb_model::Which;
 use sdb_script::LineFault;
 use sdb_stores::Registry;
-use sdb_types::{Calls, Feed, Moments, NoMemory, Numbers, Octets, Ticks, Tray};
+use sdb_types::{Calls, Feed, NoMemory, Octets, Tray};
 use std::alloc::Global;
 use std::test::Fail;
 
-/// What is wrong with a line that is refused.
+/// What is wrong with a line that is refused, or with a schema.
 #[derive(Clone, Copy, PartialEq, Eq)]
 pub enum Bad {
     Text,
@@ -17,6 +17,7 @@ pub enum Bad {
     Store,
     Schema,
     Missing,
+    Json,
 }
 
 /// How the program ends, without the keys.
@@ -41,6 +42,7 @@ fn bad_of(fault: &InputFault) -> Bad {
         InputFault::Line(LineFault::Store) => Bad::Store,
         InputFault::Line(LineFault::Schema(_)) => Bad::Schema,
         InputFault::Line(LineFault::Missing) => Bad::Missing,
+        InputFault::Json(_) => Bad::Json,
     }
 }
 
@@ -69,13 +71,13 @@ pub enum On {
     Short(u64),
 }
 
-/// The stores, the words and the script of a call of the program, the reads and the writes that fail, how it ends, by which line and
+/// The stores, the words and the input of a call of the program, the reads and the writes that fail, how it ends, by which line and
 /// which code, and what it writes.
 #[derive(Clone, Copy)]
 pub struct Call<'a> {
     pub on: On,
     pub words: &'static [&'static str],
-    pub script: &'a [u8],
+    pub input: &'a [u8],
     pub reads_fail: &'static [u64],
     pub writes_fail: &'static [u64],
     pub end: End,
@@ -110,7 +112,7 @@ pub fn played(play: Play) -> Call<'static> {
     Call {
         on: play.on,
         words: REPLAY,
-        script: play.script,
+        input: play.script,
         reads_fail: &[],
         writes_fail: &[],
         end: End::Done,
@@ -125,7 +127,7 @@ pub fn stopped(stop: Stop<'_>) -> Call<'_> {
     Call {
         on: stop.on,
         words: REPLAY,
-        script: stop.script,
+        input: stop.script,
         reads_fail: &[],
         writes_fail: &[],
         end: stop.end,
@@ -177,13 +179,7 @@ fn runs<S: Registry>(
 ) -> bool
     requires { 0 < length (S.state stores.old).shelves }
 {
-    let mut clock = Ticks::new(Moments::new(alloc));
-    let mut ids = Numbers::new(1);
-    is_ended(
-        alloc,
-        &run(alloc, words, stores, input, output, &mut clock, &mut ids),
-        call,
-    )
+    is_ended(alloc, &run(alloc, words, stores, input, output), call)
 }
 
 // Whether it ends as listed, and writes as listed.
@@ -195,7 +191,7 @@ fn runs_and_writes<S: Registry>(
 ) -> Result<bool, Fail>
     requires { 0 < length (S.state stores.old).shelves }
 {
-    let mut input = feed(alloc, call.script, call.reads_fail)?;
+    let mut input = feed(alloc, call.input, call.reads_fail)?;
     let mut output = tray(alloc, call.writes_fail)?;
     Ok(
         runs(alloc, stores, words, &mut input, &mut output, call)

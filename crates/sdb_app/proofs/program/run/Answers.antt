@@ -1,49 +1,31 @@
+use Rattle.std.proofs.Common.{List, ℕ, refl, subst}
+use Rattle.std.specs.Prelude.{map}
+use Rattle.std.specs.String.{string_bytes}
+use Rattle.sdb_words.specs.Commands.{AreWordsOf}
+use Rattle.sdb_app.specs.Ends.{ends, stream}
+use Rattle.sdb_app.specs.Promise.{IsWritten}
+use Rattle.sdb_app.specs.Promise.HasEnded.{Answered, Stopped}
+use Rattle.sdb_app.proofs.Promising.{ended_before}
 use Rattle.sdb_app.proofs.program.run.Goals as goal
 
-pub returns-clause-read_fault : goal.returns-clause-read_fault
-returns-clause-read_fault g c = c.replay_input.ensures.read_fault
+pub returns-in-Ok-answer-clause-ended : goal.returns-in-Ok-answer-clause-ended
+returns-in-Ok-answer-clause-ended g c =
+    let words = map string_bytes c.args.words.now in
+    let before = g.S.Registry.state c.args.stores.now in
+    let run = ends g.S.Registry.state (stream g.R.Source.remaining g.R.Source.faults) (stream g.W.Sink.written g.W.Sink.faults) c.clear_places.new.self c.answer.new.stores c.args.input.now c.answer.new.input c.args.output.now c.write.new.output in
+    let are = subst (λ (ns : List (List ℕ)). AreWordsOf ns c.in-Ok-command_in.command words) c.in-Ok.ensures.names c.in-Ok-command_in.ensures.ok in
+    ended_before words before run (record { same = c.clear_places.ensures.cleared.shelves; telling = c.clear_places.ensures.cleared.telling }) c.write.result
+    (Answered c.in-Ok-command_in.command are (record {
+      text = string_bytes c.in-Ok-answer.text;
+      answer = c.in-Ok-answer.ensures.answered;
+      ended = subst (λ (t : List ℕ). IsWritten t run.output run.written c.write.result) c.as_str.ensures.value c.write.ensures.written;
+    }))
 
-pub returns-clause-refused : goal.returns-clause-refused
-returns-clause-refused g c = c.replay_input.ensures.refused
-
-pub returns-clause-store_fault : goal.returns-clause-store_fault
-returns-clause-store_fault g c = c.replay_input.ensures.store_fault
-
-pub returns-clause-not_empty : goal.returns-clause-not_empty
-returns-clause-not_empty g c = c.replay_input.ensures.not_empty
-
-pub returns-clause-bad_store : goal.returns-clause-bad_store
-returns-clause-bad_store g c = c.replay_input.ensures.bad_store
-
-pub returns-clause-write_fault : goal.returns-clause-write_fault
-returns-clause-write_fault g c = c.replay_input.ensures.write_fault
-
-pub returns-clause-prefix : goal.returns-clause-prefix
-returns-clause-prefix g c = c.replay_input.ensures.prefix
-
-pub returns-clause-done : goal.returns-clause-done
-returns-clause-done g c = c.replay_input.ensures.done
-
-pub returns-clause-out_of_memory : goal.returns-clause-out_of_memory
-returns-clause-out_of_memory g c = c.replay_input.ensures.out_of_memory
-
-pub returns-clause-unplayed : goal.returns-clause-unplayed
-returns-clause-unplayed g c = c.replay_input.ensures.unplayed
-
-pub returns-clause-unwritten : goal.returns-clause-unwritten
-returns-clause-unwritten g c = c.replay_input.ensures.unwritten
-
-pub returns-clause-counted : goal.returns-clause-counted
-returns-clause-counted g c = c.replay_input.ensures.counted
-
-pub returns-clause-counted_output : goal.returns-clause-counted_output
-returns-clause-counted_output g c = c.replay_input.ensures.counted_output
-
-pub returns-clause-names : goal.returns-clause-names
-returns-clause-names g c = c.replay_input.ensures.names
-
-pub returns-clause-counted_stores : goal.returns-clause-counted_stores
-returns-clause-counted_stores g c = c.replay_input.ensures.counted_stores
-
-pub returns-clause-telling : goal.returns-clause-telling
-returns-clause-telling g c = c.replay_input.ensures.telling
+pub returns-clause-ended : goal.returns-clause-ended
+returns-clause-ended g c =
+    let words = map string_bytes c.args.words.now in
+    let before = g.S.Registry.state c.args.stores.now in
+    let run = ends g.S.Registry.state (stream g.R.Source.remaining g.R.Source.faults) (stream g.W.Sink.written g.W.Sink.faults) c.clear_places.new.self c.answer.new.stores c.args.input.now c.answer.new.input c.args.output.now c.args.output.now in
+    let are = subst (λ (ns : List (List ℕ)). AreWordsOf ns c.in-Ok-command_in.command words) c.in-Ok.ensures.names c.in-Ok-command_in.ensures.ok in
+    ended_before words before run (record { same = c.clear_places.ensures.cleared.shelves; telling = c.clear_places.ensures.cleared.telling }) c.in-Err-answer.status
+    (Stopped c.in-Ok-command_in.command are (record { cause = c.in-Err-answer.ensures.err; unwritten = refl }))

@@ -1,4 +1,4 @@
-use Rattle.sdb_app.proofs.replay.ended.Goals as goal
+use Rattle.sdb_app.proofs.play.ended.Goals as goal
 
 pub returns-in-Ok-clause-events : goal.returns-in-Ok-clause-events
 returns-in-Ok-clause-events g c = c.in-Ok.ensures.events

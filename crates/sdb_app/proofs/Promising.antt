@@ -1,0 +1,54 @@
+-- What a command promises of its work, begun with the places that there were before.
+use Rattle.std.proofs.Common.{◌≡◌, ◌∙◌, ℕ, List, Result, IfOk, IfErr, subst, sym}
+use Rattle.std.specs.Prelude.{map}
+use Rattle.sdb_stores.specs.Shelf.{Attached, Shelf as Counted, names_of}
+use Rattle.sdb_words.specs.declared.command.Command.{Command}
+use Rattle.sdb_words.specs.declared.command.Command.TheVariants as command
+use Rattle.sdb_words.specs.Commands.{AreWordsOf}
+use Rattle.sdb_app.specs.declared.status.Status.{Status}
+use Rattle.sdb_app.specs.Ends.{Ends, Work}
+use Rattle.sdb_app.specs.Promise.{HasEnded, IsAnswered, IsNoCommand, IsNotThere, IsStopped, IsUntouched, promise_of}
+use Rattle.sdb_app.specs.Promise.HasEnded.{Answered, NoCommand, Stopped}
+use Rattle.sdb_app.proofs.Headline.{begun_with, replay_stops_before, replayed_before}
+
+-- The work of a command began with the same stores, of which no fewer had known contents.
+pub record BeginsAs (before : Attached) (work : Work) : Type 0 where
+  pub same : work.old.shelves ≡ before.shelves
+  pub telling : (at : ℕ) → before.tells at → work.old.tells at
+
+pub answers_before : (before : Attached) (work : Work) → BeginsAs before work → (c : Command) (text : List ℕ) → (promise_of c work).answers text → (promise_of c (begun_with before work)).answers text
+answers_before before work b command.Replay text h = replayed_before before work text b.same b.telling h
+answers_before before work b (command.Bench n) text h = absurd h
+answers_before before work b (command.Schema places) text h = absurd h
+answers_before before work b command.Sql text h = absurd h
+answers_before before work b (command.Load table mode n) text h = absurd h
+answers_before before work b (command.Export table) text h = absurd h
+answers_before before work b (command.Retire from to) text h = absurd h
+answers_before before work b (command.Alter table column kind) text h = absurd h
+answers_before before work b command.Audit text h = absurd h
+
+not_there_before : (before : Attached) (work : Work) → BeginsAs before work → (s : Status) → IsNotThere work s → IsNotThere (begun_with before work) s
+not_there_before before work b s h = (h.0, h.1 ∙ b.same, h.2)
+
+pub stops_before : (before : Attached) (work : Work) → BeginsAs before work → (c : Command) (s : Status) → (promise_of c work).stops s → (promise_of c (begun_with before work)).stops s
+stops_before before work b command.Replay s h = replay_stops_before before work s b.same b.telling h
+stops_before before work b (command.Bench n) s h = not_there_before before work b s h
+stops_before before work b (command.Schema places) s h = not_there_before before work b s h
+stops_before before work b command.Sql s h = not_there_before before work b s h
+stops_before before work b (command.Load table mode n) s h = not_there_before before work b s h
+stops_before before work b (command.Export table) s h = not_there_before before work b s h
+stops_before before work b (command.Retire from to) s h = not_there_before before work b s h
+stops_before before work b (command.Alter table column kind) s h = not_there_before before work b s h
+stops_before before work b command.Audit s h = not_there_before before work b s h
+
+-- A call that ended, begun so.
+abbrev pub ends_with : Attached → Ends → Ends
+ends_with before run = record { work = begun_with before run.work; output = run.output; written = run.written }
+
+pub ended_before : (words : List (List ℕ)) (before : Attached) (run : Ends) → BeginsAs before run.work → (s : Status) → HasEnded words run s → HasEnded words (ends_with before run) s
+ended_before words before run b s (Answered c are h) =
+    Answered c (subst (λ (ss : List Counted). AreWordsOf (names_of ss) c words) b.same are) (record { text = h.text; answer = answers_before before run.work b c h.text h.answer; ended = h.ended })
+ended_before words before run b s (Stopped c are h) =
+    Stopped c (subst (λ (ss : List Counted). AreWordsOf (names_of ss) c words) b.same are) (record { cause = stops_before before run.work b c s h.cause; unwritten = h.unwritten })
+ended_before words before run b s (NoCommand none h) =
+    NoCommand (subst (λ (ss : List Counted). IsNoCommand (names_of ss) words s) b.same none) (record { unchanged = h.unchanged ∙ b.same; unread = h.unread; unwritten = h.unwritten })

@@ -1,0 +1,78 @@
+use Rattle.std.proofs.Common.{List, ◌<◌, length, subst, sym}
+use Rattle.sdb_stores.specs.Shelf.{Shelf as Counted}
+use Rattle.sdb_board.specs.Board.{shown}
+use Rattle.sdb_board.proofs.GoesOn.{goes_more, some_more}
+use Rattle.sdb_app.specs.Run.{TellOf}
+use Rattle.sdb_world.proofs.Explained.{no_coordinator}
+use Rattle.sdb_app.proofs.Headline.{kept_after, kept_same, stops_after, stops_as, fit_script, outcome_is, never_foreign, found_first}
+use Rattle.sdb_app.proofs.Playing.{err_then, ok_six}
+use Rattle.sdb_app.proofs.play.play.Goals as goal
+
+---- places for which there is no memory
+
+pub returns-in-Err-clause-kept : goal.returns-in-Err-clause-kept
+returns-in-Err-clause-kept g c = kept_after (g.R.Registry.state c.args.stores.now) (g.R.Registry.state c.place_all.new.stores) (g.R.Registry.state c.be_empty.new.stores) c.place_all.ensures.stores c.place_all.ensures.telling c.be_empty.ensures.goes
+
+---- a look for records that stopped
+
+pub returns-in-Err-clause-err : goal.returns-in-Err-clause-err
+returns-in-Err-clause-err g c =
+    let old = g.R.Registry.state c.args.stores.now in
+    let mid = g.R.Registry.state c.place_all.new.stores in
+    let left = (g.R.Registry.state c.be_empty.new.stores).shelves in
+    stops_as old.shelves mid.shelves left _ _ _ _ c.in-Err.status c.place_all.ensures.stores (λ never. absurd never)
+    (λ key found all. found_first c.args.script old mid (shown left) key c.in-Ok.ensures.places c.place_all.ensures.stores (found (fit_script c.args.script old mid c.in-Ok.ensures.places c.place_all.ensures.stores c.requires.places c.requires.some c.requires.distinct c.place_all.ensures.telling all)))
+    c.in-Err.ensures.err
+
+---- an outcome, or why there is none
+
+pub returns-in-Ok-be_empty-clause-made : goal.returns-in-Ok-be_empty-clause-made
+returns-in-Ok-be_empty-clause-made g c =
+    let old = g.R.Registry.state c.args.stores.now in
+    let mid = g.R.Registry.state c.place_all.new.stores in
+    let then = g.R.Registry.state c.be_empty.new.stores in
+    ok_six _ _ _ _ _ _ _ c.run_world.result c.run_world.ensures.follows c.run_world.ensures.executed c.run_world.ensures.caused c.run_world.ensures.broken c.run_world.ensures.run c.run_world.ensures.explained
+    (λ o follows executed caused broken run explained. outcome_is c.args.script old mid then (g.R.Registry.state c.run_world.new.stores).shelves o c.in-Ok.ensures.places c.place_all.ensures.stores c.in-Ok-be_empty.ensures.goes
+    (λ all. fit_script c.args.script old mid c.in-Ok.ensures.places c.place_all.ensures.stores c.requires.places c.requires.some c.requires.distinct c.place_all.ensures.telling all) c.in-Ok-be_empty.ensures.empty c.in-Ok-be_empty.ensures.still follows executed caused broken run explained (no_coordinator c.args.script c.requires.playable))
+
+pub returns-in-Ok-be_empty-clause-err : goal.returns-in-Ok-be_empty-clause-err
+returns-in-Ok-be_empty-clause-err g c =
+    let old = g.R.Registry.state c.args.stores.now in
+    let mid = g.R.Registry.state c.place_all.new.stores in
+    let then = g.R.Registry.state c.be_empty.new.stores in
+    let left = (g.R.Registry.state c.run_world.new.stores).shelves in
+    let empty = c.in-Ok-be_empty.ensures in
+    err_then _ _ c.run_world.result
+    (λ s h. stops_as old.shelves mid.shelves left (TellOf c.args.script old → ⊥) _ (λ key. ⊥) _ s c.place_all.ensures.stores (λ x. x) (λ key never. absurd never)
+    (stops_after mid then left _ (TellOf c.args.script old → ⊥) (λ key. ⊥) (λ key. ⊥) s empty.goes
+    (λ never all.
+    let fit = fit_script c.args.script old mid c.in-Ok.ensures.places c.place_all.ensures.stores c.requires.places c.requires.some c.requires.distinct c.place_all.ensures.telling all in
+    never_foreign c.args.script mid then c.in-Ok.ensures.places empty.goes fit (empty.empty fit) (empty.still fit) never)
+    (λ key never. never) h)) c.run_world.ensures.err
+
+pub returns-in-Ok-be_empty-clause-kept : goal.returns-in-Ok-be_empty-clause-kept
+returns-in-Ok-be_empty-clause-kept g c =
+    kept_after (g.R.Registry.state c.args.stores.now) (g.R.Registry.state c.place_all.new.stores) (g.R.Registry.state c.run_world.new.stores) c.place_all.ensures.stores c.place_all.ensures.telling
+    (goes_more (g.R.Registry.state c.place_all.new.stores) (g.R.Registry.state c.be_empty.new.stores) (g.R.Registry.state c.run_world.new.stores) c.in-Ok-be_empty.ensures.goes c.run_world.ensures.goes)
+
+---- what the calls require
+
+pub place_all-requires-clause-none : goal.place_all-requires-clause-none
+place_all-requires-clause-none g c = c.requires.unplaced
+
+pub place_all-requires-clause-fit : goal.place_all-requires-clause-fit
+place_all-requires-clause-fit g c = c.requires.places
+
+pub be_empty-requires : goal.be_empty-requires
+be_empty-requires g c = record { some = subst (λ (ss : List Counted). 0 < length ss) (sym c.place_all.ensures.stores) c.requires.some }
+
+pub run_world-requires-clause-some : goal.run_world-requires-clause-some
+run_world-requires-clause-some g c =
+    some_more (g.R.Registry.state c.place_all.new.stores).shelves (g.R.Registry.state c.be_empty.new.stores).shelves c.in-Ok-be_empty.ensures.goes.names
+    (subst (λ (ss : List Counted). 0 < length ss) (sym c.place_all.ensures.stores) c.requires.some)
+
+pub run_world-requires-clause-playable : goal.run_world-requires-clause-playable
+run_world-requires-clause-playable g c = c.requires.playable
+
+pub run_world-requires-clause-can : goal.run_world-requires-clause-can
+run_world-requires-clause-can g c = c.requires.can

@@ -1,0 +1,81 @@
+-- What each command promises, and how a call of the program may end.
+use Rattle.std.specs.Prelude.{◌≡◌, ◌⊎◌, ℕ, ◌≤◌, List, length, take, Option}
+use Rattle.sdb_types.specs.Bytes.{Appends, HasRisen}
+use Rattle.sdb_stores.specs.Shelf.{names_of}
+use Rattle.sdb_model.specs.Rows.{Name}
+use Rattle.sdb_words.specs.declared.command.Command.{Command}
+use Rattle.sdb_words.specs.declared.command.Command.TheVariants as command
+use Rattle.sdb_words.specs.Commands.{AreWordsOf}
+use Rattle.sdb_app.specs.declared.status.Status.{Status}
+use Rattle.sdb_app.specs.declared.status.Status.TheVariants as status
+use Rattle.sdb_app.specs.Ends.{AreUnchanged, Ends, Stream, Work}
+use Rattle.sdb_app.specs.Run.{IsReplayed, StopsReplay}
+
+-- What a command promises of the text that it answers, and why it ends otherwise, before anything is written.
+pub record Promise : Type 1 where
+  pub answers : List ℕ → Type 0
+  pub stops : Status → Type 0
+
+-- The command is not there yet.
+abbrev pub IsNotThere : Work → Status → Type 0
+IsNotThere work s = (s ≡ status.Usage) × AreUnchanged work × (work.rest ≡ work.input)
+
+abbrev pub not_there : Work → Promise
+not_there work = record { answers = λ text. ⊥; stops = IsNotThere work }
+
+-- the promise of each command
+abbrev pub promise_of : Command → Work → Promise
+promise_of command.Replay work = record { answers = IsReplayed work; stops = StopsReplay work }
+promise_of (command.Bench n) work = not_there work
+promise_of (command.Schema places) work = not_there work
+promise_of command.Sql work = not_there work
+promise_of (command.Load table mode n) work = not_there work
+promise_of (command.Export table) work = not_there work
+promise_of (command.Retire from to) work = not_there work
+promise_of (command.Alter table column kind) work = not_there work
+promise_of command.Audit work = not_there work
+
+---- what is written
+
+-- A prefix of a text was added to the output.
+abbrev pub IsPrefixAdded : List ℕ → Option (List ℕ) → Option (List ℕ) → Type 0
+IsPrefixAdded text output written = (size : ℕ) × (size ≤ length text) × Appends (take size text) output written
+
+-- How the writing of a text ends.
+abbrev pub IsWritten : List ℕ → Stream → Stream → Status → Type 0
+IsWritten text output written status.Done = Appends text output.bytes written.bytes
+IsWritten text output written status.WriteFault = HasRisen output.faults written.faults × IsPrefixAdded text output.bytes written.bytes
+IsWritten text output written status.NoMemory = IsPrefixAdded text output.bytes written.bytes
+IsWritten text output written _ = ⊥
+
+-- The command's work was done, and the writing of its answer ended so.
+pub record IsAnswered (promise : Promise) (run : Ends) (s : Status) : Type 0 where
+  pub text : List ℕ
+  pub answer : promise.answers text
+  pub ended : IsWritten text run.output run.written s
+
+-- The command's work was not done, and nothing was written.
+pub record IsStopped (promise : Promise) (run : Ends) (s : Status) : Type 0 where
+  pub cause : promise.stops s
+  pub unwritten : run.written ≡ run.output
+
+---- how a call ends
+
+-- Words are those of no command over stores of these names; or memory ran out before that was known.
+abbrev pub IsNoCommand : List Name → List (List ℕ) → Status → Type 0
+IsNoCommand stores words status.Usage = (c : Command) → AreWordsOf stores c words → ⊥
+IsNoCommand stores words status.NoMemory = Unit {0}
+IsNoCommand stores words _ = ⊥
+
+-- Neither the stores nor the input nor the output was touched.
+pub record IsUntouched (run : Ends) : Type 0 where
+  pub unchanged : AreUnchanged run.work
+  pub unread : run.work.rest ≡ run.work.input
+  pub unwritten : run.written ≡ run.output
+
+-- A call of the program on these words ends so: as a command of these words may end, with its answer or without, or as words of no
+-- command do.
+pub data HasEnded (words : List (List ℕ)) (run : Ends) (s : Status) : Type 0 where
+  Answered : (c : Command) → AreWordsOf (names_of run.work.old.shelves) c words → IsAnswered (promise_of c run.work) run s → HasEnded words run s
+  Stopped : (c : Command) → AreWordsOf (names_of run.work.old.shelves) c words → IsStopped (promise_of c run.work) run s → HasEnded words run s
+  NoCommand : IsNoCommand (names_of run.work.old.shelves) words s → IsUntouched run → HasEnded words run s

@@ -1,0 +1,134 @@
+//! Playing a script on stores.
+ghost use Rattle.std.specs.Prelude.{◌≡◌, ◌<◌, [], length, Some, None, IfOk, IfErr, OnOk};
+ghost use Rattle.sdb_stores.specs.Shelf.{AreDistinct, names_of};
+ghost use Rattle.sdb_model.specs.Follows.{Follows};
+ghost use Rattle.sdb_model.specs.Told.{IsRun};
+ghost use Rattle.sdb_script.specs.Begun.{ArePlaces};
+ghost use Rattle.sdb_board.specs.Board.{AreFit, GoOn, HoldTheSame, shown};
+ghost use Rattle.sdb_board.specs.Opening.{first_key, opening_in};
+ghost use Rattle.sdb_causes.specs.Tied.{AnswersHaveCauses};
+ghost use Rattle.sdb_world.specs.Broken.{BreaksWithin};
+ghost use Rattle.sdb_world.specs.Execution.{IsExecution};
+ghost use Rattle.sdb_world.specs.Explained.{IsExplained};
+ghost use Rattle.sdb_world.specs.Linked.{HaveCauses};
+ghost use Rattle.sdb_world.specs.Played.{HasNotPlayed, IsOutcomeOf, IsPlayExplained};
+ghost use Rattle.sdb_world.specs.World.{IsPlayable, IsWorld};
+ghost use Rattle.sdb_world.specs.Step.{CanFollow};
+ghost use Rattle.sdb_app.specs.Ends.{AreKept};
+ghost use Rattle.sdb_app.specs.Run.{AreReady, IsOutcome, Stops, StopsLook, StopsPlay, StopsWorld, TellOf, status_of_call, status_of_closing};
+
+use crate::places::place_all;
+use crate::status::Status;
+use sdb_board::{CallRefused, first_record};
+use sdb_dump::ClosingRefused;
+use sdb_model::{Outcome, Script};
+use sdb_schema::Catalog;
+use sdb_stores::Registry;
+use sdb_types::NoMemory;
+use sdb_world::World;
+use std::alloc::Global;
+
+impl From<NoMemory> for Status {
+    ghost use Rattle.std.specs.Prelude.{◌≡◌};
+    ghost use Rattle.sdb_app.specs.declared.status.Status.TheVariants as status;
+
+    ghost from_gives = { λ _ s. s ≡ status.NoMemory };
+
+    fn from(_e: NoMemory) -> Status {
+        Status::NoMemory
+    }
+}
+
+// How the program ends where a scan stopped.
+fn scan_status(refused: CallRefused) -> Status
+    ensures { result ≡ status_of_call refused }
+{
+    match refused {
+        CallRefused::StoreFault => Status::StoreFault,
+        CallRefused::NoMemory => Status::NoMemory,
+    }
+}
+
+// How the program ends where the closing dump stopped.
+fn closing_status(refused: ClosingRefused) -> Status
+    ensures { result ≡ status_of_closing refused }
+{
+    match refused {
+        ClosingRefused::StoreFault => Status::StoreFault,
+        ClosingRefused::BadRecord(key) => Status::BadStore(key),
+        ClosingRefused::NoMemory => Status::NoMemory,
+    }
+}
+
+// Sees to it that the tables of a script are empty.
+fn be_empty<R: Registry>(alloc: Global, stores: &mut R, catalog: &Catalog) -> Result<(), Status>
+    requires some { 0 < length (R.state stores.old).shelves }
+    ensures empty { OnOk result (AreFit catalog.now (R.state stores.old) → first_key (opening_in catalog.now (R.state stores.old)) ≡ None) }
+    ensures still { OnOk result (AreFit catalog.now (R.state stores.old) → HoldTheSame (R.state stores.old) (R.state stores.new)) }
+    ensures goes { GoOn (R.state stores.old) (R.state stores.new) }
+    ensures err { IfErr result (StopsLook catalog.now (R.state stores.old) (R.state stores.new)) }
+{
+    match first_record(alloc, stores, catalog) {
+        Ok(None) => Ok(()),
+        Ok(Some(key)) => Err(Status::NotEmpty(key)),
+        Err(refused) => Err(scan_status(refused)),
+    }
+}
+
+// The outcome of a world that has played its script.
+fn ended<R: Registry>(alloc: Global, stores: &mut R, world: World) -> Result<Outcome, Status>
+    requires some { 0 < length (R.state stores.old).shelves }
+    requires world { IsWorld world }
+    ensures events { IfOk result (λ o. o.events ≡ world.events) }
+    ensures caused { IfOk result (λ o. HaveCauses world → AnswersHaveCauses world.script.catalog o.events) }
+    ensures explained { IfOk result (λ o. IsPlayExplained world (R.state stores.old) o.events) }
+    ensures run { IfOk result (IsOutcomeOf world (R.state stores.old) (R.state stores.new)) }
+    ensures goes { GoOn (R.state stores.old) (R.state stores.new) }
+    ensures err { IfErr result (Stops (R.state stores.old).shelves (R.state stores.new).shelves (HasNotPlayed world (R.state stores.old)) (λ key. ⊥)) }
+{
+    match world.outcome(alloc, stores) {
+        Ok(outcome) => Ok(outcome),
+        Err(refused) => Err(closing_status(refused)),
+    }
+}
+
+// Plays a script on stores where its namespaces are placed.
+fn run_world<R: Registry>(alloc: Global, stores: &mut R, script: Script) -> Result<Outcome, Status>
+    requires some { 0 < length (R.state stores.old).shelves }
+    requires playable { IsPlayable script }
+    requires can { CanFollow script }
+    ensures follows { IfOk result (λ o. Follows script.clients script.moves o.events) }
+    ensures executed { IfOk result (λ o. IsExecution script o.events) }
+    ensures caused { IfOk result (λ o. AnswersHaveCauses script.catalog o.events) }
+    ensures broken { IfOk result (λ o. BreaksWithin [] o.events (R.state stores.old).shelves (R.state stores.new).shelves) }
+    ensures explained { IfOk result (λ o. AreReady script (R.state stores.old) → IsExplained script o.events (shown (R.state stores.old).shelves)) }
+    ensures run { IfOk result (λ o. AreReady script (R.state stores.old) → IsRun script (shown (R.state stores.old).shelves) (shown (R.state stores.new).shelves) o) }
+    ensures goes { GoOn (R.state stores.old) (R.state stores.new) }
+    ensures err { IfErr result (StopsWorld script (R.state stores.old) (R.state stores.new)) }
+{
+    let mut world = World::new(alloc, script)?;
+    world.follow(stores)?;
+    ended(alloc, stores, world)
+}
+
+/// Plays a script on stores of which none has a place yet: places its namespaces, sees to it that its tables are empty, and makes its
+/// moves.
+pub fn play<R: Registry>(alloc: Global, stores: &mut R, script: Script) -> Result<Outcome, Status>
+    requires some { 0 < length (R.state stores.old).shelves }
+    requires unplaced { (R.state stores.old).places ≡ [] }
+    requires distinct { AreDistinct (names_of (R.state stores.old).shelves) }
+    requires playable { IsPlayable script }
+    requires can { CanFollow script }
+    requires places { ArePlaces (names_of (R.state stores.old).shelves) script.places }
+    ensures made { IfOk result (IsOutcome (TellOf script (R.state stores.old)) script (R.state stores.old).shelves (R.state stores.new).shelves) }
+    ensures err { IfErr result (StopsPlay script (R.state stores.old) (R.state stores.new).shelves) }
+    ensures kept { AreKept (R.state stores.old) (R.state stores.new) }
+{
+    let Ok(()) = place_all(stores, &script.places) else {
+        return Err(Status::NoMemory);
+    };
+    match be_empty(alloc, stores, &script.catalog) {
+        Ok(()) => run_world(alloc, stores, script),
+        Err(status) => Err(status),
+    }
+}
