@@ -50,12 +50,9 @@ plain = with_subcommand (with_subcommand (with_subcommand bare (leaf0 (codes "re
 abbrev pub short : App
 short = with_subcommand (with_subcommand (with_subcommand plain (leaf1 (codes "bench")).top) (leaf1 (codes "export")).top) (leaf2 (codes "retire")).top
 
--- with those that take three
-abbrev pub fixed : App
-fixed = with_subcommand (with_subcommand short (leaf3 (codes "load")).top) (leaf3 (codes "alter")).top
-
+-- with those that take three, and any number
 abbrev pub program : App
-program = with_subcommand fixed (leaves (codes "schema")).top
+program = with_subcommand (with_subcommand (with_subcommand short (leaf3 (codes "load")).top) (leaf3 (codes "alter")).top) (leaves (codes "schema")).top
 
 -- no word begins with `-`
 abbrev pub is_undashed : Text → Bool

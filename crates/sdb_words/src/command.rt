@@ -31,11 +31,11 @@ pub enum Command {
     Load(TableName, Mode, u32),
     /// Writes the rows of a table.
     Export(TableName),
-    /// Moves what the first store keeps to the second.
+    /// Moves what the first store keeps to the second, and gives the first up.
     Retire(Name, Name),
     /// Adds a column of this kind to a table.
     Alter(TableName, Name, Kind),
-    /// Looks through all that the stores keep.
+    /// Checks a report.
     Audit,
 }
 

@@ -1,8 +1,8 @@
 //! The parser of the words, which `clap` runs.
 ghost use Rattle.std.specs.Prelude.{◌≡◌, false, codes, IfOk};
-ghost use Rattle.clap.specs.Words.{app_of, rule_of};
+ghost use Rattle.clap.specs.Words.{app_of, rule_of, with_subcommand};
 ghost use Rattle.clap.specs.declared.builder.command.Command.TheViews.{out-Command};
-ghost use Rattle.sdb_words.specs.Parser.{bare as bare_app, fixed as fixed_app, leaf1, leaf2, leaf3, leaves, many as many_rule, plain, program, short, wanted as wanted_rule};
+ghost use Rattle.sdb_words.specs.Parser.{bare as bare_app, leaf0, leaf1, leaf2, leaf3, leaves, many as many_rule, plain, program, short, wanted as wanted_rule};
 
 use clap::{Arg, Command};
 use std::alloc::{AllocError, Global};
@@ -64,45 +64,90 @@ fn bare<'a>(alloc: Global) -> Command<'a>
         .subcommand_required(true)
 }
 
+// The program with one more command, which takes no words.
+fn add_alone<'a>(
+    alloc: Global,
+    program: Command<'a>,
+    name: &'a str,
+) -> Result<Command<'a>, AllocError>
+    ensures { IfOk result (λ c. app_of c ≡ with_subcommand (app_of program.entry) (leaf0 name.now).top) }
+{
+    program.subcommand(Command::new(alloc, name))
+}
+
+// One more, with one word.
+fn add_with_one<'a>(
+    alloc: Global,
+    program: Command<'a>,
+    name: &'a str,
+) -> Result<Command<'a>, AllocError>
+    ensures { IfOk result (λ c. app_of c ≡ with_subcommand (app_of program.entry) (leaf1 name.now).top) }
+{
+    let command = with_one(alloc, name)?;
+    program.subcommand(command)
+}
+
+// One more, with two words.
+fn add_with_two<'a>(
+    alloc: Global,
+    program: Command<'a>,
+    name: &'a str,
+) -> Result<Command<'a>, AllocError>
+    ensures { IfOk result (λ c. app_of c ≡ with_subcommand (app_of program.entry) (leaf2 name.now).top) }
+{
+    let command = with_two(alloc, name)?;
+    program.subcommand(command)
+}
+
+// One more, with three words.
+fn add_with_three<'a>(
+    alloc: Global,
+    program: Command<'a>,
+    name: &'a str,
+) -> Result<Command<'a>, AllocError>
+    ensures { IfOk result (λ c. app_of c ≡ with_subcommand (app_of program.entry) (leaf3 name.now).top) }
+{
+    let command = with_three(alloc, name)?;
+    program.subcommand(command)
+}
+
+// One more, with any number of words.
+fn add_with_many<'a>(
+    alloc: Global,
+    program: Command<'a>,
+    name: &'a str,
+) -> Result<Command<'a>, AllocError>
+    ensures { IfOk result (λ c. app_of c ≡ with_subcommand (app_of program.entry) (leaves name.now).top) }
+{
+    let command = with_many(alloc, name)?;
+    program.subcommand(command)
+}
+
 // The program with the commands that take no words.
 fn with_plain<'a>(alloc: Global) -> Result<Command<'a>, AllocError>
     ensures { IfOk result (λ c. app_of c ≡ plain) }
 {
-    let replay = Command::new(alloc, "replay");
-    let sql = Command::new(alloc, "sql");
-    let audit = Command::new(alloc, "audit");
-    bare(alloc)
-        .subcommand(replay)?
-        .subcommand(sql)?
-        .subcommand(audit)
+    let program = add_alone(alloc, bare(alloc), "replay")?;
+    let program = add_alone(alloc, program, "sql")?;
+    add_alone(alloc, program, "audit")
 }
 
 // The program with the commands that take one word and two.
 fn with_short<'a>(alloc: Global) -> Result<Command<'a>, AllocError>
     ensures { IfOk result (λ c. app_of c ≡ short) }
 {
-    let bench = with_one(alloc, "bench")?;
-    let export = with_one(alloc, "export")?;
-    let retire = with_two(alloc, "retire")?;
-    with_plain(alloc)?
-        .subcommand(bench)?
-        .subcommand(export)?
-        .subcommand(retire)
-}
-
-// The program with the commands that take three words.
-fn fixed<'a>(alloc: Global) -> Result<Command<'a>, AllocError>
-    ensures { IfOk result (λ c. app_of c ≡ fixed_app) }
-{
-    let load = with_three(alloc, "load")?;
-    let alter = with_three(alloc, "alter")?;
-    with_short(alloc)?.subcommand(load)?.subcommand(alter)
+    let program = with_plain(alloc)?;
+    let program = add_with_one(alloc, program, "bench")?;
+    let program = add_with_one(alloc, program, "export")?;
+    add_with_two(alloc, program, "retire")
 }
 
 /// The parser of the words.
 pub fn parser<'a>(alloc: Global) -> Result<Command<'a>, AllocError>
     ensures { IfOk result (λ c. app_of c ≡ program) }
 {
-    let schema = with_many(alloc, "schema")?;
-    fixed(alloc)?.subcommand(schema)
+    let program = with_short(alloc)?;
+    let program = add_with_three(alloc, program, "load")?;
+    let program = add_with_three(alloc, program, "alter")?;
+    add_with_many(alloc, program, "schema")
 }
