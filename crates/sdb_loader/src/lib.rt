@@ -11,4 +11,4 @@ mod words;
 
 pub use fault::SchemaFault;
 pub use load::{catalog_of, catalog_with, table_of};
-pub use words::{known_name, table_named};
+pub use words::{is_short_name, kind_named, known_name, table_named};

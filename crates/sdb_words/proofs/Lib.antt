@@ -1,3 +1,9 @@
-pub mod Joined
-pub mod Forms
 pub mod Decimals
+pub mod Entered
+pub mod Fits
+pub mod Forms
+pub mod Joined
+pub mod Placing
+pub mod Reading
+pub mod Steps
+pub mod Taken

@@ -1,10 +1,13 @@
-//! The words of the program: which command they are.
+//! The words of the program, read by `clap`: which command they are.
 #![tactic(auto)]
 
 mod command;
+pub mod laws;
 mod names;
 mod numbers;
+mod parser;
 mod places;
+mod read;
 
-pub use command::{Command, Mode, command_of, replays};
-pub use names::TableWord;
+pub use command::{Command, Mode, WordsRefused};
+pub use read::command_of;

@@ -1,25 +1,33 @@
 //! Names among the words.
 ghost use Rattle.sdb_types.specs.NameText.{around};
-ghost use Rattle.std.specs.Prelude.{◌≡◌, ◌≢◌, ◌&&◌, MatchOption};
-ghost use Rattle.std.specs.Option.{option_map};
+ghost use Rattle.std.specs.Prelude.{◌≡◌, ◌≢◌, ◌&&◌, ◌↔◌, find, slice_get, IfOk, IsErrOf, IsTrue};
+ghost use Rattle.std.specs.Option.{option_copied, option_map};
+ghost use Rattle.std.specs.Str.{bytes_eq};
 ghost use Rattle.sdb_record.specs.Parts.{is_column_name};
-ghost use Rattle.sdb_words.specs.declared.names.TableWord.{TableWord};
+ghost use Rattle.sdb_types.specs.declared.key.TableName.{TableName};
+ghost use Rattle.sdb_words.specs.declared.command.WordsRefused.{WordsRefused};
 ghost use Rattle.sdb_words.specs.Names.{IsTable, table_text};
 
-use sdb_types::is_identifier_text;
+use crate::command::WordsRefused;
+use sdb_loader::{is_short_name, known_name};
+use sdb_types::{Name, Names, TableName};
+use std::alloc::Global;
 
-/// The two names of a table.
-#[derive(Clone, Copy, Debug, PartialEq, Eq)]
-pub struct TableWord<'a> {
-    pub ns: &'a str,
-    pub table: &'a str,
+/// The attached store of that name.
+pub fn attached<'a>(stores: &'a Names, word: &str) -> Option<&'a Name>
+    ensures { option_copied result ≡ find (λ n. bytes_eq n word.now) stores.now }
+{
+    stores.iter().find(|name| name.as_str() == word)
 }
 
-/// Whether a text may name a namespace, a table or a store: an identifier of at most 64 bytes.
-pub fn is_name(text: &str) -> bool
-    ensures { result ≡ is_column_name text.now }
+/// Whether a name is that of the first store.
+pub fn is_first(stores: &Names, name: &Name) -> bool
+    ensures { IsTrue result ↔ (slice_get stores.now 0 ≡ Some name.now) }
 {
-    text.len() <= 64 && is_identifier_text(text.as_bytes())
+    match stores.first() {
+        Some(first) => first == name,
+        None => false,
+    }
 }
 
 fn around_dot(word: &str) -> Option<(&str, &str)>
@@ -31,16 +39,22 @@ fn around_dot(word: &str) -> Option<(&str, &str)>
 fn are_names(ns: &str, table: &str) -> bool
     ensures { result ≡ (is_column_name ns.now && is_column_name table.now) }
 {
-    is_name(ns) && is_name(table)
+    is_short_name(ns) && is_short_name(table)
 }
 
-/// The table that a word names: its two names, joined by one dot.
-pub fn table_in(word: &str) -> Option<TableWord<'_>>
-    ensures { MatchOption result ((table : TableWord) → IsTable table → word.now ≢ table_text table) (λ table. IsTable table × (word.now ≡ table_text table)) }
+/// The table that a word names: two identifiers of at most 64 bytes, joined by one dot.
+pub fn table_in(alloc: Global, word: &str) -> Result<TableName, WordsRefused>
+    ensures ok { IfOk result (λ table. IsTable table × (word.now ≡ table_text table)) }
+    ensures usage { IsErrOf result WordsRefused.Usage → (table : TableName) → IsTable table → word.now ≢ table_text table }
 {
-    let (ns, table) = around_dot(word)?;
+    let Some((ns, table)) = around_dot(word) else {
+        return Err(WordsRefused::Usage);
+    };
     if !are_names(ns, table) {
-        return None;
+        return Err(WordsRefused::Usage);
     }
-    Some(TableWord { ns, table })
+    Ok(TableName {
+        ns: known_name(alloc, ns)?,
+        table: known_name(alloc, table)?,
+    })
 }

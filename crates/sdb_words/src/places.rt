@@ -1,10 +1,17 @@
 //! Words that place namespaces.
 ghost use Rattle.sdb_types.specs.NameText.{around};
-ghost use Rattle.std.specs.Prelude.{◌≡◌, map, string_bytes};
+ghost use Rattle.std.specs.Prelude.{◌≡◌, ◌≢◌, List, map, string_bytes, IfOk, IsErrOf};
 ghost use Rattle.std.specs.Option.{option_map};
-ghost use Rattle.sdb_words.specs.Places.{are_apart as are_apart_lem, are_places as are_places_lem, is_place as is_place_lem, namespace_in as namespace_in_lem};
+ghost use Rattle.sdb_stores.specs.declared.place.Place.{Place};
+ghost use Rattle.sdb_words.specs.declared.command.WordsRefused.{WordsRefused};
+ghost use Rattle.sdb_words.specs.Places.{is_placed as is_placed_lem, place_text, ArePlaces, IsPlace};
 
-use crate::names::is_name;
+use crate::command::WordsRefused;
+use crate::names::attached;
+use sdb_loader::{is_short_name, known_name};
+use sdb_stores::Place;
+use sdb_types::{Duplicate, Name, Names, Seq};
+use std::alloc::Global;
 
 fn around_equals(word: &str) -> Option<(&str, &str)>
     ensures { option_map (λ p. (p.0.now, p.1.now)) result ≡ around 61 word.now }
@@ -12,48 +19,49 @@ fn around_equals(word: &str) -> Option<(&str, &str)>
     word.split_once('=')
 }
 
-// Whether a word places a namespace: `NS=STORE`.
-fn is_place(word: &str) -> bool
-    ensures { result ≡ is_place_lem word.now }
+// The place that a word is: `NS=STORE`.
+fn place_in(alloc: Global, stores: &Names, word: &str) -> Result<Place, WordsRefused>
+    ensures ok { IfOk result (λ place. IsPlace stores.now place × (word.now ≡ place_text place)) }
+    ensures usage { IsErrOf result WordsRefused.Usage → (place : Place) → IsPlace stores.now place → word.now ≢ place_text place }
 {
-    match around_equals(word) {
-        Some((ns, store)) => is_name(ns) && ns != "scalardb" && is_name(store),
-        None => false,
+    let Some((ns, store)) = around_equals(word) else {
+        return Err(WordsRefused::Usage);
+    };
+    if !is_short_name(ns) || ns == "scalardb" {
+        return Err(WordsRefused::Usage);
     }
+    let Some(store) = attached(stores, store) else {
+        return Err(WordsRefused::Usage);
+    };
+    Ok(Place {
+        ns: known_name(alloc, ns)?,
+        store: store.copy()?,
+    })
 }
 
-// The namespace that a word places.
-fn namespace_in(word: &str) -> &str
-    ensures { result.now ≡ namespace_in_lem word.now }
+// Whether one of these places has the namespace.
+fn is_placed(places: &Seq<Place>, ns: &Name) -> bool
+    ensures { result ≡ is_placed_lem places.now ns.now }
 {
-    match around_equals(word) {
-        Some((ns, _)) => ns,
-        None => word,
-    }
+    places.iter().any(|place| place.ns == *ns)
 }
 
-// Whether no word of these places this one's namespace.
-fn are_apart(word: &str, words: &[String]) -> bool
-    ensures { result ≡ are_apart_lem word.now (map string_bytes words.now) }
+/// The places that words are, each namespace once.
+pub fn places_in(
+    alloc: Global,
+    stores: &Names,
+    words: &[String],
+) -> Result<Seq<Place>, WordsRefused>
+    ensures ok { IfOk result (λ places. ArePlaces stores.now places × (map string_bytes words.now ≡ map place_text places)) }
+    ensures usage { IsErrOf result WordsRefused.Usage → (places : List Place) → ArePlaces stores.now places → map string_bytes words.now ≢ map place_text places }
 {
-    for other in words {
-        if namespace_in(other.as_str()) == namespace_in(word) {
-            return false;
+    let mut places = Seq::new(alloc);
+    for word in words {
+        let place = place_in(alloc, stores, word.as_str())?;
+        if is_placed(&places, &place.ns) {
+            return Err(WordsRefused::Usage);
         }
+        places.push(place)?;
     }
-    true
-}
-
-/// Whether words place namespaces, each once.
-pub fn are_places(words: &[String]) -> bool
-    ensures { result ≡ are_places_lem (map string_bytes words.now) }
-{
-    let mut rest = words;
-    while let [word, later @ ..] = rest {
-        if !is_place(word.as_str()) || !are_apart(word.as_str(), later) {
-            return false;
-        }
-        rest = later;
-    }
-    true
+    Ok(places)
 }

@@ -1,61 +1,93 @@
 //! Words of the program, and which command they are.
-use sdb_words::{Command, Mode, TableWord, command_of};
+use sdb_schema::Kind;
+use sdb_stores::Place;
+use sdb_types::TableName;
+use sdb_words::{Command, Mode, WordsRefused, command_of};
 use std::alloc::Global;
 use std::test::Fail;
-use test_builders::{Case, all_cases};
+use test_builders::{Case, all_cases, names_of};
 
-/// What words ask for, the table by its two names and the namespaces by their number.
+/// What words ask for: a table by its two names, and a place by the namespace and the store.
 #[derive(Clone, Copy)]
 enum Asked {
     Usage,
     Replay,
     Bench(u32),
-    Schema(usize),
+    Schema(&'static [(&'static str, &'static str)]),
     Sql,
     Load(&'static str, &'static str, Mode, u32),
     Export(&'static str, &'static str),
+    Retire(&'static str, &'static str),
+    Alter(&'static str, &'static str, &'static str, Kind),
+    Audit,
 }
 
 const LONG: &str = "aaaaaaaaaaaaaaaaaaaaaaaaaaaaaaaaaaaaaaaaaaaaaaaaaaaaaaaaaaaaaaaa";
+
+// The attached stores.
+const STORES: [&str; 3] = ["ordered", "hashed", "sqlite"];
 
 // Words, one a line, and what they ask for.
 #[derive(Clone, Copy)]
 struct Words(&'static str, Asked);
 
-fn is_table(table: TableWord<'_>, ns: &str, name: &str) -> bool {
-    table.ns == ns && table.table == name
+fn is_table(table: &TableName, ns: &str, name: &str) -> bool {
+    table.ns.as_str() == ns && table.table.as_str() == name
 }
 
-fn asks(words: &[String], asked: Asked) -> bool {
-    match (command_of(words), asked) {
-        (None, Asked::Usage) => true,
-        (Some(Command::Replay), Asked::Replay) => true,
-        (Some(Command::Sql), Asked::Sql) => true,
-        (Some(Command::Bench(n)), Asked::Bench(wanted)) => n == wanted,
-        (Some(Command::Schema(places)), Asked::Schema(wanted)) => places.len() == wanted,
-        (Some(Command::Load(table, mode, n)), Asked::Load(ns, name, wanted, rows)) => {
-            is_table(table, ns, name) && mode == wanted && n == rows
+fn is_place(place: &Place, ns: &str, store: &str) -> bool {
+    place.ns.as_str() == ns && place.store.as_str() == store
+}
+
+fn are_places(places: &[Place], wanted: &[(&str, &str)]) -> bool {
+    places.len() == wanted.len()
+        && places
+            .iter()
+            .zip(wanted)
+            .all(|(place, (ns, store))| is_place(place, ns, store))
+}
+
+fn asks(command: &Command, asked: Asked) -> bool {
+    match (command, asked) {
+        (Command::Replay, Asked::Replay) => true,
+        (Command::Bench(n), Asked::Bench(wanted)) => *n == wanted,
+        (Command::Schema(places), Asked::Schema(wanted)) => are_places(places.as_slice(), wanted),
+        (Command::Sql, Asked::Sql) => true,
+        (Command::Load(table, mode, n), Asked::Load(ns, name, wanted, rows)) => {
+            is_table(table, ns, name) && *mode == wanted && *n == rows
         }
-        (Some(Command::Export(table)), Asked::Export(ns, name)) => is_table(table, ns, name),
+        (Command::Export(table), Asked::Export(ns, name)) => is_table(table, ns, name),
+        (Command::Retire(from, to), Asked::Retire(first, second)) => {
+            from.as_str() == first && to.as_str() == second
+        }
+        (Command::Alter(table, column, kind), Asked::Alter(ns, name, wanted, of)) => {
+            is_table(table, ns, name) && column.as_str() == wanted && *kind == of
+        }
+        (Command::Audit, Asked::Audit) => true,
         _ => false,
     }
 }
 
-fn ask(alloc: Global, words: &str, asked: Asked) -> Result<bool, Fail> {
-    let mut given = Vec::new(alloc);
-    for word in words.lines() {
-        given.push(String::from_str(alloc, word)?)?;
+fn ask(alloc: Global, words: &[String], asked: Asked) -> Result<bool, Fail> {
+    let stores = names_of(alloc, &STORES)?;
+    match command_of(alloc, words, &stores) {
+        Ok(command) => Ok(asks(&command, asked)),
+        Err(WordsRefused::Usage) => Ok(matches!(asked, Asked::Usage)),
+        Err(refused) => Err(Fail::from(refused)),
     }
-    Ok(asks(given.as_slice(), asked))
 }
 
 impl Case for Words {
     fn holds(self, alloc: Global) -> Result<bool, Fail> {
-        ask(alloc, self.0, self.1)
+        let mut words = Vec::new(alloc);
+        for word in self.0.lines() {
+            words.push(String::from_str(alloc, word)?)?;
+        }
+        ask(alloc, words.as_slice(), self.1)
     }
 }
 
-static WORDS: [Words; 60] = [
+static WORDS: [Words; 88] = [
     Words("replay\n", Asked::Replay),
     Words("replay\nx\n", Asked::Usage),
     Words("replay\n\n", Asked::Usage),
@@ -70,7 +102,25 @@ static WORDS: [Words; 60] = [
     Words("--\n", Asked::Usage),
     Words("--\nreplay\n", Asked::Usage),
     Words("replay\n--help\n", Asked::Usage),
+    Words("-\n", Asked::Usage),
+    Words("replay\n-\n", Asked::Usage),
+    Words("audit\n", Asked::Audit),
+    Words("audit\naudit\n", Asked::Usage),
+    Words(
+        "retire\nhashed\nsqlite\n",
+        Asked::Retire("hashed", "sqlite"),
+    ),
+    Words(
+        "retire\nsqlite\nordered\n",
+        Asked::Retire("sqlite", "ordered"),
+    ),
     Words("retire\nordered\nhashed\n", Asked::Usage),
+    Words("retire\nhashed\nhashed\n", Asked::Usage),
+    Words("retire\nhashed\nelsewhere\n", Asked::Usage),
+    Words("retire\nelsewhere\nhashed\n", Asked::Usage),
+    Words("retire\nhashed\n", Asked::Usage),
+    Words("retire\nhashed\nsqlite\nordered\n", Asked::Usage),
+    Words("retire\n-hashed\nsqlite\n", Asked::Usage),
     Words("bench\n", Asked::Usage),
     Words("bench\n1\n", Asked::Bench(1)),
     Words("bench\n2000\n", Asked::Bench(2000)),
@@ -86,12 +136,25 @@ static WORDS: [Words; 60] = [
     Words("bench\none\n", Asked::Usage),
     Words("bench\n1\n2\n", Asked::Usage),
     Words("bench\n--help\n", Asked::Usage),
+    Words("bench\n--\n5\n", Asked::Usage),
     Words("sql\n", Asked::Sql),
     Words("sql\nsql\n", Asked::Usage),
-    Words("schema\n", Asked::Schema(0)),
-    Words("schema\nshop=hashed\n", Asked::Schema(1)),
-    Words("schema\nshop=hashed\nbank=ordered\n", Asked::Schema(2)),
-    Words("schema\ncoordinator=hashed\n", Asked::Schema(1)),
+    Words("schema\n", Asked::Schema(&[])),
+    Words(
+        "schema\nshop=hashed\n",
+        Asked::Schema(&[("shop", "hashed")]),
+    ),
+    Words(
+        "schema\nshop=hashed\nbank=ordered\n",
+        Asked::Schema(&[("shop", "hashed"), ("bank", "ordered")]),
+    ),
+    Words(
+        "schema\ncoordinator=hashed\n",
+        Asked::Schema(&[("coordinator", "hashed")]),
+    ),
+    Words("schema\nshop=elsewhere\n", Asked::Usage),
+    Words("schema\nshop=hashed\nbank=elsewhere\n", Asked::Usage),
+    Words("schema\nshop=hashed\n\n", Asked::Usage),
     Words("schema\nshop=hashed\nshop=hashed\n", Asked::Usage),
     Words(
         "schema\nshop=hashed\nbank=ordered\nshop=ordered\n",
@@ -136,7 +199,34 @@ static WORDS: [Words; 60] = [
         Asked::Usage,
     ),
     Words("export\nshop.order-lines\n", Asked::Usage),
+    Words("export\n--\nshop.orders\n", Asked::Usage),
     Words("export\nshop.orders\nshop.orders\n", Asked::Usage),
+    Words(
+        "alter\nshop.orders\nnote\nTEXT\n",
+        Asked::Alter("shop", "orders", "note", Kind::Text),
+    ),
+    Words(
+        "alter\nshop.orders\nnote\nboolean\n",
+        Asked::Alter("shop", "orders", "note", Kind::Boolean),
+    ),
+    Words(
+        "alter\nshop.orders\nnote\nInt\n",
+        Asked::Alter("shop", "orders", "note", Kind::Int),
+    ),
+    Words(
+        "alter\nshop.orders\nnote\nbigInt\n",
+        Asked::Alter("shop", "orders", "note", Kind::BigInt),
+    ),
+    Words(
+        "alter\nshop.orders\nnote\nBlob\n",
+        Asked::Alter("shop", "orders", "note", Kind::Blob),
+    ),
+    Words("alter\nshop.orders\nnote\nFLOAT\n", Asked::Usage),
+    Words("alter\nshop.orders\nnote\n\n", Asked::Usage),
+    Words("alter\nshop.orders\n1note\nTEXT\n", Asked::Usage),
+    Words("alter\nshop\nnote\nTEXT\n", Asked::Usage),
+    Words("alter\nshop.orders\nnote\n", Asked::Usage),
+    Words("alter\nshop.orders\nnote\nTEXT\nx\n", Asked::Usage),
 ];
 
 #[test]
