@@ -1,17 +1,8 @@
 -- Calls on the first store.
-use Rattle.std.proofs.Common.{◌≡◌, ◌⊎◌, true, false, cond, Some, None, ℕ, ◌≤◌, List, [], ◌∷◌, drop, slice_set, inl, inr, refl, sym, ap, subst, ◌∙◌, arith}
+use Rattle.std.proofs.Common.{◌≡◌, ◌⊎◌, Some, ℕ, ◌≤◌, List, [], ◌∷◌, drop, slice_set, inl, inr, refl, sym, ap, subst, ◌∙◌, arith}
 use Rattle.std.specs.Prelude.{slice_get}
-use Rattle.std.specs.FinMap.{insert, get-insert}
-use Rattle.std.specs.Ordering.{eq_by_cmp}
-use Rattle.sdb_types.specs.declared.key.Key.{Key}
-use Rattle.sdb_types.specs.declared.pair.Pair.{Pair}
-use Rattle.sdb_types.specs.declared.record.Record.{Record}
-use Rattle.sdb_types.specs.declared.record.Condition.TheVariants.{Absent, Version}
-use Rattle.sdb_types.specs.declared.record.Request.TheVariants as ask
 use Rattle.sdb_types.specs.declared.record.Reply.TheVariants as reply
-use Rattle.sdb_types.specs.Contents.{Contents, after, holds, record_at}
-use Rattle.sdb_types.specs.Order.{key_cmp}
-use Rattle.sdb_types.proofs.KeyOrder.{key_exact, key_total}
+use Rattle.sdb_types.specs.Contents.{Contents, after}
 use Rattle.sdb_store.specs.Store.{Performs}
 use Rattle.sdb_types.specs.declared.record.Request.{Request}
 use Rattle.sdb_types.specs.declared.record.Reply.{Reply}
@@ -20,8 +11,7 @@ use Rattle.sdb_stores.specs.Shelf.{Attached, Shelf, IsCallAt, HaveRisen, home, h
 use Rattle.sdb_stores.proofs.Called.{same_names, grown}
 use Rattle.sdb_catalog.specs.declared.refused.CatalogRefused.{CatalogRefused}
 use Rattle.sdb_catalog.specs.declared.refused.CatalogRefused.TheVariants as refused
-use Rattle.sdb_catalog.specs.Calls.{Called, GoOn, IsStopped, IsUnread, adds, first_contents}
-use Rattle.sdb_types.specs.Exact.{equal_of}
+use Rattle.sdb_catalog.specs.Calls.{Called, GoOn, IsStopped, IsUnread, MayChange, first_contents}
 use Rattle.sdb_types.proofs.Basics.{none_some as no_some}
 
 -- without places each namespace belongs to the first store
@@ -48,25 +38,7 @@ others_stay : (old : List Shelf) (s : Shelf) → drop 1 (slice_set old 0 s) ≡ 
 others_stay [] s = refl
 others_stay (x ∷ xs) s = refl
 
----- records stay
-
-put_beside : (m : Contents) (k : Key) (v : List Pair) (q : Key) (found : Record) → record_at m k ≡ None → record_at m q ≡ Some found → record_at (insert m k v) q ≡ Some found
-put_beside m k v q found none h =
-    elim (eq_by_cmp key_cmp q k) as (λ b. eq_by_cmp key_cmp q k ≡ b → record_at (insert m k v) q ≡ Some found) [
-      | true ↦ λ e. no_some found (sym none ∙ ap (record_at m) (sym (key_exact q k (equal_of (key_cmp q k) e))) ∙ h)
-      | false ↦ λ e. rw (get-insert key_total m k v q, e) h
-    ] refl
-
-kept_after : (q : Request) (m : Contents) (k : Key) (found : Record) → adds q ≡ true → record_at m k ≡ Some found → record_at (after q m) k ≡ Some found
-kept_after (ask.Get key) m k found a h = h
-kept_after (ask.Scan span) m k found a h = h
-kept_after (ask.PutIf r Absent) m k found a h =
-    elim (record_at m r.key) as (λ o. record_at m r.key ≡ o → record_at (cond (holds Absent o) (insert m r.key r.columns) m) k ≡ Some found) [
-      | Some x ↦ λ q. h
-      | None ↦ λ q. put_beside m r.key r.columns k found q h
-    ] refl
-kept_after (ask.PutIf r (Version id state)) m k found a h = absurd (let e : false ≡ true = a in cc)
-kept_after (ask.DeleteIf key condition) m k found a h = absurd (let e : false ≡ true = a in cc)
+---- what the first store holds
 
 left_by : (q : Request) (r : Reply) (m n : Contents) → Performs q r m n → (n ≡ m) ⊎ (n ≡ after q m)
 left_by q reply.Fault m n p = p
@@ -76,13 +48,6 @@ left_by q (reply.Rows rows) m n p = inr p.1
 left_by q reply.Applied m n p = inr p.1
 left_by q (reply.NotMet found) m n p = inr p.1
 
-kept_by : (q : Request) (r : Reply) (m n : Contents) (k : Key) (found : Record) → adds q ≡ true → Performs q r m n → record_at m k ≡ Some found → record_at n k ≡ Some found
-kept_by q r m n k found a p h =
-    elim (left_by q r m n p) [
-      | inl same ↦ ap (λ (c : Contents). record_at c k) same ∙ h
-      | inr done ↦ ap (λ (c : Contents). record_at c k) done ∙ kept_after q m k found a h
-    ]
-
 pub first_before : (old : List Shelf) (s : Shelf) → slice_get old 0 ≡ Some s → first_contents old ≡ s.contents
 first_before [] s h = no_some s h
 first_before (x ∷ xs) s h = let same : x ≡ s = cc in ap (λ (y : Shelf). y.contents) same
@@ -91,13 +56,21 @@ pub first_now : (old new : List Shelf) (before now : Shelf) → slice_get old 0 
 first_now [] new before now h is = no_some before h
 first_now (x ∷ xs) new before now h is = ap first_contents is
 
-pub goes_call : (ns : List ℕ) (q : Request) (r : Reply) (old new : Attached) → old.places ≡ [] → adds q ≡ true → IsCallAt (home_in old ns) q r old new → GoOn old new
-goes_call ns q r old new bare adding there =
+-- a call leaves the contents or what its request makes of them, whatever the reply
+pub left_call : (ns : List ℕ) (q : Request) (r : Reply) (old new : Attached) → old.places ≡ [] → IsCallAt (home_in old ns) q r old new → MayChange q old new
+left_call ns q r old new bare there t =
+    let call = at_first ns q r old new bare there in
+    let before = first_before old.shelves call.before call.stood in
+    let now = first_now old.shelves new.shelves call.before call.now call.stood call.rest in
+    elim (left_by q r call.before.contents call.now.contents (call.performed t)) [
+      | inl same ↦ inl (now ∙ same ∙ sym before)
+      | inr done ↦ inr (now ∙ done ∙ ap (after q) (sym before))
+    ]
+
+pub goes_call : (ns : List ℕ) (q : Request) (r : Reply) (old new : Attached) → old.places ≡ [] → IsCallAt (home_in old ns) q r old new → GoOn old new
+goes_call ns q r old new bare there =
     let call = at_first ns q r old new bare there in
     record {
-      kept = λ t k found h.
-          ap (λ (c : Contents). record_at c k) (first_now old.shelves new.shelves call.before call.now call.stood call.rest)
-          ∙ kept_by q r call.before.contents call.now.contents k found adding (call.performed t) (ap (λ (c : Contents). record_at c k) (sym (first_before old.shelves call.before call.stood)) ∙ h);
       names = same_names 0 q r old new call;
       others = ap (drop 1) call.rest ∙ others_stay old.shelves call.now;
       counted = grown 0 q r old new call;
@@ -105,17 +78,16 @@ goes_call ns q r old new bare adding there =
     }
 
 pub goes_none : (old : Attached) → GoOn old old
-goes_none old = record { kept = λ t k found h. h; names = refl; others = refl; counted = omega arith; telling = λ at h. h }
+goes_none old = record { names = refl; others = refl; counted = omega arith; telling = λ at h. h }
 
 pub goes_more : (old mid new : Attached) → GoOn old mid → GoOn mid new → GoOn old new
 goes_more old mid new a b =
-    record { kept = λ t k found h. b.kept (a.telling 0 t) k found (a.kept t k found h); names = b.names ∙ a.names; others = b.others ∙ a.others; counted = omega (arith, a.counted, b.counted); telling = λ at h. b.telling at (a.telling at h) }
+    record { names = b.names ∙ a.names; others = b.others ∙ a.others; counted = omega (arith, a.counted, b.counted); telling = λ at h. b.telling at (a.telling at h) }
 
 -- stores that are read alone, and places that come and go
 pub goes_same : (old mid new : Attached) → GoOn old mid → new.shelves ≡ mid.shelves → ((at : ℕ) → mid.tells at → new.tells at) → GoOn old new
 goes_same old mid new a same telling =
     record {
-      kept = λ t k found h. ap (λ (l : List Shelf). record_at (first_contents l) k) same ∙ a.kept t k found h;
       names = ap names_of same ∙ a.names;
       others = ap (drop 1) same ∙ a.others;
       counted = subst (λ (l : List Shelf). total_faults old.shelves ≤ total_faults l) (sym same) a.counted;

@@ -6,6 +6,8 @@ pub mod Calling
 pub mod Opening
 pub mod Catalogs
 pub mod Writes
+pub mod Known
+pub mod Added
 pub mod OneReading
 pub mod LastRows
 pub mod Kept

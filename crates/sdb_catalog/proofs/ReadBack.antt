@@ -5,9 +5,6 @@ use Rattle.std.specs.List.{list_all}
 use Rattle.std.specs.Option.{option_map}
 use Rattle.std.specs.Str.{bytes_eq}
 use Rattle.std.proofs.lemmas.Slice.Eq.{bytes_eq-Decides}
-use Rattle.sdb_types.specs.declared.record.Record.{Record}
-use Rattle.sdb_types.specs.declared.record.Reply.TheVariants.{Rows}
-use Rattle.sdb_types.specs.declared.record.Request.TheVariants.{Scan}
 use Rattle.sdb_types.specs.Contents.{rows_in}
 use Rattle.sdb_types.specs.Identifier.{is_name}
 use Rattle.sdb_types.proofs.Bools.{and_first, and_second}
@@ -15,31 +12,18 @@ use Rattle.sdb_schema.specs.declared.table.Table.{Table}
 use Rattle.sdb_schema.specs.Catalog.{is_catalog, rises}
 use Rattle.sdb_schema.specs.Table.{is_table}
 use Rattle.sdb_stores.specs.declared.place.Place.{Place}
-use Rattle.sdb_stores.specs.Shelf.{Attached, Shelf, names_of, placed_on}
+use Rattle.sdb_stores.specs.Shelf.{Attached, Shelf, names_of}
 use Rattle.sdb_catalog.specs.declared.entry.Entry.{Entry}
-use Rattle.sdb_catalog.specs.Calls.{Called, IsRead, first_contents, metadata_span, with_shelves}
+use Rattle.sdb_catalog.specs.Calls.{first_contents, metadata_span, with_shelves}
+use Rattle.sdb_catalog.specs.Known.{IsCatalogIn}
 use Rattle.sdb_catalog.specs.Kept.{IsAsKept, IsFresh, IsKept, first_entries}
-use Rattle.sdb_catalog.specs.Opened.{Follow, Opens, store_in, tables_of}
+use Rattle.sdb_catalog.specs.Opened.{Follow, store_in, tables_of}
 use Rattle.sdb_catalog.specs.Rows.{row_of}
 use Rattle.sdb_catalog.specs.Written.{AreWritten, IsStored, Line, store_for, written_tables}
-use Rattle.sdb_catalog.proofs.Calling.{first_before, first_now}
+use Rattle.sdb_catalog.proofs.Known.{contents_read, rows_shown}
 use Rattle.sdb_catalog.proofs.FirstEntries.{each_named, each_written, first_attached, first_follow, first_tables, place_attached, written_rise}
 use Rattle.sdb_catalog.proofs.Kept.{entry, lines_kept}
 use Rattle.sdb_catalog.proofs.OneReading.{one_reading}
-
----- what a scan shows
-
-rows_same : (a b : List Record) → Rows a ≡ Rows b → a ≡ b
-rows_same a b h = cc
-
--- a store of known contents shows the rows that it holds
-rows_shown : (rows : List Record) (old : Attached) (new : List Shelf) → old.tells 0 → Called (Scan metadata_span) (Rows rows) old new → rows ≡ rows_in metadata_span (first_contents old.shelves)
-rows_shown rows old new t call =
-    rows_same rows (rows_in metadata_span call.before.contents) (call.performed t).0 ∙ ap (rows_in metadata_span) (sym (first_before old.shelves call.before call.stood))
-
-rows_left : (rows : List Record) (old : Attached) (new : List Shelf) → old.tells 0 → Called (Scan metadata_span) (Rows rows) old new → rows_in metadata_span (first_contents new) ≡ rows_in metadata_span (first_contents old.shelves)
-rows_left rows old new t call =
-    ap (rows_in metadata_span) (first_now old.shelves new call.before call.now call.stood call.rest ∙ (call.performed t).1 ∙ sym (first_before old.shelves call.before call.stood))
 
 ---- what is written
 
@@ -61,7 +45,7 @@ kept places catalog text old new sound same stored told0 fresh =
     let done : AreWritten places first [] lines (with_shelves old stored.mid) new = subst (λ (es : List Entry). AreWritten places first es lines (with_shelves old stored.mid) new) none stored.written.written in
     let tables : map (λ (l : Line). l.table) lines ≡ all = stored.written.tables in
     let rows : rows_in metadata_span (first_contents new) ≡ map row_of (map (entry places first) all) =
-    lines_kept names places first [] lines (with_shelves old stored.mid) new told0 done (rows_left stored.read.rows old stored.mid told0 stored.read.scanned ∙ fresh.none)
+    lines_kept names places first [] lines (with_shelves old stored.mid) new told0 done (ap (rows_in metadata_span) (contents_read stored.read.rows old stored.mid told0 stored.read.scanned) ∙ fresh.none)
     (ap rises tables ∙ written_rise catalog (and_first (rises catalog) (nat_le (length catalog) 64 && list_all is_table catalog) sound) fresh.named)
     (ap (list_all (λ (t : Table). is_name t.name.ns)) tables ∙ each_named names places first all each)
     (subst (λ (ts : List Table). Follow names [] (map (entry places first) ts)) (sym tables) follow)
@@ -90,14 +74,12 @@ module _ (places : List Place) (first : List ℕ) where
         | false ↦ λ q. store_at us i t (omega arith) is
       ] refl
 
-pub read_back : (es : List Entry) (now : List Place) (opened : List Table) (old : Attached) (mid : List Shelf) → IsRead old mid es → opened ≡ tables_of es → ((ns : List ℕ) → placed_on ns now ≡ store_in es ns) → old.tells 0 → IsAsKept old.shelves opened now
-read_back es now opened old mid read tables placed told0 = λ places catalog kept.
-    let shown : Opens (names_of old.shelves) (rows_in metadata_span (first_contents old.shelves)) es =
-    subst (λ (rs : List Record). Opens (names_of old.shelves) rs es) (rows_shown read.rows old mid told0 read.scanned) read.opens in
-    let same : es ≡ first_entries places kept.first catalog = one_reading (names_of old.shelves) (rows_in metadata_span (first_contents old.shelves)) es (first_entries places kept.first catalog) shown kept.rows in
+pub read_back : (opened : List Table) (now : List Place) (shelves : List Shelf) → IsCatalogIn (names_of shelves) (first_contents shelves) opened now → IsAsKept shelves opened now
+read_back opened now shelves found = λ places catalog kept.
+    let same : found.entries ≡ first_entries places kept.first catalog = one_reading (names_of shelves) (rows_in metadata_span (first_contents shelves)) found.entries (first_entries places kept.first catalog) found.opens kept.rows in
     record {
-      same = tables ∙ ap tables_of same ∙ kept.tables;
+      same = found.tables ∙ ap tables_of same ∙ kept.tables;
       first = kept.first;
       named = kept.named;
-      placed = λ t c. placed t.name.ns ∙ ap (λ (fs : List Entry). store_in fs t.name.ns) same ∙ store_at places kept.first (written_tables catalog) c.0 t c.1 c.2;
+      placed = λ t c. found.placed t.name.ns ∙ ap (λ (fs : List Entry). store_in fs t.name.ns) same ∙ store_at places kept.first (written_tables catalog) c.0 t c.1 c.2;
     }

@@ -1,17 +1,15 @@
 -- Calls on the store of the catalog's rows: the first one.
-use Rattle.std.specs.Prelude.{◌≡◌, ℕ, ◌≤◌, Bool, true, false, List, [], ◌∷◌, drop, Some, None}
+use Rattle.std.specs.Prelude.{◌≡◌, ◌⊎◌, ℕ, ◌≤◌, List, [], ◌∷◌, drop, None}
 use Rattle.std.specs.FinMap.{empty}
 use Rattle.std.specs.Option.{option_or}
 use Rattle.sdb_types.specs.declared.key.Key.{Key}
 use Rattle.sdb_types.specs.declared.record.Request.{Request}
-use Rattle.sdb_types.specs.declared.record.Condition.TheVariants.{Absent, Version}
 use Rattle.sdb_types.specs.declared.record.Request.TheVariants.{Scan}
-use Rattle.sdb_types.specs.declared.record.Request.TheVariants as ask
 use Rattle.sdb_types.specs.declared.record.Record.{Record}
 use Rattle.sdb_types.specs.declared.record.Reply.{Reply}
 use Rattle.sdb_types.specs.declared.record.Reply.TheVariants.{Rows}
 use Rattle.sdb_types.specs.declared.record.Span.{Span}
-use Rattle.sdb_types.specs.Contents.{Contents, record_at}
+use Rattle.sdb_types.specs.Contents.{Contents, after}
 use Rattle.sdb_schema.specs.declared.table.Table.{Table}
 use Rattle.sdb_stores.specs.Shelf.{Attached, Shelf, IsCallAt, HaveRisen, names_of, placed_on, total_faults}
 use Rattle.sdb_catalog.specs.declared.entry.Entry.{Entry}
@@ -38,18 +36,16 @@ abbrev pub first_contents : List Shelf → Contents
 first_contents [] = empty
 first_contents (s ∷ ss) = s.contents
 
--- a request that takes no record out and puts none over another
-abbrev pub adds : Request → Bool
-adds (ask.Get key) = true
-adds (ask.Scan span) = true
-adds (ask.PutIf r Absent) = true
-adds (ask.PutIf r (Version id state)) = false
-adds (ask.DeleteIf key condition) = false
+-- The first store holds what it held, where its contents are known.
+abbrev pub KeepContents : Attached → Attached → Type 0
+KeepContents old new = old.tells 0 → first_contents new.shelves ≡ first_contents old.shelves
 
--- Calls change no name and no other store, faults add up, and known contents stay known. Each record that the
--- first store held, where that is known, is there still.
+-- The first store holds what it held, or what the request makes of that, where its contents are known.
+abbrev pub MayChange : Request → Attached → Attached → Type 0
+MayChange q old new = old.tells 0 → (first_contents new.shelves ≡ first_contents old.shelves) ⊎ (first_contents new.shelves ≡ after q (first_contents old.shelves))
+
+-- Calls change no name and no other store, faults add up, and known contents stay known.
 pub record GoOn (old new : Attached) : Type 0 where
-  pub kept : old.tells 0 → (key : Key) (found : Record) → record_at (first_contents old.shelves) key ≡ Some found → record_at (first_contents new.shelves) key ≡ Some found
   pub names : names_of new.shelves ≡ names_of old.shelves
   pub others : drop 1 new.shelves ≡ drop 1 old.shelves
   pub counted : total_faults old.shelves ≤ total_faults new.shelves

@@ -4,4 +4,5 @@ pub mod Shown
 pub mod Opened
 pub mod Calls
 pub mod Written
+pub mod Known
 pub mod Kept

@@ -1,9 +1,9 @@
 //! Calls on the store of the catalog's rows.
-ghost use Rattle.std.specs.Prelude.{◌≡◌, ◌≢◌, ◌<◌, [], length, true, IfOk, IfErr};
+ghost use Rattle.std.specs.Prelude.{◌≡◌, ◌≢◌, ◌<◌, [], length, IfOk, IfErr};
 ghost use Rattle.sdb_types.specs.declared.record.Request.TheVariants.{Scan};
 ghost use Rattle.sdb_types.specs.declared.record.Reply.TheVariants.{Rows};
 ghost use Rattle.sdb_types.specs.Contents.{CanAnswer};
-ghost use Rattle.sdb_catalog.specs.Calls.{adds, Called, GoOn, IsStopped, metadata_span};
+ghost use Rattle.sdb_catalog.specs.Calls.{Called, GoOn, IsStopped, KeepContents, MayChange, metadata_span};
 
 use crate::refused::CatalogRefused;
 use crate::rows::metadata_table;
@@ -11,15 +11,15 @@ use sdb_stores::Registry;
 use sdb_types::{Records, Reply, Request, Span};
 use std::alloc::Global;
 
-/// Makes a call on the first store, which takes no record out: no namespace is placed.
-#[tactic(auto, using(crate::proofs::Calling::goes_call))]
+/// Makes a call on the first store: no namespace is placed.
+#[tactic(auto, using(crate::proofs::Calling::goes_call, crate::proofs::Calling::left_call))]
 pub fn call<R: Registry>(stores: &mut R, request: &Request) -> Result<Reply, CatalogRefused>
     requires some { 0 < length (R.state stores.old).shelves }
     requires bare { (R.state stores.old).places ≡ [] }
-    requires adds { adds request.now ≡ true }
     ensures called { IfOk result (λ reply. Called request.now reply (R.state stores.old) (R.state stores.new).shelves) }
     ensures lawful { IfOk result (λ reply. CanAnswer request.now reply) }
     ensures answered { IfOk result (λ reply. (reply ≢ Reply.Fault) × (reply ≢ Reply.NoMemory)) }
+    ensures left { MayChange request.now (R.state stores.old) (R.state stores.new) }
     ensures places { (R.state stores.new).places ≡ (R.state stores.old).places }
     ensures goes { GoOn (R.state stores.old) (R.state stores.new) }
     ensures err { IfErr result (IsStopped (R.state stores.old).shelves (R.state stores.new).shelves) }
@@ -36,6 +36,7 @@ pub fn scan<R: Registry>(alloc: Global, stores: &mut R) -> Result<Records, Catal
     requires some { 0 < length (R.state stores.old).shelves }
     requires bare { (R.state stores.old).places ≡ [] }
     ensures scanned { IfOk result (λ rows. Called (Scan metadata_span) (Rows rows) (R.state stores.old) (R.state stores.new).shelves) }
+    ensures unchanged { KeepContents (R.state stores.old) (R.state stores.new) }
     ensures places { (R.state stores.new).places ≡ (R.state stores.old).places }
     ensures goes { GoOn (R.state stores.old) (R.state stores.new) }
     ensures err { IfErr result (IsStopped (R.state stores.old).shelves (R.state stores.new).shelves) }

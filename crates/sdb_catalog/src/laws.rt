@@ -3,9 +3,11 @@ ghost use Rattle.std.specs.Prelude.{◌≡◌, ◌∷◌, [], ℕ, List, map, tr
 ghost use Rattle.sdb_types.specs.declared.record.Record.{Record};
 ghost use Rattle.sdb_schema.specs.declared.table.Table.{Table};
 ghost use Rattle.sdb_schema.specs.Table.{is_table};
+ghost use Rattle.sdb_stores.specs.declared.place.Place.{Place};
 ghost use Rattle.sdb_loader.specs.Described.{described_table};
 ghost use Rattle.sdb_catalog.specs.declared.entry.Entry.{Entry};
 ghost use Rattle.sdb_catalog.specs.Definition.{definition_text};
+ghost use Rattle.sdb_catalog.specs.Known.{CatalogState, IsWith, KeepsRecords, created_in, lines_of, state_after};
 ghost use Rattle.sdb_catalog.specs.Opened.{Follow, Opens};
 ghost use Rattle.sdb_catalog.specs.Rows.{row_of};
 
@@ -19,4 +21,11 @@ pub fn definitions()
 pub fn rows_are_read_back()
     ensures opened { (names : List (List ℕ)) (es : List Entry) → Follow names [] es → Opens names (map row_of es) es }
     ensures one { (names : List (List ℕ)) (rows : List Record) (es fs : List Entry) → Opens names rows es → Opens names rows fs → es ≡ fs }
+{}
+
+/// Tables that are written one after the other add entries to the catalog, of those that are created, and the rows of these to its
+/// store. Nothing else changes, and no record that is there is put over.
+pub fn tables_are_added()
+    ensures added { (ps : List Place) (first : List ℕ) (s : CatalogState) (ts : List Table) → IsWith (created_in (lines_of ps first s ts)) s (state_after ps first s ts) }
+    ensures kept { (ps : List Place) (first : List ℕ) (s : CatalogState) (ts : List Table) → KeepsRecords s.contents (state_after ps first s ts).contents }
 {}

@@ -6,8 +6,9 @@ ghost use Rattle.sdb_schema.specs.Catalog.{rises};
 ghost use Rattle.sdb_schema.specs.Table.{is_table};
 ghost use Rattle.sdb_stores.specs.Shelf.{names_of, placed_on};
 ghost use Rattle.sdb_catalog.specs.declared.entry.Entry.{Entry};
-ghost use Rattle.sdb_catalog.specs.Calls.{ArePlacedBy, GoOn, IsOpened, IsRead, IsUnread};
+ghost use Rattle.sdb_catalog.specs.Calls.{ArePlacedBy, GoOn, IsOpened, IsRead, IsUnread, KeepContents};
 ghost use Rattle.sdb_catalog.specs.Kept.{IsAsKept};
+ghost use Rattle.sdb_catalog.specs.Known.{IsKnownBad, IsKnownCatalog};
 ghost use Rattle.sdb_catalog.specs.Opened.{are_attached, is_attached, Follows, IsBadAmong, Opens, agrees as agrees_lem, fits as fits_lem, is_coordinators as is_coordinators_lem, open_count, store_in, tables_of};
 ghost use Rattle.sdb_catalog.specs.Rows.{row_of};
 
@@ -103,6 +104,7 @@ pub fn read_entries<R: Registry>(
     requires some { 0 < length (R.state stores.old).shelves }
     requires bare { (R.state stores.old).places ≡ [] }
     ensures read { IfOk result (IsRead (R.state stores.old) (R.state stores.new).shelves) }
+    ensures unchanged { KeepContents (R.state stores.old) (R.state stores.new) }
     ensures places { (R.state stores.new).places ≡ (R.state stores.old).places }
     ensures goes { GoOn (R.state stores.old) (R.state stores.new) }
     ensures err { IfErr result (IsUnread (R.state stores.old) (R.state stores.new).shelves) }
@@ -171,15 +173,20 @@ fn catalog_among(alloc: Global, entries: &[Entry]) -> Result<Catalog, NoMemory>
 /// The catalog that the rows of `scalardb.metadata` in the first store make, with each of its namespaces, and the coordinator's,
 /// placed on the store that keeps it. No namespace is placed before, and none after a refusal.
 ///
-/// Returns the catalog that `store_catalog` wrote, where there was no row before it.
+/// Where the contents of the first store are known, no answer changes them (`unchanged`), the catalog is that of the rows in them
+/// (`known`), and a refused row is their first bad one (`bad`). So it returns the catalog that `store_catalog` wrote, where there was no
+/// row before it (`kept`).
 pub fn open_catalog<R: Registry>(alloc: Global, stores: &mut R) -> Result<Catalog, CatalogRefused>
     requires some { 0 < length (R.state stores.old).shelves }
     requires bare { (R.state stores.old).places ≡ [] }
     ensures opened { IfOk result (λ c. IsOpened (R.state stores.old) (R.state stores.new) c) }
+    ensures known { IfOk result (λ c. IsKnownCatalog (R.state stores.old) (R.state stores.new) c) }
     ensures kept { IfOk result (λ c. (R.state stores.old).tells 0 → IsAsKept (R.state stores.old).shelves c (R.state stores.new).places) }
+    ensures unchanged { KeepContents (R.state stores.old) (R.state stores.new) }
     ensures unplaced { OnErr result ((R.state stores.new).places ≡ []) }
     ensures goes { GoOn (R.state stores.old) (R.state stores.new) }
     ensures err { IfErr result (IsUnread (R.state stores.old) (R.state stores.new).shelves) }
+    ensures bad { IfErr result (IsKnownBad (R.state stores.old)) }
 {
     let entries = read_entries(alloc, stores)?;
     match placed(alloc, stores, entries.as_slice()) {

@@ -10,11 +10,12 @@ ghost use Rattle.sdb_schema.specs.declared.table.Table.{Table};
 ghost use Rattle.sdb_loader.specs.Described.{catalog_in};
 ghost use Rattle.sdb_stores.specs.Shelf.{names_of, placed_on};
 ghost use Rattle.sdb_catalog.specs.declared.entry.Entry.{Entry};
-ghost use Rattle.sdb_catalog.specs.Calls.{GoOn, IsStopped, IsUnread};
+ghost use Rattle.sdb_catalog.specs.Calls.{GoOn, IsStopped, IsUnread, MayChange};
 ghost use Rattle.sdb_catalog.specs.Kept.{IsNowKept};
+ghost use Rattle.sdb_catalog.specs.Known.{IsKnownLeft, IsKnownStored, MayWrite, MayWriteFirst};
 ghost use Rattle.sdb_catalog.specs.Opened.{store_in as store_in_lem};
 ghost use Rattle.sdb_catalog.specs.Rows.{definition_column, text_at as text_at_lem};
-ghost use Rattle.sdb_catalog.specs.Written.{HasWritten, IsPut, IsStored, IsWritten, entry_for as entry_for_lem, grown, has_entry as has_entry_lem, is_full as is_full_lem, line_text, store_for as store_for_lem, word_of as word_of_lem, written_tables as written_tables_lem, HasDefinition};
+ghost use Rattle.sdb_catalog.specs.Written.{HasWritten, IsPut, IsStored, IsWritten, entry_for as entry_for_lem, grown, has_entry as has_entry_lem, is_full as is_full_lem, line_text, put_of, store_for as store_for_lem, word_of as word_of_lem, written_tables as written_tables_lem, HasDefinition};
 
 use crate::call::call;
 use crate::definition::definition_text;
@@ -104,6 +105,7 @@ fn put<R: Registry>(alloc: Global, stores: &mut R, entry: &Entry) -> Result<Outc
     requires bare { (R.state stores.old).places ≡ [] }
     requires columns { rises entry.now.table.columns ≡ true }
     ensures put { IfOk result (λ o. IsPut entry.now o (R.state stores.old) (R.state stores.new).shelves) }
+    ensures left { MayChange (put_of entry.now) (R.state stores.old) (R.state stores.new) }
     ensures places { (R.state stores.new).places ≡ (R.state stores.old).places }
     ensures goes { GoOn (R.state stores.old) (R.state stores.new) }
     ensures err { IfErr result (IsStopped (R.state stores.old).shelves (R.state stores.new).shelves) }
@@ -135,6 +137,7 @@ fn write_table<R: Registry>(
     requires columns { rises entry.table.columns ≡ true }
     ensures written { IfOk result (λ o. IsWritten known.old entry o (R.state stores.old) (R.state stores.new).shelves) }
     ensures known { IfOk result (λ o. known.new ≡ grown known.old entry o) }
+    ensures left { OnErr result (MayWrite known.old entry (R.state stores.old) (R.state stores.new)) }
     ensures places { (R.state stores.new).places ≡ (R.state stores.old).places }
     ensures goes { GoOn (R.state stores.old) (R.state stores.new) }
     ensures err { IfErr result (IsStopped (R.state stores.old).shelves (R.state stores.new).shelves) }
@@ -188,6 +191,7 @@ fn write_all<R: Registry>(
     requires some { 0 < length (R.state stores.old).shelves }
     requires bare { (R.state stores.old).places ≡ [] }
     requires columns { list_all (λ t. rises t.columns) tables.now ≡ true }
+    ensures left { MayWriteFirst places.now first.now known.old tables.now (R.state stores.old) (R.state stores.new) }
     ensures written { IfOk result (λ text. HasWritten places.now first.now known.old tables.now (string_bytes text) (R.state stores.old) (R.state stores.new).shelves) }
     ensures places { (R.state stores.new).places ≡ (R.state stores.old).places }
     ensures goes { GoOn (R.state stores.old) (R.state stores.new) }
@@ -266,8 +270,10 @@ fn first_store<R: Registry>(stores: &R) -> Result<Name, NoMemory>
 /// The catalog that is there is read first. A namespace that it has keeps its store; another is kept in the store of its place
 /// among `places`, else in the first. No namespace is placed before or after.
 ///
-/// Where the first store has known contents and had no row of a catalog before, it then holds the rows of this one, and
-/// `open_catalog` returns this catalog.
+/// Where the contents of the first store are known, the lines are those of its records, and it then holds what it held and the row of
+/// each table that was created (`known`). A refusal leaves what it held and the rows that the first tables of this catalog create, as
+/// many as were written by then (`left`). A bad row is refused before a row is put. Where the store had no row of a catalog before, it
+/// then holds the rows of this one, and `open_catalog` returns this catalog (`kept`).
 pub fn store_catalog<R: Registry>(
     alloc: Global,
     stores: &mut R,
@@ -277,7 +283,9 @@ pub fn store_catalog<R: Registry>(
     requires some { 0 < length (R.state stores.old).shelves }
     requires bare { (R.state stores.old).places ≡ [] }
     ensures stored { IfOk result (λ text. IsStored places.now catalog.now text (R.state stores.old) (R.state stores.new).shelves) }
+    ensures known { IfOk result (λ text. IsKnownStored (R.state stores.old) (R.state stores.new) places.now catalog.now text) }
     ensures kept { OnOk result (IsNowKept (R.state stores.old) (R.state stores.new) places.now catalog.now) }
+    ensures left { IfErr result (IsKnownLeft (R.state stores.old) (R.state stores.new) places.now catalog.now) }
     ensures places { (R.state stores.new).places ≡ (R.state stores.old).places }
     ensures goes { GoOn (R.state stores.old) (R.state stores.new) }
     ensures err { IfErr result (IsUnread (R.state stores.old) (R.state stores.new).shelves) }
