@@ -4,6 +4,7 @@
 mod clients;
 mod counts;
 mod draws;
+pub mod laws;
 mod script;
 mod side;
 mod texts;
