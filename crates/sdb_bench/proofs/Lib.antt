@@ -6,3 +6,4 @@ mod Evenness
 mod Spoken
 mod Bodied
 mod Serial
+pub mod Playing

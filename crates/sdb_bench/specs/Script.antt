@@ -1,5 +1,5 @@
 -- The script of a bench.
-use Rattle.std.specs.Prelude.{ℕ, ◌+◌, ◌*◌, ◌%◌, ◌==◌, Bool, List, [], ◌∷◌, ◌++◌, map, filter, codes, decimal}
+use Rattle.std.specs.Prelude.{ℕ, ◌+◌, ◌*◌, ◌%◌, ◌<◌, ◌≤◌, ◌==◌, Bool, List, [], ◌∷◌, ◌++◌, map, filter, codes, decimal}
 use Rattle.std.specs.List.{flat_map}
 use Rattle.sdb_model.specs.declared.script.Act.TheVariants as act
 use Rattle.sdb_model.specs.declared.script.Move.{Move}
@@ -76,3 +76,13 @@ bench_places first last = record { ns = namespace_of Left; store = first } ∷ r
 -- The script of a bench of n transactions, over the first and the last store.
 unfoldable pub bench_script_of : ℕ → List ℕ → List ℕ → Script
 bench_script_of n first last = record { places = bench_places first last; catalog = bench_catalog; clients = bench_clients n; moves = bench_moves n }
+
+-- a move of one of the nine clients
+abbrev pub IsOfNine : Move → Type 0
+IsOfNine (move.Act (act.Step c)) = (0 < c) × (c ≤ 9)
+IsOfNine (move.Act (act.Lose c)) = ⊥
+IsOfNine (move.Act (act.Discard c)) = ⊥
+IsOfNine (move.Act (act.Stop c)) = ⊥
+IsOfNine (move.Act (act.Clock moment)) = ⊥
+IsOfNine (move.Repeat c times) = (0 < c) × (c ≤ 9)
+IsOfNine move.Rest = Unit {0}
