@@ -1,0 +1,149 @@
+-- The transactions of a bench, run whole one after the other, leave even rows.
+use Rattle.std.proofs.Common.{◌≡◌, ℕ, suc, ◌+◌, ◌<◌, true, false, List, [], ◌∷◌, map, sym, ap, subst, ◌∙◌, arith}
+use Rattle.std.specs.Prelude.{All, ◌==◌, slice_index}
+use Rattle.std.specs.List.{AllByRecursion}
+use Rattle.std.specs.List.Sorted.{IsStrictlyIncreasing}
+use Rattle.std.specs.FinMap.{empty}
+use Rattle.sdb_types.specs.declared.pair.Pair.{Pair}
+use Rattle.sdb_types.specs.declared.txid.TxId.{TxId}
+use Rattle.sdb_types.specs.Order.{key_cmp}
+use Rattle.sdb_types.proofs.Basics.{all_each, by_test, clash, eq_of}
+use Rattle.sdb_model.specs.declared.event.Event.{Event}
+use Rattle.sdb_model.specs.declared.event.Outcome.{Outcome}
+use Rattle.sdb_model.specs.declared.event.Point.{Point}
+use Rattle.sdb_model.specs.declared.statement.Statement.{Statement}
+use Rattle.sdb_model.specs.Events.{Shelf}
+use Rattle.sdb_model.specs.Exec.{Tables, exec}
+use Rattle.sdb_model.specs.Told.{AreBodies, AreRead, IsRun, run_body, serial}
+use Rattle.sdb_model.specs.Transactions.{body, point}
+use Rattle.sdb_bench.specs.Counts.{uneven_of}
+use Rattle.sdb_bench.specs.Script.{bench_clients, bench_moves, bench_script_of}
+use Rattle.sdb_bench.specs.Setup.{bench_catalog}
+use Rattle.sdb_bench.proofs.Bodied.{other_body, setup_body, setup_id}
+use Rattle.sdb_bench.proofs.Even.{AreCells, HasNone, IsEven, all_zero, insert_zero, no_entries, none_zero, update_even, update_none}
+use Rattle.sdb_bench.proofs.Evenness.{even_dumps}
+use Rattle.sdb_bench.proofs.Spoken.{Changes, Closes, Inserts, IsInsert, IsOf, IsUpdate, Opens, Updates}
+use Rattle.sdb_bench.proofs.Taken.{AreTaken, all_taken}
+
+---- one body
+
+abbrev pub after : Statement → Tables → Tables
+after st d = (exec bench_catalog st d).1
+
+abbrev pub after_body : List Statement → Tables → Tables
+after_body b d = (run_body bench_catalog b d).1
+
+-- What each statement of a body keeps, the body keeps.
+body_keeps : (P : Statement → Type 0) (Q : Tables → Type 0) → ((st : Statement) (d : Tables) → P st → Q d → Q (after st d)) → (b : List Statement) (d : Tables) → AllByRecursion P b → Q d → Q (after_body b d)
+body_keeps P Q each [] d h q = q
+body_keeps P Q each (st ∷ b) d h q = body_keeps P Q each b (after st d) h.1 (each st d h.0 q)
+
+-- So does a BEGIN or a COMMIT, which changes nothing.
+kind_keeps : (P : Statement → Type 0) (Q : Tables → Type 0) → ((st : Statement) (d : Tables) → P st → Q d → Q (after st d)) → (st : Statement) (d : Tables) → IsOf P st → Q d → Q (after st d)
+kind_keeps P Q each st d (Opens e) q = subst (λ (s : Statement). Q (after s d)) (sym e) q
+kind_keeps P Q each st d (Closes e) q = subst (λ (s : Statement). Q (after s d)) (sym e) q
+kind_keeps P Q each st d (Changes h) q = each st d h q
+
+inserts_zero : (st : Statement) (d : Tables) → Inserts st → AreCells all_zero d → AreCells all_zero (after st d)
+inserts_zero st d h q = subst (λ (s : Statement). AreCells all_zero (after s d)) (sym h.same) (insert_zero h.side h.p h.n d q)
+
+updates_even : (st : Statement) (d : Tables) → Updates st → IsEven d → IsEven (after st d)
+updates_even st d h q = subst (λ (s : Statement). IsEven (after s d)) (sym h.same) (update_even h.side h.p h.v d q)
+
+updates_none : (st : Statement) (d : Tables) → Updates st → HasNone d → HasNone (after st d)
+updates_none st d h q = subst (λ (s : Statement). HasNone (after s d)) (sym h.same) (update_none h.side h.p h.v d q)
+
+setup_even : (b : List Statement) (d : Tables) → AllByRecursion IsInsert b → HasNone d → IsEven (after_body b d)
+setup_even b d h q = (all_zero, body_keeps IsInsert (AreCells all_zero) (kind_keeps Inserts (AreCells all_zero) inserts_zero) b d h (none_zero d q))
+
+other_even : (b : List Statement) (d : Tables) → AllByRecursion IsUpdate b → IsEven d → IsEven (after_body b d)
+other_even = body_keeps IsUpdate IsEven (kind_keeps Updates IsEven updates_even)
+
+other_none : (b : List Statement) (d : Tables) → AllByRecursion IsUpdate b → HasNone d → HasNone (after_body b d)
+other_none = body_keeps IsUpdate HasNone (kind_keeps Updates HasNone updates_none)
+
+---- all bodies
+
+-- a transaction that is not the setup
+abbrev pub IsOther : Point → Type 0
+IsOther p = p.id ≡ setup_id → ⊥
+
+-- no transaction comes twice
+abbrev pub AreOnce : List Point → Type 0
+AreOnce [] = Unit {0}
+AreOnce (p ∷ ps) = AllByRecursion (λ q. p.id ≡ q.id → ⊥) ps × AreOnce ps
+
+after_setup : (n : ℕ) (events : List Event) → AreTaken (bench_clients n) events → (ps : List Point) (bs : List (List Statement)) (d : Tables) → AreBodies events ps bs → AllByRecursion IsOther ps → IsEven d → IsEven (serial bench_catalog bs d).1
+after_setup n events taken [] [] d read other h = h
+after_setup n events taken [] (b ∷ bs) d read other h = absurd read
+after_setup n events taken (p ∷ ps) [] d read other h = absurd read
+after_setup n events taken (p ∷ ps) (b ∷ bs) d read other h =
+    after_setup n events taken ps bs (after_body b d) read.1 other.1 (other_even b d (other_body n events p.id b taken other.0 read.0) h)
+
+same_id : (id : TxId) → (id.0 == setup_id.0) ≡ true → id ≡ setup_id
+same_id id e = let same : id.0 ≡ setup_id.0 = eq_of id.0 setup_id.0 e in λ i. record { 0 = same i }
+
+other_id : (id : TxId) → (id.0 == setup_id.0) ≡ false → id ≡ setup_id → ⊥
+other_id id e same = clash (sym (ap (λ (x : TxId). x.0 == setup_id.0) same) ∙ e)
+
+before_setup : (n : ℕ) (events : List Event) → AreTaken (bench_clients n) events → (ps : List Point) (bs : List (List Statement)) (d : Tables) → AreBodies events ps bs → AreOnce ps → HasNone d → IsEven (serial bench_catalog bs d).1
+before_setup n events taken [] [] d read once h = (all_zero, none_zero d h)
+before_setup n events taken [] (b ∷ bs) d read once h = absurd read
+before_setup n events taken (p ∷ ps) [] d read once h = absurd read
+before_setup n events taken (p ∷ ps) (b ∷ bs) d read once h =
+    by_test (p.id.0 == setup_id.0)
+    (λ e.
+    let own : p.id ≡ setup_id = same_id p.id e in
+    let inserts : AllByRecursion IsInsert b = setup_body n events b taken (subst (λ (id : TxId). AreRead (body events id) b) own read.0) in
+    after_setup n events taken ps bs (after_body b d) read.1 (all_each (λ q. p.id ≡ q.id → ⊥) IsOther ps (λ q apart same. apart (own ∙ sym same)) once.0) (setup_even b d inserts h))
+    (λ e.
+    let updates : AllByRecursion IsUpdate b = other_body n events p.id b taken (other_id p.id e) read.0 in
+    before_setup n events taken ps bs (after_body b d) read.1 once.1 (other_none b d updates h))
+
+---- an order has each transaction once
+
+-- events after this one
+abbrev pub AreAfter : ℕ → List Point → Type 0
+AreAfter m ps = AllByRecursion (λ p. m < p.event) ps
+
+rest_rising : (x : ℕ) (xs : List ℕ) → IsStrictlyIncreasing (x ∷ xs) → IsStrictlyIncreasing xs
+rest_rising x xs r k l = subst (λ m. slice_index xs k < slice_index (x ∷ xs) m) (next k) (r (suc k) (omega arith))
+  where
+    next : (k : ℕ) → suc k + 1 ≡ suc (k + 1)
+    next k = omega arith
+
+first_below : (p : Point) (ps : List Point) → IsStrictlyIncreasing (map (λ (x : Point). x.event) (p ∷ ps)) → AreAfter p.event ps
+first_below p [] r = tt
+first_below p (q ∷ ps) r =
+    let first : p.event < q.event = r 0 (omega arith) in
+    (first, all_each (λ (x : Point). q.event < x.event) (λ x. p.event < x.event) ps (λ x more. omega arith) (first_below q ps (rest_rising p.event (map (λ (x : Point). x.event) (q ∷ ps)) r)))
+
+at_points : (f : TxId → ℕ) (ps : List Point) → All (λ p. p.event ≡ f p.id) ps → AllByRecursion (λ p. p.event ≡ f p.id) ps
+at_points f [] h = tt
+at_points f (p ∷ ps) h = (h 0 p (omega arith), at_points f ps (λ k d less. h (suc k) d (omega arith)))
+
+apart_from : (f : TxId → ℕ) (p : Point) (ps : List Point) → p.event ≡ f p.id → AllByRecursion (λ q. q.event ≡ f q.id) ps → AreAfter p.event ps → AllByRecursion (λ q. p.id ≡ q.id → ⊥) ps
+apart_from f p [] own points later = tt
+apart_from f p (q ∷ ps) own points later = (
+  (λ same.
+      let one : p.event ≡ q.event = own ∙ ap f same ∙ sym points.0 in
+      let less : p.event < q.event = later.0 in
+      omega arith),
+  apart_from f p ps own points.1 later.1,
+)
+
+are_once : (f : TxId → ℕ) (ps : List Point) → AllByRecursion (λ p. p.event ≡ f p.id) ps → IsStrictlyIncreasing (map (λ (x : Point). x.event) ps) → AreOnce ps
+are_once f [] points r = tt
+are_once f (p ∷ ps) points r =
+    (apart_from f p ps points.0 points.1 (first_below p ps r), are_once f ps points.1 (rest_rising p.event (map (λ (x : Point). x.event) ps) r))
+
+---- a run
+
+pub run_is_even : (n : ℕ) (first last : List ℕ) (opening closing : List Shelf) (outcome : Outcome) → IsRun (bench_script_of n first last) opening closing outcome → uneven_of outcome.tables ≡ 0
+unfolding bench_script_of
+run_is_even n first last opening closing outcome run =
+    let taken = all_taken (bench_clients n) (bench_moves n) outcome.events run.follows in
+    let once = are_once (point outcome.events) outcome.order (at_points (point outcome.events) outcome.order run.order.points) run.order.rising in
+    let none : HasNone (empty {X = List Pair} {R = key_cmp}) = subst (AllByRecursion (λ e. ⊥)) (sym no_entries) tt in
+    let even = before_setup n outcome.events taken outcome.order run.told.bodies empty run.told.read once none in
+    ap uneven_of run.told.printed ∙ even_dumps (serial bench_catalog run.told.bodies empty).1 even

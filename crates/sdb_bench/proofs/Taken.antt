@@ -1,0 +1,134 @@
+-- Where events follow a script, each client said the texts of its statements, in their order.
+use Rattle.std.proofs.Common.{◌≡◌, ℕ, zero, suc, ◌+◌, Bool, true, false, cond, List, [], ◌∷◌, ◌++◌, map, take, length, Some, None, refl, sym, ap, subst, ◌∙◌, arith, append-nil}
+use Rattle.std.specs.Prelude.{MatchBool, ◌==◌, slice_get, count_by}
+use Rattle.std.proofs.lemmas.List.Sums.{sum_by-append, sum_by-cons}
+use Rattle.sdb_types.specs.declared.record.Reply.{Reply}
+use Rattle.sdb_model.specs.declared.answer.Answer.{Answer}
+use Rattle.sdb_model.specs.declared.event.Event.{Event}
+use Rattle.sdb_model.specs.declared.event.Event.TheVariants as event
+use Rattle.sdb_model.specs.declared.event.How.{How}
+use Rattle.sdb_model.specs.declared.script.Act.{Act}
+use Rattle.sdb_model.specs.declared.script.Act.TheVariants as act
+use Rattle.sdb_model.specs.declared.script.Move.{Move}
+use Rattle.sdb_model.specs.declared.script.Move.TheVariants as move
+use Rattle.sdb_model.specs.declared.script.ScriptClient.{ScriptClient}
+use Rattle.sdb_model.specs.Follows.{AreMoved, AreStepsOf, Follows, IsActed, IsCallOf, IsHowOfDiscard, IsHowOfLose, IsHowOfStep, IsMoved, IsRest, IsStep, IsTakeOf, has_work, is_pending, taken_by, takes_by, texts_of}
+use Rattle.sdb_model.specs.Transactions.{Said, said, said_after, with_answer}
+use Rattle.sdb_types.proofs.Basics.{assoc, by_test, eq_of, map_last, none_some, some_is}
+use Rattle.sdb_story.proofs.Tellings.{said_more}
+
+abbrev pub said_texts : List Said → List (List ℕ)
+said_texts = map (λ s. s.text)
+
+-- each client said the first of its texts, as many as it took
+abbrev pub AreTaken : List ScriptClient → List Event → Type 0
+AreTaken clients past = (c : ℕ) → said_texts (said c past) ≡ take (taken_by c past) (texts_of clients c)
+
+-- a text that is taken is its client's next one
+abbrev pub MayCome : List ScriptClient → List Event → Event → Type 0
+MayCome clients past (event.Take c text answer) = slice_get (texts_of clients c) (taken_by c past) ≡ Some text
+MayCome clients past _ = Unit {0}
+
+---- one event
+
+take_next : (xs : List (List ℕ)) (k : ℕ) (x : List ℕ) → slice_get xs k ≡ Some x → take (k + 1) xs ≡ take k xs ++ x ∷ []
+take_next [] k x e = none_some x e
+take_next (y ∷ ys) zero x e = ap (λ (z : List ℕ). z ∷ []) (some_is y x e)
+take_next (y ∷ ys) (suc k) x e =
+    let more : suc k + 1 ≡ suc (k + 1) = omega arith in
+    ap (λ (n : ℕ). take n (y ∷ ys)) more ∙ ap (λ (zs : List (List ℕ)). y ∷ zs) (take_next ys k x e)
+
+abbrev pub one_if : Bool → ℕ
+one_if b = cond b 1 0
+
+counted_more : (p : Event → Bool) (es : List Event) (e : Event) → count_by p (es ++ e ∷ []) ≡ count_by p es + one_if (p e)
+counted_more p es e =
+    let both : count_by p (es ++ e ∷ []) ≡ count_by p es + count_by p (e ∷ []) = sum_by-append (λ (x : Event). cond (p x) 1 0) es (e ∷ []) in
+    let last : count_by p (e ∷ []) ≡ one_if (p e) + count_by p [] = sum_by-cons (λ (x : Event). cond (p x) 1 0) e [] in
+    let none : count_by p [] ≡ 0 = refl in
+    both ∙ ap (λ (n : ℕ). count_by p es + n) (last ∙ ap (λ (n : ℕ). one_if (p e) + n) none ∙ omega arith)
+
+taken_more : (c : ℕ) (es : List Event) (e : Event) → taken_by c (es ++ e ∷ []) ≡ taken_by c es + one_if (takes_by c e)
+taken_more c es e = counted_more (takes_by c) es e
+
+same_texts : (ss : List Said) (n : ℕ) (a : Answer) → said_texts (with_answer ss n a) ≡ said_texts ss
+same_texts [] n a = refl
+same_texts (s ∷ []) n a = refl
+same_texts (s ∷ t ∷ ss) n a = ap (λ (xs : List (List ℕ)). s.text ∷ xs) (same_texts (t ∷ ss) n a)
+
+plain : (n : ℕ) → n ≡ n + 0
+plain n = omega arith
+
+-- what a client said after one event
+event_more : (clients : List ScriptClient) (c : ℕ) (past : List Event) (n : ℕ) (e : Event) → MayCome clients past e
+    → said_texts (said c past) ≡ take (taken_by c past) (texts_of clients c)
+    → said_texts (said_after c (said c past) (n, e)) ≡ take (taken_by c past + one_if (takes_by c e)) (texts_of clients c)
+event_more clients c past n (event.Take d text answer) may h =
+    let s : Said = record { taken = n; text = text; answer = answer; reached = n } in
+    by_test (d == c)
+    (λ t.
+    let here : slice_get (texts_of clients c) (taken_by c past) ≡ Some text = subst (λ (x : ℕ). slice_get (texts_of clients x) (taken_by x past) ≡ Some text) (eq_of d c t) may in
+    rw t (map_last (λ (x : Said). x.text) (said c past) s ∙ ap (λ (ts : List (List ℕ)). ts ++ text ∷ []) h ∙ sym (take_next (texts_of clients c) (taken_by c past) text here)))
+    (λ t. rw t (h ∙ ap (λ (m : ℕ). take m (texts_of clients c)) (plain (taken_by c past))))
+event_more clients c past n (event.Call d store q how r (Some a)) may h =
+    by_test (d == c)
+    (λ t. rw t (same_texts (said c past) n a ∙ h ∙ ap (λ (m : ℕ). take m (texts_of clients c)) (plain (taken_by c past))))
+    (λ t. rw t (h ∙ ap (λ (m : ℕ). take m (texts_of clients c)) (plain (taken_by c past))))
+event_more clients c past n (event.Call d store q how r None) may h = h ∙ ap (λ (m : ℕ). take m (texts_of clients c)) (plain (taken_by c past))
+event_more clients c past n (event.Stop d) may h = h ∙ ap (λ (m : ℕ). take m (texts_of clients c)) (plain (taken_by c past))
+event_more clients c past n (event.Clock d) may h = h ∙ ap (λ (m : ℕ). take m (texts_of clients c)) (plain (taken_by c past))
+event_more clients c past n (event.Idle d) may h = h ∙ ap (λ (m : ℕ). take m (texts_of clients c)) (plain (taken_by c past))
+
+one_more : (clients : List ScriptClient) (past : List Event) (e : Event) → MayCome clients past e → AreTaken clients past → AreTaken clients (past ++ e ∷ [])
+one_more clients past e may h c =
+    ap said_texts (said_more c past e)
+    ∙ event_more clients c past (1 + length past) e may (h c)
+    ∙ ap (λ (m : ℕ). take m (texts_of clients c)) (sym (taken_more c past e))
+
+---- the events of a move
+
+step_may : (clients : List ScriptClient) (c : ℕ) (allowed : How → Reply → Type 0) (past : List Event) (e : Event) (works waits : Bool)
+    → MatchBool works (MatchBool waits (IsCallOf c allowed e) (IsTakeOf clients c past e)) (e ≡ event.Idle c) → MayCome clients past e
+step_may clients c allowed past (event.Call d store q how r a) true true h = tt
+step_may clients c allowed past (event.Take d text a) true true h = absurd h
+step_may clients c allowed past (event.Stop d) true true h = absurd h
+step_may clients c allowed past (event.Clock d) true true h = absurd h
+step_may clients c allowed past (event.Idle d) true true h = absurd h
+step_may clients c allowed past (event.Take d text a) true false h = subst (λ (x : ℕ). slice_get (texts_of clients x) (taken_by x past) ≡ Some text) (sym h.0) h.1
+step_may clients c allowed past (event.Call d store q how r a) true false h = tt
+step_may clients c allowed past (event.Stop d) true false h = tt
+step_may clients c allowed past (event.Clock d) true false h = tt
+step_may clients c allowed past (event.Idle d) true false h = tt
+step_may clients c allowed past e false waits h = subst (MayCome clients past) (sym h) tt
+
+stepped : (clients : List ScriptClient) (c : ℕ) (allowed : How → Reply → Type 0) (past : List Event) (e : Event) → IsStep clients c allowed past e → AreTaken clients past → AreTaken clients (past ++ e ∷ [])
+stepped clients c allowed past e h = one_more clients past e (step_may clients c allowed past e (has_work clients c past) (is_pending c past) h)
+
+acted : (clients : List ScriptClient) (a : Act) (past : List Event) (e : Event) → IsActed clients a past e → AreTaken clients past → AreTaken clients (past ++ e ∷ [])
+acted clients (act.Step c) past e h = stepped clients c IsHowOfStep past e h
+acted clients (act.Lose c) past e h = stepped clients c IsHowOfLose past e h
+acted clients (act.Discard c) past e h = stepped clients c IsHowOfDiscard past e h
+acted clients (act.Stop c) past e h = one_more clients past e (subst (MayCome clients past) (sym h) tt)
+acted clients (act.Clock m) past e h = one_more clients past e (subst (MayCome clients past) (sym h) tt)
+
+steps_taken : (clients : List ScriptClient) (c : ℕ) (past es : List Event) → AreStepsOf clients c past es → AreTaken clients past → AreTaken clients (past ++ es)
+steps_taken clients c past [] h t = subst (AreTaken clients) (sym (append-nil past)) t
+steps_taken clients c past (e ∷ es) h t = subst (AreTaken clients) (assoc past (e ∷ []) es) (steps_taken clients c (past ++ e ∷ []) es h.1 (stepped clients c IsHowOfStep past e h.0 t))
+
+rest_taken : (clients : List ScriptClient) (c : ℕ) (past es : List Event) → IsRest clients c past es → AreTaken clients past → AreTaken clients (past ++ es)
+rest_taken clients c past [] h t = subst (AreTaken clients) (sym (append-nil past)) t
+rest_taken clients c past (e ∷ es) (d, turn, step, rest) t =
+    subst (AreTaken clients) (assoc past (e ∷ []) es) (rest_taken clients (d + 1) (past ++ e ∷ []) es rest (stepped clients d IsHowOfStep past e step t))
+
+move_taken : (clients : List ScriptClient) (m : Move) (past es : List Event) → IsMoved clients m past es → AreTaken clients past → AreTaken clients (past ++ es)
+move_taken clients (move.Act a) past es (e, one, h) t = subst (λ (xs : List Event). AreTaken clients (past ++ xs)) (sym one) (acted clients a past e h t)
+move_taken clients (move.Repeat c times) past es h t = steps_taken clients c past es h.1 t
+move_taken clients move.Rest past es h t = rest_taken clients 1 past es h t
+
+moves_taken : (clients : List ScriptClient) (ms : List Move) (past es : List Event) → AreMoved clients ms past es → AreTaken clients past → AreTaken clients (past ++ es)
+moves_taken clients [] past es h t = subst (AreTaken clients) (sym (ap (λ (xs : List Event). past ++ xs) h ∙ append-nil past)) t
+moves_taken clients (m ∷ ms) past es (front, back, whole, moved, rest) t =
+    subst (AreTaken clients) (assoc past front back ∙ ap (λ (xs : List Event). past ++ xs) (sym whole)) (moves_taken clients ms (past ++ front) back rest (move_taken clients m past front moved t))
+
+pub all_taken : (clients : List ScriptClient) (ms : List Move) (es : List Event) → Follows clients ms es → AreTaken clients es
+all_taken clients ms es h = moves_taken clients ms [] es h (λ c. refl)

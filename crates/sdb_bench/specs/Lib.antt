@@ -1,0 +1,4 @@
+pub mod Draws
+pub mod Setup
+pub mod Script
+pub mod Counts

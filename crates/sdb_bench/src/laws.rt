@@ -1,0 +1,28 @@
+//! Laws of a bench.
+ghost use Rattle.std.specs.Prelude.{◌≡◌, ◌<◌, ◌^◌, ℕ, List, Some, false, is_some, length, slice_get, true};
+ghost use Rattle.std.specs.List.{AllByRecursion};
+ghost use Rattle.sdb_types.specs.declared.key.TableName.{TableName};
+ghost use Rattle.sdb_record.specs.Coordinator.{is_coordinator_table};
+ghost use Rattle.sdb_schema.specs.Catalog.{is_catalog};
+ghost use Rattle.sdb_model.specs.declared.event.Outcome.{Outcome};
+ghost use Rattle.sdb_model.specs.Events.{Shelf};
+ghost use Rattle.sdb_model.specs.Exec.{find_table};
+ghost use Rattle.sdb_model.specs.Follows.{texts_of};
+ghost use Rattle.sdb_model.specs.Told.{IsRun};
+ghost use Rattle.sdb_bench.specs.Counts.{uneven_of};
+ghost use Rattle.sdb_bench.specs.Script.{IsOfNine, bench_script_of};
+
+/// A run of a bench has no uneven pair, whichever of its transactions are committed.
+pub fn runs_are_even()
+    ensures { (n : ℕ) (first last : List ℕ) (opening closing : List Shelf) (outcome : Outcome) → IsRun (bench_script_of n first last) opening closing outcome → uneven_of outcome.tables ≡ 0 }
+{}
+
+/// What a player asks of a script is so of that of a bench: its catalog is one, without a table of the coordinator; it has nine
+/// clients, whose texts are short; and its moves are theirs.
+pub fn scripts_can_be_played()
+    ensures catalog { (n : ℕ) (first last : List ℕ) → is_catalog (bench_script_of n first last).catalog ≡ true }
+    ensures apart { (n : ℕ) (first last : List ℕ) (name : TableName) → is_some (find_table (bench_script_of n first last).catalog name) ≡ true → is_coordinator_table name ≡ false }
+    ensures clients { (n : ℕ) (first last : List ℕ) → length (bench_script_of n first last).clients ≡ 9 }
+    ensures short { (n : ℕ) (first last : List ℕ) (c i : ℕ) (text : List ℕ) → slice_get (texts_of (bench_script_of n first last).clients c) i ≡ Some text → length text < 2 ^ 32 }
+    ensures moves { (n : ℕ) (first last : List ℕ) → AllByRecursion IsOfNine (bench_script_of n first last).moves }
+{}
