@@ -46,10 +46,10 @@ use Rattle.sdb_world.specs.Explained.{IsExplained, IsShown}
 use Rattle.sdb_world.proofs.Broken.{breaks_after}
 use Rattle.sdb_app.specs.declared.status.Status.{Status}
 use Rattle.sdb_app.specs.declared.status.Status.TheVariants as status
+use Rattle.sdb_app.specs.Bench.{IsBenched, StopsBench, bench_over}
 use Rattle.sdb_app.specs.Ends.{AreKept, Work}
-use Rattle.sdb_app.specs.Run.{AreReady, TellOf, IsFirstFound, IsOutcome, IsPlayed, IsReplayed, IsScriptRead, IsUnread, Stops, StopsPlay, StopsReplay}
+use Rattle.sdb_app.specs.Run.{AreReady, CanBePlaced, TellOf, IsFirstFound, IsOutcome, IsPlayed, IsReplayed, IsScriptRead, IsUnread, Stops, StopsPlay, StopsReplay}
 use Rattle.sdb_app.specs.Run.StopsReplay.{Unread, Unplayed}
-use Rattle.sdb_script.specs.Begun.{ArePlaces}
 use Rattle.sdb_app.proofs.Placing.{fit_for}
 
 ---- why it stopped
@@ -118,9 +118,9 @@ tell_on script before mid same telling all at store table here about named =
     telling at (all at store table (ap (λ (ss : List Counted). slice_get ss at) (sym same) ∙ here) about (ap (λ (ss : List Counted). store_of script.places (shown ss) table.ns) (sym same) ∙ named))
 
 -- The stores of a script's tables tell, and it has its places.
-pub fit_script : (script : Script) (old mid : Attached) → placed mid.places ≡ script.places → mid.shelves ≡ old.shelves → ArePlaces (names_of old.shelves) script.places → 0 < length old.shelves → AreDistinct (names_of old.shelves) → ((i : ℕ) → old.tells i → mid.tells i) → TellOf script old → AreFit script.catalog mid
+pub fit_script : (script : Script) (old mid : Attached) → placed mid.places ≡ script.places → mid.shelves ≡ old.shelves → CanBePlaced (names_of old.shelves) script.places → 0 < length old.shelves → AreDistinct (names_of old.shelves) → ((i : ℕ) → old.tells i → mid.tells i) → TellOf script old → AreFit script.catalog mid
 fit_script script old mid same still f some distinct telling all =
-    fit_for script.catalog script.places mid same (subst (λ (ss : List Counted). ArePlaces (names_of ss) script.places) (sym still) f) (subst (λ (ss : List Counted). 0 < length ss) (sym still) some) (subst (λ (ss : List Counted). AreDistinct (names_of ss)) (sym still) distinct)
+    fit_for script.catalog script.places mid same (subst (λ (ss : List Counted). CanBePlaced (names_of ss) script.places) (sym still) f) (subst (λ (ss : List Counted). 0 < length ss) (sym still) some) (subst (λ (ss : List Counted). AreDistinct (names_of ss)) (sym still) distinct)
     (tell_on script old mid still telling all)
 
 -- Stores whose tables hold no record are ready: mid are as after the placing, then as after the look for records.
@@ -260,3 +260,32 @@ replayed_before before work report same telling h = record {
 pub replay_stops_before : (before : Attached) (work : Work) (s : Status) → work.old.shelves ≡ before.shelves → ((at : ℕ) → before.tells at → work.old.tells at) → StopsReplay work s → StopsReplay (begun_with before work) s
 replay_stops_before before work s same telling (Unread unread unchanged) = Unread (subst (λ (ss : List Counted). IsUnread (names_of ss) work.input work.rest s) same unread) (unchanged ∙ same)
 replay_stops_before before work s same telling (Unplayed script read stops) = Unplayed script (subst (λ (ss : List Counted). IsScriptRead (names_of ss) work.input.bytes work.rest.bytes script) same read) (stops_of script before work.old work.left s same telling stops)
+
+---- what `bench` answers, and why it answers nothing
+
+pub benched_before : (before : Attached) (work : Work) (n : ℕ) (answer : List ℕ) → work.old.shelves ≡ before.shelves → ((at : ℕ) → before.tells at → work.old.tells at) → IsBenched n work answer → IsBenched n (begun_with before work) answer
+benched_before before work n answer same telling h = record {
+  benched = record {
+    outcome = h.benched.outcome;
+    made = made;
+    text = h.benched.text;
+    even = λ all. h.benched.even (subst (λ (s : Script). TellOf s work.old) (sym scripts) (tell_on (script before.shelves) before work.old same telling all));
+  };
+  unread = h.unread;
+}
+  where
+    script : List Counted → Script
+    script ss = bench_over n (names_of ss)
+
+    scripts : script work.old.shelves ≡ script before.shelves
+    scripts = ap script same
+
+    made : IsOutcome (TellOf (script before.shelves) before) (script before.shelves) before.shelves work.left h.benched.outcome
+    made = made_of (script before.shelves) before work.old work.left h.benched.outcome same telling (subst (λ (s : Script). IsOutcome (TellOf s work.old) s work.old.shelves work.left h.benched.outcome) scripts h.benched.made)
+
+pub bench_stops_before : (before : Attached) (work : Work) (n : ℕ) (s : Status) → work.old.shelves ≡ before.shelves → ((at : ℕ) → before.tells at → work.old.tells at) → StopsBench n work s → StopsBench n (begun_with before work) s
+bench_stops_before before work n s same telling h = record {
+  cause = stops_of (bench_over n (names_of before.shelves)) before work.old work.left s same telling
+      (subst (λ (ss : List Counted). StopsPlay (bench_over n (names_of ss)) work.old work.left s) same h.cause);
+  unread = h.unread;
+}

@@ -1,6 +1,8 @@
 pub mod CatalogRead
 pub mod Placing
 pub mod Playable
+pub mod BenchPlayable
 pub mod Headline
 pub mod Playing
+pub mod Schemas
 pub mod Promising

@@ -14,11 +14,11 @@ use Rattle.sdb_stores.specs.declared.place.Place.{Place as Placed}
 use Rattle.sdb_stores.proofs.Distinct.{apart}
 use Rattle.sdb_model.specs.declared.script.Place.{Place}
 use Rattle.sdb_model.specs.Rows.{Name}
-use Rattle.sdb_script.specs.Begun.{ArePlaces}
 use Rattle.sdb_model.specs.Events.{store_of}
 use Rattle.sdb_spread.specs.Spread.{is_played}
 use Rattle.sdb_board.specs.Board.{AreFit, placed, shown}
 use Rattle.sdb_board.proofs.Shelves.{named_home}
+use Rattle.sdb_app.specs.Run.{CanBePlaced}
 use Rattle.sdb_types.proofs.Basics.{by_test, none_some, some_is}
 use Rattle.sdb_board.proofs.Lists.{take_suc}
 
@@ -32,7 +32,7 @@ contained name names h = by (place_of name names) refl
     by None e = absurd (apart name names e h.0 name h.1 h.2)
     by (Some i) e = ap is_some e
 
-pub attached_at : (names : List Name) (places : List Place) (i : ℕ) (p : Place) → ArePlaces names places → slice_get places i ≡ Some p → IsSome (place_of p.store names)
+pub attached_at : (names : List Name) (places : List Place) (i : ℕ) (p : Place) → CanBePlaced names places → slice_get places i ≡ Some p → IsSome (place_of p.store names)
 attached_at names places i p h e =
     let here : get_or places i p ≡ p = get_or_from_slice_get places i p p e in
     contained p.store names (subst (λ (x : Place). Contains names x.store) here (h.attached i p (slice_get_within places i p e)))
@@ -54,7 +54,7 @@ abbrev pub Tell : List Table → List Place → Attached → Type 0
 Tell catalog places stores = (at : ℕ) (store : Counted) (table : TableName) → slice_get stores.shelves at ≡ Some store → is_played catalog table ≡ true → store_of places (shown stores.shelves) table.ns ≡ store.name → stores.tells at
 
 -- stores whose tables tell are fit for a run with the places of a script
-pub fit_for : (catalog : List Table) (places : List Place) (stores : Attached) → placed stores.places ≡ places → ArePlaces (names_of stores.shelves) places → 0 < length stores.shelves → AreDistinct (names_of stores.shelves) → Tell catalog places stores → AreFit catalog stores
+pub fit_for : (catalog : List Table) (places : List Place) (stores : Attached) → placed stores.places ≡ places → CanBePlaced (names_of stores.shelves) places → 0 < length stores.shelves → AreDistinct (names_of stores.shelves) → Tell catalog places stores → AreFit catalog stores
 fit_for catalog places stores same h some distinct telling =
     let ps = stores.places in
     let shelves = stores.shelves in
@@ -96,7 +96,7 @@ name_within (q ∷ qs) zero p e = omega arith
 name_within (q ∷ qs) (suc k) p e = let h = name_within qs k p e in omega arith
 
 -- the next namespace has no place yet
-pub free_at : (ps : List Placed) (names : List Name) (places : List Place) (i : ℕ) (p : Place) → ArePlaces names places → placed ps ≡ take i places → slice_get places i ≡ Some p → placed_on p.ns ps ≡ None
+pub free_at : (ps : List Placed) (names : List Name) (places : List Place) (i : ℕ) (p : Place) → CanBePlaced names places → placed ps ≡ take i places → slice_get places i ≡ Some p → placed_on p.ns ps ≡ None
 free_at ps names places i p h same here =
     free_by ps p.ns (λ k q e.
     let t = taken_at places i k q (ap (λ (xs : List Place). slice_get xs k) (sym same) ∙ e) in

@@ -26,8 +26,9 @@ use Rattle.sdb_model.specs.Exec.{find_table}
 use Rattle.sdb_model.specs.Follows.{texts_of}
 use Rattle.sdb_model.specs.Form.{client_line}
 use Rattle.sdb_script.specs.Lines.{client_lines, is_act, is_client, is_line, is_move, most_line, place_line, text_line}
-use Rattle.sdb_script.specs.Begun.{ArePlaces, IsSchema}
+use Rattle.sdb_script.specs.Begun.{IsSchema}
 use Rattle.sdb_script.specs.Whole.{IsScript}
+use Rattle.sdb_app.specs.Run.{CanBePlaced}
 use Rattle.sdb_script.proofs.OneLine.{json_may, may_name}
 use Rattle.sdb_script.proofs.Pieces.{no_some}
 use Rattle.sdb_world.specs.World.{IsPlayable}
@@ -137,6 +138,6 @@ playable stores text s h =
 pub followable : (stores : List (List ℕ)) (text : List ℕ) (s : Script) → IsScript stores text s → CanFollow s
 followable stores text s h = can_make s s.moves h.lines.moves.0
 
--- Its places are places over the attached stores.
-pub places_are : (stores : List (List ℕ)) (text : List ℕ) (s : Script) → IsScript stores text s → ArePlaces stores s.places
-places_are stores text s h = h.lines.placed
+-- Its places can be made on the attached stores.
+pub placeable : (stores : List (List ℕ)) (text : List ℕ) (s : Script) → IsScript stores text s → CanBePlaced stores s.places
+placeable stores text s h = record { once = h.lines.placed.once; attached = h.lines.placed.attached }

@@ -9,7 +9,8 @@ use Rattle.sdb_app.specs.declared.status.Status.{Status}
 use Rattle.sdb_app.specs.Ends.{Ends, Work}
 use Rattle.sdb_app.specs.Promise.{HasEnded, IsAnswered, IsNoCommand, IsNotThere, IsStopped, IsUntouched, promise_of}
 use Rattle.sdb_app.specs.Promise.HasEnded.{Answered, NoCommand, Stopped}
-use Rattle.sdb_app.proofs.Headline.{begun_with, replay_stops_before, replayed_before}
+use Rattle.sdb_app.proofs.Headline.{bench_stops_before, benched_before, begun_with, replay_stops_before, replayed_before}
+use Rattle.sdb_app.proofs.Schemas.{schema_kept_before, schema_stops_before}
 
 -- The work of a command began with the same stores, of which no fewer had known contents.
 pub record BeginsAs (before : Attached) (work : Work) : Type 0 where
@@ -18,8 +19,8 @@ pub record BeginsAs (before : Attached) (work : Work) : Type 0 where
 
 pub answers_before : (before : Attached) (work : Work) → BeginsAs before work → (c : Command) (text : List ℕ) → (promise_of c work).answers text → (promise_of c (begun_with before work)).answers text
 answers_before before work b command.Replay text h = replayed_before before work text b.same b.telling h
-answers_before before work b (command.Bench n) text h = absurd h
-answers_before before work b (command.Schema places) text h = absurd h
+answers_before before work b (command.Bench n) text h = benched_before before work n text b.same b.telling h
+answers_before before work b (command.Schema places) text h = schema_kept_before before work places text b.same b.telling h
 answers_before before work b command.Sql text h = absurd h
 answers_before before work b (command.Load table mode n) text h = absurd h
 answers_before before work b (command.Export table) text h = absurd h
@@ -32,8 +33,8 @@ not_there_before before work b s h = (h.0, h.1 ∙ b.same, h.2)
 
 pub stops_before : (before : Attached) (work : Work) → BeginsAs before work → (c : Command) (s : Status) → (promise_of c work).stops s → (promise_of c (begun_with before work)).stops s
 stops_before before work b command.Replay s h = replay_stops_before before work s b.same b.telling h
-stops_before before work b (command.Bench n) s h = not_there_before before work b s h
-stops_before before work b (command.Schema places) s h = not_there_before before work b s h
+stops_before before work b (command.Bench n) s h = bench_stops_before before work n s b.same b.telling h
+stops_before before work b (command.Schema places) s h = schema_stops_before before work places s b.same b.telling h
 stops_before before work b command.Sql s h = not_there_before before work b s h
 stops_before before work b (command.Load table mode n) s h = not_there_before before work b s h
 stops_before before work b (command.Export table) s h = not_there_before before work b s h

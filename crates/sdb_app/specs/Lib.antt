@@ -2,4 +2,6 @@ pub mod Ends
 pub mod Run
 pub mod Streams
 pub mod Status
+pub mod Bench
+pub mod Schema
 pub mod Promise

@@ -5,11 +5,13 @@ use Rattle.sdb_stores.specs.Shelf.{names_of}
 use Rattle.sdb_model.specs.Rows.{Name}
 use Rattle.sdb_words.specs.declared.command.Command.{Command}
 use Rattle.sdb_words.specs.declared.command.Command.TheVariants as command
-use Rattle.sdb_words.specs.Commands.{AreWordsOf}
+use Rattle.sdb_words.specs.Commands.{AreWordsOf, most_transactions}
 use Rattle.sdb_app.specs.declared.status.Status.{Status}
 use Rattle.sdb_app.specs.declared.status.Status.TheVariants as status
 use Rattle.sdb_app.specs.Ends.{AreUnchanged, Ends, Stream, Work}
 use Rattle.sdb_app.specs.Run.{IsReplayed, StopsReplay}
+use Rattle.sdb_app.specs.Bench.{IsBenched, StopsBench}
+use Rattle.sdb_app.specs.Schema.{IsSchemaKept, StopsSchema}
 
 -- What a command promises of the text that it answers, and why it ends otherwise, before anything is written.
 pub record Promise : Type 1 where
@@ -23,11 +25,23 @@ IsNotThere work s = (s ≡ status.Usage) × AreUnchanged work × (work.rest ≡ 
 abbrev pub not_there : Work → Promise
 not_there work = record { answers = λ text. ⊥; stops = IsNotThere work }
 
+-- The numbers of a command are within their limits.
+abbrev pub IsWithinLimits : Command → Type 0
+IsWithinLimits command.Replay = Unit {0}
+IsWithinLimits (command.Bench n) = n ≤ most_transactions
+IsWithinLimits (command.Schema places) = Unit {0}
+IsWithinLimits command.Sql = Unit {0}
+IsWithinLimits (command.Load table mode n) = Unit {0}
+IsWithinLimits (command.Export table) = Unit {0}
+IsWithinLimits (command.Retire from to) = Unit {0}
+IsWithinLimits (command.Alter table column kind) = Unit {0}
+IsWithinLimits command.Audit = Unit {0}
+
 -- the promise of each command
 abbrev pub promise_of : Command → Work → Promise
 promise_of command.Replay work = record { answers = IsReplayed work; stops = StopsReplay work }
-promise_of (command.Bench n) work = not_there work
-promise_of (command.Schema places) work = not_there work
+promise_of (command.Bench n) work = record { answers = IsBenched n work; stops = StopsBench n work }
+promise_of (command.Schema places) work = record { answers = IsSchemaKept places work; stops = StopsSchema places work }
 promise_of command.Sql work = not_there work
 promise_of (command.Load table mode n) work = not_there work
 promise_of (command.Export table) work = not_there work

@@ -1,5 +1,6 @@
 -- What the program promises of the play of a script.
-use Rattle.std.specs.Prelude.{◌≡◌, ◌⊎◌, ℕ, ◌<◌, Bool, true, false, List, [], length, slice_get, Option, None, Some}
+use Rattle.std.specs.Prelude.{◌≡◌, ◌≢◌, ◌⊎◌, ℕ, ◌<◌, true, List, [], length, map, slice_get, All, Contains, Option, None, Some}
+use Rattle.std.specs.List.{AllPairs}
 use Rattle.std.specs.FinMap.{empty}
 use Rattle.sdb_types.specs.declared.key.Key.{Key}
 use Rattle.sdb_types.specs.declared.key.TableName.{TableName}
@@ -7,6 +8,7 @@ use Rattle.sdb_types.specs.Bytes.{HasRisen, Takes, IsAtEnd}
 use Rattle.sdb_schema.specs.declared.table.Table.{Table}
 use Rattle.sdb_stores.specs.Shelf.{Attached, Shelf as Counted, HaveRisen, names_of}
 use Rattle.sdb_model.specs.declared.event.Outcome.{Outcome}
+use Rattle.sdb_model.specs.declared.script.Place.{Place}
 use Rattle.sdb_model.specs.declared.script.Script.{Script}
 use Rattle.sdb_model.specs.Causes.{AreCaused}
 use Rattle.sdb_model.specs.Counted.{AreCounted, AreResolved}
@@ -120,6 +122,11 @@ IsUnread stores input rest status.NoMemory = Unit {0}
 IsUnread stores input rest (status.BadInput n fault) = IsRefusedAs stores input.bytes rest.bytes (status.BadInput n fault)
 IsUnread stores input rest (status.Limit n which) = IsRefusedAs stores input.bytes rest.bytes (status.Limit n which)
 IsUnread stores input rest _ = ⊥
+
+-- A script's places can be made on attached stores: no two have one namespace, and each store is attached.
+pub record CanBePlaced (stores : List Name) (places : List Place) : Type 0 where
+  pub once : AllPairs ◌≢◌ (map (λ p. p.ns) places)
+  pub attached : All (λ p. Contains stores p.store) places
 
 -- The stores of a script's tables are fit for a run of it, as it places them, and hold nothing of them.
 pub record AreReady (script : Script) (stores : Attached) : Type 0 where

@@ -1,11 +1,13 @@
 //! The top call of the program.
 #![tactic(auto)]
 
+mod bench;
 mod input;
 mod places;
 mod play;
 mod program;
 mod replay;
+mod schema;
 mod status;
 mod streams;
 

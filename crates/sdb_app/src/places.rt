@@ -1,8 +1,8 @@
 //! Placing the namespaces of a script.
 ghost use Rattle.std.specs.Prelude.{◌≡◌, ◌<◌, ◌++◌, ◌∷◌, [], ℕ, length, Some, None, IsSome, OnOk, slice_get};
-ghost use Rattle.sdb_script.specs.Begun.{ArePlaces};
 ghost use Rattle.sdb_stores.specs.Shelf.{names_of, place_of, placed_on};
 ghost use Rattle.sdb_board.specs.Board.{placed};
+ghost use Rattle.sdb_app.specs.Run.{CanBePlaced};
 
 use sdb_model::{Place, Places};
 use sdb_stores::{PlaceRefused, Registry};
@@ -38,7 +38,7 @@ fn place<R: Registry>(stores: &mut R, place: &Place) -> Result<(), NoMemory>
 /// Places the namespaces of a script, where none has a place yet.
 pub fn place_all<R: Registry>(stores: &mut R, places: &Places) -> Result<(), NoMemory>
     requires none { (R.state stores.old).places ≡ [] }
-    requires fit { ArePlaces (names_of (R.state stores.old).shelves) places.now }
+    requires fit { CanBePlaced (names_of (R.state stores.old).shelves) places.now }
     ensures places { OnOk result (placed (R.state stores.new).places ≡ places.now) }
     ensures stores { (R.state stores.new).shelves ≡ (R.state stores.old).shelves }
     ensures telling { (i : ℕ) → (R.state stores.old).tells i → (R.state stores.new).tells i }

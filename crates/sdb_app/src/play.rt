@@ -3,7 +3,6 @@ ghost use Rattle.std.specs.Prelude.{◌≡◌, ◌<◌, [], length, Some, None, 
 ghost use Rattle.sdb_stores.specs.Shelf.{AreDistinct, names_of};
 ghost use Rattle.sdb_model.specs.Follows.{Follows};
 ghost use Rattle.sdb_model.specs.Told.{IsRun};
-ghost use Rattle.sdb_script.specs.Begun.{ArePlaces};
 ghost use Rattle.sdb_board.specs.Board.{AreFit, GoOn, HoldTheSame, shown};
 ghost use Rattle.sdb_board.specs.Opening.{first_key, opening_in};
 ghost use Rattle.sdb_causes.specs.Tied.{AnswersHaveCauses};
@@ -15,7 +14,7 @@ ghost use Rattle.sdb_world.specs.Played.{HasNotPlayed, IsOutcomeOf, IsPlayExplai
 ghost use Rattle.sdb_world.specs.World.{IsPlayable, IsWorld};
 ghost use Rattle.sdb_world.specs.Step.{CanFollow};
 ghost use Rattle.sdb_app.specs.Ends.{AreKept};
-ghost use Rattle.sdb_app.specs.Run.{AreReady, IsOutcome, Stops, StopsLook, StopsPlay, StopsWorld, TellOf, status_of_call, status_of_closing};
+ghost use Rattle.sdb_app.specs.Run.{AreReady, CanBePlaced, IsOutcome, Stops, StopsLook, StopsPlay, StopsWorld, TellOf, status_of_call, status_of_closing};
 
 use crate::places::place_all;
 use crate::status::Status;
@@ -119,7 +118,7 @@ pub fn play<R: Registry>(alloc: Global, stores: &mut R, script: Script) -> Resul
     requires distinct { AreDistinct (names_of (R.state stores.old).shelves) }
     requires playable { IsPlayable script }
     requires can { CanFollow script }
-    requires places { ArePlaces (names_of (R.state stores.old).shelves) script.places }
+    requires places { CanBePlaced (names_of (R.state stores.old).shelves) script.places }
     ensures made { IfOk result (IsOutcome (TellOf script (R.state stores.old)) script (R.state stores.old).shelves (R.state stores.new).shelves) }
     ensures err { IfErr result (StopsPlay script (R.state stores.old) (R.state stores.new).shelves) }
     ensures kept { AreKept (R.state stores.old) (R.state stores.new) }

@@ -3,9 +3,11 @@ ghost use Rattle.std.specs.Prelude.{◌≡◌, ◌<◌, ◌≤◌, [], length, m
 ghost use Rattle.sdb_stores.specs.Shelf.{AreDistinct, names_of};
 ghost use Rattle.sdb_words.specs.Commands.{AreWordsOf};
 ghost use Rattle.sdb_app.specs.Ends.{AreKept, ends, stream, work_of};
-ghost use Rattle.sdb_app.specs.Promise.{HasEnded, IsNoCommand, IsWritten, promise_of};
+ghost use Rattle.sdb_app.specs.Promise.{HasEnded, IsNoCommand, IsWithinLimits, IsWritten, promise_of};
 
+use crate::bench::bench;
 use crate::replay::replay;
+use crate::schema::schema;
 use crate::status::Status;
 use crate::streams::write_all;
 use sdb_stores::Registry;
@@ -37,6 +39,7 @@ fn answer<S: Registry, R: Source>(
     requires unplaced { (S.state stores.old).places ≡ [] }
     requires distinct { AreDistinct (names_of (S.state stores.old).shelves) }
     requires names { names.now ≡ names_of (S.state stores.old).shelves }
+    requires within { IsWithinLimits command.now }
     ensures answered { IfOk result (λ text. (promise_of command.now (work_of S.state (stream R.remaining R.faults) stores.old stores.new input.old input.new)).answers (string_bytes text)) }
     ensures err { IfErr result (promise_of command.now (work_of S.state (stream R.remaining R.faults) stores.old stores.new input.old input.new)).stops }
     ensures kept { AreKept (S.state stores.old) (S.state stores.new) }
@@ -44,9 +47,9 @@ fn answer<S: Registry, R: Source>(
 {
     match command {
         Command::Replay => replay(alloc, stores, input, names),
-        Command::Bench(_)
-        | Command::Schema(_)
-        | Command::Sql
+        Command::Bench(n) => bench(alloc, stores, *n, names),
+        Command::Schema(places) => schema(alloc, stores, input, places.as_slice()),
+        Command::Sql
         | Command::Load(_, _, _)
         | Command::Export(_)
         | Command::Retire(_, _)

@@ -3,6 +3,7 @@ ghost use Rattle.std.specs.Prelude.{◌≡◌, ◌++◌, IfOk, codes, decimal, s
 ghost use Rattle.sdb_model.specs.Texts.{key_text_of};
 ghost use Rattle.sdb_app.specs.Status.{code_of, line_of, which_name as which_name_lem};
 
+use sdb_loader::SchemaFault;
 use sdb_model::Which;
 use sdb_script::LineFault;
 use sdb_texts::key_text;
@@ -14,6 +15,8 @@ use std::alloc::Global;
 pub enum InputFault {
     /// With a line of a script.
     Line(LineFault),
+    /// With the JSON of a schema.
+    Json(SchemaFault),
 }
 
 /// How a run of the program ended.
@@ -32,9 +35,9 @@ pub enum Status {
     /// A store failed.
     StoreFault,
     NoMemory,
-    /// The tables of the script are not empty: this is the first record that was found.
+    /// The tables of the script, or of the bench, are not empty: this is the first record that was found.
     NotEmpty(Key),
-    /// A store holds a record at this key that no run leaves.
+    /// A store holds a record at this key that no run leaves, or a row that no catalog has there.
     BadStore(Key),
     /// The input is refused: at this line that quantity passes its limit.
     Limit(u64, Which),

@@ -16,4 +16,4 @@ mod words;
 
 pub use fault::{LineFault, ScriptRefused};
 pub use print::print_script;
-pub use read::{MOST_SCRIPT_BYTES, read_script};
+pub use read::{MOST_SCRIPT_BYTES, last_line, read_script};

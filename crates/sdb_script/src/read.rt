@@ -58,8 +58,8 @@ fn read_lines(alloc: Global, bytes: &[u8], stores: &Names) -> Result<(Drafting, 
     Ok((drafting, number))
 }
 
-// The number of the line that holds the first byte past the limit.
-fn last_line(bytes: &[u8]) -> u64
+/// The number of the line that holds the first byte past the limit of an input.
+pub fn last_line(bytes: &[u8]) -> u64
     requires { most_bytes < length bytes.now }
     ensures { result ≡ last_line_lem bytes.now }
 {

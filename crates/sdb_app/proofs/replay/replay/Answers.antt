@@ -1,9 +1,9 @@
 use Rattle.std.proofs.Common.{List, ℕ, subst, sym}
 use Rattle.sdb_app.specs.declared.status.Status.{Status}
 use Rattle.sdb_app.specs.Ends.{stream, work_of}
-use Rattle.sdb_app.specs.Run.{IsScriptRead, StopsReplay}
+use Rattle.sdb_app.specs.Run.{CanBePlaced, IsScriptRead, StopsReplay}
 use Rattle.sdb_app.specs.Run.StopsReplay.{Unplayed}
-use Rattle.sdb_app.proofs.Playable.{followable, playable}
+use Rattle.sdb_app.proofs.Playable.{followable, placeable, playable}
 use Rattle.sdb_app.proofs.Playing.{err_then}
 use Rattle.sdb_app.proofs.replay.replay.Goals as goal
 
@@ -12,6 +12,9 @@ play-requires-clause-playable g c = playable c.args.names.now _ c.in-Ok.script c
 
 pub play-requires-clause-can : goal.play-requires-clause-can
 play-requires-clause-can g c = followable c.args.names.now _ c.in-Ok.script c.in-Ok.ensures.read.form
+
+pub play-requires-clause-places : goal.play-requires-clause-places
+play-requires-clause-places g c = subst (λ (ns : List (List ℕ)). CanBePlaced ns c.in-Ok.script.places) c.requires.names (placeable c.args.names.now _ c.in-Ok.script c.in-Ok.ensures.read.form)
 
 pub returns-in-Ok-play-clause-err : goal.returns-in-Ok-play-clause-err
 returns-in-Ok-play-clause-err g c =

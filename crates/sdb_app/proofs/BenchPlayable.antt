@@ -1,0 +1,57 @@
+-- What the script of a bench gives its player.
+use Rattle.std.proofs.Common.{◌≡◌, ◌≢◌, ℕ, zero, suc, ◌<◌, ◌≤◌, true, not, List, [], ◌∷◌, map, codes, length, refl, sym, ap, subst, arith}
+use Rattle.std.specs.Prelude.{All, AllPairs, Contains}
+use Rattle.sdb_types.proofs.Basics.{all_each}
+use Rattle.sdb_model.specs.declared.script.Act.TheVariants as act
+use Rattle.sdb_model.specs.declared.script.Move.{Move}
+use Rattle.sdb_model.specs.declared.script.Move.TheVariants as move
+use Rattle.sdb_world.specs.World.{IsPlayable}
+use Rattle.sdb_world.specs.Step.{CanFollow, CanMove}
+use Rattle.sdb_bench.specs.Script.{IsOfNine, bench_places, bench_script_of}
+use Rattle.sdb_app.specs.Run.{CanBePlaced}
+use Rattle.sdb_bench.proofs.Playing.{bench_apart, bench_catalog_is, bench_moves_are, bench_nine, bench_short}
+
+-- The script of a bench can be played.
+pub playable : (n : ℕ) (first last : List ℕ) → IsPlayable (bench_script_of n first last)
+playable n first last =
+    record {
+      catalog = bench_catalog_is n first last;
+      apart = λ k f. ap not (bench_apart n first last k.table f);
+      few = let nine = bench_nine n first last in omega arith;
+      short = bench_short n first last;
+    }
+
+can_move : (n : ℕ) (first last : List ℕ) (m : Move) → IsOfNine m → CanMove (bench_script_of n first last) m
+can_move n first last (move.Act (act.Step c)) h = (h.0, subst (λ (k : ℕ). c ≤ k) (sym (bench_nine n first last)) h.1)
+can_move n first last (move.Act (act.Lose c)) h = absurd h
+can_move n first last (move.Act (act.Discard c)) h = absurd h
+can_move n first last (move.Act (act.Stop c)) h = absurd h
+can_move n first last (move.Act (act.Clock moment)) h = absurd h
+can_move n first last (move.Repeat c times) h = (h.0, subst (λ (k : ℕ). c ≤ k) (sym (bench_nine n first last)) h.1)
+can_move n first last move.Rest h = tt
+
+-- Each of its moves can be made.
+pub followable : (n : ℕ) (first last : List ℕ) → CanFollow (bench_script_of n first last)
+followable n first last =
+    all_each IsOfNine (CanMove (bench_script_of n first last)) (bench_script_of n first last).moves (can_move n first last) (bench_moves_are n first last)
+
+both : {X : Type 0} (P : X → Type 0) (x y : X) → P x → P y → All P (x ∷ y ∷ [])
+both P x y px py zero d less = px
+both P x y px py (suc zero) d less = py
+both P x y px py (suc (suc k)) d less = absurd (omega arith)
+
+differ : {X : Type 0} (x y : X) → x ≢ y → AllPairs ◌≢◌ (x ∷ y ∷ [])
+differ x y apart zero zero d less within = absurd (omega arith)
+differ x y apart zero (suc zero) d less within = apart
+differ x y apart zero (suc (suc j)) d less within = absurd (omega arith)
+differ x y apart (suc i) zero d less within = absurd (omega arith)
+differ x y apart (suc i) (suc j) d less within = absurd (omega arith)
+
+-- Its places can be made, where these two stores are attached.
+pub placeable : (stores : List (List ℕ)) (n : ℕ) (first last : List ℕ) → Contains stores first → Contains stores last → CanBePlaced stores (bench_script_of n first last).places
+unfolding bench_script_of
+placeable stores n first last has_first has_last =
+    record {
+      once = differ (codes "benchl") (codes "benchr") (λ e. cc);
+      attached = both _ _ _ has_first has_last;
+    }

@@ -1,0 +1,91 @@
+-- What the program promises of a schema that is kept.
+use Rattle.std.specs.Prelude.{◌≡◌, ◌<◌, ◌≤◌, ℕ, List, length, drop, Ok, Err}
+use Rattle.sdb_types.specs.Bytes.{HasRisen, Takes, IsAtEnd}
+use Rattle.sdb_schema.specs.declared.table.Table.{Table}
+use Rattle.sdb_loader.specs.declared.fault.SchemaFault.{SchemaFault}
+use Rattle.sdb_loader.specs.Described.{catalog_in}
+use Rattle.sdb_stores.specs.declared.place.Place.{Place}
+use Rattle.sdb_stores.specs.Shelf.{names_of}
+use Rattle.sdb_catalog.specs.declared.refused.CatalogRefused.{CatalogRefused}
+use Rattle.sdb_catalog.specs.declared.refused.CatalogRefused.TheVariants as refused
+use Rattle.sdb_catalog.specs.Calls.{IsUnread, first_contents}
+use Rattle.sdb_catalog.specs.Known.{IsLeftBy, IsStoredIn}
+use Rattle.sdb_catalog.specs.Written.{IsStored}
+use Rattle.sdb_model.specs.declared.script.Which.{Which}
+use Rattle.sdb_model.specs.declared.script.Which.TheVariants.{InputBytes}
+use Rattle.sdb_script.specs.Lines.{most_bytes}
+use Rattle.sdb_script.specs.Whole.{last_line}
+use Rattle.sdb_app.specs.declared.status.InputFault.{InputFault}
+use Rattle.sdb_app.specs.declared.status.InputFault.TheVariants.{Json, Line}
+use Rattle.sdb_app.specs.declared.status.Status.{Status}
+use Rattle.sdb_app.specs.declared.status.Status.TheVariants as status
+use Rattle.sdb_app.specs.Ends.{AreUnchanged, Stream, Work}
+
+---- the schema
+
+-- The input was read to its end, and describes this catalog.
+pub record IsSchemaRead (input rest : Stream) (catalog : List Table) : Type 0 where
+  pub text : List ℕ
+  pub taken : Takes text input.bytes rest.bytes
+  pub ended : IsAtEnd rest.bytes
+  pub small : length text ≤ most_bytes
+  pub described : catalog_in text ≡ Ok catalog
+
+-- The input was read to its end, and describes none because of this fault.
+pub record IsSchemaBad (input rest : Stream) (fault : SchemaFault) : Type 0 where
+  pub text : List ℕ
+  pub taken : Takes text input.bytes rest.bytes
+  pub ended : IsAtEnd rest.bytes
+  pub small : length text ≤ most_bytes
+  pub described : catalog_in text ≡ Err fault
+
+-- More bytes were read than an input may have, the first too many of them in this line.
+pub record IsInputLong (input rest : Stream) (n : ℕ) (which : Which) : Type 0 where
+  pub text : List ℕ
+  pub taken : Takes text input.bytes rest.bytes
+  pub long : most_bytes < length text
+  pub line : n ≡ last_line text
+  pub limit : which ≡ InputBytes
+
+-- What is wrong with the input is a fault of its schema, in line 1.
+abbrev pub IsSchemaFault : Stream → Stream → ℕ → InputFault → Type 0
+IsSchemaFault input rest n (Json fault) = (n ≡ 1) × IsSchemaBad input rest fault
+IsSchemaFault input rest n (Line fault) = ⊥
+
+-- Why no schema was read.
+abbrev pub IsSchemaUnread : Stream → Stream → Status → Type 0
+IsSchemaUnread input rest status.ReadFault = HasRisen input.faults rest.faults
+IsSchemaUnread input rest status.NoMemory = Unit {0}
+IsSchemaUnread input rest (status.BadInput n fault) = IsSchemaFault input rest n fault
+IsSchemaUnread input rest (status.Limit n which) = IsInputLong input rest n which
+IsSchemaUnread input rest _ = ⊥
+
+---- the rows of its catalog
+
+-- A schema was read, and its catalog was written with this answer: the lines are those that the calls on the first store gave. Where that
+-- had known contents, the lines are what these give, and it now holds the rows of each table that was created, and else what it held.
+-- The other stores are as they were.
+pub record IsSchemaKept (places : List Place) (work : Work) (answer : List ℕ) : Type 0 where
+  pub catalog : List Table
+  pub read : IsSchemaRead work.input work.rest catalog
+  pub stored : IsStored places catalog answer work.old work.left
+  pub known : work.old.tells 0 → IsStoredIn (names_of work.old.shelves) places catalog answer (first_contents work.old.shelves) (first_contents work.left)
+  pub others : drop 1 work.left ≡ drop 1 work.old.shelves
+
+-- A catalog was not written, for this cause. Where the first store had known contents, it holds what it held, and maybe the rows of the
+-- catalog's first tables. The other stores are as they were.
+pub record IsSchemaUnkept (places : List Place) (catalog : List Table) (work : Work) (cause : CatalogRefused) : Type 0 where
+  pub refused : IsUnread work.old work.left cause
+  pub known : work.old.tells 0 → IsLeftBy cause (names_of work.old.shelves) places catalog (first_contents work.old.shelves) (first_contents work.left)
+  pub others : drop 1 work.left ≡ drop 1 work.old.shelves
+
+-- how the program ends where a catalog was not written
+abbrev pub status_of_catalog : CatalogRefused → Status
+status_of_catalog refused.StoreFault = status.StoreFault
+status_of_catalog (refused.BadRow key) = status.BadStore key
+status_of_catalog refused.NoMemory = status.NoMemory
+
+-- Why `schema` has no answer: no schema was read, and the stores are as they were; or one was, and its catalog was not written.
+pub data StopsSchema (places : List Place) (work : Work) (s : Status) : Type 0 where
+  Unread : IsSchemaUnread work.input work.rest s → AreUnchanged work → StopsSchema places work s
+  Unkept : (catalog : List Table) (cause : CatalogRefused) → IsSchemaRead work.input work.rest catalog → IsSchemaUnkept places catalog work cause → s ≡ status_of_catalog cause → StopsSchema places work s
