@@ -41,12 +41,12 @@ table_parted t text h e = parted 46 refl no_dot t.ns t.table text h.0 e
 
 -- a word without a dot is no table's
 pub undotted : (word : List ℕ) → around 46 word ≡ None → (t : TableName) → IsTable t → word ≡ table_text t → ⊥
-undotted word h t fine e = none_some (t.ns, t.table) (sym h ∙ table_parted t word fine e)
+undotted word h t both e = none_some (t.ns, t.table) (sym h ∙ table_parted t word both e)
 
 -- nor is one whose halves aren't names
 pub unnamed : (word : List ℕ) (p : Halves) → around 46 word ≡ Some p → (is_column_name p.0 && is_column_name p.1) ≡ false → (t : TableName) → IsTable t → word ≡ table_text t → ⊥
-unnamed word p h n t fine e =
-    let same : p ≡ (t.ns, t.table) = some_is p (t.ns, t.table) (sym h ∙ table_parted t word fine e) in
-    let named : (is_column_name p.0 && is_column_name p.1) ≡ true = ap (λ (r : Halves). is_column_name r.0 && is_column_name r.1) same ∙ and_both (is_column_name t.ns) (is_column_name t.table) fine.0 fine.1 in
+unnamed word p h n t both e =
+    let same : p ≡ (t.ns, t.table) = some_is p (t.ns, t.table) (sym h ∙ table_parted t word both e) in
+    let named : (is_column_name p.0 && is_column_name p.1) ≡ true = ap (λ (r : Halves). is_column_name r.0 && is_column_name r.1) same ∙ and_both (is_column_name t.ns) (is_column_name t.table) both.0 both.1 in
     let bad : false ≡ true = sym n ∙ named in
     cc

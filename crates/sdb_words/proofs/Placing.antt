@@ -88,7 +88,7 @@ abbrev namespaces : List Place → List Text
 namespaces places = map (λ p. p.ns) places
 
 -- the place at some word of places
-pub place_at : (stores : List Text) (ps : List Place) (front : List Text) (word : Text) (rest : List Text) → All (IsPlace stores) ps → front ++ word ∷ rest ≡ texts ps → (p : Place) × IsPlace stores p × (word ≡ place_text p)
+pub place_at : (stores : List Text) (ps : List Place) (before : List Text) (word : Text) (rest : List Text) → All (IsPlace stores) ps → before ++ word ∷ rest ≡ texts ps → (p : Place) × IsPlace stores p × (word ≡ place_text p)
 place_at stores [] [] word rest all e = absurd cc
 place_at stores (p ∷ ps) [] word rest all e = (p, All-head (IsPlace stores) p ps all, cc)
 place_at stores [] (x ∷ xs) word rest all e = absurd cc
@@ -96,16 +96,16 @@ place_at stores (p ∷ ps) (x ∷ xs) word rest all e = place_at stores ps xs wo
 
 -- places of one list of texts begin with the same places
 pub begin_alike : (stores : List Text) (done ps : List Place) (p : Place) (rest : List Text) → All (IsPlace stores) done → IsPlace stores p → All (IsPlace stores) ps → texts done ++ place_text p ∷ rest ≡ texts ps → (more : List Place) × (ps ≡ done ++ p ∷ more)
-begin_alike stores [] [] p rest fine is all e = absurd cc
-begin_alike stores [] (q ∷ qs) p rest fine is all e =
+begin_alike stores [] [] p rest each is all e = absurd cc
+begin_alike stores [] (q ∷ qs) p rest each is all e =
     let text : place_text q ≡ place_text p = cc in
     (qs, ap (λ (x : Place). x ∷ qs) (same_place q p (All-head (IsPlace stores) q qs all).named is.named text))
-begin_alike stores (d ∷ ds) [] p rest fine is all e = absurd cc
-begin_alike stores (d ∷ ds) (q ∷ qs) p rest fine is all e =
+begin_alike stores (d ∷ ds) [] p rest each is all e = absurd cc
+begin_alike stores (d ∷ ds) (q ∷ qs) p rest each is all e =
     let text : place_text q ≡ place_text d = cc in
     let tail : texts ds ++ place_text p ∷ rest ≡ texts qs = cc in
-    let same = same_place q d (All-head (IsPlace stores) q qs all).named (All-head (IsPlace stores) d ds fine).named text in
-    let on = begin_alike stores ds qs p rest (All-tail (IsPlace stores) d ds fine) is (All-tail (IsPlace stores) q qs all) tail in
+    let same = same_place q d (All-head (IsPlace stores) q qs all).named (All-head (IsPlace stores) d ds each).named text in
+    let on = begin_alike stores ds qs p rest (All-tail (IsPlace stores) d ds each) is (All-tail (IsPlace stores) q qs all) tail in
     (on.0, ap₂ (λ (x : Place) (xs : List Place). x ∷ xs) same on.1)
 
 -- a namespace that is placed isn't placed again
@@ -122,8 +122,8 @@ apart (d ∷ ds) n rest h placed =
     (λ e. apart ds n rest (λ i j x less end. h (suc i) (suc j) x (omega arith) (omega arith)) (rw e at placed))
 
 pub placed_twice : (stores : List Text) (done : List Place) (p : Place) (rest : List Text) → All (IsPlace stores) done → IsPlace stores p → is_placed done p.ns ≡ true → (ps : List Place) → ArePlaces stores ps → texts done ++ place_text p ∷ rest ≡ texts ps → ⊥
-placed_twice stores done p rest fine is placed ps all e =
-    let on = begin_alike stores done ps p rest fine is all.each e in
+placed_twice stores done p rest each is placed ps all e =
+    let on = begin_alike stores done ps p rest each is all.each e in
     let once : AreDistinct (namespaces (done ++ p ∷ on.0)) = subst (λ (x : List Place). AreDistinct (namespaces x)) on.1 all.once in
     apart done p.ns (namespaces on.0) (subst AreDistinct (map-append (λ (x : Place). x.ns) done (p ∷ on.0)) once) placed
 

@@ -21,7 +21,7 @@ first_plain w rest h = unstripped w (and_first (is_undashed w) (are_undashed res
 others_plain : (w : Text) (rest : List Text) → are_undashed (w ∷ rest) ≡ true → are_undashed rest ≡ true
 others_plain w rest h = and_second (is_undashed w) (are_undashed rest) h
 
--- no fault isn't one
+-- a parse with a fault isn't one without
 one_kind : {X : Type 0} (f : Kinds) (k : ErrorKind) → f ≡ k ∷ [] → f ≡ [] → X
 one_kind f k e h = let bad : k ∷ [] ≡ [] = sym e ∙ h in absurd cc
 
