@@ -11,7 +11,7 @@ use Rattle.sdb_types.specs.declared.record.Reply.{Reply}
 use Rattle.sdb_types.specs.declared.record.Reply.TheVariants.{Applied, NotMet, Rows}
 use Rattle.sdb_types.specs.declared.record.Request.{Request}
 use Rattle.sdb_types.specs.declared.record.Request.TheVariants.{Scan}
-use Rattle.sdb_types.specs.Contents.{Contents, after, holds, put_reply, record_at, rows_in}
+use Rattle.sdb_types.specs.Contents.{Contents, holds, put_reply, record_at, rows_in}
 use Rattle.sdb_store.specs.Store.{Performs}
 use Rattle.sdb_schema.specs.declared.table.Table.{Table}
 use Rattle.sdb_stores.specs.declared.place.Place.{Place}
@@ -21,12 +21,12 @@ use Rattle.sdb_catalog.specs.declared.outcome.Outcome.{Outcome}
 use Rattle.sdb_catalog.specs.declared.outcome.Outcome.TheVariants as outcome
 use Rattle.sdb_catalog.specs.declared.refused.CatalogRefused.{CatalogRefused}
 use Rattle.sdb_catalog.specs.declared.refused.CatalogRefused.TheVariants as refused
-use Rattle.sdb_catalog.specs.Calls.{Called, IsRead, IsStopped, IsUnread, KeepContents, MayChange, first_contents, metadata_span, with_shelves}
+use Rattle.sdb_catalog.specs.Calls.{Called, IsRead, IsStopped, IsUnread, KeepContents, first_contents, metadata_span, with_shelves}
 use Rattle.sdb_catalog.specs.Definition.{definition_text}
 use Rattle.sdb_catalog.specs.Known.{CatalogState, IsBadIn, IsCatalogIn, IsLeftBy, IsPartlyStored, IsStoredIn, MayWrite, MayWriteFirst, first_name, has_definition, line_of, lines_of, outcome_at, outcome_in, state_after, state_of, after_entry, after_outcome, after_table}
 use Rattle.sdb_catalog.specs.Opened.{IsFirstBad, Opens, store_in, tables_of}
 use Rattle.sdb_catalog.specs.Rows.{definition_column, row_of, text_at}
-use Rattle.sdb_catalog.specs.Written.{AreWritten, HasDefinition, IsStored, IsWritten, Line, entry_for, grown, is_full, line_text, put_of, written_tables}
+use Rattle.sdb_catalog.specs.Written.{AreWritten, HasDefinition, IsStored, IsWritten, Line, entry_for, grown, line_text, put_of, written_tables}
 use Rattle.sdb_catalog.proofs.Calling.{first_before, first_now}
 use Rattle.sdb_catalog.proofs.Writes.{WrittenSo, known_after}
 

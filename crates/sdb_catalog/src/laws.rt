@@ -1,5 +1,6 @@
 //! Laws of the definitions that contracts cite.
 ghost use Rattle.std.specs.Prelude.{◌≡◌, ◌∷◌, [], ℕ, List, map, true, Ok};
+ghost use Rattle.sdb_types.specs.declared.key.Key.{Key};
 ghost use Rattle.sdb_types.specs.declared.record.Record.{Record};
 ghost use Rattle.sdb_schema.specs.declared.table.Table.{Table};
 ghost use Rattle.sdb_schema.specs.Table.{is_table};
@@ -8,7 +9,7 @@ ghost use Rattle.sdb_loader.specs.Described.{described_table};
 ghost use Rattle.sdb_catalog.specs.declared.entry.Entry.{Entry};
 ghost use Rattle.sdb_catalog.specs.Definition.{definition_text};
 ghost use Rattle.sdb_catalog.specs.Known.{CatalogState, IsWith, KeepsRecords, created_in, lines_of, state_after};
-ghost use Rattle.sdb_catalog.specs.Opened.{Follow, Opens};
+ghost use Rattle.sdb_catalog.specs.Opened.{Follow, IsFirstBad, Opens};
 ghost use Rattle.sdb_catalog.specs.Rows.{row_of};
 
 /// What a table's definition describes under the table's name is the table.
@@ -21,6 +22,12 @@ pub fn definitions()
 pub fn rows_are_read_back()
     ensures opened { (names : List (List ℕ)) (es : List Entry) → Follow names [] es → Opens names (map row_of es) es }
     ensures one { (names : List (List ℕ)) (rows : List Record) (es fs : List Entry) → Opens names rows es → Opens names rows fs → es ≡ fs }
+{}
+
+/// Rows that open as entries have no first bad row, and other rows have at most one.
+pub fn bad_rows_are_exact()
+    ensures none { (names : List (List ℕ)) (rows : List Record) (es : List Entry) (key : Key) → Opens names rows es → IsFirstBad names rows key → ⊥ }
+    ensures one { (names : List (List ℕ)) (rows : List Record) (a b : Key) → IsFirstBad names rows a → IsFirstBad names rows b → a ≡ b }
 {}
 
 /// Tables that are written one after the other add entries to the catalog, of those that are created, and the rows of these to its
