@@ -1,13 +1,15 @@
 -- What the script of a bench gives its player.
 use Rattle.std.proofs.Common.{◌≡◌, ◌≢◌, ℕ, zero, suc, ◌<◌, ◌≤◌, true, not, List, [], ◌∷◌, map, codes, length, refl, sym, ap, subst, arith}
 use Rattle.std.specs.Prelude.{All, AllPairs, Contains}
-use Rattle.sdb_types.proofs.Basics.{all_each}
+use Rattle.std.specs.Str.{bytes_eq}
+use Rattle.sdb_types.proofs.Basics.{all_each, clash}
 use Rattle.sdb_model.specs.declared.script.Act.TheVariants as act
 use Rattle.sdb_model.specs.declared.script.Move.{Move}
 use Rattle.sdb_model.specs.declared.script.Move.TheVariants as move
+use Rattle.sdb_model.specs.declared.script.Place.{Place}
 use Rattle.sdb_world.specs.World.{IsPlayable}
 use Rattle.sdb_world.specs.Step.{CanFollow, CanMove}
-use Rattle.sdb_bench.specs.Script.{IsOfNine, bench_places, bench_script_of}
+use Rattle.sdb_bench.specs.Script.{IsOfNine, bench_script_of}
 use Rattle.sdb_app.specs.Run.{CanBePlaced}
 use Rattle.sdb_bench.proofs.Playing.{bench_apart, bench_catalog_is, bench_moves_are, bench_nine, bench_short}
 
@@ -47,11 +49,16 @@ differ x y apart zero (suc (suc j)) d less within = absurd (omega arith)
 differ x y apart (suc i) zero d less within = absurd (omega arith)
 differ x y apart (suc i) (suc j) d less within = absurd (omega arith)
 
+sides_differ : codes "benchl" ≡ codes "benchr" → ⊥
+sides_differ e = clash (ap (bytes_eq (codes "benchl")) e)
+
 -- Its places can be made, where these two stores are attached.
 pub placeable : (stores : List (List ℕ)) (n : ℕ) (first last : List ℕ) → Contains stores first → Contains stores last → CanBePlaced stores (bench_script_of n first last).places
 unfolding bench_script_of
 placeable stores n first last has_first has_last =
+    let left : Place = record { ns = codes "benchl"; store = first } in
+    let right : Place = record { ns = codes "benchr"; store = last } in
     record {
-      once = differ (codes "benchl") (codes "benchr") (λ e. cc);
-      attached = both _ _ _ has_first has_last;
+      once = differ (codes "benchl") (codes "benchr") sides_differ;
+      attached = both (λ (p : Place). Contains stores p.store) left right has_first has_last;
     }
