@@ -21,3 +21,4 @@ pub mod Fresh
 pub mod Plain
 pub mod Texts
 pub mod Starves
+pub mod Working

@@ -16,7 +16,7 @@ use Rattle.sdb_session.specs.Chain.{Exchanged, Starved}
 use Rattle.sdb_session.specs.Session.{Exchange, is_commit}
 
 -- a text reads as COMMIT exactly where it says so
-reads_as_commit : (text : List ℕ) (says : Result Statement Refusal) → Says text says → reads_commit text ≡ is_commit says
+pub reads_as_commit : (text : List ℕ) (says : Result Statement Refusal) → Says text says → reads_commit text ≡ is_commit says
 reads_as_commit text (Err r) h = refused_no_commit text r h
 reads_as_commit text (Ok statement.Commit) h = (commit_read text).1 h
 reads_as_commit text (Ok statement.Begin) h = other_no_commit text statement.Begin h (λ e. cc)

@@ -12,3 +12,4 @@ pub mod Session
 pub mod Between
 pub mod Chain
 pub mod Turns
+pub mod Working

@@ -141,17 +141,17 @@ turned_away catalog opened (Ok statement.Commit) = if opened then None else Some
 turned_away catalog opened (Ok statement.Rollback) = if opened then None else Some (refused 5)
 turned_away catalog opened (Ok st) = if opened then option_map (λ r. answer.Refused r) (refusal_of catalog st) else Some (refused 5)
 
--- A statement that is not turned away has an answer of its kind.
-abbrev pub MayAnswer : Result Statement Refusal → Answer → Type 0
-MayAnswer says answer.Vacuuming = ⊥
-MayAnswer says answer.OpenTransactions = ⊥
-MayAnswer says (answer.Refused r) = is_too_many (answer.Refused r) ≡ true
-MayAnswer says a = Unit {0}
+-- The answer of a statement that isn't turned away: of the refusals only that for too many writes, and nothing that other clients cause.
+abbrev pub MayAnswer : Answer → Type 0
+MayAnswer answer.Vacuuming = ⊥
+MayAnswer answer.OpenTransactions = ⊥
+MayAnswer (answer.Refused r) = is_too_many (answer.Refused r) ≡ true
+MayAnswer a = Unit {0}
 
 -- Turned away exactly where it has to be, unless memory ran out.
 pub record IsTaken (catalog : List Table) (opened : Bool) (e : Exchange) : Type 0 where
   pub away : (a : Answer) → turned_away catalog opened e.says ≡ Some a → (e.answer ≡ a) ⊎ (e.answer ≡ answer.NoMemory)
-  pub stays : turned_away catalog opened e.says ≡ None → MayAnswer e.says e.answer
+  pub stays : turned_away catalog opened e.says ≡ None → MayAnswer e.answer
 
 -- So is each statement, by whether a transaction is open before it.
 abbrev pub AreTaken : List Table → List Exchange → Type 0

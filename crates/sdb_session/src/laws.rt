@@ -1,5 +1,5 @@
 //! Laws of a session of one client that is alone.
-ghost use Rattle.std.specs.Prelude.{◌≡◌, ℕ, ◌++◌, ◌∷◌, [], List, Option, Some, Ok, Result};
+ghost use Rattle.std.specs.Prelude.{◌≡◌, ℕ, ◌++◌, ◌∷◌, [], List, Option, Some, Ok, Result, Bool, is_some};
 ghost use Rattle.sdb_types.specs.declared.key.Key.{Key};
 ghost use Rattle.sdb_types.specs.declared.record.Record.{Record};
 ghost use Rattle.sdb_types.specs.declared.record.Reply.{Reply};
@@ -14,7 +14,7 @@ ghost use Rattle.sdb_model.specs.Events.{IsCall, Shelf};
 ghost use Rattle.sdb_model.specs.Rows.{Name};
 ghost use Rattle.sdb_phases.specs.Commit.{step};
 ghost use Rattle.sdb_phases.specs.Recover.{recover_next};
-ghost use Rattle.sdb_client.specs.Client.{ClientAt, Says, starved};
+ghost use Rattle.sdb_client.specs.Client.{ClientAt, IsIdle, Says, starved};
 ghost use Rattle.sdb_session.specs.Database.{AreOwn, Called, Database, database_of};
 ghost use Rattle.sdb_session.specs.OnlyResolves.{IsSound};
 ghost use Rattle.sdb_session.specs.Recovers.{RecoversTo};
@@ -23,6 +23,7 @@ ghost use Rattle.sdb_session.specs.Seen.{HasTables};
 ghost use Rattle.sdb_session.specs.Session.{Exchange, IsSerialSession, no_parts};
 ghost use Rattle.sdb_session.specs.Between.{Between, LeadsTo, OpenTransaction};
 ghost use Rattle.sdb_session.specs.Chain.{Chain, Exchanged, IsReached, open_after};
+ghost use Rattle.sdb_session.specs.Working.{IsAtWork, LeadsOn, RepliedBy, TakenBy};
 ghost use Rattle.sdb_session.specs.Turns.{CommitReplied, RecoveryReplied, RepliedAlone, SessionAlone, TakenAlone};
 
 /// A call on stores returns what is at its key, and changes the database there alone.
@@ -64,6 +65,18 @@ pub fn takings_run_out()
 /// It gets the reply to its call: its statement waits for another, or is answered.
 pub fn replies_lead_on()
     ensures { (r : RepliedAlone) → LeadsTo r.catalog r.was r.fresh r.now (Ok r.statement) r.h r.opened r.result r.after }
+{}
+
+/// Whatever stores answer, a client that takes a statement has answered it or is at work on it: where the statement is turned away, and
+/// whether a transaction is open then, is as the definitions say.
+pub fn takings_end()
+    ensures { (t : TakenBy) → LeadsOn t.taking.catalog (is_some t.before.txn) t.says t.taking.now t.taking.fresh t.result t.after }
+{}
+
+/// Whatever reply a client at work gets, it has answered its statement or is at work on it, and waits for a statement only where it isn't.
+pub fn replies_end()
+    ensures replies { (r : RepliedBy) → LeadsOn r.catalog r.opened (Ok r.statement) r.moment r.id r.result r.after }
+    ensures busy { (st : Statement) (opened : Bool) (c : ClientAt) → IsAtWork st opened c → IsIdle c → ⊥ }
 {}
 
 /// One statement more; and what is so after these statements.

@@ -1,0 +1,6 @@
+//! One client at work: a statement is taken and its calls are made until it is answered.
+#![tactic(auto)]
+
+mod answering;
+
+pub use answering::answer;
