@@ -1,1 +1,4 @@
-mod Making
+pub mod Making
+pub mod Moments
+pub mod Sessions
+pub mod Chains

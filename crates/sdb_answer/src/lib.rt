@@ -2,5 +2,8 @@
 #![tactic(auto)]
 
 mod answering;
+mod drawn;
+mod session;
 
 pub use answering::answer;
+pub use session::Session;

@@ -22,3 +22,4 @@ pub mod Plain
 pub mod Texts
 pub mod Starves
 pub mod Working
+pub mod Betweens

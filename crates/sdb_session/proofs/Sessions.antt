@@ -73,13 +73,13 @@ body_append (x ∷ es) e = by (in_body x) (in_body e) (body_append es e)
     by (Some y) None h = ap (λ bs. y ∷ bs) h
     by (Some y) (Some c) h = ap (λ bs. y ∷ bs) h
 
-none_open : (es : List Exchange) (e : Exchange) → changes_nothing e.answer ≡ true → body_in (es ++ e ∷ []) ≡ body_in es
+pub none_open : (es : List Exchange) (e : Exchange) → changes_nothing e.answer ≡ true → body_in (es ++ e ∷ []) ≡ body_in es
 none_open es e n = body_append es e ∙ ap (λ o. option_map_or (λ b. body_in es ++ b ∷ []) o (body_in es)) (ap (λ b. if b then None else elim e.says [ Ok st ↦ Some (st, e.answer) | Err r ↦ None ]) n)
 
-one_open : (es : List Exchange) (e : Exchange) (st : Statement) → e.says ≡ Ok st → changes_nothing e.answer ≡ false → body_in (es ++ e ∷ []) ≡ body_in es ++ (st, e.answer) ∷ []
+pub one_open : (es : List Exchange) (e : Exchange) (st : Statement) → e.says ≡ Ok st → changes_nothing e.answer ≡ false → body_in (es ++ e ∷ []) ≡ body_in es ++ (st, e.answer) ∷ []
 one_open es e st says n = body_append es e ∙ ap (λ o. option_map_or (λ b. body_in es ++ b ∷ []) o (body_in es)) (ap (λ b. if b then None else elim e.says [ Ok x ↦ Some (x, e.answer) | Err r ↦ None ]) n ∙ ap (λ (s : Result Statement Refusal). elim s [ Ok x ↦ Some (x, e.answer) | Err r ↦ None ]) says)
 
-map_more : {A B : Type 0} (f : A → B) (xs : List A) (x : A) → map f (xs ++ x ∷ []) ≡ map f xs ++ f x ∷ []
+pub map_more : {A B : Type 0} (f : A → B) (xs : List A) (x : A) → map f (xs ++ x ∷ []) ≡ map f xs ++ f x ∷ []
 map_more f [] x = refl
 map_more f (y ∷ xs) x = ap (λ ys. f y ∷ ys) (map_more f xs x)
 
@@ -90,11 +90,11 @@ refused_of None z e = none_some z e
 refused_of (Some r) z e = (r, sym (some_is (answer.Refused r) z e))
 
 pub record IsAway (says : Result Statement Refusal) (z : Answer) : Type 0 where
-  commit : is_commit says ≡ false
-  rollback : is_rollback says ≡ false
-  mild : (z ≡ answer.OpenTransactions) ⊎ ((r : Refusal) × (z ≡ answer.Refused r))
+  pub commit : is_commit says ≡ false
+  pub rollback : is_rollback says ≡ false
+  pub mild : (z ≡ answer.OpenTransactions) ⊎ ((r : Refusal) × (z ≡ answer.Refused r))
 
-away_open : (catalog : List Table) (says : Result Statement Refusal) (z : Answer) → turned_away catalog true says ≡ Some z → IsAway says z
+pub away_open : (catalog : List Table) (says : Result Statement Refusal) (z : Answer) → turned_away catalog true says ≡ Some z → IsAway says z
 away_open catalog (Err r) z e = record { commit = refl; rollback = refl; mild = inr (r, sym (some_is (answer.Refused r) z e)) }
 away_open catalog (Ok statement.Begin) z e = record { commit = refl; rollback = refl; mild = inr (_, sym (some_is _ z e)) }
 away_open catalog (Ok statement.Commit) z e = none_some z e
@@ -107,10 +107,10 @@ away_open catalog (Ok (statement.Delete s)) z e = record { commit = refl; rollba
 away_open catalog (Ok (statement.Select s)) z e = record { commit = refl; rollback = refl; mild = inr (refused_of (refusal_of catalog (statement.Select s)) z e) }
 
 pub record IsAwayOutside (says : Result Statement Refusal) (z : Answer) : Type 0 where
-  begin : is_begin says ≡ false
-  mild : (r : Refusal) × (z ≡ answer.Refused r)
+  pub begin : is_begin says ≡ false
+  pub mild : (r : Refusal) × (z ≡ answer.Refused r)
 
-away_none : (catalog : List Table) (says : Result Statement Refusal) (z : Answer) → turned_away catalog false says ≡ Some z → IsAwayOutside says z
+pub away_none : (catalog : List Table) (says : Result Statement Refusal) (z : Answer) → turned_away catalog false says ≡ Some z → IsAwayOutside says z
 away_none catalog (Err r) z e = record { begin = refl; mild = (r, sym (some_is (answer.Refused r) z e)) }
 away_none catalog (Ok statement.Begin) z e = none_some z e
 away_none catalog (Ok statement.Commit) z e = record { begin = refl; mild = (_, sym (some_is _ z e)) }
@@ -123,11 +123,11 @@ away_none catalog (Ok (statement.Delete s)) z e = record { begin = refl; mild = 
 away_none catalog (Ok (statement.Select s)) z e = record { begin = refl; mild = (_, sym (some_is _ z e)) }
 
 -- a statement on a table is none of the words
-record IsNoWord (says : Result Statement Refusal) : Type 0 where
-  commit : is_commit says ≡ false
-  rollback : is_rollback says ≡ false
+pub record IsNoWord (says : Result Statement Refusal) : Type 0 where
+  pub commit : is_commit says ≡ false
+  pub rollback : is_rollback says ≡ false
 
-no_word : (catalog : List Table) (st : Statement) (t : Table) → named_table catalog st ≡ Some t → IsNoWord (Ok st)
+pub no_word : (catalog : List Table) (st : Statement) (t : Table) → named_table catalog st ≡ Some t → IsNoWord (Ok st)
 no_word catalog (statement.Insert s) t e = record { commit = refl; rollback = refl }
 no_word catalog (statement.Upsert s) t e = record { commit = refl; rollback = refl }
 no_word catalog (statement.Update s) t e = record { commit = refl; rollback = refl }
@@ -138,7 +138,7 @@ no_word catalog statement.Commit t e = none_some t e
 no_word catalog statement.Rollback t e = none_some t e
 no_word catalog statement.Vacuum t e = none_some t e
 
-stays_by : (e : Exchange) → is_commit e.says ≡ false → is_conflict (Some e.answer) ≡ false → is_rollback e.says ≡ false → ends e ≡ false
+pub stays_by : (e : Exchange) → is_commit e.says ≡ false → is_conflict (Some e.answer) ≡ false → is_rollback e.says ≡ false → ends e ≡ false
 stays_by e c k r = ap (λ b. b || (is_conflict (Some e.answer) || (is_rollback e.says && is_done (Some e.answer)))) c ∙ ap (λ b. b || (is_rollback e.says && is_done (Some e.answer))) k ∙ ap (λ b. b && is_done (Some e.answer)) r
 
 ---- one statement more
@@ -163,24 +163,24 @@ few_nothing catalog d front e nothing other = record { fits = λ st says stays p
 ---- answers
 
 -- an answer of a statement that isn't the last of its transaction, and never one of those that never come
-record IsMeek (z : Answer) : Type 0 where
-  conflict : is_conflict (Some z) ≡ false
-  never : NeverComes z → ⊥
+pub record IsMeek (z : Answer) : Type 0 where
+  pub conflict : is_conflict (Some z) ≡ false
+  pub never : NeverComes z → ⊥
 
-rows_meek : (z : Answer) → is_answered_from_rows z ≡ true → IsMeek z × ((P : Key → TxId → ℤ → Type 0) → IfBusy z P)
+pub rows_meek : (z : Answer) → is_answered_from_rows z ≡ true → IsMeek z × ((P : Key → TxId → ℤ → Type 0) → IfBusy z P)
 rows_meek (answer.Rows rows) h = (record { conflict = refl; never = λ n. n }, λ P. tt)
 rows_meek (answer.Count n) h = (record { conflict = refl; never = λ x. x }, λ P. tt)
 rows_meek (answer.Duplicate key) h = (record { conflict = refl; never = λ x. x }, λ P. tt)
 rows_meek z h = absurd (cc)
 
-idle_meek : (g : Database) (a : Access) (now : ℤ) (z : Answer) → IdleAlone g a now z → IsMeek z
+pub idle_meek : (g : Database) (a : Access) (now : ℤ) (z : Answer) → IdleAlone g a now z → IsMeek z
 idle_meek g a now (answer.Busy key id at) h = record { conflict = refl; never = λ x. x }
 idle_meek g a now (answer.Refused r) h = record { conflict = refl; never = λ x. x }
 idle_meek g a now answer.Faulted h = record { conflict = refl; never = λ x. x }
 idle_meek g a now answer.NoMemory h = record { conflict = refl; never = λ x. x }
 idle_meek g a now z h = absurd h
 
-mild_meek : (z : Answer) → (z ≡ answer.OpenTransactions) ⊎ ((r : Refusal) × (z ≡ answer.Refused r)) → IsMeek z × (changes_nothing z ≡ true) × ((P : Key → TxId → ℤ → Type 0) → IfBusy z P)
+pub mild_meek : (z : Answer) → (z ≡ answer.OpenTransactions) ⊎ ((r : Refusal) × (z ≡ answer.Refused r)) → IsMeek z × (changes_nothing z ≡ true) × ((P : Key → TxId → ℤ → Type 0) → IfBusy z P)
 mild_meek z (inl e) = subst (λ y. IsMeek y × (changes_nothing y ≡ true) × ((P : Key → TxId → ℤ → Type 0) → IfBusy y P)) (sym e) (record { conflict = refl; never = λ x. x }, refl, λ P. tt)
 mild_meek z (inr (r, e)) = subst (λ y. IsMeek y × (changes_nothing y ≡ true) × ((P : Key → TxId → ℤ → Type 0) → IfBusy y P)) (sym e) (record { conflict = refl; never = λ x. x }, refl, λ P. tt)
 

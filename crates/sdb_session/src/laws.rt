@@ -82,6 +82,7 @@ pub fn replies_end()
 /// One statement more; and what is so after these statements.
 pub fn chains_are_extended()
     ensures longer { (catalog : List Table) (start g h : Database) (es : List Exchange) (e : Exchange) (c : ClientAt) → Chain catalog start no_parts es g → AreOwn h → Exchanged catalog g (open_after es) e h c → Chain catalog start no_parts (es ++ e ∷ []) h }
+    ensures between { (catalog : List Table) (g h : Database) (es : List Exchange) (e : Exchange) (c : ClientAt) → Exchanged catalog g (open_after es) e h c → Between catalog h (open_after (es ++ e ∷ [])) c }
     ensures reached { (s : SessionAlone) → IsReached s.catalog s.opening s.last s.before s.exchanges }
 {}
 
