@@ -149,7 +149,7 @@ none_yet c events text result =
 ---- the taking
 
 module _ (q : Taking) (events : List Event) (hands : ℕ → Hand) (ex : AreTied q.catalog events q.now hands) (c : ℕ) (ready : IsReady hands c) (gate : IsGate hands c q.gate) (moment : is_moment q.now ≡ true) (is : is_catalog q.catalog ≡ true)
-    (sound : (t : TxnAt) → (hands c).client.txn ≡ Some t → IsTaken t.seen) (apart : (x : Key) → is_some (find_table q.catalog x.table) ≡ true → is_data x ≡ true) (text : List ℕ) where
+    (sound : (t : TxnAt) → (hands c).client.txn ≡ Some t → IsTaken t.seen) (apart : (x : Key) → is_some (find_table q.catalog x.table) ≡ true → is_data x ≡ true) (text : List ℕ) (numbered : q.fresh ≡ next_id (hands c).client) where
   abbrev h : Client
   h = (hands c).client
 
@@ -190,7 +190,7 @@ module _ (q : Taking) (events : List Event) (hands : ℕ → Hand) (ex : AreTied
 
   ---- what it is answered
 
-  turns_begin : (o : Option TxnAt) (result : Option Answer) (d : Client) → is_some o ≡ true → BeginTold q.gate h o result d → result ≡ Some (refused 4)
+  turns_begin : (o : Option TxnAt) (result : Option Answer) (d : Client) → is_some o ≡ true → BeginTold q.gate q.fresh h o result d → result ≡ Some (refused 4)
   turns_begin (Some t) result d e x = x.answer
   turns_begin None result d e x = clash (sym e)
 
@@ -202,7 +202,7 @@ module _ (q : Taking) (events : List Event) (hands : ℕ → Hand) (ex : AreTied
   turns_rollback (Some t) result d e x = clash e
   turns_rollback None result d e x = x.answer
 
-  turns_ask : (st : Statement) (o : Option TxnAt) (result : Option Answer) (d : Client) → is_some o ≡ false → AskTold q st h o result d → result ≡ Some (refused 5)
+  turns_ask : (st : Statement) (o : Option TxnAt) (result : Option Answer) (d : Client) → is_some o ≡ false → AskTold q.catalog st h o result d → result ≡ Some (refused 5)
   turns_ask st (Some t) result d e x = clash e
   turns_ask st None result d e x = x.answer
 
@@ -217,7 +217,7 @@ module _ (q : Taking) (events : List Event) (hands : ℕ → Hand) (ex : AreTied
   turns_outside (statement.Delete s) result d n e x = turns_ask (statement.Delete s) h.txn result d e x
   turns_outside (statement.Select s) result d n e x = turns_ask (statement.Select s) h.txn result d e x
 
-  unfits : (st : Statement) (r : Refusal) (o : Option TxnAt) (result : Option Answer) (d : Client) → is_some o ≡ true → refusal_of q.catalog st ≡ Some r → AskTold q st h o result d → result ≡ Some (answer.Refused r)
+  unfits : (st : Statement) (r : Refusal) (o : Option TxnAt) (result : Option Answer) (d : Client) → is_some o ≡ true → refusal_of q.catalog st ≡ Some r → AskTold q.catalog st h o result d → result ≡ Some (answer.Refused r)
   unfits st r (Some t) result d e f x = (x.refused r f).answer
   unfits st r None result d e f x = clash (sym e)
 
@@ -258,11 +258,11 @@ module _ (q : Taking) (events : List Event) (hands : ℕ → Hand) (ex : AreTied
       by true e = clash (sym (sym (sweeping d) ∙ is) ∙ ap is_some (ap (λ n. (hands n).client.vacuum) (eqb-true d c e) ∙ ready.idle.free))
       by false e = by_test q.gate.vacuum_runs (λ t. t) (λ f. clash (sym (sym (sweeping d) ∙ is) ∙ gate.rests f d (eqb-false d c e) (sym (ex.stopped d) ∙ goes)))
 
-  gate_turned : (b : Bool) (result : Option Answer) (d : Client) → b ≡ true → GateTold b h result d → result ≡ Some answer.Vacuuming
+  gate_turned : (b : Bool) (result : Option Answer) (d : Client) → b ≡ true → GateTold b q.fresh h result d → result ≡ Some answer.Vacuuming
   gate_turned true result d e x = x.answer
   gate_turned false result d e x = clash (sym e)
 
-  turns_sweep : (o : Option TxnAt) (result : Option Answer) (d : Client) → is_some o ≡ false → q.gate.vacuum_runs ≡ true → BeginTold q.gate h o result d → result ≡ Some answer.Vacuuming
+  turns_sweep : (o : Option TxnAt) (result : Option Answer) (d : Client) → is_some o ≡ false → q.gate.vacuum_runs ≡ true → BeginTold q.gate q.fresh h o result d → result ≡ Some answer.Vacuuming
   turns_sweep (Some t) result d e f x = clash e
   turns_sweep None result d e f x = gate_turned q.gate.vacuum_runs result d f x
 
@@ -529,7 +529,7 @@ module _ (q : Taking) (events : List Event) (hands : ℕ → Hand) (ex : AreTied
   at_end b agrees caused turned no_begin over tells =
       at_once b (resting h) agrees caused turned refl (k.begun ∙ sym (begun_same k.told (one (Some b)) no_begin)) k.small (on_free (Some b) h.begun (k.told ++ one (Some b) ∷ []) None None None (refl, after_more k.told (one (Some b)) ∙ after_end (open_after k.told) (one (Some b)) b no_begin over refl)) tt tt tt (λ one_each. ((λ opens. tells (rest_of (from_begin (begun_in k.told) k.told))), tt))
 
-  begin_case : (o : Option TxnAt) (result : Option Answer) (d : Client) → h.txn ≡ o → Reads text statement.Begin → d.begun < 2 ^ 64 → Turned result → BeginTold q.gate h o result d → So result d
+  begin_case : (o : Option TxnAt) (result : Option Answer) (d : Client) → h.txn ≡ o → Reads text statement.Begin → d.begun < 2 ^ 64 → Turned result → BeginTold q.gate q.fresh h o result d → So result d
   begin_case (Some t) result d e reads few turned x = as_refused (record { kind = 4; place = 0 }) result d (λ z. other_no_commit text statement.Begin reads (λ y. cc)) x (inr (inl (reads, opened c ∙ ap is_some e, refl))) turned
   begin_case None result d e reads few turned x = by q.gate.vacuum_runs refl x
     where
@@ -549,13 +549,13 @@ module _ (q : Taking) (events : List Event) (hands : ℕ → Hand) (ex : AreTied
         client = ready.small;
       }
 
-      by : (b : Bool) → q.gate.vacuum_runs ≡ b → GateTold b h result d → So result d
+      by : (b : Bool) → q.gate.vacuum_runs ≡ b → GateTold b q.fresh h result d → So result d
       by true f y =
           let other : SomeSweeps hands c = gate.sweeps f in
           as_told answer.Vacuuming result d (record { undone = refl; agrees = refl }) (λ z. other_no_commit text statement.Begin reads (λ w. cc)) (λ z. clash (sym z ∙ ap is_some e)) y (λ z. by_turning answer.Vacuuming (inr (inr (inr (inr (inl (reads, opened c ∙ ap is_some e, (other.0, ex.stopped other.0 ∙ other.2, sweeping other.0 ∙ other.3), refl))))))) turned
       by false f y =
-          as_so (Some answer.Done) result (with_begun h) d y.0 y.1
-          (at_once answer.Done (with_begun h) refl (λ z. inl reads) (subst Turned y.0 turned) refl (ap (λ n. n + 1) k.begun ∙ sym (begun_more k.told (one (Some answer.Done)) begun_now)) (subst (λ (x : Client). x.begun < 2 ^ 64) y.1 few)
+          as_so (Some answer.Done) result (with_begun h (next_id h)) d y.0 (y.1 ∙ ap (with_begun h) numbered)
+          (at_once answer.Done (with_begun h (next_id h)) refl (λ z. inl reads) (subst Turned y.0 turned) refl (ap (λ n. n + 1) k.begun ∙ sym (begun_more k.told (one (Some answer.Done)) begun_now)) (subst (λ (x : Client). x.begun < 2 ^ 64) (y.1 ∙ ap (with_begun h) numbered) few)
           (after_more k.told (one (Some answer.Done)) ∙ after_begin (open_after k.told) (one (Some answer.Done)) begun_now, opens, refl, λ one_each. record { reads = tt; scans = tt }) (subst (λ ss. NotesAre (notes_told (E (Some answer.Done)) c (rest_of ss)) [] []) (sym opens.since) (record { reads = refl; scans = refl }))
           (filled_nothing (counted_told (rest_of (from_begin (h.begun + 1) (k.told ++ one (Some answer.Done) ∷ [])))) (found_told (E (Some answer.Done)) c (rest_of (from_begin (h.begun + 1) (k.told ++ one (Some answer.Done) ∷ []))))) (fit_nothing q.catalog) (λ one_each. ((λ was. tt), (λ key noted. clash (sym noted)))))
 
@@ -679,7 +679,7 @@ module _ (q : Taking) (events : List Event) (hands : ℕ → Hand) (ex : AreTied
             noted_still q.catalog events (event.Take c text None) c h.begun k.told t s.1 k.answered t.seen s.2,
           ) (noted_open t e, (inner.commit, refl)) (filled_reading t e) (fit_open t e) (none_found (E None) (reads_vacuum text)) (sees_reading t e)
 
-  table_case : (st : Statement) (t : TxnAt) (result : Option Answer) (d : Client) → h.txn ≡ Some t → Reads text st → IsInner text → reads_vacuum text ≡ false → is_some (table_of st) ≡ true → Turned result → TableTold q st h t result d → So result d
+  table_case : (st : Statement) (t : TxnAt) (result : Option Answer) (d : Client) → h.txn ≡ Some t → Reads text st → IsInner text → reads_vacuum text ≡ false → is_some (table_of st) ≡ true → Turned result → TableTold q.catalog st h t result d → So result d
   table_case st t result d e reads inner no_sweep on turned x = by_refusal (refusal_of q.catalog st) refl
     where
       by_table : (o : Option Table) → refusal_of q.catalog st ≡ None → named_table q.catalog st ≡ o → So result d
@@ -690,7 +690,7 @@ module _ (q : Taking) (events : List Event) (hands : ℕ → Hand) (ex : AreTied
       by_refusal (Some r) f = as_refused r result d (λ z. inner.commit) (x.refused r f) (inr (inr (inr (inl (st, r, reads, opened c ∙ ap is_some e, on, f, refl))))) turned
       by_refusal None f = by_table (named_table q.catalog st) f refl
 
-  ask_case : (st : Statement) (o : Option TxnAt) (result : Option Answer) (d : Client) → h.txn ≡ o → Reads text st → IsInner text → reads_vacuum text ≡ false → is_some (table_of st) ≡ true → NeedsTransaction st → Turned result → AskTold q st h o result d → So result d
+  ask_case : (st : Statement) (o : Option TxnAt) (result : Option Answer) (d : Client) → h.txn ≡ o → Reads text st → IsInner text → reads_vacuum text ≡ false → is_some (table_of st) ≡ true → NeedsTransaction st → Turned result → AskTold q.catalog st h o result d → So result d
   ask_case st None result d e reads inner no_sweep on needs turned x = as_refused (record { kind = 5; place = 0 }) result d (λ z. inner.commit) x (outside st reads needs e) turned
   ask_case st (Some t) result d e reads inner no_sweep on needs turned x = table_case st t result d e reads inner no_sweep on turned x
 

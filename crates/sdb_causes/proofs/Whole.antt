@@ -26,7 +26,7 @@ use Rattle.sdb_model.specs.Causes.{ConflictsAtCommit, IsCaused, IsCommitOf, IsCo
 use Rattle.sdb_model.specs.Exec.{Tables, find_table}
 use Rattle.sdb_model.specs.Follows.{has_stopped, stops}
 use Rattle.sdb_model.specs.Transactions.{Said, ends, from_begin, id_of, ordinal_of, rest_of, said, statements_of, through_end, with_answer}
-use Rattle.sdb_client.specs.Client.{ClientAt as Client, ReplyTold, Taking, nothing_done}
+use Rattle.sdb_client.specs.Client.{ClientAt as Client, ReplyTold, Taking, nothing_done, next_id}
 use Rattle.sdb_snapshot.specs.Held.{WereRead}
 use Rattle.sdb_laws.specs.Lawful.{is_data}
 use Rattle.sdb_steps.specs.About.{IsOfTables}
@@ -123,12 +123,12 @@ going_taken catalog fit es hands g c ready t some = record { told = record { rea
     ok : ClientOk g.plan g.past c (Open t.id t.seen)
     ok = subst (ClientOk g.plan g.past c) here (g.system.each c)
 
-pub takes_all : (q : Taking) (events : List Event) (hands : ℕ → Hand) (c : ℕ) (text : List ℕ) (result : Option Answer) (d : Client) → AreTied q.catalog events q.now hands → IsReady hands c → IsGate hands c q.gate → is_moment q.now ≡ true → is_catalog q.catalog ≡ true → (es : List Event) (fit : Tables → Bool) → IsGoing q.catalog fit es (system_of hands) (doing_of hands) → ((x : Key) → is_some (find_table q.catalog x.table) ≡ true → is_data x ≡ true) → d.begun < 2 ^ 64 → Takes q text (hands c).client result d
+pub takes_all : (q : Taking) (events : List Event) (hands : ℕ → Hand) (c : ℕ) (text : List ℕ) (result : Option Answer) (d : Client) → AreTied q.catalog events q.now hands → IsReady hands c → IsGate hands c q.gate → is_moment q.now ≡ true → is_catalog q.catalog ≡ true → (es : List Event) (fit : Tables → Bool) → IsGoing q.catalog fit es (system_of hands) (doing_of hands) → ((x : Key) → is_some (find_table q.catalog x.table) ≡ true → is_data x ≡ true) → q.fresh ≡ next_id (hands c).client → d.begun < 2 ^ 64 → Takes q text (hands c).client result d
     → AreTied q.catalog (events ++ event.Take c text result ∷ []) q.now (with_hand hands c d)
-takes_all q events hands c text result d ex ready gate moment is es fit g apart few x = record {
+takes_all q events hands c text result d ex ready gate moment is es fit g apart numbered few x = record {
   clock = clock_more events (event.Take c text result) ∙ ex.clock;
   stopped = none_stops q.catalog events (event.Take c text result) hands c d ex.stopped ready.goes_on (λ n. refl);
-  each = moved_all q.catalog events (event.Take c text result) hands c d ex.each (takes_known q events hands ex c ready gate moment is (λ t some. going_taken q.catalog fit es hands g c ready t some) apart text result d few x) (λ n apart. take_apart n c events text result apart) (λ n apart. refl);
+  each = moved_all q.catalog events (event.Take c text result) hands c d ex.each (takes_known q events hands ex c ready gate moment is (λ t some. going_taken q.catalog fit es hands g c ready t some) apart text numbered result d few x) (λ n apart. take_apart n c events text result apart) (λ n apart. refl);
 }
 
 -- what a client that reads has read says what is noted, and it had read what it wrote

@@ -122,33 +122,34 @@ is_covered s (access.Scan span) = is_scanned s.scans span
 
 ---- a statement that is taken
 
--- What a statement is taken with: the catalog, the moment, and what other clients do.
+-- What a statement is taken with: the catalog, the moment, what other clients do, and the id of a transaction that it begins.
 pub record Taking : Type 0 where
   pub catalog : List Table
   pub now : ℤ
   pub gate : Gate
+  pub fresh : TxId
 
 -- A statement is answered at once, and its client is as before.
 pub record IsTold (c : ClientAt) (a : Answer) (result : Option Answer) (d : ClientAt) : Type 0 where
   pub answer : result ≡ Some a
   pub same : d ≡ c
 
--- the id of a client's next transaction
+-- the id of the next transaction of a client that numbers its transactions
 abbrev pub next_id : ClientAt → TxId
 next_id c = id_of c.number (c.begun + 1)
 
--- its next transaction is open
-abbrev pub with_begun : ClientAt → ClientAt
-with_begun c = record { number = c.number; begun = c.begun + 1; txn = Some (begun (next_id c)); plan = None; vacuum = None }
+-- a transaction of this id is open
+abbrev pub with_begun : ClientAt → TxId → ClientAt
+with_begun c fresh = record { number = c.number; begun = c.begun + 1; txn = Some (begun fresh); plan = None; vacuum = None }
 
-abbrev pub GateTold : Bool → ClientAt → Option Answer → ClientAt → Type 0
-GateTold true c result d = IsTold c answer.Vacuuming result d
-GateTold false c result d = (result ≡ Some answer.Done) × (d ≡ with_begun c)
+abbrev pub GateTold : Bool → TxId → ClientAt → Option Answer → ClientAt → Type 0
+GateTold true fresh c result d = IsTold c answer.Vacuuming result d
+GateTold false fresh c result d = (result ≡ Some answer.Done) × (d ≡ with_begun c fresh)
 
 -- BEGIN is refused inside of a transaction, and turned away while a VACUUM runs; else a transaction begins.
-abbrev pub BeginTold : Gate → ClientAt → Option TxnAt → Option Answer → ClientAt → Type 0
-BeginTold gate c (Some t) result d = IsTold c (refused 4) result d
-BeginTold gate c None result d = GateTold gate.vacuum_runs c result d
+abbrev pub BeginTold : Gate → TxId → ClientAt → Option TxnAt → Option Answer → ClientAt → Type 0
+BeginTold gate fresh c (Some t) result d = IsTold c (refused 4) result d
+BeginTold gate fresh c None result d = GateTold gate.vacuum_runs fresh c result d
 
 -- COMMIT is refused outside of a transaction; else its first call is pending.
 abbrev pub CommitTaken : ℤ → ClientAt → Option TxnAt → Option Answer → ClientAt → Type 0
@@ -172,22 +173,22 @@ pub record RowsTold (p : Planned) (a : Access) (c : ClientAt) (t : TxnAt) (resul
   pub unknown : is_covered t.seen a ≡ false → (result ≡ None) × (d ≡ record c { txn = Some (reading t a); plan = Some p })
 
 -- A statement on a table is refused by the catalog, or reads.
-pub record TableTold (q : Taking) (st : Statement) (c : ClientAt) (t : TxnAt) (result : Option Answer) (d : ClientAt) : Type 0 where
-  pub refused : (r : Refusal) → refusal_of q.catalog st ≡ Some r → IsTold c (answer.Refused r) result d
-  pub reads : (table : Table) → refusal_of q.catalog st ≡ None → named_table q.catalog st ≡ Some table → RowsTold (plan_of table st) (access_of table st) c t result d
+pub record TableTold (catalog : List Table) (st : Statement) (c : ClientAt) (t : TxnAt) (result : Option Answer) (d : ClientAt) : Type 0 where
+  pub refused : (r : Refusal) → refusal_of catalog st ≡ Some r → IsTold c (answer.Refused r) result d
+  pub reads : (table : Table) → refusal_of catalog st ≡ None → named_table catalog st ≡ Some table → RowsTold (plan_of table st) (access_of table st) c t result d
 
 -- It is refused outside of a transaction.
-abbrev pub AskTold : Taking → Statement → ClientAt → Option TxnAt → Option Answer → ClientAt → Type 0
-AskTold q st c None result d = IsTold c (refused 5) result d
-AskTold q st c (Some t) result d = TableTold q st c t result d
+abbrev pub AskTold : List Table → Statement → ClientAt → Option TxnAt → Option Answer → ClientAt → Type 0
+AskTold catalog st c None result d = IsTold c (refused 5) result d
+AskTold catalog st c (Some t) result d = TableTold catalog st c t result d
 
 -- What the taking of a statement comes to.
 abbrev pub StatementTold : Taking → Statement → ClientAt → Option Answer → ClientAt → Type 0
-StatementTold q statement.Begin c result d = BeginTold q.gate c c.txn result d
+StatementTold q statement.Begin c result d = BeginTold q.gate q.fresh c c.txn result d
 StatementTold q statement.Commit c result d = CommitTaken q.now c c.txn result d
 StatementTold q statement.Rollback c result d = RollbackTold c c.txn result d
 StatementTold q statement.Vacuum c result d = VacuumTold (is_some c.txn || q.gate.open_elsewhere) q.catalog c result d
-StatementTold q st c result d = AskTold q st c c.txn result d
+StatementTold q st c result d = AskTold q.catalog st c c.txn result d
 
 -- what a text says: the statement that it is read as, or what it is refused for
 abbrev pub Says : List ℕ → Result Statement Refusal → Type 0

@@ -1,11 +1,10 @@
 //! A client.
 ghost use Rattle.std.specs.Prelude.{◌≡◌, ◌≢◌, ◌<◌, ◌^◌, ◌||◌, IfSome, IsSome, Some, None, is_some, length, true, false};
 ghost use Rattle.std.specs.Option.{option_copied};
-ghost use Rattle.sdb_model.specs.Transactions.{id_of as id_of_lem};
 ghost use Rattle.sdb_model.specs.declared.answer.Answer.TheVariants as answer;
 ghost use Rattle.sdb_exec.specs.Plans.{has_all_literals};
 ghost use Rattle.sdb_phases.specs.Steps.{CanGet};
-ghost use Rattle.sdb_client.specs.Client.{AskTold, BeginTold, CommitTaken, IsBusy, IsIdle, OpenTold, ReplyTold, RollbackTold, StatementTold, TextTold, VacuumTold, client_pending, nothing_done, pending_of, resting, starved};
+ghost use Rattle.sdb_client.specs.Client.{AskTold, BeginTold, CommitTaken, IsBusy, IsIdle, OpenTold, ReplyTold, RollbackTold, StatementTold, TextTold, VacuumTold, client_pending, next_id as next_id_lem, nothing_done, pending_of, resting, starved};
 ghost use Rattle.sdb_sqltext.specs.Answers.{refusal_of};
 ghost use Rattle.sdb_client.specs.Inside.{left_by};
 
@@ -60,13 +59,6 @@ impl Model for Client {
     ghost invariant = { λ c. IsWhole c.vacuum c.txn c.plan };
 }
 
-// The id of a client's transaction.
-fn id_of(number: u32, ordinal: u64) -> TxId
-    ensures { result ≡ id_of_lem number ordinal }
-{
-    TxId(number as u128 * 0x1_0000_0000_0000_0000 + ordinal as u128)
-}
-
 impl Client {
     /// A client that has done nothing, with its number from 1.
     pub fn new(alloc: Global, number: u32) -> Client
@@ -116,6 +108,14 @@ impl Client {
         self.begun
     }
 
+    /// The id of its next transaction, where clients number their transactions: the client's number, and which of its transactions it
+    /// is. Takes no memory.
+    pub fn next_id(&self) -> TxId
+        ensures { result ≡ next_id_lem self.now }
+    {
+        TxId(self.number as u128 * 0x1_0000_0000_0000_0000 + self.begun as u128 + 1)
+    }
+
     /// The call that is pending; where there is none the client waits for a statement. Takes no memory.
     #[tactic(auto, using(crate::proofs::Waits::client_waits))]
     pub fn pending(&self) -> Option<&Request>
@@ -129,16 +129,23 @@ impl Client {
         }
     }
 
-    /// Takes a statement, at a moment from 0 to 2^53, and answers it; where it answers nothing a call is pending. A client that has
-    /// begun 2^64 - 1 transactions counts as one that wants memory.
-    pub fn take(&mut self, catalog: &Catalog, text: &Txt, now: i64, gate: Gate) -> Option<Answer>
+    /// Takes a statement, at a moment from 0 to 2^53, and answers it; where it answers nothing a call is pending. A transaction that it
+    /// begins has the id `fresh`. A client that has begun 2^64 - 1 transactions is out of memory at BEGIN.
+    pub fn take(
+        &mut self,
+        catalog: &Catalog,
+        text: &Txt,
+        gate: Gate,
+        fresh: TxId,
+        now: i64,
+    ) -> Option<Answer>
         requires idle { IsIdle self.old }
         requires short { length text.now < 2 ^ 32 }
         ensures memory { result ≡ Some answer.NoMemory → self.new ≡ starved text.now self.old }
-        ensures told { result ≢ Some answer.NoMemory → TextTold (record { catalog = catalog.now; now = now; gate = gate }) text.now self.old result self.new }
+        ensures told { result ≢ Some answer.NoMemory → TextTold (record { catalog = catalog.now; now = now; gate = gate; fresh = fresh }) text.now self.old result self.new }
     {
         match parse_statement(self.alloc, text.as_str()) {
-            Ok(statement) => self.take_statement(catalog, &statement, now, gate),
+            Ok(statement) => self.take_statement(catalog, &statement, gate, fresh, now),
             Err(refused) => Some(self.unread(text, refused)),
         }
     }
@@ -166,27 +173,28 @@ impl Client {
         &mut self,
         catalog: &Catalog,
         statement: &Statement,
-        now: i64,
         gate: Gate,
+        fresh: TxId,
+        now: i64,
     ) -> Option<Answer>
         requires idle { IsIdle self.old }
         requires literals { has_all_literals statement.now ≡ true }
         ensures memory { result ≡ Some answer.NoMemory → self.new ≡ left_by statement.now self.old }
-        ensures told { result ≢ Some answer.NoMemory → StatementTold (record { catalog = catalog.now; now = now; gate = gate }) statement.now self.old result self.new }
+        ensures told { result ≢ Some answer.NoMemory → StatementTold (record { catalog = catalog.now; now = now; gate = gate; fresh = fresh }) statement.now self.old result self.new }
     {
         match statement {
-            Statement::Begin => Some(self.begin(gate)),
+            Statement::Begin => Some(self.begin(gate, fresh)),
             Statement::Commit => self.commit(now),
             Statement::Rollback => Some(self.rollback()),
             Statement::Vacuum => self.vacuum(catalog, gate),
-            _ => self.ask(catalog, statement, now, gate),
+            _ => self.ask(catalog, statement),
         }
     }
 
-    fn begin(&mut self, gate: Gate) -> Answer
+    fn begin(&mut self, gate: Gate, fresh: TxId) -> Answer
         requires idle { IsIdle self.old }
         ensures memory { result ≡ answer.NoMemory → self.new ≡ self.old }
-        ensures told { result ≢ answer.NoMemory → BeginTold gate self.old self.old.txn (Some result) self.new }
+        ensures told { result ≢ answer.NoMemory → BeginTold gate fresh self.old self.old.txn (Some result) self.new }
     {
         if self.txn.is_some() {
             return refused(4);
@@ -195,9 +203,9 @@ impl Client {
             return Answer::Vacuuming;
         }
         match self.begun.checked_add(1) {
-            Some(ordinal) => {
-                self.begun = ordinal;
-                self.txn = Some(Txn::begin(self.alloc, id_of(self.number, ordinal)));
+            Some(begun) => {
+                self.begun = begun;
+                self.txn = Some(Txn::begin(self.alloc, fresh));
                 Answer::Done
             }
             None => Answer::NoMemory,
@@ -269,17 +277,11 @@ impl Client {
     }
 
     // Takes a statement on a table.
-    fn ask(
-        &mut self,
-        catalog: &Catalog,
-        statement: &Statement,
-        now: i64,
-        gate: Gate,
-    ) -> Option<Answer>
+    fn ask(&mut self, catalog: &Catalog, statement: &Statement) -> Option<Answer>
         requires idle { IsIdle self.old }
         requires literals { has_all_literals statement.now ≡ true }
         ensures memory { result ≡ Some answer.NoMemory → self.new ≡ self.old }
-        ensures told { result ≢ Some answer.NoMemory → AskTold (record { catalog = catalog.now; now = now; gate = gate }) statement.now self.old self.old.txn result self.new }
+        ensures told { result ≢ Some answer.NoMemory → AskTold catalog.now statement.now self.old self.old.txn result self.new }
     {
         match &mut self.txn {
             Some(txn) => ask(self.alloc, txn, &mut self.plan, catalog, statement),

@@ -80,11 +80,11 @@ module _ (catalog : List Table) where
   same_in c d a result h k = subst Of (sym h.same) k
 
   module _ (q : Taking) (here : q.catalog ≡ catalog) (c d : Client) (result : Option Answer) (waits : IsIdle c) (h : Of c) where
-    begin_in : (o : Option TxnAt) → BeginTold q.gate c o result d → Of d
+    begin_in : (o : Option TxnAt) → BeginTold q.gate q.fresh c o result d → Of d
     begin_in (Some t) k = same_in c d _ result k h
     begin_in None k = by_gate q.gate.vacuum_runs k
       where
-        by_gate : (b : Bool) → GateTold b c result d → Of d
+        by_gate : (b : Bool) → GateTold b q.fresh c result d → Of d
         by_gate true k = same_in c d _ result k h
         by_gate false k = subst Of (sym k.1) (record { txn = record { notes = tt; reads = tt; scans = tt; writes = tt }; vacuum = tt })
 
@@ -110,7 +110,7 @@ module _ (catalog : List Table) where
         (λ b. subst Of (sym (k.known b).1) (held_in c (given_left t t (gives p a t)) h.vacuum (left_in t t (gives p a t) i i (gives_in catalog p a t.seen listed refl))))
         (λ b. subst Of (sym (k.unknown b).1) (record { txn = (i.1, record { table = listed; access = refl; asked = refl; stage = tt }); vacuum = h.vacuum }))
 
-    table_in : (st : Statement) (t : TxnAt) → c.txn ≡ Some t → TableTold q st c t result d → Of d
+    table_in : (st : Statement) (t : TxnAt) → c.txn ≡ Some t → TableTold q.catalog st c t result d → Of d
     table_in st t e k = by_refusal (refusal_of q.catalog st) refl
       where
         by_table : (o : Option Table) → refusal_of q.catalog st ≡ None → named_table q.catalog st ≡ o → Of d
@@ -124,7 +124,7 @@ module _ (catalog : List Table) where
         by_refusal (Some r) taken = same_in c d _ result (k.refused r taken) h
         by_refusal None taken = by_table (named_table q.catalog st) taken refl
 
-    ask_in : (st : Statement) (o : Option TxnAt) → c.txn ≡ o → AskTold q st c o result d → Of d
+    ask_in : (st : Statement) (o : Option TxnAt) → c.txn ≡ o → AskTold q.catalog st c o result d → Of d
     ask_in st None e k = same_in c d _ result k h
     ask_in st (Some t) e k = table_in st t e k
 

@@ -104,11 +104,11 @@ module _ (q : Taking) (text : List ℕ) (c : Client) (is_idle : IsIdle c) (fitte
   as_told : (b : Answer) (result : Option Answer) (d : Client) → IsTold c b result d → After result d
   as_told b result d h = as_so q.catalog c (Some b) result c d h.answer h.same (so_same q.catalog c b is_idle fitted)
 
-  gate_case : (b : Bool) (result : Option Answer) (d : Client) → GateTold b c result d → After result d
+  gate_case : (b : Bool) (result : Option Answer) (d : Client) → GateTold b q.fresh c result d → After result d
   gate_case true result d h = as_told answer.Vacuuming result d h
-  gate_case false result d h = as_so q.catalog c (Some answer.Done) result (with_begun c) d h.0 h.1 (record { number = refl; fitted = refl; busy = λ e. absurd (no_none answer.Done e); idle = λ k. record { free = refl; still = refl } })
+  gate_case false result d h = as_so q.catalog c (Some answer.Done) result (with_begun c q.fresh) d h.0 h.1 (record { number = refl; fitted = refl; busy = λ e. absurd (no_none answer.Done e); idle = λ k. record { free = refl; still = refl } })
 
-  begin_case : (o : Option TxnAt) (result : Option Answer) (d : Client) → BeginTold q.gate c o result d → After result d
+  begin_case : (o : Option TxnAt) (result : Option Answer) (d : Client) → BeginTold q.gate q.fresh c o result d → After result d
   begin_case (Some t) result d h = as_told (refused 4) result d h
   begin_case None result d h = gate_case q.gate.vacuum_runs result d h
 
@@ -150,7 +150,7 @@ module _ (q : Taking) (text : List ℕ) (c : Client) (is_idle : IsIdle c) (fitte
       idle : t.doing ≡ doing.Idle
       idle = subst (λ (o : Option TxnAt). IfSome o (λ u. u.doing ≡ doing.Idle)) e is_idle.still
 
-  table_case : (st : Statement) (t : TxnAt) (result : Option Answer) (d : Client) → c.txn ≡ Some t → Reads text st → TableTold q st c t result d → After result d
+  table_case : (st : Statement) (t : TxnAt) (result : Option Answer) (d : Client) → c.txn ≡ Some t → Reads text st → TableTold q.catalog st c t result d → After result d
   table_case st t result d e reads h = by_refusal (refusal_of q.catalog st) refl
     where
       by_table : (o : Option Table) → refusal_of q.catalog st ≡ None → named_table q.catalog st ≡ o → After result d
@@ -161,7 +161,7 @@ module _ (q : Taking) (text : List ℕ) (c : Client) (is_idle : IsIdle c) (fitte
       by_refusal (Some r) k = as_told (answer.Refused r) result d (h.refused r k)
       by_refusal None k = by_table (named_table q.catalog st) k refl
 
-  ask_case : (st : Statement) (o : Option TxnAt) (result : Option Answer) (d : Client) → c.txn ≡ o → Reads text st → AskTold q st c o result d → After result d
+  ask_case : (st : Statement) (o : Option TxnAt) (result : Option Answer) (d : Client) → c.txn ≡ o → Reads text st → AskTold q.catalog st c o result d → After result d
   ask_case st None result d e reads h = as_told (refused 5) result d h
   ask_case st (Some t) result d e reads h = table_case st t result d e reads h
 

@@ -29,7 +29,7 @@ use Rattle.sdb_txn.specs.declared.txn.Doing.TheVariants as doing
 use Rattle.sdb_txn.specs.Txn.{TxnAt, committing, work_of as txn_work}
 use Rattle.sdb_vacuum.specs.Vacuum.{VacuumAt, begun, whole}
 use Rattle.sdb_client.specs.declared.gate.Gate.{Gate}
-use Rattle.sdb_client.specs.Client.{ClientAt as Client, holding, resting as client_resting, starved, with_begun as client_begun}
+use Rattle.sdb_client.specs.Client.{ClientAt as Client, holding, next_id as client_next, resting as client_resting, starved, with_begun as client_begun}
 use Rattle.sdb_turns.specs.ReadAt.{IsOfData}
 use Rattle.sdb_turns.specs.Sweep.{Scanning}
 use Rattle.sdb_turns.specs.System.{ClientAt, Committing, NoneOpen, NoneSweeps, Open, Resting, Sweeping, SystemAt, commit_left, has_open, next_id, sweeps, with_begun, with_client}
@@ -173,14 +173,14 @@ module _ (catalog : List Table) (fit : Tables → Bool) (events : List Event) (h
   abbrev now : Client
   now = (hands c).client
 
-  pub told_begun : (gate : Gate) (text : List ℕ) → IsGated gate hands c → gate.vacuum_runs ≡ false → now.txn ≡ None → Reads text statement.Begin → now.begun + 1 < 2 ^ 64 → IsSo catalog fit hands c (client_begun now) (events ++ event.Take c text (Some answer.Done) ∷ [])
+  pub told_begun : (gate : Gate) (text : List ℕ) → IsGated gate hands c → gate.vacuum_runs ≡ false → now.txn ≡ None → Reads text statement.Begin → now.begun + 1 < 2 ^ 64 → IsSo catalog fit hands c (client_begun now (client_next now)) (events ++ event.Take c text (Some answer.Done) ∷ [])
   told_begun gate text gated shut none reads few =
-      let id_same : Open (next_id (system_of hands) c) nothing ≡ stands_txn (client_begun now).txn = ap (λ (n : ℕ). Open (id_of n (now.begun + 1)) nothing) (sym ready.number) in
+      let id_same : Open (next_id (system_of hands) c) nothing ≡ stands_txn (client_begun now (client_next now)).txn = ap (λ (n : ℕ). Open (id_of n (now.begun + 1)) nothing) (sym ready.number) in
       let e : List Event = events ++ event.Take c text (Some answer.Done) ∷ [] in
       let begun_so = going_begins catalog fit events (system_of hands) (doing_of hands) g c text (at_rest catalog fit events hands g c ready none) (record { reads = (begin_read text).1 reads; client = ready.small; ordinal = few }) (none_sweeps gate hands c ready gated shut) in
-      placed catalog fit hands c (client_begun now) e (with_begun (system_of hands) c (stands_txn (client_begun now).txn)) (at (doing_of hands) c None)
+      placed catalog fit hands c (client_begun now (client_next now)) e (with_begun (system_of hands) c (stands_txn (client_begun now (client_next now)).txn)) (at (doing_of hands) c None)
       (subst (λ (x : ClientAt). IsGoing catalog fit e (with_begun (system_of hands) c x) (at (doing_of hands) c None)) id_same begun_so)
-      (mapped_at stands hands c (hand_of (client_begun now))) (mapped_at (λ (h : Hand). h.client.begun) hands c (hand_of (client_begun now))) (mapped_at (λ (h : Hand). runs h.client) hands c (hand_of (client_begun now)))
+      (mapped_at stands hands c (hand_of (client_begun now (client_next now)))) (mapped_at (λ (h : Hand). h.client.begun) hands c (hand_of (client_begun now (client_next now)))) (mapped_at (λ (h : Hand). runs h.client) hands c (hand_of (client_begun now (client_next now))))
 
   pub told_commit : (text : List ℕ) (t : TxnAt) (moment : ℤ) → now.txn ≡ Some t → reads_commit text ≡ true → is_moment moment ≡ true → IsSo catalog fit hands c (holding now (committing t moment)) (events ++ event.Take c text None ∷ [])
   told_commit text t moment some reads is =

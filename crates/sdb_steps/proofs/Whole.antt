@@ -27,7 +27,7 @@ use Rattle.sdb_sqltext.proofs.Clauses.{one_statement}
 use Rattle.sdb_sqltext.proofs.OneWord.{commit_read, rollback_read}
 use Rattle.sdb_txn.specs.declared.txn.Doing.TheVariants as doing
 use Rattle.sdb_txn.specs.Txn.{TxnAt}
-use Rattle.sdb_client.specs.Client.{AskTold, BeginTold, ClientAt as Client, CommitTaken, IsTold, RollbackTold, RowsTold, StatementTold, TableTold, Taking, TextTold, VacuumTold, GateTold, is_covered, plan_of, starved}
+use Rattle.sdb_client.specs.Client.{AskTold, BeginTold, ClientAt as Client, CommitTaken, IsTold, RollbackTold, RowsTold, StatementTold, TableTold, Taking, TextTold, VacuumTold, GateTold, is_covered, plan_of, starved, next_id, with_begun as client_begun}
 use Rattle.sdb_turns.specs.ReadAt.{IsOfData}
 use Rattle.sdb_turns.specs.System.{ClientOk}
 use Rattle.sdb_linked.specs.Going.{IsGoing, IsInner, IsMild}
@@ -98,7 +98,7 @@ by_memory (Some answer.NoMemory) a b = a refl
 ---- the whole
 
 module _ (q : Taking) (events : List Event) (hands : ℕ → Hand) (g : IsGoing q.catalog (tables_fit q.catalog) events (system_of hands) (doing_of hands)) (c : ℕ) (ready : IsReady hands c) (text : List ℕ) (is : is_catalog q.catalog ≡ true)
-    (apart : (k : Key) → is_some (find_table q.catalog k.table) ≡ true → is_data k ≡ true) (moment : is_moment q.now ≡ true) (gated : IsGated q.gate hands c) where
+    (apart : (k : Key) → is_some (find_table q.catalog k.table) ≡ true → is_data k ≡ true) (moment : is_moment q.now ≡ true) (gated : IsGated q.gate hands c) (numbered : q.fresh ≡ next_id (hands c).client) where
   abbrev now : Client
   now = (hands c).client
 
@@ -126,13 +126,13 @@ module _ (q : Taking) (events : List Event) (hands : ℕ → Hand) (g : IsGoing 
   vacuuming_mild : IsMild answer.Vacuuming
   vacuuming_mild = record { undone = refl; agrees = refl; other = λ e. cc }
 
-  begin_case : (o : Option TxnAt) (result : Option Answer) (d : Client) → now.txn ≡ o → Reads text statement.Begin → d.begun < 2 ^ 64 → BeginTold q.gate now o result d → So result d
+  begin_case : (o : Option TxnAt) (result : Option Answer) (d : Client) → now.txn ≡ o → Reads text statement.Begin → d.begun < 2 ^ 64 → BeginTold q.gate q.fresh now o result d → So result d
   begin_case (Some t) result d e reads few h = as_told (refused 4) result d h (same (refused 4) (refused_plain _) (other_no_commit text statement.Begin reads (λ k. cc)))
   begin_case None result d e reads few h = by_gate q.gate.vacuum_runs refl h
     where
-      by_gate : (b : Bool) → q.gate.vacuum_runs ≡ b → GateTold b now result d → So result d
+      by_gate : (b : Bool) → q.gate.vacuum_runs ≡ b → GateTold b q.fresh now result d → So result d
       by_gate true shut k = as_told answer.Vacuuming result d k (outside answer.Vacuuming e vacuuming_mild)
-      by_gate false shut k = as_so (Some answer.Done) result _ d k.0 k.1 (told_begun q.catalog (tables_fit q.catalog) events hands g c ready q.gate text gated shut e reads (subst (λ (x : Client). x.begun < 2 ^ 64) k.1 few))
+      by_gate false shut k = as_so (Some answer.Done) result _ d k.0 (k.1 ∙ ap (client_begun now) numbered) (told_begun q.catalog (tables_fit q.catalog) events hands g c ready q.gate text gated shut e reads (subst (λ (x : Client). x.begun < 2 ^ 64) (k.1 ∙ ap (client_begun now) numbered) few))
 
   commit_case : (o : Option TxnAt) (result : Option Answer) (d : Client) → now.txn ≡ o → Reads text statement.Commit → CommitTaken q.now now o result d → So result d
   commit_case None result d e reads h = as_told (refused 5) result d h (outside (refused 5) e (refused_plain _).mild)
@@ -166,7 +166,7 @@ module _ (q : Taking) (events : List Event) (hands : ℕ → Hand) (g : IsGoing 
       (λ b. let r = h.known b in as_so _ result _ d r.0 r.1 (told_known q.catalog events hands g c ready text st table k t e idle (kept t e) b))
       (λ b. let r = h.unknown b in as_so _ result _ d r.0 r.1 (told_unknown q.catalog events hands g c ready text st table k t e idle (kept t e) (reads_data q.catalog st table named apart) (inner_read text st reads on)))
 
-  table_case : (st : Statement) (t : TxnAt) (result : Option Answer) (d : Client) → now.txn ≡ Some t → Reads text st → IsOnTable st → TableTold q st now t result d → So result d
+  table_case : (st : Statement) (t : TxnAt) (result : Option Answer) (d : Client) → now.txn ≡ Some t → Reads text st → IsOnTable st → TableTold q.catalog st now t result d → So result d
   table_case st t result d e reads on h = by_refusal (refusal_of q.catalog st) refl
     where
       by_table : (o : Option Table) → refusal_of q.catalog st ≡ None → named_table q.catalog st ≡ o → So result d
@@ -177,7 +177,7 @@ module _ (q : Taking) (events : List Event) (hands : ℕ → Hand) (g : IsGoing 
       by_refusal (Some r) k = as_told (answer.Refused r) result d (h.refused r k) (same (answer.Refused r) (refused_plain r) (other_no_commit text st reads on.commit))
       by_refusal None k = by_table (named_table q.catalog st) k refl
 
-  ask_case : (st : Statement) (o : Option TxnAt) (result : Option Answer) (d : Client) → now.txn ≡ o → Reads text st → IsOnTable st → AskTold q st now o result d → So result d
+  ask_case : (st : Statement) (o : Option TxnAt) (result : Option Answer) (d : Client) → now.txn ≡ o → Reads text st → IsOnTable st → AskTold q.catalog st now o result d → So result d
   ask_case st None result d e reads on h = as_told (refused 5) result d h (outside (refused 5) e (refused_plain _).mild)
   ask_case st (Some t) result d e reads on h = table_case st t result d e reads on h
 

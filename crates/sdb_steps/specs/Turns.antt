@@ -16,7 +16,7 @@ use Rattle.sdb_model.specs.Refused.{refusal_of}
 use Rattle.sdb_exec.specs.declared.plan.PlanStep.TheVariants.{Finished}
 use Rattle.sdb_exec.specs.Plans.{Planned, has_all_literals, step_of}
 use Rattle.sdb_exec.specs.Reads.{access_of}
-use Rattle.sdb_client.specs.Client.{ClientAt as Client, ReplyTold, Taking, client_pending}
+use Rattle.sdb_client.specs.Client.{ClientAt as Client, ReplyTold, Taking, client_pending, next_id}
 use Rattle.sdb_laws.specs.Lawful.{is_data}
 use Rattle.sdb_snapshot.specs.Seen.{Seen, overlay}
 use Rattle.sdb_turns.specs.System.{ClientCall, call_event}
@@ -80,6 +80,7 @@ pub record TextTaken : Type 0 where
   pub moment : is_moment q.now ≡ true
   pub ready : IsReady hands client
   pub few : after.begun < 2 ^ 64
+  pub numbered : q.fresh ≡ next_id (hands client).client
   pub takes : Takes q text (hands client).client result after
 
 -- its event

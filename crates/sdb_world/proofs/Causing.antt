@@ -1,5 +1,5 @@
 -- The causes of answers are kept by each step of a world.
-use Rattle.std.proofs.Common.{◌≡◌, ℕ, suc, ℤ, ◌<◌, ◌^◌, Bool, true, false, List, [], ◌∷◌, ◌++◌, Option, Some, None, sym, ap, subst}
+use Rattle.std.proofs.Common.{◌≡◌, ℕ, suc, ℤ, ◌<◌, ◌^◌, Bool, true, false, List, [], ◌∷◌, ◌++◌, Option, Some, None, refl, sym, ap, subst}
 use Rattle.std.specs.Prelude.{IsSomeAnd, is_some, pos, slice_get, slice_set}
 use Rattle.sdb_types.specs.declared.record.Reply.{Reply}
 use Rattle.sdb_types.specs.declared.record.Request.{Request}
@@ -12,7 +12,7 @@ use Rattle.sdb_model.specs.declared.event.How.{How}
 use Rattle.sdb_model.specs.declared.script.Script.{Script}
 use Rattle.sdb_model.specs.Rows.{Name}
 use Rattle.sdb_schema.specs.declared.table.Table.{Table}
-use Rattle.sdb_client.specs.Client.{ClientAt as Client, ReplyTold}
+use Rattle.sdb_client.specs.Client.{ClientAt as Client, ReplyTold, next_id}
 use Rattle.sdb_client.specs.declared.gate.Gate.{Gate}
 use Rattle.sdb_laws.specs.History.{at}
 use Rattle.sdb_steps.specs.About.{IsOfTables}
@@ -47,12 +47,12 @@ caused_by : (w : WorldAt) (i : ℕ) (s t : Seat) (e : Event) → slice_get w.sea
 caused_by w i s t e here h = same_kept w.script.catalog (w.events ++ e ∷ []) w.clock (at (hands_of w.seats) (suc i) (record { client = t.client; stopped = t.stopped })) (hands_of (slice_set w.seats i t)) (λ c. sym (hands_moved w.seats i s t c here)) h
 
 pub caused_takes : (w : WorldAt) (i : ℕ) (s : Seat) (gate : Gate) (text : List ℕ) (a : Option Answer) (d : Client) → IsPlayable w.script → slice_get w.seats i ≡ Some s → s.stopped ≡ false → IsReady (hands_of w.seats) (suc i) → IsGate (hands_of w.seats) (suc i) gate → is_moment w.clock ≡ true → d.begun < 2 ^ 64
-    → Takes (record { catalog = w.script.catalog; now = w.clock; gate = gate }) text s.client a d → IsLinked w → HaveCauses w → HaveCauses (with_event (with_seat w i (moved_seat s 1 d)) (event.Take (suc i) text a))
+    → Takes (record { catalog = w.script.catalog; now = w.clock; gate = gate; fresh = next_id s.client }) text s.client a d → IsLinked w → HaveCauses w → HaveCauses (with_event (with_seat w i (moved_seat s 1 d)) (event.Take (suc i) text a))
 caused_takes w i s gate text a d playable here goes ready gated moment begun takes linked h =
     caused_by w i s (moved_seat s 1 d) (event.Take (suc i) text a) here
     (subst (λ (b : Bool). AreTied w.script.catalog (w.events ++ event.Take (suc i) text a ∷ []) w.clock (at (hands_of w.seats) (suc i) (record { client = d; stopped = b }))) (sym goes)
-    (takes_all (record { catalog = w.script.catalog; now = w.clock; gate = gate }) w.events (hands_of w.seats) (suc i) text a d h ready gated moment playable.catalog (on_one w.events) (tables_fit w.script.catalog) linked playable.apart begun
-    (on_hand (λ (x : Hand). Takes (record { catalog = w.script.catalog; now = w.clock; gate = gate }) text x.client a d) w.seats i s here takes)))
+    (takes_all (record { catalog = w.script.catalog; now = w.clock; gate = gate; fresh = next_id s.client }) w.events (hands_of w.seats) (suc i) text a d h ready gated moment playable.catalog (on_one w.events) (tables_fit w.script.catalog) linked playable.apart (on_hand (λ (x : Hand). next_id s.client ≡ next_id x.client) w.seats i s here refl) begun
+    (on_hand (λ (x : Hand). Takes (record { catalog = w.script.catalog; now = w.clock; gate = gate; fresh = next_id s.client }) text x.client a d) w.seats i s here takes)))
 
 pub caused_calls : (w : WorldAt) (i : ℕ) (s : Seat) (store : Name) (how : How) (q : Request) (r : Reply) (a : Option Answer) (d : Client) → IsPlayable w.script → slice_get w.seats i ≡ Some s → s.stopped ≡ false → IsWaiting w.script.catalog (hands_of w.seats) (suc i) q → IsOfTables w.script.catalog s.client → CanAnswer q r → shows_stored r ≡ true → ReplyTold s.client s.client.vacuum r w.clock a d → is_moment w.clock ≡ true
     → IsLinked w → HaveCauses w → HaveCauses (with_event (with_seat w i (moved_seat s 0 d)) (event.Call (suc i) store q how r a))

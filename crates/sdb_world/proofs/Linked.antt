@@ -17,7 +17,7 @@ use Rattle.sdb_laws.specs.History.{at}
 use Rattle.sdb_schema.specs.declared.table.Table.{Table}
 use Rattle.sdb_spread.specs.Spread.{moved_event}
 use Rattle.sdb_spread.proofs.Moved.{moved_more}
-use Rattle.sdb_client.specs.Client.{ClientAt as Client, ReplyTold, Taking, nothing_done}
+use Rattle.sdb_client.specs.Client.{ClientAt as Client, ReplyTold, Taking, nothing_done, next_id}
 use Rattle.sdb_turns.specs.System.{ClientAt, Stopped, SystemAt}
 use Rattle.sdb_linked.specs.Going.{ClientGoes, HandOk, IsGoing, IsSilent}
 use Rattle.sdb_linked.proofs.Rests.{going_rests, going_starts}
@@ -76,15 +76,15 @@ linked_by w i s t e here g =
 pub on_hand : (P : Hand → Type 0) (seats : List Seat) (i : ℕ) (s : Seat) → slice_get seats i ≡ Some s → P (record { client = s.client; stopped = s.stopped }) → P (hands_of seats (suc i))
 on_hand P seats i s here p = subst (λ (o : Option Seat). P (hand_in o (suc i))) (sym here) p
 
-pub linked_takes : (w : WorldAt) (i : ℕ) (s : Seat) (q : Taking) (text : List ℕ) (a : Option Answer) (d : Client) → IsPlayable w.script → q.catalog ≡ w.script.catalog → slice_get w.seats i ≡ Some s → s.stopped ≡ false → IsReady (hands_of w.seats) (suc i) → IsGated q.gate (hands_of w.seats) (suc i) → Takes q text s.client a d → d.begun < 2 ^ 64 → is_moment q.now ≡ true
+pub linked_takes : (w : WorldAt) (i : ℕ) (s : Seat) (q : Taking) (text : List ℕ) (a : Option Answer) (d : Client) → IsPlayable w.script → q.catalog ≡ w.script.catalog → slice_get w.seats i ≡ Some s → s.stopped ≡ false → IsReady (hands_of w.seats) (suc i) → IsGated q.gate (hands_of w.seats) (suc i) → Takes q text s.client a d → q.fresh ≡ next_id s.client → d.begun < 2 ^ 64 → is_moment q.now ≡ true
     → IsLinked w → IsLinked (with_event (with_seat w i (moved_seat s 1 d)) (event.Take (suc i) text a))
-linked_takes w i s q text a d playable same here goes ready gated takes begun moment g =
+linked_takes w i s q text a d playable same here goes ready gated takes numbered begun moment g =
     linked_by w i s (moved_seat s 1 d) (event.Take (suc i) text a) here
     (subst (λ (b : Bool). IsGoing w.script.catalog (tables_fit w.script.catalog) (on_one w.events ++ event.Take (suc i) text a ∷ []) (system_of (at (hands_of w.seats) (suc i) (record { client = d; stopped = b }))) (doing_of (at (hands_of w.seats) (suc i) (record { client = d; stopped = b })))) (sym goes) so)
   where
     so : IsGoing w.script.catalog (tables_fit w.script.catalog) (on_one w.events ++ event.Take (suc i) text a ∷ []) (system_of (with_hand (hands_of w.seats) (suc i) d)) (doing_of (with_hand (hands_of w.seats) (suc i) d))
-    so = takes_so (record { catalog = w.script.catalog; now = q.now; gate = q.gate }) (on_one w.events) (hands_of w.seats) g (suc i) ready text playable.catalog playable.apart moment gated a d begun
-        (subst (λ (c : List Table). Takes (record { catalog = c; now = q.now; gate = q.gate }) text (hands_of w.seats (suc i)).client a d) same (on_hand (λ (h : Hand). Takes q text h.client a d) w.seats i s here takes))
+    so = takes_so (record { catalog = w.script.catalog; now = q.now; gate = q.gate; fresh = q.fresh }) (on_one w.events) (hands_of w.seats) g (suc i) ready text playable.catalog playable.apart moment gated (on_hand (λ (h : Hand). q.fresh ≡ next_id h.client) w.seats i s here numbered) a d begun
+        (subst (λ (c : List Table). Takes (record { catalog = c; now = q.now; gate = q.gate; fresh = q.fresh }) text (hands_of w.seats (suc i)).client a d) same (on_hand (λ (h : Hand). Takes q text h.client a d) w.seats i s here takes))
 
 pub linked_calls : (w : WorldAt) (i : ℕ) (s : Seat) (store : Name) (how : How) (q : Request) (r : Reply) (a : Option Answer) (d : Client) → IsPlayable w.script → slice_get w.seats i ≡ Some s → s.stopped ≡ false → IsWaiting w.script.catalog (hands_of w.seats) (suc i) q → CanAnswer q r → ReplyTold s.client s.client.vacuum r w.clock a d → is_moment w.clock ≡ true
     → IsLinked w → IsLinked (with_event (with_seat w i (moved_seat s 0 d)) (event.Call (suc i) store q how r a))

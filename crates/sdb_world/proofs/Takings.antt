@@ -17,7 +17,7 @@ use Rattle.sdb_model.specs.Rows.{Name}
 use Rattle.sdb_model.specs.Events.{store_of, table_asked}
 use Rattle.sdb_model.specs.Follows.{texts_of}
 use Rattle.sdb_spread.specs.Spread.{is_played}
-use Rattle.sdb_client.specs.Client.{ClientAt, ReplyTold, client_pending}
+use Rattle.sdb_client.specs.Client.{ClientAt, ReplyTold, client_pending, next_id}
 use Rattle.sdb_client.specs.declared.gate.Gate.{Gate}
 use Rattle.sdb_board.specs.Board.{AreFit, IsMade, placed, shown}
 use Rattle.sdb_board.proofs.Made.{asked}
@@ -55,7 +55,7 @@ after_taking u i s d es = record { script = u.script; seats = slice_set u.seats 
 
 -- A client took its next text.
 pub took : (u w : WorldAt) → u ≡ w → (i : ℕ) (s : Seat) (text : List ℕ) (gate : Gate) (a : Option Answer) (d : ClientAt) (es : List Event) → i < length w.seats → s ≡ get_or w.seats i s → IsNextText w i text
-    → Takes (record { catalog = u.script.catalog; now = u.clock; gate = gate }) text s.client a d → IsGateAt gate w.seats i → d.begun < 2 ^ 64 → es ≡ u.events ++ event.Take (i + 1) text a ∷ [] → HasTaken w i (after_taking u i s d es)
+    → Takes (record { catalog = u.script.catalog; now = u.clock; gate = gate; fresh = next_id s.client }) text s.client a d → IsGateAt gate w.seats i → d.begun < 2 ^ 64 → es ≡ u.events ++ event.Take (i + 1) text a ∷ [] → HasTaken w i (after_taking u i s d es)
 took u w same i s text gate a d es low read next takes gated begun came =
     subst (λ (x : WorldAt). HasTaken w i (after_taking x i s d es)) (sym same)
     (record {
@@ -66,7 +66,7 @@ took u w same i s text gate a d es low read next takes gated begun came =
       client = d;
       at = read_there w.seats i s low read;
       next = at_read (λ (x : Seat). slice_get (texts_of w.script.clients (suc i)) x.taken ≡ Some text) w.seats i s low read next;
-      takes = subst (λ (x : WorldAt). Takes (record { catalog = x.script.catalog; now = x.clock; gate = gate }) text s.client a d) same takes;
+      takes = subst (λ (x : WorldAt). Takes (record { catalog = x.script.catalog; now = x.clock; gate = gate; fresh = next_id s.client }) text s.client a d) same takes;
       gated = gated;
       begun = begun;
       left = λ k. record { script = w.script; seats = slice_set w.seats i (record { client = d; taken = s.taken + 1; stopped = s.stopped }); events = here k; clock = w.clock };

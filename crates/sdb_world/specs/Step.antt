@@ -18,7 +18,7 @@ use Rattle.sdb_model.specs.declared.script.ScriptClient.{ScriptClient}
 use Rattle.sdb_model.specs.Rows.{Name}
 use Rattle.sdb_model.specs.Events.{IsTrace, Shelf, store_of, table_asked}
 use Rattle.sdb_model.specs.Follows.{AllIdle, AreMoved, AreStepsOf, IsActed, IsAmong, IsHowOfDiscard, IsHowOfLose, IsHowOfStep, IsMoved, has_work, texts_of}
-use Rattle.sdb_client.specs.Client.{ClientAt, IsBusy, IsIdle, ReplyTold, client_pending}
+use Rattle.sdb_client.specs.Client.{ClientAt, IsBusy, IsIdle, ReplyTold, client_pending, next_id}
 use Rattle.sdb_client.specs.declared.gate.Gate.{Gate}
 use Rattle.sdb_spread.specs.Spread.{is_played}
 use Rattle.sdb_stores.specs.Shelf.{Attached}
@@ -80,7 +80,7 @@ pub record HasTaken (w : WorldAt) (i : ℕ) (v : WorldAt) : Type 0 where
   pub client : ClientAt
   pub at : slice_get w.seats i ≡ Some seat
   pub next : slice_get (texts_of w.script.clients (suc i)) seat.taken ≡ Some text
-  pub takes : Takes (record { catalog = w.script.catalog; now = w.clock; gate = gate }) text seat.client answer client
+  pub takes : Takes (record { catalog = w.script.catalog; now = w.clock; gate = gate; fresh = next_id seat.client }) text seat.client answer client
   pub gated : IsGateAt gate w.seats i
   pub begun : client.begun < 2 ^ 64
   pub left : v ≡ with_event (with_seat w i (moved_seat seat 1 client)) (event.Take (suc i) text answer)

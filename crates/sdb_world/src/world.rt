@@ -186,9 +186,10 @@ impl World {
         let text = self.next_text(at)?;
         let gate = self.gate(at);
         let seat = &mut self.seats[at];
+        let fresh = seat.client.next_id();
         let answer = seat
             .client
-            .take(&self.script.catalog, &text, self.clock, gate);
+            .take(&self.script.catalog, &text, gate, fresh, self.clock);
         let _begun = seat.client.begun();
         seat.taken += 1;
         self.events.push(Event::Take(at as u32 + 1, text, answer))?;

@@ -101,7 +101,11 @@ fn take(
 ) -> Outcome {
     match Txt::new(alloc, statement) {
         Ok(text) if text.as_str().len() < 1_000 && client.is_idle() => {
-            outcome_of(alloc, &client.take(catalog, &text, 0, QUIET), told)
+            outcome_of(
+                alloc,
+                &client.take(catalog, &text, QUIET, client.next_id(), 0),
+                told,
+            )
         }
         _ => Outcome::Other,
     }

@@ -12,7 +12,7 @@ returns-in-Ok-clause-told c =
     λ n. (
       Ok c.in-Ok.statement,
       subst (λ (text : List ℕ). Reads text c.in-Ok.statement) c.as_str.ensures c.in-Ok.ensures.read,
-      subst (λ (m : ℤ). StatementTold (record { catalog = c.args.catalog.now; now = m; gate = c.args.gate }) c.in-Ok.statement c.args.self.now c.take_statement.result c.take_statement.new.self) now (c.take_statement.ensures.told n),
+      subst (λ (m : ℤ). StatementTold (record { catalog = c.args.catalog.now; now = m; gate = c.args.gate; fresh = c.args.fresh }) c.in-Ok.statement c.args.self.now c.take_statement.result c.take_statement.new.self) now (c.take_statement.ensures.told n),
     )
 
 pub returns-in-Err-clause-told : goal.returns-in-Err-clause-told

@@ -1,9 +1,11 @@
 use mir.Val.{of_z, to_z}
 use Rattle.std.proofs.Common.{rules, ◌≡◌, ◌≢◌, ◌∙◌, ◌<◌, ◌^◌, ℤ, suc, Some, ap, arith, get_or, length, subst, w64}
 use Rattle.sdb_model.specs.declared.answer.Answer.TheVariants as answer
-use Rattle.sdb_client.specs.Client.{TextTold}
+use Rattle.sdb_client.specs.Client.{TextTold, next_id}
 use Rattle.sdb_client.specs.declared.gate.Gate.{Gate}
 use Rattle.sdb_model.specs.Follows.{texts_of}
+use Rattle.sdb_steps.specs.Hands.{Takes}
+use Rattle.sdb_types.specs.declared.txid.TxId.{TxId}
 use Rattle.sdb_world.specs.World.{WorldAt}
 use Rattle.sdb_world.proofs.Takings.{next_short, some_left, took}
 use Rattle.sdb_world.proofs.world.World.take.Goals as goal
@@ -29,6 +31,8 @@ returns c =
     let read : seat ≡ get_or c.args.self.now.seats c.args.at seat = c.index_mut-seat.ensures.value ∙ ap (λ (w : WorldAt). get_or w.seats c.args.at seat) c.self.view_is in
     let gate : Gate = c.gate-gate.result in
     let now : to_z w64 (of_z w64 c.self.inside.clock) ≡ c.self.inside.clock = search rules in
-    let told = subst (λ (z : ℤ). c.take-answer.result ≢ Some answer.NoMemory → TextTold (record { catalog = c.self.inside.script.catalog; now = z; gate = gate }) c.in_ok-text.text seat.client c.take-answer.result c.take-answer.new.self) now c.take-answer.ensures.told in
-    took _ c.args.self.now c.self.view_is c.args.at seat c.in_ok-text.text gate c.take-answer.result c.take-answer.new.self c.push.new.self c.requires.at read c.in_ok-text.ensures (record { memory = c.take-answer.ensures.memory; told = told }) c.gate-gate.ensures
+    let told = subst (λ (z : ℤ). c.take-answer.result ≢ Some answer.NoMemory → TextTold (record { catalog = c.self.inside.script.catalog; now = z; gate = gate; fresh = c.next_id-fresh.result }) c.in_ok-text.text seat.client c.take-answer.result c.take-answer.new.self) now c.take-answer.ensures.told in
+    let numbered : c.next_id-fresh.result ≡ next_id seat.client = c.next_id-fresh.ensures in
+    let taking = subst (λ (i : TxId). Takes (record { catalog = c.self.inside.script.catalog; now = c.self.inside.clock; gate = gate; fresh = i }) c.in_ok-text.text seat.client c.take-answer.result c.take-answer.new.self) numbered (record { memory = c.take-answer.ensures.memory; told = told }) in
+    took _ c.args.self.now c.self.view_is c.args.at seat c.in_ok-text.text gate c.take-answer.result c.take-answer.new.self c.push.new.self c.requires.at read c.in_ok-text.ensures taking c.gate-gate.ensures
     (subst (λ n. n < 2 ^ 64) c.begun-begun.ensures c.begun-begun.type_inv) c.in_ok-push.ensures.ok

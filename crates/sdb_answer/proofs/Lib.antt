@@ -1,0 +1,4 @@
+pub mod Making
+pub mod Moments
+pub mod Sessions
+pub mod Chains

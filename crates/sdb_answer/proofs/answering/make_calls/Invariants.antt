@@ -1,0 +1,18 @@
+use Rattle.std.proofs.Common.{◌<◌, length, List}
+use Rattle.sdb_schema.specs.declared.table.Table.{Table}
+use Rattle.sdb_board.specs.Board.{GoOn}
+use Rattle.sdb_steps.specs.About.{IsOfTables}
+use Rattle.sdb_session.specs.Between.{Waits}
+use Rattle.sdb_session.specs.Working.{IsAtWork}
+use Rattle.sdb_answer.specs.Answering.{IsWorking, WaitsOver, database_in}
+use Rattle.sdb_answer.proofs.answering.make_calls.Given as goal
+
+-- the statement that waited when the calls began waits still
+abbrev pub invariant-loop : goal.invariant-loop
+invariant-loop g l = record {
+  some : 0 < length (g.S.Registry.state l.stores).shelves;
+  goes : GoOn (g.S.Registry.state l.initial.stores) (g.S.Registry.state l.stores);
+  works : (w : IsWorking l.initial.client) → IsAtWork w.statement w.opened l.client;
+  about : (catalog : List Table) → IsOfTables catalog l.initial.client → IsOfTables catalog l.client;
+  waits : (w : WaitsOver l.fn.now (g.S.Registry.state l.initial.stores) l.initial.client) → Waits w.catalog w.was l.fn.now w.statement (database_in (g.S.Registry.state l.stores)) w.opened l.client;
+}

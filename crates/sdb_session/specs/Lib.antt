@@ -1,0 +1,15 @@
+pub mod Database
+pub mod OnlyResolves
+pub mod Recovers
+pub mod Commits
+pub mod Reads
+pub mod Seen
+pub mod Sweeps
+pub mod Later
+pub mod Keys
+pub mod Clients
+pub mod Session
+pub mod Between
+pub mod Chain
+pub mod Turns
+pub mod Working

@@ -1,0 +1,130 @@
+-- What the laws of a client that is alone speak of: a statement that it takes, and a reply to its call.
+use Rattle.std.specs.Prelude.{◌≡◌, ℕ, ℤ, true, false, List, Option, Some, Result}
+use Rattle.sdb_types.specs.declared.txid.TxId.{TxId}
+use Rattle.sdb_types.specs.declared.record.Record.{Record}
+use Rattle.sdb_types.specs.declared.record.Reply.{Reply}
+use Rattle.sdb_types.specs.declared.record.Request.{Request}
+use Rattle.sdb_record.specs.Meta.{is_moment}
+use Rattle.sdb_schema.specs.declared.table.Table.{Table}
+use Rattle.sdb_schema.specs.Catalog.{is_catalog}
+use Rattle.sdb_model.specs.declared.answer.Answer.{Answer}
+use Rattle.sdb_model.specs.declared.answer.Refusal.{Refusal}
+use Rattle.sdb_model.specs.declared.statement.Statement.{Statement}
+use Rattle.sdb_model.specs.Exec.{Tables}
+use Rattle.sdb_client.specs.Client.{ClientAt, ReplyTold, SaidTold, Says, Taking, client_pending}
+use Rattle.sdb_steps.specs.Fitting.{tables_fit}
+use Rattle.sdb_session.specs.Database.{AreOwn, Called, Database}
+use Rattle.sdb_session.specs.OnlyResolves.{IsApart, IsSound}
+use Rattle.sdb_session.specs.Seen.{AreImagesOf}
+use Rattle.sdb_session.specs.Clients.{IsUnused}
+use Rattle.sdb_session.specs.Recovers.{RecoverAlone}
+use Rattle.sdb_session.specs.Commits.{CommitAlone}
+use Rattle.sdb_session.specs.Session.{AreNewIds, Exchange, begun_ids, no_parts}
+use Rattle.sdb_session.specs.Chain.{Chain}
+use Rattle.sdb_record.specs.declared.meta.Meta.{Meta}
+use Rattle.sdb_phases.specs.declared.step.RecoverPhase.{RecoverPhase}
+use Rattle.sdb_phases.specs.Work.{Work}
+use Rattle.sdb_phases.specs.Commit.{Stage, pending}
+use Rattle.sdb_phases.specs.Recover.{recover_request_at}
+use Rattle.sdb_session.specs.Between.{Between, OpenTransaction, Waits}
+
+-- The database where a statement is taken: it is sound, and has plain tables that fit.
+pub record IsWellFormed (catalog : List Table) (g : Database) : Type 0 where
+  pub apart : IsApart catalog
+  pub is : is_catalog catalog ≡ true
+  pub sound : IsSound catalog g
+  pub tables : Tables
+  pub are_images : AreImagesOf catalog g tables
+  pub fit : tables_fit catalog tables ≡ true
+
+-- The reply to the pending call of a recovery.
+pub record RecoveryReplied : Type 0 where
+  pub catalog : List Table
+  pub apart : IsApart catalog
+  pub g : Database
+  pub h : Database
+  pub sound : IsSound catalog g
+  pub found : Record
+  pub meta : Meta
+  pub now : ℤ
+  pub time : is_moment now ≡ true
+  pub phase : RecoverPhase
+  pub alone : RecoverAlone catalog g found meta phase
+  pub request : Request
+  pub asked : recover_request_at found meta phase ≡ Some request
+  pub reply : Reply
+  pub called : Called request reply g h
+
+-- The reply to the pending call of a COMMIT.
+pub record CommitReplied : Type 0 where
+  pub catalog : List Table
+  pub apart : IsApart catalog
+  pub start : Database
+  pub sound : IsSound catalog start
+  pub work : Work
+  pub stage : Stage
+  pub g : Database
+  pub h : Database
+  pub alone : CommitAlone catalog start work g stage
+  pub request : Request
+  pub asked : pending work stage ≡ Some request
+  pub reply : Reply
+  pub called : Called request reply g h
+
+-- A client between two statements takes a text; no other client is there, and the id of a transaction that it may begin is new.
+pub record TakenAlone : Type 0 where
+  pub taking : Taking
+  pub g : Database
+  pub well_formed : IsWellFormed taking.catalog g
+  pub vacuums : taking.gate.vacuum_runs ≡ false
+  pub opens : taking.gate.open_elsewhere ≡ false
+  pub time : is_moment taking.now ≡ true
+  pub opened : Option OpenTransaction
+  pub before : ClientAt
+  pub between : Between taking.catalog g opened before
+  pub new : IsUnused taking.catalog g taking.fresh
+  pub text : List ℕ
+  pub says : Result Statement Refusal
+  pub reads : Says text says
+  pub result : Option Answer
+  pub after : ClientAt
+  pub took : SaidTold taking says before result after
+
+-- A client that waits gets the reply to its call.
+pub record RepliedAlone : Type 0 where
+  pub catalog : List Table
+  pub was : Database
+  pub well_formed : IsWellFormed catalog was
+  pub fresh : TxId
+  pub now : ℤ
+  pub time : is_moment now ≡ true
+  pub statement : Statement
+  pub g : Database
+  pub h : Database
+  pub own : AreOwn g
+  pub own_then : AreOwn h
+  pub request : Request
+  pub reply : Reply
+  pub called : Called request reply g h
+  pub opened : Option OpenTransaction
+  pub before : ClientAt
+  pub asked : client_pending before ≡ Some request
+  pub waits : Waits catalog was now statement g opened before
+  pub result : Option Answer
+  pub after : ClientAt
+  pub took : ReplyTold before before.vacuum reply now result after
+
+-- Statements of a client that is alone, over a sound database with plain tables that fit: they were answered one after the other, and the
+-- ids of the transactions that they began are new.
+pub record SessionAlone : Type 0 where
+  pub catalog : List Table
+  pub apart : IsApart catalog
+  pub opening : Database
+  pub sound : IsSound catalog opening
+  pub before : Tables
+  pub are_images : AreImagesOf catalog opening before
+  pub fit : tables_fit catalog before ≡ true
+  pub exchanges : List Exchange
+  pub last : Database
+  pub new : AreNewIds catalog opening (begun_ids exchanges)
+  pub chain : Chain catalog opening no_parts exchanges last

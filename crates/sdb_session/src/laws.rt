@@ -1,0 +1,92 @@
+//! Laws of a session of one client that is alone.
+ghost use Rattle.std.specs.Prelude.{◌≡◌, ℕ, ◌++◌, ◌∷◌, [], List, Option, Some, Ok, Result, Bool, is_some};
+ghost use Rattle.sdb_types.specs.declared.key.Key.{Key};
+ghost use Rattle.sdb_types.specs.declared.record.Record.{Record};
+ghost use Rattle.sdb_types.specs.declared.record.Reply.{Reply};
+ghost use Rattle.sdb_types.specs.declared.record.Request.{Request};
+ghost use Rattle.sdb_schema.specs.declared.table.Table.{Table};
+ghost use Rattle.sdb_model.specs.declared.answer.Answer.TheVariants as answer;
+ghost use Rattle.sdb_model.specs.declared.answer.Refusal.{Refusal};
+ghost use Rattle.sdb_model.specs.declared.event.How.{How};
+ghost use Rattle.sdb_model.specs.declared.script.Place.{Place};
+ghost use Rattle.sdb_model.specs.declared.statement.Statement.{Statement};
+ghost use Rattle.sdb_model.specs.Events.{IsCall, Shelf};
+ghost use Rattle.sdb_model.specs.Rows.{Name};
+ghost use Rattle.sdb_phases.specs.Commit.{step};
+ghost use Rattle.sdb_phases.specs.Recover.{recover_next};
+ghost use Rattle.sdb_client.specs.Client.{ClientAt, IsIdle, Says, starved};
+ghost use Rattle.sdb_session.specs.Database.{AreOwn, Called, Database, database_of};
+ghost use Rattle.sdb_session.specs.OnlyResolves.{IsSound};
+ghost use Rattle.sdb_session.specs.Recovers.{RecoversTo};
+ghost use Rattle.sdb_session.specs.Commits.{CommitAlone};
+ghost use Rattle.sdb_session.specs.Seen.{HasTables};
+ghost use Rattle.sdb_session.specs.Session.{Exchange, IsSerialSession, no_parts};
+ghost use Rattle.sdb_session.specs.Between.{Between, LeadsTo, OpenTransaction};
+ghost use Rattle.sdb_session.specs.Chain.{Chain, Exchanged, IsReached, open_after};
+ghost use Rattle.sdb_session.specs.Working.{IsAtWork, LeadsOn, RepliedBy, TakenBy};
+ghost use Rattle.sdb_session.specs.Turns.{CommitReplied, RecoveryReplied, RepliedAlone, SessionAlone, TakenAlone};
+
+/// A call on stores returns what is at its key, and changes the database there alone.
+pub fn calls_are_local()
+    ensures { (places : List Place) (store : Name) (q : Request) (how : How) (r : Reply) (old new : List Shelf) → IsCall places store q how r old new → Called q r (database_of places old) (database_of places new) }
+{}
+
+/// Whatever call of a recovery is pending, and whatever its reply: another call follows, or the record's image is in its place.
+pub fn recoveries_lead_on()
+    ensures { (r : RecoveryReplied) → RecoversTo r.catalog r.g r.h r.found r.meta r.now (recover_next r.found r.meta r.phase r.now r.reply) }
+{}
+
+/// Whatever call of a COMMIT is pending, and whatever its reply: another call follows, or its answer says what the database has.
+pub fn commits_lead_on()
+    ensures { (r : CommitReplied) → CommitAlone r.catalog r.start r.work r.h (step r.work r.stage r.reply) }
+{}
+
+/// Each text reads as a statement, or is refused.
+pub fn texts_are_read()
+    ensures { (text : List ℕ) → (x : Result Statement Refusal) × Says text x }
+{}
+
+/// Each record of a database is at its own key. Whatever stores contain, where it is sound plain tables that fit are its rows.
+pub fn databases_have_tables()
+    ensures own { (places : List Place) (shelves : List Shelf) → AreOwn (database_of places shelves) }
+    ensures tables { (catalog : List Table) (places : List Place) (shelves : List Shelf) → IsSound catalog (database_of places shelves) → HasTables catalog (database_of places shelves) }
+{}
+
+/// A client that is alone takes a statement: it is answered at once, or waits for a reply.
+pub fn takings_lead_on()
+    ensures { (t : TakenAlone) → LeadsTo t.taking.catalog t.g t.taking.fresh t.taking.now t.says t.g t.opened t.result t.after }
+{}
+
+/// It may be out of memory as it takes a statement: a COMMIT ends its transaction, and all else is as it was.
+pub fn takings_run_out()
+    ensures { (catalog : List Table) (g : Database) (o : Option OpenTransaction) (e : Exchange) (text : List ℕ) (c : ClientAt) → Says text e.says → e.answer ≡ answer.NoMemory → Between catalog g o c → Exchanged catalog g o e g (starved text c) }
+{}
+
+/// It gets the reply to its call: its statement waits for another, or is answered.
+pub fn replies_lead_on()
+    ensures { (r : RepliedAlone) → LeadsTo r.catalog r.was r.fresh r.now (Ok r.statement) r.h r.opened r.result r.after }
+{}
+
+/// Whatever stores answer, a client that takes a statement has answered it or is at work on it: where the statement is turned away, and
+/// whether a transaction is open then, is as the definitions say.
+pub fn takings_end()
+    ensures { (t : TakenBy) → LeadsOn t.taking.catalog (is_some t.before.txn) t.says t.taking.now t.taking.fresh t.result t.after }
+{}
+
+/// Whatever reply a client at work gets, it has answered its statement or is at work on it, and waits for a statement only where it isn't.
+pub fn replies_end()
+    ensures replies { (r : RepliedBy) → LeadsOn r.catalog r.opened (Ok r.statement) r.moment r.id r.result r.after }
+    ensures busy { (st : Statement) (opened : Bool) (c : ClientAt) → IsAtWork st opened c → IsIdle c → ⊥ }
+{}
+
+/// One statement more; and what is so after these statements.
+pub fn chains_are_extended()
+    ensures longer { (catalog : List Table) (start g h : Database) (es : List Exchange) (e : Exchange) (c : ClientAt) → Chain catalog start no_parts es g → AreOwn h → Exchanged catalog g (open_after es) e h c → Chain catalog start no_parts (es ++ e ∷ []) h }
+    ensures between { (catalog : List Table) (g h : Database) (es : List Exchange) (e : Exchange) (c : ClientAt) → Exchanged catalog g (open_after es) e h c → Between catalog h (open_after (es ++ e ∷ [])) c }
+    ensures reached { (s : SessionAlone) → IsReached s.catalog s.opening s.last s.before s.exchanges }
+{}
+
+/// Statements of a client that is alone, one after the other: their answers and the last images are serial, whatever the opening has.
+pub fn sessions_are_serial()
+    ensures { (s : SessionAlone) → IsSerialSession s.catalog s.opening s.last s.before s.exchanges }
+{}
