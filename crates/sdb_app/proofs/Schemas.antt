@@ -1,6 +1,7 @@
 -- What `schema` promises of its work, begun with the places that there were before.
-use Rattle.std.proofs.Common.{◌≡◌, ◌∙◌, ℕ, List, [], ◌∷◌, drop, refl, sym, ap, subst, slice_set}
+use Rattle.std.proofs.Common.{◌≡◌, ◌∙◌, ℕ, List, [], ◌∷◌, drop, inr, length, refl, sym, ap, subst, slice_set}
 use Rattle.std.specs.Prelude.{slice_get}
+use Rattle.std.proofs.Math.Seq.{take-length}
 use Rattle.sdb_types.specs.declared.record.Request.{Request}
 use Rattle.sdb_types.specs.declared.record.Reply.{Reply}
 use Rattle.sdb_schema.specs.declared.table.Table.{Table}
@@ -12,9 +13,10 @@ use Rattle.sdb_catalog.specs.declared.outcome.Outcome.TheVariants as outcome
 use Rattle.sdb_catalog.specs.declared.refused.CatalogRefused.{CatalogRefused}
 use Rattle.sdb_catalog.specs.declared.refused.CatalogRefused.TheVariants as refused
 use Rattle.sdb_catalog.specs.Calls.{Called, IsRead, IsUnread, first_contents, with_shelves}
-use Rattle.sdb_catalog.specs.Known.{IsLeftBy, IsStoredIn}
+use Rattle.sdb_catalog.specs.Known.{IsLeftBy, IsStoredIn, first_name, state_after, state_of}
 use Rattle.sdb_catalog.specs.Opened.{IsFirstBad, Opens}
-use Rattle.sdb_catalog.specs.Written.{AreWritten, HasWritten, IsPut, IsStored, IsWritten, Line, entry_for, grown}
+use Rattle.sdb_types.specs.Contents.{Contents}
+use Rattle.sdb_catalog.specs.Written.{AreWritten, HasWritten, IsPut, IsStored, IsWritten, Line, entry_for, grown, written_tables}
 use Rattle.sdb_app.specs.declared.status.Status.{Status}
 use Rattle.sdb_app.specs.Ends.{Work}
 use Rattle.sdb_app.specs.Schema.{IsSchemaKept, IsSchemaUnkept, StopsSchema}
@@ -106,3 +108,12 @@ schema_stops_before before work places s same telling (Unkept catalog cause read
       known = λ told. subst (λ (ss : List Counted). IsLeftBy cause (names_of ss) places catalog (first_contents ss) (first_contents work.left)) same (unkept.known (telling 0 told));
       others = unkept.others ∙ ap (λ (ss : List Counted). drop 1 ss) same;
     }) is
+
+-- a catalog that is written is one of which all tables are
+pub whole_is_partly : (names : List (List ℕ)) (places : List Place) (catalog : List Table) (text : List ℕ) (old new : Contents) → IsStoredIn names places catalog text old new → IsLeftBy refused.NoMemory names places catalog old new
+whole_is_partly names places catalog text old new h = inr (record {
+  entries = h.entries;
+  opens = h.opens;
+  count = length (written_tables catalog);
+  contents = h.contents ∙ ap (λ (ts : List Table). (state_after places (first_name names) (state_of h.entries old) ts).contents) (sym (take-length (written_tables catalog)));
+})

@@ -1,0 +1,38 @@
+use Rattle.std.proofs.Common.{◌≡◌, ◌∙◌, List, ℕ, Ok, Err, Result, IfOk, IfErr, ap, subst, sym}
+use Rattle.std.specs.String.{string_bytes}
+use Rattle.sdb_stores.specs.Shelf.{names_of}
+use Rattle.sdb_model.specs.declared.script.Script.{Script}
+use Rattle.sdb_world.specs.World.{IsPlayable}
+use Rattle.sdb_world.specs.Step.{CanFollow}
+use Rattle.sdb_app.specs.Bench.{IsBenchedOn, bench_over, name_at}
+use Rattle.sdb_app.specs.Run.{CanBePlaced, IsOutcome, StopsPlay, TellOf}
+use Rattle.sdb_app.proofs.BenchPlayable.{benched_on, followable, placed_over, playable}
+use Rattle.sdb_app.proofs.Playing.{ok_then}
+use Rattle.sdb_app.proofs.bench.bench.Goals as goal
+
+pub play-requires-clause-playable : goal.play-requires-clause-playable
+play-requires-clause-playable g c = subst (λ (s : Script). IsPlayable s) (sym c.in-Ok.ensures) (playable c.args.n _ _)
+
+pub play-requires-clause-can : goal.play-requires-clause-can
+play-requires-clause-can g c = subst (λ (s : Script). CanFollow s) (sym c.in-Ok.ensures) (followable c.args.n _ _)
+
+pub play-requires-clause-places : goal.play-requires-clause-places
+play-requires-clause-places g c =
+    let names = names_of (g.S.Registry.state c.args.stores.now).shelves in
+    let same : c.in-Ok.script ≡ bench_over c.args.n names = c.in-Ok.ensures ∙ ap (bench_over c.args.n) c.requires.names in
+    subst (λ (s : Script). CanBePlaced names s.places) (sym same) (placed_over c.args.n (g.S.Registry.state c.args.stores.now).shelves c.requires.some)
+
+pub returns-in-Ok-play-clause-answered : goal.returns-in-Ok-play-clause-answered
+returns-in-Ok-play-clause-answered g c =
+    let old = g.S.Registry.state c.args.stores.now in
+    let new = g.S.Registry.state c.play.new.stores in
+    let names = names_of old.shelves in
+    let same : c.in-Ok.script ≡ bench_over c.args.n names = c.in-Ok.ensures ∙ ap (bench_over c.args.n) c.requires.names in
+    let made = subst (λ (s : Script). IsOutcome (TellOf s old) s old.shelves new.shelves c.in-Ok-play.outcome) same c.in-Ok-play.ensures.made in
+    ok_then _ _ c.text_of.result (λ text is. benched_on c.args.n old new.shelves c.in-Ok-play.outcome (string_bytes text) made is) c.text_of.ensures.ok
+
+pub returns-in-Err-clause-err : goal.returns-in-Err-clause-err
+returns-in-Err-clause-err g c =
+    let old = g.S.Registry.state c.args.stores.now in
+    let same : c.in-Ok.script ≡ bench_over c.args.n (names_of old.shelves) = c.in-Ok.ensures ∙ ap (bench_over c.args.n) c.requires.names in
+    subst (λ (s : Script). StopsPlay s old (g.S.Registry.state c.play.new.stores).shelves c.in-Err.status) same c.in-Err.ensures.err
