@@ -10,6 +10,7 @@ pub entered_is : {B N R : Type 0} (sub : Option B) (nm : B → N) (rd : B → R)
 entered_is {B} {N} {R} None nm rd n r h k = none_some n (sym h)
 entered_is {B} {N} {R} (Some b) nm rd n r h k = ap₂ (λ (x : N) (y : R). pair x y) (sym (some_is n (nm b) h)) (sym (some_is r (rd b) k))
 
+-- where none was entered, there is no name
 pub entered_none : {B N R : Type 0} (sub : Option B) (nm : B → N) (rd : B → R) → None ≡ option_map nm sub → option_map {U = N × R} (λ (b : B). (nm b, rd b)) sub ≡ None
 entered_none {B} {N} {R} None nm rd h = refl
 entered_none {B} {N} {R} (Some b) nm rd h = none_some (nm b) h

@@ -134,9 +134,6 @@ other_than (d ∷ ds) n h =
     (λ e. let k : true ≡ false = rw e at h in absurd cc)
     (λ e. All-cons (λ k. k ≢ n) d.ns (namespaces ds) (λ is. let u : bytes_eq d.ns n ≡ true = rw is (itself n) in false_true (sym e ∙ u)) (other_than ds n (rw e at h)))
 
-pub none_placed : (stores : List Text) → ArePlaces stores []
-none_placed stores = record { each = All-nil (IsPlace stores); once = λ i j d less end. absurd (omega arith) }
-
 -- one more, whose namespace isn't placed
 pub one_more : (stores : List Text) (done : List Place) (p : Place) → ArePlaces stores done → IsPlace stores p → is_placed done p.ns ≡ false → ArePlaces stores (done ++ p ∷ [])
 one_more stores done p all is free =

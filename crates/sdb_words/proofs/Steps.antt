@@ -3,9 +3,7 @@ use Rattle.std.proofs.Common.{◌≡◌, ◌∙◌, ℕ, List, [], ◌∷◌, �
 use Rattle.std.specs.Prelude.{fold, not, is_some}
 use Rattle.std.specs.Str.{bytes_eq}
 use Rattle.clap.specs.Lexer.{long_of, short_of, strip_byte}
-use Rattle.clap.specs.Walk.{Held, Names, Rule, Text, Waiting, Walk, arg_by_index, idle, to_positional, value, walked}
-use Rattle.clap.specs.Simple.{Shape}
-use Rattle.clap.specs.Faults.{step_fault, turn_fault}
+use Rattle.clap.specs.Walk.{Held, Names, Rule, Text, Waiting, walked}
 use Rattle.sdb_words.specs.Parser.{is_undashed}
 
 none_is : (w : Option Text) → not (is_some w) ≡ true → w ≡ None
@@ -28,19 +26,6 @@ not_dashes (x ∷ xs) h =
       | true ↦ λ e. let bad : Some xs ≡ None = rw e at h in cc
       | false ↦ λ e. rw e refl
     ] refl
-
--- the walk between two words, none of which was a flag or named a subcommand
-abbrev pub between : Held → Waiting → ℕ → Walk
-between h waiting position = record { held = h; waiting = waiting; position = position; is_trailing = false; stopped = None }
-
-pub positional_next : (c : List Rule) (h : Held) (position : ℕ) (a : Text) → strip_byte 45 a ≡ None
-    → walked c [] (between h idle position) a ≡ to_positional c (arg_by_index c position) a (between h idle position) h
-unfolding walked
-positional_next c h position a e = let d = not_dashes a e in let l = no_long a e in let t = no_short a e in rw (d, l, t) refl
-
-pub positional_turn : (s : Shape) (h : Held) (position : ℕ) (a : Text) → strip_byte 45 a ≡ None
-    → turn_fault s [] (between h idle position) a ≡ step_fault s position h value
-positional_turn s h position a e = let d = not_dashes a e in let l = no_long a e in let t = no_short a e in rw (d, l, t) refl
 
 -- the words after a subcommand's name are gathered
 pub gathered : (c : List Rule) (names : Names) (h : Held) (waiting : Waiting) (position : ℕ) (n : Text) (xs more : List Text)

@@ -1,10 +1,13 @@
 -- The parser of the words, as `clap` sees it, and what it makes of words none of which begins with `-`.
 use Rattle.std.specs.Prelude.{◌≡◌, Bool, true, not, List, [], ◌∷◌, Option, Some, None, is_some, codes}
 use Rattle.std.specs.List.{list_all}
+use Rattle.std.specs.Borrow.{Bor}
+use Rattle.std.specs.Option.{option_map}
 use Rattle.clap.specs.Lexer.{strip_byte, usize_max}
 use Rattle.clap.specs.Walk.{Row, Rule, Text, first_of}
-use Rattle.clap.specs.Simple.{App, new_app, new_rule, new_shape, subcommand_of, with_rule, with_subcommand}
+use Rattle.clap.specs.Simple.{App, new_app, new_rule, new_shape, subcommand_of, subcommand_rows_of, with_rule, with_subcommand}
 use Rattle.clap.specs.Faults.{fault_of}
+use Rattle.clap.specs.declared.parser.matches.ArgMatches.{ArgMatches}
 
 -- an argument that has to be there
 abbrev pub wanted : Text → Rule
@@ -66,6 +69,13 @@ pub record IsTaken (words : List Text) (name : Text) (rows : List Row) : Type 0 
   pub undashed : are_undashed words ≡ true
   pub taken : fault_of program words ≡ []
   pub read : subcommand_of program words ≡ Some (name, rows)
+
+-- These matches are what `clap` makes of the words, in which it finds no fault.
+abbrev pub AreMatchesOf : List Text → ArgMatches → Type 0
+AreMatchesOf words m = (fault_of program words ≡ []) × (subcommand_rows_of m ≡ subcommand_of program words)
+
+abbrev pub text_read : Option (Bor Text) → Option Text
+text_read = option_map (λ s. s.now)
 
 -- the words that were read, in their order
 abbrev pub in_order : Option Text → Option Text → Option Text → List Text

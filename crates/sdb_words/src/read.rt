@@ -1,12 +1,12 @@
 //! The command that words are.
-ghost use Rattle.std.specs.Prelude.{◌≡◌, ◌≢◌, ◌<◌, ◌^◌, [], ◌∷◌, map, codes, length, string_bytes, IfOk, IsErrOf, MatchOption, option_map};
-ghost use Rattle.clap.specs.Words.{fault_of, found_of, rows_of, subcommand_of, subcommand_rows_of};
+ghost use Rattle.std.specs.Prelude.{◌≡◌, ◌≢◌, ◌<◌, ◌^◌, [], ◌∷◌, map, codes, length, string_bytes, IfOk, IsErrOf, MatchOption};
+ghost use Rattle.clap.specs.Words.{fault_of, found_of, rows_of};
 ghost use Rattle.sdb_words.specs.declared.command.Command.{Command};
 ghost use Rattle.sdb_words.specs.declared.command.Command.TheVariants as command;
 ghost use Rattle.sdb_words.specs.declared.command.Mode.{Mode};
 ghost use Rattle.sdb_words.specs.declared.command.WordsRefused.{WordsRefused};
 ghost use Rattle.sdb_words.specs.Commands.{AreOfNone, AreWordsOf, mode_text};
-ghost use Rattle.sdb_words.specs.Parser.{are_undashed as are_undashed_lem, arguments, in_order, is_undashed as is_undashed_lem, program, IsTaken};
+ghost use Rattle.sdb_words.specs.Parser.{are_undashed as are_undashed_lem, arguments, in_order, is_undashed as is_undashed_lem, program, text_read, AreMatchesOf, IsTaken};
 
 use crate::command::{Command, Mode, WordsRefused};
 use crate::names::{attached, is_first, table_in};
@@ -43,7 +43,7 @@ fn are_undashed(words: &[String]) -> bool
 
 // What `clap` makes of the words: it takes them, or refuses them for another cause than memory, exactly as its definitions say.
 fn parsed<'a>(alloc: Global, words: &'a [String]) -> Result<ArgMatches<'a>, WordsRefused>
-    ensures ok { IfOk result (λ m. (fault_of program (map string_bytes words.now) ≡ []) × (subcommand_rows_of m ≡ subcommand_of program (map string_bytes words.now))) }
+    ensures ok { IfOk result (AreMatchesOf (map string_bytes words.now)) }
     ensures usage { IsErrOf result WordsRefused.Usage → fault_of program (map string_bytes words.now) ≡ [] → ⊥ }
 {
     match parser(alloc)?.try_get_matches_from(words) {
@@ -57,7 +57,7 @@ fn parsed<'a>(alloc: Global, words: &'a [String]) -> Result<ArgMatches<'a>, Word
 
 // What was read of the words of a command.
 fn texts_of<'a>(given: &ArgMatches<'a>) -> (Option<&'a str>, Option<&'a str>, Option<&'a str>)
-    ensures { in_order (option_map (λ s. s.now) result.0) (option_map (λ s. s.now) result.1) (option_map (λ s. s.now) result.2) ≡ arguments (rows_of (found_of given.now)) }
+    ensures { in_order (text_read result.0) (text_read result.1) (text_read result.2) ≡ arguments (rows_of (found_of given.now)) }
 {
     (
         given.get_str("first"),

@@ -87,7 +87,7 @@ impl Case for Words {
     }
 }
 
-static WORDS: [Words; 88] = [
+static WORDS: [Words; 90] = [
     Words("replay\n", Asked::Replay),
     Words("replay\nx\n", Asked::Usage),
     Words("replay\n\n", Asked::Usage),
@@ -224,6 +224,14 @@ static WORDS: [Words; 88] = [
     Words("alter\nshop.orders\nnote\nFLOAT\n", Asked::Usage),
     Words("alter\nshop.orders\nnote\n\n", Asked::Usage),
     Words("alter\nshop.orders\n1note\nTEXT\n", Asked::Usage),
+    Words(
+        "alter\nshop.orders\naaaaaaaaaaaaaaaaaaaaaaaaaaaaaaaaaaaaaaaaaaaaaaaaaaaaaaaaaaaaaaaa\nTEXT\n",
+        Asked::Alter("shop", "orders", LONG, Kind::Text),
+    ),
+    Words(
+        "alter\nshop.orders\naaaaaaaaaaaaaaaaaaaaaaaaaaaaaaaaaaaaaaaaaaaaaaaaaaaaaaaaaaaaaaaaa\nTEXT\n",
+        Asked::Usage,
+    ),
     Words("alter\nshop\nnote\nTEXT\n", Asked::Usage),
     Words("alter\nshop.orders\nnote\n", Asked::Usage),
     Words("alter\nshop.orders\nnote\nTEXT\nx\n", Asked::Usage),
