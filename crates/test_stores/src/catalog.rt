@@ -178,6 +178,8 @@ enum Ask {
     Full(&'static str, &'static str),
     // A catalog is not written, and these rows are there.
     Failed(&'static str),
+    // Over these rows a catalog is not written, since the row of this key is bad, and nothing has changed.
+    Unwritten(&'static str, &'static str, &'static str),
 }
 
 // The calls at which the first store fails, and what is asked.
@@ -308,6 +310,13 @@ fn is_store_fault(alloc: Global, stores: &mut Stores) -> bool {
     )
 }
 
+fn refuses_bad(alloc: Global, stores: &mut Stores, key: &str) -> bool {
+    match written(alloc, stores, BOTH, &[]) {
+        Err(CatalogRefused::BadRow(bad)) => is_key(alloc, &bad, key),
+        _ => false,
+    }
+}
+
 fn answered(alloc: Global, stores: &mut Stores, asked: Ask) -> bool {
     match asked {
         Ask::Opened(rows, tables) => { plays(alloc, stores, rows) && opens(alloc, stores, tables) }
@@ -316,6 +325,11 @@ fn answered(alloc: Global, stores: &mut Stores, asked: Ask) -> bool {
         }
         Ask::Full(rows, key) => is_full(alloc, stores, rows, key),
         Ask::Failed(rows) => is_store_fault(alloc, stores) && plays(alloc, stores, rows),
+        Ask::Unwritten(rows, key, after) => {
+            plays(alloc, stores, rows)
+                && refuses_bad(alloc, stores, key)
+                && plays(alloc, stores, after)
+        }
     }
 }
 
@@ -327,7 +341,7 @@ impl Case for Check {
 }
 
 // Rows that open as a catalog, a catalog of 64 tables, and calls that fail: the scan, then one put for each table.
-static OPENED: [Check; 9] = [
+static OPENED: [Check; 11] = [
     Check(
         &[],
         Ask::Opened("scalardb report 1\nevents 0\norder 0\ntables 0\nend\n", &[]),
@@ -388,6 +402,23 @@ static OPENED: [Check; 9] = [
         }],
         Ask::Failed(
             "scalardb report 1\nevents 1\n1 call 1 s scan scalardb.metadata seen rows 1 scalardb.metadata('bank.account'){definition='{\"clustering-key\":[],\"columns\":{\"balance\":\"INT\",\"id\":\"INT\"},\"partition-key\":[\"id\"],\"secondary-index\":[]}',store='ordered',tx_id='00000000-0000-0000-0000-000000000001',tx_state=3} -\norder 0\ntables 0\nend\n",
+        ),
+    ),
+    Check(
+        &[Failing {
+            call: 3,
+            after: true,
+        }],
+        Ask::Failed(
+            "scalardb report 1\nevents 1\n1 call 1 s scan scalardb.metadata seen rows 2 scalardb.metadata('bank.account'){definition='{\"clustering-key\":[],\"columns\":{\"balance\":\"INT\",\"id\":\"INT\"},\"partition-key\":[\"id\"],\"secondary-index\":[]}',store='ordered',tx_id='00000000-0000-0000-0000-000000000001',tx_state=3} scalardb.metadata('coordinator.state'){definition='{\"clustering-key\":[],\"columns\":{\"tx_created_at\":\"BIGINT\",\"tx_id\":\"TEXT\",\"tx_state\":\"INT\"},\"partition-key\":[\"tx_id\"],\"secondary-index\":[]}',store='ordered',tx_id='00000000-0000-0000-0000-000000000001',tx_state=3} -\norder 0\ntables 0\nend\n",
+        ),
+    ),
+    Check(
+        &[],
+        Ask::Unwritten(
+            "scalardb report 1\nevents 1\n1 call 1 s put scalardb.metadata('shop.orders'){tx_state=3} if absent seen applied -\norder 0\ntables 0\nend\n",
+            "scalardb.metadata('shop.orders')",
+            "scalardb report 1\nevents 1\n1 call 1 s scan scalardb.metadata seen rows 1 scalardb.metadata('shop.orders'){tx_state=3} -\norder 0\ntables 0\nend\n",
         ),
     ),
 ];
