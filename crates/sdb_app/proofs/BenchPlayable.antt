@@ -3,7 +3,7 @@ use Rattle.std.proofs.Common.{◌≡◌, ◌≢◌, ℕ, zero, suc, ◌<◌, ◌
 use Rattle.std.specs.Prelude.{◌-◌, All, AllPairs, Contains}
 use Rattle.std.proofs.lemmas.Option.{unwrap_or-slice_get}
 use Rattle.std.proofs.lemmas.List.Elements.{Contains-get_or}
-use Rattle.std.proofs.Math.ListN.{length-map}
+use Rattle.std.proofs.lemmas.List.{length-map}
 use Rattle.std.specs.Str.{bytes_eq}
 use Rattle.sdb_types.proofs.Basics.{all_each, clash}
 use Rattle.sdb_model.specs.declared.script.Act.TheVariants as act
@@ -15,7 +15,9 @@ use Rattle.sdb_world.specs.Step.{CanFollow, CanMove}
 use Rattle.sdb_bench.specs.Script.{IsOfNine, bench_script_of}
 use Rattle.sdb_stores.specs.Shelf.{Attached, Shelf as Counted, names_of}
 use Rattle.sdb_model.specs.declared.event.Outcome.{Outcome}
-use Rattle.sdb_bench.specs.Counts.{bench_text_of}
+use Rattle.sdb_model.specs.Events.{Shelf}
+use Rattle.sdb_model.specs.Told.{IsRun}
+use Rattle.sdb_bench.specs.Counts.{bench_text_of, uneven_of}
 use Rattle.sdb_app.specs.Bench.{IsBenchedOn, bench_over, name_at}
 use Rattle.sdb_app.specs.Run.{CanBePlaced, IsOutcome, TellOf}
 use Rattle.sdb_bench.proofs.Playing.{bench_apart, bench_catalog_is, bench_moves_are, bench_nine, bench_short}
@@ -75,7 +77,7 @@ name_there : (stores : List (List ℕ)) (i : ℕ) → i < length stores → Cont
 name_there stores i within = subst (λ (n : List ℕ). Contains stores n) (sym (unwrap_or-slice_get stores i [])) (Contains-get_or stores i [] within)
 
 named_count : (shelves : List Counted) → length (names_of shelves) ≡ length shelves
-named_count shelves = length-map (λ (s : Counted). s.name) shelves
+named_count shelves = length-map shelves (λ (s : Counted). s.name)
 
 -- The places of a bench over attached stores can be made.
 pub placed_over : (n : ℕ) (shelves : List Counted) → 0 < length shelves → CanBePlaced (names_of shelves) (bench_over n (names_of shelves)).places
@@ -84,10 +86,11 @@ placed_over n shelves some =
     placeable (names_of shelves) n (name_at (names_of shelves) 0) (name_at (names_of shelves) (length (names_of shelves) - 1)) (name_there (names_of shelves) 0 (omega arith)) (name_there (names_of shelves) (length (names_of shelves) - 1) (omega arith))
 
 -- What is counted over its outcome.
-pub benched_on : (n : ℕ) (old : Attached) (left : List Counted) (o : Outcome) (answer : List ℕ) → IsOutcome (TellOf (bench_over n (names_of old.shelves)) old) (bench_over n (names_of old.shelves)) old.shelves left o → answer ≡ bench_text_of n o → IsBenchedOn n old left answer
-benched_on n old left o answer made is = record {
+pub benched_on : (n : ℕ) (old : Attached) (left : List Counted) (o : Outcome) (answer : List ℕ) → IsOutcome (TellOf (bench_over n (names_of old.shelves)) old) (bench_over n (names_of old.shelves)) old.shelves left o → answer ≡ bench_text_of n o
+    → ((first last : List ℕ) (opening closing : List Shelf) → IsRun (bench_script_of n first last) opening closing o → uneven_of o.tables ≡ 0) → IsBenchedOn n old left answer
+benched_on n old left o answer made is even = record {
   outcome = o;
   made = made;
   text = is;
-  even = λ all. bench_even n _ _ _ _ o (made.played all).run;
+  even = λ all. even _ _ _ _ (made.played all).run;
 }

@@ -8,6 +8,7 @@ ghost use Rattle.sdb_app.specs.Run.{StopsPlay};
 
 use crate::play::play;
 use crate::status::Status;
+use sdb_bench::laws::runs_are_even;
 use sdb_bench::{bench_script, bench_text};
 use sdb_model::{Outcome, Script};
 use sdb_stores::Registry;
@@ -53,6 +54,7 @@ pub fn bench<S: Registry>(
     ensures err { IfErr result (StopsPlay (bench_over n (names_of (S.state stores.old).shelves)) (S.state stores.old) (S.state stores.new).shelves) }
     ensures kept { AreKept (S.state stores.old) (S.state stores.new) }
 {
+    runs_are_even();
     let Ok(script) = script_over(alloc, n, names) else {
         return Err(Status::NoMemory);
     };

@@ -1,4 +1,6 @@
-use Rattle.std.proofs.Common.{IfErr, IfOk, refl, subst, sym}
+use Rattle.std.proofs.Common.{IfErr, IfOk, List, refl, subst, sym}
+use Rattle.sdb_stores.specs.declared.place.Place.{Place}
+use Rattle.sdb_app.specs.Schema.{IsSchemaKept}
 use Rattle.std.specs.String.{string_bytes}
 use Rattle.sdb_words.specs.declared.command.Command.{Command}
 use Rattle.sdb_app.specs.Ends.{stream, work_of}
@@ -26,4 +28,5 @@ returns-in-Bench-clause-err g c =
 pub returns-in-Schema-clause-answered : goal.returns-in-Schema-clause-answered
 returns-in-Schema-clause-answered g c =
     let work = work_of g.S.Registry.state (stream g.R.Source.remaining g.R.Source.faults) c.args.stores.now c.schema.new.stores c.args.input.now c.schema.new.input in
-    subst (λ (x : Command). IfOk c.schema.result (λ text. (promise_of x work).answers (string_bytes text))) (sym c.in-Schema.is) c.schema.ensures.answered
+    subst (λ (x : Command). IfOk c.schema.result (λ text. (promise_of x work).answers (string_bytes text))) (sym c.in-Schema.is)
+    (subst (λ (ps : List Place). IfOk c.schema.result (λ text. IsSchemaKept ps work (string_bytes text))) c.as_slice.ensures c.schema.ensures.answered)
