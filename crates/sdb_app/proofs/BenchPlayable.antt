@@ -1,4 +1,4 @@
--- What the script of a bench gives its player.
+-- The script of a bench is playable, and its moves can be made.
 use Rattle.std.proofs.Common.{◌≡◌, ◌≢◌, ℕ, zero, suc, ◌<◌, ◌≤◌, true, not, List, [], ◌∷◌, map, codes, length, refl, sym, ap, subst, arith}
 use Rattle.std.specs.Prelude.{All, AllPairs, Contains}
 use Rattle.std.specs.Str.{bytes_eq}
@@ -12,9 +12,9 @@ use Rattle.sdb_script.specs.Begun.{ArePlaces}
 use Rattle.sdb_world.specs.World.{IsPlayable}
 use Rattle.sdb_world.specs.Step.{CanFollow, CanMove}
 use Rattle.sdb_bench.specs.Script.{IsOfNine, bench_script_of}
-use Rattle.sdb_bench.proofs.Playing.{bench_apart, bench_catalog_is, bench_moves_are, bench_nine, bench_short}
+use Rattle.sdb_bench.proofs.Playable.{bench_apart, bench_catalog_is, bench_moves_are, bench_nine, bench_short}
 
--- The script of a bench can be played.
+-- The script of a bench is playable.
 pub playable : (n : ℕ) (first last : List ℕ) → IsPlayable (bench_script_of n first last)
 playable n first last =
     record {
@@ -53,7 +53,18 @@ differ x y apart (suc i) (suc j) d less within = absurd (omega arith)
 sides_differ : codes "benchl" ≡ codes "benchr" → ⊥
 sides_differ e = clash (ap (bytes_eq (codes "benchl")) e)
 
--- Its places are places over attached stores, where these two are such stores.
+-- Its two namespaces differ.
+pub places_once : (n : ℕ) (first last : List ℕ) → AllPairs ◌≢◌ (map (λ p. p.ns) (bench_script_of n first last).places)
+unfolding bench_script_of
+places_once n first last = differ (codes "benchl") (codes "benchr") sides_differ
+
+-- Its stores are attached, where these two are.
+pub places_attached : (stores : List (List ℕ)) (n : ℕ) (first last : List ℕ) → Contains stores first → Contains stores last → All (λ p. Contains stores p.store) (bench_script_of n first last).places
+unfolding bench_script_of
+places_attached stores n first last has_first has_last =
+    both (λ (p : Place). Contains stores p.store) (record { ns = codes "benchl"; store = first }) (record { ns = codes "benchr"; store = last }) has_first has_last
+
+-- Its places are places over attached stores, where these two are such stores and have names of at most 64 bytes.
 pub places_are : (stores : List (List ℕ)) (n : ℕ) (first last : List ℕ) → is_client_name first ≡ true → is_client_name last ≡ true → Contains stores first → Contains stores last
     → ArePlaces stores (bench_script_of n first last).places
 unfolding bench_script_of
@@ -63,6 +74,6 @@ places_are stores n first last named_first named_last has_first has_last =
     record {
       named = both (λ (p : Place). (is_client_name p.ns ≡ true) × (is_client_name p.store ≡ true)) left right (refl, named_first) (refl, named_last);
       free = both (λ (p : Place). p.ns ≢ codes "scalardb") left right (λ e. cc) (λ e. cc);
-      once = differ (codes "benchl") (codes "benchr") sides_differ;
-      attached = both (λ (p : Place). Contains stores p.store) left right has_first has_last;
+      once = places_once n first last;
+      attached = places_attached stores n first last has_first has_last;
     }
