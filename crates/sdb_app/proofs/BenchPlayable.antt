@@ -1,4 +1,4 @@
--- What the script of a bench gives its player.
+-- The script of a bench is playable, and its moves can be made.
 use Rattle.std.proofs.Common.{◌≡◌, ◌≢◌, ℕ, zero, suc, ◌<◌, ◌≤◌, true, not, List, [], ◌∷◌, map, codes, length, refl, sym, ap, subst, arith}
 use Rattle.std.specs.Prelude.{◌-◌, All, AllPairs, Contains}
 use Rattle.std.proofs.lemmas.Option.{unwrap_or-slice_get}
@@ -20,9 +20,9 @@ use Rattle.sdb_model.specs.Told.{IsRun}
 use Rattle.sdb_bench.specs.Counts.{bench_text_of, uneven_of}
 use Rattle.sdb_app.specs.Bench.{IsBenchedOn, bench_over, name_at}
 use Rattle.sdb_app.specs.Run.{CanBePlaced, IsOutcome, TellOf}
-use Rattle.sdb_bench.proofs.Playing.{bench_apart, bench_catalog_is, bench_moves_are, bench_nine, bench_short}
+use Rattle.sdb_bench.proofs.Playable.{bench_apart, bench_catalog_is, bench_moves_are, bench_nine, bench_short}
 
--- The script of a bench can be played.
+-- The script of a bench is playable.
 pub playable : (n : ℕ) (first last : List ℕ) → IsPlayable (bench_script_of n first last)
 playable n first last =
     record {

@@ -15,8 +15,8 @@ use Rattle.sdb_model.specs.Told.{AreRead}
 use Rattle.sdb_model.specs.Transactions.{Said, begins, body, client_of, ends, from_begin, id_of, is_done, is_effective, ordinal_of, rest_of, said, said_since}
 use Rattle.sdb_model.proofs.Basics.{id_again}
 use Rattle.sdb_bench.specs.Script.{bench_clients}
-use Rattle.sdb_bench.proofs.Taken.{AreTaken, said_texts}
-use Rattle.sdb_bench.proofs.Spoken.{IsInsert, IsLater, IsText, IsUpdate, all_kept, insert_kind, later_begins, later_statements, later_texts, setup_kind, setup_texts, update_kind, update_texts}
+use Rattle.sdb_bench.proofs.Taken.{AreTaken, taken_texts}
+use Rattle.sdb_bench.proofs.ReadAs.{IsInsert, IsLater, IsText, IsUpdate, all_kept, insert_kind, later_begins, later_statements, later_texts, setup_kind, setup_texts, update_kind, update_texts}
 
 ---- what is so of all statements of a client is so of a body
 
@@ -46,12 +46,12 @@ all_body P events id h =
     let rest = all_rest P (said_since events id) since in
     all_kept P is_effective (take_while (λ s. not (ends s)) (rest_of (said_since events id))) (all_while P (λ s. not (ends s)) (rest_of (said_since events id)) rest)
 
-of_texts : (Q : List ℕ → Type 0) (ss : List Said) → AllByRecursion Q (said_texts ss) → AllByRecursion (λ s. Q s.text) ss
+of_texts : (Q : List ℕ → Type 0) (ss : List Said) → AllByRecursion Q (taken_texts ss) → AllByRecursion (λ s. Q s.text) ss
 of_texts Q [] h = tt
 of_texts Q (s ∷ ss) h = (h.0, of_texts Q ss h.1)
 
-said_all : (Q : List ℕ → Type 0) (clients : List ScriptClient) (events : List Event) (c : ℕ) → AreTaken clients events → AllByRecursion Q (texts_of clients c) → AllByRecursion (λ s. Q s.text) (said c events)
-said_all Q clients events c taken h = of_texts Q (said c events) (subst (AllByRecursion Q) (sym (taken c)) (all_take Q (taken_by c events) (texts_of clients c) h))
+taken_all : (Q : List ℕ → Type 0) (clients : List ScriptClient) (events : List Event) (c : ℕ) → AreTaken clients events → AllByRecursion Q (texts_of clients c) → AllByRecursion (λ s. Q s.text) (said c events)
+taken_all Q clients events c taken h = of_texts Q (said c events) (subst (AllByRecursion Q) (sym (taken c)) (all_take Q (taken_by c events) (texts_of clients c) h))
 
 read_all : (P : Statement → Type 0) (Q : List ℕ → Type 0) → ((text : List ℕ) (st : Statement) → Q text → Reads text st → P st) → (ss : List Said) (b : List Statement) → AllByRecursion (λ s. Q s.text) ss → AreRead ss b → AllByRecursion P b
 read_all P Q each [] [] h read = tt
@@ -82,11 +82,11 @@ tail_of (x ∷ xs) = xs
 no_begins : (ss : List Said) → AllByRecursion (λ s. IsText IsLater s.text) ss → AllByRecursion (λ s. begins s ≡ false) ss
 no_begins ss h = all_each (λ s. IsText IsLater s.text) (λ s. begins s ≡ false) ss (λ s t. ap (λ (b : Bool). b && is_done s.answer) (later_begins s.text t)) h
 
-second_none : (k taken : ℕ) (first : List ℕ) (later : List (List ℕ)) (ss : List Said) → AllByRecursion (IsText IsLater) later → said_texts ss ≡ take taken (first ∷ later) → from_begin (suc (suc k)) ss ≡ []
+second_none : (k taken : ℕ) (first : List ℕ) (later : List (List ℕ)) (ss : List Said) → AllByRecursion (IsText IsLater) later → taken_texts ss ≡ take taken (first ∷ later) → from_begin (suc (suc k)) ss ≡ []
 second_none k taken first later [] h e = refl
 second_none k zero first later (s ∷ ss) h e = absurd (cc)
 second_none k (suc n) first later (s ∷ ss) h e =
-    let rest : said_texts ss ≡ take n later = ap tail_of e in
+    let rest : taken_texts ss ≡ take n later = ap tail_of e in
     begins_once k s ss (no_begins ss (of_texts (IsText IsLater) ss (subst (AllByRecursion (IsText IsLater)) (sym rest) (all_take (IsText IsLater) n later h))))
 
 no_second : (n k : ℕ) (events : List Event) → AreTaken (bench_clients n) events → from_begin (suc (suc k)) (said 1 events) ≡ []
@@ -110,7 +110,7 @@ is_setup id c k = sym (id_again id) ∙ ap (λ (x : ℕ). id_of x (ordinal_of id
 pub setup_body : (n : ℕ) (events : List Event) (b : List Statement) → AreTaken (bench_clients n) events → AreRead (body events setup_id) b → AllByRecursion IsInsert b
 setup_body n events b taken read =
     read_all IsInsert (IsText IsInsert) insert_kind (body events setup_id) b
-    (all_body (λ s. IsText IsInsert s.text) events setup_id (said_all (IsText IsInsert) (bench_clients n) events 1 taken (setup_kind n))) read
+    (all_body (λ s. IsText IsInsert s.text) events setup_id (taken_all (IsText IsInsert) (bench_clients n) events 1 taken (setup_kind n))) read
 
 -- The body of another transaction is read as UPDATEs.
 pub other_body : (n : ℕ) (events : List Event) (id : TxId) (b : List Statement) → AreTaken (bench_clients n) events → (id ≡ setup_id → ⊥) → AreRead (body events id) b → AllByRecursion IsUpdate b
@@ -123,7 +123,7 @@ other_body n events id b taken other read =
     read_all IsUpdate (IsText IsUpdate) update_kind [] b tt (subst (λ (ss : List Said). AreRead ss b) empty read))
     (λ e.
     read_all IsUpdate (IsText IsUpdate) update_kind (body events id) b
-    (all_body (λ s. IsText IsUpdate s.text) events id (said_all (IsText IsUpdate) (bench_clients n) events (client_of id) taken (update_texts n (client_of id) (apart (client_of id) e))))
+    (all_body (λ s. IsText IsUpdate s.text) events id (taken_all (IsText IsUpdate) (bench_clients n) events (client_of id) taken (update_texts n (client_of id) (apart (client_of id) e))))
     read)
   where
     apart : (c : ℕ) → (c == 1) ≡ false → c ≡ 1 → ⊥

@@ -67,7 +67,7 @@ none_counted p (x ∷ xs) h = sum_by-cons (λ y. cond (p y) 1 0) x xs ∙ ap (λ
 ---- rows that are printed
 
 -- a printed row's v is chosen by its p
-pub record IsShown (g : Value → Value) (row : List Value) : Type 0 where
+pub record IsPrinted (g : Value → Value) (row : List Value) : Type 0 where
   pub p : Value
   pub at_p : slice_get row 1 ≡ Some p
   pub at_v : slice_get row 2 ≡ Some (g p)
@@ -75,14 +75,14 @@ pub record IsShown (g : Value → Value) (row : List Value) : Type 0 where
 own_table : (side : Side) (table : TableName) → is_eq (table_cmp table (bench_table side).name) ≡ true → table ≡ (bench_table side).name
 own_table side table own = table_exact table (bench_table side).name (equal_of (table_cmp table (bench_table side).name) own)
 
-shown_row : (side : Side) (f : Chosen) (table : TableName) (ps cs : List Value) (columns : List Pair) → is_row_of (bench_table side) (record { key = record { table = table; partition = ps; clustering = cs }; columns = columns }) ≡ true
+printed_row : (side : Side) (f : Chosen) (table : TableName) (ps cs : List Value) (columns : List Pair) → is_row_of (bench_table side) (record { key = record { table = table; partition = ps; clustering = cs }; columns = columns }) ≡ true
     → IsOne ps → column columns v_name ≡ Some (f table ps)
-    → IsShown (λ x. f (bench_table side).name (x ∷ [])) (shown (bench_table side) None (record { key = record { table = table; partition = ps; clustering = cs }; columns = columns }))
-shown_row side f table [] cs columns own one h = absurd one
-shown_row side f table (x ∷ y ∷ xs) cs columns own one h = absurd one
-shown_row side f table (x ∷ []) [] columns own one h =
+    → IsPrinted (λ x. f (bench_table side).name (x ∷ [])) (shown (bench_table side) None (record { key = record { table = table; partition = ps; clustering = cs }; columns = columns }))
+printed_row side f table [] cs columns own one h = absurd one
+printed_row side f table (x ∷ y ∷ xs) cs columns own one h = absurd one
+printed_row side f table (x ∷ []) [] columns own one h =
     record { p = x; at_p = refl; at_v = ap (λ (o : Option Value). Some (unwrap_or o value.Null)) h ∙ ap (λ (name : TableName). Some (f name (x ∷ []))) (own_table side table own) }
-shown_row side f table (x ∷ []) (c ∷ cs) columns own one h =
+printed_row side f table (x ∷ []) (c ∷ cs) columns own one h =
     record { p = x; at_p = refl; at_v = ap (λ (o : Option Value). Some (unwrap_or o value.Null)) h ∙ ap (λ (name : TableName). Some (f name (x ∷ []))) (own_table side table own) }
 
 abbrev pub chosen_in : Side → Chosen → Value → Value
@@ -91,14 +91,14 @@ chosen_in side f x = f (bench_table side).name (x ∷ [])
 abbrev pub IsCellRow : Chosen → Image → Type 0
 IsCellRow f r = IsOne r.key.partition × (column r.columns v_name ≡ Some (f r.key.table r.key.partition))
 
-rows_shown : (side : Side) (f : Chosen) (d : Tables) → AreCells f d → AllByRecursion (IsShown (chosen_in side f)) (dump_of d (bench_table side)).rows
-rows_shown side f d h =
+rows_printed : (side : Side) (f : Chosen) (d : Tables) → AreCells f d → AllByRecursion (IsPrinted (chosen_in side f)) (dump_of d (bench_table side)).rows
+rows_printed side f d h =
     let t = bench_table side in
     let images : AllByRecursion (IsCellRow f) (all_rows d) = all_map (IsCell f) (IsCellRow f) row_of_entry (λ e c. c) (entries d) h in
     let own = all_filter (IsCellRow f) (is_row_of t) (all_rows d) images in
     let Own : Image → Type 0 = λ r. IsCellRow f r × (is_row_of t r ≡ true) in
-    all_map Own (IsShown (chosen_in side f)) (shown t None)
-    (λ r c. shown_row side f r.key.table r.key.partition r.key.clustering r.columns c.1 c.0.0 c.0.1)
+    all_map Own (IsPrinted (chosen_in side f)) (shown t None)
+    (λ r c. printed_row side f r.key.table r.key.partition r.key.clustering r.columns c.1 c.0.0 c.0.1)
     (sorted t (filter (is_row_of t) (all_rows d)))
     (all_sorted Own t [] (filter (is_row_of t) (all_rows d)) tt own)
 
@@ -118,7 +118,7 @@ apart g p x y true false ex ey = refl
 apart g p x y false true ex ey = refl
 apart g p x y false false ex ey = refl
 
-no_difference : (g : Value → Value) (p : Value) (row other : List Value) → IsShown g row → IsShown g other → differ p row other ≡ false
+no_difference : (g : Value → Value) (p : Value) (row other : List Value) → IsPrinted g row → IsPrinted g other → differ p row other ≡ false
 unfolding differ
 no_difference g p row other a b =
     ap (λ (o : Option Value). same_found o (Some p) && is_at p other && not (same_found (slice_get row 2) (slice_get other 2))) a.at_p
@@ -127,17 +127,17 @@ no_difference g p row other a b =
     ∙ ap (λ (o : Option Value). same_found (Some a.p) (Some p) && same_found (Some b.p) (Some p) && not (same_found (Some (g a.p)) o)) b.at_v
     ∙ apart g p a.p b.p (is_eq (value_cmp a.p p)) (is_eq (value_cmp b.p p)) refl refl
 
-even_rows : (g : Value → Value) (rows : List (List Value)) → AllByRecursion (IsShown g) rows → (p : ℕ) → is_uneven rows p ≡ false
+even_rows : (g : Value → Value) (rows : List (List Value)) → AllByRecursion (IsPrinted g) rows → (p : ℕ) → is_uneven rows p ≡ false
 unfolding is_uneven
 even_rows g rows h p =
     none_any (λ row. list_any (differ (value.Int (pos p)) row) rows) rows
-    (all_each (IsShown g) (λ row. list_any (differ (value.Int (pos p)) row) rows ≡ false) rows
-    (λ row r. none_any (differ (value.Int (pos p)) row) rows (all_each (IsShown g) (λ other. differ (value.Int (pos p)) row other ≡ false) rows (λ other o. no_difference g (value.Int (pos p)) row other r o) h))
+    (all_each (IsPrinted g) (λ row. list_any (differ (value.Int (pos p)) row) rows ≡ false) rows
+    (λ row r. none_any (differ (value.Int (pos p)) row) rows (all_each (IsPrinted g) (λ other. differ (value.Int (pos p)) row other ≡ false) rows (λ other o. no_difference g (value.Int (pos p)) row other r o) h))
     h)
 
 even_dump : (side : Side) (f : Chosen) (d : Tables) → AreCells f d → uneven_in (dump_of d (bench_table side)) ≡ 0
 unfolding uneven_in
-even_dump side f d h = none_counted (is_uneven (dump_of d (bench_table side)).rows) (numbers_below 8) (even_rows (chosen_in side f) (dump_of d (bench_table side)).rows (rows_shown side f d h))
+even_dump side f d h = none_counted (is_uneven (dump_of d (bench_table side)).rows) (numbers_below 8) (even_rows (chosen_in side f) (dump_of d (bench_table side)).rows (rows_printed side f d h))
 
 pub even_dumps : (d : Tables) → IsEven d → uneven_of (dumps_of bench_catalog d) ≡ 0
 even_dumps d (f, h) =

@@ -3,7 +3,7 @@ mod Drawing
 mod Taken
 mod Even
 mod Evenness
-mod Spoken
+mod ReadAs
 mod Bodied
 mod Serial
-pub mod Playing
+pub mod Playable

@@ -22,7 +22,7 @@ use Rattle.sdb_bench.specs.Setup.{bench_catalog}
 use Rattle.sdb_bench.proofs.Bodied.{other_body, setup_body, setup_id}
 use Rattle.sdb_bench.proofs.Even.{AreCells, HasNone, IsEven, all_zero, insert_zero, no_entries, none_zero, update_even, update_none}
 use Rattle.sdb_bench.proofs.Evenness.{even_dumps}
-use Rattle.sdb_bench.proofs.Spoken.{Changes, Closes, Inserts, IsInsert, IsOf, IsUpdate, Opens, Updates}
+use Rattle.sdb_bench.proofs.ReadAs.{Changes, Closes, Inserts, IsInsert, IsOf, IsUpdate, Opens, Updates}
 use Rattle.sdb_bench.proofs.Taken.{AreTaken, all_taken}
 
 ---- one body
@@ -33,16 +33,16 @@ after st d = (exec bench_catalog st d).1
 abbrev pub after_body : List Statement → Tables → Tables
 after_body b d = (run_body bench_catalog b d).1
 
--- What each statement of a body keeps, the body keeps.
-body_keeps : (P : Statement → Type 0) (Q : Tables → Type 0) → ((st : Statement) (d : Tables) → P st → Q d → Q (after st d)) → (b : List Statement) (d : Tables) → AllByRecursion P b → Q d → Q (after_body b d)
-body_keeps P Q each [] d h q = q
-body_keeps P Q each (st ∷ b) d h q = body_keeps P Q each b (after st d) h.1 (each st d h.0 q)
+-- What each statement of a body preserves, the body preserves.
+body_preserves : (P : Statement → Type 0) (Q : Tables → Type 0) → ((st : Statement) (d : Tables) → P st → Q d → Q (after st d)) → (b : List Statement) (d : Tables) → AllByRecursion P b → Q d → Q (after_body b d)
+body_preserves P Q each [] d h q = q
+body_preserves P Q each (st ∷ b) d h q = body_preserves P Q each b (after st d) h.1 (each st d h.0 q)
 
 -- So does a BEGIN or a COMMIT, which changes nothing.
-kind_keeps : (P : Statement → Type 0) (Q : Tables → Type 0) → ((st : Statement) (d : Tables) → P st → Q d → Q (after st d)) → (st : Statement) (d : Tables) → IsOf P st → Q d → Q (after st d)
-kind_keeps P Q each st d (Opens e) q = subst (λ (s : Statement). Q (after s d)) (sym e) q
-kind_keeps P Q each st d (Closes e) q = subst (λ (s : Statement). Q (after s d)) (sym e) q
-kind_keeps P Q each st d (Changes h) q = each st d h q
+kind_preserves : (P : Statement → Type 0) (Q : Tables → Type 0) → ((st : Statement) (d : Tables) → P st → Q d → Q (after st d)) → (st : Statement) (d : Tables) → IsOf P st → Q d → Q (after st d)
+kind_preserves P Q each st d (Opens e) q = subst (λ (s : Statement). Q (after s d)) (sym e) q
+kind_preserves P Q each st d (Closes e) q = subst (λ (s : Statement). Q (after s d)) (sym e) q
+kind_preserves P Q each st d (Changes h) q = each st d h q
 
 inserts_zero : (st : Statement) (d : Tables) → Inserts st → AreCells all_zero d → AreCells all_zero (after st d)
 inserts_zero st d h q = subst (λ (s : Statement). AreCells all_zero (after s d)) (sym h.same) (insert_zero h.side h.p h.n d q)
@@ -54,13 +54,13 @@ updates_none : (st : Statement) (d : Tables) → Updates st → HasNone d → Ha
 updates_none st d h q = subst (λ (s : Statement). HasNone (after s d)) (sym h.same) (update_none h.side h.p h.v d q)
 
 setup_even : (b : List Statement) (d : Tables) → AllByRecursion IsInsert b → HasNone d → IsEven (after_body b d)
-setup_even b d h q = (all_zero, body_keeps IsInsert (AreCells all_zero) (kind_keeps Inserts (AreCells all_zero) inserts_zero) b d h (none_zero d q))
+setup_even b d h q = (all_zero, body_preserves IsInsert (AreCells all_zero) (kind_preserves Inserts (AreCells all_zero) inserts_zero) b d h (none_zero d q))
 
 other_even : (b : List Statement) (d : Tables) → AllByRecursion IsUpdate b → IsEven d → IsEven (after_body b d)
-other_even = body_keeps IsUpdate IsEven (kind_keeps Updates IsEven updates_even)
+other_even = body_preserves IsUpdate IsEven (kind_preserves Updates IsEven updates_even)
 
 other_none : (b : List Statement) (d : Tables) → AllByRecursion IsUpdate b → HasNone d → HasNone (after_body b d)
-other_none = body_keeps IsUpdate HasNone (kind_keeps Updates HasNone updates_none)
+other_none = body_preserves IsUpdate HasNone (kind_preserves Updates HasNone updates_none)
 
 ---- all bodies
 

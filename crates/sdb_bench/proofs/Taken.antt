@@ -1,4 +1,4 @@
--- Where events follow a script, each client said the texts of its statements, in their order.
+-- Where events follow a script, each client has taken the texts of its statements in their order.
 use Rattle.std.proofs.Common.{◌≡◌, ℕ, zero, suc, ◌+◌, Bool, true, false, cond, List, [], ◌∷◌, ◌++◌, map, take, length, Some, None, refl, sym, ap, subst, ◌∙◌, arith, append-nil}
 use Rattle.std.specs.Prelude.{MatchBool, ◌==◌, slice_get, count_by}
 use Rattle.std.proofs.lemmas.List.Sums.{sum_by-append, sum_by-cons}
@@ -17,12 +17,12 @@ use Rattle.sdb_model.specs.Transactions.{Said, said, said_after, with_answer}
 use Rattle.sdb_types.proofs.Basics.{assoc, by_test, eq_of, map_last, none_some, some_is}
 use Rattle.sdb_story.proofs.Tellings.{said_more}
 
-abbrev pub said_texts : List Said → List (List ℕ)
-said_texts = map (λ s. s.text)
+abbrev pub taken_texts : List Said → List (List ℕ)
+taken_texts = map (λ s. s.text)
 
--- each client said the first of its texts, as many as it took
+-- the texts that each client has taken are the first of its script
 abbrev pub AreTaken : List ScriptClient → List Event → Type 0
-AreTaken clients past = (c : ℕ) → said_texts (said c past) ≡ take (taken_by c past) (texts_of clients c)
+AreTaken clients past = (c : ℕ) → taken_texts (said c past) ≡ take (taken_by c past) (texts_of clients c)
 
 -- a text that is taken is its client's next one
 abbrev pub MayCome : List ScriptClient → List Event → Event → Type 0
@@ -51,7 +51,7 @@ counted_more p es e =
 taken_more : (c : ℕ) (es : List Event) (e : Event) → taken_by c (es ++ e ∷ []) ≡ taken_by c es + one_if (takes_by c e)
 taken_more c es e = counted_more (takes_by c) es e
 
-same_texts : (ss : List Said) (n : ℕ) (a : Answer) → said_texts (with_answer ss n a) ≡ said_texts ss
+same_texts : (ss : List Said) (n : ℕ) (a : Answer) → taken_texts (with_answer ss n a) ≡ taken_texts ss
 same_texts [] n a = refl
 same_texts (s ∷ []) n a = refl
 same_texts (s ∷ t ∷ ss) n a = ap (λ (xs : List (List ℕ)). s.text ∷ xs) (same_texts (t ∷ ss) n a)
@@ -59,10 +59,10 @@ same_texts (s ∷ t ∷ ss) n a = ap (λ (xs : List (List ℕ)). s.text ∷ xs) 
 plain : (n : ℕ) → n ≡ n + 0
 plain n = omega arith
 
--- what a client said after one event
+-- the texts of a client after one event
 event_more : (clients : List ScriptClient) (c : ℕ) (past : List Event) (n : ℕ) (e : Event) → MayCome clients past e
-    → said_texts (said c past) ≡ take (taken_by c past) (texts_of clients c)
-    → said_texts (said_after c (said c past) (n, e)) ≡ take (taken_by c past + one_if (takes_by c e)) (texts_of clients c)
+    → taken_texts (said c past) ≡ take (taken_by c past) (texts_of clients c)
+    → taken_texts (said_after c (said c past) (n, e)) ≡ take (taken_by c past + one_if (takes_by c e)) (texts_of clients c)
 event_more clients c past n (event.Take d text answer) may h =
     let s : Said = record { taken = n; text = text; answer = answer; reached = n } in
     by_test (d == c)
@@ -81,7 +81,7 @@ event_more clients c past n (event.Idle d) may h = h ∙ ap (λ (m : ℕ). take 
 
 one_more : (clients : List ScriptClient) (past : List Event) (e : Event) → MayCome clients past e → AreTaken clients past → AreTaken clients (past ++ e ∷ [])
 one_more clients past e may h c =
-    ap said_texts (said_more c past e)
+    ap taken_texts (said_more c past e)
     ∙ event_more clients c past (1 + length past) e may (h c)
     ∙ ap (λ (m : ℕ). take m (texts_of clients c)) (sym (taken_more c past e))
 

@@ -29,8 +29,8 @@ fn is_committed(answer: &Option<Answer>) -> bool
     }
 }
 
-#[tactic(auto, unfolding(crate::specs::Counts::is_commit))]
 // Whether an event answers a writer that its transaction is committed.
+#[tactic(auto, unfolding(crate::specs::Counts::is_commit))]
 fn is_commit(event: &Event) -> bool
     ensures { result ≡ is_commit_lem event.now }
 {
@@ -172,9 +172,9 @@ fn put_counts(out: &mut String, n: u32, events: &[Event]) -> Result<(), NoMemory
     put_count(out, "calls", calls_in(events) as u64)
 }
 
-#[tactic(auto, unfolding(crate::specs::Counts::bench_text_of))]
 /// The five lines of a bench of n transactions with this outcome: how many transactions there are, how many the writers were
 /// answered Committed, how many others there are, the calls, and the uneven pairs of a table and a p.
+#[tactic(auto, unfolding(crate::specs::Counts::bench_text_of))]
 pub fn bench_text(alloc: Global, n: u32, outcome: &Outcome) -> Result<String, NoMemory>
     ensures { IfOk result (λ text. string_bytes text ≡ bench_text_of n outcome.now) }
 {

@@ -17,9 +17,9 @@ pub fn runs_are_even()
     ensures { (n : ℕ) (first last : List ℕ) (opening closing : List Shelf) (outcome : Outcome) → IsRun (bench_script_of n first last) opening closing outcome → uneven_of outcome.tables ≡ 0 }
 {}
 
-/// What a player asks of a script is so of that of a bench: its catalog is one, without a table of the coordinator; it has nine
-/// clients, whose texts are short; and its moves are theirs.
-pub fn scripts_can_be_played()
+/// The script of a bench is playable: its catalog is well formed and has no table of the coordinator, it has nine clients with short
+/// texts, and its moves are steps of these clients.
+pub fn scripts_are_playable()
     ensures catalog { (n : ℕ) (first last : List ℕ) → is_catalog (bench_script_of n first last).catalog ≡ true }
     ensures apart { (n : ℕ) (first last : List ℕ) (name : TableName) → is_some (find_table (bench_script_of n first last).catalog name) ≡ true → is_coordinator_table name ≡ false }
     ensures clients { (n : ℕ) (first last : List ℕ) → length (bench_script_of n first last).clients ≡ 9 }

@@ -169,8 +169,8 @@ fn bench_moves(alloc: Global, draws: &mut Draws, n: u32) -> Result<Moves, NoMemo
     Ok(moves)
 }
 
-#[tactic(auto, unfolding(crate::specs::Script::bench_script_of))]
 /// The script of a bench of n transactions, at most 20,000. Its tables are placed on these two stores, which may be one.
+#[tactic(auto, unfolding(crate::specs::Script::bench_script_of))]
 pub fn bench_script(alloc: Global, n: u32, first: &Name, last: &Name) -> Result<Script, NoMemory>
     requires { n ≤ 20000 }
     ensures { IfOk result (λ script. script ≡ bench_script_of n first.now last.now) }

@@ -137,8 +137,8 @@ fn put_turn(alloc: Global, texts: &mut Texts, turn: Turn) -> Result<(), NoMemory
     put_commit(alloc, texts)
 }
 
-#[tactic(auto, unfolding(crate::specs::Script::writer_statements))]
 /// The statements of the writer of this number, from 0 to 7.
+#[tactic(auto, unfolding(crate::specs::Script::writer_statements))]
 pub fn writer_texts(alloc: Global, turns: &[Turn], writer: u32) -> Result<Texts, NoMemory>
     ensures { IfOk result (λ texts. texts ≡ map statement_text_of (writer_statements writer turns.now)) }
 {

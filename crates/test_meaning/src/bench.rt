@@ -1,9 +1,10 @@
 //! The script of a bench, against what a program apart from this one made from the words of its definition.
 ghost use Rattle.std.specs.Prelude.{◌≤◌};
 
-use sdb_bench::bench_script;
+use sdb_bench::{bench_script, bench_text};
+use sdb_model::{Answer, Event, Events, Outcome, Points, Rows, TableDump, TableRows};
 use sdb_script::print_script;
-use sdb_types::Name;
+use sdb_types::{Name, NoMemory, TableName, Txt, Value, Values};
 use std::alloc::Global;
 use std::test::Fail;
 
@@ -40,5 +41,57 @@ fn benches_are_made(rt: HostRuntime) -> Result<(), Fail> {
     assert!(rt; is_printed(alloc, 2, TWO)?);
     assert!(rt; is_printed(alloc, 9, NINE)?);
     assert!(rt; !is_printed(alloc, 9, TWO)?);
+    Ok(())
+}
+
+fn committed(alloc: Global, events: &mut Events, client: u32) -> Result<(), NoMemory> {
+    let text = Txt::new(alloc, "COMMIT")?;
+    events.push(Event::Take(client, text, Some(Answer::Committed)))
+}
+
+fn put_row(alloc: Global, rows: &mut Rows, n: i32, p: i32, v: i32) -> Result<(), NoMemory> {
+    let mut row = Values::new(alloc);
+    row.push(Value::Int(n))?;
+    row.push(Value::Int(p))?;
+    row.push(Value::Int(v))?;
+    rows.push(row)
+}
+
+// Of p 0 two rows have one v, and of p 1 they don't.
+fn rows_of(alloc: Global) -> Result<Rows, NoMemory> {
+    let mut rows = Rows::new(alloc);
+    put_row(alloc, &mut rows, 0, 0, 5)?;
+    put_row(alloc, &mut rows, 1, 0, 5)?;
+    put_row(alloc, &mut rows, 0, 1, 5)?;
+    put_row(alloc, &mut rows, 1, 1, 6)?;
+    Ok(rows)
+}
+
+#[test]
+fn runs_are_counted(rt: HostRuntime) -> Result<(), Fail> {
+    let alloc = rt.alloc();
+    let mut events = Events::new(alloc);
+    committed(alloc, &mut events, 1)?;
+    committed(alloc, &mut events, 2)?;
+    committed(alloc, &mut events, 9)?;
+    let name = TableName {
+        ns: Name::new(alloc, "benchl")?,
+        table: Name::new(alloc, "cell")?,
+    };
+    let mut tables = TableRows::new(alloc);
+    tables.push(TableDump {
+        name,
+        rows: rows_of(alloc)?,
+    })?;
+    let outcome = Outcome {
+        events,
+        order: Points::new(alloc),
+        tables,
+    };
+    let text = bench_text(alloc, 5, &outcome)?;
+    assert_eq!(rt;
+        text.as_str(),
+        "transactions 5\ncommitted 2\nother 3\ncalls 0\nuneven 1\n"
+    );
     Ok(())
 }

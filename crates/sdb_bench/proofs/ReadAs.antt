@@ -1,4 +1,4 @@
--- What the clients of a bench say: which statements their texts are read as.
+-- Which statements the texts of a bench's clients are read as.
 use Rattle.std.proofs.Common.{◌≡◌, ℕ, zero, suc, ◌*◌, ◌<◌, ◌^◌, pos, Bool, false, List, [], ◌∷◌, ◌++◌, map, filter, flat_map, refl, sym, ap, subst, arith, mod-lt}
 use Rattle.std.specs.Prelude.{FitsSigned, slice_get, ◌/◌}
 use Rattle.std.specs.Option.{option_map_or}

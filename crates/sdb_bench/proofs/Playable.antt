@@ -1,5 +1,5 @@
--- The script of a bench can be played.
-use Rattle.std.proofs.Common.{◌≡◌, ◌≢◌, ℕ, zero, suc, ◌+◌, ◌*◌, ◌<◌, ◌≤◌, ◌^◌, Bool, true, false, not, List, [], ◌∷◌, ◌++◌, map, length, codes, Option, Some, None, refl, sym, ap, subst, ◌∙◌, arith, mod-lt, lit<, cond}
+-- The script of a bench is playable.
+use Rattle.std.proofs.Common.{◌≡◌, ℕ, zero, suc, ◌*◌, ◌<◌, ◌≤◌, ◌^◌, Bool, true, false, List, [], ◌∷◌, ◌++◌, map, length, codes, Some, None, refl, sym, ap, subst, ◌∙◌, arith, mod-lt, lit<, cond}
 use Rattle.std.specs.Prelude.{decimal, is_some, slice_get, ◌/◌, ◌==◌}
 use Rattle.std.specs.List.{AllByRecursion}
 use Rattle.std.specs.Ordering.{is_eq}
@@ -15,7 +15,6 @@ use Rattle.sdb_record.specs.Coordinator.{is_coordinator_table}
 use Rattle.sdb_schema.specs.Catalog.{is_catalog}
 use Rattle.sdb_schema.specs.Table.{checked_table}
 use Rattle.sdb_model.specs.declared.statement.Statement.{Statement}
-use Rattle.sdb_model.specs.declared.statement.Statement.TheVariants as statement
 use Rattle.sdb_model.specs.Exec.{find_table}
 use Rattle.sdb_model.specs.Follows.{texts_of}
 use Rattle.sdb_model.specs.Sql.{statement_text_of}
@@ -25,7 +24,7 @@ use Rattle.sdb_bench.specs.Draws.{draw, numbers_below, state_after}
 use Rattle.sdb_bench.specs.Setup.{bench_catalog, bench_table, insert_of, namespace_of, update_of}
 use Rattle.sdb_bench.specs.Script.{IsOfNine, bench_clients, bench_moves, bench_script_of, step_drawn}
 use Rattle.sdb_bench.proofs.Spelled.{insert_spelled, update_spelled}
-use Rattle.sdb_bench.proofs.Spoken.{Changes, Closes, Inserts, IsInsert, IsOf, IsText, IsUpdate, Opens, Updates, setup_kind, update_texts}
+use Rattle.sdb_bench.proofs.ReadAs.{Changes, Closes, Inserts, IsInsert, IsOf, IsText, IsUpdate, Opens, Updates, setup_kind, update_texts}
 
 ---- the catalog
 
