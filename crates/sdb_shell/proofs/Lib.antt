@@ -1,0 +1,3 @@
+pub mod Used
+pub mod Cut
+pub mod Refusing

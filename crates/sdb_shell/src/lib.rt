@@ -1,0 +1,9 @@
+//! The session of one client: each line of its input is taken as a statement and answered.
+#![tactic(auto)]
+
+mod bytes;
+mod lines;
+mod refused;
+mod statement;
+mod texts;
+mod writing;
