@@ -4,6 +4,11 @@
 mod bytes;
 mod lines;
 mod refused;
+mod sessions;
 mod statement;
 mod texts;
+mod turn;
 mod writing;
+
+pub use refused::SessionRefused;
+pub use sessions::session;
