@@ -22,9 +22,10 @@ use Rattle.sdb_answer.specs.Drawn.{drawn_id}
 use Rattle.sdb_answer.specs.Sessions.{IsSessionSoFar, SessionAt}
 use Rattle.sdb_answer.proofs.Chains.{session_more, session_none, session_whole}
 use Rattle.sdb_shell.specs.declared.lines.LineEnd.TheVariants as line_end
+use Rattle.sdb_shell.specs.declared.refused.SessionRefused.{SessionRefused}
 use Rattle.sdb_shell.specs.Answers.{answer_line_of}
 use Rattle.sdb_shell.specs.Lines.{has_lf, most_input, most_line}
-use Rattle.sdb_shell.specs.Session.{AreTakenFrom, HasPassed, HasReplied, HasTakenLine, IsSoFar, IsWhole, answer_lines, filled, is_line, is_text, with_lfs}
+use Rattle.sdb_shell.specs.Session.{AreTakenFrom, HasPassed, HasReplied, HasTakenLine, IsCutLine, IsCutSession, IsSoFar, IsWhole, answer_lines, filled, is_line, is_text, with_lfs}
 
 ---- lists with one more
 
@@ -167,6 +168,35 @@ so_start catalog old clock ids ids_then written left left_then used s client fre
     none_added : (w : Option (List ℕ)) → Appends [] w w
     none_added None = refl
     none_added (Some w) = ap (λ xs. Some xs) (sym (append-nil w))
+
+-- nothing was done since
+so_passed : (catalog : List Table) (old mid new : Attached) (clock clock_mid clock_then : Option (List ℤ)) (ids ids_mid ids_then : Option (List ℕ)) (written written_mid written_then : Option (List ℕ)) (left left_mid : Option (List ℕ)) (used n : ℕ) (s t : SessionAt) → IsSoFar catalog old mid clock clock_mid ids ids_mid written written_mid left left_mid used n s → GoOn mid new → HasPassed mid new clock_mid clock_then ids_mid ids_then written_mid written_then s t → IsSoFar catalog old new clock clock_then ids ids_then written written_then left left_mid used n s
+so_passed catalog old mid new clock clock_mid clock_then ids ids_mid ids_then written written_mid written_then left left_mid used n s t so goes h = record {
+  lines = so.lines;
+  es = so.es;
+  taken = so.taken;
+  fit = so.fit;
+  counted = so.counted;
+  number = so.number;
+  answered = so.answered;
+  output = subst (Appends (answer_lines so.es) written) (sym h.written_same) so.output;
+  session = subst (λ i. IsSessionSoFar catalog old new clock clock_then ids i so.es s) (sym h.ids_same) (subst (λ c. IsSessionSoFar catalog old new clock c ids ids_mid so.es s) (sym h.clock_same) (session_same catalog old mid new clock clock_mid ids ids_mid so.es s so.session goes h.held));
+}
+
+-- a line stops the session
+pub so_cut : (catalog : List Table) (old mid new : Attached) (clock clock_mid clock_then : Option (List ℤ)) (ids ids_mid ids_then : Option (List ℕ)) (written written_mid written_then : Option (List ℕ)) (left left_mid : Option (List ℕ)) (ahead : List ℕ) (remaining_then : Option (List ℕ)) (used used_then n : ℕ) (s t : SessionAt) (why : SessionRefused) → IsSoFar catalog old mid clock clock_mid ids ids_mid written written_mid left left_mid used n s → GoOn mid new
+    → IsCutLine n mid new clock_mid clock_then ids_mid ids_then written_mid written_then left_mid (option_map (λ rest. ahead ++ rest) remaining_then) used used_then s t why → IsCutSession catalog old new clock clock_then ids ids_then written written_then left remaining_then why
+so_cut catalog old mid new clock clock_mid clock_then ids ids_mid ids_then written written_mid written_then left left_mid ahead remaining_then used used_then n s t why so goes (inl h) = inl (record {
+  n = n;
+  used = used;
+  used_then = used_then;
+  left = left_mid;
+  ahead = ahead;
+  client = s;
+  before = so_passed catalog old mid new clock clock_mid clock_then ids ids_mid ids_then written written_mid written_then left left_mid used n s t so goes h.0;
+  refused = h.1;
+})
+so_cut catalog old mid new clock clock_mid clock_then ids ids_mid ids_then written written_mid written_then left left_mid ahead remaining_then used used_then n s t why so goes (inr stop) = inr stop
 
 module _ (catalog : List Table) (old mid new : Attached) (clock clock_mid clock_then : Option (List ℤ)) (ids ids_mid ids_then : Option (List ℕ)) (written written_mid written_then : Option (List ℕ)) (left left_mid left_then : Option (List ℕ)) (used used_then n : ℕ) (s t : SessionAt) (so : IsSoFar catalog old mid clock clock_mid ids ids_mid written written_mid left left_mid used n s) (goes : GoOn mid new) where
   -- what a line comes to, however it ends

@@ -1,5 +1,5 @@
 -- A session: the lines of an input, taken as statements and answered one after the other.
-use Rattle.std.specs.Prelude.{◌≡◌, ℕ, ℤ, ◌+◌, nat_le, nat_lt, Bool, true, not, ◌&&◌, List, [], ◌∷◌, ◌++◌, filter, length, Option, ◌≢◌, ◌⊎◌, ◌≤◌}
+use Rattle.std.specs.Prelude.{◌≡◌, ℕ, ℤ, ◌+◌, nat_le, nat_lt, Bool, true, not, ◌&&◌, List, [], ◌∷◌, ◌++◌, filter, length, Option, ◌≢◌, ◌⊎◌, ◌≤◌, option_map}
 use Rattle.std.specs.List.{flat_map, list_all}
 use Rattle.std.specs.Str.{is_utf8}
 use Rattle.sdb_types.specs.Bytes.{Appends, IsAtEnd, Takes}
@@ -15,6 +15,7 @@ use Rattle.sdb_shell.specs.Answers.{answer_line_of}
 use Rattle.sdb_shell.specs.declared.lines.LineEnd.{LineEnd}
 use Rattle.sdb_shell.specs.declared.refused.SessionRefused.{SessionRefused}
 use Rattle.sdb_shell.specs.declared.refused.SessionRefused.TheVariants as refused
+use Rattle.sdb_shell.specs.Texts.{IsRefusedAt}
 use Rattle.sdb_shell.specs.Lines.{IsLine, has_lf, most_input, most_line}
 
 -- lines, each with its LF
@@ -69,6 +70,10 @@ pub record HasTakenLine (catalog : List Table) (old new : Attached) (clock clock
   pub read : IsLine left left_then used used_then end line
   pub done : ((line ≡ []) × HasPassed old new clock clock_then ids ids_then written written_then s t) ⊎ ((line ≢ []) × (is_utf8 line ≡ true) × HasReplied catalog line old new clock clock_then ids ids_then written written_then s t)
 
+-- A line stops a session: nothing was done and the line is refused; or there was no memory, or its answer wasn't written.
+abbrev pub IsCutLine : ℕ → Attached → Attached → Option (List ℤ) → Option (List ℤ) → Option (List ℕ) → Option (List ℕ) → Option (List ℕ) → Option (List ℕ) → Option (List ℕ) → Option (List ℕ) → ℕ → ℕ → SessionAt → SessionAt → SessionRefused → Type 0
+IsCutLine n old new clock clock_then ids ids_then written written_then left left_then used used_then s t why = (HasPassed old new clock clock_then ids ids_then written written_then s t × IsRefusedAt n left left_then used used_then why) ⊎ IsStop why
+
 -- A session so far, before the line of a number: each line so far ends with LF.
 pub record IsSoFar (catalog : List Table) (old new : Attached) (clock clock_then : Option (List ℤ)) (ids ids_then : Option (List ℕ)) (written written_then : Option (List ℕ)) (left left_then : Option (List ℕ)) (used n : ℕ) (s : SessionAt) : Type 0 where
   pub lines : List (List ℕ)
@@ -93,3 +98,19 @@ pub record IsWhole (catalog : List Table) (old new : Attached) (clock clock_then
   pub answered : AreTakenFrom (filled (lines_of text)) es
   pub output : Appends (answer_lines es) written written_then
   pub session : IsSession catalog old new clock clock_then ids ids_then es
+
+-- A session that its input stopped: the lines before that of a number were answered, and this line is refused, after the bytes `ahead` were
+-- read and not used.
+pub record IsRefused (catalog : List Table) (old new : Attached) (clock clock_then : Option (List ℤ)) (ids ids_then : Option (List ℕ)) (written written_then : Option (List ℕ)) (remaining remaining_then : Option (List ℕ)) (why : SessionRefused) : Type 0 where
+  pub n : ℕ
+  pub used : ℕ
+  pub used_then : ℕ
+  pub left : Option (List ℕ)
+  pub ahead : List ℕ
+  pub client : SessionAt
+  pub before : IsSoFar catalog old new clock clock_then ids ids_then written written_then remaining left used n client
+  pub refused : IsRefusedAt n left (option_map (λ rest. ahead ++ rest) remaining_then) used used_then why
+
+-- Why a session has no end: its input stopped it; or there was no memory, or an answer wasn't written.
+abbrev pub IsCutSession : List Table → Attached → Attached → Option (List ℤ) → Option (List ℤ) → Option (List ℕ) → Option (List ℕ) → Option (List ℕ) → Option (List ℕ) → Option (List ℕ) → Option (List ℕ) → SessionRefused → Type 0
+IsCutSession catalog old new clock clock_then ids ids_then written written_then remaining remaining_then why = IsRefused catalog old new clock clock_then ids ids_then written written_then remaining remaining_then why ⊎ IsStop why

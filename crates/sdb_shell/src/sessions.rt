@@ -1,8 +1,8 @@
 //! A session.
-ghost use Rattle.std.specs.Prelude.{◌≡◌, ◌≤◌, ◌<◌, length, true, IfOk, IfErr, OnOk, IsErrOf};
+ghost use Rattle.std.specs.Prelude.{◌≡◌, ◌≤◌, ◌<◌, length, IfErr, OnOk, IsErrOf};
 ghost use Rattle.sdb_types.specs.Bytes.{HasRisen};
 ghost use Rattle.sdb_board.specs.Board.{GoOn};
-ghost use Rattle.sdb_shell.specs.Session.{IsWhole};
+ghost use Rattle.sdb_shell.specs.Session.{IsCutSession, IsWhole};
 
 use crate::bytes::Bytes;
 use crate::lines::LineEnd;
@@ -27,6 +27,7 @@ pub fn session<S: Registry, R: Source, W: Sink, C: Clock, I: Ids>(
 ) -> Result<(), SessionRefused>
     requires some { 0 < length (S.state stores.old).shelves }
     ensures done { OnOk result (IsWhole catalog.now (S.state stores.old) (S.state stores.new) (C.told clock.old) (C.told clock.new) (I.told ids.old) (I.told ids.new) (W.written output.old) (W.written output.new) (R.remaining input.old) (R.remaining input.new)) }
+    ensures cut { IfErr result (IsCutSession catalog.now (S.state stores.old) (S.state stores.new) (C.told clock.old) (C.told clock.new) (I.told ids.old) (I.told ids.new) (W.written output.old) (W.written output.new) (R.remaining input.old) (R.remaining input.new)) }
     ensures read_fault { IsErrOf result SessionRefused.ReadFault → HasRisen (R.faults input.old) (R.faults input.new) }
     ensures write_fault { IsErrOf result SessionRefused.WriteFault → HasRisen (W.faults output.old) (W.faults output.new) }
     ensures reads { R.faults input.old ≤ R.faults input.new }
@@ -37,7 +38,7 @@ pub fn session<S: Registry, R: Source, W: Sink, C: Clock, I: Ids>(
     let mut bytes = Bytes::new();
     let mut line = Vec::new(alloc);
     for n in 1..u64::MAX {
-        let end = take_line(
+        match take_line(
             alloc,
             &mut session,
             &mut bytes,
@@ -49,10 +50,10 @@ pub fn session<S: Registry, R: Source, W: Sink, C: Clock, I: Ids>(
             output,
             clock,
             ids,
-        )?;
-        match end {
-            LineEnd::Lf => {}
-            LineEnd::Input => return Ok(()),
+        ) {
+            Ok(LineEnd::Lf) => {}
+            Ok(LineEnd::Input) => return Ok(()),
+            Err(refused) => return Err(refused),
         }
     }
     Err(SessionRefused::NoMemory)

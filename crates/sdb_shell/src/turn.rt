@@ -4,7 +4,7 @@ ghost use Rattle.sdb_types.specs.Bytes.{HasRisen};
 ghost use Rattle.sdb_board.specs.Board.{GoOn};
 ghost use Rattle.sdb_client.specs.Client.{IsIdle};
 ghost use Rattle.sdb_shell.specs.Ahead.{left};
-ghost use Rattle.sdb_shell.specs.Session.{HasTakenLine};
+ghost use Rattle.sdb_shell.specs.Session.{HasTakenLine, IsCutLine};
 
 use crate::bytes::Bytes;
 use crate::lines::LineEnd;
@@ -34,18 +34,21 @@ pub(crate) fn take_line<S: Registry, R: Source, W: Sink, C: Clock, I: Ids>(
     requires some { 0 < length (S.state stores.old).shelves }
     requires idle { IsIdle session.old.client }
     ensures taken { IfOk result (HasTakenLine catalog.now (S.state stores.old) (S.state stores.new) (C.told clock.old) (C.told clock.new) (I.told ids.old) (I.told ids.new) (W.written output.old) (W.written output.new) (left bytes.old (R.remaining input.old)) (left bytes.new (R.remaining input.new)) bytes.old.used bytes.new.used session.old session.new) }
+    ensures cut { IfErr result (IsCutLine n (S.state stores.old) (S.state stores.new) (C.told clock.old) (C.told clock.new) (I.told ids.old) (I.told ids.new) (W.written output.old) (W.written output.new) (left bytes.old (R.remaining input.old)) (left bytes.new (R.remaining input.new)) bytes.old.used bytes.new.used session.old session.new) }
     ensures read_fault { IsErrOf result SessionRefused.ReadFault → HasRisen (R.faults input.old) (R.faults input.new) }
     ensures write_fault { IsErrOf result SessionRefused.WriteFault → HasRisen (W.faults output.old) (W.faults output.new) }
     ensures reads { R.faults input.old ≤ R.faults input.new }
     ensures writes { W.faults output.old ≤ W.faults output.new }
     ensures goes { GoOn (S.state stores.old) (S.state stores.new) }
 {
-    let next = next_text(alloc, bytes, input, line, n)?;
-    match &next.text {
-        Some(text) => match reply(alloc, session, catalog, text, stores, output, clock, ids) {
-            Ok(()) => Ok(next.end),
-            Err(refused) => Err(refused),
+    match next_text(alloc, bytes, input, line, n) {
+        Ok(next) => match &next.text {
+            Some(text) => match reply(alloc, session, catalog, text, stores, output, clock, ids) {
+                Ok(()) => Ok(next.end),
+                Err(refused) => Err(refused),
+            },
+            None => Ok(next.end),
         },
-        None => Ok(next.end),
+        Err(refused) => Err(refused),
     }
 }
