@@ -1,0 +1,4 @@
+pub mod Used
+pub mod Cut
+pub mod Refusing
+pub mod SoFar

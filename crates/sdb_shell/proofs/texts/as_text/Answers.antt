@@ -1,0 +1,10 @@
+use Rattle.std.proofs.Common.{sym}
+use Rattle.std.proofs.lemmas.Str.{is_utf8-from_IsUtf8}
+use Rattle.sdb_shell.proofs.Refusing.{no_utf8}
+use Rattle.sdb_shell.proofs.texts.as_text.Goals as goal
+
+pub returns-in-Ok-clause-utf8 : goal.returns-in-Ok-clause-utf8
+returns-in-Ok-clause-utf8 c = sym (is_utf8-from_IsUtf8 c.args.line.now c.in-Ok.ensures.cases.1)
+
+pub returns-in-Err-clause-utf8 : goal.returns-in-Err-clause-utf8
+returns-in-Err-clause-utf8 c = no_utf8 c.args.line.now c.in-Err.ensures.cases.0

@@ -1,0 +1,5 @@
+pub mod Ahead
+pub mod Lines
+pub mod Texts
+pub mod Answers
+pub mod Session

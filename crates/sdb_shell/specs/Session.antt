@@ -1,0 +1,116 @@
+-- A session: the lines of an input, taken as statements and answered one after the other.
+use Rattle.std.specs.Prelude.{◌≡◌, ℕ, ℤ, ◌+◌, nat_le, nat_lt, Bool, true, not, ◌&&◌, List, [], ◌∷◌, ◌++◌, filter, length, Option, ◌≢◌, ◌⊎◌, ◌≤◌, option_map}
+use Rattle.std.specs.List.{flat_map, list_all}
+use Rattle.std.specs.Str.{is_utf8}
+use Rattle.sdb_types.specs.Bytes.{Appends, IsAtEnd, Takes}
+use Rattle.sdb_schema.specs.declared.table.Table.{Table}
+use Rattle.sdb_model.specs.declared.answer.Answer.{Answer}
+use Rattle.sdb_model.specs.Form.{lines_of}
+use Rattle.sdb_stores.specs.Shelf.{Attached}
+use Rattle.sdb_board.specs.Board.{HoldTheSame}
+use Rattle.sdb_client.specs.Client.{Says}
+use Rattle.sdb_session.specs.Session.{Exchange}
+use Rattle.sdb_answer.specs.Sessions.{HasAnswered, IsSession, IsSessionSoFar, SessionAt}
+use Rattle.sdb_shell.specs.Answers.{answer_line_of}
+use Rattle.sdb_shell.specs.declared.lines.LineEnd.{LineEnd}
+use Rattle.sdb_shell.specs.declared.refused.SessionRefused.{SessionRefused}
+use Rattle.sdb_shell.specs.declared.refused.SessionRefused.TheVariants as refused
+use Rattle.sdb_shell.specs.Texts.{IsRefusedAt}
+use Rattle.sdb_shell.specs.Lines.{IsLine, has_lf, most_input, most_line}
+
+-- lines, each with its LF
+abbrev pub with_lfs : List (List ℕ) → List ℕ
+with_lfs lines = flat_map (λ l. l ++ 10 ∷ []) lines
+
+abbrev pub is_text : List ℕ → Bool
+is_text [] = true
+is_text (b ∷ bytes) = is_utf8 (b ∷ bytes)
+
+-- a line: empty or UTF-8, without an LF, of at most 65,536 bytes
+abbrev pub is_line : List ℕ → Bool
+is_line line = not (has_lf line) && (nat_le (length line) most_line && is_text line)
+
+-- the lines that aren't empty
+abbrev pub filled : List (List ℕ) → List (List ℕ)
+filled lines = filter (λ l. nat_lt 0 (length l)) lines
+
+-- each of these lines was taken as a statement, in turn
+abbrev pub AreTakenFrom : List (List ℕ) → List Exchange → Type 0
+AreTakenFrom [] [] = Unit {0}
+AreTakenFrom (l ∷ ls) (e ∷ es) = Says l e.says × AreTakenFrom ls es
+AreTakenFrom ls es = ⊥
+
+-- the lines of the answers
+abbrev pub answer_lines : List Exchange → List ℕ
+answer_lines es = flat_map (λ e. answer_line_of e.answer) es
+
+-- A statement was taken and answered, and the line of its answer was written.
+pub record HasReplied (catalog : List Table) (text : List ℕ) (old new : Attached) (clock clock_then : Option (List ℤ)) (ids ids_then : Option (List ℕ)) (written written_then : Option (List ℕ)) (s t : SessionAt) : Type 0 where
+  pub answer : Answer
+  pub answered : HasAnswered catalog text old new clock clock_then ids ids_then s answer t
+  pub put : Appends (answer_line_of answer) written written_then
+
+-- why a statement stops a session
+abbrev pub IsStop : SessionRefused → Type 0
+IsStop refused.WriteFault = Unit {0}
+IsStop refused.NoMemory = Unit {0}
+IsStop r = ⊥
+
+-- Nothing was done: an empty line was read.
+pub record HasPassed (old new : Attached) (clock clock_then : Option (List ℤ)) (ids ids_then : Option (List ℕ)) (written written_then : Option (List ℕ)) (s t : SessionAt) : Type 0 where
+  pub held : HoldTheSame old new
+  pub clock_same : clock_then ≡ clock
+  pub ids_same : ids_then ≡ ids
+  pub written_same : written_then ≡ written
+  pub same : t ≡ s
+
+-- A line was read; its statement was answered, or it is empty.
+pub record HasTakenLine (catalog : List Table) (old new : Attached) (clock clock_then : Option (List ℤ)) (ids ids_then : Option (List ℕ)) (written written_then : Option (List ℕ)) (left left_then : Option (List ℕ)) (used used_then : ℕ) (s t : SessionAt) (end : LineEnd) : Type 0 where
+  pub line : List ℕ
+  pub read : IsLine left left_then used used_then end line
+  pub done : ((line ≡ []) × HasPassed old new clock clock_then ids ids_then written written_then s t) ⊎ ((line ≢ []) × (is_utf8 line ≡ true) × HasReplied catalog line old new clock clock_then ids ids_then written written_then s t)
+
+-- A line stops a session: nothing was done and the line is refused; or there was no memory, or its answer wasn't written.
+abbrev pub IsCutLine : ℕ → Attached → Attached → Option (List ℤ) → Option (List ℤ) → Option (List ℕ) → Option (List ℕ) → Option (List ℕ) → Option (List ℕ) → Option (List ℕ) → Option (List ℕ) → ℕ → ℕ → SessionAt → SessionAt → SessionRefused → Type 0
+IsCutLine n old new clock clock_then ids ids_then written written_then left left_then used used_then s t why = (HasPassed old new clock clock_then ids ids_then written written_then s t × IsRefusedAt n left left_then used used_then why) ⊎ IsStop why
+
+-- A session so far, before the line of a number: each line so far ends with LF.
+pub record IsSoFar (catalog : List Table) (old new : Attached) (clock clock_then : Option (List ℤ)) (ids ids_then : Option (List ℕ)) (written written_then : Option (List ℕ)) (left left_then : Option (List ℕ)) (used n : ℕ) (s : SessionAt) : Type 0 where
+  pub lines : List (List ℕ)
+  pub es : List Exchange
+  pub taken : Takes (with_lfs lines) left left_then
+  pub fit : list_all is_line lines ≡ true
+  pub counted : used ≡ length (with_lfs lines)
+  pub number : n ≡ length lines + 1
+  pub answered : AreTakenFrom (filled lines) es
+  pub output : Appends (answer_lines es) written written_then
+  pub session : IsSessionSoFar catalog old new clock clock_then ids ids_then es s
+
+-- A whole session: the text of its input is read to its end, and each of its lines that isn't empty is taken as a statement and answered
+-- by one line of the output; and these statements are a session.
+pub record IsWhole (catalog : List Table) (old new : Attached) (clock clock_then : Option (List ℤ)) (ids ids_then : Option (List ℕ)) (written written_then : Option (List ℕ)) (remaining remaining_then : Option (List ℕ)) : Type 0 where
+  pub text : List ℕ
+  pub es : List Exchange
+  pub taken : Takes text remaining remaining_then
+  pub ends : IsAtEnd remaining_then
+  pub most : length text ≤ most_input
+  pub fit : list_all is_line (lines_of text) ≡ true
+  pub answered : AreTakenFrom (filled (lines_of text)) es
+  pub output : Appends (answer_lines es) written written_then
+  pub session : IsSession catalog old new clock clock_then ids ids_then es
+
+-- A session that its input stopped: the lines before that of a number were answered, and this line is refused, after the bytes `ahead` were
+-- read and not used.
+pub record IsRefused (catalog : List Table) (old new : Attached) (clock clock_then : Option (List ℤ)) (ids ids_then : Option (List ℕ)) (written written_then : Option (List ℕ)) (remaining remaining_then : Option (List ℕ)) (why : SessionRefused) : Type 0 where
+  pub n : ℕ
+  pub used : ℕ
+  pub used_then : ℕ
+  pub left : Option (List ℕ)
+  pub ahead : List ℕ
+  pub client : SessionAt
+  pub before : IsSoFar catalog old new clock clock_then ids ids_then written written_then remaining left used n client
+  pub refused : IsRefusedAt n left (option_map (λ rest. ahead ++ rest) remaining_then) used used_then why
+
+-- Why a session has no end: its input stopped it; or there was no memory, or an answer wasn't written.
+abbrev pub IsCutSession : List Table → Attached → Attached → Option (List ℤ) → Option (List ℤ) → Option (List ℕ) → Option (List ℕ) → Option (List ℕ) → Option (List ℕ) → Option (List ℕ) → Option (List ℕ) → SessionRefused → Type 0
+IsCutSession catalog old new clock clock_then ids ids_then written written_then remaining remaining_then why = IsRefused catalog old new clock clock_then ids ids_then written written_then remaining remaining_then why ⊎ IsStop why

@@ -1,0 +1,54 @@
+//! One line of a session.
+ghost use Rattle.std.specs.Prelude.{◌≤◌, ◌<◌, length, IfOk, IfErr, IsErrOf};
+ghost use Rattle.sdb_types.specs.Bytes.{HasRisen};
+ghost use Rattle.sdb_board.specs.Board.{GoOn};
+ghost use Rattle.sdb_client.specs.Client.{IsIdle};
+ghost use Rattle.sdb_shell.specs.Ahead.{left};
+ghost use Rattle.sdb_shell.specs.Session.{HasTakenLine, IsCutLine};
+
+use crate::bytes::Bytes;
+use crate::lines::LineEnd;
+use crate::refused::SessionRefused;
+use crate::statement::reply;
+use crate::texts::next_text;
+use sdb_answer::Session;
+use sdb_schema::Catalog;
+use sdb_stores::Registry;
+use sdb_types::{Clock, Ids, Sink, Source};
+use std::alloc::Global;
+
+/// Reads the line of a number, and answers it where it isn't empty.
+pub(crate) fn take_line<S: Registry, R: Source, W: Sink, C: Clock, I: Ids>(
+    alloc: Global,
+    session: &mut Session,
+    bytes: &mut Bytes,
+    line: &mut Vec<u8>,
+    n: u64,
+    catalog: &Catalog,
+    stores: &mut S,
+    input: &mut R,
+    output: &mut W,
+    clock: &mut C,
+    ids: &mut I,
+) -> Result<LineEnd, SessionRefused>
+    requires some { 0 < length (S.state stores.old).shelves }
+    requires idle { IsIdle session.old.client }
+    ensures taken { IfOk result (HasTakenLine catalog.now (S.state stores.old) (S.state stores.new) (C.told clock.old) (C.told clock.new) (I.told ids.old) (I.told ids.new) (W.written output.old) (W.written output.new) (left bytes.old (R.remaining input.old)) (left bytes.new (R.remaining input.new)) bytes.old.used bytes.new.used session.old session.new) }
+    ensures cut { IfErr result (IsCutLine n (S.state stores.old) (S.state stores.new) (C.told clock.old) (C.told clock.new) (I.told ids.old) (I.told ids.new) (W.written output.old) (W.written output.new) (left bytes.old (R.remaining input.old)) (left bytes.new (R.remaining input.new)) bytes.old.used bytes.new.used session.old session.new) }
+    ensures read_fault { IsErrOf result SessionRefused.ReadFault → HasRisen (R.faults input.old) (R.faults input.new) }
+    ensures write_fault { IsErrOf result SessionRefused.WriteFault → HasRisen (W.faults output.old) (W.faults output.new) }
+    ensures reads { R.faults input.old ≤ R.faults input.new }
+    ensures writes { W.faults output.old ≤ W.faults output.new }
+    ensures goes { GoOn (S.state stores.old) (S.state stores.new) }
+{
+    match next_text(alloc, bytes, input, line, n) {
+        Ok(next) => match &next.text {
+            Some(text) => match reply(alloc, session, catalog, text, stores, output, clock, ids) {
+                Ok(()) => Ok(next.end),
+                Err(refused) => Err(refused),
+            },
+            None => Ok(next.end),
+        },
+        Err(refused) => Err(refused),
+    }
+}
