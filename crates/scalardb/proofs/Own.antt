@@ -10,7 +10,7 @@ use Rattle.sdb_app.specs.Ends.{Ends, Stream}
 use Rattle.sdb_app.specs.Promise.{HasEnded}
 use Rattle.sdb_app.specs.Promise.HasEnded.{NoCommand}
 use Rattle.sdb_app.proofs.Promising.{ended_before}
-use Rattle.scalardb.specs.Stores.{HasEndedOn, attached_over, new_store, own_attached, own_stores}
+use Rattle.scalardb.specs.Stores.{HasEndedOn, HasEndedOver, attached_over, new_store, own_attached, own_stores}
 
 passed : {T E : Type 0} (P : Type 0) (r : Result T E) → is_ok r ≡ true → OnOk r P → P
 passed P (Ok x) h p = p
@@ -59,9 +59,9 @@ ended_on_own words run s own h = (run.work.left, ended_before words own_attached
     by_place (suc (suc zero)) h = own.third
     by_place (suc (suc (suc n))) h = absurd (omega (arith, h))
 
--- A call on them after a database in a file.
-pub ended_over : (words : List (List ℕ)) (file : StoreState) (run : Ends) (s : Status) → AreOwnAfter (shelf_of (codes "file") file ∷ []) run.work.old → HasEnded words run s → HasEndedOn (attached_over file) words run.work.input run.work.rest run.output run.written s
-ended_over words file run s own h = (run.work.left, ended_before words (attached_over file) run (record { same = own.are; telling = by_place }) s h)
+-- A call on them after a store of the name `file`.
+pub ended_over : (words : List (List ℕ)) (file : Shelf) (run : Ends) (s : Status) → file.name ≡ codes "file" → AreOwnAfter (file ∷ []) run.work.old → HasEnded words run s → HasEndedOver words run.work.input run.work.rest run.output run.written s
+ended_over words file run s named own h = (file, named, (run.work.left, ended_before words (attached_over file) run (record { same = own.are; telling = by_place }) s h))
   where
     by_place : (at : ℕ) → (0 < at) × (at < 4) → run.work.old.tells at
     by_place zero h = absurd (omega (arith, h.0))
@@ -70,6 +70,13 @@ ended_over words file run s own h = (run.work.left, ended_before words (attached
     by_place (suc (suc (suc zero))) h = own.third
     by_place (suc (suc (suc (suc n)))) h = absurd (omega (arith, h.1))
 
+-- The first store of all was attached.
+pub over_bare : {T E : Type 0} (r : Result T E) (n : List ℕ) (a : StoreState) (none one : Attached) → OnOk r (IsAdded n a none one) → is_ok r ≡ true → none.shelves ≡ [] → one.shelves ≡ shelf_of n a ∷ []
+over_bare r n a none one added ok bare = (passed _ r ok added).shelves ∙ ap (λ (ss : List Shelf). ss ++ shelf_of n a ∷ []) bare
+
 -- Memory ran out before a call.
 pub starved : (stores : Attached) (words : List (List ℕ)) (input output : Stream) → HasEndedOn stores words input input output output status.NoMemory
 starved stores words input output = (stores.shelves, NoCommand tt (record { unchanged = refl; unread = refl; unwritten = refl }))
+
+pub starved_over : (words : List (List ℕ)) (input output : Stream) → HasEndedOver words input input output output status.NoMemory
+starved_over words input output = (new_store (codes "file"), refl, starved (attached_over (new_store (codes "file"))) words input output)

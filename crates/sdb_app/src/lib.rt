@@ -1,6 +1,7 @@
 //! The top call of the program.
 #![tactic(auto)]
 
+mod attach;
 mod bench;
 mod input;
 mod places;
@@ -11,5 +12,6 @@ mod schema;
 mod status;
 mod streams;
 
+pub use attach::attach;
 pub use program::run;
 pub use status::{InputFault, Status};
