@@ -1,19 +1,28 @@
 //! A call of the program on its stores.
-ghost use Rattle.std.specs.Prelude.{map, string_bytes};
+ghost use Rattle.std.specs.Prelude.{◌≡◌, map, string_bytes, IfOk, codes};
 ghost use Rattle.sdb_store.specs.Store.{IsNewStore};
 ghost use Rattle.sdb_app.specs.Ends.{stream};
 ghost use Rattle.scalardb.specs.Stores.{HasEndedOn, HasEndedOver, own_attached};
 
-use sdb_app::{Status, attach, run};
+use sdb_app::{Status, run};
 use sdb_hashed::Hashed;
 use sdb_ordered::Ordered;
 use sdb_sqlite::Kept;
 use sdb_store::{Fails, Store};
 use sdb_stores::Stores;
-use sdb_types::{Sink, Source};
+use sdb_types::{Name, NameRefused, Sink, Source};
 use sqlite::{FileStore, MemStore};
 use sqlite_std_file::File;
 use std::alloc::Global;
+
+fn store_names(alloc: Global) -> Result<(Name, Name, Name), NameRefused>
+    ensures { IfOk result (λ names. (names.0 ≡ codes "ordered") × (names.1 ≡ codes "hashed") × (names.2 ≡ codes "sqlite")) }
+{
+    let ordered = Name::new(alloc, "ordered")?;
+    let hashed = Name::new(alloc, "hashed")?;
+    let sqlite = Name::new(alloc, "sqlite")?;
+    Ok((ordered, hashed, sqlite))
+}
 
 /// Runs the program on its own stores: two in memory that never fail, one in the order of its keys and one hashed, and a database in
 /// memory that holds nothing. All that `run` promises of known contents holds, since each of them has.
@@ -27,7 +36,8 @@ pub fn run_on_own<R: Source, W: Sink>(
     requires new { IsNewStore (⟦<Kept<MemStore> as Store>⟧.state database) }
     ensures ended { HasEndedOn own_attached (map string_bytes words.now) (stream R.remaining R.faults input.old) (stream R.remaining R.faults input.new) (stream W.written W.faults output.old) (stream W.written W.faults output.new) result }
 {
-    let (Ok(ordered), Ok(hashed), Ok(kept)) = (
+    let (Ok(names), Ok(ordered), Ok(hashed), Ok(kept)) = (
+        store_names(alloc),
         Box::new(alloc, Ordered::new(alloc, Fails::new(alloc))),
         Box::new(alloc, Hashed::new(alloc, Fails::new(alloc))),
         Box::new(alloc, database),
@@ -35,9 +45,9 @@ pub fn run_on_own<R: Source, W: Sink>(
         return Status::NoMemory;
     };
     let mut stores = Stores::new(alloc);
-    let first = attach(alloc, &mut stores, "ordered", ordered).is_ok();
-    let second = attach(alloc, &mut stores, "hashed", hashed).is_ok();
-    let third = attach(alloc, &mut stores, "sqlite", kept).is_ok();
+    let first = stores.attach(names.0, ordered).is_ok();
+    let second = stores.attach(names.1, hashed).is_ok();
+    let third = stores.attach(names.2, kept).is_ok();
     if !first || !second || !third {
         return Status::NoMemory;
     }
@@ -56,6 +66,9 @@ pub fn run_over_file<R: Source, W: Sink>(
     requires new { IsNewStore (⟦<Kept<MemStore> as Store>⟧.state database) }
     ensures ended { HasEndedOver (map string_bytes words.now) (stream R.remaining R.faults input.old) (stream R.remaining R.faults input.new) (stream W.written W.faults output.old) (stream W.written W.faults output.new) result }
 {
+    let (Ok(name), Ok(names)) = (Name::new(alloc, "file"), store_names(alloc)) else {
+        return Status::NoMemory;
+    };
     let (Ok(file), Ok(ordered), Ok(hashed), Ok(kept)) = (
         Box::new(alloc, file),
         Box::new(alloc, Ordered::new(alloc, Fails::new(alloc))),
@@ -65,10 +78,10 @@ pub fn run_over_file<R: Source, W: Sink>(
         return Status::NoMemory;
     };
     let mut stores = Stores::new(alloc);
-    let zeroth = attach(alloc, &mut stores, "file", file).is_ok();
-    let first = attach(alloc, &mut stores, "ordered", ordered).is_ok();
-    let second = attach(alloc, &mut stores, "hashed", hashed).is_ok();
-    let third = attach(alloc, &mut stores, "sqlite", kept).is_ok();
+    let zeroth = stores.attach(name, file).is_ok();
+    let first = stores.attach(names.0, ordered).is_ok();
+    let second = stores.attach(names.1, hashed).is_ok();
+    let third = stores.attach(names.2, kept).is_ok();
     if !zeroth || !first || !second || !third {
         return Status::NoMemory;
     }

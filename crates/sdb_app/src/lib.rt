@@ -1,7 +1,6 @@
 //! The top call of the program.
 #![tactic(auto)]
 
-mod attach;
 mod bench;
 mod input;
 mod places;
@@ -12,6 +11,5 @@ mod schema;
 mod status;
 mod streams;
 
-pub use attach::attach;
 pub use program::run;
 pub use status::{InputFault, Status};

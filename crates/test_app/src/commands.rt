@@ -361,20 +361,21 @@ fn words_of_no_command(rt: HostRuntime) -> Result<(), Fail> {
 }
 
 // A row of the catalog without a definition.
+static BAD_ROW: Row = Row {
+    place: Place {
+        ns: "scalardb",
+        table: "metadata",
+        partition: &[Cell::Text("a.b")],
+        clustering: &[],
+    },
+    columns: &[("store", Cell::Text("ordered"))],
+};
+
 fn puts_bad_row(alloc: Global, stores: &mut Stores) -> Result<bool, Fail> {
-    let row = Row {
-        place: Place {
-            ns: "scalardb",
-            table: "metadata",
-            partition: &[Cell::Text("a.b")],
-            clustering: &[],
-        },
-        columns: &[("store", Cell::Text("ordered"))],
-    };
     if stores.len() == 0 {
         return Ok(false);
     }
-    let request = Request::PutIf(record_of(alloc, row)?, Condition::Absent);
+    let request = Request::PutIf(record_of(alloc, BAD_ROW)?, Condition::Absent);
     Ok(matches!(stores.perform(&request), Reply::Applied))
 }
 
