@@ -6,13 +6,12 @@ ghost use Rattle.sdb_store.specs.Store.{IsNewStore};
 mod outside;
 mod stores;
 
-use crate::outside::{Input, Output};
+use crate::outside::{InFile, Input, Output};
 use crate::stores::{run_on_own, run_over_file};
 use sdb_app::Status;
 use sdb_sqlite::{Kept, KeptRefused};
 use sdb_store::Store;
-use sqlite::{Connection, Error, ErrorCode, FileStore, MemStore};
-use sqlite_std_file::File;
+use sqlite::{Connection, Error, ErrorCode, MemStore};
 use std::alloc::Global;
 use std::env::{self, VarError};
 use std::io::ErrorKind;
@@ -82,10 +81,10 @@ fn file_path(rt: &HostRuntime) -> Result<Option<String>, Unstarted> {
 }
 
 // The database in the file at a path, which is made where there is none.
-fn open_file(rt: &HostRuntime, path: &str) -> Result<Kept<FileStore<File>>, Unstarted> {
+fn open_file(rt: &HostRuntime, path: &str) -> Result<InFile, Unstarted> {
     match Connection::open(rt, path) {
         Ok(connection) => match Kept::new(rt.alloc(), connection) {
-            Ok(database) => Ok(database),
+            Ok(database) => Ok(InFile::new(database)),
             Err(refused) => Err(Unstarted::from(refused)),
         },
         Err(Error::SqliteFailure(ErrorCode::OutOfMemory)) => Err(Unstarted::NoMemory),

@@ -1,9 +1,13 @@
-//! Standard input and output, as the program takes them.
+//! Standard input and output, and a database in a file, as the program takes them.
 //!
 //! None of their contents are known beforehand: they are what the world gives.
 ghost use Rattle.std.specs.Prelude.{None};
 
-use sdb_types::{Failed, Sink, SinkRefused, Source};
+use sdb_sqlite::Kept;
+use sdb_store::Store;
+use sdb_types::{Condition, Failed, Key, Record, Reply, Sink, SinkRefused, Source, Span};
+use sqlite::FileStore;
+use sqlite_std_file::File;
 use std::io::{Read, Stdin, Stdout, Write};
 use std::rt::HostRuntime;
 
@@ -68,5 +72,37 @@ impl Sink for Output {
                 Err(SinkRefused::Failed)
             }
         }
+    }
+}
+
+/// A database in a file, as a store. It is a type of its own so that a box of it is a box of a type without parameters.
+#[derive(Drop)]
+pub struct InFile {
+    kept: Kept<FileStore<File>>,
+}
+
+impl InFile {
+    pub fn new(kept: Kept<FileStore<File>>) -> InFile {
+        InFile { kept }
+    }
+}
+
+impl Store for InFile {
+    ghost state = { λ s. ⟦<Kept<FileStore<File>> as Store>⟧.state s.kept };
+
+    fn get(&mut self, key: &Key) -> Reply {
+        self.kept.get(key)
+    }
+
+    fn scan(&mut self, span: &Span) -> Reply {
+        self.kept.scan(span)
+    }
+
+    fn put_if(&mut self, rec: &Record, condition: &Condition) -> Reply {
+        self.kept.put_if(rec, condition)
+    }
+
+    fn delete_if(&mut self, key: &Key, condition: &Condition) -> Reply {
+        self.kept.delete_if(key, condition)
     }
 }

@@ -4,6 +4,7 @@ ghost use Rattle.sdb_store.specs.Store.{IsNewStore};
 ghost use Rattle.sdb_app.specs.Ends.{stream};
 ghost use Rattle.scalardb.specs.Stores.{HasEndedOn, HasEndedOver, own_attached};
 
+use crate::outside::InFile;
 use sdb_app::{Status, run};
 use sdb_hashed::Hashed;
 use sdb_ordered::Ordered;
@@ -11,8 +12,7 @@ use sdb_sqlite::Kept;
 use sdb_store::{Fails, Store};
 use sdb_stores::Stores;
 use sdb_types::{Name, NameRefused, Sink, Source};
-use sqlite::{FileStore, MemStore};
-use sqlite_std_file::File;
+use sqlite::MemStore;
 use std::alloc::Global;
 
 fn store_names(alloc: Global) -> Result<(Name, Name, Name), NameRefused>
@@ -58,7 +58,7 @@ pub fn run_on_own<R: Source, W: Sink>(
 pub fn run_over_file<R: Source, W: Sink>(
     alloc: Global,
     words: &[String],
-    file: Kept<FileStore<File>>,
+    file: InFile,
     database: Kept<MemStore>,
     input: &mut R,
     output: &mut W,

@@ -60,10 +60,10 @@ written_before known e outcome.Full before mid new same telling h = (h.0, h.1 �
 all_before : (places : List Place) (first : List ℕ) (known : List Entry) (ls : List Line) (before mid : Attached) (new : List Counted) → mid.shelves ≡ before.shelves → ((at : ℕ) → before.tells at → mid.tells at) → AreWritten places first known ls mid new → AreWritten places first known ls before new
 all_before places first known [] before mid new same telling h = h ∙ same
 all_before places first known (l ∷ ls) before mid new same telling h = (
-    h.0,
-    written_before known (entry_for known places first l.table) l.outcome before mid h.0 same telling h.1,
-    all_before places first (grown known (entry_for known places first l.table) l.outcome) ls (with_shelves before h.0) (with_shelves mid h.0) new refl telling h.2,
-  )
+  h.0,
+  written_before known (entry_for known places first l.table) l.outcome before mid h.0 same telling h.1,
+  all_before places first (grown known (entry_for known places first l.table) l.outcome) ls (with_shelves before h.0) (with_shelves mid h.0) new refl telling h.2,
+)
 
 stored_before : (places : List Place) (catalog : List Table) (text : List ℕ) (before mid : Attached) (new : List Counted) → mid.shelves ≡ before.shelves → ((at : ℕ) → before.tells at → mid.tells at) → IsStored places catalog text mid new → IsStored places catalog text before new
 stored_before places catalog text before mid new same telling h = record {

@@ -12,8 +12,7 @@ const SHOP: &[&str] = &["schema", "shop=hashed"];
 const SCHEMA: &[u8] =
     b"{\"bank.account\":{\"transaction\":true,\"partition-key\":[\"id\"],\"clustering-key\":[],\"columns\":{\"id\":\"INT\",\"balance\":\"INT\"},\"compaction-strategy\":\"LCS\"},\"shop.orders\":{\"transaction\":true,\"partition-key\":[\"customer\"],\"clustering-key\":[\"placed DESC\"],\"columns\":{\"customer\":\"INT\",\"placed\":\"BIGINT\",\"note\":\"TEXT\"},\"secondary-index\":[\"note\"]}}";
 
-const CREATED: &[u8] =
-    b"created bank.account\ncreated coordinator.state\ncreated shop.orders\n";
+const CREATED: &[u8] = b"created bank.account\ncreated coordinator.state\ncreated shop.orders\n";
 
 /// How a command ends that writes nothing: its status, by which line and which code.
 #[derive(Clone, Copy)]
@@ -33,12 +32,7 @@ enum Step {
     /// These reads fail.
     ReadFails(&'static [&'static str], &'static [u8], &'static [u64]),
     /// These writes fail, after this was written.
-    WriteFails(
-        &'static [&'static str],
-        &'static [u8],
-        &'static [u64],
-        &'static [u8],
-    ),
+    WriteFails(&'static [&'static str], &'static [u8], &'static [u64], &'static [u8]),
 }
 
 // The call of a command that ends so.
@@ -183,11 +177,7 @@ static SCHEMAS: [Steps; 6] = [
                 b"{\"a.b\":{\"partition-key\":[\"k\"],\"columns\":{\"k\":\"FLOAT\"}}}",
                 NO_SCHEMA,
             ),
-            Step::Refused(
-                &["schema"],
-                b"",
-                NO_SCHEMA,
-            ),
+            Step::Refused(&["schema"], b"", NO_SCHEMA),
             Step::ReadFails(SHOP, SCHEMA, &[2]),
             Step::Done(SHOP, SCHEMA, CREATED),
         ],
@@ -331,10 +321,7 @@ impl Case for Unknown {
     fn holds(self, alloc: Global) -> Result<bool, Fail> {
         let mut stores = Stores::new(alloc);
         let step = Step::Refused(self.0, b"", USAGE);
-        Ok(
-            attach_all(alloc, &mut stores, On::Two)?
-                && ends(alloc, &mut stores, call_of(step))?,
-        )
+        Ok(attach_all(alloc, &mut stores, On::Two)? && ends(alloc, &mut stores, call_of(step))?)
     }
 }
 
