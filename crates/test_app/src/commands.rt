@@ -358,12 +358,18 @@ static BAD_ROW: Row = Row {
     columns: &[("store", Cell::Text("ordered"))],
 };
 
-fn puts_bad_row(alloc: Global, stores: &mut Stores) -> Result<bool, Fail> {
+/// Puts a row where there is none.
+pub fn puts(alloc: Global, stores: &mut Stores, row: Row) -> Result<bool, Fail> {
     if stores.len() == 0 {
         return Ok(false);
     }
-    let request = Request::PutIf(record_of(alloc, BAD_ROW)?, Condition::Absent);
+    let request = Request::PutIf(record_of(alloc, row)?, Condition::Absent);
     Ok(matches!(stores.perform(&request), Reply::Applied))
+}
+
+/// Keeps the schema of these tests, of which the namespace `shop` is in the store `hashed`.
+pub fn keeps_schema(alloc: Global, stores: &mut Stores) -> Result<bool, Fail> {
+    ends(alloc, stores, call_of(Step::Done(SHOP, SCHEMA, CREATED)))
 }
 
 fn is_bad_store(alloc: Global) -> Result<bool, Fail> {
@@ -379,7 +385,7 @@ fn is_bad_store(alloc: Global) -> Result<bool, Fail> {
     );
     Ok(
         attach_all(alloc, &mut stores, On::One)?
-            && puts_bad_row(alloc, &mut stores)?
+            && puts(alloc, &mut stores, BAD_ROW)?
             && ends(alloc, &mut stores, call_of(step))?,
     )
 }

@@ -10,4 +10,6 @@ mod program;
 #[cfg(test)]
 mod run;
 #[cfg(test)]
+mod session;
+#[cfg(test)]
 mod worked;

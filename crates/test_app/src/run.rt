@@ -145,13 +145,15 @@ fn words_of(alloc: Global, words: &[&str]) -> Result<Vec<String>, Fail> {
     Ok(given)
 }
 
-fn feed(alloc: Global, script: &[u8], failing: &[u64]) -> Result<Feed, NoMemory> {
+/// A source of these bytes, of which at most 100 come at once and these reads fail.
+pub fn feed(alloc: Global, script: &[u8], failing: &[u64]) -> Result<Feed, NoMemory> {
     let bytes = Octets::from_slice(alloc, script)?;
     let failing = Calls::from_slice(alloc, failing)?;
     Ok(Feed::new(bytes, 100, failing))
 }
 
-fn tray(alloc: Global, failing: &[u64]) -> Result<Tray, NoMemory> {
+/// A sink that takes at most 10 bytes at once and of which these writes fail.
+pub fn tray(alloc: Global, failing: &[u64]) -> Result<Tray, NoMemory> {
     let failing = Calls::from_slice(alloc, failing)?;
     Ok(Tray::new(alloc, 10, failing))
 }
