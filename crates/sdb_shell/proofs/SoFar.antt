@@ -149,6 +149,10 @@ session_same catalog old mid new clock clock_mid ids ids_mid es s so goes held =
   begun = so.begun;
   hand = so.hand;
   taken = so.taken;
+  faults = elim so.faults [
+    | inl few ↦ inl (omega (arith, few, goes.counted))
+    | inr full ↦ inr (goes.full full)
+  ];
   idle = so.idle;
   opened = so.opened;
   about = so.about;
@@ -199,6 +203,7 @@ session_held catalog old mid clock clock_mid ids ids_mid es s so goes =
       begun = so.begun;
       hand = so.hand;
       taken = so.taken;
+      faults = so.faults;
       idle = so.idle;
       opened = so.opened;
       about = so.about;
