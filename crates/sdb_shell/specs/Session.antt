@@ -146,8 +146,8 @@ pub record IsCutShort (catalog : List Table) (old new : Attached) (clock clock_t
   pub prefix : IsPrefix (answer_line_of last.answer) written_mid written_then
   pub session : IsSessionSoFar catalog old new clock clock_then ids ids_then (es ++ last ∷ []) client
 
--- A session out of memory before the line of a number was answered, which more calls or lines than are counted come to: the lines before it
--- were answered, the stores held this then, and nothing was written after their answers.
+-- More calls of a statement, or more lines, than can be counted are out of memory: the lines before that of a number were answered, the
+-- stores held this then, and nothing was written after their answers.
 pub record IsStarved (catalog : List Table) (old : Attached) (clock : Option (List ℤ)) (ids : Option (List ℕ)) (written written_then : Option (List ℕ)) (remaining : Option (List ℕ)) : Type 0 where
   pub n : ℕ
   pub used : ℕ
