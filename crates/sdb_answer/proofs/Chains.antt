@@ -1,19 +1,20 @@
 -- A session so far, with one statement more.
-use Rattle.std.proofs.Common.{◌≡◌, ◌≢◌, ℕ, ℤ, Bool, true, false, List, [], ◌∷◌, ◌++◌, Option, Some, None, refl, sym, ap, subst, ◌∙◌, ◌⊎◌, inl, inr, append_assoc}
+use Rattle.std.proofs.Common.{arith, ◌+◌, cond, ◌≡◌, ◌≢◌, ℕ, ℤ, Bool, true, false, List, [], ◌∷◌, ◌++◌, Option, Some, None, refl, sym, ap, subst, ◌∙◌, ◌⊎◌, inl, inr, append_assoc}
 use Rattle.std.proofs.lemmas.List.{append-nil}
+use Rattle.std.proofs.lemmas.List.Sums.{sum_by_push}
 use Rattle.std.specs.Prelude.{is_some, map, not, if◌then◌else◌}
 use Rattle.std.specs.List.{AllByRecursion}
 use Rattle.sdb_types.specs.declared.txid.TxId.{TxId}
 use Rattle.sdb_types.specs.Draws.{Tells}
 use Rattle.sdb_schema.specs.declared.table.Table.{Table}
 use Rattle.sdb_model.specs.declared.answer.Answer.{Answer}
-use Rattle.sdb_stores.specs.Shelf.{Attached}
+use Rattle.sdb_stores.specs.Shelf.{Attached, HaveRisen}
 use Rattle.sdb_board.specs.Board.{AreFit, GoOn, placed, shown}
 use Rattle.sdb_client.specs.Client.{nothing_done}
 use Rattle.sdb_session.specs.Database.{Database}
 use Rattle.sdb_session.specs.Between.{Between}
 use Rattle.sdb_session.specs.Chain.{Chain, IsReached, open_after}
-use Rattle.sdb_session.specs.Session.{AreNewIds, AreTaken, Exchange, IsNewId, IsTaken, Part, Parts, begins, begun_ids, ends, no_parts, part_after, parts_of}
+use Rattle.sdb_session.specs.Session.{AreNewIds, AreTaken, Exchange, IsNewId, IsTaken, Part, Parts, begins, begun_ids, ends, faults_in, is_of_fault, no_parts, part_after, parts_of}
 use Rattle.sdb_session.specs.Turns.{IsWellFormed}
 use Rattle.sdb_session.specs.Working.{is_open_after}
 use Rattle.sdb_session.proofs.Betweens.{between_more, parts_more}
@@ -22,7 +23,7 @@ use Rattle.sdb_session.proofs.Plain.{own_at}
 use Rattle.sdb_session.proofs.Sessions.{map_more, session_serial}
 use Rattle.sdb_answer.specs.Answering.{IsAlone, database_in, exchange}
 use Rattle.sdb_answer.specs.Drawn.{drawn_id}
-use Rattle.sdb_answer.specs.Sessions.{HasAnswered, IsHand, IsSession, IsSessionSoFar, SessionAt, TellAll}
+use Rattle.sdb_answer.specs.Sessions.{FaultsWithin, HasAnswered, IsHand, IsSession, IsSessionSoFar, SessionAt, TellAll}
 
 ---- what was given
 
@@ -114,6 +115,7 @@ session_none catalog old clock ids ids_then number draw tells = record {
   begun = refl;
   hand = refl;
   taken = λ front e back h. absurd (nil_not front e back h);
+  faults = inl (omega arith);
   idle = record { free = refl; still = tt };
   opened = refl;
   about = record { txn = tt; vacuum = tt };
@@ -131,6 +133,25 @@ module _ (catalog : List Table) (old mid new : Attached) (clock clock_mid clock_
       by : ((rest : List Exchange) × (es ≡ front ++ y ∷ rest)) ⊎ ((front ≡ es) × (y ≡ e)) → IsTaken catalog (is_some (parts_of front).opened) y
       by (inl (rest, k)) = so.taken front y rest k
       by (inr (k, l)) = subst (λ (x : Exchange). IsTaken catalog (is_some (parts_of front).opened) x) (sym l) (subst (λ b. IsTaken catalog b e) (so.opened ∙ ap (λ (xs : List Exchange). is_some (parts_of xs).opened) (sym k)) h.answered.ended.taken)
+
+  faults_more : FaultsWithin (faults_in (es ++ e ∷ [])) old.shelves new.shelves
+  faults_more = by (is_of_fault a) refl h.answered.fault
+    where
+      count : (b : Bool) → is_of_fault a ≡ b → faults_in (es ++ e ∷ []) ≡ faults_in es + cond b 1 0
+      count b k = sum_by_push (λ (x : Exchange). cond (is_of_fault x.answer) 1 0) es e ∙ ap (λ b. faults_in es + cond b 1 0) k
+
+      by : (b : Bool) → is_of_fault a ≡ b → (b ≡ true → HaveRisen mid.shelves new.shelves) → FaultsWithin (faults_in (es ++ e ∷ [])) old.shelves new.shelves
+      by true k rise = elim so.faults [
+        | inl few ↦ elim (rise refl) [
+          | inl rose ↦ inl (omega (arith, few, rose, count true k))
+          | inr full ↦ inr full
+        ]
+        | inr full ↦ inr (goes.full full)
+      ]
+      by false k rise = elim so.faults [
+        | inl few ↦ inl (omega (arith, few, goes.counted, count false k))
+        | inr full ↦ inr (goes.full full)
+      ]
 
   opened_more : is_some t.client.txn ≡ is_some (parts_of (es ++ e ∷ [])).opened
   opened_more = h.answered.ended.has_txn ∙ ap (λ b. is_open_after b e) so.opened ∙ sym (open_one (parts_of es).ended (parts_of es).opened e) ∙ ap (λ (p : Parts). is_some p.opened) (sym (parts_more es e))
@@ -171,6 +192,7 @@ module _ (catalog : List Table) (old mid new : Attached) (clock clock_mid clock_
         begun = begun_more es e ∙ ap (λ b. begun_ids es ++ (if b then s.fresh ∷ [] else [])) k ∙ ap (λ xs. xs ++ s.fresh ∷ []) so.begun ∙ ap (λ x. map drawn_id so.drawn ++ x ∷ []) so.hand ∙ sym (map_more drawn_id so.drawn so.spare);
         hand = is;
         taken = taken_more;
+        faults = faults_more;
         idle = h.answered.ended.idle;
         opened = opened_more;
         about = h.answered.about so.about;
@@ -185,6 +207,7 @@ module _ (catalog : List Table) (old mid new : Attached) (clock clock_mid clock_
         begun = begun_more es e ∙ ap (λ b. begun_ids es ++ (if b then s.fresh ∷ [] else [])) k ∙ append-nil (begun_ids es) ∙ so.begun;
         hand = is ∙ so.hand;
         taken = taken_more;
+        faults = faults_more;
         idle = h.answered.ended.idle;
         opened = opened_more;
         about = h.answered.about so.about;
@@ -201,6 +224,7 @@ session_whole catalog old new clock clock_then ids ids_then es s so = record {
   draws = so.draws;
   begun = so.begun;
   taken = so.taken;
+  faults = so.faults;
   serial = λ f w n. session_serial catalog w.apart (database_in old) w.tables w.sound w.are_images w.fit es (database_in new)
       (fresh_ids catalog w.apart (database_in old) w.tables es (subst (AreNewIds catalog (database_in old)) (sym so.begun) (new_front catalog (database_in old) (map drawn_id so.drawn) (drawn_id so.spare) (subst (AreNewIds catalog (database_in old)) (map_more drawn_id so.drawn so.spare) n)))) (so.chain f w n).0;
 }

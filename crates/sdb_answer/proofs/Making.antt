@@ -1,5 +1,5 @@
 -- The calls of a statement, one after the other.
-use Rattle.std.proofs.Common.{◌≡◌, ◌≢◌, ℕ, ℤ, Bool, false, List, Option, Some, None, Result, Ok, refl, sym, subst, ◌∙◌}
+use Rattle.std.proofs.Common.{◌⊎◌, inl, inr, arith, true, ◌≡◌, ◌≢◌, ℕ, ℤ, Bool, false, List, Option, Some, None, Result, Ok, refl, sym, subst, ◌∙◌}
 use Rattle.std.specs.Prelude.{is_some}
 use Rattle.sdb_types.specs.declared.txid.TxId.{TxId}
 use Rattle.sdb_schema.specs.declared.table.Table.{Table}
@@ -7,9 +7,12 @@ use Rattle.sdb_model.specs.declared.answer.Answer.{Answer}
 use Rattle.sdb_model.specs.declared.answer.Answer.TheVariants as answer
 use Rattle.sdb_model.specs.declared.answer.Refusal.{Refusal}
 use Rattle.sdb_model.specs.declared.statement.Statement.{Statement}
-use Rattle.sdb_stores.specs.Shelf.{Attached}
+use Rattle.sdb_types.specs.declared.record.Reply.{Reply}
+use Rattle.sdb_stores.specs.Shelf.{Attached, HaveCause, HaveRisen}
 use Rattle.sdb_stores.specs.declared.place.Place.{Place as Placed}
 use Rattle.sdb_board.specs.Board.{GoOn, how_seen, placed, shown}
+use Rattle.sdb_board.specs.declared.refused.CallRefused.TheVariants as refused
+use Rattle.sdb_board.proofs.GoesOn.{refused_after}
 use Rattle.sdb_client.specs.Client.{ClientAt, IsIdle, SaidTold, Says, Taking, TextTold, starved}
 use Rattle.sdb_steps.specs.About.{IsOfTables}
 use Rattle.sdb_steps.proofs.ClientIn.{asks_in, replies_in, takes_in}
@@ -17,8 +20,10 @@ use Rattle.sdb_steps.proofs.Whole.{by_memory}
 use Rattle.sdb_session.specs.Database.{Called, database_of}
 use Rattle.sdb_session.specs.Between.{Answers, LeadsTo, More, StatementEnds, Waits}
 use Rattle.sdb_session.specs.Chain.{Exchanged, Answers as Was}
-use Rattle.sdb_session.specs.Session.{turned_away}
-use Rattle.sdb_session.specs.Working.{IsAtWork, IsEnded, LeadsOn}
+use Rattle.sdb_session.specs.Session.{is_of_fault, turned_away}
+use Rattle.sdb_session.specs.Faults.{ComesOfFault, IsAfterFault}
+use Rattle.sdb_session.proofs.Faults.{faults_replied, faults_taken}
+use Rattle.sdb_session.specs.Working.{IsAtWork, IsEnded, LeadsOn, TakenBy}
 use Rattle.sdb_session.proofs.Calls.{called}
 use Rattle.sdb_session.proofs.Plain.{own_at}
 use Rattle.sdb_session.proofs.Replies.{replies}
@@ -55,6 +60,31 @@ working c d w later = record { catalog = w.catalog; statement = w.statement; ope
 pub about_still : (now : ℤ) (old new : Attached) (c : ClientAt) (result : Option Answer) (d : ClientAt) → HasCalled now old c result new d → (catalog : List Table) → IsOfTables catalog c → IsOfTables catalog d
 about_still now old new c result d h catalog about = replies_in catalog c d h.request h.reply now result h.pending h.can about h.took
 
+-- a call that leads to an answer of a fault, or on after a fault
+called_of_fault : (now : ℤ) (old new : Attached) (c : ClientAt) (result : Option Answer) (d : ClientAt) → HasCalled now old c result new d → IsWorking c → ComesOfFault result d → IsAfterFault c ⊎ HaveRisen old.shelves new.shelves
+called_of_fault now old new c result d h w come =
+    elim (faults_replied (record { catalog = w.catalog; statement = w.statement; opened = w.opened; stays = w.stays; moment = now; id = record { 0 = 0 }; before = c; works = w.works; reply = h.reply; now = now; result = result; after = d; took = h.took }) come) [
+      | inl k ↦ inl k
+      | inr f ↦ inr (subst (λ (r : Reply). HaveCause r old.shelves new.shelves) f h.cause)
+    ]
+
+-- a count that rose, over calls before and after
+risen_before : (old mid new : Attached) → GoOn old mid → HaveRisen mid.shelves new.shelves → HaveRisen old.shelves new.shelves
+risen_before old mid new goes h = refused_after old mid new.shelves refused.StoreFault goes h
+
+risen_after : (old mid new : Attached) → HaveRisen old.shelves mid.shelves → GoOn mid new → HaveRisen old.shelves new.shelves
+risen_after old mid new h goes = elim h [
+  | inl rose ↦ inl (omega (arith, rose, goes.counted))
+  | inr full ↦ inr (goes.full full)
+]
+
+pub faults_still : (now : ℤ) (old mid new : Attached) (c e : ClientAt) (result : Option Answer) (d : ClientAt) → GoOn old mid → ((w : IsWorking c) → IsAtWork w.statement w.opened e) → (IsWorking c → (IsAfterFault c → ⊥) → IsAfterFault e → HaveRisen old.shelves mid.shelves) → HasCalled now mid e result new d → GoOn mid new
+    → IsWorking c → (IsAfterFault c → ⊥) → ComesOfFault result d → HaveRisen old.shelves new.shelves
+faults_still now old mid new c e result d goes works faults h on w none come = elim (called_of_fault now mid new e result d h (working c e w works) come) [
+  | inl after ↦ risen_after old mid new (faults w none after) on
+  | inr rose ↦ risen_before old mid new goes rose
+]
+
 ---- where the client is alone
 
 alone_leads : (now : ℤ) (old new : Attached) (c : ClientAt) (result : Option Answer) (d : ClientAt) → HasCalled now old c result new d → GoOn old new → (w : WaitsOver now old c) → LeadsTo w.catalog w.was w.fresh now (Ok w.statement) (database_in new) w.opened result d
@@ -87,16 +117,28 @@ over_later now old mid c e goes about w waits = record { catalog = w.catalog; fi
 
 -- the calls so far, and one more that is answered
 pub made_after : (now : ℤ) (old mid new : Attached) (c e : ClientAt) (a : Answer) (d : ClientAt) → GoOn old mid → ((w : IsWorking c) → IsAtWork w.statement w.opened e) → ((catalog : List Table) → IsOfTables catalog c → IsOfTables catalog e)
-    → ((w : WaitsOver now old c) → Waits w.catalog w.was now w.statement (database_in mid) w.opened e) → HasCalled now mid e (Some a) new d → GoOn mid new → AreMade now old c a new d
-made_after now old mid new c e a d goes works about waits h on = record {
+    → (IsWorking c → (IsAfterFault c → ⊥) → IsAfterFault e → HaveRisen old.shelves mid.shelves) → ((w : WaitsOver now old c) → Waits w.catalog w.was now w.statement (database_in mid) w.opened e) → HasCalled now mid e (Some a) new d → GoOn mid new → AreMade now old c a new d
+made_after now old mid new c e a d goes works about faults waits h on = record {
   ended = λ w moment id. (works_lead now mid new e (Some a) d h w.catalog w.statement w.opened w.stays (works w) moment id).ended a refl;
   about = λ catalog k. about_still now mid new e (Some a) d h catalog (about catalog k);
+  fault = faults_still now old mid new c e (Some a) d goes works faults h on;
   alone = λ w. ends_now now mid new e a d h on (over_later now old mid c e goes about w (waits w));
 }
 
 ---- a text is taken
 
 module _ (q : Taking) (vacuums : q.gate.vacuum_runs ≡ false) (opens : q.gate.open_elsewhere ≡ false) (text : List ℕ) (c : ClientAt) (idle : IsIdle c) (result : Option Answer) (d : ClientAt) (memory : result ≡ Some answer.NoMemory → d ≡ starved text c) (told : result ≢ Some answer.NoMemory → TextTold q text c result d) where
+  taken_by : (says : Result Statement Refusal) → Says text says → (result ≢ Some answer.NoMemory → SaidTold q says c result d) → TakenBy
+  taken_by says reads took = record { taking = q; vacuums = vacuums; opens = opens; text = text; says = says; reads = reads; before = c; idle = idle; result = result; after = d; memory = memory; took = took }
+
+  no_fault : (says : Result Statement Refusal) → Says text says → (result ≢ Some answer.NoMemory → SaidTold q says c result d) → ComesOfFault result d → ⊥
+  unfolding taken_by
+  no_fault says reads took come = faults_taken (taken_by says reads took) come
+
+  -- it is answered at once
+  clean_at_once : (a : Answer) → result ≡ Some a → (says : Result Statement Refusal) → Says text says → (result ≢ Some answer.NoMemory → SaidTold q says c result d) → is_of_fault a ≡ true → (stores : Attached) → HaveRisen stores.shelves stores.shelves
+  clean_at_once a e says reads took f stores = absurd (no_fault says reads took (subst (λ (r : Option Answer). ComesOfFault r d) (sym e) f))
+
   leads : (says : Result Statement Refusal) → Says text says → (result ≢ Some answer.NoMemory → SaidTold q says c result d) → LeadsOn q.catalog (is_some c.txn) says q.now q.fresh result d
   leads says reads took = takings_lead (record { taking = q; vacuums = vacuums; opens = opens; text = text; says = says; reads = reads; before = c; idle = idle; result = result; after = d; memory = memory; took = took })
 
@@ -116,6 +158,7 @@ module _ (q : Taking) (vacuums : q.gate.vacuum_runs ≡ false) (opens : q.gate.o
         reads = x.1;
         ended = (leads x.0 x.1 (λ n. absurd (n f))).ended a e;
         about = about_taken;
+        fault = λ k. clean_at_once a e x.0 x.1 (λ n. absurd (n f)) k stores;
         alone = λ w. starves q.catalog (database_in stores) w.opened (exchange x.0 q.now q.fresh a) text c d x.1 (some_one a answer.NoMemory (sym e ∙ f)) w.between (memory f);
       })
       (λ n. let x = told n in record {
@@ -123,6 +166,7 @@ module _ (q : Taking) (vacuums : q.gate.vacuum_runs ≡ false) (opens : q.gate.o
         reads = x.1;
         ended = (leads x.0 x.1 (λ m. x.2)).ended a e;
         about = about_taken;
+        fault = λ k. clean_at_once a e x.0 x.1 (λ m. x.2) k stores;
         alone = λ w. by stores w x.0 (alone_taken stores w x.0 x.1 x.2);
       })
     where
@@ -149,6 +193,7 @@ module _ (q : Taking) (vacuums : q.gate.vacuum_runs ≡ false) (opens : q.gate.o
         reads = x.1;
         ended = subst (λ says. IsEnded q.catalog (is_some c.txn) (exchange says q.now q.fresh a) e) (sym k.1) (made.ended (works_then none) q.now q.fresh);
         about = λ about. made.about q.catalog (about_taken about);
+        fault = made.fault (works_then none) (λ k. no_fault x.0 x.1 (λ m. x.2) (subst (λ (r : Option Answer). ComesOfFault r d) (sym none) k));
         alone = λ w. by w x.0 (alone_taken old w x.0 x.1 x.2);
       }
     where

@@ -10,7 +10,7 @@ use Rattle.sdb_model.specs.declared.answer.Answer.{Answer}
 use Rattle.sdb_model.specs.declared.answer.Refusal.{Refusal}
 use Rattle.sdb_model.specs.declared.statement.Statement.{Statement}
 use Rattle.sdb_model.specs.Events.{table_asked}
-use Rattle.sdb_stores.specs.Shelf.{Attached}
+use Rattle.sdb_stores.specs.Shelf.{Attached, HaveCause, HaveRisen}
 use Rattle.sdb_board.specs.Board.{AreFit, AreFitFor, IsCalled, placed, shown}
 use Rattle.sdb_client.specs.Client.{ClientAt, ReplyTold, Says, client_pending}
 use Rattle.sdb_steps.specs.About.{IsOfTables}
@@ -18,7 +18,8 @@ use Rattle.sdb_session.specs.Database.{Database, database_of}
 use Rattle.sdb_session.specs.Between.{Between, OpenTransaction, StatementEnds, Waits}
 use Rattle.sdb_session.specs.Chain.{Exchanged}
 use Rattle.sdb_session.specs.Clients.{IsUnused}
-use Rattle.sdb_session.specs.Session.{Exchange, turned_away}
+use Rattle.sdb_session.specs.Session.{Exchange, is_of_fault, turned_away}
+use Rattle.sdb_session.specs.Faults.{IsAfterFault}
 use Rattle.sdb_session.specs.Turns.{IsWellFormed}
 use Rattle.sdb_session.specs.Working.{IsAtWork, IsEnded}
 
@@ -37,6 +38,7 @@ pub record HasCalled (now : ℤ) (old : Attached) (c : ClientAt) (result : Optio
   pub pending : client_pending c ≡ Some request
   pub can : CanAnswer request reply
   pub called : AreFitFor (table_asked request) old → IsCalled request reply old new
+  pub cause : HaveCause reply old.shelves new.shelves
   pub took : ReplyTold c c.vacuum reply now result d
 
 -- A client is at work on a statement that wasn't turned away.
@@ -60,11 +62,12 @@ pub record WaitsOver (now : ℤ) (stores : Attached) (c : ClientAt) : Type 0 whe
   pub opened : Option OpenTransaction
   pub waits : Waits catalog was now statement (database_in stores) opened c
 
--- The calls of a client were made until its statement was answered: it has ended so, whatever the stores answered, and as the statement of
--- a client that is alone where it was one.
+-- The calls of a client were made until its statement was answered: it has ended so, whatever the stores answered, Faulted and Unknown come
+-- only where a count of faults rose, and it has ended as the statement of a client that is alone where it was one.
 pub record AreMade (now : ℤ) (old : Attached) (c : ClientAt) (a : Answer) (new : Attached) (d : ClientAt) : Type 0 where
   pub ended : (w : IsWorking c) (moment : ℤ) (id : TxId) → IsEnded w.catalog w.opened (exchange (Ok w.statement) moment id a) d
   pub about : (catalog : List Table) → IsOfTables catalog c → IsOfTables catalog d
+  pub fault : IsWorking c → (IsAfterFault c → ⊥) → is_of_fault a ≡ true → HaveRisen old.shelves new.shelves
   pub alone : (w : WaitsOver now old c) → StatementEnds w.catalog w.was w.fresh now (Ok w.statement) (database_in new) w.opened a d
 
 -- A client that is alone is between two statements, over fit stores whose contents are sound, and the id at hand is new.
@@ -77,11 +80,12 @@ pub record IsAlone (catalog : List Table) (fresh : TxId) (now : ℤ) (stores : A
   pub between : Between catalog (database_in stores) opened c
   pub new : IsUnused catalog (database_in stores) fresh
 
--- A text was taken and answered: it has ended as its answer says, whatever the stores answered, and as the statement of a client that is
--- alone where it was one.
+-- A text was taken and answered: it has ended as its answer says, whatever the stores answered, Faulted and Unknown come only where a count
+-- of faults rose, and it has ended as the statement of a client that is alone where it was one.
 pub record IsAnswered (catalog : List Table) (text : List ℕ) (fresh : TxId) (now : ℤ) (old : Attached) (c : ClientAt) (a : Answer) (new : Attached) (d : ClientAt) : Type 0 where
   pub says : Result Statement Refusal
   pub reads : Says text says
   pub ended : IsEnded catalog (is_some c.txn) (exchange says now fresh a) d
   pub about : IsOfTables catalog c → IsOfTables catalog d
+  pub fault : is_of_fault a ≡ true → HaveRisen old.shelves new.shelves
   pub alone : (w : IsAlone catalog fresh now old c) → Exchanged catalog (database_in old) w.opened (exchange says now fresh a) (database_in new) d

@@ -1,17 +1,17 @@
 -- A session: the statements of one client, each taken at a moment of the clock, whose transactions have ids that are drawn.
-use Rattle.std.specs.Prelude.{◌≡◌, ℕ, ℤ, Bool, true, false, is_some, List, [], ◌∷◌, ◌++◌, map, Option, Some, None}
+use Rattle.std.specs.Prelude.{◌≡◌, ◌⊎◌, ◌≤◌, ◌+◌, ℕ, ℤ, Bool, true, false, is_some, List, [], ◌∷◌, ◌++◌, map, Option, Some, None}
 use Rattle.sdb_types.specs.declared.txid.TxId.{TxId}
 use Rattle.sdb_types.specs.Draws.{Tells}
 use Rattle.sdb_record.specs.Meta.{is_moment}
 use Rattle.sdb_schema.specs.declared.table.Table.{Table}
 use Rattle.sdb_model.specs.declared.answer.Answer.{Answer}
-use Rattle.sdb_stores.specs.Shelf.{Attached}
-use Rattle.sdb_board.specs.Board.{AreFit}
+use Rattle.sdb_stores.specs.Shelf.{Attached, Shelf, total_faults}
+use Rattle.sdb_board.specs.Board.{AreFit, IsFull}
 use Rattle.sdb_client.specs.Client.{ClientAt, IsIdle}
 use Rattle.sdb_steps.specs.About.{IsOfTables}
 use Rattle.sdb_session.specs.Between.{Between}
 use Rattle.sdb_session.specs.Chain.{Chain, open_after}
-use Rattle.sdb_session.specs.Session.{AreNewIds, AreTaken, Exchange, IsSerialSession, begins, begun_ids, no_parts, parts_of}
+use Rattle.sdb_session.specs.Session.{AreNewIds, AreTaken, Exchange, IsSerialSession, begins, begun_ids, faults_in, no_parts, parts_of}
 use Rattle.sdb_session.specs.Turns.{IsWellFormed}
 use Rattle.sdb_answer.specs.Answering.{IsAnswered, database_in, exchange}
 use Rattle.sdb_answer.specs.Drawn.{drawn_id}
@@ -40,9 +40,13 @@ pub record HasAnswered (catalog : List Table) (text : List ℕ) (old new : Attac
   pub answered : IsAnswered catalog text s.fresh now old s.client a new t.client
   pub hand : IsHand (begins (exchange answered.says now s.fresh a)) s.fresh t.fresh ids ids_then
 
+-- At most so many faults came as the count of all stores rose, unless that of one of them is the greatest value of its type.
+abbrev pub FaultsWithin : ℕ → List Shelf → List Shelf → Type 0
+FaultsWithin n old new = (n + total_faults old ≤ total_faults new) ⊎ IsFull new
+
 -- The statements of a session so far, from stores to stores: there was one moment of the clock for each, and the k-th that began a
--- transaction has the k-th id that was drawn, of which one more is at hand; each was turned away exactly where it has to be. Where
--- the stores were fit, their contents sound, and the ids new to them, the statements are a chain of a client that is alone.
+-- transaction has the k-th id that was drawn, of which one more is at hand; each was turned away exactly where it has to be; and at
+-- most so many were answered Faulted or Unknown as the stores have failed. Where the stores were fit, their contents sound, and the ids new to them, the statements are a chain of a client that is alone.
 pub record IsSessionSoFar (catalog : List Table) (old new : Attached) (clock clock_then : Option (List ℤ)) (ids ids_then : Option (List ℕ)) (es : List Exchange) (s : SessionAt) : Type 0 where
   pub moments : TellAll (map (λ e. e.moment) es) clock clock_then
   pub drawn : List ℕ
@@ -51,6 +55,7 @@ pub record IsSessionSoFar (catalog : List Table) (old new : Attached) (clock clo
   pub begun : begun_ids es ≡ map drawn_id drawn
   pub hand : s.fresh ≡ drawn_id spare
   pub taken : AreTaken catalog es
+  pub faults : FaultsWithin (faults_in es) old.shelves new.shelves
   pub idle : IsIdle s.client
   pub opened : is_some s.client.txn ≡ is_some (parts_of es).opened
   pub about : IsOfTables catalog s.client
@@ -65,4 +70,5 @@ pub record IsSession (catalog : List Table) (old new : Attached) (clock clock_th
   pub draws : TellAll (drawn ++ spare ∷ []) ids ids_then
   pub begun : begun_ids es ≡ map drawn_id drawn
   pub taken : AreTaken catalog es
+  pub faults : FaultsWithin (faults_in es) old.shelves new.shelves
   pub serial : AreFit catalog old → (w : IsWellFormed catalog (database_in old)) → AreNewIds catalog (database_in old) (map drawn_id (drawn ++ spare ∷ [])) → IsSerialSession catalog (database_in old) (database_in new) w.tables es

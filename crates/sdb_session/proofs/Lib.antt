@@ -22,4 +22,5 @@ pub mod Plain
 pub mod Texts
 pub mod Starves
 pub mod Working
+pub mod Faults
 pub mod Betweens

@@ -59,7 +59,7 @@ use Rattle.sdb_session.specs.Chain.{Chain, Exchanged, Starved, Answers, transact
 use Rattle.sdb_session.proofs.Resolves.{row_key}
 use Rattle.sdb_session.proofs.Statements.{agrees_all, rows_change}
 use Rattle.sdb_session.proofs.Recovers.{row_at}
-use Rattle.sdb_session.proofs.Stays.{IsOther, aborted_not, is_committed_by, later_of, parts_append, parts_same, serial_answered, tables_append, tables_same, unused_stays}
+use Rattle.sdb_session.proofs.Stays.{rows_same, IsOther, aborted_not, is_committed_by, later_of, parts_append, parts_same, serial_answered, tables_append, tables_same, unused_stays}
 use Rattle.sdb_session.proofs.Sweeps.{quiet_of, quiet_refl}
 
 ---- bodies
@@ -243,6 +243,7 @@ module _ (catalog : List Table) (apart : IsApart catalog) (start : Database) (be
     pub sound : IsSound catalog g
     pub are_images : AreImagesOf catalog g (tables_after catalog g before p.ended)
     pub fit : tables_fit catalog (tables_after catalog g before p.ended) ≡ true
+    pub rows : AllByRecursion (λ (t : Part). is_held_committed g t.id ≡ is_recorded g t) p.ended
     pub parts : AreSerialParts catalog start g [] before p.ended
     pub current : IfSome p.opened (IsCurrent g p.ended)
     pub origins : Origins g p.ended
@@ -292,6 +293,7 @@ module _ (catalog : List Table) (apart : IsApart catalog) (start : Database) (be
     sound = quiet.sound;
     are_images = subst (AreImagesOf catalog h) (sym same) (quiet_images g h quiet (tables_after catalog g before ended) so.are_images);
     fit = ap (tables_fit catalog) same ∙ so.fit;
+    rows = rows_same catalog None g h later ended (none_other ended so.fits) so.rows;
     parts = parts_same catalog None g h later start [] before ended (none_other ended so.fits) so.parts;
     current = current;
     origins = origins_later None g h later ended ended (λ id at x. x) (λ o e. none_some o e) so.origins;
@@ -338,11 +340,12 @@ module _ (catalog : List Table) (apart : IsApart catalog) (start : Database) (be
     serial_part : IsSerialPart catalog start ended (tables_after catalog h before ended) (ended_by t e)
     serial_part = record { answers = ap (λ d. (run_body catalog (statements_in t.inside) d).0) same ∙ ap (λ (q : List Answer × Tables). q.0) runs; busy = so.current.busy; many = subst (λ d. AreLimited catalog d [] t.inside) (sym same) so.current.many; last = unknown }
 
-    pub ended_more : (after : Tables) → (if is_recorded h (ended_by t e) then (run_body catalog (statements_in t.inside) D).1 else D) ≡ after → AreImagesOf catalog h after → tables_fit catalog after ≡ true → So h (record { ended = ended ++ ended_by t e ∷ []; opened = None })
-    ended_more after is are_images fit = record {
+    pub ended_more : is_held_committed h t.id ≡ is_recorded h (ended_by t e) → (after : Tables) → (if is_recorded h (ended_by t e) then (run_body catalog (statements_in t.inside) D).1 else D) ≡ after → AreImagesOf catalog h after → tables_fit catalog after ≡ true → So h (record { ended = ended ++ ended_by t e ∷ []; opened = None })
+    ended_more row after is are_images fit = record {
       sound = later.sound;
       are_images = subst (AreImagesOf catalog h) (sym all) are_images;
       fit = ap (tables_fit catalog) all ∙ fit;
+      rows = each_more (λ (x : Part). is_held_committed h x.id ≡ is_recorded h x) ended (ended_by t e) (rows_same catalog own g h later ended others so.rows) row;
       parts = parts_append catalog start h [] before ended (ended_by t e) (parts_same catalog own g h later start [] before ended others so.parts) serial_part;
       current = tt;
       origins = origins_later own g h later ended (ended ++ ended_by t e ∷ []) (of_more ended (ended_by t e)) left so.origins;
@@ -473,9 +476,13 @@ module _ (catalog : List Table) (apart : IsApart catalog) (start : Database) (be
     goes_on s same opened stays nothing busy other = inside_stays g h ended t e so (still g h so.sound same) stays (same_current g h ended t e s so.current nothing opened busy (quiet_same g h ended (Some t) so (still g h so.sound same)) (few_nothing catalog (tables_after catalog g before ended) t.inside e nothing other))
 
     -- it ends, and is not recorded
-    unrecorded : (own : Option Own) → ((o : Own) → own ≡ Some o → o.id ≡ t.id) → Later catalog own g h → ((o : Own) → own ≡ Some o → IsUndecided h o.id → IsOfSession (ended ++ ended_by t e ∷ []) o.id o.at) → IfUnknown e.answer (λ id. id ≡ t.id) → ends e ≡ true → is_recorded_by h t.id e.answer ≡ false → AreImagesOf catalog h (tables_after catalog g before ended) → So h (part_after ended (Some t) e)
-    unrecorded own own_id later left unknown goes none are_images =
-        inside_ends h ended t e goes (ended_more g h ended t so own own_id later e left unknown (tables_after catalog g before ended) (ap (λ b. if b then (run_body catalog (statements_in t.inside) (tables_after catalog g before ended)).1 else tables_after catalog g before ended) none) are_images so.fit)
+    unrecorded : (own : Option Own) → ((o : Own) → own ≡ Some o → o.id ≡ t.id) → Later catalog own g h → ((o : Own) → own ≡ Some o → IsUndecided h o.id → IsOfSession (ended ++ ended_by t e ∷ []) o.id o.at) → IfUnknown e.answer (λ id. id ≡ t.id) → ends e ≡ true → is_held_committed h t.id ≡ false → is_recorded_by h t.id e.answer ≡ false → AreImagesOf catalog h (tables_after catalog g before ended) → So h (part_after ended (Some t) e)
+    unrecorded own own_id later left unknown goes bare none are_images =
+        inside_ends h ended t e goes (ended_more g h ended t so own own_id later e left unknown (bare ∙ sym none) (tables_after catalog g before ended) (ap (λ b. if b then (run_body catalog (statements_in t.inside) (tables_after catalog g before ended)).1 else tables_after catalog g before ended) none) are_images so.fit)
+
+    -- its id is new, and so it has no row
+    no_row : h ≡ g → is_held_committed h t.id ≡ false
+    no_row same = ap (λ (j : Database). is_held_committed j t.id) same ∙ ap (λ o. is_committed_by (row_at o)) so.current.opened.new.undecided
 
     none_own : (o : Own) → None ≡ Some o → o.id ≡ t.id
     none_own o f = none_some o f
@@ -494,7 +501,7 @@ module _ (catalog : List Table) (apart : IsApart catalog) (start : Database) (be
     rolled_step is done same = (
       unrecorded None none_own (later_of catalog None g h (still g h so.sound same)) none_left (subst (λ z. IfUnknown z (λ id. id ≡ t.id)) (sym done) tt)
           (ap (λ s. is_commit s || (is_conflict (Some e.answer) || (is_rollback s && is_done (Some e.answer)))) is ∙ ap (λ z. is_conflict (Some z) || is_done (Some z)) done)
-          (ap (is_recorded_by h t.id) done) (subst (λ j. AreImagesOf catalog j (tables_after catalog g before ended)) (sym same) so.are_images),
+          (no_row same) (ap (is_recorded_by h t.id) done) (subst (λ j. AreImagesOf catalog j (tables_after catalog g before ended)) (sym same) so.are_images),
       subst (λ z. NeverComes z → ⊥) (sym done) (λ x. x),
     )
 
@@ -530,7 +537,7 @@ module _ (catalog : List Table) (apart : IsApart catalog) (start : Database) (be
     won_step s is opened later replied decided are_images = (
       inside_ends h ended t e (commit_goes is) (ended_more g h ended t so (Some (record { id = t.id; at = e.moment })) own_is later e
           (λ o f none. none_some _ (sym (ap (row_at) (subst (IsUndecided h) (own_is o f) none)) ∙ decided))
-          (unknown replied) (with_own E s.writes) (ap (λ b. if b then (run_body catalog (statements_in t.inside) E).1 else E) (recorded replied) ∙ ap (λ (q : List Answer × Tables). q.1) (opened.body.runs E so.fit agree)) are_images (opened.body.fits E so.fit agree)),
+          (unknown replied) (held ∙ sym (recorded replied)) (with_own E s.writes) (ap (λ b. if b then (run_body catalog (statements_in t.inside) E).1 else E) (recorded replied) ∙ ap (λ (q : List Answer × Tables). q.1) (opened.body.runs E so.fit agree)) are_images (opened.body.fits E so.fit agree)),
       never replied,
     )
       where
@@ -554,7 +561,7 @@ module _ (catalog : List Table) (apart : IsApart catalog) (start : Database) (be
 
     lost_step : e.says ≡ Ok statement.Commit → Later catalog (Some (record { id = t.id; at = e.moment })) g h → (e.answer ≡ answer.Faulted) ⊎ ((e.answer ≡ answer.NoMemory) ⊎ (e.answer ≡ answer.Unknown t.id)) → IsUndecided h t.id ⊎ IsAborted h t.id → AreImagesOf catalog h E → Inside
     lost_step is later replied decided are_images = (
-      unrecorded (Some (record { id = t.id; at = e.moment })) own_is later (λ o f none. left_by_answer is (leaves replied) o f) (unknown replied) (commit_goes is) (unrecorded_by replied) are_images,
+      unrecorded (Some (record { id = t.id; at = e.moment })) own_is later (λ o f none. left_by_answer is (leaves replied) o f) (unknown replied) (commit_goes is) (held decided) (unrecorded_by replied) are_images,
       never replied,
     )
       where
@@ -590,7 +597,7 @@ module _ (catalog : List Table) (apart : IsApart catalog) (start : Database) (be
     starved_step none same other = (by (is_commit e.says) refl, subst (λ z. NeverComes z → ⊥) (sym none) (λ x. x))
       where
         by : (b : Bool) → is_commit e.says ≡ b → So h (part_after ended (Some t) e)
-        by true f = unrecorded None none_own (later_of catalog None g h (still g h so.sound same)) none_left (subst (λ z. IfUnknown z (λ id. id ≡ t.id)) (sym none) tt) (ap (λ b. b || (is_conflict (Some e.answer) || (is_rollback e.says && is_done (Some e.answer)))) f) (ap (is_recorded_by h t.id) none) (subst (λ j. AreImagesOf catalog j E) (sym same) so.are_images)
+        by true f = unrecorded None none_own (later_of catalog None g h (still g h so.sound same)) none_left (subst (λ z. IfUnknown z (λ id. id ≡ t.id)) (sym none) tt) (ap (λ b. b || (is_conflict (Some e.answer) || (is_rollback e.says && is_done (Some e.answer)))) f) (no_row same) (ap (is_recorded_by h t.id) none) (subst (λ j. AreImagesOf catalog j E) (sym same) so.are_images)
         by false f =
             let o = opened_of h (transaction_of t) c.txn (other f).txn in
             goes_on o.0 same o.1 (ap (λ b. b || (is_conflict (Some e.answer) || (is_rollback e.says && is_done (Some e.answer)))) f ∙ ap (λ z. is_conflict (Some z) || (is_rollback e.says && is_done (Some z))) none ∙ and_false (is_rollback e.says)) (ap changes_nothing none) (subst (λ z. IfBusy z (IsBusyAlone start ended e)) (sym none) tt) (λ stays many. false_true (sym (ap is_too_many none) ∙ many))
@@ -704,6 +711,7 @@ module _ (catalog : List Table) (apart : IsApart catalog) (start : Database) (be
     sound = sound;
     are_images = are_images;
     fit = fit;
+    rows = tt;
     parts = tt;
     current = tt;
     origins = λ k r id at listed e loose writer moment none. inl (record { r = r; present = e; loose = loose; writer = writer; moment = moment; undecided = none });
@@ -718,6 +726,7 @@ module _ (catalog : List Table) (apart : IsApart catalog) (start : Database) (be
       record {
         serial = serial_answered catalog start last [] before (parts_of es).ended so.0.parts;
         images = so.0.are_images;
+        rows = so.0.rows;
         parts = all_serial last (parts_of es) so.0;
         never = so.1;
         swept = λ front e is vacuum counted. let x = last_of no_parts start front e last (subst (λ ys. Chain catalog start no_parts ys last) is chain) in swept_at x.0 last (open_of x.1.opened) e x.2 x.3 vacuum counted;

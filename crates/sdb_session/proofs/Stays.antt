@@ -96,6 +96,11 @@ module _ (catalog : List Table) (own : Option Own) (g h : Database) (s : Later c
   tables_same d [] a = refl
   tables_same d (t ∷ ts) a = ap (λ b. tables_after catalog h (if b then (run_body catalog (statements_in t.inside) d).1 else d) ts) (recorded_same t a.0) ∙ tables_same (if is_recorded g t then (run_body catalog (statements_in t.inside) d).1 else d) ts a.1
 
+  -- the recorded ones are those whose row says COMMITTED
+  pub rows_same : (ts : List Part) → AllByRecursion IsApartFrom ts → AllByRecursion (λ (t : Part). is_held_committed g t.id ≡ is_recorded g t) ts → AllByRecursion (λ (t : Part). is_held_committed h t.id ≡ is_recorded h t) ts
+  rows_same [] a r = tt
+  rows_same (t ∷ ts) a r = (held_same t.id a.0.0 a.0.1 ∙ r.0 ∙ sym (recorded_same t a.0), rows_same ts a.1 r.1)
+
   pub parts_same : (start : Database) (earlier : List Part) (d : Tables) (ts : List Part) → AllByRecursion IsApartFrom ts → AreSerialParts catalog start g earlier d ts → AreSerialParts catalog start h earlier d ts
   parts_same start earlier d [] a p = tt
   parts_same start earlier d (t ∷ ts) a p = (p.0, parts_same start (earlier ++ t ∷ []) (tables_after catalog h d (t ∷ [])) ts a.1 (subst (λ e. AreSerialParts catalog start g (earlier ++ t ∷ []) e ts) (sym (tables_same d (t ∷ []) (a.0, tt))) p.1))

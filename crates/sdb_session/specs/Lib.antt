@@ -13,3 +13,4 @@ pub mod Between
 pub mod Chain
 pub mod Turns
 pub mod Working
+pub mod Faults

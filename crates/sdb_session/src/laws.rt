@@ -1,8 +1,9 @@
 //! Laws of a session of one client that is alone.
-ghost use Rattle.std.specs.Prelude.{◌≡◌, ℕ, ◌++◌, ◌∷◌, [], List, Option, Some, Ok, Result, Bool, is_some};
+ghost use Rattle.std.specs.Prelude.{◌≡◌, ◌⊎◌, ℕ, ◌++◌, ◌∷◌, [], List, Option, Some, Ok, Result, Bool, is_some};
 ghost use Rattle.sdb_types.specs.declared.key.Key.{Key};
 ghost use Rattle.sdb_types.specs.declared.record.Record.{Record};
 ghost use Rattle.sdb_types.specs.declared.record.Reply.{Reply};
+ghost use Rattle.sdb_types.specs.declared.record.Reply.TheVariants as reply;
 ghost use Rattle.sdb_types.specs.declared.record.Request.{Request};
 ghost use Rattle.sdb_schema.specs.declared.table.Table.{Table};
 ghost use Rattle.sdb_model.specs.declared.answer.Answer.TheVariants as answer;
@@ -24,6 +25,7 @@ ghost use Rattle.sdb_session.specs.Session.{Exchange, IsSerialSession, no_parts}
 ghost use Rattle.sdb_session.specs.Between.{Between, LeadsTo, OpenTransaction};
 ghost use Rattle.sdb_session.specs.Chain.{Chain, Exchanged, IsReached, open_after};
 ghost use Rattle.sdb_session.specs.Working.{IsAtWork, LeadsOn, RepliedBy, TakenBy};
+ghost use Rattle.sdb_session.specs.Faults.{ComesOfFault, IsAfterFault};
 ghost use Rattle.sdb_session.specs.Turns.{CommitReplied, RecoveryReplied, RepliedAlone, SessionAlone, TakenAlone};
 
 /// A call on stores returns what is at its key, and changes the database there alone.
@@ -77,6 +79,13 @@ pub fn takings_end()
 pub fn replies_end()
     ensures replies { (r : RepliedBy) → LeadsOn r.catalog r.opened (Ok r.statement) r.moment r.id r.result r.after }
     ensures busy { (st : Statement) (opened : Bool) (c : ClientAt) → IsAtWork st opened c → IsIdle c → ⊥ }
+{}
+
+/// Whatever stores answer, a statement is answered Faulted or Unknown only where a reply to one of its calls was a fault: no taking leads
+/// there, and a reply does only where it is a fault or a call before it has faulted.
+pub fn faults_are_replied()
+    ensures taken { (t : TakenBy) → ComesOfFault t.result t.after → ⊥ }
+    ensures replied { (r : RepliedBy) → ComesOfFault r.result r.after → IsAfterFault r.before ⊎ (r.reply ≡ reply.Fault) }
 {}
 
 /// One statement more; and what is so after these statements.

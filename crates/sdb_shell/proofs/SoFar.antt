@@ -1,6 +1,6 @@
 -- A session, line by line.
 use Rattle.std.proofs.Common.{◌≡◌, ◌≢◌, ◌≤◌, ℕ, ℤ, ◌+◌, Bool, true, false, not, List, [], ◌∷◌, ◌++◌, length, Option, Some, None, refl, sym, ap, subst, ◌∙◌, ◌⊎◌, inl, inr, append_assoc, length-append, arith}
-use Rattle.std.specs.Prelude.{◌&&◌, ◌==◌, ◌||◌, nat_le, nat_lt, option_map, if◌then◌else◌}
+use Rattle.std.specs.Prelude.{IfSome, IsSome, ◌&&◌, ◌==◌, ◌||◌, nat_le, nat_lt, option_map, if◌then◌else◌}
 use Rattle.std.specs.List.{flat_map, list_all}
 use Rattle.std.specs.Str.{is_utf8}
 use Rattle.std.proofs.lemmas.List.{append-nil}
@@ -10,8 +10,10 @@ use Rattle.sdb_types.specs.Draws.{Tells}
 use Rattle.sdb_types.proofs.Pieces.{appends_more, takes_more}
 use Rattle.sdb_schema.specs.declared.table.Table.{Table}
 use Rattle.sdb_model.specs.Form.{lines_of, onto_first}
-use Rattle.sdb_stores.specs.Shelf.{Attached}
+use Rattle.sdb_model.specs.Rows.{Name}
+use Rattle.sdb_stores.specs.Shelf.{Attached, AreDistinct, home, place_of, placed_on}
 use Rattle.sdb_board.specs.Board.{GoOn, HoldTheSame, placed, shown}
+use Rattle.sdb_board.proofs.GoesOn.{some_more}
 use Rattle.sdb_client.specs.Client.{Says, nothing_done}
 use Rattle.sdb_session.specs.Database.{Database, database_of}
 use Rattle.sdb_session.specs.Between.{Between}
@@ -21,11 +23,13 @@ use Rattle.sdb_answer.specs.Answering.{database_in, exchange}
 use Rattle.sdb_answer.specs.Drawn.{drawn_id}
 use Rattle.sdb_answer.specs.Sessions.{IsSessionSoFar, SessionAt}
 use Rattle.sdb_answer.proofs.Chains.{session_more, session_none, session_whole}
+use Rattle.sdb_shell.specs.declared.lines.LineEnd.{LineEnd}
 use Rattle.sdb_shell.specs.declared.lines.LineEnd.TheVariants as line_end
 use Rattle.sdb_shell.specs.declared.refused.SessionRefused.{SessionRefused}
+use Rattle.sdb_shell.specs.declared.refused.SessionRefused.TheVariants as refused
 use Rattle.sdb_shell.specs.Answers.{answer_line_of}
-use Rattle.sdb_shell.specs.Lines.{has_lf, most_input, most_line}
-use Rattle.sdb_shell.specs.Session.{AreTakenFrom, HasPassed, HasReplied, HasTakenLine, IsCutLine, IsCutSession, IsSoFar, IsWhole, answer_lines, filled, is_line, is_text, with_lfs}
+use Rattle.sdb_shell.specs.Lines.{IsLine, has_lf, most_input, most_line, with_end}
+use Rattle.sdb_shell.specs.Session.{AreTakenFrom, CutShort, HasPassed, HasReplied, HasStopped, HasTakenLine, IsCutLine, IsCutSession, IsSoFar, Refused, Starved, Starves, Unwritten, IsWhole, answer_lines, filled, is_line, is_text, with_lfs}
 
 ---- lists with one more
 
@@ -145,6 +149,10 @@ session_same catalog old mid new clock clock_mid ids ids_mid es s so goes held =
   begun = so.begun;
   hand = so.hand;
   taken = so.taken;
+  faults = elim so.faults [
+    | inl few ↦ inl (omega (arith, few, goes.counted))
+    | inr full ↦ inr (goes.full full)
+  ];
   idle = so.idle;
   opened = so.opened;
   about = so.about;
@@ -183,20 +191,59 @@ so_passed catalog old mid new clock clock_mid clock_then ids ids_mid ids_then wr
   session = subst (λ i. IsSessionSoFar catalog old new clock clock_then ids i so.es s) (sym h.ids_same) (subst (λ c. IsSessionSoFar catalog old new clock c ids ids_mid so.es s) (sym h.clock_same) (session_same catalog old mid new clock clock_mid ids ids_mid so.es s so.session goes h.held));
 }
 
--- a line stops the session
-pub so_cut : (catalog : List Table) (old mid new : Attached) (clock clock_mid clock_then : Option (List ℤ)) (ids ids_mid ids_then : Option (List ℕ)) (written written_mid written_then : Option (List ℕ)) (left left_mid : Option (List ℕ)) (ahead : List ℕ) (remaining_then : Option (List ℕ)) (used used_then n : ℕ) (s t : SessionAt) (why : SessionRefused) → IsSoFar catalog old mid clock clock_mid ids ids_mid written written_mid left left_mid used n s → GoOn mid new
-    → IsCutLine n mid new clock_mid clock_then ids_mid ids_then written_mid written_then left_mid (option_map (λ rest. ahead ++ rest) remaining_then) used used_then s t why → IsCutSession catalog old new clock clock_then ids ids_then written written_then left remaining_then why
-so_cut catalog old mid new clock clock_mid clock_then ids ids_mid ids_then written written_mid written_then left left_mid ahead remaining_then used used_then n s t why so goes (inl h) = inl (record {
+-- the same stores, with the places and the known contents of those before them
+session_held : (catalog : List Table) (old mid : Attached) (clock clock_mid : Option (List ℤ)) (ids ids_mid : Option (List ℕ)) (es : List Exchange) (s : SessionAt) → IsSessionSoFar catalog old mid clock clock_mid ids ids_mid es s → GoOn old mid → IsSessionSoFar catalog old (record old { shelves = mid.shelves }) clock clock_mid ids ids_mid es s
+session_held catalog old mid clock clock_mid ids ids_mid es s so goes =
+    let same : database_in (record old { shelves = mid.shelves }) ≡ database_in mid = ap (λ ps. database_of (placed ps) (shown mid.shelves)) (sym goes.places) in
+    record {
+      moments = so.moments;
+      drawn = so.drawn;
+      spare = so.spare;
+      draws = so.draws;
+      begun = so.begun;
+      hand = so.hand;
+      taken = so.taken;
+      faults = so.faults;
+      idle = so.idle;
+      opened = so.opened;
+      about = so.about;
+      fit = λ f. record {
+        some = some_more _ _ goes.names f.some;
+        distinct = subst (λ (ns : List Name). AreDistinct ns) (sym goes.names) f.distinct;
+        homed = λ ns. subst (λ (xs : List Name). IfSome (placed_on ns old.places) (λ store. IsSome (place_of store xs))) (sym goes.names) (f.homed ns);
+        telling = λ table about. subst (λ (xs : List Name). old.tells (home table.ns old.places xs)) (sym goes.names) (f.telling table about);
+      };
+      chain = λ f w n. subst (λ (g : Database). Chain catalog (database_in old) no_parts es g × Between catalog g (open_after es) s.client) (sym same) (so.chain f w n);
+    }
+
+-- memory ran out, and nothing more was written
+starves : (catalog : List Table) (old mid : Attached) (clock clock_mid : Option (List ℤ)) (ids ids_mid : Option (List ℕ)) (written written_mid written_then left left_mid : Option (List ℕ)) (remaining_then : Option (List ℕ)) {new : Attached} {clock_then : Option (List ℤ)} {ids_then : Option (List ℕ)} (used n : ℕ) (s : SessionAt) (why : SessionRefused)
+    → IsSoFar catalog old mid clock clock_mid ids ids_mid written written_mid left left_mid used n s → GoOn old mid → why ≡ refused.NoMemory → written_then ≡ written_mid → IsCutSession catalog old new clock clock_then ids ids_then written written_then left remaining_then why
+starves catalog old mid clock clock_mid ids ids_mid written written_mid written_then left left_mid remaining_then used n s why so goes is written_same = Starves is (record {
   n = n;
   used = used;
-  used_then = used_then;
   left = left_mid;
-  ahead = ahead;
+  held = mid.shelves;
+  clock_mid = clock_mid;
+  ids_mid = ids_mid;
   client = s;
-  before = so_passed catalog old mid new clock clock_mid clock_then ids ids_mid ids_then written written_mid written_then left left_mid used n s t so goes h.0;
-  refused = h.1;
+  before = record {
+    lines = so.lines;
+    es = so.es;
+    taken = so.taken;
+    fit = so.fit;
+    counted = so.counted;
+    number = so.number;
+    answered = so.answered;
+    output = subst (Appends (answer_lines so.es) written) (sym written_same) so.output;
+    session = session_held catalog old mid clock clock_mid ids ids_mid so.es s so.session goes;
+  };
 })
-so_cut catalog old mid new clock clock_mid clock_then ids ids_mid ids_then written written_mid written_then left left_mid ahead remaining_then used used_then n s t why so goes (inr stop) = inr stop
+
+-- no number is left for a line
+pub so_past : (catalog : List Table) (old new : Attached) (clock clock_then : Option (List ℤ)) (ids ids_then : Option (List ℕ)) (written written_then : Option (List ℕ)) (left left_mid : Option (List ℕ)) (remaining_then : Option (List ℕ)) (used n : ℕ) (s : SessionAt) → IsSoFar catalog old new clock clock_then ids ids_then written written_then left left_mid used n s → GoOn old new
+    → IsCutSession catalog old new clock clock_then ids ids_then written written_then left remaining_then refused.NoMemory
+so_past catalog old new clock clock_then ids ids_then written written_then left left_mid remaining_then used n s so goes = starves catalog old new clock clock_then ids ids_then written written_then written_then left left_mid remaining_then used n s refused.NoMemory so goes refl refl
 
 module _ (catalog : List Table) (old mid new : Attached) (clock clock_mid clock_then : Option (List ℤ)) (ids ids_mid ids_then : Option (List ℕ)) (written written_mid written_then : Option (List ℕ)) (left left_mid left_then : Option (List ℕ)) (used used_then n : ℕ) (s t : SessionAt) (so : IsSoFar catalog old mid clock clock_mid ids ids_mid written written_mid left left_mid used n s) (goes : GoOn mid new) where
   -- what a line comes to, however it ends
@@ -227,6 +274,31 @@ module _ (catalog : List Table) (old mid new : Attached) (clock clock_mid clock_
         output = subst (λ bs. Appends bs written written_then) (sym (flat_more (λ (x : Exchange). answer_line_of x.answer) so.es e)) (appends_more (answer_lines so.es) (answer_line_of h.answer) written written_mid written_then so.output h.put);
         session = session_more catalog old mid new clock clock_mid clock_then ids ids_mid ids_then so.es s t line h.answer so.session h.answered goes;
       }
+
+  -- a statement stops the session
+  stopped : (goes_mid : GoOn old mid) (ahead : List ℕ) (remaining_then : Option (List ℕ)) (why : SessionRefused) (end : LineEnd) (line : List ℕ) → IsLine left_mid (option_map (λ rest. ahead ++ rest) remaining_then) used used_then end line → line ≢ [] → is_utf8 line ≡ true → HasStopped catalog line mid new clock_mid clock_then ids_mid ids_then written_mid written_then s t why
+      → IsCutSession catalog old new clock clock_then ids ids_then written written_then left remaining_then why
+  stopped goes_mid ahead remaining_then why end line read some utf8 (Starved is written_same) = starves catalog old mid clock clock_mid ids ids_mid written written_mid written_then left left_mid remaining_then used n s why so goes_mid is written_same
+  stopped goes_mid ahead remaining_then why end line read some utf8 (Unwritten kind a answered put) =
+      let e : Exchange = exchange answered.answered.says answered.now s.fresh a in
+      CutShort kind (record {
+        lines = so.lines;
+        line = line;
+        end = end;
+        es = so.es;
+        last = e;
+        ahead = ahead;
+        client = t;
+        written_mid = written_mid;
+        taken = takes_more (with_lfs so.lines) (with_end end line) left left_mid (option_map (λ rest. ahead ++ rest) remaining_then) so.taken read.taken;
+        fit = so.fit;
+        fits = line_fits line read.one read.fits utf8;
+        some = some;
+        answered = taken_more (filled so.lines) so.es line e so.answered answered.answered.reads;
+        output = so.output;
+        prefix = put;
+        session = session_more catalog old mid new clock clock_mid clock_then ids ids_mid ids_then so.es s t line a so.session answered goes;
+      })
 
   done_of : (line : List ℕ) → has_lf line ≡ false → length line ≤ most_line → ((line ≡ []) × HasPassed mid new clock_mid clock_then ids_mid ids_then written_mid written_then s t) ⊎ ((line ≢ []) × (is_utf8 line ≡ true) × HasReplied catalog line mid new clock_mid clock_then ids_mid ids_then written_mid written_then s t) → HasDone line
   done_of line one few (inl h) = passed line one few h.0 h.1
@@ -273,3 +345,17 @@ module _ (catalog : List Table) (old mid new : Attached) (clock clock_mid clock_
       last_filled : (l : List ℕ) → filled (so.lines ++ last_line l) ≡ filled (so.lines ++ l ∷ [])
       last_filled [] = ap filled (append-nil so.lines) ∙ sym (filled_none so.lines)
       last_filled (b ∷ l) = refl
+
+  -- a line stops the session
+  pub so_cut : (goes_mid : GoOn old mid) (ahead : List ℕ) (remaining_then : Option (List ℕ)) (why : SessionRefused) → IsCutLine catalog n mid new clock_mid clock_then ids_mid ids_then written_mid written_then left_mid (option_map (λ rest. ahead ++ rest) remaining_then) used used_then s t why → IsCutSession catalog old new clock clock_then ids ids_then written written_then left remaining_then why
+  so_cut goes_mid ahead remaining_then why (inl h) = Refused (record {
+    n = n;
+    used = used;
+    used_then = used_then;
+    left = left_mid;
+    ahead = ahead;
+    client = s;
+    before = so_passed catalog old mid new clock clock_mid clock_then ids ids_mid ids_then written written_mid written_then left left_mid used n s t so goes h.0;
+    refused = h.1;
+  })
+  so_cut goes_mid ahead remaining_then why (inr h) = stopped goes_mid ahead remaining_then why h.end h.line h.read h.some h.utf8 h.stopped

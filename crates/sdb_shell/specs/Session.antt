@@ -6,17 +6,17 @@ use Rattle.sdb_types.specs.Bytes.{Appends, IsAtEnd, Takes}
 use Rattle.sdb_schema.specs.declared.table.Table.{Table}
 use Rattle.sdb_model.specs.declared.answer.Answer.{Answer}
 use Rattle.sdb_model.specs.Form.{lines_of}
-use Rattle.sdb_stores.specs.Shelf.{Attached}
+use Rattle.sdb_stores.specs.Shelf.{Attached, Shelf}
 use Rattle.sdb_board.specs.Board.{HoldTheSame}
 use Rattle.sdb_client.specs.Client.{Says}
 use Rattle.sdb_session.specs.Session.{Exchange}
 use Rattle.sdb_answer.specs.Sessions.{HasAnswered, IsSession, IsSessionSoFar, SessionAt}
-use Rattle.sdb_shell.specs.Answers.{answer_line_of}
+use Rattle.sdb_shell.specs.Answers.{IsPrefix, answer_line_of}
 use Rattle.sdb_shell.specs.declared.lines.LineEnd.{LineEnd}
 use Rattle.sdb_shell.specs.declared.refused.SessionRefused.{SessionRefused}
 use Rattle.sdb_shell.specs.declared.refused.SessionRefused.TheVariants as refused
 use Rattle.sdb_shell.specs.Texts.{IsRefusedAt}
-use Rattle.sdb_shell.specs.Lines.{IsLine, has_lf, most_input, most_line}
+use Rattle.sdb_shell.specs.Lines.{IsLine, has_lf, most_input, most_line, with_end}
 
 -- lines, each with its LF
 abbrev pub with_lfs : List (List ℕ) → List ℕ
@@ -50,11 +50,17 @@ pub record HasReplied (catalog : List Table) (text : List ℕ) (old new : Attach
   pub answered : HasAnswered catalog text old new clock clock_then ids ids_then s answer t
   pub put : Appends (answer_line_of answer) written written_then
 
--- why a statement stops a session
-abbrev pub IsStop : SessionRefused → Type 0
-IsStop refused.WriteFault = Unit {0}
-IsStop refused.NoMemory = Unit {0}
-IsStop r = ⊥
+-- why the line of an answer isn't written whole
+abbrev pub IsUnwritten : SessionRefused → Type 0
+IsUnwritten refused.WriteFault = Unit {0}
+IsUnwritten refused.NoMemory = Unit {0}
+IsUnwritten r = ⊥
+
+-- A statement stops a session: it was out of memory before its answer, and nothing was written; or it was answered, and a prefix of the
+-- line of its answer was written.
+pub data HasStopped (catalog : List Table) (text : List ℕ) (old new : Attached) (clock clock_then : Option (List ℤ)) (ids ids_then : Option (List ℕ)) (written written_then : Option (List ℕ)) (s t : SessionAt) (why : SessionRefused) : Type 0 where
+  Starved : (is : why ≡ refused.NoMemory) (written_same : written_then ≡ written) → HasStopped catalog text old new clock clock_then ids ids_then written written_then s t why
+  Unwritten : (kind : IsUnwritten why) (answer : Answer) (answered : HasAnswered catalog text old new clock clock_then ids ids_then s answer t) (put : IsPrefix (answer_line_of answer) written written_then) → HasStopped catalog text old new clock clock_then ids ids_then written written_then s t why
 
 -- Nothing was done: an empty line was read.
 pub record HasPassed (old new : Attached) (clock clock_then : Option (List ℤ)) (ids ids_then : Option (List ℕ)) (written written_then : Option (List ℕ)) (s t : SessionAt) : Type 0 where
@@ -70,9 +76,18 @@ pub record HasTakenLine (catalog : List Table) (old new : Attached) (clock clock
   pub read : IsLine left left_then used used_then end line
   pub done : ((line ≡ []) × HasPassed old new clock clock_then ids ids_then written written_then s t) ⊎ ((line ≢ []) × (is_utf8 line ≡ true) × HasReplied catalog line old new clock clock_then ids ids_then written written_then s t)
 
--- A line stops a session: nothing was done and the line is refused; or there was no memory, or its answer wasn't written.
-abbrev pub IsCutLine : ℕ → Attached → Attached → Option (List ℤ) → Option (List ℤ) → Option (List ℕ) → Option (List ℕ) → Option (List ℕ) → Option (List ℕ) → Option (List ℕ) → Option (List ℕ) → ℕ → ℕ → SessionAt → SessionAt → SessionRefused → Type 0
-IsCutLine n old new clock clock_then ids ids_then written written_then left left_then used used_then s t why = (HasPassed old new clock clock_then ids ids_then written written_then s t × IsRefusedAt n left left_then used used_then why) ⊎ IsStop why
+-- A line was read that isn't empty, and its statement stops a session.
+pub record HasStoppedLine (catalog : List Table) (old new : Attached) (clock clock_then : Option (List ℤ)) (ids ids_then : Option (List ℕ)) (written written_then : Option (List ℕ)) (left left_then : Option (List ℕ)) (used used_then : ℕ) (s t : SessionAt) (why : SessionRefused) : Type 0 where
+  pub line : List ℕ
+  pub end : LineEnd
+  pub read : IsLine left left_then used used_then end line
+  pub some : line ≢ []
+  pub utf8 : is_utf8 line ≡ true
+  pub stopped : HasStopped catalog line old new clock clock_then ids ids_then written written_then s t why
+
+-- A line stops a session: nothing was done and the line is refused; or its statement stops it.
+abbrev pub IsCutLine : List Table → ℕ → Attached → Attached → Option (List ℤ) → Option (List ℤ) → Option (List ℕ) → Option (List ℕ) → Option (List ℕ) → Option (List ℕ) → Option (List ℕ) → Option (List ℕ) → ℕ → ℕ → SessionAt → SessionAt → SessionRefused → Type 0
+IsCutLine catalog n old new clock clock_then ids ids_then written written_then left left_then used used_then s t why = (HasPassed old new clock clock_then ids ids_then written written_then s t × IsRefusedAt n left left_then used used_then why) ⊎ HasStoppedLine catalog old new clock clock_then ids ids_then written written_then left left_then used used_then s t why
 
 -- A session so far, before the line of a number: each line so far ends with LF.
 pub record IsSoFar (catalog : List Table) (old new : Attached) (clock clock_then : Option (List ℤ)) (ids ids_then : Option (List ℕ)) (written written_then : Option (List ℕ)) (left left_then : Option (List ℕ)) (used n : ℕ) (s : SessionAt) : Type 0 where
@@ -111,6 +126,41 @@ pub record IsRefused (catalog : List Table) (old new : Attached) (clock clock_th
   pub before : IsSoFar catalog old new clock clock_then ids ids_then written written_then remaining left used n client
   pub refused : IsRefusedAt n left (option_map (λ rest. ahead ++ rest) remaining_then) used used_then why
 
--- Why a session has no end: its input stopped it; or there was no memory, or an answer wasn't written.
-abbrev pub IsCutSession : List Table → Attached → Attached → Option (List ℤ) → Option (List ℤ) → Option (List ℕ) → Option (List ℕ) → Option (List ℕ) → Option (List ℕ) → Option (List ℕ) → Option (List ℕ) → SessionRefused → Type 0
-IsCutSession catalog old new clock clock_then ids ids_then written written_then remaining remaining_then why = IsRefused catalog old new clock clock_then ids ids_then written written_then remaining remaining_then why ⊎ IsStop why
+-- A session whose last answer wasn't written whole: its lines were answered, and the answers of those before the last were written, then
+-- a prefix of the line of the last one's. The bytes `ahead` were read and not used.
+pub record IsCutShort (catalog : List Table) (old new : Attached) (clock clock_then : Option (List ℤ)) (ids ids_then : Option (List ℕ)) (written written_then : Option (List ℕ)) (remaining remaining_then : Option (List ℕ)) : Type 0 where
+  pub lines : List (List ℕ)
+  pub line : List ℕ
+  pub end : LineEnd
+  pub es : List Exchange
+  pub last : Exchange
+  pub ahead : List ℕ
+  pub client : SessionAt
+  pub written_mid : Option (List ℕ)
+  pub taken : Takes (with_lfs lines ++ with_end end line) remaining (option_map (λ rest. ahead ++ rest) remaining_then)
+  pub fit : list_all is_line lines ≡ true
+  pub fits : is_line line ≡ true
+  pub some : line ≢ []
+  pub answered : AreTakenFrom (filled lines ++ line ∷ []) (es ++ last ∷ [])
+  pub output : Appends (answer_lines es) written written_mid
+  pub prefix : IsPrefix (answer_line_of last.answer) written_mid written_then
+  pub session : IsSessionSoFar catalog old new clock clock_then ids ids_then (es ++ last ∷ []) client
+
+-- More calls of a statement, or more lines, than can be counted are out of memory: the lines before that of a number were answered, the
+-- stores held this then, and nothing was written after their answers.
+pub record IsStarved (catalog : List Table) (old : Attached) (clock : Option (List ℤ)) (ids : Option (List ℕ)) (written written_then : Option (List ℕ)) (remaining : Option (List ℕ)) : Type 0 where
+  pub n : ℕ
+  pub used : ℕ
+  pub left : Option (List ℕ)
+  pub held : List Shelf
+  pub clock_mid : Option (List ℤ)
+  pub ids_mid : Option (List ℕ)
+  pub client : SessionAt
+  pub before : IsSoFar catalog old (record old { shelves = held }) clock clock_mid ids ids_mid written written_then remaining left used n client
+
+-- Why a session has no end: its input stopped it, the line of an answer wasn't written whole, or it was out of memory. The output has the
+-- answers of the lines before, and then at most a prefix of one more.
+pub data IsCutSession (catalog : List Table) (old new : Attached) (clock clock_then : Option (List ℤ)) (ids ids_then : Option (List ℕ)) (written written_then : Option (List ℕ)) (remaining remaining_then : Option (List ℕ)) (why : SessionRefused) : Type 0 where
+  Refused : (refused : IsRefused catalog old new clock clock_then ids ids_then written written_then remaining remaining_then why) → IsCutSession catalog old new clock clock_then ids ids_then written written_then remaining remaining_then why
+  CutShort : (kind : IsUnwritten why) (cut : IsCutShort catalog old new clock clock_then ids ids_then written written_then remaining remaining_then) → IsCutSession catalog old new clock clock_then ids ids_then written written_then remaining remaining_then why
+  Starves : (is : why ≡ refused.NoMemory) (starved : IsStarved catalog old clock ids written written_then remaining) → IsCutSession catalog old new clock clock_then ids ids_then written written_then remaining remaining_then why

@@ -16,6 +16,8 @@ use std::alloc::Global;
 
 /// Takes each line of the input that isn't empty as a statement of one client, and writes its answer before it reads on. A transaction
 /// that is open at the end of the input is rolled back: nothing of it was written to the stores.
+///
+/// Where it stops before the end, the output has the answers of the lines before, and then at most a prefix of one more.
 pub fn session<S: Registry, R: Source, W: Sink, C: Clock, I: Ids>(
     alloc: Global,
     catalog: &Catalog,

@@ -4,7 +4,7 @@ ghost use Rattle.sdb_types.specs.Bytes.{Appends, HasRisen};
 ghost use Rattle.sdb_board.specs.Board.{GoOn};
 ghost use Rattle.sdb_client.specs.Client.{IsIdle};
 ghost use Rattle.sdb_shell.specs.Answers.{IsPrefix, answer_line_of};
-ghost use Rattle.sdb_shell.specs.Session.{HasReplied, IsStop};
+ghost use Rattle.sdb_shell.specs.Session.{HasReplied, HasStopped};
 
 use crate::refused::SessionRefused;
 use crate::writing::{answer_line, write_all};
@@ -48,7 +48,7 @@ pub(crate) fn reply<S: Registry, W: Sink, C: Clock, I: Ids>(
     requires short { length text.now < 2 ^ 32 }
     ensures replied { OnOk result (HasReplied catalog.now text.now (S.state stores.old) (S.state stores.new) (C.told clock.old) (C.told clock.new) (I.told ids.old) (I.told ids.new) (W.written output.old) (W.written output.new) session.old session.new) }
     ensures write_fault { IsErrOf result SessionRefused.WriteFault → HasRisen (W.faults output.old) (W.faults output.new) }
-    ensures kinds { IfErr result IsStop }
+    ensures stopped { IfErr result (HasStopped catalog.now text.now (S.state stores.old) (S.state stores.new) (C.told clock.old) (C.told clock.new) (I.told ids.old) (I.told ids.new) (W.written output.old) (W.written output.new) session.old session.new) }
     ensures later { W.faults output.old ≤ W.faults output.new }
     ensures goes { GoOn (S.state stores.old) (S.state stores.new) }
 {

@@ -34,7 +34,7 @@ pub(crate) fn take_line<S: Registry, R: Source, W: Sink, C: Clock, I: Ids>(
     requires some { 0 < length (S.state stores.old).shelves }
     requires idle { IsIdle session.old.client }
     ensures taken { IfOk result (HasTakenLine catalog.now (S.state stores.old) (S.state stores.new) (C.told clock.old) (C.told clock.new) (I.told ids.old) (I.told ids.new) (W.written output.old) (W.written output.new) (left bytes.old (R.remaining input.old)) (left bytes.new (R.remaining input.new)) bytes.old.used bytes.new.used session.old session.new) }
-    ensures cut { IfErr result (IsCutLine n (S.state stores.old) (S.state stores.new) (C.told clock.old) (C.told clock.new) (I.told ids.old) (I.told ids.new) (W.written output.old) (W.written output.new) (left bytes.old (R.remaining input.old)) (left bytes.new (R.remaining input.new)) bytes.old.used bytes.new.used session.old session.new) }
+    ensures cut { IfErr result (IsCutLine catalog.now n (S.state stores.old) (S.state stores.new) (C.told clock.old) (C.told clock.new) (I.told ids.old) (I.told ids.new) (W.written output.old) (W.written output.new) (left bytes.old (R.remaining input.old)) (left bytes.new (R.remaining input.new)) bytes.old.used bytes.new.used session.old session.new) }
     ensures read_fault { IsErrOf result SessionRefused.ReadFault → HasRisen (R.faults input.old) (R.faults input.new) }
     ensures write_fault { IsErrOf result SessionRefused.WriteFault → HasRisen (W.faults output.old) (W.faults output.new) }
     ensures reads { R.faults input.old ≤ R.faults input.new }

@@ -2,7 +2,7 @@ use Rattle.std.proofs.Common.{arith, subst}
 use Rattle.sdb_board.proofs.GoesOn.{goes_more, goes_none, some_more}
 use Rattle.sdb_shell.specs.Ahead.{ahead, left}
 use Rattle.sdb_shell.specs.Session.{HasTakenLine}
-use Rattle.sdb_shell.proofs.SoFar.{at_end, left_start, so_cut, so_more, so_start, so_whole}
+use Rattle.sdb_shell.proofs.SoFar.{at_end, left_start, so_cut, so_more, so_past, so_start, so_whole}
 use Rattle.sdb_shell.proofs.sessions.session.Goals as goal
 
 pub loop-n-init : goal.loop-n-init
@@ -19,7 +19,7 @@ returns-in-Err-clause-goes g c = goes_more _ _ _ c.loop-n.invariant.goes c.take_
 
 pub returns-in-Err-clause-cut : goal.returns-in-Err-clause-cut
 returns-in-Err-clause-cut g c =
-    so_cut c.args.catalog.now _ _ _ _ _ _ _ _ _ _ _ _ _ _ (ahead c.take_line.new.bytes) (g.R.Source.remaining c.take_line.new.input) c.loop-n.bytes.used c.take_line.new.bytes.used c.loop-n.n c.loop-n.session c.take_line.new.session c.in-Err.refused c.loop-n.invariant.so c.take_line.ensures.goes c.in-Err.ensures.cut
+    so_cut c.args.catalog.now _ _ _ _ _ _ _ _ _ _ _ _ _ _ (left c.take_line.new.bytes (g.R.Source.remaining c.take_line.new.input)) c.loop-n.bytes.used c.take_line.new.bytes.used c.loop-n.n c.loop-n.session c.take_line.new.session c.loop-n.invariant.so c.take_line.ensures.goes c.loop-n.invariant.goes (ahead c.take_line.new.bytes) (g.R.Source.remaining c.take_line.new.input) c.in-Err.refused c.in-Err.ensures.cut
 
 pub returns-in-Ok-Input-clause-done : goal.returns-in-Ok-Input-clause-done
 returns-in-Ok-Input-clause-done g c =
@@ -43,3 +43,6 @@ loop-n-preserved g c =
       goes = goes_more _ _ _ before.goes on;
       so = so_more c.args.catalog.now _ _ _ _ _ _ _ _ _ _ _ _ _ _ _ _ _ _ c.loop-n.session c.take_line.new.session before.so on taken;
     }
+
+pub returns-clause-cut : goal.returns-clause-cut
+returns-clause-cut g c = so_past c.args.catalog.now _ _ _ _ _ _ _ _ _ (left c.loop-n.bytes (g.R.Source.remaining c.loop-n.input)) (g.R.Source.remaining c.loop-n.input) c.loop-n.bytes.used c.loop-n.n c.loop-n.session c.loop-n.invariant.so c.loop-n.invariant.goes
