@@ -46,7 +46,8 @@ FaultsWithin n old new = (n + total_faults old ≤ total_faults new) ⊎ IsFull 
 
 -- The statements of a session so far, from stores to stores: there was one moment of the clock for each, and the k-th that began a
 -- transaction has the k-th id that was drawn, of which one more is at hand; each was turned away exactly where it has to be; and at
--- most so many were answered Faulted or Unknown as the stores have failed. Where the stores were fit, their contents sound, and the ids new to them, the statements are a chain of a client that is alone.
+-- most so many were answered Faulted or Unknown as the stores have failed. Where the stores were fit, their contents sound, and the ids
+-- new to them, the statements are a chain of a client that is alone.
 pub record IsSessionSoFar (catalog : List Table) (old new : Attached) (clock clock_then : Option (List ℤ)) (ids ids_then : Option (List ℕ)) (es : List Exchange) (s : SessionAt) : Type 0 where
   pub moments : TellAll (map (λ e. e.moment) es) clock clock_then
   pub drawn : List ℕ

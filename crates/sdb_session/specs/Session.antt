@@ -253,7 +253,8 @@ recorded_of last ts = filter (is_recorded last) ts
 
 -- A session from an opening database to a last one, and from plain tables that are the opening's images: its recorded transactions, in the
 -- order of their COMMITs and run whole, give their answers and the last images; they are those whose row says COMMITTED at the end; each of
--- its transactions, recorded or not, was answered as it is after the recorded ones before it; Conflict, Expired and BadRecord never came; and a last VACUUM left no tombstone.
+-- its transactions, recorded or not, was answered as it is after the recorded ones before it; Conflict, Expired and BadRecord never came;
+-- and a last VACUUM left no tombstone.
 pub record IsSerialSession (catalog : List Table) (opening last : Database) (before : Tables) (es : List Exchange) : Type 0 where
   pub serial : serial catalog (map (λ t. statements_in t.inside) (recorded_of last (parts_of es).ended)) before ≡ (map (λ t. answers_in t.inside) (recorded_of last (parts_of es).ended), tables_after catalog last before (parts_of es).ended)
   pub images : AreImagesOf catalog last (tables_after catalog last before (parts_of es).ended)
