@@ -29,7 +29,7 @@ use Rattle.sdb_shell.specs.declared.refused.SessionRefused.{SessionRefused}
 use Rattle.sdb_shell.specs.declared.refused.SessionRefused.TheVariants as refused
 use Rattle.sdb_shell.specs.Answers.{answer_line_of}
 use Rattle.sdb_shell.specs.Lines.{IsLine, has_lf, most_input, most_line, with_end}
-use Rattle.sdb_shell.specs.Session.{AreTakenFrom, CutShort, HasPassed, HasReplied, HasStopped, HasTakenLine, IsCutLine, IsCutSession, IsSoFar, Refused, Starved, Starves, Unwritten, IsWhole, answer_lines, filled, is_line, is_text, with_lfs}
+use Rattle.sdb_shell.specs.Session.{AreTakenFrom, CutShort, HasPassed, HasReplied, HasStopped, HasTakenLine, IsAnsweredSoFar, IsCutLine, IsCutSession, IsSoFar, Refused, Starved, Starves, Unwritten, IsWhole, answer_lines, filled, is_line, is_text, with_lfs}
 
 ---- lists with one more
 
@@ -177,6 +177,20 @@ so_start catalog old clock ids ids_then written left left_then used s client fre
     none_added None = refl
     none_added (Some w) = ap (λ xs. Some xs) (sym (append-nil w))
 
+-- what callers know of it
+answered_so_far : (catalog : List Table) (old new : Attached) (clock clock_then : Option (List ℤ)) (ids ids_then : Option (List ℕ)) (written written_then left left_then : Option (List ℕ)) (used n : ℕ) (s : SessionAt) → IsSoFar catalog old new clock clock_then ids ids_then written written_then left left_then used n s → IsAnsweredSoFar catalog old new clock clock_then ids ids_then written written_then left left_then used n
+answered_so_far catalog old new clock clock_then ids ids_then written written_then left left_then used n s so = record {
+  lines = so.lines;
+  es = so.es;
+  taken = so.taken;
+  fit = so.fit;
+  counted = so.counted;
+  number = so.number;
+  answered = so.answered;
+  output = so.output;
+  session = session_whole catalog old new clock clock_then ids ids_then so.es s so.session;
+}
+
 -- nothing was done since
 so_passed : (catalog : List Table) (old mid new : Attached) (clock clock_mid clock_then : Option (List ℤ)) (ids ids_mid ids_then : Option (List ℕ)) (written written_mid written_then : Option (List ℕ)) (left left_mid : Option (List ℕ)) (used n : ℕ) (s t : SessionAt) → IsSoFar catalog old mid clock clock_mid ids ids_mid written written_mid left left_mid used n s → GoOn mid new → HasPassed mid new clock_mid clock_then ids_mid ids_then written_mid written_then s t → IsSoFar catalog old new clock clock_then ids ids_then written written_then left left_mid used n s
 so_passed catalog old mid new clock clock_mid clock_then ids ids_mid ids_then written written_mid written_then left left_mid used n s t so goes h = record {
@@ -226,7 +240,6 @@ starves catalog old mid clock clock_mid ids ids_mid written written_mid written_
   held = mid.shelves;
   clock_mid = clock_mid;
   ids_mid = ids_mid;
-  client = s;
   before = record {
     lines = so.lines;
     es = so.es;
@@ -236,7 +249,7 @@ starves catalog old mid clock clock_mid ids ids_mid written written_mid written_
     number = so.number;
     answered = so.answered;
     output = subst (Appends (answer_lines so.es) written) (sym written_same) so.output;
-    session = session_held catalog old mid clock clock_mid ids ids_mid so.es s so.session goes;
+    session = session_whole catalog old (record old { shelves = mid.shelves }) clock clock_mid ids ids_mid so.es s (session_held catalog old mid clock clock_mid ids ids_mid so.es s so.session goes);
   };
 })
 
@@ -288,7 +301,6 @@ module _ (catalog : List Table) (old mid new : Attached) (clock clock_mid clock_
         es = so.es;
         last = e;
         ahead = ahead;
-        client = t;
         written_mid = written_mid;
         taken = takes_more (with_lfs so.lines) (with_end end line) left left_mid (option_map (λ rest. ahead ++ rest) remaining_then) so.taken read.taken;
         fit = so.fit;
@@ -297,7 +309,7 @@ module _ (catalog : List Table) (old mid new : Attached) (clock clock_mid clock_
         answered = taken_more (filled so.lines) so.es line e so.answered answered.answered.reads;
         output = so.output;
         prefix = put;
-        session = session_more catalog old mid new clock clock_mid clock_then ids ids_mid ids_then so.es s t line a so.session answered goes;
+        session = session_whole catalog old new clock clock_then ids ids_then (so.es ++ e ∷ []) t (session_more catalog old mid new clock clock_mid clock_then ids ids_mid ids_then so.es s t line a so.session answered goes);
       })
 
   done_of : (line : List ℕ) → has_lf line ≡ false → length line ≤ most_line → ((line ≡ []) × HasPassed mid new clock_mid clock_then ids_mid ids_then written_mid written_then s t) ⊎ ((line ≢ []) × (is_utf8 line ≡ true) × HasReplied catalog line mid new clock_mid clock_then ids_mid ids_then written_mid written_then s t) → HasDone line
@@ -354,8 +366,7 @@ module _ (catalog : List Table) (old mid new : Attached) (clock clock_mid clock_
     used_then = used_then;
     left = left_mid;
     ahead = ahead;
-    client = s;
-    before = so_passed catalog old mid new clock clock_mid clock_then ids ids_mid ids_then written written_mid written_then left left_mid used n s t so goes h.0;
+    before = answered_so_far catalog old new clock clock_then ids ids_then written written_then left left_mid used n s (so_passed catalog old mid new clock clock_mid clock_then ids ids_mid ids_then written written_mid written_then left left_mid used n s t so goes h.0);
     refused = h.1;
   })
   so_cut goes_mid ahead remaining_then why (inr h) = stopped goes_mid ahead remaining_then why h.end h.line h.read h.some h.utf8 h.stopped

@@ -114,6 +114,19 @@ pub record IsWhole (catalog : List Table) (old new : Attached) (clock clock_then
   pub output : Appends (answer_lines es) written written_then
   pub session : IsSession catalog old new clock clock_then ids ids_then es
 
+-- A session before the line of a number, as its callers know it: these lines were read, each that isn't empty was taken as a statement and
+-- answered by one line of the output, and these statements are a session.
+pub record IsAnsweredSoFar (catalog : List Table) (old new : Attached) (clock clock_then : Option (List ℤ)) (ids ids_then : Option (List ℕ)) (written written_then : Option (List ℕ)) (left left_then : Option (List ℕ)) (used n : ℕ) : Type 0 where
+  pub lines : List (List ℕ)
+  pub es : List Exchange
+  pub taken : Takes (with_lfs lines) left left_then
+  pub fit : list_all is_line lines ≡ true
+  pub counted : used ≡ length (with_lfs lines)
+  pub number : n ≡ length lines + 1
+  pub answered : AreTakenFrom (filled lines) es
+  pub output : Appends (answer_lines es) written written_then
+  pub session : IsSession catalog old new clock clock_then ids ids_then es
+
 -- A session that its input stopped: the lines before that of a number were answered, and this line is refused, after the bytes `ahead` were
 -- read and not used.
 pub record IsRefused (catalog : List Table) (old new : Attached) (clock clock_then : Option (List ℤ)) (ids ids_then : Option (List ℕ)) (written written_then : Option (List ℕ)) (remaining remaining_then : Option (List ℕ)) (why : SessionRefused) : Type 0 where
@@ -122,8 +135,7 @@ pub record IsRefused (catalog : List Table) (old new : Attached) (clock clock_th
   pub used_then : ℕ
   pub left : Option (List ℕ)
   pub ahead : List ℕ
-  pub client : SessionAt
-  pub before : IsSoFar catalog old new clock clock_then ids ids_then written written_then remaining left used n client
+  pub before : IsAnsweredSoFar catalog old new clock clock_then ids ids_then written written_then remaining left used n
   pub refused : IsRefusedAt n left (option_map (λ rest. ahead ++ rest) remaining_then) used used_then why
 
 -- A session whose last answer wasn't written whole: its lines were answered, and the answers of those before the last were written, then
@@ -135,7 +147,6 @@ pub record IsCutShort (catalog : List Table) (old new : Attached) (clock clock_t
   pub es : List Exchange
   pub last : Exchange
   pub ahead : List ℕ
-  pub client : SessionAt
   pub written_mid : Option (List ℕ)
   pub taken : Takes (with_lfs lines ++ with_end end line) remaining (option_map (λ rest. ahead ++ rest) remaining_then)
   pub fit : list_all is_line lines ≡ true
@@ -144,7 +155,7 @@ pub record IsCutShort (catalog : List Table) (old new : Attached) (clock clock_t
   pub answered : AreTakenFrom (filled lines ++ line ∷ []) (es ++ last ∷ [])
   pub output : Appends (answer_lines es) written written_mid
   pub prefix : IsPrefix (answer_line_of last.answer) written_mid written_then
-  pub session : IsSessionSoFar catalog old new clock clock_then ids ids_then (es ++ last ∷ []) client
+  pub session : IsSession catalog old new clock clock_then ids ids_then (es ++ last ∷ [])
 
 -- More calls of a statement, or more lines, than can be counted are out of memory: the lines before that of a number were answered, the
 -- stores held this then, and nothing was written after their answers.
@@ -155,8 +166,7 @@ pub record IsStarved (catalog : List Table) (old : Attached) (clock : Option (Li
   pub held : List Shelf
   pub clock_mid : Option (List ℤ)
   pub ids_mid : Option (List ℕ)
-  pub client : SessionAt
-  pub before : IsSoFar catalog old (record old { shelves = held }) clock clock_mid ids ids_mid written written_then remaining left used n client
+  pub before : IsAnsweredSoFar catalog old (record old { shelves = held }) clock clock_mid ids ids_mid written written_then remaining left used n
 
 -- Why a session has no end: its input stopped it, the line of an answer wasn't written whole, or it was out of memory. The output has the
 -- answers of the lines before, and then at most a prefix of one more.
