@@ -1,5 +1,5 @@
 -- The stores of the program, once each of them is attached.
-use Rattle.std.proofs.Common.{◌≡◌, ℕ, ◌<◌, ◌+◌, zero, suc, List, [], ◌∷◌, ◌++◌, length, codes, false, true, Ok, Err, Result, is_ok, OnOk, refl, ap, subst, ◌∙◌, append_assoc, arith}
+use Rattle.std.proofs.Common.{◌≡◌, ℕ, ℤ, Option, ◌<◌, ◌+◌, zero, suc, List, [], ◌∷◌, ◌++◌, length, codes, false, true, Ok, Err, Result, is_ok, OnOk, refl, ap, subst, ◌∙◌, append_assoc, arith}
 use Rattle.std.proofs.Math.ListN.{length-append}
 use Rattle.sdb_types.specs.Contents.{Contents}
 use Rattle.sdb_store.specs.Store.{StoreState, IsNewStore}
@@ -10,7 +10,7 @@ use Rattle.sdb_app.specs.Ends.{Ends, Stream}
 use Rattle.sdb_app.specs.Promise.{HasEnded}
 use Rattle.sdb_app.specs.Promise.HasEnded.{NoCommand}
 use Rattle.sdb_app.proofs.Promising.{ended_before}
-use Rattle.scalardb.specs.Stores.{HasEndedOn, HasEndedOver, attached_over, new_store, own_attached, own_stores}
+use Rattle.scalardb.specs.Stores.{HasEndedOn, HasEndedOver, Outside, attached_over, new_store, own_attached, own_stores}
 
 passed : {T E : Type 0} (P : Type 0) (r : Result T E) → is_ok r ≡ true → OnOk r P → P
 passed P (Ok x) h p = p
@@ -49,8 +49,12 @@ all_own front r1 r2 r3 n1 n2 n3 a b k none one two last added1 added2 added3 bar
       third = known_at r3 n3 k two last (length front + 2) added3 ok3 new_k (ap length s2 ∙ length-append front (shelf_of n1 a ∷ shelf_of n2 b ∷ []));
     }
 
+-- what a call was handed beside its stores
+abbrev outside_of : Ends → Outside
+outside_of run = record { input = run.work.input; rest = run.work.rest; output = run.output; written = run.written; clock = run.clock; clock_then = run.clock_then; ids = run.ids; ids_then = run.ids_then }
+
 -- A call on the program's own stores alone.
-pub ended_on_own : (words : List (List ℕ)) (run : Ends) (s : Status) → AreOwnAfter [] run.work.old → HasEnded words run s → HasEndedOn own_attached words run.work.input run.work.rest run.output run.written s
+pub ended_on_own : (words : List (List ℕ)) (run : Ends) (s : Status) → AreOwnAfter [] run.work.old → HasEnded words run s → HasEndedOn own_attached words (outside_of run) s
 ended_on_own words run s own h = (run.work.left, ended_before words own_attached run (record { same = own.are; telling = by_place }) s h)
   where
     by_place : (at : ℕ) → at < 3 → run.work.old.tells at
@@ -60,7 +64,7 @@ ended_on_own words run s own h = (run.work.left, ended_before words own_attached
     by_place (suc (suc (suc n))) h = absurd (omega (arith, h))
 
 -- A call on them after a store of the name `file`.
-pub ended_over : (words : List (List ℕ)) (file : Shelf) (run : Ends) (s : Status) → file.name ≡ codes "file" → AreOwnAfter (file ∷ []) run.work.old → HasEnded words run s → HasEndedOver words run.work.input run.work.rest run.output run.written s
+pub ended_over : (words : List (List ℕ)) (file : Shelf) (run : Ends) (s : Status) → file.name ≡ codes "file" → AreOwnAfter (file ∷ []) run.work.old → HasEnded words run s → HasEndedOver words (outside_of run) s
 ended_over words file run s named own h = (file, named, (run.work.left, ended_before words (attached_over file) run (record { same = own.are; telling = by_place }) s h))
   where
     by_place : (at : ℕ) → (0 < at) × (at < 4) → run.work.old.tells at
@@ -74,9 +78,13 @@ ended_over words file run s named own h = (file, named, (run.work.left, ended_be
 pub over_bare : {T E : Type 0} (r : Result T E) (n : List ℕ) (a : StoreState) (none one : Attached) → OnOk r (IsAdded n a none one) → is_ok r ≡ true → none.shelves ≡ [] → one.shelves ≡ shelf_of n a ∷ []
 over_bare r n a none one added ok bare = (passed _ r ok added).shelves ∙ ap (λ (ss : List Shelf). ss ++ shelf_of n a ∷ []) bare
 
--- Memory ran out before a call.
-pub starved : (stores : Attached) (words : List (List ℕ)) (input output : Stream) → HasEndedOn stores words input input output output status.NoMemory
-starved stores words input output = (stores.shelves, NoCommand tt (record { unchanged = refl; unread = refl; unwritten = refl }))
+-- what is as it was before a call
+abbrev pub untouched : Stream → Stream → Option (List ℤ) → Option (List ℕ) → Outside
+untouched input output clock ids = record { input = input; rest = input; output = output; written = output; clock = clock; clock_then = clock; ids = ids; ids_then = ids }
 
-pub starved_over : (words : List (List ℕ)) (input output : Stream) → HasEndedOver words input input output output status.NoMemory
-starved_over words input output = (new_store (codes "file"), refl, starved (attached_over (new_store (codes "file"))) words input output)
+-- Memory ran out before a call.
+pub starved : (stores : Attached) (words : List (List ℕ)) (input output : Stream) (clock : Option (List ℤ)) (ids : Option (List ℕ)) → HasEndedOn stores words (untouched input output clock ids) status.NoMemory
+starved stores words input output clock ids = (stores.shelves, NoCommand tt (record { unchanged = refl; unread = refl; unwritten = refl }))
+
+pub starved_over : (words : List (List ℕ)) (input output : Stream) (clock : Option (List ℤ)) (ids : Option (List ℕ)) → HasEndedOver words (untouched input output clock ids) status.NoMemory
+starved_over words input output clock ids = (new_store (codes "file"), refl, starved (attached_over (new_store (codes "file"))) words input output clock ids)

@@ -1,9 +1,9 @@
 -- The stores of the program, and how a call of it on them may end.
-use Rattle.std.specs.Prelude.{◌≡◌, ℕ, ◌<◌, List, [], ◌∷◌, codes}
+use Rattle.std.specs.Prelude.{◌≡◌, ℕ, ℤ, ◌<◌, List, [], ◌∷◌, Option, codes}
 use Rattle.std.specs.FinMap.{empty}
 use Rattle.sdb_stores.specs.Shelf.{Attached, Shelf}
 use Rattle.sdb_app.specs.declared.status.Status.{Status}
-use Rattle.sdb_app.specs.Ends.{Stream}
+use Rattle.sdb_app.specs.Ends.{Ends, Stream}
 use Rattle.sdb_app.specs.Promise.{HasEnded}
 
 -- a store that holds nothing, and of which no call failed
@@ -22,11 +22,31 @@ own_attached = record { places = []; shelves = own_stores; tells = λ at. at < 3
 abbrev pub attached_over : Shelf → Attached
 attached_over file = record { places = []; shelves = file ∷ own_stores; tells = λ at. (0 < at) × (at < 4) }
 
--- A call of the program on these words and stores ends so, with the input and the output before and after it.
-abbrev pub HasEndedOn : Attached → List (List ℕ) → Stream → Stream → Stream → Stream → Status → Type 0
-HasEndedOn stores words input rest output written s =
-    (left : List Shelf) × HasEnded words (record { work = record { old = stores; left = left; input = input; rest = rest }; output = output; written = written }) s
+-- What a call is handed beside its stores, before and after it: the input, the output, and the answers that the clock and the ids gave,
+-- where these are known.
+pub record Outside : Type 0 where
+  pub input : Stream
+  pub rest : Stream
+  pub output : Stream
+  pub written : Stream
+  pub clock : Option (List ℤ)
+  pub clock_then : Option (List ℤ)
+  pub ids : Option (List ℕ)
+  pub ids_then : Option (List ℕ)
+
+abbrev pub outside : {R W C I : Type 0} → (R → Stream) → (W → Stream) → (C → Option (List ℤ)) → (I → Option (List ℕ)) → R → R → W → W → C → C → I → I → Outside
+outside input output clock ids r0 r1 w0 w1 c0 c1 i0 i1 =
+    record { input = input r0; rest = input r1; output = output w0; written = output w1; clock = clock c0; clock_then = clock c1; ids = ids i0; ids_then = ids i1 }
+
+-- a call on stores that showed this before it, and hold this after it
+abbrev pub ends_on : Attached → List Shelf → Outside → Ends
+ends_on stores left o =
+    record { work = record { old = stores; left = left; input = o.input; rest = o.rest }; output = o.output; written = o.written; clock = o.clock; clock_then = o.clock_then; ids = o.ids; ids_then = o.ids_then }
+
+-- A call of the program on these words and stores ends so, with what it is handed beside them before and after it.
+abbrev pub HasEndedOn : Attached → List (List ℕ) → Outside → Status → Type 0
+HasEndedOn stores words o s = (left : List Shelf) × HasEnded words (ends_on stores left o) s
 
 -- The same on the program's own stores after one of the name `file`.
-abbrev pub HasEndedOver : List (List ℕ) → Stream → Stream → Stream → Stream → Status → Type 0
-HasEndedOver words input rest output written s = (file : Shelf) × (file.name ≡ codes "file") × HasEndedOn (attached_over file) words input rest output written s
+abbrev pub HasEndedOver : List (List ℕ) → Outside → Status → Type 0
+HasEndedOver words o s = (file : Shelf) × (file.name ≡ codes "file") × HasEndedOn (attached_over file) words o s

@@ -1,4 +1,4 @@
-//! The program: hands its words, standard input and output, and its stores to the top call.
+//! The program: hands its words, standard input and output, the clock, random ids, and its stores to the top call.
 #![tactic(auto)]
 
 ghost use Rattle.sdb_store.specs.Store.{IsNewStore};
@@ -6,7 +6,7 @@ ghost use Rattle.sdb_store.specs.Store.{IsNewStore};
 mod outside;
 mod stores;
 
-use crate::outside::{InFile, Input, Output};
+use crate::outside::{InFile, Input, Output, RandomIds, Time};
 use crate::stores::{run_on_own, run_over_file};
 use sdb_app::Status;
 use sdb_sqlite::{Kept, KeptRefused};
@@ -23,6 +23,7 @@ use std::rt::HostRuntime;
 enum Unstarted {
     NoMemory,
     NoDatabase,
+    NoSeed,
 }
 
 impl Unstarted {
@@ -30,6 +31,7 @@ impl Unstarted {
         match self {
             Unstarted::NoMemory => 7,
             Unstarted::NoDatabase => 14,
+            Unstarted::NoSeed => 15,
         }
     }
 
@@ -37,6 +39,7 @@ impl Unstarted {
         match self {
             Unstarted::NoMemory => "out of memory",
             Unstarted::NoDatabase => "no database",
+            Unstarted::NoSeed => "no seed",
         }
     }
 }
@@ -92,14 +95,47 @@ fn open_file(rt: &HostRuntime, path: &str) -> Result<InFile, Unstarted> {
     }
 }
 
+// Whether the command of these words draws ids.
+fn draws_ids(words: &[String]) -> bool {
+    match words.first() {
+        Some(word) => word.as_str() == "sql",
+        None => false,
+    }
+}
+
+// The ids of the command of these words.
+fn ids_of(rt: &HostRuntime, words: &[String]) -> Result<RandomIds, Unstarted> {
+    if !draws_ids(words) {
+        return Ok(RandomIds::unused());
+    }
+    match RandomIds::new(rt) {
+        Some(ids) => Ok(ids),
+        None => Err(Unstarted::NoSeed),
+    }
+}
+
 // Runs the program on standard input and output, and on its own stores.
-fn run_streams(rt: &HostRuntime, words: &[String], database: Kept<MemStore>) -> ExitCode
+fn run_streams(
+    rt: &HostRuntime,
+    words: &[String],
+    mut ids: RandomIds,
+    database: Kept<MemStore>,
+) -> ExitCode
     requires new { IsNewStore (⟦<Kept<MemStore> as Store>⟧.state database) }
 {
     let alloc = rt.alloc();
     let mut input = Input::new(rt);
     let mut output = Output::new(rt);
-    let status = run_on_own(alloc, words, database, &mut input, &mut output);
+    let mut clock = Time::new(rt);
+    let status = run_on_own(
+        alloc,
+        words,
+        database,
+        &mut input,
+        &mut output,
+        &mut clock,
+        &mut ids,
+    );
     status_end(alloc, rt, status)
 }
 
@@ -108,6 +144,7 @@ fn run_streams_over(
     rt: &HostRuntime,
     words: &[String],
     path: &str,
+    mut ids: RandomIds,
     database: Kept<MemStore>,
 ) -> ExitCode
     requires new { IsNewStore (⟦<Kept<MemStore> as Store>⟧.state database) }
@@ -119,20 +156,31 @@ fn run_streams_over(
     };
     let mut input = Input::new(rt);
     let mut output = Output::new(rt);
-    let status = run_over_file(alloc, words, file, database, &mut input, &mut output);
+    let mut clock = Time::new(rt);
+    let status = run_over_file(
+        alloc,
+        words,
+        file,
+        database,
+        &mut input,
+        &mut output,
+        &mut clock,
+        &mut ids,
+    );
     status_end(alloc, rt, status)
 }
 
 // Runs the program on these words.
 fn run_words(rt: &HostRuntime, words: &[String]) -> Result<ExitCode, Unstarted> {
     let path = file_path(rt)?;
+    let ids = ids_of(rt, words)?;
     let database = match Kept::in_memory(rt.alloc()) {
         Ok(database) => database,
         Err(refused) => return Err(Unstarted::from(refused)),
     };
     match path {
-        Some(path) => Ok(run_streams_over(rt, words, path.as_str(), database)),
-        None => Ok(run_streams(rt, words, database)),
+        Some(path) => Ok(run_streams_over(rt, words, path.as_str(), ids, database)),
+        None => Ok(run_streams(rt, words, ids, database)),
     }
 }
 

@@ -1,15 +1,19 @@
-//! Standard input and output, and a database in a file, as the program takes them.
+//! Standard input and output, the time, random ids, and a database in a file, as the program takes them.
 //!
 //! None of their contents are known beforehand: they are what the world gives.
-ghost use Rattle.std.specs.Prelude.{None};
+ghost use Rattle.std.specs.Prelude.{◌≤ℤ◌, ◌^◌, ℤ, pos, None};
 
 use sdb_sqlite::Kept;
 use sdb_store::Store;
-use sdb_types::{Condition, Failed, Key, Record, Reply, Sink, SinkRefused, Source, Span};
+use sdb_types::{
+    Clock, Condition, Failed, Ids, Key, Record, Reply, Sink, SinkRefused, Source, Span,
+};
 use sqlite::FileStore;
 use sqlite_std_file::File;
 use std::io::{Read, Stdin, Stdout, Write};
+use std::random::RandomSource;
 use std::rt::HostRuntime;
+use std::time::{SystemTime, UNIX_EPOCH};
 
 /// Standard input, with a count of its failures.
 #[derive(Drop)]
@@ -72,6 +76,75 @@ impl Sink for Output {
                 Err(SinkRefused::Failed)
             }
         }
+    }
+}
+
+/// The system's clock.
+#[derive(Drop)]
+pub struct Time<'a> {
+    rt: &'a HostRuntime,
+}
+
+impl<'a> Time<'a> {
+    pub fn new(rt: &'a HostRuntime) -> Time<'a> {
+        Time { rt }
+    }
+}
+
+impl Clock for Time<'_> {
+    ghost told = { λ _. None };
+
+    fn now(&mut self) -> i64 {
+        millis(self.rt)
+    }
+}
+
+// The milliseconds since 1970, held to 0 to 2^53.
+fn millis(rt: &HostRuntime) -> i64
+    ensures low { pos 0 ≤ℤ result }
+    ensures high { result ≤ℤ pos (2 ^ 53) }
+{
+    let Ok(time) = SystemTime::now(rt) else {
+        return 0;
+    };
+    let Ok(since) = time.duration_since(UNIX_EPOCH) else {
+        return 0;
+    };
+    let millis = since.as_millis().min(1 << 53);
+    i64::try_from(millis).unwrap_or(0)
+}
+
+/// Numbers from a random one on. Starting at random keeps the ids of two programs apart.
+#[derive(Drop)]
+pub struct RandomIds {
+    next: u128,
+}
+
+impl RandomIds {
+    /// For a command that draws no ids.
+    pub fn unused() -> RandomIds {
+        RandomIds { next: 0 }
+    }
+
+    /// None where the system gives no random bytes.
+    pub fn new(rt: &HostRuntime) -> Option<RandomIds> {
+        let mut seed = [0u8; 16];
+        if rt.fill_bytes(&mut seed).is_err() {
+            return None;
+        }
+        Some(RandomIds {
+            next: u128::from_le_bytes(seed),
+        })
+    }
+}
+
+impl Ids for RandomIds {
+    ghost told = { λ _. None };
+
+    fn draw(&mut self) -> u128 {
+        let id = self.next;
+        self.next = id.wrapping_add(1);
+        id
     }
 }
 

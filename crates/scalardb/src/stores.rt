@@ -2,7 +2,7 @@
 ghost use Rattle.std.specs.Prelude.{◌≡◌, map, string_bytes, IfOk, codes};
 ghost use Rattle.sdb_store.specs.Store.{IsNewStore};
 ghost use Rattle.sdb_app.specs.Ends.{stream};
-ghost use Rattle.scalardb.specs.Stores.{HasEndedOn, HasEndedOver, own_attached};
+ghost use Rattle.scalardb.specs.Stores.{HasEndedOn, HasEndedOver, outside, own_attached};
 
 use crate::outside::InFile;
 use sdb_app::{Status, run};
@@ -11,7 +11,7 @@ use sdb_ordered::Ordered;
 use sdb_sqlite::Kept;
 use sdb_store::{Fails, Store};
 use sdb_stores::Stores;
-use sdb_types::{Name, NameRefused, Sink, Source};
+use sdb_types::{Clock, Ids, Name, NameRefused, Sink, Source};
 use sqlite::MemStore;
 use std::alloc::Global;
 
@@ -26,15 +26,18 @@ fn store_names(alloc: Global) -> Result<(Name, Name, Name), NameRefused>
 
 /// Runs the program on its own stores: two in memory that never fail, one in the order of its keys and one hashed, and a database in
 /// memory that holds nothing. All that `run` promises of known contents holds, since each of them has.
-pub fn run_on_own<R: Source, W: Sink>(
+pub fn run_on_own<R: Source, W: Sink, C: Clock, I: Ids>(
     alloc: Global,
     words: &[String],
     database: Kept<MemStore>,
     input: &mut R,
     output: &mut W,
+    clock: &mut C,
+    ids: &mut I,
 ) -> Status
     requires new { IsNewStore (⟦<Kept<MemStore> as Store>⟧.state database) }
-    ensures ended { HasEndedOn own_attached (map string_bytes words.now) (stream R.remaining R.faults input.old) (stream R.remaining R.faults input.new) (stream W.written W.faults output.old) (stream W.written W.faults output.new) result }
+    ensures ended { HasEndedOn own_attached (map string_bytes words.now) (outside (stream R.remaining R.faults) (stream W.written W.faults) C.told I.told
+        input.old input.new output.old output.new clock.old clock.new ids.old ids.new) result }
 {
     let (Ok(names), Ok(ordered), Ok(hashed), Ok(kept)) = (
         store_names(alloc),
@@ -51,20 +54,23 @@ pub fn run_on_own<R: Source, W: Sink>(
     if !first || !second || !third {
         return Status::NoMemory;
     }
-    run(alloc, words, &mut stores, input, output)
+    run(alloc, words, &mut stores, input, output, clock, ids)
 }
 
 /// Runs the program on a database in a file, which comes first, and on its own stores. Of the contents of the file nothing is known.
-pub fn run_over_file<R: Source, W: Sink>(
+pub fn run_over_file<R: Source, W: Sink, C: Clock, I: Ids>(
     alloc: Global,
     words: &[String],
     file: InFile,
     database: Kept<MemStore>,
     input: &mut R,
     output: &mut W,
+    clock: &mut C,
+    ids: &mut I,
 ) -> Status
     requires new { IsNewStore (⟦<Kept<MemStore> as Store>⟧.state database) }
-    ensures ended { HasEndedOver (map string_bytes words.now) (stream R.remaining R.faults input.old) (stream R.remaining R.faults input.new) (stream W.written W.faults output.old) (stream W.written W.faults output.new) result }
+    ensures ended { HasEndedOver (map string_bytes words.now) (outside (stream R.remaining R.faults) (stream W.written W.faults) C.told I.told
+        input.old input.new output.old output.new clock.old clock.new ids.old ids.new) result }
 {
     let (Ok(name), Ok(names)) = (Name::new(alloc, "file"), store_names(alloc)) else {
         return Status::NoMemory;
@@ -85,5 +91,5 @@ pub fn run_over_file<R: Source, W: Sink>(
     if !zeroth || !first || !second || !third {
         return Status::NoMemory;
     }
-    run(alloc, words, &mut stores, input, output)
+    run(alloc, words, &mut stores, input, output, clock, ids)
 }

@@ -5,4 +5,5 @@ pub mod BenchPlayable
 pub mod Headline
 pub mod Playing
 pub mod Schemas
+pub mod Sessions
 pub mod Promising

@@ -1,16 +1,18 @@
 -- What a command promises of its work, begun with the places that there were before.
-use Rattle.std.proofs.Common.{◌≡◌, ◌∙◌, ℕ, List, Result, IfOk, IfErr, subst, sym}
-use Rattle.std.specs.Prelude.{map}
+use Rattle.std.proofs.Common.{◌≡◌, ◌∙◌, ℕ, List, refl, subst}
 use Rattle.sdb_stores.specs.Shelf.{Attached, Shelf as Counted, names_of}
 use Rattle.sdb_words.specs.declared.command.Command.{Command}
 use Rattle.sdb_words.specs.declared.command.Command.TheVariants as command
 use Rattle.sdb_words.specs.Commands.{AreWordsOf}
 use Rattle.sdb_app.specs.declared.status.Status.{Status}
-use Rattle.sdb_app.specs.Ends.{Ends, Work}
-use Rattle.sdb_app.specs.Promise.{HasEnded, IsAnswered, IsNoCommand, IsNotThere, IsStopped, IsUntouched, promise_of}
-use Rattle.sdb_app.specs.Promise.HasEnded.{Answered, NoCommand, Stopped}
+use Rattle.sdb_app.specs.Ends.{Ends, Stream, Work}
+use Rattle.sdb_app.specs.Promise.{EndsAs, EndsOnce, HasEnded, IsNoCommand, IsNotThere, promise_of}
+use Rattle.sdb_app.specs.Promise.EndsOnce.{Answered, Stopped}
+use Rattle.sdb_app.specs.Promise.EndsAs.{Once, Session}
+use Rattle.sdb_app.specs.Promise.HasEnded.{NoCommand, OfCommand}
 use Rattle.sdb_app.proofs.Headline.{bench_stops_before, benched_before, begun_with, replay_stops_before, replayed_before}
 use Rattle.sdb_app.proofs.Schemas.{schema_kept_before, schema_stops_before}
+use Rattle.sdb_app.proofs.Sessions.{session_before}
 
 -- The work of a command began with the same stores, of which no fewer had known contents.
 pub record BeginsAs (before : Attached) (work : Work) : Type 0 where
@@ -35,21 +37,27 @@ pub stops_before : (before : Attached) (work : Work) → BeginsAs before work �
 stops_before before work b command.Replay s h = replay_stops_before before work s b.same b.telling h
 stops_before before work b (command.Bench n) s h = bench_stops_before before work n s b.same b.telling h
 stops_before before work b (command.Schema places) s h = schema_stops_before before work places s b.same b.telling h
-stops_before before work b command.Sql s h = not_there_before before work b s h
+stops_before before work b command.Sql s h = absurd h
 stops_before before work b (command.Load table mode n) s h = not_there_before before work b s h
 stops_before before work b (command.Export table) s h = not_there_before before work b s h
 stops_before before work b (command.Retire from to) s h = not_there_before before work b s h
 stops_before before work b (command.Alter table column kind) s h = not_there_before before work b s h
 stops_before before work b command.Audit s h = not_there_before before work b s h
 
+once_before : (before : Attached) (work : Work) → BeginsAs before work → (c : Command) (output written : Stream) (s : Status) → EndsOnce c work output written s → EndsOnce c (begun_with before work) output written s
+once_before before work b c output written s (Answered h) = Answered (record { text = h.text; answer = answers_before before work b c h.text h.answer; ended = h.ended })
+once_before before work b c output written s (Stopped h) = Stopped (record { cause = stops_before before work b c s h.cause; unwritten = h.unwritten })
+
 -- A call that ended, begun so.
 abbrev pub ends_with : Attached → Ends → Ends
-ends_with before run = record { work = begun_with before run.work; output = run.output; written = run.written }
+ends_with before run = record run { work = begun_with before run.work }
+
+as_before : (before : Attached) (run : Ends) → BeginsAs before run.work → (c : Command) (s : Status) → EndsAs c run s → EndsAs c (ends_with before run) s
+as_before before run b c s (Once h) = Once (once_before before run.work b c run.output run.written s h)
+as_before before run b c s (Session is h) = Session is (session_before before run (ends_with before run) s b.same b.telling refl h)
 
 pub ended_before : (words : List (List ℕ)) (before : Attached) (run : Ends) → BeginsAs before run.work → (s : Status) → HasEnded words run s → HasEnded words (ends_with before run) s
-ended_before words before run b s (Answered c are h) =
-    Answered c (subst (λ (ss : List Counted). AreWordsOf (names_of ss) c words) b.same are) (record { text = h.text; answer = answers_before before run.work b c h.text h.answer; ended = h.ended })
-ended_before words before run b s (Stopped c are h) =
-    Stopped c (subst (λ (ss : List Counted). AreWordsOf (names_of ss) c words) b.same are) (record { cause = stops_before before run.work b c s h.cause; unwritten = h.unwritten })
+ended_before words before run b s (OfCommand c are h) =
+    OfCommand c (subst (λ (ss : List Counted). AreWordsOf (names_of ss) c words) b.same are) (as_before before run b c s h)
 ended_before words before run b s (NoCommand none h) =
     NoCommand (subst (λ (ss : List Counted). IsNoCommand (names_of ss) words s) b.same none) (record { unchanged = h.unchanged ∙ b.same; unread = h.unread; unwritten = h.unwritten })

@@ -24,7 +24,7 @@ use Rattle.sdb_app.specs.Schema.StopsSchema.{Unkept, Unread}
 use Rattle.sdb_app.proofs.Headline.{begun_with}
 
 -- One call, on stores that are the same, of which no fewer had known contents.
-called_before : (q : Request) (r : Reply) (before mid : Attached) (new : List Counted) → mid.shelves ≡ before.shelves → ((at : ℕ) → before.tells at → mid.tells at) → Called q r mid new → Called q r before new
+pub called_before : (q : Request) (r : Reply) (before mid : Attached) (new : List Counted) → mid.shelves ≡ before.shelves → ((at : ℕ) → before.tells at → mid.tells at) → Called q r mid new → Called q r before new
 called_before q r before mid new same telling h = record {
   before = h.before;
   now = h.now;
@@ -38,7 +38,7 @@ called_before q r before mid new same telling h = record {
   telling = λ i told. told;
 }
 
-read_before : (before mid : Attached) (new : List Counted) (es : List Entry) → mid.shelves ≡ before.shelves → ((at : ℕ) → before.tells at → mid.tells at) → IsRead mid new es → IsRead before new es
+pub read_before : (before mid : Attached) (new : List Counted) (es : List Entry) → mid.shelves ≡ before.shelves → ((at : ℕ) → before.tells at → mid.tells at) → IsRead mid new es → IsRead before new es
 read_before before mid new es same telling h = record {
   rows = h.rows;
   scanned = called_before _ _ before mid new same telling h.scanned;
@@ -80,7 +80,7 @@ stored_before places catalog text before mid new same telling h = record {
   };
 }
 
-unread_before : (before mid : Attached) (new : List Counted) (e : CatalogRefused) → mid.shelves ≡ before.shelves → ((at : ℕ) → before.tells at → mid.tells at) → IsUnread mid new e → IsUnread before new e
+pub unread_before : (before mid : Attached) (new : List Counted) (e : CatalogRefused) → mid.shelves ≡ before.shelves → ((at : ℕ) → before.tells at → mid.tells at) → IsUnread mid new e → IsUnread before new e
 unread_before before mid new refused.StoreFault same telling h = subst (λ (ss : List Counted). HaveRisen ss new) same h
 unread_before before mid new (refused.BadRow key) same telling h = record {
   rows = h.rows;

@@ -1,5 +1,5 @@
 -- What a call of the program begins with and ends with.
-use Rattle.std.specs.Prelude.{◌≡◌, ℕ, ◌≤◌, List, Option}
+use Rattle.std.specs.Prelude.{◌≡◌, ℕ, ℤ, ◌≤◌, List, Option}
 use Rattle.sdb_stores.specs.Shelf.{Attached, Shelf as Counted, names_of, total_faults}
 
 -- Bytes, where they are known, and how often a call for them has failed.
@@ -20,14 +20,31 @@ pub record Work : Type 1 where
 abbrev pub work_of : {S R : Type 0} → (S → Attached) → (R → Stream) → S → S → R → R → Work
 work_of state input s0 s1 r0 r1 = record { old = state s0; left = (state s1).shelves; input = input r0; rest = input r1 }
 
--- A call of the program: its work, and what the output contains before and after it.
+-- A call of the program: its work, what the output contains before and after it, and the answers that the clock and the ids gave before
+-- and after it, where these are known.
 pub record Ends : Type 1 where
   pub work : Work
   pub output : Stream
   pub written : Stream
+  pub clock : Option (List ℤ)
+  pub clock_then : Option (List ℤ)
+  pub ids : Option (List ℕ)
+  pub ids_then : Option (List ℕ)
 
-abbrev pub ends : {S R W : Type 0} → (S → Attached) → (R → Stream) → (W → Stream) → S → S → R → R → W → W → Ends
-ends state input output s0 s1 r0 r1 w0 w1 = record { work = work_of state input s0 s1 r0 r1; output = output w0; written = output w1 }
+-- What contracts see of what a call is handed: the stores, the input, the output, the clock and the ids.
+pub record Views (S R W C I : Type 0) : Type 1 where
+  pub state : S → Attached
+  pub input : R → Stream
+  pub output : W → Stream
+  pub clock : C → Option (List ℤ)
+  pub ids : I → Option (List ℕ)
+
+abbrev pub views : {S R W C I : Type 0} → (S → Attached) → (R → Stream) → (W → Stream) → (C → Option (List ℤ)) → (I → Option (List ℕ)) → Views S R W C I
+views state input output clock ids = record { state = state; input = input; output = output; clock = clock; ids = ids }
+
+abbrev pub ends : {S R W C I : Type 0} → Views S R W C I → S → S → R → R → W → W → C → C → I → I → Ends
+ends v s0 s1 r0 r1 w0 w1 c0 c1 i0 i1 =
+    record { work = work_of v.state v.input s0 s1 r0 r1; output = v.output w0; written = v.output w1; clock = v.clock c0; clock_then = v.clock c1; ids = v.ids i0; ids_then = v.ids i1 }
 
 -- The stores are those that were attached, in their order, no count of failures falls, and known contents stay known.
 pub record AreKept (old new : Attached) : Type 0 where

@@ -4,4 +4,5 @@ pub mod Streams
 pub mod Status
 pub mod Bench
 pub mod Schema
+pub mod Sql
 pub mod Promise

@@ -12,6 +12,7 @@ use Rattle.sdb_app.specs.Ends.{AreUnchanged, Ends, Stream, Work}
 use Rattle.sdb_app.specs.Run.{IsReplayed, StopsReplay}
 use Rattle.sdb_app.specs.Bench.{IsBenched, StopsBench}
 use Rattle.sdb_app.specs.Schema.{IsSchemaKept, StopsSchema}
+use Rattle.sdb_app.specs.Sql.{HasEndedSession}
 
 -- What a command promises of the text that it answers, and why it ends otherwise, before anything is written.
 pub record Promise : Type 1 where
@@ -25,24 +26,28 @@ IsNotThere work s = (s ≡ status.Usage) × AreUnchanged work × (work.rest ≡ 
 abbrev pub not_there : Work → Promise
 not_there work = record { answers = λ text. ⊥; stops = IsNotThere work }
 
--- The numbers of a command are within their limits.
-abbrev pub IsWithinLimits : Command → Type 0
-IsWithinLimits command.Replay = Unit {0}
-IsWithinLimits (command.Bench n) = n ≤ most_transactions
-IsWithinLimits (command.Schema places) = Unit {0}
-IsWithinLimits command.Sql = Unit {0}
-IsWithinLimits (command.Load table mode n) = Unit {0}
-IsWithinLimits (command.Export table) = Unit {0}
-IsWithinLimits (command.Retire from to) = Unit {0}
-IsWithinLimits (command.Alter table column kind) = Unit {0}
-IsWithinLimits command.Audit = Unit {0}
+-- The command answers one text at its end, and its numbers are within their limits.
+abbrev pub AnswersOnce : Command → Type 0
+AnswersOnce command.Replay = Unit {0}
+AnswersOnce (command.Bench n) = n ≤ most_transactions
+AnswersOnce (command.Schema places) = Unit {0}
+AnswersOnce command.Sql = ⊥
+AnswersOnce (command.Load table mode n) = Unit {0}
+AnswersOnce (command.Export table) = Unit {0}
+AnswersOnce (command.Retire from to) = Unit {0}
+AnswersOnce (command.Alter table column kind) = Unit {0}
+AnswersOnce command.Audit = Unit {0}
 
--- the promise of each command
+-- no text at all
+abbrev pub unanswered : Promise
+unanswered = record { answers = λ text. ⊥; stops = λ s. ⊥ }
+
+-- The promise of each command that answers one text.
 abbrev pub promise_of : Command → Work → Promise
 promise_of command.Replay work = record { answers = IsReplayed work; stops = StopsReplay work }
 promise_of (command.Bench n) work = record { answers = IsBenched n work; stops = StopsBench n work }
 promise_of (command.Schema places) work = record { answers = IsSchemaKept places work; stops = StopsSchema places work }
-promise_of command.Sql work = not_there work
+promise_of command.Sql work = unanswered
 promise_of (command.Load table mode n) work = not_there work
 promise_of (command.Export table) work = not_there work
 promise_of (command.Retire from to) work = not_there work
@@ -63,15 +68,20 @@ IsWritten text output written status.NoMemory = IsPrefixAdded text output.bytes 
 IsWritten text output written _ = ⊥
 
 -- The command's work was done, and the writing of its answer ended so.
-pub record IsAnswered (promise : Promise) (run : Ends) (s : Status) : Type 0 where
+pub record IsAnswered (promise : Promise) (output written : Stream) (s : Status) : Type 0 where
   pub text : List ℕ
   pub answer : promise.answers text
-  pub ended : IsWritten text run.output run.written s
+  pub ended : IsWritten text output written s
 
 -- The command's work was not done, and nothing was written.
-pub record IsStopped (promise : Promise) (run : Ends) (s : Status) : Type 0 where
+pub record IsStopped (promise : Promise) (output written : Stream) (s : Status) : Type 0 where
   pub cause : promise.stops s
-  pub unwritten : run.written ≡ run.output
+  pub unwritten : written ≡ output
+
+-- One of both.
+pub data EndsOnce (c : Command) (work : Work) (output written : Stream) (s : Status) : Type 0 where
+  Answered : IsAnswered (promise_of c work) output written s → EndsOnce c work output written s
+  Stopped : IsStopped (promise_of c work) output written s → EndsOnce c work output written s
 
 ---- how a call ends
 
@@ -81,15 +91,19 @@ IsNoCommand stores words status.Usage = (c : Command) → AreWordsOf stores c wo
 IsNoCommand stores words status.NoMemory = Unit {0}
 IsNoCommand stores words _ = ⊥
 
--- Neither the stores nor the input nor the output was touched.
+-- Nothing that a call is handed was touched.
 pub record IsUntouched (run : Ends) : Type 0 where
   pub unchanged : AreUnchanged run.work
   pub unread : run.work.rest ≡ run.work.input
   pub unwritten : run.written ≡ run.output
 
--- A call of the program on these words ends so: as a command of these words may end, with its answer or without, or as words of no
--- command do.
+-- A command ends so: its work was done and its answer written, or it was stopped before that; or it is a session, which answers line by
+-- line.
+pub data EndsAs (c : Command) (run : Ends) (s : Status) : Type 0 where
+  Once : EndsOnce c run.work run.output run.written s → EndsAs c run s
+  Session : c ≡ command.Sql → HasEndedSession run s → EndsAs c run s
+
+-- A call of the program on these words ends so: as the command of these words may end, or as words of no command do.
 pub data HasEnded (words : List (List ℕ)) (run : Ends) (s : Status) : Type 0 where
-  Answered : (c : Command) → AreWordsOf (names_of run.work.old.shelves) c words → IsAnswered (promise_of c run.work) run s → HasEnded words run s
-  Stopped : (c : Command) → AreWordsOf (names_of run.work.old.shelves) c words → IsStopped (promise_of c run.work) run s → HasEnded words run s
+  OfCommand : (c : Command) → AreWordsOf (names_of run.work.old.shelves) c words → EndsAs c run s → HasEnded words run s
   NoCommand : IsNoCommand (names_of run.work.old.shelves) words s → IsUntouched run → HasEnded words run s

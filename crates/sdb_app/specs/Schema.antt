@@ -79,7 +79,7 @@ pub record IsSchemaUnkept (places : List Place) (catalog : List Table) (work : W
   pub known : work.old.tells 0 → IsLeftBy cause (names_of work.old.shelves) places catalog (first_contents work.old.shelves) (first_contents work.left)
   pub others : drop 1 work.left ≡ drop 1 work.old.shelves
 
--- how the program ends where a catalog was not written
+-- how the program ends where a catalog was not written or opened
 abbrev pub status_of_catalog : CatalogRefused → Status
 status_of_catalog refused.StoreFault = status.StoreFault
 status_of_catalog (refused.BadRow key) = status.BadStore key

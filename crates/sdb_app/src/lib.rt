@@ -8,6 +8,7 @@ mod play;
 mod program;
 mod replay;
 mod schema;
+mod sql;
 mod status;
 mod streams;
 

@@ -1,17 +1,18 @@
 //! The top call.
-ghost use Rattle.std.specs.Prelude.{◌≡◌, ◌<◌, ◌≤◌, [], length, map, string_bytes, IfOk, IfErr};
+ghost use Rattle.std.specs.Prelude.{◌≡◌, ◌≢◌, ◌↔◌, ◌<◌, ◌≤◌, [], length, map, string_bytes, IfOk, IfErr, IsTrue};
 ghost use Rattle.sdb_stores.specs.Shelf.{AreDistinct, names_of};
 ghost use Rattle.sdb_words.specs.Commands.{AreWordsOf};
-ghost use Rattle.sdb_app.specs.Ends.{AreKept, ends, stream, work_of};
-ghost use Rattle.sdb_app.specs.Promise.{HasEnded, IsNoCommand, IsWithinLimits, IsWritten, promise_of};
+ghost use Rattle.sdb_app.specs.Ends.{AreKept, ends, stream, views, work_of};
+ghost use Rattle.sdb_app.specs.Promise.{AnswersOnce, EndsAs, EndsOnce, HasEnded, IsNoCommand, IsWritten, promise_of};
 
 use crate::bench::bench;
 use crate::replay::replay;
 use crate::schema::schema;
+use crate::sql::sql;
 use crate::status::Status;
 use crate::streams::write_all;
 use sdb_stores::Registry;
-use sdb_types::{Names, Sink, SinkRefused, Source};
+use sdb_types::{Clock, Ids, Names, Sink, SinkRefused, Source};
 use sdb_words::{Command, WordsRefused, command_of};
 use std::alloc::Global;
 
@@ -39,7 +40,7 @@ fn answer<S: Registry, R: Source>(
     requires unplaced { (S.state stores.old).places ≡ [] }
     requires distinct { AreDistinct (names_of (S.state stores.old).shelves) }
     requires names { names.now ≡ names_of (S.state stores.old).shelves }
-    requires within { IsWithinLimits command.now }
+    requires once { AnswersOnce command.now }
     ensures answered { IfOk result (λ text. (promise_of command.now (work_of S.state (stream R.remaining R.faults) stores.old stores.new input.old input.new)).answers (string_bytes text)) }
     ensures err { IfErr result (promise_of command.now (work_of S.state (stream R.remaining R.faults) stores.old stores.new input.old input.new)).stops }
     ensures kept { AreKept (S.state stores.old) (S.state stores.new) }
@@ -49,8 +50,8 @@ fn answer<S: Registry, R: Source>(
         Command::Replay => replay(alloc, stores, input, names),
         Command::Bench(n) => bench(alloc, stores, *n, names),
         Command::Schema(places) => schema(alloc, stores, input, places.as_slice()),
-        Command::Sql
-        | Command::Load(_, _, _)
+        Command::Sql => unreachable!(),
+        Command::Load(_, _, _)
         | Command::Export(_)
         | Command::Retire(_, _)
         | Command::Alter(_, _, _)
@@ -70,20 +71,84 @@ fn write<W: Sink>(output: &mut W, text: &str) -> Status
     }
 }
 
+// Whether the command is a session.
+fn is_session(command: &Command) -> bool
+    ensures { IsTrue result ↔ command.now ≡ Command.Sql }
+{
+    matches!(command, Command::Sql)
+}
+
+// Does the work of a command, and writes what it answers.
+fn answer_once<S: Registry, R: Source, W: Sink>(
+    alloc: Global,
+    command: &Command,
+    stores: &mut S,
+    input: &mut R,
+    output: &mut W,
+    names: &Names,
+) -> Status
+    requires some { 0 < length (S.state stores.old).shelves }
+    requires unplaced { (S.state stores.old).places ≡ [] }
+    requires distinct { AreDistinct (names_of (S.state stores.old).shelves) }
+    requires names { names.now ≡ names_of (S.state stores.old).shelves }
+    requires once { AnswersOnce command.now }
+    ensures ended { EndsOnce command.now (work_of S.state (stream R.remaining R.faults) stores.old stores.new input.old input.new) (stream W.written W.faults output.old) (stream W.written W.faults output.new) result }
+    ensures kept { AreKept (S.state stores.old) (S.state stores.new) }
+    ensures counted { R.faults input.old ≤ R.faults input.new }
+    ensures counted_output { W.faults output.old ≤ W.faults output.new }
+{
+    match answer(alloc, command, stores, input, names) {
+        Ok(text) => write(output, text.as_str()),
+        Err(status) => status,
+    }
+}
+
+// Does what a command asks for.
+fn perform<S: Registry, R: Source, W: Sink, C: Clock, I: Ids>(
+    alloc: Global,
+    command: &Command,
+    stores: &mut S,
+    input: &mut R,
+    output: &mut W,
+    clock: &mut C,
+    ids: &mut I,
+    names: &Names,
+) -> Status
+    requires some { 0 < length (S.state stores.old).shelves }
+    requires unplaced { (S.state stores.old).places ≡ [] }
+    requires distinct { AreDistinct (names_of (S.state stores.old).shelves) }
+    requires names { names.now ≡ names_of (S.state stores.old).shelves }
+    requires once { command.now ≢ Command.Sql → AnswersOnce command.now }
+    ensures ended { EndsAs command.now (ends (views S.state (stream R.remaining R.faults) (stream W.written W.faults) C.told I.told)
+        stores.old stores.new input.old input.new output.old output.new clock.old clock.new ids.old ids.new) result }
+    ensures kept { AreKept (S.state stores.old) (S.state stores.new) }
+    ensures counted { R.faults input.old ≤ R.faults input.new }
+    ensures counted_output { W.faults output.old ≤ W.faults output.new }
+{
+    if is_session(command) {
+        sql(alloc, stores, input, output, clock, ids)
+    } else {
+        answer_once(alloc, command, stores, input, output, names)
+    }
+}
+
 /// Runs the program on its words, those after its name, and on the stores of a registry, at least one.
 ///
-/// It takes all places away first. Each command does its work before it writes anything, and what it answers is then written as one
-/// text. What is said of the contents of stores is said where they are known.
-pub fn run<S: Registry, R: Source, W: Sink>(
+/// It takes all places away first. A session answers line by line. Each other command does its work before it writes anything, and what it
+/// answers is then written as one text. What is said of the contents of stores is said where they are known.
+pub fn run<S: Registry, R: Source, W: Sink, C: Clock, I: Ids>(
     alloc: Global,
     words: &[String],
     stores: &mut S,
     input: &mut R,
     output: &mut W,
+    clock: &mut C,
+    ids: &mut I,
 ) -> Status
     requires { 0 < length (S.state stores.old).shelves }
-    // It ends as a command of these words may end, or as words of no command do.
-    ensures ended { HasEnded (map string_bytes words.now) (ends S.state (stream R.remaining R.faults) (stream W.written W.faults) stores.old stores.new input.old input.new output.old output.new) result }
+    // It ends as the command of these words may end, or as words of no command do.
+    ensures ended { HasEnded (map string_bytes words.now) (ends (views S.state (stream R.remaining R.faults) (stream W.written W.faults) C.told I.told)
+        stores.old stores.new input.old input.new output.old output.new clock.old clock.new ids.old ids.new) result }
     ensures kept { AreKept (S.state stores.old) (S.state stores.new) }
     ensures counted { R.faults input.old ≤ R.faults input.new }
     ensures counted_output { W.faults output.old ≤ W.faults output.new }
@@ -96,8 +161,5 @@ pub fn run<S: Registry, R: Source, W: Sink>(
         Ok(command) => command,
         Err(status) => return status,
     };
-    match answer(alloc, &command, stores, input, &names) {
-        Ok(text) => write(output, text.as_str()),
-        Err(status) => status,
-    }
+    perform(alloc, &command, stores, input, output, clock, ids, &names)
 }

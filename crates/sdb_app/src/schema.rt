@@ -34,8 +34,8 @@ fn read_schema<R: Source>(alloc: Global, input: &mut R) -> Result<Catalog, Statu
     }
 }
 
-// How the program ends where a catalog was not written.
-fn catalog_status(refused: CatalogRefused) -> Status
+/// How the program ends where a catalog was not written or opened.
+pub fn catalog_status(refused: CatalogRefused) -> Status
     ensures { result ≡ status_of_catalog refused }
 {
     match refused {

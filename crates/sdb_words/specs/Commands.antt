@@ -1,5 +1,5 @@
 -- Which words are which command.
-use Rattle.std.specs.Prelude.{◌≡◌, ◌≢◌, ◌≤◌, ℕ, Bool, true, false, List, [], ◌∷◌, map, codes, decimal, Some, slice_get, Contains}
+use Rattle.std.specs.Prelude.{◌≡◌, ◌≢◌, ◌≤◌, ℕ, true, List, [], ◌∷◌, map, codes, decimal, Some, slice_get, Contains}
 use Rattle.sdb_types.specs.Identifier.{is_name}
 use Rattle.sdb_record.specs.Parts.{is_column_name}
 use Rattle.sdb_loader.specs.Words.{kind_named}
@@ -55,15 +55,3 @@ AreWordsOf stores command.Audit words = words ≡ codes "audit" ∷ []
 -- These words are those of no command.
 abbrev pub AreOfNone : List (List ℕ) → List (List ℕ) → Type 0
 AreOfNone stores words = (c : Command) → AreWordsOf stores c words → ⊥
-
--- the program has the command
-abbrev pub is_available : Command → Bool
-is_available command.Replay = true
-is_available (command.Bench n) = true
-is_available (command.Schema places) = true
-is_available command.Sql = false
-is_available (command.Load table mode n) = false
-is_available (command.Export table) = false
-is_available (command.Retire from to) = false
-is_available (command.Alter table column kind) = false
-is_available command.Audit = false

@@ -1,7 +1,4 @@
 //! The commands of the program.
-ghost use Rattle.std.specs.Prelude.{◌≡◌};
-ghost use Rattle.sdb_words.specs.Commands.{is_available as is_available_lem};
-
 use sdb_schema::Kind;
 use sdb_stores::Place;
 use sdb_types::{Name, NoMemory, Seq, TableName};
@@ -53,18 +50,6 @@ impl Drop for Command {
             Command::Alter(_, _, _) => {}
             Command::Audit => {}
         }
-    }
-}
-
-impl Command {
-    /// Whether the program has this command.
-    pub fn is_available(&self) -> bool
-        ensures { result ≡ is_available_lem self.now }
-    {
-        matches!(
-            self,
-            Command::Replay | Command::Bench(_) | Command::Schema(_)
-        )
     }
 }
 

@@ -308,6 +308,57 @@ static BENCHES: [Steps; 3] = [
     },
 ];
 
+// Sessions over a schema that was kept, with the ids from 1 on and the moment 0.
+static SESSIONS: [Steps; 3] = [
+    Steps {
+        on: On::Two,
+        steps: &[
+            Step::Done(SHOP, SCHEMA, CREATED),
+            Step::Done(
+                &["sql"],
+                b"BEGIN\nINSERT INTO bank.account (id, balance) VALUES (1, 100)\n\nINSERT INTO shop.orders (customer, placed, note) VALUES (1, 200, 'a,b')\nCOMMIT;\n",
+                b"done\ncount 1\ncount 1\ncommitted\n",
+            ),
+            Step::Done(
+                &["sql"],
+                b"BEGIN\nSELECT * FROM shop.orders WHERE customer = 1 LIMIT 1\nSELECT balance FROM bank.account WHERE id = 1\nROLLBACK\n",
+                b"done\nrows 1 (1,'a,b',200L)\nrows 1 (100)\ndone\n",
+            ),
+        ],
+    },
+    // No table at all, and no line.
+    Steps {
+        on: On::One,
+        steps: &[
+            Step::Done(&["sql"], b"", b""),
+            Step::Done(&["sql"], b"COMMIT\n", b"notopen\n"),
+        ],
+    },
+    // A line that is no text, a source and a sink that fail, and a store that fails the opening.
+    Steps {
+        on: On::Failing(5, false),
+        steps: &[
+            Step::Done(&["schema"], SCHEMA, CREATED),
+            Step::Refused(&["sql"], b"BEGIN\n", STORE_FAULT),
+            Step::Refused(
+                &["sql"],
+                b"\n\xff\n",
+                Refusal {
+                    end: End::BadInput(2, Bad::Text),
+                    line: "bad input at 2",
+                    code: 3,
+                },
+            ),
+            Step::WriteFails(&["sql"], b"BEGIN\nROLLBACK\n", &[2], b"done\n"),
+        ],
+    },
+];
+
+#[test]
+fn sessions_are_run(rt: HostRuntime) -> Result<(), Fail> {
+    all_cases(rt.alloc(), "sessions", SESSIONS.as_slice())
+}
+
 #[test]
 fn benches_are_counted(rt: HostRuntime) -> Result<(), Fail> {
     all_cases(rt.alloc(), "benches", BENCHES.as_slice())
@@ -325,7 +376,7 @@ impl Case for Unknown {
     }
 }
 
-static UNKNOWN: [Unknown; 14] = [
+static UNKNOWN: [Unknown; 13] = [
     Unknown(&[]),
     Unknown(&["bench", "0"]),
     Unknown(&["bench", "01"]),
@@ -338,7 +389,6 @@ static UNKNOWN: [Unknown; 14] = [
     Unknown(&["schema", "shop=hashed", "shop=hashed"]),
     Unknown(&["schema", "scalardb=hashed"]),
     Unknown(&["schema", "shop"]),
-    Unknown(&["sql"]),
     Unknown(&["export", "shop.orders"]),
 ];
 

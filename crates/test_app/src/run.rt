@@ -5,7 +5,7 @@ use sdb_app::{InputFault, Status, run};
 use sdb_model::Which;
 use sdb_script::LineFault;
 use sdb_stores::Registry;
-use sdb_types::{Calls, Feed, NoMemory, Octets, Tray};
+use sdb_types::{Calls, Feed, Moments, NoMemory, Numbers, Octets, Ticks, Tray};
 use std::alloc::Global;
 use std::test::Fail;
 
@@ -181,7 +181,10 @@ fn runs<S: Registry>(
 ) -> bool
     requires { 0 < length (S.state stores.old).shelves }
 {
-    is_ended(alloc, &run(alloc, words, stores, input, output), call)
+    let mut clock = Ticks::new(Moments::new(alloc));
+    let mut ids = Numbers::new(1);
+    let status = run(alloc, words, stores, input, output, &mut clock, &mut ids);
+    is_ended(alloc, &status, call)
 }
 
 // Whether it ends as listed, and writes as listed.

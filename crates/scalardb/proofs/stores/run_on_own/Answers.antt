@@ -28,7 +28,7 @@ returns g c =
     }
 
 pub returns-in_default : goal.returns-in_default
-returns-in_default g c = record { ended = starved own_attached (map string_bytes c.args.words.now) _ _ }
+returns-in_default g c = record { ended = starved own_attached (map string_bytes c.args.words.now) _ _ _ _ }
 
 pub returns-then-not-first : goal.returns-then-not-first
-returns-then-not-first g c = record { ended = starved own_attached (map string_bytes c.args.words.now) _ _ }
+returns-then-not-first g c = record { ended = starved own_attached (map string_bytes c.args.words.now) _ _ _ _ }

@@ -28,10 +28,10 @@ returns g c =
     }
 
 pub returns-in_default : goal.returns-in_default
-returns-in_default g c = record { ended = starved_over (map string_bytes c.args.words.now) _ _ }
+returns-in_default g c = record { ended = starved_over (map string_bytes c.args.words.now) _ _ _ _ }
 
 pub returns-in_default-2 : goal.returns-in_default-2
-returns-in_default-2 g c = record { ended = starved_over (map string_bytes c.args.words.now) _ _ }
+returns-in_default-2 g c = record { ended = starved_over (map string_bytes c.args.words.now) _ _ _ _ }
 
 pub returns-then-not-zeroth : goal.returns-then-not-zeroth
-returns-then-not-zeroth g c = record { ended = starved_over (map string_bytes c.args.words.now) _ _ }
+returns-then-not-zeroth g c = record { ended = starved_over (map string_bytes c.args.words.now) _ _ _ _ }

@@ -1,10 +1,10 @@
-use Rattle.std.proofs.Common.{◌≡◌, ◌∙◌, List, ℕ, Ok, Err, Result, IfOk, IfErr, ap, subst, sym}
+use Rattle.std.proofs.Common.{◌≡◌, ◌∙◌, ap, subst, sym}
 use Rattle.std.specs.String.{string_bytes}
 use Rattle.sdb_stores.specs.Shelf.{names_of}
 use Rattle.sdb_model.specs.declared.script.Script.{Script}
 use Rattle.sdb_world.specs.World.{IsPlayable}
 use Rattle.sdb_world.specs.Step.{CanFollow}
-use Rattle.sdb_app.specs.Bench.{IsBenchedOn, bench_over, name_at}
+use Rattle.sdb_app.specs.Bench.{bench_over}
 use Rattle.sdb_app.specs.Run.{CanBePlaced, IsOutcome, StopsPlay, TellOf}
 use Rattle.sdb_app.proofs.BenchPlayable.{benched_on, followable, placed_over, playable}
 use Rattle.sdb_app.proofs.Playing.{ok_then}

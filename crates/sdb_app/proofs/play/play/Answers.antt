@@ -4,7 +4,7 @@ use Rattle.sdb_board.specs.Board.{shown}
 use Rattle.sdb_board.proofs.GoesOn.{goes_more, some_more}
 use Rattle.sdb_app.specs.Run.{TellOf}
 use Rattle.sdb_world.proofs.Explained.{no_coordinator}
-use Rattle.sdb_app.proofs.Headline.{kept_after, kept_same, stops_after, stops_as, fit_script, outcome_is, never_foreign, found_first}
+use Rattle.sdb_app.proofs.Headline.{kept_after, stops_after, stops_as, fit_script, outcome_is, never_foreign, found_first}
 use Rattle.sdb_app.proofs.Playing.{err_then, ok_six}
 use Rattle.sdb_app.proofs.play.play.Goals as goal
 

@@ -1,0 +1,166 @@
+-- What `sql` promises of its work, begun with the places that there were before; and a session over stores of which less is known.
+use Rattle.std.proofs.Common.{◌≡◌, ◌∙◌, ◌⊎◌, ◌≤◌, ◌+◌, ℕ, ℤ, List, [], ◌∷◌, ◌++◌, drop, map, length, Option, refl, sym, ap, subst}
+use Rattle.std.specs.Prelude.{IfSome, IsSome, ◌<◌}
+use Rattle.sdb_types.specs.Bytes.{HasRisen}
+use Rattle.sdb_schema.specs.declared.table.Table.{Table}
+use Rattle.sdb_stores.specs.declared.place.Place.{Place}
+use Rattle.sdb_stores.specs.Shelf.{Attached, Shelf as Counted, AreDistinct, home, names_of, place_of, placed_on}
+use Rattle.sdb_board.specs.Board.{AreFit, placed, shown}
+use Rattle.sdb_catalog.specs.Calls.{first_contents}
+use Rattle.sdb_catalog.specs.Known.{IsBadIn, IsCatalogIn}
+use Rattle.sdb_catalog.specs.declared.refused.CatalogRefused.{CatalogRefused}
+use Rattle.sdb_session.specs.Database.{Database, database_of}
+use Rattle.sdb_session.specs.Session.{AreNewIds, Exchange, IsSerialSession, faults_in}
+use Rattle.sdb_session.specs.Turns.{IsWellFormed}
+use Rattle.sdb_answer.specs.Answering.{database_in}
+use Rattle.sdb_answer.specs.Drawn.{drawn_id}
+use Rattle.sdb_answer.specs.Sessions.{FaultsWithin, IsSession}
+use Rattle.sdb_shell.specs.declared.refused.SessionRefused.{SessionRefused}
+use Rattle.sdb_shell.specs.declared.refused.SessionRefused.TheVariants as refused
+use Rattle.sdb_shell.specs.Session.{CutShort, IsAnsweredSoFar, IsCutSession, IsWhole, Refused, Starves}
+use Rattle.sdb_app.specs.declared.status.Status.{Status}
+use Rattle.sdb_app.specs.Ends.{Ends, Work}
+use Rattle.sdb_app.specs.Sql.{HasEndedSession, IfFault, IsCatalogOpened, stores_with}
+use Rattle.sdb_app.specs.Sql.HasEndedSession.{Cut, Unopened, Whole}
+use Rattle.sdb_app.proofs.Headline.{begun_with}
+use Rattle.sdb_app.proofs.Schemas.{read_before, unread_before}
+
+-- The same stores with the same places, of which no more is known.
+pub record AreLess (less more : Attached) : Type 0 where
+  pub places : more.places ≡ less.places
+  pub shelves : more.shelves ≡ less.shelves
+  pub telling : (at : ℕ) → less.tells at → more.tells at
+
+fit_more : (catalog : List Table) (less more : Attached) → AreLess less more → AreFit catalog less → AreFit catalog more
+fit_more catalog less more l f = record {
+  some = subst (λ (ss : List Counted). 0 < length ss) (sym l.shelves) f.some;
+  distinct = subst (λ (ss : List Counted). AreDistinct (names_of ss)) (sym l.shelves) f.distinct;
+  homed = λ ns. subst (λ (ps : List Place). IfSome (placed_on ns ps) (λ store. IsSome (place_of store (names_of more.shelves)))) (sym l.places)
+      (subst (λ (ss : List Counted). IfSome (placed_on ns less.places) (λ store. IsSome (place_of store (names_of ss)))) (sym l.shelves) (f.homed ns));
+  telling = λ table about. subst (λ (ps : List Place). more.tells (home table.ns ps (names_of more.shelves))) (sym l.places)
+      (subst (λ (ss : List Counted). more.tells (home table.ns less.places (names_of ss))) (sym l.shelves) (l.telling _ (f.telling table about)));
+}
+
+same_database : (less more : Attached) → AreLess less more → database_in more ≡ database_in less
+same_database less more l = ap (λ ps. database_of (placed ps) (shown more.shelves)) l.places ∙ ap (λ ss. database_of (placed less.places) (shown ss)) l.shelves
+
+session_less : (catalog : List Table) (old new old' new' : Attached) (clock clock_then : Option (List ℤ)) (ids ids_then : Option (List ℕ)) (es : List Exchange) → AreLess old' old → AreLess new' new → IsSession catalog old new clock clock_then ids ids_then es → IsSession catalog old' new' clock clock_then ids ids_then es
+session_less catalog old new old' new' clock clock_then ids ids_then es o n so = record {
+  moments = so.moments;
+  drawn = so.drawn;
+  spare = so.spare;
+  draws = so.draws;
+  begun = so.begun;
+  taken = so.taken;
+  faults = subst (λ (ss : List Counted). FaultsWithin (faults_in es) ss new'.shelves) o.shelves (subst (λ (ss : List Counted). FaultsWithin (faults_in es) old.shelves ss) n.shelves so.faults);
+  serial = λ f. subst (λ (d : Database). (w : IsWellFormed catalog d) → AreNewIds catalog d (map drawn_id (so.drawn ++ so.spare ∷ [])) → IsSerialSession catalog d (database_in new') w.tables es) (same_database old' old o)
+      (λ w ids. subst (λ (d : Database). IsSerialSession catalog (database_in old) d w.tables es) (same_database new' new n) (so.serial (fit_more catalog old' old o f) w ids));
+}
+
+pub whole_less : (catalog : List Table) (old new old' new' : Attached) (clock clock_then : Option (List ℤ)) (ids ids_then written written_then remaining remaining_then : Option (List ℕ)) → AreLess old' old → AreLess new' new → IsWhole catalog old new clock clock_then ids ids_then written written_then remaining remaining_then → IsWhole catalog old' new' clock clock_then ids ids_then written written_then remaining remaining_then
+whole_less catalog old new old' new' clock clock_then ids ids_then written written_then remaining remaining_then o n h = record {
+  text = h.text;
+  es = h.es;
+  taken = h.taken;
+  ends = h.ends;
+  most = h.most;
+  fit = h.fit;
+  answered = h.answered;
+  output = h.output;
+  session = session_less catalog old new old' new' clock clock_then ids ids_then h.es o n h.session;
+}
+
+so_far_less : (catalog : List Table) (old new old' new' : Attached) (clock clock_then : Option (List ℤ)) (ids ids_then written written_then left left_then : Option (List ℕ)) (used n : ℕ) → AreLess old' old → AreLess new' new → IsAnsweredSoFar catalog old new clock clock_then ids ids_then written written_then left left_then used n → IsAnsweredSoFar catalog old' new' clock clock_then ids ids_then written written_then left left_then used n
+so_far_less catalog old new old' new' clock clock_then ids ids_then written written_then left left_then used n o l h = record {
+  lines = h.lines;
+  es = h.es;
+  taken = h.taken;
+  fit = h.fit;
+  counted = h.counted;
+  number = h.number;
+  answered = h.answered;
+  output = h.output;
+  session = session_less catalog old new old' new' clock clock_then ids ids_then h.es o l h.session;
+}
+
+pub cut_less : (catalog : List Table) (old new old' new' : Attached) (clock clock_then : Option (List ℤ)) (ids ids_then written written_then remaining remaining_then : Option (List ℕ)) (why : SessionRefused) → AreLess old' old → AreLess new' new → IsCutSession catalog old new clock clock_then ids ids_then written written_then remaining remaining_then why → IsCutSession catalog old' new' clock clock_then ids ids_then written written_then remaining remaining_then why
+cut_less catalog old new old' new' clock clock_then ids ids_then written written_then remaining remaining_then why o l (Refused h) = Refused (record {
+  n = h.n;
+  used = h.used;
+  used_then = h.used_then;
+  left = h.left;
+  ahead = h.ahead;
+  before = so_far_less catalog old new old' new' clock clock_then ids ids_then written written_then remaining h.left h.used h.n o l h.before;
+  refused = h.refused;
+})
+cut_less catalog old new old' new' clock clock_then ids ids_then written written_then remaining remaining_then why o l (CutShort kind h) = CutShort kind (record {
+  lines = h.lines;
+  line = h.line;
+  end = h.end;
+  es = h.es;
+  last = h.last;
+  ahead = h.ahead;
+  written_mid = h.written_mid;
+  taken = h.taken;
+  fit = h.fit;
+  fits = h.fits;
+  some = h.some;
+  answered = h.answered;
+  output = h.output;
+  prefix = h.prefix;
+  session = session_less catalog old new old' new' clock clock_then ids ids_then (h.es ++ h.last ∷ []) o l h.session;
+})
+cut_less catalog old new old' new' clock clock_then ids ids_then written written_then remaining remaining_then why o l (Starves is h) = Starves is (record {
+  n = h.n;
+  used = h.used;
+  left = h.left;
+  held = h.held;
+  clock_mid = h.clock_mid;
+  ids_mid = h.ids_mid;
+  before = so_far_less catalog old (record old { shelves = h.held }) old' (record old' { shelves = h.held }) clock h.clock_mid ids h.ids_mid written written_then remaining h.left h.used h.n o
+      (record { places = o.places; shelves = refl; telling = o.telling }) h.before;
+})
+
+---- what `sql` promises, begun with the places that there were before
+
+opened_before : (before : Attached) (work : Work) (catalog : List Table) (places : List Place) (mid : List Counted) → work.old.shelves ≡ before.shelves → ((at : ℕ) → before.tells at → work.old.tells at) → IsCatalogOpened work catalog places mid → IsCatalogOpened (begun_with before work) catalog places mid
+opened_before before work catalog places mid same telling h = record {
+  opened = record { entries = h.opened.entries; read = read_before before work.old mid h.opened.entries same telling h.opened.read; tables = h.opened.tables; placed = h.opened.placed };
+  known = λ told. subst (λ (ss : List Counted). IsCatalogIn (names_of ss) (first_contents ss) catalog places) same (h.known (telling 0 told));
+  unchanged = λ told. h.unchanged (telling 0 told) ∙ ap first_contents same;
+  others = h.others ∙ ap (λ (ss : List Counted). drop 1 ss) same;
+}
+
+-- stores with these places, as they are known from the call's begin
+less_before : (before : Attached) (work : Work) (places : List Place) (shelves : List Counted) → ((at : ℕ) → before.tells at → work.old.tells at) → AreLess (stores_with (begun_with before work) places shelves) (stores_with work places shelves)
+less_before before work places shelves telling = record { places = refl; shelves = refl; telling = telling }
+
+fault_before : (before : Attached) (run : Ends) (e : SessionRefused) → IfFault run e → IfFault (record run { work = begun_with before run.work }) e
+fault_before before run refused.ReadFault f = f
+fault_before before run refused.WriteFault f = f
+fault_before before run (refused.BadLine n) f = f
+fault_before before run (refused.Limit n which) f = f
+fault_before before run refused.NoMemory f = f
+
+-- a fault is that of the source or the sink
+pub fault_of : (run : Ends) (e : SessionRefused) → (e ≡ refused.ReadFault → HasRisen run.work.input.faults run.work.rest.faults) → (e ≡ refused.WriteFault → HasRisen run.output.faults run.written.faults) → IfFault run e
+fault_of run refused.ReadFault reads writes = reads refl
+fault_of run refused.WriteFault reads writes = writes refl
+fault_of run (refused.BadLine n) reads writes = tt
+fault_of run (refused.Limit n which) reads writes = tt
+fault_of run refused.NoMemory reads writes = tt
+
+pub session_before : (before : Attached) (run run' : Ends) (s : Status) → run.work.old.shelves ≡ before.shelves → ((at : ℕ) → before.tells at → run.work.old.tells at) → run' ≡ record run { work = begun_with before run.work } → HasEndedSession run s → HasEndedSession run' s
+session_before before run run' s same telling is h = subst (λ (e : Ends). HasEndedSession e s) (sym is) (so h)
+  where
+    so : HasEndedSession run s → HasEndedSession (record run { work = begun_with before run.work }) s
+    so (Unopened cause h is unread unwritten) = Unopened cause (record {
+      refused = unread_before before run.work.old run.work.left cause same telling h.refused;
+      bad = λ told. subst (λ (ss : List Counted). IsBadIn (names_of ss) (first_contents ss) cause) same (h.bad (telling 0 told));
+      unchanged = λ told. h.unchanged (telling 0 told) ∙ ap first_contents same;
+      others = h.others ∙ ap (λ (ss : List Counted). drop 1 ss) same;
+    }) is unread unwritten
+    so (Whole catalog places mid opened whole is) = Whole catalog places mid (opened_before before run.work catalog places mid same telling opened)
+        (whole_less catalog _ _ _ _ run.clock run.clock_then run.ids run.ids_then run.output.bytes run.written.bytes run.work.input.bytes run.work.rest.bytes (less_before before run.work places mid telling) (less_before before run.work places run.work.left telling) whole) is
+    so (Cut catalog places mid cause opened cut fault is) = Cut catalog places mid cause (opened_before before run.work catalog places mid same telling opened)
+        (cut_less catalog _ _ _ _ run.clock run.clock_then run.ids run.ids_then run.output.bytes run.written.bytes run.work.input.bytes run.work.rest.bytes cause (less_before before run.work places mid telling) (less_before before run.work places run.work.left telling) cut) (fault_before before run cause fault) is
