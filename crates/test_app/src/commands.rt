@@ -331,7 +331,7 @@ static SESSIONS: [Steps; 3] = [
         on: On::One,
         steps: &[
             Step::Done(&["sql"], b"", b""),
-            Step::Done(&["sql"], b"COMMIT\n", b"notopen\n"),
+            Step::Done(&["sql"], b"COMMIT\n", b"refused 5 0\n"),
         ],
     },
     // A line that is no text, a source and a sink that fail, and a store that fails the opening.
