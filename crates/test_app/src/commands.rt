@@ -417,9 +417,14 @@ pub fn puts(alloc: Global, stores: &mut Stores, row: Row) -> Result<bool, Fail> 
     Ok(matches!(stores.perform(&request), Reply::Applied))
 }
 
-/// Keeps the schema of these tests, of which the namespace `shop` is in the store `hashed`.
-pub fn keeps_schema(alloc: Global, stores: &mut Stores) -> Result<bool, Fail> {
-    ends(alloc, stores, call_of(Step::Done(SHOP, SCHEMA, CREATED)))
+/// Keeps the schema of these tests, of which the namespace `shop` is in the store `hashed` where there is one.
+pub fn keeps_schema(alloc: Global, stores: &mut Stores, on: On) -> Result<bool, Fail> {
+    let words = if matches!(on, On::Two) {
+        SHOP
+    } else {
+        &["schema"]
+    };
+    ends(alloc, stores, call_of(Step::Done(words, SCHEMA, CREATED)))
 }
 
 fn is_bad_store(alloc: Global) -> Result<bool, Fail> {

@@ -137,7 +137,9 @@ struct Sittings {
 impl Case for Sittings {
     fn holds(self, alloc: Global) -> Result<bool, Fail> {
         let mut stores = Stores::new(alloc);
-        if !attach_all(alloc, &mut stores, self.on)? || !keeps_schema(alloc, &mut stores)? {
+        if !attach_all(alloc, &mut stores, self.on)?
+            || !keeps_schema(alloc, &mut stores, self.on)?
+        {
             return Ok(false);
         }
         for row in self.left {
@@ -211,6 +213,56 @@ const WRONG: Row = Row {
         ("tx_version", Cell::Int(2)),
     ],
 };
+
+const WRITE: Lines = Lines {
+    first: 1,
+    moment: 0,
+    input: b"BEGIN\nINSERT INTO bank.account (id, balance) VALUES (1, 100)\nCOMMIT\n",
+    written: b"done\ncount 1\ncommitted\n",
+};
+
+const FOUND: Lines = Lines {
+    first: 100,
+    moment: 1,
+    input: READ,
+    written: b"done\nrows 1 (100)\ncommitted\n",
+};
+
+// A store that fails a call of the COMMIT. Its calls are one scan and three puts for the schema, a scan that opens the catalog, a get of the
+// INSERT, and then the prepare, the decision and the roll.
+static FAULTS: [Sittings; 3] = [
+    // The decision was put, and its row is found.
+    Sittings {
+        on: On::Failing(8, true),
+        left: &[],
+        sittings: &[Sitting::Done(WRITE), Sitting::Done(FOUND)],
+    },
+    // The decision was not put: the transaction is given up.
+    Sittings {
+        on: On::Failing(8, false),
+        left: &[],
+        sittings: &[
+            Sitting::Done(Lines {
+                written: b"done\ncount 1\nfaulted\n",
+                first: 1,
+                moment: 0,
+                input: b"BEGIN\nINSERT INTO bank.account (id, balance) VALUES (1, 100)\nCOMMIT\n",
+            }),
+            Sitting::Done(Lines {
+                first: 100,
+                moment: 1,
+                input: READ,
+                written: b"done\nrows 0\ncommitted\n",
+            }),
+        ],
+    },
+    // The record was not rolled forward: the next session does that.
+    Sittings {
+        on: On::Failing(9, false),
+        left: &[],
+        sittings: &[Sitting::Done(WRITE), Sitting::Done(FOUND)],
+    },
+];
 
 static SITTINGS: [Sittings; 5] = [
     Sittings {
@@ -313,4 +365,168 @@ static SITTINGS: [Sittings; 5] = [
 #[test]
 fn sessions_are_answered(rt: HostRuntime) -> Result<(), Fail> {
     all_cases(rt.alloc(), "sittings", SITTINGS.as_slice())
+}
+
+#[test]
+fn faults_of_a_commit_are_settled(rt: HostRuntime) -> Result<(), Fail> {
+    all_cases(rt.alloc(), "faults", FAULTS.as_slice())
+}
+
+const ID: Cell = Cell::Text("00000000-0000-0002-0000-000000000001");
+
+const BEFORE: Cell = Cell::Text("00000000-0000-0001-0000-000000000001");
+
+/// A record of an account, by its columns, or one that was prepared with a row of the coordinator: that no transaction leaves it there.
+#[derive(Clone, Copy)]
+enum Broken {
+    Record(&'static [(&'static str, Cell)]),
+    Decision(&'static [(&'static str, Cell)]),
+}
+
+const ASKS: &[u8] = b"BEGIN\nSELECT balance FROM bank.account WHERE id = 1\n";
+
+// The session that finds it.
+fn finds(written: &'static [u8]) -> Sitting {
+    Sitting::Done(Lines {
+        first: 1,
+        moment: 0,
+        input: ASKS,
+        written,
+    })
+}
+
+impl Case for Broken {
+    fn holds(self, alloc: Global) -> Result<bool, Fail> {
+        let mut stores = Stores::new(alloc);
+        if !attach_all(alloc, &mut stores, On::Two)?
+            || !keeps_schema(alloc, &mut stores, On::Two)?
+        {
+            return Ok(false);
+        }
+        match self {
+            Broken::Record(columns) => {
+                let row = Row {
+                    place: PREPARED.place,
+                    columns,
+                };
+                Ok(
+                    puts(alloc, &mut stores, row)?
+                        && opens_and_sits(
+                            alloc,
+                            &mut stores,
+                            finds(b"done\nbadrecord bank.account(1)\n"),
+                        )?,
+                )
+            }
+            Broken::Decision(columns) => {
+                let row = Row {
+                    place: DECISION.place,
+                    columns,
+                };
+                Ok(
+                    puts(alloc, &mut stores, PREPARED)?
+                        && puts(alloc, &mut stores, row)?
+                        && opens_and_sits(
+                            alloc,
+                            &mut stores,
+                            finds(
+                                b"done\nbadrecord coordinator.state('00000000-0000-0002-0000-000000000001')\n",
+                            ),
+                        )?,
+                )
+            }
+        }
+    }
+}
+
+static BROKEN: [Broken; 13] = [
+    Broken::Record(&[]),
+    Broken::Record(&[
+        ("balance", Cell::Int(93)),
+        ("tx_id", ID),
+        ("tx_prepared_at", Cell::BigInt(0)),
+        ("tx_state", Cell::Int(4)),
+        ("tx_version", Cell::Int(1)),
+    ]),
+    Broken::Record(&[
+        ("balance", Cell::Int(93)),
+        ("tx_committed_at", Cell::BigInt(0)),
+        ("tx_id", ID),
+        ("tx_prepared_at", Cell::BigInt(0)),
+        ("tx_state", Cell::Int(3)),
+        ("tx_version", Cell::Int(0)),
+    ]),
+    Broken::Record(&[
+        ("balance", Cell::Int(93)),
+        ("tx_committed_at", Cell::BigInt(0)),
+        ("tx_id", ID),
+        ("tx_prepared_at", Cell::BigInt(-1)),
+        ("tx_state", Cell::Int(3)),
+        ("tx_version", Cell::Int(1)),
+    ]),
+    Broken::Record(&[
+        ("balance", Cell::Int(93)),
+        ("tx_id", ID),
+        ("tx_prepared_at", Cell::BigInt(0)),
+        ("tx_state", Cell::Int(3)),
+        ("tx_version", Cell::Int(1)),
+    ]),
+    Broken::Record(&[
+        ("balance", Cell::Int(93)),
+        ("tx_id", ID),
+        ("tx_prepared_at", Cell::BigInt(0)),
+        ("tx_state", Cell::Int(1)),
+        ("tx_tombstone", Cell::Bool(true)),
+        ("tx_version", Cell::Int(1)),
+    ]),
+    Broken::Record(&[
+        ("balance", Cell::Int(93)),
+        ("tx_id", ID),
+        ("tx_prepared_at", Cell::BigInt(0)),
+        ("tx_state", Cell::Int(2)),
+        ("tx_version", Cell::Int(1)),
+    ]),
+    Broken::Record(&[
+        ("balance", Cell::Int(93)),
+        ("before_balance", Cell::Int(100)),
+        ("tx_committed_at", Cell::BigInt(0)),
+        ("tx_id", ID),
+        ("tx_prepared_at", Cell::BigInt(0)),
+        ("tx_state", Cell::Int(3)),
+        ("tx_version", Cell::Int(1)),
+    ]),
+    Broken::Record(&[
+        ("balance", Cell::Int(93)),
+        ("before_tx_id", BEFORE),
+        ("tx_id", ID),
+        ("tx_prepared_at", Cell::BigInt(0)),
+        ("tx_state", Cell::Int(1)),
+        ("tx_version", Cell::Int(1)),
+    ]),
+    Broken::Record(&[
+        ("balance", Cell::Int(93)),
+        ("before_balance", Cell::Int(100)),
+        ("tx_id", ID),
+        ("tx_prepared_at", Cell::BigInt(0)),
+        ("tx_state", Cell::Int(1)),
+        ("tx_version", Cell::Int(1)),
+    ]),
+    Broken::Record(&[
+        ("balance", Cell::Text("much")),
+        ("tx_committed_at", Cell::BigInt(0)),
+        ("tx_id", ID),
+        ("tx_prepared_at", Cell::BigInt(0)),
+        ("tx_state", Cell::Int(3)),
+        ("tx_version", Cell::Int(1)),
+    ]),
+    Broken::Decision(&[
+        ("tx_created_at", Cell::BigInt(0)),
+        ("tx_state", Cell::Int(1)),
+    ]),
+    Broken::Decision(&[("tx_state", Cell::Int(3))]),
+];
+
+#[test]
+fn bad_records_are_named(rt: HostRuntime) -> Result<(), Fail> {
+    all_cases(rt.alloc(), "broken", BROKEN.as_slice())
 }
