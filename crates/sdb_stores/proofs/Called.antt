@@ -1,6 +1,6 @@
 -- Stores seen through what each shows.
 use Rattle.std.proofs.Common.{◌≡◌, ◌⊎◌, inl, inr, ℕ, suc, zero, ◌+◌, ◌-◌, ◌^◌, ◌<◌, ◌≤◌, List, [], ◌∷◌, ◌++◌, length, map, take, drop, get_or, slice_set, Bool, true, false, not, cond, nat_lt, Option, Some, None, IfOk, Result, refl, sym, ap, subst, ◌∙◌, arith, add-one, add_comm, add_assoc}
-use Rattle.std.specs.Prelude.{slice_get, position, remove, sum_by, Any, IsSomeAnd, unwrap_or}
+use Rattle.std.specs.Prelude.{slice_get, position, remove, sum_by, Any, IsSome, IsSomeAnd, unwrap_or}
 use Rattle.std.specs.Option.{option_map}
 use Rattle.std.specs.List.{prefix_len}
 use Rattle.std.specs.Str.{bytes_eq}
@@ -63,6 +63,23 @@ home_within shelf xs places ns at some is =
     let h : home ns places (names_of (map shelf xs)) < length (names_of (map shelf xs)) = within_home (placed_on ns places) (names_of (map shelf xs)) n in
     omega (arith, same, is)
 
+-- an index among the shelves is one among the items
+pub shown_within : {A : Type 0} (shelf : A → Shelf) (xs : List A) (at : ℕ) → at < length (map shelf xs) → at < length xs
+shown_within shelf xs at inside = omega (arith, inside, length-map xs shelf)
+
+pub shown_inside : {A : Type 0} (shelf : A → Shelf) (xs : List A) (at : ℕ) → at < length xs → at < length (map shelf xs)
+shown_inside shelf xs at inside = omega (arith, inside, length-map xs shelf)
+
+-- where a name is that one of the stores has
+pub named_within : (shelves : List Shelf) (name : List ℕ) (o : Option ℕ) (at : ℕ) → IsSome (place_of name (names_of shelves)) → o ≡ place_of name (names_of shelves) → at ≡ unwrap_or o 0 → at < length shelves
+named_within shelves name o at some found is =
+    let there : unwrap_or (place_of name (names_of shelves)) 0 < length (names_of shelves) = named_there (place_of name (names_of shelves)) some refl in
+    omega (arith, is, ap (λ (p : Option ℕ). unwrap_or p 0) found, there, length-map shelves (λ (s : Shelf). s.name))
+  where
+    named_there : (p : Option ℕ) → IsSome p → place_of name (names_of shelves) ≡ p → unwrap_or p 0 < length (names_of shelves)
+    named_there None none e = absurd (let f : false ≡ true = none in cc)
+    named_there (Some i) h e = (position-Some (λ n. bytes_eq n name) (names_of shelves) i [] e).0
+
 stands_at : {A : Type 0} (shelf : A → Shelf) (xs : List A) (at : ℕ) (x : A) → at < length xs → x ≡ get_or xs at x → slice_get (map shelf xs) at ≡ Some (shelf x)
 stands_at shelf xs at x inside is = slice_get-map shelf xs at ∙ ap (option_map shelf) (slice_get-get_or xs at x inside) ∙ ap (λ z. Some (shelf z)) (sym is)
 
@@ -105,6 +122,9 @@ called_at {A} {places} {later} name see xs at home q r x y inside is same named 
       telling = telling_set tells xs at y (λ h. called.telling (told_at tells xs at x here h));
     } in
     subst (λ (i : ℕ). IsCallAt i q r (attached_as name see places xs) (attached_as name see later (slice_set xs at y))) same call
+
+pub moved_at : (at home : ℕ) (q : Request) (r : Reply) (m n : Attached) → at ≡ home → IsCallAt at q r m n → IsCallAt home q r m n
+moved_at at home q r m n same call = subst (λ (i : ℕ). IsCallAt i q r m n) same call
 
 pub set_same : {A : Type 0} (xs : List A) (at : ℕ) (x : A) → slice_get xs at ≡ Some x → slice_set xs at x ≡ xs
 set_same [] at x e = refl

@@ -68,6 +68,10 @@ home ns places names = home_of (placed_on ns places) names
 abbrev pub home_in : Attached → List ℕ → ℕ
 home_in stores ns = home ns stores.places (names_of stores.shelves)
 
+-- where the store of that name is, among stores of which one has it
+abbrev pub index_at : Attached → List ℕ → ℕ
+index_at stores name = unwrap_or (index_in stores name) 0
+
 -- the places that name another store
 abbrev pub places_without : List ℕ → List Place → List Place
 places_without store places = filter (λ p. not (bytes_eq p.store store)) places

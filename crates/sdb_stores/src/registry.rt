@@ -1,6 +1,6 @@
 //! A registry of stores.
-ghost use Rattle.std.specs.Prelude.{◌≡◌, ◌<◌, ◌≤◌, ◌↔◌, ◌++◌, ◌∷◌, [], length, Some, None, IfOk, OnOk, OnErr, IsErrOf, slice_get};
-ghost use Rattle.sdb_stores.specs.Shelf.{Attached, AreDistinct, IsCallAt, HaveCause, HavePlaces, IsPlacedAlready, StayTheSame, home_in, index_in, names_of, table_of, total_faults};
+ghost use Rattle.std.specs.Prelude.{◌≡◌, ◌<◌, ◌≤◌, ◌↔◌, ◌++◌, ◌∷◌, [], length, Some, None, IsSome, IfOk, OnOk, OnErr, IsErrOf, slice_get};
+ghost use Rattle.sdb_stores.specs.Shelf.{Attached, AreDistinct, IsCallAt, HaveCause, HavePlaces, IsPlacedAlready, StayTheSame, home_in, index_at, index_in, names_of, table_of, total_faults};
 
 use crate::place::PlaceRefused;
 use sdb_types::{Name, Names, NoMemory, Reply, Request, TableName};
@@ -39,6 +39,15 @@ pub trait Registry {
     fn perform(&mut self, request: &Request) -> Reply
         requires { 0 < length (state self.old).shelves }
         ensures called { IsCallAt (home_in (state self.old) (table_of request.now).ns) request.now result (state self.old) (state self.new) }
+        ensures places { (state self.new).places ≡ (state self.old).places }
+        ensures names { names_of (state self.new).shelves ≡ names_of (state self.old).shelves }
+        ensures counted { total_faults (state self.old).shelves ≤ total_faults (state self.new).shelves }
+        ensures cause { HaveCause result (state self.old).shelves (state self.new).shelves };
+
+    /// One call on the store of that name, whichever store the request's table is placed on. Every other store stays as it was.
+    fn perform_at(&mut self, store: &Name, request: &Request) -> Reply
+        requires attached { IsSome (index_in (state self.old) store.now) }
+        ensures called { IsCallAt (index_at (state self.old) store.now) request.now result (state self.old) (state self.new) }
         ensures places { (state self.new).places ≡ (state self.old).places }
         ensures names { names_of (state self.new).shelves ≡ names_of (state self.old).shelves }
         ensures counted { total_faults (state self.old).shelves ≤ total_faults (state self.new).shelves }

@@ -1,8 +1,8 @@
 //! Stores in boxes.
-ghost use Rattle.std.specs.Prelude.{◌≡◌, ◌↔◌, ◌⊎◌, ◌++◌, ◌∷◌, [], ℕ, List, map, position, Err, None, IsSome, IfOk, IfSome, IfNone, OnOk, OnErr};
+ghost use Rattle.std.specs.Prelude.{◌≡◌, ◌↔◌, ◌⊎◌, ◌<◌, ◌++◌, ◌∷◌, [], ℕ, List, length, map, position, Err, None, IsSome, IfOk, IfSome, IfNone, OnOk, OnErr};
 ghost use Rattle.std.specs.Str.{bytes_eq};
 ghost use Rattle.sdb_store.specs.Store.{IsStoreCall};
-ghost use Rattle.sdb_stores.specs.Shelf.{AreDistinct, IsAdded, IsTakenOut, StayTheSame, attached_as, home_in, index_in};
+ghost use Rattle.sdb_stores.specs.Shelf.{AreDistinct, IsAdded, IsCallAt, IsTakenOut, StayTheSame, attached_as, home_in, index_in};
 ghost use Rattle.sdb_stores.specs.declared.place.Place.{Place};
 
 use crate::place::{Place, PlaceRefused, find_store, leave, table_of};
@@ -100,6 +100,16 @@ impl Stores {
         }
     }
 
+    // One call on the store at an index.
+    fn perform_on(&mut self, at: usize, request: &Request) -> Reply
+        requires { at < length (⟦<Stores as Registry>⟧.state self.old).shelves }
+        ensures called { IsCallAt at request.now result (⟦<Stores as Registry>⟧.state self.old) (⟦<Stores as Registry>⟧.state self.new) }
+        ensures places { (⟦<Stores as Registry>⟧.state self.new).places ≡ (⟦<Stores as Registry>⟧.state self.old).places }
+    {
+        let slot = &mut self.slots[at];
+        call_slot(slot, request)
+    }
+
     /// Adds a store after the others. A store that is refused is handed back.
     pub fn attach(&mut self, name: Name, store: Box<dyn Store>) -> Result<(), AttachRefused>
         ensures ok { OnOk result (IsAdded name (state store) (⟦<Stores as Registry>⟧.state self.old) (⟦<Stores as Registry>⟧.state self.new)) }
@@ -165,8 +175,12 @@ impl Registry for Stores {
 
     fn perform(&mut self, request: &Request) -> Reply {
         let at = self.home_of(&table_of(request).ns);
-        let slot = &mut self.slots[at];
-        call_slot(slot, request)
+        self.perform_on(at, request)
+    }
+
+    fn perform_at(&mut self, store: &Name, request: &Request) -> Reply {
+        let at = self.index_of(store).unwrap_or(0);
+        self.perform_on(at, request)
     }
 }
 
