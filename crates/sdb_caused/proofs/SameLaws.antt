@@ -1,6 +1,6 @@
 -- Equality of answers and of statements.
-use Rattle.std.proofs.Common.{◌≡◌, true, Option, Some, None, refl, sym, ap, ◌∙◌}
-use Rattle.std.specs.Prelude.{◌&&◌, ◌==◌}
+use Rattle.std.proofs.Common.{◌≡◌, Bool, true, Option, Some, None, refl, sym, ap, subst, ◌∙◌}
+use Rattle.std.specs.Prelude.{◌&&◌, ◌==◌, ◌↔◌, IsTrue}
 use Rattle.std.specs.Cmp.{first_so, second_so, unsigned_Decides, signed_Decides}
 use Rattle.std.specs.Cmp.Lexicographic.{pointwise_decides}
 use Rattle.std.specs.Ordering.{int_eq}
@@ -76,6 +76,9 @@ alike_is (Some a) (Some b) h = ap Some (answer_is a b h)
 alike_itself : (a : Option Answer) → answered_alike a a ≡ true
 alike_itself None = refl
 alike_itself (Some a) = is_answer a a refl
+
+pub alike_exact : (a b : Option Answer) (r : Bool) → r ≡ answered_alike a b → IsTrue r ↔ (a ≡ b)
+alike_exact a b r is = (λ t. alike_is a b (sym is ∙ t), λ e. is ∙ subst (λ (x : Option Answer). answered_alike a x ≡ true) e (alike_itself a))
 
 pub said_is : (a b : Said) → same_said a b ≡ true → a ≡ b
 said_is a b h =

@@ -1,5 +1,5 @@
 //! Equality of answers, of statements that were said, and of what is found.
-ghost use Rattle.std.specs.Prelude.{◌≡◌};
+ghost use Rattle.std.specs.Prelude.{◌≡◌, ◌↔◌, IsTrue};
 ghost use Rattle.std.specs.Option.{option_copied};
 ghost use Rattle.sdb_model.specs.Rows.{same_name};
 ghost use Rattle.sdb_order.specs.Commits.{said_of};
@@ -18,7 +18,7 @@ pub fn is_same_answer(a: &Answer, b: &Answer) -> bool
     *a == *b
 }
 
-fn is_answered_alike(a: &Option<Answer>, b: &Option<Answer>) -> bool
+fn are_alike(a: &Option<Answer>, b: &Option<Answer>) -> bool
     ensures { result ≡ answered_alike a.now b.now }
 {
     match (a, b) {
@@ -26,6 +26,14 @@ fn is_answered_alike(a: &Option<Answer>, b: &Option<Answer>) -> bool
         (None, None) => true,
         _ => false,
     }
+}
+
+/// Whether two statements have the same answer, or both have none.
+pub fn is_answered_alike(a: &Option<Answer>, b: &Option<Answer>) -> bool
+    ensures alike { result ≡ answered_alike a.now b.now }
+    ensures same { IsTrue result ↔ (a.now ≡ b.now) }
+{
+    are_alike(a, b)
 }
 
 fn is_same_text(a: &Txt, b: &Txt) -> bool

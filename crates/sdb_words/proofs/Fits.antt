@@ -23,8 +23,8 @@ use Rattle.clap.specs.Walk.{Row, Text}
 use Rattle.clap.specs.Faults.{fault_of}
 use Rattle.sdb_words.specs.declared.command.Command.{Command}
 use Rattle.sdb_words.specs.declared.command.Command.TheVariants as command
-use Rattle.sdb_words.specs.declared.command.Mode.{Mode}
-use Rattle.sdb_words.specs.declared.command.Mode.TheVariants as mode
+use Rattle.sdb_data.specs.declared.fault.Mode.{Mode}
+use Rattle.sdb_data.specs.declared.fault.Mode.TheVariants as mode
 use Rattle.sdb_words.specs.Commands.{AreWordsOf, mode_text}
 use Rattle.sdb_words.specs.Names.{IsTable, table_text}
 use Rattle.sdb_words.specs.Places.{place_text, IsPlace}

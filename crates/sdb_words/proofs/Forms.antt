@@ -11,8 +11,8 @@ use Rattle.sdb_loader.specs.Words.{kind_named}
 use Rattle.sdb_stores.specs.declared.place.Place.{Place}
 use Rattle.sdb_words.specs.declared.command.Command.{Command}
 use Rattle.sdb_words.specs.declared.command.Command.TheVariants as command
-use Rattle.sdb_words.specs.declared.command.Mode.{Mode}
-use Rattle.sdb_words.specs.declared.command.Mode.TheVariants as mode
+use Rattle.sdb_data.specs.declared.fault.Mode.{Mode}
+use Rattle.sdb_data.specs.declared.fault.Mode.TheVariants as mode
 use Rattle.sdb_words.specs.Commands.{AreOfNone, AreWordsOf, CanRetire, IsWithin, most_rows, most_transactions, mode_text}
 use Rattle.sdb_words.specs.Names.{IsTable, table_text}
 use Rattle.sdb_words.specs.Places.{place_text, IsPlace}

@@ -5,8 +5,8 @@ use Rattle.sdb_record.specs.Parts.{is_column_name}
 use Rattle.sdb_loader.specs.Words.{kind_named}
 use Rattle.sdb_words.specs.declared.command.Command.{Command}
 use Rattle.sdb_words.specs.declared.command.Command.TheVariants as command
-use Rattle.sdb_words.specs.declared.command.Mode.{Mode}
-use Rattle.sdb_words.specs.declared.command.Mode.TheVariants as mode
+use Rattle.sdb_data.specs.declared.fault.Mode.{Mode}
+use Rattle.sdb_data.specs.declared.fault.Mode.TheVariants as mode
 use Rattle.sdb_words.specs.Names.{IsTable, table_text}
 use Rattle.sdb_words.specs.Places.{ArePlaces, place_text}
 

@@ -1,17 +1,10 @@
 //! The commands of the program.
+use sdb_data::Mode;
 use sdb_schema::Kind;
 use sdb_stores::Place;
 use sdb_types::{Name, NoMemory, Seq, TableName};
 use std::alloc::AllocError;
 use thiserror::Error;
-
-/// How `load` writes the rows that it reads.
-#[derive(Clone, Copy, Debug, PartialEq, Eq)]
-pub enum Mode {
-    Insert,
-    Update,
-    Upsert,
-}
 
 /// What the words of the program ask for.
 #[derive(Debug, PartialEq, Eq)]

@@ -9,5 +9,5 @@ mod parser;
 mod places;
 mod read;
 
-pub use command::{Command, Mode, WordsRefused};
+pub use command::{Command, WordsRefused};
 pub use read::command_of;

@@ -3,18 +3,19 @@ ghost use Rattle.std.specs.Prelude.{◌≡◌, ◌≢◌, ◌<◌, ◌^◌, [], 
 ghost use Rattle.clap.specs.Words.{fault_of, found_of, rows_of};
 ghost use Rattle.sdb_words.specs.declared.command.Command.{Command};
 ghost use Rattle.sdb_words.specs.declared.command.Command.TheVariants as command;
-ghost use Rattle.sdb_words.specs.declared.command.Mode.{Mode};
+ghost use Rattle.sdb_data.specs.declared.fault.Mode.{Mode};
 ghost use Rattle.sdb_words.specs.declared.command.WordsRefused.{WordsRefused};
 ghost use Rattle.sdb_words.specs.Commands.{AreOfNone, AreWordsOf, mode_text};
 ghost use Rattle.sdb_words.specs.Parser.{are_undashed as are_undashed_lem, arguments, in_order, is_undashed as is_undashed_lem, program, text_read, AreMatchesOf, IsTaken};
 
-use crate::command::{Command, Mode, WordsRefused};
+use crate::command::{Command, WordsRefused};
 use crate::names::{attached, is_first, table_in};
 use crate::numbers::number_in;
 use crate::parser::parser;
 use crate::places::places_in;
 use clap::ArgMatches;
 use clap::error::ErrorKind;
+use sdb_data::Mode;
 use sdb_loader::{is_short_name, kind_named, known_name};
 use sdb_types::{Duplicate, Names};
 use std::alloc::Global;

@@ -1,8 +1,9 @@
 //! Words of the program, and which command they are.
+use sdb_data::Mode;
 use sdb_schema::Kind;
 use sdb_stores::Place;
 use sdb_types::TableName;
-use sdb_words::{Command, Mode, WordsRefused, command_of};
+use sdb_words::{Command, WordsRefused, command_of};
 use std::alloc::Global;
 use std::test::Fail;
 use test_builders::{Case, all_cases, names_of};
