@@ -20,7 +20,8 @@ use Rattle.sdb_session.specs.Working.{is_open_after}
 use Rattle.sdb_session.proofs.Betweens.{between_more, parts_more}
 use Rattle.sdb_session.proofs.Fresh.{chain_more, fresh_ids, reached}
 use Rattle.sdb_session.proofs.Plain.{own_at}
-use Rattle.sdb_session.proofs.Sessions.{map_more, session_serial}
+use Rattle.sdb_session.proofs.Sessions.{map_more}
+use Rattle.sdb_session.proofs.Steps.{session_serial}
 use Rattle.sdb_answer.specs.Answering.{IsAlone, database_in, exchange}
 use Rattle.sdb_answer.specs.Drawn.{drawn_id}
 use Rattle.sdb_answer.specs.Sessions.{FaultsWithin, HasAnswered, IsHand, IsSession, IsSessionSoFar, SessionAt, TellAll}

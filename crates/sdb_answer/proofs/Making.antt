@@ -8,6 +8,7 @@ use Rattle.sdb_model.specs.declared.answer.Answer.TheVariants as answer
 use Rattle.sdb_model.specs.declared.answer.Refusal.{Refusal}
 use Rattle.sdb_model.specs.declared.statement.Statement.{Statement}
 use Rattle.sdb_types.specs.declared.record.Reply.{Reply}
+use Rattle.sdb_types.proofs.Basics.{none_some, some_is}
 use Rattle.sdb_stores.specs.Shelf.{Attached, HaveCause, HaveRisen}
 use Rattle.sdb_stores.specs.declared.place.Place.{Place as Placed}
 use Rattle.sdb_board.specs.Board.{GoOn, how_seen, placed, shown}
@@ -32,12 +33,6 @@ use Rattle.sdb_session.proofs.Takings.{takes}
 use Rattle.sdb_session.proofs.Texts.{text_is_read}
 use Rattle.sdb_session.proofs.Working.{replies_lead, takings_lead}
 use Rattle.sdb_answer.specs.Answering.{AreMade, HasCalled, IsAlone, IsAnswered, IsWorking, WaitsOver, database_in, exchange}
-
-none_some : {X : Type 0} (x : X) → ◌≡◌ {A = Option X} None (Some x) → ⊥
-none_some x e = cc
-
-some_one : {X : Type 0} (x y : X) → ◌≡◌ {A = Option X} (Some x) (Some y) → x ≡ y
-some_one x y e = cc
 
 ok_one : (x y : Statement) → ◌≡◌ {A = Result Statement Refusal} (Ok x) (Ok y) → x ≡ y
 ok_one x y e = cc
@@ -102,14 +97,14 @@ waits_still now old new c d h goes w = by (alone_leads now old new c None d h go
   where
     by : LeadsTo w.catalog w.was w.fresh now (Ok w.statement) (database_in new) w.opened None d → Waits w.catalog w.was now w.statement (database_in new) w.opened d
     by (More st is none waits) = subst (λ x. Waits w.catalog w.was now x (database_in new) w.opened d) (sym (ok_one w.statement st is)) waits
-    by (Answers z some ends) = absurd (none_some z some)
+    by (Answers z some ends) = none_some z some
 
 pub ends_now : (now : ℤ) (old new : Attached) (c : ClientAt) (a : Answer) (d : ClientAt) → HasCalled now old c (Some a) new d → GoOn old new → (w : WaitsOver now old c) → StatementEnds w.catalog w.was w.fresh now (Ok w.statement) (database_in new) w.opened a d
 ends_now now old new c a d h goes w = by (alone_leads now old new c (Some a) d h goes w)
   where
     by : LeadsTo w.catalog w.was w.fresh now (Ok w.statement) (database_in new) w.opened (Some a) d → StatementEnds w.catalog w.was w.fresh now (Ok w.statement) (database_in new) w.opened a d
-    by (More st is none waits) = absurd (none_some a (sym none))
-    by (Answers z some ends) = subst (λ y. StatementEnds w.catalog w.was w.fresh now (Ok w.statement) (database_in new) w.opened y d) (sym (some_one a z some)) ends
+    by (More st is none waits) = none_some a (sym none)
+    by (Answers z some ends) = subst (λ y. StatementEnds w.catalog w.was w.fresh now (Ok w.statement) (database_in new) w.opened y d) (sym (some_is a z some)) ends
 
 -- a statement that waits, later
 abbrev pub over_later : (now : ℤ) (old mid : Attached) (c e : ClientAt) → GoOn old mid → ((catalog : List Table) → IsOfTables catalog c → IsOfTables catalog e) → (w : WaitsOver now old c) → Waits w.catalog w.was now w.statement (database_in mid) w.opened e → WaitsOver now mid e
@@ -159,7 +154,7 @@ module _ (q : Taking) (vacuums : q.gate.vacuum_runs ≡ false) (opens : q.gate.o
         ended = (leads x.0 x.1 (λ n. absurd (n f))).ended a e;
         about = about_taken;
         fault = λ k. clean_at_once a e x.0 x.1 (λ n. absurd (n f)) k stores;
-        alone = λ w. starves q.catalog (database_in stores) w.opened (exchange x.0 q.now q.fresh a) text c d x.1 (some_one a answer.NoMemory (sym e ∙ f)) w.between (memory f);
+        alone = λ w. starves q.catalog (database_in stores) w.opened (exchange x.0 q.now q.fresh a) text c d x.1 (some_is a answer.NoMemory (sym e ∙ f)) w.between (memory f);
       })
       (λ n. let x = told n in record {
         says = x.0;
@@ -171,8 +166,8 @@ module _ (q : Taking) (vacuums : q.gate.vacuum_runs ≡ false) (opens : q.gate.o
       })
     where
       by : (stores : Attached) (w : IsAlone q.catalog q.fresh q.now stores c) (says : Result Statement Refusal) → LeadsTo q.catalog (database_in stores) q.fresh q.now says (database_in stores) w.opened result d → Exchanged q.catalog (database_in stores) w.opened (exchange says q.now q.fresh a) (database_in stores) d
-      by stores w says (More st is none waits) = absurd (none_some a (sym none ∙ e))
-      by stores w says (Answers z some ends) = Was (subst (λ y. StatementEnds q.catalog (database_in stores) q.fresh q.now says (database_in stores) w.opened y d) (some_one z a (sym some ∙ e)) ends)
+      by stores w says (More st is none waits) = none_some a (sym none ∙ e)
+      by stores w says (Answers z some ends) = Was (subst (λ y. StatementEnds q.catalog (database_in stores) q.fresh q.now says (database_in stores) w.opened y d) (some_is z a (sym some ∙ e)) ends)
 
   no_memory : result ≡ None → result ≢ Some answer.NoMemory
   no_memory e f = none_some answer.NoMemory (sym e ∙ f)
@@ -200,4 +195,4 @@ module _ (q : Taking) (vacuums : q.gate.vacuum_runs ≡ false) (opens : q.gate.o
       by : (w : IsAlone q.catalog q.fresh q.now old c) (says : Result Statement Refusal) → LeadsTo q.catalog (database_in old) q.fresh q.now says (database_in old) w.opened result d → Exchanged q.catalog (database_in old) w.opened (exchange says q.now q.fresh a) (database_in new) e
       by w says (More st is empty waits) = subst (λ y. Exchanged q.catalog (database_in old) w.opened (exchange y q.now q.fresh a) (database_in new) e) (sym is)
           (Was (made.alone (record { catalog = q.catalog; fit = w.fit; about = about_taken w.about; was = database_in old; well_formed = w.well_formed; time = w.time; fresh = q.fresh; statement = st; opened = w.opened; waits = waits })))
-      by w says (Answers z some ends) = absurd (none_some z (sym none ∙ some))
+      by w says (Answers z some ends) = none_some z (sym none ∙ some)

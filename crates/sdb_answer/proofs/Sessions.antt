@@ -19,9 +19,6 @@ use Rattle.sdb_answer.specs.Sessions.{HasAnswered, IsHand, SessionAt}
 use Rattle.sdb_session.specs.Session.{Exchange, IsTaken, begins, is_begin, turned_away}
 use Rattle.sdb_session.specs.Working.{IsEnded}
 
-none_some : {X : Type 0} (x : X) → ◌≡◌ {A = Option X} None (Some x) → ⊥
-none_some x e = cc
-
 -- a BEGIN inside of a transaction begins none
 inside_begins : (catalog : List Table) (e : Exchange) → IsTaken catalog true e → begins e ≡ false
 inside_begins catalog e taken = by e.says refl

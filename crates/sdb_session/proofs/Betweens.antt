@@ -1,7 +1,7 @@
 -- Between two statements again: what the answer of a statement leaves of its session's open transaction.
 use Rattle.std.proofs.Common.{◌≡◌, Bool, true, false, List, [], ◌∷◌, ◌++◌, Option, Some, None, Ok, refl, sym, ap, subst, ◌∙◌}
 use Rattle.std.specs.Prelude.{fold, is_some, map, ◌&&◌, ◌||◌, if◌then◌else◌}
-use Rattle.sdb_types.proofs.Basics.{by_test, some_is}
+use Rattle.sdb_types.proofs.Basics.{by_test, none_some, some_is}
 use Rattle.sdb_schema.specs.declared.table.Table.{Table}
 use Rattle.sdb_record.specs.declared.access.Access.{Access}
 use Rattle.sdb_model.specs.declared.answer.Answer.{Answer}
@@ -17,9 +17,6 @@ use Rattle.sdb_session.specs.Chain.{Answers, Exchanged, Starved, open_after, ope
 use Rattle.sdb_session.specs.Clients.{Added, AnsweredAlone, IsAskedFor, Kept, OpenAlone}
 use Rattle.sdb_session.specs.Session.{Exchange, Part, Parts, begins, body_in, ends, is_begin, is_commit, is_rollback, no_parts, part_after, parts_after, parts_of, statements_in, turned_away}
 use Rattle.sdb_session.proofs.Sessions.{away_none, away_open, idle_meek, map_more, mild_meek, no_word, none_open, one_open, rows_meek, stays_by}
-
-no_transaction : {X : Type 0} (x : X) → ◌≡◌ {A = Option X} None (Some x) → ⊥
-no_transaction x e = cc
 
 and_false : (b : Bool) → (b && false) ≡ false
 and_false true = refl
@@ -112,16 +109,16 @@ module _ (catalog : List Table) (g h : Database) (ts : List Part) (e : Exchange)
   ends_between : (p : Option Part) → StatementEnds catalog g e.id e.moment e.says h (open_of p) e.answer c → After p
   ends_between p (Turned away same left) = turned p away left
   ends_between None (Begun is none done same left) = begun (ap (λ x. is_begin x && is_done (Some e.answer)) is ∙ ap (λ z. is_done (Some z)) done) left
-  ends_between (Some t) (Begun is none done same left) = absurd (no_transaction (transaction_of t) (sym none))
-  ends_between None (RolledBack b is some done same left) = absurd (no_transaction b some)
+  ends_between (Some t) (Begun is none done same left) = none_some (transaction_of t) (sym none)
+  ends_between None (RolledBack b is some done same left) = none_some b some
   ends_between (Some t) (RolledBack b is some done same left) = over t (ap (λ x. is_commit x || (is_conflict (Some e.answer) || (is_rollback x && is_done (Some e.answer)))) is ∙ ap (λ z. is_conflict (Some z) || is_done (Some z)) done) left
-  ends_between None (Answered b st p a s is of asked stays some settles so still) = absurd (no_transaction b some)
+  ends_between None (Answered b st p a s is of asked stays some settles so still) = none_some b some
   ends_between (Some t) (Answered b st p a s is of asked stays some settles so still) =
       answered t st p a s is of asked (subst (λ (x : OpenTransaction). AnsweredAlone catalog h x.statements x.answers st a e.moment x.id e.answer s) (sym (some_is (transaction_of t) b some)) so) (subst (λ (x : OpenTransaction). IsStill x s c) (sym (some_is (transaction_of t) b some)) still)
-  ends_between None (Ended b s is some opened later ends left) = absurd (no_transaction b some)
+  ends_between None (Ended b s is some opened later ends left) = none_some b some
   ends_between (Some t) (Ended b s is some opened later ends left) = over t (commit_ends (ap is_commit is)) left
   ends_between None (Swept is none quiet all left) = outside (ap (λ x. is_begin x && is_done (Some e.answer)) is) left
-  ends_between (Some t) (Swept is none quiet all left) = absurd (no_transaction (transaction_of t) (sym none))
+  ends_between (Some t) (Swept is none quiet all left) = none_some (transaction_of t) (sym none)
 
   pub between_after : (p : Option Part) → Exchanged catalog g (open_of p) e h c → After p
   between_after p (Answers ends) = ends_between p ends

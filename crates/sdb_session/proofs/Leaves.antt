@@ -1,4 +1,4 @@
--- What a COMMIT that has ended leaves: rows as they were, or with its writes.
+-- What a COMMIT that has ended leaves: images and rows as they were, or with its writes.
 use Rattle.std.proofs.Common.{◌≡◌, ◌≢◌, ◌<◌, ◌^◌, ℕ, Bool, true, false, List, Option, Some, None, ◌⊎◌, inl, inr, refl, sym, ap, subst, ◌∙◌}
 use Rattle.std.specs.Prelude.{is_some, slice_get, IfSome, IsSomeAnd, if◌then◌else◌}
 use Rattle.std.specs.Option.{option_and_then}
@@ -35,6 +35,7 @@ use Rattle.sdb_session.specs.OnlyResolves.{IsApart, IsSound}
 use Rattle.sdb_session.specs.Recovers.{IsAborted, IsUndecided}
 use Rattle.sdb_session.specs.Commits.{IsDone, IsGivenUp, IsLoose, IsWon, OthersUnchanged, WorkAlone}
 use Rattle.sdb_session.specs.Seen.{AreImagesOf}
+use Rattle.sdb_session.specs.Tombstones.{HasWritten, SameImages}
 use Rattle.sdb_session.proofs.Recovers.{row_at}
 use Rattle.sdb_session.proofs.Resolves.{firm_image, row_key, under_aborted}
 use Rattle.sdb_session.proofs.Writes.{found_at, based_at}
@@ -74,9 +75,9 @@ module _ (catalog : List Table) (apart : IsApart catalog) (start : Database) (so
     | inr n ↦ n.0
   ]))
 
-  -- at a key that isn't written the row is as it was
-  row_kept : (k : Key) → is_listed catalog k ≡ true → is_written p.writes k ≡ false → row_in h k ≡ row_in start k
-  row_kept k listed free = by (start k) refl
+  -- at a key that isn't written the image is as it was
+  image_kept : (k : Key) → is_listed catalog k ≡ true → is_written p.writes k ≡ false → image_in h k ≡ image_in start k
+  image_kept k listed free = images (start k) refl
     where
       present : h k ≡ start k
       present = others k free (elim (same_key_tells k row) [
@@ -99,9 +100,6 @@ module _ (catalog : List Table) (apart : IsApart catalog) (start : Database) (so
       images None e = ap (means h) (present ∙ e) ∙ sym (ap (means start) e)
       images (Some r) e = ap (means h) (present ∙ e) ∙ at r e (is_in state.Committed r.columns) refl ∙ sym (ap (means start) e)
 
-      by : (o : Option Record) → start k ≡ o → row_in h k ≡ row_in start k
-      by o e = ap (option_and_then row_of_image) (images o e)
-
   -- what was prepared is of its transaction
   writer : (w : Write) → id_in (prepared_record w p.id p.now).columns ≡ Some p.id
   writer w = version-writer (prepared_record w p.id p.now) p.id _ work.fits (prepared-version w p.id p.now)
@@ -112,19 +110,19 @@ module _ (catalog : List Table) (apart : IsApart catalog) (start : Database) (so
   image_prepared : (w : Write) (k : Key) → h k ≡ Some (prepared_record w p.id p.now) → image_in h k ≡ image_under (prepared_record w p.id p.now) (decided_in h p.id)
   image_prepared w k e = ap (λ o. option_and_then (λ r. image_of r (decided_on h r)) o) e ∙ image-open (prepared_record w p.id p.now) (decided_on h (prepared_record w p.id p.now)) (prepared-unsettled w p.id p.now) ∙ ap (image_under (prepared_record w p.id p.now)) (decided_prepared w)
 
-  -- a base has its row
-  base_row : (j : ℕ) (w : Write) → slice_get p.writes j ≡ Some w → (image_in h w.key ≡ w.base) → row_in h w.key ≡ row_in start w.key
-  base_row j w at e =
+  -- a base is the image that was there
+  base_image : (j : ℕ) (w : Write) → slice_get p.writes j ≡ Some w → (image_in h w.key ≡ w.base) → image_in h w.key ≡ image_in start w.key
+  base_image j w at e =
       let s = based_at catalog apart start p work j w at in
-      ap (option_and_then row_of_image) (e ∙ sym (ap (λ o. option_and_then (λ r. image_of r (decided_on start r)) o) s.base ∙ firm_image w.base (decided_on start) (firm w.base s.is_write.base)))
+      e ∙ sym (ap (λ o. option_and_then (λ r. image_of r (decided_on start r)) o) s.base ∙ firm_image w.base (decided_on start) (firm w.base s.is_write.base))
     where
       firm : (o : Option Record) → IfSome o (IsBaseOf w.key) → is_firm o ≡ true
       firm None f = refl
       firm (Some b) f = f.2
 
-  -- Given up: each row is as it was.
-  pub given_up_rows : IsGivenUp p h → (k : Key) → is_listed catalog k ≡ true → row_in h k ≡ row_in start k
-  given_up_rows up k listed = by (write_among p.writes k) refl
+  -- Given up: each image is as it was.
+  pub given_up_same : IsGivenUp p h → SameImages catalog start h
+  given_up_same up k listed = by (write_among p.writes k) refl
     where
       undecided : (w : Write) → (IsUndecided h p.id ⊎ IsAborted h p.id) → image_under (prepared_record w p.id p.now) (decided_in h p.id) ≡ before_record (prepared_record w p.id p.now)
       undecided w (inl none) = ap (λ o. image_under (prepared_record w p.id p.now) (row_at o)) none
@@ -134,21 +132,38 @@ module _ (catalog : List Table) (apart : IsApart catalog) (start : Database) (so
           on None a = absurd a
           on (Some d) a = under_aborted (prepared_record w p.id p.now) d a
 
-      loose : (j : ℕ) (w : Write) → slice_get p.writes j ≡ Some w → IsLoose p w (h w.key) → row_in h w.key ≡ row_in start w.key
+      loose : (j : ℕ) (w : Write) → slice_get p.writes j ≡ Some w → IsLoose p w (h w.key) → image_in h w.key ≡ image_in start w.key
       loose j w at (inl based) =
           let s = based_at catalog apart start p work j w at in
-          base_row j w at (ap (λ o. option_and_then (λ r. image_of r (decided_on h r)) o) based ∙ firm_image w.base (decided_on h) (firm w.base s.is_write.base))
+          base_image j w at (ap (λ o. option_and_then (λ r. image_of r (decided_on h r)) o) based ∙ firm_image w.base (decided_on h) (firm w.base s.is_write.base))
         where
           firm : (o : Option Record) → IfSome o (IsBaseOf w.key) → is_firm o ≡ true
           firm None f = refl
           firm (Some b) f = f.2
-      loose j w at (inr prepared) = base_row j w at (image_prepared w w.key prepared ∙ undecided w up.0 ∙ prepared-base w p.id p.now (based_at catalog apart start p work j w at).is_write)
+      loose j w at (inr prepared) = base_image j w at (image_prepared w w.key prepared ∙ undecided w up.0 ∙ prepared-base w p.id p.now (based_at catalog apart start p work j w at).is_write)
 
-      by : (o : Option Write) → write_among p.writes k ≡ o → row_in h k ≡ row_in start k
-      by None e = row_kept k listed (ap is_some e)
+      by : (o : Option Write) → write_among p.writes k ≡ o → image_in h k ≡ image_in start k
+      by None e = image_kept k listed (ap is_some e)
       by (Some w) e =
           let f = found_at p.writes k w e in
-          subst (λ q. row_in h q ≡ row_in start q) (sym f.2) (loose f.0 w f.1 (up.1 f.0 w f.1))
+          subst (λ q. image_in h q ≡ image_in start q) (sym f.2) (loose f.0 w f.1 (up.1 f.0 w f.1))
+
+  pub given_up_rows : IsGivenUp p h → (k : Key) → is_listed catalog k ≡ true → row_in h k ≡ row_in start k
+  given_up_rows up k listed = ap (option_and_then row_of_image) (given_up_same up k listed)
+
+  -- Done: each image is as it was, but at the keys that it wrote, where a record is.
+  pub done_written : IsDone p h → HasWritten catalog (is_written p.writes) start h
+  done_written done = record { there = λ k listed written. there k (write_among p.writes k) refl written; others = λ k listed free. image_kept k listed free }
+    where
+      won : (w : Write) → IsWon p w (h w.key) → is_some (image_in h w.key) ≡ true
+      won w (inl prepared) = ap is_some (image_prepared w w.key prepared ∙ ap (image_under (prepared_record w p.id p.now)) done.0)
+      won w (inr forwarded) = ap is_some (ap (λ o. option_and_then (λ r. image_of r (decided_on h r)) o) forwarded ∙ image-settled (forward_record (prepared_record w p.id p.now) p.now) (decided_on h (forward_record (prepared_record w p.id p.now) p.now)) (forward-committed (prepared_record w p.id p.now) p.now))
+
+      there : (k : Key) (o : Option Write) → write_among p.writes k ≡ o → is_written p.writes k ≡ true → is_some (image_in h k) ≡ true
+      there k None e written = false_true (sym (ap is_some e) ∙ written)
+      there k (Some w) e written =
+          let f = found_at p.writes k w e in
+          ap (λ q. is_some (image_in h q)) f.2 ∙ won w (done.1 f.0 w f.1)
 
   -- Done: each row is as it was, but for those that it wrote.
   done_rows : IsDone p h → (k : Key) → is_listed catalog k ≡ true → row_in h k ≡ own_row (write_among p.writes k) (row_in start k)
@@ -159,7 +174,7 @@ module _ (catalog : List Table) (apart : IsApart catalog) (start : Database) (so
       won j w at (inr forwarded) = ap (option_and_then row_of_image) (ap (λ o. option_and_then (λ r. image_of r (decided_on h r)) o) forwarded ∙ image-settled (forward_record (prepared_record w p.id p.now) p.now) (decided_on h (forward_record (prepared_record w p.id p.now) p.now)) (forward-committed (prepared_record w p.id p.now) p.now)) ∙ forward-prepared-row w p.id p.now p.now (based_at catalog apart start p work j w at).is_write
 
       by : (o : Option Write) → write_among p.writes k ≡ o → row_in h k ≡ own_row o (row_in start k)
-      by None e = row_kept k listed (ap is_some e)
+      by None e = ap (option_and_then row_of_image) (image_kept k listed (ap is_some e))
       by (Some w) e =
           let f = found_at p.writes k w e in
           ap (row_in h) f.2 ∙ won f.0 w f.1 (done.1 f.0 w f.1)

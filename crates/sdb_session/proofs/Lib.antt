@@ -24,3 +24,5 @@ pub mod Starves
 pub mod Working
 pub mod Faults
 pub mod Betweens
+pub mod Steps
+pub mod Counts

@@ -1,5 +1,5 @@
 -- Whatever call a client that is alone has pending, and whatever its reply: its statement waits for another, or is answered.
-use Rattle.std.proofs.Common.{◌≡◌, ℕ, ℤ, Bool, true, false, List, Option, Some, None, Ok, ◌⊎◌, inl, inr, refl, sym, ap, subst, ◌∙◌, length}
+use Rattle.std.proofs.Common.{◌≡◌, ℤ, Bool, true, false, List, Option, Some, None, Ok, ◌⊎◌, inl, inr, refl, sym, ap, subst, ◌∙◌, length}
 use Rattle.std.specs.Prelude.{◌+◌, nat_lt, slice_get, if◌then◌else◌}
 use Rattle.std.specs.FinMap.{get}
 use Rattle.sdb_types.specs.declared.key.Key.{Key}
@@ -47,14 +47,15 @@ use Rattle.sdb_session.specs.OnlyResolves.{IsApart, OnlyResolves, IsSound}
 use Rattle.sdb_session.specs.Commits.{CommitAlone, IsDone, IsGivenUp}
 use Rattle.sdb_session.specs.Reads.{ReadAlone}
 use Rattle.sdb_session.specs.Seen.{AreImagesOf}
-use Rattle.sdb_session.specs.Sweeps.{AllClean, Quiet, SweepLeadsTo, SweepStageAlone}
+use Rattle.sdb_session.specs.Sweeps.{Quiet, SweepAlone, SweepLeadsTo}
+use Rattle.sdb_session.specs.Tombstones.{HasVacuumed}
 use Rattle.sdb_session.specs.Clients.{AnsweredAlone, IsAskedFor, LedAlone, OpenAlone}
 use Rattle.sdb_session.specs.Later.{Later}
 use Rattle.sdb_session.specs.Session.{turned_away}
-use Rattle.sdb_session.specs.Between.{Answered, Between, LeadsTo, CommitEnds, Commits, Ended, Lost, More, Reads, OpenTransaction, Sweeps, Swept, Answers, IsTxnOf, Waits, Won}
+use Rattle.sdb_session.specs.Between.{Answered, Between, LeadsTo, CommitEnds, Commits, Ended, Lost, More, Reads, OpenTransaction, Sweeps, Swept, Answers, IsTxnOf, SweptBy, Waits, Won}
 use Rattle.sdb_session.proofs.Commits.{commits}
 use Rattle.sdb_session.proofs.Ends.{done_later, given_up_later}
-use Rattle.sdb_session.proofs.Leaves.{done_images, given_up_images}
+use Rattle.sdb_session.proofs.Leaves.{done_images, done_written, given_up_images, given_up_same}
 use Rattle.sdb_session.proofs.Fits.{fits_there}
 use Rattle.sdb_session.proofs.Reading.{reads}
 use Rattle.sdb_session.proofs.Resolves.{row_stays, settles_trans, sound_stays}
@@ -110,13 +111,13 @@ module _ (catalog : List Table) (apart : IsApart catalog) (was g : Database) (so
   won : (z : Answer) → (z ≡ answer.Committed) ⊎ (z ≡ answer.Unknown id) → (a : Outcome) → CommitAlone catalog was p g (Over a) → IsDone p g → Leaves catalog was g id now s z
   won z replied a alone done = record {
     later = done_later catalog apart was sound p alone.work g alone.others own done d are_images fit;
-    ends = Won replied done.0 (λ e same_rows. done_images catalog apart was sound p alone.work g alone.others e same_rows done);
+    ends = Won replied done.0 (λ e same_rows. done_images catalog apart was sound p alone.work g alone.others e same_rows done) (done_written catalog apart was sound p alone.work g alone.others done);
   }
 
   lost : (z : Answer) → (z ≡ answer.Faulted) ⊎ ((z ≡ answer.NoMemory) ⊎ (z ≡ answer.Unknown id)) → (a : Outcome) → CommitAlone catalog was p g (Over a) → IsGivenUp p g → Leaves catalog was g id now s z
   lost z replied a alone up = record {
     later = given_up_later catalog apart was sound p alone.work g alone.others own up;
-    ends = Lost replied up.0 (λ e same_rows. given_up_images catalog apart was sound p alone.work g alone.others e same_rows up);
+    ends = Lost replied up.0 (λ e same_rows. given_up_images catalog apart was sound p alone.work g alone.others e same_rows up) (given_up_same catalog apart was sound p alone.work g alone.others up);
   }
 
   -- its answer, by its outcome
@@ -142,9 +143,9 @@ module _ (catalog : List Table) (apart : IsApart catalog) (was : Database) (soun
 
   ---- VACUUM
 
-  module _ (v : VacuumAt) (none : o ≡ None) (is : st ≡ statement.Vacuum) (runs : c.vacuum ≡ Some v) (txn : c.txn ≡ None) (plan : c.plan ≡ None) (alone : SweepStageAlone catalog g v.spans v.stage) (quiet : Quiet catalog was g) where
-    swept_called : Quiet catalog g h × SweepLeadsTo catalog h (vacuum_step v now r)
-    swept_called = sweeps catalog apart now time g h v.spans v.removed v.stage q r quiet.sound own alone (subst (λ (w : Option VacuumAt). pending_by w c.txn ≡ Some q) runs asked) called
+  module _ (v : VacuumAt) (none : o ≡ None) (is : st ≡ statement.Vacuum) (runs : c.vacuum ≡ Some v) (txn : c.txn ≡ None) (plan : c.plan ≡ None) (alone : SweepAlone catalog was now g v) (quiet : Quiet catalog was g) where
+    swept_called : Quiet catalog g h × SweepLeadsTo catalog was now h (vacuum_step v now r)
+    swept_called = sweeps catalog apart now time was g h v.spans v.removed v.stage q r quiet own alone.0 alone.1 (subst (λ (w : Option VacuumAt). pending_by w c.txn ≡ Some q) runs asked) called
 
     quiet_now : Quiet catalog was h
     quiet_now = quiet_trans catalog was g h quiet swept_called.0
@@ -155,7 +156,7 @@ module _ (catalog : List Table) (apart : IsApart catalog) (was : Database) (soun
     rests : e.vacuum ≡ None → Between catalog h None e
     rests f = record { free = f; plan = ap (λ (x : ClientAt). x.plan) sweep_answered.1 ∙ plan; txn = subst (IsTxnOf catalog h None) (sym (ap (λ (x : ClientAt). x.txn) sweep_answered.1 ∙ txn)) tt }
 
-    over : (z : Answer) → result ≡ Some z → (z ≡ answer.Faulted) ⊎ ((z ≡ answer.NoMemory) ⊎ ((n : ℕ) × (z ≡ answer.Count n) × AllClean catalog h)) → e.vacuum ≡ None → Goal
+    over : (z : Answer) → result ≡ Some z → SweptBy catalog was h now z → e.vacuum ≡ None → Goal
     over z replied all f = Answers z replied (Swept (ap Ok is) none quiet_now all (rests f))
 
     by_step : (s : VacuumStep) → sweep_answered.0.step ≡ s → Goal
@@ -165,18 +166,18 @@ module _ (catalog : List Table) (apart : IsApart catalog) (was : Database) (soun
         gives : Gives (vacuum_step v now r) sweep_answered.0.left sweep.More
         gives = subst (Gives (vacuum_step v now r) sweep_answered.0.left) f sweep_answered.0.told
 
-        stage_now : SweepStageAlone catalog h sweep_answered.0.left.spans sweep_answered.0.left.stage
-        stage_now = subst (λ (w : VacuumAt). SweepStageAlone catalog h w.spans w.stage) (sym gives.0) (subst (λ (s : VacuumStep). SweepLeadsTo catalog h ((vacuum_step v now r).0, s)) (sym gives.1) swept_called.1)
+        stage_now : SweepAlone catalog was now h sweep_answered.0.left
+        stage_now = subst (SweepAlone catalog was now h) (sym gives.0) (subst (λ (s : VacuumStep). SweepLeadsTo catalog was now h ((vacuum_step v now r).0, s)) (sym gives.1) swept_called.1)
     by_step (sweep.Count n) f = over (answer.Count n) (sweep_answered.0.answer ∙ ap answer_of f) (inr (inr (n, refl, all))) (sweep_answered.0.goes ∙ ap (λ (x : VacuumStep). vacuum_left x sweep_answered.0.left) f)
       where
         gives : Gives (vacuum_step v now r) sweep_answered.0.left (sweep.Count n)
         gives = subst (Gives (vacuum_step v now r) sweep_answered.0.left) f sweep_answered.0.told
 
-        all : AllClean catalog h
-        all = subst (λ (s : VacuumStep). SweepLeadsTo catalog h ((vacuum_step v now r).0, s)) (sym gives.1) swept_called.1
+        all : HasVacuumed catalog was h now n
+        all = subst (λ (s : VacuumStep). SweepLeadsTo catalog was now h ((vacuum_step v now r).0, s)) (sym gives.1) swept_called.1
     by_step sweep.Faulted f = over answer.Faulted (sweep_answered.0.answer ∙ ap answer_of f) (inl refl) (sweep_answered.0.goes ∙ ap (λ (x : VacuumStep). vacuum_left x sweep_answered.0.left) f)
     by_step sweep.NoMemory f = over answer.NoMemory (sweep_answered.0.answer ∙ ap answer_of f) (inr (inl refl)) (sweep_answered.0.goes ∙ ap (λ (x : VacuumStep). vacuum_left x sweep_answered.0.left) f)
-    by_step (sweep.BadRecord key) f = absurd (subst (λ (s : VacuumStep). SweepLeadsTo catalog h ((vacuum_step v now r).0, s)) (sym gives.1) swept_called.1)
+    by_step (sweep.BadRecord key) f = absurd (subst (λ (s : VacuumStep). SweepLeadsTo catalog was now h ((vacuum_step v now r).0, s)) (sym gives.1) swept_called.1)
       where
         gives : Gives (vacuum_step v now r) sweep_answered.0.left (sweep.BadRecord key)
         gives = subst (Gives (vacuum_step v now r) sweep_answered.0.left) f sweep_answered.0.told

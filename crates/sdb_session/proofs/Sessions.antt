@@ -2,7 +2,7 @@
 use Rattle.std.specs.Result.{result_ok}
 use Rattle.sdb_session.specs.Keys.{is_too_many, keys_of_body, passes_most}
 use Rattle.std.proofs.Common.{◌≡◌, ◌≢◌, ◌<◌, ◌^◌, ℕ, ℤ, Bool, true, false, List, [], ◌∷◌, ◌++◌, map, Option, Some, None, Result, Ok, Err, ◌⊎◌, inl, inr, cond, refl, sym, ap, subst, ◌∙◌, arith, append-nil, append_assoc}
-use Rattle.std.specs.Prelude.{◌&&◌, ◌||◌, find, fold, not, is_some, if◌then◌else◌, IfSome}
+use Rattle.std.specs.Prelude.{◌&&◌, ◌||◌, find, fold, if◌then◌else◌, IfSome}
 use Rattle.std.specs.Option.{option_map, option_map_or}
 use Rattle.std.specs.List.{AllByRecursion, list_any}
 use Rattle.std.specs.Ordering.{is_eq}
@@ -23,7 +23,6 @@ use Rattle.sdb_record.specs.Coordinator.{coordinator_key_of}
 use Rattle.sdb_record.specs.Meta.{checked, checked_before, checked_part, id_in, is_committed, is_in, is_misnamed, moment_in, refuse, with_before}
 use Rattle.sdb_record.specs.Names.{tx_prepared_at}
 use Rattle.sdb_record.specs.Parts.{before_part, is_before_pair}
-use Rattle.sdb_record.specs.Rolls.{is_tombstone}
 use Rattle.sdb_record.proofs.Fine.{refuse-ok, taken}
 use Rattle.sdb_schema.specs.declared.table.Table.{Table}
 use Rattle.sdb_model.specs.declared.answer.Answer.{Answer}
@@ -50,16 +49,16 @@ use Rattle.sdb_session.specs.Database.{Database, decided_in, is_listed, row_in}
 use Rattle.sdb_session.specs.OnlyResolves.{IsApart, OnlyResolves, IsSound}
 use Rattle.sdb_session.specs.Recovers.{IsAborted, IsCommittedAt, IsUndecided}
 use Rattle.sdb_session.specs.Seen.{AreImagesOf}
-use Rattle.sdb_session.specs.Sweeps.{AllClean, Quiet, is_clean}
+use Rattle.sdb_session.specs.Sweeps.{Quiet}
 use Rattle.sdb_session.specs.Clients.{Added, AnsweredAlone, IdleAlone, IsAskedFor, IsUnused, Kept, OpenAlone}
 use Rattle.sdb_session.specs.Later.{IsOwn, Later, Own}
-use Rattle.sdb_session.specs.Between.{Answered, Begun, Between, CommitEnds, Ended, Lost, RolledBack, OpenTransaction, Swept, Turned, IsTxnOf, Won}
-use Rattle.sdb_session.specs.Session.{AreSerialParts, Exchange, IfBusy, IfUnknown, IsBusyAlone, IsOfOpening, IsOfSession, IsSerialPart, IsSerialSession, IsSwept, NeverComes, Part, Parts, all_parts, answers_in, begins, body_in, ends, in_body, is_begin, is_commit, is_count, is_held_committed, is_recorded, is_recorded_by, is_rollback, is_vacuum, leaves_records, no_parts, part_after, parts_after, parts_of, statements_in, tables_after, turned_away, AreLimited, IsLimited}
+use Rattle.sdb_session.specs.Between.{Answered, Begun, Between, CommitEnds, Ended, Lost, RolledBack, OpenTransaction, Swept, SweptBy, Turned, IsTxnOf, Won}
+use Rattle.sdb_session.specs.Session.{AreSerialParts, Exchange, IfBusy, IfUnknown, IsBusyAlone, IsOfOpening, IsOfSession, IsSerialPart, NeverComes, Part, Parts, all_parts, answers_in, begins, body_in, ends, in_body, is_begin, is_commit, is_held_committed, is_recorded, is_recorded_by, is_rollback, is_vacuum, leaves_records, no_parts, part_after, parts_after, statements_in, tables_after, turned_away, AreLimited, IsLimited}
 use Rattle.sdb_session.specs.Chain.{Chain, Exchanged, Starved, Answers, transaction_of, open_of}
 use Rattle.sdb_session.proofs.Resolves.{row_key}
 use Rattle.sdb_session.proofs.Statements.{agrees_all, rows_change}
 use Rattle.sdb_session.proofs.Recovers.{row_at}
-use Rattle.sdb_session.proofs.Stays.{rows_same, IsOther, aborted_not, is_committed_by, later_of, parts_append, parts_same, serial_answered, tables_append, tables_same, unused_stays}
+use Rattle.sdb_session.proofs.Stays.{rows_same, IsOther, aborted_not, is_committed_by, later_of, parts_append, parts_same, tables_append, tables_same, unused_stays}
 use Rattle.sdb_session.proofs.Sweeps.{quiet_of, quiet_refl}
 
 ---- bodies
@@ -124,15 +123,16 @@ away_none catalog (Ok (statement.Select s)) z e = record { begin = refl; mild = 
 
 -- a statement on a table is none of the words
 pub record IsNoWord (says : Result Statement Refusal) : Type 0 where
+  pub vacuum : is_vacuum says ≡ false
   pub commit : is_commit says ≡ false
   pub rollback : is_rollback says ≡ false
 
 pub no_word : (catalog : List Table) (st : Statement) (t : Table) → named_table catalog st ≡ Some t → IsNoWord (Ok st)
-no_word catalog (statement.Insert s) t e = record { commit = refl; rollback = refl }
-no_word catalog (statement.Upsert s) t e = record { commit = refl; rollback = refl }
-no_word catalog (statement.Update s) t e = record { commit = refl; rollback = refl }
-no_word catalog (statement.Delete s) t e = record { commit = refl; rollback = refl }
-no_word catalog (statement.Select s) t e = record { commit = refl; rollback = refl }
+no_word catalog (statement.Insert s) t e = record { vacuum = refl; commit = refl; rollback = refl }
+no_word catalog (statement.Upsert s) t e = record { vacuum = refl; commit = refl; rollback = refl }
+no_word catalog (statement.Update s) t e = record { vacuum = refl; commit = refl; rollback = refl }
+no_word catalog (statement.Delete s) t e = record { vacuum = refl; commit = refl; rollback = refl }
+no_word catalog (statement.Select s) t e = record { vacuum = refl; commit = refl; rollback = refl }
 no_word catalog statement.Begin t e = none_some t e
 no_word catalog statement.Commit t e = none_some t e
 no_word catalog statement.Rollback t e = none_some t e
@@ -460,7 +460,7 @@ module _ (catalog : List Table) (apart : IsApart catalog) (start : Database) (be
   outside_step ended g h e c so own_h new (Answers (Ended b s is some opened later ends left)) = none_some b some
   outside_step ended g h e c so own_h new (Answers (Swept is none quiet all left)) = (outside_stays g h ended e so quiet (ap (λ s. is_begin s && is_done (Some e.answer)) is), never all)
     where
-      never : (e.answer ≡ answer.Faulted) ⊎ ((e.answer ≡ answer.NoMemory) ⊎ ((n : ℕ) × (e.answer ≡ answer.Count n) × AllClean catalog h)) → NeverComes e.answer → ⊥
+      never : SweptBy catalog g h e.moment e.answer → NeverComes e.answer → ⊥
       never (inl f) = subst (λ z. NeverComes z → ⊥) (sym f) (λ x. x)
       never (inr (inl f)) = subst (λ z. NeverComes z → ⊥) (sym f) (λ x. x)
       never (inr (inr x)) = subst (λ z. NeverComes z → ⊥) (sym x.1) (λ y. y)
@@ -590,8 +590,8 @@ module _ (catalog : List Table) (apart : IsApart catalog) (start : Database) (be
         never (inr (inr f)) = subst (λ z. NeverComes z → ⊥) (sym f) (λ x. x)
 
     ended_step : (s : Seen) → e.says ≡ Ok statement.Commit → OpenAlone catalog g (statements_in t.inside) (answers_in t.inside) t.id s → Later catalog (Some (record { id = t.id; at = e.moment })) g h → CommitEnds catalog g h t.id e.moment s e.answer → Inside
-    ended_step s is opened later (Won replied decided left) = won_step s is opened later replied decided (left E so.are_images)
-    ended_step s is opened later (Lost replied decided left) = lost_step is later replied decided (left E so.are_images)
+    ended_step s is opened later (Won replied decided left written) = won_step s is opened later replied decided (left E so.are_images)
+    ended_step s is opened later (Lost replied decided left images) = lost_step is later replied decided (left E so.are_images)
 
     starved_step : e.answer ≡ answer.NoMemory → h ≡ g → (is_commit e.says ≡ false → Between catalog h (Some (transaction_of t)) c) → Inside
     starved_step none same other = (by (is_commit e.says) refl, subst (λ z. NeverComes z → ⊥) (sym none) (λ x. x))
@@ -615,7 +615,7 @@ module _ (catalog : List Table) (apart : IsApart catalog) (start : Database) (be
 
   ---- the whole
 
-  step : (p : Parts) (g h : Database) (e : Exchange) (c : ClientAt) → So g p → ((k : Key) (r : Record) → h k ≡ Some r → r.key ≡ k) → (begins e ≡ true → IsOutside p.ended p.opened e.id) → Exchanged catalog g (open_of p.opened) e h c → So h (parts_after p e) × (NeverComes e.answer → ⊥)
+  pub step : (p : Parts) (g h : Database) (e : Exchange) (c : ClientAt) → So g p → ((k : Key) (r : Record) → h k ≡ Some r → r.key ≡ k) → (begins e ≡ true → IsOutside p.ended p.opened e.id) → Exchanged catalog g (open_of p.opened) e h c → So h (parts_after p e) × (NeverComes e.answer → ⊥)
   step p g h e c so own_h new x = by p.opened refl
     where
       by : (o : Option Part) → p.opened ≡ o → So h (parts_after p e) × (NeverComes e.answer → ⊥)
@@ -639,7 +639,7 @@ module _ (catalog : List Table) (apart : IsApart catalog) (start : Database) (be
       (r.0, (q.1, r.1))
 
   -- the open one too
-  all_serial : (g : Database) (p : Parts) → So g p → AreSerialParts catalog start g [] before (all_parts p)
+  pub all_serial : (g : Database) (p : Parts) → So g p → AreSerialParts catalog start g [] before (all_parts p)
   all_serial g p so = by p.opened so.current
     where
       by : (o : Option Part) → IfSome o (IsCurrent g p.ended) → AreSerialParts catalog start g [] before (p.ended ++ option_map_or (λ t. t ∷ []) o [])
@@ -650,60 +650,6 @@ module _ (catalog : List Table) (apart : IsApart catalog) (start : Database) (be
         many = x.many;
         last = subst (λ o. IfSome o (λ e. IfUnknown e.answer (λ id. id ≡ t.id))) (sym x.last) tt;
       })
-
-  -- the last statement
-  last_of : (p : Parts) (g : Database) (front : List Exchange) (e : Exchange) (last : Database) → Chain catalog g p (front ++ e ∷ []) last → (j : Database) × (q : Parts) × (c : ClientAt) × Exchanged catalog j (open_of q.opened) e last c
-  last_of p g [] e last (h, c, own_h, x, is) = (g, p, c, subst (λ j. Exchanged catalog g (open_of p.opened) e j c) (sym is) x)
-  last_of p g (y ∷ front) e last (h, c, own_h, x, rest) = last_of (parts_after p y) h front e last rest
-
-  swept_at : (j last : Database) (o : Option OpenTransaction) (e : Exchange) (c : ClientAt) → Exchanged catalog j o e last c → is_vacuum e.says ≡ true → is_count e.answer ≡ true → IsSwept catalog last
-  swept_at j last o e c x vacuum counted = by x
-    where
-      clean : AllClean catalog last → IsSwept catalog last
-      clean all k r listed present firm = not_both (is_tombstone r) (sym (ap (λ b. not (b && is_tombstone r)) firm) ∙ sym (ap is_clean present) ∙ all k listed)
-        where
-          not_both : (b : Bool) → not b ≡ true → b ≡ false
-          not_both true f = false_true f
-          not_both false f = refl
-
-      no_count : (z : Answer) → e.answer ≡ z → is_count z ≡ false → IsSwept catalog last
-      no_count z f g = false_true (sym g ∙ ap is_count (sym f) ∙ counted)
-
-      no_vacuum : (s : Result Statement Refusal) → e.says ≡ s → is_vacuum s ≡ false → IsSwept catalog last
-      no_vacuum s f g = false_true (sym g ∙ ap is_vacuum (sym f) ∙ vacuum)
-
-      on_all : (e.answer ≡ answer.Faulted) ⊎ ((e.answer ≡ answer.NoMemory) ⊎ ((n : ℕ) × (e.answer ≡ answer.Count n) × AllClean catalog last)) → IsSwept catalog last
-      on_all (inl f) = no_count answer.Faulted f refl
-      on_all (inr (inl f)) = no_count answer.NoMemory f refl
-      on_all (inr (inr y)) = clean y.2
-
-      refused_no : (b : Bool) → turned_away catalog b e.says ≡ Some e.answer → IsSwept catalog last
-      refused_no true f = on (away_open catalog e.says e.answer f).mild
-        where
-          on : (e.answer ≡ answer.OpenTransactions) ⊎ ((r : Refusal) × (e.answer ≡ answer.Refused r)) → IsSwept catalog last
-          on (inl y) = no_count answer.OpenTransactions y refl
-          on (inr y) = no_count (answer.Refused y.0) y.1 refl
-      refused_no false f = let m = (away_none catalog e.says e.answer f).mild in no_count (answer.Refused m.0) m.1 refl
-
-      on_table : (st : Statement) (t : Table) → named_table catalog st ≡ Some t → is_vacuum (Ok st) ≡ false
-      on_table (statement.Insert s) t f = refl
-      on_table (statement.Upsert s) t f = refl
-      on_table (statement.Update s) t f = refl
-      on_table (statement.Delete s) t f = refl
-      on_table (statement.Select s) t f = refl
-      on_table statement.Begin t f = refl
-      on_table statement.Commit t f = refl
-      on_table statement.Rollback t f = refl
-      on_table statement.Vacuum t f = none_some t f
-
-      by : Exchanged catalog j o e last c → IsSwept catalog last
-      by (Answers (Turned away unmoved left)) = refused_no (is_some o) away
-      by (Answers (Begun is none done unmoved left)) = no_vacuum (Ok statement.Begin) is refl
-      by (Answers (RolledBack b is some done unmoved left)) = no_vacuum (Ok statement.Rollback) is refl
-      by (Answers (Answered b st p a s is of asked stays some resolves y z)) = no_vacuum (Ok p.statement) (is ∙ ap (λ y. Ok y) (sym of)) (on_table p.statement p.table asked.named)
-      by (Answers (Ended b s is some opened later ends left)) = no_vacuum (Ok statement.Commit) is refl
-      by (Answers (Swept is none quiet all left)) = on_all all
-      by (Starved none unmoved commit other) = no_count answer.NoMemory none refl
 
   -- before its first statement
   pub begins_serial : IsSound catalog start → AreImagesOf catalog start before → tables_fit catalog before ≡ true → So start no_parts
@@ -718,16 +664,3 @@ module _ (catalog : List Table) (apart : IsApart catalog) (start : Database) (be
     fits = tt;
     unused = λ id n outside. n;
   }
-
-  -- What a session of a client that is alone owes.
-  pub session_serial : IsSound catalog start → AreImagesOf catalog start before → tables_fit catalog before ≡ true → (es : List Exchange) (last : Database) → AreFresh no_parts es → Chain catalog start no_parts es last → IsSerialSession catalog start last before es
-  session_serial sound are_images fit es last new chain =
-      let so = session_at no_parts start es last (begins_serial sound are_images fit) new chain in
-      record {
-        serial = serial_answered catalog start last [] before (parts_of es).ended so.0.parts;
-        images = so.0.are_images;
-        rows = so.0.rows;
-        parts = all_serial last (parts_of es) so.0;
-        never = so.1;
-        swept = λ front e is vacuum counted. let x = last_of no_parts start front e last (subst (λ ys. Chain catalog start no_parts ys last) is chain) in swept_at x.0 last (open_of x.1.opened) e x.2 x.3 vacuum counted;
-      }

@@ -1,7 +1,7 @@
--- A VACUUM of a client that is alone: rows stay, and where it has ended by itself no tombstone is left.
-use Rattle.std.proofs.Common.{◌≡◌, ◌≢◌, ℕ, ℤ, Bool, true, false, List, [], ◌∷◌, Option, Some, None, Result, Ok, Err, ◌⊎◌, inl, inr, refl, sym, ap, subst, ◌∙◌}
-use Rattle.std.specs.Prelude.{◌+◌, is_ok, not, ◌&&◌, ◌||◌, if◌then◌else◌}
-use Rattle.std.specs.Option.{option_and_then, option_map}
+-- A VACUUM of a client that is alone: rows stay, and where it has ended by itself it has removed the tombstones, and counted them.
+use Rattle.std.proofs.Common.{◌≡◌, ◌≢◌, ℕ, ℤ, Bool, true, false, List, [], ◌∷◌, Option, Some, None, Result, Ok, Err, ◌⊎◌, inl, inr, refl, sym, ap, subst, ◌∙◌, arith, suc}
+use Rattle.std.specs.Prelude.{◌+◌, is_ok, is_some, not, ◌&&◌, ◌||◌, if◌then◌else◌}
+use Rattle.std.specs.Option.{option_and_then, option_map, option_map_or}
 use Rattle.std.specs.Result.{result_ok}
 use Rattle.std.specs.List.{AllByRecursion, list_all, list_any}
 use Rattle.sdb_types.specs.declared.key.Key.{Key}
@@ -21,8 +21,8 @@ use Rattle.sdb_types.proofs.Bools.{and_both, and_first, and_second}
 use Rattle.sdb_types.proofs.Keys.{same_key_of, same_key_self, same_key_tells}
 use Rattle.sdb_record.specs.declared.coordinator.Decided.{Decided}
 use Rattle.sdb_record.specs.declared.meta.Meta.{Meta}
-use Rattle.sdb_record.specs.Coordinator.{coordinator_key_of, decision_in, is_coordinator_table}
-use Rattle.sdb_record.specs.Meta.{checked, id_in, is_in, is_moment, is_taken}
+use Rattle.sdb_record.specs.Coordinator.{coordinator_key_of, decision_in, is_coordinator_table, is_expired}
+use Rattle.sdb_record.specs.Meta.{checked, id_in, is_in, is_moment, is_taken, is_unresolved}
 use Rattle.sdb_record.specs.Moved.{condition_of}
 use Rattle.sdb_record.specs.Parts.{are_stored, user_columns}
 use Rattle.sdb_record.specs.Rolls.{image_of, is_tombstone, remove_request, row_of_image}
@@ -30,6 +30,7 @@ use Rattle.sdb_schema.specs.declared.table.Table.{Table}
 use Rattle.sdb_phases.specs.declared.step.RecoverStep.{RecoverStep}
 use Rattle.sdb_phases.specs.declared.step.RecoverStep.TheVariants as steps
 use Rattle.sdb_phases.specs.declared.step.RecoverPhase.{RecoverPhase}
+use Rattle.sdb_phases.specs.declared.step.RecoverPhase.TheVariants as phase
 use Rattle.sdb_phases.specs.Recover.{recover_next}
 use Rattle.sdb_read.specs.Read.{Kind, Firm, Bad, kind_of, opened}
 use Rattle.sdb_vacuum.specs.Vacuum.{Removing, Resolving, Scanning, Tombstone, VacuumStage, Over, answered, first_of, first_one, goes_on, going, next_table, pending_at, removal_answered, resolved, step_at}
@@ -37,14 +38,25 @@ use Rattle.sdb_turns.specs.ReadAt.{Rise, keys_of}
 use Rattle.sdb_turns.proofs.Lists.{each_both, each_unmap}
 use Rattle.sdb_turns.proofs.Meta.{meta_of}
 use Rattle.sdb_turns.proofs.Rows.{found_each, inside_each, rise_is}
-use Rattle.sdb_session.specs.Database.{Called, Done, Database, IsWith, NotReturned, Scanned, Returned, Undone, Wrote, decided_in, decided_on, is_listed, row_in}
+use Rattle.sdb_session.specs.Database.{Called, Done, Database, IsWith, NotReturned, Scanned, Returned, Undone, Wrote, decided_in, decided_on, image_in, is_firm, is_listed, row_in}
 use Rattle.sdb_session.specs.OnlyResolves.{IsApart, IsHeldFor, SaysAborted, OnlyResolves, IsSound}
-use Rattle.sdb_session.specs.Recovers.{RecoversTo}
-use Rattle.sdb_session.specs.Sweeps.{LeftAlone, Quiet, SweepLeadsTo, SweepStageAlone, is_clean}
-use Rattle.sdb_session.proofs.Resolves.{firm_image, row_key, row_stays, sound_stays, unresolved_before}
+use Rattle.sdb_session.specs.Recovers.{RecoveryLeadsTo}
+use Rattle.sdb_session.specs.Sweeps.{IsSweptAt, LeftAlone, Quiet, RemovedSoFar, SweepLeadsTo, SweepStageAlone}
+use Rattle.sdb_session.specs.Tombstones.{HasVacuumed, IsPassedOver, is_among, is_clean, is_deleted, is_removed}
+use Rattle.sdb_session.proofs.Resolves.{firm_image, image_stays, row_key, row_stays, sound_stays, unresolved_before}
 use Rattle.sdb_session.proofs.Reading.{others_apart}
 use Rattle.sdb_session.proofs.Recovers.{one_database, recovers}
 use Rattle.sdb_session.proofs.Writes.{version_holds}
+
+---- what a database means
+
+-- the committed image of a record, or of none
+abbrev pub means : Database → Option Record → Option Record
+means g o = option_and_then (λ r. image_of r (decided_on g r)) o
+
+-- whether an image is a tombstone
+abbrev pub is_dead : Option Record → Bool
+is_dead o = option_map_or is_tombstone o false
 
 ---- quiet moves
 
@@ -52,6 +64,7 @@ pub quiet_refl : (catalog : List Table) (g : Database) → IsSound catalog g →
 quiet_refl catalog g sound = record {
   sound = sound;
   same_rows = λ k listed. refl;
+  images = λ k listed. inl refl;
   loose = λ k r listed e loose. e;
   rows = λ k row there e. e;
   fresh = λ k row there e f. none_some row (sym e ∙ f);
@@ -61,11 +74,18 @@ pub quiet_trans : (catalog : List Table) (g h j : Database) → Quiet catalog g 
 quiet_trans catalog g h j s t = record {
   sound = t.sound;
   same_rows = λ k listed. t.same_rows k listed ∙ s.same_rows k listed;
+  images = λ k listed. images k (s.images k listed) (t.images k listed);
   loose = λ k r listed e loose. s.loose k r listed (t.loose k r listed e loose) loose;
   rows = λ k row there e. t.rows k row there (s.rows k row there e);
   fresh = λ k row there e f. fresh k row there e f (h k) refl;
 }
   where
+    images : (k : Key) → (image_in h k ≡ image_in g k) ⊎ ((is_deleted g k ≡ true) × (image_in h k ≡ None)) → (image_in j k ≡ image_in h k) ⊎ ((is_deleted h k ≡ true) × (image_in j k ≡ None)) → (image_in j k ≡ image_in g k) ⊎ ((is_deleted g k ≡ true) × (image_in j k ≡ None))
+    images k (inl e) (inl f) = inl (f ∙ e)
+    images k (inl e) (inr x) = inr (ap is_dead (sym e) ∙ x.0, x.1)
+    images k (inr x) (inl f) = inr (x.0, f ∙ x.1)
+    images k (inr x) (inr y) = inr (x.0, y.1)
+
     held_before : (k : Key) → IsHeldFor catalog h k → IsHeldFor catalog g k
     held_before k x = record { at = x.at; r = x.r; id = x.id; listed = x.listed; present = s.loose x.at x.r x.listed x.present x.loose; loose = x.loose; writer = x.writer; key = x.key }
 
@@ -77,10 +97,35 @@ pub quiet_of : (catalog : List Table) (g h : Database) → IsSound catalog g →
 quiet_of catalog g h sound own s = record {
   sound = sound_stays catalog g h s sound own;
   same_rows = λ k listed. row_stays catalog g h s sound k listed;
+  images = λ k listed. inl (image_stays catalog g h s sound k listed);
   loose = λ k r listed e loose. unresolved_before catalog g h s sound k r listed e loose;
   rows = λ k row there e. s.rows k row there e;
   fresh = λ k row there e f. s.fresh k row there e f;
 }
+
+-- Where a record of a table goes, each other image stays.
+pub removed_others : (catalog : List Table) → IsApart catalog → (g h : Database) (b : Record) → is_listed catalog b.key ≡ true → IsWith b.key None g h → (k : Key) → same_key k b.key ≡ false → image_in h k ≡ image_in g k
+removed_others catalog apart g h b listed now k n = ap (means h) (now k ∙ ap (λ x. if x then None else g k) n) ∙ ap (λ (f : Record → Option Decided). option_and_then (λ r. image_of r (f r)) (g k)) deciding
+  where
+    other : (q : Key) → is_coordinator_table q.table ≡ true → h q ≡ g q
+    other q there = elim (same_key_tells q b.key) [
+      | inl s ↦ false_true (sym (apart b.key listed) ∙ ap (λ (x : Key). is_coordinator_table x.table) (sym s.1) ∙ there)
+      | inr m ↦ now q ∙ ap (λ x. if x then None else g q) m.0
+    ]
+
+    -- a decision hangs on the coordinator's rows alone
+    decided_same : (r : Record) → decided_on h r ≡ decided_on g r
+    decided_same r = ap (λ f. option_and_then f (id_in r.columns)) same
+      where
+        same : decided_in h ≡ decided_in g
+        same = λ i id. ap (λ o. option_and_then (λ row. result_ok (decision_in row)) o) (other (coordinator_key_of id) (row_key id)) i
+
+    deciding : decided_on h ≡ decided_on g
+    deciding = λ i r. decided_same r i
+
+-- a committed record means itself
+pub firm_means : (g : Database) (k : Key) (b : Record) → g k ≡ Some b → is_in state.Committed b.columns ≡ true → image_in g k ≡ Some b
+firm_means g k b present firm = ap (means g) present ∙ firm_image (Some b) (decided_on g) firm
 
 -- a tombstone goes
 pub removed_quiet : (catalog : List Table) → IsApart catalog → (g h : Database) (b : Record) → IsSound catalog g → is_listed catalog b.key ≡ true → g b.key ≡ Some b → is_in state.Committed b.columns ≡ true → is_tombstone b ≡ true → IsWith b.key None g h → Quiet catalog g h
@@ -92,6 +137,7 @@ removed_quiet catalog apart g h b sound listed present firm dead now = record {
     fits = λ k columns there e. sound.fits k columns there (sym (same_rows k) ∙ e);
   };
   same_rows = λ k there. same_rows k;
+  images = λ k there. images k;
   loose = λ k r there e loose. was k r e;
   rows = λ k row there e. other k there ∙ e;
   fresh = λ k row there e f. none_some row (sym e ∙ was k row f);
@@ -112,73 +158,154 @@ removed_quiet catalog apart g h b sound listed present firm dead now = record {
       | inr n ↦ away k n.0
     ]
 
-    -- a decision hangs on the coordinator's rows alone
-    decided_same : (r : Record) → decided_on h r ≡ decided_on g r
-    decided_same r = ap (λ f. option_and_then f (id_in r.columns)) same
-      where
-        same : decided_in h ≡ decided_in g
-        same = λ i id. ap (λ o. option_and_then (λ row. result_ok (decision_in row)) o) (other (coordinator_key_of id) (row_key id)) i
-
-    deciding : decided_on h ≡ decided_on g
-    deciding = λ i r. decided_same r i
-
-    gone_row : option_and_then row_of_image (option_and_then (λ r. image_of r (decided_on g r)) (Some b)) ≡ None
-    gone_row = ap (option_and_then row_of_image) (firm_image (Some b) (decided_on g) firm) ∙ ap (λ x. if x then None else Some (user_columns b.columns)) dead
+    image_at : (k : Key) → k ≡ b.key → image_in g k ≡ Some b
+    image_at k e = ap (image_in g) e ∙ firm_means g b.key b present firm
 
     same_rows : (k : Key) → row_in h k ≡ row_in g k
     same_rows k = elim (same_key_tells k b.key) [
-      | inl s ↦ ap (λ o. option_and_then row_of_image (option_and_then (λ r. image_of r (decided_on h r)) o)) (at k s.0) ∙ sym (ap (λ o. option_and_then row_of_image (option_and_then (λ r. image_of r (decided_on g r)) o)) (ap g s.1 ∙ present) ∙ gone_row)
-      | inr n ↦ ap (λ o. option_and_then row_of_image (option_and_then (λ r. image_of r (decided_on h r)) o)) (away k n.0) ∙ ap (λ (f : Record → Option Decided). option_and_then row_of_image (option_and_then (λ r. image_of r (f r)) (g k))) deciding
+      | inl s ↦ ap (λ o. option_and_then row_of_image (means h o)) (at k s.0) ∙ sym (ap (option_and_then row_of_image) (image_at k s.1) ∙ ap (λ x. if x then None else Some (user_columns b.columns)) dead)
+      | inr n ↦ ap (option_and_then row_of_image) (removed_others catalog apart g h b listed now k n.0)
     ]
+
+    images : (k : Key) → (image_in h k ≡ image_in g k) ⊎ ((is_deleted g k ≡ true) × (image_in h k ≡ None))
+    images k = elim (same_key_tells k b.key) [
+      | inl s ↦ inr (ap is_dead (image_at k s.1) ∙ dead, ap (means h) (at k s.0))
+      | inr n ↦ inl (removed_others catalog apart g h b listed now k n.0)
+    ]
+
+---- what was removed
+
+-- nothing yet
+pub removed_none : (catalog : List Table) (g : Database) → RemovedSoFar catalog g g 0
+removed_none catalog g = record { keys = []; once = tt; count = refl; gone = λ k h. false_true h; others = λ k listed away. refl }
+
+-- it stays so while records are resolved
+removed_resolved : (catalog : List Table) (was g h : Database) (n : ℕ) → IsSound catalog g → OnlyResolves catalog g h → RemovedSoFar catalog was g n → RemovedSoFar catalog was h n
+removed_resolved catalog was g h n sound s r = record {
+  keys = r.keys;
+  once = r.once;
+  count = r.count;
+  gone = λ k e. let x = r.gone k e in (x.0, x.1, s.firm k x.0 (ap is_firm x.2) ∙ x.2);
+  others = λ k listed away. image_stays catalog g h s sound k listed ∙ r.others k listed away;
+}
+
+or_false : (a b : Bool) → (a || b) ≡ false → (a ≡ false) × (b ≡ false)
+or_false true b e = false_true (sym e)
+or_false false b e = (refl, e)
+
+-- one tombstone more
+removed_more : (catalog : List Table) → IsApart catalog → (was g h : Database) (n : ℕ) (b : Record) → RemovedSoFar catalog was g n → is_listed catalog b.key ≡ true → g b.key ≡ Some b → is_in state.Committed b.columns ≡ true → is_tombstone b ≡ true → IsWith b.key None g h → RemovedSoFar catalog was h (n + 1)
+removed_more catalog apart was g h n b r listed present firm dead now = record {
+  keys = b.key ∷ r.keys;
+  once = (fresh, r.once);
+  count = ap suc r.count ∙ omega arith;
+  gone = gone;
+  others = λ k there away. let x = or_false (same_key k b.key) (is_among r.keys k) away in removed_others catalog apart g h b listed now k x.0 ∙ r.others k there x.1;
+}
+  where
+    fresh : is_among r.keys b.key ≡ false
+    fresh = by (is_among r.keys b.key) refl
+      where
+        by : (x : Bool) → is_among r.keys b.key ≡ x → is_among r.keys b.key ≡ false
+        by true e = none_some b (sym (r.gone b.key e).2 ∙ present)
+        by false e = e
+
+    was_dead : is_deleted was b.key ≡ true
+    was_dead = ap is_dead (sym (r.others b.key listed fresh)) ∙ ap is_dead (firm_means g b.key b present firm) ∙ dead
+
+    gone : (k : Key) → is_among (b.key ∷ r.keys) k ≡ true → (is_listed catalog k ≡ true) × (is_deleted was k ≡ true) × (h k ≡ None)
+    gone k e = elim (same_key_tells k b.key) [
+      | inl s ↦ (ap (is_listed catalog) s.1 ∙ listed, ap (is_deleted was) s.1 ∙ was_dead, now k ∙ ap (λ x. if x then None else g k) s.0)
+      | inr m ↦ let x = r.gone k (sym (ap (λ y. y || is_among r.keys k) m.0) ∙ e) in (x.0, x.1, now k ∙ ap (λ y. if y then None else g k) m.0 ∙ x.2)
+    ]
+
+-- Where each key of a table is done, so is the VACUUM.
+pub has_vacuumed : (catalog : List Table) (was g : Database) (at : ℤ) (n : ℕ) → RemovedSoFar catalog was g n → ((k : Key) → is_listed catalog k ≡ true → IsSweptAt was g at k) → HasVacuumed catalog was g at n
+has_vacuumed catalog was g at n r swept = record {
+  keys = r.keys;
+  once = r.once;
+  count = r.count;
+  exact = λ k. exact k (is_among r.keys k) refl;
+  others = r.others;
+  clean = λ k listed. (swept k listed).clean;
+  passed = λ k listed. (swept k listed).passed;
+}
+  where
+    still : (k : Key) → is_listed catalog k ≡ true → is_among r.keys k ≡ false → (o : Option Record) → g k ≡ o → (d : Bool) → is_deleted was k ≡ d → (is_deleted was k && not (is_some (g k))) ≡ false
+    still k listed away o e false f = ap (λ x. x && not (is_some (g k))) f
+    still k listed away (Some b) e true f = ap (λ x. x && not (is_some (g k))) f ∙ ap (λ x. not (is_some x)) e
+    still k listed away None e true f = false_true (ap is_dead (sym (ap (means g) e)) ∙ ap is_dead (r.others k listed away) ∙ f)
+
+    exact : (k : Key) (x : Bool) → is_among r.keys k ≡ x → is_among r.keys k ≡ is_removed catalog was g k
+    exact k true e = let x = r.gone k e in e ∙ sym (and_both (is_listed catalog k) _ x.0 (and_both (is_deleted was k) _ x.1 (ap (λ o. not (is_some o)) x.2)))
+    exact k false e = e ∙ sym (by (is_listed catalog k) refl)
+      where
+        by : (x : Bool) → is_listed catalog k ≡ x → is_removed catalog was g k ≡ false
+        by true f = ap (λ x. x && (is_deleted was k && not (is_some (g k)))) f ∙ still k f e (g k) refl (is_deleted was k) refl
+        by false f = ap (λ x. x && (is_deleted was k && not (is_some (g k)))) f
 
 ---- rows that are left
 
-module _ (catalog : List Table) (g : Database) where
-  -- a row that is clean is passed over
-  passed : (ss : List Span) (r : Record) (left : List Record) → LeftAlone catalog g ss (r ∷ left) → is_clean (g r.key) ≡ true → LeftAlone catalog g ss left
+-- where nothing is
+none_swept : (was g : Database) (at : ℤ) (k : Key) → g k ≡ None → IsSweptAt was g at k
+none_swept was g at k e = record { clean = ap is_clean e; passed = λ dead. false_true (sym (ap is_dead (ap (means g) e)) ∙ dead) }
+
+-- where a committed record is that isn't a tombstone
+firm_swept : (was g : Database) (at : ℤ) (k : Key) (r : Record) → g k ≡ Some r → is_in state.Committed r.columns ≡ true → is_tombstone r ≡ false → IsSweptAt was g at k
+firm_swept was g at k r present firm live = record {
+  clean = ap is_clean present ∙ ap (λ b. not (b && is_tombstone r)) firm ∙ ap not live;
+  passed = λ dead. false_true (sym (ap is_dead (firm_means g k r present firm) ∙ live) ∙ dead);
+}
+
+module _ (catalog : List Table) (was : Database) (moment : ℤ) (g : Database) where
+  -- a row that is done is passed over
+  passed : (ss : List Span) (r : Record) (left : List Record) → LeftAlone catalog was moment g ss (r ∷ left) → IsSweptAt was g moment r.key → LeftAlone catalog was moment g ss left
   passed ss r left l c = record {
     tables = l.tables;
     rise = l.rise.1;
     matches = l.matches.1;
-    clean = λ k listed outside none. elim (same_key_tells k r.key) [
-      | inl e ↦ subst (λ q. is_clean (g q) ≡ true) (sym e.1) c
-      | inr n ↦ l.clean k listed outside (ap (λ b. if b then Some r else record_among left k) n.0 ∙ none)
+    swept = λ k listed outside none. elim (same_key_tells k r.key) [
+      | inl e ↦ subst (IsSweptAt was g moment) (sym e.1) c
+      | inr n ↦ l.swept k listed outside (ap (λ b. if b then Some r else record_among left k) n.0 ∙ none)
     ];
   }
 
-  next_alone : (ss : List Span) (n : ℕ) → LeftAlone catalog g ss [] → SweepLeadsTo catalog g (next_table ss n)
-  next_alone [] n l = λ k listed. l.clean k listed refl refl
-  next_alone (s ∷ ss) n l = l
+  next_alone : (ss : List Span) (n : ℕ) → RemovedSoFar catalog was g n → LeftAlone catalog was moment g ss [] → SweepLeadsTo catalog was moment g (next_table ss n)
+  next_alone [] n removed l = has_vacuumed catalog was g moment n removed (λ k listed. l.swept k listed refl refl)
+  next_alone (s ∷ ss) n removed l = (removed, l)
 
-  more_alone : IsSound catalog g → (ss : List Span) (n : ℕ) (left : List Record) → LeftAlone catalog g ss left → SweepLeadsTo catalog g (going ss n (first_of left))
-  more_alone sound ss n [] l = next_alone ss n l
-  more_alone sound ss n (r ∷ left) l = by (is_taken r) refl (is_in state.Committed r.columns) refl (checked r.columns) refl (more_alone sound ss n left)
+  more_alone : IsSound catalog g → (ss : List Span) (n : ℕ) → RemovedSoFar catalog was g n → (left : List Record) → LeftAlone catalog was moment g ss left → SweepLeadsTo catalog was moment g (going ss n (first_of left))
+  more_alone sound ss n removed [] l = next_alone ss n removed l
+  more_alone sound ss n removed (r ∷ left) l = by (is_taken r) refl (is_in state.Committed r.columns) refl (checked r.columns) refl (more_alone sound ss n removed left)
     where
       is_write : is_taken r ≡ true
       is_write = sound.taken r.key r l.matches.0.0 l.matches.0.1
 
+      Rest : Type 0
+      Rest = LeftAlone catalog was moment g ss left → SweepLeadsTo catalog was moment g (going ss n (first_of left))
+
       G : Kind → Type 0
-      G k = SweepLeadsTo catalog g (going ss n (first_one k r left (first_of left)))
+      G k = SweepLeadsTo catalog was moment g (going ss n (first_one k r left (first_of left)))
 
-      firm : is_in state.Committed r.columns ≡ true → (b : Bool) → is_tombstone r ≡ b → (LeftAlone catalog g ss left → SweepLeadsTo catalog g (going ss n (first_of left))) → G Firm
-      firm f true t rest = subst (λ b. SweepLeadsTo catalog g (going ss n (if b then Tombstone r left else first_of left))) (sym t) (l, f, t)
-      firm f false t rest = subst (λ b. SweepLeadsTo catalog g (going ss n (if b then Tombstone r left else first_of left))) (sym t) (rest (passed ss r left l (ap is_clean l.matches.0.1 ∙ ap (λ b. not (b && is_tombstone r)) f ∙ ap not t)))
+      firm : is_in state.Committed r.columns ≡ true → (b : Bool) → is_tombstone r ≡ b → Rest → G Firm
+      firm f true t rest = subst (λ b. SweepLeadsTo catalog was moment g (going ss n (if b then Tombstone r left else first_of left))) (sym t) (removed, (l, f, t))
+      firm f false t rest = subst (λ b. SweepLeadsTo catalog was moment g (going ss n (if b then Tombstone r left else first_of left))) (sym t) (rest (passed ss r left l (firm_swept was g moment r.key r l.matches.0.1 f t)))
 
-      by : (t : Bool) → is_taken r ≡ t → (c : Bool) → is_in state.Committed r.columns ≡ c → (m : Result Meta (List ℕ)) → checked r.columns ≡ m → (LeftAlone catalog g ss left → SweepLeadsTo catalog g (going ss n (first_of left))) → G (kind_of r)
+      by : (t : Bool) → is_taken r ≡ t → (c : Bool) → is_in state.Committed r.columns ≡ c → (m : Result Meta (List ℕ)) → checked r.columns ≡ m → Rest → G (kind_of r)
       by false e c f m h rest = false_true (sym e ∙ is_write)
       by true e true f m h rest = subst G (sym (ap (λ b. if b then (if is_in state.Committed r.columns then Firm else opened (checked r.columns)) else Bad) e ∙ ap (λ b. if b then Firm else opened (checked r.columns)) f)) (firm f (is_tombstone r) refl rest)
       by true e false f (Ok meta) h rest = subst G (sym (ap (λ b. if b then (if is_in state.Committed r.columns then Firm else opened (checked r.columns)) else Bad) e ∙ ap (λ b. if b then Firm else opened (checked r.columns)) f ∙ ap opened h))
-          (l, record { present = l.matches.0.1; listed = l.matches.0.0; unresolved = and_both (is_taken r) _ is_write (ap not f); says = h; phase = tt })
+          (removed, (l, record { present = l.matches.0.1; listed = l.matches.0.0; unresolved = and_both (is_taken r) _ is_write (ap not f); says = h; phase = tt }))
       by true e false f (Err name) h rest = false_true (sym (ap is_ok h) ∙ and_second (are_stored r.columns) (is_ok (checked r.columns)) is_write)
 
   ---- a scan
 
-  scanned_alone : IsSound catalog g → (span : Span) (ss : List Span) (n : ℕ) → LeftAlone catalog g (span ∷ ss) [] → (r : Reply) → Scanned span r g → SweepLeadsTo catalog g (answered ss n r)
-  scanned_alone sound span ss n l r (Returned rows replied at inside) = subst (λ x. SweepLeadsTo catalog g (answered ss n x)) (sym replied) (more_alone sound ss n rows (record {
+  scanned_alone : IsSound catalog g → (span : Span) (ss : List Span) (n : ℕ) → RemovedSoFar catalog was g n → LeftAlone catalog was moment g (span ∷ ss) [] → (r : Reply) → Scanned span r g → SweepLeadsTo catalog was moment g (answered ss n r)
+  scanned_alone sound span ss n removed l r (Returned rows replied at inside) = subst (λ x. SweepLeadsTo catalog was moment g (answered ss n x)) (sym replied) (more_alone sound ss n removed rows (record {
     tables = l.tables.1;
     rise = up;
     matches = each_both (λ x. record_among rows x.key ≡ Some x) (λ x. in_span span x.key ≡ true) (λ x. (is_listed catalog x.key ≡ true) × (g x.key ≡ Some x)) rows (λ x f i. (l.tables.0 x.key i, sym (at x.key i) ∙ f)) (found_each rows up) (each_unmap (λ k. in_span span k ≡ true) (λ (x : Record). x.key) rows within);
-    clean = λ k listed outside none. clean k listed outside none (in_span span k) refl;
+    swept = λ k listed outside none. swept k listed outside none (in_span span k) refl;
   }))
     where
       up : Rise (keys_of rows)
@@ -187,81 +314,117 @@ module _ (catalog : List Table) (g : Database) where
       within : AllByRecursion (λ k. in_span span k ≡ true) (keys_of rows)
       within = inside_each span rows (and_second (rise rows) (list_all (λ x. in_span span x.key) rows) inside)
 
-      clean : (k : Key) → is_listed catalog k ≡ true → list_any (λ s. in_span s k) ss ≡ false → record_among rows k ≡ None → (b : Bool) → in_span span k ≡ b → is_clean (g k) ≡ true
-      clean k listed outside none true e = ap is_clean (sym (at k e) ∙ none)
-      clean k listed outside none false e = l.clean k listed (ap (λ b. b || list_any (λ s. in_span s k) ss) e ∙ outside) refl
-  scanned_alone sound span ss n l r (NotReturned (inl replied)) = subst (λ x. SweepLeadsTo catalog g (answered ss n x)) (sym replied) tt
-  scanned_alone sound span ss n l r (NotReturned (inr replied)) = subst (λ x. SweepLeadsTo catalog g (answered ss n x)) (sym replied) tt
+      swept : (k : Key) → is_listed catalog k ≡ true → list_any (λ s. in_span s k) ss ≡ false → record_among rows k ≡ None → (b : Bool) → in_span span k ≡ b → IsSweptAt was g moment k
+      swept k listed outside none true e = none_swept was g moment k (sym (at k e) ∙ none)
+      swept k listed outside none false e = l.swept k listed (ap (λ b. b || list_any (λ s. in_span s k) ss) e ∙ outside) refl
+  scanned_alone sound span ss n removed l r (NotReturned (inl replied)) = subst (λ x. SweepLeadsTo catalog was moment g (answered ss n x)) (sym replied) tt
+  scanned_alone sound span ss n removed l r (NotReturned (inr replied)) = subst (λ x. SweepLeadsTo catalog was moment g (answered ss n x)) (sym replied) tt
 
 ---- the first of the rows changes
 
-module _ (catalog : List Table) (g h : Database) (ss : List Span) (rec : Record) (left : List Record) (l : LeftAlone catalog g ss (rec ∷ left)) (others : (k : Key) → is_listed catalog k ≡ true → k ≢ rec.key → h k ≡ g k) where
+-- all other keys of tables hold what they held, and mean it
+record StaysBut (catalog : List Table) (key : Key) (g h : Database) : Type 0 where
+  records : (k : Key) → is_listed catalog k ≡ true → k ≢ key → h k ≡ g k
+  images : (k : Key) → is_listed catalog k ≡ true → k ≢ key → image_in h k ≡ image_in g k
+
+module _ (catalog : List Table) (was : Database) (moment : ℤ) (g h : Database) (ss : List Span) (rec : Record) (left : List Record) (l : LeftAlone catalog was moment g ss (rec ∷ left)) (stays : StaysBut catalog rec.key g h) where
   apart_left : (xs : List Record) → AllByRecursion (λ r. same_key rec.key r.key ≡ false) xs → AllByRecursion (λ r. (is_listed catalog r.key ≡ true) × (g r.key ≡ Some r)) xs → AllByRecursion (λ r. (is_listed catalog r.key ≡ true) × (h r.key ≡ Some r)) xs
-  apart_left xs a s = each_both (λ r. same_key rec.key r.key ≡ false) (λ r. (is_listed catalog r.key ≡ true) × (g r.key ≡ Some r)) (λ r. (is_listed catalog r.key ≡ true) × (h r.key ≡ Some r)) xs (λ r n x. (x.0, others r.key x.0 (λ e. false_true (sym n ∙ same_key_of rec.key r.key (sym e))) ∙ x.1)) a s
+  apart_left xs a s = each_both (λ r. same_key rec.key r.key ≡ false) (λ r. (is_listed catalog r.key ≡ true) × (g r.key ≡ Some r)) (λ r. (is_listed catalog r.key ≡ true) × (h r.key ≡ Some r)) xs (λ r n x. (x.0, stays.records r.key x.0 (λ e. false_true (sym n ∙ same_key_of rec.key r.key (sym e))) ∙ x.1)) a s
 
   left_present : AllByRecursion (λ r. (is_listed catalog r.key ≡ true) × (h r.key ≡ Some r)) left
   left_present = apart_left left (others_apart [] rec left l.rise) l.matches.1
 
-  -- it is clean
-  gone : is_clean (h rec.key) ≡ true → LeftAlone catalog h ss left
+  -- a key that is done stays so
+  swept_stays : (k : Key) → is_listed catalog k ≡ true → k ≢ rec.key → IsSweptAt was g moment k → IsSweptAt was h moment k
+  swept_stays k listed other s = record {
+    clean = ap is_clean (stays.records k listed other) ∙ s.clean;
+    passed = λ dead. let x = s.passed (ap is_dead (sym (stays.images k listed other)) ∙ dead) in record { id = x.id; moment = x.moment; busy = x.busy; same = stays.records k listed other ∙ x.same };
+  }
+
+  -- it is done
+  gone : IsSweptAt was h moment rec.key → LeftAlone catalog was moment h ss left
   gone c = record {
     tables = l.tables;
     rise = l.rise.1;
     matches = left_present;
-    clean = λ k listed outside none. elim (same_key_tells k rec.key) [
-      | inl e ↦ subst (λ q. is_clean (h q) ≡ true) (sym e.1) c
-      | inr n ↦ ap is_clean (others k listed n.1) ∙ l.clean k listed outside (ap (λ b. if b then Some rec else record_among left k) n.0 ∙ none)
+    swept = λ k listed outside none. elim (same_key_tells k rec.key) [
+      | inl e ↦ subst (IsSweptAt was h moment) (sym e.1) c
+      | inr n ↦ swept_stays k listed n.1 (l.swept k listed outside (ap (λ b. if b then Some rec else record_among left k) n.0 ∙ none))
     ];
   }
 
   -- another record of its key is there
-  replaced : (x : Record) → x.key ≡ rec.key → h rec.key ≡ Some x → LeftAlone catalog h ss (x ∷ left)
+  replaced : (x : Record) → x.key ≡ rec.key → h rec.key ≡ Some x → LeftAlone catalog was moment h ss (x ∷ left)
   replaced x same present = record {
     tables = l.tables;
     rise = subst (λ q. Rise (q ∷ keys_of left)) (sym same) l.rise;
     matches = ((ap (is_listed catalog) same ∙ l.matches.0.0, ap h same ∙ present), left_present);
-    clean = λ k listed outside none. elim (same_key_tells k rec.key) [
+    swept = λ k listed outside none. elim (same_key_tells k rec.key) [
       | inl e ↦ none_some x (sym none ∙ ap (λ b. if b then Some x else record_among left k) (same_key_of k x.key (e.1 ∙ sym same)))
-      | inr n ↦ ap is_clean (others k listed n.1) ∙ l.clean k listed outside (ap (λ b. if b then Some rec else record_among left k) n.0 ∙ sym (ap (λ b. if b then Some x else record_among left k) (ap (same_key k) same ∙ n.0)) ∙ none)
+      | inr n ↦ swept_stays k listed n.1 (l.swept k listed outside (ap (λ b. if b then Some rec else record_among left k) n.0 ∙ sym (ap (λ b. if b then Some x else record_among left k) (ap (same_key k) same ∙ n.0)) ∙ none))
     ];
   }
 
 ---- a recovery
 
-module _ (catalog : List Table) (apart : IsApart catalog) (now : ℤ) (g h : Database) (ss : List Span) (n : ℕ) (rec : Record) (meta : Meta) (left : List Record) (l : LeftAlone catalog g ss (rec ∷ left)) where
-  resolved_alone : ((k : Key) (r : Record) → h k ≡ Some r → r.key ≡ k) → IsSound catalog h → is_in state.Committed rec.columns ≡ false → (next : RecoverPhase × RecoverStep) → RecoversTo catalog g h rec meta now next → SweepLeadsTo catalog h (resolved ss n rec meta left next)
-  resolved_alone own sound loose (p, steps.More) x = (replaced catalog g h ss rec left l x.others rec refl x.leads_to.present, x.leads_to)
-  resolved_alone own sound loose (p, steps.Image None) x = more_alone catalog h sound ss n left (gone catalog g h ss rec left l x.others (ap is_clean x.leads_to.0))
-  resolved_alone own sound loose (p, steps.Image (Some b)) x = by (is_tombstone b) refl
+module _ (catalog : List Table) (now : ℤ) (was g h : Database) (ss : List Span) (n : ℕ) (rec : Record) (meta : Meta) (left : List Record) (l : LeftAlone catalog was now g ss (rec ∷ left)) (unresolved : is_unresolved rec ≡ true) (says : checked rec.columns ≡ Ok meta) where
+  -- a record whose transaction may still decide stays as it was
+  busy_passed : Quiet catalog was h → is_in state.Committed rec.columns ≡ false → (id : TxId) (at : ℤ) → RecoveryLeadsTo catalog h rec meta now (phase.Ended, steps.Busy id at) → IsPassedOver was h now rec.key
+  busy_passed quiet loose id at x = record {
+    id = meta.id;
+    moment = meta.prepared_at;
+    busy = record { r = rec; meta = meta; present = there; unresolved = unresolved; says = says; writer = refl; moment = refl; undecided = undecided (was (coordinator_key_of meta.id)) refl; early = ap (λ t. is_expired t now) (sym x.1) ∙ x.3 };
+    same = x.4 ∙ sym there;
+  }
+    where
+      there : was rec.key ≡ Some rec
+      there = quiet.loose rec.key rec l.matches.0.0 x.4 loose
+
+      undecided : (o : Option Record) → was (coordinator_key_of meta.id) ≡ o → was (coordinator_key_of meta.id) ≡ None
+      undecided None e = e
+      undecided (Some row) e = none_some row (sym x.2 ∙ quiet.rows (coordinator_key_of meta.id) row (row_key meta.id) e)
+
+  resolved_alone : Quiet catalog was h → RemovedSoFar catalog was h n → is_in state.Committed rec.columns ≡ false → StaysBut catalog rec.key g h → (next : RecoverPhase × RecoverStep) → RecoveryLeadsTo catalog h rec meta now next → SweepLeadsTo catalog was now h (resolved ss n rec meta left next)
+  resolved_alone quiet removed loose stays (p, steps.More) x = (removed, (replaced catalog was now g h ss rec left l stays rec refl x.present, x))
+  resolved_alone quiet removed loose stays (p, steps.Image None) x = more_alone catalog was now h quiet.sound ss n removed left (gone catalog was now g h ss rec left l stays (none_swept was h now rec.key x.0))
+  resolved_alone quiet removed loose stays (p, steps.Image (Some b)) x = by (is_tombstone b) refl
     where
       key : b.key ≡ rec.key
-      key = own rec.key b x.leads_to.0
+      key = quiet.sound.own rec.key b x.0
 
-      by : (d : Bool) → is_tombstone b ≡ d → SweepLeadsTo catalog h (resolved ss n rec meta left (p, steps.Image (Some b)))
-      by true e = subst (λ c. SweepLeadsTo catalog h (if c then goes_on ss n (Removing b left) else going ss n (first_of left))) (sym e) (replaced catalog g h ss rec left l x.others b key x.leads_to.0, x.leads_to.1, e)
-      by false e = subst (λ c. SweepLeadsTo catalog h (if c then goes_on ss n (Removing b left) else going ss n (first_of left))) (sym e) (more_alone catalog h sound ss n left (gone catalog g h ss rec left l x.others (ap is_clean x.leads_to.0 ∙ ap (λ c. not (c && is_tombstone b)) x.leads_to.1 ∙ ap not e)))
-  resolved_alone own sound loose (p, steps.Busy id at) x = more_alone catalog h sound ss n left (gone catalog g h ss rec left l x.others (ap is_clean x.leads_to.4 ∙ ap (λ c. not (c && is_tombstone rec)) loose))
-  resolved_alone own sound loose (p, steps.Faulted) x = tt
-  resolved_alone own sound loose (p, steps.BadRecord key) x = absurd x.leads_to
-  resolved_alone own sound loose (p, steps.NoMemory) x = tt
+      by : (d : Bool) → is_tombstone b ≡ d → SweepLeadsTo catalog was now h (resolved ss n rec meta left (p, steps.Image (Some b)))
+      by true e = subst (λ c. SweepLeadsTo catalog was now h (if c then goes_on ss n (Removing b left) else going ss n (first_of left))) (sym e) (removed, (replaced catalog was now g h ss rec left l stays b key x.0, x.1, e))
+      by false e = subst (λ c. SweepLeadsTo catalog was now h (if c then goes_on ss n (Removing b left) else going ss n (first_of left))) (sym e) (more_alone catalog was now h quiet.sound ss n removed left (gone catalog was now g h ss rec left l stays (firm_swept was h now rec.key b x.0 x.1 e)))
+  resolved_alone quiet removed loose stays (p, steps.Busy id at) x = more_alone catalog was now h quiet.sound ss n removed left (gone catalog was now g h ss rec left l stays (record { clean = ap is_clean x.4 ∙ ap (λ c. not (c && is_tombstone rec)) loose; passed = λ dead. busy_passed quiet loose id at x }))
+  resolved_alone quiet removed loose stays (p, steps.Faulted) x = tt
+  resolved_alone quiet removed loose stays (p, steps.BadRecord key) x = absurd x
+  resolved_alone quiet removed loose stays (p, steps.NoMemory) x = tt
 
 ---- a removal
 
-module _ (catalog : List Table) (apart : IsApart catalog) (g h : Database) (ss : List Span) (n : ℕ) (b : Record) (left : List Record) (sound : IsSound catalog g) (l : LeftAlone catalog g ss (b ∷ left)) (firm : is_in state.Committed b.columns ≡ true) (dead : is_tombstone b ≡ true) where
-  others_of : IsWith b.key None g h → (k : Key) → is_listed catalog k ≡ true → k ≢ b.key → h k ≡ g k
-  others_of now k listed other = elim (same_key_tells k b.key) [ inl e ↦ absurd (other e.1) | inr f ↦ now k ∙ ap (λ x. if x then None else g k) f.0 ]
+module _ (catalog : List Table) (apart : IsApart catalog) (moment : ℤ) (was g h : Database) (ss : List Span) (n : ℕ) (b : Record) (left : List Record) (sound : IsSound catalog g) (l : LeftAlone catalog was moment g ss (b ∷ left)) (firm : is_in state.Committed b.columns ≡ true) (dead : is_tombstone b ≡ true) where
+  removed_stays : IsWith b.key None g h → StaysBut catalog b.key g h
+  removed_stays now = record {
+    records = λ k listed other. now k ∙ ap (λ x. if x then None else g k) (differs k other);
+    images = λ k listed other. removed_others catalog apart g h b l.matches.0.0 now k (differs k other);
+  }
+    where
+      differs : (k : Key) → k ≢ b.key → same_key k b.key ≡ false
+      differs k other = elim (same_key_tells k b.key) [ inl e ↦ absurd (other e.1) | inr f ↦ f.0 ]
 
-  removed_alone : (r : Reply) → Wrote b.key None r g h → Quiet catalog g h × SweepLeadsTo catalog h (removal_answered ss n left r)
-  removed_alone r (Done replied now) = (quiet, by replied)
+  removed_alone : RemovedSoFar catalog was g n → (r : Reply) → Wrote b.key None r g h → Quiet catalog g h × SweepLeadsTo catalog was moment h (removal_answered ss n left r)
+  removed_alone removed r (Done replied now) = (quiet, by replied)
     where
       quiet : Quiet catalog g h
       quiet = removed_quiet catalog apart g h b sound l.matches.0.0 l.matches.0.1 firm dead now
 
-      by : (r ≡ reply.Applied) ⊎ (r ≡ reply.Fault) → SweepLeadsTo catalog h (removal_answered ss n left r)
-      by (inl e) = subst (λ x. SweepLeadsTo catalog h (removal_answered ss n left x)) (sym e) (more_alone catalog h quiet.sound ss (n + 1) left (gone catalog g h ss b left l (others_of now) (ap is_clean (now b.key ∙ ap (λ x. if x then None else g b.key) (same_key_self b.key)))))
-      by (inr e) = subst (λ x. SweepLeadsTo catalog h (removal_answered ss n left x)) (sym e) tt
-  removed_alone r (Undone (inl replied) same) = subst (λ j. Quiet catalog g j × SweepLeadsTo catalog j (removal_answered ss n left r)) (one_database g h same) (quiet_refl catalog g sound, subst (λ x. SweepLeadsTo catalog g (removal_answered ss n left x)) (sym replied) tt)
-  removed_alone r (Undone (inr replied) same) = subst (λ j. Quiet catalog g j × SweepLeadsTo catalog j (removal_answered ss n left r)) (one_database g h same) (quiet_refl catalog g sound, subst (λ x. SweepLeadsTo catalog g (removal_answered ss n left x)) (sym replied) tt)
+      by : (r ≡ reply.Applied) ⊎ (r ≡ reply.Fault) → SweepLeadsTo catalog was moment h (removal_answered ss n left r)
+      by (inl e) = subst (λ x. SweepLeadsTo catalog was moment h (removal_answered ss n left x)) (sym e)
+          (more_alone catalog was moment h quiet.sound ss (n + 1) (removed_more catalog apart was g h n b removed l.matches.0.0 l.matches.0.1 firm dead now) left
+          (gone catalog was moment g h ss b left l (removed_stays now) (none_swept was h moment b.key (now b.key ∙ ap (λ x. if x then None else g b.key) (same_key_self b.key)))))
+      by (inr e) = subst (λ x. SweepLeadsTo catalog was moment h (removal_answered ss n left x)) (sym e) tt
+  removed_alone removed r (Undone (inl replied) same) = subst (λ j. Quiet catalog g j × SweepLeadsTo catalog was moment j (removal_answered ss n left r)) (one_database g h same) (quiet_refl catalog g sound, subst (λ x. SweepLeadsTo catalog was moment g (removal_answered ss n left x)) (sym replied) tt)
+  removed_alone removed r (Undone (inr replied) same) = subst (λ j. Quiet catalog g j × SweepLeadsTo catalog was moment j (removal_answered ss n left r)) (one_database g h same) (quiet_refl catalog g sound, subst (λ x. SweepLeadsTo catalog was moment g (removal_answered ss n left x)) (sym replied) tt)
 
   removal_called : (q : Request) (r : Reply) → remove_request b ≡ Some q → Called q r g h → Wrote b.key None r g h
   removal_called q r asked called = by (id_in b.columns) refl
@@ -277,15 +440,16 @@ module _ (catalog : List Table) (apart : IsApart catalog) (g h : Database) (ss :
       by (Some id) e = of id e (subst (λ x. Called x r g h) (sym (some_is (ask.DeleteIf b.key (condition.Version id state.Committed)) q (sym (ap (option_map (λ i. ask.DeleteIf b.key (condition.Version i state.Committed))) e) ∙ asked))) called)
 
 -- Whatever call of a VACUUM is pending, and whatever its reply.
-pub sweeps : (catalog : List Table) → IsApart catalog → (now : ℤ) → is_moment now ≡ true → (g h : Database) (ss : List Span) (n : ℕ) (s : VacuumStage) (q : Request) (r : Reply) → IsSound catalog g → ((k : Key) (x : Record) → h k ≡ Some x → x.key ≡ k)
-    → SweepStageAlone catalog g ss s → pending_at s ≡ Some q → Called q r g h → Quiet catalog g h × SweepLeadsTo catalog h (step_at ss n s now r)
-sweeps catalog apart now time g h ss n (Scanning span) q r sound own alone asked called =
+pub sweeps : (catalog : List Table) → IsApart catalog → (now : ℤ) → is_moment now ≡ true → (was g h : Database) (ss : List Span) (n : ℕ) (s : VacuumStage) (q : Request) (r : Reply) → Quiet catalog was g → ((k : Key) (x : Record) → h k ≡ Some x → x.key ≡ k)
+    → RemovedSoFar catalog was g n → SweepStageAlone catalog was now g ss s → pending_at s ≡ Some q → Called q r g h → Quiet catalog g h × SweepLeadsTo catalog was now h (step_at ss n s now r)
+sweeps catalog apart now time was g h ss n (Scanning span) q r quiet own removed alone asked called =
     let x = subst (λ y. Called y r g h) (sym (some_is (ask.Scan span) q asked)) called in
-    subst (λ j. Quiet catalog g j × SweepLeadsTo catalog j (answered ss n r)) (one_database g h x.0) (quiet_refl catalog g sound, scanned_alone catalog g sound span ss n alone r x.1)
-sweeps catalog apart now time g h ss n (Resolving rec meta p left) q r sound own alone asked called =
-    let x = recovers catalog apart rec meta now time g h p q r sound alone.1 asked called in
-    let quiet = quiet_of catalog g h sound own x.resolves in
-    (quiet, resolved_alone catalog apart now g h ss n rec meta left alone.0 own quiet.sound (meta_of rec meta alone.1.unresolved alone.1.says).held (recover_next rec meta p now r) x)
-sweeps catalog apart now time g h ss n (Removing b left) q r sound own alone asked called =
-    removed_alone catalog apart g h ss n b left sound alone.0 alone.1 alone.2 r (removal_called catalog apart g h ss n b left sound alone.0 alone.1 alone.2 q r asked called)
-sweeps catalog apart now time g h ss n Over q r sound own alone asked called = none_some q asked
+    subst (λ j. Quiet catalog g j × SweepLeadsTo catalog was now j (answered ss n r)) (one_database g h x.0) (quiet_refl catalog g quiet.sound, scanned_alone catalog was now g quiet.sound span ss n removed alone r x.1)
+sweeps catalog apart now time was g h ss n (Resolving rec meta p left) q r quiet own removed alone asked called =
+    let x = recovers catalog apart rec meta now time g h p q r quiet.sound alone.1 asked called in
+    let moved = quiet_of catalog g h quiet.sound own x.resolves in
+    let stays : StaysBut catalog rec.key g h = record { records = x.others; images = λ k listed other. image_stays catalog g h x.resolves quiet.sound k listed } in
+    (moved, resolved_alone catalog now was g h ss n rec meta left alone.0 alone.1.unresolved alone.1.says (quiet_trans catalog was g h quiet moved) (removed_resolved catalog was g h n quiet.sound x.resolves removed) (meta_of rec meta alone.1.unresolved alone.1.says).held stays (recover_next rec meta p now r) x.leads_to)
+sweeps catalog apart now time was g h ss n (Removing b left) q r quiet own removed alone asked called =
+    removed_alone catalog apart now was g h ss n b left quiet.sound alone.0 alone.1 alone.2 removed r (removal_called catalog apart now was g h ss n b left quiet.sound alone.0 alone.1 alone.2 q r asked called)
+sweeps catalog apart now time was g h ss n Over q r quiet own removed alone asked called = none_some q asked

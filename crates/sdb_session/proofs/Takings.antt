@@ -75,7 +75,7 @@ use Rattle.sdb_session.specs.Between.{Answered, Begun, Between, LeadsTo, Commits
 use Rattle.sdb_session.proofs.Resolves.{settles_refl}
 use Rattle.sdb_session.proofs.Statements.{agrees_all, answered_at, rows_change}
 use Rattle.sdb_session.proofs.Seen.{seen_written}
-use Rattle.sdb_session.proofs.Sweeps.{quiet_refl}
+use Rattle.sdb_session.proofs.Sweeps.{has_vacuumed, quiet_refl, removed_none}
 use Rattle.sdb_session.proofs.Works.{work_alone}
 use Rattle.sdb_turns.proofs.Lists.{each_at}
 
@@ -215,12 +215,12 @@ listed_spanned (t ∷ ts) k h = by (is_eq (table_cmp t.name k.table)) refl (list
     by true e rest = ap (λ b. (b && true) || list_any (λ s. in_span s k) (spans_of ts)) e
     by false e rest = ap (λ b. (b && true) || list_any (λ s. in_span s k) (spans_of ts)) e ∙ rest (sym (ap (λ b. is_some (if b then Some t else find_table ts k.table)) e) ∙ h)
 
-sweep_begins : (catalog : List Table) (g : Database) (t : Table) (ts : List Table) → catalog ≡ t ∷ ts → LeftAlone catalog g (whole t ∷ spans_of ts) []
-sweep_begins catalog g t ts is = record {
+sweep_begins : (catalog : List Table) (now : ℤ) (g : Database) (t : Table) (ts : List Table) → catalog ≡ t ∷ ts → LeftAlone catalog g now g (whole t ∷ spans_of ts) []
+sweep_begins catalog now g t ts is = record {
   tables = subst (λ xs. AllByRecursion (IsOfCatalog catalog) (spans_of xs)) is (spans_listed catalog catalog (λ name f. f));
   rise = tt;
   matches = tt;
-  clean = λ k listed outside none. false_true (sym (subst (λ xs. list_any (λ s. in_span s k) (spans_of xs) ≡ false) (sym is) outside) ∙ listed_spanned catalog k listed);
+  swept = λ k listed outside none. false_true (sym (subst (λ xs. list_any (λ s. in_span s k) (spans_of xs) ≡ false) (sym is) outside) ∙ listed_spanned catalog k listed);
 }
 
 -- the keys of an access are of tables of the catalog
@@ -281,13 +281,13 @@ module _ (q : Taking) (apart : IsApart q.catalog) (is : is_catalog q.catalog ≡
   vacuum_case None f (Some b) u s ts k took = absurd s
   vacuum_case None f None u s [] k took =
       let h : IsTold c (answer.Count 0) result e = subst (λ w. VacuumTold w [] c result e) gate.1 took in
-      Answers (answer.Count 0) h.answer (Swept refl u (quiet_refl q.catalog g sound) (inr (inr (0, refl, λ y listed. absurd (nowhere y (subst (λ xs. is_some (find_table xs y.table) ≡ true) k listed))))) (subst (Between q.catalog g None) (sym h.same) (subst (λ w. Between q.catalog g w c) u between)))
+      Answers (answer.Count 0) h.answer (Swept refl u (quiet_refl q.catalog g sound) (inr (inr (0, refl, has_vacuumed q.catalog g g q.now 0 (removed_none q.catalog g) (λ y listed. absurd (nowhere y (subst (λ xs. is_some (find_table xs y.table) ≡ true) k listed)))))) (subst (Between q.catalog g None) (sym h.same) (subst (λ w. Between q.catalog g w c) u between)))
     where
       nowhere : (y : Key) → is_some (find_table [] y.table) ≡ true → ⊥
       nowhere y h = cc
   vacuum_case None f None u s (t ∷ ts) k took =
       let h : (result ≡ None) × (e ≡ record c { vacuum = Some (sweeping (t ∷ ts)) }) = subst (λ w. VacuumTold w (t ∷ ts) c result e) gate.1 took in
-      More statement.Vacuum refl h.0 (Sweeps (sweeping (t ∷ ts)) u refl (ap (λ (w : ClientAt). w.vacuum) h.1) (ap (λ (w : ClientAt). w.txn) h.1 ∙ f) (ap (λ (w : ClientAt). w.plan) h.1 ∙ between.plan) (sweep_begins q.catalog g t ts k) (quiet_refl q.catalog g sound))
+      More statement.Vacuum refl h.0 (Sweeps (sweeping (t ∷ ts)) u refl (ap (λ (w : ClientAt). w.vacuum) h.1) (ap (λ (w : ClientAt). w.txn) h.1 ∙ f) (ap (λ (w : ClientAt). w.plan) h.1 ∙ between.plan) (removed_none q.catalog g, sweep_begins q.catalog q.now g t ts k) (quiet_refl q.catalog g sound))
 
   ---- a statement on a table
 

@@ -4,6 +4,7 @@ pub mod Recovers
 pub mod Commits
 pub mod Reads
 pub mod Seen
+pub mod Tombstones
 pub mod Sweeps
 pub mod Later
 pub mod Keys

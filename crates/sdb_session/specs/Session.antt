@@ -26,6 +26,7 @@ use Rattle.sdb_session.specs.Database.{Database, decided_in, is_listed}
 use Rattle.sdb_session.specs.Clients.{IsUnused}
 use Rattle.sdb_session.specs.Keys.{is_too_many, keys_of_body, passes_most}
 use Rattle.sdb_session.specs.Seen.{AreImagesOf}
+use Rattle.sdb_session.specs.Tombstones.{HasVacuumed, HasWritten, OnlyRemoves, SameImages, is_among}
 
 ---- what was taken and answered
 
@@ -239,6 +240,31 @@ abbrev pub AreSerialParts : List Table → Database → Database → List Part �
 AreSerialParts catalog opening last earlier d [] = Unit {0}
 AreSerialParts catalog opening last earlier d (t ∷ ts) = IsSerialPart catalog opening earlier d t × AreSerialParts catalog opening last (earlier ++ t ∷ []) (tables_after catalog last d (t ∷ [])) ts
 
+---- what each statement leaves
+
+-- an open transaction's COMMIT, by which it is recorded
+abbrev pub is_recorded_commit : Database → Option Part → Exchange → Bool
+is_recorded_commit now opened e = is_commit e.says && option_map_or (λ t. is_recorded_by now t.id e.answer) opened false
+
+-- whether a transaction's body writes a key, on plain tables
+abbrev pub is_written_by : List Table → Tables → Part → Key → Bool
+is_written_by catalog d t k = is_among (keys_of_body catalog (statements_in t.inside) d []) k
+
+-- One statement over a database with these plain tables. A COMMIT that is recorded writes the keys that its body writes; a VACUUM removes
+-- tombstones, and where it is answered Count, so many of them; each other statement leaves each committed image as it is.
+pub record IsStep (catalog : List Table) (was : Database) (d : Tables) (opened : Option Part) (e : Exchange) (now : Database) : Type 0 where
+  pub committed : (t : Part) → opened ≡ Some t → is_recorded_commit now opened e ≡ true → HasWritten catalog (is_written_by catalog d t) was now
+  pub removed : is_vacuum e.says ≡ true → OnlyRemoves catalog was now
+  pub counted : (n : ℕ) → is_vacuum e.says ≡ true → e.answer ≡ answer.Count n → HasVacuumed catalog was now e.moment n
+  pub same : is_recorded_commit now opened e ≡ false → is_vacuum e.says ≡ false → SameImages catalog was now
+
+-- So is each statement, from a first database to the last one, through one after each statement, whose rows are the tables that the
+-- recorded transactions so far left.
+abbrev pub AreSteps : List Table → Tables → Database → Parts → List Exchange → Database → Type 0
+AreSteps catalog before g p [] last = last ≡ g
+AreSteps catalog before g p (e ∷ es) last =
+    (h : Database) × AreImagesOf catalog h (tables_after catalog h before (parts_after p e).ended) × IsStep catalog g (tables_after catalog g before p.ended) p.opened e h × AreSteps catalog before h (parts_after p e) es last
+
 -- Where VACUUM comes last and is answered Count, no tombstone is left in a table of the catalog.
 abbrev pub IsSwept : List Table → Database → Type 0
 IsSwept catalog last = (k : Key) (r : Record) → is_listed catalog k ≡ true → last k ≡ Some r → is_in state.Committed r.columns ≡ true → is_tombstone r ≡ false
@@ -254,13 +280,14 @@ recorded_of last ts = filter (is_recorded last) ts
 -- A session from an opening database to a last one, and from plain tables that are the opening's images: its recorded transactions, in the
 -- order of their COMMITs and run whole, give their answers and the last images; they are those whose row says COMMITTED at the end; each of
 -- its transactions, recorded or not, was answered as it is after the recorded ones before it; Conflict, Expired and BadRecord never came;
--- and a last VACUUM left no tombstone.
+-- each statement left of the images what it may, a VACUUM has counted the tombstones that it removed, and a last one left none.
 pub record IsSerialSession (catalog : List Table) (opening last : Database) (before : Tables) (es : List Exchange) : Type 0 where
   pub serial : serial catalog (map (λ t. statements_in t.inside) (recorded_of last (parts_of es).ended)) before ≡ (map (λ t. answers_in t.inside) (recorded_of last (parts_of es).ended), tables_after catalog last before (parts_of es).ended)
   pub images : AreImagesOf catalog last (tables_after catalog last before (parts_of es).ended)
   pub rows : AllByRecursion (λ t. is_held_committed last t.id ≡ is_recorded last t) (parts_of es).ended
   pub parts : AreSerialParts catalog opening last [] before (all_parts (parts_of es))
   pub never : AllByRecursion (λ e. NeverComes e.answer → ⊥) es
+  pub steps : AreSteps catalog before opening no_parts es last
   pub swept : (front : List Exchange) (e : Exchange) → es ≡ front ++ e ∷ [] → is_vacuum e.says ≡ true → is_count e.answer ≡ true → IsSwept catalog last
 
 ---- the premises

@@ -1,5 +1,5 @@
 -- What the laws of a client that is alone speak of: a statement that it takes, and a reply to its call.
-use Rattle.std.specs.Prelude.{◌≡◌, ℕ, ℤ, true, false, List, Option, Some, Result}
+use Rattle.std.specs.Prelude.{◌≡◌, ℕ, ℤ, true, false, List, [], ◌∷◌, Option, Some, Result}
 use Rattle.sdb_types.specs.declared.txid.TxId.{TxId}
 use Rattle.sdb_types.specs.declared.record.Record.{Record}
 use Rattle.sdb_types.specs.declared.record.Reply.{Reply}
@@ -19,7 +19,7 @@ use Rattle.sdb_session.specs.Seen.{AreImagesOf}
 use Rattle.sdb_session.specs.Clients.{IsUnused}
 use Rattle.sdb_session.specs.Recovers.{RecoverAlone}
 use Rattle.sdb_session.specs.Commits.{CommitAlone}
-use Rattle.sdb_session.specs.Session.{AreNewIds, Exchange, begun_ids, no_parts}
+use Rattle.sdb_session.specs.Session.{AreNewIds, Exchange, IsSerialSession, begun_ids, is_vacuum, no_parts}
 use Rattle.sdb_session.specs.Chain.{Chain}
 use Rattle.sdb_record.specs.declared.meta.Meta.{Meta}
 use Rattle.sdb_phases.specs.declared.step.RecoverPhase.{RecoverPhase}
@@ -128,3 +128,13 @@ pub record SessionAlone : Type 0 where
   pub last : Database
   pub new : AreNewIds catalog opening (begun_ids exchanges)
   pub chain : Chain catalog opening no_parts exchanges last
+
+-- A session of one VACUUM.
+pub record VacuumSession : Type 0 where
+  pub catalog : List Table
+  pub opening : Database
+  pub last : Database
+  pub before : Tables
+  pub vacuum : Exchange
+  pub is : is_vacuum vacuum.says ≡ true
+  pub serial : IsSerialSession catalog opening last before (vacuum ∷ [])

@@ -1,5 +1,5 @@
 //! Laws of a session of one client that is alone.
-ghost use Rattle.std.specs.Prelude.{◌≡◌, ◌⊎◌, ℕ, ◌++◌, ◌∷◌, [], List, Option, Some, Ok, Result, Bool, is_some};
+ghost use Rattle.std.specs.Prelude.{◌≡◌, ◌⊎◌, ℕ, ℤ, ◌++◌, ◌∷◌, [], List, Option, Some, Ok, Result, Bool, is_some};
 ghost use Rattle.sdb_types.specs.declared.key.Key.{Key};
 ghost use Rattle.sdb_types.specs.declared.record.Record.{Record};
 ghost use Rattle.sdb_types.specs.declared.record.Reply.{Reply};
@@ -22,11 +22,12 @@ ghost use Rattle.sdb_session.specs.Recovers.{RecoversTo};
 ghost use Rattle.sdb_session.specs.Commits.{CommitAlone};
 ghost use Rattle.sdb_session.specs.Seen.{HasTables};
 ghost use Rattle.sdb_session.specs.Session.{Exchange, IsSerialSession, no_parts};
+ghost use Rattle.sdb_session.specs.Tombstones.{HasNoTombstone, HasVacuumed};
 ghost use Rattle.sdb_session.specs.Between.{Between, LeadsTo, OpenTransaction};
 ghost use Rattle.sdb_session.specs.Chain.{Chain, Exchanged, IsReached, open_after};
 ghost use Rattle.sdb_session.specs.Working.{IsAtWork, LeadsOn, RepliedBy, TakenBy};
 ghost use Rattle.sdb_session.specs.Faults.{ComesOfFault, IsAfterFault};
-ghost use Rattle.sdb_session.specs.Turns.{CommitReplied, RecoveryReplied, RepliedAlone, SessionAlone, TakenAlone};
+ghost use Rattle.sdb_session.specs.Turns.{CommitReplied, RecoveryReplied, RepliedAlone, SessionAlone, TakenAlone, VacuumSession};
 
 /// A call on stores returns what is at its key, and changes the database there alone.
 pub fn calls_are_local()
@@ -93,6 +94,13 @@ pub fn chains_are_extended()
     ensures longer { (catalog : List Table) (start g h : Database) (es : List Exchange) (e : Exchange) (c : ClientAt) → Chain catalog start no_parts es g → AreOwn h → Exchanged catalog g (open_after es) e h c → Chain catalog start no_parts (es ++ e ∷ []) h }
     ensures between { (catalog : List Table) (g h : Database) (es : List Exchange) (e : Exchange) (c : ClientAt) → Exchanged catalog g (open_after es) e h c → Between catalog h (open_after (es ++ e ∷ [])) c }
     ensures reached { (s : SessionAlone) → IsReached s.catalog s.opening s.last s.before s.exchanges }
+{}
+
+/// The databases before a VACUUM and after it fix its count, and where there was no tombstone it is 0, also in a session of this VACUUM.
+pub fn counts_are_exact()
+    ensures exact { (catalog : List Table) (was now : Database) (at moment : ℤ) (n m : ℕ) → HasVacuumed catalog was now at n → HasVacuumed catalog was now moment m → n ≡ m }
+    ensures none { (catalog : List Table) (was now : Database) (at : ℤ) (n : ℕ) → HasVacuumed catalog was now at n → HasNoTombstone catalog was → n ≡ 0 }
+    ensures answered { (s : VacuumSession) (n : ℕ) → s.vacuum.answer ≡ answer.Count n → HasNoTombstone s.catalog s.opening → n ≡ 0 }
 {}
 
 /// Statements of a client that is alone, one after the other: their answers and the last images are serial, whatever the opening has.

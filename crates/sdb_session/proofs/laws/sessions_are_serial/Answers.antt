@@ -1,5 +1,5 @@
 use Rattle.sdb_session.proofs.Fresh.{fresh_ids}
-use Rattle.sdb_session.proofs.Sessions.{session_serial}
+use Rattle.sdb_session.proofs.Steps.{session_serial}
 use Rattle.sdb_session.proofs.laws.sessions_are_serial.Goals as goal
 
 pub returns : goal.returns
