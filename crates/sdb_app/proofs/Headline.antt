@@ -41,9 +41,11 @@ use Rattle.sdb_endings.specs.Shown.{IsReader, ReadBy}
 use Rattle.sdb_endings.proofs.Agreeing.{decisions_agree}
 use Rattle.sdb_endings.proofs.Finding.{answers_as, answers_committed}
 use Rattle.sdb_world.specs.Broken.{BreaksWithin}
-use Rattle.sdb_world.specs.Execution.{IsExecution}
+use Rattle.sdb_execution.specs.Execution.{IsExecution, IsPlayable}
+use Rattle.sdb_executions.proofs.Steps.{execution_caused}
 use Rattle.sdb_world.specs.Explained.{IsExplained, IsShown}
 use Rattle.sdb_world.proofs.Broken.{breaks_after}
+use Rattle.sdb_world.proofs.Explained.{no_coordinator}
 use Rattle.sdb_app.specs.declared.status.Status.{Status}
 use Rattle.sdb_app.specs.declared.status.Status.TheVariants as status
 use Rattle.sdb_app.specs.Bench.{IsBenched, StopsBench, bench_over}
@@ -199,18 +201,21 @@ played_on script old mid then new o same still goes fit none quiet run explained
 
 pub outcome_is : (script : Script) (old mid then : Attached) (new : List Counted) (o : Outcome) → placed mid.places ≡ script.places → mid.shelves ≡ old.shelves → GoOn mid then → (TellOf script old → AreFit script.catalog mid)
     → (AreFit script.catalog mid → first_key (opening_in script.catalog mid) ≡ None) → (AreFit script.catalog mid → HoldTheSame mid then)
-    → Follows script.clients script.moves o.events → IsExecution script o.events → AnswersHaveCauses script.catalog o.events → BreaksWithin [] o.events then.shelves new → (AreReady script then → IsRun script (shown then.shelves) (shown new) o) → (AreReady script then → IsExplained script o.events (shown then.shelves)) → find_table script.catalog coordinator_table ≡ None
+    → Follows script.clients script.moves o.events → IsExecution script o.events → BreaksWithin [] o.events then.shelves new → (AreReady script then → IsRun script (shown then.shelves) (shown new) o) → (AreReady script then → IsExplained script o.events (shown then.shelves)) → IsPlayable script
     → IsOutcome (TellOf script old) script old.shelves new o
-outcome_is script old mid then new o same still goes fit none quiet follows executed caused broken run explained apart = record {
+outcome_is script old mid then new o same still goes fit none quiet follows executed broken run explained playable = record {
   follows = follows;
   executed = executed;
   caused = caused;
   counted = all_counted script.catalog o.events caused.counted (seen_no_faults script.clients script.moves o.events follows);
   resolved = resolved;
   broken = subst (λ (ss : List Counted). BreaksWithin [] o.events ss new) still (breaks_after [] o.events mid then new goes broken);
-  played = λ all. played_on script old mid then (shown new) o same still goes (fit all) (none (fit all)) (quiet (fit all)) run explained caused apart resolved;
+  played = λ all. played_on script old mid then (shown new) o same still goes (fit all) (none (fit all)) (quiet (fit all)) run explained caused (no_coordinator script playable) resolved;
 }
   where
+    caused : AnswersHaveCauses script.catalog o.events
+    caused = execution_caused script o.events playable executed
+
     resolved : AreResolved o.events
     resolved = all_resolved o.events caused.rolled (answered_seen script.clients script.moves o.events follows)
 

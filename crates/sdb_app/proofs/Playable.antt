@@ -31,7 +31,7 @@ use Rattle.sdb_script.specs.Whole.{IsScript}
 use Rattle.sdb_app.specs.Run.{CanBePlaced}
 use Rattle.sdb_script.proofs.OneLine.{json_may, may_name}
 use Rattle.sdb_script.proofs.Pieces.{no_some}
-use Rattle.sdb_world.specs.World.{IsPlayable}
+use Rattle.sdb_execution.specs.Execution.{IsPlayable}
 use Rattle.sdb_world.specs.Step.{CanAct, CanFollow, CanMove}
 use Rattle.sdb_app.proofs.CatalogRead.{catalog_read}
 use Rattle.sdb_types.proofs.Basics.{by_test, some_is, nat_at_most as at_most}

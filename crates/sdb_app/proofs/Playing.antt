@@ -1,5 +1,5 @@
 -- A world that has followed its script on stores that were ready has played it, and its outcome is that of a run.
-use Rattle.std.proofs.Common.{◌≡◌, ◌∙◌, List, [], ◌++◌, Result, Ok, Err, IfErr, IfOk, sym, ap, subst}
+use Rattle.std.proofs.Common.{◌≡◌, ◌∙◌, List, [], ◌++◌, Result, Ok, Err, IfErr, IfOk, refl, sym, ap, subst}
 use Rattle.std.specs.FinMap.{empty}
 use Rattle.sdb_types.specs.declared.key.Key.{Key}
 use Rattle.sdb_stores.specs.Shelf.{Attached}
@@ -17,12 +17,10 @@ use Rattle.sdb_board.specs.declared.refused.CallRefused.TheVariants as call
 use Rattle.sdb_dump.specs.Refused.{Refuses as ClosingRefuses}
 use Rattle.sdb_dump.specs.declared.refused.ClosingRefused.{ClosingRefused}
 use Rattle.sdb_dump.specs.declared.refused.ClosingRefused.TheVariants as closing
-use Rattle.sdb_causes.specs.Tied.{AnswersHaveCauses}
 use Rattle.sdb_world.specs.Broken.{BreaksWithin}
 use Rattle.sdb_world.specs.Explained.{IsExplained}
-use Rattle.sdb_world.specs.World.{WorldAt, state_of}
-use Rattle.sdb_world.specs.Execution.{IsExecution, IsInitial}
-use Rattle.sdb_world.specs.Linked.{HaveCauses, IsLinked}
+use Rattle.sdb_executions.specs.World.{WorldAt, state_of}
+use Rattle.sdb_execution.specs.Execution.{IsExecution, IsInitial}
 use Rattle.sdb_world.specs.Played.{HasNotPlayed, HasPlayed, HasPlayedOn, IsOutcomeOf, IsPlayExplained}
 use Rattle.sdb_world.specs.Step.{HasFollowed}
 use Rattle.sdb_world.proofs.Broken.{breaks_more, breaks_still}
@@ -42,22 +40,22 @@ executed_played old new script w v same none initial came events is =
     subst (λ (xs : List Event). IsExecution script xs) (sym (is ∙ all))
     (subst (λ (s : Script). IsExecution s came.es) same (record { first = state_of w; last = state_of v; initial = initial; path = came.gone.executed }))
 
-has_played : (old new : Attached) (script : Script) (w v : WorldAt) → w.script ≡ script → w.events ≡ [] → IsLinked w → HasFollowed old new w v → AreReady script old → HasPlayed v (shown old.shelves) (shown new.shelves)
-has_played old new script w v same none linked came ready =
+has_played : (old new : Attached) (script : Script) (w v : WorldAt) → w.script ≡ script → w.events ≡ [] → IsInitial w.script (state_of w) → HasFollowed old new w v → AreReady script old → HasPlayed v (shown old.shelves) (shown new.shelves)
+has_played old new script w v same none initial came ready =
     let before : List Shelf = shown old.shelves in
     let now : List Shelf = shown new.shelves in
     let vs : v.script ≡ script = came.gone.script ∙ same in
     let all : v.events ≡ came.es = came.gone.events ∙ ap (λ (xs : List Event). xs ++ came.es) none in
     let made = came.gone.traced (subst (λ (s : Script). AreFit s.catalog old) (sym same) ready.fit) in
     record {
-      linked = came.gone.linked linked;
+      executed = subst (λ (s : Script). IsExecution s v.events) (sym vs) (executed_played old new script w v same none initial came v.events refl);
       follows = subst (λ (s : Script). Follows s.clients s.moves v.events) (sym vs) (has_followed old new script w v same none came);
       moments = made.0;
       traced = subst (λ (s : Script). IsTrace s.places v.events before made.0 now) (sym vs) (subst (λ (xs : List Event). IsTrace script.places xs before made.0 now) (sym all) (subst (λ (ps : List Place). IsTrace ps came.es before made.0 now) ready.placed_so made.1));
       nothing = subst (λ (s : Script). HoldAs s.catalog s.places before empty) (sym vs) ready.nothing;
     }
 
-module _ (script : Script) (w v : WorldAt) (old mid : Attached) (same : w.script ≡ script) (none : w.events ≡ []) (linked : IsLinked w) (came : HasFollowed old mid w v) (goes : GoOn old mid) where
+module _ (script : Script) (w v : WorldAt) (old mid : Attached) (same : w.script ≡ script) (none : w.events ≡ []) (initial : IsInitial w.script (state_of w)) (came : HasFollowed old mid w v) (goes : GoOn old mid) where
   vs : v.script ≡ script
   vs = came.gone.script ∙ same
 
@@ -66,12 +64,8 @@ module _ (script : Script) (w v : WorldAt) (old mid : Attached) (same : w.script
   played ready = record {
     fit = goes.fit v.script.catalog (subst (λ (s : Script). AreFit s.catalog old) (sym vs) ready.fit);
     as_placed = ap placed goes.places ∙ ready.placed_so ∙ ap (λ (s : Script). s.places) (sym vs);
-    played = has_played old mid script w v same none linked came ready;
+    played = has_played old mid script w v same none initial came ready;
   }
-
-  -- the answers of its outcome have their causes
-  pub caused_played : HaveCauses w → (events : List Event) → (HaveCauses v → AnswersHaveCauses v.script.catalog events) → AnswersHaveCauses script.catalog events
-  caused_played kept events out = subst (λ (s : Script). AnswersHaveCauses s.catalog events) vs (out (came.gone.caused linked kept))
 
   -- its outcome is that of a run
   pub run_played : (new : Attached) (o : Outcome) → IsOutcomeOf v mid new o → AreReady script old → IsRun script (shown old.shelves) (shown new.shelves) o
@@ -101,10 +95,10 @@ pub err_then : {T E : Type 0} (P Q : E → Type 0) (r : Result T E) → ((e : E)
 err_then P Q (Ok x) f h = tt
 err_then P Q (Err e) f h = f e h
 
--- what six clauses say of a result gives what another says
-pub ok_six : {T E : Type 0} (A B C D F G Q : T → Type 0) (r : Result T E) → IfOk r A → IfOk r B → IfOk r C → IfOk r D → IfOk r F → IfOk r G → ((x : T) → A x → B x → C x → D x → F x → G x → Q x) → IfOk r Q
-ok_six A B C D F G Q (Ok x) a b c d f g h = h x a b c d f g
-ok_six A B C D F G Q (Err e) a b c d f g h = tt
+-- what five clauses say of a result gives what another says
+pub ok_five : {T E : Type 0} (A B C D F Q : T → Type 0) (r : Result T E) → IfOk r A → IfOk r B → IfOk r C → IfOk r D → IfOk r F → ((x : T) → A x → B x → C x → D x → F x → Q x) → IfOk r Q
+ok_five A B C D F Q (Ok x) a b c d f h = h x a b c d f
+ok_five A B C D F Q (Err e) a b c d f h = tt
 
 ---- why it stopped
 

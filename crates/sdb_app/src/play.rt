@@ -5,13 +5,11 @@ ghost use Rattle.sdb_model.specs.Follows.{Follows};
 ghost use Rattle.sdb_model.specs.Told.{IsRun};
 ghost use Rattle.sdb_board.specs.Board.{AreFit, GoOn, HoldTheSame, shown};
 ghost use Rattle.sdb_board.specs.Opening.{first_key, opening_in};
-ghost use Rattle.sdb_causes.specs.Tied.{AnswersHaveCauses};
 ghost use Rattle.sdb_world.specs.Broken.{BreaksWithin};
-ghost use Rattle.sdb_world.specs.Execution.{IsExecution};
+ghost use Rattle.sdb_execution.specs.Execution.{IsExecution, IsPlayable};
 ghost use Rattle.sdb_world.specs.Explained.{IsExplained};
-ghost use Rattle.sdb_world.specs.Linked.{HaveCauses};
 ghost use Rattle.sdb_world.specs.Played.{HasNotPlayed, IsOutcomeOf, IsPlayExplained};
-ghost use Rattle.sdb_world.specs.World.{IsPlayable, IsWorld};
+ghost use Rattle.sdb_executions.specs.World.{IsWorld};
 ghost use Rattle.sdb_world.specs.Step.{CanFollow};
 ghost use Rattle.sdb_app.specs.Ends.{AreKept};
 ghost use Rattle.sdb_app.specs.Run.{AreReady, CanBePlaced, IsOutcome, Stops, StopsLook, StopsPlay, StopsWorld, TellOf, status_of_call, status_of_closing};
@@ -79,7 +77,6 @@ fn ended<R: Registry>(alloc: Global, stores: &mut R, world: World) -> Result<Out
     requires some { 0 < length (R.state stores.old).shelves }
     requires world { IsWorld world }
     ensures events { IfOk result (λ o. o.events ≡ world.events) }
-    ensures caused { IfOk result (λ o. HaveCauses world → AnswersHaveCauses world.script.catalog o.events) }
     ensures explained { IfOk result (λ o. IsPlayExplained world (R.state stores.old) o.events) }
     ensures run { IfOk result (IsOutcomeOf world (R.state stores.old) (R.state stores.new)) }
     ensures goes { GoOn (R.state stores.old) (R.state stores.new) }
@@ -98,7 +95,6 @@ fn run_world<R: Registry>(alloc: Global, stores: &mut R, script: Script) -> Resu
     requires can { CanFollow script }
     ensures follows { IfOk result (λ o. Follows script.clients script.moves o.events) }
     ensures executed { IfOk result (λ o. IsExecution script o.events) }
-    ensures caused { IfOk result (λ o. AnswersHaveCauses script.catalog o.events) }
     ensures broken { IfOk result (λ o. BreaksWithin [] o.events (R.state stores.old).shelves (R.state stores.new).shelves) }
     ensures explained { IfOk result (λ o. AreReady script (R.state stores.old) → IsExplained script o.events (shown (R.state stores.old).shelves)) }
     ensures run { IfOk result (λ o. AreReady script (R.state stores.old) → IsRun script (shown (R.state stores.old).shelves) (shown (R.state stores.new).shelves) o) }

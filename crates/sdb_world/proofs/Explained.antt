@@ -20,13 +20,15 @@ use Rattle.sdb_steps.specs.Hands.{doing_of, system_of}
 use Rattle.sdb_endings.specs.Stores.{AreTaken}
 use Rattle.sdb_endings.proofs.Explains.{going_is_explained, going_is_taken}
 use Rattle.sdb_endings.proofs.Moments.{lone_effect}
-use Rattle.sdb_world.specs.World.{IsPlayable, IsWorld, WorldAt, hands_of}
-use Rattle.sdb_world.specs.Linked.{IsLinked, one_name}
+use Rattle.sdb_execution.specs.Execution.{IsExecution, IsPlayable, IsReachedBy}
+use Rattle.sdb_executions.specs.World.{IsWorld, WorldAt, hands_of, state_of}
+use Rattle.sdb_executions.specs.Linked.{one_name}
+use Rattle.sdb_executions.proofs.Steps.{execution_linked}
 use Rattle.sdb_world.specs.Played.{HasPlayed}
-use Rattle.sdb_world.specs.Step.{HasCome, IsOne}
+use Rattle.sdb_world.specs.Step.{HasCome, HasGone, IsOne}
 use Rattle.sdb_world.specs.Explained.{IsExplained, IsExplainedAfter}
 use Rattle.sdb_world.proofs.Acts.{Came}
-use Rattle.sdb_world.proofs.Goes.{traces_on}
+use Rattle.sdb_world.proofs.Goes.{paths_on, traces_on}
 
 -- no table of a script is the coordinator's
 pub no_coordinator : (script : Script) → IsPlayable script → find_table script.catalog coordinator_table ≡ None
@@ -36,27 +38,38 @@ no_coordinator script p = by (find_table script.catalog coordinator_table) refl
     by None e = e
     by (Some t) e = clash (sym (p.apart (record { table = coordinator_table; partition = []; clustering = [] }) (ap is_some e)))
 
-pub world_explained : (w : WorldAt) → IsWorld w → IsLinked w → (places : List Place) (opening closing : List Shelf) (moments : List (List Shelf)) → HoldAs w.script.catalog places opening empty → IsTrace places w.events opening moments closing → Explained w.script.catalog places w.events opening moments
-world_explained w h g places opening closing moments nothing traced =
-    going_is_explained w.script.catalog places one_name (tables_fit w.script.catalog) w.events (system_of (hands_of w.seats)) (doing_of (hands_of w.seats)) opening closing moments g (no_coordinator w.script h.playable) traced h.about nothing
+pub world_explained : (w : WorldAt) → IsWorld w → IsExecution w.script w.events → (places : List Place) (opening closing : List Shelf) (moments : List (List Shelf)) → HoldAs w.script.catalog places opening empty → IsTrace places w.events opening moments closing → Explained w.script.catalog places w.events opening moments
+world_explained w h x places opening closing moments nothing traced =
+    going_is_explained w.script.catalog places one_name (tables_fit w.script.catalog) w.events (system_of (hands_of x.last.seats)) (doing_of (hands_of x.last.seats)) opening closing moments (execution_linked w.script w.events h.playable x) (no_coordinator w.script h.playable) traced h.about nothing
 
-world_taken : (w : WorldAt) → IsWorld w → IsLinked w → (places : List Place) (opening closing : List Shelf) (moments : List (List Shelf)) → HoldAs w.script.catalog places opening empty → IsTrace places w.events opening moments closing → AreTaken w.script.catalog places opening moments
-world_taken w h g places opening closing moments nothing traced =
-    going_is_taken w.script.catalog places one_name (tables_fit w.script.catalog) w.events (system_of (hands_of w.seats)) (doing_of (hands_of w.seats)) opening closing moments g (no_coordinator w.script h.playable) traced h.about nothing
+world_taken : (w : WorldAt) → IsWorld w → IsExecution w.script w.events → (places : List Place) (opening closing : List Shelf) (moments : List (List Shelf)) → HoldAs w.script.catalog places opening empty → IsTrace places w.events opening moments closing → AreTaken w.script.catalog places opening moments
+world_taken w h x places opening closing moments nothing traced =
+    going_is_taken w.script.catalog places one_name (tables_fit w.script.catalog) w.events (system_of (hands_of x.last.seats)) (doing_of (hands_of x.last.seats)) opening closing moments (execution_linked w.script w.events h.playable x) (no_coordinator w.script h.playable) traced h.about nothing
 
 -- a world that has played its script
 pub played_explained : (w : WorldAt) → IsWorld w → (events : List Event) → events ≡ w.events → (opening closing : List Shelf) → HasPlayed w opening closing → IsExplained w.script events opening
 played_explained w h events same opening closing p moments end traced = record {
-  explained = subst (λ (es : List Event). Explained w.script.catalog w.script.places es opening moments) (sym same) (world_explained w h p.linked w.script.places opening end moments p.nothing on);
-  taken = world_taken w h p.linked w.script.places opening end moments p.nothing on;
+  explained = subst (λ (es : List Event). Explained w.script.catalog w.script.places es opening moments) (sym same) (world_explained w h p.executed w.script.places opening end moments p.nothing on);
+  taken = world_taken w h p.executed w.script.places opening end moments p.nothing on;
 }
   where
     on : IsTrace w.script.places w.events opening moments end
     on = subst (λ (es : List Event). IsTrace w.script.places es opening moments end) same traced
 
+-- the events so far and those that came are an execution
+execution_more : (old new : Attached) (w v : WorldAt) (es : List Event) → IsReachedBy w.script w.events (state_of w) → HasGone old new w v es → IsExecution v.script v.events
+execution_more old new w v es reached gone =
+    subst (λ (xs : List Event). IsExecution v.script xs) (sym gone.events)
+    (subst (λ (x : Script). IsExecution x (w.events ++ es)) (sym gone.script) (record {
+      first = reached.first;
+      last = state_of v;
+      initial = reached.initial;
+      path = paths_on w.script w.events es reached.first (state_of w) (state_of v) reached.path gone.executed;
+    }))
+
 -- one event more
 pub came_explained : (old new : Attached) (w v : WorldAt) (a : Act) → Came old new w a v → IsExplainedAfter old new w v
-came_explained old new w v a (h, c) f g opening moments nothing traced =
+came_explained old new w v a (h, c) f reached opening moments nothing traced =
     let e : Event = c.so.event in
     let places : List Place = placed old.places in
     let before : List Shelf = shown old.shelves in
@@ -68,7 +81,7 @@ came_explained old new w v a (h, c) f g opening moments nothing traced =
     subst (λ (es : List Event). IsTrace places es opening (moments ++ now ∷ []) now) (sym events) (traces_on places w.events (e ∷ []) opening before now moments (now ∷ []) traced (effect, refl)) in
     record {
       traced = on;
-      explained = world_explained v h (c.gone.linked g) places opening now (moments ++ now ∷ []) (subst (λ (x : Script). HoldAs x.catalog places opening empty) (sym c.gone.script) nothing) on;
+      explained = world_explained v h (execution_more old new w v c.es reached c.gone) places opening now (moments ++ now ∷ []) (subst (λ (x : Script). HoldAs x.catalog places opening empty) (sym c.gone.script) nothing) on;
     }
 
 pub on_explained : {T E : Type 0} (r : Result T E) (old new : Attached) (w v : WorldAt) (a : Act) → OnOk r (IsWorld v) → OnOk r (HasCome (IsOne w.script.clients a w.events) old new w v) → OnOk r (IsExplainedAfter old new w v)

@@ -1,14 +1,11 @@
 -- The clients of a script before their first statement.
-use Rattle.std.proofs.Common.{◌≡◌, ℕ, zero, suc, ℤ, ◌+◌, List, [], ◌∷◌, ◌++◌, length, Some, refl, sym, ap, subst, ◌∙◌, length-append}
+use Rattle.std.proofs.Common.{◌≡◌, ℕ, zero, suc, ◌+◌, List, [], ◌∷◌, ◌++◌, length, Some, refl, sym, ap, subst, ◌∙◌, length-append}
 use Rattle.std.specs.Prelude.{pos, slice_get}
 use Rattle.sdb_model.specs.declared.event.Event.{Event}
 use Rattle.sdb_model.specs.declared.script.Script.{Script}
-use Rattle.sdb_world.specs.declared.seat.Seat.{Seat}
-use Rattle.sdb_world.specs.World.{IsPlayable, IsSeat, IsWorld, state_of}
-use Rattle.sdb_world.specs.Execution.{IsInitial}
-use Rattle.sdb_world.specs.Linked.{IsLinked}
-use Rattle.sdb_world.specs.Step.{AreFresh, fresh_seat}
-use Rattle.sdb_world.proofs.Linked.{linked_first}
+use Rattle.sdb_execution.specs.declared.seat.Seat.{Seat}
+use Rattle.sdb_execution.specs.Execution.{AreFresh, IsInitial, fresh_seat}
+use Rattle.sdb_executions.specs.World.{state_of}
 use Rattle.sdb_types.proofs.Basics.{none_some, some_is}
 
 -- what is so of each by its place is so with one more
@@ -27,30 +24,6 @@ fresh_more i seats more s h is same = subst (λ (xs : List Seat). AreFresh (i + 
   size = length-append seats (s ∷ []) ∙ ap (λ (n : ℕ). n + 1) h.size;
   each = each_more (λ (j : ℕ) (t : Seat). t ≡ fresh_seat j) seats s h.each (is ∙ ap fresh_seat (sym h.size));
 })
-
-seat_first : (script : Script) (i : ℕ) → IsSeat script [] i (fresh_seat i)
-seat_first script i = record {
-  number = refl;
-  fitted = refl;
-  about = record { txn = tt; vacuum = tt };
-  taken = refl;
-  stopped = refl;
-  busy = λ e. absurd (cc);
-  idle = λ e. record { free = refl; still = tt };
-}
-
--- before the first statement
-pub world_first : (script : Script) (count : ℕ) (seats : List Seat) (events : List Event) → IsPlayable script → count ≡ length script.clients → AreFresh count seats → events ≡ [] → IsWorld (record { script = script; seats = seats; events = events; clock = pos 0 })
-world_first script count seats events playable few h none = subst (λ (es : List Event). IsWorld (record { script = script; seats = seats; events = es; clock = pos 0 })) (sym none) (record {
-  playable = playable;
-  clients = h.size ∙ few;
-  each = λ i s here. subst (λ (t : Seat). IsSeat script [] i t) (sym (h.each i s here)) (seat_first script i);
-  moment = refl;
-  about = tt;
-})
-
-pub linked_new : (script : Script) (count : ℕ) (seats : List Seat) (events : List Event) (clock : ℤ) → AreFresh count seats → events ≡ [] → IsLinked (record { script = script; seats = seats; events = events; clock = clock })
-linked_new script count seats events clock h none = subst (λ (es : List Event). IsLinked (record { script = script; seats = seats; events = es; clock = clock })) (sym none) (linked_first script.catalog count seats h)
 
 pub initial_new : (script : Script) (count : ℕ) (seats : List Seat) (events : List Event) → count ≡ length script.clients → AreFresh count seats → IsInitial script (state_of (record { script = script; seats = seats; events = events; clock = pos 0 }))
 initial_new script count seats events few h = record { fresh = subst (λ (n : ℕ). AreFresh n seats) few h; clock = refl }

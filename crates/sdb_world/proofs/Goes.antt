@@ -8,9 +8,8 @@ use Rattle.sdb_model.specs.Events.{Effect, IsTrace, Shelf}
 use Rattle.sdb_stores.specs.Shelf.{Attached}
 use Rattle.sdb_stores.specs.declared.place.Place.{Place as Placed}
 use Rattle.sdb_board.specs.Board.{AreFit, GoOn, placed, shown}
-use Rattle.sdb_world.specs.World.{WorldAt, state_of}
-use Rattle.sdb_world.specs.Execution.{IsPath, IsStepFrom, State}
-use Rattle.sdb_world.specs.Linked.{HaveCauses, IsLinked}
+use Rattle.sdb_executions.specs.World.{WorldAt, state_of}
+use Rattle.sdb_execution.specs.Execution.{IsPath, IsStepFrom, State}
 use Rattle.sdb_world.specs.Step.{HasCome, HasGone}
 
 pub traces_on : (places : List Place) (es more : List Event) (a b c : List Shelf) (ms ns : List (List Shelf)) → IsTrace places es a ms b → IsTrace places more b ns c → IsTrace places (es ++ more) a (ms ++ ns) c
@@ -19,26 +18,24 @@ traces_on places [] more a b c (m ∷ ms) ns h k = absurd h
 traces_on places (e ∷ es) more a b c [] ns h k = absurd h
 traces_on places (e ∷ es) more a b c (m ∷ ms) ns h k = (h.0, traces_on places es more m b c ms ns h.1 k)
 
-paths_on : (script : Script) (es more : List Event) (s t u : State) → IsPath script s es t → IsPath script t more u → IsPath script s (es ++ more) u
+pub paths_on : (script : Script) (es more : List Event) (s t u : State) → IsPath script s es t → IsPath script t more u → IsPath script s (es ++ more) u
 paths_on script [] more s t u h k = subst (λ (x : State). IsPath script x more u) h k
 paths_on script (e ∷ es) more s t u h k = (h.0, h.1, paths_on script es more h.0 t u h.2 k)
 
 -- nothing came
 pub gone_none : (stores : Attached) (w : WorldAt) → HasGone stores stores w w []
-gone_none stores w = record { script = refl; events = sym (append-nil w.events); linked = λ g. g; caused = λ g h. h; executed = refl; traced = λ f. ([], refl) }
+gone_none stores w = record { script = refl; events = sym (append-nil w.events); executed = refl; traced = λ f. ([], refl) }
 
 -- one event came
-pub gone_one : (old new : Attached) (w v : WorldAt) (e : Event) → v.script ≡ w.script → v.events ≡ w.events ++ e ∷ [] → (IsLinked w → IsLinked v) → (IsLinked w → HaveCauses w → HaveCauses v) → IsStepFrom w.script (state_of w) e (state_of v)
+pub gone_one : (old new : Attached) (w v : WorldAt) (e : Event) → v.script ≡ w.script → v.events ≡ w.events ++ e ∷ [] → IsStepFrom w.script (state_of w) e (state_of v)
     → (AreFit w.script.catalog old → Effect (placed old.places) e (shown old.shelves) (shown new.shelves)) → HasGone old new w v (e ∷ [])
-gone_one old new w v e script events linked caused step effect = record { script = script; events = events; linked = linked; caused = caused; executed = (state_of v, step, refl); traced = λ f. (shown new.shelves ∷ [], (effect f, refl)) }
+gone_one old new w v e script events step effect = record { script = script; events = events; executed = (state_of v, step, refl); traced = λ f. (shown new.shelves ∷ [], (effect f, refl)) }
 
 -- and more, on stores that went on
 pub gone_more : (a b c : Attached) (u v w : WorldAt) (es more : List Event) → GoOn a b → HasGone a b u v es → HasGone b c v w more → HasGone a c u w (es ++ more)
 gone_more a b c u v w es more goes g h = record {
   script = h.script ∙ g.script;
   events = h.events ∙ ap (λ (xs : List Event). xs ++ more) g.events ∙ append_assoc u.events es more;
-  linked = λ l. h.linked (g.linked l);
-  caused = λ l k. h.caused (g.linked l) (g.caused l k);
   executed = paths_on u.script es more (state_of u) (state_of v) (state_of w) g.executed (subst (λ (x : Script). IsPath x (state_of v) more (state_of w)) g.script h.executed);
   traced = λ f.
       let s = g.traced f in

@@ -10,9 +10,9 @@ use Rattle.sdb_model.specs.declared.script.Act.TheVariants as act
 use Rattle.sdb_model.specs.Follows.{has_work, texts_of}
 use Rattle.sdb_stores.specs.Shelf.{Attached}
 use Rattle.sdb_client.specs.Client.{IsIdle}
-use Rattle.sdb_world.specs.declared.seat.Seat.{Seat}
+use Rattle.sdb_execution.specs.declared.seat.Seat.{Seat}
 use Rattle.sdb_world.specs.declared.way.Way.{Way}
-use Rattle.sdb_world.specs.World.{IsWorld, WorldAt, at_moment, with_event}
+use Rattle.sdb_executions.specs.World.{IsWorld, WorldAt, at_moment, with_event}
 use Rattle.sdb_world.specs.Step.{CanAct, HasCalled, HasLeft, HasTaken, IsBusyAt, IsIdleAt, IsNumber, act_of}
 use Rattle.sdb_world.proofs.Acts.{Came, acts_call, acts_clock, acts_idle, acts_take}
 use Rattle.sdb_world.proofs.Takings.{read_there}

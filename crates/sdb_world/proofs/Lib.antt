@@ -1,8 +1,3 @@
-pub mod Ties
-pub mod Seats
-pub mod Kept
-pub mod Linked
-pub mod Causing
 pub mod Goes
 pub mod Acts
 pub mod Rounds

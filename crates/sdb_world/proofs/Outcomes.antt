@@ -20,7 +20,8 @@ use Rattle.sdb_model.specs.Exec.{Tables, find_table}
 use Rattle.sdb_model.specs.Told.{AreImages, IsRun, dumps_of, serial}
 use Rattle.sdb_model.specs.Transactions.{Recorded}
 use Rattle.sdb_steps.specs.Fitting.{tables_fit}
-use Rattle.sdb_steps.specs.Hands.{doing_of, system_of}
+use Rattle.sdb_linked.specs.Going.{IsGoing}
+use Rattle.sdb_steps.specs.Hands.{Hand, doing_of, system_of}
 use Rattle.sdb_steps.proofs.RowsFit.{is_fitting}
 use Rattle.sdb_dump.specs.Odd.{IsOddAt}
 use Rattle.sdb_endings.specs.Ending.{IsEnd}
@@ -29,8 +30,9 @@ use Rattle.sdb_endings.specs.Stores.{AreSound, IsPlayedOn}
 use Rattle.sdb_endings.proofs.Ended.{going_is_run_on_stores}
 use Rattle.sdb_endings.proofs.OnStores.{points_on_stores, sound_on_stores}
 use Rattle.sdb_endings.proofs.Ordered.{is_order, risen_fits}
-use Rattle.sdb_world.specs.World.{IsWorld, WorldAt, hands_of}
-use Rattle.sdb_world.specs.Linked.{one_name}
+use Rattle.sdb_executions.specs.World.{IsWorld, WorldAt, hands_of}
+use Rattle.sdb_executions.specs.Linked.{on_one, one_name}
+use Rattle.sdb_executions.proofs.Steps.{execution_linked}
 use Rattle.sdb_world.specs.Played.{HasPlayed}
 
 or_same : {A : Type 0} (xs : List A) (i : ℕ) (a b : A) → i < length xs → get_or xs i a ≡ get_or xs i b
@@ -43,6 +45,13 @@ all_contained : {A : Type 0} (P : A → Type 0) (xs : List A) → ((x : A) → C
 all_contained P xs h i d low = h (slice_index_or xs i d) (i, low, or_same xs i (slice_index_or xs i d) d low)
 
 module _ (w : WorldAt) (h : IsWorld w) (opening closing : List Shelf) (p : HasPlayed w opening closing) where
+  -- the clients where the events lead to
+  hands : ℕ → Hand
+  hands = hands_of p.executed.last.seats
+
+  going : IsGoing w.script.catalog (tables_fit w.script.catalog) (on_one w.events) (system_of hands) (doing_of hands)
+  going = execution_linked w.script w.events h.playable p.executed
+
   on_stores : IsPlayedOn w.script w.events opening closing
   on_stores = record { moments = p.moments; traced = p.traced; about = h.about; nothing = p.nothing }
 
@@ -51,7 +60,7 @@ module _ (w : WorldAt) (h : IsWorld w) (opening closing : List Shelf) (p : HasPl
       → ((d : Tables) → AreImages w.script.catalog w.script.places closing d → tables ≡ dumps_of w.script.catalog d) → IsRun w.script opening closing (record { events = w.events; order = order; tables = tables })
   run_is recorded order tables each small risen printed =
       let all_small = all_contained (λ (id : TxId). id.0 < 2 ^ 128) recorded small in
-      let have = points_on_stores w.script one_name (tables_fit w.script.catalog) w.events (system_of (hands_of w.seats)) (doing_of (hands_of w.seats)) opening closing p.linked on_stores in
+      let have = points_on_stores w.script one_name (tables_fit w.script.catalog) w.events (system_of hands) (doing_of hands) opening closing going on_stores in
       let end : IsEnd w.script w.events opening closing order = record {
         moments = p.moments;
         follows = p.follows;
@@ -61,12 +70,12 @@ module _ (w : WorldAt) (h : IsWorld w) (opening closing : List Shelf) (p : HasPl
         ordered = is_order w.script.places w.events closing recorded order all_small each have risen;
         small = risen_fits w.events recorded order all_small risen;
       } in
-      let run = going_is_run_on_stores w.script one_name (tables_fit w.script.catalog) w.events (system_of (hands_of w.seats)) (doing_of (hands_of w.seats)) opening closing order (is_fitting w.script.catalog h.playable.apart) p.linked end in
+      let run = going_is_run_on_stores w.script one_name (tables_fit w.script.catalog) w.events (system_of hands) (doing_of hands) opening closing order (is_fitting w.script.catalog h.playable.apart) going end in
       let same : tables ≡ run.0 = printed (serial w.script.catalog run.1.told.bodies empty).1 run.1.told.images ∙ sym run.1.told.printed in
       subst (λ (ts : List TableDump). IsRun w.script opening closing (record { events = w.events; order = order; tables = ts })) (sym same) run.1
 
   sound : AreSound w.script.catalog w.script.places closing
-  sound = sound_on_stores w.script one_name (tables_fit w.script.catalog) w.events (system_of (hands_of w.seats)) (doing_of (hands_of w.seats)) opening closing p.linked on_stores
+  sound = sound_on_stores w.script one_name (tables_fit w.script.catalog) w.events (system_of hands) (doing_of hands) opening closing going on_stores
 
   -- a record that is at a key has that key
   key_is : (key : Key) (r : Record) → standing w.script.places closing key ≡ Some r → r.key ≡ key

@@ -23,11 +23,12 @@ use Rattle.sdb_board.specs.Board.{AreFit, IsMade, placed, shown}
 use Rattle.sdb_board.proofs.Made.{asked}
 use Rattle.sdb_board.proofs.Shelves.{named_home}
 use Rattle.sdb_steps.specs.Hands.{Takes}
-use Rattle.sdb_world.specs.declared.seat.Seat.{Seat}
+use Rattle.sdb_execution.specs.declared.seat.Seat.{Seat}
 use Rattle.sdb_world.specs.declared.way.Way.{Way}
 use Rattle.sdb_causes.specs.Unfit.{shows_stored}
-use Rattle.sdb_world.specs.World.{IsWorld, WorldAt}
-use Rattle.sdb_world.specs.Step.{HasCalled, HasLeft, HasTaken, IsGateAt, IsHowOf, IsPendingAt}
+use Rattle.sdb_executions.specs.World.{IsWorld, WorldAt}
+use Rattle.sdb_world.specs.Step.{HasCalled, HasLeft, HasTaken, IsHowOf, IsPendingAt}
+use Rattle.sdb_execution.specs.Execution.{IsGateAt}
 use Rattle.sdb_types.proofs.Basics.{some_is}
 
 -- the client that was read at a place is there

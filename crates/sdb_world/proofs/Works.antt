@@ -7,8 +7,8 @@ use Rattle.sdb_client.specs.Client.{ClientAt, IsBusy, IsIdle}
 use Rattle.sdb_txn.specs.declared.txn.Doing.TheVariants as doing
 use Rattle.sdb_txn.specs.Txn.{TxnAt}
 use Rattle.sdb_vacuum.specs.Vacuum.{VacuumAt}
-use Rattle.sdb_world.specs.declared.seat.Seat.{Seat}
-use Rattle.sdb_world.specs.World.{IsSeat, IsWorld, WorldAt}
+use Rattle.sdb_execution.specs.declared.seat.Seat.{Seat}
+use Rattle.sdb_executions.specs.World.{IsSeat, IsWorld, WorldAt}
 
 -- a client waits for one thing
 pub not_both : (c : ClientAt) → IsIdle c → IsBusy c → ⊥

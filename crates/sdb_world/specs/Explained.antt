@@ -11,8 +11,8 @@ use Rattle.sdb_spread.specs.Spread.{HoldAs}
 use Rattle.sdb_stores.specs.Shelf.{Attached}
 use Rattle.sdb_board.specs.Board.{AreFit, placed, shown}
 use Rattle.sdb_endings.specs.Stores.{AreTaken}
-use Rattle.sdb_world.specs.World.{WorldAt}
-use Rattle.sdb_world.specs.Linked.{IsLinked}
+use Rattle.sdb_executions.specs.World.{WorldAt, state_of}
+use Rattle.sdb_execution.specs.Execution.{IsReachedBy}
 
 -- What was there at each of these moments is explained by the events of a script's run, what each recorded transaction noted is
 -- current at its point, and each record that was at a key of a table passes the checks.
@@ -34,8 +34,9 @@ pub record GoesOnExplained (places : List Place) (v : WorldAt) (opening : List S
   pub traced : IsTrace places v.events opening (moments ++ now ∷ []) now
   pub explained : Explained v.script.catalog places v.events opening (moments ++ now ∷ [])
 
--- A world came to another by one event. On stores that are fit for it, each trace of the events before goes on explained, where it began
--- with stores that held nothing of the script's tables and ended as the stores were before the event.
+-- A world came to another by one event. On stores that are fit for it, where its events so far are an execution that leads to where its
+-- clients are, each trace of them goes on explained that began with stores that held nothing of the script's tables and ended as the stores
+-- were before the event.
 abbrev pub IsExplainedAfter : Attached → Attached → WorldAt → WorldAt → Type 0
 IsExplainedAfter old new w v =
-    AreFit w.script.catalog old → IsLinked w → (opening : List Shelf) (moments : List (List Shelf)) → HoldAs w.script.catalog (placed old.places) opening empty → IsTrace (placed old.places) w.events opening moments (shown old.shelves) → GoesOnExplained (placed old.places) v opening moments (shown new.shelves)
+    AreFit w.script.catalog old → IsReachedBy w.script w.events (state_of w) → (opening : List Shelf) (moments : List (List Shelf)) → HoldAs w.script.catalog (placed old.places) opening empty → IsTrace (placed old.places) w.events opening moments (shown old.shelves) → GoesOnExplained (placed old.places) v opening moments (shown new.shelves)

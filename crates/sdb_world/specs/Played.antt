@@ -9,14 +9,14 @@ use Rattle.sdb_model.specs.Told.{IsRun}
 use Rattle.sdb_spread.specs.Spread.{HoldAs}
 use Rattle.sdb_stores.specs.Shelf.{Attached}
 use Rattle.sdb_board.specs.Board.{AreFit, placed, shown}
-use Rattle.sdb_world.specs.World.{WorldAt}
-use Rattle.sdb_world.specs.Linked.{IsLinked}
+use Rattle.sdb_executions.specs.World.{WorldAt}
+use Rattle.sdb_execution.specs.Execution.{IsExecution}
 use Rattle.sdb_world.specs.Explained.{IsExplained}
 
--- A world has made all moves of its script on stores that held nothing of the script's tables to begin with: what it holds is tied to its
--- events, and a trace of the stores agrees with these.
+-- A world has made all moves of its script on stores that held nothing of the script's tables to begin with: its events are an execution of
+-- its clients, and a trace of the stores agrees with them.
 pub record HasPlayed (w : WorldAt) (opening closing : List Shelf) : Type 0 where
-  pub linked : IsLinked w
+  pub executed : IsExecution w.script w.events
   pub follows : Follows w.script.clients w.script.moves w.events
   pub moments : List (List Shelf)
   pub traced : IsTrace w.script.places w.events opening moments closing

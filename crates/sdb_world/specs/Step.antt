@@ -25,13 +25,11 @@ use Rattle.sdb_stores.specs.Shelf.{Attached}
 use Rattle.sdb_board.specs.Board.{AreFit, IsMade, placed, shown}
 use Rattle.sdb_causes.specs.Unfit.{shows_stored}
 use Rattle.sdb_steps.specs.Hands.{Takes}
-use Rattle.sdb_world.specs.declared.seat.Seat.{Seat}
+use Rattle.sdb_execution.specs.declared.seat.Seat.{Seat}
 use Rattle.sdb_world.specs.declared.way.Way.{Way}
 use Rattle.sdb_world.specs.declared.way.Way.TheVariants as way
-use Rattle.sdb_world.specs.World.{WorldAt, state_of, with_event, with_seat}
-pub use Rattle.sdb_world.specs.Execution.{AreFresh, IsGateAt, IsOpenAt, IsSweepingAt, IsUnopened, IsUnswept, SomeAt, fresh_seat, moved_seat, stopped_seat}
-use Rattle.sdb_world.specs.Execution.{IsPath}
-use Rattle.sdb_world.specs.Linked.{HaveCauses, IsLinked}
+use Rattle.sdb_executions.specs.World.{WorldAt, state_of, with_event, with_seat}
+use Rattle.sdb_execution.specs.Execution.{IsGateAt, IsPath, moved_seat, stopped_seat}
 
 -- a client has that number
 abbrev pub IsNumber : Script → ℕ → Type 0
@@ -119,13 +117,11 @@ act_of way.Discard c = act.Discard c
 
 ---- events, and the stores
 
--- Events came to a world and to these stores: the script stays, what ties events to clients is kept whatever the replies, and with it the
--- causes of answers; and where the stores are fit for the run a trace of them agrees with the events.
+-- Events came to a world and to these stores: the script stays, and the events lead from where the clients were to where they are, whatever
+-- the replies; and where the stores are fit for the run a trace of them agrees with the events.
 pub record HasGone (old new : Attached) (w v : WorldAt) (es : List Event) : Type 0 where
   pub script : v.script ≡ w.script
   pub events : v.events ≡ w.events ++ es
-  pub linked : IsLinked w → IsLinked v
-  pub caused : IsLinked w → HaveCauses w → HaveCauses v
   pub executed : IsPath w.script (state_of w) es (state_of v)
   pub traced : AreFit w.script.catalog old → (moments : List (List Shelf)) × IsTrace (placed old.places) es (shown old.shelves) moments (shown new.shelves)
 

@@ -2,9 +2,7 @@
 ghost use Rattle.std.specs.Prelude.{◌≡◌, ◌<◌, length, IfOk, IfErr, OnOk};
 ghost use Rattle.sdb_board.specs.Board.{GoOn};
 ghost use Rattle.sdb_dump.specs.Refused.{RefusesOn};
-ghost use Rattle.sdb_causes.specs.Tied.{AnswersHaveCauses};
-ghost use Rattle.sdb_world.specs.Linked.{HaveCauses};
-ghost use Rattle.sdb_world.specs.World.{IsWorld};
+ghost use Rattle.sdb_executions.specs.World.{IsWorld};
 ghost use Rattle.sdb_world.specs.Played.{HasNotPlayed, IsOutcomeOf, IsPlayExplained};
 
 use crate::world::World;
@@ -28,7 +26,6 @@ impl World {
         requires world { IsWorld self }
         ensures run { IfOk result (IsOutcomeOf self (R.state stores.old) (R.state stores.new)) }
         ensures explained { IfOk result (λ o. IsPlayExplained self (R.state stores.old) o.events) }
-        ensures caused { IfOk result (λ o. HaveCauses self → AnswersHaveCauses self.script.catalog o.events) }
         ensures events { IfOk result (λ o. o.events ≡ self.events) }
         ensures goes { GoOn (R.state stores.old) (R.state stores.new) }
         ensures err { IfErr result (RefusesOn (R.state stores.old) (R.state stores.new) (λ key. HasNotPlayed self (R.state stores.old))) }

@@ -3,7 +3,6 @@
 
 mod ending;
 mod perform;
-mod seat;
 mod stored;
 mod turns;
 mod way;

@@ -2,18 +2,17 @@
 ghost use Rattle.std.specs.Prelude.{◌≡◌, ◌≢◌, ◌⊎◌, ◌<◌, ◌≤◌, ◌-◌, [], ◌^◌, suc, true, false, length, Some, IfOk, OnOk, IfSome, slice_get};
 ghost use Rattle.sdb_model.specs.Follows.{has_work as has_work_lem, texts_of};
 ghost use Rattle.sdb_board.specs.Board.{GoOn};
-ghost use Rattle.sdb_world.specs.Execution.{IsInitial};
-ghost use Rattle.sdb_world.specs.World.{IsPlayable, IsWorld, state_of};
+ghost use Rattle.sdb_execution.specs.Execution.{AreFresh, IsGateAt, IsInitial, IsOpenAt, IsPlayable, IsSweepingAt, IsUnopened, IsUnswept};
+ghost use Rattle.sdb_executions.specs.World.{IsWorld, state_of};
 ghost use Rattle.sdb_world.specs.Broken.{BreaksWithin};
 ghost use Rattle.sdb_world.specs.Explained.{IsExplainedAfter};
-ghost use Rattle.sdb_world.specs.Linked.{HaveCauses, IsLinked};
-ghost use Rattle.sdb_world.specs.Step.{AreFresh, CanAct, HasActed, HasCalled, HasLeft, HasStopped, HasTaken, IsBusyAt, IsGateAt, IsIdleAt, IsNumber, IsOpenAt, IsPendingAt, IsSweepingAt, IsUnopened, IsUnswept, act_of};
+ghost use Rattle.sdb_world.specs.Step.{CanAct, HasActed, HasCalled, HasLeft, HasStopped, HasTaken, IsBusyAt, IsIdleAt, IsNumber, IsPendingAt, act_of};
 
 use crate::perform::perform;
-use crate::seat::Seat;
 use crate::stored::show_order;
 use crate::way::Way;
 use sdb_client::{Client, Gate};
+use sdb_execution::Seat;
 use sdb_model::{Act, Event, Events, Script, Texts};
 use sdb_stores::{Registry, table_of};
 use sdb_types::{Duplicate, NoMemory, Request, Txt};
@@ -41,7 +40,7 @@ impl Drop for World {
 }
 
 impl Model for World {
-    ghost use Rattle.sdb_world.specs.World.{WorldAt};
+    ghost use Rattle.sdb_executions.specs.World.{WorldAt};
 
     ghost Value = { WorldAt };
 
@@ -72,8 +71,6 @@ impl World {
         ensures script { IfOk result (λ w. w.script ≡ script) }
         ensures events { IfOk result (λ w. w.events ≡ []) }
         ensures initial { IfOk result (λ w. IsInitial w.script (state_of w)) }
-        ensures linked { IfOk result IsLinked }
-        ensures caused { IfOk result HaveCauses }
     {
         let seats = fresh_seats(alloc, script.clients.len())?;
         Ok(World {

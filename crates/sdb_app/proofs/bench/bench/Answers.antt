@@ -2,7 +2,7 @@ use Rattle.std.proofs.Common.{◌≡◌, ◌∙◌, ap, subst, sym}
 use Rattle.std.specs.String.{string_bytes}
 use Rattle.sdb_stores.specs.Shelf.{names_of}
 use Rattle.sdb_model.specs.declared.script.Script.{Script}
-use Rattle.sdb_world.specs.World.{IsPlayable}
+use Rattle.sdb_execution.specs.Execution.{IsPlayable}
 use Rattle.sdb_world.specs.Step.{CanFollow}
 use Rattle.sdb_app.specs.Bench.{bench_over}
 use Rattle.sdb_app.specs.Run.{CanBePlaced, IsOutcome, StopsPlay, TellOf}

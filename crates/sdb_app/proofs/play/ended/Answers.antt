@@ -3,9 +3,6 @@ use Rattle.sdb_app.proofs.play.ended.Goals as goal
 pub returns-in-Ok-clause-events : goal.returns-in-Ok-clause-events
 returns-in-Ok-clause-events g c = c.in-Ok.ensures.events
 
-pub returns-in-Ok-clause-caused : goal.returns-in-Ok-clause-caused
-returns-in-Ok-clause-caused g c = c.in-Ok.ensures.caused
-
 pub returns-in-Ok-clause-explained : goal.returns-in-Ok-clause-explained
 returns-in-Ok-clause-explained g c = c.in-Ok.ensures.explained
 

@@ -3,9 +3,8 @@ use Rattle.sdb_stores.specs.Shelf.{Shelf as Counted}
 use Rattle.sdb_board.specs.Board.{shown}
 use Rattle.sdb_board.proofs.GoesOn.{goes_more, some_more}
 use Rattle.sdb_app.specs.Run.{TellOf}
-use Rattle.sdb_world.proofs.Explained.{no_coordinator}
 use Rattle.sdb_app.proofs.Headline.{kept_after, stops_after, stops_as, fit_script, outcome_is, never_foreign, found_first}
-use Rattle.sdb_app.proofs.Playing.{err_then, ok_six}
+use Rattle.sdb_app.proofs.Playing.{err_then, ok_five}
 use Rattle.sdb_app.proofs.play.play.Goals as goal
 
 ---- places for which there is no memory
@@ -31,9 +30,9 @@ returns-in-Ok-be_empty-clause-made g c =
     let old = g.R.Registry.state c.args.stores.now in
     let mid = g.R.Registry.state c.place_all.new.stores in
     let then = g.R.Registry.state c.be_empty.new.stores in
-    ok_six _ _ _ _ _ _ _ c.run_world.result c.run_world.ensures.follows c.run_world.ensures.executed c.run_world.ensures.caused c.run_world.ensures.broken c.run_world.ensures.run c.run_world.ensures.explained
-    (λ o follows executed caused broken run explained. outcome_is c.args.script old mid then (g.R.Registry.state c.run_world.new.stores).shelves o c.in-Ok.ensures.places c.place_all.ensures.stores c.in-Ok-be_empty.ensures.goes
-    (λ all. fit_script c.args.script old mid c.in-Ok.ensures.places c.place_all.ensures.stores c.requires.places c.requires.some c.requires.distinct c.place_all.ensures.telling all) c.in-Ok-be_empty.ensures.empty c.in-Ok-be_empty.ensures.still follows executed caused broken run explained (no_coordinator c.args.script c.requires.playable))
+    ok_five _ _ _ _ _ _ c.run_world.result c.run_world.ensures.follows c.run_world.ensures.executed c.run_world.ensures.broken c.run_world.ensures.run c.run_world.ensures.explained
+    (λ o follows executed broken run explained. outcome_is c.args.script old mid then (g.R.Registry.state c.run_world.new.stores).shelves o c.in-Ok.ensures.places c.place_all.ensures.stores c.in-Ok-be_empty.ensures.goes
+    (λ all. fit_script c.args.script old mid c.in-Ok.ensures.places c.place_all.ensures.stores c.requires.places c.requires.some c.requires.distinct c.place_all.ensures.telling all) c.in-Ok-be_empty.ensures.empty c.in-Ok-be_empty.ensures.still follows executed broken run explained c.requires.playable)
 
 pub returns-in-Ok-be_empty-clause-err : goal.returns-in-Ok-be_empty-clause-err
 returns-in-Ok-be_empty-clause-err g c =

@@ -5,7 +5,7 @@ use Rattle.sdb_board.proofs.GoesOn.{goes_more, goes_none, some_more}
 use Rattle.sdb_world.specs.Step.{CanFollow}
 use Rattle.sdb_app.specs.declared.status.Status.TheVariants as status
 use Rattle.sdb_app.proofs.Headline.{passed_on, stops_after}
-use Rattle.sdb_app.proofs.Playing.{broken_played, caused_played, err_then, executed_played, explained_played, none_played, ok_then, run_played}
+use Rattle.sdb_app.proofs.Playing.{broken_played, err_then, executed_played, explained_played, none_played, ok_then, run_played}
 use Rattle.sdb_app.proofs.play.run_world.Goals as goal
 
 ---- a world for which there is no memory
@@ -15,9 +15,6 @@ returns-in_err-world-clause-follows g c = IfOk-from_err c.from_residual.result _
 
 pub returns-in_err-world-clause-executed : goal.returns-in_err-world-clause-executed
 returns-in_err-world-clause-executed g c = IfOk-from_err c.from_residual.result _ c.from_residual.ensures.0
-
-pub returns-in_err-world-clause-caused : goal.returns-in_err-world-clause-caused
-returns-in_err-world-clause-caused g c = IfOk-from_err c.from_residual.result _ c.from_residual.ensures.0
 
 pub returns-in_err-world-clause-broken : goal.returns-in_err-world-clause-broken
 returns-in_err-world-clause-broken g c = IfOk-from_err c.from_residual.result _ c.from_residual.ensures.0
@@ -41,9 +38,6 @@ returns-in_err-follow-clause-follows g c = IfOk-from_err c.from_residual-in_err-
 
 pub returns-in_err-follow-clause-executed : goal.returns-in_err-follow-clause-executed
 returns-in_err-follow-clause-executed g c = IfOk-from_err c.from_residual-in_err-follow.result _ c.from_residual-in_err-follow.ensures.0
-
-pub returns-in_err-follow-clause-caused : goal.returns-in_err-follow-clause-caused
-returns-in_err-follow-clause-caused g c = IfOk-from_err c.from_residual-in_err-follow.result _ c.from_residual-in_err-follow.ensures.0
 
 pub returns-in_err-follow-clause-broken : goal.returns-in_err-follow-clause-broken
 returns-in_err-follow-clause-broken g c = IfOk-from_err c.from_residual-in_err-follow.result _ c.from_residual-in_err-follow.ensures.0
@@ -69,7 +63,7 @@ returns-clause-run g c =
     let old = g.R.Registry.state c.args.stores.now in
     let mid = g.R.Registry.state c.follow.new.stores in
     ok_then _ _ c.ended.result
-    (λ o. run_played c.args.script c.in_ok-world.world c.follow.new.self old mid before.script before.events before.linked made.come made.goes (g.R.Registry.state c.ended.new.stores) o) c.ended.ensures.run
+    (λ o. run_played c.args.script c.in_ok-world.world c.follow.new.self old mid before.script before.events before.initial made.come made.goes (g.R.Registry.state c.ended.new.stores) o) c.ended.ensures.run
 
 pub returns-clause-explained : goal.returns-clause-explained
 returns-clause-explained g c =
@@ -77,20 +71,12 @@ returns-clause-explained g c =
     let made = c.in_ok-follow.ensures in
     let old = g.R.Registry.state c.args.stores.now in
     let mid = g.R.Registry.state c.follow.new.stores in
-    ok_then _ _ c.ended.result (λ o. explained_played c.args.script c.in_ok-world.world c.follow.new.self old mid before.script before.events before.linked made.come made.goes o.events) c.ended.ensures.explained
+    ok_then _ _ c.ended.result (λ o. explained_played c.args.script c.in_ok-world.world c.follow.new.self old mid before.script before.events before.initial made.come made.goes o.events) c.ended.ensures.explained
 
 pub returns-clause-executed : goal.returns-clause-executed
 returns-clause-executed g c =
     let before = c.in_ok-world.ensures in
     ok_then _ _ c.ended.result (λ o. executed_played (g.R.Registry.state c.args.stores.now) (g.R.Registry.state c.follow.new.stores) c.args.script c.in_ok-world.world c.follow.new.self before.script before.events before.initial c.in_ok-follow.ensures.come o.events) c.ended.ensures.events
-
-pub returns-clause-caused : goal.returns-clause-caused
-returns-clause-caused g c =
-    let before = c.in_ok-world.ensures in
-    let made = c.in_ok-follow.ensures in
-    let old = g.R.Registry.state c.args.stores.now in
-    let mid = g.R.Registry.state c.follow.new.stores in
-    ok_then _ _ c.ended.result (λ o. caused_played c.args.script c.in_ok-world.world c.follow.new.self old mid before.script before.events before.linked made.come made.goes before.caused o.events) c.ended.ensures.caused
 
 pub returns-clause-broken : goal.returns-clause-broken
 returns-clause-broken g c =
@@ -109,7 +95,7 @@ returns-clause-err g c =
     let old = g.R.Registry.state c.args.stores.now in
     let mid = g.R.Registry.state c.follow.new.stores in
     err_then _ _ c.ended.result
-    (λ s. stops_after old mid (g.R.Registry.state c.ended.new.stores).shelves _ _ _ _ s made.goes (none_played c.args.script c.in_ok-world.world c.follow.new.self old mid before.script before.events before.linked made.come made.goes) (λ key never. never)) c.ended.ensures.err
+    (λ s. stops_after old mid (g.R.Registry.state c.ended.new.stores).shelves _ _ _ _ s made.goes (none_played c.args.script c.in_ok-world.world c.follow.new.self old mid before.script before.events before.initial made.come made.goes) (λ key never. never)) c.ended.ensures.err
 
 ---- what the calls require
 

@@ -1,8 +1,8 @@
 use Rattle.std.proofs.Common.{ap, add-one, subst, sym, ◌∙◌}
 use Rattle.sdb_client.specs.Client.{ClientAt, nothing_done}
-use Rattle.sdb_world.specs.declared.seat.Seat.{Seat}
+use Rattle.sdb_execution.specs.declared.seat.Seat.{Seat}
 use Rattle.std.proofs.Common.{List, false}
-use Rattle.sdb_world.specs.Step.{AreFresh}
+use Rattle.sdb_execution.specs.Execution.{AreFresh}
 use Rattle.sdb_world.proofs.Fresh.{fresh_more, fresh_none}
 use Rattle.sdb_world.proofs.world.fresh_seats.Goals as goal
 

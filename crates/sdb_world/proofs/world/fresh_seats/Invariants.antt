@@ -1,4 +1,4 @@
-use Rattle.sdb_world.specs.Step.{AreFresh}
+use Rattle.sdb_execution.specs.Execution.{AreFresh}
 use Rattle.sdb_world.proofs.world.fresh_seats.Given as goal
 
 -- so many clients that have done nothing

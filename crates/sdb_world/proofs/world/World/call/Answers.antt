@@ -3,7 +3,7 @@ use Rattle.std.proofs.Common.{rules, ◌≡◌, ◌∙◌, ◌+◌, ◌++◌, �
 use Rattle.sdb_client.specs.Client.{ReplyTold}
 use Rattle.sdb_types.specs.declared.record.Reply.{Reply}
 use Rattle.sdb_model.specs.declared.event.Event.TheVariants as event
-use Rattle.sdb_world.specs.World.{WorldAt}
+use Rattle.sdb_executions.specs.World.{WorldAt}
 use Rattle.sdb_world.proofs.Takings.{called, named_store}
 use Rattle.sdb_world.proofs.Broken.{breaks_called}
 use Rattle.sdb_world.proofs.world.World.call.Goals as goal

@@ -1,5 +1,5 @@
 use Rattle.std.proofs.Common.{◌≡◌, false, true}
-use Rattle.sdb_world.specs.Step.{IsOpenAt, IsSweepingAt, IsUnopened, IsUnswept, SomeAt}
+use Rattle.sdb_execution.specs.Execution.{IsOpenAt, IsSweepingAt, IsUnopened, IsUnswept, SomeAt}
 use Rattle.sdb_world.proofs.Gates.{AreBefore}
 use Rattle.sdb_world.proofs.world.World.gate.Given as goal
 

@@ -1,7 +1,7 @@
 use Rattle.std.proofs.Common.{◌≡◌, ◌-◌, ◌∙◌, ap, get_or, refl, sym}
 use Rattle.sdb_client.specs.Client.{IsBusy, IsIdle}
-use Rattle.sdb_world.specs.declared.seat.Seat.{Seat}
-use Rattle.sdb_world.specs.World.{WorldAt}
+use Rattle.sdb_execution.specs.declared.seat.Seat.{Seat}
+use Rattle.sdb_executions.specs.World.{WorldAt}
 use Rattle.sdb_world.proofs.Goings.{at_write, goes_call, goes_idle, goes_take, left_of, place_low}
 use Rattle.sdb_world.proofs.Takings.{on_ok}
 use Rattle.sdb_model.specs.declared.event.Event.TheVariants as event

@@ -6,7 +6,6 @@ use Rattle.sdb_model.specs.declared.script.Script.{Script}
 use Rattle.sdb_board.specs.Board.{AreFit, placed, shown}
 use Rattle.sdb_endings.specs.Order.{HasRisen}
 use Rattle.sdb_dump.proofs.Refusals.{passed, refused_as}
-use Rattle.sdb_world.proofs.Causing.{outcome_caused}
 use Rattle.sdb_world.proofs.Explained.{played_explained}
 use Rattle.sdb_world.proofs.Outcomes.{outcome_run, outcome_sound}
 use Rattle.sdb_world.proofs.world.World.outcome.Goals as goal
@@ -36,6 +35,3 @@ returns-clause-run g c =
 pub returns-clause-explained : goal.returns-clause-explained
 returns-clause-explained g c =
     λ opening played. played_explained c.args.self c.requires.world c.into_parts-script.result.1 c.into_parts-script.ensures.events opening (shown (g.R.Registry.state c.args.stores.now).shelves) played
-
-pub returns-clause-caused : goal.returns-clause-caused
-returns-clause-caused g c = outcome_caused c.args.self c.into_parts-script.result.1 c.into_parts-script.ensures.events

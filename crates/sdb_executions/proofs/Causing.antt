@@ -21,13 +21,13 @@ use Rattle.sdb_steps.specs.Hands.{Hand, IsReady, IsWaiting, Takes}
 use Rattle.sdb_causes.specs.Tied.{AnswersHaveCauses, AreTied, IsGate, with_stopped}
 use Rattle.sdb_causes.specs.Unfit.{shows_stored}
 use Rattle.sdb_causes.proofs.Whole.{clock_all, explained, idles_all, replies_all, starts_all, stops_all, takes_all}
-use Rattle.sdb_world.specs.declared.seat.Seat.{Seat}
-use Rattle.sdb_world.specs.World.{IsPlayable, WorldAt, at_moment, hand_in, hands_of, with_event, with_seat}
-use Rattle.sdb_world.specs.Linked.{HaveCauses, IsLinked, on_one}
-use Rattle.sdb_world.specs.Step.{AreFresh, IsGateAt, moved_seat, stopped_seat}
-use Rattle.sdb_world.proofs.Linked.{fresh_hand, on_hand}
-use Rattle.sdb_world.proofs.Seats.{hands_moved}
-use Rattle.sdb_world.proofs.Gates.{gated_at}
+use Rattle.sdb_execution.specs.declared.seat.Seat.{Seat}
+use Rattle.sdb_execution.specs.Execution.{AreFresh, IsGateAt, IsPlayable, moved_seat, stopped_seat}
+use Rattle.sdb_executions.specs.World.{WorldAt, at_moment, hand_in, hands_of, with_event, with_seat}
+use Rattle.sdb_executions.specs.Linked.{HaveCauses, IsLinked, on_one}
+use Rattle.sdb_executions.proofs.Linked.{fresh_hand, on_hand}
+use Rattle.sdb_executions.proofs.Seats.{hands_moved}
+use Rattle.sdb_executions.proofs.Gates.{gated_at}
 
 -- what is so of clients that are in the same place
 same_kept : (catalog : List Table) (events : List Event) (moment : ℤ) (f g : ℕ → Hand) → ((c : ℕ) → f c ≡ g c) → AreTied catalog events moment f → AreTied catalog events moment g

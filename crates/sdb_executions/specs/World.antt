@@ -1,19 +1,15 @@
 -- The clients of a script at work, and what has happened.
-use Rattle.std.specs.Prelude.{◌≡◌, ℕ, zero, suc, ℤ, ◌-◌, ◌<◌, ◌^◌, true, false, List, [], ◌∷◌, ◌++◌, length, Option, Some, None, is_some, slice_get, slice_set}
-use Rattle.sdb_types.specs.declared.key.Key.{Key}
+use Rattle.std.specs.Prelude.{◌≡◌, ℕ, zero, suc, ℤ, true, false, List, [], ◌∷◌, ◌++◌, length, Option, Some, None, slice_get, slice_set}
 use Rattle.sdb_record.specs.Meta.{is_moment}
-use Rattle.sdb_schema.specs.Catalog.{is_catalog}
 use Rattle.sdb_model.specs.declared.event.Event.{Event}
 use Rattle.sdb_model.specs.declared.script.Script.{Script}
-use Rattle.sdb_model.specs.Exec.{find_table}
-use Rattle.sdb_model.specs.Follows.{has_stopped, is_pending, taken_by, texts_of}
-use Rattle.sdb_laws.specs.Lawful.{is_data}
+use Rattle.sdb_model.specs.Follows.{has_stopped, is_pending, taken_by}
 use Rattle.sdb_spread.specs.Spread.{AreAbout}
 use Rattle.sdb_client.specs.Client.{IsBusy, IsIdle, nothing_done}
 use Rattle.sdb_steps.specs.About.{IsOfTables}
 use Rattle.sdb_steps.specs.Hands.{Hand, IsFitted}
-use Rattle.sdb_world.specs.declared.seat.Seat.{Seat}
-use Rattle.sdb_world.specs.Execution.{State}
+use Rattle.sdb_execution.specs.declared.seat.Seat.{Seat}
+use Rattle.sdb_execution.specs.Execution.{IsPlayable, State}
 
 -- the script, its clients in their order, the events so far, and the moment
 pub record WorldAt : Type 0 where
@@ -49,14 +45,6 @@ hands_of seats zero = hand_in None 0
 hands_of seats (suc i) = hand_in (slice_get seats i) (suc i)
 
 ---- what is so between two steps
-
--- A script that can be played: a catalog without a table of the coordinator, clients that have numbers, and statements that are no
--- longer than a text may be.
-pub record IsPlayable (script : Script) : Type 0 where
-  pub catalog : is_catalog script.catalog ≡ true
-  pub apart : (k : Key) → is_some (find_table script.catalog k.table) ≡ true → is_data k ≡ true
-  pub few : length script.clients < 2 ^ 32 - 1
-  pub short : (c i : ℕ) (text : List ℕ) → slice_get (texts_of script.clients c) i ≡ Some text → length text < 2 ^ 32
 
 -- A client is where the events leave it: it has taken that many statements, has stopped, and waits for a reply where its last event
 -- has no answer.

@@ -14,14 +14,14 @@ use Rattle.sdb_spread.specs.Spread.{IsAbout}
 use Rattle.sdb_client.specs.Client.{ClientAt}
 use Rattle.sdb_steps.specs.About.{IsOfTables}
 use Rattle.sdb_steps.specs.Hands.{IsAfter}
-use Rattle.sdb_world.specs.declared.seat.Seat.{Seat}
-use Rattle.sdb_world.specs.World.{IsSeat, IsWorld, WorldAt, at_moment, with_event, with_seat}
-use Rattle.sdb_world.specs.Step.{moved_seat, stopped_seat}
-use Rattle.sdb_world.proofs.Seats.{set_here, set_length, set_other}
-use Rattle.sdb_world.proofs.Ties.{IsApart, apart_pending, apart_stopped, apart_taken, own_call_pending, own_call_stopped, own_call_taken, own_stop_pending, own_stop_stopped, own_stop_taken, own_take_pending, own_take_stopped, own_take_taken}
+use Rattle.sdb_execution.specs.declared.seat.Seat.{Seat}
+use Rattle.sdb_executions.specs.World.{IsSeat, IsWorld, WorldAt, at_moment, with_event, with_seat}
+use Rattle.sdb_execution.specs.Execution.{moved_seat, stopped_seat}
+use Rattle.sdb_executions.proofs.Seats.{set_here, set_length, set_other}
+use Rattle.sdb_executions.proofs.Ties.{IsApart, apart_pending, apart_stopped, apart_taken, own_call_pending, own_call_stopped, own_call_taken, own_stop_pending, own_stop_stopped, own_stop_taken, own_take_pending, own_take_stopped, own_take_taken}
 use Rattle.sdb_types.proofs.Basics.{some_is, all_last as all_more}
 
-by_nat : {G : Type 0} (i j : ℕ) → (i ≡ j → G) → ((i ≡ j → ⊥) → G) → G
+pub by_nat : {G : Type 0} (i j : ℕ) → (i ≡ j → G) → ((i ≡ j → ⊥) → G) → G
 by_nat zero zero a b = a refl
 by_nat zero (suc j) a b = b (λ e. cc)
 by_nat (suc i) zero a b = b (λ e. cc)

@@ -27,12 +27,12 @@ use Rattle.sdb_steps.specs.Hands.{Hand, IsGated, IsReady, IsWaiting, Takes, doin
 use Rattle.sdb_steps.proofs.Replied.{replies_so}
 use Rattle.sdb_steps.proofs.Taken.{kept_at, mapped_at}
 use Rattle.sdb_steps.proofs.Whole.{takes_so}
-use Rattle.sdb_world.specs.declared.seat.Seat.{Seat}
-use Rattle.sdb_world.specs.World.{IsPlayable, WorldAt, hand_in, hands_of, with_event, with_seat}
-use Rattle.sdb_world.specs.Linked.{IsLinked, on_one, one_name}
-use Rattle.sdb_world.specs.Step.{AreFresh, moved_seat, stopped_seat}
-use Rattle.sdb_world.proofs.Seats.{hands_moved}
-use Rattle.sdb_world.proofs.Ties.{itself}
+use Rattle.sdb_execution.specs.declared.seat.Seat.{Seat}
+use Rattle.sdb_execution.specs.Execution.{AreFresh, IsPlayable, moved_seat, stopped_seat}
+use Rattle.sdb_executions.specs.World.{WorldAt, hand_in, hands_of, with_event, with_seat}
+use Rattle.sdb_executions.specs.Linked.{IsLinked, on_one, one_name}
+use Rattle.sdb_executions.proofs.Seats.{hands_moved}
+use Rattle.sdb_executions.proofs.Ties.{itself}
 
 -- one event more, on the one store
 pub on_one_more : (es : List Event) (e : Event) → on_one (es ++ e ∷ []) ≡ on_one es ++ moved_event (λ ns. one_name) e ∷ []

@@ -7,7 +7,7 @@ use Rattle.sdb_linked.specs.Going.{IsGoing}
 use Rattle.sdb_steps.specs.Fitting.{tables_fit}
 use Rattle.sdb_steps.specs.Hands.{doing_of, system_of}
 use Rattle.sdb_causes.specs.Tied.{AreTied}
-use Rattle.sdb_world.specs.World.{WorldAt, hands_of}
+use Rattle.sdb_executions.specs.World.{WorldAt, hands_of}
 
 -- the name of the one store on which all tables may be thought
 abbrev pub one_name : Name

@@ -3,8 +3,8 @@ use Rattle.std.proofs.Common.{◌≡◌, ◌≢◌, ℕ, zero, suc, Bool, true, 
 use Rattle.std.specs.Prelude.{◌==◌, slice_get}
 use Rattle.std.proofs.lemmas.Bool.{eqb-false, eqb-true, ne_eqb}
 use Rattle.sdb_laws.specs.History.{at}
-use Rattle.sdb_world.specs.declared.seat.Seat.{Seat}
-use Rattle.sdb_world.specs.World.{hand_in, hands_of}
+use Rattle.sdb_execution.specs.declared.seat.Seat.{Seat}
+use Rattle.sdb_executions.specs.World.{hand_in, hands_of}
 use Rattle.sdb_types.proofs.Basics.{none_some}
 
 -- at the place that is set is what was set
