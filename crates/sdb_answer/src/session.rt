@@ -1,5 +1,5 @@
 //! The statements of one client that is alone, one after the other.
-ghost use Rattle.std.specs.Prelude.{◌≡◌, ◌<◌, ◌^◌, ◌&&◌, not, ℕ, length, IfOk};
+ghost use Rattle.std.specs.Prelude.{◌≡◌, ◌<◌, ◌^◌, ◌&&◌, not, ℕ, length, is_some, IfOk};
 ghost use Rattle.sdb_types.specs.Draws.{Tells};
 ghost use Rattle.sdb_board.specs.Board.{GoOn};
 ghost use Rattle.sdb_client.specs.Client.{IsIdle, nothing_done};
@@ -64,6 +64,13 @@ impl Session {
             client: Client::new(alloc, 1),
             fresh: drawn_id(ids.draw()),
         }
+    }
+
+    /// Whether a transaction is open. Takes no memory.
+    pub fn is_open(&self) -> bool
+        ensures { result ≡ is_some self.now.client.txn }
+    {
+        self.client.is_open()
     }
 
     /// Takes a statement at a moment of the clock, and makes its calls until it is answered. Where it began a transaction the next id is
