@@ -2,5 +2,9 @@
 #![tactic(auto)]
 
 mod seat;
+mod seats;
+mod stored;
 
 pub use seat::Seat;
+pub use seats::{fresh_seats, gate_at};
+pub use stored::show_order;

@@ -6,7 +6,6 @@ pub mod Fresh
 pub mod Works
 pub mod Takings
 pub mod Goings
-pub mod Gates
 pub mod Explained
 pub mod Broken
 pub mod Hows

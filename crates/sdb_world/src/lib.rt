@@ -3,7 +3,6 @@
 
 mod ending;
 mod perform;
-mod stored;
 mod turns;
 mod way;
 mod world;

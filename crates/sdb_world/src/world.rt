@@ -1,18 +1,17 @@
 //! A world: the clients of a script, and what has happened.
-ghost use Rattle.std.specs.Prelude.{◌≡◌, ◌≢◌, ◌⊎◌, ◌<◌, ◌≤◌, ◌-◌, [], ◌^◌, suc, true, false, length, Some, IfOk, OnOk, IfSome, slice_get};
+ghost use Rattle.std.specs.Prelude.{◌≡◌, ◌<◌, ◌≤◌, [], suc, length, Some, IfOk, OnOk, IfSome, slice_get};
 ghost use Rattle.sdb_model.specs.Follows.{has_work as has_work_lem, texts_of};
 ghost use Rattle.sdb_board.specs.Board.{GoOn};
-ghost use Rattle.sdb_execution.specs.Execution.{AreFresh, IsGateAt, IsInitial, IsOpenAt, IsPlayable, IsSweepingAt, IsUnopened, IsUnswept};
+ghost use Rattle.sdb_execution.specs.Execution.{IsGateAt, IsInitial, IsPlayable};
 ghost use Rattle.sdb_executions.specs.World.{IsWorld, state_of};
 ghost use Rattle.sdb_world.specs.Broken.{BreaksWithin};
 ghost use Rattle.sdb_world.specs.Explained.{IsExplainedAfter};
 ghost use Rattle.sdb_world.specs.Step.{CanAct, HasActed, HasCalled, HasLeft, HasStopped, HasTaken, IsBusyAt, IsIdleAt, IsNumber, IsPendingAt, act_of};
 
 use crate::perform::perform;
-use crate::stored::show_order;
 use crate::way::Way;
-use sdb_client::{Client, Gate};
-use sdb_execution::Seat;
+use sdb_client::Gate;
+use sdb_execution::{Seat, fresh_seats, gate_at, show_order};
 use sdb_model::{Act, Event, Events, Script, Texts};
 use sdb_stores::{Registry, table_of};
 use sdb_types::{Duplicate, NoMemory, Request, Txt};
@@ -45,22 +44,6 @@ impl Model for World {
     ghost Value = { WorldAt };
 
     ghost view = { λ w. record { script = w.script; seats = w.seats.items; events = w.events; clock = w.clock } };
-}
-
-// The clients of a script before their first statement.
-fn fresh_seats(alloc: Global, count: usize) -> Result<Vec<Seat>, NoMemory>
-    requires few { count < 2 ^ 32 - 1 }
-    ensures { IfOk result (λ seats. AreFresh count seats.items) }
-{
-    let mut seats = Vec::new(alloc);
-    for i in 0..count {
-        seats.push(Seat {
-            client: Client::new(alloc, i as u32 + 1),
-            taken: 0,
-            stopped: false,
-        })?;
-    }
-    Ok(seats)
 }
 
 impl World {
@@ -130,32 +113,11 @@ impl World {
         !seat.stopped && (!seat.client.is_idle() || seat.taken < self.statements(at).len())
     }
 
-    // A gate with what a client adds to it, where that is another than the one at a place.
-    fn gate_with(&self, gate: Gate, i: usize, at: usize) -> Gate
-        requires i { i < length self.now.seats }
-        ensures sweeps { result.vacuum_runs ≡ false → (gate.vacuum_runs ≡ false) × (i ≢ at → IsUnswept self.now.seats i) }
-        ensures opens { result.open_elsewhere ≡ false → (gate.open_elsewhere ≡ false) × (i ≢ at → IsUnopened self.now.seats i) }
-        ensures swept { result.vacuum_runs ≡ true → (gate.vacuum_runs ≡ true) ⊎ ((i ≢ at) × IsSweepingAt self.now.seats i) }
-        ensures opened { result.open_elsewhere ≡ true → (gate.open_elsewhere ≡ true) ⊎ ((i ≢ at) × IsOpenAt self.now.seats i) }
-    {
-        if i == at {
-            return gate;
-        }
-        self.seats[i].joined(gate)
-    }
-
     // What the other clients do that go on.
     fn gate(&self, at: usize) -> Gate
         ensures { IsGateAt result self.now.seats at }
     {
-        let mut gate = Gate {
-            vacuum_runs: false,
-            open_elsewhere: false,
-        };
-        for i in 0..self.seats.len() {
-            gate = self.gate_with(gate, i, at);
-        }
-        gate
+        gate_at(&self.seats, at)
     }
 
     // The text of a client's next statement.

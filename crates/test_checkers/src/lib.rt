@@ -2,9 +2,15 @@
 #![tactic(auto)]
 
 #[cfg(test)]
+mod claims;
+#[cfg(test)]
 mod counted;
 #[cfg(test)]
 mod events;
+#[cfg(test)]
+mod executed;
+#[cfg(test)]
+mod executions;
 #[cfg(test)]
 mod forged;
 #[cfg(test)]

@@ -3,8 +3,8 @@ use Rattle.sdb_client.specs.Client.{ClientAt, nothing_done}
 use Rattle.sdb_execution.specs.declared.seat.Seat.{Seat}
 use Rattle.std.proofs.Common.{List, false}
 use Rattle.sdb_execution.specs.Execution.{AreFresh}
-use Rattle.sdb_world.proofs.Fresh.{fresh_more, fresh_none}
-use Rattle.sdb_world.proofs.world.fresh_seats.Goals as goal
+use Rattle.sdb_execution.proofs.Fresh.{fresh_more, fresh_none}
+use Rattle.sdb_execution.proofs.seats.fresh_seats.Goals as goal
 
 pub loop-i-init : goal.loop-i-init
 loop-i-init c = subst (λ (xs : List Seat). AreFresh 0 xs) (sym c.new-seats.ensures.items) fresh_none

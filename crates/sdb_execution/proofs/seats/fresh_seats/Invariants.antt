@@ -1,5 +1,5 @@
 use Rattle.sdb_execution.specs.Execution.{AreFresh}
-use Rattle.sdb_world.proofs.world.fresh_seats.Given as goal
+use Rattle.sdb_execution.proofs.seats.fresh_seats.Given as goal
 
 -- so many clients that have done nothing
 abbrev pub invariant-loop-i : goal.invariant-loop-i

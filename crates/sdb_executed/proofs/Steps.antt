@@ -1,0 +1,34 @@
+-- A client's step, by what the code has of it.
+use Rattle.std.proofs.Common.{◌≡◌, ℕ, suc, ◌<◌, ◌^◌, false, List, length, Option, Some, IfSome, refl, sym, subst, get_or}
+use Rattle.std.specs.Prelude.{slice_get}
+use Rattle.std.proofs.lemmas.Option.{slice_get_read}
+use Rattle.sdb_model.specs.declared.answer.Answer.{Answer}
+use Rattle.sdb_model.specs.declared.script.Script.{Script}
+use Rattle.sdb_model.specs.Follows.{texts_of}
+use Rattle.sdb_client.specs.Client.{ClientAt, IsIdle, next_id}
+use Rattle.sdb_client.specs.declared.gate.Gate.{Gate}
+use Rattle.sdb_steps.specs.Hands.{Takes}
+use Rattle.sdb_execution.specs.declared.seat.Seat.{Seat}
+use Rattle.sdb_execution.specs.Execution.{IsGateAt, State, TakeStep, moved_seat, with_seat_at}
+
+pub took : (script : Script) (s : State) (c at : ℕ) (seat : Seat) (gate : Gate) (text : List ℕ) (answer : Option Answer) (client : ClientAt)
+    → c ≡ suc at → at < length s.seats → IfSome (slice_get s.seats at) (λ x. x.stopped ≡ false) → seat ≡ get_or s.seats at seat → IsIdle seat.client → slice_get (texts_of script.clients (suc at)) seat.taken ≡ Some text → IsGateAt gate s.seats at → client.begun < 2 ^ 64
+    → Takes (record { catalog = script.catalog; now = s.clock; gate = gate; fresh = next_id seat.client }) text seat.client answer client → TakeStep script s c text answer (with_seat_at s at (moved_seat seat 1 client))
+took script s c at seat gate text answer client number low goes read idle next gated small takes = record {
+  place = at;
+  seat = seat;
+  gate = gate;
+  client = client;
+  number = number;
+  at = there;
+  goes_on = subst (λ (o : Option Seat). IfSome o (λ x. x.stopped ≡ false)) there goes;
+  idle = idle;
+  next = subst (λ n. slice_get (texts_of script.clients n) seat.taken ≡ Some text) (sym number) next;
+  gated = gated;
+  small = small;
+  takes = takes;
+  left = refl;
+}
+  where
+    there : slice_get s.seats at ≡ Some seat
+    there = slice_get_read s.seats (length s.seats) at seat refl low read
