@@ -1,14 +1,14 @@
 -- A line that stops a session.
-use Rattle.std.proofs.Common.{◌≡◌, ℕ, ℤ, false, List, Option, Some, sym, subst}
+use Rattle.std.proofs.Common.{◌≡◌, ℕ, false, List, Option, Some, sym, subst}
 use Rattle.std.specs.Str.{is_utf8, IsUtf8}
 use Rattle.std.proofs.lemmas.Str.{IsUtf8-from_is_utf8}
 use Rattle.sdb_types.proofs.Basics.{by_test}
 use Rattle.sdb_schema.specs.declared.table.Table.{Table}
-use Rattle.sdb_stores.specs.Shelf.{Attached}
 use Rattle.sdb_answer.specs.Sessions.{SessionAt}
 use Rattle.sdb_shell.specs.declared.lines.LineEnd.{LineEnd}
 use Rattle.sdb_shell.specs.declared.lines.LineStop.{LineStop}
 use Rattle.sdb_shell.specs.declared.refused.SessionRefused.{SessionRefused}
+use Rattle.sdb_shell.specs.Handed.{Handed, Reading}
 use Rattle.sdb_shell.specs.Lines.{IsCut, IsLine}
 use Rattle.sdb_shell.specs.Session.{HasStopped, HasStoppedLine}
 use Rattle.sdb_shell.specs.declared.texts.Next.{Next}
@@ -24,9 +24,8 @@ pub no_utf8 : (text : List ℕ) → (IsUtf8 text → ⊥) → false ≡ is_utf8 
 no_utf8 text h = by_test (is_utf8 text) (λ t. absurd (h (IsUtf8-from_is_utf8 text t))) (λ t. sym t)
 
 -- the statement of a line that was read stops it
-pub stops_line : (catalog : List Table) (text : List ℕ) (next : Next) (old new : Attached) (clock clock_then : Option (List ℤ)) (ids ids_then : Option (List ℕ)) (written written_then : Option (List ℕ)) (left left_then : Option (List ℕ)) (used used_then : ℕ) (s t : SessionAt) (why : SessionRefused) → IsNext left left_then used used_then next → next.text ≡ Some text
-    → HasStopped catalog text old new clock clock_then ids ids_then written written_then s t why → HasStoppedLine catalog old new clock clock_then ids ids_then written written_then left left_then used used_then s t why
-stops_line catalog text next old new clock clock_then ids ids_then written written_then left left_then used used_then s t why n is stopped =
+pub stops_line : (catalog : List Table) (text : List ℕ) (next : Next) (u : Handed) (r : Reading) (s t : SessionAt) (why : SessionRefused) → IsNext r.left r.left_then r.used r.used_then next → next.text ≡ Some text → HasStopped catalog text u s t why → HasStoppedLine catalog u r s t why
+stops_line catalog text next u r s t why n is stopped =
     let is_text : IsText n.line (Some text) = subst (IsText n.line) is n.text in
     record {
       line = n.line;
@@ -34,5 +33,5 @@ stops_line catalog text next old new clock clock_then ids ids_then written writt
       read = n.read;
       some = is_text.1;
       utf8 = is_text.2;
-      stopped = subst (λ (l : List ℕ). HasStopped catalog l old new clock clock_then ids ids_then written written_then s t why) is_text.0 stopped;
+      stopped = subst (λ (l : List ℕ). HasStopped catalog l u s t why) is_text.0 stopped;
     }

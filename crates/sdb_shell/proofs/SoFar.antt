@@ -28,6 +28,7 @@ use Rattle.sdb_shell.specs.declared.lines.LineEnd.TheVariants as line_end
 use Rattle.sdb_shell.specs.declared.refused.SessionRefused.{SessionRefused}
 use Rattle.sdb_shell.specs.declared.refused.SessionRefused.TheVariants as refused
 use Rattle.sdb_shell.specs.Answers.{answer_line_of}
+use Rattle.sdb_shell.specs.Handed.{Handed}
 use Rattle.sdb_shell.specs.Lines.{IsLine, has_lf, most_input, most_line, with_end}
 use Rattle.sdb_shell.specs.Session.{AreTakenFrom, CutShort, HasPassed, HasReplied, HasStopped, HasTakenLine, IsAnsweredSoFar, IsCutLine, IsCutSession, IsSoFar, Refused, Starved, Starves, Unwritten, IsWhole, answer_lines, filled, is_line, is_text, with_lfs}
 
@@ -192,7 +193,7 @@ answered_so_far catalog old new clock clock_then ids ids_then written written_th
 }
 
 -- nothing was done since
-so_passed : (catalog : List Table) (old mid new : Attached) (clock clock_mid clock_then : Option (List ℤ)) (ids ids_mid ids_then : Option (List ℕ)) (written written_mid written_then : Option (List ℕ)) (left left_mid : Option (List ℕ)) (used n : ℕ) (s t : SessionAt) → IsSoFar catalog old mid clock clock_mid ids ids_mid written written_mid left left_mid used n s → GoOn mid new → HasPassed mid new clock_mid clock_then ids_mid ids_then written_mid written_then s t → IsSoFar catalog old new clock clock_then ids ids_then written written_then left left_mid used n s
+so_passed : (catalog : List Table) (old mid new : Attached) (clock clock_mid clock_then : Option (List ℤ)) (ids ids_mid ids_then : Option (List ℕ)) (written written_mid written_then : Option (List ℕ)) (left left_mid : Option (List ℕ)) (used n : ℕ) (s t : SessionAt) → IsSoFar catalog old mid clock clock_mid ids ids_mid written written_mid left left_mid used n s → GoOn mid new → HasPassed (record { old = mid; new = new; clock = clock_mid; clock_then = clock_then; ids = ids_mid; ids_then = ids_then; written = written_mid; written_then = written_then }) s t → IsSoFar catalog old new clock clock_then ids ids_then written written_then left left_mid used n s
 so_passed catalog old mid new clock clock_mid clock_then ids ids_mid ids_then written written_mid written_then left left_mid used n s t so goes h = record {
   lines = so.lines;
   es = so.es;
@@ -259,6 +260,10 @@ pub so_past : (catalog : List Table) (old new : Attached) (clock clock_then : Op
 so_past catalog old new clock clock_then ids ids_then written written_then left left_mid remaining_then used n s so goes = starves catalog old new clock clock_then ids ids_then written written_then written_then left left_mid remaining_then used n s refused.NoMemory so goes refl refl
 
 module _ (catalog : List Table) (old mid new : Attached) (clock clock_mid clock_then : Option (List ℤ)) (ids ids_mid ids_then : Option (List ℕ)) (written written_mid written_then : Option (List ℕ)) (left left_mid left_then : Option (List ℕ)) (used used_then n : ℕ) (s t : SessionAt) (so : IsSoFar catalog old mid clock clock_mid ids ids_mid written written_mid left left_mid used n s) (goes : GoOn mid new) where
+  -- what the line is handed
+  abbrev u : Handed
+  u = record { old = mid; new = new; clock = clock_mid; clock_then = clock_then; ids = ids_mid; ids_then = ids_then; written = written_mid; written_then = written_then }
+
   -- what a line comes to, however it ends
   record HasDone (line : List ℕ) : Type 0 where
     es : List Exchange
@@ -267,7 +272,7 @@ module _ (catalog : List Table) (old mid new : Attached) (clock clock_mid clock_
     output : Appends (answer_lines es) written written_then
     session : IsSessionSoFar catalog old new clock clock_then ids ids_then es t
 
-  passed : (line : List ℕ) → has_lf line ≡ false → length line ≤ most_line → line ≡ [] → HasPassed mid new clock_mid clock_then ids_mid ids_then written_mid written_then s t → HasDone line
+  passed : (line : List ℕ) → has_lf line ≡ false → length line ≤ most_line → line ≡ [] → HasPassed u s t → HasDone line
   passed line one few none h = record {
     es = so.es;
     fits = subst (λ l. is_line l ≡ true) (sym none) refl;
@@ -277,7 +282,7 @@ module _ (catalog : List Table) (old mid new : Attached) (clock clock_mid clock_
         (subst (λ i. IsSessionSoFar catalog old new clock clock_then ids i so.es s) (sym h.ids_same) (subst (λ c. IsSessionSoFar catalog old new clock c ids ids_mid so.es s) (sym h.clock_same) (session_same catalog old mid new clock clock_mid ids ids_mid so.es s so.session goes h.held)));
   }
 
-  replied : (line : List ℕ) → has_lf line ≡ false → length line ≤ most_line → line ≢ [] → is_utf8 line ≡ true → HasReplied catalog line mid new clock_mid clock_then ids_mid ids_then written_mid written_then s t → HasDone line
+  replied : (line : List ℕ) → has_lf line ≡ false → length line ≤ most_line → line ≢ [] → is_utf8 line ≡ true → HasReplied catalog line u s t → HasDone line
   replied line one few some utf8 h =
       let e : Exchange = exchange h.answered.answered.says h.answered.now s.fresh h.answer in
       record {
@@ -289,7 +294,7 @@ module _ (catalog : List Table) (old mid new : Attached) (clock clock_mid clock_
       }
 
   -- a statement stops the session
-  stopped : (goes_mid : GoOn old mid) (ahead : List ℕ) (remaining_then : Option (List ℕ)) (why : SessionRefused) (end : LineEnd) (line : List ℕ) → IsLine left_mid (option_map (λ rest. ahead ++ rest) remaining_then) used used_then end line → line ≢ [] → is_utf8 line ≡ true → HasStopped catalog line mid new clock_mid clock_then ids_mid ids_then written_mid written_then s t why
+  stopped : (goes_mid : GoOn old mid) (ahead : List ℕ) (remaining_then : Option (List ℕ)) (why : SessionRefused) (end : LineEnd) (line : List ℕ) → IsLine left_mid (option_map (λ rest. ahead ++ rest) remaining_then) used used_then end line → line ≢ [] → is_utf8 line ≡ true → HasStopped catalog line u s t why
       → IsCutSession catalog old new clock clock_then ids ids_then written written_then left remaining_then why
   stopped goes_mid ahead remaining_then why end line read some utf8 (Starved is written_same) = starves catalog old mid clock clock_mid ids ids_mid written written_mid written_then left left_mid remaining_then used n s why so goes_mid is written_same
   stopped goes_mid ahead remaining_then why end line read some utf8 (Unwritten kind a answered put) =
@@ -312,11 +317,11 @@ module _ (catalog : List Table) (old mid new : Attached) (clock clock_mid clock_
         session = session_whole catalog old new clock clock_then ids ids_then (so.es ++ e ∷ []) t (session_more catalog old mid new clock clock_mid clock_then ids ids_mid ids_then so.es s t line a so.session answered goes);
       })
 
-  done_of : (line : List ℕ) → has_lf line ≡ false → length line ≤ most_line → ((line ≡ []) × HasPassed mid new clock_mid clock_then ids_mid ids_then written_mid written_then s t) ⊎ ((line ≢ []) × (is_utf8 line ≡ true) × HasReplied catalog line mid new clock_mid clock_then ids_mid ids_then written_mid written_then s t) → HasDone line
+  done_of : (line : List ℕ) → has_lf line ≡ false → length line ≤ most_line → ((line ≡ []) × HasPassed u s t) ⊎ ((line ≢ []) × (is_utf8 line ≡ true) × HasReplied catalog line u s t) → HasDone line
   done_of line one few (inl h) = passed line one few h.0 h.1
   done_of line one few (inr h) = replied line one few h.0 h.1 h.2
 
-  pub so_more : HasTakenLine catalog mid new clock_mid clock_then ids_mid ids_then written_mid written_then left_mid left_then used used_then s t line_end.Lf → IsSoFar catalog old new clock clock_then ids ids_then written written_then left left_then used_then (n + 1) t
+  pub so_more : HasTakenLine catalog u (record { left = left_mid; left_then = left_then; used = used; used_then = used_then }) s t line_end.Lf → IsSoFar catalog old new clock clock_then ids ids_then written written_then left left_then used_then (n + 1) t
   so_more h =
       let d = done_of h.line h.read.one h.read.fits h.done in
       let grown : with_lfs (so.lines ++ h.line ∷ []) ≡ with_lfs so.lines ++ (h.line ++ 10 ∷ []) = flat_more (λ l. l ++ 10 ∷ []) so.lines h.line in
@@ -332,7 +337,7 @@ module _ (catalog : List Table) (old mid new : Attached) (clock clock_mid clock_
         session = d.session;
       }
 
-  pub so_whole : HasTakenLine catalog mid new clock_mid clock_then ids_mid ids_then written_mid written_then left_mid left_then used used_then s t line_end.Input → used_then ≤ most_input → (remaining_then : Option (List ℕ)) → IsAtEnd remaining_then → left_then ≡ remaining_then → IsWhole catalog old new clock clock_then ids ids_then written written_then left remaining_then
+  pub so_whole : HasTakenLine catalog u (record { left = left_mid; left_then = left_then; used = used; used_then = used_then }) s t line_end.Input → used_then ≤ most_input → (remaining_then : Option (List ℕ)) → IsAtEnd remaining_then → left_then ≡ remaining_then → IsWhole catalog old new clock clock_then ids ids_then written written_then left remaining_then
   so_whole h few remaining_then ends same =
       let d = done_of h.line h.read.one h.read.fits h.done in
       let text : List ℕ = with_lfs so.lines ++ h.line in
@@ -359,7 +364,7 @@ module _ (catalog : List Table) (old mid new : Attached) (clock clock_mid clock_
       last_filled (b ∷ l) = refl
 
   -- a line stops the session
-  pub so_cut : (goes_mid : GoOn old mid) (ahead : List ℕ) (remaining_then : Option (List ℕ)) (why : SessionRefused) → IsCutLine catalog n mid new clock_mid clock_then ids_mid ids_then written_mid written_then left_mid (option_map (λ rest. ahead ++ rest) remaining_then) used used_then s t why → IsCutSession catalog old new clock clock_then ids ids_then written written_then left remaining_then why
+  pub so_cut : (goes_mid : GoOn old mid) (ahead : List ℕ) (remaining_then : Option (List ℕ)) (why : SessionRefused) → IsCutLine catalog n u (record { left = left_mid; left_then = option_map (λ rest. ahead ++ rest) remaining_then; used = used; used_then = used_then }) s t why → IsCutSession catalog old new clock clock_then ids ids_then written written_then left remaining_then why
   so_cut goes_mid ahead remaining_then why (inl h) = Refused (record {
     n = n;
     used = used;

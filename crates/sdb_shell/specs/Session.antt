@@ -12,6 +12,7 @@ use Rattle.sdb_client.specs.Client.{Says}
 use Rattle.sdb_session.specs.Session.{Exchange}
 use Rattle.sdb_answer.specs.Sessions.{HasAnswered, IsSession, IsSessionSoFar, SessionAt}
 use Rattle.sdb_shell.specs.Answers.{IsPrefix, answer_line_of}
+use Rattle.sdb_shell.specs.Handed.{Handed, Reading}
 use Rattle.sdb_shell.specs.declared.lines.LineEnd.{LineEnd}
 use Rattle.sdb_shell.specs.declared.refused.SessionRefused.{SessionRefused}
 use Rattle.sdb_shell.specs.declared.refused.SessionRefused.TheVariants as refused
@@ -45,10 +46,10 @@ abbrev pub answer_lines : List Exchange → List ℕ
 answer_lines es = flat_map (λ e. answer_line_of e.answer) es
 
 -- A statement was taken and answered, and the line of its answer was written.
-pub record HasReplied (catalog : List Table) (text : List ℕ) (old new : Attached) (clock clock_then : Option (List ℤ)) (ids ids_then : Option (List ℕ)) (written written_then : Option (List ℕ)) (s t : SessionAt) : Type 0 where
+pub record HasReplied (catalog : List Table) (text : List ℕ) (u : Handed) (s t : SessionAt) : Type 0 where
   pub answer : Answer
-  pub answered : HasAnswered catalog text old new clock clock_then ids ids_then s answer t
-  pub put : Appends (answer_line_of answer) written written_then
+  pub answered : HasAnswered catalog text u.old u.new u.clock u.clock_then u.ids u.ids_then s answer t
+  pub put : Appends (answer_line_of answer) u.written u.written_then
 
 -- why the line of an answer isn't written whole
 abbrev pub IsUnwritten : SessionRefused → Type 0
@@ -58,36 +59,36 @@ IsUnwritten r = ⊥
 
 -- A statement stops a session: it was out of memory before its answer, and nothing was written; or it was answered, and a prefix of the
 -- line of its answer was written.
-pub data HasStopped (catalog : List Table) (text : List ℕ) (old new : Attached) (clock clock_then : Option (List ℤ)) (ids ids_then : Option (List ℕ)) (written written_then : Option (List ℕ)) (s t : SessionAt) (why : SessionRefused) : Type 0 where
-  Starved : (is : why ≡ refused.NoMemory) (written_same : written_then ≡ written) → HasStopped catalog text old new clock clock_then ids ids_then written written_then s t why
-  Unwritten : (kind : IsUnwritten why) (answer : Answer) (answered : HasAnswered catalog text old new clock clock_then ids ids_then s answer t) (put : IsPrefix (answer_line_of answer) written written_then) → HasStopped catalog text old new clock clock_then ids ids_then written written_then s t why
+pub data HasStopped (catalog : List Table) (text : List ℕ) (u : Handed) (s t : SessionAt) (why : SessionRefused) : Type 0 where
+  Starved : (is : why ≡ refused.NoMemory) (written_same : u.written_then ≡ u.written) → HasStopped catalog text u s t why
+  Unwritten : (kind : IsUnwritten why) (answer : Answer) (answered : HasAnswered catalog text u.old u.new u.clock u.clock_then u.ids u.ids_then s answer t) (put : IsPrefix (answer_line_of answer) u.written u.written_then) → HasStopped catalog text u s t why
 
 -- Nothing was done: an empty line was read.
-pub record HasPassed (old new : Attached) (clock clock_then : Option (List ℤ)) (ids ids_then : Option (List ℕ)) (written written_then : Option (List ℕ)) (s t : SessionAt) : Type 0 where
-  pub held : HoldTheSame old new
-  pub clock_same : clock_then ≡ clock
-  pub ids_same : ids_then ≡ ids
-  pub written_same : written_then ≡ written
+pub record HasPassed (u : Handed) (s t : SessionAt) : Type 0 where
+  pub held : HoldTheSame u.old u.new
+  pub clock_same : u.clock_then ≡ u.clock
+  pub ids_same : u.ids_then ≡ u.ids
+  pub written_same : u.written_then ≡ u.written
   pub same : t ≡ s
 
 -- A line was read; its statement was answered, or it is empty.
-pub record HasTakenLine (catalog : List Table) (old new : Attached) (clock clock_then : Option (List ℤ)) (ids ids_then : Option (List ℕ)) (written written_then : Option (List ℕ)) (left left_then : Option (List ℕ)) (used used_then : ℕ) (s t : SessionAt) (end : LineEnd) : Type 0 where
+pub record HasTakenLine (catalog : List Table) (u : Handed) (r : Reading) (s t : SessionAt) (end : LineEnd) : Type 0 where
   pub line : List ℕ
-  pub read : IsLine left left_then used used_then end line
-  pub done : ((line ≡ []) × HasPassed old new clock clock_then ids ids_then written written_then s t) ⊎ ((line ≢ []) × (is_utf8 line ≡ true) × HasReplied catalog line old new clock clock_then ids ids_then written written_then s t)
+  pub read : IsLine r.left r.left_then r.used r.used_then end line
+  pub done : ((line ≡ []) × HasPassed u s t) ⊎ ((line ≢ []) × (is_utf8 line ≡ true) × HasReplied catalog line u s t)
 
 -- A line was read that isn't empty, and its statement stops a session.
-pub record HasStoppedLine (catalog : List Table) (old new : Attached) (clock clock_then : Option (List ℤ)) (ids ids_then : Option (List ℕ)) (written written_then : Option (List ℕ)) (left left_then : Option (List ℕ)) (used used_then : ℕ) (s t : SessionAt) (why : SessionRefused) : Type 0 where
+pub record HasStoppedLine (catalog : List Table) (u : Handed) (r : Reading) (s t : SessionAt) (why : SessionRefused) : Type 0 where
   pub line : List ℕ
   pub end : LineEnd
-  pub read : IsLine left left_then used used_then end line
+  pub read : IsLine r.left r.left_then r.used r.used_then end line
   pub some : line ≢ []
   pub utf8 : is_utf8 line ≡ true
-  pub stopped : HasStopped catalog line old new clock clock_then ids ids_then written written_then s t why
+  pub stopped : HasStopped catalog line u s t why
 
 -- A line stops a session: nothing was done and the line is refused; or its statement stops it.
-abbrev pub IsCutLine : List Table → ℕ → Attached → Attached → Option (List ℤ) → Option (List ℤ) → Option (List ℕ) → Option (List ℕ) → Option (List ℕ) → Option (List ℕ) → Option (List ℕ) → Option (List ℕ) → ℕ → ℕ → SessionAt → SessionAt → SessionRefused → Type 0
-IsCutLine catalog n old new clock clock_then ids ids_then written written_then left left_then used used_then s t why = (HasPassed old new clock clock_then ids ids_then written written_then s t × IsRefusedAt n left left_then used used_then why) ⊎ HasStoppedLine catalog old new clock clock_then ids ids_then written written_then left left_then used used_then s t why
+abbrev pub IsCutLine : List Table → ℕ → Handed → Reading → SessionAt → SessionAt → SessionRefused → Type 0
+IsCutLine catalog n u r s t why = (HasPassed u s t × IsRefusedAt n r.left r.left_then r.used r.used_then why) ⊎ HasStoppedLine catalog u r s t why
 
 -- A session so far, before the line of a number: each line so far ends with LF.
 pub record IsSoFar (catalog : List Table) (old new : Attached) (clock clock_then : Option (List ℤ)) (ids ids_then : Option (List ℕ)) (written written_then : Option (List ℕ)) (left left_then : Option (List ℕ)) (used n : ℕ) (s : SessionAt) : Type 0 where
@@ -174,3 +175,12 @@ pub data IsCutSession (catalog : List Table) (old new : Attached) (clock clock_t
   Refused : (refused : IsRefused catalog old new clock clock_then ids ids_then written written_then remaining remaining_then why) → IsCutSession catalog old new clock clock_then ids ids_then written written_then remaining remaining_then why
   CutShort : (kind : IsUnwritten why) (cut : IsCutShort catalog old new clock clock_then ids ids_then written written_then remaining remaining_then) → IsCutSession catalog old new clock clock_then ids ids_then written written_then remaining remaining_then why
   Starves : (is : why ≡ refused.NoMemory) (starved : IsStarved catalog old clock ids written written_then remaining) → IsCutSession catalog old new clock clock_then ids ids_then written written_then remaining remaining_then why
+
+---- in contracts
+
+-- a session from an input to what is left of it is whole, or has no end
+abbrev pub IsDone : List Table → Handed → Option (List ℕ) → Option (List ℕ) → Type 0
+IsDone catalog u remaining remaining_then = IsWhole catalog u.old u.new u.clock u.clock_then u.ids u.ids_then u.written u.written_then remaining remaining_then
+
+abbrev pub IsCutOff : List Table → Handed → Option (List ℕ) → Option (List ℕ) → SessionRefused → Type 0
+IsCutOff catalog u remaining remaining_then why = IsCutSession catalog u.old u.new u.clock u.clock_then u.ids u.ids_then u.written u.written_then remaining remaining_then why

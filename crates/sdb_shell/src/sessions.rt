@@ -2,7 +2,8 @@
 ghost use Rattle.std.specs.Prelude.{◌≡◌, ◌≤◌, ◌<◌, length, IfErr, OnOk, IsErrOf};
 ghost use Rattle.sdb_types.specs.Bytes.{HasRisen};
 ghost use Rattle.sdb_board.specs.Board.{GoOn};
-ghost use Rattle.sdb_shell.specs.Session.{IsCutSession, IsWhole};
+ghost use Rattle.sdb_shell.specs.Handed.{handed, views};
+ghost use Rattle.sdb_shell.specs.Session.{IsDone, IsCutOff};
 
 use crate::bytes::Bytes;
 use crate::lines::LineEnd;
@@ -28,8 +29,10 @@ pub fn session<S: Registry, R: Source, W: Sink, C: Clock, I: Ids>(
     ids: &mut I,
 ) -> Result<(), SessionRefused>
     requires some { 0 < length (S.state stores.old).shelves }
-    ensures done { OnOk result (IsWhole catalog.now (S.state stores.old) (S.state stores.new) (C.told clock.old) (C.told clock.new) (I.told ids.old) (I.told ids.new) (W.written output.old) (W.written output.new) (R.remaining input.old) (R.remaining input.new)) }
-    ensures cut { IfErr result (IsCutSession catalog.now (S.state stores.old) (S.state stores.new) (C.told clock.old) (C.told clock.new) (I.told ids.old) (I.told ids.new) (W.written output.old) (W.written output.new) (R.remaining input.old) (R.remaining input.new)) }
+    ensures done { OnOk result (IsDone catalog.now (handed (views S.state C.told I.told W.written)
+        stores.old stores.new clock.old clock.new ids.old ids.new output.old output.new) (R.remaining input.old) (R.remaining input.new)) }
+    ensures cut { IfErr result (IsCutOff catalog.now (handed (views S.state C.told I.told W.written)
+        stores.old stores.new clock.old clock.new ids.old ids.new output.old output.new) (R.remaining input.old) (R.remaining input.new)) }
     ensures read_fault { IsErrOf result SessionRefused.ReadFault → HasRisen (R.faults input.old) (R.faults input.new) }
     ensures write_fault { IsErrOf result SessionRefused.WriteFault → HasRisen (W.faults output.old) (W.faults output.new) }
     ensures reads { R.faults input.old ≤ R.faults input.new }

@@ -4,6 +4,7 @@ ghost use Rattle.sdb_types.specs.Bytes.{Appends, HasRisen};
 ghost use Rattle.sdb_board.specs.Board.{GoOn};
 ghost use Rattle.sdb_client.specs.Client.{IsIdle};
 ghost use Rattle.sdb_shell.specs.Answers.{IsPrefix, answer_line_of};
+ghost use Rattle.sdb_shell.specs.Handed.{handed, views};
 ghost use Rattle.sdb_shell.specs.Session.{HasReplied, HasStopped};
 
 use crate::refused::SessionRefused;
@@ -46,9 +47,11 @@ pub(crate) fn reply<S: Registry, W: Sink, C: Clock, I: Ids>(
     requires some { 0 < length (S.state stores.old).shelves }
     requires idle { IsIdle session.old.client }
     requires short { length text.now < 2 ^ 32 }
-    ensures replied { OnOk result (HasReplied catalog.now text.now (S.state stores.old) (S.state stores.new) (C.told clock.old) (C.told clock.new) (I.told ids.old) (I.told ids.new) (W.written output.old) (W.written output.new) session.old session.new) }
+    ensures replied { OnOk result (HasReplied catalog.now text.now (handed (views S.state C.told I.told W.written)
+        stores.old stores.new clock.old clock.new ids.old ids.new output.old output.new) session.old session.new) }
     ensures write_fault { IsErrOf result SessionRefused.WriteFault → HasRisen (W.faults output.old) (W.faults output.new) }
-    ensures stopped { IfErr result (HasStopped catalog.now text.now (S.state stores.old) (S.state stores.new) (C.told clock.old) (C.told clock.new) (I.told ids.old) (I.told ids.new) (W.written output.old) (W.written output.new) session.old session.new) }
+    ensures stopped { IfErr result (HasStopped catalog.now text.now (handed (views S.state C.told I.told W.written)
+        stores.old stores.new clock.old clock.new ids.old ids.new output.old output.new) session.old session.new) }
     ensures later { W.faults output.old ≤ W.faults output.new }
     ensures goes { GoOn (S.state stores.old) (S.state stores.new) }
 {

@@ -3,7 +3,7 @@ ghost use Rattle.std.specs.Prelude.{◌≤◌, ◌<◌, length, IfOk, IfErr, IsE
 ghost use Rattle.sdb_types.specs.Bytes.{HasRisen};
 ghost use Rattle.sdb_board.specs.Board.{GoOn};
 ghost use Rattle.sdb_client.specs.Client.{IsIdle};
-ghost use Rattle.sdb_shell.specs.Ahead.{left};
+ghost use Rattle.sdb_shell.specs.Handed.{handed, reading, views};
 ghost use Rattle.sdb_shell.specs.Session.{HasTakenLine, IsCutLine};
 
 use crate::bytes::Bytes;
@@ -33,8 +33,12 @@ pub(crate) fn take_line<S: Registry, R: Source, W: Sink, C: Clock, I: Ids>(
 ) -> Result<LineEnd, SessionRefused>
     requires some { 0 < length (S.state stores.old).shelves }
     requires idle { IsIdle session.old.client }
-    ensures taken { IfOk result (HasTakenLine catalog.now (S.state stores.old) (S.state stores.new) (C.told clock.old) (C.told clock.new) (I.told ids.old) (I.told ids.new) (W.written output.old) (W.written output.new) (left bytes.old (R.remaining input.old)) (left bytes.new (R.remaining input.new)) bytes.old.used bytes.new.used session.old session.new) }
-    ensures cut { IfErr result (IsCutLine catalog.now n (S.state stores.old) (S.state stores.new) (C.told clock.old) (C.told clock.new) (I.told ids.old) (I.told ids.new) (W.written output.old) (W.written output.new) (left bytes.old (R.remaining input.old)) (left bytes.new (R.remaining input.new)) bytes.old.used bytes.new.used session.old session.new) }
+    ensures taken { IfOk result (HasTakenLine catalog.now (handed (views S.state C.told I.told W.written)
+        stores.old stores.new clock.old clock.new ids.old ids.new output.old output.new)
+        (reading R.remaining bytes.old bytes.new input.old input.new) session.old session.new) }
+    ensures cut { IfErr result (IsCutLine catalog.now n (handed (views S.state C.told I.told W.written)
+        stores.old stores.new clock.old clock.new ids.old ids.new output.old output.new)
+        (reading R.remaining bytes.old bytes.new input.old input.new) session.old session.new) }
     ensures read_fault { IsErrOf result SessionRefused.ReadFault → HasRisen (R.faults input.old) (R.faults input.new) }
     ensures write_fault { IsErrOf result SessionRefused.WriteFault → HasRisen (W.faults output.old) (W.faults output.new) }
     ensures reads { R.faults input.old ≤ R.faults input.new }
