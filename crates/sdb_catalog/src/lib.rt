@@ -14,7 +14,8 @@ mod write;
 
 pub use definition::definition_text;
 pub use entry::Entry;
-pub use open::open_catalog;
+pub use open::{count_tables, is_coordinators, open_catalog};
+pub use read::entry_of;
 pub use refused::CatalogRefused;
 pub use rows::{coordinators, metadata_table, row_of};
 pub use write::store_catalog;

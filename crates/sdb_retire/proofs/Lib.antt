@@ -1,0 +1,11 @@
+pub mod Calls
+pub mod Scans
+pub mod Moved
+pub mod Steps
+pub mod Surveys
+pub mod Versions
+pub mod Joins
+pub mod Apart
+pub mod Known
+pub mod Settled
+pub mod Ended

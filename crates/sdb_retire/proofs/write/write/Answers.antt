@@ -1,0 +1,12 @@
+use Rattle.std.proofs.Common.{subst}
+use Rattle.sdb_types.specs.declared.record.Reply.{Reply}
+use Rattle.sdb_stores.specs.Shelf.{IsCallAt, index_at}
+use Rattle.sdb_retire.proofs.Steps.{met_err}
+use Rattle.sdb_retire.proofs.write.write.Goals as goal
+
+pub returns-in-NotMet-clause-err : goal.returns-in-NotMet-clause-err
+returns-in-NotMet-clause-err g c =
+    let old = g.R.Registry.state c.args.stores.now in
+    let new = g.R.Registry.state c.call.new.stores in
+    met_err c.unmet.result (index_at old c.args.store.now) c.args.request.now c.in-NotMet.found old new
+    (subst (λ (x : Reply). IsCallAt (index_at old c.args.store.now) c.args.request.now x old new) c.in-NotMet.is c.in_ok-found.ensures.called) c.unmet.ensures.err

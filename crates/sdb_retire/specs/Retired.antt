@@ -1,0 +1,99 @@
+-- What a retirement comes to.
+use Rattle.std.specs.Prelude.{◌≡◌, ◌≢◌, ◌⊎◌, ℕ, List, [], ◌++◌, count_by, if◌then◌else◌}
+use Rattle.sdb_types.specs.declared.key.Key.{Key}
+use Rattle.sdb_types.specs.Contents.{record_at}
+use Rattle.sdb_stores.specs.Shelf.{Attached, Shelf, HaveRisen, index_at}
+use Rattle.sdb_catalog.specs.declared.entry.Entry.{Entry}
+use Rattle.sdb_catalog.specs.Rows.{metadata_table}
+use Rattle.sdb_retire.specs.declared.refused.RetireRefused.{RetireRefused}
+use Rattle.sdb_retire.specs.declared.refused.RetireRefused.TheVariants as refused
+use Rattle.sdb_retire.specs.declared.survey.Survey.{Survey}
+use Rattle.sdb_retire.specs.Copying.{IsBlocked, WasUnmet, is_put, requests_of}
+use Rattle.sdb_retire.specs.Joined.{is_among}
+use Rattle.sdb_retire.specs.Moving.{moving_tables, renewals}
+use Rattle.sdb_retire.specs.Read.{AreOpened, AreSeen, IsBadRow}
+use Rattle.sdb_retire.specs.Writes.{Hold, HoldFirst, Write, contents_at, writes_at}
+
+-- The two names of a retirement.
+pub record Sides : Type 0 where
+  pub from : List ℕ
+  pub to : List ℕ
+
+-- The writes that a survey asks for: of `to` each moving table, and then of the first store the rows that name `from`.
+abbrev pub writes_of : ℕ → Sides → Survey → List Write
+writes_of to s v = writes_at to (requests_of v.seen) ++ writes_at 0 (renewals s.from s.to v.entries)
+
+-- how many records are copied
+abbrev pub copies_of : Survey → ℕ
+copies_of v = count_by is_put (requests_of v.seen)
+
+-- The first store showed these rows of the catalog, and the two stores these rows of each moving table.
+pub record IsSurvey (s : Sides) (old : Attached) (v : Survey) : Type 0 where
+  pub opened : AreOpened s.from s.to 0 old v.entries
+  pub seen : AreSeen (index_at old s.from) (index_at old s.to) (moving_tables s.from v.entries) old v.seen
+
+-- At keys of the moving tables `to` holds what `from` held, and elsewhere what it held, where the contents of both are known. Of rows of
+-- the catalog nothing is said here.
+abbrev pub TablesMoved : Sides → Survey → Attached → Attached → Type 0
+TablesMoved s v old new =
+    old.tells (index_at old s.from) → old.tells (index_at old s.to) → (key : Key) → key.table ≢ metadata_table
+    → record_at (contents_at new.shelves (index_at old s.to)) key
+    ≡ (if is_among (moving_tables s.from v.entries) key then record_at (contents_at old.shelves (index_at old s.from)) key else record_at (contents_at old.shelves (index_at old s.to)) key)
+
+-- Each store of known contents but the first and `to` holds what it held.
+abbrev pub KeepOthers : Sides → Attached → Attached → Type 0
+KeepOthers s old new = (i : ℕ) → i ≢ index_at old s.to → i ≢ 0 → old.tells i → contents_at new.shelves i ≡ contents_at old.shelves i
+
+-- All writes were made.
+pub record AreMoved (s : Sides) (n : ℕ) (old new : Attached) : Type 0 where
+  pub survey : Survey
+  pub shown : IsSurvey s old survey
+  pub count : n ≡ copies_of survey
+  pub held : Hold (writes_of (index_at old s.to) s survey) old new
+  pub tables : TablesMoved s survey old new
+
+-- The first of the writes were made.
+pub record IsPart (s : Sides) (old new : Attached) : Type 0 where
+  pub survey : Survey
+  pub shown : IsSurvey s old survey
+  pub held : HoldFirst (writes_of (index_at old s.to) s survey) old new
+
+-- A write of these found another record at its key.
+abbrev pub IsMet : ℕ → Sides → Survey → Key → Attached → List Shelf → Type 0
+IsMet to s v place old new = WasUnmet to (requests_of v.seen) place old new ⊎ WasUnmet 0 (renewals s.from s.to v.entries) place old new
+
+-- Why the writes were not all made.
+abbrev pub IsHalted : ℕ → Sides → Survey → Attached → List Shelf → RetireRefused → Type 0
+IsHalted to s v old new refused.StoreFault = HaveRisen old.shelves new
+IsHalted to s v old new (refused.BadRow key) = IsMet to s v key old new
+IsHalted to s v old new refused.NoMemory = Unit {0}
+
+-- The first store showed entries of a catalog, and two stores rows of one of its moving tables, of which the one of this key blocks the copy.
+pub record IsBlockedCopy (s : Sides) (old : Attached) (place : Key) : Type 0 where
+  pub entries : List Entry
+  pub opened : AreOpened s.from s.to 0 old entries
+  pub blocked : IsBlocked (index_at old s.from) (index_at old s.to) old (moving_tables s.from entries) place
+
+-- Why there is no survey: a fault raised the count of the stores, a row of the catalog is bad, or a record blocks the copy.
+abbrev pub IsUnsurveyed : Sides → Attached → List Shelf → RetireRefused → Type 0
+IsUnsurveyed s old new refused.StoreFault = HaveRisen old.shelves new
+IsUnsurveyed s old new (refused.BadRow key) = IsBadRow s.from s.to 0 old key ⊎ IsBlockedCopy s old key
+IsUnsurveyed s old new refused.NoMemory = Unit {0}
+
+-- A write found another record.
+pub record IsMetWriting (s : Sides) (old : Attached) (new : List Shelf) (place : Key) : Type 0 where
+  pub survey : Survey
+  pub shown : IsSurvey s old survey
+  pub met : IsMet (index_at old s.to) s survey place old new
+
+-- Why not everything was moved: a fault raised the count of the stores; or a row of the catalog is bad, or a record blocks the copy,
+-- and nothing was written; or a write found another record.
+abbrev pub IsUnmoved : Sides → Attached → Attached → RetireRefused → Type 0
+IsUnmoved s old new refused.StoreFault = HaveRisen old.shelves new.shelves
+IsUnmoved s old new (refused.BadRow key) =
+    ((IsBadRow s.from s.to 0 old key ⊎ IsBlockedCopy s old key) × Hold [] old new) ⊎ IsMetWriting s old new.shelves key
+IsUnmoved s old new refused.NoMemory = Unit {0}
+
+-- Nothing was written, or the first of the writes.
+abbrev pub IsLeft : Sides → Attached → Attached → Type 0
+IsLeft s old new = Hold [] old new ⊎ IsPart s old new
