@@ -1,15 +1,19 @@
 -- A client's step, by what the code has of it.
-use Rattle.std.proofs.Common.{◌≡◌, ℕ, suc, ◌<◌, ◌^◌, false, List, length, Option, Some, IfSome, refl, sym, subst, get_or}
+use Rattle.std.proofs.Common.{◌≡◌, ◌∙◌, ℕ, suc, ◌<◌, ◌^◌, true, false, List, length, Option, Some, IfSome, refl, sym, ap, subst, get_or, add-zero}
 use Rattle.std.specs.Prelude.{slice_get}
 use Rattle.std.proofs.lemmas.Option.{slice_get_read}
+use Rattle.sdb_types.specs.declared.record.Reply.{Reply}
+use Rattle.sdb_types.specs.declared.record.Request.{Request}
+use Rattle.sdb_types.specs.Contents.{CanAnswer}
 use Rattle.sdb_model.specs.declared.answer.Answer.{Answer}
 use Rattle.sdb_model.specs.declared.script.Script.{Script}
 use Rattle.sdb_model.specs.Follows.{texts_of}
-use Rattle.sdb_client.specs.Client.{ClientAt, IsIdle, next_id}
+use Rattle.sdb_client.specs.Client.{ClientAt, IsIdle, ReplyTold, client_pending, next_id}
 use Rattle.sdb_client.specs.declared.gate.Gate.{Gate}
 use Rattle.sdb_steps.specs.Hands.{Takes}
 use Rattle.sdb_execution.specs.declared.seat.Seat.{Seat}
-use Rattle.sdb_execution.specs.Execution.{IsGateAt, State, TakeStep, moved_seat, with_seat_at}
+use Rattle.sdb_causes.specs.Unfit.{shows_stored}
+use Rattle.sdb_execution.specs.Execution.{CallStep, IsGateAt, State, TakeStep, moved_seat, with_seat_at}
 
 pub took : (script : Script) (s : State) (c at : ℕ) (seat : Seat) (gate : Gate) (text : List ℕ) (answer : Option Answer) (client : ClientAt)
     → c ≡ suc at → at < length s.seats → IfSome (slice_get s.seats at) (λ x. x.stopped ≡ false) → seat ≡ get_or s.seats at seat → IsIdle seat.client → slice_get (texts_of script.clients (suc at)) seat.taken ≡ Some text → IsGateAt gate s.seats at → client.begun < 2 ^ 64
@@ -28,6 +32,26 @@ took script s c at seat gate text answer client number low goes read idle next g
   small = small;
   takes = takes;
   left = refl;
+}
+  where
+    there : slice_get s.seats at ≡ Some seat
+    there = slice_get_read s.seats (length s.seats) at seat refl low read
+
+pub called : (s v : State) (c at : ℕ) (seat : Seat) (q : Request) (r : Reply) (answer : Option Answer) (client : ClientAt)
+    → c ≡ suc at → at < length s.seats → IfSome (slice_get s.seats at) (λ x. x.stopped ≡ false) → seat ≡ get_or s.seats at seat → client_pending seat.client ≡ Some q → CanAnswer q r → shows_stored r ≡ true
+    → ReplyTold seat.client seat.client.vacuum r s.clock answer client → v ≡ with_seat_at s at (record { client = client; taken = seat.taken; stopped = seat.stopped }) → CallStep s c q r answer v
+called s v c at seat q r answer client number low goes read pending can stored takes left = record {
+  place = at;
+  seat = seat;
+  client = client;
+  number = number;
+  at = there;
+  goes_on = subst (λ (o : Option Seat). IfSome o (λ x. x.stopped ≡ false)) there goes;
+  pending = pending;
+  can = can;
+  stored = stored;
+  takes = takes;
+  left = left ∙ ap (λ n. with_seat_at s at (record { client = client; taken = n; stopped = seat.stopped })) (sym (add-zero seat.taken));
 }
   where
     there : slice_get s.seats at ≡ Some seat

@@ -1,5 +1,6 @@
 //! The clients of a script, and what each event does to them.
 ghost use Rattle.std.specs.Prelude.{◌≡◌, ◌<◌, ◌-◌, ◌^◌, pos, suc, true, false, length, Some, IfOk, IfSome, slice_get};
+ghost use Rattle.sdb_record.specs.Meta.{is_moment as is_moment_lem};
 ghost use Rattle.sdb_model.specs.Follows.{texts_of};
 ghost use Rattle.sdb_client.specs.Client.{IsIdle, client_pending};
 ghost use Rattle.sdb_execution.specs.Execution.{AreFresh, CallStep, IsStepFrom, StopStep, TakeStep};
@@ -111,17 +112,24 @@ impl Clients {
     }
 
     // A client takes the reply to the call that it has pending, which is answered so.
-    fn call(&mut self, client: u32, request: &Request, reply: Reply, answer: &Option<Answer>) -> bool
+    fn call(
+        &mut self,
+        client: u32,
+        request: &Request,
+        reply: Reply,
+        answer: &Option<Answer>,
+    ) -> bool
         ensures { result ≡ true → CallStep self.old client request.now reply answer.now self.new }
     {
         let Some(at) = self.place(client) else {
             return false;
         };
-        if !is_pending(&self.seats[at].client, request) || !can_answer(request, &reply) {
+        let seat = &mut self.seats[at];
+        if !is_pending(&seat.client, request) || !can_answer(request, &reply) {
             return false;
         }
         show_order(&reply);
-        let answered = self.seats[at].client.advance(reply, self.clock);
+        let answered = seat.client.advance(reply, self.clock);
         is_answered_alike(&answered, answer)
     }
 
@@ -140,7 +148,9 @@ impl Clients {
     }
 
     // The clock shows a moment.
-    fn tick(&mut self, moment: i64) -> bool {
+    fn tick(&mut self, moment: i64) -> bool
+        ensures { result ≡ true → (is_moment_lem moment ≡ true) × (self.new ≡ record { seats = self.old.seats; clock = moment }) }
+    {
         self.clock = moment;
         is_moment(moment)
     }

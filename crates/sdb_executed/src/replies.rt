@@ -80,8 +80,12 @@ pub fn can_answer(request: &Request, reply: &Reply) -> bool
         (Request::Get(key), Reply::Found(found)) => is_at(key, found),
         (Request::Scan(span), Reply::Rows(rows)) => are_rows_of(span, rows.as_slice()),
         (Request::PutIf(_, _), Reply::Applied) | (Request::DeleteIf(_, _), Reply::Applied) => true,
-        (Request::PutIf(rec, condition), Reply::NotMet(found)) => is_unmet(condition, &rec.key, found),
-        (Request::DeleteIf(key, condition), Reply::NotMet(found)) => is_unmet(condition, key, found),
+        (Request::PutIf(rec, condition), Reply::NotMet(found)) => is_unmet(
+            condition, &rec.key, found,
+        ),
+        (Request::DeleteIf(key, condition), Reply::NotMet(found)) => is_unmet(
+            condition, key, found,
+        ),
         _ => false,
     }
 }

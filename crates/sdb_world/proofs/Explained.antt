@@ -28,7 +28,8 @@ use Rattle.sdb_world.specs.Played.{HasPlayed}
 use Rattle.sdb_world.specs.Step.{HasCome, HasGone, IsOne}
 use Rattle.sdb_world.specs.Explained.{IsExplained, IsExplainedAfter}
 use Rattle.sdb_world.proofs.Acts.{Came}
-use Rattle.sdb_world.proofs.Goes.{paths_on, traces_on}
+use Rattle.sdb_execution.proofs.Paths.{paths_on}
+use Rattle.sdb_world.proofs.Goes.{traces_on}
 
 -- no table of a script is the coordinator's
 pub no_coordinator : (script : Script) → IsPlayable script → find_table script.catalog coordinator_table ≡ None

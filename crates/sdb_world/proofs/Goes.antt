@@ -9,6 +9,7 @@ use Rattle.sdb_stores.specs.Shelf.{Attached}
 use Rattle.sdb_stores.specs.declared.place.Place.{Place as Placed}
 use Rattle.sdb_board.specs.Board.{AreFit, GoOn, placed, shown}
 use Rattle.sdb_executions.specs.World.{WorldAt, state_of}
+use Rattle.sdb_execution.proofs.Paths.{paths_on}
 use Rattle.sdb_execution.specs.Execution.{IsPath, IsStepFrom, State}
 use Rattle.sdb_world.specs.Step.{HasCome, HasGone}
 
@@ -17,10 +18,6 @@ traces_on places [] more a b c [] ns h k = subst (λ (x : List Shelf). IsTrace p
 traces_on places [] more a b c (m ∷ ms) ns h k = absurd h
 traces_on places (e ∷ es) more a b c [] ns h k = absurd h
 traces_on places (e ∷ es) more a b c (m ∷ ms) ns h k = (h.0, traces_on places es more m b c ms ns h.1 k)
-
-pub paths_on : (script : Script) (es more : List Event) (s t u : State) → IsPath script s es t → IsPath script t more u → IsPath script s (es ++ more) u
-paths_on script [] more s t u h k = subst (λ (x : State). IsPath script x more u) h k
-paths_on script (e ∷ es) more s t u h k = (h.0, h.1, paths_on script es more h.0 t u h.2 k)
 
 -- nothing came
 pub gone_none : (stores : Attached) (w : WorldAt) → HasGone stores stores w w []

@@ -46,7 +46,7 @@ all_contained P xs h i d low = h (slice_index_or xs i d) (i, low, or_same xs i (
 
 module _ (w : WorldAt) (h : IsWorld w) (opening closing : List Shelf) (p : HasPlayed w opening closing) where
   -- the clients where the events lead to
-  hands : ℕ → Hand
+  abbrev hands : ℕ → Hand
   hands = hands_of p.executed.last.seats
 
   going : IsGoing w.script.catalog (tables_fit w.script.catalog) (on_one w.events) (system_of hands) (doing_of hands)
