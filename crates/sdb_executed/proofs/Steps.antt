@@ -1,7 +1,9 @@
 -- A client's step, by what the code has of it.
-use Rattle.std.proofs.Common.{◌≡◌, ◌∙◌, ℕ, suc, ◌<◌, ◌^◌, true, false, List, length, Option, Some, IfSome, refl, sym, ap, subst, get_or, add-zero}
+use Rattle.std.proofs.Common.{◌≡◌, ◌∙◌, ℕ, suc, ◌<◌, ◌^◌, true, false, List, length, Option, Some, IfSome, refl, sym, ap, subst, get_or, take, [], ◌∷◌, ◌++◌, ◌+◌, add-zero, add-one}
 use Rattle.std.specs.Prelude.{slice_get}
+use Rattle.std.proofs.Math.Seq.{take-suc}
 use Rattle.std.proofs.lemmas.Option.{slice_get_read}
+use Rattle.sdb_model.specs.declared.event.Event.{Event}
 use Rattle.sdb_types.specs.declared.record.Reply.{Reply}
 use Rattle.sdb_types.specs.declared.record.Request.{Request}
 use Rattle.sdb_types.specs.Contents.{CanAnswer}
@@ -56,3 +58,7 @@ called s v c at seat q r answer client number low goes read pending can stored t
   where
     there : slice_get s.seats at ≡ Some seat
     there = slice_get_read s.seats (length s.seats) at seat refl low read
+
+-- the first events with one more
+pub event_more : (es : List Event) (i : ℕ) (e : Event) → i < length es → e ≡ get_or es i e → take (i + 1) es ≡ take i es ++ e ∷ []
+event_more es i e inside is = ap (λ (n : ℕ). take n es) (add-one i) ∙ take-suc es i e inside ∙ ap (λ (x : Event). take i es ++ x ∷ []) (sym is)

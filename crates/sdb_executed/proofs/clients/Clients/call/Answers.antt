@@ -19,5 +19,6 @@ returns c = λ so.
     let told = subst (λ (z : ℤ). ReplyTold seat.client seat.client.vacuum reply z answered client) now c.advance-answered.ensures in
     let takes = subst (λ (w : State). ReplyTold seat.client seat.client.vacuum reply w.clock answered client) c.self.view_is told in
     let left = ap (λ (w : State). with_seat_at w at (record { client = client; taken = seat.taken; stopped = seat.stopped })) c.self.view_is in
-    let stepped = called s _ c.args.client at seat c.args.request.now reply answered client c.in-Some.ensures.0 c.in-Some.ensures.1 c.in-Some.ensures.2 read (c.if-not-is_pending.ensures refl) (c.if-not-can_answer.ensures refl) c.show_order.ensures takes left in
-    subst (λ (a : Option Answer). CallStep s c.args.client c.args.request.now reply a _) (c.is_answered_alike.ensures.same.0 so) stepped
+    let then : State = with_seat_at (record { seats = c.self.inside.seats.items; clock = c.self.inside.clock }) at (record { client = client; taken = seat.taken; stopped = seat.stopped }) in
+    let stepped = called s then c.args.client at seat c.args.request.now reply answered client c.in-Some.ensures.0 c.in-Some.ensures.1 c.in-Some.ensures.2 read (c.if-not-is_pending.ensures refl) (c.if-not-can_answer.ensures refl) c.show_order.ensures takes left in
+    subst (λ (a : Option Answer). CallStep s c.args.client c.args.request.now reply a then) (c.is_answered_alike.ensures.same.0 so) stepped
