@@ -1,0 +1,97 @@
+-- A table's rows, read as one transaction.
+use Rattle.std.proofs.Common.{◌≡◌, ℕ, List, [], ◌∷◌, ◌++◌, refl, sym, ap, subst, ◌∙◌}
+use Rattle.sdb_schema.specs.declared.table.Table.{Table}
+use Rattle.sdb_stores.specs.Shelf.{Attached}
+use Rattle.sdb_board.specs.Board.{GoOn}
+use Rattle.sdb_model.specs.declared.answer.Answer.{Answer}
+use Rattle.sdb_model.specs.declared.statement.Statement.{Statement}
+use Rattle.sdb_model.specs.declared.statement.Statement.TheVariants as statement
+use Rattle.sdb_session.specs.Session.{Exchange}
+use Rattle.sdb_answer.proofs.Chains.{session_whole}
+use Rattle.sdb_tables.specs.declared.fault.ExportRefused.{ExportRefused}
+use Rattle.sdb_tables.specs.declared.fault.ExportRefused.TheVariants as refused
+use Rattle.sdb_tables.specs.Exports.{HasNotSaid, HasSaidAsWanted, HaveNotRead, HaveRead, IsExport, IsNotExported, IsTextOf, export_statements, is_wanted}
+use Rattle.sdb_tables.specs.Groups.{AreAnswered}
+use Rattle.sdb_tables.specs.Statements.{select_all}
+use Rattle.sdb_tables.specs.Turns.{AreTakenBetween, IsSoFar, Point, ends_between}
+use Rattle.sdb_tables.proofs.Points.{answered_more, said, taken_more, taken_none}
+
+-- Statements of an export that were taken between two points, each answered as it should be.
+pub record AreWanted {S : Type 0} (state : S → Attached) (catalog : List Table) (sts : List Statement) (p q : Point S) (es : List Exchange) : Type 0 where
+  pub are : AreAnswered is_wanted sts es
+  pub taken : AreTakenBetween state catalog p q es
+
+pub wanted_more : {S : Type 0} (state : S → Attached) (catalog : List Table) (sts : List Statement) (st : Statement) (p q r : Point S) (es : List Exchange) (a : Answer) → AreWanted state catalog sts p q es → (h : HasSaidAsWanted state catalog st q r a) → (goes : GoOn (state q.stores) (state r.stores)) → AreWanted state catalog (sts ++ st ∷ []) p r (es ++ (said state catalog st q r a h.0 goes).e ∷ [])
+wanted_more state catalog sts st p q r es a w h goes =
+    let s = said state catalog st q r a h.0 goes in
+    record { are = answered_more is_wanted sts es st s.e w.are s.is (ap (is_wanted st) s.answer ∙ h.1); taken = taken_more state catalog p q r es (s.e ∷ []) w.taken s.taken }
+
+-- the next one wasn't answered so
+pub cut_at : {S : Type 0} (state : S → Attached) (catalog : List Table) (t : Table) (front : List Statement) (st : Statement) (back : List Statement) (p q r : Point S) (es : List Exchange) (why : ExportRefused) → export_statements t ≡ front ++ st ∷ back → AreWanted state catalog front p q es → HasNotSaid state catalog st q r why → GoOn (state q.stores) (state r.stores) → HaveNotRead state catalog t p r why
+cut_at state catalog t front st back p q r es (refused.NotCommitted a) split w h goes =
+    let s = said state catalog st q r a h.1 goes in (
+      h.0,
+      record {
+        es = es;
+        last = s.e;
+        cut = record { front = front; st = st; back = back; statements = split; taken = w.are; stops = s.is; other = ap (is_wanted st) s.answer ∙ h.2; answer = s.answer };
+        taken = taken_more state catalog p q r es (s.e ∷ []) w.taken s.taken;
+      },
+    )
+cut_at state catalog t front st back p q r es refused.NoMemory split w h goes = tt
+
+---- the three statements
+
+module _ {S : Type 0} (state : S → Attached) (catalog : List Table) (t : Table) (select : Statement) (is : select ≡ select_all t) (p q : Point S) where
+  none_wanted : AreWanted state catalog [] p p []
+  none_wanted = record { are = tt; taken = taken_none state catalog p }
+
+  pub cut_first : (why : ExportRefused) → HasNotSaid state catalog statement.Begin p q why → GoOn (state p.stores) (state q.stores) → HaveNotRead state catalog t p q why
+  cut_first why h goes = cut_at state catalog t [] statement.Begin (select_all t ∷ statement.Commit ∷ []) p p q [] why refl none_wanted h goes
+
+  module _ (a : Answer) (began : HasSaidAsWanted state catalog statement.Begin p q a) (goes : GoOn (state p.stores) (state q.stores)) (r : Point S) where
+    one_wanted : AreWanted state catalog (statement.Begin ∷ []) p q ((said state catalog statement.Begin p q a began.0 goes).e ∷ [])
+    one_wanted = wanted_more state catalog [] statement.Begin p p q [] a none_wanted began goes
+
+    pub cut_second : (why : ExportRefused) → HasNotSaid state catalog select q r why → GoOn (state q.stores) (state r.stores) → HaveNotRead state catalog t p r why
+    cut_second why h on = cut_at state catalog t (statement.Begin ∷ []) (select_all t) (statement.Commit ∷ []) p q r _ why refl one_wanted (subst (λ s. HasNotSaid state catalog s q r why) is h) on
+
+    module _ (b : Answer) (showed : HasSaidAsWanted state catalog select q r b) (on : GoOn (state q.stores) (state r.stores)) (x : Point S) where
+      shown : HasSaidAsWanted state catalog (select_all t) q r b
+      shown = subst (λ s. HasSaidAsWanted state catalog s q r b) is showed
+
+      two_wanted : AreWanted state catalog (statement.Begin ∷ select_all t ∷ []) p r ((said state catalog statement.Begin p q a began.0 goes).e ∷ (said state catalog (select_all t) q r b shown.0 on).e ∷ [])
+      two_wanted = wanted_more state catalog (statement.Begin ∷ []) (select_all t) p q r ((said state catalog statement.Begin p q a began.0 goes).e ∷ []) b one_wanted shown on
+
+      pub cut_third : (why : ExportRefused) → HasNotSaid state catalog statement.Commit r x why → GoOn (state r.stores) (state x.stores) → HaveNotRead state catalog t p x why
+      cut_third why h last = cut_at state catalog t (statement.Begin ∷ select_all t ∷ []) statement.Commit [] p r x _ why refl two_wanted h last
+
+      pub read_all : (d : Answer) → HasSaidAsWanted state catalog statement.Commit r x d → GoOn (state r.stores) (state x.stores) → HaveRead state catalog t p x b
+      read_all d h last =
+          let w = wanted_more state catalog (statement.Begin ∷ select_all t ∷ []) statement.Commit p r x ((said state catalog statement.Begin p q a began.0 goes).e ∷ (said state catalog (select_all t) q r b shown.0 on).e ∷ []) d two_wanted h last in
+          record {
+            begin = (said state catalog statement.Begin p q a began.0 goes).e;
+            select = (said state catalog (select_all t) q r b shown.0 on).e;
+            commit = (said state catalog statement.Commit r x d h.0 last).e;
+            are = w.are;
+            shown = (said state catalog (select_all t) q r b shown.0 on).answer;
+            taken = w.taken;
+          }
+
+---- the whole
+
+pub exported : {S : Type 0} (state : S → Attached) (catalog : List Table) (t : Table) (first p q : Point S) (a : Answer) (text : List ℕ) → IsSoFar state catalog first p [] → HaveRead state catalog t p q a → IsTextOf t a text → IsExport catalog t (ends_between state first q) text
+exported state catalog t first p q a text so h is = record {
+  begin = h.begin;
+  select = h.select;
+  commit = h.commit;
+  taken = h.are;
+  shown = subst (λ x. IsTextOf t x text) (sym h.shown) is;
+  session = session_whole catalog (state first.stores) (state q.stores) first.clock q.clock first.ids q.ids (h.begin ∷ h.select ∷ h.commit ∷ []) q.session (h.taken first [] so);
+}
+
+pub not_exported : {S : Type 0} (state : S → Attached) (catalog : List Table) (t : Table) (first p q : Point S) (why : ExportRefused) → IsSoFar state catalog first p [] → HaveNotRead state catalog t p q why → IsNotExported catalog t (ends_between state first q) why
+not_exported state catalog t first p q (refused.NotCommitted a) so h =
+    let x = h.1 in
+    (h.0, record { es = x.es; last = x.last; cut = x.cut; session = session_whole catalog (state first.stores) (state q.stores) first.clock q.clock first.ids q.ids (x.es ++ x.last ∷ []) q.session (x.taken first [] so) })
+not_exported state catalog t first p q refused.NoMemory so h = tt

@@ -1,0 +1,10 @@
+pub mod Pairs
+pub mod Names
+pub mod Spelled
+pub mod RowColumns
+pub mod ReadAgain
+pub mod Itself
+pub mod Points
+pub mod GroupSteps
+pub mod LoadSteps
+pub mod ExportSteps

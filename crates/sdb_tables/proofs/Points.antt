@@ -1,0 +1,70 @@
+-- Statements that are taken between points of a call.
+use Rattle.std.proofs.Common.{◌≡◌, ℕ, Bool, true, List, [], ◌∷◌, ◌++◌, refl, sym, ap, subst, ◌∙◌, append_assoc}
+use Rattle.std.proofs.lemmas.List.{append-nil}
+use Rattle.std.specs.Prelude.{IfErr, IfOk, IsErrAnd, Result, Ok, Err}
+use Rattle.sdb_types.specs.Draws.{Tells}
+use Rattle.sdb_schema.specs.declared.table.Table.{Table}
+use Rattle.sdb_stores.specs.Shelf.{Attached}
+use Rattle.sdb_board.specs.Board.{GoOn}
+use Rattle.sdb_model.specs.declared.answer.Answer.{Answer}
+use Rattle.sdb_model.specs.declared.statement.Statement.{Statement}
+use Rattle.sdb_model.specs.Sql.{statement_text_of}
+use Rattle.sdb_client.specs.Client.{IsIdle, nothing_done}
+use Rattle.sdb_session.specs.Session.{Exchange}
+use Rattle.sdb_answer.specs.Answering.{exchange}
+use Rattle.sdb_answer.specs.Drawn.{drawn_id}
+use Rattle.sdb_answer.specs.Sessions.{IsSessionSoFar, SessionAt}
+use Rattle.sdb_answer.proofs.Chains.{session_more, session_none}
+use Rattle.sdb_tables.specs.Groups.{AreAnswered, IsOf}
+use Rattle.sdb_tables.specs.Turns.{AreTakenBetween, HasSaid, IsSoFar, Point}
+
+-- a statement that was taken between two points
+pub record Said {S : Type 0} (state : S → Attached) (catalog : List Table) (st : Statement) (p : Point S) (a : Answer) (q : Point S) : Type 0 where
+  pub e : Exchange
+  pub is : IsOf st e
+  pub answer : e.answer ≡ a
+  pub taken : AreTakenBetween state catalog p q (e ∷ [])
+
+pub said : {S : Type 0} (state : S → Attached) (catalog : List Table) (st : Statement) (p q : Point S) (a : Answer) → HasSaid state catalog st p a q → GoOn (state p.stores) (state q.stores) → Said state catalog st p a q
+said state catalog st p q a h goes = record {
+  e = exchange h.answered.says h.now p.session.fresh a;
+  is = h.answered.reads;
+  answer = refl;
+  taken = λ first before so. session_more catalog (state first.stores) (state p.stores) (state q.stores) first.clock p.clock q.clock first.ids p.ids q.ids before p.session q.session (statement_text_of st) a so h goes;
+}
+
+pub idle_after : {S : Type 0} (state : S → Attached) (catalog : List Table) (st : Statement) (p q : Point S) (a : Answer) → HasSaid state catalog st p a q → IsIdle q.session.client
+idle_after state catalog st p q a h = h.answered.ended.idle
+
+pub taken_none : {S : Type 0} (state : S → Attached) (catalog : List Table) (p : Point S) → AreTakenBetween state catalog p p []
+taken_none state catalog p = λ first before so. subst (IsSoFar state catalog first p) (sym (append-nil before)) so
+
+pub taken_more : {S : Type 0} (state : S → Attached) (catalog : List Table) (p q r : Point S) (xs ys : List Exchange) → AreTakenBetween state catalog p q xs → AreTakenBetween state catalog q r ys → AreTakenBetween state catalog p r (xs ++ ys)
+taken_more state catalog p q r xs ys h k = λ first before so. subst (IsSoFar state catalog first r) (append_assoc before xs ys) (k first (before ++ xs) (h first before so))
+
+-- a call's first point: its session has taken nothing
+pub so_none : {S : Type 0} (state : S → Attached) (catalog : List Table) (first p : Point S) → p.stores ≡ first.stores → p.clock ≡ first.clock → p.session.client ≡ nothing_done 1 → ((draw : ℕ) × Tells draw first.ids p.ids × (p.session.fresh ≡ drawn_id draw)) → IsSoFar state catalog first p []
+so_none state catalog first p stores clock client fresh =
+    let start = session_none catalog (state first.stores) first.clock first.ids p.ids 1 fresh.0 fresh.1 in
+    let is : record { client = nothing_done 1; fresh = drawn_id fresh.0 } ≡ p.session = sym (ap (λ c. record { client = c; fresh = p.session.fresh }) client ∙ ap (λ i. record { client = nothing_done 1; fresh = i }) fresh.2) in
+    subst (λ s. IsSessionSoFar catalog (state first.stores) (state s) first.clock p.clock first.ids p.ids [] p.session) (sym stores)
+    (subst (λ c. IsSessionSoFar catalog (state first.stores) (state first.stores) first.clock c first.ids p.ids [] p.session) (sym clock)
+    (subst (λ (x : SessionAt). IsSessionSoFar catalog (state first.stores) (state first.stores) first.clock first.clock first.ids p.ids [] x) is start))
+
+---- statements that are answered
+
+pub answered_more : (good : Statement → Answer → Bool) (sts : List Statement) (es : List Exchange) (st : Statement) (e : Exchange) → AreAnswered good sts es → IsOf st e → good st e.answer ≡ true → AreAnswered good (sts ++ st ∷ []) (es ++ e ∷ [])
+answered_more good [] [] st e h is g = (is, g, tt)
+answered_more good (s ∷ sts) (x ∷ es) st e h is g = (h.0, h.1, answered_more good sts es st e h.2 is g)
+answered_more good [] (x ∷ es) st e h is g = absurd h
+answered_more good (s ∷ sts) [] st e h is g = absurd h
+
+---- outcomes
+
+pub map_ok : {T E : Type 0} (P Q : T → Type 0) (r : Result T E) → ((x : T) → P x → Q x) → IfOk r P → IfOk r Q
+map_ok P Q (Ok x) f h = f x h
+map_ok P Q (Err e) f h = tt
+
+pub passed : {T E : Type 0} (P : E → Type 0) (r : Result T E) (e : E) → IsErrAnd r (λ y. y ≡ e) → P e → IfErr r P
+passed P (Ok x) e h p = absurd h
+passed P (Err y) e h p = subst P (sym h) p

@@ -1,0 +1,107 @@
+//! A group of rows, loaded as one transaction.
+ghost use Rattle.std.specs.Prelude.{◌≡◌, ◌<◌, length, Some, IfOk, OnOk};
+ghost use Rattle.sdb_board.specs.Board.{GoOn};
+ghost use Rattle.sdb_client.specs.Client.{IsIdle};
+ghost use Rattle.sdb_model.specs.Transactions.{is_done as is_done_lem};
+ghost use Rattle.sdb_tables.specs.Turns.{HasLoaded, HaveEnded, HaveLoaded, point};
+
+use crate::load::Load;
+use crate::rows::{Taken, take_rows};
+use crate::saying::{roll_back, say};
+use sdb_answer::Session;
+use sdb_model::{Answer, Statement};
+use sdb_schema::Catalog;
+use sdb_stores::Registry;
+use sdb_types::{Clock, Ids, NoMemory, Values};
+use std::alloc::Global;
+
+/// How a group ended: how many of its rows were written, and the answer that ended it.
+#[derive(Drop)]
+pub struct Ending {
+    pub written: usize,
+    pub answer: Answer,
+}
+
+fn is_done(answer: &Answer) -> bool
+    ensures { result ≡ is_done_lem (Some answer.now) }
+{
+    matches!(answer, Answer::Done)
+}
+
+// Takes COMMIT, or where an answer stopped the rows ROLLBACK.
+fn end_rows<S: Registry, C: Clock, I: Ids>(
+    alloc: Global,
+    session: &mut Session,
+    taken: Taken,
+    catalog: &Catalog,
+    stores: &mut S,
+    clock: &mut C,
+    ids: &mut I,
+) -> Result<Ending, NoMemory>
+    requires some { 0 < length (S.state stores.old).shelves }
+    requires idle { IsIdle session.old.client }
+    ensures ended { IfOk result (HaveEnded S.state catalog.now taken (point C.told I.told stores.old clock.old ids.old session.old) (point C.told I.told stores.new clock.new ids.new session.new)) }
+    ensures idle { OnOk result (IsIdle session.new.client) }
+    ensures goes { GoOn (S.state stores.old) (S.state stores.new) }
+{
+    let written = taken.written;
+    match taken.bad {
+        Some(answer) => {
+            roll_back(alloc, session, catalog, stores, clock, ids)?;
+            Ok(Ending { written, answer })
+        }
+        None => {
+            let commit = Statement::Commit;
+            let answer = say(alloc, session, &commit, catalog, stores, clock, ids)?;
+            Ok(Ending { written, answer })
+        }
+    }
+}
+
+// Takes the statements of the rows of a transaction that was begun, and ends it.
+fn load_group<S: Registry, C: Clock, I: Ids>(
+    alloc: Global,
+    session: &mut Session,
+    load: &Load,
+    rows: &[Values],
+    catalog: &Catalog,
+    stores: &mut S,
+    clock: &mut C,
+    ids: &mut I,
+) -> Result<Ending, NoMemory>
+    requires some { 0 < length (S.state stores.old).shelves }
+    requires idle { IsIdle session.old.client }
+    ensures loaded { IfOk result (HaveLoaded S.state catalog.now load.now rows.now (point C.told I.told stores.old clock.old ids.old session.old) (point C.told I.told stores.new clock.new ids.new session.new)) }
+    ensures idle { OnOk result (IsIdle session.new.client) }
+    ensures goes { GoOn (S.state stores.old) (S.state stores.new) }
+{
+    let taken = take_rows(alloc, session, load, rows, catalog, stores, clock, ids)?;
+    end_rows(alloc, session, taken, catalog, stores, clock, ids)
+}
+
+/// Loads a group of rows as one transaction.
+pub fn take_group<S: Registry, C: Clock, I: Ids>(
+    alloc: Global,
+    session: &mut Session,
+    load: &Load,
+    rows: &[Values],
+    catalog: &Catalog,
+    stores: &mut S,
+    clock: &mut C,
+    ids: &mut I,
+) -> Result<Ending, NoMemory>
+    requires some { 0 < length (S.state stores.old).shelves }
+    requires idle { IsIdle session.old.client }
+    ensures loaded { IfOk result (HasLoaded S.state catalog.now load.now rows.now (point C.told I.told stores.old clock.old ids.old session.old) (point C.told I.told stores.new clock.new ids.new session.new)) }
+    ensures idle { OnOk result (IsIdle session.new.client) }
+    ensures goes { GoOn (S.state stores.old) (S.state stores.new) }
+{
+    let begin = Statement::Begin;
+    let answer = say(alloc, session, &begin, catalog, stores, clock, ids)?;
+    if is_done(&answer) {
+        load_group(alloc, session, load, rows, catalog, stores, clock, ids)
+    } else {
+        roll_back(alloc, session, catalog, stores, clock, ids)?;
+        Ok(Ending { written: 0, answer })
+    }
+}
