@@ -20,6 +20,7 @@ fn store_names(alloc: Global) -> Result<Names, Fail> {
     let mut names = Names::new(alloc);
     names.push(Name::new(alloc, "ordered")?)?;
     names.push(Name::new(alloc, "hashed")?)?;
+    names.push(Name::new(alloc, "sqlite")?)?;
     Ok(names)
 }
 
