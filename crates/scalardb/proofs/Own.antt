@@ -16,11 +16,11 @@ passed : {T E : Type 0} (P : Type 0) (r : Result T E) → is_ok r ≡ true → O
 passed P (Ok x) h p = p
 passed P (Err e) h p = absurd (let f : false ≡ true = h in cc)
 
-abbrev one_store : List ℕ → Contents → ℕ → Shelf
-one_store name contents faults = record { name = name; contents = contents; faults = faults }
+abbrev one_store : List ℕ → Contents → ℕ → ℕ → Shelf
+one_store name contents faults calls = record { name = name; contents = contents; faults = faults; calls = calls }
 
 new_of : (name n : List ℕ) (store : StoreState) → n ≡ name → IsNewStore store → shelf_of n store ≡ new_store name
-new_of name n store same new = λ i. one_store (same i) (new.empty i) (new.sound i)
+new_of name n store same new = λ i. one_store (same i) (new.empty i) (new.sound i) (new.unused i)
 
 -- These are some stores, and then the program's own; the contents of each of these are known.
 pub record AreOwnAfter (front : List Shelf) (stores : Attached) : Type 0 where

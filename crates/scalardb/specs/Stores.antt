@@ -6,9 +6,9 @@ use Rattle.sdb_app.specs.declared.status.Status.{Status}
 use Rattle.sdb_app.specs.Ends.{Ends, Stream}
 use Rattle.sdb_app.specs.Promise.{HasEnded}
 
--- a store that holds nothing, and of which no call failed
+-- a store that holds nothing, and of which no call was made
 abbrev pub new_store : List ℕ → Shelf
-new_store name = record { name = name; contents = empty; faults = 0 }
+new_store name = record { name = name; contents = empty; faults = 0; calls = 0 }
 
 -- the program's own stores, as they are attached
 abbrev pub own_stores : List Shelf

@@ -9,7 +9,7 @@ use Rattle.sdb_types.specs.declared.record.Request.{Request}
 use Rattle.sdb_types.specs.declared.record.Reply.{Reply}
 use Rattle.sdb_stores.specs.Shelf.{Attached, Shelf as Counted, AreDistinct, HaveRisen, IsCallAt, names_of, home, home_in, place_of, placed_on}
 use Rattle.sdb_stores.specs.declared.place.Place.{Place as Placed}
-use Rattle.sdb_stores.proofs.Called.{same_names, grown}
+use Rattle.sdb_stores.proofs.Called.{same_names, grown, not_fewer}
 use Rattle.sdb_schema.specs.declared.table.Table.{Table}
 use Rattle.sdb_model.specs.declared.event.Event.{Event}
 use Rattle.sdb_model.specs.declared.script.Place.{Place}
@@ -44,7 +44,7 @@ full_call at q r old new call (i, s, within, is, most) = subst IsFull (sym call.
         let here : i ≡ at = eqb-true i at e in
         let same : s ≡ call.before = sym is ∙ ap (λ (k : ℕ). get_or old.shelves k s) here ∙ get_or_from_slice_get old.shelves at call.before s call.stood in
         let spent : 2 ^ 64 - 1 ≤ call.before.faults = subst (λ (x : Counted). 2 ^ 64 - 1 ≤ x.faults) same most in
-        any-set (λ s. 2 ^ 64 - 1 ≤ s.faults) old.shelves at call.now (slice_get_within old.shelves at call.before call.stood) (omega (arith, call.counted, spent))
+        any-set (λ s. 2 ^ 64 - 1 ≤ s.faults) old.shelves at call.now (slice_get_within old.shelves at call.before call.stood) (omega (arith, not_fewer at q r old new call, spent))
     by false e = (i, s, subst (λ (n : ℕ). i < n) (sym (length-set old.shelves at call.now)) within, get_or-set_other old.shelves at i call.now s (λ k. eqb-false i at e k) ∙ is, most)
 
 pub some_more : (old new : List Counted) → names_of new ≡ names_of old → 0 < length old → 0 < length new

@@ -12,4 +12,5 @@ pub mod Edits
 pub mod Writes
 pub mod Puts
 pub mod Making
+pub mod Released
 pub mod Stops

@@ -72,5 +72,5 @@ abbrev pub PerformsIn : {S : Type 0} → Ghosts S → Bool → Request → Reply
 PerformsIn g tells q reply old new = TellsIn g tells old → IsToldOf q reply (state g old) (state g new)
 
 -- The store over a database as any store: its contents are known where those of the database are.
-abbrev pub kept_state : {S : Type 0} → Ghosts S → Bool → Connected S → ℕ → StoreState
-kept_state g tells connection faults = record { tells = TellsIn g tells connection; contents = held (state g connection); faults = faults }
+abbrev pub kept_state : {S : Type 0} → Ghosts S → Bool → Connected S → ℕ → ℕ → StoreState
+kept_state g tells connection faults calls = record { tells = TellsIn g tells connection; contents = held (state g connection); faults = faults; calls = calls }

@@ -5,5 +5,6 @@ pub mod Statements
 pub mod Table
 pub mod Rows
 pub mod Kept
+pub mod Released
 pub mod Asked
 pub mod Making

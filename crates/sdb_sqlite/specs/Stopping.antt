@@ -1,5 +1,5 @@
 -- What a call answers that stops before it has an answer.
-use Rattle.std.specs.Prelude.{ℕ, Bool, true, false, if◌then◌else◌}
+use Rattle.std.specs.Prelude.{Bool, true, false, if◌then◌else◌}
 use Rattle.sqlite.specs.declared.error.Error.{Error}
 use Rattle.sqlite.specs.declared.error.Error.TheVariants.{SqliteFailure}
 use Rattle.sqlite.specs.declared.error.ErrorCode.TheVariants.{OutOfMemory}
@@ -7,7 +7,6 @@ use Rattle.sdb_types.specs.declared.record.Reply.{Reply}
 use Rattle.sdb_types.specs.declared.record.Reply.TheVariants as reply
 use Rattle.sdb_sqlite.specs.declared.refused.Stopped.{Stopped}
 use Rattle.sdb_sqlite.specs.declared.refused.Stopped.TheVariants as stopped
-use Rattle.sdb_types.specs.Draws.{counted as next_number}
 
 abbrev pub wants_memory : Error → Bool
 wants_memory (SqliteFailure OutOfMemory) = true
@@ -24,11 +23,3 @@ stop_reply stopped.Refused = reply.Fault
 stop_reply stopped.Unfit = reply.Fault
 stop_reply stopped.Foreign = reply.Fault
 stop_reply stopped.Tied = reply.Fault
-
--- the count of faults after that
-abbrev pub stop_faults : Stopped → ℕ → ℕ
-stop_faults stopped.NoMemory faults = faults
-stop_faults stopped.Refused faults = next_number faults
-stop_faults stopped.Unfit faults = next_number faults
-stop_faults stopped.Foreign faults = next_number faults
-stop_faults stopped.Tied faults = next_number faults

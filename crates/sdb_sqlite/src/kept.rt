@@ -6,6 +6,7 @@ ghost use Rattle.sdb_codec.specs.Spelling.{KeyFitsFields, RecordFitsFields};
 ghost use Rattle.sdb_store.specs.Store.{IsNewStore, IsStoreCall};
 ghost use Rattle.sdb_sqlite.specs.Spans.{SpanFitsFields};
 ghost use Rattle.sdb_sqlite.specs.Kept.{IsKeptNew, IsKeptOn, kept_state};
+ghost use Rattle.sdb_sqlite.specs.Released.{IsReleased};
 ghost use Rattle.sdb_sqlite.specs.Making.{IsMade, IsNotMade, IsRefusedIn, refused_by};
 ghost use Rattle.sdb_sqlite.specs.Asked.{Gets, Scans, Puts, Removes, IsAnswered, got_reply, rows_reply, write_reply};
 ghost use Rattle.sdb_sqlite.specs.Stopping.{stopped_by};
@@ -13,7 +14,7 @@ ghost use Rattle.sdb_sqlite.specs.Stopping.{stopped_by};
 use crate::calls::{Written, delete, find, list, put};
 use crate::facts::{key_facts, record_facts, span_facts};
 use crate::held::Held;
-use crate::refused::{KeptRefused, stop};
+use crate::refused::{KeptRefused, one_more, stop};
 use crate::statements::make_table;
 use sdb_store::Store;
 use sdb_types::{Condition, Key, Record, Reply, Span};
@@ -29,6 +30,7 @@ pub struct Kept<S: Held + Drop> {
     alloc: Global,
     connection: Connection<S>,
     faults: u64,
+    calls: u64,
 }
 
 // By hand: each drop is then one call, where a derived one is written out at each exit, with a call for each field.
@@ -38,6 +40,7 @@ impl<S: Held + Drop> Drop for Kept<S> {
             alloc: _,
             connection: _,
             faults: _,
+            calls: _,
         } = self;
     }
 }
@@ -56,7 +59,8 @@ impl<S: Held + Drop> Kept<S> {
     /// partition. The connection is dropped where that is refused: `Database` comes only for another cause than memory.
     pub fn new(alloc: Global, mut connection: Connection<S>) -> Result<Kept<S>, KeptRefused>
         ensures made { IfOk result (λ kept. IsMade S.Store connection kept.connection) }
-        ensures count { IfOk result (λ kept. kept.faults ≡ 0) }
+        ensures sound { IfOk result (λ kept. (⟦<Kept<S> as Store>⟧.state kept).faults ≡ 0) }
+        ensures unused { IfOk result (λ kept. (⟦<Kept<S> as Store>⟧.state kept).calls ≡ 0) }
         ensures refused { IfErr result (IsNotMade S.Store connection) }
         ensures blank { IfOk result (λ kept. IsKeptNew S.Store S.Held.tells connection kept.connection) }
         ensures found { IfOk result (λ kept. IsKeptOn S.Store S.Held.tells connection kept.connection) }
@@ -66,19 +70,23 @@ impl<S: Held + Drop> Kept<S> {
                 alloc,
                 connection,
                 faults: 0,
+                calls: 0,
             }),
             Err(error) => Err(refused(error)),
         }
     }
 
-    /// The connection, as it is.
+    /// The connection, as it is. Where the contents are known, its table has one row for each record held, and no other row, and a
+    /// store that is made over it holds the same.
     pub fn release(self) -> Connection<S>
-        ensures { result ≡ self.connection }
+        ensures connection { result ≡ self.connection }
+        ensures released { (⟦<Kept<S> as Store>⟧.state self).tells → IsReleased S.Store (⟦<Kept<S> as Store>⟧.state self).contents result }
     {
         let Kept {
             alloc: _,
             connection,
             faults: _,
+            calls: _,
         } = self;
         connection
     }
@@ -108,7 +116,7 @@ fn reply_of(written: Written) -> Reply
 
 impl<S: Held + Drop> Store for Kept<S> {
     // In memory its contents are known, where the database has its table and index and nothing else.
-    ghost state = { λ kept. kept_state S.Store S.Held.tells kept.connection kept.faults };
+    ghost state = { λ kept. kept_state S.Store S.Held.tells kept.connection kept.faults kept.calls };
 
     fn get(&mut self, key: &Key) -> Reply
         ensures called { IsStoreCall (Get key.now) result (⟦<Kept<S> as Store>⟧.state self.old) (⟦<Kept<S> as Store>⟧.state self.new) }
@@ -116,6 +124,7 @@ impl<S: Held + Drop> Store for Kept<S> {
         ensures unfit { ¬ KeyFitsFields key.now → (result ≡ Reply.Fault) × (self.new.connection ≡ self.old.connection) }
     {
         key_facts(key);
+        self.calls = one_more(self.calls);
         match find(self.alloc, &mut self.connection, key) {
             Ok(found) => Reply::Found(found),
             Err(stopped) => stop(&mut self.faults, stopped),
@@ -128,6 +137,7 @@ impl<S: Held + Drop> Store for Kept<S> {
         ensures unfit { ¬ SpanFitsFields span.now → ((result ≡ Reply.Fault) ⊎ (result ≡ Reply.NoMemory)) × (self.new.connection ≡ self.old.connection) }
     {
         span_facts(span);
+        self.calls = one_more(self.calls);
         match list(self.alloc, &mut self.connection, span) {
             Ok(rows) => Reply::Rows(rows),
             Err(stopped) => stop(&mut self.faults, stopped),
@@ -140,6 +150,7 @@ impl<S: Held + Drop> Store for Kept<S> {
         ensures unfit { ¬ RecordFitsFields rec.now → (result ≡ Reply.Fault) × (self.new.connection ≡ self.old.connection) }
     {
         record_facts(rec);
+        self.calls = one_more(self.calls);
         match put(self.alloc, &mut self.connection, rec, condition) {
             Ok(written) => reply_of(written),
             Err(stopped) => stop(&mut self.faults, stopped),
@@ -152,6 +163,7 @@ impl<S: Held + Drop> Store for Kept<S> {
         ensures unfit { ¬ KeyFitsFields key.now → (result ≡ Reply.Fault) × (self.new.connection ≡ self.old.connection) }
     {
         key_facts(key);
+        self.calls = one_more(self.calls);
         match delete(self.alloc, &mut self.connection, key, condition) {
             Ok(written) => reply_of(written),
             Err(stopped) => stop(&mut self.faults, stopped),

@@ -1,6 +1,8 @@
 //! Why a store is not made, and why a call stops.
 ghost use Rattle.std.specs.Prelude.{◌≡◌};
-ghost use Rattle.sdb_sqlite.specs.Stopping.{stopped_by, stop_reply, stop_faults};
+ghost use Rattle.sdb_types.specs.Draws.{counted as next_number};
+ghost use Rattle.sdb_store.specs.Store.{faults_after};
+ghost use Rattle.sdb_sqlite.specs.Stopping.{stopped_by, stop_reply};
 ghost use Rattle.sdb_sqlite.specs.declared.refused.Stopped.TheVariants.{NoMemory as StoppedNoMemory};
 
 use sdb_types::{NoMemory, Reply};
@@ -50,15 +52,22 @@ impl From<SqlError> for Stopped {
     }
 }
 
-/// The reply to a call that stopped. A fault is counted, up to the greatest number of the count's type.
+/// One more, up to the greatest number of the count's type.
+pub fn one_more(count: u64) -> u64
+    ensures { result ≡ next_number count }
+{
+    count.saturating_add(1)
+}
+
+/// The reply to a call that stopped. A fault is counted, and nothing else.
 pub fn stop(faults: &mut u64, stopped: Stopped) -> Reply
     ensures reply { result ≡ stop_reply stopped }
-    ensures faults { faults.new ≡ stop_faults stopped faults.old }
+    ensures faults { faults.new ≡ faults_after result faults.old }
 {
     match stopped {
         Stopped::NoMemory => Reply::NoMemory,
         Stopped::Refused | Stopped::Unfit | Stopped::Foreign | Stopped::Tied => {
-            *faults = faults.saturating_add(1);
+            *faults = one_more(*faults);
             Reply::Fault
         }
     }

@@ -39,7 +39,7 @@ pub record Held : Type 0 where
 
 -- A store in memory as any store: it always has known contents.
 abbrev pub memory_state : Held → StoreState
-memory_state held = record { tells = Unit {0}; contents = held.contents; faults = held.failed }
+memory_state held = record { tells = Unit {0}; contents = held.contents; faults = held.failed; calls = held.made }
 
 -- A call for which there is no memory changes nothing.
 pub record Starves (r : Reply) (old new : Held) : Type 0 where

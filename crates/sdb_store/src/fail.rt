@@ -3,6 +3,7 @@ ghost use Rattle.sdb_types.specs.Draws.{counted as next_number};
 ghost use Rattle.std.specs.Prelude.{◌≡◌, ◌≢◌, ◌+◌, ◌<◌, ◌≤◌, find, ◌==◌};
 ghost use Rattle.std.specs.Option.{option_copied};
 ghost use Rattle.sdb_store.specs.Fate.{failed_after, fate_of, listed_fate, reply_after};
+ghost use Rattle.sdb_store.specs.Store.{faults_after};
 
 use sdb_types::{Duplicate, NoMemory, Reply, Seq};
 
@@ -107,6 +108,7 @@ impl Calls {
         ensures failing { self.new.failing ≡ self.old.failing }
         ensures made { self.new.made ≡ self.old.made }
         ensures failed { self.new.failed ≡ self.old.failed + 1 }
+        ensures counted { self.new.failed ≡ next_number self.old.failed }
     {
         self.failed += 1;
         Reply::Fault
@@ -119,6 +121,7 @@ impl Calls {
         ensures failing { self.new.failing ≡ self.old.failing }
         ensures made { self.new.made ≡ self.old.made }
         ensures failed { self.new.failed ≡ failed_after answer self.old.failed }
+        ensures counted { self.new.failed ≡ faults_after result self.old.failed }
     {
         match answer {
             Ok(_) => self.fail(),

@@ -46,6 +46,13 @@ impl<R: Rows> Memory<R> {
             calls: Calls::new(failing),
         }
     }
+
+    /// The rows that hold its records.
+    pub fn rows(&self) -> &R
+        ensures { R.contents result.now ≡ self.now.contents }
+    {
+        &self.rows
+    }
 }
 
 // A get that does not fail.

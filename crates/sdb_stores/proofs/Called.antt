@@ -15,8 +15,9 @@ use Rattle.sdb_types.specs.declared.record.Request.{Request}
 use Rattle.sdb_types.specs.declared.record.Reply.{Reply}
 use Rattle.sdb_types.specs.declared.record.Reply.TheVariants as reply
 use Rattle.sdb_store.specs.Store.{StoreState, IsStoreCall}
+use Rattle.sdb_store.proofs.Counts.{faults_grown, next_risen}
 use Rattle.sdb_stores.specs.declared.place.Place.{Place}
-use Rattle.sdb_stores.specs.Shelf.{Attached, Shelf, IsCallAt, IsTakenOut, HaveCause, attached_as, shelf_of, names_of, place_of, placed_on, places_without, home, home_of, total_faults}
+use Rattle.sdb_stores.specs.Shelf.{Attached, Shelf, AreSound, IsCallAt, IsTakenOut, HaveCause, attached_as, shelf_of, names_of, place_of, placed_on, places_without, home, home_of, total_faults}
 
 ---- places
 
@@ -145,8 +146,12 @@ balance at q r m n call =
     ∙ ap (λ (s : Shelf). total_faults (slice_set m.shelves at call.now) + s.faults) (sym stood)
     ∙ sum_by-set (λ s. s.faults) m.shelves at call.now call.before inside
 
+-- the count of a store does not fall
+pub not_fewer : (at : ℕ) (q : Request) (r : Reply) (m n : Attached) (call : IsCallAt at q r m n) → call.before.faults ≤ call.now.faults
+not_fewer at q r m n call = subst (λ (k : ℕ). call.before.faults ≤ k) (sym call.cause) (faults_grown r call.before.faults)
+
 pub grown : (at : ℕ) (q : Request) (r : Reply) (m n : Attached) → IsCallAt at q r m n → total_faults m.shelves ≤ total_faults n.shelves
-grown at q r m n call = omega (arith, balance at q r m n call, call.counted)
+grown at q r m n call = omega (arith, balance at q r m n call, not_fewer at q r m n call)
 
 risen : (at : ℕ) (q : Request) (r : Reply) (m n : Attached) (call : IsCallAt at q r m n) → HasRisen call.before.faults call.now.faults → (total_faults m.shelves < total_faults n.shelves) ⊎ Any (λ s. 2 ^ 64 - 1 ≤ s.faults) n.shelves
 risen at q r m n call h =
@@ -155,14 +160,17 @@ risen at q r m n call h =
       | inr most ↦ inr (subst (Any (λ s. 2 ^ 64 - 1 ≤ s.faults)) (sym call.rest) (any-set (λ s. 2 ^ 64 - 1 ≤ s.faults) m.shelves at call.now (slice_get_within m.shelves at call.before call.stood) most))
     ]
 
--- a fault raises the count of all stores
+sound : (at : ℕ) (q : Request) (r : Reply) (m n : Attached) (call : IsCallAt at q r m n) → call.now.faults ≡ call.before.faults → AreSound m.shelves n.shelves
+sound at q r m n call same = omega (arith, balance at q r m n call, same)
+
+-- a fault raises the count of all stores, and no other reply does
 pub caused : (at : ℕ) (q : Request) (r : Reply) (m n : Attached) → IsCallAt at q r m n → HaveCause r m.shelves n.shelves
-caused at q reply.Fault m n call = risen at q reply.Fault m n call call.cause
-caused at q reply.NoMemory m n call = tt
-caused at q (reply.Found found) m n call = tt
-caused at q (reply.Rows rows) m n call = tt
-caused at q reply.Applied m n call = tt
-caused at q (reply.NotMet found) m n call = tt
+caused at q reply.Fault m n call = risen at q reply.Fault m n call (subst (HasRisen call.before.faults) (sym call.cause) (next_risen call.before.faults))
+caused at q reply.NoMemory m n call = sound at q reply.NoMemory m n call call.cause
+caused at q (reply.Found found) m n call = sound at q (reply.Found found) m n call call.cause
+caused at q (reply.Rows rows) m n call = sound at q (reply.Rows rows) m n call call.cause
+caused at q reply.Applied m n call = sound at q reply.Applied m n call call.cause
+caused at q (reply.NotMet found) m n call = sound at q (reply.NotMet found) m n call call.cause
 
 ---- a store taken out
 

@@ -9,18 +9,20 @@ use Rattle.sdb_types.specs.declared.record.Request.TheVariants as ask
 use Rattle.sdb_types.specs.declared.record.Reply.{Reply}
 use Rattle.sdb_types.specs.declared.record.Reply.TheVariants as reply
 use Rattle.sdb_types.specs.Contents.{Contents, CanAnswer}
-use Rattle.sdb_store.specs.Store.{StoreState, Performs, HasCause}
+use Rattle.sdb_types.specs.Draws.{counted as next_number}
+use Rattle.sdb_store.specs.Store.{StoreState, Performs, faults_after}
 use Rattle.sdb_stores.specs.declared.place.Place.{Place}
 
--- a store: its name, what it holds where that is known, and how often it has failed
+-- a store: its name, what it holds where that is known, how many of its calls have failed, and how many were made
 pub record Shelf : Type 0 where
   pub name : List ℕ
   pub contents : Contents
   pub faults : ℕ
+  pub calls : ℕ
 
 -- a store of that name that shows this
 abbrev pub shelf_of : List ℕ → StoreState → Shelf
-shelf_of name store = record { name = name; contents = store.contents; faults = store.faults }
+shelf_of name store = record { name = name; contents = store.contents; faults = store.faults; calls = store.calls }
 
 -- what a registry shows: the namespaces that have a place, the stores in the order in which they were attached, and which of them, by
 -- their indices, have known contents
@@ -87,7 +89,8 @@ table_of (ask.Scan span) = span.table
 table_of (ask.PutIf r condition) = r.key.table
 table_of (ask.DeleteIf key condition) = key.table
 
--- One call on the store at that place. Every other store stays as it was, and known contents stay known.
+-- One call on the store at that place, which counts it as one, and as one failure exactly where the reply is a fault. Every other
+-- store stays as it was, and known contents stay known.
 pub record IsCallAt (at : ℕ) (q : Request) (r : Reply) (old new : Attached) : Type 0 where
   pub before : Shelf
   pub now : Shelf
@@ -96,11 +99,11 @@ pub record IsCallAt (at : ℕ) (q : Request) (r : Reply) (old new : Attached) : 
   pub name : now.name ≡ before.name
   pub performed : old.tells at → Performs q r before.contents now.contents
   pub lawful : CanAnswer q r
-  pub counted : before.faults ≤ now.faults
-  pub cause : HasCause r before.faults now.faults
+  pub counted : now.calls ≡ next_number before.calls
+  pub cause : now.faults ≡ faults_after r before.faults
   pub telling : (i : ℕ) → old.tells i → new.tells i
 
--- the count of all stores together
+-- the failures of all stores together
 abbrev pub total_faults : List Shelf → ℕ
 total_faults shelves = sum_by (λ s. s.faults) shelves
 
@@ -139,11 +142,15 @@ pub record IsTakenOut (name : List ℕ) (store : StoreState) (old new : Attached
 abbrev pub HaveRisen : List Shelf → List Shelf → Type 0
 HaveRisen old new = (total_faults old < total_faults new) ⊎ Any (λ s. 2 ^ 64 - 1 ≤ s.faults) new
 
--- A fault comes only where the count of all stores rose.
+-- no call failed
+abbrev pub AreSound : List Shelf → List Shelf → Type 0
+AreSound old new = total_faults new ≡ total_faults old
+
+-- The count of all stores rises where a call fails, and stays where it has another answer.
 abbrev pub HaveCause : Reply → List Shelf → List Shelf → Type 0
 HaveCause reply.Fault old new = HaveRisen old new
-HaveCause reply.NoMemory old new = Unit {0}
-HaveCause (reply.Found found) old new = Unit {0}
-HaveCause (reply.Rows rows) old new = Unit {0}
-HaveCause reply.Applied old new = Unit {0}
-HaveCause (reply.NotMet found) old new = Unit {0}
+HaveCause reply.NoMemory old new = AreSound old new
+HaveCause (reply.Found found) old new = AreSound old new
+HaveCause (reply.Rows rows) old new = AreSound old new
+HaveCause reply.Applied old new = AreSound old new
+HaveCause (reply.NotMet found) old new = AreSound old new

@@ -1,6 +1,7 @@
 //! The stores that tests play on.
 ghost use Rattle.std.specs.Prelude.{◌≡◌};
 ghost use Rattle.std.specs.FinMap as map;
+ghost use Rattle.sdb_types.specs.Draws.{counted as next_number};
 
 use crate::run::{Call, On, ends};
 use sdb_hashed::Hashed;
@@ -22,7 +23,8 @@ struct Short {
 impl Short {
     // Counts a call more: whether it finds memory.
     fn finds_memory(&mut self) -> bool
-        ensures { self.new.ordered ≡ self.old.ordered }
+        ensures ordered { self.new.ordered ≡ self.old.ordered }
+        ensures counted { self.new.made ≡ next_number self.old.made }
     {
         self.made = self.made.saturating_add(1);
         self.made != self.wanting
@@ -30,7 +32,7 @@ impl Short {
 }
 
 impl Store for Short {
-    ghost state = { λ s. record { tells = ⊥; contents = map.empty; faults = (⟦<Ordered as Store>⟧.state s.ordered).faults } };
+    ghost state = { λ s. record { tells = ⊥; contents = map.empty; faults = (⟦<Ordered as Store>⟧.state s.ordered).faults; calls = s.made } };
 
     fn get(&mut self, key: &Key) -> Reply {
         if !self.finds_memory() {

@@ -1,8 +1,8 @@
 //! A registry of stores that answer one thing each.
-ghost use Rattle.std.specs.Prelude.{◌≡◌, ◌≤◌};
+ghost use Rattle.std.specs.Prelude.{◌≡◌};
 ghost use Rattle.std.specs.FinMap as map;
-ghost use Rattle.sdb_types.specs.declared.record.Reply.TheVariants.{Fault};
-ghost use Rattle.sdb_store.specs.Store.{HasCause};
+ghost use Rattle.sdb_types.specs.Draws.{counted as next_number};
+ghost use Rattle.sdb_types.specs.declared.record.Reply.TheVariants.{Fault, NoMemory};
 
 use sdb_store::{Store, call};
 use sdb_stores::{AttachRefused, PlaceRefused, Registry, Stores};
@@ -20,8 +20,7 @@ struct Broken {
 impl Broken {
     fn fail(&mut self) -> Reply
         ensures fault { result ≡ Fault }
-        ensures counted { self.old.failed ≤ self.new.failed }
-        ensures cause { HasCause Fault self.old.failed self.new.failed }
+        ensures counted { self.new.failed ≡ next_number self.old.failed }
     {
         self.failed = self.failed.saturating_add(1);
         Reply::Fault
@@ -29,7 +28,7 @@ impl Broken {
 }
 
 impl Store for Broken {
-    ghost state = { λ b. record { tells = ⊥; contents = map.empty; faults = b.failed } };
+    ghost state = { λ b. record { tells = ⊥; contents = map.empty; faults = b.failed; calls = b.failed } };
 
     fn get(&mut self, _: &Key) -> Reply {
         self.fail()
@@ -50,25 +49,37 @@ impl Store for Broken {
 
 // There is never memory.
 #[derive(Drop)]
-struct Full;
+struct Full {
+    made: u64,
+}
+
+impl Full {
+    fn refuse(&mut self) -> Reply
+        ensures memory { result ≡ NoMemory }
+        ensures counted { self.new.made ≡ next_number self.old.made }
+    {
+        self.made = self.made.saturating_add(1);
+        Reply::NoMemory
+    }
+}
 
 impl Store for Full {
-    ghost state = { λ _. record { tells = ⊥; contents = map.empty; faults = 0 } };
+    ghost state = { λ f. record { tells = ⊥; contents = map.empty; faults = 0; calls = f.made } };
 
     fn get(&mut self, _: &Key) -> Reply {
-        Reply::NoMemory
+        self.refuse()
     }
 
     fn scan(&mut self, _: &Span) -> Reply {
-        Reply::NoMemory
+        self.refuse()
     }
 
     fn put_if(&mut self, _: &Record, _: &Condition) -> Reply {
-        Reply::NoMemory
+        self.refuse()
     }
 
     fn delete_if(&mut self, _: &Key, _: &Condition) -> Reply {
-        Reply::NoMemory
+        self.refuse()
     }
 }
 
@@ -76,21 +87,24 @@ impl Store for Full {
 #[derive(Drop)]
 struct Turns {
     odd: bool,
+    made: u64,
     broken: Broken,
 }
 
 impl Turns {
-    // Whether a call has an odd number.
+    // Counts a call more: whether its number is odd.
     fn is_odd(&mut self) -> bool
         ensures broken { self.new.broken ≡ self.old.broken }
+        ensures counted { self.new.made ≡ next_number self.old.made }
     {
+        self.made = self.made.saturating_add(1);
         self.odd = !self.odd;
         self.odd
     }
 }
 
 impl Store for Turns {
-    ghost state = { λ t. record { tells = ⊥; contents = map.empty; faults = t.broken.failed } };
+    ghost state = { λ t. record { tells = ⊥; contents = map.empty; faults = t.broken.failed; calls = t.made } };
 
     fn get(&mut self, _: &Key) -> Reply {
         if self.is_odd() {
@@ -139,7 +153,7 @@ fn attach_broken(alloc: Global, stores: &mut Stores, name: &str) -> bool {
 
 fn attach_full(alloc: Global, stores: &mut Stores, name: &str) -> bool {
     if let Ok(name) = Name::new(alloc, name)
-        && let Ok(full) = Box::new(alloc, Full)
+        && let Ok(full) = Box::new(alloc, Full { made: 0 })
     {
         return stores.attach(name, full).is_ok();
     }
@@ -147,9 +161,13 @@ fn attach_full(alloc: Global, stores: &mut Stores, name: &str) -> bool {
 }
 
 fn attach_turns(alloc: Global, stores: &mut Stores, name: &str) -> bool {
-    let broken = Broken { failed: 0 };
+    let turns = Turns {
+        odd: false,
+        made: 0,
+        broken: Broken { failed: 0 },
+    };
     if let Ok(name) = Name::new(alloc, name)
-        && let Ok(turns) = Box::new(alloc, Turns { odd: false, broken })
+        && let Ok(turns) = Box::new(alloc, turns)
     {
         return stores.attach(name, turns).is_ok();
     }
@@ -195,7 +213,7 @@ fn is_full_back(alloc: Global, attached: Result<(), AttachRefused>) -> bool {
 // Whether a store that has no memory is handed back, since its name is taken.
 fn hands_full_back(alloc: Global, stores: &mut Stores, name: &str) -> bool {
     if let Ok(name) = Name::new(alloc, name)
-        && let Ok(full) = Box::new(alloc, Full)
+        && let Ok(full) = Box::new(alloc, Full { made: 0 })
     {
         return is_full_back(alloc, stores.attach(name, full));
     }

@@ -23,7 +23,7 @@ returns g c =
           ended_on_own _ _ _
           (all_own [] c.attach.result c.attach-2.result c.attach-3.result _ _ _ _ _ _ _ _ _ _ c.attach.ensures.ok c.attach-2.ensures.ok c.attach-3.ensures.ok c.new-stores.ensures.stores (search rules) (search rules) (search rules)
           c.in-Ok-Ok-Ok-Ok.ensures.0 c.in-Ok-Ok-Ok-Ok.ensures.1 c.in-Ok-Ok-Ok-Ok.ensures.2
-          (subst IsNewStore (sym ordered) (record { telling = tt; empty = refl; sound = refl })) (subst IsNewStore (sym hashed) (record { telling = tt; empty = refl; sound = refl })) (subst IsNewStore (sym database) c.requires.new))
+          (subst IsNewStore (sym ordered) (record { telling = tt; empty = refl; sound = refl; unused = refl })) (subst IsNewStore (sym hashed) (record { telling = tt; empty = refl; sound = refl; unused = refl })) (subst IsNewStore (sym database) c.requires.new))
           c.run.ensures.ended;
     }
 

@@ -23,7 +23,7 @@ returns g c =
           (all_own _ c.attach-2.result c.attach-3.result c.attach-4.result _ _ _ _ _ _ _ _ _ _ c.attach-2.ensures.ok c.attach-3.ensures.ok c.attach-4.ensures.ok
           (over_bare c.attach.result _ _ _ _ c.attach.ensures.ok (search rules) c.new-stores.ensures.stores) (search rules) (search rules) (search rules)
           c.in-Ok-Ok.ensures'.0 c.in-Ok-Ok.ensures'.1 c.in-Ok-Ok.ensures'.2
-          (subst IsNewStore (sym ordered) (record { telling = tt; empty = refl; sound = refl })) (subst IsNewStore (sym hashed) (record { telling = tt; empty = refl; sound = refl })) (subst IsNewStore (sym database) c.requires.new))
+          (subst IsNewStore (sym ordered) (record { telling = tt; empty = refl; sound = refl; unused = refl })) (subst IsNewStore (sym hashed) (record { telling = tt; empty = refl; sound = refl; unused = refl })) (subst IsNewStore (sym database) c.requires.new))
           c.run.ensures.ended;
     }
 
