@@ -1,6 +1,6 @@
 -- Stores whose tables hold no record.
-use Rattle.std.proofs.Common.{◌≡◌, ◌∙◌, inl, inr, ℕ, zero, suc, ◌+◌, ◌<◌, ◌≤◌, Bool, true, List, [], ◌∷◌, ◌++◌, length, take, get_or, Option, Some, None, refl, sym, ap, subst}
-use Rattle.std.specs.Prelude.{◌&&◌, slice_get}
+use Rattle.std.proofs.Common.{◌≡◌, ◌∙◌, inl, inr, ℕ, zero, suc, ◌+◌, ◌<◌, ◌≤◌, Bool, true, false, List, [], ◌∷◌, ◌++◌, length, take, get_or, Option, Some, None, refl, sym, ap, subst, arith}
+use Rattle.std.specs.Prelude.{◌&&◌, ◌==◌, slice_get, IsSomeAnd}
 use Rattle.std.specs.FinMap.{empty, get-empty}
 use Rattle.std.specs.List.{AllByRecursion, flat_map}
 use Rattle.std.specs.Option.{option_map, option_map_or}
@@ -8,26 +8,32 @@ use Rattle.std.specs.Ordering.{is_eq}
 use Rattle.std.specs.Cmp.{tied_itself}
 use Rattle.std.proofs.Math.Numerals.{add-one}
 use Rattle.std.proofs.lemmas.List.{append-nil}
-use Rattle.std.proofs.lemmas.Option.{slice_get-get_or}
+use Rattle.std.proofs.lemmas.Bool.{eqb-false, eqb-true}
+use Rattle.std.proofs.lemmas.Option.{slice_get-get_or, slice_get-map, slice_get_within}
 use Rattle.sdb_types.specs.declared.key.Key.{Key}
 use Rattle.sdb_types.specs.declared.key.TableName.{TableName}
 use Rattle.sdb_types.specs.declared.record.Record.{Record}
 use Rattle.sdb_types.specs.declared.record.Request.TheVariants as ask
 use Rattle.sdb_types.specs.declared.record.Reply.{Reply}
 use Rattle.sdb_types.specs.declared.record.Reply.TheVariants as reply
-use Rattle.sdb_types.specs.Contents.{Contents, record_at, record_of, rows_in, in_span, record_among}
-use Rattle.sdb_types.specs.Order.{key_cmp}
-use Rattle.sdb_types.proofs.KeyOrder.{table_total}
+use Rattle.sdb_types.specs.Contents.{Contents, are_rows_of, record_at, record_of, rise, rows_in, in_span, record_among}
+use Rattle.sdb_types.specs.Order.{key_cmp, table_cmp}
+use Rattle.sdb_types.proofs.KeyOrder.{table_exact, table_total}
+use Rattle.sdb_types.proofs.Bools.{and_first, and_second}
+use Rattle.sdb_types.specs.Exact.{equal_of}
 use Rattle.sdb_laws.proofs.Shown.{row_there}
 use Rattle.sdb_schema.specs.declared.table.Table.{Table}
-use Rattle.sdb_stores.specs.Shelf.{Attached}
+use Rattle.sdb_stores.specs.Shelf.{Attached, Shelf as Counted, home, home_in, names_of}
 use Rattle.sdb_stores.specs.declared.place.Place.{Place as Placed}
 use Rattle.sdb_model.specs.declared.script.Place.{Place}
+use Rattle.sdb_model.specs.Rows.{Name}
 use Rattle.sdb_model.specs.Events.{Shelf, held_by, store_of}
 use Rattle.sdb_spread.specs.Spread.{HoldAs, is_played}
-use Rattle.sdb_board.specs.Board.{AreFit, AreFitFor, GoOn, HoldTheSame, IsCalled, placed, shown}
-use Rattle.sdb_board.specs.Opening.{records_of, records_in, run_tables, opening_records, opening_in, first_key, whole}
+use Rattle.sdb_board.specs.Board.{AreFit, AreFitFor, GoOn, HoldTheSame, IsCalled, KnownStay, placed, shown}
+use Rattle.sdb_board.specs.Opening.{HoldNothing, IsFirstKey, records_of, records_in, run_tables, opening_records, opening_in, first_key, whole}
+use Rattle.sdb_board.proofs.GoesOn.{fit_for, fit_for_on}
 use Rattle.sdb_board.proofs.Lists.{all_at}
+use Rattle.sdb_board.proofs.Shelves.{held_at, named_home}
 use Rattle.sdb_board.proofs.RunTables.{names_played, of_played}
 use Rattle.sdb_types.proofs.Basics.{none_some, some_is, take_all as taken_up}
 
@@ -112,12 +118,12 @@ looked_at ts i t within is = slice_get-get_or ts i t within ∙ ap Some (sym is)
 pub scanned_behind : (catalog : List Table) (old mid : Attached) (table : TableName) (rows : List Record) → GoOn old mid → (AreFit catalog old → HoldTheSame old mid)
     → (AreFitFor table mid → rows ≡ records_in mid table) → is_played catalog table ≡ true → AreFit catalog old → rows ≡ records_in old table
 scanned_behind catalog old mid table rows goes still found about fit =
-    found (record { catalog = catalog; fit = goes.fit catalog fit; played = about }) ∙ ap (λ (ps : List Placed). records_of (placed ps) (shown mid.shelves) table) goes.places
+    found (fit_for catalog mid table about (goes.fit catalog fit)) ∙ ap (λ (ps : List Placed). records_of (placed ps) (shown mid.shelves) table) goes.places
     ∙ ap (λ (ss : List Shelf). records_of (placed old.places) ss table) (still fit)
 
 -- nothing became of the stores by a scan more
 pub still_behind : (catalog : List Table) (old mid new : Attached) (table : TableName) → GoOn old mid → (AreFit catalog old → HoldTheSame old mid) → (AreFitFor table mid → HoldTheSame mid new) → is_played catalog table ≡ true → AreFit catalog old → HoldTheSame old new
-still_behind catalog old mid new table goes before after about fit = after (record { catalog = catalog; fit = goes.fit catalog fit; played = about }) ∙ before fit
+still_behind catalog old mid new table goes before after about fit = after (fit_for catalog mid table about (goes.fit catalog fit)) ∙ before fit
 
 -- each table that is looked at is one of the run's
 pub looked_about : (catalog : List Table) (ts : List TableName) (i : ℕ) (table : TableName) → ts ≡ run_tables catalog → slice_get ts i ≡ Some table → is_played catalog table ≡ true
@@ -148,3 +154,75 @@ look_found catalog old mid ts i table rows first key all here goes still before 
 pub look_done : (catalog : List Table) (old : Attached) (ts : List TableName) (i : ℕ) → ts ≡ run_tables catalog → length ts ≤ i → (AreFit catalog old → looked old ts i ≡ []) → AreFit catalog old → None ≡ first_key (opening_in catalog old)
 look_done catalog old ts i all up before fit =
     sym (ap first_key (ap (flat_map (records_in old)) (sym all ∙ sym (taken_up ts i up)) ∙ before fit))
+
+---- table by table, as far as contents are known
+
+-- the records of a table are those of the store where it is kept
+records_home : (stores : Attached) (table : TableName) (s : Counted) → AreFitFor table stores → slice_get stores.shelves (home_in stores table.ns) ≡ Some s → records_in stores table ≡ rows_in (whole table) s.contents
+records_home stores table s fit here =
+    let at = home_in stores table.ns in
+    let name : slice_get (names_of stores.shelves) at ≡ Some s.name = slice_get-map (λ (x : Counted). x.name) stores.shelves at ∙ ap (option_map (λ (x : Counted). x.name)) here in
+    let store : store_of (placed stores.places) (shown stores.shelves) table.ns ≡ s.name = some_is _ _ (sym (named_home stores.places stores.shelves table.ns fit.some (fit.homed table.ns)) ∙ name) in
+    ap (λ (n : Name). option_map_or (rows_in (whole table)) (held_by (shown stores.shelves) n) []) store
+    ∙ ap (λ (o : Option Contents). option_map_or (rows_in (whole table)) o []) (held_at stores.shelves at s fit.distinct here)
+
+-- a table whose store has known contents holds what it held
+pub records_stay : (old mid : Attached) (table : TableName) → GoOn old mid → KnownStay old mid → AreFitFor table old → records_in mid table ≡ records_in old table
+records_stay old mid table goes stay fit = by (slice_get old.shelves at) refl
+  where
+    at : ℕ
+    at = home_in old table.ns
+
+    same : home_in mid table.ns ≡ at
+    same = ap (λ (ps : List Placed). home table.ns ps (names_of mid.shelves)) goes.places ∙ ap (home table.ns old.places) goes.names
+
+    then : (s : Counted) → slice_get old.shelves at ≡ Some s → (o : Option Counted) → slice_get mid.shelves at ≡ o → IsSomeAnd o (λ now. now.contents ≡ s.contents) → records_in mid table ≡ records_in old table
+    then s here None e h = absurd h
+    then s here (Some now) e h =
+        records_home mid table now (fit_for_on old mid table goes fit) (ap (slice_get mid.shelves) same ∙ e) ∙ ap (rows_in (whole table)) h ∙ sym (records_home old table s fit here)
+
+    by : (o : Option Counted) → slice_get old.shelves at ≡ o → records_in mid table ≡ records_in old table
+    by None e =
+        let name = slice_get-map (λ (x : Counted). x.name) old.shelves at ∙ ap (option_map (λ (x : Counted). x.name)) e in
+        absurd (none_some _ (sym name ∙ named_home old.places old.shelves table.ns fit.some (fit.homed table.ns)))
+    by (Some s) e = then s e (slice_get mid.shelves at) refl (stay at s fit.telling e)
+
+-- a record that a scan found is of its table
+first_of : (table : TableName) (rows : List Record) (key : Key) → are_rows_of (whole table) rows ≡ true → first_key rows ≡ Some key → key.table ≡ table
+first_of table [] key of e = absurd (none_some key e)
+first_of table (r ∷ rs) key of e =
+    let inside : in_span (whole table) r.key ≡ true = and_first _ _ (and_second (rise (r ∷ rs)) _ of) in
+    ap (λ (k : Key). k.table) (sym (some_is r.key key e)) ∙ sym (table_exact table r.key.table (equal_of (table_cmp table r.key.table) (and_first _ _ inside)))
+
+abbrev pub NoneUntil : List TableName → Attached → ℕ → Type 0
+NoneUntil tables stores at = (i : ℕ) (t : TableName) → i < at → slice_get tables i ≡ Some t → AreFitFor t stores → records_in stores t ≡ []
+
+-- one table more that holds none
+pub none_more : (old mid : Attached) (ts : List TableName) (i : ℕ) (table : TableName) (rows : List Record) (first : Option Key) → slice_get ts i ≡ Some table → GoOn old mid → KnownStay old mid → NoneUntil ts old i → (AreFitFor table mid → rows ≡ records_in mid table)
+    → first ≡ first_key rows → first ≡ None → NoneUntil ts old (i + 1)
+none_more old mid ts i table rows first here goes stay before found is none j t low there fit = by (j == i) refl
+  where
+    by : (b : Bool) → (j == i) ≡ b → records_in old t ≡ []
+    by true e =
+        let same : table ≡ t = some_is table t (sym here ∙ sym (ap (slice_get ts) (eqb-true j i e)) ∙ there) in
+        let fit_table : AreFitFor table old = subst (λ (x : TableName). AreFitFor x old) (sym same) fit in
+        ap (records_in old) (sym same) ∙ sym (records_stay old mid table goes stay fit_table) ∙ sym (found (fit_for_on old mid table goes fit_table)) ∙ none_first rows (sym is ∙ none)
+    by false e = let apart = eqb-false j i e in before j t (omega (arith, low, apart)) there fit
+
+-- the first table that holds one
+pub first_found : (old mid : Attached) (ts : List TableName) (i : ℕ) (table : TableName) (rows : List Record) (first : Option Key) (key : Key) → slice_get ts i ≡ Some table → GoOn old mid → KnownStay old mid → NoneUntil ts old i → (AreFitFor table mid → rows ≡ records_in mid table)
+    → are_rows_of (whole table) rows ≡ true → first ≡ first_key rows → first ≡ Some key → IsFirstKey ts old key
+first_found old mid ts i table rows first key here goes stay before found of is some =
+    let named : key.table ≡ table = first_of table rows key of (sym is ∙ some) in
+    record {
+      at = i;
+      table = here ∙ ap Some (sym named);
+      first = λ fit.
+          let fit_table : AreFitFor table old = subst (λ (x : TableName). AreFitFor x old) named fit in
+          ap (λ (x : TableName). first_key (records_in old x)) named ∙ ap first_key (sym (records_stay old mid table goes stay fit_table) ∙ sym (found (fit_for_on old mid table goes fit_table))) ∙ sym is ∙ some;
+      none = before;
+    }
+
+-- no table holds one
+pub none_found : (ts : List TableName) (old : Attached) (i : ℕ) → length ts ≤ i → NoneUntil ts old i → HoldNothing ts old
+none_found ts old i up before j t there fit = let low : j < length ts = slice_get_within ts j t there in before j t (omega (arith, low, up)) there fit

@@ -1,10 +1,11 @@
 -- What goes on of the stores, call by call.
-use Rattle.std.proofs.Common.{◌≡◌, ℕ, ◌<◌, ◌≤◌, ◌-◌, ◌^◌, Bool, true, false, List, [], ◌∷◌, ◌++◌, length, get_or, slice_set, Result, Ok, Err, IfErr, inl, inr, refl, sym, ap, subst, ◌∙◌, arith}
-use Rattle.std.specs.Prelude.{◌==◌, IfSome, IsSome, IsErrAnd}
+use Rattle.std.proofs.Common.{◌≡◌, ℕ, ◌<◌, ◌≤◌, ◌-◌, ◌^◌, Bool, true, false, List, [], ◌∷◌, ◌++◌, length, get_or, slice_set, Option, Some, None, Result, Ok, Err, IfErr, inl, inr, refl, sym, ap, subst, ◌∙◌, arith}
+use Rattle.std.specs.Prelude.{◌==◌, slice_get, IfSome, IsSome, IsSomeAnd, IsErrAnd}
 use Rattle.std.proofs.lemmas.Bool.{eqb-false, eqb-true}
 use Rattle.std.proofs.lemmas.List.{get_or-set_other, length-map, length-set}
 use Rattle.std.proofs.lemmas.List.Quantifiers.{any-set}
 use Rattle.std.proofs.lemmas.Option.{get_or_from_slice_get, slice_get_within}
+use Rattle.sdb_types.specs.declared.key.TableName.{TableName}
 use Rattle.sdb_types.specs.declared.record.Request.{Request}
 use Rattle.sdb_types.specs.declared.record.Reply.{Reply}
 use Rattle.sdb_stores.specs.Shelf.{Attached, Shelf as Counted, AreDistinct, HaveRisen, IsCallAt, names_of, home, home_in, place_of, placed_on}
@@ -15,7 +16,8 @@ use Rattle.sdb_model.specs.declared.event.Event.{Event}
 use Rattle.sdb_model.specs.declared.script.Place.{Place}
 use Rattle.sdb_model.specs.Rows.{Name}
 use Rattle.sdb_model.specs.Events.{Shelf, IsTrace, Effect}
-use Rattle.sdb_board.specs.Board.{AreFit, GoOn, IsFull, Refuses}
+use Rattle.sdb_spread.specs.Spread.{is_played}
+use Rattle.sdb_board.specs.Board.{AreFit, AreFitFor, GoOn, IsFull, KnownStay, Refuses, known_before}
 use Rattle.sdb_board.specs.declared.refused.CallRefused.{CallRefused}
 use Rattle.sdb_board.specs.declared.refused.CallRefused.TheVariants as refused
 
@@ -63,6 +65,45 @@ fit_on catalog old new places names telling f = record {
       (subst (λ (ps : List Placed). old.tells (home table.ns ps (names_of new.shelves))) (sym places)
       (subst (λ (xs : List Name). old.tells (home table.ns old.places xs)) (sym names) (f.telling table about)));
 }
+
+-- those that are fit for a run are fit for calls on each of its tables
+pub fit_for : (catalog : List Table) (stores : Attached) (table : TableName) → is_played catalog table ≡ true → AreFit catalog stores → AreFitFor table stores
+fit_for catalog stores table about f = record { some = f.some; distinct = f.distinct; homed = f.homed; telling = f.telling table about }
+
+-- stores of the same names and places, of which no fewer are known, are fit for the same calls
+pub fit_for_as : (old new : Attached) (table : TableName) → new.places ≡ old.places → names_of new.shelves ≡ names_of old.shelves → ((at : ℕ) → old.tells at → new.tells at) → AreFitFor table old → AreFitFor table new
+fit_for_as old new table places names telling f = record {
+  some = some_more old.shelves new.shelves names f.some;
+  distinct = subst AreDistinct (sym names) f.distinct;
+  homed = λ ns.
+      subst (λ (ps : List Placed). IfSome (placed_on ns ps) (λ store. IsSome (place_of store (names_of new.shelves)))) (sym places)
+      (subst (λ (xs : List Name). IfSome (placed_on ns old.places) (λ store. IsSome (place_of store xs))) (sym names) (f.homed ns));
+  telling =
+      telling (home_in new table.ns)
+      (subst (λ (ps : List Placed). old.tells (home table.ns ps (names_of new.shelves))) (sym places)
+      (subst (λ (xs : List Name). old.tells (home table.ns old.places xs)) (sym names) f.telling));
+}
+
+pub fit_for_on : (old new : Attached) (table : TableName) → GoOn old new → AreFitFor table old → AreFitFor table new
+fit_for_on old new table g f = fit_for_as old new table g.places g.names g.telling f
+
+pub fit_for_before : (old new : Attached) (table : TableName) → GoOn old new → AreFitFor table (known_before old new) → AreFitFor table old
+fit_for_before old new table g f = fit_for_as (known_before old new) old table (sym g.places) (sym g.names) (λ at t. t) f
+
+-- what is known of stores stays known
+pub known_none : (stores : Attached) → KnownStay stores stores
+known_none stores at store tells here = subst (λ (o : Option Counted). IsSomeAnd o (λ now. now.contents ≡ store.contents)) (sym here) refl
+
+pub known_more : (a b c : Attached) → GoOn a b → KnownStay a b → KnownStay b c → KnownStay a c
+known_more a b c g first then at store tells here = by (slice_get b.shelves at) refl (first at store tells here)
+  where
+    on : (o : Option Counted) (mid : Counted) → mid.contents ≡ store.contents → IsSomeAnd o (λ now. now.contents ≡ mid.contents) → IsSomeAnd o (λ now. now.contents ≡ store.contents)
+    on None mid e h = h
+    on (Some now) mid e h = h ∙ e
+
+    by : (o : Option Counted) → slice_get b.shelves at ≡ o → IsSomeAnd o (λ now. now.contents ≡ store.contents) → IsSomeAnd (slice_get c.shelves at) (λ now. now.contents ≡ store.contents)
+    by None e h = absurd h
+    by (Some mid) e h = on (slice_get c.shelves at) mid h (then at mid (g.telling at tells) e)
 
 pub goes_call : (at : ℕ) (old new : Attached) (q : Request) (r : Reply) → new.places ≡ old.places → IsCallAt at q r old new → GoOn old new
 goes_call at old new q r places call =

@@ -1,22 +1,22 @@
 -- One call on the store of its table, as events have it.
-use Rattle.std.proofs.Common.{◌≡◌, ◌≢◌, true, false, List, Option, Some, None, inl, inr, refl, sym, ap, ◌∙◌}
-use Rattle.std.specs.Prelude.{slice_get}
+use Rattle.std.proofs.Common.{◌≡◌, ◌≢◌, ℕ, ◌<◌, Bool, true, false, List, length, slice_set, Option, Some, None, inl, inr, refl, sym, ap, subst, ◌∙◌}
+use Rattle.std.specs.Prelude.{◌==◌, slice_get, IsSomeAnd}
 use Rattle.std.specs.Option.{option_map}
-use Rattle.std.proofs.lemmas.Option.{slice_get-map}
+use Rattle.std.proofs.lemmas.Bool.{eqb-false, eqb-true}
+use Rattle.std.proofs.lemmas.List.{get_or-set_other, get_or-set_same, length-set}
+use Rattle.std.proofs.lemmas.Option.{get_or_from_slice_get, slice_get-get_or, slice_get-map, slice_get_within}
 use Rattle.sdb_types.specs.declared.key.TableName.{TableName}
 use Rattle.sdb_types.specs.declared.record.Request.{Request}
 use Rattle.sdb_types.specs.declared.record.Request.TheVariants as ask
 use Rattle.sdb_types.specs.declared.record.Reply.{Reply}
 use Rattle.sdb_types.specs.declared.record.Reply.TheVariants as reply
 use Rattle.sdb_types.specs.Contents.{Contents, after}
-use Rattle.sdb_schema.specs.declared.table.Table.{Table}
 use Rattle.sdb_store.specs.Store.{Performs}
 use Rattle.sdb_stores.specs.Shelf.{Attached, Shelf as Counted, IsCallAt, names_of, home_in, table_of}
 use Rattle.sdb_model.specs.declared.event.How.TheVariants.{Seen, Lost, Discarded}
 use Rattle.sdb_model.specs.Rows.{Name}
 use Rattle.sdb_model.specs.Events.{IsPerformed, held_by, with_contents, store_of, table_asked}
-use Rattle.sdb_spread.specs.Spread.{is_played}
-use Rattle.sdb_board.specs.Board.{AreFit, HoldTheSame, IsCalled, IsMade, how_lost, how_seen, reply_lost, shown, placed}
+use Rattle.sdb_board.specs.Board.{AreFitFor, HoldTheSame, IsCalled, IsMade, KnownStay, how_lost, how_seen, reply_lost, shown, placed}
 use Rattle.sdb_board.proofs.Shelves.{held_at, set_there, set_still, named_home}
 use Rattle.sdb_types.proofs.Basics.{some_is}
 use Rattle.sdb_model.specs.Calls.{is_read}
@@ -54,7 +54,30 @@ kept q (reply.Rows rows) old new e p = p.1 ∙ stays q old e
 kept q reply.Applied old new e p = p.1 ∙ stays q old e
 kept q (reply.NotMet found) old new e p = p.1 ∙ stays q old e
 
-module _ (catalog : List Table) (old : Attached) (q : Request) (fit : AreFit catalog old) (about : is_played catalog (table_asked q) ≡ true) where
+-- a read leaves each store of known contents as it was
+pub known_stay : (at : ℕ) (q : Request) (r : Reply) (old new : Attached) → IsCallAt at q r old new → is_read q ≡ true → KnownStay old new
+known_stay at q r old new call read i store tells here =
+    subst (λ (ss : List Counted). IsSomeAnd (slice_get ss i) (λ now. now.contents ≡ store.contents)) (sym call.rest) (by (i == at) refl)
+  where
+    by : (b : Bool) → (i == at) ≡ b → IsSomeAnd (slice_get (slice_set old.shelves at call.now) i) (λ now. now.contents ≡ store.contents)
+    by true e =
+        let same : i ≡ at = eqb-true i at e in
+        let before : call.before ≡ store = some_is call.before store (sym call.stood ∙ sym (ap (slice_get old.shelves) same) ∙ here) in
+        let within : at < length old.shelves = slice_get_within old.shelves at call.before call.stood in
+        let there : slice_get (slice_set old.shelves at call.now) i ≡ Some call.now =
+        ap (slice_get (slice_set old.shelves at call.now)) same
+        ∙ slice_get-get_or (slice_set old.shelves at call.now) at call.now (subst (λ (n : ℕ). at < n) (sym (length-set old.shelves at call.now)) within)
+        ∙ ap Some (get_or-set_same old.shelves at call.now call.now within) in
+        let held : call.now.contents ≡ store.contents = kept q r call.before.contents call.now.contents read (call.performed (subst old.tells same tells)) ∙ ap (λ (x : Counted). x.contents) before in
+        subst (λ (o : Option Counted). IsSomeAnd o (λ now. now.contents ≡ store.contents)) (sym there) held
+    by false e =
+        let within : i < length old.shelves = slice_get_within old.shelves i store here in
+        let there : slice_get (slice_set old.shelves at call.now) i ≡ Some store =
+        slice_get-get_or (slice_set old.shelves at call.now) i store (subst (λ (n : ℕ). i < n) (sym (length-set old.shelves at call.now)) within)
+        ∙ ap Some (get_or-set_other old.shelves at i call.now store (λ k. eqb-false i at e k) ∙ get_or_from_slice_get old.shelves i store store here) in
+        subst (λ (o : Option Counted). IsSomeAnd o (λ now. now.contents ≡ store.contents)) (sym there) refl
+
+module _ (old : Attached) (q : Request) (fit : AreFitFor (table_asked q) old) where
   -- the store at the home of a table is the one of its namespace
   there_is : (s : Counted) → slice_get old.shelves (home_in old (table_of q).ns) ≡ Some s → store_of (placed old.places) (shown old.shelves) (table_asked q).ns ≡ s.name
   there_is s at =
@@ -63,7 +86,7 @@ module _ (catalog : List Table) (old : Attached) (q : Request) (fit : AreFit cat
       ap (λ (t : TableName). store_of (placed old.places) (shown old.shelves) t.ns) (sym (asked q)) ∙ sym store
 
   told_there : old.tells (home_in old (table_of q).ns)
-  told_there = fit.telling (table_of q) (ap (is_played catalog) (asked q) ∙ about)
+  told_there = subst (λ (t : TableName). old.tells (home_in old t.ns)) (sym (asked q)) fit.telling
 
   -- A call on the store at the home of its table is one on the store of its table's namespace.
   pub called : (new : Attached) (r : Reply) → IsCallAt (home_in old (table_of q).ns) q r old new → IsCalled q r old new

@@ -1,5 +1,5 @@
 -- The stores that a run is played on, and what its calls do to them.
-use Rattle.std.specs.Prelude.{◌≡◌, ℕ, ◌<◌, ◌≤◌, ◌-◌, ◌^◌, true, List, length, map, Any, IfSome, IsSome}
+use Rattle.std.specs.Prelude.{◌≡◌, ℕ, ◌<◌, ◌≤◌, ◌-◌, ◌^◌, true, List, length, map, slice_get, Any, Some, IfSome, IsSome, IsSomeAnd}
 use Rattle.sdb_types.specs.declared.key.TableName.{TableName}
 use Rattle.sdb_types.specs.declared.record.Request.{Request}
 use Rattle.sdb_types.specs.declared.record.Reply.{Reply}
@@ -35,15 +35,26 @@ pub record AreFit (catalog : List Table) (stores : Attached) : Type 0 where
   pub homed : (ns : List ℕ) → IfSome (placed_on ns stores.places) (λ store. IsSome (place_of store (names_of stores.shelves)))
   pub telling : AreTold catalog stores
 
--- Stores are fit for a run over some catalog, and this table is one of the run's.
+-- Stores are fit for calls on a table: there is one, no two have one name, each place names one of them, and that of the table has known
+-- contents.
 pub record AreFitFor (table : TableName) (stores : Attached) : Type 0 where
-  pub catalog : List Table
-  pub fit : AreFit catalog stores
-  pub played : is_played catalog table ≡ true
+  pub some : 0 < length stores.shelves
+  pub distinct : AreDistinct (names_of stores.shelves)
+  pub homed : (ns : List ℕ) → IfSome (placed_on ns stores.places) (λ store. IsSome (place_of store (names_of stores.shelves)))
+  pub telling : stores.tells (home_in stores table.ns)
 
 -- Stores hold what they held.
 abbrev pub HoldTheSame : Attached → Attached → Type 0
 HoldTheSame old new = shown new.shelves ≡ shown old.shelves
+
+-- Each store of known contents holds what it held.
+abbrev pub KnownStay : Attached → Attached → Type 0
+KnownStay old new =
+    (at : ℕ) (store : Counted) → old.tells at → slice_get old.shelves at ≡ Some store → IsSomeAnd (slice_get new.shelves at) (λ now. now.contents ≡ store.contents)
+
+-- What stores show later, where those are known that were known before.
+abbrev pub known_before : Attached → Attached → Attached
+known_before old new = record { places = new.places; shelves = new.shelves; tells = old.tells }
 
 -- The count of some store is the greatest value of its type.
 abbrev pub IsFull : List Counted → Type 0

@@ -1,5 +1,5 @@
 -- What the tables of a run hold before it begins.
-use Rattle.std.specs.Prelude.{List, [], ◌∷◌, map, length, take_while, insert, Option, Some, None}
+use Rattle.std.specs.Prelude.{◌≡◌, ℕ, ◌<◌, List, [], ◌∷◌, map, length, slice_get, take_while, insert, Option, Some, None}
 use Rattle.std.specs.List.{flat_map}
 use Rattle.std.specs.Option.{option_map_or}
 use Rattle.std.specs.Ordering.{is_lt}
@@ -14,7 +14,7 @@ use Rattle.sdb_schema.specs.declared.table.Table.{Table}
 use Rattle.sdb_stores.specs.Shelf.{Attached}
 use Rattle.sdb_model.specs.declared.script.Place.{Place}
 use Rattle.sdb_model.specs.Events.{Shelf, held_by, store_of}
-use Rattle.sdb_board.specs.Board.{placed, shown}
+use Rattle.sdb_board.specs.Board.{AreFitFor, placed, shown}
 
 -- a whole table
 abbrev pub whole : TableName → Span
@@ -47,3 +47,15 @@ opening_in catalog stores = opening_records catalog (placed stores.places) (show
 abbrev pub first_key : List Record → Option Key
 first_key [] = None
 first_key (r ∷ rs) = Some r.key
+
+-- The key is that of the first record of tables, as far as contents are known: its table is one of them, which has it first, and the tables
+-- before it hold none.
+pub record IsFirstKey (tables : List TableName) (stores : Attached) (key : Key) : Type 0 where
+  pub at : ℕ
+  pub table : slice_get tables at ≡ Some key.table
+  pub first : AreFitFor key.table stores → first_key (records_in stores key.table) ≡ Some key
+  pub none : (i : ℕ) (t : TableName) → i < at → slice_get tables i ≡ Some t → AreFitFor t stores → records_in stores t ≡ []
+
+-- Tables hold no record, as far as contents are known.
+abbrev pub HoldNothing : List TableName → Attached → Type 0
+HoldNothing tables stores = (i : ℕ) (t : TableName) → slice_get tables i ≡ Some t → AreFitFor t stores → records_in stores t ≡ []

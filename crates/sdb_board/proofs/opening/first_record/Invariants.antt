@@ -1,6 +1,6 @@
 use Rattle.std.proofs.Common.{◌≡◌, ◌<◌, [], length}
-use Rattle.sdb_board.specs.Board.{AreFit, GoOn, HoldTheSame}
-use Rattle.sdb_board.proofs.Empty.{looked}
+use Rattle.sdb_board.specs.Board.{AreFit, GoOn, HoldTheSame, KnownStay}
+use Rattle.sdb_board.proofs.Empty.{NoneUntil, looked}
 use Rattle.sdb_board.proofs.opening.first_record.Given as goal
 
 abbrev pub invariant-loop-table : goal.invariant-loop-table
@@ -8,5 +8,7 @@ invariant-loop-table g l = record {
   some : 0 < length (g.R.Registry.state l.stores).shelves;
   goes : GoOn (g.R.Registry.state l.initial.stores) (g.R.Registry.state l.stores);
   still : AreFit l.catalog (g.R.Registry.state l.initial.stores) → HoldTheSame (g.R.Registry.state l.initial.stores) (g.R.Registry.state l.stores);
+  known : KnownStay (g.R.Registry.state l.initial.stores) (g.R.Registry.state l.stores);
+  none_known : NoneUntil l.table-items (g.R.Registry.state l.initial.stores) l.table-index;
   none : AreFit l.catalog (g.R.Registry.state l.initial.stores) → looked (g.R.Registry.state l.initial.stores) l.table-items l.table-index ≡ [];
 }
