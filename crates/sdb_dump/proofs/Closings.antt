@@ -1,14 +1,21 @@
 -- The closing dump, scan by scan.
-use Rattle.std.proofs.Common.{◌≡◌, ◌≢◌, ◌∙◌, ℕ, ◌+◌, ◌<◌, ◌^◌, true, List, [], ◌∷◌, ◌++◌, take, Option, Some, None, refl, sym, ap, subst}
-use Rattle.std.specs.Prelude.{AllPairs, Contains, IsSomeAnd, is_some, map, slice_get}
-use Rattle.std.specs.List.{flat_map}
+use Rattle.std.proofs.Common.{◌≡◌, ◌≢◌, ◌∙◌, ◌⊎◌, inl, inr, ℕ, zero, suc, ◌+◌, ◌<◌, ◌^◌, Bool, true, false, cond, List, [], ◌∷◌, ◌++◌, length, take, Option, Some, None, refl, sym, ap, subst, arith}
+use Rattle.std.specs.Prelude.{AllPairs, Contains, IsSomeAnd, find, is_some, map, not, slice_get}
+use Rattle.std.specs.List.{AllByRecursion, list_all}
+use Rattle.std.specs.Option.{option_map}
+use Rattle.std.specs.Ordering.{is_eq}
+use Rattle.std.proofs.lemmas.Option.{slice_get_within}
 use Rattle.std.proofs.Math.Numerals.{add-one}
-use Rattle.std.proofs.lemmas.List.{map-append}
+use Rattle.std.proofs.lemmas.List.{length-map, length-take-le, map-append}
 use Rattle.sdb_types.specs.declared.key.Key.{Key}
 use Rattle.sdb_types.specs.declared.key.TableName.{TableName}
 use Rattle.sdb_types.specs.declared.txid.TxId.{TxId}
 use Rattle.sdb_types.specs.declared.record.Record.{Record}
-use Rattle.sdb_types.specs.Contents.{rise}
+use Rattle.sdb_types.specs.Contents.{are_rows_of, in_span, rise}
+use Rattle.sdb_types.specs.Exact.{equal_of}
+use Rattle.sdb_types.specs.Order.{table_cmp}
+use Rattle.sdb_types.proofs.Bools.{and_first, and_second}
+use Rattle.sdb_types.proofs.KeyOrder.{table_exact}
 use Rattle.sdb_record.specs.declared.coordinator.Decided.{Decided}
 use Rattle.sdb_record.specs.Coordinator.{coordinator_table, is_coordinator_table}
 use Rattle.sdb_record.specs.Meta.{is_taken}
@@ -20,19 +27,21 @@ use Rattle.sdb_model.specs.Events.{Shelf}
 use Rattle.sdb_model.specs.Exec.{find_table}
 use Rattle.sdb_model.specs.Images.{decision_at}
 use Rattle.sdb_spread.specs.Spread.{is_played}
-use Rattle.sdb_board.specs.Board.{HoldTheSame, placed, shown}
-use Rattle.sdb_board.specs.Opening.{records_in, records_of}
-use Rattle.sdb_board.proofs.Lists.{all_at, take_suc}
-use Rattle.sdb_board.proofs.RunTables.{each_played}
+use Rattle.sdb_board.specs.Board.{AreFit, AreFitFor, GoOn, HoldTheSame, KnownStay, placed, shown}
+use Rattle.sdb_board.specs.Opening.{records_in, records_of, table_names, whole}
+use Rattle.sdb_board.proofs.Empty.{records_stay}
+use Rattle.sdb_board.proofs.GoesOn.{fit_for, fit_for_on}
+use Rattle.sdb_board.proofs.Lists.{all_at}
+use Rattle.sdb_board.proofs.RunTables.{each_found, each_played, names_more}
 use Rattle.sdb_dump.specs.Decided.{decision_among, is_decided, recorded_among}
 use Rattle.sdb_dump.specs.Dumped.{dump_by}
-use Rattle.sdb_dump.specs.Held.{AreDumps, AreRecorded, dump_in}
-use Rattle.sdb_dump.specs.Odd.{first_odd, first_of}
+use Rattle.sdb_dump.specs.Held.{AreDumps, AreDumpsUnder, AreDumpsWhereKnown, AreRecorded, IsOddIn, IsUntaken, IsUntakenAmong, dump_in, dumps_in, first_untaken_in}
+use Rattle.sdb_dump.specs.Odd.{first_in, first_odd, first_of}
 use Rattle.sdb_dump.specs.Refused.{first_unlike}
 use Rattle.sdb_dump.proofs.Coordinated.{IsCommitted, recorded_all, recorded_has, recorded_once}
-use Rattle.sdb_dump.proofs.Images.{decision_there, dumps_are, records_rise}
-use Rattle.sdb_dump.proofs.OddRecords.{first_behind, none_behind}
-use Rattle.sdb_types.proofs.Basics.{or_second}
+use Rattle.sdb_dump.proofs.Images.{AreDecisions, decision_there, dump_same, dumps_are}
+use Rattle.sdb_dump.proofs.OddRecords.{first_behind, first_same, none_behind, odd_record, odd_row}
+use Rattle.sdb_types.proofs.Basics.{all_each, none_some, or_second, some_is}
 
 ---- tables of the run
 
@@ -44,76 +53,172 @@ played_at catalog i t here = all_at (λ (u : Table). is_played catalog u.name �
 
 ---- scans after others
 
--- what a table holds that is scanned after others
-records_behind : (old mid : Attached) (table : TableName) → mid.places ≡ old.places → HoldTheSame old mid → records_in mid table ≡ records_in old table
-records_behind old mid table places still = ap (λ (ps : List Placed). records_of (placed ps) (shown mid.shelves) table) places ∙ ap (λ (ss : List Shelf). records_of (placed old.places) ss table) still
+pub dump_behind : (decide : TxId → Option Decided) (old mid : Attached) (t : Table) → GoOn old mid → KnownStay old mid → AreFitFor t.name old → dump_in decide mid t ≡ dump_in decide old t
+dump_behind decide old mid t goes stay fit = ap (dump_by decide t) (records_stay old mid t.name goes stay fit)
 
-pub dump_behind : (decide : TxId → Option Decided) (old mid : Attached) (t : Table) (d : TableDump) → mid.places ≡ old.places → HoldTheSame old mid → d ≡ dump_in decide mid t → d ≡ dump_in decide old t
-dump_behind decide old mid t d places still is = is ∙ ap (dump_by decide t) (records_behind old mid t.name places still)
+pub untaken_behind : (old mid : Attached) (t : Table) → GoOn old mid → KnownStay old mid → AreFitFor t.name old → first_untaken_in mid t ≡ first_untaken_in old t
+untaken_behind old mid t goes stay fit = ap (first_unlike is_taken) (records_stay old mid t.name goes stay fit)
 
 -- one table more
-pub dumps_more : (f : Table → TableDump) (ts : List Table) (i : ℕ) (t : Table) (before after : List TableDump) (d : TableDump) → slice_get ts i ≡ Some t → before ≡ map f (take i ts) → d ≡ f t → after ≡ before ++ d ∷ [] → after ≡ map f (take (i + 1) ts)
-dumps_more f ts i t before after d here so is pushed =
-    pushed ∙ ap (λ (xs : List TableDump). xs ++ d ∷ []) so ∙ ap (λ (x : TableDump). map f (take i ts) ++ x ∷ []) is
-    ∙ sym (ap (λ (k : ℕ). map f (take k ts)) (add-one i) ∙ ap (map f) (take_suc ts i t here) ∙ map-append f (take i ts) (t ∷ []))
+pub named_more : (ts : List Table) (i : ℕ) (t : Table) (before after : List TableDump) (d : TableDump) → slice_get ts i ≡ Some t → map (λ (x : TableDump). x.name) before ≡ table_names (take i ts) → d.name ≡ t.name → after ≡ before ++ d ∷ []
+    → map (λ (x : TableDump). x.name) after ≡ table_names (take (i + 1) ts)
+named_more ts i t before after d here so is pushed =
+    names_more ts i t (map (λ (x : TableDump). x.name) before) (map (λ (x : TableDump). x.name) after) d.name here so is (ap (map (λ (x : TableDump). x.name)) pushed ∙ map-append (λ (x : TableDump). x.name) before (d ∷ []))
 
--- the records of tables
-abbrev pub records_at : Attached → Table → List Record
-records_at stores t = records_in stores t.name
+-- as many dumps as tables
+pub named_size : (ts : List Table) (i : ℕ) (t : Table) (ds : List TableDump) → slice_get ts i ≡ Some t → map (λ (x : TableDump). x.name) ds ≡ table_names (take i ts) → length ds ≡ i
+named_size ts i t ds here named =
+    sym (length-map ds (λ (x : TableDump). x.name)) ∙ ap length named ∙ length-map (take i ts) (λ (u : Table). u.name) ∙ length-take-le i ts (let low : i < length ts = slice_get_within ts i t here in omega (arith, low))
+
+pub dumps_more : (decide : TxId → Option Decided) (old mid : Attached) (ts : List Table) (i : ℕ) (t : Table) (before after : List TableDump) (d : TableDump) → slice_get ts i ≡ Some t → length before ≡ i → GoOn old mid → KnownStay old mid → AreDumpsUnder decide ts old before
+    → (AreFitFor t.name mid → d ≡ dump_in decide mid t) → after ≡ before ++ d ∷ [] → AreDumpsUnder decide ts old after
+dumps_more decide old mid ts i t before after d here size goes stay so is pushed j u dump there found fit =
+    elim (last_or_before before d j dump (ap (λ (xs : List TableDump). slice_get xs j) (sym pushed) ∙ found)) [
+      | inl k ↦ so j u dump there k fit
+      | inr k ↦ (
+          let same : t ≡ u = some_is t u (sym here ∙ ap (slice_get ts) (sym (k.0 ∙ size)) ∙ there) in
+          let fit_t : AreFitFor t.name old = subst (λ (x : Table). AreFitFor x.name old) (sym same) fit in
+          sym k.1 ∙ is (fit_for_on old mid t.name goes fit_t) ∙ dump_behind decide old mid t goes stay fit_t ∙ ap (dump_in decide old) same
+          )
+    ]
+  where
+    last_or_before : (xs : List TableDump) (x : TableDump) (k : ℕ) (y : TableDump) → slice_get (xs ++ x ∷ []) k ≡ Some y → (slice_get xs k ≡ Some y) ⊎ ((k ≡ length xs) × (x ≡ y))
+    last_or_before [] x zero y e = inr (refl, some_is x y e)
+    last_or_before [] x (suc k) y e = absurd (none_some y e)
+    last_or_before (z ∷ xs) x zero y e = inl e
+    last_or_before (z ∷ xs) x (suc k) y e = elim (last_or_before xs x k y e) [
+      | inl h ↦ inl h
+      | inr h ↦ inr (ap suc h.0, h.1)
+    ]
+
+-- all dumps, where all stores are known
+pub dumps_all : (decide : TxId → Option Decided) (stores : Attached) (ts : List Table) (ds : List TableDump) → map (λ (x : TableDump). x.name) ds ≡ table_names ts → AreDumpsUnder decide ts stores ds → AllByRecursion (λ (t : Table). AreFitFor t.name stores) ts → ds ≡ dumps_in decide stores ts
+dumps_all decide stores [] [] named each fit = refl
+dumps_all decide stores [] (d ∷ ds) named each fit = absurd (cc)
+dumps_all decide stores (t ∷ ts) [] named each fit = absurd (cc)
+dumps_all decide stores (t ∷ ts) (d ∷ ds) named each fit =
+    let rest = dumps_all decide stores ts ds (tail_same (d.name) (t.name) (map (λ (x : TableDump). x.name) ds) (table_names ts) named) (λ i u dump. each (suc i) u dump) fit.1 in
+    let here : d ≡ dump_in decide stores t = each 0 t d refl refl fit.0 in
+    λ i. here i ∷ rest i
+  where
+    tail_same : (x y : TableName) (xs ys : List TableName) → x ∷ xs ≡ y ∷ ys → xs ≡ ys
+    tail_same x y xs ys e = cc
+
+-- the tables of a run are fit for calls where its stores are
+pub each_fit : (catalog : List Table) (stores : Attached) → AreFit catalog stores → AllByRecursion (λ (t : Table). AreFitFor t.name stores) catalog
+each_fit catalog stores fit =
+    all_each (λ (t : Table). is_played catalog t.name ≡ true) (λ (t : Table). AreFitFor t.name stores) catalog (λ t about. fit_for catalog stores t.name about fit) (each_played catalog)
+
+pub coordinator_fit : (catalog : List Table) (stores : Attached) → AreFit catalog stores → AreFitFor coordinator_table stores
+coordinator_fit catalog stores fit = fit_for catalog stores coordinator_table (coordinator_played catalog coordinator_table refl) fit
 
 -- a table more whose records are all taken
-pub taken_more : (old mid : Attached) (ts : List Table) (i : ℕ) (t : Table) → slice_get ts i ≡ Some t → mid.places ≡ old.places → HoldTheSame old mid → first_unlike is_taken (flat_map (records_at old) (take i ts)) ≡ None → first_unlike is_taken (records_at mid t) ≡ None
-    → first_unlike is_taken (flat_map (records_at old) (take (i + 1) ts)) ≡ None
-taken_more old mid ts i t here places still before last =
-    ap (λ (k : ℕ). first_unlike is_taken (flat_map (records_at old) (take k ts))) (add-one i)
-    ∙ none_behind is_taken (records_at old) ts i t here before (ap (first_unlike is_taken) (sym (records_behind old mid t.name places still)) ∙ last)
+pub taken_more : (old mid : Attached) (ts : List Table) (i : ℕ) (t : Table) → slice_get ts i ≡ Some t → GoOn old mid → KnownStay old mid → AreFitFor t.name old → first_in (first_untaken_in old) (take i ts) ≡ None → (AreFitFor t.name mid → first_untaken_in mid t ≡ None)
+    → first_in (first_untaken_in old) (take (i + 1) ts) ≡ None
+taken_more old mid ts i t here goes stay fit before last =
+    ap (λ (k : ℕ). first_in (first_untaken_in old) (take k ts)) (add-one i)
+    ∙ none_behind (first_untaken_in old) ts i t here before (sym (untaken_behind old mid t goes stay fit) ∙ last (fit_for_on old mid t.name goes fit))
 
 -- a table with one that isn't
-pub untaken_behind : (old mid : Attached) (ts : List Table) (i : ℕ) (t : Table) (key : Key) → slice_get ts i ≡ Some t → mid.places ≡ old.places → HoldTheSame old mid → first_unlike is_taken (flat_map (records_at old) (take i ts)) ≡ None → first_unlike is_taken (records_at mid t) ≡ Some key
-    → first_unlike is_taken (flat_map (records_at old) ts) ≡ Some key
-untaken_behind old mid ts i t key here places still before first =
-    first_behind is_taken (records_at old) ts i t key here before (ap (first_unlike is_taken) (sym (records_behind old mid t.name places still)) ∙ first)
+pub untaken_among : (old mid : Attached) (ts : List Table) (i : ℕ) (t : Table) (key : Key) → slice_get ts i ≡ Some t → GoOn old mid → KnownStay old mid → (AreFit ts old → first_in (first_untaken_in old) (take i ts) ≡ None) → IsUntaken t mid key
+    → IsUntakenAmong ts old key
+untaken_among old mid ts i t key here goes stay before first =
+    let at : AreFitFor t.name old → first_untaken_in old t ≡ Some key = λ fit. sym (untaken_behind old mid t goes stay fit) ∙ first.first (fit_for_on old mid t.name goes fit) in
+    record {
+      at = i;
+      table = t;
+      there = here;
+      untaken = record { named = first.named; first = at };
+      first = λ fit. first_behind (first_untaken_in old) ts i t key here (before fit) (at (fit_for ts old t.name (played_at ts i t here) fit));
+    }
+
+-- a record that isn't so among those of a table is of that table
+pub unlike_of : (table : TableName) (is_so : Record → Bool) (rows : List Record) (key : Key) → are_rows_of (whole table) rows ≡ true → first_unlike is_so rows ≡ Some key → key.table ≡ table
+unlike_of table is_so rows key of e = by rows (and_second (rise rows) (list_all (λ r. in_span (whole table) r.key) rows) of) e
+  where
+    at : (k : Key) → in_span (whole table) k ≡ true → k.table ≡ table
+    at k inside = sym (table_exact table k.table (equal_of (table_cmp table k.table) (and_first (is_eq (table_cmp table k.table)) true inside)))
+
+    by : (rs : List Record) → list_all (λ r. in_span (whole table) r.key) rs ≡ true → first_unlike is_so rs ≡ Some key → key.table ≡ table
+    by [] all h = absurd (none_some key h)
+    by (r ∷ rs) all h = on (not (is_so r)) (by rs (and_second (in_span (whole table) r.key) (list_all (λ x. in_span (whole table) x.key) rs) all)) h
+      where
+        on : (b : Bool) → (first_unlike is_so rs ≡ Some key → key.table ≡ table) → option_map (λ (x : Record). x.key) (cond b (Some r) (find (λ x. not (is_so x)) rs)) ≡ Some key → key.table ≡ table
+        on true rest k = ap (λ (x : Key). x.table) (sym (some_is r.key key k)) ∙ at r.key (and_first (in_span (whole table) r.key) (list_all (λ x. in_span (whole table) x.key) rs) all)
+        on false rest k = rest k
 
 ---- the whole
 
 -- What the scan of the coordinator's table gave.
 pub record AreRows (stores : Attached) (found : List Record) (decide : TxId → Option Decided) (ids : List TxId) : Type 0 where
-  pub rows : found ≡ records_in stores coordinator_table
+  pub rows : AreFitFor coordinator_table stores → found ≡ records_in stores coordinator_table
+  pub rising : rise found ≡ true
   pub decided : rise found ≡ true → (id : TxId) → id.0 < 2 ^ 128 → decide id ≡ decision_among found id
   pub recorded : ids ≡ recorded_among found
-
-rows_rise : (stores : Attached) (rows : List Record) → rows ≡ records_in stores coordinator_table → rise rows ≡ true
-rows_rise stores rows e = ap rise e ∙ records_rise (placed stores.places) (shown stores.shelves) coordinator_table
 
 decision_where : (stores : Attached) (rows : List Record) (id : TxId) → rows ≡ records_in stores coordinator_table → decision_among rows id ≡ decision_at (placed stores.places) (shown stores.shelves) id
 decision_where stores rows id e = ap (λ (xs : List Record). decision_among xs id) e ∙ decision_there (placed stores.places) (shown stores.shelves) id
 
-pub closing_tables : (catalog : List Table) (old mid : Attached) (rows : List Record) (decide : TxId → Option Decided) (recorded : List TxId) (tables : List TableDump) → AreRows old rows decide recorded → mid.places ≡ old.places → HoldTheSame old mid → tables ≡ map (dump_in decide mid) catalog
-    → AreDumps catalog old tables
-closing_tables catalog old mid rows decide recorded tables r places still are d images =
-    are ∙ ap (λ (ps : List Placed). map (λ t. dump_by decide t (records_of (placed ps) (shown mid.shelves) t.name)) catalog) places ∙ ap (λ (ss : List Shelf). map (λ t. dump_by decide t (records_of (placed old.places) ss t.name)) catalog) still
-    ∙ dumps_are catalog (placed old.places) (shown old.shelves) decide d
-    (record { at = λ id small. r.decided (rows_rise old rows r.rows) id small ∙ decision_where old rows id r.rows }) images
+-- they are the decisions of what the stores hold
+pub decisions_are : (stores : Attached) (rows : List Record) (decide : TxId → Option Decided) (recorded : List TxId) → AreRows stores rows decide recorded → AreFitFor coordinator_table stores → AreDecisions (placed stores.places) (shown stores.shelves) decide
+decisions_are stores rows decide recorded r fit = record { at = λ id small. r.decided r.rising id small ∙ decision_where stores rows id (r.rows fit) }
 
-pub closing_recorded : (stores : Attached) (rows : List Record) (decide : TxId → Option Decided) (recorded : List TxId) → AreRows stores rows decide recorded → AreRecorded recorded stores
-closing_recorded stores rows decide recorded r id small =
-    let decision = decision_where stores rows id r.rows in (
-      λ h. subst (λ (o : Option Decided). IsSomeAnd o IsCommitted) decision (recorded_has rows (rows_rise stores rows r.rows) id (subst (λ (ids : List TxId). Contains ids id) r.recorded h)),
+pub closing_tables : (catalog : List Table) (old mid : Attached) (rows : List Record) (decide : TxId → Option Decided) (recorded : List TxId) (tables : List TableDump) → AreRows old rows decide recorded → GoOn old mid → (AreFit catalog old → HoldTheSame old mid)
+    → map (λ (d : TableDump). d.name) tables ≡ table_names catalog → AreDumpsUnder decide catalog mid tables → AreFit catalog old → AreDumps catalog old tables
+closing_tables catalog old mid rows decide recorded tables r goes still named under fit d images =
+    dumps_all decide mid catalog tables named under (each_fit catalog mid (goes.fit catalog fit))
+    ∙ ap (λ (ps : List Placed). map (λ t. dump_by decide t (records_of (placed ps) (shown mid.shelves) t.name)) catalog) goes.places ∙ ap (λ (ss : List Shelf). map (λ t. dump_by decide t (records_of (placed old.places) ss t.name)) catalog) (still fit)
+    ∙ dumps_are catalog (placed old.places) (shown old.shelves) decide d (decisions_are old rows decide recorded r (coordinator_fit catalog old fit)) images
+
+pub closing_known : (catalog : List Table) (old mid : Attached) (rows : List Record) (decide : TxId → Option Decided) (recorded : List TxId) (tables : List TableDump) → AreRows old rows decide recorded → GoOn old mid → KnownStay old mid
+    → map (λ (d : TableDump). d.name) tables ≡ table_names catalog → AreDumpsUnder decide catalog mid tables → AreDumpsWhereKnown catalog old tables
+closing_known catalog old mid rows decide recorded tables r goes stay named under = record {
+  named = named;
+  each = λ i t dump here there fit coordinator.
+      under i t dump here there (fit_for_on old mid t.name goes fit) ∙ dump_behind decide old mid t goes stay fit
+      ∙ sym (dump_same (placed old.places) (shown old.shelves) decide t (records_in old t.name) (decisions_are old rows decide recorded r coordinator));
+}
+
+pub closing_recorded : (stores : Attached) (rows : List Record) (decide : TxId → Option Decided) (recorded : List TxId) → AreRows stores rows decide recorded → AreFitFor coordinator_table stores → AreRecorded recorded stores
+closing_recorded stores rows decide recorded r fit id small =
+    let decision = decision_where stores rows id (r.rows fit) in (
+      λ h. subst (λ (o : Option Decided). IsSomeAnd o IsCommitted) decision (recorded_has rows r.rising id (subst (λ (ids : List TxId). Contains ids id) r.recorded h)),
       λ h. subst (λ (ids : List TxId). Contains ids id) (sym r.recorded) (recorded_all rows id small (subst (λ (o : Option Decided). IsSomeAnd o IsCommitted) (sym decision) h)),
     )
 
 pub closing_once : (stores : Attached) (rows : List Record) (decide : TxId → Option Decided) (recorded : List TxId) → AreRows stores rows decide recorded → AllPairs (λ a b. a ≢ b) recorded
-closing_once stores rows decide recorded r = subst (AllPairs (λ (a b : TxId). a ≢ b)) (sym r.recorded) (recorded_once rows (rows_rise stores rows r.rows))
+closing_once stores rows decide recorded r = subst (AllPairs (λ (a b : TxId). a ≢ b)) (sym r.recorded) (recorded_once rows r.rising)
+
+---- what stopped it
 
 -- the first odd record is a row of the coordinator's table
 pub odd_in_rows : (catalog : List Table) (stores : Attached) (rows : List Record) (key : Key) → rows ≡ records_in stores coordinator_table → first_unlike is_decided rows ≡ Some key → first_odd catalog (placed stores.places) (shown stores.shelves) ≡ Some key
-odd_in_rows catalog stores rows key e first =
-    ap (λ (o : Option Key). first_of o (first_unlike is_taken (flat_map (records_at stores) catalog))) (ap (first_unlike is_decided) (sym e) ∙ first)
+odd_in_rows catalog stores rows key e first = ap (λ (o : Option Key). first_of o (first_in (first_untaken_in stores) catalog)) (ap (first_unlike is_decided) (sym e) ∙ first)
+
+pub row_odd : (catalog : List Table) (stores : Attached) (rows : List Record) (key : Key) → (AreFitFor coordinator_table stores → rows ≡ records_in stores coordinator_table) → are_rows_of (whole coordinator_table) rows ≡ true → first_unlike is_decided rows ≡ Some key → IsOddIn catalog stores key
+row_odd catalog stores rows key found of first =
+    let named = unlike_of coordinator_table is_decided rows key of first in
+    record {
+      played = coordinator_played catalog key.table named;
+      odd = λ fit. odd_row catalog (placed stores.places) (shown stores.shelves) key (ap (first_unlike is_decided) (sym (found (subst (λ (n : TableName). AreFitFor n stores) named fit))) ∙ first);
+    }
 
 -- or a record of a table, where these are well formed
-pub odd_in_tables : (catalog : List Table) (old mid : Attached) (rows : List Record) (key : Key) → rows ≡ records_in old coordinator_table → first_unlike is_decided rows ≡ None → mid.places ≡ old.places → HoldTheSame old mid
-    → first_unlike is_taken (flat_map (records_at mid) catalog) ≡ Some key → first_odd catalog (placed old.places) (shown old.shelves) ≡ Some key
-odd_in_tables catalog old mid rows key e none places still first =
-    ap (λ (o : Option Key). first_of o (first_unlike is_taken (flat_map (records_at old) catalog))) (ap (first_unlike is_decided) (sym e) ∙ none)
-    ∙ sym (ap (λ (ps : List Placed). first_unlike is_taken (flat_map (λ t. records_of (placed ps) (shown mid.shelves) t.name) catalog)) places ∙ ap (λ (ss : List Shelf). first_unlike is_taken (flat_map (λ t. records_of (placed old.places) ss t.name) catalog)) still)
-    ∙ first
+pub odd_in_tables : (catalog : List Table) (old mid : Attached) (rows : List Record) (key : Key) → (AreFitFor coordinator_table old → rows ≡ records_in old coordinator_table) → first_unlike is_decided rows ≡ None → GoOn old mid → KnownStay old mid → IsUntakenAmong catalog mid key
+    → AreFit catalog old → first_odd catalog (placed old.places) (shown old.shelves) ≡ Some key
+odd_in_tables catalog old mid rows key found none goes stay first fit =
+    ap (λ (o : Option Key). first_of o (first_in (first_untaken_in old) catalog)) (ap (first_unlike is_decided) (sym (found (coordinator_fit catalog old fit))) ∙ none)
+    ∙ sym (first_same (first_untaken_in mid) (first_untaken_in old) catalog (all_each (λ (t : Table). AreFitFor t.name old) (λ (t : Table). first_untaken_in mid t ≡ first_untaken_in old t) catalog (λ t f. untaken_behind old mid t goes stay f) (each_fit catalog old fit)))
+    ∙ first.first (goes.fit catalog fit)
+
+pub record_odd : (catalog : List Table) (old mid : Attached) (key : Key) → GoOn old mid → KnownStay old mid → IsUntakenAmong catalog mid key → IsOddIn catalog old key
+record_odd catalog old mid key goes stay first =
+    let t = first.table in
+    let named = first.untaken.named in
+    record {
+      played = ap (is_played catalog) named ∙ played_at catalog first.at t first.there;
+      odd = λ fit.
+          let fit_t : AreFitFor t.name old = subst (λ (n : TableName). AreFitFor n old) named fit in
+          odd_record catalog (placed old.places) (shown old.shelves) t key (all_at (λ (u : Table). is_some (find_table catalog u.name) ≡ true) catalog first.at t (each_found catalog) first.there)
+          (sym (untaken_behind old mid t goes stay fit_t) ∙ first.untaken.first (fit_for_on old mid t.name goes fit_t));
+    }

@@ -3,8 +3,8 @@ use Rattle.std.proofs.Common.{◌≡◌, ◌∙◌, ◌<◌, ◌^◌, Bool, true
 use Rattle.std.specs.Prelude.{filter, map, is_some}
 use Rattle.std.specs.FinMap.{empty, entries, entries_sorted, get, get-empty, get-entries}
 use Rattle.std.specs.FinMap.Entries.{same_entries}
-use Rattle.std.specs.List.{AllByRecursion, filter_map, list_all}
-use Rattle.std.specs.Option.{option_and_then, option_map_or}
+use Rattle.std.specs.List.{AllByRecursion, cons_option, filter_map, list_all}
+use Rattle.std.specs.Option.{option_and_then, option_map, option_map_or}
 use Rattle.std.specs.Ordering.{is_eq}
 use Rattle.std.specs.Result.{result_ok}
 use Rattle.sdb_types.specs.declared.key.Key.{Key}
@@ -117,3 +117,14 @@ dumps_are catalog places shelves decide d are images =
     each_dump (λ t. dump_by decide t (records_of places shelves t.name)) (dump_of d) catalog
     (all_each (λ (t : Table). is_some (find_table catalog t.name) ≡ true) (λ (t : Table). dump_by decide t (records_of places shelves t.name) ≡ dump_of d t) catalog
     (λ t known. table_dump catalog places shelves decide d t known are images) (each_found catalog))
+
+-- the dump of a table's records is the same under the decisions of what the stores hold
+pub dump_same : (places : List Place) (shelves : List Shelf) (decide : TxId → Option Decided) (t : Table) (rs : List Record) → AreDecisions places shelves decide → dump_by (decision_at places shelves) t rs ≡ dump_by decide t rs
+dump_same places shelves decide t rs are = ap (λ (images : List Image). record { name = t.name; rows = map (shown t None) (sorted t images) }) (each_image rs)
+  where
+    image_same : (r : Record) → image_by (decision_at places shelves) r ≡ image_by decide r
+    image_same r = ap (λ (d : Option Decided). option_map (λ (columns : List Pair). record { key = r.key; columns = columns }) (option_and_then row_of_image (image_of r d))) (decision_same places shelves decide r are)
+
+    each_image : (xs : List Record) → filter_map (image_by (decision_at places shelves)) xs ≡ filter_map (image_by decide) xs
+    each_image [] = refl
+    each_image (x ∷ xs) = ap (λ (o : Option Image). cons_option o (filter_map (image_by (decision_at places shelves)) xs)) (image_same x) ∙ ap (cons_option (image_by decide x)) (each_image xs)

@@ -6,3 +6,4 @@ pub mod Tables
 pub mod Images
 pub mod OddRecords
 pub mod Closings
+pub mod Later

@@ -1,7 +1,7 @@
 -- The records that a scan shows to break the rules are at their keys.
 use Rattle.std.proofs.Common.{◌≡◌, ◌∙◌, inl, inr, ℕ, zero, suc, Bool, true, false, cond, List, [], ◌∷◌, ◌++◌, take, Option, Some, None, refl, sym, ap}
 use Rattle.std.specs.Prelude.{Contains, find, is_some, not, slice_get}
-use Rattle.std.specs.List.{AllByRecursion, flat_map, list_all}
+use Rattle.std.specs.List.{AllByRecursion, list_all}
 use Rattle.std.specs.Option.{option_map, option_map_or}
 use Rattle.std.specs.Ordering.{is_eq}
 use Rattle.sdb_types.specs.declared.key.Key.{Key}
@@ -21,9 +21,8 @@ use Rattle.sdb_model.specs.declared.script.Place.{Place}
 use Rattle.sdb_model.specs.Events.{Shelf, held_by, standing, store_of}
 use Rattle.sdb_model.specs.Exec.{find_table}
 use Rattle.sdb_board.specs.Opening.{records_of, whole}
-use Rattle.sdb_board.proofs.RunTables.{each_found}
 use Rattle.sdb_dump.specs.Decided.{is_decided}
-use Rattle.sdb_dump.specs.Odd.{IsOddAt, first_odd, first_of}
+use Rattle.sdb_dump.specs.Odd.{IsOddAt, first_in, first_of, first_untaken}
 use Rattle.sdb_dump.specs.Refused.{first_unlike}
 use Rattle.sdb_dump.proofs.Coordinated.{row_found}
 use Rattle.sdb_dump.proofs.Lists.{first_or_later, found_in_list, none_in}
@@ -78,64 +77,40 @@ unlike places shelves table is_so key h = by (find (λ r. not (is_so r)) (record
         record { found = r; stands = ap (standing places shelves) (sym (some_is r.key key k)) ∙ s.stands; table_is = s.table_is; bad = not_so (is_so r) there.1 }
 
 -- of the coordinator's table
-odd_row : (catalog : List Table) (places : List Place) (shelves : List Shelf) (key : Key) → first_unlike is_decided (records_of places shelves coordinator_table) ≡ Some key → IsOddAt catalog places shelves key
+pub odd_row : (catalog : List Table) (places : List Place) (shelves : List Shelf) (key : Key) → first_unlike is_decided (records_of places shelves coordinator_table) ≡ Some key → IsOddAt catalog places shelves key
 odd_row catalog places shelves key h =
     let u = unlike places shelves coordinator_table is_decided key h in
     record { found = u.found; stands = u.stands; odd = inr (ap is_coordinator_table (sym u.table_is), u.bad) }
 
 -- of a table of the catalog
-odd_record : (catalog : List Table) (places : List Place) (shelves : List Shelf) (t : Table) (key : Key) → is_some (find_table catalog t.name) ≡ true → first_unlike is_taken (records_of places shelves t.name) ≡ Some key → IsOddAt catalog places shelves key
+pub odd_record : (catalog : List Table) (places : List Place) (shelves : List Shelf) (t : Table) (key : Key) → is_some (find_table catalog t.name) ≡ true → first_untaken places shelves t ≡ Some key → IsOddAt catalog places shelves key
 odd_record catalog places shelves t key known h =
     let u = unlike places shelves t.name is_taken key h in
     record { found = u.found; stands = u.stands; odd = inl (ap (λ (n : TableName). is_some (find_table catalog n)) (sym u.table_is) ∙ known, u.bad) }
 
 ---- table by table
 
-unlike_append : (p : Record → Bool) (xs ys : List Record) → first_unlike p (xs ++ ys) ≡ first_of (first_unlike p xs) (first_unlike p ys)
-unlike_append p [] ys = refl
-unlike_append p (x ∷ xs) ys = by (not (p x)) (unlike_append p xs ys)
-  where
-    by : (b : Bool) → first_unlike p (xs ++ ys) ≡ first_of (first_unlike p xs) (first_unlike p ys)
-        → option_map (λ (r : Record). r.key) (cond b (Some x) (find (λ r. not (p r)) (xs ++ ys))) ≡ first_of (option_map (λ (r : Record). r.key) (cond b (Some x) (find (λ r. not (p r)) xs))) (first_unlike p ys)
-    by true rest = refl
-    by false rest = rest
-
 none_both : (a b : Option Key) → first_of a b ≡ None → (a ≡ None) × (b ≡ None)
 none_both None b h = (refl, h)
 none_both (Some k) b h = absurd (none_some k (sym h))
 
--- where the tables before hold none, the first of the next is the first of all
-pub first_behind : (p : Record → Bool) (f : Table → List Record) (ts : List Table) (i : ℕ) (t : Table) (key : Key) → slice_get ts i ≡ Some t → first_unlike p (flat_map f (take i ts)) ≡ None → first_unlike p (f t) ≡ Some key → first_unlike p (flat_map f ts) ≡ Some key
-first_behind p f [] i t key here none first = absurd (none_some t here)
-first_behind p f (x ∷ ts) zero t key here none first =
-    unlike_append p (f x) (flat_map f ts) ∙ ap (λ (o : Option Key). first_of o (first_unlike p (flat_map f ts))) (ap (λ (y : Table). first_unlike p (f y)) (some_is x t here) ∙ first)
-first_behind p f (x ∷ ts) (suc i) t key here none first =
-    let both = none_both (first_unlike p (f x)) (first_unlike p (flat_map f (take i ts))) (sym (unlike_append p (f x) (flat_map f (take i ts))) ∙ none) in
-    unlike_append p (f x) (flat_map f ts) ∙ ap (λ (o : Option Key). first_of o (first_unlike p (flat_map f ts))) both.0 ∙ first_behind p f ts i t key here both.1 first
+-- where the tables before give none, the first of the next is the first of all
+pub first_behind : (f : Table → Option Key) (ts : List Table) (i : ℕ) (t : Table) (key : Key) → slice_get ts i ≡ Some t → first_in f (take i ts) ≡ None → f t ≡ Some key → first_in f ts ≡ Some key
+first_behind f [] i t key here none first = absurd (none_some t here)
+first_behind f (x ∷ ts) zero t key here none first = ap (λ (o : Option Key). first_of o (first_in f ts)) (ap f (some_is x t here) ∙ first)
+first_behind f (x ∷ ts) (suc i) t key here none first =
+    let both = none_both (f x) (first_in f (take i ts)) none in
+    ap (λ (o : Option Key). first_of o (first_in f ts)) both.0 ∙ first_behind f ts i t key here both.1 first
 
--- one table more that holds none
-pub none_behind : (p : Record → Bool) (f : Table → List Record) (ts : List Table) (i : ℕ) (t : Table) → slice_get ts i ≡ Some t → first_unlike p (flat_map f (take i ts)) ≡ None → first_unlike p (f t) ≡ None → first_unlike p (flat_map f (take (suc i) ts)) ≡ None
-none_behind p f [] i t here none last = absurd (none_some t here)
-none_behind p f (x ∷ ts) zero t here none last =
-    unlike_append p (f x) [] ∙ ap (λ (o : Option Key). first_of o None) (ap (λ (y : Table). first_unlike p (f y)) (some_is x t here) ∙ last)
-none_behind p f (x ∷ ts) (suc i) t here none last =
-    let both = none_both (first_unlike p (f x)) (first_unlike p (flat_map f (take i ts))) (sym (unlike_append p (f x) (flat_map f (take i ts))) ∙ none) in
-    unlike_append p (f x) (flat_map f (take (suc i) ts)) ∙ ap (λ (o : Option Key). first_of o (first_unlike p (flat_map f (take (suc i) ts)))) both.0 ∙ none_behind p f ts i t here both.1 last
+-- one table more that gives none
+pub none_behind : (f : Table → Option Key) (ts : List Table) (i : ℕ) (t : Table) → slice_get ts i ≡ Some t → first_in f (take i ts) ≡ None → f t ≡ None → first_in f (take (suc i) ts) ≡ None
+none_behind f [] i t here none last = absurd (none_some t here)
+none_behind f (x ∷ ts) zero t here none last = ap (λ (o : Option Key). first_of o None) (ap f (some_is x t here) ∙ last)
+none_behind f (x ∷ ts) (suc i) t here none last =
+    let both = none_both (f x) (first_in f (take i ts)) none in
+    ap (λ (o : Option Key). first_of o (first_in f (take (suc i) ts))) both.0 ∙ none_behind f ts i t here both.1 last
 
-odd_among : (catalog : List Table) (places : List Place) (shelves : List Shelf) (ts : List Table) (key : Key) → AllByRecursion (λ (t : Table). is_some (find_table catalog t.name) ≡ true) ts → first_unlike is_taken (flat_map (λ t. records_of places shelves t.name) ts) ≡ Some key → IsOddAt catalog places shelves key
-odd_among catalog places shelves [] key known h = absurd (none_some key h)
-odd_among catalog places shelves (t ∷ ts) key known h =
-    by (first_unlike is_taken (records_of places shelves t.name)) refl (odd_among catalog places shelves ts key known.1) (sym (unlike_append is_taken (records_of places shelves t.name) (flat_map (λ u. records_of places shelves u.name) ts)) ∙ h)
-  where
-    by : (o : Option Key) → first_unlike is_taken (records_of places shelves t.name) ≡ o → (first_unlike is_taken (flat_map (λ u. records_of places shelves u.name) ts) ≡ Some key → IsOddAt catalog places shelves key)
-        → first_of o (first_unlike is_taken (flat_map (λ u. records_of places shelves u.name) ts)) ≡ Some key → IsOddAt catalog places shelves key
-    by None e rest k = rest k
-    by (Some x) e rest k = odd_record catalog places shelves t key known.0 (e ∙ k)
-
--- the first odd record is at its key
-pub odd_first : (catalog : List Table) (places : List Place) (shelves : List Shelf) (key : Key) → first_odd catalog places shelves ≡ Some key → IsOddAt catalog places shelves key
-odd_first catalog places shelves key h = by (first_unlike is_decided (records_of places shelves coordinator_table)) refl h
-  where
-    by : (o : Option Key) → first_unlike is_decided (records_of places shelves coordinator_table) ≡ o → first_of o (first_unlike is_taken (flat_map (λ t. records_of places shelves t.name) catalog)) ≡ Some key → IsOddAt catalog places shelves key
-    by None e k = odd_among catalog places shelves catalog key (each_found catalog) k
-    by (Some x) e k = odd_row catalog places shelves key (e ∙ k)
+-- what tables give that give the same
+pub first_same : (f g : Table → Option Key) (ts : List Table) → AllByRecursion (λ (t : Table). f t ≡ g t) ts → first_in f ts ≡ first_in g ts
+first_same f g [] h = refl
+first_same f g (t ∷ ts) h = ap (λ (o : Option Key). first_of o (first_in f ts)) h.0 ∙ ap (first_of (g t)) (first_same f g ts h.1)

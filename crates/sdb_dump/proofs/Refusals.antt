@@ -27,6 +27,11 @@ refused_as near far before after refused.StoreFault f g h = g h
 refused_as near far before after (refused.BadRecord key) f g h = f key h
 refused_as near far before after refused.NoMemory f g h = tt
 
+-- what is so of an error
+pub refused_then : {T : Type 0} (P Q : ClosingRefused → Type 0) (r : Result T ClosingRefused) → ((e : ClosingRefused) → P e → Q e) → IfErr r P → IfErr r Q
+refused_then P Q (Ok x) f h = tt
+refused_then P Q (Err e) f h = f e h
+
 -- the first record that isn't so, after those that are
 pub first_is : (is_so : Record → Bool) (rows : List Record) (i : ℕ) (r : Record) (key : Key) → slice_get rows i ≡ Some r → find (λ x. not (is_so x)) (take i rows) ≡ None → (key ≡ r.key) × (is_so r ≡ false) → first_unlike is_so rows ≡ Some key
 first_is is_so rows i r key here none bad = ap (option_map (λ (x : Record). x.key)) (found_first (λ x. not (is_so x)) rows i r here none (ap not bad.1)) ∙ ap Some (sym bad.0)

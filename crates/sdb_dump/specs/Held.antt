@@ -1,22 +1,21 @@
 -- What stores hold in the end, as a closing dump shows it.
-use Rattle.std.specs.Prelude.{◌≡◌, ◌<◌, ◌^◌, ◌↔◌, Contains, List, map, Option, Some}
-use Rattle.std.specs.List.{flat_map}
+use Rattle.std.specs.Prelude.{◌≡◌, ℕ, ◌<◌, ◌^◌, ◌↔◌, Contains, List, map, slice_get, true, Option, Some}
 use Rattle.sdb_types.specs.declared.key.Key.{Key}
-use Rattle.sdb_types.specs.declared.key.TableName.{TableName}
 use Rattle.sdb_types.specs.declared.txid.TxId.{TxId}
 use Rattle.sdb_record.specs.declared.coordinator.Decided.{Decided}
-use Rattle.sdb_record.specs.Meta.{is_taken}
+use Rattle.sdb_record.specs.Coordinator.{coordinator_table}
 use Rattle.sdb_schema.specs.declared.table.Table.{Table}
 use Rattle.sdb_stores.specs.Shelf.{Attached}
 use Rattle.sdb_model.specs.declared.event.TableDump.{TableDump}
 use Rattle.sdb_model.specs.Exec.{Tables}
+use Rattle.sdb_model.specs.Images.{decision_at}
 use Rattle.sdb_model.specs.Told.{AreImages, dumps_of}
 use Rattle.sdb_model.specs.Transactions.{Recorded}
 use Rattle.sdb_board.specs.Board.{AreFit, AreFitFor, placed, shown}
-use Rattle.sdb_board.specs.Opening.{records_in}
+use Rattle.sdb_board.specs.Opening.{records_in, table_names}
+use Rattle.sdb_spread.specs.Spread.{is_played}
 use Rattle.sdb_dump.specs.Dumped.{dump_by}
-use Rattle.sdb_dump.specs.Odd.{IsOddAt, first_odd}
-use Rattle.sdb_dump.specs.Refused.{first_unlike}
+use Rattle.sdb_dump.specs.Odd.{IsOddAt, first_in, first_odd, first_untaken}
 
 -- the rows of a table under decisions on transactions
 abbrev pub dump_in : (TxId → Option Decided) → Attached → Table → TableDump
@@ -26,9 +25,23 @@ dump_in decide stores t = dump_by decide t (records_in stores t.name)
 abbrev pub dumps_in : (TxId → Option Decided) → Attached → List Table → List TableDump
 dumps_in decide stores catalog = map (dump_in decide stores) catalog
 
+-- The dumps are those of a catalog's tables under decisions on transactions, as far as contents are known.
+abbrev pub AreDumpsUnder : (TxId → Option Decided) → List Table → Attached → List TableDump → Type 0
+AreDumpsUnder decide catalog stores dumps =
+    (i : ℕ) (t : Table) (dump : TableDump) → slice_get catalog i ≡ Some t → slice_get dumps i ≡ Some dump → AreFitFor t.name stores → dump ≡ dump_in decide stores t
+
 -- The dumps are those of the committed images of what the stores hold.
 abbrev pub AreDumps : List Table → Attached → List TableDump → Type 0
 AreDumps catalog stores dumps = (d : Tables) → AreImages catalog (placed stores.places) (shown stores.shelves) d → dumps ≡ dumps_of catalog d
+
+-- The dump is that of a table's committed images, where its store and that of the coordinator's table have known contents.
+abbrev pub IsDumpWhereKnown : Attached → Table → TableDump → Type 0
+IsDumpWhereKnown stores t dump = AreFitFor t.name stores → AreFitFor coordinator_table stores → dump ≡ dump_in (decision_at (placed stores.places) (shown stores.shelves)) stores t
+
+-- There is one dump of each table, in their order, under its name.
+pub record AreDumpsWhereKnown (catalog : List Table) (stores : Attached) (dumps : List TableDump) : Type 0 where
+  pub named : map (λ d. d.name) dumps ≡ table_names catalog
+  pub each : (i : ℕ) (t : Table) (dump : TableDump) → slice_get catalog i ≡ Some t → slice_get dumps i ≡ Some dump → IsDumpWhereKnown stores t dump
 
 -- The transactions are those that the stores record.
 abbrev pub AreRecorded : List TxId → Attached → Type 0
@@ -36,18 +49,28 @@ AreRecorded ids stores = (id : TxId) → id.0 < 2 ^ 128 → Contains ids id ↔ 
 
 ---- records that stop a dump
 
--- The key is that of the first record of a table that isn't a transactional one, where the stores are fit.
-abbrev pub IsUntaken : TableName → Attached → Key → Type 0
-IsUntaken table stores key = AreFitFor table stores → first_unlike is_taken (records_in stores table) ≡ Some key
+-- the key of the first record of a table that isn't a transactional one
+abbrev pub first_untaken_in : Attached → Table → Option Key
+first_untaken_in stores t = first_untaken (placed stores.places) (shown stores.shelves) t
 
--- The key is that of the first such record of a catalog's tables.
-abbrev pub IsUntakenAmong : List Table → Attached → Key → Type 0
-IsUntakenAmong catalog stores key = AreFit catalog stores → first_unlike is_taken (flat_map (λ t. records_in stores t.name) catalog) ≡ Some key
+-- The key is of a table, and that of its first record that isn't a transactional one, where the contents of its store are known.
+pub record IsUntaken (t : Table) (stores : Attached) (key : Key) : Type 0 where
+  pub named : key.table ≡ t.name
+  pub first : AreFitFor t.name stores → first_untaken_in stores t ≡ Some key
+
+-- The key is such a one of a table of a catalog, and that of the first such record of all its tables, where the stores are fit.
+pub record IsUntakenAmong (catalog : List Table) (stores : Attached) (key : Key) : Type 0 where
+  pub at : ℕ
+  pub table : Table
+  pub there : slice_get catalog at ≡ Some table
+  pub untaken : IsUntaken table stores key
+  pub first : AreFit catalog stores → first_in (first_untaken_in stores) catalog ≡ Some key
 
 -- The key is that of the first record that breaks the rules of its table, where the stores are fit.
 abbrev pub IsFirstOdd : List Table → Attached → Key → Type 0
 IsFirstOdd catalog stores key = AreFit catalog stores → first_odd catalog (placed stores.places) (shown stores.shelves) ≡ Some key
 
--- The record at the key breaks the rules of its table, where the stores are fit.
-abbrev pub IsOddIn : List Table → Attached → Key → Type 0
-IsOddIn catalog stores key = AreFit catalog stores → IsOddAt catalog (placed stores.places) (shown stores.shelves) key
+-- The key is of a table of the run, and the record there breaks the rules of its table, where the contents of its store are known.
+pub record IsOddIn (catalog : List Table) (stores : Attached) (key : Key) : Type 0 where
+  pub played : is_played catalog key.table ≡ true
+  pub odd : AreFitFor key.table stores → IsOddAt catalog (placed stores.places) (shown stores.shelves) key

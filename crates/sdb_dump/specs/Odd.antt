@@ -1,6 +1,5 @@
 -- Records that break the rules of their tables.
-use Rattle.std.specs.Prelude.{◌≡◌, ◌⊎◌, true, false, List, Option, Some, None, is_some}
-use Rattle.std.specs.List.{flat_map}
+use Rattle.std.specs.Prelude.{◌≡◌, ◌⊎◌, true, false, is_some, List, [], ◌∷◌, Option, Some, None}
 use Rattle.sdb_types.specs.declared.key.Key.{Key}
 use Rattle.sdb_types.specs.declared.record.Record.{Record}
 use Rattle.sdb_record.specs.Coordinator.{coordinator_table, is_coordinator_table}
@@ -27,7 +26,15 @@ abbrev pub first_of : Option Key → Option Key → Option Key
 first_of None other = other
 first_of (Some key) other = Some key
 
+-- the first key that tables give
+abbrev pub first_in : (Table → Option Key) → List Table → Option Key
+first_in f [] = None
+first_in f (t ∷ ts) = first_of (f t) (first_in f ts)
+
+-- the key of the first record of a table that isn't a transactional one
+abbrev pub first_untaken : List Place → List Shelf → Table → Option Key
+first_untaken places shelves t = first_unlike is_taken (records_of places shelves t.name)
+
 -- the key of the first such record, where the coordinator's table is scanned first, and then each table of the catalog
 abbrev pub first_odd : List Table → List Place → List Shelf → Option Key
-first_odd catalog places shelves =
-    first_of (first_unlike is_decided (records_of places shelves coordinator_table)) (first_unlike is_taken (flat_map (λ t. records_of places shelves t.name) catalog))
+first_odd catalog places shelves = first_of (first_unlike is_decided (records_of places shelves coordinator_table)) (first_in (first_untaken places shelves) catalog)

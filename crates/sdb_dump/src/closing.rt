@@ -1,12 +1,12 @@
 //! The closing dump: one scan of the coordinator's table, then one of each table of a catalog.
-ghost use Rattle.std.specs.Prelude.{◌≡◌, ◌≢◌, ◌<◌, ◌^◌, AllPairs, Contains, length, IfOk, IfErr, OnOk, None};
+ghost use Rattle.std.specs.Prelude.{◌≡◌, ◌≢◌, ◌<◌, ◌^◌, AllPairs, Contains, length, map, IfOk, IfErr, OnOk, None};
 ghost use Rattle.sdb_types.specs.declared.txid.TxId.{TxId as Id};
-ghost use Rattle.sdb_record.specs.Meta.{is_taken};
-ghost use Rattle.sdb_board.specs.Board.{AreFit, AreFitFor, GoOn, HoldTheSame};
-ghost use Rattle.sdb_board.specs.Opening.{records_in};
+ghost use Rattle.sdb_record.specs.Coordinator.{coordinator_table as coordinator_table_lem};
+ghost use Rattle.sdb_board.specs.Board.{AreFit, AreFitFor, GoOn, HoldTheSame, KnownStay, known_before};
+ghost use Rattle.sdb_board.specs.Opening.{table_names};
 ghost use Rattle.sdb_dump.specs.Decided.{decided};
-ghost use Rattle.sdb_dump.specs.Held.{AreDumps, AreRecorded, IsFirstOdd, IsOddIn, IsUntaken, IsUntakenAmong, dump_in, dumps_in};
-ghost use Rattle.sdb_dump.specs.Refused.{RefusesOn, first_unlike};
+ghost use Rattle.sdb_dump.specs.Held.{AreDumps, AreDumpsUnder, AreDumpsWhereKnown, AreRecorded, IsFirstOdd, IsOddIn, IsUntaken, IsUntakenAmong, dump_in, first_untaken_in};
+ghost use Rattle.sdb_dump.specs.Refused.{RefusesOn};
 
 use crate::decisions::{Decisions, TxIds, decisions_of};
 use crate::refused::ClosingRefused;
@@ -36,10 +36,12 @@ fn dump<R: Registry>(
 ) -> Result<TableDump, ClosingRefused>
     requires some { 0 < length (R.state stores.old).shelves }
     ensures dump { IfOk result (λ dump. AreFitFor table.now.name (R.state stores.old) → dump ≡ dump_in (decided decisions.now) (R.state stores.old) table.now) }
-    ensures still { OnOk result (AreFitFor table.now.name (R.state stores.old) → HoldTheSame (R.state stores.old) (R.state stores.new)) }
-    ensures taken { OnOk result (AreFitFor table.now.name (R.state stores.old) → first_unlike is_taken (records_in (R.state stores.old) table.now.name) ≡ None) }
+    ensures named { IfOk result (λ dump. dump.name ≡ table.now.name) }
+    ensures taken { OnOk result (AreFitFor table.now.name (R.state stores.old) → first_untaken_in (R.state stores.old) table.now ≡ None) }
+    ensures still { AreFitFor table.now.name (R.state stores.old) → HoldTheSame (R.state stores.old) (R.state stores.new) }
+    ensures known { KnownStay (R.state stores.old) (R.state stores.new) }
     ensures goes { GoOn (R.state stores.old) (R.state stores.new) }
-    ensures err { IfErr result (RefusesOn (R.state stores.old) (R.state stores.new) (IsUntaken table.now.name (R.state stores.old))) }
+    ensures err { IfErr result (RefusesOn (R.state stores.old) (R.state stores.new) (IsUntaken table.now (R.state stores.old))) }
 {
     let records = scan(stores, &table.name)?;
     dump_of(alloc, table, decisions, records.as_slice())
@@ -53,8 +55,10 @@ fn dumps<R: Registry>(
     decisions: &Decisions,
 ) -> Result<TableRows, ClosingRefused>
     requires some { 0 < length (R.state stores.old).shelves }
-    ensures tables { IfOk result (λ tables. AreFit catalog.now (R.state stores.old) → tables ≡ dumps_in (decided decisions.now) (R.state stores.old) catalog.now) }
-    ensures still { OnOk result (AreFit catalog.now (R.state stores.old) → HoldTheSame (R.state stores.old) (R.state stores.new)) }
+    ensures named { IfOk result (λ tables. map (λ d. d.name) tables ≡ table_names catalog.now) }
+    ensures tables { IfOk result (AreDumpsUnder (decided decisions.now) catalog.now (R.state stores.old)) }
+    ensures still { AreFit catalog.now (R.state stores.old) → HoldTheSame (R.state stores.old) (R.state stores.new) }
+    ensures known { KnownStay (R.state stores.old) (R.state stores.new) }
     ensures goes { GoOn (R.state stores.old) (R.state stores.new) }
     ensures err { IfErr result (RefusesOn (R.state stores.old) (R.state stores.new) (IsUntakenAmong catalog.now (R.state stores.old))) }
 {
@@ -67,7 +71,8 @@ fn dumps<R: Registry>(
     Ok(tables)
 }
 
-/// The transactions that are recorded, each once, and the rows of the committed images of what the stores hold, table by table.
+/// The transactions that are recorded, each once, and the rows of the committed images of what the stores hold, table by table. The stores
+/// are scanned, and hold what they held.
 pub fn closing_dump<R: Registry>(
     alloc: Global,
     stores: &mut R,
@@ -75,13 +80,15 @@ pub fn closing_dump<R: Registry>(
 ) -> Result<Closing, ClosingRefused>
     requires some { 0 < length (R.state stores.old).shelves }
     ensures tables { IfOk result (λ closing. AreFit catalog.now (R.state stores.old) → AreDumps catalog.now (R.state stores.old) closing.tables) }
-    ensures recorded { IfOk result (λ closing. AreFit catalog.now (R.state stores.old) → AreRecorded closing.recorded (R.state stores.old)) }
+    ensures dumped { IfOk result (λ closing. AreDumpsWhereKnown catalog.now (known_before (R.state stores.old) (R.state stores.new)) closing.tables) }
+    ensures recorded { IfOk result (λ closing. AreFitFor coordinator_table_lem (R.state stores.old) → AreRecorded closing.recorded (R.state stores.old)) }
     ensures small { IfOk result (λ closing. (id : Id) → Contains closing.recorded id → id.0 < 2 ^ 128) }
-    ensures once { IfOk result (λ closing. AreFit catalog.now (R.state stores.old) → AllPairs (λ a b. a ≢ b) closing.recorded) }
-    ensures still { OnOk result (AreFit catalog.now (R.state stores.old) → HoldTheSame (R.state stores.old) (R.state stores.new)) }
+    ensures once { IfOk result (λ closing. AllPairs (λ a b. a ≢ b) closing.recorded) }
+    ensures still { AreFit catalog.now (R.state stores.old) → HoldTheSame (R.state stores.old) (R.state stores.new) }
+    ensures known { KnownStay (R.state stores.old) (R.state stores.new) }
     ensures goes { GoOn (R.state stores.old) (R.state stores.new) }
     ensures first { IfErr result (RefusesOn (R.state stores.old) (R.state stores.new) (IsFirstOdd catalog.now (R.state stores.old))) }
-    ensures err { IfErr result (RefusesOn (R.state stores.old) (R.state stores.new) (IsOddIn catalog.now (R.state stores.old))) }
+    ensures err { IfErr result (RefusesOn (R.state stores.old) (R.state stores.new) (IsOddIn catalog.now (known_before (R.state stores.old) (R.state stores.new)))) }
 {
     let table = coordinator_table();
     let rows = scan(stores, &table)?;

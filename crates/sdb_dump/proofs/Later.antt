@@ -1,0 +1,85 @@
+-- What stores hold, as it is seen after calls that change nothing.
+use Rattle.std.proofs.Common.{◌≡◌, ◌∙◌, Bool, true, List, [], Option, Some, None, refl, sym, ap, subst}
+use Rattle.std.specs.Prelude.{◌&&◌, IsSomeAnd}
+use Rattle.std.specs.Option.{option_and_then, option_map_or}
+use Rattle.std.specs.Result.{result_ok}
+use Rattle.std.specs.Ordering.{is_eq}
+use Rattle.std.specs.Cmp.{tied_itself}
+use Rattle.sdb_types.specs.declared.key.Key.{Key}
+use Rattle.sdb_types.specs.declared.txid.TxId.{TxId}
+use Rattle.sdb_types.specs.declared.record.Record.{Record}
+use Rattle.sdb_types.specs.Contents.{Contents, in_span, record_among, record_at, rows_in}
+use Rattle.sdb_types.specs.Order.{table_cmp}
+use Rattle.sdb_types.proofs.KeyOrder.{table_total}
+use Rattle.sdb_record.specs.declared.coordinator.Decided.{Decided}
+use Rattle.sdb_record.specs.declared.coordinator.Decision.TheVariants as decision
+use Rattle.sdb_record.specs.Coordinator.{coordinator_key_of, coordinator_table, decision_in}
+use Rattle.sdb_laws.proofs.Shown.{row_there}
+use Rattle.sdb_schema.specs.declared.table.Table.{Table}
+use Rattle.sdb_stores.specs.Shelf.{Attached}
+use Rattle.sdb_stores.specs.declared.place.Place.{Place as Placed}
+use Rattle.sdb_model.specs.declared.event.TableDump.{TableDump}
+use Rattle.sdb_model.specs.declared.script.Place.{Place}
+use Rattle.sdb_model.specs.Events.{Shelf, held_by, standing, store_of}
+use Rattle.sdb_model.specs.Images.{decision_at}
+use Rattle.sdb_model.specs.Transactions.{Recorded}
+use Rattle.sdb_board.specs.Board.{AreFit, AreFitFor, GoOn, HoldTheSame, KnownStay, known_before, placed, shown}
+use Rattle.sdb_board.specs.Opening.{records_in, records_of, whole}
+use Rattle.sdb_board.proofs.Empty.{records_stay}
+use Rattle.sdb_board.proofs.GoesOn.{fit_for, fit_for_as, fit_for_before}
+use Rattle.sdb_dump.specs.Decided.{decision_among}
+use Rattle.sdb_dump.specs.Dumped.{dump_by}
+use Rattle.sdb_dump.specs.Held.{AreDumpsWhereKnown, IsOddIn}
+use Rattle.sdb_dump.specs.Odd.{IsOddAt}
+use Rattle.sdb_dump.proofs.Images.{decision_there, dump_same}
+
+-- the record at a key is the one among those of its table
+standing_there : (places : List Place) (shelves : List Shelf) (key : Key) → record_among (records_of places shelves key.table) key ≡ standing places shelves key
+standing_there places shelves key = by (held_by shelves (store_of places shelves key.table.ns))
+  where
+    inside : in_span (whole key.table) key ≡ true
+    inside = ap (λ (b : Bool). b && true) (ap is_eq (tied_itself table_total key.table))
+
+    by : (o : Option Contents) → record_among (option_map_or (rows_in (whole key.table)) o []) key ≡ option_map_or (λ (m : Contents). record_at m key) o None
+    by None = refl
+    by (Some m) = row_there (whole key.table) key m inside
+
+module _ (old new : Attached) (goes : GoOn old new) (stay : KnownStay old new) where
+  standing_later : (key : Key) → AreFitFor key.table (known_before old new) → standing (placed new.places) (shown new.shelves) key ≡ standing (placed old.places) (shown old.shelves) key
+  standing_later key fit =
+      sym (standing_there (placed new.places) (shown new.shelves) key)
+      ∙ ap (λ (rs : List Record). record_among rs key) (records_stay old new key.table goes stay (fit_for_before old new key.table goes fit))
+      ∙ standing_there (placed old.places) (shown old.shelves) key
+
+  decision_later : (id : TxId) → AreFitFor coordinator_table (known_before old new) → decision_at (placed new.places) (shown new.shelves) id ≡ decision_at (placed old.places) (shown old.shelves) id
+  decision_later id fit =
+      sym (decision_there (placed new.places) (shown new.shelves) id)
+      ∙ ap (λ (rs : List Record). decision_among rs id) (records_stay old new coordinator_table goes stay (fit_for_before old new coordinator_table goes fit))
+      ∙ decision_there (placed old.places) (shown old.shelves) id
+
+  pub recorded_later : (id : TxId) → AreFitFor coordinator_table (known_before old new) → Recorded (placed old.places) (shown old.shelves) id → Recorded (placed new.places) (shown new.shelves) id
+  recorded_later id fit h = subst (λ (o : Option Decided). IsSomeAnd o (λ d. d.decision ≡ decision.Committed)) (sym (decision_later id fit)) h
+
+  pub odd_later : (catalog : List Table) (key : Key) → IsOddIn catalog old key → IsOddIn catalog (known_before old new) key
+  odd_later catalog key odd = record {
+    played = odd.played;
+    odd = λ fit.
+        let o = odd.odd (fit_for_before old new key.table goes fit) in
+        record { found = o.found; stands = standing_later key fit ∙ o.stands; odd = o.odd };
+  }
+
+  pub dumps_later : (catalog : List Table) (dumps : List TableDump) → AreDumpsWhereKnown catalog old dumps → AreDumpsWhereKnown catalog (known_before old new) dumps
+  dumps_later catalog dumps h = record {
+    named = h.named;
+    each = λ i t dump here there fit coordinator.
+        h.each i t dump here there (fit_for_before old new t.name goes fit) (fit_for_before old new coordinator_table goes coordinator)
+        ∙ sym (dump_same (placed new.places) (shown new.shelves) (decision_at (placed old.places) (shown old.shelves)) t (records_in old t.name) (record { at = λ id small. sym (decision_later id coordinator) }))
+        ∙ sym (ap (dump_by (decision_at (placed new.places) (shown new.shelves)) t) (records_stay old new t.name goes stay (fit_for_before old new t.name goes fit)));
+  }
+
+  -- where all stores of a catalog are known, it was there before
+  pub odd_before : (catalog : List Table) (key : Key) → AreFit catalog old → HoldTheSame old new → IsOddIn catalog (known_before old new) key → IsOddAt catalog (placed old.places) (shown old.shelves) key
+  odd_before catalog key fit still odd =
+      subst (λ (ss : List Shelf). IsOddAt catalog (placed old.places) ss key) still
+      (subst (λ (ps : List Placed). IsOddAt catalog (placed ps) (shown new.shelves) key) goes.places
+      (odd.odd (fit_for_as old (known_before old new) key.table goes.places goes.names (λ at t. t) (fit_for catalog old key.table odd.played fit))))
