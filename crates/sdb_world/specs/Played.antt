@@ -1,14 +1,20 @@
 -- A world that has played its script.
-use Rattle.std.specs.Prelude.{◌≡◌, List}
+use Rattle.std.specs.Prelude.{◌≡◌, List, map, All, Contains}
+use Rattle.std.specs.List.Sorted.{IsStrictlyIncreasing}
 use Rattle.std.specs.FinMap.{empty}
+use Rattle.sdb_types.specs.declared.txid.TxId.{TxId}
+use Rattle.sdb_record.specs.Coordinator.{coordinator_table}
+use Rattle.sdb_schema.specs.declared.table.Table.{Table}
 use Rattle.sdb_model.specs.declared.event.Event.{Event}
 use Rattle.sdb_model.specs.declared.event.Outcome.{Outcome}
 use Rattle.sdb_model.specs.Events.{IsTrace, Shelf}
 use Rattle.sdb_model.specs.Follows.{Follows}
 use Rattle.sdb_model.specs.Told.{IsRun}
+use Rattle.sdb_model.specs.Transactions.{Recorded, point}
 use Rattle.sdb_spread.specs.Spread.{HoldAs}
 use Rattle.sdb_stores.specs.Shelf.{Attached}
-use Rattle.sdb_board.specs.Board.{AreFit, placed, shown}
+use Rattle.sdb_board.specs.Board.{AreFit, AreFitFor, placed, shown}
+use Rattle.sdb_dump.specs.Held.{AreDumpsWhereKnown}
 use Rattle.sdb_executions.specs.World.{WorldAt}
 use Rattle.sdb_execution.specs.Execution.{IsExecution}
 use Rattle.sdb_world.specs.Explained.{IsExplained}
@@ -31,6 +37,15 @@ pub record HasPlayedOn (w : WorldAt) (opening : List Shelf) (stores : Attached) 
 -- The outcome is that of a run of a world's script, where the world has played it on stores that are fit for it.
 abbrev pub IsOutcomeOf : WorldAt → Attached → Attached → Outcome → Type 0
 IsOutcomeOf w old new o = (opening : List Shelf) → HasPlayedOn w opening old → IsRun w.script opening (shown new.shelves) o
+
+-- What an outcome says of stores of which not all need have known contents: the transactions of its order are each there with its point, by
+-- rising points, and are recorded, where the coordinator's table is known; and there is one dump of each table of the catalog, which is that of
+-- its committed images, where its store and the coordinator's are known.
+pub record IsReadWhereKnown (catalog : List Table) (stores : Attached) (o : Outcome) : Type 0 where
+  pub points : All (λ p. p.event ≡ point o.events p.id) o.order
+  pub rising : IsStrictlyIncreasing (map (λ p. p.event) o.order)
+  pub recorded : AreFitFor coordinator_table stores → (id : TxId) → Contains (map (λ p. p.id) o.order) id → Recorded (placed stores.places) (shown stores.shelves) id
+  pub dumped : AreDumpsWhereKnown catalog stores o.tables
 
 -- A world has not played its script on stores that are fit for it.
 abbrev pub HasNotPlayed : WorldAt → Attached → Type 0

@@ -24,7 +24,7 @@ returns-in-Lose-clause-made g c = λ f.
     (subst (λ (x : Reply). IsMade c.args.request.now (how_lost r) x old new) (sym c.reply_lost.ensures) (lost c.args.request.now r old new (c.call-reply-in-Lose.ensures.called f)))
 
 pub returns-in-Discard-clause-made : goal.returns-in-Discard-clause-made
-returns-in-Discard-clause-made g c = λ f. discarded f.catalog (g.R.Registry.state c.args.stores.now) c.args.request.now f.fit f.played
+returns-in-Discard-clause-made g c = λ f. discarded (g.R.Registry.state c.args.stores.now) c.args.request.now f
 
 pub returns-in-Step-clause-allowed : goal.returns-in-Step-clause-allowed
 returns-in-Step-clause-allowed g c =

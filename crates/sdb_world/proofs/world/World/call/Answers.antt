@@ -3,6 +3,8 @@ use Rattle.std.proofs.Common.{rules, ◌≡◌, ◌∙◌, ◌+◌, ◌++◌, �
 use Rattle.sdb_client.specs.Client.{ReplyTold}
 use Rattle.sdb_types.specs.declared.record.Reply.{Reply}
 use Rattle.sdb_model.specs.declared.event.Event.TheVariants as event
+use Rattle.sdb_model.specs.Events.{table_asked}
+use Rattle.sdb_board.proofs.GoesOn.{fit_for}
 use Rattle.sdb_executions.specs.World.{WorldAt}
 use Rattle.sdb_world.proofs.Takings.{called, named_store}
 use Rattle.sdb_world.proofs.Broken.{breaks_called}
@@ -18,7 +20,7 @@ returns-clause-called g c =
     let came = c.in_ok-push.ensures.ok ∙ ap (λ (r : Reply). c.self.inside.events ++ event.Call (c.args.at + 1) c.in_ok-store.store c.in_ok-request.request c.perform-how.result.0 r c.advance-answer.result ∷ []) c.in_ok-told.ensures in
     called old (g.R.Registry.state c.perform-how.new.stores) _ c.args.self.now c.self.view_is c.args.at seat c.args.way c.in_ok-store.store c.in_ok-request.request c.perform-how.result.0 c.perform-how.result.1 c.advance-answer.result c.advance-answer.new.self c.push.new.self
     c.requires.at read c.in_ok-request.ensures c.perform-how.ensures.lawful c.perform-how.ensures.allowed c.show_order.ensures told
-    (λ f about. (c.in_ok-store.ensures ∙ named_store old c.in_ok-request.request c.table_of.result.now c.store_of.result.now c.table_of.ensures c.store_of.ensures f, c.perform-how.ensures.made (record { catalog = c.args.self.now.script.catalog; fit = f; played = about })))
+    (λ f about. (c.in_ok-store.ensures ∙ named_store old c.in_ok-request.request c.table_of.result.now c.store_of.result.now c.table_of.ensures c.store_of.ensures f, c.perform-how.ensures.made (fit_for c.args.self.now.script.catalog old (table_asked c.in_ok-request.request) about f)))
     came
 
 pub returns-clause-broken : goal.returns-clause-broken

@@ -1,9 +1,17 @@
-use Rattle.std.proofs.Common.{List, ap, subst}
+use Rattle.std.proofs.Common.{◌≡◌, List, ap, subst, sym}
+use Rattle.std.specs.Prelude.{All, Contains}
 use Rattle.sdb_types.specs.declared.txid.TxId.{TxId}
 use Rattle.sdb_schema.specs.declared.table.Table.{Table}
 use Rattle.sdb_model.specs.declared.event.Event.{Event}
+use Rattle.sdb_model.specs.declared.event.Point.{Point}
 use Rattle.sdb_model.specs.declared.script.Script.{Script}
-use Rattle.sdb_board.specs.Board.{AreFit, placed, shown}
+use Rattle.sdb_model.specs.Transactions.{point}
+use Rattle.sdb_board.proofs.GoesOn.{fit_for_before}
+use Rattle.sdb_dump.proofs.Later.{odd_before, recorded_later}
+use Rattle.sdb_record.specs.Coordinator.{coordinator_table}
+use Rattle.sdb_dump.specs.Held.{AreDumpsWhereKnown, IsOddIn}
+use Rattle.sdb_dump.proofs.Closings.{coordinator_fit}
+use Rattle.sdb_board.specs.Board.{AreFit, known_before, placed, shown}
 use Rattle.sdb_endings.specs.Order.{HasRisen}
 use Rattle.sdb_dump.proofs.Refusals.{passed, refused_as}
 use Rattle.sdb_world.proofs.Explained.{played_explained}
@@ -13,10 +21,12 @@ use Rattle.sdb_world.proofs.world.World.outcome.Goals as goal
 pub returns-in_err-recorded-clause-err : goal.returns-in_err-recorded-clause-err
 returns-in_err-recorded-clause-err g c =
     let old = g.R.Registry.state c.args.stores.now in
+    let new = g.R.Registry.state c.closing_dump.new.stores in
     let catalog = c.into_parts-script.result.0.catalog in
+    let stopped = c.in_err-recorded.ensures in
     passed _ c.from_residual.result c.in_err-recorded.field-0.0 c.from_residual.ensures.1
     (refused_as _ _ _ _ c.in_err-recorded.field-0.0
-    (λ key odd opening on. outcome_sound (λ (ts : List Table). AreFit ts old) c.args.self c.requires.world opening (shown old.shelves) (shown old.shelves) (placed old.places) catalog (ap (λ (s : Script). s.catalog) c.into_parts-script.ensures.script) key odd on.fit on.as_placed on.played)
+    (λ key odd opening on. outcome_sound (λ (ts : List Table). AreFit ts old) c.args.self c.requires.world opening (shown old.shelves) (shown old.shelves) (placed old.places) catalog (ap (λ (s : Script). s.catalog) c.into_parts-script.ensures.script) key (λ fit. odd_before old new stopped.goes stopped.known catalog key fit (stopped.still fit) odd) on.fit on.as_placed on.played)
     (λ h. h) c.in_err-recorded.ensures.err)
 
 pub returns-clause-run : goal.returns-clause-run
@@ -30,8 +40,44 @@ returns-clause-run g c =
     λ opening on.
     outcome_run (λ (ts : List Table). AreFit ts old) c.args.self c.requires.world opening (shown old.shelves) (shown (g.R.Registry.state c.closing_dump.new.stores).shelves) (placed old.places) catalog (ap (λ (s : Script). s.catalog) c.into_parts-script.ensures.script)
     c.into_parts-script.result.1 c.in_ok-recorded.field-0.recorded order c.in_ok-recorded.field-0.tables c.into_parts-script.ensures.events
-    (record { printed = read.tables; each = read.recorded; small = read.small; still = read.still }) risen on.fit on.as_placed on.played
+    (record { printed = read.tables; each = λ fit. read.recorded (coordinator_fit catalog old fit); small = read.small; still = read.still }) risen on.fit on.as_placed on.played
 
 pub returns-clause-explained : goal.returns-clause-explained
 returns-clause-explained g c =
     λ opening played. played_explained c.args.self c.requires.world c.into_parts-script.result.1 c.into_parts-script.ensures.events opening (shown (g.R.Registry.state c.args.stores.now).shelves) played
+
+pub returns-clause-read : goal.returns-clause-read
+returns-clause-read g c =
+    let old = g.R.Registry.state c.args.stores.now in
+    let new = g.R.Registry.state c.closing_dump.new.stores in
+    let read = c.in_ok-recorded.ensures in
+    let order = c.in_ok-order.order in
+    let events : c.as_slice.result.now ≡ c.into_parts-script.result.1 = c.as_slice.ensures in
+    let catalog : c.into_parts-script.result.0.catalog ≡ c.args.self.script.catalog = ap (λ (s : Script). s.catalog) c.into_parts-script.ensures.script in
+    record {
+      points = subst (λ (es : List Event). All (λ (p : Point). p.event ≡ point es p.id) order) events c.in_ok-order.ensures.points;
+      rising = c.in_ok-order.ensures.rising;
+      recorded = λ fit id among.
+          let listed = subst (λ (ids : List TxId). Contains ids id) c.as_slice-2.ensures (c.in_ok-order.ensures.among id among).0 in
+          recorded_later old new read.goes read.known id fit ((read.recorded (fit_for_before old new coordinator_table read.goes fit) id (read.small id listed)).0 listed);
+      dumped = subst (λ (ts : List Table). AreDumpsWhereKnown ts (known_before old new) c.in_ok-recorded.field-0.tables) catalog read.dumped;
+    }
+
+pub returns-clause-still : goal.returns-clause-still
+returns-clause-still g c =
+    let old = g.R.Registry.state c.args.stores.now in
+    λ fit. c.in_ok-recorded.ensures.still (subst (λ (ts : List Table). AreFit ts old) (sym (ap (λ (s : Script). s.catalog) c.into_parts-script.ensures.script)) fit)
+
+pub returns-in_err-recorded-clause-bad : goal.returns-in_err-recorded-clause-bad
+returns-in_err-recorded-clause-bad g c =
+    let old = g.R.Registry.state c.args.stores.now in
+    let new = g.R.Registry.state c.closing_dump.new.stores in
+    passed _ c.from_residual.result c.in_err-recorded.field-0.0 c.from_residual.ensures.1
+    (refused_as _ _ _ _ c.in_err-recorded.field-0.0
+    (λ key odd. subst (λ (ts : List Table). IsOddIn ts (known_before old new) key) (ap (λ (s : Script). s.catalog) c.into_parts-script.ensures.script) odd)
+    (λ h. h) c.in_err-recorded.ensures.err)
+
+pub returns-in_err-recorded-clause-still : goal.returns-in_err-recorded-clause-still
+returns-in_err-recorded-clause-still g c =
+    let old = g.R.Registry.state c.args.stores.now in
+    λ fit. c.in_err-recorded.ensures.still (subst (λ (ts : List Table). AreFit ts old) (sym (ap (λ (s : Script). s.catalog) c.into_parts-script.ensures.script)) fit)
