@@ -138,6 +138,15 @@ pub record IsTakenOut (name : List ℕ) (store : StoreState) (old new : Attached
   pub after : (i : ℕ) → at ≤ i → old.tells (i + 1) → new.tells i
   pub counted : total_faults new.shelves + store.faults ≡ total_faults old.shelves
 
+-- The store of that name was dropped, with the places that name it. The others stay in their order, and known contents stay known.
+pub record IsDropped (name : List ℕ) (old new : Attached) : Type 0 where
+  pub at : ℕ
+  pub found : place_of name (names_of old.shelves) ≡ Some at
+  pub rest : new.shelves ≡ remove old.shelves at
+  pub places : new.places ≡ places_without name old.places
+  pub before : (i : ℕ) → i < at → old.tells i → new.tells i
+  pub after : (i : ℕ) → at ≤ i → old.tells (i + 1) → new.tells i
+
 -- The count of all stores rose, or that of one of them is the greatest value of its type.
 abbrev pub HaveRisen : List Shelf → List Shelf → Type 0
 HaveRisen old new = (total_faults old < total_faults new) ⊎ Any (λ s. 2 ^ 64 - 1 ≤ s.faults) new

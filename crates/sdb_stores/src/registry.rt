@@ -1,6 +1,6 @@
 //! A registry of stores.
 ghost use Rattle.std.specs.Prelude.{◌≡◌, ◌<◌, ◌≤◌, ◌↔◌, ◌++◌, ◌∷◌, [], length, Some, None, IsSome, IfOk, OnOk, OnErr, IsErrOf, slice_get};
-ghost use Rattle.sdb_stores.specs.Shelf.{Attached, AreDistinct, IsCallAt, HaveCause, HavePlaces, IsPlacedAlready, StayTheSame, home_in, index_at, index_in, names_of, table_of, total_faults};
+ghost use Rattle.sdb_stores.specs.Shelf.{Attached, AreDistinct, IsCallAt, HaveCause, HavePlaces, IsDropped, IsPlacedAlready, StayTheSame, home_in, index_at, index_in, names_of, table_of, total_faults};
 
 use crate::place::PlaceRefused;
 use sdb_types::{Name, Names, NoMemory, Reply, Request, TableName};
@@ -52,4 +52,9 @@ pub trait Registry {
         ensures names { names_of (state self.new).shelves ≡ names_of (state self.old).shelves }
         ensures counted { total_faults (state self.old).shelves ≤ total_faults (state self.new).shelves }
         ensures cause { HaveCause result (state self.old).shelves (state self.new).shelves };
+
+    /// Takes the store of that name out and drops it, with the places that name it.
+    fn drop_store(&mut self, store: &Name)
+        requires attached { IsSome (index_in (state self.old) store.now) }
+        ensures dropped { IsDropped store.now (state self.old) (state self.new) };
 }

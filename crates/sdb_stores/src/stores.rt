@@ -182,6 +182,10 @@ impl Registry for Stores {
         let at = self.index_of(store).unwrap_or(0);
         self.perform_on(at, request)
     }
+
+    fn drop_store(&mut self, store: &Name) {
+        let _dropped = self.detach(store);
+    }
 }
 
 // The names of items, in order.
