@@ -6,3 +6,17 @@ pub mod Linked
 pub mod Causing
 pub mod First
 pub mod Steps
+pub mod Takes
+pub mod Replies
+pub mod Statements
+pub mod Belonging
+pub mod Busy
+pub mod Unprepared
+pub mod OwnPrepares
+pub mod ReadsOnce
+pub mod RowWrites
+pub mod GivesUp
+pub mod Sweeping
+pub mod Swept
+pub mod Beginnings
+pub mod Forgeries

@@ -1,3 +1,6 @@
 pub mod World
 pub mod Linked
 pub mod Laws
+pub mod Vacuums
+pub mod Moments
+pub mod Forged

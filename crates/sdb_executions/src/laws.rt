@@ -1,8 +1,19 @@
 //! Laws of executions, whatever the stores reply.
+ghost use Rattle.std.specs.Prelude.{[], ◌∷◌, ◌≡◌, List, take, true, ℕ, ℤ};
+ghost use Rattle.sdb_types.specs.declared.key.Key.{Key};
+ghost use Rattle.sdb_types.specs.declared.txid.TxId.{TxId};
+ghost use Rattle.sdb_record.specs.declared.coordinator.Decision.{Decision};
+ghost use Rattle.sdb_record.specs.declared.write.Write.{Write};
+ghost use Rattle.sdb_schema.specs.declared.table.Table.{Table};
+ghost use Rattle.sdb_model.specs.Sql.{reads_begin, reads_commit, reads_vacuum};
+ghost use Rattle.sdb_execution.specs.Execution.{IsExecution};
 ghost use Rattle.sdb_model.specs.Counted.{AreCounted, AreResolved};
 ghost use Rattle.sdb_spread.specs.Spread.{AreAbout};
 ghost use Rattle.sdb_causes.specs.Tied.{AnswersHaveCauses};
-ghost use Rattle.sdb_executions.specs.Laws.{ExecutionOf, FollowsMoves, KeepsRules};
+ghost use Rattle.sdb_executions.specs.Forged.{IsOfOther, IsOtherMoment, busy_at_once, counted_at_once, decides_at_once, prepares_at, reads_and_is_done};
+ghost use Rattle.sdb_executions.specs.Laws.{BusyIsOfReads, CallsAreOfStatements, DecisionsAreDue, ExecutionOf, FollowsMoves, KeepsRules, PreparesAreOwn, ReadsAreFew};
+ghost use Rattle.sdb_executions.specs.Moments.{IsSoundAfter, TraceOf, WritesStandAfter};
+ghost use Rattle.sdb_executions.specs.Vacuums.{VacuumsSweep};
 
 /// Each answer has its cause among the events: of Conflict, and of BadRecord of a record of a table, where calls show no two decisions on one
 /// transaction. The calls of every statement are counted, and whoever was answered from rows had each unresolved record that it found rolled
@@ -30,4 +41,64 @@ pub fn rules_are_kept()
 /// No call is about another table than the script's and the coordinator's.
 pub fn calls_are_of_the_catalog()
     ensures { (x : ExecutionOf) → AreAbout x.script.catalog x.events }
+{}
+
+/// Each call of a client is one of a statement that the client took: what is so of the calls of all statements is so of all calls.
+pub fn calls_are_of_statements()
+    ensures { (x : ExecutionOf) → CallsAreOfStatements x.events }
+{}
+
+/// No COMMIT and no VACUUM is answered Busy.
+pub fn busy_is_of_reads()
+    ensures { (x : ExecutionOf) → BusyIsOfReads x.events }
+{}
+
+/// A call that prepares for a transaction is one of its own COMMIT, and the record that it puts has the moment that the clock showed when that
+/// COMMIT was taken. So a record expires 15 seconds after its transaction's COMMIT was taken.
+pub fn prepares_are_own()
+    ensures { (x : ExecutionOf) → PreparesAreOwn x.events }
+{}
+
+/// A statement that is no COMMIT and no VACUUM reads rows of tables by one call at most; BEGIN and ROLLBACK make no call.
+pub fn reads_are_few()
+    ensures { (x : ExecutionOf) → ReadsAreFew x.events }
+{}
+
+/// A call that writes a transaction's row puts it where there is none. It is one of the transaction's own COMMIT; or else the row is ABORTED, and
+/// the statement had read an unresolved record of the transaction, and then found no row of it while the clock showed 15 seconds or more than
+/// the record's moment.
+pub fn decisions_are_due()
+    ensures { (x : ExecutionOf) → DecisionsAreDue x.events }
+{}
+
+/// A VACUUM scans the catalog's tables whole, each once, in their order, and deletes no committed record but tombstones that its scans found or
+/// its rolls put. Where it is answered Count it has scanned all of them and has asked for the delete of each tombstone that its scans found;
+/// and the count is that of the deletes that were applied.
+pub fn vacuums_sweep()
+    ensures { (x : ExecutionOf) → VacuumsSweep x.script.catalog x.events }
+{}
+
+/// Each beginning of an execution is an execution: what is so of every execution is so after any number of its events.
+pub fn beginnings_are_executions()
+    ensures { (x : ExecutionOf) (n : ℕ) → IsExecution x.script (take n x.events) }
+{}
+
+/// At every moment each key that a transaction recorded by then had prepared shows what it left there, or what a later one did.
+pub fn writes_stand_at_every_moment()
+    ensures { (x : ExecutionOf) (t : TraceOf x) (n : ℕ) → WritesStandAfter x t n }
+{}
+
+/// At every moment each record in the script's tables passes the checks, and each record in the coordinator's table is a well formed row.
+pub fn records_stay_sound()
+    ensures { (x : ExecutionOf) (t : TraceOf x) (n : ℕ) → IsSoundAfter x t n }
+{}
+
+/// Events that no execution has, and the law that each of them breaks: a COMMIT that is answered Busy, a VACUUM of a table that counts without a
+/// scan, a BEGIN that reads, a prepare with another moment than the clock showed, and a decision on another's transaction by a first call.
+pub fn forged_events_are_refused()
+    ensures busy { (text : List ℕ) (key : Key) (id : TxId) (at : ℤ) → reads_commit text ≡ true → BusyIsOfReads (busy_at_once text key id at) → ⊥ }
+    ensures swept { (t : Table) (text : List ℕ) → reads_vacuum text ≡ true → VacuumsSweep (t ∷ []) (counted_at_once text) → ⊥ }
+    ensures begun { (text : List ℕ) (key : Key) → reads_begin text ≡ true → ReadsAreFew (reads_and_is_done text key) → ⊥ }
+    ensures prepared { (text : List ℕ) (w : Write) (id : TxId) (now : ℤ) → IsOtherMoment id now → PreparesAreOwn (prepares_at text w id now) → ⊥ }
+    ensures decided { (text : List ℕ) (id : TxId) (d : Decision) (now : ℤ) → IsOfOther id → DecisionsAreDue (decides_at_once text id d now) → ⊥ }
 {}
