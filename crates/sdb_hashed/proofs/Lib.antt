@@ -3,3 +3,5 @@ pub mod Changes
 pub mod Gather
 mod Calls
 pub mod Spans
+mod Sorting
+mod Parting

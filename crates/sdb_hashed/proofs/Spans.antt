@@ -65,7 +65,7 @@ none : {A : Type 0} (es : List A) → length es ≡ 0 → es ≡ []
 none [] e = refl
 none (e ∷ es) h = absurd (omega arith)
 
-no_rows : (span : Span) → rows_in span empty ≡ []
+pub no_rows : (span : Span) → rows_in span empty ≡ []
 no_rows span = ap (λ es. map record_of (filter (λ e. in_span span e.0) es)) (none (entries empty) (sym (len-entries empty) ∙ len-empty key_cmp (List Pair)))
 
 module _ {K V : Type 0} (same : K → K → Bool) (tells : (a b : K) → (same a b ≡ true → a ≡ b) × (a ≡ b → same a b ≡ true)) (part : Key → K) (f : V → Contents) (es : List (K × V)) (distinct : IsDistinct same (keys_of es)) (own : HasOwnKeys same part f es) (span : Span) where

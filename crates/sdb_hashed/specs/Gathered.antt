@@ -1,5 +1,5 @@
 -- What parts hold together.
-use Rattle.std.specs.Prelude.{◌≡◌, Bool, false, List, [], ◌∷◌, ◌++◌, Option, Some, None, if◌then◌else◌}
+use Rattle.std.specs.Prelude.{◌≡◌, Bool, false, List, [], ◌∷◌, ◌++◌, Option, Some, None, IsSome, if◌then◌else◌}
 use Rattle.std.specs.Option.{option_map}
 use Rattle.std.specs.Map.{lookup}
 use Rattle.std.specs.FinMap.{entries, from_entries, get}
@@ -33,3 +33,8 @@ HasOwnKeys {K} same part f es = (s : K) (key : Key) → same s (part key) ≡ fa
 -- fs has m as the part named at, and the other parts of es
 abbrev pub ChangesAt : {K V : Type 0} → (K → K → Bool) → (V → Contents) → K → Contents → List (K × V) → List (K × V) → Type 0
 ChangesAt {K} same f at m es fs = (s : K) → part_at same f fs s ≡ (if same at s then Some m else part_at same f es s)
+
+-- The rows are the part of that name among all: they have what all have at the keys of that part, and no other key.
+pub record IsPartOf {K : Type 0} (part : Key → K) (name : K) (rows all : Contents) : Type 0 where
+  pub own : (key : Key) → part key ≡ name → get rows key ≡ get all key
+  pub alone : (key : Key) → IsSome (get rows key) → part key ≡ name

@@ -1,12 +1,10 @@
 //! A store in memory that finds a table, and a partition in it, by their hashes.
 #![tactic(auto)]
 
+mod bucket;
 mod buckets;
 mod part;
 mod parts;
 
-pub use buckets::Buckets;
-use sdb_store::Memory;
-
-/// The store in memory over hashed partitions. Its contents are known.
-pub type Hashed = Memory<Buckets>;
+pub use bucket::Bucket;
+pub use buckets::{Bucketed, Buckets, Hashed};

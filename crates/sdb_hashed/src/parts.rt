@@ -1,10 +1,10 @@
 //! Records by a part of their keys.
-ghost use Rattle.std.specs.Prelude.{◌≡◌, true, IfOk, OnOk, OnErr, None, Some};
+ghost use Rattle.std.specs.Prelude.{◌≡◌, true, IfOk, IfSome, IfNone, OnOk, OnErr, None, Some};
 ghost use Rattle.std.specs.FinMap as map;
 ghost use Rattle.std.specs.HashMap.{IsUnique, get};
 ghost use Rattle.sdb_types.specs.declared.key.Key.{Key};
 ghost use Rattle.sdb_types.specs.Contents.{in_span, rows_in, put_reply};
-ghost use Rattle.sdb_hashed.specs.Gathered.{held, HasOwnKeys, ChangesAt};
+ghost use Rattle.sdb_hashed.specs.Gathered.{held, HasOwnKeys, ChangesAt, IsPartOf};
 ghost use Rattle.sdb_hashed.specs.Put.{with_rows};
 
 use crate::part::Part;
@@ -41,6 +41,16 @@ impl<K: Part, R: Rows> Model for Parts<K, R> {
     ghost view = { λ p. held R.contents p.rows.entries };
 
     ghost invariant = { λ p. IsUnique K.eq p.rows × HasOwnKeys K.eq K.part R.contents p.rows.entries };
+}
+
+impl<K: Part, R: Rows> Parts<K, R> {
+    /// The rows of a part. Where there are none it holds nothing at the keys of that part.
+    pub fn part(&self, name: &K) -> Option<&R>
+        ensures some { IfSome result (λ rows. IsPartOf K.part name.now (R.contents rows.now) self.now) }
+        ensures none { IfNone result (IsPartOf K.part name.now map.empty self.now) }
+    {
+        self.rows.get(name)
+    }
 }
 
 impl<K: Part + Duplicate, R: Rows> Rows for Parts<K, R> {

@@ -6,6 +6,8 @@ mod answers;
 #[cfg(test)]
 mod attached;
 #[cfg(test)]
+mod buckets;
+#[cfg(test)]
 mod calls;
 #[cfg(test)]
 mod catalog;

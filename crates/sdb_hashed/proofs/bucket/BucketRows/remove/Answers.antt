@@ -1,0 +1,22 @@
+use Rattle.std.proofs.Common.{◌≡◌, List, true, sym, ap, subst, ◌∙◌}
+use Rattle.std.specs.FinMap.{remove}
+use Rattle.sdb_types.specs.declared.record.Record.{Record}
+use Rattle.sdb_types.specs.Contents.{rise}
+use Rattle.sdb_hashed.specs.Bucket.{IsAt, held_by}
+use Rattle.sdb_hashed.proofs.Sorting.{cut_rises, cut_holds, nothing_at}
+use Rattle.sdb_hashed.proofs.bucket.BucketRows.remove.Goals as goal
+
+pub invariant_of-self : goal.invariant_of-self
+invariant_of-self c =
+    let rs = c.self.inside.records in
+    let at = subst (λ (xs : List Record). IsAt xs c.args.key.now c.in-Ok.i) (sym c.self.view_is) c.in-Ok.ensures.found in
+    subst (λ (xs : List Record). rise xs ≡ true) (sym c.remove.ensures) (cut_rises rs c.self.invariant c.in-Ok.i c.args.key.now at)
+
+pub returns-in-Ok-clause-ok : goal.returns-in-Ok-clause-ok
+returns-in-Ok-clause-ok c =
+    let rs = c.self.inside.records in
+    let at = subst (λ (xs : List Record). IsAt xs c.args.key.now c.in-Ok.i) (sym c.self.view_is) c.in-Ok.ensures.found in
+    ap held_by c.remove.ensures ∙ cut_holds rs c.self.invariant c.in-Ok.i c.args.key.now at ∙ ap (λ (xs : List Record). remove (held_by xs) c.args.key.now) c.self.view_is
+
+pub returns-in-Err-clause-ok : goal.returns-in-Err-clause-ok
+returns-in-Err-clause-ok c = nothing_at c.args.self.now c.args.key.now _ c.in-Err.ensures.absent
