@@ -52,7 +52,7 @@ calls_more calls m = length-append calls (m ∷ [])
 abbrev shown_by : Made → ℕ
 shown_by m = if reads_rows m then opens (records_read m.reply) else 0
 
-opens_more : (calls : List Made) (m : Made) → length (unresolved_in (calls ++ m ∷ [])) ≡ length (unresolved_in calls) + shown_by m
+pub opens_more : (calls : List Made) (m : Made) → length (unresolved_in (calls ++ m ∷ [])) ≡ length (unresolved_in calls) + shown_by m
 opens_more calls m =
     ap (λ ms. length (filter is_unresolved (flat_map (λ x. records_read x.reply) ms))) (filter-append reads_rows calls (m ∷ []))
     ∙ ap (λ rs. length (filter is_unresolved rs)) (flat_map-append (λ (x : Made). records_read x.reply) (filter reads_rows calls) (filter reads_rows (m ∷ [])))
@@ -73,14 +73,14 @@ removals_more calls m = fold-append (λ a (x : Made). a + cond (is_removal x.req
 removed_fewer : (calls : List Made) (m : Made) → removals_in calls ≤ removals_in (calls ++ m ∷ [])
 removed_fewer calls m = let e : removals_in (calls ++ m ∷ []) ≡ removals_in calls + cond (is_removal m.request) 1 0 = removals_more calls m in omega arith
 
-opens_first : (r : Record) (left : List Record) → opens left ≤ opens (r ∷ left)
+pub opens_first : (r : Record) (left : List Record) → opens left ≤ opens (r ∷ left)
 opens_first r left = by (is_unresolved r)
   where
     by : (b : Bool) → opens left ≤ length (if b then r ∷ filter is_unresolved left else filter is_unresolved left)
     by true = omega arith
     by false = omega arith
 
-opens_one : (r : Record) (meta : Meta) (left : List Record) → kind_of r ≡ Open meta → opens (r ∷ left) ≡ 1 + opens left
+pub opens_one : (r : Record) (meta : Meta) (left : List Record) → kind_of r ≡ Open meta → opens (r ∷ left) ≡ 1 + opens left
 opens_one r meta left e = ap (λ b. length (if b then r ∷ filter is_unresolved left else filter is_unresolved left)) (open_is r meta e).0 ∙ plus (opens left)
   where
     plus : (n : ℕ) → suc n ≡ 1 + n
@@ -89,7 +89,7 @@ opens_one r meta left e = ap (λ b. length (if b then r ∷ filter is_unresolved
 ---- a recovery
 
 -- one that goes on has one call less to make
-abbrev IsNearer : ℕ → RecoverPhase × RecoverStep → Type 0
+abbrev pub IsNearer : ℕ → RecoverPhase × RecoverStep → Type 0
 IsNearer m (p, steps.More) = suc (rest_at p) ≤ m
 IsNearer m (p, s) = 1 ≤ m
 
@@ -100,7 +100,7 @@ roll_nearer meta (Ok d) m h = elim d.decision as (λ x. IsNearer m (elim x [ dec
 undecided_nearer : (meta : Meta) (now : ℤ) → IsNearer 4 (undecided meta now)
 undecided_nearer meta now = elim (is_expired meta.prepared_at now) as (λ b. IsNearer 4 (cond b (phase.Abort now, steps.More) (phase.Ended, steps.Busy meta.id meta.prepared_at))) [ true ↦ omega arith | false ↦ omega arith ]
 
-recover_nearer : (rec : Record) (meta : Meta) (p : RecoverPhase) (now : ℤ) (r : Reply) → is_some (recover_request_at rec meta p) ≡ true → IsNearer (rest_at p) (recover_next rec meta p now r)
+pub recover_nearer : (rec : Record) (meta : Meta) (p : RecoverPhase) (now : ℤ) (r : Reply) → is_some (recover_request_at rec meta p) ≡ true → IsNearer (rest_at p) (recover_next rec meta p now r)
 recover_nearer rec meta phase.Look now (reply.Found None) e = undecided_nearer meta now
 recover_nearer rec meta phase.Look now (reply.Found (Some row)) e = roll_nearer meta (decision_in row) 4 (omega arith)
 recover_nearer rec meta phase.Look now (reply.Rows rows) e = omega arith

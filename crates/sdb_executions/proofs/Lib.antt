@@ -17,6 +17,7 @@ pub mod ReadsOnce
 pub mod RowWrites
 pub mod GivesUp
 pub mod Sweeping
+pub mod SweepCalls
 pub mod Swept
 pub mod Beginnings
 pub mod Forgeries

@@ -1,7 +1,9 @@
 -- Each VACUUM of an execution scans the tables in their order, and deletes the tombstones that it finds.
-use Rattle.std.proofs.Common.{◌≡◌, ◌⊎◌, inl, inr, ◌<◌, ℕ, ℤ, Bool, true, false, List, [], ◌∷◌, ◌++◌, Option, Some, None, Ok, Err, refl, sym, ap, subst, ◌∙◌, arith}
+use Rattle.std.proofs.Common.{◌≡◌, ◌⊎◌, inl, inr, ◌<◌, ℕ, ℤ, Bool, true, false, List, [], ◌∷◌, ◌++◌, Option, Some, None, Ok, Err, refl, sym, ap, subst, ◌∙◌, arith, ◌≤◌, ◌*◌, ◌+◌, suc, length, IfSome}
+use Rattle.std.proofs.lemmas.List.{length-map}
 use Rattle.std.specs.Prelude.{◌||◌, Contains, is_some}
 use Rattle.std.specs.List.{AllByRecursion, count_by}
+use Rattle.sdb_types.specs.declared.key.Key.{Key}
 use Rattle.sdb_types.specs.declared.record.Reply.{Reply}
 use Rattle.sdb_types.specs.declared.record.Request.{Request}
 use Rattle.sdb_types.specs.declared.record.Span.{Span}
@@ -24,23 +26,27 @@ use Rattle.sdb_sqltext.proofs.Clauses.{one_statement}
 use Rattle.sdb_sqltext.proofs.OneWord.{vacuum_read}
 use Rattle.sdb_vacuum.specs.declared.work.VacuumStep.{VacuumStep}
 use Rattle.sdb_vacuum.specs.declared.work.VacuumStep.TheVariants as sweep
-use Rattle.sdb_vacuum.specs.Vacuum.{Gives, VacuumAt, begun as sweeping, vacuum_step}
+use Rattle.sdb_vacuum.specs.Vacuum.{Gives, Scanning, VacuumAt, begun as sweeping, spans_of, vacuum_step, whole}
 use Rattle.sdb_txn.specs.Txn.{TxnAt}
 use Rattle.sdb_client.specs.declared.next.Next.{Next}
 use Rattle.sdb_client.specs.declared.next.Next.TheVariants as next
 use Rattle.sdb_client.specs.Client.{ClientAt, SaidTold, Taking, TextTold, VacuumTold, after, answer_of, next_id, next_of, vacuum_left}
 use Rattle.sdb_steps.specs.Hands.{Takes}
 use Rattle.sdb_story.specs.Telling.{taken_said}
+use Rattle.sdb_steps.specs.About.{IsIn, IsOfTables, IsSweepIn, IsVacuumIn}
+use Rattle.sdb_laws.specs.Lawful.{is_data}
+use Rattle.sdb_causes.proofs.ReadSteps.{IsDataTable}
 use Rattle.sdb_causes.specs.Tied.{IsAnswered, IsWaiting, Knows}
 use Rattle.sdb_causes.proofs.Calls.{made_at}
 use Rattle.sdb_causes.proofs.Takings.{none_yet}
 use Rattle.sdb_execution.specs.Execution.{IsExecution, IsPlayable, State, TakeStep}
-use Rattle.sdb_executions.specs.Vacuums.{SweepsTables, VacuumsSweep, spans_asked, whole_tables}
+use Rattle.sdb_executions.specs.Vacuums.{IsVacuumMost, SweepsTables, VacuumsSweep, spans_asked, whole_tables}
 use Rattle.sdb_executions.specs.World.{WorldAt, hands_of, state_of}
 use Rattle.sdb_executions.proofs.GivesUp.{each_of, call_within}
 use Rattle.sdb_executions.proofs.Replies.{CallOf, SweepCall, call_of}
 use Rattle.sdb_executions.proofs.Statements.{AreKept, SoBy, calls_more, known, none_in, replied_said, statements_so, waits_of}
 use Rattle.sdb_executions.proofs.Steps.{Holds, execution_caused, execution_holds}
+use Rattle.sdb_executions.proofs.SweepCalls.{MostLeft, most_enough, most_more, most_so_far}
 use Rattle.sdb_executions.proofs.Sweeping.{AllDelete, AllDeleted, Going, LedTo, deletes_more, in_order, sweep_led}
 use Rattle.sdb_executions.proofs.Takes.{TakenAs, taken_as}
 
@@ -49,13 +55,14 @@ use Rattle.sdb_executions.proofs.Takes.{TakenAs, taken_as}
 -- all but the count
 pub record HasSwept (catalog : List Table) (s : Said) (calls : List Made) : Type 0 where
   pub in_order : (rest : List Span) × (spans_asked calls ++ rest ≡ whole_tables catalog)
+  pub most : IsVacuumMost catalog calls
   pub deletes : AllDelete calls
   pub done : (n : ℕ) → s.answer ≡ Some (answer.Count n) → (spans_asked calls ≡ whole_tables catalog) × AllDeleted calls
 
 -- Where it goes on.
 abbrev pub GoesOver : List Table → List Made → Option VacuumAt → Type 0
 GoesOver catalog calls None = Unit {0}
-GoesOver catalog calls (Some v) = AllDelete calls × Going catalog calls v
+GoesOver catalog calls (Some v) = AllDelete calls × Going catalog calls v × MostLeft catalog calls v
 
 abbrev pub SweepsSo : List Table → List Event → ℕ → Said → Type 0
 SweepsSo catalog events c s = reads_vacuum s.text ≡ true → HasSwept catalog s (calls_of events c s)
@@ -64,6 +71,12 @@ abbrev pub WaitsSweeping : List Table → List Event → ℕ → Said → Client
 WaitsSweeping catalog events c s h = GoesOver catalog (calls_of events c s) h.vacuum
 
 ---- it is taken
+
+most_first : (t : Table) (ts : List Table) → MostLeft (t ∷ ts) [] (sweeping (t ∷ ts))
+most_first t ts = by (length (spans_of ts)) (length ts) (length-map ts whole)
+  where
+    by : (a b : ℕ) → a ≡ b → 0 + (a + 1) ≤ suc b + (0 + 5 * 0)
+    by a b e = omega arith
 
 no_deletes : (calls : List Made) → calls ≡ [] → AllDelete calls
 no_deletes calls none m has is = none_in m (subst (λ (ms : List Made). Contains ms m) none has)
@@ -90,6 +103,7 @@ module _ (n : ℕ) where
 takes_sweeps : (w : WorldAt) (u : State) (c : ℕ) (text : List ℕ) (a : Option Answer) (t : TakeStep w.script (state_of w) c text a u) → Holds w → SoBy (SweepsSo w.script.catalog) (WaitsSweeping w.script.catalog) (w.events ++ event.Take c text a ∷ []) c (taken_said w.events text a) t.client a
 takes_sweeps w u c text (Some b) t h = λ sweeps. subst (HasSwept w.script.catalog (taken_said w.events text (Some b))) (sym (none_yet c w.events text (Some b))) (record {
   in_order = (whole_tables w.script.catalog, refl);
+  most = omega arith;
   deletes = no_deletes [] refl;
   done = λ n e. (sym (ap whole_tables (taken_count n (record { catalog = w.script.catalog; now = w.clock; gate = t.gate; fresh = next_id t.seat.client }) text t.seat.client t.client (Some b) sweeps t.takes e)), λ m r f. none_in m f.among);
 })
@@ -99,7 +113,7 @@ takes_sweeps w u c text None t h = subst (λ (ms : List Made). GoesOver w.script
     idle d e = subst (GoesOver w.script.catalog []) (sym e) tt
 
     begins : (x : Table) (xs : List Table) → w.script.catalog ≡ x ∷ xs → GoesOver w.script.catalog [] (Some (sweeping (x ∷ xs)))
-    begins x xs e = subst (λ (ts : List Table). GoesOver ts [] (Some (sweeping (x ∷ xs)))) (sym e) (no_deletes [] refl, record { scanned = refl; seen = tt; left = λ m r f. none_in m f.among })
+    begins x xs e = subst (λ (ts : List Table). GoesOver ts [] (Some (sweeping (x ∷ xs)))) (sym e) (no_deletes [] refl, record { scanned = refl; seen = tt; left = λ m r f. none_in m f.among }, most_first x xs)
 
     by : TakenAs (record { catalog = w.script.catalog; now = w.clock; gate = t.gate; fresh = next_id t.seat.client }) t.seat.client t.client → GoesOver w.script.catalog [] t.client.vacuum
     by (inl z) = idle t.client (ap (λ (y : ClientAt). y.vacuum) z.left ∙ t.idle.free)
@@ -128,7 +142,7 @@ after_keeps h next.Call u = refl
 after_keeps h (next.Answer a) u = refl
 after_keeps h (next.End a) u = refl
 
-module _ (catalog : List Table) (events : List Event) (c : ℕ) (h d : ClientAt) (store : Name) (q : Request) (how : How) (r : Reply) (now : ℤ) (told : List Said) (x : Said) (waits : IsWaiting catalog events c (is_some h.vacuum) x) (so : WaitsSweeping catalog events c x h) where
+module _ (catalog : List Table) (events : List Event) (c : ℕ) (h d : ClientAt) (store : Name) (q : Request) (how : How) (r : Reply) (now : ℤ) (told : List Said) (x : Said) (waits : IsWaiting catalog events c (is_some h.vacuum) x) (about : IsOfTables catalog h) (apart : (k : Key) → IsIn catalog k → is_data k ≡ true) (so : WaitsSweeping catalog events c x h) where
   abbrev E : Option Answer → List Event
   E a = events ++ event.Call c store q how r a ∷ []
 
@@ -152,8 +166,14 @@ module _ (catalog : List Table) (events : List Event) (c : ℕ) (h d : ClientAt)
   sweeps : (a : Option Answer) → SweepCall events c x h q r now a d → SoBy (SweepsSo catalog) (WaitsSweeping catalog) (E a) c (replied_said events x a) d a
   sweeps a z = by a refl
     where
-      was : AllDelete ms × Going catalog ms z.v
+      was : AllDelete ms × Going catalog ms z.v × MostLeft catalog ms z.v
       was = subst (GoesOver catalog ms) z.runs so
+
+      inside : IsSweepIn catalog z.v.stage
+      inside = (subst (λ (o : Option VacuumAt). IfSome o (IsVacuumIn catalog)) z.runs about.vacuum).0
+
+      of_data : (span : Span) → z.v.stage ≡ Scanning span → IsDataTable span.table
+      of_data span e = apart (record { table = span.table; partition = []; clustering = [] }) (subst (IsSweepIn catalog) e inside)
 
       deletes : AllDelete (ms ++ made ∷ [])
       deletes = deletes_more catalog ms made older z.v.stage z.is.1 z.pends was.1.seen was.0
@@ -170,9 +190,10 @@ module _ (catalog : List Table) (events : List Event) (c : ℕ) (h d : ClientAt)
           let gives : Gives (vacuum_step z.v now r) z.told.left sweep.More = subst (λ (s : VacuumStep). Gives (vacuum_step z.v now r) z.told.left s) further z.told.told in
           let left : d.vacuum ≡ Some (vacuum_step z.v now r).0 = z.told.goes ∙ ap (λ (s : VacuumStep). vacuum_left s z.told.left) further ∙ ap Some gives.0 in
           subst (λ (cs : List Made). GoesOver catalog cs d.vacuum) (sym (more None))
-          (subst (GoesOver catalog (ms ++ made ∷ [])) (sym left) (deletes, subst (LedTo catalog (ms ++ made ∷ []) (vacuum_step z.v now r).0) (sym gives.1) led))
+          (subst (GoesOver catalog (ms ++ made ∷ [])) (sym left) (deletes, subst (LedTo catalog (ms ++ made ∷ []) (vacuum_step z.v now r).0) (sym gives.1) led, most_more catalog ms made z.v now of_data z.pends was.2))
       by (Some b) e = λ is. subst (HasSwept catalog (replied_said events x (Some b))) (sym (more (Some b))) (record {
         in_order = (z.v.spans, in_order catalog ms made older z.v z.is.1 z.pends was.1.scanned);
+        most = most_enough catalog ms made z.v z.pends was.2;
         deletes = deletes;
         done = λ n f. counted n (count_of z.told.step n (sym f ∙ sym e ∙ z.told.answer));
       })
@@ -189,7 +210,7 @@ sweeps_kept = record {
   answered = λ catalog events e c s past so sweeps. subst (HasSwept catalog s) (sym past.calls) (so sweeps);
   waiting = λ catalog events e c s h still so. subst (λ (ms : List Made). GoesOver catalog ms h.vacuum) (sym still.calls) so;
   takes = takes_sweeps;
-  calls = λ w u c store q how r a t h k x waiting waits so. call_sweeps w.script.catalog w.events c t.seat.client t.client store q how r w.clock k.told x waits so a
+  calls = λ w u c store q how r a t h k x waiting waits so. call_sweeps w.script.catalog w.events c t.seat.client t.client store q how r w.clock k.told x waits (h.world.each t.place t.seat t.at).about h.world.playable.apart so a
       (call_of w.script.catalog w.events c t.seat.client k x waiting q r w.clock a t.client t.pending (h.world.each t.place t.seat t.at).fitted t.takes);
 }
 
@@ -211,6 +232,7 @@ execution_sweeps script events playable x client s has sweeps = full (by s.answe
     full : HasSwept script.catalog s (calls_of events client s) → SweepsTables script.catalog s (calls_of events client s)
     full y = record {
       in_order = y.in_order;
+      most = y.most;
       deletes = y.deletes;
       scans = λ n e. (y.done n e).0;
       deleted = λ n m r e f. (y.done n e).1 m r f;
@@ -219,7 +241,7 @@ execution_sweeps script events playable x client s has sweeps = full (by s.answe
 
     -- one that waits is the VACUUM that runs
     runs : s.answer ≡ None → (v : Option VacuumAt) → h.vacuum ≡ v → GoesOver script.catalog (calls_of events client s) v → HasSwept script.catalog s (calls_of events client s)
-    runs none (Some v) e so = record { in_order = (_, so.1.scanned); deletes = so.0; done = λ n f. none_some (answer.Count n) (sym none ∙ f) }
+    runs none (Some v) e so = record { in_order = (_, so.1.scanned); most = most_so_far script.catalog (calls_of events client s) v so.2; deletes = so.0; done = λ n f. none_some (answer.Count n) (sym none ∙ f) }
     runs none None e so = clash (sym sweeps ∙ (waits (known script.catalog events client h k s has)).vacuum ∙ ap is_some e)
       where
         waits : IsAnswered script.catalog events client s ⊎ (k.waiting ≡ Some s) → IsWaiting script.catalog events client (is_some h.vacuum) s

@@ -1,6 +1,6 @@
 -- What a VACUUM does: which tables it scans, and which records it deletes.
-use Rattle.std.specs.Prelude.{◌≡◌, ◌⊎◌, ◌<◌, ◌&&◌, ℕ, Bool, true, List, ◌++◌, map, Option, Some, None, is_some, Contains}
-use Rattle.std.specs.List.{count_by, filter_map}
+use Rattle.std.specs.Prelude.{◌≡◌, ◌⊎◌, ◌<◌, ◌≤◌, ◌+◌, ◌*◌, ◌&&◌, ℕ, Bool, true, if◌then◌else◌, List, ◌++◌, filter, length, map, Option, Some, None, is_some, Contains}
+use Rattle.std.specs.List.{count_by, filter_map, sum_by}
 use Rattle.sdb_types.specs.declared.record.Record.{Record}
 use Rattle.sdb_types.specs.declared.record.Request.{Request}
 use Rattle.sdb_types.specs.declared.record.Request.TheVariants as ask
@@ -13,6 +13,7 @@ use Rattle.sdb_model.specs.declared.answer.Answer.TheVariants as answer
 use Rattle.sdb_model.specs.declared.event.Event.{Event}
 use Rattle.sdb_model.specs.Calls.{Made, calls_after, calls_of, is_removal, put_by, records_read}
 use Rattle.sdb_model.specs.Causes.{removes}
+use Rattle.sdb_model.specs.Counted.{unresolved_in}
 use Rattle.sdb_model.specs.Sql.{reads_vacuum}
 use Rattle.sdb_model.specs.Transactions.{Said, said}
 
@@ -34,6 +35,17 @@ spans_asked calls = filter_map (λ m. span_asked m.request) calls
 -- a committed record that is a tombstone
 abbrev pub is_committed_tombstone : Record → Bool
 is_committed_tombstone r = is_taken r && is_in state.Committed r.columns && is_tombstone r
+
+-- how many a call found, where it is a scan
+abbrev pub tombstones_found : Made → ℕ
+tombstones_found m = if is_some (span_asked m.request) then length (filter is_committed_tombstone (records_read m.reply)) else 0
+
+abbrev pub tombstones_in : List Made → ℕ
+tombstones_in calls = sum_by tombstones_found calls
+
+-- One scan at most for each table, one delete for each tombstone that the scans found, and five calls for each unresolved record.
+abbrev pub IsVacuumMost : List Table → List Made → Type 0
+IsVacuumMost catalog calls = length calls ≤ length catalog + (tombstones_in calls + 5 * length (unresolved_in calls))
 
 -- A scan among the calls found a committed tombstone.
 pub record FindsTombstone (calls : List Made) (m : Made) (r : Record) : Type 0 where
@@ -65,6 +77,7 @@ pub record IsDelete (calls : List Made) (delete : Made) : Type 0 where
 -- is answered Count it has scanned all tables and asked for the delete of each tombstone that its scans found; and it counts those applied.
 pub record SweepsTables (catalog : List Table) (s : Said) (calls : List Made) : Type 0 where
   pub in_order : (rest : List Span) × (spans_asked calls ++ rest ≡ whole_tables catalog)
+  pub most : IsVacuumMost catalog calls
   pub deletes : (m : Made) → Contains calls m → is_removal m.request ≡ true → IsDelete calls m
   pub scans : (n : ℕ) → s.answer ≡ Some (answer.Count n) → spans_asked calls ≡ whole_tables catalog
   pub deleted : (n : ℕ) (m : Made) (r : Record) → s.answer ≡ Some (answer.Count n) → FindsTombstone calls m r → IsDeletedAfter calls m r

@@ -73,7 +73,8 @@ pub fn decisions_are_due()
 
 /// A VACUUM scans the catalog's tables whole, each once, in their order, and deletes no committed record but tombstones that its scans found or
 /// its rolls put. Where it is answered Count it has scanned all of them and has asked for the delete of each tombstone that its scans found;
-/// and the count is that of the deletes that were applied.
+/// and the count is that of the deletes that were applied. It makes one scan at most for each table, one delete for each tombstone that its scans
+/// found, and five calls for each unresolved record.
 pub fn vacuums_sweep()
     ensures { (x : ExecutionOf) → VacuumsSweep x.script.catalog x.events }
 {}
