@@ -7,7 +7,7 @@ use Rattle.sdb_types.specs.declared.record.Reply.{Reply}
 use Rattle.sdb_types.specs.declared.record.Reply.TheVariants as reply
 use Rattle.sdb_types.specs.declared.record.Request.{Request}
 use Rattle.sdb_types.specs.Contents.{Contents, after, rows_in}
-use Rattle.sdb_types.proofs.Basics.{by_test, eq_of, none_some}
+use Rattle.sdb_types.proofs.Basics.{by_test, eq_of, false_true, none_some}
 use Rattle.sdb_store.specs.Store.{Performs}
 use Rattle.sdb_stores.specs.Shelf.{Attached, Shelf, IsCallAt, HaveRisen, index_at, index_in, place_of}
 use Rattle.std.specs.Prelude.{unwrap_or}
@@ -37,14 +37,11 @@ now_call at q r old new c = ap (λ (l : List Shelf). contents_at l at) c.rest �
 other_call : (at i : ℕ) (q : Request) (r : Reply) (old new : Attached) (c : IsCallAt at q r old new) → (at ≡ i → ⊥) → contents_at new.shelves i ≡ contents_at old.shelves i
 other_call at i q r old new c h = ap (λ (l : List Shelf). contents_at l i) c.rest ∙ ap contents_of (set_there old.shelves at i c.now h)
 
-no_clash : {X : Type 0} → false ≡ true → X
-no_clash e = absurd (let f : false ≡ true = e in cc)
-
 pub same_itself : (n : ℕ) → (n == n) ≡ true
 same_itself n = grind arith
 
 pub apart_of : (a b : ℕ) → (a == b) ≡ false → a ≡ b → ⊥
-apart_of a b h e = no_clash (sym h ∙ ap (λ n. a == n) (sym e) ∙ same_itself a)
+apart_of a b h e = false_true (sym h ∙ ap (λ n. a == n) (sym e) ∙ same_itself a)
 
 -- what a claim of the contents where the call was made says of each store
 one_call : (at i : ℕ) (q : Request) (r : Reply) (old new : Attached) (c : IsCallAt at q r old new) → (at ≡ i → c.now.contents ≡ after q c.before.contents) → contents_at new.shelves i ≡ after_write i (write_at at q) (contents_at old.shelves i)

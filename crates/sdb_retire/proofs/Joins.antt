@@ -14,7 +14,7 @@ use Rattle.sdb_types.specs.declared.record.Request.TheVariants as ask
 use Rattle.sdb_types.specs.Contents.{Contents, after, holds, in_span, record_among, record_at, rise, rows_in, starts_after}
 use Rattle.sdb_types.specs.Order.{key_cmp, same_key, table_cmp}
 use Rattle.sdb_types.specs.Exact.{equal_of}
-use Rattle.sdb_types.proofs.Basics.{by_test, less_of}
+use Rattle.sdb_types.proofs.Basics.{by_test, false_true, less_of}
 use Rattle.sdb_types.proofs.Bools.{and_first, and_second}
 use Rattle.sdb_types.proofs.KeyOrder.{key_total, starts_trans, table_exact}
 use Rattle.sdb_types.proofs.Keys.{same_key_exact, same_key_self, same_key_tells}
@@ -26,9 +26,6 @@ use Rattle.sdb_retire.specs.Copying.{IsFree, delete_of, delete_on, put_of, reque
 use Rattle.sdb_retire.specs.Joined.{AreApart, IsWhole, after_all, is_among}
 use Rattle.sdb_retire.specs.Writes.{span_of}
 use Rattle.sdb_retire.proofs.Versions.{version_is}
-
-clash : {X : Type 0} → false ≡ true → X
-clash e = absurd (let f : false ≡ true = e in cc)
 
 no_some : {A B : Type 0} {x : A} → ◌≡◌ {A = Option A} None (Some x) → B
 no_some e = absurd (cc)
@@ -45,7 +42,7 @@ after_each k (r ∷ rs) up h =
 
 apart_key : (a b : Key) → is_lt (key_cmp a b) ≡ true → same_key b a ≡ false
 apart_key a b h = elim (same_key_tells b a) [
-  | inl e ↦ clash (sym (ap is_lt (tied_itself key_total a)) ∙ ap (λ (k : Key). is_lt (key_cmp a k)) (sym e.1) ∙ h)
+  | inl e ↦ false_true (sym (ap is_lt (tied_itself key_total a)) ∙ ap (λ (k : Key). is_lt (key_cmp a k)) (sym e.1) ∙ h)
   | inr n ↦ n.0
 ]
 
@@ -194,7 +191,7 @@ put_stays r x cur k h = by_test (holds Absent (record_at cur r.key) && same_key 
     here : (holds Absent (record_at cur r.key) && same_key k r.key) ≡ true → record_at (after (put_of r) cur) k ≡ Some x
     here e =
         let same : k ≡ r.key = same_key_exact k r.key (and_second (holds Absent (record_at cur r.key)) (same_key k r.key) e) in
-        clash (sym (ap (holds Absent) (ap (record_at cur) (sym same) ∙ h)) ∙ and_first (holds Absent (record_at cur r.key)) (same_key k r.key) e)
+        false_true (sym (ap (holds Absent) (ap (record_at cur) (sym same) ∙ h)) ∙ and_first (holds Absent (record_at cur r.key)) (same_key k r.key) e)
 
 puts_stay : (rows : List Record) (x : Record) (cur : Contents) (k : Key) → record_at cur k ≡ Some x → record_at (after_all (map put_of rows) cur) k ≡ Some x
 puts_stay [] x cur k h = h
@@ -241,7 +238,7 @@ outside : (t : TableName) (k : Key) (xs : List Record) → list_all (λ r. in_sp
 outside t k [] h out = tt
 outside t k (x ∷ xs) h out = (
   elim (same_key_tells k x.key) [
-    | inl e ↦ clash (sym out ∙ ap (in_span (span_of t)) e.1 ∙ and_first (in_span (span_of t) x.key) (list_all (λ r. in_span (span_of t) r.key) xs) h)
+    | inl e ↦ false_true (sym out ∙ ap (in_span (span_of t)) e.1 ∙ and_first (in_span (span_of t) x.key) (list_all (λ r. in_span (span_of t) r.key) xs) h)
     | inr n ↦ n.0
   ],
   outside t k xs (and_second (in_span (span_of t) x.key) (list_all (λ r. in_span (span_of t) r.key) xs) h) out,
@@ -284,7 +281,7 @@ cleared_filled to from s cur k w ins same =
         let one = among_all (λ x. x.key ≡ k → version_in x ≡ None) s.in_to k r lack there in
         let free = (among_all (IsFree s.in_from) s.in_to k r w.free there).0 in
         elim free [
-          | inl some ↦ absurd (clash (sym (ap is_some (one.0 (sym one.1))) ∙ some))
+          | inl some ↦ absurd (false_true (sym (ap is_some (one.0 (sym one.1))) ∙ some))
           | inr any ↦ inr (kept ∙ same ∙ e ∙ sym (any_agrees from s.in_from r (agreed from s.in_from s.table w.in_from) any) ∙ ap (record_at from) (sym one.1))
         ]
 

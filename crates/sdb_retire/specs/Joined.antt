@@ -33,9 +33,9 @@ abbrev pub AreApart : List TableName → Type 0
 AreApart [] = Unit {0}
 AreApart (t ∷ ts) = AllByRecursion (λ u. u ≢ t) ts × AreApart ts
 
--- At keys of these tables there is what `from` holds, and elsewhere what `to` held.
-abbrev pub IsJoined : List TableName → Contents → Contents → Contents → Type 0
-IsJoined tables to from new = (key : Key) → record_at new key ≡ (if is_among tables key then record_at from key else record_at to key)
+-- At a key of one of these tables there is what `from` holds, and elsewhere what `to` held.
+abbrev pub IsJoined : List TableName → Contents → Contents → Contents → Key → Type 0
+IsJoined tables from to new key = record_at new key ≡ (if is_among tables key then record_at from key else record_at to key)
 
 -- an entry once `from` is given up
 abbrev pub settle : List ℕ → List ℕ → Entry → Entry

@@ -1,7 +1,6 @@
 -- What a retirement comes to.
-use Rattle.std.specs.Prelude.{◌≡◌, ◌≢◌, ◌⊎◌, ℕ, List, [], ◌++◌, count_by, if◌then◌else◌}
+use Rattle.std.specs.Prelude.{◌≡◌, ◌≢◌, ◌⊎◌, ℕ, List, [], ◌++◌, count_by, map}
 use Rattle.sdb_types.specs.declared.key.Key.{Key}
-use Rattle.sdb_types.specs.Contents.{record_at}
 use Rattle.sdb_stores.specs.Shelf.{Attached, Shelf, HaveRisen, index_at}
 use Rattle.sdb_catalog.specs.declared.entry.Entry.{Entry}
 use Rattle.sdb_catalog.specs.Rows.{metadata_table}
@@ -9,8 +8,8 @@ use Rattle.sdb_retire.specs.declared.refused.RetireRefused.{RetireRefused}
 use Rattle.sdb_retire.specs.declared.refused.RetireRefused.TheVariants as refused
 use Rattle.sdb_retire.specs.declared.survey.Survey.{Survey}
 use Rattle.sdb_retire.specs.Copying.{IsBlocked, WasUnmet, is_put, requests_of}
-use Rattle.sdb_retire.specs.Joined.{is_among}
-use Rattle.sdb_retire.specs.Moving.{moving_tables, renewals}
+use Rattle.sdb_retire.specs.Joined.{ArePartly, AreStillAttached, IsJoined, settle}
+use Rattle.sdb_retire.specs.Moving.{FollowMoving, moving_tables, renewals}
 use Rattle.sdb_retire.specs.Read.{AreOpened, AreSeen, IsBadRow}
 use Rattle.sdb_retire.specs.Writes.{Hold, HoldFirst, Write, contents_at, writes_at}
 
@@ -37,8 +36,7 @@ pub record IsSurvey (s : Sides) (old : Attached) (v : Survey) : Type 0 where
 abbrev pub TablesMoved : Sides → Survey → Attached → Attached → Type 0
 TablesMoved s v old new =
     old.tells (index_at old s.from) → old.tells (index_at old s.to) → (key : Key) → key.table ≢ metadata_table
-    → record_at (contents_at new.shelves (index_at old s.to)) key
-    ≡ (if is_among (moving_tables s.from v.entries) key then record_at (contents_at old.shelves (index_at old s.from)) key else record_at (contents_at old.shelves (index_at old s.to)) key)
+    → IsJoined (moving_tables s.from v.entries) (contents_at old.shelves (index_at old s.from)) (contents_at old.shelves (index_at old s.to)) (contents_at new.shelves (index_at old s.to)) key
 
 -- Each store of known contents but the first and `to` holds what it held.
 abbrev pub KeepOthers : Sides → Attached → Attached → Type 0
@@ -93,6 +91,32 @@ IsUnmoved s old new refused.StoreFault = HaveRisen old.shelves new.shelves
 IsUnmoved s old new (refused.BadRow key) =
     ((IsBadRow s.from s.to 0 old key ⊎ IsBlockedCopy s old key) × Hold [] old new) ⊎ IsMetWriting s old new.shelves key
 IsUnmoved s old new refused.NoMemory = Unit {0}
+
+-- The entries of a catalog over the stores of some names, of which one is to be given up for another.
+pub record Retirement : Type 0 where
+  pub names : List (List ℕ)
+  pub sides : Sides
+  pub entries : List Entry
+
+-- They are those of a catalog of which namespaces move.
+abbrev pub IsMovingCatalog : Retirement → Type 0
+IsMovingCatalog r = FollowMoving r.names r.sides.from r.sides.to [] r.entries
+
+-- the entries once the store is given up
+abbrev pub settled : Retirement → List Entry
+settled r = map (settle r.sides.from r.sides.to) r.entries
+
+-- the same over other entries
+abbrev pub over : Retirement → List Entry → Retirement
+over r es = record { names = r.names; sides = r.sides; entries = es }
+
+-- Each of these entries is one of before, or that entry once the store is given up.
+abbrev pub IsPartlySettled : Retirement → List Entry → Type 0
+IsPartlySettled r es = ArePartly r.sides.from r.sides.to r.entries es
+
+-- These stores are left, and the one for which the store is given up is among them.
+abbrev pub IsLeftWith : Retirement → List (List ℕ) → Type 0
+IsLeftWith r left = AreStillAttached r.names left r.sides.from r.sides.to
 
 -- Nothing was written, or the first of the writes.
 abbrev pub IsLeft : Sides → Attached → Attached → Type 0

@@ -4,7 +4,7 @@ use Rattle.sdb_retire.proofs.laws.renewed_rows_open.Goals as goal
 
 pub returns : goal.returns
 returns c = record {
-  opened = λ names left from to es still h. record { rows = refl; follow = follow_settled names left from to [] es still h };
-  again = λ names from to es fs there g h. follow_partly names from to [] [] es fs there tt g h;
-  tables = tables_settled;
+  opened = λ r left still h. record { rows = refl; follow = follow_settled r.names left r.sides.from r.sides.to [] r.entries still h };
+  again = λ r es there g h. follow_partly r.names r.sides.from r.sides.to [] [] r.entries es there tt g h;
+  tables = λ r. tables_settled r.sides.from r.sides.to r.entries;
 }
