@@ -27,7 +27,7 @@ use Rattle.sdb_retire.proofs.Joins.{after_each}
 
 ---- tables come once
 
-row_key : (e : Entry) → (row_of e).key ≡ metadata_key_of e.table.name
+pub row_key : (e : Entry) → (row_of e).key ≡ metadata_key_of e.table.name
 unfolding row_of
 row_key e = refl
 
@@ -47,7 +47,7 @@ names_apart (e ∷ es) up = (
   names_apart es (and_second (starts_after (row_of e).key (map row_of es)) (rise (map row_of es)) up),
 )
 
-some_names : (P : TableName → Type 0) (p : Entry → Bool) (es : List Entry) → AllByRecursion P (map (λ (e : Entry). e.table.name) es) → AllByRecursion P (map (λ (e : Entry). e.table.name) (filter p es))
+pub some_names : (P : TableName → Type 0) (p : Entry → Bool) (es : List Entry) → AllByRecursion P (map (λ (e : Entry). e.table.name) es) → AllByRecursion P (map (λ (e : Entry). e.table.name) (filter p es))
 some_names P p [] h = tt
 some_names P p (e ∷ es) h = elim (p e) as (λ b. AllByRecursion P (map (λ (a : Entry). a.table.name) (cond b (e ∷ filter p es) (filter p es)))) [
   | true ↦ (h.0, some_names P p es h.1)
@@ -66,7 +66,7 @@ moving_apart from es up = some_apart (λ e. is_moving from es e.table.name.ns) e
 
 ---- the catalog's rows are at keys of their own
 
-row_table : (e : Entry) → (row_of e).key.table ≡ metadata_table
+pub row_table : (e : Entry) → (row_of e).key.table ≡ metadata_table
 unfolding row_of metadata_key_of
 row_table e = refl
 

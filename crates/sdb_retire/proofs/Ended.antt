@@ -23,6 +23,6 @@ pub others_either : (r : Result ℕ RetireRefused) (s : Sides) (v : Survey) (old
 others_either (Ok n) s v old mid new goes same h k = others_all old mid new s v goes same h
 others_either (Err e) s v old mid new goes same h k = others_part old mid new s v goes same k
 
-pub halted_err : (r : Result ℕ RetireRefused) (s : Sides) (v : Survey) (old mid new : Attached) → GoOn old mid → IsSurvey s old v → IfErr r (IsHalted (index_at mid s.to) s v mid new.shelves) → IfErr r (IsUnmoved s old new)
-halted_err (Ok n) s v old mid new goes shown h = tt
-halted_err (Err e) s v old mid new goes shown h = unmoved_halted old mid new s v e goes shown h
+pub halted_err : (r : Result ℕ RetireRefused) (s : Sides) (v : Survey) (old mid new : Attached) → GoOn old mid → Hold [] old mid → IsSurvey s old v → IfErr r (IsHalted (index_at mid s.to) s v mid new.shelves) → IfErr r (IsUnmoved s old new)
+halted_err (Ok n) s v old mid new goes same shown h = tt
+halted_err (Err e) s v old mid new goes same shown h = unmoved_halted old mid new s v e goes same shown h

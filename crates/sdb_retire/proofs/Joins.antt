@@ -40,7 +40,7 @@ after_each k [] up h = tt
 after_each k (r ∷ rs) up h =
     (h, after_each k rs (and_second (starts_after r.key rs) (rise rs) up) (starts_trans k r.key rs (less_of (key_cmp k r.key) h) (and_first (starts_after r.key rs) (rise rs) up)))
 
-apart_key : (a b : Key) → is_lt (key_cmp a b) ≡ true → same_key b a ≡ false
+pub apart_key : (a b : Key) → is_lt (key_cmp a b) ≡ true → same_key b a ≡ false
 apart_key a b h = elim (same_key_tells b a) [
   | inl e ↦ false_true (sym (ap is_lt (tied_itself key_total a)) ∙ ap (λ (k : Key). is_lt (key_cmp a k)) (sym e.1) ∙ h)
   | inr n ↦ n.0
@@ -64,7 +64,7 @@ agree_each t m (x ∷ xs) inside h = (
   agree_each t m xs (and_second (in_span (span_of t) x.key) (list_all (λ r. in_span (span_of t) r.key) xs) inside) h.1,
 )
 
-rows_inside : (t : TableName) (m : Contents) → list_all (λ r. in_span (span_of t) r.key) (rows_in (span_of t) m) ≡ true
+pub rows_inside : (t : TableName) (m : Contents) → list_all (λ r. in_span (span_of t) r.key) (rows_in (span_of t) m) ≡ true
 rows_inside t m = and_second (rise (rows_in (span_of t) m)) (list_all (λ r. in_span (span_of t) r.key) (rows_in (span_of t) m)) (rows_in-are_rows_of (span_of t) m)
 
 rows_agree : (t : TableName) (m : Contents) → Agree m (rows_in (span_of t) m)
@@ -73,7 +73,7 @@ rows_agree t m =
     (own_rows (rows_in (span_of t) m) (and_first (rise (rows_in (span_of t) m)) (list_all (λ r. in_span (span_of t) r.key) (rows_in (span_of t) m)) (rows_in-are_rows_of (span_of t) m)))
 
 -- a claim of all rows, at the one with a key
-among_all : (P : Record → Type 0) (rows : List Record) (k : Key) (r : Record) → AllByRecursion P rows → record_among rows k ≡ Some r → P r × (k ≡ r.key)
+pub among_all : (P : Record → Type 0) (rows : List Record) (k : Key) (r : Record) → AllByRecursion P rows → record_among rows k ≡ Some r → P r × (k ≡ r.key)
 among_all P [] k r h e = no_some e
 among_all P (x ∷ xs) k r h e = by_test (same_key k x.key) here (λ q. among_all P xs k r h.1 (sym (ap (λ (b : Bool). cond b (Some x) (record_among xs k)) q) ∙ e))
   where
@@ -172,7 +172,7 @@ IsFilled f cur k = (record_at cur k ≡ None) ⊎ (record_at cur k ≡ record_at
 put_where : (r : Record) (cur : Contents) (k : Key) (b : Bool) → (holds Absent (record_at cur r.key) && same_key k r.key) ≡ b → record_at (after (put_of r) cur) k ≡ cond b (Some r) (record_at cur k)
 put_where r cur k b e = after_put r Absent cur k ∙ ap (λ (t : Bool). cond t (Some r) (record_at cur k)) e
 
-put_fills : (f : Contents) (r : Record) (cur : Contents) (k : Key) → record_at f r.key ≡ Some r → IsFilled f cur k → IsFilled f (after (put_of r) cur) k
+pub put_fills : (f : Contents) (r : Record) (cur : Contents) (k : Key) → record_at f r.key ≡ Some r → IsFilled f cur k → IsFilled f (after (put_of r) cur) k
 put_fills f r cur k own h = by_test (holds Absent (record_at cur r.key) && same_key k r.key) here there
   where
     here : (holds Absent (record_at cur r.key) && same_key k r.key) ≡ true → IsFilled f (after (put_of r) cur) k
@@ -246,10 +246,10 @@ outside t k (x ∷ xs) h out = (
 
 ---- one table
 
-within : (m : Contents) (s : List Record) (t : TableName) → s ≡ rows_in (span_of t) m → list_all (λ r. in_span (span_of t) r.key) s ≡ true
+pub within : (m : Contents) (s : List Record) (t : TableName) → s ≡ rows_in (span_of t) m → list_all (λ r. in_span (span_of t) r.key) s ≡ true
 within m s t e = ap (list_all (λ r. in_span (span_of t) r.key)) e ∙ rows_inside t m
 
-agreed : (m : Contents) (s : List Record) (t : TableName) → s ≡ rows_in (span_of t) m → Agree m s
+pub agreed : (m : Contents) (s : List Record) (t : TableName) → s ≡ rows_in (span_of t) m → Agree m s
 agreed m s t e = subst (Agree m) (sym e) (rows_agree t m)
 
 pub table_apart : (to from : Contents) (s : Seen) (cur : Contents) (k : Key) → IsWhole to from s → in_span (span_of s.table) k ≡ false → record_at (after_all (requests_for s) cur) k ≡ record_at cur k
@@ -267,7 +267,7 @@ any_agrees f rows r agree h = found rows agree h.0 h.1 h.2 h.3 h.4
     found (y ∷ ys) a (suc i) x inside at same = found ys a.1 i x (omega arith) at same
 
 -- once the table is cleared, what is left at a key is what comes there
-cleared_filled : (to from : Contents) (s : Seen) (cur : Contents) (k : Key) → IsWhole to from s → in_span (span_of s.table) k ≡ true → record_at cur k ≡ record_at to k → IsFilled from (after_all (flat_map delete_of s.in_to) cur) k
+pub cleared_filled : (to from : Contents) (s : Seen) (cur : Contents) (k : Key) → IsWhole to from s → in_span (span_of s.table) k ≡ true → record_at cur k ≡ record_at to k → IsFilled from (after_all (flat_map delete_of s.in_to) cur) k
 cleared_filled to from s cur k w ins same =
     elim (clears to k s.in_to cur (agreed to s.in_to s.table w.in_to) (inl same)) [
       | inl gone ↦ inl gone
@@ -299,12 +299,12 @@ table_copied to from s cur k w ins same =
 
 ---- tables one after the other
 
-tables_apart : (to from : Contents) (seen : List Seen) (cur : Contents) (k : Key) → AllByRecursion (IsWhole to from) seen → AllByRecursion (λ s. in_span (span_of s.table) k ≡ false) seen → record_at (after_all (requests_of seen) cur) k ≡ record_at cur k
+pub tables_apart : (to from : Contents) (seen : List Seen) (cur : Contents) (k : Key) → AllByRecursion (IsWhole to from) seen → AllByRecursion (λ s. in_span (span_of s.table) k ≡ false) seen → record_at (after_all (requests_of seen) cur) k ≡ record_at cur k
 tables_apart to from [] cur k w out = refl
 tables_apart to from (s ∷ ss) cur k w out =
     ap (λ (m : Contents). record_at m k) (all_more (requests_for s) (requests_of ss) cur) ∙ tables_apart to from ss (after_all (requests_for s) cur) k w.1 out.1 ∙ table_apart to from s cur k w.0 out.0
 
-table_of_key : (t : TableName) (k : Key) → in_span (span_of t) k ≡ true → t ≡ k.table
+pub table_of_key : (t : TableName) (k : Key) → in_span (span_of t) k ≡ true → t ≡ k.table
 table_of_key t k h = table_exact t k.table (equal_of (table_cmp t k.table) (and_first (is_eq (table_cmp t k.table)) true h))
 
 none_else : (t : TableName) (k : Key) (ss : List Seen) → in_span (span_of t) k ≡ true → AllByRecursion (λ u. u ≢ t) (map (λ (x : Seen). x.table) ss) → AllByRecursion (λ (s : Seen). in_span (span_of s.table) k ≡ false) ss

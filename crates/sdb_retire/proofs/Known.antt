@@ -20,18 +20,22 @@ use Rattle.sdb_retire.proofs.Apart.{elsewhere, moving_apart}
 use Rattle.sdb_retire.proofs.Calls.{after_more, same_itself}
 use Rattle.sdb_retire.proofs.Joins.{joined}
 
-own_writes : (i : ℕ) (qs : List Request) (m : Contents) → after_writes i (writes_at i qs) m ≡ after_all qs m
+pub own_writes : (i : ℕ) (qs : List Request) (m : Contents) → after_writes i (writes_at i qs) m ≡ after_all qs m
 own_writes i [] m = refl
 own_writes i (q ∷ qs) m = own_writes i qs (after_write i (write_at i q) m) ∙ ap (λ (b : Bool). after_all qs (if b then after q m else m)) (same_itself i)
 
 whole_of : (from to : ℕ) (old : Attached) → old.tells from → old.tells to → (s : Seen) → IsSeen from to old s → IsWhole (contents_at old.shelves to) (contents_at old.shelves from) s
 whole_of from to old f t s h = record { in_to = h.in_to.known t; in_from = h.in_from.known f; free = h.free }
 
-apart_of_survey : (s : Sides) (old : Attached) (v : Survey) → IsSurvey s old v → AreApart (map (λ (x : Seen). x.table) v.seen)
+pub apart_of_survey : (s : Sides) (old : Attached) (v : Survey) → IsSurvey s old v → AreApart (map (λ (x : Seen). x.table) v.seen)
 apart_of_survey s old v h =
     subst AreApart (sym h.seen.named)
     (moving_apart s.from v.entries
     (subst (λ (rs : List Record). rise rs ≡ true) h.opened.opens.rows (and_first (rise h.opened.rows) _ h.opened.shown.lawful)))
+
+pub whole_all : (s : Sides) (old : Attached) (v : Survey) → old.tells (index_at old s.from) → old.tells (index_at old s.to) → IsSurvey s old v → AllByRecursion (IsWhole (contents_at old.shelves (index_at old s.to)) (contents_at old.shelves (index_at old s.from))) v.seen
+whole_all s old v f t h =
+    all_each (IsSeen (index_at old s.from) (index_at old s.to) old) (IsWhole (contents_at old.shelves (index_at old s.to)) (contents_at old.shelves (index_at old s.from))) v.seen (whole_of (index_at old s.from) (index_at old s.to) old f t) h.seen.each
 
 pub tables_moved : (s : Sides) (old new : Attached) (v : Survey) → IsSurvey s old v → Hold (writes_of (index_at old s.to) s v) old new → TablesMoved s v old new
 tables_moved s old new v h held = λ f t k far.
@@ -40,8 +44,7 @@ tables_moved s old new v h held = λ f t k far.
     ap (λ (m : Contents). record_at m k) (held ti t ∙ after_more ti (writes_at ti (requests_of v.seen)) (writes_at 0 (renewals s.from s.to v.entries)) c)
     ∙ elsewhere ti 0 s.from s.to v.entries (after_writes ti (writes_at ti (requests_of v.seen)) c) k far
     ∙ ap (λ (m : Contents). record_at m k) (own_writes ti (requests_of v.seen) c)
-    ∙ joined c (contents_at old.shelves (index_at old s.from)) v.seen c k (all_each (IsSeen (index_at old s.from) ti old) (IsWhole c (contents_at old.shelves (index_at old s.from))) v.seen (whole_of (index_at old s.from) ti old f t) h.seen.each)
-    (apart_of_survey s old v h) refl
+    ∙ joined c (contents_at old.shelves (index_at old s.from)) v.seen c k (whole_all s old v f t h) (apart_of_survey s old v h) refl
     ∙ ap (λ (ts : List TableName). if is_among ts k then record_at (contents_at old.shelves (index_at old s.from)) k else record_at c k) h.seen.named
 
 ---- other stores
@@ -49,11 +52,11 @@ tables_moved s old new v h held = λ f t k far.
 abbrev pub Elsewhere : ℕ → List Write → Type 0
 Elsewhere i ws = AllByRecursion (λ w. (w.at == i) ≡ false) ws
 
-nothing_here : (i : ℕ) (ws : List Write) (m : Contents) → Elsewhere i ws → after_writes i ws m ≡ m
+pub nothing_here : (i : ℕ) (ws : List Write) (m : Contents) → Elsewhere i ws → after_writes i ws m ≡ m
 nothing_here i [] m h = refl
 nothing_here i (w ∷ ws) m h = nothing_here i ws (after_write i w m) h.1 ∙ ap (λ (b : Bool). if b then after w.request m else m) h.0
 
-at_other : (i j : ℕ) (qs : List Request) → (j == i) ≡ false → Elsewhere i (writes_at j qs)
+pub at_other : (i j : ℕ) (qs : List Request) → (j == i) ≡ false → Elsewhere i (writes_at j qs)
 at_other i j [] h = tt
 at_other i j (q ∷ qs) h = (h, at_other i j qs h)
 

@@ -8,4 +8,8 @@ pub mod Joins
 pub mod Apart
 pub mod Known
 pub mod Settled
+pub mod Passing
+pub mod Renewing
+pub mod Dropping
+pub mod Staying
 pub mod Ended

@@ -12,10 +12,10 @@ use Rattle.sdb_catalog.specs.Opened.{Follow, IsEntry, agrees, fits, is_attached,
 use Rattle.sdb_retire.specs.Joined.{ArePartly, AreStillAttached, settle}
 use Rattle.sdb_retire.specs.Moving.{FollowMoving, agrees_moving, fits_moving, next_revision, renewed, settled}
 
-settle_table : (from to : List ℕ) (e : Entry) → (settle from to e).table ≡ e.table
+pub settle_table : (from to : List ℕ) (e : Entry) → (settle from to e).table ≡ e.table
 settle_table from to e = elim (bytes_eq e.store from) as (λ b. (if b then renewed to e else e).table ≡ e.table) [ true ↦ refl | false ↦ refl ]
 
-settle_store : (from to : List ℕ) (e : Entry) → (settle from to e).store ≡ settled from to e.store
+pub settle_store : (from to : List ℕ) (e : Entry) → (settle from to e).store ≡ settled from to e.store
 settle_store from to e = elim (bytes_eq e.store from) as (λ b. (if b then renewed to e else e).store ≡ (if b then to else e.store)) [ true ↦ refl | false ↦ refl ]
 
 agrees_settle : (from to : List ℕ) (e a : Entry) → agrees (settle from to e) (settle from to a) ≡ agrees_moving from to e a

@@ -1,5 +1,5 @@
 -- The steps of a retirement, one after the other.
-use Rattle.std.proofs.Common.{◌≡◌, inl, ℕ, zero, suc, ◌+◌, ◌<◌, List, [], ◌∷◌, ◌++◌, length, map, take, drop, get_or, add-one, take-append-drop, Bool, true, not, cond, Result, Ok, Err, Option, Some, None, sym, ap, subst, ◌∙◌, arith}
+use Rattle.std.proofs.Common.{◌≡◌, inl, ℕ, zero, suc, ◌+◌, ◌<◌, List, [], ◌∷◌, ◌++◌, length, map, take, drop, get_or, add-one, take-append-drop, Bool, true, not, cond, Result, Ok, Err, Option, Some, None, refl, sym, ap, subst, ◌∙◌, arith, append_assoc}
 use Rattle.std.specs.Prelude.{IsSome, IfErr, Contains, is_some, nat_lt, slice_get, unwrap_or}
 use Rattle.std.specs.List.{prefix_len}
 use Rattle.std.specs.Str.{bytes_eq}
@@ -23,7 +23,7 @@ use Rattle.sdb_retire.specs.Copying.{AreFree, IsBlocked, IsFirstBlocking, IsFree
 use Rattle.sdb_retire.specs.Read.{AreSeen, IsUnseen}
 use Rattle.sdb_retire.specs.Stopped.{IsBlockedIn, IsStopped, IsUnmet, IsUnwritten}
 use Rattle.sdb_retire.specs.Writes.{GoOn, Hold, HoldFirst, IsShown, MayHold, Write, write_at, writes_at}
-use Rattle.sdb_retire.proofs.Calls.{first_one, hold_more, risen_more, same_index, shown_earlier}
+use Rattle.sdb_retire.proofs.Calls.{first_one, hold_more, hold_none, risen_more, same_index, shown_earlier}
 
 ---- writes
 
@@ -65,42 +65,44 @@ call_from at q found a b mid new telling c = record {
   telling = λ i h. h;
 }
 
-pub unmet_from : (at other : ℕ) (qs rs : List Request) (place : Key) (initial cur : Attached) (new : List Shelf) → at ≡ other → GoOn initial cur → ((q : Request) → Contains rs q → Contains qs q) → WasUnmet at rs place cur new → WasUnmet other qs place initial new
-unmet_from at other qs rs place initial cur new same goes more u = subst (λ (n : ℕ). WasUnmet n qs place initial new) same (record {
+-- a write that was not met, after others and before more
+pub unmet_among : (initial cur : Attached) (new : List Shelf) (ws before own more : List Write) (place : Key) → ws ≡ before ++ (own ++ more) → GoOn initial cur → Hold before initial cur → WasUnmet own place cur new → WasUnmet ws place initial new
+unmet_among initial cur new ws before own more place parts goes h u = record {
+  done = before ++ u.done;
+  write = u.write;
+  later = u.later ++ more;
+  parts = parts ∙ ap (λ (l : List Write). before ++ (l ++ more)) u.parts ∙ ap (λ (l : List Write). before ++ l) (append_assoc u.done (u.write ∷ u.later) more) ∙ sym (append_assoc before u.done (u.write ∷ u.later ++ more));
   mid = u.mid;
-  request = u.request;
+  held = hold_more initial cur (with_shelves cur u.mid) before u.done goes h u.held;
   found = u.found;
-  among = more u.request u.among;
-  called = call_from at u.request u.found initial cur u.mid new goes.telling u.called;
+  called = call_from u.write.at u.write.request u.found initial cur u.mid new goes.telling u.called;
   fails = u.fails;
   key = u.key;
-})
+}
 
-one_of : (qs : List Request) (i : ℕ) (q r : Request) → i < length qs → q ≡ get_or qs i q → Contains (q ∷ []) r → Contains qs r
-one_of qs i q r inside is h = subst (Contains qs) (only h.0 h.1 h.2) (subst (Contains qs) (sym is) (Contains-get_or qs i q inside))
-  where
-    only : (k : ℕ) → k < 1 → get_or (q ∷ []) k r ≡ r → q ≡ r
-    only zero less at = at
-    only (suc k) less at = absurd (omega arith)
+pub unwritten_more : (initial cur : Attached) (new : List Shelf) (store : List ℕ) (qs : List Request) (i : ℕ) (q : Request) (e : RetireRefused) → i < length qs → q ≡ get_or qs i q → GoOn initial cur → Hold (writes_at (index_at initial store) (take i qs)) initial cur
+    → IsUnwritten (write_at (index_at cur store) q ∷ []) cur new e → IsUnwritten (writes_at (index_at initial store) qs) initial new e
+unwritten_more initial cur new store qs i q refused.StoreFault inside is goes held h = risen_more initial cur new goes h
+unwritten_more initial cur new store qs i q (refused.BadRow key) inside is goes held h =
+    unmet_among initial cur new (writes_at (index_at initial store) qs) (writes_at (index_at initial store) (take i qs)) (write_at (index_at initial store) q ∷ []) (writes_at (index_at initial store) (drop (suc i) qs)) key
+    (writes_rest (index_at initial store) qs i q inside is) goes held (subst (λ (n : ℕ). WasUnmet (write_at n q ∷ []) key cur new) (same_index initial cur store goes) h)
+unwritten_more initial cur new store qs i q refused.NoMemory inside is goes held h = h
 
-pub unwritten_more : (initial cur : Attached) (new : List Shelf) (store : List ℕ) (qs : List Request) (i : ℕ) (q : Request) (e : RetireRefused) → i < length qs → q ≡ get_or qs i q → GoOn initial cur → IsUnwritten (index_at cur store) (q ∷ []) cur new e → IsUnwritten (index_at initial store) qs initial new e
-unwritten_more initial cur new store qs i q refused.StoreFault inside is goes h = risen_more initial cur new goes h
-unwritten_more initial cur new store qs i q (refused.BadRow key) inside is goes h =
-    unmet_from (index_at cur store) (index_at initial store) qs (q ∷ []) key initial cur new (same_index initial cur store goes) goes (λ r. one_of qs i q r inside is) h
-unwritten_more initial cur new store qs i q refused.NoMemory inside is goes h = h
+pub unwritten_stopped : (ws : List Write) (old : Attached) (new : List Shelf) (e : RetireRefused) → IsStopped old.shelves new e → IsUnwritten ws old new e
+unwritten_stopped ws old new refused.StoreFault h = h
+unwritten_stopped ws old new (refused.BadRow key) h = absurd h
+unwritten_stopped ws old new refused.NoMemory h = h
 
-pub unwritten_stopped : (at : ℕ) (qs : List Request) (old : Attached) (new : List Shelf) (e : RetireRefused) → IsStopped old.shelves new e → IsUnwritten at qs old new e
-unwritten_stopped at qs old new refused.StoreFault h = h
-unwritten_stopped at qs old new (refused.BadRow key) h = absurd h
-unwritten_stopped at qs old new refused.NoMemory h = h
-
-pub unwritten_met : (at : ℕ) (q : Request) (found : Option Record) (old new : Attached) (e : RetireRefused) → IsCallAt at q (NotMet found) old new → IsUnmet q found e → IsUnwritten at (q ∷ []) old new.shelves e
+pub unwritten_met : (at : ℕ) (q : Request) (found : Option Record) (old new : Attached) (e : RetireRefused) → IsCallAt at q (NotMet found) old new → IsUnmet q found e → IsUnwritten (write_at at q ∷ []) old new.shelves e
 unwritten_met at q found old new refused.StoreFault c h = absurd h
 unwritten_met at q found old new (refused.BadRow key) c h = record {
+  done = [];
+  write = write_at at q;
+  later = [];
+  parts = refl;
   mid = old.shelves;
-  request = q;
+  held = hold_none old;
   found = found;
-  among = Contains-get_or (q ∷ []) 0 q (omega arith);
   called = record { before = c.before; now = c.now; stood = c.stood; rest = c.rest; name = c.name; performed = c.performed; lawful = c.lawful; counted = c.counted; cause = c.cause; telling = λ i t. t };
   fails = h.1;
   key = h.0;
@@ -189,7 +191,7 @@ blocked_free old mid new from to table in_to in_from a b e goes same x y there c
     (subst (λ (n : ℕ). IsShown n table in_from old) (same_index old mid from goes) (shown_earlier old mid (index_at mid from) table in_from goes same come))
     (subst (λ (l : List Record). IsBlockedIn in_to l e) y (subst (λ (l : List Record). IsBlockedIn l b e) x h))
 
-pub met_err : {A : Type 0} (r : Result A RetireRefused) (at : ℕ) (q : Request) (found : Option Record) (old new : Attached) → IsCallAt at q (NotMet found) old new → IfErr r (IsUnmet q found) → IfErr r (IsUnwritten at (q ∷ []) old new.shelves)
+pub met_err : {A : Type 0} (r : Result A RetireRefused) (at : ℕ) (q : Request) (found : Option Record) (old new : Attached) → IsCallAt at q (NotMet found) old new → IfErr r (IsUnmet q found) → IfErr r (IsUnwritten (write_at at q ∷ []) old new.shelves)
 met_err (Ok a) at q found old new call h = tt
 met_err (Err e) at q found old new call h = unwritten_met at q found old new e call h
 

@@ -1,6 +1,5 @@
 -- A survey, its writes, and both.
-use Rattle.std.proofs.Common.{◌≡◌, inl, inr, ℕ, List, [], ◌++◌, refl, ap, subst, ◌∙◌}
-use Rattle.std.specs.Prelude.{Contains}
+use Rattle.std.proofs.Common.{◌≡◌, inl, inr, ℕ, List, [], ◌++◌, refl, sym, ap, subst, ◌∙◌, append-nil}
 use Rattle.std.specs.Prelude.{OnErr, Result, Ok, Err}
 use Rattle.sdb_types.specs.declared.key.Key.{Key}
 use Rattle.sdb_types.specs.declared.key.TableName.{TableName}
@@ -15,12 +14,13 @@ use Rattle.sdb_retire.specs.declared.survey.Survey.{Survey}
 use Rattle.sdb_retire.specs.Copying.{IsBlocked, IsSeen, WasUnmet, requests_of}
 use Rattle.sdb_retire.specs.Moving.{moving_tables, renewals}
 use Rattle.sdb_retire.specs.Read.{AreOpened, AreSeen, IsUnread, IsUnseen}
-use Rattle.sdb_retire.specs.Retired.{AreMoved, KeepOthers, IsHalted, IsLeft, IsMet, IsSurvey, IsUnmoved, IsUnsurveyed, Sides, copies_of, writes_of}
+use Rattle.sdb_retire.specs.Retired.{AreMoved, KeepOthers, IsHalted, IsLeft, IsSurvey, IsUnmoved, IsUnsurveyed, Sides, copies_of, writes_of}
 use Rattle.sdb_retire.specs.Stopped.{IsUnwritten}
 use Rattle.sdb_retire.specs.Writes.{GoOn, Hold, HoldFirst, Write, writes_at}
-use Rattle.sdb_retire.proofs.Calls.{first_back, first_front, hold_more, hold_same, risen_more, same_index, shown_earlier}
+use Rattle.sdb_retire.proofs.Calls.{first_back, first_front, goes_none, hold_more, hold_none, hold_same, risen_more, same_index, shown_earlier}
 use Rattle.sdb_retire.proofs.Known.{others_first, others_held, tables_moved}
-use Rattle.sdb_retire.proofs.Steps.{seen_earlier, unmet_from}
+use Rattle.sdb_retire.proofs.Renewing.{rows_renewed}
+use Rattle.sdb_retire.proofs.Steps.{seen_earlier, unmet_among}
 
 ---- the survey
 
@@ -92,17 +92,23 @@ left_second old mid new first from to v qs rs goes named a b h k =
     subst (λ (ws : List Write). HoldFirst ws old new) (ap (λ (l : List Request). writes_at (index_at old to) l ++ writes_at 0 rs) a ∙ ap (λ (l : List Request). writes_at (index_at old to) (requests_of v.seen) ++ writes_at 0 l) b)
     (first_back old mid new (writes_at (index_at old to) qs) (writes_at 0 rs) goes h (subst (λ (n : ℕ). HoldFirst (writes_at n rs) mid new) (later_index old mid first goes named) k))
 
-pub halted_first : (old : Attached) (new : List Shelf) (from to : List ℕ) (v : Survey) (qs : List Request) (e : RetireRefused) → qs ≡ requests_of v.seen → IsUnwritten (index_at old to) qs old new e → IsHalted (index_at old to) (record { from = from; to = to }) v old new e
+pub halted_first : (old : Attached) (new : List Shelf) (from to : List ℕ) (v : Survey) (qs : List Request) (e : RetireRefused) → qs ≡ requests_of v.seen → IsUnwritten (writes_at (index_at old to) qs) old new e → IsHalted (index_at old to) (record { from = from; to = to }) v old new e
 halted_first old new from to v qs refused.StoreFault a h = h
-halted_first old new from to v qs (refused.BadRow key) a h = inl (subst (λ (l : List Request). WasUnmet (index_at old to) l key old new) a h)
+halted_first old new from to v qs (refused.BadRow key) a h =
+    let ws = writes_at (index_at old to) (requests_of v.seen) in
+    let rs = writes_at 0 (renewals from to v.entries) in
+    unmet_among old old new (ws ++ rs) [] ws rs key refl (goes_none old) (hold_none old) (subst (λ (l : List Request). WasUnmet (writes_at (index_at old to) l) key old new) a h)
 halted_first old new from to v qs refused.NoMemory a h = h
 
-pub halted_second : (old mid : Attached) (new : List Shelf) (first from to : List ℕ) (v : Survey) (rs : List Request) (e : RetireRefused) → GoOn old mid → index_at old first ≡ 0 → rs ≡ renewals from to v.entries → IsUnwritten (index_at mid first) rs mid new e
+pub halted_second : (old mid : Attached) (new : List Shelf) (first from to : List ℕ) (v : Survey) (qs rs : List Request) (e : RetireRefused) → GoOn old mid → index_at old first ≡ 0 → qs ≡ requests_of v.seen → rs ≡ renewals from to v.entries → Hold (writes_at (index_at old to) qs) old mid → IsUnwritten (writes_at (index_at mid first) rs) mid new e
     → IsHalted (index_at old to) (record { from = from; to = to }) v old new e
-halted_second old mid new first from to v rs refused.StoreFault goes named b h = risen_more old mid new goes h
-halted_second old mid new first from to v rs (refused.BadRow key) goes named b h =
-    inr (unmet_from (index_at mid first) 0 (renewals from to v.entries) rs key old mid new (later_index old mid first goes named) goes (λ q c. subst (λ (l : List Request). Contains l q) b c) h)
-halted_second old mid new first from to v rs refused.NoMemory goes named b h = h
+halted_second old mid new first from to v qs rs refused.StoreFault goes named a b h u = risen_more old mid new goes u
+halted_second old mid new first from to v qs rs (refused.BadRow key) goes named a b h u =
+    let ws = writes_at (index_at old to) (requests_of v.seen) in
+    let own = writes_at 0 (renewals from to v.entries) in
+    unmet_among old mid new (ws ++ own) ws own [] key (ap (λ (l : List Write). ws ++ l) (sym (append-nil own))) goes (subst (λ (l : List Request). Hold (writes_at (index_at old to) l) old mid) a h)
+    (subst (λ (l : List Request). WasUnmet (writes_at 0 l) key mid new) b (subst (λ (n : ℕ). WasUnmet (writes_at n rs) key mid new) (later_index old mid first goes named) u))
+halted_second old mid new first from to v qs rs refused.NoMemory goes named a b h u = u
 
 ---- both
 
@@ -116,6 +122,7 @@ all_moved old mid new s v n goes same shown count h = record {
   count = count;
   held = all_held old mid new s v goes same h;
   tables = tables_moved s old new v shown (all_held old mid new s v goes same h);
+  rows = λ known. rows_renewed s old new v known shown (all_held old mid new s v goes same h);
 }
 
 pub part_left : (old mid new : Attached) (s : Sides) (v : Survey) → GoOn old mid → Hold [] old mid → IsSurvey s old v → HoldFirst (writes_of (index_at mid s.to) s v) mid new → IsLeft s old new
@@ -130,14 +137,16 @@ unmoved_unsurveyed old new s refused.StoreFault same h = h
 unmoved_unsurveyed old new s (refused.BadRow key) same h = inl (h, same)
 unmoved_unsurveyed old new s refused.NoMemory same h = h
 
-met_from : (old mid : Attached) (new : List Shelf) (s : Sides) (v : Survey) (key : Key) → GoOn old mid → IsMet (index_at mid s.to) s v key mid new → IsMet (index_at old s.to) s v key old new
-met_from old mid new s v key goes (inl h) = inl (unmet_from (index_at mid s.to) (index_at old s.to) (requests_of v.seen) (requests_of v.seen) key old mid new (same_index old mid s.to goes) goes (λ q c. c) h)
-met_from old mid new s v key goes (inr h) = inr (unmet_from 0 0 (renewals s.from s.to v.entries) (renewals s.from s.to v.entries) key old mid new refl goes (λ q c. c) h)
-
-pub unmoved_halted : (old mid new : Attached) (s : Sides) (v : Survey) (e : RetireRefused) → GoOn old mid → IsSurvey s old v → IsHalted (index_at mid s.to) s v mid new.shelves e → IsUnmoved s old new e
-unmoved_halted old mid new s v refused.StoreFault goes shown h = risen_more old mid new.shelves goes h
-unmoved_halted old mid new s v (refused.BadRow key) goes shown h = inr (record { survey = v; shown = shown; met = met_from old mid new.shelves s v key goes h })
-unmoved_halted old mid new s v refused.NoMemory goes shown h = h
+pub unmoved_halted : (old mid new : Attached) (s : Sides) (v : Survey) (e : RetireRefused) → GoOn old mid → Hold [] old mid → IsSurvey s old v → IsHalted (index_at mid s.to) s v mid new.shelves e → IsUnmoved s old new e
+unmoved_halted old mid new s v refused.StoreFault goes same shown h = risen_more old mid new.shelves goes h
+unmoved_halted old mid new s v (refused.BadRow key) goes same shown h = inr (record {
+  survey = v;
+  shown = shown;
+  met =
+      let ws = writes_of (index_at old s.to) s v in
+      unmet_among old mid new.shelves ws [] ws [] key (sym (append-nil ws)) goes same (subst (λ (i : ℕ). WasUnmet (writes_of i s v) key mid new.shelves) (same_index old mid s.to goes) h);
+})
+unmoved_halted old mid new s v refused.NoMemory goes same shown h = h
 
 pub others_part : (old mid new : Attached) (s : Sides) (v : Survey) → GoOn old mid → Hold [] old mid → HoldFirst (writes_of (index_at mid s.to) s v) mid new → KeepOthers s old new
 others_part old mid new s v goes same h =

@@ -14,7 +14,7 @@ use Rattle.sdb_record.specs.Meta.{id_in, state_in}
 use Rattle.sdb_stores.specs.Shelf.{Attached, Shelf, IsCallAt}
 use Rattle.sdb_catalog.specs.Calls.{with_shelves}
 use Rattle.sdb_retire.specs.declared.seen.Seen.{Seen}
-use Rattle.sdb_retire.specs.Writes.{IsShown}
+use Rattle.sdb_retire.specs.Writes.{Hold, IsShown, Write}
 
 -- the version that a record is: an id and a state 1 to 3
 abbrev pub version_in : Record → Option Condition
@@ -95,12 +95,15 @@ key_asked (ask.PutIf r condition) = Some r.key
 key_asked (ask.Get key) = None
 key_asked (ask.Scan span) = None
 
--- The last call put the record of this key, and found another.
-pub record WasUnmet (at : ℕ) (requests : List Request) (place : Key) (old : Attached) (new : List Shelf) : Type 0 where
+-- The first of these writes were made, and the next, a put at this key, found another record there.
+pub record WasUnmet (writes : List Write) (place : Key) (old : Attached) (new : List Shelf) : Type 0 where
+  pub done : List Write
+  pub write : Write
+  pub later : List Write
+  pub parts : writes ≡ done ++ write ∷ later
   pub mid : List Shelf
-  pub request : Request
+  pub held : Hold done old (with_shelves old mid)
   pub found : Option Record
-  pub among : Contains requests request
-  pub called : IsCallAt at request (NotMet found) (with_shelves old mid) (with_shelves old new)
-  pub fails : Passes request found → ⊥
-  pub key : key_asked request ≡ Some place
+  pub called : IsCallAt write.at write.request (NotMet found) (with_shelves old mid) (with_shelves old new)
+  pub fails : Passes write.request found → ⊥
+  pub key : key_asked write.request ≡ Some place

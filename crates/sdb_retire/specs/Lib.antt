@@ -5,3 +5,5 @@ pub mod Copying
 pub mod Read
 pub mod Retired
 pub mod Joined
+pub mod Imaged
+pub mod Dropped

@@ -3,7 +3,8 @@ use Rattle.std.specs.Prelude.{◌≡◌, ◌≢◌, ◌⊎◌, ℕ, List, [], �
 use Rattle.sdb_types.specs.declared.key.Key.{Key}
 use Rattle.sdb_stores.specs.Shelf.{Attached, Shelf, HaveRisen, index_at}
 use Rattle.sdb_catalog.specs.declared.entry.Entry.{Entry}
-use Rattle.sdb_catalog.specs.Rows.{metadata_table}
+use Rattle.sdb_types.specs.Contents.{rows_in}
+use Rattle.sdb_catalog.specs.Rows.{metadata_table, row_of}
 use Rattle.sdb_retire.specs.declared.refused.RetireRefused.{RetireRefused}
 use Rattle.sdb_retire.specs.declared.refused.RetireRefused.TheVariants as refused
 use Rattle.sdb_retire.specs.declared.survey.Survey.{Survey}
@@ -11,7 +12,7 @@ use Rattle.sdb_retire.specs.Copying.{IsBlocked, WasUnmet, is_put, requests_of}
 use Rattle.sdb_retire.specs.Joined.{ArePartly, AreStillAttached, IsJoined, settle}
 use Rattle.sdb_retire.specs.Moving.{FollowMoving, moving_tables, renewals}
 use Rattle.sdb_retire.specs.Read.{AreOpened, AreSeen, IsBadRow}
-use Rattle.sdb_retire.specs.Writes.{Hold, HoldFirst, Write, contents_at, writes_at}
+use Rattle.sdb_retire.specs.Writes.{Hold, HoldFirst, Write, contents_at, span_of, writes_at}
 
 -- The two names of a retirement.
 pub record Sides : Type 0 where
@@ -31,12 +32,22 @@ pub record IsSurvey (s : Sides) (old : Attached) (v : Survey) : Type 0 where
   pub opened : AreOpened s.from s.to 0 old v.entries
   pub seen : AreSeen (index_at old s.from) (index_at old s.to) (moving_tables s.from v.entries) old v.seen
 
+-- The contents of the first store and of both sides are known.
+pub record AreKnown (s : Sides) (old : Attached) : Type 0 where
+  pub first : old.tells 0
+  pub from : old.tells (index_at old s.from)
+  pub to : old.tells (index_at old s.to)
+
 -- At keys of the moving tables `to` holds what `from` held, and elsewhere what it held, where the contents of both are known. Of rows of
 -- the catalog nothing is said here.
 abbrev pub TablesMoved : Sides → Survey → Attached → Attached → Type 0
 TablesMoved s v old new =
     old.tells (index_at old s.from) → old.tells (index_at old s.to) → (key : Key) → key.table ≢ metadata_table
     → IsJoined (moving_tables s.from v.entries) (contents_at old.shelves (index_at old s.from)) (contents_at old.shelves (index_at old s.to)) (contents_at new.shelves (index_at old s.to)) key
+
+-- The catalog's rows in the first store are those of the entries, each one settled, where all contents are known.
+abbrev pub RowsMoved : Sides → Survey → Attached → Attached → Type 0
+RowsMoved s v old new = AreKnown s old → rows_in (span_of metadata_table) (contents_at new.shelves 0) ≡ map row_of (map (settle s.from s.to) v.entries)
 
 -- Each store of known contents but the first and `to` holds what it held.
 abbrev pub KeepOthers : Sides → Attached → Attached → Type 0
@@ -49,6 +60,7 @@ pub record AreMoved (s : Sides) (n : ℕ) (old new : Attached) : Type 0 where
   pub count : n ≡ copies_of survey
   pub held : Hold (writes_of (index_at old s.to) s survey) old new
   pub tables : TablesMoved s survey old new
+  pub rows : RowsMoved s survey old new
 
 -- The first of the writes were made.
 pub record IsPart (s : Sides) (old new : Attached) : Type 0 where
@@ -56,14 +68,10 @@ pub record IsPart (s : Sides) (old new : Attached) : Type 0 where
   pub shown : IsSurvey s old survey
   pub held : HoldFirst (writes_of (index_at old s.to) s survey) old new
 
--- A write of these found another record at its key.
-abbrev pub IsMet : ℕ → Sides → Survey → Key → Attached → List Shelf → Type 0
-IsMet to s v place old new = WasUnmet to (requests_of v.seen) place old new ⊎ WasUnmet 0 (renewals s.from s.to v.entries) place old new
-
 -- Why the writes were not all made.
 abbrev pub IsHalted : ℕ → Sides → Survey → Attached → List Shelf → RetireRefused → Type 0
 IsHalted to s v old new refused.StoreFault = HaveRisen old.shelves new
-IsHalted to s v old new (refused.BadRow key) = IsMet to s v key old new
+IsHalted to s v old new (refused.BadRow key) = WasUnmet (writes_of to s v) key old new
 IsHalted to s v old new refused.NoMemory = Unit {0}
 
 -- The first store showed entries of a catalog, and two stores rows of one of its moving tables, of which the one of this key blocks the copy.
@@ -82,15 +90,24 @@ IsUnsurveyed s old new refused.NoMemory = Unit {0}
 pub record IsMetWriting (s : Sides) (old : Attached) (new : List Shelf) (place : Key) : Type 0 where
   pub survey : Survey
   pub shown : IsSurvey s old survey
-  pub met : IsMet (index_at old s.to) s survey place old new
+  pub met : WasUnmet (writes_of (index_at old s.to) s survey) place old new
 
--- Why not everything was moved: a fault raised the count of the stores; or a row of the catalog is bad, or a record blocks the copy,
--- and nothing was written; or a write found another record.
+-- A row of the catalog is bad, or a record blocks the copy, and nothing was written.
+abbrev pub IsBarred : Sides → Attached → Attached → Key → Type 0
+IsBarred s old new key = (IsBadRow s.from s.to 0 old key ⊎ IsBlockedCopy s old key) × Hold [] old new
+
+-- Why not everything was moved: a fault raised the count of the stores; a row or a record bars it, and nothing was written; or a write
+-- found another record.
 abbrev pub IsUnmoved : Sides → Attached → Attached → RetireRefused → Type 0
 IsUnmoved s old new refused.StoreFault = HaveRisen old.shelves new.shelves
-IsUnmoved s old new (refused.BadRow key) =
-    ((IsBadRow s.from s.to 0 old key ⊎ IsBlockedCopy s old key) × Hold [] old new) ⊎ IsMetWriting s old new.shelves key
+IsUnmoved s old new (refused.BadRow key) = IsBarred s old new key ⊎ IsMetWriting s old new.shelves key
 IsUnmoved s old new refused.NoMemory = Unit {0}
+
+-- Why not everything was moved, where all contents are known: no write finds another record then.
+abbrev pub IsUnmovedKnown : Sides → Attached → Attached → RetireRefused → Type 0
+IsUnmovedKnown s old new refused.StoreFault = HaveRisen old.shelves new.shelves
+IsUnmovedKnown s old new (refused.BadRow key) = AreKnown s old → IsBarred s old new key
+IsUnmovedKnown s old new refused.NoMemory = Unit {0}
 
 -- The entries of a catalog over the stores of some names, of which one is to be given up for another.
 pub record Retirement : Type 0 where

@@ -1,9 +1,10 @@
 -- Why a call had no answer.
-use Rattle.std.specs.Prelude.{◌≡◌, ℕ, List, Option, Some}
+use Rattle.std.specs.Prelude.{◌≡◌, List, Option, Some}
 use Rattle.sdb_types.specs.declared.record.Record.{Record}
 use Rattle.sdb_types.specs.declared.record.Request.{Request}
 use Rattle.sdb_stores.specs.Shelf.{Attached, Shelf, HaveRisen}
 use Rattle.sdb_retire.specs.Copying.{IsFirstBlocking, Passes, WasUnmet, key_asked}
+use Rattle.sdb_retire.specs.Writes.{Write}
 use Rattle.sdb_retire.specs.declared.refused.RetireRefused.{RetireRefused}
 use Rattle.sdb_retire.specs.declared.refused.RetireRefused.TheVariants as refused
 
@@ -20,10 +21,10 @@ IsBlockedIn in_to in_from (refused.BadRow key) = IsFirstBlocking in_to in_from k
 IsBlockedIn in_to in_from refused.NoMemory = Unit {0}
 
 -- Why a write was not made, or not passed over: a fault raised the count of the stores, or it found another record.
-abbrev pub IsUnwritten : ℕ → List Request → Attached → List Shelf → RetireRefused → Type 0
-IsUnwritten at requests old new refused.StoreFault = HaveRisen old.shelves new
-IsUnwritten at requests old new (refused.BadRow key) = WasUnmet at requests key old new
-IsUnwritten at requests old new refused.NoMemory = Unit {0}
+abbrev pub IsUnwritten : List Write → Attached → List Shelf → RetireRefused → Type 0
+IsUnwritten writes old new refused.StoreFault = HaveRisen old.shelves new
+IsUnwritten writes old new (refused.BadRow key) = WasUnmet writes key old new
+IsUnwritten writes old new refused.NoMemory = Unit {0}
 
 -- A put found another record at its key.
 abbrev pub IsUnmet : Request → Option Record → RetireRefused → Type 0

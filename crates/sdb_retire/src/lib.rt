@@ -1,4 +1,4 @@
-//! A store retired: everything of the catalog that is in it moves to another, and it is detached.
+//! A store retired: everything of the catalog that is in it moves to another, and it is dropped.
 #![tactic(auto)]
 
 mod call;
@@ -6,6 +6,7 @@ pub mod laws;
 mod moving;
 mod read;
 mod refused;
+mod retiring;
 mod see;
 mod seen;
 mod survey;
@@ -14,4 +15,4 @@ mod whole;
 mod write;
 
 pub use refused::RetireRefused;
-pub use whole::move_all;
+pub use retiring::{can_retire, retire};

@@ -123,7 +123,7 @@ fn write<R: Registry>(stores: &mut R, store: &Name, request: &Request) -> Result
     ensures held { OnOk result (Hold (write_at (index_at (R.state stores.old) store.now) request.now ∷ []) (R.state stores.old) (R.state stores.new)) }
     ensures left { MayHold (write_at (index_at (R.state stores.old) store.now) request.now) (R.state stores.old) (R.state stores.new) }
     ensures goes { GoOn (R.state stores.old) (R.state stores.new) }
-    ensures err { IfErr result (IsUnwritten (index_at (R.state stores.old) store.now) (request.now ∷ []) (R.state stores.old) (R.state stores.new).shelves) }
+    ensures err { IfErr result (IsUnwritten (write_at (index_at (R.state stores.old) store.now) request.now ∷ []) (R.state stores.old) (R.state stores.new).shelves) }
 {
     match call(stores, store, request)? {
         Reply::NotMet(found) => unmet(request, &found),
@@ -141,7 +141,7 @@ pub fn run<R: Registry>(
     ensures held { OnOk result (Hold (writes_at (index_at (R.state stores.old) store.now) requests.now) (R.state stores.old) (R.state stores.new)) }
     ensures left { HoldFirst (writes_at (index_at (R.state stores.old) store.now) requests.now) (R.state stores.old) (R.state stores.new) }
     ensures goes { GoOn (R.state stores.old) (R.state stores.new) }
-    ensures err { IfErr result (IsUnwritten (index_at (R.state stores.old) store.now) requests.now (R.state stores.old) (R.state stores.new).shelves) }
+    ensures err { IfErr result (IsUnwritten (writes_at (index_at (R.state stores.old) store.now) requests.now) (R.state stores.old) (R.state stores.new).shelves) }
 {
     for request in requests {
         write(stores, store, request)?;

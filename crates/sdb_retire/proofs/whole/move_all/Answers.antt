@@ -39,7 +39,7 @@ returns-clause-goes g c =
 
 pub returns-clause-err : goal.returns-clause-err
 returns-clause-err g c =
-    halted_err c.write_all.result (record { from = c.args.from.now; to = c.args.to.now }) c.in_ok-survey.survey (g.R.Registry.state c.args.stores.now) (g.R.Registry.state c.survey_of.new.stores) (g.R.Registry.state c.write_all.new.stores) c.in_ok-survey.ensures.goes c.in_ok-survey.ensures.shown c.write_all.ensures.err
+    halted_err c.write_all.result (record { from = c.args.from.now; to = c.args.to.now }) c.in_ok-survey.survey (g.R.Registry.state c.args.stores.now) (g.R.Registry.state c.survey_of.new.stores) (g.R.Registry.state c.write_all.new.stores) c.in_ok-survey.ensures.goes c.in_ok-survey.ensures.held c.in_ok-survey.ensures.shown c.write_all.ensures.err
 
 pub returns-in_err-survey-clause-left : goal.returns-in_err-survey-clause-left
 returns-in_err-survey-clause-left g c = left_at _ _ (inl c.in_err-survey.ensures.held)

@@ -30,7 +30,7 @@ pub returns-in_err-write-clause-err : goal.returns-in_err-write-clause-err
 returns-in_err-write-clause-err g c =
     passed_on _ c.from_residual.result c.in_err-write.field-0.0 c.from_residual.ensures.1
     (unwritten_more (g.R.Registry.state c.args.stores.now) (g.R.Registry.state c.loop-request.stores) (g.R.Registry.state c.write.new.stores).shelves c.args.store.now c.args.requests.now c.loop-request.request-index c.request-item.result c.in_err-write.field-0.0
-    c.loop-request-test.true c.request-item.is c.loop-request.invariant.goes c.in_err-write.ensures.err)
+    c.loop-request-test.true c.request-item.is c.loop-request.invariant.goes c.loop-request.invariant.held c.in_err-write.ensures.err)
 
 pub returns-clause-left : goal.returns-clause-left
 returns-clause-left g c =
