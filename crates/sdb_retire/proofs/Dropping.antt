@@ -121,7 +121,7 @@ dropped_from name old mid new goes d = record {
 pub retired : (s : Sides) (n : ℕ) (old mid new : Attached) → GoOn old mid → AreMoved s n old mid → KeepOthers s old mid → IsDropped s.from mid new → IsRetired s n old new
 retired s n old mid new goes moved others d = record {
   mid = mid.shelves;
-  moved = record { survey = moved.survey; shown = moved.shown; count = moved.count; held = moved.held; tables = moved.tables; rows = moved.rows };
+  moved = record { survey = moved.survey; shown = moved.shown; count = moved.count; start = moved.start; read = moved.read; made = moved.made; held = moved.held; tables = moved.tables; rows = moved.rows };
   others = others;
   goes = record { names = goes.names; places = refl; counted = goes.counted; telling = λ i t. t };
   dropped = dropped_from s.from old mid new goes d;

@@ -5,15 +5,16 @@ use Rattle.std.specs.Prelude.{[], Result, Ok, Err, IfOk, IfErr, OnOk, OnErr}
 use Rattle.sdb_stores.specs.Shelf.{index_at}
 use Rattle.sdb_retire.specs.declared.refused.RetireRefused.{RetireRefused}
 use Rattle.sdb_retire.specs.declared.survey.Survey.{Survey}
+use Rattle.sdb_retire.specs.Copying.{AreMade}
 use Rattle.sdb_retire.specs.Retired.{AreMoved, IsHalted, IsLeft, IsSurvey, IsUnmoved, KeepOthers, Sides, copies_of, writes_of}
 use Rattle.sdb_retire.specs.Writes.{GoOn, Hold, HoldFirst}
 use Rattle.sdb_retire.proofs.Surveys.{all_moved, others_all, others_part, part_left, unmoved_halted}
 
 ---- the last call's result
 
-pub moved_ok : (r : Result ℕ RetireRefused) (s : Sides) (v : Survey) (old mid new : Attached) → GoOn old mid → Hold [] old mid → IsSurvey s old v → IfOk r (λ n. n ≡ copies_of v) → OnOk r (Hold (writes_of (index_at mid s.to) s v) mid new) → IfOk r (λ n. AreMoved s n old new)
-moved_ok (Ok n) s v old mid new goes same shown count h = all_moved old mid new s v n goes same shown count h
-moved_ok (Err e) s v old mid new goes same shown count h = tt
+pub moved_ok : (r : Result ℕ RetireRefused) (s : Sides) (v : Survey) (old mid new : Attached) → GoOn old mid → Hold [] old mid → IsSurvey s old v → IfOk r (λ n. n ≡ copies_of v) → OnOk r (AreMade (writes_of (index_at mid s.to) s v) mid new.shelves) → OnOk r (Hold (writes_of (index_at mid s.to) s v) mid new) → IfOk r (λ n. AreMoved s n old new)
+moved_ok (Ok n) s v old mid new goes same shown count made h = all_moved old mid new s v n goes same shown count made h
+moved_ok (Err e) s v old mid new goes same shown count made h = tt
 
 pub left_err : (r : Result ℕ RetireRefused) (s : Sides) (v : Survey) (old mid new : Attached) → GoOn old mid → Hold [] old mid → IsSurvey s old v → OnErr r (HoldFirst (writes_of (index_at mid s.to) s v) mid new) → OnErr r (IsLeft s old new)
 left_err (Ok n) s v old mid new goes same shown h = tt

@@ -2,6 +2,7 @@ pub mod Calls
 pub mod Scans
 pub mod Moved
 pub mod Steps
+pub mod Making
 pub mod Surveys
 pub mod Versions
 pub mod Joins

@@ -11,7 +11,7 @@ use Rattle.sdb_retire.specs.declared.refused.RetireRefused.{RetireRefused}
 use Rattle.sdb_retire.specs.declared.refused.RetireRefused.TheVariants as refused
 use Rattle.sdb_retire.specs.declared.seen.Seen.{Seen}
 use Rattle.sdb_retire.specs.declared.survey.Survey.{Survey}
-use Rattle.sdb_retire.specs.Copying.{IsBlocked, IsSeen, WasUnmet, requests_of}
+use Rattle.sdb_retire.specs.Copying.{AreMade, IsBlocked, IsSeen, WasUnmet, requests_of}
 use Rattle.sdb_retire.specs.Moving.{moving_tables, renewals}
 use Rattle.sdb_retire.specs.Read.{AreOpened, AreSeen, IsUnread, IsUnseen}
 use Rattle.sdb_retire.specs.Retired.{AreMoved, KeepOthers, IsHalted, IsLeft, IsSurvey, IsUnmoved, IsUnsurveyed, Sides, copies_of, writes_of}
@@ -20,6 +20,7 @@ use Rattle.sdb_retire.specs.Writes.{GoOn, Hold, HoldFirst, Write, writes_at}
 use Rattle.sdb_retire.proofs.Calls.{first_back, first_front, goes_none, hold_more, hold_none, hold_same, risen_more, same_index, shown_earlier}
 use Rattle.sdb_retire.proofs.Known.{others_first, others_held, tables_moved}
 use Rattle.sdb_retire.proofs.Renewing.{rows_renewed}
+use Rattle.sdb_retire.proofs.Making.{all_less, made_both}
 use Rattle.sdb_retire.proofs.Steps.{seen_earlier, unmet_among}
 
 ---- the survey
@@ -82,6 +83,12 @@ written_all old mid new first from to v qs rs goes named a b h k =
     subst (λ (ws : List Write). Hold ws old new) (ap (λ (l : List Request). writes_at (index_at old to) l ++ writes_at 0 rs) a ∙ ap (λ (l : List Request). writes_at (index_at old to) (requests_of v.seen) ++ writes_at 0 l) b)
     (hold_more old mid new (writes_at (index_at old to) qs) (writes_at 0 rs) goes h (subst (λ (n : ℕ). Hold (writes_at n rs) mid new) (later_index old mid first goes named) k))
 
+pub both_made : (old mid : Attached) (new : List Shelf) (first from to : List ℕ) (v : Survey) (qs rs : List Request) → GoOn old mid → index_at old first ≡ 0 → qs ≡ requests_of v.seen → rs ≡ renewals from to v.entries → AreMade (writes_at (index_at old to) qs) old mid.shelves → AreMade (writes_at (index_at mid first) rs) mid new
+    → AreMade (writes_of (index_at old to) (record { from = from; to = to }) v) old new
+both_made old mid new first from to v qs rs goes named a b h k =
+    made_both (writes_at (index_at old to) (requests_of v.seen)) (writes_at 0 (renewals from to v.entries)) old mid new goes (subst (λ (l : List Request). AreMade (writes_at (index_at old to) l) old mid.shelves) a h)
+    (subst (λ (l : List Request). AreMade (writes_at 0 l) mid new) b (subst (λ (n : ℕ). AreMade (writes_at n rs) mid new) (later_index old mid first goes named) k))
+
 pub left_first : (old new : Attached) (from to : List ℕ) (v : Survey) (qs : List Request) → qs ≡ requests_of v.seen → HoldFirst (writes_at (index_at old to) qs) old new → HoldFirst (writes_of (index_at old to) (record { from = from; to = to }) v) old new
 left_first old new from to v qs a h =
     first_front old new (writes_at (index_at old to) (requests_of v.seen)) (writes_at 0 (renewals from to v.entries)) (subst (λ (l : List Request). HoldFirst (writes_at (index_at old to) l) old new) a h)
@@ -115,11 +122,14 @@ halted_second old mid new first from to v qs rs refused.NoMemory goes named a b 
 pub all_held : (old mid new : Attached) (s : Sides) (v : Survey) → GoOn old mid → Hold [] old mid → Hold (writes_of (index_at mid s.to) s v) mid new → Hold (writes_of (index_at old s.to) s v) old new
 all_held old mid new s v goes same h = hold_same old mid new (writes_of (index_at old s.to) s v) goes same (subst (λ (i : ℕ). Hold (writes_of i s v) mid new) (same_index old mid s.to goes) h)
 
-pub all_moved : (old mid new : Attached) (s : Sides) (v : Survey) (n : ℕ) → GoOn old mid → Hold [] old mid → IsSurvey s old v → n ≡ copies_of v → Hold (writes_of (index_at mid s.to) s v) mid new → AreMoved s n old new
-all_moved old mid new s v n goes same shown count h = record {
+pub all_moved : (old mid new : Attached) (s : Sides) (v : Survey) (n : ℕ) → GoOn old mid → Hold [] old mid → IsSurvey s old v → n ≡ copies_of v → AreMade (writes_of (index_at mid s.to) s v) mid new.shelves → Hold (writes_of (index_at mid s.to) s v) mid new → AreMoved s n old new
+all_moved old mid new s v n goes same shown count made h = record {
   survey = v;
   shown = shown;
   count = count;
+  start = mid.shelves;
+  read = same;
+  made = all_less (writes_of (index_at old s.to) s v) old mid new.shelves goes.telling (subst (λ (i : ℕ). AreMade (writes_of i s v) mid new.shelves) (same_index old mid s.to goes) made);
   held = all_held old mid new s v goes same h;
   tables = tables_moved s old new v shown (all_held old mid new s v goes same h);
   rows = λ known. rows_renewed s old new v known shown (all_held old mid new s v goes same h);

@@ -7,7 +7,8 @@ use Rattle.sdb_types.specs.declared.key.TableName.{TableName}
 use Rattle.sdb_types.specs.declared.record.Condition.{Condition}
 use Rattle.sdb_types.specs.declared.record.Condition.TheVariants.{Absent, Version}
 use Rattle.sdb_types.specs.declared.record.Record.{Record}
-use Rattle.sdb_types.specs.declared.record.Reply.TheVariants.{NotMet}
+use Rattle.sdb_types.specs.declared.record.Reply.{Reply}
+use Rattle.sdb_types.specs.declared.record.Reply.TheVariants as reply
 use Rattle.sdb_types.specs.declared.record.Request.{Request}
 use Rattle.sdb_types.specs.declared.record.Request.TheVariants as ask
 use Rattle.sdb_record.specs.Meta.{id_in, state_in}
@@ -88,6 +89,26 @@ Passes (ask.PutIf r (Version id state)) found = ⊥
 Passes (ask.Get key) found = ⊥
 Passes (ask.Scan span) found = ⊥
 
+-- An answered request is done with: it was met, or is passed over.
+abbrev pub IsDone : Request → Reply → Type 0
+IsDone q reply.Fault = ⊥
+IsDone q reply.NoMemory = ⊥
+IsDone q (reply.Found found) = Unit {0}
+IsDone q (reply.Rows rows) = Unit {0}
+IsDone q reply.Applied = Unit {0}
+IsDone q (reply.NotMet found) = Passes q found
+
+-- A write was made by one call, and is done with.
+pub record IsMade (w : Write) (old : Attached) (new : List Shelf) : Type 0 where
+  pub answer : Reply
+  pub called : IsCallAt w.at w.request answer old (with_shelves old new)
+  pub done : IsDone w.request answer
+
+-- Writes were made, one after the other.
+abbrev pub AreMade : List Write → Attached → List Shelf → Type 0
+AreMade [] old new = new ≡ old.shelves
+AreMade (w ∷ ws) old new = (mid : List Shelf) × IsMade w old mid × AreMade ws (with_shelves old mid) new
+
 -- the key that a write is about
 abbrev pub key_asked : Request → Option Key
 key_asked (ask.DeleteIf key condition) = Some key
@@ -104,6 +125,6 @@ pub record WasUnmet (writes : List Write) (place : Key) (old : Attached) (new : 
   pub mid : List Shelf
   pub held : Hold done old (with_shelves old mid)
   pub found : Option Record
-  pub called : IsCallAt write.at write.request (NotMet found) (with_shelves old mid) (with_shelves old new)
+  pub called : IsCallAt write.at write.request (reply.NotMet found) (with_shelves old mid) (with_shelves old new)
   pub fails : Passes write.request found → ⊥
   pub key : key_asked write.request ≡ Some place

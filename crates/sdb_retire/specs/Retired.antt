@@ -8,7 +8,8 @@ use Rattle.sdb_catalog.specs.Rows.{metadata_table, row_of}
 use Rattle.sdb_retire.specs.declared.refused.RetireRefused.{RetireRefused}
 use Rattle.sdb_retire.specs.declared.refused.RetireRefused.TheVariants as refused
 use Rattle.sdb_retire.specs.declared.survey.Survey.{Survey}
-use Rattle.sdb_retire.specs.Copying.{IsBlocked, WasUnmet, is_put, requests_of}
+use Rattle.sdb_catalog.specs.Calls.{with_shelves}
+use Rattle.sdb_retire.specs.Copying.{AreMade, IsBlocked, WasUnmet, is_put, requests_of}
 use Rattle.sdb_retire.specs.Joined.{ArePartly, AreStillAttached, IsJoined, settle}
 use Rattle.sdb_retire.specs.Moving.{FollowMoving, moving_tables, renewals}
 use Rattle.sdb_retire.specs.Read.{AreOpened, AreSeen, IsBadRow}
@@ -53,11 +54,14 @@ RowsMoved s v old new = AreKnown s old → rows_in (span_of metadata_table) (con
 abbrev pub KeepOthers : Sides → Attached → Attached → Type 0
 KeepOthers s old new = (i : ℕ) → i ≢ index_at old s.to → i ≢ 0 → old.tells i → contents_at new.shelves i ≡ contents_at old.shelves i
 
--- All writes were made.
+-- All writes were made, from what the stores showed once they were read.
 pub record AreMoved (s : Sides) (n : ℕ) (old new : Attached) : Type 0 where
   pub survey : Survey
   pub shown : IsSurvey s old survey
   pub count : n ≡ copies_of survey
+  pub start : List Shelf
+  pub read : Hold [] old (with_shelves old start)
+  pub made : AreMade (writes_of (index_at old s.to) s survey) (with_shelves old start) new.shelves
   pub held : Hold (writes_of (index_at old s.to) s survey) old new
   pub tables : TablesMoved s survey old new
   pub rows : RowsMoved s survey old new

@@ -3,6 +3,7 @@ ghost use Rattle.std.specs.Prelude.{◌≡◌, ◌<◌, length, true, slice_get,
 ghost use Rattle.std.specs.List.{list_all};
 ghost use Rattle.sdb_schema.specs.Table.{rises};
 ghost use Rattle.sdb_stores.specs.Shelf.{index_at, index_in, names_of};
+ghost use Rattle.sdb_retire.specs.Copying.{AreMade};
 ghost use Rattle.sdb_retire.specs.Retired.{AreMoved, IsHalted, IsLeft, IsUnmoved, KeepOthers, copies_of, writes_of};
 ghost use Rattle.sdb_retire.specs.Writes.{GoOn, Hold, HoldFirst};
 
@@ -41,6 +42,7 @@ fn write_all<R: Registry>(
     requires columns { list_all (λ e. rises e.table.columns) survey.now.entries ≡ true }
     ensures count { IfOk result (λ n. n ≡ copies_of survey.now) }
     ensures held { OnOk result (Hold (writes_of (index_at (R.state stores.old) to.now) (record { from = from.now; to = to.now }) survey.now) (R.state stores.old) (R.state stores.new)) }
+    ensures made { OnOk result (AreMade (writes_of (index_at (R.state stores.old) to.now) (record { from = from.now; to = to.now }) survey.now) (R.state stores.old) (R.state stores.new).shelves) }
     ensures left { OnErr result (HoldFirst (writes_of (index_at (R.state stores.old) to.now) (record { from = from.now; to = to.now }) survey.now) (R.state stores.old) (R.state stores.new)) }
     ensures goes { GoOn (R.state stores.old) (R.state stores.new) }
     ensures err { IfErr result (IsHalted (index_at (R.state stores.old) to.now) (record { from = from.now; to = to.now }) survey.now (R.state stores.old) (R.state stores.new).shelves) }

@@ -2,7 +2,7 @@
 ghost use Rattle.std.specs.Prelude.{◌≡◌, ◌++◌, ◌∷◌, [], ◌↔◌, Some, IsSome, IsTrue, IfOk, IfErr, OnOk, count_by, flat_map, map};
 ghost use Rattle.sdb_types.specs.Contents.{CanAnswer};
 ghost use Rattle.sdb_stores.specs.Shelf.{index_at, index_in};
-ghost use Rattle.sdb_retire.specs.Copying.{Passes, delete_of, key_asked, is_put as is_put_lem, put_of, requests_for, requests_of as requests_of_lem};
+ghost use Rattle.sdb_retire.specs.Copying.{AreMade, IsMade, Passes, delete_of, key_asked, is_put as is_put_lem, put_of, requests_for, requests_of as requests_of_lem};
 ghost use Rattle.sdb_retire.specs.Stopped.{IsUnmet, IsUnwritten};
 ghost use Rattle.sdb_retire.specs.Writes.{GoOn, Hold, HoldFirst, MayHold, write_at, writes_at};
 
@@ -108,6 +108,7 @@ fn key_of(request: &Request, found: &Option<Record>) -> Result<Key, NoMemory>
 // What comes of a write that isn't met.
 fn unmet(request: &Request, found: &Option<Record>) -> Result<(), RetireRefused>
     requires { CanAnswer request.now (Reply.NotMet found.now) }
+    ensures passed { OnOk result (Passes request.now found.now) }
     ensures err { IfErr result (IsUnmet request.now found.now) }
 {
     if passes(request, found) {
@@ -121,6 +122,7 @@ fn unmet(request: &Request, found: &Option<Record>) -> Result<(), RetireRefused>
 fn write<R: Registry>(stores: &mut R, store: &Name, request: &Request) -> Result<(), RetireRefused>
     requires attached { IsSome (index_in (R.state stores.old) store.now) }
     ensures held { OnOk result (Hold (write_at (index_at (R.state stores.old) store.now) request.now ∷ []) (R.state stores.old) (R.state stores.new)) }
+    ensures made { OnOk result (IsMade (write_at (index_at (R.state stores.old) store.now) request.now) (R.state stores.old) (R.state stores.new).shelves) }
     ensures left { MayHold (write_at (index_at (R.state stores.old) store.now) request.now) (R.state stores.old) (R.state stores.new) }
     ensures goes { GoOn (R.state stores.old) (R.state stores.new) }
     ensures err { IfErr result (IsUnwritten (write_at (index_at (R.state stores.old) store.now) request.now ∷ []) (R.state stores.old) (R.state stores.new).shelves) }
@@ -139,6 +141,7 @@ pub fn run<R: Registry>(
 ) -> Result<(), RetireRefused>
     requires attached { IsSome (index_in (R.state stores.old) store.now) }
     ensures held { OnOk result (Hold (writes_at (index_at (R.state stores.old) store.now) requests.now) (R.state stores.old) (R.state stores.new)) }
+    ensures made { OnOk result (AreMade (writes_at (index_at (R.state stores.old) store.now) requests.now) (R.state stores.old) (R.state stores.new).shelves) }
     ensures left { HoldFirst (writes_at (index_at (R.state stores.old) store.now) requests.now) (R.state stores.old) (R.state stores.new) }
     ensures goes { GoOn (R.state stores.old) (R.state stores.new) }
     ensures err { IfErr result (IsUnwritten (writes_at (index_at (R.state stores.old) store.now) requests.now) (R.state stores.old) (R.state stores.new).shelves) }

@@ -23,7 +23,7 @@ write_all-requires-clause-columns g c = each_rises _ c.args.from.now c.args.to.n
 pub returns-clause-moved : goal.returns-clause-moved
 returns-clause-moved g c =
     moved_ok c.write_all.result (record { from = c.args.from.now; to = c.args.to.now }) c.in_ok-survey.survey (g.R.Registry.state c.args.stores.now) (g.R.Registry.state c.survey_of.new.stores) (g.R.Registry.state c.write_all.new.stores) c.in_ok-survey.ensures.goes c.in_ok-survey.ensures.held c.in_ok-survey.ensures.shown c.write_all.ensures.count
-    c.write_all.ensures.held
+    c.write_all.ensures.made c.write_all.ensures.held
 
 pub returns-clause-left : goal.returns-clause-left
 returns-clause-left g c =

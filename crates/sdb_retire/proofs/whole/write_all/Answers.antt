@@ -6,7 +6,7 @@ use Rattle.sdb_catalog.proofs.Known.{passed_on}
 use Rattle.sdb_retire.specs.Copying.{requests_of}
 use Rattle.sdb_retire.specs.Moving.{renewals}
 use Rattle.sdb_retire.proofs.Calls.{goes_more, still_there}
-use Rattle.sdb_retire.proofs.Surveys.{halted_second, left_at, left_first, left_second, written_all}
+use Rattle.sdb_retire.proofs.Surveys.{both_made, halted_second, left_at, left_first, left_second, written_all}
 use Rattle.sdb_retire.proofs.whole.write_all.Goals as goal
 
 pub renewals-requires : goal.renewals-requires
@@ -20,6 +20,15 @@ returns-clause-held g c =
     written_all (g.R.Registry.state c.args.stores.now) (g.R.Registry.state c.run.new.stores) (g.R.Registry.state c.run-2.new.stores) c.args.first.now c.args.from.now c.args.to.now c.args.survey.now c.as_slice-3.result.now c.as_slice-4.result.now
     c.in_ok-run.ensures.goes c.requires.named (c.as_slice-3.ensures ∙ c.in_ok-requests.ensures ∙ ap requests_of c.as_slice.ensures) (c.as_slice-4.ensures ∙ c.in_ok-rows.ensures ∙ ap (renewals c.args.from.now c.args.to.now) c.as_slice-2.ensures)
     c.in_ok-run.ensures.held c.in_ok-run-2.ensures.held
+
+pub returns-clause-made : goal.returns-clause-made
+returns-clause-made g c =
+    let old = g.R.Registry.state c.args.stores.now in
+    let mid = g.R.Registry.state c.run.new.stores in
+    let new = g.R.Registry.state c.run-2.new.stores in
+    both_made old mid new.shelves c.args.first.now c.args.from.now c.args.to.now c.args.survey.now c.as_slice-3.result.now c.as_slice-4.result.now
+    c.in_ok-run.ensures.goes c.requires.named (c.as_slice-3.ensures ∙ c.in_ok-requests.ensures ∙ ap requests_of c.as_slice.ensures) (c.as_slice-4.ensures ∙ c.in_ok-rows.ensures ∙ ap (renewals c.args.from.now c.args.to.now) c.as_slice-2.ensures)
+    c.in_ok-run.ensures.made c.in_ok-run-2.ensures.made
 
 pub returns-clause-goes : goal.returns-clause-goes
 returns-clause-goes g c =

@@ -1,6 +1,7 @@
 use Rattle.sdb_stores.specs.Shelf.{index_at}
 use Rattle.sdb_catalog.proofs.Known.{passed_on}
 use Rattle.sdb_retire.proofs.Calls.{goes_more, still_there}
+use Rattle.sdb_retire.proofs.Making.{made_step}
 use Rattle.sdb_retire.proofs.Steps.{first_step, first_taken, hold_step, unwritten_more}
 use Rattle.sdb_retire.proofs.write.run.Goals as goal
 
@@ -11,6 +12,7 @@ loop-request-preserved g c =
     let new = g.R.Registry.state c.write.new.stores in
     record {
       goes = goes_more old mid new c.loop-request.invariant.goes c.in_ok-write.ensures.goes;
+      made = made_step old mid new.shelves c.args.store.now c.args.requests.now c.loop-request.request-index c.request-item.result c.loop-request-test.true c.request-item.is c.loop-request.invariant.goes c.loop-request.invariant.made c.in_ok-write.ensures.made;
       held = hold_step old mid new c.args.store.now c.args.requests.now c.loop-request.request-index c.request-item.result c.loop-request-test.true c.request-item.is c.loop-request.invariant.goes c.loop-request.invariant.held c.in_ok-write.ensures.held;
     }
 
