@@ -1,22 +1,24 @@
 -- Statements that are taken between points of a call.
-use Rattle.std.proofs.Common.{◌≡◌, ℕ, Bool, true, List, [], ◌∷◌, ◌++◌, refl, sym, ap, subst, ◌∙◌, append_assoc}
+use Rattle.std.proofs.Common.{◌≡◌, ◌≤◌, ℕ, ℤ, Bool, true, List, [], ◌∷◌, ◌++◌, Option, refl, sym, ap, subst, ◌∙◌, append_assoc}
 use Rattle.std.proofs.lemmas.List.{append-nil}
 use Rattle.std.specs.Prelude.{IfErr, IfOk, IsErrAnd, Result, Ok, Err}
 use Rattle.sdb_types.specs.Draws.{Tells}
 use Rattle.sdb_schema.specs.declared.table.Table.{Table}
-use Rattle.sdb_stores.specs.Shelf.{Attached}
-use Rattle.sdb_board.specs.Board.{GoOn}
+use Rattle.sdb_stores.specs.Shelf.{Attached, total_faults}
+use Rattle.sdb_board.specs.Board.{GoOn, placed, shown}
 use Rattle.sdb_model.specs.declared.answer.Answer.{Answer}
 use Rattle.sdb_model.specs.declared.statement.Statement.{Statement}
 use Rattle.sdb_model.specs.Sql.{statement_text_of}
 use Rattle.sdb_client.specs.Client.{IsIdle, nothing_done}
-use Rattle.sdb_session.specs.Session.{Exchange}
-use Rattle.sdb_answer.specs.Answering.{exchange}
+use Rattle.sdb_session.specs.Database.{Database, database_of}
+use Rattle.sdb_session.specs.Session.{Exchange, IsSerialSession}
+use Rattle.sdb_answer.specs.Answering.{database_in, exchange}
 use Rattle.sdb_answer.specs.Drawn.{drawn_id}
-use Rattle.sdb_answer.specs.Sessions.{IsSessionSoFar, SessionAt}
-use Rattle.sdb_answer.proofs.Chains.{session_more, session_none}
+use Rattle.sdb_answer.specs.Sessions.{IsSession, IsSessionSoFar, SessionAt}
+use Rattle.sdb_answer.proofs.Chains.{session_more, session_none, session_whole}
+use Rattle.sdb_tables.specs.Ends.{Ends, IsSessionBefore}
 use Rattle.sdb_tables.specs.Groups.{AreAnswered, IsOf}
-use Rattle.sdb_tables.specs.Turns.{AreTakenBetween, HasSaid, IsSoFar, Point}
+use Rattle.sdb_tables.specs.Turns.{AreTakenBetween, HasSaid, IsSoFar, Point, ends_between}
 
 -- a statement that was taken between two points
 pub record Said {S : Type 0} (state : S → Attached) (catalog : List Table) (st : Statement) (p : Point S) (a : Answer) (q : Point S) : Type 0 where
@@ -51,6 +53,31 @@ so_none state catalog first p stores clock client fresh =
     (subst (λ c. IsSessionSoFar catalog (state first.stores) (state first.stores) first.clock c first.ids p.ids [] p.session) (sym clock)
     (subst (λ (x : SessionAt). IsSessionSoFar catalog (state first.stores) (state first.stores) first.clock first.clock first.ids p.ids [] x) is start))
 
+---- a call that runs out of memory
+
+pub over_before : (catalog : List Table) (e : Ends) (mid : Attached) (clock_mid : Option (List ℤ)) (ids_mid : Option (List ℕ)) (es : List Exchange) → mid.places ≡ e.old.places → total_faults mid.shelves ≤ total_faults e.new.shelves → IsSession catalog e.old mid e.clock clock_mid e.ids ids_mid es → IsSessionBefore catalog e es
+over_before catalog e mid clock_mid ids_mid es places counted so = record {
+  held = mid.shelves;
+  clock_mid = clock_mid;
+  ids_mid = ids_mid;
+  session = record {
+    moments = so.moments;
+    drawn = so.drawn;
+    spare = so.spare;
+    draws = so.draws;
+    begun = so.begun;
+    taken = so.taken;
+    faults = so.faults;
+    serial = λ f w n. subst (λ (d : Database). IsSerialSession catalog (database_in e.old) d w.tables es) (ap (λ ps. database_of (placed ps) (shown mid.shelves)) places) (so.serial f w n);
+  };
+  counted = counted;
+}
+
+-- what a session so far comes to, where the call goes on to other stores
+pub session_before : {S : Type 0} (state : S → Attached) (catalog : List Table) (first mid q : Point S) (es : List Exchange) → IsSoFar state catalog first mid es → GoOn (state first.stores) (state mid.stores) → GoOn (state mid.stores) (state q.stores) → IsSessionBefore catalog (ends_between state first q) es
+session_before state catalog first mid q es so before goes = over_before catalog (ends_between state first q) (state mid.stores) mid.clock mid.ids es before.places goes.counted
+    (session_whole catalog (state first.stores) (state mid.stores) first.clock mid.clock first.ids mid.ids es mid.session so)
+
 ---- statements that are answered
 
 pub answered_more : (good : Statement → Answer → Bool) (sts : List Statement) (es : List Exchange) (st : Statement) (e : Exchange) → AreAnswered good sts es → IsOf st e → good st e.answer ≡ true → AreAnswered good (sts ++ st ∷ []) (es ++ e ∷ [])
@@ -68,3 +95,7 @@ map_ok P Q (Err e) f h = tt
 pub passed : {T E : Type 0} (P : E → Type 0) (r : Result T E) (e : E) → IsErrAnd r (λ y. y ≡ e) → P e → IfErr r P
 passed P (Ok x) e h p = absurd h
 passed P (Err y) e h p = subst P (sym h) p
+
+pub all_errs : {T E : Type 0} (P : Type 0) (r : Result T E) → P → IfErr r (λ _. P)
+all_errs P (Ok x) p = tt
+all_errs P (Err e) p = p

@@ -1,7 +1,7 @@
 -- What a call over attached stores begins with and ends with, and the statements that it takes.
-use Rattle.std.specs.Prelude.{ℕ, ℤ, List, Option}
+use Rattle.std.specs.Prelude.{ℕ, ℤ, ◌≤◌, List, Option}
 use Rattle.sdb_schema.specs.declared.table.Table.{Table}
-use Rattle.sdb_stores.specs.Shelf.{Attached}
+use Rattle.sdb_stores.specs.Shelf.{Attached, Shelf, total_faults}
 use Rattle.sdb_session.specs.Session.{Exchange}
 use Rattle.sdb_answer.specs.Sessions.{IsSession}
 
@@ -20,3 +20,11 @@ ends state clock ids s0 s1 c0 c1 i0 i1 = record { old = state s0; new = state s1
 -- The statements that were taken in a call are a session, of one client from the start.
 abbrev pub IsSessionOver : List Table → Ends → List Exchange → Type 0
 IsSessionOver catalog e es = IsSession catalog e.old e.new e.clock e.clock_then e.ids e.ids_then es
+
+-- The statements that were answered in a call, before memory ran out, are a session. The stores held this after them.
+pub record IsSessionBefore (catalog : List Table) (e : Ends) (es : List Exchange) : Type 0 where
+  pub held : List Shelf
+  pub clock_mid : Option (List ℤ)
+  pub ids_mid : Option (List ℕ)
+  pub session : IsSession catalog e.old (record e.old { shelves = held }) e.clock clock_mid e.ids ids_mid es
+  pub counted : total_faults held ≤ total_faults e.new.shelves

@@ -3,6 +3,7 @@ use Rattle.std.specs.Prelude.{◌≡◌, ℕ, Bool, true, false, List, [], ◌�
 use Rattle.sdb_schema.specs.declared.table.Table.{Table}
 use Rattle.sdb_data.specs.Printed.{printed}
 use Rattle.sdb_stores.specs.Shelf.{Attached}
+use Rattle.sdb_board.specs.Board.{GoOn}
 use Rattle.sdb_model.specs.declared.answer.Answer.{Answer}
 use Rattle.sdb_model.specs.declared.answer.Answer.TheVariants as answer
 use Rattle.sdb_model.specs.declared.statement.Statement.{Statement}
@@ -11,10 +12,10 @@ use Rattle.sdb_model.specs.Transactions.{is_committed_answer, is_done}
 use Rattle.sdb_session.specs.Session.{Exchange}
 use Rattle.sdb_tables.specs.declared.fault.ExportRefused.{ExportRefused}
 use Rattle.sdb_tables.specs.declared.fault.ExportRefused.TheVariants as refused
-use Rattle.sdb_tables.specs.Ends.{Ends, IsSessionOver}
+use Rattle.sdb_tables.specs.Ends.{Ends, IsSessionBefore, IsSessionOver}
 use Rattle.sdb_tables.specs.Groups.{AreAnswered, IsOf}
 use Rattle.sdb_tables.specs.Statements.{select_all}
-use Rattle.sdb_tables.specs.Turns.{AreTakenBetween, HasSaid, Point}
+use Rattle.sdb_tables.specs.Turns.{AreTakenBetween, HasSaid, Point, Turn}
 
 -- the statements of an export
 abbrev pub export_statements : Table → List Statement
@@ -67,10 +68,19 @@ pub record IsCutExport (catalog : List Table) (t : Table) (e : Ends) (a : Answer
   pub cut : IsCutAt t es last a
   pub session : IsSessionOver catalog e (es ++ last ∷ [])
 
+-- Memory ran out in an export: its first statements were answered as they should be, and are a session.
+pub record IsStarvedExport (catalog : List Table) (t : Table) (e : Ends) : Type 0 where
+  pub front : List Statement
+  pub back : List Statement
+  pub es : List Exchange
+  pub statements : export_statements t ≡ front ++ back
+  pub taken : AreAnswered is_wanted front es
+  pub session : IsSessionBefore catalog e es
+
 -- Why there is no text: a statement got an answer that isn't the one wanted; or memory ran out.
 abbrev pub IsNotExported : List Table → Table → Ends → ExportRefused → Type 0
 IsNotExported catalog t e (refused.NotCommitted a) = (is_no_memory a ≡ false) × IsCutExport catalog t e a
-IsNotExported catalog t e refused.NoMemory = Unit {0}
+IsNotExported catalog t e refused.NoMemory = IsStarvedExport catalog t e
 
 ---- between two points
 
@@ -99,7 +109,33 @@ pub record IsCutRead {S : Type 0} (state : S → Attached) (catalog : List Table
   pub cut : IsCutAt t es last a
   pub taken : AreTakenBetween state catalog p q (es ++ last ∷ [])
 
+-- Memory ran out: the first ones were taken between two points, each answered as it should be, and the stores went on to a third.
+pub record IsStarvedRead {S : Type 0} (state : S → Attached) (catalog : List Table) (t : Table) (p q : Point S) : Type 0 where
+  pub mid : Point S
+  pub front : List Statement
+  pub back : List Statement
+  pub es : List Exchange
+  pub statements : export_statements t ≡ front ++ back
+  pub are : AreAnswered is_wanted front es
+  pub taken : AreTakenBetween state catalog p mid es
+  pub before : GoOn (state p.stores) (state mid.stores)
+  pub goes : GoOn (state mid.stores) (state q.stores)
+
 -- why no rows were read
 abbrev pub HaveNotRead : {S : Type 0} → (S → Attached) → List Table → Table → Point S → Point S → ExportRefused → Type 0
 HaveNotRead state catalog t p q (refused.NotCommitted a) = (is_no_memory a ≡ false) × IsCutRead state catalog t p q a
-HaveNotRead state catalog t p q refused.NoMemory = Unit {0}
+HaveNotRead state catalog t p q refused.NoMemory = IsStarvedRead state catalog t p q
+
+---- in contracts
+
+abbrev pub IsAnsweredAsWanted : {S : Type 0} → (S → Attached) → List Table → Statement → Turn S → Answer → Type 0
+IsAnsweredAsWanted state catalog st x a = HasSaidAsWanted state catalog st x.from x.to a
+
+abbrev pub IsNotAnswered : {S : Type 0} → (S → Attached) → List Table → Statement → Turn S → ExportRefused → Type 0
+IsNotAnswered state catalog st x why = HasNotSaid state catalog st x.from x.to why
+
+abbrev pub IsTableRead : {S : Type 0} → (S → Attached) → List Table → Table → Turn S → Answer → Type 0
+IsTableRead state catalog t x a = HaveRead state catalog t x.from x.to a
+
+abbrev pub IsTableUnread : {S : Type 0} → (S → Attached) → List Table → Table → Turn S → ExportRefused → Type 0
+IsTableUnread state catalog t x why = HaveNotRead state catalog t x.from x.to why

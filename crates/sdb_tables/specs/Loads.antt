@@ -1,5 +1,5 @@
 -- Rows that are loaded into a table, group by group, and the lines that say how.
-use Rattle.std.specs.Prelude.{◌≡◌, ◌<◌, ◌≤◌, ℕ, ◌+◌, List, [], ◌∷◌, ◌++◌, length, codes, decimal}
+use Rattle.std.specs.Prelude.{◌≡◌, ◌⊎◌, ◌<◌, ◌≤◌, ℕ, ◌+◌, List, [], ◌∷◌, ◌++◌, length, codes, decimal}
 use Rattle.std.specs.List.{flat_map}
 use Rattle.sdb_types.specs.declared.value.Value.{Value}
 use Rattle.sdb_schema.specs.declared.table.Table.{Table}
@@ -8,7 +8,7 @@ use Rattle.sdb_model.specs.declared.answer.Answer.{Answer}
 use Rattle.sdb_model.specs.Texts.{answer_text_of}
 use Rattle.sdb_session.specs.Session.{Exchange}
 use Rattle.sdb_tables.specs.declared.load.Load.{Load}
-use Rattle.sdb_tables.specs.Ends.{Ends, IsSessionOver}
+use Rattle.sdb_tables.specs.Ends.{Ends, IsSessionBefore, IsSessionOver}
 use Rattle.sdb_tables.specs.Groups.{AreGroups, Group}
 use Rattle.sdb_tables.specs.Statements.{load_of, rows_after}
 
@@ -58,3 +58,24 @@ pub record IsLoad (catalog : List Table) (load : Load) (rows : List (List Value)
 -- Rows that were read for a table and in a mode were loaded.
 abbrev pub IsLoadOf : List Table → Table → Mode → List (List Value) → ℕ → Ends → List ℕ → Type 0
 IsLoadOf catalog t m rows size e text = IsLoad catalog (load_of t m rows) (rows_after rows) size e text
+
+---- a load that runs out of memory
+
+-- Memory ran out: the first groups were loaded, and these rows are left; the statements of these groups are a session.
+pub record IsStarvedLoad (catalog : List Table) (load : Load) (rows : List (List Value)) (size : ℕ) (e : Ends) : Type 0 where
+  pub groups : List Group
+  pub rest : List (List Value)
+  pub all : rows_of groups ++ rest ≡ rows
+  pub sizes : AreOfSize size groups
+  pub each : AreGroups load [] groups
+  pub session : IsSessionBefore catalog e (exchanges_of groups)
+
+-- Nothing was taken.
+pub record IsUntaken (e : Ends) : Type 0 where
+  pub stores : e.new.shelves ≡ e.old.shelves
+  pub clock : e.clock_then ≡ e.clock
+  pub ids : e.ids_then ≡ e.ids
+
+-- Memory ran out before the first group was begun, or after some were loaded.
+abbrev pub IsStarvedLoadOf : List Table → Table → Mode → List (List Value) → ℕ → Ends → Type 0
+IsStarvedLoadOf catalog t m rows size e = IsUntaken e ⊎ IsStarvedLoad catalog (load_of t m rows) (rows_after rows) size e

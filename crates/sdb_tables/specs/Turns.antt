@@ -27,6 +27,14 @@ pub record Point (S : Type 0) : Type 0 where
 abbrev pub point : {S C I : Type 0} → (C → Option (List ℤ)) → (I → Option (List ℕ)) → S → C → I → SessionAt → Point S
 point clock ids s c i session = record { stores = s; clock = clock c; ids = ids i; session = session }
 
+-- two points of a call, one after the other
+pub record Turn (S : Type 0) : Type 0 where
+  pub from : Point S
+  pub to : Point S
+
+abbrev pub turn : {S C I : Type 0} → (C → Option (List ℤ)) → (I → Option (List ℕ)) → S → S → C → C → I → I → SessionAt → SessionAt → Turn S
+turn clock ids s0 s1 c0 c1 i0 i1 b0 b1 = record { from = point clock ids s0 c0 i0 b0; to = point clock ids s1 c1 i1 b1 }
+
 -- these statements were taken since a first point
 abbrev pub IsSoFar : {S : Type 0} → (S → Attached) → List Table → Point S → Point S → List Exchange → Type 0
 IsSoFar state catalog first p es = IsSessionSoFar catalog (state first.stores) (state p.stores) first.clock p.clock first.ids p.ids es p.session
@@ -108,3 +116,23 @@ HaveLoaded state catalog load rows p q ending =
 -- A group of rows was loaded between two points, whatever was taken before.
 abbrev pub HasLoaded : {S : Type 0} → (S → Attached) → List Table → Load → List (List Value) → Point S → Point S → Ending → Type 0
 HasLoaded state catalog load rows p q ending = (first : Point _) (before : List Exchange) → IsSoFar state catalog first p before → IsLoadedAfter state catalog load rows first before [] q ending
+
+---- in contracts
+
+abbrev pub IsAnsweredIn : {S : Type 0} → (S → Attached) → List Table → Statement → Turn S → Answer → Type 0
+IsAnsweredIn state catalog st t a = HasSaid state catalog st t.from a t.to
+
+abbrev pub IsRolledBackIn : {S : Type 0} → (S → Attached) → List Table → Turn S → Type 0
+IsRolledBackIn state catalog t = AreRolledBack state catalog t.from t.to
+
+abbrev pub AreRowsTaken : {S : Type 0} → (S → Attached) → List Table → Load → List (List Value) → Turn S → Taken → Type 0
+AreRowsTaken state catalog load rows t taken = HaveTakenRows state catalog load rows t.from t.to taken
+
+abbrev pub IsEndedIn : {S : Type 0} → (S → Attached) → List Table → Taken → Turn S → Ending → Type 0
+IsEndedIn state catalog taken t ending = HaveEnded state catalog taken t.from t.to ending
+
+abbrev pub IsBegunLoaded : {S : Type 0} → (S → Attached) → List Table → Load → List (List Value) → Turn S → Ending → Type 0
+IsBegunLoaded state catalog load rows t ending = HaveLoaded state catalog load rows t.from t.to ending
+
+abbrev pub IsGroupLoaded : {S : Type 0} → (S → Attached) → List Table → Load → List (List Value) → Turn S → Ending → Type 0
+IsGroupLoaded state catalog load rows t ending = HasLoaded state catalog load rows t.from t.to ending

@@ -3,9 +3,9 @@ ghost use Rattle.std.specs.Prelude.{◌≡◌, ◌<◌, length, true, IfOk, IfEr
 ghost use Rattle.sdb_board.specs.Board.{GoOn};
 ghost use Rattle.sdb_client.specs.Client.{IsIdle};
 ghost use Rattle.sdb_tables.specs.Ends.{ends};
-ghost use Rattle.sdb_tables.specs.Exports.{HasNotSaid, HasSaidAsWanted, HaveNotRead, HaveRead, IsExport, IsNotExported, IsTextOf, is_no_memory as is_no_memory_lem, is_rows, is_wanted as is_wanted_lem};
+ghost use Rattle.sdb_tables.specs.Exports.{IsAnsweredAsWanted, IsExport, IsNotAnswered, IsNotExported, IsTableRead, IsTableUnread, IsTextOf, is_no_memory as is_no_memory_lem, is_rows, is_wanted as is_wanted_lem};
 ghost use Rattle.sdb_tables.specs.Statements as spec;
-ghost use Rattle.sdb_tables.specs.Turns.{point};
+ghost use Rattle.sdb_tables.specs.Turns.{turn};
 
 use crate::fault::ExportRefused;
 use crate::saying::say;
@@ -58,8 +58,10 @@ fn ask<S: Registry, C: Clock, I: Ids>(
 ) -> Result<Answer, ExportRefused>
     requires some { 0 < length (S.state stores.old).shelves }
     requires idle { IsIdle session.old.client }
-    ensures said { IfOk result (HasSaidAsWanted S.state catalog.now statement.now (point C.told I.told stores.old clock.old ids.old session.old) (point C.told I.told stores.new clock.new ids.new session.new)) }
-    ensures refused { IfErr result (HasNotSaid S.state catalog.now statement.now (point C.told I.told stores.old clock.old ids.old session.old) (point C.told I.told stores.new clock.new ids.new session.new)) }
+    ensures said { IfOk result (IsAnsweredAsWanted S.state catalog.now statement.now
+        (turn C.told I.told stores.old stores.new clock.old clock.new ids.old ids.new session.old session.new)) }
+    ensures refused { IfErr result (IsNotAnswered S.state catalog.now statement.now
+        (turn C.told I.told stores.old stores.new clock.old clock.new ids.old ids.new session.old session.new)) }
     ensures idle { OnOk result (IsIdle session.new.client) }
     ensures goes { GoOn (S.state stores.old) (S.state stores.new) }
 {
@@ -96,8 +98,10 @@ fn read_rows<S: Registry, C: Clock, I: Ids>(
 ) -> Result<Answer, ExportRefused>
     requires some { 0 < length (S.state stores.old).shelves }
     requires idle { IsIdle session.old.client }
-    ensures read { IfOk result (HaveRead S.state catalog.now table.now (point C.told I.told stores.old clock.old ids.old session.old) (point C.told I.told stores.new clock.new ids.new session.new)) }
-    ensures refused { IfErr result (HaveNotRead S.state catalog.now table.now (point C.told I.told stores.old clock.old ids.old session.old) (point C.told I.told stores.new clock.new ids.new session.new)) }
+    ensures read { IfOk result (IsTableRead S.state catalog.now table.now
+        (turn C.told I.told stores.old stores.new clock.old clock.new ids.old ids.new session.old session.new)) }
+    ensures refused { IfErr result (IsTableUnread S.state catalog.now table.now
+        (turn C.told I.told stores.old stores.new clock.old clock.new ids.old ids.new session.old session.new)) }
     ensures goes { GoOn (S.state stores.old) (S.state stores.new) }
 {
     let select = select_all(alloc, table)?;

@@ -3,7 +3,7 @@ ghost use Rattle.std.specs.Prelude.{◌≡◌, ◌<◌, length, Some, IfOk, OnOk
 ghost use Rattle.sdb_board.specs.Board.{GoOn};
 ghost use Rattle.sdb_client.specs.Client.{IsIdle};
 ghost use Rattle.sdb_model.specs.Transactions.{is_done as is_done_lem};
-ghost use Rattle.sdb_tables.specs.Turns.{HasLoaded, HaveEnded, HaveLoaded, point};
+ghost use Rattle.sdb_tables.specs.Turns.{IsBegunLoaded, IsEndedIn, IsGroupLoaded, turn};
 
 use crate::load::Load;
 use crate::rows::{Taken, take_rows};
@@ -40,7 +40,8 @@ fn end_rows<S: Registry, C: Clock, I: Ids>(
 ) -> Result<Ending, NoMemory>
     requires some { 0 < length (S.state stores.old).shelves }
     requires idle { IsIdle session.old.client }
-    ensures ended { IfOk result (HaveEnded S.state catalog.now taken (point C.told I.told stores.old clock.old ids.old session.old) (point C.told I.told stores.new clock.new ids.new session.new)) }
+    ensures ended { IfOk result (IsEndedIn S.state catalog.now taken
+        (turn C.told I.told stores.old stores.new clock.old clock.new ids.old ids.new session.old session.new)) }
     ensures idle { OnOk result (IsIdle session.new.client) }
     ensures goes { GoOn (S.state stores.old) (S.state stores.new) }
 {
@@ -71,7 +72,8 @@ fn load_group<S: Registry, C: Clock, I: Ids>(
 ) -> Result<Ending, NoMemory>
     requires some { 0 < length (S.state stores.old).shelves }
     requires idle { IsIdle session.old.client }
-    ensures loaded { IfOk result (HaveLoaded S.state catalog.now load.now rows.now (point C.told I.told stores.old clock.old ids.old session.old) (point C.told I.told stores.new clock.new ids.new session.new)) }
+    ensures loaded { IfOk result (IsBegunLoaded S.state catalog.now load.now rows.now
+        (turn C.told I.told stores.old stores.new clock.old clock.new ids.old ids.new session.old session.new)) }
     ensures idle { OnOk result (IsIdle session.new.client) }
     ensures goes { GoOn (S.state stores.old) (S.state stores.new) }
 {
@@ -92,7 +94,8 @@ pub fn take_group<S: Registry, C: Clock, I: Ids>(
 ) -> Result<Ending, NoMemory>
     requires some { 0 < length (S.state stores.old).shelves }
     requires idle { IsIdle session.old.client }
-    ensures loaded { IfOk result (HasLoaded S.state catalog.now load.now rows.now (point C.told I.told stores.old clock.old ids.old session.old) (point C.told I.told stores.new clock.new ids.new session.new)) }
+    ensures loaded { IfOk result (IsGroupLoaded S.state catalog.now load.now rows.now
+        (turn C.told I.told stores.old stores.new clock.old clock.new ids.old ids.new session.old session.new)) }
     ensures idle { OnOk result (IsIdle session.new.client) }
     ensures goes { GoOn (S.state stores.old) (S.state stores.new) }
 {

@@ -1,9 +1,9 @@
 //! Rows, loaded into a table.
-ghost use Rattle.std.specs.Prelude.{◌≡◌, ◌<◌, ◌≤◌, ◌++◌, length, IfOk, OnOk, string_bytes};
+ghost use Rattle.std.specs.Prelude.{◌≡◌, ◌<◌, ◌≤◌, ◌++◌, length, IfErr, IfOk, OnOk, string_bytes};
 ghost use Rattle.std.specs.List.{list_any};
 ghost use Rattle.sdb_board.specs.Board.{GoOn};
 ghost use Rattle.sdb_tables.specs.Ends.{ends};
-ghost use Rattle.sdb_tables.specs.Loads.{IsLoad, IsLoadOf, line_of};
+ghost use Rattle.sdb_tables.specs.Loads.{IsLoad, IsLoadOf, IsStarvedLoad, IsStarvedLoadOf, line_of};
 ghost use Rattle.sdb_tables.specs.Statements as spec;
 
 use crate::group::{Ending, take_group};
@@ -104,7 +104,10 @@ fn load_groups<S: Registry, C: Clock, I: Ids>(
 ) -> Result<String, NoMemory>
     requires some { 0 < length (S.state stores.old).shelves }
     requires size { 1 ≤ size }
-    ensures loaded { IfOk result (λ out. IsLoad catalog.now load.now rows.now size (ends S.state C.told I.told stores.old stores.new clock.old clock.new ids.old ids.new) (string_bytes out)) }
+    ensures loaded { IfOk result (λ out. IsLoad catalog.now load.now rows.now size
+        (ends S.state C.told I.told stores.old stores.new clock.old clock.new ids.old ids.new) (string_bytes out)) }
+    ensures starved { IfErr result (λ _. IsStarvedLoad catalog.now load.now rows.now size
+        (ends S.state C.told I.told stores.old stores.new clock.old clock.new ids.old ids.new)) }
     ensures goes { GoOn (S.state stores.old) (S.state stores.new) }
 {
     let mut session = Session::new(alloc, ids);
@@ -145,7 +148,10 @@ pub fn load_rows<S: Registry, C: Clock, I: Ids>(
 ) -> Result<Txt, NoMemory>
     requires some { 0 < length (S.state stores.old).shelves }
     requires size { 1 ≤ group }
-    ensures loaded { IfOk result (IsLoadOf catalog.now table.now mode rows.now group (ends S.state C.told I.told stores.old stores.new clock.old clock.new ids.old ids.new)) }
+    ensures loaded { IfOk result (IsLoadOf catalog.now table.now mode rows.now group
+        (ends S.state C.told I.told stores.old stores.new clock.old clock.new ids.old ids.new)) }
+    ensures starved { IfErr result (λ _. IsStarvedLoadOf catalog.now table.now mode rows.now group
+        (ends S.state C.told I.told stores.old stores.new clock.old clock.new ids.old ids.new)) }
     ensures goes { GoOn (S.state stores.old) (S.state stores.new) }
 {
     let load = load_of(alloc, table, mode, rows.as_slice())?;

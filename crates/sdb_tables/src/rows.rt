@@ -4,7 +4,7 @@ ghost use Rattle.sdb_board.specs.Board.{GoOn};
 ghost use Rattle.sdb_client.specs.Client.{IsIdle};
 ghost use Rattle.sdb_tables.specs.Groups.{is_loaded as is_loaded_lem, is_written as is_written_lem};
 ghost use Rattle.sdb_tables.specs.Statements.{row_statement as row_statement_lem};
-ghost use Rattle.sdb_tables.specs.Turns.{HasSaid, HaveTakenRows, point};
+ghost use Rattle.sdb_tables.specs.Turns.{AreRowsTaken, IsAnsweredIn, turn};
 
 use crate::load::{Load, row_statement};
 use crate::saying::say;
@@ -47,7 +47,8 @@ fn take_row<S: Registry, C: Clock, I: Ids>(
 ) -> Result<Answer, NoMemory>
     requires some { 0 < length (S.state stores.old).shelves }
     requires idle { IsIdle session.old.client }
-    ensures said { IfOk result (λ a. HasSaid S.state catalog.now (row_statement_lem load.now row.now) (point C.told I.told stores.old clock.old ids.old session.old) a (point C.told I.told stores.new clock.new ids.new session.new)) }
+    ensures said { IfOk result (IsAnsweredIn S.state catalog.now (row_statement_lem load.now row.now)
+        (turn C.told I.told stores.old stores.new clock.old clock.new ids.old ids.new session.old session.new)) }
     ensures goes { GoOn (S.state stores.old) (S.state stores.new) }
 {
     let statement = row_statement(alloc, load, row)?;
@@ -67,7 +68,8 @@ pub fn take_rows<S: Registry, C: Clock, I: Ids>(
 ) -> Result<Taken, NoMemory>
     requires some { 0 < length (S.state stores.old).shelves }
     requires idle { IsIdle session.old.client }
-    ensures taken { IfOk result (HaveTakenRows S.state catalog.now load.now rows.now (point C.told I.told stores.old clock.old ids.old session.old) (point C.told I.told stores.new clock.new ids.new session.new)) }
+    ensures taken { IfOk result (AreRowsTaken S.state catalog.now load.now rows.now
+        (turn C.told I.told stores.old stores.new clock.old clock.new ids.old ids.new session.old session.new)) }
     ensures idle { OnOk result (IsIdle session.new.client) }
     ensures goes { GoOn (S.state stores.old) (S.state stores.new) }
 {

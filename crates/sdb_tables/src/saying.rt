@@ -2,7 +2,7 @@
 ghost use Rattle.std.specs.Prelude.{◌<◌, length, IfOk, OnOk};
 ghost use Rattle.sdb_board.specs.Board.{GoOn};
 ghost use Rattle.sdb_client.specs.Client.{IsIdle};
-ghost use Rattle.sdb_tables.specs.Turns.{AreRolledBack, HasSaid, point};
+ghost use Rattle.sdb_tables.specs.Turns.{IsAnsweredIn, IsRolledBackIn, turn};
 
 use sdb_answer::Session;
 use sdb_model::{Answer, Statement};
@@ -27,7 +27,8 @@ pub fn say<S: Registry, C: Clock, I: Ids>(
 ) -> Result<Answer, NoMemory>
     requires some { 0 < length (S.state stores.old).shelves }
     requires idle { IsIdle session.old.client }
-    ensures said { IfOk result (λ a. HasSaid S.state catalog.now statement.now (point C.told I.told stores.old clock.old ids.old session.old) a (point C.told I.told stores.new clock.new ids.new session.new)) }
+    ensures said { IfOk result (IsAnsweredIn S.state catalog.now statement.now
+        (turn C.told I.told stores.old stores.new clock.old clock.new ids.old ids.new session.old session.new)) }
     ensures goes { GoOn (S.state stores.old) (S.state stores.new) }
 {
     let text = print_statement(alloc, statement)?;
@@ -48,7 +49,8 @@ pub fn roll_back<S: Registry, C: Clock, I: Ids>(
 ) -> Result<(), NoMemory>
     requires some { 0 < length (S.state stores.old).shelves }
     requires idle { IsIdle session.old.client }
-    ensures rolled_back { OnOk result (AreRolledBack S.state catalog.now (point C.told I.told stores.old clock.old ids.old session.old) (point C.told I.told stores.new clock.new ids.new session.new)) }
+    ensures rolled_back { OnOk result (IsRolledBackIn S.state catalog.now
+        (turn C.told I.told stores.old stores.new clock.old clock.new ids.old ids.new session.old session.new)) }
     ensures idle { OnOk result (IsIdle session.new.client) }
     ensures goes { GoOn (S.state stores.old) (S.state stores.new) }
 {

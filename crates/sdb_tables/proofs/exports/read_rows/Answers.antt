@@ -1,9 +1,15 @@
 use Rattle.sdb_board.proofs.GoesOn.{goes_more}
+use Rattle.sdb_tables.specs.declared.fault.ExportRefused.TheVariants as refused
 use Rattle.sdb_tables.specs.Exports.{HaveNotRead}
 use Rattle.sdb_tables.specs.Turns.{point}
-use Rattle.sdb_tables.proofs.ExportSteps.{cut_first, cut_second, cut_third, read_all}
+use Rattle.sdb_tables.proofs.ExportSteps.{cut_first, cut_second, cut_third, read_all, starved_first}
 use Rattle.sdb_tables.proofs.Points.{passed}
 use Rattle.sdb_tables.proofs.exports.read_rows.Goals as goal
+
+pub returns-in_err-select-clause-refused : goal.returns-in_err-select-clause-refused
+returns-in_err-select-clause-refused g c =
+    let p = point g.C.Clock.told g.I.Ids.told c.args.stores.now c.args.clock.now c.args.ids.now c.args.session.now in
+    passed (HaveNotRead g.S.Registry.state c.args.catalog.now c.args.table.now p p) c.from_residual.result refused.NoMemory c.from_residual.ensures.1 (starved_first g.S.Registry.state c.args.catalog.now c.args.table.now p)
 
 pub returns-in_err-ask-clause-refused : goal.returns-in_err-ask-clause-refused
 returns-in_err-ask-clause-refused g c =

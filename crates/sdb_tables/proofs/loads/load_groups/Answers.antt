@@ -4,8 +4,8 @@ use Rattle.std.proofs.lemmas.Bool.Decides.{nat_tests}
 use Rattle.sdb_types.proofs.Basics.{eq_of}
 use Rattle.sdb_board.proofs.GoesOn.{goes_more, goes_none, some_more}
 use Rattle.sdb_tables.specs.Turns.{point}
-use Rattle.sdb_tables.proofs.LoadSteps.{loaded_all, so_more, so_start}
-use Rattle.sdb_tables.proofs.Points.{so_none}
+use Rattle.sdb_tables.proofs.LoadSteps.{loaded_all, so_more, so_start, starved_so_far}
+use Rattle.sdb_tables.proofs.Points.{all_errs, so_none}
 use Rattle.sdb_tables.proofs.loads.load_groups.Goals as goal
 
 pub loop-rest-init : goal.loop-rest-init
@@ -25,6 +25,22 @@ returns-in_err-ending-clause-goes g c = goes_more _ _ _ c.loop-rest.invariant.go
 
 pub returns-in_err-put_line-clause-goes : goal.returns-in_err-put_line-clause-goes
 returns-in_err-put_line-clause-goes g c = goes_more _ _ _ c.loop-rest.invariant.goes c.take_group.ensures.goes
+
+pub returns-in_err-ending-clause-starved : goal.returns-in_err-ending-clause-starved
+returns-in_err-ending-clause-starved g c =
+    let first = point g.C.Clock.told g.I.Ids.told c.args.stores.now c.args.clock.now c.args.ids.now c.new-session.result in
+    let p = point g.C.Clock.told g.I.Ids.told c.loop-rest.stores c.loop-rest.clock c.loop-rest.ids c.loop-rest.session in
+    let q = point g.C.Clock.told g.I.Ids.told c.take_group.new.stores c.take_group.new.clock c.take_group.new.ids c.take_group.new.session in
+    all_errs _ c.from_residual.result
+    (starved_so_far g.S.Registry.state c.args.catalog.now c.args.load.now c.args.rows.now c.args.size first p q c.loop-rest.rest.now c.loop-rest.k (string_bytes c.loop-rest.out) c.loop-rest.invariant.so c.loop-rest.invariant.goes c.take_group.ensures.goes)
+
+pub returns-in_err-put_line-clause-starved : goal.returns-in_err-put_line-clause-starved
+returns-in_err-put_line-clause-starved g c =
+    let first = point g.C.Clock.told g.I.Ids.told c.args.stores.now c.args.clock.now c.args.ids.now c.new-session.result in
+    let p = point g.C.Clock.told g.I.Ids.told c.loop-rest.stores c.loop-rest.clock c.loop-rest.ids c.loop-rest.session in
+    let q = point g.C.Clock.told g.I.Ids.told c.take_group.new.stores c.take_group.new.clock c.take_group.new.ids c.take_group.new.session in
+    all_errs _ c.from_residual-in_err-put_line.result
+    (starved_so_far g.S.Registry.state c.args.catalog.now c.args.load.now c.args.rows.now c.args.size first p q c.loop-rest.rest.now c.loop-rest.k (string_bytes c.loop-rest.out) c.loop-rest.invariant.so c.loop-rest.invariant.goes c.take_group.ensures.goes)
 
 pub loop-rest-preserved : goal.loop-rest-preserved
 loop-rest-preserved g c =
