@@ -84,7 +84,7 @@ untouched input output clock ids = record { input = input; rest = input; output 
 
 -- Memory ran out before a call.
 pub starved : (stores : Attached) (words : List (List ℕ)) (input output : Stream) (clock : Option (List ℤ)) (ids : Option (List ℕ)) → HasEndedOn stores words (untouched input output clock ids) status.NoMemory
-starved stores words input output clock ids = (stores.shelves, NoCommand tt (record { unchanged = refl; unread = refl; unwritten = refl }))
+starved stores words input output clock ids = (stores.shelves, NoCommand tt (record { unchanged = refl; unread = refl; unwritten = refl; undrawn = record { clock = refl; ids = refl } }))
 
 pub starved_over : (words : List (List ℕ)) (input output : Stream) (clock : Option (List ℤ)) (ids : Option (List ℕ)) → HasEndedOver words (untouched input output clock ids) status.NoMemory
 starved_over words input output clock ids = (new_store (codes "file"), refl, starved (attached_over (new_store (codes "file"))) words input output clock ids)

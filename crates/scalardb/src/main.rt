@@ -98,7 +98,7 @@ fn open_file(rt: &HostRuntime, path: &str) -> Result<InFile, Unstarted> {
 // Whether the command of these words draws ids.
 fn draws_ids(words: &[String]) -> bool {
     match words.first() {
-        Some(word) => word.as_str() == "sql",
+        Some(word) => matches!(word.as_str(), "sql" | "load" | "export"),
         None => false,
     }
 }

@@ -76,6 +76,8 @@ stops_as old mid left near far was found s same f g h = by s h
     by status.WriteFault h = absurd h
     by (status.BadInput n f) h = absurd h
     by (status.Limit n which) h = absurd h
+    by status.NoTable h = absurd h
+    by (status.NotCommitted a) h = absurd h
 
 -- what stopped a later part stopped the whole
 pub stops_after : (old mid : Attached) (left : List Counted) (near far : Type 0) (was found : Key → Type 0) (s : Status) → GoOn old mid → (near → far) → ((key : Key) → was key → found key) → Stops mid.shelves left near was s → Stops old.shelves left far found s
@@ -89,6 +91,8 @@ stops_after old mid left near far was found status.ReadFault goes f g h = absurd
 stops_after old mid left near far was found status.WriteFault goes f g h = absurd h
 stops_after old mid left near far was found (status.BadInput n line) goes f g h = absurd h
 stops_after old mid left near far was found (status.Limit n which) goes f g h = absurd h
+stops_after old mid left near far was found status.NoTable goes f g h = absurd h
+stops_after old mid left near far was found (status.NotCommitted a) goes f g h = absurd h
 
 -- stores that go on from ones that are the same are kept
 pub kept_after : (old mid new : Attached) → mid.shelves ≡ old.shelves → ((at : ℕ) → old.tells at → mid.tells at) → GoOn mid new → AreKept old new

@@ -6,4 +6,5 @@ pub mod Headline
 pub mod Playing
 pub mod Schemas
 pub mod Sessions
+pub mod Loads
 pub mod Promising

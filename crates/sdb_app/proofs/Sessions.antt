@@ -20,7 +20,7 @@ use Rattle.sdb_shell.specs.declared.refused.SessionRefused.TheVariants as refuse
 use Rattle.sdb_shell.specs.Session.{CutShort, IsAnsweredSoFar, IsCutSession, IsWhole, Refused, Starves}
 use Rattle.sdb_app.specs.declared.status.Status.{Status}
 use Rattle.sdb_app.specs.Ends.{Ends, Work}
-use Rattle.sdb_app.specs.Sql.{HasEndedSession, IfFault, IsCatalogOpened, stores_with}
+use Rattle.sdb_app.specs.Sql.{HasEndedSession, IfFault, IsCatalogOpened, IsCatalogUnopened, stores_with}
 use Rattle.sdb_app.specs.Sql.HasEndedSession.{Cut, Unopened, Whole}
 use Rattle.sdb_app.proofs.Headline.{begun_with}
 use Rattle.sdb_app.proofs.Schemas.{read_before, unread_before}
@@ -44,7 +44,7 @@ fit_more catalog less more l f = record {
 same_database : (less more : Attached) → AreLess less more → database_in more ≡ database_in less
 same_database less more l = ap (λ ps. database_of (placed ps) (shown more.shelves)) l.places ∙ ap (λ ss. database_of (placed less.places) (shown ss)) l.shelves
 
-session_less : (catalog : List Table) (old new old' new' : Attached) (clock clock_then : Option (List ℤ)) (ids ids_then : Option (List ℕ)) (es : List Exchange) → AreLess old' old → AreLess new' new → IsSession catalog old new clock clock_then ids ids_then es → IsSession catalog old' new' clock clock_then ids ids_then es
+pub session_less : (catalog : List Table) (old new old' new' : Attached) (clock clock_then : Option (List ℤ)) (ids ids_then : Option (List ℕ)) (es : List Exchange) → AreLess old' old → AreLess new' new → IsSession catalog old new clock clock_then ids ids_then es → IsSession catalog old' new' clock clock_then ids ids_then es
 session_less catalog old new old' new' clock clock_then ids ids_then es o n so = record {
   moments = so.moments;
   drawn = so.drawn;
@@ -123,7 +123,7 @@ cut_less catalog old new old' new' clock clock_then ids ids_then written written
 
 ---- what `sql` promises, begun with the places that there were before
 
-opened_before : (before : Attached) (work : Work) (catalog : List Table) (places : List Place) (mid : List Counted) → work.old.shelves ≡ before.shelves → ((at : ℕ) → before.tells at → work.old.tells at) → IsCatalogOpened work catalog places mid → IsCatalogOpened (begun_with before work) catalog places mid
+pub opened_before : (before : Attached) (work : Work) (catalog : List Table) (places : List Place) (mid : List Counted) → work.old.shelves ≡ before.shelves → ((at : ℕ) → before.tells at → work.old.tells at) → IsCatalogOpened work catalog places mid → IsCatalogOpened (begun_with before work) catalog places mid
 opened_before before work catalog places mid same telling h = record {
   opened = record { entries = h.opened.entries; read = read_before before work.old mid h.opened.entries same telling h.opened.read; tables = h.opened.tables; placed = h.opened.placed };
   known = λ told. subst (λ (ss : List Counted). IsCatalogIn (names_of ss) (first_contents ss) catalog places) same (h.known (telling 0 told));
@@ -131,8 +131,16 @@ opened_before before work catalog places mid same telling h = record {
   others = h.others ∙ ap (λ (ss : List Counted). drop 1 ss) same;
 }
 
+pub unopened_before : (before : Attached) (work : Work) (cause : CatalogRefused) → work.old.shelves ≡ before.shelves → ((at : ℕ) → before.tells at → work.old.tells at) → IsCatalogUnopened work cause → IsCatalogUnopened (begun_with before work) cause
+unopened_before before work cause same telling h = record {
+  refused = unread_before before work.old work.left cause same telling h.refused;
+  bad = λ told. subst (λ (ss : List Counted). IsBadIn (names_of ss) (first_contents ss) cause) same (h.bad (telling 0 told));
+  unchanged = λ told. h.unchanged (telling 0 told) ∙ ap first_contents same;
+  others = h.others ∙ ap (λ (ss : List Counted). drop 1 ss) same;
+}
+
 -- stores with these places, as they are known from the call's begin
-less_before : (before : Attached) (work : Work) (places : List Place) (shelves : List Counted) → ((at : ℕ) → before.tells at → work.old.tells at) → AreLess (stores_with (begun_with before work) places shelves) (stores_with work places shelves)
+pub less_before : (before : Attached) (work : Work) (places : List Place) (shelves : List Counted) → ((at : ℕ) → before.tells at → work.old.tells at) → AreLess (stores_with (begun_with before work) places shelves) (stores_with work places shelves)
 less_before before work places shelves telling = record { places = refl; shelves = refl; telling = telling }
 
 fault_before : (before : Attached) (run : Ends) (e : SessionRefused) → IfFault run e → IfFault (record run { work = begun_with before run.work }) e
@@ -154,12 +162,7 @@ pub session_before : (before : Attached) (run run' : Ends) (s : Status) → run.
 session_before before run run' s same telling is h = subst (λ (e : Ends). HasEndedSession e s) (sym is) (so h)
   where
     so : HasEndedSession run s → HasEndedSession (record run { work = begun_with before run.work }) s
-    so (Unopened cause h is unread unwritten) = Unopened cause (record {
-      refused = unread_before before run.work.old run.work.left cause same telling h.refused;
-      bad = λ told. subst (λ (ss : List Counted). IsBadIn (names_of ss) (first_contents ss) cause) same (h.bad (telling 0 told));
-      unchanged = λ told. h.unchanged (telling 0 told) ∙ ap first_contents same;
-      others = h.others ∙ ap (λ (ss : List Counted). drop 1 ss) same;
-    }) is unread unwritten
+    so (Unopened cause h is unread unwritten) = Unopened cause (unopened_before before run.work cause same telling h) is unread unwritten
     so (Whole catalog places mid opened whole is) = Whole catalog places mid (opened_before before run.work catalog places mid same telling opened)
         (whole_less catalog _ _ _ _ run.clock run.clock_then run.ids run.ids_then run.output.bytes run.written.bytes run.work.input.bytes run.work.rest.bytes (less_before before run.work places mid telling) (less_before before run.work places run.work.left telling) whole) is
     so (Cut catalog places mid cause opened cut fault is) = Cut catalog places mid cause (opened_before before run.work catalog places mid same telling opened)

@@ -20,6 +20,25 @@ pub record Work : Type 1 where
 abbrev pub work_of : {S R : Type 0} → (S → Attached) → (R → Stream) → S → S → R → R → Work
 work_of state input s0 s1 r0 r1 = record { old = state s0; left = (state s1).shelves; input = input r0; rest = input r1 }
 
+-- work on stores that showed this before it and show that after it, of whose input nothing was read
+abbrev pub work_on : Attached → Attached → Stream → Work
+work_on old new input = record { old = old; left = new.shelves; input = input; rest = input }
+
+-- The answers that a clock and ids gave before a call and after it, where they are known.
+pub record Draws : Type 0 where
+  pub clock : Option (List ℤ)
+  pub clock_then : Option (List ℤ)
+  pub ids : Option (List ℕ)
+  pub ids_then : Option (List ℕ)
+
+abbrev pub draws : {C I : Type 0} → (C → Option (List ℤ)) → (I → Option (List ℕ)) → C → C → I → I → Draws
+draws clock ids c0 c1 i0 i1 = record { clock = clock c0; clock_then = clock c1; ids = ids i0; ids_then = ids i1 }
+
+-- Nothing was asked of the clock or the ids.
+pub record IsUndrawn (d : Draws) : Type 0 where
+  pub clock : d.clock_then ≡ d.clock
+  pub ids : d.ids_then ≡ d.ids
+
 -- A call of the program: its work, what the output contains before and after it, and the answers that the clock and the ids gave before
 -- and after it, where these are known.
 pub record Ends : Type 1 where
@@ -30,6 +49,10 @@ pub record Ends : Type 1 where
   pub clock_then : Option (List ℤ)
   pub ids : Option (List ℕ)
   pub ids_then : Option (List ℕ)
+
+-- what its clock and ids answered
+abbrev pub draws_of : Ends → Draws
+draws_of run = record { clock = run.clock; clock_then = run.clock_then; ids = run.ids; ids_then = run.ids_then }
 
 -- What contracts see of what a call is handed: the stores, the input, the output, the clock and the ids.
 pub record Views (S R W C I : Type 0) : Type 1 where

@@ -1,8 +1,11 @@
 pub mod Ends
+pub mod Input
 pub mod Run
 pub mod Streams
 pub mod Status
 pub mod Bench
 pub mod Schema
 pub mod Sql
+pub mod Load
+pub mod Export
 pub mod Promise

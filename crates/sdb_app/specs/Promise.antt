@@ -5,14 +5,16 @@ use Rattle.sdb_stores.specs.Shelf.{names_of}
 use Rattle.sdb_model.specs.Rows.{Name}
 use Rattle.sdb_words.specs.declared.command.Command.{Command}
 use Rattle.sdb_words.specs.declared.command.Command.TheVariants as command
-use Rattle.sdb_words.specs.Commands.{AreWordsOf, most_transactions}
+use Rattle.sdb_words.specs.Commands.{AreWordsOf, IsWithin, most_rows, most_transactions}
 use Rattle.sdb_app.specs.declared.status.Status.{Status}
 use Rattle.sdb_app.specs.declared.status.Status.TheVariants as status
-use Rattle.sdb_app.specs.Ends.{AreUnchanged, Ends, Stream, Work}
+use Rattle.sdb_app.specs.Ends.{AreUnchanged, Draws, Ends, IsUndrawn, Stream, Work, draws_of}
 use Rattle.sdb_app.specs.Run.{IsReplayed, StopsReplay}
 use Rattle.sdb_app.specs.Bench.{IsBenched, StopsBench}
 use Rattle.sdb_app.specs.Schema.{IsSchemaKept, StopsSchema}
 use Rattle.sdb_app.specs.Sql.{HasEndedSession}
+use Rattle.sdb_app.specs.Load.{IsLoaded, StopsLoad}
+use Rattle.sdb_app.specs.Export.{IsExported, StopsExport}
 
 -- What a command promises of the text that it answers, and why it ends otherwise, before anything is written.
 pub record Promise : Type 1 where
@@ -32,7 +34,7 @@ AnswersOnce command.Replay = Unit {0}
 AnswersOnce (command.Bench n) = n ≤ most_transactions
 AnswersOnce (command.Schema places) = Unit {0}
 AnswersOnce command.Sql = ⊥
-AnswersOnce (command.Load table mode n) = Unit {0}
+AnswersOnce (command.Load table mode n) = IsWithin most_rows n
 AnswersOnce (command.Export table) = Unit {0}
 AnswersOnce (command.Retire from to) = Unit {0}
 AnswersOnce (command.Alter table column kind) = Unit {0}
@@ -42,17 +44,21 @@ AnswersOnce command.Audit = Unit {0}
 abbrev pub unanswered : Promise
 unanswered = record { answers = λ text. ⊥; stops = λ s. ⊥ }
 
+-- The same promise, and nothing is asked of the clock or the ids.
+abbrev pub undrawn : Draws → Promise → Promise
+undrawn d p = record { answers = λ text. p.answers text × IsUndrawn d; stops = λ s. p.stops s × IsUndrawn d }
+
 -- The promise of each command that answers one text.
-abbrev pub promise_of : Command → Work → Promise
-promise_of command.Replay work = record { answers = IsReplayed work; stops = StopsReplay work }
-promise_of (command.Bench n) work = record { answers = IsBenched n work; stops = StopsBench n work }
-promise_of (command.Schema places) work = record { answers = IsSchemaKept places work; stops = StopsSchema places work }
-promise_of command.Sql work = unanswered
-promise_of (command.Load table mode n) work = not_there work
-promise_of (command.Export table) work = not_there work
-promise_of (command.Retire from to) work = not_there work
-promise_of (command.Alter table column kind) work = not_there work
-promise_of command.Audit work = not_there work
+abbrev pub promise_of : Command → Work → Draws → Promise
+promise_of command.Replay work d = undrawn d (record { answers = IsReplayed work; stops = StopsReplay work })
+promise_of (command.Bench n) work d = undrawn d (record { answers = IsBenched n work; stops = StopsBench n work })
+promise_of (command.Schema places) work d = undrawn d (record { answers = IsSchemaKept places work; stops = StopsSchema places work })
+promise_of command.Sql work d = unanswered
+promise_of (command.Load table mode n) work d = record { answers = IsLoaded table mode n work d; stops = StopsLoad table mode n work d }
+promise_of (command.Export table) work d = record { answers = IsExported table work d; stops = StopsExport table work d }
+promise_of (command.Retire from to) work d = undrawn d (not_there work)
+promise_of (command.Alter table column kind) work d = undrawn d (not_there work)
+promise_of command.Audit work d = undrawn d (not_there work)
 
 ---- what is written
 
@@ -79,9 +85,9 @@ pub record IsStopped (promise : Promise) (output written : Stream) (s : Status) 
   pub unwritten : written ≡ output
 
 -- One of both.
-pub data EndsOnce (c : Command) (work : Work) (output written : Stream) (s : Status) : Type 0 where
-  Answered : IsAnswered (promise_of c work) output written s → EndsOnce c work output written s
-  Stopped : IsStopped (promise_of c work) output written s → EndsOnce c work output written s
+pub data EndsOnce (c : Command) (work : Work) (d : Draws) (output written : Stream) (s : Status) : Type 0 where
+  Answered : IsAnswered (promise_of c work d) output written s → EndsOnce c work d output written s
+  Stopped : IsStopped (promise_of c work d) output written s → EndsOnce c work d output written s
 
 ---- how a call ends
 
@@ -96,11 +102,12 @@ pub record IsUntouched (run : Ends) : Type 0 where
   pub unchanged : AreUnchanged run.work
   pub unread : run.work.rest ≡ run.work.input
   pub unwritten : run.written ≡ run.output
+  pub undrawn : IsUndrawn (draws_of run)
 
 -- A command ends so: its work was done and its answer written, or it was stopped before that; or it is a session, which answers line by
 -- line.
 pub data EndsAs (c : Command) (run : Ends) (s : Status) : Type 0 where
-  Once : EndsOnce c run.work run.output run.written s → EndsAs c run s
+  Once : EndsOnce c run.work (draws_of run) run.output run.written s → EndsAs c run s
   Session : c ≡ command.Sql → HasEndedSession run s → EndsAs c run s
 
 -- A call of the program on these words ends so: as the command of these words may end, or as words of no command do.

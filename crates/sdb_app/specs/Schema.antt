@@ -1,6 +1,6 @@
 -- What the program promises of a schema that is kept.
-use Rattle.std.specs.Prelude.{◌≡◌, ◌<◌, ◌≤◌, ℕ, List, length, drop, Ok, Err}
-use Rattle.sdb_types.specs.Bytes.{HasRisen, Takes, IsAtEnd}
+use Rattle.std.specs.Prelude.{◌≡◌, ℕ, List, drop, Ok, Err}
+use Rattle.sdb_types.specs.Bytes.{HasRisen}
 use Rattle.sdb_schema.specs.declared.table.Table.{Table}
 use Rattle.sdb_loader.specs.declared.fault.SchemaFault.{SchemaFault}
 use Rattle.sdb_loader.specs.Described.{catalog_in}
@@ -11,46 +11,31 @@ use Rattle.sdb_catalog.specs.declared.refused.CatalogRefused.TheVariants as refu
 use Rattle.sdb_catalog.specs.Calls.{IsUnread, first_contents}
 use Rattle.sdb_catalog.specs.Known.{IsLeftBy, IsStoredIn}
 use Rattle.sdb_catalog.specs.Written.{IsStored}
-use Rattle.sdb_model.specs.declared.script.Which.{Which}
-use Rattle.sdb_model.specs.declared.script.Which.TheVariants.{InputBytes}
-use Rattle.sdb_script.specs.Lines.{most_bytes}
-use Rattle.sdb_script.specs.Whole.{last_line}
 use Rattle.sdb_app.specs.declared.status.InputFault.{InputFault}
-use Rattle.sdb_app.specs.declared.status.InputFault.TheVariants.{Json, Line}
+use Rattle.sdb_app.specs.declared.status.InputFault.TheVariants.{Json}
 use Rattle.sdb_app.specs.declared.status.Status.{Status}
 use Rattle.sdb_app.specs.declared.status.Status.TheVariants as status
 use Rattle.sdb_app.specs.Ends.{AreUnchanged, Stream, Work}
+use Rattle.sdb_app.specs.Input.{IsInput, IsInputLong}
 
 ---- the schema
 
 -- The input was read to its end, and describes this catalog.
 pub record IsSchemaRead (input rest : Stream) (catalog : List Table) : Type 0 where
   pub text : List ℕ
-  pub taken : Takes text input.bytes rest.bytes
-  pub ended : IsAtEnd rest.bytes
-  pub small : length text ≤ most_bytes
+  pub whole : IsInput input rest text
   pub described : catalog_in text ≡ Ok catalog
 
 -- The input was read to its end, and describes none because of this fault.
 pub record IsSchemaBad (input rest : Stream) (fault : SchemaFault) : Type 0 where
   pub text : List ℕ
-  pub taken : Takes text input.bytes rest.bytes
-  pub ended : IsAtEnd rest.bytes
-  pub small : length text ≤ most_bytes
+  pub whole : IsInput input rest text
   pub described : catalog_in text ≡ Err fault
-
--- More bytes were read than an input may have, the first too many of them in this line.
-pub record IsInputLong (input rest : Stream) (n : ℕ) (which : Which) : Type 0 where
-  pub text : List ℕ
-  pub taken : Takes text input.bytes rest.bytes
-  pub long : most_bytes < length text
-  pub line : n ≡ last_line text
-  pub limit : which ≡ InputBytes
 
 -- What is wrong with the input is a fault of its schema, in line 1.
 abbrev pub IsSchemaFault : Stream → Stream → ℕ → InputFault → Type 0
 IsSchemaFault input rest n (Json fault) = (n ≡ 1) × IsSchemaBad input rest fault
-IsSchemaFault input rest n (Line fault) = ⊥
+IsSchemaFault input rest n _ = ⊥
 
 -- Why no schema was read.
 abbrev pub IsSchemaUnread : Stream → Stream → Status → Type 0

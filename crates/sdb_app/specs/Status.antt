@@ -1,6 +1,6 @@
 -- How the program ends: its exit status, and its line on standard error.
 use Rattle.std.specs.Prelude.{ℕ, List, [], ◌++◌, codes, decimal}
-use Rattle.sdb_model.specs.Texts.{key_text_of}
+use Rattle.sdb_model.specs.Texts.{answer_text_of, key_text_of}
 use Rattle.sdb_model.specs.declared.script.Which.{Which}
 use Rattle.sdb_model.specs.declared.script.Which.TheVariants as limited
 use Rattle.sdb_app.specs.declared.status.Status.{Status}
@@ -17,6 +17,8 @@ code_of status.NoMemory = 7
 code_of (status.NotEmpty key) = 8
 code_of (status.BadStore key) = 9
 code_of (status.Limit n which) = 10
+code_of status.NoTable = 11
+code_of (status.NotCommitted a) = 12
 
 -- the name of a limited quantity
 abbrev pub which_name : Which → List ℕ
@@ -37,3 +39,5 @@ line_of status.NoMemory = codes "out of memory"
 line_of (status.NotEmpty key) = codes "not empty: " ++ key_text_of key
 line_of (status.BadStore key) = codes "bad record: " ++ key_text_of key
 line_of (status.Limit n which) = codes "limit at " ++ decimal n ++ codes ": " ++ which_name which
+line_of status.NoTable = codes "no such table"
+line_of (status.NotCommitted a) = codes "not committed: " ++ answer_text_of a

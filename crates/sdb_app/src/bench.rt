@@ -1,5 +1,5 @@
 //! The command `bench`: a script that the program makes, and what is counted over its run.
-ghost use Rattle.std.specs.Prelude.{◌≡◌, ◌<◌, ◌≤◌, [], length, IfOk, IfErr, string_bytes};
+ghost use Rattle.std.specs.Prelude.{◌≡◌, ◌<◌, ◌≤◌, [], length, IfOk, IfErr};
 ghost use Rattle.sdb_stores.specs.Shelf.{AreDistinct, names_of};
 ghost use Rattle.sdb_bench.specs.Counts.{bench_text_of};
 ghost use Rattle.sdb_app.specs.Bench.{IsBenchedOn, bench_over};
@@ -12,7 +12,7 @@ use sdb_bench::laws::runs_are_even;
 use sdb_bench::{bench_script, bench_text};
 use sdb_model::{Outcome, Script};
 use sdb_stores::Registry;
-use sdb_types::{Names, NoMemory};
+use sdb_types::{Names, NoMemory, Octets};
 use std::alloc::Global;
 
 // The script of a bench over stores of these names.
@@ -28,12 +28,12 @@ fn script_over(alloc: Global, n: u32, names: &Names) -> Result<Script, NoMemory>
 }
 
 // The lines of a bench.
-fn text_of(alloc: Global, n: u32, outcome: &Outcome) -> Result<String, Status>
-    ensures ok { IfOk result (λ text. string_bytes text ≡ bench_text_of n outcome.now) }
+fn text_of(alloc: Global, n: u32, outcome: &Outcome) -> Result<Octets, Status>
+    ensures ok { IfOk result (λ text. text ≡ bench_text_of n outcome.now) }
     ensures err { IfErr result (λ s. s ≡ Status.NoMemory) }
 {
     match bench_text(alloc, n, outcome) {
-        Ok(text) => Ok(text),
+        Ok(text) => Ok(Octets::from_vec(text.into_bytes())),
         Err(_) => Err(Status::NoMemory),
     }
 }
@@ -44,13 +44,13 @@ pub fn bench<S: Registry>(
     stores: &mut S,
     n: u32,
     names: &Names,
-) -> Result<String, Status>
+) -> Result<Octets, Status>
     requires some { 0 < length (S.state stores.old).shelves }
     requires unplaced { (S.state stores.old).places ≡ [] }
     requires distinct { AreDistinct (names_of (S.state stores.old).shelves) }
     requires names { names.now ≡ names_of (S.state stores.old).shelves }
     requires within { n ≤ 20000 }
-    ensures answered { IfOk result (λ text. IsBenchedOn n (S.state stores.old) (S.state stores.new).shelves (string_bytes text)) }
+    ensures answered { IfOk result (λ text. IsBenchedOn n (S.state stores.old) (S.state stores.new).shelves text) }
     ensures err { IfErr result (StopsPlay (bench_over n (names_of (S.state stores.old).shelves)) (S.state stores.old) (S.state stores.new).shelves) }
     ensures kept { AreKept (S.state stores.old) (S.state stores.new) }
 {

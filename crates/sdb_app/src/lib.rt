@@ -2,7 +2,9 @@
 #![tactic(auto)]
 
 mod bench;
+mod export;
 mod input;
+mod load;
 mod places;
 mod play;
 mod program;

@@ -2,17 +2,19 @@
 ghost use Rattle.std.specs.Prelude.{◌≡◌, ◌≢◌, ◌↔◌, ◌<◌, ◌≤◌, [], length, map, string_bytes, IfOk, IfErr, IsTrue};
 ghost use Rattle.sdb_stores.specs.Shelf.{AreDistinct, names_of};
 ghost use Rattle.sdb_words.specs.Commands.{AreWordsOf};
-ghost use Rattle.sdb_app.specs.Ends.{AreKept, ends, stream, views, work_of};
+ghost use Rattle.sdb_app.specs.Ends.{AreKept, draws, ends, stream, views, work_of};
 ghost use Rattle.sdb_app.specs.Promise.{AnswersOnce, EndsAs, EndsOnce, HasEnded, IsNoCommand, IsWritten, promise_of};
 
 use crate::bench::bench;
+use crate::export::export;
+use crate::load::load;
 use crate::replay::replay;
 use crate::schema::schema;
 use crate::sql::sql;
 use crate::status::Status;
 use crate::streams::write_all;
 use sdb_stores::Registry;
-use sdb_types::{Clock, Ids, Names, Sink, SinkRefused, Source};
+use sdb_types::{Clock, Ids, Names, Octets, Sink, SinkRefused, Source};
 use sdb_words::{Command, WordsRefused, command_of};
 use std::alloc::Global;
 
@@ -29,20 +31,24 @@ fn command_in(alloc: Global, words: &[String], stores: &Names) -> Result<Command
 }
 
 // What a command answers.
-fn answer<S: Registry, R: Source>(
+fn answer<S: Registry, R: Source, C: Clock, I: Ids>(
     alloc: Global,
     command: &Command,
     stores: &mut S,
     input: &mut R,
+    clock: &mut C,
+    ids: &mut I,
     names: &Names,
-) -> Result<String, Status>
+) -> Result<Octets, Status>
     requires some { 0 < length (S.state stores.old).shelves }
     requires unplaced { (S.state stores.old).places ≡ [] }
     requires distinct { AreDistinct (names_of (S.state stores.old).shelves) }
     requires names { names.now ≡ names_of (S.state stores.old).shelves }
     requires once { AnswersOnce command.now }
-    ensures answered { IfOk result (λ text. (promise_of command.now (work_of S.state (stream R.remaining R.faults) stores.old stores.new input.old input.new)).answers (string_bytes text)) }
-    ensures err { IfErr result (promise_of command.now (work_of S.state (stream R.remaining R.faults) stores.old stores.new input.old input.new)).stops }
+    ensures answered { IfOk result (λ text. (promise_of command.now (work_of S.state (stream R.remaining R.faults) stores.old stores.new input.old input.new)
+        (draws C.told I.told clock.old clock.new ids.old ids.new)).answers text) }
+    ensures err { IfErr result (promise_of command.now (work_of S.state (stream R.remaining R.faults) stores.old stores.new input.old input.new)
+        (draws C.told I.told clock.old clock.new ids.old ids.new)).stops }
     ensures kept { AreKept (S.state stores.old) (S.state stores.new) }
     ensures counted { R.faults input.old ≤ R.faults input.new }
 {
@@ -51,20 +57,18 @@ fn answer<S: Registry, R: Source>(
         Command::Bench(n) => bench(alloc, stores, *n, names),
         Command::Schema(places) => schema(alloc, stores, input, places.as_slice()),
         Command::Sql => unreachable!(),
-        Command::Load(_, _, _)
-        | Command::Export(_)
-        | Command::Retire(_, _)
-        | Command::Alter(_, _, _)
-        | Command::Audit => Err(Status::Usage),
+        Command::Load(table, mode, n) => load(alloc, stores, input, clock, ids, table, *mode, *n),
+        Command::Export(table) => export(alloc, stores, clock, ids, table),
+        Command::Retire(_, _) | Command::Alter(_, _, _) | Command::Audit => Err(Status::Usage),
     }
 }
 
 // Writes the answer of a command.
-fn write<W: Sink>(output: &mut W, text: &str) -> Status
+fn write<W: Sink>(output: &mut W, text: &[u8]) -> Status
     ensures written { IsWritten text.now (stream W.written W.faults output.old) (stream W.written W.faults output.new) result }
     ensures counted { W.faults output.old ≤ W.faults output.new }
 {
-    match write_all(output, text.as_bytes()) {
+    match write_all(output, text) {
         Ok(()) => Status::Done,
         Err(SinkRefused::Failed) => Status::WriteFault,
         Err(SinkRefused::NoMemory) => Status::NoMemory,
@@ -79,12 +83,14 @@ fn is_session(command: &Command) -> bool
 }
 
 // Does the work of a command, and writes what it answers.
-fn answer_once<S: Registry, R: Source, W: Sink>(
+fn answer_once<S: Registry, R: Source, W: Sink, C: Clock, I: Ids>(
     alloc: Global,
     command: &Command,
     stores: &mut S,
     input: &mut R,
     output: &mut W,
+    clock: &mut C,
+    ids: &mut I,
     names: &Names,
 ) -> Status
     requires some { 0 < length (S.state stores.old).shelves }
@@ -92,13 +98,14 @@ fn answer_once<S: Registry, R: Source, W: Sink>(
     requires distinct { AreDistinct (names_of (S.state stores.old).shelves) }
     requires names { names.now ≡ names_of (S.state stores.old).shelves }
     requires once { AnswersOnce command.now }
-    ensures ended { EndsOnce command.now (work_of S.state (stream R.remaining R.faults) stores.old stores.new input.old input.new) (stream W.written W.faults output.old) (stream W.written W.faults output.new) result }
+    ensures ended { EndsOnce command.now (work_of S.state (stream R.remaining R.faults) stores.old stores.new input.old input.new)
+        (draws C.told I.told clock.old clock.new ids.old ids.new) (stream W.written W.faults output.old) (stream W.written W.faults output.new) result }
     ensures kept { AreKept (S.state stores.old) (S.state stores.new) }
     ensures counted { R.faults input.old ≤ R.faults input.new }
     ensures counted_output { W.faults output.old ≤ W.faults output.new }
 {
-    match answer(alloc, command, stores, input, names) {
-        Ok(text) => write(output, text.as_str()),
+    match answer(alloc, command, stores, input, clock, ids, names) {
+        Ok(text) => write(output, text.as_slice()),
         Err(status) => status,
     }
 }
@@ -128,7 +135,7 @@ fn perform<S: Registry, R: Source, W: Sink, C: Clock, I: Ids>(
     if is_session(command) {
         sql(alloc, stores, input, output, clock, ids)
     } else {
-        answer_once(alloc, command, stores, input, output, names)
+        answer_once(alloc, command, stores, input, output, clock, ids, names)
     }
 }
 

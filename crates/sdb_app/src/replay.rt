@@ -1,5 +1,5 @@
 //! The command `replay`: a script that is read, and the report of its run.
-ghost use Rattle.std.specs.Prelude.{◌≡◌, ◌<◌, ◌≤◌, [], length, IfOk, IfErr, string_bytes};
+ghost use Rattle.std.specs.Prelude.{◌≡◌, ◌<◌, ◌≤◌, [], length, IfOk, IfErr};
 ghost use Rattle.sdb_stores.specs.Shelf.{AreDistinct, names_of};
 ghost use Rattle.sdb_model.specs.Report.{report_text_of};
 ghost use Rattle.sdb_app.specs.Ends.{AreKept, stream, work_of};
@@ -12,7 +12,7 @@ use sdb_model::{Outcome, Script};
 use sdb_script::{ScriptRefused, read_script};
 use sdb_stores::Registry;
 use sdb_texts::report_text;
-use sdb_types::{Names, Source};
+use sdb_types::{Names, Octets, Source};
 use std::alloc::Global;
 
 // How the program ends where a text was refused.
@@ -47,12 +47,12 @@ fn read_input_script<R: Source>(
 }
 
 // The text of a report.
-fn text_of(alloc: Global, outcome: &Outcome) -> Result<String, Status>
-    ensures ok { IfOk result (λ text. string_bytes text ≡ report_text_of outcome.now) }
+fn text_of(alloc: Global, outcome: &Outcome) -> Result<Octets, Status>
+    ensures ok { IfOk result (λ text. text ≡ report_text_of outcome.now) }
     ensures err { IfErr result (λ s. s ≡ Status.NoMemory) }
 {
     match report_text(alloc, outcome) {
-        Ok(text) => Ok(text),
+        Ok(text) => Ok(Octets::from_vec(text.into_bytes())),
         Err(_) => Err(Status::NoMemory),
     }
 }
@@ -64,12 +64,12 @@ pub fn replay<S: Registry, R: Source>(
     stores: &mut S,
     input: &mut R,
     names: &Names,
-) -> Result<String, Status>
+) -> Result<Octets, Status>
     requires some { 0 < length (S.state stores.old).shelves }
     requires unplaced { (S.state stores.old).places ≡ [] }
     requires distinct { AreDistinct (names_of (S.state stores.old).shelves) }
     requires names { names.now ≡ names_of (S.state stores.old).shelves }
-    ensures answered { IfOk result (λ text. IsReplayed (work_of S.state (stream R.remaining R.faults) stores.old stores.new input.old input.new) (string_bytes text)) }
+    ensures answered { IfOk result (λ text. IsReplayed (work_of S.state (stream R.remaining R.faults) stores.old stores.new input.old input.new) text) }
     ensures err { IfErr result (StopsReplay (work_of S.state (stream R.remaining R.faults) stores.old stores.new input.old input.new)) }
     ensures kept { AreKept (S.state stores.old) (S.state stores.new) }
     ensures counted { R.faults input.old ≤ R.faults input.new }

@@ -1,5 +1,5 @@
 //! The command `schema`: a schema that is read, and its catalog written to the first store.
-ghost use Rattle.std.specs.Prelude.{◌≡◌, ◌<◌, ◌≤◌, [], length, IfOk, IfErr, string_bytes};
+ghost use Rattle.std.specs.Prelude.{◌≡◌, ◌<◌, ◌≤◌, [], length, IfOk, IfErr};
 ghost use Rattle.sdb_app.specs.Ends.{AreKept, stream, work_of};
 ghost use Rattle.sdb_app.specs.Schema.{IsSchemaKept, IsSchemaRead, IsSchemaUnread, StopsSchema, status_of_catalog};
 
@@ -11,7 +11,7 @@ use sdb_model::Which;
 use sdb_schema::Catalog;
 use sdb_script::{MOST_SCRIPT_BYTES, last_line};
 use sdb_stores::{Place, Registry};
-use sdb_types::{Source, Txt};
+use sdb_types::{Octets, Source, Txt};
 use std::alloc::Global;
 
 // The catalog that the input describes.
@@ -45,12 +45,12 @@ pub fn catalog_status(refused: CatalogRefused) -> Status
     }
 }
 
-// The text of an answer.
-fn text_of(alloc: Global, answer: &Txt) -> Result<String, Status>
-    ensures ok { IfOk result (λ text. string_bytes text ≡ answer.now) }
+/// The bytes of an answer.
+pub fn text_of(alloc: Global, answer: &Txt) -> Result<Octets, Status>
+    ensures ok { IfOk result (λ text. text ≡ answer.now) }
     ensures err { IfErr result (λ s. s ≡ Status.NoMemory) }
 {
-    match String::from_str(alloc, answer.as_str()) {
+    match Octets::from_slice(alloc, answer.as_str().as_bytes()) {
         Ok(text) => Ok(text),
         Err(_) => Err(Status::NoMemory),
     }
@@ -63,10 +63,10 @@ pub fn schema<S: Registry, R: Source>(
     stores: &mut S,
     input: &mut R,
     places: &[Place],
-) -> Result<String, Status>
+) -> Result<Octets, Status>
     requires some { 0 < length (S.state stores.old).shelves }
     requires unplaced { (S.state stores.old).places ≡ [] }
-    ensures answered { IfOk result (λ text. IsSchemaKept places.now (work_of S.state (stream R.remaining R.faults) stores.old stores.new input.old input.new) (string_bytes text)) }
+    ensures answered { IfOk result (λ text. IsSchemaKept places.now (work_of S.state (stream R.remaining R.faults) stores.old stores.new input.old input.new) text) }
     ensures err { IfErr result (StopsSchema places.now (work_of S.state (stream R.remaining R.faults) stores.old stores.new input.old input.new)) }
     ensures kept { AreKept (S.state stores.old) (S.state stores.new) }
     ensures counted { R.faults input.old ≤ R.faults input.new }

@@ -1,12 +1,13 @@
 //! How the program ends.
 ghost use Rattle.std.specs.Prelude.{◌≡◌, ◌++◌, IfOk, codes, decimal, string_bytes};
-ghost use Rattle.sdb_model.specs.Texts.{key_text_of};
+ghost use Rattle.sdb_model.specs.Texts.{answer_text_of, key_text_of};
 ghost use Rattle.sdb_app.specs.Status.{code_of, line_of, which_name as which_name_lem};
 
+use sdb_data::CsvFault;
 use sdb_loader::SchemaFault;
-use sdb_model::Which;
+use sdb_model::{Answer, Which};
 use sdb_script::LineFault;
-use sdb_texts::key_text;
+use sdb_texts::{answer_text, key_text};
 use sdb_types::{Key, NoMemory, Txt};
 use std::alloc::Global;
 
@@ -17,6 +18,8 @@ pub enum InputFault {
     Line(LineFault),
     /// With the JSON of a schema.
     Json(SchemaFault),
+    /// With a record of CSV.
+    Csv(CsvFault),
 }
 
 /// How a run of the program ended.
@@ -26,7 +29,7 @@ pub enum Status {
     Done,
     /// The words are none that the program knows.
     Usage,
-    /// The input is refused: this is the first line that may not come, and what is wrong with it.
+    /// The input is refused: this is the first line that may not come, or record of CSV, and what is wrong with it.
     BadInput(u64, InputFault),
     /// The source failed.
     ReadFault,
@@ -41,6 +44,10 @@ pub enum Status {
     BadStore(Key),
     /// The input is refused: at this line that quantity passes its limit.
     Limit(u64, Which),
+    /// The catalog has no table of that name.
+    NoTable,
+    /// The transaction of an export was not committed: one of its statements got this answer.
+    NotCommitted(Answer),
 }
 
 impl Status {
@@ -59,6 +66,8 @@ impl Status {
             Status::NotEmpty(_) => 8,
             Status::BadStore(_) => 9,
             Status::Limit(_, _) => 10,
+            Status::NoTable => 11,
+            Status::NotCommitted(_) => 12,
         }
     }
 
@@ -80,6 +89,8 @@ impl Status {
             Status::NotEmpty(key) => about_key(alloc, "not empty: ", key),
             Status::BadStore(key) => about_key(alloc, "bad record: ", key),
             Status::Limit(n, which) => limit(alloc, *n, *which),
+            Status::NoTable => Txt::new(alloc, "no such table"),
+            Status::NotCommitted(answer) => not_committed(alloc, answer),
         }
     }
 }
@@ -90,6 +101,15 @@ fn about_key(alloc: Global, prefix: &str, key: &Key) -> Result<Txt, NoMemory>
 {
     let mut text = String::from_str(alloc, prefix)?;
     text.push_str(key_text(alloc, key)?.as_str())?;
+    Txt::new(alloc, text.as_str())
+}
+
+// A line that ends with an answer.
+fn not_committed(alloc: Global, answer: &Answer) -> Result<Txt, NoMemory>
+    ensures { IfOk result (λ text. text ≡ codes "not committed: " ++ answer_text_of answer.now) }
+{
+    let mut text = String::from_str(alloc, "not committed: ")?;
+    text.push_str(answer_text(alloc, answer)?.as_str())?;
     Txt::new(alloc, text.as_str())
 }
 

@@ -1,34 +1,38 @@
 //! The commands `schema` and `bench`, on stores in memory, and words of no command.
 use crate::attached::attach_all;
-use crate::run::{Bad, Call, End, On, ends};
+use crate::run::{Bad, Call, End, On, ends, ends_from};
+use sdb_data::CsvFault;
 use sdb_stores::{Registry, Stores};
 use sdb_types::{Condition, Reply, Request};
 use std::alloc::Global;
 use std::test::Fail;
 use test_builders::{Case, Cell, Place, Row, all_cases, hold, record_of};
 
-const SHOP: &[&str] = &["schema", "shop=hashed"];
+pub const SHOP: &[&str] = &["schema", "shop=hashed"];
 
-const SCHEMA: &[u8] =
+pub const SCHEMA: &[u8] =
     b"{\"bank.account\":{\"transaction\":true,\"partition-key\":[\"id\"],\"clustering-key\":[],\"columns\":{\"id\":\"INT\",\"balance\":\"INT\"},\"compaction-strategy\":\"LCS\"},\"shop.orders\":{\"transaction\":true,\"partition-key\":[\"customer\"],\"clustering-key\":[\"placed DESC\"],\"columns\":{\"customer\":\"INT\",\"placed\":\"BIGINT\",\"note\":\"TEXT\"},\"secondary-index\":[\"note\"]}}";
 
-const CREATED: &[u8] = b"created bank.account\ncreated coordinator.state\ncreated shop.orders\n";
+pub const CREATED: &[u8] =
+    b"created bank.account\ncreated coordinator.state\ncreated shop.orders\n";
 
 /// How a command ends that writes nothing: its status, by which line and which code.
 #[derive(Clone, Copy)]
-struct Refusal {
-    end: End,
-    line: &'static str,
-    code: u8,
+pub struct Refusal {
+    pub end: End,
+    pub line: &'static str,
+    pub code: u8,
 }
 
 /// A command on these words and this input.
 #[derive(Clone, Copy)]
-enum Step {
+pub enum Step {
     /// It is done, and writes this.
     Done(&'static [&'static str], &'static [u8], &'static [u8]),
     /// It is refused.
     Refused(&'static [&'static str], &'static [u8], Refusal),
+    /// A record of its CSV is refused, by its number and this line, because of this fault.
+    BadRecord(&'static [&'static str], &'static [u8], u64, &'static str, CsvFault),
     /// These reads fail.
     ReadFails(&'static [&'static str], &'static [u8], &'static [u64]),
     /// These writes fail, after this was written.
@@ -62,6 +66,15 @@ fn call_of(step: Step) -> Call<'static> {
             ..call_with(words, input, DONE)
         },
         Step::Refused(words, input, refusal) => call_with(words, input, refusal),
+        Step::BadRecord(words, input, n, line, fault) => call_with(
+            words,
+            input,
+            Refusal {
+                end: End::BadInput(n, Bad::Csv(fault)),
+                line,
+                code: 3,
+            },
+        ),
         Step::ReadFails(words, input, reads_fail) => Call {
             reads_fail,
             ..call_with(words, input, READ_FAULT)
@@ -92,7 +105,7 @@ const WRITE_FAULT: Refusal = Refusal {
     code: 5,
 };
 
-const STORE_FAULT: Refusal = Refusal {
+pub const STORE_FAULT: Refusal = Refusal {
     end: End::StoreFault,
     line: "store fault",
     code: 6,
@@ -118,23 +131,27 @@ const USAGE: Refusal = Refusal {
 
 /// Commands, one after the other on the same stores.
 #[derive(Clone, Copy)]
-struct Steps {
-    on: On,
-    steps: &'static [Step],
+pub struct Steps {
+    pub on: On,
+    pub steps: &'static [Step],
+}
+
+/// Whether each command ends as listed; each draws ids of its own.
+pub fn follow(alloc: Global, stores: &mut Stores, steps: &[Step]) -> Result<bool, Fail> {
+    let mut first = 1;
+    for step in steps {
+        if !ends_from(alloc, stores, first, call_of(*step))? {
+            return Ok(false);
+        }
+        first = first.saturating_add(1000);
+    }
+    Ok(true)
 }
 
 impl Case for Steps {
     fn holds(self, alloc: Global) -> Result<bool, Fail> {
         let mut stores = Stores::new(alloc);
-        if !attach_all(alloc, &mut stores, self.on)? {
-            return Ok(false);
-        }
-        for step in self.steps {
-            if !ends(alloc, &mut stores, call_of(*step))? {
-                return Ok(false);
-            }
-        }
-        Ok(true)
+        Ok(attach_all(alloc, &mut stores, self.on)? && follow(alloc, &mut stores, self.steps)?)
     }
 }
 
@@ -376,7 +393,7 @@ impl Case for Unknown {
     }
 }
 
-static UNKNOWN: [Unknown; 13] = [
+static UNKNOWN: [Unknown; 17] = [
     Unknown(&[]),
     Unknown(&["bench", "0"]),
     Unknown(&["bench", "01"]),
@@ -389,7 +406,11 @@ static UNKNOWN: [Unknown; 13] = [
     Unknown(&["schema", "shop=hashed", "shop=hashed"]),
     Unknown(&["schema", "scalardb=hashed"]),
     Unknown(&["schema", "shop"]),
-    Unknown(&["export", "shop.orders"]),
+    Unknown(&["export", "orders"]),
+    Unknown(&["load", "shop.orders", "insert", "0"]),
+    Unknown(&["load", "shop.orders", "insert", "1001"]),
+    Unknown(&["load", "shop.orders", "merge", "1"]),
+    Unknown(&["audit"]),
 ];
 
 #[test]

@@ -12,4 +12,6 @@ mod run;
 #[cfg(test)]
 mod session;
 #[cfg(test)]
+mod tables;
+#[cfg(test)]
 mod worked;

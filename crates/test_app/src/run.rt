@@ -2,6 +2,7 @@
 ghost use Rattle.std.specs.Prelude.{◌<◌, length};
 
 use sdb_app::{InputFault, Status, run};
+use sdb_data::CsvFault;
 use sdb_model::Which;
 use sdb_script::LineFault;
 use sdb_stores::Registry;
@@ -9,7 +10,7 @@ use sdb_types::{Calls, Feed, Moments, NoMemory, Numbers, Octets, Ticks, Tray};
 use std::alloc::Global;
 use std::test::Fail;
 
-/// What is wrong with a line that is refused, or with a schema.
+/// What is wrong with a line that is refused, with a schema, or with a record of CSV.
 #[derive(Clone, Copy, PartialEq, Eq)]
 pub enum Bad {
     Text,
@@ -18,9 +19,10 @@ pub enum Bad {
     Schema,
     Missing,
     Json,
+    Csv(CsvFault),
 }
 
-/// How the program ends, without the keys.
+/// How the program ends, without keys and answers.
 #[derive(Clone, Copy, PartialEq, Eq)]
 pub enum End {
     Done,
@@ -33,6 +35,8 @@ pub enum End {
     NotEmpty,
     BadStore,
     Limit(u64, Which),
+    NoTable,
+    NotCommitted,
 }
 
 fn bad_of(fault: &InputFault) -> Bad {
@@ -43,6 +47,7 @@ fn bad_of(fault: &InputFault) -> Bad {
         InputFault::Line(LineFault::Schema(_)) => Bad::Schema,
         InputFault::Line(LineFault::Missing) => Bad::Missing,
         InputFault::Json(_) => Bad::Json,
+        InputFault::Csv(fault) => Bad::Csv(*fault),
     }
 }
 
@@ -58,6 +63,8 @@ fn end_of(status: &Status) -> End {
         Status::NotEmpty(_) => End::NotEmpty,
         Status::BadStore(_) => End::BadStore,
         Status::Limit(line, which) => End::Limit(*line, *which),
+        Status::NoTable => End::NoTable,
+        Status::NotCommitted(_) => End::NotCommitted,
     }
 }
 
@@ -177,12 +184,13 @@ fn runs<S: Registry>(
     words: &[String],
     input: &mut Feed,
     output: &mut Tray,
+    first: u64,
     call: Call<'_>,
 ) -> bool
     requires { 0 < length (S.state stores.old).shelves }
 {
     let mut clock = Ticks::new(Moments::new(alloc));
-    let mut ids = Numbers::new(1);
+    let mut ids = Numbers::new(u128::from(first));
     let status = run(alloc, words, stores, input, output, &mut clock, &mut ids);
     is_ended(alloc, &status, call)
 }
@@ -192,6 +200,7 @@ fn runs_and_writes<S: Registry>(
     alloc: Global,
     stores: &mut S,
     words: &[String],
+    first: u64,
     call: Call<'_>,
 ) -> Result<bool, Fail>
     requires { 0 < length (S.state stores.old).shelves }
@@ -199,16 +208,26 @@ fn runs_and_writes<S: Registry>(
     let mut input = feed(alloc, call.input, call.reads_fail)?;
     let mut output = tray(alloc, call.writes_fail)?;
     Ok(
-        runs(alloc, stores, words, &mut input, &mut output, call)
+        runs(alloc, stores, words, &mut input, &mut output, first, call)
             && output.written().as_slice() == call.written,
     )
 }
 
-/// Whether a call of the program ends as listed, on these stores.
-pub fn ends<S: Registry>(alloc: Global, stores: &mut S, call: Call<'_>) -> Result<bool, Fail> {
+/// Whether a call of the program ends as listed, on these stores; its first id is drawn as this number.
+pub fn ends_from<S: Registry>(
+    alloc: Global,
+    stores: &mut S,
+    first: u64,
+    call: Call<'_>,
+) -> Result<bool, Fail> {
     let words = words_of(alloc, call.words)?;
     if stores.len() == 0 {
         return Ok(false);
     }
-    runs_and_writes(alloc, stores, words.as_slice(), call)
+    runs_and_writes(alloc, stores, words.as_slice(), first, call)
+}
+
+/// The same, where the first id is drawn as 1.
+pub fn ends<S: Registry>(alloc: Global, stores: &mut S, call: Call<'_>) -> Result<bool, Fail> {
+    ends_from(alloc, stores, 1, call)
 }

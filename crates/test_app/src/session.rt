@@ -159,7 +159,7 @@ impl Case for Sittings {
 const READ: &[u8] = b"BEGIN\nSELECT balance FROM bank.account WHERE id = 1\nCOMMIT\n";
 
 // An account that a transaction prepared and did not decide, or decided elsewhere.
-const PREPARED: Row = Row {
+pub const PREPARED: Row = Row {
     place: Place {
         ns: "bank",
         table: "account",

@@ -1,5 +1,4 @@
 use Rattle.std.proofs.Common.{◌≡◌, ◌∙◌, ap, subst, sym}
-use Rattle.std.specs.String.{string_bytes}
 use Rattle.sdb_stores.specs.Shelf.{names_of}
 use Rattle.sdb_model.specs.declared.script.Script.{Script}
 use Rattle.sdb_execution.specs.Execution.{IsPlayable}
@@ -29,7 +28,7 @@ returns-in-Ok-play-clause-answered g c =
     let names = names_of old.shelves in
     let same : c.in-Ok.script ≡ bench_over c.args.n names = c.in-Ok.ensures ∙ ap (bench_over c.args.n) c.requires.names in
     let made = subst (λ (s : Script). IsOutcome (TellOf s old) s old.shelves new.shelves c.in-Ok-play.outcome) same c.in-Ok-play.ensures.made in
-    ok_then _ _ c.text_of.result (λ text is. benched_on c.args.n old new.shelves c.in-Ok-play.outcome (string_bytes text) made is (λ first last opening closing run. c.runs_are_even.ensures c.args.n first last opening closing c.in-Ok-play.outcome run)) c.text_of.ensures.ok
+    ok_then _ _ c.text_of.result (λ text is. benched_on c.args.n old new.shelves c.in-Ok-play.outcome text made is (λ first last opening closing run. c.runs_are_even.ensures c.args.n first last opening closing c.in-Ok-play.outcome run)) c.text_of.ensures.ok
 
 pub returns-in-Err-clause-err : goal.returns-in-Err-clause-err
 returns-in-Err-clause-err g c =

@@ -4,7 +4,7 @@ use Rattle.sdb_app.specs.Ends.{stream, work_of}
 use Rattle.sdb_app.specs.Run.{CanBePlaced, IsScriptRead, StopsReplay}
 use Rattle.sdb_app.specs.Run.StopsReplay.{Unplayed}
 use Rattle.sdb_app.proofs.Playable.{followable, placeable, playable}
-use Rattle.sdb_app.proofs.Playing.{err_then}
+use Rattle.sdb_app.proofs.Playing.{err_then, ok_then}
 use Rattle.sdb_app.proofs.replay.replay.Goals as goal
 
 pub play-requires-clause-playable : goal.play-requires-clause-playable
@@ -15,6 +15,12 @@ play-requires-clause-can g c = followable c.args.names.now _ c.in-Ok.script c.in
 
 pub play-requires-clause-places : goal.play-requires-clause-places
 play-requires-clause-places g c = subst (λ (ns : List (List ℕ)). CanBePlaced ns c.in-Ok.script.places) c.requires.names (placeable c.args.names.now _ c.in-Ok.script c.in-Ok.ensures.read.form)
+
+pub returns-in-Ok-play-clause-answered : goal.returns-in-Ok-play-clause-answered
+returns-in-Ok-play-clause-answered g c =
+    let work = work_of g.S.Registry.state (stream g.R.Source.remaining g.R.Source.faults) c.args.stores.now c.play.new.stores c.args.input.now c.read_input_script.new.input in
+    let read = subst (λ (ns : List (List ℕ)). IsScriptRead ns work.input.bytes work.rest.bytes c.in-Ok.script) c.requires.names c.in-Ok.ensures.read in
+    ok_then _ _ c.text_of.result (λ text is. record { script = c.in-Ok.script; read = read; outcome = c.in-Ok-play.outcome; made = c.in-Ok-play.ensures.made; text = is }) c.text_of.ensures.ok
 
 pub returns-in-Ok-play-clause-err : goal.returns-in-Ok-play-clause-err
 returns-in-Ok-play-clause-err g c =

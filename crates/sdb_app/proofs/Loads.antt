@@ -1,0 +1,173 @@
+-- What `load` and `export` promise of their work, begun with the places that there were before.
+use Rattle.std.proofs.Common.{◌≡◌, ◌∙◌, ◌≤◌, ℕ, ℤ, List, Option, inl, inr, refl, subst, sym}
+use Rattle.sdb_types.specs.declared.key.TableName.{TableName}
+use Rattle.sdb_schema.specs.declared.table.Table.{Table}
+use Rattle.sdb_types.specs.declared.value.Value.{Value}
+use Rattle.sdb_data.specs.declared.fault.Mode.{Mode}
+use Rattle.sdb_tables.specs.declared.fault.ExportRefused.{ExportRefused}
+use Rattle.sdb_tables.specs.declared.fault.ExportRefused.TheVariants as refused
+use Rattle.sdb_tables.specs.Ends.{Ends as TableEnds, IsSessionBefore, IsSessionOver}
+use Rattle.sdb_tables.specs.declared.load.Load.{Load}
+use Rattle.sdb_tables.specs.Exports.{IsExport, IsNotExported, IsStarvedExport}
+use Rattle.sdb_tables.specs.Loads.{IsLoad, IsStarvedLoadOf}
+use Rattle.sdb_stores.specs.declared.place.Place.{Place}
+use Rattle.sdb_stores.specs.Shelf.{Attached, Shelf as Counted, total_faults}
+use Rattle.sdb_session.specs.Session.{Exchange}
+use Rattle.sdb_app.specs.declared.status.Status.{Status}
+use Rattle.sdb_app.specs.Ends.{Draws, Work}
+use Rattle.sdb_app.specs.Export.{IsExported, StopsExport}
+use Rattle.sdb_app.specs.Export.StopsExport.{Unexported, Untabled as NoTable}
+use Rattle.sdb_app.specs.Load.{IsLoaded, IsTableOpened, IsTableUnopened, StopsLoad, tables_ends}
+use Rattle.sdb_app.specs.Load.IsTableUnopened.{Unnamed, Unopened}
+use Rattle.sdb_app.specs.Load.StopsLoad.{Starved, Unread, Untabled}
+use Rattle.sdb_app.proofs.Headline.{begun_with}
+use Rattle.sdb_app.proofs.Sessions.{AreLess, less_before, opened_before, session_less, unopened_before}
+
+-- statements over stores of which less is known
+taken_before : (before : Attached) (work : Work) (d : Draws) (catalog : List Table) (places : List Place) (mid : List Counted) (es : List Exchange) → ((at : ℕ) → before.tells at → work.old.tells at)
+    → IsSessionOver catalog (tables_ends work places mid d) es → IsSessionOver catalog (tables_ends (begun_with before work) places mid d) es
+taken_before before work d catalog places mid es telling h =
+    session_less catalog _ _ _ _ d.clock d.clock_then d.ids d.ids_then es (less_before before work places mid telling) (less_before before work places work.left telling) h
+
+-- the same, where memory ran out
+session_before_on : (catalog : List Table) (e : TableEnds) (low high : Attached) (es : List Exchange) → AreLess low e.old → AreLess high e.new → IsSessionBefore catalog e es → IsSessionBefore catalog (record e { old = low; new = high }) es
+session_before_on catalog e low high es o n h = record {
+  held = h.held;
+  clock_mid = h.clock_mid;
+  ids_mid = h.ids_mid;
+  session = session_less catalog e.old (record e.old { shelves = h.held }) low (record low { shelves = h.held }) e.clock h.clock_mid e.ids h.ids_mid es o (record { places = o.places; shelves = refl; telling = o.telling }) h.session;
+  counted = subst (λ (ss : List Counted). total_faults h.held ≤ total_faults ss) n.shelves h.counted;
+}
+
+starved_export : (catalog : List Table) (t : Table) (e : TableEnds) (low high : Attached) → AreLess low e.old → AreLess high e.new → IsStarvedExport catalog t e → IsStarvedExport catalog t (record e { old = low; new = high })
+starved_export catalog t e low high o n h = record {
+  front = h.front;
+  back = h.back;
+  es = h.es;
+  statements = h.statements;
+  taken = h.taken;
+  session = session_before_on catalog e low high h.es o n h.session;
+}
+
+pub starved_on : (catalog : List Table) (t : Table) (m : Mode) (rows : List (List Value)) (size : ℕ) (old new low high : Attached) (clock clock_then : Option (List ℤ)) (ids ids_then : Option (List ℕ)) → AreLess low old → AreLess high new
+    → IsStarvedLoadOf catalog t m rows size (record { old = old; new = new; clock = clock; clock_then = clock_then; ids = ids; ids_then = ids_then }) → IsStarvedLoadOf catalog t m rows size (record { old = low; new = high; clock = clock; clock_then = clock_then; ids = ids; ids_then = ids_then })
+starved_on catalog t m rows size old new low high clock clock_then ids ids_then o n (inl h) = inl (record { stores = sym n.shelves ∙ h.stores ∙ o.shelves; clock = h.clock; ids = h.ids })
+starved_on catalog t m rows size old new low high clock clock_then ids ids_then o n (inr h) = inr (record {
+  groups = h.groups;
+  rest = h.rest;
+  all = h.all;
+  sizes = h.sizes;
+  each = h.each;
+  session = session_before_on catalog (record { old = old; new = new; clock = clock; clock_then = clock_then; ids = ids; ids_then = ids_then }) low high _ o n h.session;
+})
+
+table_before : (before : Attached) (work : Work) (name : TableName) (catalog : List Table) (places : List Place) (mid : List Counted) (t : Table) → work.old.shelves ≡ before.shelves → ((at : ℕ) → before.tells at → work.old.tells at)
+    → IsTableOpened name work catalog places mid t → IsTableOpened name (begun_with before work) catalog places mid t
+table_before before work name catalog places mid t same telling h = record { opened = opened_before before work catalog places mid same telling h.opened; found = h.found }
+
+untabled_before : (before : Attached) (work : Work) (name : TableName) (s : Status) → work.old.shelves ≡ before.shelves → ((at : ℕ) → before.tells at → work.old.tells at) → IsTableUnopened name work s → IsTableUnopened name (begun_with before work) s
+untabled_before before work name s same telling (Unopened cause h is) = Unopened cause (unopened_before before work cause same telling h) is
+untabled_before before work name s same telling (Unnamed catalog places h none is) = Unnamed catalog places (opened_before before work catalog places work.left same telling h) none is
+
+---- `load`
+
+pub loaded_before : (before : Attached) (work : Work) (d : Draws) (name : TableName) (m : Mode) (n : ℕ) (text : List ℕ) → work.old.shelves ≡ before.shelves → ((at : ℕ) → before.tells at → work.old.tells at) → IsLoaded name m n work d text → IsLoaded name m n (begun_with before work) d text
+loaded_before before work d name m n text same telling h = record {
+  catalog = h.catalog;
+  places = h.places;
+  mid = h.mid;
+  table = h.table;
+  rows = h.rows;
+  opened = table_before before work name h.catalog h.places h.mid h.table same telling h.opened;
+  read = h.read;
+  loaded = record {
+    groups = h.loaded.groups;
+    all = h.loaded.all;
+    sizes = h.loaded.sizes;
+    each = h.loaded.each;
+    lines = h.loaded.lines;
+    session = taken_before before work d h.catalog h.places h.mid _ telling h.loaded.session;
+  };
+}
+
+pub load_stops_before : (before : Attached) (work : Work) (d : Draws) (name : TableName) (m : Mode) (n : ℕ) (s : Status) → work.old.shelves ≡ before.shelves → ((at : ℕ) → before.tells at → work.old.tells at) → StopsLoad name m n work d s → StopsLoad name m n (begun_with before work) d s
+load_stops_before before work d name m n s same telling (Untabled h unread undrawn) = Untabled (untabled_before before work name s same telling h) unread undrawn
+load_stops_before before work d name m n s same telling (Unread catalog places t h unread undrawn) = Unread catalog places t (table_before before work name catalog places work.left t same telling h) unread undrawn
+load_stops_before before work d name m n s same telling (Starved catalog places mid t rows h read starved is) =
+    Starved catalog places mid t rows (table_before before work name catalog places mid t same telling h) read
+    (starved_on catalog t m rows n _ _ _ _ d.clock d.clock_then d.ids d.ids_then (less_before before work places mid telling) (less_before before work places work.left telling) starved) is
+
+---- `export`
+
+pub exported_before : (before : Attached) (work : Work) (d : Draws) (name : TableName) (text : List ℕ) → work.old.shelves ≡ before.shelves → ((at : ℕ) → before.tells at → work.old.tells at) → IsExported name work d text → IsExported name (begun_with before work) d text
+exported_before before work d name text same telling h = record {
+  catalog = h.catalog;
+  places = h.places;
+  mid = h.mid;
+  table = h.table;
+  opened = table_before before work name h.catalog h.places h.mid h.table same telling h.opened;
+  exported = record {
+    begin = h.exported.begin;
+    select = h.exported.select;
+    commit = h.exported.commit;
+    taken = h.exported.taken;
+    shown = h.exported.shown;
+    session = taken_before before work d h.catalog h.places h.mid _ telling h.exported.session;
+  };
+  unread = h.unread;
+}
+
+not_before : (before : Attached) (work : Work) (d : Draws) (catalog : List Table) (places : List Place) (mid : List Counted) (t : Table) (cause : ExportRefused) → ((at : ℕ) → before.tells at → work.old.tells at)
+    → IsNotExported catalog t (tables_ends work places mid d) cause → IsNotExported catalog t (tables_ends (begun_with before work) places mid d) cause
+not_before before work d catalog places mid t refused.NoMemory telling h = starved_export catalog t _ _ _ (less_before before work places mid telling) (less_before before work places work.left telling) h
+not_before before work d catalog places mid t (refused.NotCommitted a) telling h = (
+  h.0,
+  record {
+    es = h.1.es;
+    last = h.1.last;
+    cut = h.1.cut;
+    session = taken_before before work d catalog places mid _ telling h.1.session;
+  },
+)
+
+pub export_stops_before : (before : Attached) (work : Work) (d : Draws) (name : TableName) (s : Status) → work.old.shelves ≡ before.shelves → ((at : ℕ) → before.tells at → work.old.tells at) → StopsExport name work d s → StopsExport name (begun_with before work) d s
+export_stops_before before work d name s same telling (NoTable h undrawn unread) = NoTable (untabled_before before work name s same telling h) undrawn unread
+export_stops_before before work d name s same telling (Unexported catalog places mid t cause h not is unread) =
+    Unexported catalog places mid t cause (table_before before work name catalog places mid t same telling h) (not_before before work d catalog places mid t cause telling not) is unread
+
+---- what was made over stores of which more is known
+
+pub exported_on : (catalog : List Table) (t : Table) (old new low high : Attached) (clock clock_then : Option (List ℤ)) (ids ids_then : Option (List ℕ)) (text : List ℕ) → AreLess low old → AreLess high new
+    → IsExport catalog t (record { old = old; new = new; clock = clock; clock_then = clock_then; ids = ids; ids_then = ids_then }) text → IsExport catalog t (record { old = low; new = high; clock = clock; clock_then = clock_then; ids = ids; ids_then = ids_then }) text
+exported_on catalog t old new low high clock clock_then ids ids_then text o n h = record {
+  begin = h.begin;
+  select = h.select;
+  commit = h.commit;
+  taken = h.taken;
+  shown = h.shown;
+  session = session_less catalog old new low high clock clock_then ids ids_then _ o n h.session;
+}
+
+pub not_on : (catalog : List Table) (t : Table) (old new low high : Attached) (clock clock_then : Option (List ℤ)) (ids ids_then : Option (List ℕ)) (cause : ExportRefused) → AreLess low old → AreLess high new
+    → IsNotExported catalog t (record { old = old; new = new; clock = clock; clock_then = clock_then; ids = ids; ids_then = ids_then }) cause → IsNotExported catalog t (record { old = low; new = high; clock = clock; clock_then = clock_then; ids = ids; ids_then = ids_then }) cause
+not_on catalog t old new low high clock clock_then ids ids_then refused.NoMemory o n h = starved_export catalog t _ _ _ o n h
+not_on catalog t old new low high clock clock_then ids ids_then (refused.NotCommitted a) o n h = (
+  h.0,
+  record {
+    es = h.1.es;
+    last = h.1.last;
+    cut = h.1.cut;
+    session = session_less catalog old new low high clock clock_then ids ids_then _ o n h.1.session;
+  },
+)
+
+pub loaded_on : (catalog : List Table) (load : Load) (rows : List (List Value)) (size : ℕ) (old new low high : Attached) (clock clock_then : Option (List ℤ)) (ids ids_then : Option (List ℕ)) (text : List ℕ) → AreLess low old → AreLess high new
+    → IsLoad catalog load rows size (record { old = old; new = new; clock = clock; clock_then = clock_then; ids = ids; ids_then = ids_then }) text → IsLoad catalog load rows size (record { old = low; new = high; clock = clock; clock_then = clock_then; ids = ids; ids_then = ids_then }) text
+loaded_on catalog load rows size old new low high clock clock_then ids ids_then text o n h = record {
+  groups = h.groups;
+  all = h.all;
+  sizes = h.sizes;
+  each = h.each;
+  lines = h.lines;
+  session = session_less catalog old new low high clock clock_then ids ids_then _ o n h.session;
+}
