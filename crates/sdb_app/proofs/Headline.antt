@@ -23,8 +23,8 @@ use Rattle.sdb_model.specs.Follows.{Follows}
 use Rattle.sdb_model.specs.Told.{IsRun}
 use Rattle.sdb_model.specs.Transactions.{Said, is_answered_from_rows, said}
 use Rattle.sdb_spread.specs.Spread.{HoldAs}
-use Rattle.sdb_board.specs.Board.{AreFit, GoOn, HoldTheSame, placed, shown}
-use Rattle.sdb_board.specs.Opening.{first_key, opening_in, opening_records}
+use Rattle.sdb_board.specs.Board.{AreFit, GoOn, HoldTheSame, known_before, placed, shown}
+use Rattle.sdb_board.specs.Opening.{HoldNothing, IsFirstKey, first_key, opening_in, opening_records, run_tables}
 use Rattle.sdb_board.specs.declared.refused.CallRefused.TheVariants as refused
 use Rattle.sdb_board.proofs.Empty.{no_record}
 use Rattle.sdb_board.proofs.GoesOn.{refused_after}
@@ -50,9 +50,11 @@ use Rattle.sdb_app.specs.declared.status.Status.{Status}
 use Rattle.sdb_app.specs.declared.status.Status.TheVariants as status
 use Rattle.sdb_app.specs.Bench.{IsBenched, StopsBench, bench_over}
 use Rattle.sdb_app.specs.Ends.{AreKept, Work}
-use Rattle.sdb_app.specs.Run.{AreReady, CanBePlaced, TellOf, IsFirstFound, IsOutcome, IsPlayed, IsReplayed, IsScriptRead, IsUnread, Stops, StopsPlay, StopsReplay}
+use Rattle.sdb_app.specs.Run.{AreReady, CanBePlaced, TellOf, IsBadAfter, IsBadFound, IsFirstFound, IsFoundIn, IsOutcome, IsPlayed, IsReplayed, IsScriptRead, IsUnread, Stops, StopsPlay, StopsReplay, placed_as}
 use Rattle.sdb_app.specs.Run.StopsReplay.{Unread, Unplayed}
 use Rattle.sdb_app.proofs.Placing.{fit_for}
+use Rattle.sdb_app.proofs.WhereKnown.{first_as, known_from, nothing_as, odd_as, read_as, shows_less, shows_placed}
+use Rattle.sdb_world.specs.Played.{IsReadWhereKnown}
 
 ---- why it stopped
 
@@ -62,14 +64,14 @@ passed_on P (Ok x) e h p = absurd h
 passed_on P (Err y) e h p = subst P (sym h) p
 
 -- what stopped the look for records stopped the whole
-pub stops_as : (old mid left : List Counted) (near far : Type 0) (was found : Key → Type 0) (s : Status) → mid ≡ old → (near → far) → ((key : Key) → was key → found key) → Stops mid left near was s → Stops old left far found s
+pub stops_as : (old mid left : List Counted) (near far was found : Key → Type 0) (s : Status) → mid ≡ old → ((key : Key) → near key → far key) → ((key : Key) → was key → found key) → Stops mid left near was s → Stops old left far found s
 stops_as old mid left near far was found s same f g h = by s h
   where
     by : (s : Status) → Stops mid left near was s → Stops old left far found s
     by status.StoreFault h = subst (λ (x : List Counted). HaveRisen x left) same h
     by status.NoMemory h = tt
     by (status.NotEmpty key) h = g key h
-    by (status.BadStore key) h = f h
+    by (status.BadStore key) h = f key h
     by status.Done h = absurd h
     by status.Usage h = absurd h
     by status.ReadFault h = absurd h
@@ -80,11 +82,11 @@ stops_as old mid left near far was found s same f g h = by s h
     by (status.NotCommitted a) h = absurd h
 
 -- what stopped a later part stopped the whole
-pub stops_after : (old mid : Attached) (left : List Counted) (near far : Type 0) (was found : Key → Type 0) (s : Status) → GoOn old mid → (near → far) → ((key : Key) → was key → found key) → Stops mid.shelves left near was s → Stops old.shelves left far found s
+pub stops_after : (old mid : Attached) (left : List Counted) (near far was found : Key → Type 0) (s : Status) → GoOn old mid → ((key : Key) → near key → far key) → ((key : Key) → was key → found key) → Stops mid.shelves left near was s → Stops old.shelves left far found s
 stops_after old mid left near far was found status.StoreFault goes f g h = refused_after old mid left refused.StoreFault goes h
 stops_after old mid left near far was found status.NoMemory goes f g h = tt
 stops_after old mid left near far was found (status.NotEmpty key) goes f g h = g key h
-stops_after old mid left near far was found (status.BadStore key) goes f g h = f h
+stops_after old mid left near far was found (status.BadStore key) goes f g h = f key h
 stops_after old mid left near far was found status.Done goes f g h = absurd h
 stops_after old mid left near far was found status.Usage goes f g h = absurd h
 stops_after old mid left near far was found status.ReadFault goes f g h = absurd h
@@ -93,6 +95,21 @@ stops_after old mid left near far was found (status.BadInput n line) goes f g h 
 stops_after old mid left near far was found (status.Limit n which) goes f g h = absurd h
 stops_after old mid left near far was found status.NoTable goes f g h = absurd h
 stops_after old mid left near far was found (status.NotCommitted a) goes f g h = absurd h
+
+-- what two clauses say of why it stopped, in one
+pub stops_both : (old left : List Counted) (bad worse both found : Key → Type 0) (s : Status) → ((key : Key) → bad key → worse key → both key) → Stops old left bad found s → Stops old left worse found s → Stops old left both found s
+stops_both old left bad worse both found status.StoreFault f g h = g
+stops_both old left bad worse both found status.NoMemory f g h = tt
+stops_both old left bad worse both found (status.NotEmpty key) f g h = g
+stops_both old left bad worse both found (status.BadStore key) f g h = f key g h
+stops_both old left bad worse both found status.Done f g h = absurd g
+stops_both old left bad worse both found status.Usage f g h = absurd g
+stops_both old left bad worse both found status.ReadFault f g h = absurd g
+stops_both old left bad worse both found status.WriteFault f g h = absurd g
+stops_both old left bad worse both found (status.BadInput n line) f g h = absurd g
+stops_both old left bad worse both found (status.Limit n which) f g h = absurd g
+stops_both old left bad worse both found status.NoTable f g h = absurd g
+stops_both old left bad worse both found (status.NotCommitted a) f g h = absurd g
 
 -- stores that go on from ones that are the same are kept
 pub kept_after : (old mid new : Attached) → mid.shelves ≡ old.shelves → ((at : ℕ) → old.tells at → mid.tells at) → GoOn mid new → AreKept old new
@@ -130,7 +147,7 @@ fit_script script old mid same still f some distinct telling all =
     (tell_on script old mid still telling all)
 
 -- Stores whose tables hold no record are ready: mid are as after the placing, then as after the look for records.
-ready_after : (script : Script) (mid then : Attached) → placed mid.places ≡ script.places → GoOn mid then → AreFit script.catalog mid → first_key (opening_in script.catalog mid) ≡ None → HoldTheSame mid then → AreReady script then
+pub ready_after : (script : Script) (mid then : Attached) → placed mid.places ≡ script.places → GoOn mid then → AreFit script.catalog mid → first_key (opening_in script.catalog mid) ≡ None → HoldTheSame mid then → AreReady script then
 ready_after script mid then same goes fit none quiet = record {
   fit = goes.fit script.catalog fit;
   placed_so = ap placed goes.places ∙ same;
@@ -203,18 +220,19 @@ played_on script old mid then new o same still goes fit none quiet run explained
     explained_now : IsExplained script o.events (shown old.shelves)
     explained_now = subst (λ (ss : List Shelf). IsExplained script o.events ss) (quiet ∙ ap shown still) (explained (ready_after script mid then same goes fit none quiet))
 
-pub outcome_is : (script : Script) (old mid then : Attached) (new : List Counted) (o : Outcome) → placed mid.places ≡ script.places → mid.shelves ≡ old.shelves → GoOn mid then → (TellOf script old → AreFit script.catalog mid)
-    → (AreFit script.catalog mid → first_key (opening_in script.catalog mid) ≡ None) → (AreFit script.catalog mid → HoldTheSame mid then)
-    → Follows script.clients script.moves o.events → IsExecution script o.events → BreaksWithin [] o.events then.shelves new → (AreReady script then → IsRun script (shown then.shelves) (shown new) o) → (AreReady script then → IsExplained script o.events (shown then.shelves)) → IsPlayable script
-    → IsOutcome (TellOf script old) script old.shelves new o
-outcome_is script old mid then new o same still goes fit none quiet follows executed broken run explained playable = record {
+pub outcome_is : (script : Script) (old mid then new : Attached) (o : Outcome) → placed mid.places ≡ script.places → mid.shelves ≡ old.shelves → ((at : ℕ) → old.tells at → mid.tells at) → GoOn mid then → GoOn then new → (TellOf script old → AreFit script.catalog mid)
+    → (AreFit script.catalog mid → first_key (opening_in script.catalog mid) ≡ None) → HoldNothing (run_tables script.catalog) mid → (AreFit script.catalog mid → HoldTheSame mid then) → Follows script.clients script.moves o.events → IsExecution script o.events → BreaksWithin [] o.events then.shelves new.shelves
+    → IsReadWhereKnown script.catalog (known_before then new) o → (AreReady script then → IsRun script (shown then.shelves) (shown new.shelves) o) → (AreReady script then → IsExplained script o.events (shown then.shelves)) → IsPlayable script → IsOutcome script old new.shelves o
+outcome_is script old mid then new o same still telling goes more fit none nothing quiet follows executed broken read run explained playable = record {
   follows = follows;
   executed = executed;
   caused = caused;
   counted = all_counted script.catalog o.events caused.counted (seen_no_faults script.clients script.moves o.events follows);
   resolved = resolved;
-  broken = subst (λ (ss : List Counted). BreaksWithin [] o.events ss new) still (breaks_after [] o.events mid then new goes broken);
-  played = λ all. played_on script old mid then (shown new) o same still goes (fit all) (none (fit all)) (quiet (fit all)) run explained caused (no_coordinator script playable) resolved;
+  broken = subst (λ (ss : List Counted). BreaksWithin [] o.events ss new.shelves) still (breaks_after [] o.events mid then new.shelves goes broken);
+  empty = subst (λ (ss : List Counted). HoldNothing (run_tables script.catalog) (placed_as script old ss)) still (nothing_as (placed_as script old mid.shelves) mid (shows_placed script old mid same telling) (run_tables script.catalog) nothing);
+  read = read_as (placed_as script old new.shelves) (known_before then new) (shows_placed script old (known_before then new) (ap placed (more.places ∙ goes.places) ∙ same) (λ at tells. goes.telling at (telling at tells))) script.catalog o read;
+  played = λ all. played_on script old mid then (shown new.shelves) o same still goes (fit all) (none (fit all)) (quiet (fit all)) run explained caused (no_coordinator script playable) resolved;
 }
   where
     caused : AnswersHaveCauses script.catalog o.events
@@ -223,20 +241,26 @@ outcome_is script old mid then new o same still goes fit none quiet follows exec
     resolved : AreResolved o.events
     resolved = all_resolved o.events caused.rolled (answered_seen script.clients script.moves o.events follows)
 
--- stores that all tell stop nothing
-pub never_foreign : (script : Script) (mid then : Attached) → placed mid.places ≡ script.places → GoOn mid then → AreFit script.catalog mid → first_key (opening_in script.catalog mid) ≡ None → HoldTheSame mid then → (AreReady script then → ⊥) → ⊥
-never_foreign script mid then same goes fit none quiet never = never (ready_after script mid then same goes fit none quiet)
-
 -- the first record is that of the script's tables
-pub found_first : (script : Script) (old mid : Attached) (new : List Shelf) (key : Key) → placed mid.places ≡ script.places → mid.shelves ≡ old.shelves → (first_key (opening_in script.catalog mid) ≡ Some key) × (new ≡ shown mid.shelves) → IsFirstFound script (shown old.shelves) new key
-found_first script old mid new key same still found = record {
-  first = sym (ap (λ (ss : List Shelf). first_key (opening_records script.catalog script.places ss)) (ap shown still)) ∙ sym (ap (λ (xs : List Place). first_key (opening_records script.catalog xs (shown mid.shelves))) same) ∙ found.0;
-  left = found.1 ∙ ap shown still;
+pub found_first : (script : Script) (old mid left : Attached) (key : Key) → placed mid.places ≡ script.places → mid.shelves ≡ old.shelves → ((at : ℕ) → old.tells at → mid.tells at) → (TellOf script old → AreFit script.catalog mid) → IsFoundIn script.catalog mid left key → IsFirstFound script old left.shelves key
+found_first script old mid left key same still telling fit h = record {
+  found = subst (λ (ss : List Counted). IsFirstKey (run_tables script.catalog) (placed_as script old ss) key) still (first_as (placed_as script old mid.shelves) mid (shows_placed script old mid same telling) (run_tables script.catalog) key h.found);
+  known = known_from script old mid left still telling h.known;
+  first = λ all.
+      sym (ap (λ (ss : List Shelf). first_key (opening_records script.catalog script.places ss)) (ap shown still)) ∙ sym (ap (λ (xs : List Place). first_key (opening_records script.catalog xs (shown mid.shelves))) same) ∙ h.first (fit all);
+  still = λ all. h.still (fit all) ∙ ap shown still;
+}
+
+-- the record that is bad in the end is one of the script's tables
+pub found_bad : (script : Script) (old mid then new : Attached) (key : Key) → placed mid.places ≡ script.places → ((at : ℕ) → old.tells at → mid.tells at) → GoOn mid then → GoOn then new → (TellOf script old → AreReady script then) → IsBadAfter script then new key → IsBadFound script old new.shelves key
+found_bad script old mid then new key same telling goes more ready h = record {
+  odd = odd_as (placed_as script old new.shelves) (known_before then new) (shows_placed script old (known_before then new) (ap placed (more.places ∙ goes.places) ∙ same) (λ at tells. goes.telling at (telling at tells))) script.catalog key h.odd;
+  foreign = λ all. h.foreign (ready all);
 }
 
 ---- stores whose places were taken away first
 
-made_of : (script : Script) (before mid : Attached) (new : List Counted) (o : Outcome) → mid.shelves ≡ before.shelves → ((at : ℕ) → before.tells at → mid.tells at) → IsOutcome (TellOf script mid) script mid.shelves new o → IsOutcome (TellOf script before) script before.shelves new o
+made_of : (script : Script) (before mid : Attached) (new : List Counted) (o : Outcome) → mid.shelves ≡ before.shelves → ((at : ℕ) → before.tells at → mid.tells at) → IsOutcome script mid new o → IsOutcome script before new o
 made_of script before mid new o same telling made = record {
   follows = made.follows;
   executed = made.executed;
@@ -244,13 +268,28 @@ made_of script before mid new o same telling made = record {
   counted = made.counted;
   resolved = made.resolved;
   broken = subst (λ (ss : List Counted). BreaksWithin [] o.events ss new) same made.broken;
+  empty = nothing_as (placed_as script before before.shelves) (placed_as script mid mid.shelves) (shows_less (placed_as script before before.shelves) (placed_as script mid mid.shelves) refl (sym same) telling) (run_tables script.catalog) made.empty;
+  read = read_as (placed_as script before new) (placed_as script mid new) (shows_less (placed_as script before new) (placed_as script mid new) refl refl telling) script.catalog o made.read;
   played = λ all. subst (λ (ss : List Counted). IsPlayed script (shown ss) (shown new) o) same (made.played (tell_on script before mid same telling all));
 }
 
 -- what stopped a play
 stops_of : (script : Script) (before mid : Attached) (left : List Counted) (s : Status) → mid.shelves ≡ before.shelves → ((at : ℕ) → before.tells at → mid.tells at) → StopsPlay script mid left s → StopsPlay script before left s
-stops_of script before mid left s same telling h =
-    stops_as before.shelves mid.shelves left _ _ _ _ s same (λ never all. never (tell_on script before mid same telling all)) (λ key found all. subst (λ (ss : List Counted). IsFirstFound script (shown ss) (shown left) key) same (found (tell_on script before mid same telling all))) h
+stops_of script before mid left s same telling h = stops_as before.shelves mid.shelves left _ _ _ _ s same bad found h
+  where
+    bad : (key : Key) → IsBadFound script mid left key → IsBadFound script before left key
+    bad key b = record {
+      odd = odd_as (placed_as script before left) (placed_as script mid left) (shows_less (placed_as script before left) (placed_as script mid left) refl refl telling) script.catalog key b.odd;
+      foreign = λ all. b.foreign (tell_on script before mid same telling all);
+    }
+
+    found : (key : Key) → IsFirstFound script mid left key → IsFirstFound script before left key
+    found key f = record {
+      found = first_as (placed_as script before before.shelves) (placed_as script mid mid.shelves) (shows_less (placed_as script before before.shelves) (placed_as script mid mid.shelves) refl (sym same) telling) (run_tables script.catalog) key f.found;
+      known = known_from script before mid (placed_as script mid left) same telling f.known;
+      first = λ all. sym (ap (λ (ss : List Counted). first_key (opening_records script.catalog script.places (shown ss))) same) ∙ f.first (tell_on script before mid same telling all);
+      still = λ all. f.still (tell_on script before mid same telling all) ∙ ap shown same;
+    }
 
 -- The work of a command, begun with the places that there were before.
 abbrev pub begun_with : Attached → Work → Work
@@ -289,8 +328,8 @@ benched_before before work n answer same telling h = record {
     scripts : script work.old.shelves ≡ script before.shelves
     scripts = ap script same
 
-    made : IsOutcome (TellOf (script before.shelves) before) (script before.shelves) before.shelves work.left h.benched.outcome
-    made = made_of (script before.shelves) before work.old work.left h.benched.outcome same telling (subst (λ (s : Script). IsOutcome (TellOf s work.old) s work.old.shelves work.left h.benched.outcome) scripts h.benched.made)
+    made : IsOutcome (script before.shelves) before work.left h.benched.outcome
+    made = made_of (script before.shelves) before work.old work.left h.benched.outcome same telling (subst (λ (s : Script). IsOutcome s work.old work.left h.benched.outcome) scripts h.benched.made)
 
 pub bench_stops_before : (before : Attached) (work : Work) (n : ℕ) (s : Status) → work.old.shelves ≡ before.shelves → ((at : ℕ) → before.tells at → work.old.tells at) → StopsBench n work s → StopsBench n (begun_with before work) s
 bench_stops_before before work n s same telling h = record {

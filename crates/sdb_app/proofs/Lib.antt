@@ -8,3 +8,4 @@ pub mod Schemas
 pub mod Sessions
 pub mod Loads
 pub mod Promising
+pub mod WhereKnown

@@ -11,7 +11,7 @@ use Rattle.sdb_model.specs.Events.{IsTrace, Shelf}
 use Rattle.sdb_model.specs.Follows.{AreMoved, Follows}
 use Rattle.sdb_model.specs.Told.{IsRun}
 use Rattle.sdb_spread.specs.Spread.{HoldAs}
-use Rattle.sdb_board.specs.Board.{AreFit, GoOn, Refuses, placed, shown}
+use Rattle.sdb_board.specs.Board.{AreFit, GoOn, Refuses, known_before, placed, shown}
 use Rattle.sdb_board.specs.declared.refused.CallRefused.{CallRefused}
 use Rattle.sdb_board.specs.declared.refused.CallRefused.TheVariants as call
 use Rattle.sdb_dump.specs.Refused.{Refuses as ClosingRefuses}
@@ -21,7 +21,9 @@ use Rattle.sdb_world.specs.Broken.{BreaksWithin}
 use Rattle.sdb_world.specs.Explained.{IsExplained}
 use Rattle.sdb_executions.specs.World.{WorldAt, state_of}
 use Rattle.sdb_execution.specs.Execution.{IsExecution, IsInitial}
-use Rattle.sdb_world.specs.Played.{HasNotPlayed, HasPlayed, HasPlayedOn, IsOutcomeOf, IsPlayExplained}
+use Rattle.sdb_world.specs.Played.{HasNotPlayed, HasPlayed, HasPlayedOn, IsOutcomeOf, IsPlayExplained, IsReadWhereKnown}
+use Rattle.sdb_dump.specs.Held.{IsOddIn}
+use Rattle.sdb_app.proofs.WhereKnown.{ShowsAs, odd_as, read_as, shows_less}
 use Rattle.sdb_world.specs.Step.{HasFollowed}
 use Rattle.sdb_world.proofs.Broken.{breaks_more, breaks_still}
 use Rattle.sdb_app.specs.Run.{AreReady, Stops, status_of_call, status_of_closing}
@@ -79,6 +81,20 @@ module _ (script : Script) (w v : WorldAt) (old mid : Attached) (same : w.script
   pub none_played : HasNotPlayed v mid → AreReady script old → ⊥
   none_played never ready = never (shown old.shelves) (played ready)
 
+-- What it has read in the end, and a record that was bad then, seen from its beginning.
+module _ (script : Script) (w v : WorldAt) (old mid : Attached) (same : w.script ≡ script) (came : HasFollowed old mid w v) (goes : GoOn old mid) (new : Attached) where
+  script_is : v.script ≡ script
+  script_is = came.gone.script ∙ same
+
+  seen : ShowsAs (known_before old new) (known_before mid new)
+  seen = shows_less (known_before old new) (known_before mid new) refl refl goes.telling
+
+  pub read_played : (o : Outcome) → IsReadWhereKnown v.script.catalog (known_before mid new) o → IsReadWhereKnown script.catalog (known_before old new) o
+  read_played o h = read_as (known_before old new) (known_before mid new) seen script.catalog o (subst (λ (s : Script). IsReadWhereKnown s.catalog (known_before mid new) o) script_is h)
+
+  pub odd_played : (key : Key) → IsOddIn v.script.catalog (known_before mid new) key → IsOddIn script.catalog (known_before old new) key
+  odd_played key h = odd_as (known_before old new) (known_before mid new) seen script.catalog key (subst (λ (s : Script). IsOddIn s.catalog (known_before mid new) key) script_is h)
+
 -- no more of its calls are Broken than the stores failed
 pub broken_played : (w v : WorldAt) (old mid new : Attached) (events : List Event) → w.events ≡ [] → BreaksWithin w.events v.events old.shelves mid.shelves → GoOn mid new → events ≡ v.events → BreaksWithin [] events old.shelves new.shelves
 broken_played w v old mid new events none h goes is =
@@ -95,18 +111,23 @@ pub err_then : {T E : Type 0} (P Q : E → Type 0) (r : Result T E) → ((e : E)
 err_then P Q (Ok x) f h = tt
 err_then P Q (Err e) f h = f e h
 
--- what five clauses say of a result gives what another says
-pub ok_five : {T E : Type 0} (A B C D F Q : T → Type 0) (r : Result T E) → IfOk r A → IfOk r B → IfOk r C → IfOk r D → IfOk r F → ((x : T) → A x → B x → C x → D x → F x → Q x) → IfOk r Q
-ok_five A B C D F Q (Ok x) a b c d f h = h x a b c d f
-ok_five A B C D F Q (Err e) a b c d f h = tt
+-- what two clauses say of an error gives what another says
+pub err_both : {T E : Type 0} (P Q R : E → Type 0) (r : Result T E) → IfErr r P → IfErr r Q → ((e : E) → P e → Q e → R e) → IfErr r R
+err_both P Q R (Ok x) p q h = tt
+err_both P Q R (Err e) p q h = h e p q
+
+-- what six clauses say of a result gives what another says
+pub ok_six : {T E : Type 0} (A B C D F H Q : T → Type 0) (r : Result T E) → IfOk r A → IfOk r B → IfOk r C → IfOk r D → IfOk r F → IfOk r H → ((x : T) → A x → B x → C x → D x → F x → H x → Q x) → IfOk r Q
+ok_six A B C D F H Q (Ok x) a b c d f h g = g x a b c d f h
+ok_six A B C D F H Q (Err e) a b c d f h g = tt
 
 ---- why it stopped
 
-pub call_stops : (old new : Attached) (foreign : Type 0) (found : Key → Type 0) (e : CallRefused) → Refuses old.shelves new.shelves e → Stops old.shelves new.shelves foreign found (status_of_call e)
+pub call_stops : (old new : Attached) (foreign found : Key → Type 0) (e : CallRefused) → Refuses old.shelves new.shelves e → Stops old.shelves new.shelves foreign found (status_of_call e)
 call_stops old new foreign found call.StoreFault h = h
 call_stops old new foreign found call.NoMemory h = tt
 
-pub closing_stops : (old new : Attached) (bad found : Key → Type 0) (foreign : Type 0) (e : ClosingRefused) → ((key : Key) → bad key → foreign) → ClosingRefuses bad (HaveRisen old.shelves new.shelves) e → Stops old.shelves new.shelves foreign found (status_of_closing e)
+pub closing_stops : (old new : Attached) (bad found foreign : Key → Type 0) (e : ClosingRefused) → ((key : Key) → bad key → foreign key) → ClosingRefuses bad (HaveRisen old.shelves new.shelves) e → Stops old.shelves new.shelves foreign found (status_of_closing e)
 closing_stops old new bad found foreign closing.StoreFault f h = h
 closing_stops old new bad found foreign (closing.BadRecord key) f h = f key h
 closing_stops old new bad found foreign closing.NoMemory f h = tt

@@ -21,7 +21,7 @@ bench_over n stores = bench_script_of n (name_at stores 0) (name_at stores (leng
 -- of a script that was read. Where the stores of its tables have known contents, no pair is uneven.
 pub record IsBenchedOn (n : ℕ) (old : Attached) (left : List Counted) (answer : List ℕ) : Type 0 where
   pub outcome : Outcome
-  pub made : IsOutcome (TellOf (bench_over n (names_of old.shelves)) old) (bench_over n (names_of old.shelves)) old.shelves left outcome
+  pub made : IsOutcome (bench_over n (names_of old.shelves)) old left outcome
   pub text : answer ≡ bench_text_of n outcome
   pub even : TellOf (bench_over n (names_of old.shelves)) old → uneven_of outcome.tables ≡ 0
 

@@ -22,16 +22,18 @@ use Rattle.sdb_script.specs.declared.fault.ScriptRefused.TheVariants.{BadLine, L
 use Rattle.sdb_script.specs.Lines.{most_bytes}
 use Rattle.sdb_script.specs.Whole.{IsScript, IsRefused as IsRefusedText}
 use Rattle.sdb_spread.specs.Spread.{HoldAs, is_played}
-use Rattle.sdb_board.specs.Board.{AreFit, HoldTheSame, placed, shown}
-use Rattle.sdb_board.specs.Opening.{first_key, opening_in, opening_records}
+use Rattle.sdb_board.specs.Board.{AreFit, HoldTheSame, KnownStay, known_before, placed, shown}
+use Rattle.sdb_board.specs.Opening.{HoldNothing, IsFirstKey, first_key, opening_in, opening_records, run_tables}
 use Rattle.sdb_board.specs.declared.refused.CallRefused.{CallRefused}
 use Rattle.sdb_board.specs.declared.refused.CallRefused.TheVariants as call
+use Rattle.sdb_dump.specs.Held.{IsOddIn}
 use Rattle.sdb_dump.specs.declared.refused.ClosingRefused.{ClosingRefused}
 use Rattle.sdb_dump.specs.declared.refused.ClosingRefused.TheVariants as closing
 use Rattle.sdb_causes.specs.Tied.{AnswersHaveCauses}
 use Rattle.sdb_world.specs.Broken.{BreaksWithin}
 use Rattle.sdb_execution.specs.Execution.{IsExecution}
 use Rattle.sdb_world.specs.Explained.{IsExplained, IsShown}
+use Rattle.sdb_world.specs.Played.{IsReadWhereKnown}
 use Rattle.sdb_app.specs.declared.status.InputFault.TheVariants.{Line}
 use Rattle.sdb_app.specs.declared.status.Status.{Status}
 use Rattle.sdb_app.specs.declared.status.Status.TheVariants as status
@@ -60,30 +62,47 @@ pub record IsPlayed (script : Script) (opening closing : List Shelf) (outcome : 
   pub caused : AreCaused script.catalog outcome.events
   pub shown : IsShown script outcome.events opening
 
+-- The stores of a call with the places of a script, when they showed this. Those are known that were known at the entry.
+abbrev pub placed_as : Script → Attached → List Counted → Attached
+placed_as script stores shelves = record { places = map (λ p. record { ns = p.ns; store = p.store }) script.places; shelves = shelves; tells = stores.tells }
+
 -- One outcome of a script on any stores: its events follow the script's moves, and are an execution of its clients: each takes, asks and
--- answers as the protocol says, whatever the stores reply. The answers have their causes among the events, the calls are counted, whoever was answered from rows had each unresolved record that it found rolled first, and no more calls are Broken than the
--- stores failed; and where the stores have known contents, it is that of a run of the script, whose tables were empty.
-pub record IsOutcome (telling : Type 0) (script : Script) (old new : List Counted) (outcome : Outcome) : Type 0 where
+-- answers as the protocol says, whatever the stores reply. The answers have their causes among the events, the calls are counted, whoever was
+-- answered from rows had each unresolved record that it found rolled first, and no more calls are Broken than the stores failed. Of each table
+-- whose store has known contents it is known that it held nothing at the entry, and that its dump is that of what is there in the end. Where all
+-- of them are known, it is the outcome of a run of the script.
+pub record IsOutcome (script : Script) (old : Attached) (new : List Counted) (outcome : Outcome) : Type 0 where
   pub follows : Follows script.clients script.moves outcome.events
   pub executed : IsExecution script outcome.events
   pub caused : AnswersHaveCauses script.catalog outcome.events
   pub counted : AreCounted script.catalog outcome.events
   pub resolved : AreResolved outcome.events
-  pub broken : BreaksWithin [] outcome.events old new
-  pub played : telling → IsPlayed script (shown old) (shown new) outcome
+  pub broken : BreaksWithin [] outcome.events old.shelves new
+  pub empty : HoldNothing (run_tables script.catalog) (placed_as script old old.shelves)
+  pub read : IsReadWhereKnown script.catalog (placed_as script old new) outcome
+  pub played : TellOf script old → IsPlayed script (shown old.shelves) (shown new) outcome
 
 -- A script was read, and this is the report of one outcome of it.
 pub record IsReplayed (work : Work) (report : List ℕ) : Type 0 where
   pub script : Script
   pub read : IsScriptRead (names_of work.old.shelves) work.input.bytes work.rest.bytes script
   pub outcome : Outcome
-  pub made : IsOutcome (TellOf script work.old) script work.old.shelves work.left outcome
+  pub made : IsOutcome script work.old work.left outcome
   pub text : report ≡ report_text_of outcome
 
--- The key is that of the first record in the tables of the script, and the stores hold what they held.
-pub record IsFirstFound (script : Script) (old new : List Shelf) (key : Key) : Type 0 where
-  pub first : first_key (opening_records script.catalog script.places old) ≡ Some key
-  pub left : new ≡ old
+-- The key is that of the first record in the tables of the script, as far as contents are known. Each store of known contents holds what it
+-- held, and all hold what they held, where those of the script's tables are known.
+pub record IsFirstFound (script : Script) (old : Attached) (left : List Counted) (key : Key) : Type 0 where
+  pub found : IsFirstKey (run_tables script.catalog) (placed_as script old old.shelves) key
+  pub known : KnownStay old (placed_as script old left)
+  pub first : TellOf script old → first_key (opening_records script.catalog script.places (shown old.shelves)) ≡ Some key
+  pub still : TellOf script old → shown left ≡ shown old.shelves
+
+-- The record at the key breaks the rules of its table, as far as contents are known; which comes only where some store of the script's tables
+-- is not known.
+pub record IsBadFound (script : Script) (old : Attached) (left : List Counted) (key : Key) : Type 0 where
+  pub odd : IsOddIn script.catalog (placed_as script old left) key
+  pub foreign : TellOf script old → ⊥
 
 -- Bytes that were read of the input are no script over these stores, for that cause: they are all of it, or more than are read of a
 -- script, and the rest is left.
@@ -134,30 +153,39 @@ pub record AreReady (script : Script) (stores : Attached) : Type 0 where
   pub placed_so : placed stores.places ≡ script.places
   pub nothing : HoldAs script.catalog script.places (shown stores.shelves) empty
 
--- The key is that of the first record of a catalog's tables, and the stores hold what they held, where they are fit for a run.
-abbrev pub IsFoundIn : List Table → Attached → Attached → Key → Type 0
-IsFoundIn catalog old new key = AreFit catalog old → (first_key (opening_in catalog old) ≡ Some key) × HoldTheSame old new
+-- The key is that of the first record of a catalog's tables, as far as contents are known, and where the stores are fit for a run, of all;
+-- and the stores hold what they held.
+pub record IsFoundIn (catalog : List Table) (old new : Attached) (key : Key) : Type 0 where
+  pub found : IsFirstKey (run_tables catalog) old key
+  pub known : KnownStay old new
+  pub first : AreFit catalog old → first_key (opening_in catalog old) ≡ Some key
+  pub still : AreFit catalog old → HoldTheSame old new
 
--- Why a script was not played to its end.
-abbrev pub Stops : List Counted → List Counted → Type 0 → (Key → Type 0) → Status → Type 0
-Stops old left foreign found status.StoreFault = HaveRisen old left
-Stops old left foreign found status.NoMemory = Unit {0}
-Stops old left foreign found (status.NotEmpty key) = found key
-Stops old left foreign found (status.BadStore key) = foreign
-Stops old left foreign found _ = ⊥
+-- Why a script was not played to its end, where such records are bad, and such are found.
+abbrev pub Stops : List Counted → List Counted → (Key → Type 0) → (Key → Type 0) → Status → Type 0
+Stops old left bad found status.StoreFault = HaveRisen old left
+Stops old left bad found status.NoMemory = Unit {0}
+Stops old left bad found (status.NotEmpty key) = found key
+Stops old left bad found (status.BadStore key) = bad key
+Stops old left bad found _ = ⊥
 
 -- Why the look for records stopped.
 abbrev pub StopsLook : List Table → Attached → Attached → Status → Type 0
-StopsLook catalog old new = Stops old.shelves new.shelves ⊥ (IsFoundIn catalog old new)
+StopsLook catalog old new = Stops old.shelves new.shelves (λ key. ⊥) (IsFoundIn catalog old new)
+
+-- The record at the key breaks the rules of its table, as far as contents are known, and the stores were not ready for the script.
+pub record IsBadAfter (script : Script) (old new : Attached) (key : Key) : Type 0 where
+  pub odd : IsOddIn script.catalog (known_before old new) key
+  pub foreign : AreReady script old → ⊥
 
 -- Why a script that was placed was not played to its end.
 abbrev pub StopsWorld : Script → Attached → Attached → Status → Type 0
-StopsWorld script old new = Stops old.shelves new.shelves (AreReady script old → ⊥) (λ key. ⊥)
+StopsWorld script old new = Stops old.shelves new.shelves (IsBadAfter script old new) (λ key. ⊥)
 
--- Why a script was not played to its end: a fault raised the count of the stores, or memory ran out. Not empty names the first record
--- in its tables, where their stores have known contents; a bad record comes only where some of them has none.
+-- Why a script was not played to its end: a fault raised the count of the stores, or memory ran out; or a table was not empty, or a record
+-- was bad in the end.
 abbrev pub StopsPlay : Script → Attached → List Counted → Status → Type 0
-StopsPlay script old left = Stops old.shelves left (TellOf script old → ⊥) (λ key. TellOf script old → IsFirstFound script (shown old.shelves) (shown left) key)
+StopsPlay script old left = Stops old.shelves left (IsBadFound script old left) (IsFirstFound script old left)
 
 -- Why `replay` has no report: no script was read, and the stores are as they were; or one was, and it was not played to its end.
 pub data StopsReplay (work : Work) (s : Status) : Type 0 where

@@ -3,16 +3,17 @@ ghost use Rattle.std.specs.Prelude.{◌≡◌, ◌<◌, [], length, Some, None, 
 ghost use Rattle.sdb_stores.specs.Shelf.{AreDistinct, names_of};
 ghost use Rattle.sdb_model.specs.Follows.{Follows};
 ghost use Rattle.sdb_model.specs.Told.{IsRun};
-ghost use Rattle.sdb_board.specs.Board.{AreFit, GoOn, HoldTheSame, shown};
-ghost use Rattle.sdb_board.specs.Opening.{first_key, opening_in};
+ghost use Rattle.sdb_board.specs.Board.{AreFit, GoOn, HoldTheSame, known_before, shown};
+ghost use Rattle.sdb_board.specs.Opening.{HoldNothing, first_key, opening_in, run_tables};
+ghost use Rattle.sdb_dump.specs.Held.{IsOddIn};
 ghost use Rattle.sdb_world.specs.Broken.{BreaksWithin};
 ghost use Rattle.sdb_execution.specs.Execution.{IsExecution, IsPlayable};
 ghost use Rattle.sdb_world.specs.Explained.{IsExplained};
-ghost use Rattle.sdb_world.specs.Played.{HasNotPlayed, IsOutcomeOf, IsPlayExplained};
+ghost use Rattle.sdb_world.specs.Played.{HasNotPlayed, IsOutcomeOf, IsPlayExplained, IsReadWhereKnown};
 ghost use Rattle.sdb_executions.specs.World.{IsWorld};
 ghost use Rattle.sdb_world.specs.Step.{CanFollow};
 ghost use Rattle.sdb_app.specs.Ends.{AreKept};
-ghost use Rattle.sdb_app.specs.Run.{AreReady, CanBePlaced, IsOutcome, Stops, StopsLook, StopsPlay, StopsWorld, TellOf, status_of_call, status_of_closing};
+ghost use Rattle.sdb_app.specs.Run.{AreReady, CanBePlaced, IsOutcome, Stops, StopsLook, StopsPlay, StopsWorld, status_of_call, status_of_closing};
 
 use crate::places::place_all;
 use crate::status::Status;
@@ -61,7 +62,8 @@ fn closing_status(refused: ClosingRefused) -> Status
 fn be_empty<R: Registry>(alloc: Global, stores: &mut R, catalog: &Catalog) -> Result<(), Status>
     requires some { 0 < length (R.state stores.old).shelves }
     ensures empty { OnOk result (AreFit catalog.now (R.state stores.old) → first_key (opening_in catalog.now (R.state stores.old)) ≡ None) }
-    ensures still { OnOk result (AreFit catalog.now (R.state stores.old) → HoldTheSame (R.state stores.old) (R.state stores.new)) }
+    ensures none { OnOk result (HoldNothing (run_tables catalog.now) (R.state stores.old)) }
+    ensures still { AreFit catalog.now (R.state stores.old) → HoldTheSame (R.state stores.old) (R.state stores.new) }
     ensures goes { GoOn (R.state stores.old) (R.state stores.new) }
     ensures err { IfErr result (StopsLook catalog.now (R.state stores.old) (R.state stores.new)) }
 {
@@ -79,8 +81,10 @@ fn ended<R: Registry>(alloc: Global, stores: &mut R, world: World) -> Result<Out
     ensures events { IfOk result (λ o. o.events ≡ world.events) }
     ensures explained { IfOk result (λ o. IsPlayExplained world (R.state stores.old) o.events) }
     ensures run { IfOk result (IsOutcomeOf world (R.state stores.old) (R.state stores.new)) }
+    ensures read { IfOk result (IsReadWhereKnown world.script.catalog (known_before (R.state stores.old) (R.state stores.new))) }
     ensures goes { GoOn (R.state stores.old) (R.state stores.new) }
-    ensures err { IfErr result (Stops (R.state stores.old).shelves (R.state stores.new).shelves (HasNotPlayed world (R.state stores.old)) (λ key. ⊥)) }
+    ensures err { IfErr result (Stops (R.state stores.old).shelves (R.state stores.new).shelves (λ key. HasNotPlayed world (R.state stores.old)) (λ key. ⊥)) }
+    ensures bad { IfErr result (Stops (R.state stores.old).shelves (R.state stores.new).shelves (IsOddIn world.script.catalog (known_before (R.state stores.old) (R.state stores.new))) (λ key. ⊥)) }
 {
     match world.outcome(alloc, stores) {
         Ok(outcome) => Ok(outcome),
@@ -97,6 +101,7 @@ fn run_world<R: Registry>(alloc: Global, stores: &mut R, script: Script) -> Resu
     ensures executed { IfOk result (λ o. IsExecution script o.events) }
     ensures broken { IfOk result (λ o. BreaksWithin [] o.events (R.state stores.old).shelves (R.state stores.new).shelves) }
     ensures explained { IfOk result (λ o. AreReady script (R.state stores.old) → IsExplained script o.events (shown (R.state stores.old).shelves)) }
+    ensures read { IfOk result (IsReadWhereKnown script.catalog (known_before (R.state stores.old) (R.state stores.new))) }
     ensures run { IfOk result (λ o. AreReady script (R.state stores.old) → IsRun script (shown (R.state stores.old).shelves) (shown (R.state stores.new).shelves) o) }
     ensures goes { GoOn (R.state stores.old) (R.state stores.new) }
     ensures err { IfErr result (StopsWorld script (R.state stores.old) (R.state stores.new)) }
@@ -115,7 +120,7 @@ pub fn play<R: Registry>(alloc: Global, stores: &mut R, script: Script) -> Resul
     requires playable { IsPlayable script }
     requires can { CanFollow script }
     requires places { CanBePlaced (names_of (R.state stores.old).shelves) script.places }
-    ensures made { IfOk result (IsOutcome (TellOf script (R.state stores.old)) script (R.state stores.old).shelves (R.state stores.new).shelves) }
+    ensures made { IfOk result (IsOutcome script (R.state stores.old) (R.state stores.new).shelves) }
     ensures err { IfErr result (StopsPlay script (R.state stores.old) (R.state stores.new).shelves) }
     ensures kept { AreKept (R.state stores.old) (R.state stores.new) }
 {

@@ -4,7 +4,7 @@ use Rattle.sdb_model.specs.declared.script.Script.{Script}
 use Rattle.sdb_execution.specs.Execution.{IsPlayable}
 use Rattle.sdb_world.specs.Step.{CanFollow}
 use Rattle.sdb_app.specs.Bench.{bench_over}
-use Rattle.sdb_app.specs.Run.{CanBePlaced, IsOutcome, StopsPlay, TellOf}
+use Rattle.sdb_app.specs.Run.{CanBePlaced, IsOutcome, StopsPlay}
 use Rattle.sdb_app.proofs.BenchPlayable.{benched_on, followable, placed_over, playable}
 use Rattle.sdb_app.proofs.Playing.{ok_then}
 use Rattle.sdb_app.proofs.bench.bench.Goals as goal
@@ -27,7 +27,7 @@ returns-in-Ok-play-clause-answered g c =
     let new = g.S.Registry.state c.play.new.stores in
     let names = names_of old.shelves in
     let same : c.in-Ok.script ≡ bench_over c.args.n names = c.in-Ok.ensures ∙ ap (bench_over c.args.n) c.requires.names in
-    let made = subst (λ (s : Script). IsOutcome (TellOf s old) s old.shelves new.shelves c.in-Ok-play.outcome) same c.in-Ok-play.ensures.made in
+    let made = subst (λ (s : Script). IsOutcome s old new.shelves c.in-Ok-play.outcome) same c.in-Ok-play.ensures.made in
     ok_then _ _ c.text_of.result (λ text is. benched_on c.args.n old new.shelves c.in-Ok-play.outcome text made is (λ first last opening closing run. c.runs_are_even.ensures c.args.n first last opening closing c.in-Ok-play.outcome run)) c.text_of.ensures.ok
 
 pub returns-in-Err-clause-err : goal.returns-in-Err-clause-err

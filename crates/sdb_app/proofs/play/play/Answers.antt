@@ -2,9 +2,9 @@ use Rattle.std.proofs.Common.{List, ◌<◌, length, subst, sym}
 use Rattle.sdb_stores.specs.Shelf.{Shelf as Counted}
 use Rattle.sdb_board.specs.Board.{shown}
 use Rattle.sdb_board.proofs.GoesOn.{goes_more, some_more}
-use Rattle.sdb_app.specs.Run.{TellOf}
-use Rattle.sdb_app.proofs.Headline.{kept_after, stops_after, stops_as, fit_script, outcome_is, never_foreign, found_first}
-use Rattle.sdb_app.proofs.Playing.{err_then, ok_five}
+use Rattle.sdb_app.specs.Run.{IsBadFound}
+use Rattle.sdb_app.proofs.Headline.{kept_after, stops_after, stops_as, fit_script, outcome_is, ready_after, found_bad, found_first}
+use Rattle.sdb_app.proofs.Playing.{err_then, ok_six}
 use Rattle.sdb_app.proofs.play.play.Goals as goal
 
 ---- places for which there is no memory
@@ -18,9 +18,10 @@ pub returns-in-Err-clause-err : goal.returns-in-Err-clause-err
 returns-in-Err-clause-err g c =
     let old = g.R.Registry.state c.args.stores.now in
     let mid = g.R.Registry.state c.place_all.new.stores in
-    let left = (g.R.Registry.state c.be_empty.new.stores).shelves in
-    stops_as old.shelves mid.shelves left _ _ _ _ c.in-Err.status c.place_all.ensures.stores (λ never. absurd never)
-    (λ key found all. found_first c.args.script old mid (shown left) key c.in-Ok.ensures.places c.place_all.ensures.stores (found (fit_script c.args.script old mid c.in-Ok.ensures.places c.place_all.ensures.stores c.requires.places c.requires.some c.requires.distinct c.place_all.ensures.telling all)))
+    let left = g.R.Registry.state c.be_empty.new.stores in
+    stops_as old.shelves mid.shelves left.shelves _ _ _ _ c.in-Err.status c.place_all.ensures.stores (λ key never. absurd never)
+    (λ key found. found_first c.args.script old mid left key c.in-Ok.ensures.places c.place_all.ensures.stores c.place_all.ensures.telling
+    (λ all. fit_script c.args.script old mid c.in-Ok.ensures.places c.place_all.ensures.stores c.requires.places c.requires.some c.requires.distinct c.place_all.ensures.telling all) found)
     c.in-Err.ensures.err
 
 ---- an outcome, or why there is none
@@ -30,23 +31,26 @@ returns-in-Ok-be_empty-clause-made g c =
     let old = g.R.Registry.state c.args.stores.now in
     let mid = g.R.Registry.state c.place_all.new.stores in
     let then = g.R.Registry.state c.be_empty.new.stores in
-    ok_five _ _ _ _ _ _ c.run_world.result c.run_world.ensures.follows c.run_world.ensures.executed c.run_world.ensures.broken c.run_world.ensures.run c.run_world.ensures.explained
-    (λ o follows executed broken run explained. outcome_is c.args.script old mid then (g.R.Registry.state c.run_world.new.stores).shelves o c.in-Ok.ensures.places c.place_all.ensures.stores c.in-Ok-be_empty.ensures.goes
-    (λ all. fit_script c.args.script old mid c.in-Ok.ensures.places c.place_all.ensures.stores c.requires.places c.requires.some c.requires.distinct c.place_all.ensures.telling all) c.in-Ok-be_empty.ensures.empty c.in-Ok-be_empty.ensures.still follows executed broken run explained c.requires.playable)
+    let ran = c.run_world.ensures in
+    ok_six _ _ _ _ _ _ _ c.run_world.result ran.follows ran.executed ran.broken ran.read ran.run ran.explained
+    (λ o follows executed broken read run explained. outcome_is c.args.script old mid then (g.R.Registry.state c.run_world.new.stores) o c.in-Ok.ensures.places c.place_all.ensures.stores c.place_all.ensures.telling c.in-Ok-be_empty.ensures.goes ran.goes
+    (λ all. fit_script c.args.script old mid c.in-Ok.ensures.places c.place_all.ensures.stores c.requires.places c.requires.some c.requires.distinct c.place_all.ensures.telling all) c.in-Ok-be_empty.ensures.empty c.in-Ok-be_empty.ensures.none c.in-Ok-be_empty.ensures.still follows executed broken read run explained c.requires.playable)
 
 pub returns-in-Ok-be_empty-clause-err : goal.returns-in-Ok-be_empty-clause-err
 returns-in-Ok-be_empty-clause-err g c =
     let old = g.R.Registry.state c.args.stores.now in
     let mid = g.R.Registry.state c.place_all.new.stores in
     let then = g.R.Registry.state c.be_empty.new.stores in
-    let left = (g.R.Registry.state c.run_world.new.stores).shelves in
+    let new = g.R.Registry.state c.run_world.new.stores in
     let empty = c.in-Ok-be_empty.ensures in
+    let script = c.args.script in
     err_then _ _ c.run_world.result
-    (λ s h. stops_as old.shelves mid.shelves left (TellOf c.args.script old → ⊥) _ (λ key. ⊥) _ s c.place_all.ensures.stores (λ x. x) (λ key never. absurd never)
-    (stops_after mid then left _ (TellOf c.args.script old → ⊥) (λ key. ⊥) (λ key. ⊥) s empty.goes
-    (λ never all.
-    let fit = fit_script c.args.script old mid c.in-Ok.ensures.places c.place_all.ensures.stores c.requires.places c.requires.some c.requires.distinct c.place_all.ensures.telling all in
-    never_foreign c.args.script mid then c.in-Ok.ensures.places empty.goes fit (empty.empty fit) (empty.still fit) never)
+    (λ s h. stops_as old.shelves mid.shelves new.shelves (IsBadFound script old new.shelves) (IsBadFound script old new.shelves) (λ key. ⊥) _ s c.place_all.ensures.stores (λ key x. x) (λ key never. absurd never)
+    (stops_after mid then new.shelves _ (IsBadFound script old new.shelves) (λ key. ⊥) (λ key. ⊥) s empty.goes
+    (λ key bad. found_bad script old mid then new key c.in-Ok.ensures.places c.place_all.ensures.telling empty.goes c.run_world.ensures.goes
+    (λ all.
+    let fit = fit_script script old mid c.in-Ok.ensures.places c.place_all.ensures.stores c.requires.places c.requires.some c.requires.distinct c.place_all.ensures.telling all in
+    ready_after script mid then c.in-Ok.ensures.places empty.goes fit (empty.empty fit) (empty.still fit)) bad)
     (λ key never. never) h)) c.run_world.ensures.err
 
 pub returns-in-Ok-be_empty-clause-kept : goal.returns-in-Ok-be_empty-clause-kept

@@ -2,10 +2,13 @@ use Rattle.std.proofs.Common.{subst, sym}
 use Rattle.std.proofs.lemmas.Result.{IfOk-from_err}
 use Rattle.sdb_model.specs.declared.script.Script.{Script}
 use Rattle.sdb_board.proofs.GoesOn.{goes_more, goes_none, some_more}
+use Rattle.sdb_board.specs.Board.{known_before}
+use Rattle.sdb_dump.specs.Held.{IsOddIn}
+use Rattle.sdb_world.specs.Played.{HasNotPlayed}
 use Rattle.sdb_world.specs.Step.{CanFollow}
 use Rattle.sdb_app.specs.declared.status.Status.TheVariants as status
-use Rattle.sdb_app.proofs.Headline.{passed_on, stops_after}
-use Rattle.sdb_app.proofs.Playing.{broken_played, err_then, executed_played, explained_played, none_played, ok_then, run_played}
+use Rattle.sdb_app.proofs.Headline.{passed_on, stops_after, stops_both}
+use Rattle.sdb_app.proofs.Playing.{broken_played, err_both, executed_played, explained_played, none_played, odd_played, ok_then, read_played, run_played}
 use Rattle.sdb_app.proofs.play.run_world.Goals as goal
 
 ---- a world for which there is no memory
@@ -21,6 +24,9 @@ returns-in_err-world-clause-broken g c = IfOk-from_err c.from_residual.result _ 
 
 pub returns-in_err-world-clause-explained : goal.returns-in_err-world-clause-explained
 returns-in_err-world-clause-explained g c = IfOk-from_err c.from_residual.result _ c.from_residual.ensures.0
+
+pub returns-in_err-world-clause-read : goal.returns-in_err-world-clause-read
+returns-in_err-world-clause-read g c = IfOk-from_err c.from_residual.result _ c.from_residual.ensures.0
 
 pub returns-in_err-world-clause-run : goal.returns-in_err-world-clause-run
 returns-in_err-world-clause-run g c = IfOk-from_err c.from_residual.result _ c.from_residual.ensures.0
@@ -45,6 +51,9 @@ returns-in_err-follow-clause-broken g c = IfOk-from_err c.from_residual-in_err-f
 pub returns-in_err-follow-clause-explained : goal.returns-in_err-follow-clause-explained
 returns-in_err-follow-clause-explained g c = IfOk-from_err c.from_residual-in_err-follow.result _ c.from_residual-in_err-follow.ensures.0
 
+pub returns-in_err-follow-clause-read : goal.returns-in_err-follow-clause-read
+returns-in_err-follow-clause-read g c = IfOk-from_err c.from_residual-in_err-follow.result _ c.from_residual-in_err-follow.ensures.0
+
 pub returns-in_err-follow-clause-run : goal.returns-in_err-follow-clause-run
 returns-in_err-follow-clause-run g c = IfOk-from_err c.from_residual-in_err-follow.result _ c.from_residual-in_err-follow.ensures.0
 
@@ -64,6 +73,15 @@ returns-clause-run g c =
     let mid = g.R.Registry.state c.follow.new.stores in
     ok_then _ _ c.ended.result
     (λ o. run_played c.args.script c.in_ok-world.world c.follow.new.self old mid before.script before.events before.initial made.come made.goes (g.R.Registry.state c.ended.new.stores) o) c.ended.ensures.run
+
+pub returns-clause-read : goal.returns-clause-read
+returns-clause-read g c =
+    let before = c.in_ok-world.ensures in
+    let made = c.in_ok-follow.ensures in
+    let old = g.R.Registry.state c.args.stores.now in
+    let mid = g.R.Registry.state c.follow.new.stores in
+    let new = g.R.Registry.state c.ended.new.stores in
+    ok_then _ _ c.ended.result (λ o. read_played c.args.script c.in_ok-world.world c.follow.new.self old mid before.script made.come made.goes new o) c.ended.ensures.read
 
 pub returns-clause-explained : goal.returns-clause-explained
 returns-clause-explained g c =
@@ -94,8 +112,15 @@ returns-clause-err g c =
     let made = c.in_ok-follow.ensures in
     let old = g.R.Registry.state c.args.stores.now in
     let mid = g.R.Registry.state c.follow.new.stores in
-    err_then _ _ c.ended.result
-    (λ s. stops_after old mid (g.R.Registry.state c.ended.new.stores).shelves _ _ _ _ s made.goes (none_played c.args.script c.in_ok-world.world c.follow.new.self old mid before.script before.events before.initial made.come made.goes) (λ key never. never)) c.ended.ensures.err
+    let new = g.R.Registry.state c.ended.new.stores in
+    let script = c.args.script in
+    err_both _ _ _ c.ended.result c.ended.ensures.bad c.ended.ensures.err
+    (λ s odd unplayed. stops_after old mid new.shelves _ _ _ _ s made.goes
+    (λ key both. record {
+      odd = odd_played script c.in_ok-world.world c.follow.new.self old mid before.script made.come made.goes new key both.0;
+      foreign = none_played script c.in_ok-world.world c.follow.new.self old mid before.script before.events before.initial made.come made.goes both.1;
+    }) (λ key never. never)
+    (stops_both mid.shelves new.shelves _ _ (λ key. IsOddIn c.follow.new.self.script.catalog (known_before mid new) key × HasNotPlayed c.follow.new.self mid) (λ key. ⊥) s (λ key o n. (o, n)) odd unplayed))
 
 ---- what the calls require
 
