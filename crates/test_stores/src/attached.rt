@@ -15,8 +15,8 @@ fn attach(alloc: Global, stores: &mut Stores, name: &str, store: Box<dyn Store>)
     }
 }
 
-// A store that fails at these calls.
-fn attach_failing(alloc: Global, stores: &mut Stores, name: &str, failing: &[Failing]) -> bool {
+/// Attaches a store in memory that fails at these calls.
+pub fn attach_failing(alloc: Global, stores: &mut Stores, name: &str, failing: &[Failing]) -> bool {
     if let Ok(fails) = Fails::from_slice(alloc, failing)
         && let Ok(store) = Box::new(alloc, Ordered::new(alloc, fails))
     {

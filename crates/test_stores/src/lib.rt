@@ -15,3 +15,5 @@ mod catalog;
 mod foreign;
 #[cfg(test)]
 mod registry;
+#[cfg(test)]
+mod retire;
