@@ -171,8 +171,8 @@ calls_stay c events e s a is l =
         ∙ append-nil (filter (within_said s) (calls_by events c))
 
 -- each of them is within the events
-pub calls_of_within : (c : ℕ) (events : List Event) (s : Said) (a : Answer) → s.answer ≡ Some a → s.reached ≤ length events → (m : Made) → Contains (calls_of events c s) m → m.at ≤ length events
-calls_of_within c events s a is l m has = bound (each_in (λ (x : Made). x.at < 1 + length events) (calls_by events c) m (calls_within c events) (kept_in (λ (x : Made). nat_lt s.taken x.at && nat_le x.at (end_of events s)) (calls_by events c) m has))
+pub of_within : (c : ℕ) (events : List Event) (s : Said) (m : Made) → Contains (calls_of events c s) m → m.at ≤ length events
+of_within c events s m has = bound (each_in (λ (x : Made). x.at < 1 + length events) (calls_by events c) m (calls_within c events) (kept_in (λ (x : Made). nat_lt s.taken x.at && nat_le x.at (end_of events s)) (calls_by events c) m has))
   where
     bound : m.at < 1 + length events → m.at ≤ length events
     bound h = omega arith

@@ -25,7 +25,7 @@ use Rattle.sdb_types.proofs.Basics.{none_some, some_is}
 use Rattle.sdb_causes.specs.Tied.{CanTell, IsAnswered, IsWaiting}
 use Rattle.sdb_causes.proofs.Lists.{ending_front, ending_stays, kept_in}
 use Rattle.sdb_causes.proofs.Passing.{Grows, pass_stays}
-use Rattle.sdb_causes.proofs.Calls.{before_same, calls_stay, calls_of_within, clock_same, within_more}
+use Rattle.sdb_causes.proofs.Calls.{before_same, calls_stay, clock_same, of_within, within_more}
 use Rattle.sdb_types.specs.Replies.{is_fault}
 
 ---- the COMMIT of a transaction
@@ -97,7 +97,7 @@ caused_stays catalog c events e s (answer.Duplicate key) k t h = h
 caused_stays catalog c events e s (answer.Busy key id at) k t h = busy (sym (calls_stay c events e s (answer.Busy key id at) k.is k.answered))
   where
     within : h.early.asked.at ≤ length events
-    within = omega (arith, calls_of_within c events s (answer.Busy key id at) k.is k.answered h.early.asked (after_in h.read.at (calls_of events c s) h.early.asked h.early.asks.0))
+    within = omega (arith, of_within c events s h.early.asked (after_in h.read.at (calls_of events c s) h.early.asked h.early.asks.0))
       where
         after_in : (n : ℕ) (ms : List Made) (m : Made) → Contains (calls_after n ms) m → Contains ms m
         after_in n ms m has = kept_in (λ (x : Made). nat_lt n x.at) ms m has

@@ -1,6 +1,6 @@
 -- The unresolved records that a client's statements found are dealt with, as events come, and what follows of them.
-use Rattle.std.proofs.Common.{◌≡◌, ◌≤◌, ◌<◌, ◌+◌, ◌⊎◌, inl, inr, ℕ, ℤ, Bool, true, false, List, [], ◌∷◌, ◌++◌, length, Option, Some, None, refl, sym, ap, subst, ◌∙◌, arith}
-use Rattle.std.specs.Prelude.{◌&&◌, nat_le, nat_lt, is_some, IfSome, Contains}
+use Rattle.std.proofs.Common.{◌≡◌, ◌≤◌, ◌+◌, ◌⊎◌, inl, inr, ℕ, ℤ, Bool, true, false, List, [], ◌∷◌, ◌++◌, length, Option, Some, None, refl, sym, ap, subst, ◌∙◌, arith}
+use Rattle.std.specs.Prelude.{nat_lt, is_some, IfSome, Contains}
 use Rattle.std.specs.List.{AllByRecursion}
 use Rattle.std.proofs.lemmas.List.Elements.{Contains-append_cases, Contains-push_cases}
 use Rattle.sdb_types.specs.declared.record.Record.{Record}
@@ -9,7 +9,7 @@ use Rattle.sdb_record.specs.Coordinator.{is_expired}
 use Rattle.sdb_schema.specs.declared.table.Table.{Table}
 use Rattle.sdb_model.specs.declared.answer.Answer.{Answer}
 use Rattle.sdb_model.specs.declared.event.Event.{Event}
-use Rattle.sdb_model.specs.Calls.{Made, calls_after, calls_by, calls_of, end_of}
+use Rattle.sdb_model.specs.Calls.{Made, calls_after, calls_of}
 use Rattle.sdb_model.specs.Counted.{AreResolved, IsPassedOver, IsResolved}
 use Rattle.sdb_model.specs.Sql.{reads_vacuum}
 use Rattle.sdb_model.specs.Transactions.{Said, is_answered_from_rows, said}
@@ -29,15 +29,8 @@ use Rattle.sdb_vacuum.specs.Vacuum.{VacuumAt, VacuumStage}
 use Rattle.sdb_client.specs.Client.{ClientAt}
 use Rattle.sdb_causes.specs.Rolled.{AnsweredWereSeen, DoingRolls, IsDealtWith, IsRolledBy, IsRolledIn, ReadRolls, RecordsAreRolled, RolledBut, RollsBy, SweepRolls, WaitRolls}
 use Rattle.sdb_causes.specs.Tied.{AreTied, IsAnswered, IsWaiting, Knows}
-use Rattle.sdb_causes.proofs.Calls.{calls_stay, calls_within, clock_same}
+use Rattle.sdb_causes.proofs.Calls.{calls_stay, clock_same, of_within}
 use Rattle.sdb_causes.proofs.Lists.{each_in, kept_in}
-
--- each call of a statement is within the events
-of_within : (c : ℕ) (events : List Event) (s : Said) (m : Made) → Contains (calls_of events c s) m → m.at ≤ length events
-of_within c events s m has = bound (each_in (λ (x : Made). x.at < 1 + length events) (calls_by events c) m (calls_within c events) (kept_in (λ (x : Made). nat_lt s.taken x.at && nat_le x.at (end_of events s)) (calls_by events c) m has))
-  where
-    bound : m.at < 1 + length events → m.at ≤ length events
-    bound h = omega arith
 
 after_in : (n : ℕ) (ms : List Made) (m : Made) → Contains (calls_after n ms) m → Contains ms m
 after_in n ms m has = kept_in (λ (x : Made). nat_lt n x.at) ms m has

@@ -82,7 +82,7 @@ back_rolls rec meta d w =
     undone (Some b) = refl
 
 -- a recovery reads no rows of tables
-recovery_unread : (rec : Record) (meta : Meta) (p : RecoverPhase) (m : Made) → recover_request_at rec meta p ≡ Some m.request → reads_rows m ≡ false
+pub recovery_unread : (rec : Record) (meta : Meta) (p : RecoverPhase) (m : Made) → recover_request_at rec meta p ≡ Some m.request → reads_rows m ≡ false
 recovery_unread rec meta phase.Look m e = look_rows m meta.id (sym (some_is (look_of meta.id) m.request e))
 recovery_unread rec meta (phase.Abort n) m e = unread_rows m (ap is_read (sym (some_is (abort_of meta.id n) m.request e)))
 recovery_unread rec meta phase.Again m e = look_rows m meta.id (sym (some_is (look_of meta.id) m.request e))

@@ -26,7 +26,7 @@ use Rattle.sdb_execution.specs.Execution.{AreFresh, IsGateAt, IsPlayable, moved_
 use Rattle.sdb_executions.specs.World.{WorldAt, at_moment, hand_in, hands_of, with_event, with_seat}
 use Rattle.sdb_executions.specs.Linked.{HaveCauses, IsLinked, on_one}
 use Rattle.sdb_executions.proofs.Linked.{fresh_hand, on_hand}
-use Rattle.sdb_executions.proofs.Seats.{hands_moved}
+use Rattle.sdb_executions.proofs.Seats.{hands_moved, suc_is}
 use Rattle.sdb_executions.proofs.Gates.{gated_at}
 
 -- what is so of clients that are in the same place
@@ -92,6 +92,3 @@ gated_by gate seats i h = record {
   some = λ e. let x = h.opened e in let k = open_hand (slice_get seats x.0) (suc x.0) x.2 in (suc x.0, (λ n. x.1 (suc_is x.0 i n)), k.0, k.1);
   none = λ e d n goes. ap is_some ((gated_at gate seats i h).opens e d n goes);
 }
-  where
-    suc_is : (i j : ℕ) → suc i ≡ suc j → i ≡ j
-    suc_is i j e = cc

@@ -1,6 +1,6 @@
 -- Who writes another transaction's row puts it ABORTED, and had found a record of it that has expired, and no row.
-use Rattle.std.proofs.Common.{◌≡◌, ◌⊎◌, inl, inr, ◌<◌, ◌≤◌, ◌^◌, ◌+◌, ℕ, ℤ, Bool, true, false, List, [], ◌∷◌, ◌++◌, length, Option, Some, None, IfSome, Result, Ok, Err, refl, sym, ap, subst, ◌∙◌, arith}
-use Rattle.std.specs.Prelude.{◌&&◌, Contains, is_some, if◌then◌else◌, nat_lt, nat_le}
+use Rattle.std.proofs.Common.{◌≡◌, ◌⊎◌, inl, inr, ◌<◌, ◌^◌, ◌+◌, ℕ, ℤ, Bool, true, false, List, [], ◌∷◌, ◌++◌, length, Option, Some, None, IfSome, Result, Ok, Err, refl, sym, ap, subst, ◌∙◌, arith}
+use Rattle.std.specs.Prelude.{Contains, is_some, if◌then◌else◌, nat_lt}
 use Rattle.std.specs.List.{AllByRecursion}
 use Rattle.std.proofs.lemmas.List.Elements.{Contains-append_left, Contains-append_right, Contains-push, Contains-push_cases}
 use Rattle.sdb_types.specs.declared.key.Key.{Key}
@@ -17,7 +17,7 @@ use Rattle.sdb_record.specs.declared.meta.Meta.{Meta}
 use Rattle.sdb_record.specs.Coordinator.{decision_in, is_expired}
 use Rattle.sdb_record.specs.Rolls.{is_tombstone}
 use Rattle.sdb_model.specs.declared.event.Event.{Event}
-use Rattle.sdb_model.specs.Calls.{Made, calls_after, calls_by, calls_of, clock_at, end_of, is_read, key_asked}
+use Rattle.sdb_model.specs.Calls.{Made, calls_after, calls_of, clock_at, is_read, key_asked}
 use Rattle.sdb_laws.specs.Lawful.{is_data}
 use Rattle.sdb_steps.specs.About.{IsDoingIn, IsIn, IsOfTables, IsStageIn, IsSweepIn, IsVacuumIn, IsWorkIn}
 use Rattle.sdb_executions.proofs.Unprepared.{base_of}
@@ -59,11 +59,11 @@ use Rattle.sdb_phases.specs.Work.{Work, look_of}
 use Rattle.sdb_executions.specs.World.{WorldAt, hands_of, state_of}
 use Rattle.sdb_causes.proofs.Rows.{after_last, after_more}
 use Rattle.sdb_story.specs.Telling.{answered_said, taken_said, waiting_of}
-use Rattle.sdb_causes.proofs.Calls.{call_said, calls_within, clock_more, clock_same, made_at}
+use Rattle.sdb_causes.proofs.Calls.{call_said, clock_more, clock_same, made_at, of_within}
 use Rattle.sdb_executions.proofs.OwnPrepares.{calls_again, commit_waits, ends_commit, goes_further, work_doing, work_in, work_txn}
 use Rattle.sdb_executions.proofs.RowWrites.{commit_writes, data_not, read_not, recover_writes, writer_fits}
 use Rattle.sdb_causes.proofs.Ends.{commit_is}
-use Rattle.sdb_causes.proofs.Lists.{each_in, kept_in}
+use Rattle.sdb_causes.proofs.Lists.{kept_in}
 use Rattle.sdb_types.proofs.Basics.{id_fits, length_more, none_some, some_is}
 use Rattle.sdb_record.specs.Meta.{id_in}
 use Rattle.sdb_turns.proofs.Meta.{meta_of}
@@ -327,19 +327,12 @@ module _ (events later : List Event) (calls more : List Made) (on : Carries even
   phase_on id phase.Back h = tt
   phase_on id phase.Ended h = tt
 
--- each call of a statement is within the events
-pub call_within : (c : ℕ) (events : List Event) (s : Said) (m : Made) → Contains (calls_of events c s) m → m.at ≤ length events
-call_within c events s m has = bound (each_in (λ (x : Made). x.at < 1 + length events) (calls_by events c) m (calls_within c events) (kept_in (λ (x : Made). nat_lt s.taken x.at && nat_le x.at (end_of events s)) (calls_by events c) m has))
-  where
-    bound : m.at < 1 + length events → m.at ≤ length events
-    bound h = omega (arith, h)
-
 -- an event of others
 carries_same : (c : ℕ) (events : List Event) (e : Event) (s : Said) → calls_of (events ++ e ∷ []) c s ≡ calls_of events c s → Carries events (events ++ e ∷ []) (calls_of events c s) (calls_of (events ++ e ∷ []) c s)
 carries_same c events e s same = record {
   has = λ x h. subst (λ (ms : List Made). Contains ms x) (sym same) h;
   after = λ n x h. subst (λ (ms : List Made). Contains (calls_after n ms) x) (sym same) h;
-  clock = λ x h. clock_same events e x.at (call_within c events s x h);
+  clock = λ x h. clock_same events e x.at (of_within c events s x h);
 }
 
 all_same : (c : ℕ) (events : List Event) (e : Event) (s : Said) → calls_of (events ++ e ∷ []) c s ≡ calls_of events c s → AllGive events (calls_of events c s) → AllGive (events ++ e ∷ []) (calls_of (events ++ e ∷ []) c s)
@@ -447,13 +440,13 @@ module _ (catalog : List Table) (events : List Event) (c : ℕ) (h d : ClientAt)
   more a = calls_more events c store q how r x waits.unanswered waits.taken a
 
   older : AllByRecursion (λ y. y.at < made.at) ms
-  older = each_of ms (λ y has. let low = call_within c events x y has in omega (arith, low))
+  older = each_of ms (λ y has. let low = of_within c events x y has in omega (arith, low))
 
   on : (a : Option Answer) → Carries events (E a) ms (ms ++ made ∷ [])
   on a = record {
     has = λ y has. Contains-append_left ms (made ∷ []) y has;
     after = λ n y has. after_more (record { 0 = 0 }) ms made older n y has;
-    clock = λ y has. clock_same events (event.Call c store q how r a) y.at (call_within c events x y has);
+    clock = λ y has. clock_same events (event.Call c store q how r a) y.at (of_within c events x y has);
   }
 
   clock_now : (a : Option Answer) → clock_at (E a) made.at ≡ now
@@ -481,7 +474,7 @@ module _ (catalog : List Table) (events : List Event) (c : ℕ) (h d : ClientAt)
       looked moment asked e = record {
         look = e.0;
         expired = expired_on events (E a) ms (ms ++ made ∷ []) (on a) meta.id e.0 e.2;
-        before = let low = call_within c events x e.0 e.1 in omega (arith, low);
+        before = let low = of_within c events x e.0 e.1 in omega (arith, low);
         asks = asked ∙ ap (row_put meta.id decision.Aborted) (sym (looked_at events (E a) ms (ms ++ made ∷ []) (on a) meta.id e.0 e.2 ∙ e.3));
       }
 

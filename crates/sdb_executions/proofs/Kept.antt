@@ -17,7 +17,7 @@ use Rattle.sdb_steps.specs.Hands.{IsAfter}
 use Rattle.sdb_execution.specs.declared.seat.Seat.{Seat}
 use Rattle.sdb_executions.specs.World.{IsSeat, IsWorld, WorldAt, at_moment, with_event, with_seat}
 use Rattle.sdb_execution.specs.Execution.{moved_seat, stopped_seat}
-use Rattle.sdb_executions.proofs.Seats.{set_here, set_length, set_other}
+use Rattle.sdb_executions.proofs.Seats.{set_here, set_length, set_other, suc_is}
 use Rattle.sdb_executions.proofs.Ties.{IsApart, apart_pending, apart_stopped, apart_taken, own_call_pending, own_call_stopped, own_call_taken, own_stop_pending, own_stop_stopped, own_stop_taken, own_take_pending, own_take_stopped, own_take_taken}
 use Rattle.sdb_types.proofs.Basics.{some_is, all_last as all_more}
 
@@ -26,9 +26,6 @@ by_nat zero zero a b = a refl
 by_nat zero (suc j) a b = b (λ e. cc)
 by_nat (suc i) zero a b = b (λ e. cc)
 by_nat (suc i) (suc j) a b = by_nat i j (λ e. a (ap suc e)) (λ n. b (λ e. n (suc_is i j e)))
-  where
-    suc_is : (i j : ℕ) → suc i ≡ suc j → i ≡ j
-    suc_is i j e = cc
 
 ---- a client that the event isn't of
 

@@ -7,10 +7,9 @@ use Rattle.sdb_types.specs.declared.record.Record.{Record}
 use Rattle.sdb_types.specs.declared.record.Reply.{Reply}
 use Rattle.sdb_types.specs.declared.record.Reply.TheVariants as reply
 use Rattle.sdb_types.specs.declared.record.Request.{Request}
-use Rattle.sdb_types.proofs.Basics.{clash, none_some, some_is}
+use Rattle.sdb_types.proofs.Basics.{clash, none_some}
 use Rattle.sdb_record.specs.declared.access.Access.{Access}
 use Rattle.sdb_record.specs.declared.meta.Meta.{Meta}
-use Rattle.sdb_record.specs.Parts.{before_record}
 use Rattle.sdb_schema.specs.declared.table.Table.{Table}
 use Rattle.sdb_model.specs.declared.answer.Answer.{Answer}
 use Rattle.sdb_model.specs.declared.answer.Answer.TheVariants as answer
@@ -19,18 +18,16 @@ use Rattle.sdb_model.specs.declared.event.Event.TheVariants as event
 use Rattle.sdb_model.specs.declared.event.How.{How}
 use Rattle.sdb_model.specs.declared.script.Script.{Script}
 use Rattle.sdb_model.specs.declared.statement.Statement.TheVariants as statement
-use Rattle.sdb_model.specs.Calls.{Made, calls_of, is_read}
+use Rattle.sdb_model.specs.Calls.{Made, calls_of}
 use Rattle.sdb_model.specs.Noted.{reads_rows}
 use Rattle.sdb_model.specs.Rows.{Name}
 use Rattle.sdb_model.specs.Sql.{reads_begin, reads_commit, reads_rollback, reads_vacuum}
 use Rattle.sdb_model.specs.Transactions.{Said}
 use Rattle.sdb_exec.specs.Plans.{Planned}
 use Rattle.sdb_phases.specs.declared.step.RecoverPhase.{RecoverPhase}
-use Rattle.sdb_phases.specs.declared.step.RecoverPhase.TheVariants as phase
 use Rattle.sdb_phases.specs.declared.step.RecoverStep.{RecoverStep}
 use Rattle.sdb_phases.specs.declared.step.RecoverStep.TheVariants as steps
-use Rattle.sdb_phases.specs.Recover.{recover_back, recover_forward, recover_next, recover_request_at, stands_found}
-use Rattle.sdb_phases.specs.Work.{abort_of, look_of}
+use Rattle.sdb_phases.specs.Recover.{recover_next}
 use Rattle.sdb_read.specs.declared.read.ReadStep.{ReadStep}
 use Rattle.sdb_read.specs.declared.read.ReadStep.TheVariants as step
 use Rattle.sdb_read.specs.Read.{Asking, Bad, Ended, Firm, IsAsking, Kind, Open, ReadAt, ReadStage, Resolving, answered, kind_of, read_pending_at, read_result, read_step, resolved, settle, settle_one}
@@ -45,7 +42,7 @@ use Rattle.sdb_client.specs.Client.{CallTold, ClientAt, StageTold, after}
 use Rattle.sdb_story.specs.Telling.{taken_said}
 use Rattle.sdb_causes.specs.Tied.{IsWaiting}
 use Rattle.sdb_causes.proofs.Calls.{made_at}
-use Rattle.sdb_causes.proofs.Showing.{look_rows, undo_unread, unread_rows}
+use Rattle.sdb_causes.proofs.RolledSteps.{recovery_unread}
 use Rattle.sdb_causes.proofs.Takings.{none_yet}
 use Rattle.sdb_execution.specs.Execution.{IsExecution, IsPlayable}
 use Rattle.sdb_executions.specs.Laws.{ReadsAreFew, ReadsOnce}
@@ -194,14 +191,6 @@ left_so t p a x r now n u calls told e once = by (read_result (read_step x.stage
     by step.Faulted k = absurd (let z = k.0 in cc)
     by (step.BadRecord key) k = absurd (let z = k.0 in cc)
     by step.NoMemory k = absurd k
-
-recovery_unread : (rec : Record) (meta : Meta) (p : RecoverPhase) (m : Made) → recover_request_at rec meta p ≡ Some m.request → reads_rows m ≡ false
-recovery_unread rec meta phase.Look m e = look_rows m meta.id (sym (some_is (look_of meta.id) m.request e))
-recovery_unread rec meta (phase.Abort n) m e = unread_rows m (ap is_read (sym (some_is (abort_of meta.id n) m.request e)))
-recovery_unread rec meta phase.Again m e = look_rows m meta.id (sym (some_is (look_of meta.id) m.request e))
-recovery_unread rec meta (phase.Forward n) m e = unread_rows m (ap is_read (sym (some_is (recover_forward rec meta n) m.request e)))
-recovery_unread rec meta phase.Back m e = unread_rows m (ap is_read (sym (some_is (recover_back rec meta) m.request e)) ∙ undo_unread (stands_found meta) rec.key (before_record rec))
-recovery_unread rec meta phase.Ended m e = none_some m.request e
 
 ---- a call is made
 

@@ -28,7 +28,7 @@ set_length (z ∷ zs) (suc i) y = ap suc (set_length zs i y)
 
 ---- the clients by their numbers
 
-suc_is : (i j : ℕ) → suc i ≡ suc j → i ≡ j
+pub suc_is : (i j : ℕ) → suc i ≡ suc j → i ≡ j
 suc_is i j e = cc
 
 -- with one client elsewhere

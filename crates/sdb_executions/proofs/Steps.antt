@@ -30,13 +30,11 @@ use Rattle.sdb_executions.proofs.Linked.{linked_calls, linked_first, linked_rest
 use Rattle.sdb_executions.proofs.Causing.{caused_calls, caused_idles, caused_new, caused_stops, caused_takes, caused_ticks, gated_by, outcome_caused}
 use Rattle.sdb_executions.proofs.First.{world_first}
 use Rattle.sdb_executions.proofs.Gates.{gated_at}
+use Rattle.sdb_executions.proofs.Seats.{suc_is}
 
 -- the events so far and one more, which leads to a state
 abbrev pub led : WorldAt → Event → State → WorldAt
 led w e u = record { script = w.script; seats = u.seats; events = w.events ++ e ∷ []; clock = u.clock }
-
-suc_is : (i j : ℕ) → suc i ≡ suc j → i ≡ j
-suc_is i j e = cc
 
 -- what is so where one client is elsewhere is so after its step
 pub at_place : (P : WorldAt → Type 0) (w : WorldAt) (e : ℕ → Event) (c i : ℕ) (seat : Seat) (u : State) → c ≡ suc i → u ≡ with_seat_at (state_of w) i seat → P (with_event (with_seat w i seat) (e (suc i))) → P (led w (e c) u)

@@ -37,12 +37,12 @@ use Rattle.sdb_steps.specs.About.{IsIn, IsOfTables, IsSweepIn, IsVacuumIn}
 use Rattle.sdb_laws.specs.Lawful.{is_data}
 use Rattle.sdb_causes.proofs.ReadSteps.{IsDataTable}
 use Rattle.sdb_causes.specs.Tied.{IsAnswered, IsWaiting, Knows}
-use Rattle.sdb_causes.proofs.Calls.{made_at}
+use Rattle.sdb_causes.proofs.Calls.{made_at, of_within}
 use Rattle.sdb_causes.proofs.Takings.{none_yet}
 use Rattle.sdb_execution.specs.Execution.{IsExecution, IsPlayable, State, TakeStep}
 use Rattle.sdb_executions.specs.Vacuums.{IsVacuumMost, SweepsTables, VacuumsSweep, spans_asked, whole_tables}
 use Rattle.sdb_executions.specs.World.{WorldAt, hands_of, state_of}
-use Rattle.sdb_executions.proofs.GivesUp.{each_of, call_within}
+use Rattle.sdb_executions.proofs.GivesUp.{each_of}
 use Rattle.sdb_executions.proofs.Replies.{CallOf, SweepCall, call_of}
 use Rattle.sdb_executions.proofs.Statements.{AreKept, SoBy, calls_more, known, none_in, replied_said, statements_so, waits_of}
 use Rattle.sdb_executions.proofs.Steps.{Holds, execution_caused, execution_holds}
@@ -156,7 +156,7 @@ module _ (catalog : List Table) (events : List Event) (c : ℕ) (h d : ClientAt)
   more a = calls_more events c store q how r x waits.unanswered waits.taken a
 
   older : AllByRecursion (λ y. y.at < made.at) ms
-  older = each_of ms (λ y has. let low = call_within c events x y has in omega (arith, low))
+  older = each_of ms (λ y has. let low = of_within c events x y has in omega (arith, low))
 
   -- no VACUUM runs
   rests : (a : Option Answer) → h.vacuum ≡ None → d.vacuum ≡ None → SoBy (SweepsSo catalog) (WaitsSweeping catalog) (E a) c (replied_said events x a) d a
