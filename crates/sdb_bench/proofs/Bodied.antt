@@ -20,7 +20,7 @@ use Rattle.sdb_bench.proofs.ReadAs.{IsInsert, IsLater, IsText, IsUpdate, all_kep
 
 ---- what is so of all statements of a client is so of a body
 
-all_take : {A : Type 0} (P : A → Type 0) (k : ℕ) (xs : List A) → AllByRecursion P xs → AllByRecursion P (take k xs)
+pub all_take : {A : Type 0} (P : A → Type 0) (k : ℕ) (xs : List A) → AllByRecursion P xs → AllByRecursion P (take k xs)
 all_take P zero xs h = tt
 all_take P (suc k) [] h = tt
 all_take P (suc k) (x ∷ xs) h = (h.0, all_take P k xs h.1)

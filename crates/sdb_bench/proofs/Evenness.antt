@@ -26,6 +26,7 @@ use Rattle.sdb_bench.specs.declared.side.Side.TheVariants.{Left, Right}
 use Rattle.sdb_bench.specs.Counts.{differ, is_at, is_uneven, same_found, uneven_in, uneven_of}
 use Rattle.sdb_bench.specs.Draws.{numbers_below}
 use Rattle.sdb_bench.specs.Setup.{bench_catalog, bench_table, v_name}
+use Rattle.sdb_bench.proofs.Bodied.{all_take}
 use Rattle.sdb_bench.proofs.Even.{AreCells, Chosen, IsCell, IsEven, IsOne, all_map}
 
 ---- lists
@@ -36,11 +37,6 @@ all_filter P p (x ∷ xs) h =
     by_test (p x)
     (λ e. rw e ((h.0, e), all_filter P p xs h.1))
     (λ e. rw e (all_filter P p xs h.1))
-
-all_take : {A : Type 0} (P : A → Type 0) (k : ℕ) (xs : List A) → AllByRecursion P xs → AllByRecursion P (take k xs)
-all_take P zero xs h = tt
-all_take P (suc k) [] h = tt
-all_take P (suc k) (x ∷ xs) h = (h.0, all_take P k xs h.1)
 
 all_drop : {A : Type 0} (P : A → Type 0) (k : ℕ) (xs : List A) → AllByRecursion P xs → AllByRecursion P (drop k xs)
 all_drop P zero xs h = h
@@ -67,10 +63,10 @@ none_counted p (x ∷ xs) h = sum_by-cons (λ y. cond (p y) 1 0) x xs ∙ ap (λ
 ---- rows that are printed
 
 -- a printed row's v is chosen by its p
-pub record IsPrinted (g : Value → Value) (row : List Value) : Type 0 where
+pub record IsPrinted (g : Value → Value) (cells : List Value) : Type 0 where
   pub p : Value
-  pub at_p : slice_get row 1 ≡ Some p
-  pub at_v : slice_get row 2 ≡ Some (g p)
+  pub at_p : slice_get cells 1 ≡ Some p
+  pub at_v : slice_get cells 2 ≡ Some (g p)
 
 own_table : (side : Side) (table : TableName) → is_eq (table_cmp table (bench_table side).name) ≡ true → table ≡ (bench_table side).name
 own_table side table own = table_exact table (bench_table side).name (equal_of (table_cmp table (bench_table side).name) own)
@@ -118,11 +114,11 @@ apart g p x y true false ex ey = refl
 apart g p x y false true ex ey = refl
 apart g p x y false false ex ey = refl
 
-no_difference : (g : Value → Value) (p : Value) (row other : List Value) → IsPrinted g row → IsPrinted g other → differ p row other ≡ false
+no_difference : (g : Value → Value) (p : Value) (cells other : List Value) → IsPrinted g cells → IsPrinted g other → differ p cells other ≡ false
 unfolding differ
-no_difference g p row other a b =
-    ap (λ (o : Option Value). same_found o (Some p) && is_at p other && not (same_found (slice_get row 2) (slice_get other 2))) a.at_p
-    ∙ ap (λ (o : Option Value). same_found (Some a.p) (Some p) && same_found o (Some p) && not (same_found (slice_get row 2) (slice_get other 2))) b.at_p
+no_difference g p cells other a b =
+    ap (λ (o : Option Value). same_found o (Some p) && is_at p other && not (same_found (slice_get cells 2) (slice_get other 2))) a.at_p
+    ∙ ap (λ (o : Option Value). same_found (Some a.p) (Some p) && same_found o (Some p) && not (same_found (slice_get cells 2) (slice_get other 2))) b.at_p
     ∙ ap (λ (o : Option Value). same_found (Some a.p) (Some p) && same_found (Some b.p) (Some p) && not (same_found o (slice_get other 2))) a.at_v
     ∙ ap (λ (o : Option Value). same_found (Some a.p) (Some p) && same_found (Some b.p) (Some p) && not (same_found (Some (g a.p)) o)) b.at_v
     ∙ apart g p a.p b.p (is_eq (value_cmp a.p p)) (is_eq (value_cmp b.p p)) refl refl
@@ -130,9 +126,9 @@ no_difference g p row other a b =
 even_rows : (g : Value → Value) (rows : List (List Value)) → AllByRecursion (IsPrinted g) rows → (p : ℕ) → is_uneven rows p ≡ false
 unfolding is_uneven
 even_rows g rows h p =
-    none_any (λ row. list_any (differ (value.Int (pos p)) row) rows) rows
-    (all_each (IsPrinted g) (λ row. list_any (differ (value.Int (pos p)) row) rows ≡ false) rows
-    (λ row r. none_any (differ (value.Int (pos p)) row) rows (all_each (IsPrinted g) (λ other. differ (value.Int (pos p)) row other ≡ false) rows (λ other o. no_difference g (value.Int (pos p)) row other r o) h))
+    none_any (λ cells. list_any (differ (value.Int (pos p)) cells) rows) rows
+    (all_each (IsPrinted g) (λ cells. list_any (differ (value.Int (pos p)) cells) rows ≡ false) rows
+    (λ cells r. none_any (differ (value.Int (pos p)) cells) rows (all_each (IsPrinted g) (λ other. differ (value.Int (pos p)) cells other ≡ false) rows (λ other o. no_difference g (value.Int (pos p)) cells other r o) h))
     h)
 
 even_dump : (side : Side) (f : Chosen) (d : Tables) → AreCells f d → uneven_in (dump_of d (bench_table side)) ≡ 0

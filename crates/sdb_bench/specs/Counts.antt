@@ -44,15 +44,15 @@ same_found (Some a) (Some b) = is_eq (value_cmp a b)
 
 -- a row of this p
 abbrev pub is_at : Value → List Value → Bool
-is_at p row = same_found (slice_get row 1) (Some p)
+is_at p cells = same_found (slice_get cells 1) (Some p)
 
 -- two rows of one p with different v
 unfoldable pub differ : Value → List Value → List Value → Bool
-differ p row other = is_at p row && is_at p other && not (same_found (slice_get row 2) (slice_get other 2))
+differ p cells other = is_at p cells && is_at p other && not (same_found (slice_get cells 2) (slice_get other 2))
 
 -- Two of these rows have this p and different v.
 unfoldable pub is_uneven : List (List Value) → ℕ → Bool
-is_uneven rows p = list_any (λ row. list_any (differ (value.Int (pos p)) row) rows) rows
+is_uneven rows p = list_any (λ cells. list_any (differ (value.Int (pos p)) cells) rows) rows
 
 unfoldable pub uneven_in : TableDump → ℕ
 uneven_in table = count_by (is_uneven table.rows) (numbers_below 8)

@@ -59,7 +59,7 @@ in_metadata : (e : Entry) → in_span metadata_span (row_of e).key ≡ true
 unfolding row_of metadata_key_of
 in_metadata e = refl
 
-put_applied : (o : Option Record) → Applied ≡ put_reply Absent o → o ≡ None
+pub put_applied : (o : Option Record) → Applied ≡ put_reply Absent o → o ≡ None
 put_applied None h = refl
 put_applied (Some x) h = absurd (let e : Applied ≡ NotMet (Some x) = h in cc)
 

@@ -28,6 +28,7 @@ use Rattle.sdb_catalog.specs.Opened.{IsFirstBad, Opens, store_in, tables_of}
 use Rattle.sdb_catalog.specs.Rows.{definition_column, row_of, text_at}
 use Rattle.sdb_catalog.specs.Written.{AreWritten, HasDefinition, IsStored, IsWritten, Line, entry_for, grown, line_text, put_of, written_tables}
 use Rattle.sdb_catalog.proofs.Calling.{first_before, first_now}
+use Rattle.sdb_catalog.proofs.Kept.{put_applied}
 use Rattle.sdb_catalog.proofs.Writes.{WrittenSo, known_after}
 
 ---- what is so of an error that is passed on
@@ -69,10 +70,6 @@ bad_in old new (refused.BadRow key) h t = subst (λ (rs : List Record). IsFirstB
 bad_in old new refused.NoMemory h t = tt
 
 ---- one table
-
-put_applied : (o : Option Record) → Applied ≡ put_reply Absent o → o ≡ None
-put_applied None h = refl
-put_applied (Some x) h = absurd (let e : Applied ≡ NotMet (Some x) = h in cc)
 
 put_unmet : (o : Option Record) (found : Record) → NotMet (Some found) ≡ put_reply Absent o → o ≡ Some found
 put_unmet None found h = absurd (let e : NotMet (Some found) ≡ Applied = h in cc)
