@@ -1,5 +1,5 @@
 -- What the laws of a client that is alone speak of: a statement that it takes, and a reply to its call.
-use Rattle.std.specs.Prelude.{◌≡◌, ℕ, ℤ, true, false, List, [], ◌∷◌, Option, Some, Result}
+use Rattle.std.specs.Prelude.{◌≡◌, ℕ, ℤ, true, false, List, [], ◌∷◌, ◌++◌, Option, Some, Result}
 use Rattle.sdb_types.specs.declared.txid.TxId.{TxId}
 use Rattle.sdb_types.specs.declared.record.Record.{Record}
 use Rattle.sdb_types.specs.declared.record.Reply.{Reply}
@@ -8,9 +8,14 @@ use Rattle.sdb_record.specs.Meta.{is_moment}
 use Rattle.sdb_schema.specs.declared.table.Table.{Table}
 use Rattle.sdb_schema.specs.Catalog.{is_catalog}
 use Rattle.sdb_model.specs.declared.answer.Answer.{Answer}
+use Rattle.sdb_model.specs.declared.answer.Answer.TheVariants as answer
 use Rattle.sdb_model.specs.declared.answer.Refusal.{Refusal}
 use Rattle.sdb_model.specs.declared.statement.Statement.{Statement}
+use Rattle.sdb_model.specs.declared.event.How.{How}
+use Rattle.sdb_model.specs.declared.script.Place.{Place}
+use Rattle.sdb_model.specs.Events.{IsCall, Shelf}
 use Rattle.sdb_model.specs.Exec.{Tables}
+use Rattle.sdb_model.specs.Rows.{Name}
 use Rattle.sdb_client.specs.Client.{ClientAt, ReplyTold, SaidTold, Says, Taking, client_pending}
 use Rattle.sdb_steps.specs.Fitting.{tables_fit}
 use Rattle.sdb_session.specs.Database.{AreOwn, Called, Database}
@@ -20,7 +25,7 @@ use Rattle.sdb_session.specs.Clients.{IsUnused}
 use Rattle.sdb_session.specs.Recovers.{RecoverAlone}
 use Rattle.sdb_session.specs.Commits.{CommitAlone}
 use Rattle.sdb_session.specs.Session.{AreNewIds, Exchange, IsSerialSession, begun_ids, is_vacuum, no_parts}
-use Rattle.sdb_session.specs.Chain.{Chain}
+use Rattle.sdb_session.specs.Chain.{Chain, Exchanged, open_after}
 use Rattle.sdb_record.specs.declared.meta.Meta.{Meta}
 use Rattle.sdb_phases.specs.declared.step.RecoverPhase.{RecoverPhase}
 use Rattle.sdb_phases.specs.Work.{Work}
@@ -138,3 +143,46 @@ pub record VacuumSession : Type 0 where
   pub vacuum : Exchange
   pub is : is_vacuum vacuum.says ≡ true
   pub serial : IsSerialSession catalog opening last before (vacuum ∷ [])
+
+-- A call on stores with these places, as an event has it.
+pub record StoresCalled : Type 0 where
+  pub places : List Place
+  pub store : Name
+  pub request : Request
+  pub how : How
+  pub reply : Reply
+  pub old : List Shelf
+  pub new : List Shelf
+  pub is : IsCall places store request how reply old new
+
+-- A client between two statements takes a text and is out of memory.
+pub record TakenStarved : Type 0 where
+  pub catalog : List Table
+  pub g : Database
+  pub opened : Option OpenTransaction
+  pub before : ClientAt
+  pub between : Between catalog g opened before
+  pub text : List ℕ
+  pub exchange : Exchange
+  pub reads : Says text exchange.says
+  pub memory : exchange.answer ≡ answer.NoMemory
+
+-- One statement was answered after others.
+pub record ExchangedNext : Type 0 where
+  pub catalog : List Table
+  pub g : Database
+  pub h : Database
+  pub exchanges : List Exchange
+  pub exchange : Exchange
+  pub after : ClientAt
+  pub exchanged : Exchanged catalog g (open_after exchanges) exchange h after
+
+abbrev pub with_next : ExchangedNext → List Exchange
+with_next n = n.exchanges ++ n.exchange ∷ []
+
+-- And those were answered one after the other.
+pub record ChainMore : Type 0 where
+  pub next : ExchangedNext
+  pub start : Database
+  pub chain : Chain next.catalog start no_parts next.exchanges next.g
+  pub own : AreOwn next.h

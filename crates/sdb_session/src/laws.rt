@@ -27,11 +27,11 @@ ghost use Rattle.sdb_session.specs.Between.{Between, LeadsTo, OpenTransaction};
 ghost use Rattle.sdb_session.specs.Chain.{Chain, Exchanged, IsReached, open_after};
 ghost use Rattle.sdb_session.specs.Working.{IsAtWork, LeadsOn, RepliedBy, TakenBy};
 ghost use Rattle.sdb_session.specs.Faults.{ComesOfFault, IsAfterFault};
-ghost use Rattle.sdb_session.specs.Turns.{CommitReplied, RecoveryReplied, RepliedAlone, SessionAlone, TakenAlone, VacuumSession};
+ghost use Rattle.sdb_session.specs.Turns.{ChainMore, CommitReplied, ExchangedNext, RecoveryReplied, RepliedAlone, SessionAlone, StoresCalled, TakenAlone, TakenStarved, VacuumSession, with_next};
 
 /// A call on stores returns what is at its key, and changes the database there alone.
 pub fn calls_are_local()
-    ensures { (places : List Place) (store : Name) (q : Request) (how : How) (r : Reply) (old new : List Shelf) → IsCall places store q how r old new → Called q r (database_of places old) (database_of places new) }
+    ensures { (c : StoresCalled) → Called c.request c.reply (database_of c.places c.old) (database_of c.places c.new) }
 {}
 
 /// Whatever call of a recovery is pending, and whatever its reply: another call follows, or the record's image is in its place.
@@ -62,7 +62,7 @@ pub fn takings_lead_on()
 
 /// It may be out of memory as it takes a statement: a COMMIT ends its transaction, and all else is as it was.
 pub fn takings_run_out()
-    ensures { (catalog : List Table) (g : Database) (o : Option OpenTransaction) (e : Exchange) (text : List ℕ) (c : ClientAt) → Says text e.says → e.answer ≡ answer.NoMemory → Between catalog g o c → Exchanged catalog g o e g (starved text c) }
+    ensures { (t : TakenStarved) → Exchanged t.catalog t.g t.opened t.exchange t.g (starved t.text t.before) }
 {}
 
 /// It gets the reply to its call: its statement waits for another, or is answered.
@@ -91,8 +91,8 @@ pub fn faults_are_replied()
 
 /// One statement more; and what is so after these statements.
 pub fn chains_are_extended()
-    ensures longer { (catalog : List Table) (start g h : Database) (es : List Exchange) (e : Exchange) (c : ClientAt) → Chain catalog start no_parts es g → AreOwn h → Exchanged catalog g (open_after es) e h c → Chain catalog start no_parts (es ++ e ∷ []) h }
-    ensures between { (catalog : List Table) (g h : Database) (es : List Exchange) (e : Exchange) (c : ClientAt) → Exchanged catalog g (open_after es) e h c → Between catalog h (open_after (es ++ e ∷ [])) c }
+    ensures longer { (m : ChainMore) → Chain m.next.catalog m.start no_parts (with_next m.next) m.next.h }
+    ensures between { (n : ExchangedNext) → Between n.catalog n.h (open_after (with_next n)) n.after }
     ensures reached { (s : SessionAlone) → IsReached s.catalog s.opening s.last s.before s.exchanges }
 {}
 

@@ -4,4 +4,4 @@ use Rattle.sdb_session.proofs.Starves.{starves}
 use Rattle.sdb_session.proofs.laws.takings_run_out.Goals as goal
 
 pub returns : goal.returns
-returns c = λ catalog g o e text d says ran_out between. starves catalog g o e text d (starved text d) says ran_out between refl
+returns c = λ t. starves t.catalog t.g t.opened t.exchange t.text t.before (starved t.text t.before) t.reads t.memory t.between refl
