@@ -1,10 +1,13 @@
 -- A store moved, and then dropped.
 use Rattle.std.specs.Prelude.{◌≡◌, ◌≢◌, ◌<◌, ℕ, List, Some, Contains, IsSome, length, slice_get}
 use Rattle.sdb_types.specs.declared.key.Key.{Key}
-use Rattle.sdb_types.specs.Contents.{rows_in}
+use Rattle.sdb_types.specs.Contents.{Contents, rows_in}
+use Rattle.sdb_schema.specs.declared.table.Table.{Table}
+use Rattle.sdb_stores.specs.declared.place.Place.{Place as Placed}
 use Rattle.sdb_stores.specs.Shelf.{Attached, Shelf, IsDropped, index_at, index_in, names_of}
 use Rattle.sdb_catalog.specs.declared.entry.Entry.{Entry}
 use Rattle.sdb_catalog.specs.Calls.{first_contents, metadata_span, with_shelves}
+use Rattle.sdb_catalog.specs.Known.{IsCatalogIn}
 use Rattle.sdb_catalog.specs.Opened.{Opens, tables_of}
 use Rattle.sdb_retire.specs.Imaged.{IsOfTable, image_by, kept_at, kept_before}
 use Rattle.sdb_retire.specs.Moving.{OpensMoving}
@@ -43,6 +46,20 @@ pub record OpensTheSame (s : Sides) (old new : Attached) : Type 0 where
   pub opens : Opens (names_of new.shelves) (rows_in metadata_span (first_contents new.shelves)) now
   pub tables : tables_of now ≡ tables_of before
   pub images : AllKnown old → ImagesStay s old new before now
+
+-- An opening of the catalog over stores of these names, of which the first holds these contents, and what it returned.
+pub record Reopening : Type 0 where
+  pub names : List (List ℕ)
+  pub contents : Contents
+  pub tables : List Table
+  pub places : List Placed
+
+-- The rows open as entries that give the same tables as the entries of before, and the opening returned a catalog.
+pub record IsReopened (r : Reopening) (before : List Entry) : Type 0 where
+  pub now : List Entry
+  pub opens : Opens r.names (rows_in metadata_span r.contents) now
+  pub same : tables_of now ≡ tables_of before
+  pub returned : IsCatalogIn r.names r.contents r.tables r.places
 
 -- The store of that name is attached, and holds what it held, where that is known.
 pub record HoldsStill (name : List ℕ) (old new : Attached) : Type 0 where

@@ -1,9 +1,10 @@
 -- What a retirement comes to.
-use Rattle.std.specs.Prelude.{◌≡◌, ◌≢◌, ◌⊎◌, ℕ, List, [], ◌++◌, count_by, map}
+use Rattle.std.specs.Prelude.{◌≡◌, ◌≢◌, ◌⊎◌, ℕ, true, List, [], ◌++◌, count_by, map}
 use Rattle.sdb_types.specs.declared.key.Key.{Key}
 use Rattle.sdb_stores.specs.Shelf.{Attached, Shelf, HaveRisen, index_at}
 use Rattle.sdb_catalog.specs.declared.entry.Entry.{Entry}
 use Rattle.sdb_types.specs.Contents.{rows_in}
+use Rattle.sdb_catalog.specs.Opened.{is_attached}
 use Rattle.sdb_catalog.specs.Rows.{metadata_table, row_of}
 use Rattle.sdb_retire.specs.declared.refused.RetireRefused.{RetireRefused}
 use Rattle.sdb_retire.specs.declared.refused.RetireRefused.TheVariants as refused
@@ -19,6 +20,10 @@ use Rattle.sdb_retire.specs.Writes.{Hold, HoldFirst, Write, contents_at, span_of
 pub record Sides : Type 0 where
   pub from : List ℕ
   pub to : List ℕ
+
+-- the retirement of the store of the first name for that of the second
+abbrev pub sides : List ℕ → List ℕ → Sides
+sides from to = record { from = from; to = to }
 
 -- The writes that a survey asks for: of `to` each moving table, and then of the first store the rows that name `from`.
 abbrev pub writes_of : ℕ → Sides → Survey → List Write
@@ -122,6 +127,10 @@ pub record Retirement : Type 0 where
 -- They are those of a catalog of which namespaces move.
 abbrev pub IsMovingCatalog : Retirement → Type 0
 IsMovingCatalog r = FollowMoving r.names r.sides.from r.sides.to [] r.entries
+
+-- The store that takes over is attached.
+abbrev pub IsTakenOver : Retirement → Type 0
+IsTakenOver r = is_attached r.names r.sides.to ≡ true
 
 -- the entries once the store is given up
 abbrev pub settled : Retirement → List Entry

@@ -2,7 +2,7 @@
 ghost use Rattle.std.specs.Prelude.{◌≡◌, ◌↔◌, Contains, Some, IsTrue, IfOk, IfErr, OnOk, OnErr, slice_get};
 ghost use Rattle.sdb_stores.specs.Shelf.{names_of};
 ghost use Rattle.sdb_retire.specs.Dropped.{HoldsStill, IsRetired, MayRetire, OpensTheSame};
-ghost use Rattle.sdb_retire.specs.Retired.{AreKnown, IsLeft, IsUnmoved, IsUnmovedKnown, KeepOthers};
+ghost use Rattle.sdb_retire.specs.Retired.{AreKnown, IsLeft, IsUnmoved, IsUnmovedKnown, KeepOthers, sides};
 ghost use Rattle.sdb_retire.specs.Writes.{GoOn};
 
 use crate::refused::RetireRefused;
@@ -28,7 +28,7 @@ fn is_first(names: &[Name], name: &Name) -> bool
 
 /// Whether the store `from` may be given up for the store `to`, among stores of these names.
 pub fn can_retire(names: &[Name], from: &Name, to: &Name) -> bool
-    ensures { IsTrue result ↔ MayRetire names.now (record { from = from.now; to = to.now }) }
+    ensures { IsTrue result ↔ MayRetire names.now (sides from.now to.now) }
 {
     is_named(names, from) && is_named(names, to) && from != to && !is_first(names, from)
 }
@@ -46,15 +46,15 @@ pub fn retire<R: Registry>(
     from: &Name,
     to: &Name,
 ) -> Result<u64, RetireRefused>
-    requires { MayRetire (names_of (R.state stores.old).shelves) (record { from = from.now; to = to.now }) }
-    ensures retired { IfOk result (λ n. IsRetired (record { from = from.now; to = to.now }) n (R.state stores.old) (R.state stores.new)) }
-    ensures opens { OnOk result (AreKnown (record { from = from.now; to = to.now }) (R.state stores.old) → OpensTheSame (record { from = from.now; to = to.now }) (R.state stores.old) (R.state stores.new)) }
+    requires { MayRetire (names_of (R.state stores.old).shelves) (sides from.now to.now) }
+    ensures retired { IfOk result (λ n. IsRetired (sides from.now to.now) n (R.state stores.old) (R.state stores.new)) }
+    ensures opens { OnOk result (AreKnown (sides from.now to.now) (R.state stores.old) → OpensTheSame (sides from.now to.now) (R.state stores.old) (R.state stores.new)) }
     ensures kept { OnErr result (HoldsStill from.now (R.state stores.old) (R.state stores.new)) }
-    ensures left { OnErr result (IsLeft (record { from = from.now; to = to.now }) (R.state stores.old) (R.state stores.new)) }
-    ensures others { OnErr result (KeepOthers (record { from = from.now; to = to.now }) (R.state stores.old) (R.state stores.new)) }
+    ensures left { OnErr result (IsLeft (sides from.now to.now) (R.state stores.old) (R.state stores.new)) }
+    ensures others { OnErr result (KeepOthers (sides from.now to.now) (R.state stores.old) (R.state stores.new)) }
     ensures goes { OnErr result (GoOn (R.state stores.old) (R.state stores.new)) }
-    ensures err { IfErr result (IsUnmoved (record { from = from.now; to = to.now }) (R.state stores.old) (R.state stores.new)) }
-    ensures known { IfErr result (IsUnmovedKnown (record { from = from.now; to = to.now }) (R.state stores.old) (R.state stores.new)) }
+    ensures err { IfErr result (IsUnmoved (sides from.now to.now) (R.state stores.old) (R.state stores.new)) }
+    ensures known { IfErr result (IsUnmovedKnown (sides from.now to.now) (R.state stores.old) (R.state stores.new)) }
 {
     let count = move_all(alloc, stores, from, to)?;
     stores.drop_store(from);

@@ -1,7 +1,7 @@
 //! What is read before the first write.
 ghost use Rattle.std.specs.Prelude.{◌≡◌, [], IsSome, IfOk, IfErr};
 ghost use Rattle.sdb_stores.specs.Shelf.{index_at, index_in};
-ghost use Rattle.sdb_retire.specs.Retired.{IsSurvey, IsUnsurveyed};
+ghost use Rattle.sdb_retire.specs.Retired.{IsSurvey, IsUnsurveyed, sides};
 ghost use Rattle.sdb_retire.specs.Writes.{GoOn, Hold};
 
 use crate::moving::moving_tables;
@@ -42,10 +42,10 @@ pub fn survey_of<R: Registry>(
     requires first { IsSome (index_in (R.state stores.old) first.now) }
     requires from { IsSome (index_in (R.state stores.old) from.now) }
     requires to { IsSome (index_in (R.state stores.old) to.now) }
-    ensures shown { IfOk result (IsSurvey (record { from = from.now; to = to.now }) (R.state stores.old)) }
+    ensures shown { IfOk result (IsSurvey (sides from.now to.now) (R.state stores.old)) }
     ensures held { Hold [] (R.state stores.old) (R.state stores.new) }
     ensures goes { GoOn (R.state stores.old) (R.state stores.new) }
-    ensures err { IfErr result (IsUnsurveyed (record { from = from.now; to = to.now }) (R.state stores.old) (R.state stores.new).shelves) }
+    ensures err { IfErr result (IsUnsurveyed (sides from.now to.now) (R.state stores.old) (R.state stores.new).shelves) }
 {
     let entries = read_moving(alloc, stores, first, from, to)?;
     let tables = moving_tables(alloc, from, entries.as_slice())?;

@@ -4,7 +4,7 @@ ghost use Rattle.std.specs.List.{list_all};
 ghost use Rattle.sdb_schema.specs.Table.{rises};
 ghost use Rattle.sdb_stores.specs.Shelf.{index_at, index_in, names_of};
 ghost use Rattle.sdb_retire.specs.Copying.{AreMade};
-ghost use Rattle.sdb_retire.specs.Retired.{AreMoved, IsHalted, IsLeft, IsUnmoved, KeepOthers, copies_of, writes_of};
+ghost use Rattle.sdb_retire.specs.Retired.{AreMoved, IsHalted, IsLeft, IsUnmoved, KeepOthers, copies_of, sides, writes_of};
 ghost use Rattle.sdb_retire.specs.Writes.{GoOn, Hold, HoldFirst};
 
 use crate::moving::renewals;
@@ -41,11 +41,11 @@ fn write_all<R: Registry>(
     requires to { IsSome (index_in (R.state stores.old) to.now) }
     requires columns { list_all (λ e. rises e.table.columns) survey.now.entries ≡ true }
     ensures count { IfOk result (λ n. n ≡ copies_of survey.now) }
-    ensures held { OnOk result (Hold (writes_of (index_at (R.state stores.old) to.now) (record { from = from.now; to = to.now }) survey.now) (R.state stores.old) (R.state stores.new)) }
-    ensures made { OnOk result (AreMade (writes_of (index_at (R.state stores.old) to.now) (record { from = from.now; to = to.now }) survey.now) (R.state stores.old) (R.state stores.new).shelves) }
-    ensures left { OnErr result (HoldFirst (writes_of (index_at (R.state stores.old) to.now) (record { from = from.now; to = to.now }) survey.now) (R.state stores.old) (R.state stores.new)) }
+    ensures held { OnOk result (Hold (writes_of (index_at (R.state stores.old) to.now) (sides from.now to.now) survey.now) (R.state stores.old) (R.state stores.new)) }
+    ensures made { OnOk result (AreMade (writes_of (index_at (R.state stores.old) to.now) (sides from.now to.now) survey.now) (R.state stores.old) (R.state stores.new).shelves) }
+    ensures left { OnErr result (HoldFirst (writes_of (index_at (R.state stores.old) to.now) (sides from.now to.now) survey.now) (R.state stores.old) (R.state stores.new)) }
     ensures goes { GoOn (R.state stores.old) (R.state stores.new) }
-    ensures err { IfErr result (IsHalted (index_at (R.state stores.old) to.now) (record { from = from.now; to = to.now }) survey.now (R.state stores.old) (R.state stores.new).shelves) }
+    ensures err { IfErr result (IsHalted (index_at (R.state stores.old) to.now) (sides from.now to.now) survey.now (R.state stores.old) (R.state stores.new).shelves) }
 {
     let requests = requests_of(alloc, survey.seen.as_slice())?;
     let rows = renewals(alloc, from, to, survey.entries.as_slice())?;
@@ -71,11 +71,11 @@ pub fn move_all<R: Registry>(
     requires some { 0 < length (R.state stores.old).shelves }
     requires from { IsSome (index_in (R.state stores.old) from.now) }
     requires to { IsSome (index_in (R.state stores.old) to.now) }
-    ensures moved { IfOk result (λ n. AreMoved (record { from = from.now; to = to.now }) n (R.state stores.old) (R.state stores.new)) }
-    ensures left { OnErr result (IsLeft (record { from = from.now; to = to.now }) (R.state stores.old) (R.state stores.new)) }
-    ensures others { KeepOthers (record { from = from.now; to = to.now }) (R.state stores.old) (R.state stores.new) }
+    ensures moved { IfOk result (λ n. AreMoved (sides from.now to.now) n (R.state stores.old) (R.state stores.new)) }
+    ensures left { OnErr result (IsLeft (sides from.now to.now) (R.state stores.old) (R.state stores.new)) }
+    ensures others { KeepOthers (sides from.now to.now) (R.state stores.old) (R.state stores.new) }
     ensures goes { GoOn (R.state stores.old) (R.state stores.new) }
-    ensures err { IfErr result (IsUnmoved (record { from = from.now; to = to.now }) (R.state stores.old) (R.state stores.new)) }
+    ensures err { IfErr result (IsUnmoved (sides from.now to.now) (R.state stores.old) (R.state stores.new)) }
 {
     let first = first_store(stores)?;
     let survey = survey_of(alloc, stores, &first, from, to)?;
