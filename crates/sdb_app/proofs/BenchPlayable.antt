@@ -1,5 +1,5 @@
 -- The script of a bench is playable, and its moves can be made.
-use Rattle.std.proofs.Common.{◌≡◌, ◌≢◌, ℕ, zero, suc, ◌<◌, ◌≤◌, true, not, List, [], ◌∷◌, map, codes, length, refl, sym, ap, subst, arith}
+use Rattle.std.proofs.Common.{◌≡◌, ◌≢◌, ℕ, zero, suc, ◌<◌, ◌≤◌, not, List, [], ◌∷◌, codes, length, sym, ap, subst, arith}
 use Rattle.std.specs.Prelude.{◌-◌, All, AllPairs, Contains}
 use Rattle.std.proofs.lemmas.Option.{unwrap_or-slice_get}
 use Rattle.std.proofs.lemmas.List.Elements.{Contains-get_or}

@@ -7,5 +7,7 @@ pub mod Playing
 pub mod Schemas
 pub mod Sessions
 pub mod Loads
+pub mod Retiring
+pub mod Keeping
 pub mod Promising
 pub mod WhereKnown

@@ -16,10 +16,10 @@ use Rattle.sdb_catalog.specs.Calls.{Called, IsRead, IsUnread, first_contents, wi
 use Rattle.sdb_catalog.specs.Known.{IsLeftBy, IsStoredIn, first_name, state_after, state_of}
 use Rattle.sdb_catalog.specs.Opened.{IsFirstBad, Opens}
 use Rattle.sdb_types.specs.Contents.{Contents}
-use Rattle.sdb_catalog.specs.Written.{AreWritten, HasWritten, IsPut, IsStored, IsWritten, Line, entry_for, grown, written_tables}
+use Rattle.sdb_catalog.specs.Written.{AreWritten, IsPut, IsStored, IsWritten, Line, entry_for, grown, written_tables}
 use Rattle.sdb_app.specs.declared.status.Status.{Status}
 use Rattle.sdb_app.specs.Ends.{Work}
-use Rattle.sdb_app.specs.Schema.{IsSchemaKept, IsSchemaUnkept, StopsSchema}
+use Rattle.sdb_app.specs.Schema.{IsSchemaKept, StopsSchema}
 use Rattle.sdb_app.specs.Schema.StopsSchema.{Unkept, Unread}
 use Rattle.sdb_app.proofs.Headline.{begun_with}
 

@@ -1,5 +1,5 @@
 -- What `sql` promises of its work, begun with the places that there were before; and a session over stores of which less is known.
-use Rattle.std.proofs.Common.{◌≡◌, ◌∙◌, ◌⊎◌, ◌≤◌, ◌+◌, ℕ, ℤ, List, [], ◌∷◌, ◌++◌, drop, map, length, Option, refl, sym, ap, subst}
+use Rattle.std.proofs.Common.{◌≡◌, ◌∙◌, ℕ, ℤ, List, [], ◌∷◌, ◌++◌, drop, map, length, Option, refl, sym, ap, subst}
 use Rattle.std.specs.Prelude.{IfSome, IsSome, ◌<◌}
 use Rattle.sdb_types.specs.Bytes.{HasRisen}
 use Rattle.sdb_schema.specs.declared.table.Table.{Table}

@@ -1,6 +1,6 @@
 -- What a call of the program begins with and ends with.
-use Rattle.std.specs.Prelude.{◌≡◌, ℕ, ℤ, ◌≤◌, List, Option}
-use Rattle.sdb_stores.specs.Shelf.{Attached, Shelf as Counted, names_of, total_faults}
+use Rattle.std.specs.Prelude.{◌≡◌, ℕ, ℤ, ◌<◌, ◌≤◌, ◌+◌, List, Option, Some, remove}
+use Rattle.sdb_stores.specs.Shelf.{Attached, Shelf as Counted, names_of, place_of, total_faults}
 
 -- Bytes, where they are known, and how often a call for them has failed.
 pub record Stream : Type 0 where
@@ -74,6 +74,22 @@ pub record AreKept (old new : Attached) : Type 0 where
   pub names : names_of new.shelves ≡ names_of old.shelves
   pub counted : total_faults old.shelves ≤ total_faults new.shelves
   pub telling : (at : ℕ) → old.tells at → new.tells at
+
+-- The stores were kept, and then the one of that name was dropped. The others stay in their order, and known contents stay known.
+pub record AreKeptBut (name : List ℕ) (old new : Attached) : Type 0 where
+  pub mid : List Counted
+  pub names : names_of mid ≡ names_of old.shelves
+  pub counted : total_faults old.shelves ≤ total_faults mid
+  pub at : ℕ
+  pub found : place_of name (names_of mid) ≡ Some at
+  pub rest : new.shelves ≡ remove mid at
+  pub before : (i : ℕ) → i < at → old.tells i → new.tells i
+  pub after : (i : ℕ) → at ≤ i → old.tells (i + 1) → new.tells i
+
+-- The stores are kept, or all but one that may be dropped.
+pub data AreKeptOr (may_drop : List ℕ → Type 0) (old new : Attached) : Type 0 where
+  Kept : AreKept old new → AreKeptOr may_drop old new
+  Dropped : (name : List ℕ) → may_drop name → AreKeptBut name old new → AreKeptOr may_drop old new
 
 -- No command has changed what the stores hold.
 abbrev pub AreUnchanged : Work → Type 0

@@ -8,4 +8,5 @@ pub mod Schema
 pub mod Sql
 pub mod Load
 pub mod Export
+pub mod Retire
 pub mod Promise

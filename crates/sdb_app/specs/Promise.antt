@@ -1,5 +1,5 @@
 -- What each command promises, and how a call of the program may end.
-use Rattle.std.specs.Prelude.{◌≡◌, ◌⊎◌, ℕ, ◌≤◌, List, length, take, Option}
+use Rattle.std.specs.Prelude.{◌≡◌, ℕ, ◌≤◌, List, length, take, Option}
 use Rattle.sdb_types.specs.Bytes.{Appends, HasRisen}
 use Rattle.sdb_stores.specs.Shelf.{names_of}
 use Rattle.sdb_model.specs.Rows.{Name}
@@ -15,6 +15,9 @@ use Rattle.sdb_app.specs.Schema.{IsSchemaKept, StopsSchema}
 use Rattle.sdb_app.specs.Sql.{HasEndedSession}
 use Rattle.sdb_app.specs.Load.{IsLoaded, StopsLoad}
 use Rattle.sdb_app.specs.Export.{IsExported, StopsExport}
+use Rattle.sdb_app.specs.Retire.{IsStoreRetired, StopsRetire}
+use Rattle.sdb_retire.specs.Dropped.{MayRetire}
+use Rattle.sdb_retire.specs.Retired.{sides}
 
 -- What a command promises of the text that it answers, and why it ends otherwise, before anything is written.
 pub record Promise : Type 1 where
@@ -28,17 +31,25 @@ IsNotThere work s = (s ≡ status.Usage) × AreUnchanged work × (work.rest ≡ 
 abbrev pub not_there : Work → Promise
 not_there work = record { answers = λ text. ⊥; stops = IsNotThere work }
 
--- The command answers one text at its end, and its numbers are within their limits.
-abbrev pub AnswersOnce : Command → Type 0
-AnswersOnce command.Replay = Unit {0}
-AnswersOnce (command.Bench n) = n ≤ most_transactions
-AnswersOnce (command.Schema places) = Unit {0}
-AnswersOnce command.Sql = ⊥
-AnswersOnce (command.Load table mode n) = IsWithin most_rows n
-AnswersOnce (command.Export table) = Unit {0}
-AnswersOnce (command.Retire from to) = Unit {0}
-AnswersOnce (command.Alter table column kind) = Unit {0}
-AnswersOnce command.Audit = Unit {0}
+-- The command answers one text at its end. Its numbers are within their limits, and of stores of these names it retires one that may be.
+abbrev pub AnswersOnce : List Name → Command → Type 0
+AnswersOnce stores command.Replay = Unit {0}
+AnswersOnce stores (command.Bench n) = n ≤ most_transactions
+AnswersOnce stores (command.Schema places) = Unit {0}
+AnswersOnce stores command.Sql = ⊥
+AnswersOnce stores (command.Load table mode n) = IsWithin most_rows n
+AnswersOnce stores (command.Export table) = Unit {0}
+AnswersOnce stores (command.Retire from to) = MayRetire stores (sides from to)
+AnswersOnce stores (command.Alter table column kind) = Unit {0}
+AnswersOnce stores command.Audit = Unit {0}
+
+-- The command may drop the store of that name: it retires it.
+abbrev pub Drops : Command → Name → Type 0
+Drops c name = (to : Name) × (c ≡ command.Retire name to)
+
+-- These words do.
+abbrev pub WordsDrop : List Name → List (List ℕ) → Name → Type 0
+WordsDrop stores words name = (to : Name) × AreWordsOf stores (command.Retire name to) words
 
 -- no text at all
 abbrev pub unanswered : Promise
@@ -56,7 +67,7 @@ promise_of (command.Schema places) work d = undrawn d (record { answers = IsSche
 promise_of command.Sql work d = unanswered
 promise_of (command.Load table mode n) work d = record { answers = IsLoaded table mode n work d; stops = StopsLoad table mode n work d }
 promise_of (command.Export table) work d = record { answers = IsExported table work d; stops = StopsExport table work d }
-promise_of (command.Retire from to) work d = undrawn d (not_there work)
+promise_of (command.Retire from to) work d = undrawn d (record { answers = IsStoreRetired (sides from to) work; stops = StopsRetire (sides from to) work })
 promise_of (command.Alter table column kind) work d = undrawn d (not_there work)
 promise_of command.Audit work d = undrawn d (not_there work)
 

@@ -9,6 +9,7 @@ mod places;
 mod play;
 mod program;
 mod replay;
+mod retire;
 mod schema;
 mod sql;
 mod status;

@@ -2,13 +2,14 @@
 ghost use Rattle.std.specs.Prelude.{◌≡◌, ◌≢◌, ◌↔◌, ◌<◌, ◌≤◌, [], length, map, string_bytes, IfOk, IfErr, IsTrue};
 ghost use Rattle.sdb_stores.specs.Shelf.{AreDistinct, names_of};
 ghost use Rattle.sdb_words.specs.Commands.{AreWordsOf};
-ghost use Rattle.sdb_app.specs.Ends.{AreKept, draws, ends, stream, views, work_of};
-ghost use Rattle.sdb_app.specs.Promise.{AnswersOnce, EndsAs, EndsOnce, HasEnded, IsNoCommand, IsWritten, promise_of};
+ghost use Rattle.sdb_app.specs.Ends.{AreKeptOr, draws, ends, stream, views, work_of};
+ghost use Rattle.sdb_app.specs.Promise.{AnswersOnce, Drops, EndsAs, EndsOnce, HasEnded, IsNoCommand, IsWritten, WordsDrop, promise_of};
 
 use crate::bench::bench;
 use crate::export::export;
 use crate::load::load;
 use crate::replay::replay;
+use crate::retire::retire;
 use crate::schema::schema;
 use crate::sql::sql;
 use crate::status::Status;
@@ -44,12 +45,12 @@ fn answer<S: Registry, R: Source, C: Clock, I: Ids>(
     requires unplaced { (S.state stores.old).places ≡ [] }
     requires distinct { AreDistinct (names_of (S.state stores.old).shelves) }
     requires names { names.now ≡ names_of (S.state stores.old).shelves }
-    requires once { AnswersOnce command.now }
+    requires once { AnswersOnce (names_of (S.state stores.old).shelves) command.now }
     ensures answered { IfOk result (λ text. (promise_of command.now (work_of S.state (stream R.remaining R.faults) stores.old stores.new input.old input.new)
         (draws C.told I.told clock.old clock.new ids.old ids.new)).answers text) }
     ensures err { IfErr result (promise_of command.now (work_of S.state (stream R.remaining R.faults) stores.old stores.new input.old input.new)
         (draws C.told I.told clock.old clock.new ids.old ids.new)).stops }
-    ensures kept { AreKept (S.state stores.old) (S.state stores.new) }
+    ensures kept { AreKeptOr (Drops command.now) (S.state stores.old) (S.state stores.new) }
     ensures counted { R.faults input.old ≤ R.faults input.new }
 {
     match command {
@@ -59,7 +60,8 @@ fn answer<S: Registry, R: Source, C: Clock, I: Ids>(
         Command::Sql => unreachable!(),
         Command::Load(table, mode, n) => load(alloc, stores, input, clock, ids, table, *mode, *n),
         Command::Export(table) => export(alloc, stores, clock, ids, table),
-        Command::Retire(_, _) | Command::Alter(_, _, _) | Command::Audit => Err(Status::Usage),
+        Command::Retire(from, to) => retire(alloc, stores, from, to),
+        Command::Alter(_, _, _) | Command::Audit => Err(Status::Usage),
     }
 }
 
@@ -97,10 +99,10 @@ fn answer_once<S: Registry, R: Source, W: Sink, C: Clock, I: Ids>(
     requires unplaced { (S.state stores.old).places ≡ [] }
     requires distinct { AreDistinct (names_of (S.state stores.old).shelves) }
     requires names { names.now ≡ names_of (S.state stores.old).shelves }
-    requires once { AnswersOnce command.now }
+    requires once { AnswersOnce (names_of (S.state stores.old).shelves) command.now }
     ensures ended { EndsOnce command.now (work_of S.state (stream R.remaining R.faults) stores.old stores.new input.old input.new)
         (draws C.told I.told clock.old clock.new ids.old ids.new) (stream W.written W.faults output.old) (stream W.written W.faults output.new) result }
-    ensures kept { AreKept (S.state stores.old) (S.state stores.new) }
+    ensures kept { AreKeptOr (Drops command.now) (S.state stores.old) (S.state stores.new) }
     ensures counted { R.faults input.old ≤ R.faults input.new }
     ensures counted_output { W.faults output.old ≤ W.faults output.new }
 {
@@ -125,10 +127,10 @@ fn perform<S: Registry, R: Source, W: Sink, C: Clock, I: Ids>(
     requires unplaced { (S.state stores.old).places ≡ [] }
     requires distinct { AreDistinct (names_of (S.state stores.old).shelves) }
     requires names { names.now ≡ names_of (S.state stores.old).shelves }
-    requires once { command.now ≢ Command.Sql → AnswersOnce command.now }
+    requires once { command.now ≢ Command.Sql → AnswersOnce (names_of (S.state stores.old).shelves) command.now }
     ensures ended { EndsAs command.now (ends (views S.state (stream R.remaining R.faults) (stream W.written W.faults) C.told I.told)
         stores.old stores.new input.old input.new output.old output.new clock.old clock.new ids.old ids.new) result }
-    ensures kept { AreKept (S.state stores.old) (S.state stores.new) }
+    ensures kept { AreKeptOr (Drops command.now) (S.state stores.old) (S.state stores.new) }
     ensures counted { R.faults input.old ≤ R.faults input.new }
     ensures counted_output { W.faults output.old ≤ W.faults output.new }
 {
@@ -142,7 +144,8 @@ fn perform<S: Registry, R: Source, W: Sink, C: Clock, I: Ids>(
 /// Runs the program on its words, those after its name, and on the stores of a registry, at least one.
 ///
 /// It takes all places away first. A session answers line by line. Each other command does its work before it writes anything, and what it
-/// answers is then written as one text. What is said of the contents of stores is said where they are known.
+/// answers is then written as one text. What is promised of the contents of stores is promised where they are known. All stores stay
+/// attached, but for the one that `retire` drops (`kept`).
 pub fn run<S: Registry, R: Source, W: Sink, C: Clock, I: Ids>(
     alloc: Global,
     words: &[String],
@@ -156,7 +159,7 @@ pub fn run<S: Registry, R: Source, W: Sink, C: Clock, I: Ids>(
     // It ends as the command of these words may end, or as words of no command do.
     ensures ended { HasEnded (map string_bytes words.now) (ends (views S.state (stream R.remaining R.faults) (stream W.written W.faults) C.told I.told)
         stores.old stores.new input.old input.new output.old output.new clock.old clock.new ids.old ids.new) result }
-    ensures kept { AreKept (S.state stores.old) (S.state stores.new) }
+    ensures kept { AreKeptOr (WordsDrop (names_of (S.state stores.old).shelves) (map string_bytes words.now)) (S.state stores.old) (S.state stores.new) }
     ensures counted { R.faults input.old ≤ R.faults input.new }
     ensures counted_output { W.faults output.old ≤ W.faults output.new }
 {

@@ -79,7 +79,7 @@ impl Status {
             Status::Done => Txt::new(alloc, ""),
             Status::Usage => Txt::new(
                 alloc,
-                "usage: scalardb replay | sql | schema [NS=STORE]... | load NS.TABLE insert|update|upsert N | export NS.TABLE | bench N",
+                "usage: scalardb replay | sql | schema [NS=STORE]... | load NS.TABLE insert|update|upsert N | export NS.TABLE | bench N | retire FROM TO",
             ),
             Status::BadInput(n, _) => bad_input(alloc, *n),
             Status::ReadFault => Txt::new(alloc, "read fault"),

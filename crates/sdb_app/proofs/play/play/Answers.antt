@@ -1,6 +1,5 @@
 use Rattle.std.proofs.Common.{List, ◌<◌, length, subst, sym}
 use Rattle.sdb_stores.specs.Shelf.{Shelf as Counted}
-use Rattle.sdb_board.specs.Board.{shown}
 use Rattle.sdb_board.proofs.GoesOn.{goes_more, some_more}
 use Rattle.sdb_app.specs.Run.{IsBadFound}
 use Rattle.sdb_app.proofs.Headline.{kept_after, stops_after, stops_as, fit_script, outcome_is, ready_after, found_bad, found_first}

@@ -3,7 +3,10 @@ use Rattle.sdb_stores.specs.declared.place.Place.{Place}
 use Rattle.sdb_app.specs.Schema.{IsSchemaKept, StopsSchema}
 use Rattle.sdb_words.specs.declared.command.Command.{Command}
 use Rattle.sdb_app.specs.Ends.{draws, stream, work_of, work_on}
-use Rattle.sdb_app.specs.Promise.{promise_of}
+use Rattle.sdb_app.specs.Ends.AreKeptOr.{Kept}
+use Rattle.sdb_app.specs.Promise.{AnswersOnce, promise_of}
+use Rattle.sdb_stores.specs.Shelf.{names_of}
+use Rattle.sdb_app.proofs.Keeping.{kept_by}
 use Rattle.sdb_app.proofs.Playing.{err_then, ok_then}
 use Rattle.sdb_app.proofs.program.answer.Goals as goal
 
@@ -76,3 +79,44 @@ returns-in-Export-clause-err g c =
     let work = work_on (g.S.Registry.state c.args.stores.now) (g.S.Registry.state c.export.new.stores) input in
     let d = draws g.C.Clock.told g.I.Ids.told c.args.clock.now c.export.new.clock c.args.ids.now c.export.new.ids in
     subst (λ (x : Command). IfErr c.export.result (promise_of x work d).stops) (sym c.in-Export.is) (err_then _ _ c.export.result (λ s h. h input) c.export.ensures.err)
+
+pub returns-in-Retire-clause-answered : goal.returns-in-Retire-clause-answered
+returns-in-Retire-clause-answered g c =
+    let input = stream g.R.Source.remaining g.R.Source.faults c.args.input.now in
+    let work = work_on (g.S.Registry.state c.args.stores.now) (g.S.Registry.state c.retire.new.stores) input in
+    let d = draws g.C.Clock.told g.I.Ids.told c.args.clock.now c.args.clock.now c.args.ids.now c.args.ids.now in
+    subst (λ (x : Command). IfOk c.retire.result (λ text. (promise_of x work d).answers text)) (sym c.in-Retire.is)
+    (ok_then _ _ c.retire.result (λ text h. (h input, record { clock = refl; ids = refl })) c.retire.ensures.answered)
+
+pub returns-in-Retire-clause-err : goal.returns-in-Retire-clause-err
+returns-in-Retire-clause-err g c =
+    let input = stream g.R.Source.remaining g.R.Source.faults c.args.input.now in
+    let work = work_on (g.S.Registry.state c.args.stores.now) (g.S.Registry.state c.retire.new.stores) input in
+    let d = draws g.C.Clock.told g.I.Ids.told c.args.clock.now c.args.clock.now c.args.ids.now c.args.ids.now in
+    subst (λ (x : Command). IfErr c.retire.result (promise_of x work d).stops) (sym c.in-Retire.is)
+    (err_then _ _ c.retire.result (λ s h. (h input, record { clock = refl; ids = refl })) c.retire.ensures.err)
+
+---- which stores stay
+
+pub returns-in-Replay-clause-kept : goal.returns-in-Replay-clause-kept
+returns-in-Replay-clause-kept g c = Kept c.replay.ensures.kept
+
+pub returns-in-Bench-clause-kept : goal.returns-in-Bench-clause-kept
+returns-in-Bench-clause-kept g c = Kept c.bench.ensures.kept
+
+pub returns-in-Schema-clause-kept : goal.returns-in-Schema-clause-kept
+returns-in-Schema-clause-kept g c = Kept c.schema.ensures.kept
+
+pub returns-in-Load-clause-kept : goal.returns-in-Load-clause-kept
+returns-in-Load-clause-kept g c = Kept c.load.ensures.kept
+
+pub returns-in-Export-clause-kept : goal.returns-in-Export-clause-kept
+returns-in-Export-clause-kept g c = Kept c.export.ensures.kept
+
+pub returns-in-Retire-clause-kept : goal.returns-in-Retire-clause-kept
+returns-in-Retire-clause-kept g c = kept_by c.args.command.now _ _ _ _ c.in-Retire.is c.retire.ensures.kept
+
+---- what the calls require
+
+pub retire-requires : goal.retire-requires
+retire-requires g c = record { may = subst (λ (x : Command). AnswersOnce (names_of (g.S.Registry.state c.args.stores.now).shelves) x) c.in-Retire.is c.requires.once }

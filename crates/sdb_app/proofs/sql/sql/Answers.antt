@@ -1,6 +1,5 @@
 use Rattle.std.proofs.Common.{Err, ap, refl}
 use Rattle.sdb_app.specs.Ends.{ends, stream, views}
-use Rattle.sdb_app.specs.Sql.{HasEndedSession, stores_with}
 use Rattle.sdb_app.specs.Sql.HasEndedSession.{Cut, Unopened, Whole}
 use Rattle.sdb_app.proofs.Sessions.{cut_less, fault_of, whole_less}
 use Rattle.sdb_app.proofs.sql.sql.Goals as goal
