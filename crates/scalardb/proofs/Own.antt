@@ -1,9 +1,9 @@
 -- The stores of the program, once each of them is attached.
-use Rattle.std.proofs.Common.{◌≡◌, ℕ, ℤ, Option, ◌<◌, ◌+◌, zero, suc, List, [], ◌∷◌, ◌++◌, length, codes, false, true, Ok, Err, Result, is_ok, OnOk, refl, ap, subst, ◌∙◌, append_assoc, arith}
+use Rattle.std.proofs.Common.{◌≡◌, ℕ, ℤ, Option, ◌<◌, ◌≤◌, ◌+◌, zero, suc, List, [], ◌∷◌, ◌++◌, map, length, codes, false, true, Ok, Err, Result, is_ok, OnOk, refl, sym, ap, subst, ◌∙◌, append_assoc, arith}
 use Rattle.std.proofs.Math.ListN.{length-append}
 use Rattle.sdb_types.specs.Contents.{Contents}
 use Rattle.sdb_store.specs.Store.{StoreState, IsNewStore}
-use Rattle.sdb_stores.specs.Shelf.{Attached, Shelf, IsAdded, shelf_of}
+use Rattle.sdb_stores.specs.Shelf.{Attached, Shelf, IsAdded, names_of, shelf_of}
 use Rattle.sdb_app.specs.declared.status.Status.{Status}
 use Rattle.sdb_app.specs.declared.status.Status.TheVariants as status
 use Rattle.sdb_app.specs.Ends.{Ends, Stream}
@@ -63,20 +63,34 @@ ended_on_own words run s own h = (run.work.left, ended_before words own_attached
     by_place (suc (suc zero)) h = own.third
     by_place (suc (suc (suc n))) h = absurd (omega (arith, h))
 
--- A call on them after a store of the name `file`.
-pub ended_over : (words : List (List ℕ)) (file : Shelf) (run : Ends) (s : Status) → file.name ≡ codes "file" → AreOwnAfter (file ∷ []) run.work.old → HasEnded words run s → HasEndedOver words (outside_of run) s
-ended_over words file run s named own h = (file, named, (run.work.left, ended_before words (attached_over file) run (record { same = own.are; telling = by_place }) s h))
-  where
-    by_place : (at : ℕ) → (0 < at) × (at < 4) → run.work.old.tells at
-    by_place zero h = absurd (omega (arith, h.0))
-    by_place (suc zero) h = own.first
-    by_place (suc (suc zero)) h = own.second
-    by_place (suc (suc (suc zero))) h = own.third
-    by_place (suc (suc (suc (suc n)))) h = absurd (omega (arith, h.1))
+-- What holds of the three places after others holds of each within them.
+within_three : (P : ℕ → Type 0) (n at : ℕ) → ((k : ℕ) → k ≡ n → P k) → ((k : ℕ) → k ≡ n + 1 → P k) → ((k : ℕ) → k ≡ n + 2 → P k) → n ≤ at → at < n + 3 → P at
+within_three P zero zero first second third low high = first zero refl
+within_three P zero (suc zero) first second third low high = second (suc zero) (omega (arith))
+within_three P zero (suc (suc zero)) first second third low high = third (suc (suc zero)) (omega (arith))
+within_three P zero (suc (suc (suc at))) first second third low high = absurd (omega (arith, high))
+within_three P (suc n) zero first second third low high = absurd (omega (arith, low))
+within_three P (suc n) (suc at) first second third low high =
+    within_three (λ k. P (suc k)) n at (λ k is. first (suc k) (omega (arith, is))) (λ k is. second (suc k) (omega (arith, is))) (λ k is. third (suc k) (omega (arith, is))) (omega (arith, low)) (omega (arith, high))
 
--- The first store of all was attached.
-pub over_bare : {T E : Type 0} (r : Result T E) (n : List ℕ) (a : StoreState) (none one : Attached) → OnOk r (IsAdded n a none one) → is_ok r ≡ true → none.shelves ≡ [] → one.shelves ≡ shelf_of n a ∷ []
-over_bare r n a none one added ok bare = (passed _ r ok added).shelves ∙ ap (λ (ss : List Shelf). ss ++ shelf_of n a ∷ []) bare
+-- The program's own stores are known.
+known_after : (files : List Shelf) (stores : Attached) → AreOwnAfter files stores → (at : ℕ) → (length files ≤ at) × (at < length files + 3) → stores.tells at
+known_after files stores own at h =
+    within_three stores.tells (length files) at (λ k is. subst (λ (i : ℕ). stores.tells i) (sym is) own.first) (λ k is. subst (λ (i : ℕ). stores.tells i) (sym is) own.second) (λ k is. subst (λ (i : ℕ). stores.tells i) (sym is) own.third) h.0 h.1
+
+-- A call on them after stores of these names.
+pub ended_over : (names words : List (List ℕ)) (files : List Shelf) (run : Ends) (s : Status) → names_of files ≡ names → AreOwnAfter files run.work.old → HasEnded words run s → HasEndedOver names words (outside_of run) s
+ended_over names words files run s named own h =
+    (files, named, (run.work.left, ended_before words (attached_over files) run (record { same = own.are; telling = known_after files run.work.old own }) s h))
+
+-- One more store was attached.
+pub one_more : {T E : Type 0} (r : Result T E) (n : List ℕ) (a : StoreState) (before : List Shelf) (old new : Attached) → OnOk r (IsAdded n a old new) → is_ok r ≡ true → old.shelves ≡ before → new.shelves ≡ before ++ shelf_of n a ∷ []
+one_more r n a before old new added ok were = (passed _ r ok added).shelves ∙ ap (λ (ss : List Shelf). ss ++ shelf_of n a ∷ []) were
+
+-- There is a store once one was attached.
+pub some_added : {T E : Type 0} (r : Result T E) (n : List ℕ) (a : StoreState) (old new : Attached) → OnOk r (IsAdded n a old new) → is_ok r ≡ true → 0 < length new.shelves
+some_added r n a old new added ok =
+    subst (λ (ss : List Shelf). 0 < length ss) (sym (passed _ r ok added).shelves) (subst (λ (k : ℕ). 0 < k) (sym (length-append old.shelves (shelf_of n a ∷ []))) (omega (arith)))
 
 -- what is as it was before a call
 abbrev pub untouched : Stream → Stream → Option (List ℤ) → Option (List ℕ) → Outside
@@ -86,5 +100,9 @@ untouched input output clock ids = record { input = input; rest = input; output 
 pub starved : (stores : Attached) (words : List (List ℕ)) (input output : Stream) (clock : Option (List ℤ)) (ids : Option (List ℕ)) → HasEndedOn stores words (untouched input output clock ids) status.NoMemory
 starved stores words input output clock ids = (stores.shelves, NoCommand tt (record { unchanged = refl; unread = refl; unwritten = refl; undrawn = record { clock = refl; ids = refl } }))
 
-pub starved_over : (words : List (List ℕ)) (input output : Stream) (clock : Option (List ℤ)) (ids : Option (List ℕ)) → HasEndedOver words (untouched input output clock ids) status.NoMemory
-starved_over words input output clock ids = (new_store (codes "file"), refl, starved (attached_over (new_store (codes "file"))) words input output clock ids)
+pub starved_over : (names words : List (List ℕ)) (input output : Stream) (clock : Option (List ℤ)) (ids : Option (List ℕ)) → HasEndedOver names words (untouched input output clock ids) status.NoMemory
+starved_over names words input output clock ids = (map new_store names, named names, starved (attached_over (map new_store names)) words input output clock ids)
+  where
+    named : (ns : List (List ℕ)) → names_of (map new_store ns) ≡ ns
+    named [] = refl
+    named (n ∷ ns) = ap (λ rest. n ∷ rest) (named ns)

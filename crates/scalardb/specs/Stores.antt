@@ -1,7 +1,7 @@
 -- The stores of the program, and how a call of it on them may end.
-use Rattle.std.specs.Prelude.{◌≡◌, ℕ, ℤ, ◌<◌, List, [], ◌∷◌, Option, codes}
+use Rattle.std.specs.Prelude.{◌≡◌, ℕ, ℤ, ◌<◌, ◌≤◌, ◌+◌, List, [], ◌∷◌, ◌++◌, length, Option, codes}
 use Rattle.std.specs.FinMap.{empty}
-use Rattle.sdb_stores.specs.Shelf.{Attached, Shelf}
+use Rattle.sdb_stores.specs.Shelf.{Attached, Shelf, names_of}
 use Rattle.sdb_app.specs.declared.status.Status.{Status}
 use Rattle.sdb_app.specs.Ends.{Ends, Stream}
 use Rattle.sdb_app.specs.Promise.{HasEnded}
@@ -18,9 +18,9 @@ own_stores = new_store (codes "ordered") ∷ new_store (codes "hashed") ∷ new_
 abbrev pub own_attached : Attached
 own_attached = record { places = []; shelves = own_stores; tells = λ at. at < 3 }
 
--- the same, where another store comes first, whose contents are not known
-abbrev pub attached_over : Shelf → Attached
-attached_over file = record { places = []; shelves = file ∷ own_stores; tells = λ at. (0 < at) × (at < 4) }
+-- the same, after other stores, whose contents are not known
+abbrev pub attached_over : List Shelf → Attached
+attached_over files = record { places = []; shelves = files ++ own_stores; tells = λ at. (length files ≤ at) × (at < length files + 3) }
 
 -- What a call is handed beside its stores, before and after it: the input, the output, and the answers that the clock and the ids gave,
 -- where these are known.
@@ -47,6 +47,6 @@ ends_on stores left o =
 abbrev pub HasEndedOn : Attached → List (List ℕ) → Outside → Status → Type 0
 HasEndedOn stores words o s = (left : List Shelf) × HasEnded words (ends_on stores left o) s
 
--- The same on the program's own stores after one of the name `file`.
-abbrev pub HasEndedOver : List (List ℕ) → Outside → Status → Type 0
-HasEndedOver words o s = (file : Shelf) × (file.name ≡ codes "file") × HasEndedOn (attached_over file) words o s
+-- The same on the program's own stores after others of these names.
+abbrev pub HasEndedOver : List (List ℕ) → List (List ℕ) → Outside → Status → Type 0
+HasEndedOver names words o s = (files : List Shelf) × (names_of files ≡ names) × HasEndedOn (attached_over files) words o s

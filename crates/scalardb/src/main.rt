@@ -7,7 +7,7 @@ mod outside;
 mod stores;
 
 use crate::outside::{InFile, Input, Output, RandomIds, Time};
-use crate::stores::{run_on_own, run_over_file};
+use crate::stores::{run_on_own, run_over_file, run_over_files};
 use sdb_app::Status;
 use sdb_sqlite::{Kept, KeptRefused};
 use sdb_store::Store;
@@ -53,6 +53,14 @@ impl From<KeptRefused> for Unstarted {
     }
 }
 
+/// The databases in files that come before the program's own stores.
+#[derive(Drop)]
+enum Files {
+    None,
+    One(InFile),
+    Two(InFile, InFile),
+}
+
 fn ended(rt: &HostRuntime, line: &str, code: u8) -> ExitCode {
     let _ = eprintln!(rt; "{line}");
     ExitCode::from(code)
@@ -73,9 +81,9 @@ fn words(alloc: Global, rt: &HostRuntime) -> Result<Vec<String>, Status> {
     Ok(words)
 }
 
-// The path of the database in a file, where the environment names one.
-fn file_path(rt: &HostRuntime) -> Result<Option<String>, Unstarted> {
-    match env::var(rt, "SCALARDB_FILE") {
+// The path of a database in a file, where the environment names one by this variable.
+fn path_in(rt: &HostRuntime, variable: &str) -> Result<Option<String>, Unstarted> {
+    match env::var(rt, variable) {
         Ok(path) => Ok(Some(path)),
         Err(VarError::NotPresent) => Ok(None),
         Err(VarError::OutOfMemory) => Err(Unstarted::NoMemory),
@@ -92,6 +100,25 @@ fn open_file(rt: &HostRuntime, path: &str) -> Result<InFile, Unstarted> {
         },
         Err(Error::SqliteFailure(ErrorCode::OutOfMemory)) => Err(Unstarted::NoMemory),
         Err(_) => Err(Unstarted::NoDatabase),
+    }
+}
+
+// The database in the file that the environment names by this variable, where it names one.
+fn open_named(rt: &HostRuntime, variable: &str) -> Result<Option<InFile>, Unstarted> {
+    match path_in(rt, variable)? {
+        Some(path) => Ok(Some(open_file(rt, path.as_str())?)),
+        None => Ok(None),
+    }
+}
+
+// The databases in files that the environment names. A second one is passed over where there is no first.
+fn open_files(rt: &HostRuntime) -> Result<Files, Unstarted> {
+    let Some(file) = open_named(rt, "SCALARDB_FILE")? else {
+        return Ok(Files::None);
+    };
+    match open_named(rt, "SCALARDB_FILE2")? {
+        Some(file2) => Ok(Files::Two(file, file2)),
+        None => Ok(Files::One(file)),
     }
 }
 
@@ -114,10 +141,11 @@ fn ids_of(rt: &HostRuntime, words: &[String]) -> Result<RandomIds, Unstarted> {
     }
 }
 
-// Runs the program on standard input and output, and on its own stores.
+// Runs the program on standard input and output, on these databases in files, and on its own stores.
 fn run_streams(
     rt: &HostRuntime,
     words: &[String],
+    files: Files,
     mut ids: RandomIds,
     database: Kept<MemStore>,
 ) -> ExitCode
@@ -127,61 +155,49 @@ fn run_streams(
     let mut input = Input::new(rt);
     let mut output = Output::new(rt);
     let mut clock = Time::new(rt);
-    let status = run_on_own(
-        alloc,
-        words,
-        database,
-        &mut input,
-        &mut output,
-        &mut clock,
-        &mut ids,
-    );
-    status_end(alloc, rt, status)
-}
-
-// The same, over the file at a path.
-fn run_streams_over(
-    rt: &HostRuntime,
-    words: &[String],
-    path: &str,
-    mut ids: RandomIds,
-    database: Kept<MemStore>,
-) -> ExitCode
-    requires new { IsNewStore (⟦<Kept<MemStore> as Store>⟧.state database) }
-{
-    let alloc = rt.alloc();
-    let file = match open_file(rt, path) {
-        Ok(file) => file,
-        Err(cause) => return ended(rt, cause.line(), cause.code()),
+    let status = match files {
+        Files::None => run_on_own(
+            alloc,
+            words,
+            database,
+            &mut input,
+            &mut output,
+            &mut clock,
+            &mut ids,
+        ),
+        Files::One(file) => run_over_file(
+            alloc,
+            words,
+            file,
+            database,
+            &mut input,
+            &mut output,
+            &mut clock,
+            &mut ids,
+        ),
+        Files::Two(file, file2) => run_over_files(
+            alloc,
+            words,
+            (file, file2),
+            database,
+            &mut input,
+            &mut output,
+            &mut clock,
+            &mut ids,
+        ),
     };
-    let mut input = Input::new(rt);
-    let mut output = Output::new(rt);
-    let mut clock = Time::new(rt);
-    let status = run_over_file(
-        alloc,
-        words,
-        file,
-        database,
-        &mut input,
-        &mut output,
-        &mut clock,
-        &mut ids,
-    );
     status_end(alloc, rt, status)
 }
 
 // Runs the program on these words.
 fn run_words(rt: &HostRuntime, words: &[String]) -> Result<ExitCode, Unstarted> {
-    let path = file_path(rt)?;
     let ids = ids_of(rt, words)?;
+    let files = open_files(rt)?;
     let database = match Kept::in_memory(rt.alloc()) {
         Ok(database) => database,
         Err(refused) => return Err(Unstarted::from(refused)),
     };
-    match path {
-        Some(path) => Ok(run_streams_over(rt, words, path.as_str(), ids, database)),
-        None => Ok(run_streams(rt, words, ids, database)),
-    }
+    Ok(run_streams(rt, words, files, ids, database))
 }
 
 fn main(rt: HostRuntime) -> ExitCode {

@@ -1,11 +1,11 @@
-use Rattle.std.proofs.Common.{rules, refl, sym, subst, ap, ◌∙◌}
+use Rattle.std.proofs.Common.{rules, List, ℕ, [], ◌∷◌, codes, refl, sym, subst, ap, ◌∙◌}
 use Rattle.std.specs.Prelude.{map}
 use Rattle.std.specs.String.{string_bytes}
 use denote.Param.Object.{read_made}
 use Rattle.sdb_store.specs.Store.{StoreState, IsNewStore}
 use Rattle.sdb_store.specs.Fate.{memory_state}
 use Rattle.scalardb.proofs.stores.run_over_file.OwnLists as lists
-use Rattle.scalardb.proofs.Own.{all_own, ended_over, over_bare, starved_over}
+use Rattle.scalardb.proofs.Own.{all_own, ended_over, one_more, starved_over}
 use Rattle.scalardb.proofs.stores.run_over_file.Goals as goal
 
 -- What each box shows is what the store in it does.
@@ -19,19 +19,19 @@ returns g c =
     let database = State3 ∙ ap (λ k. (lists.own-1.entry lists.at-1-4).1.state k) c.in-Ok-Ok-Ok-Ok.ensures'''.ok in
     record {
       ended =
-          ended_over _ _ _ _ c.in-Ok-Ok.ensures.ok
+          ended_over _ _ _ _ _ (ap (λ (n : List ℕ). n ∷ []) c.in-Ok-Ok.ensures.ok)
           (all_own _ c.attach-2.result c.attach-3.result c.attach-4.result _ _ _ _ _ _ _ _ _ _ c.attach-2.ensures.ok c.attach-3.ensures.ok c.attach-4.ensures.ok
-          (over_bare c.attach.result _ _ _ _ c.attach.ensures.ok (search rules) c.new-stores.ensures.stores) (search rules) (search rules) (search rules)
+          (one_more c.attach.result _ _ [] _ _ c.attach.ensures.ok (search rules) c.new-stores.ensures.stores) (search rules) (search rules) (search rules)
           c.in-Ok-Ok.ensures'.0 c.in-Ok-Ok.ensures'.1 c.in-Ok-Ok.ensures'.2
           (subst IsNewStore (sym ordered) (record { telling = tt; empty = refl; sound = refl; unused = refl })) (subst IsNewStore (sym hashed) (record { telling = tt; empty = refl; sound = refl; unused = refl })) (subst IsNewStore (sym database) c.requires.new))
           c.run.ensures.ended;
     }
 
 pub returns-in_default : goal.returns-in_default
-returns-in_default g c = record { ended = starved_over (map string_bytes c.args.words.now) _ _ _ _ }
+returns-in_default g c = record { ended = starved_over (codes "file" ∷ []) (map string_bytes c.args.words.now) _ _ _ _ }
 
 pub returns-in_default-2 : goal.returns-in_default-2
-returns-in_default-2 g c = record { ended = starved_over (map string_bytes c.args.words.now) _ _ _ _ }
+returns-in_default-2 g c = record { ended = starved_over (codes "file" ∷ []) (map string_bytes c.args.words.now) _ _ _ _ }
 
 pub returns-then-not-zeroth : goal.returns-then-not-zeroth
-returns-then-not-zeroth g c = record { ended = starved_over (map string_bytes c.args.words.now) _ _ _ _ }
+returns-then-not-zeroth g c = record { ended = starved_over (codes "file" ∷ []) (map string_bytes c.args.words.now) _ _ _ _ }
