@@ -6,6 +6,7 @@ ghost use Rattle.sdb_types.specs.Draws.{counted as next_number};
 use crate::run::{Call, On, ends};
 use sdb_hashed::Hashed;
 use sdb_ordered::Ordered;
+use sdb_sqlite::Kept;
 use sdb_store::{Fails, Store};
 use sdb_stores::Stores;
 use sdb_types::{Condition, Key, Name, Record, Reply, Span};
@@ -88,6 +89,11 @@ fn attach_hashed(alloc: Global, stores: &mut Stores) -> Result<bool, Fail> {
     attach(alloc, stores, "hashed", Box::new(alloc, hashed)?)
 }
 
+fn attach_sqlite(alloc: Global, stores: &mut Stores) -> Result<bool, Fail> {
+    let database = Kept::in_memory(alloc)?;
+    attach(alloc, stores, "sqlite", Box::new(alloc, database)?)
+}
+
 // The store `ordered`, of which the call with this number finds no memory.
 fn attach_short(alloc: Global, stores: &mut Stores, call: u64) -> Result<bool, Fail> {
     let short = Short {
@@ -109,6 +115,20 @@ pub fn attach_all(alloc: Global, stores: &mut Stores, on: On) -> Result<bool, Fa
     match on {
         On::Two => {
             Ok(attach_ordered(alloc, stores, Fails::new(alloc))? && attach_hashed(alloc, stores)?)
+        }
+        On::Three => {
+            Ok(
+                attach_ordered(alloc, stores, Fails::new(alloc))?
+                    && attach_hashed(alloc, stores)?
+                    && attach_sqlite(alloc, stores)?,
+            )
+        }
+        On::TwoFailing(call, after) => {
+            let failing = fails_at(alloc, call, after)?;
+            Ok(attach_ordered(alloc, stores, failing)? && attach_hashed(alloc, stores)?)
+        }
+        On::TwoShort(call) => {
+            Ok(attach_short(alloc, stores, call)? && attach_hashed(alloc, stores)?)
         }
         On::One => attach_ordered(alloc, stores, Fails::new(alloc)),
         On::Failing(call, after) => { attach_ordered(alloc, stores, fails_at(alloc, call, after)?) }

@@ -111,7 +111,7 @@ pub const STORE_FAULT: Refusal = Refusal {
     code: 6,
 };
 
-const NO_MEMORY: Refusal = Refusal {
+pub const NO_MEMORY: Refusal = Refusal {
     end: End::NoMemory,
     line: "out of memory",
     code: 7,
@@ -123,9 +123,9 @@ const NO_SCHEMA: Refusal = Refusal {
     code: 3,
 };
 
-const USAGE: Refusal = Refusal {
+pub const USAGE: Refusal = Refusal {
     end: End::Usage,
-    line: "usage: scalardb replay | sql | schema [NS=STORE]... | load NS.TABLE insert|update|upsert N | export NS.TABLE | bench N",
+    line: "usage: scalardb replay | sql | schema [NS=STORE]... | load NS.TABLE insert|update|upsert N | export NS.TABLE | bench N | retire FROM TO",
     code: 2,
 };
 
@@ -418,8 +418,8 @@ fn words_of_no_command(rt: HostRuntime) -> Result<(), Fail> {
     all_cases(rt.alloc(), "words", UNKNOWN.as_slice())
 }
 
-// A row of the catalog without a definition.
-static BAD_ROW: Row = Row {
+/// A row of the catalog without a definition.
+pub const BAD_ROW: Row = Row {
     place: Place {
         ns: "scalardb",
         table: "metadata",

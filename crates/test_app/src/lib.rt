@@ -8,6 +8,8 @@ mod commands;
 #[cfg(test)]
 mod program;
 #[cfg(test)]
+mod retired;
+#[cfg(test)]
 mod run;
 #[cfg(test)]
 mod session;

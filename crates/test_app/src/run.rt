@@ -68,11 +68,15 @@ fn end_of(status: &Status) -> End {
     }
 }
 
-/// The stores that a call is made on: `ordered` and `hashed` in memory, or `ordered` alone; one of its calls, by its number, may fail,
-/// after its effect or before it, or find no memory.
+/// The stores that a call is made on: `ordered` and `hashed` in memory, or `ordered` alone; one of the calls of `ordered`, by its number,
+/// may fail, after its effect or before it, or find no memory.
 #[derive(Clone, Copy)]
 pub enum On {
     Two,
+    /// These, and the database `sqlite`.
+    Three,
+    TwoFailing(u64, bool),
+    TwoShort(u64),
     One,
     Failing(u64, bool),
     Short(u64),

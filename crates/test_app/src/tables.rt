@@ -11,19 +11,19 @@ use std::alloc::Global;
 use std::test::Fail;
 use test_builders::{Case, all_cases};
 
-const INSERT: &[&str] = &["load", "shop.orders", "insert", "2"];
+pub const INSERT: &[&str] = &["load", "shop.orders", "insert", "2"];
 
 const UPDATE: &[&str] = &["load", "shop.orders", "update", "2"];
 
 const UPSERT: &[&str] = &["load", "shop.orders", "upsert", "1000"];
 
-const EXPORT: &[&str] = &["export", "shop.orders"];
+pub const EXPORT: &[&str] = &["export", "shop.orders"];
 
-const ORDERS: &[u8] = b"customer,placed,note\n1,100,first\n1,200,\"a,b\"\n2,50,\\N\n";
+pub const ORDERS: &[u8] = b"customer,placed,note\n1,100,first\n1,200,\"a,b\"\n2,50,\\N\n";
 
-const LOADED: &[u8] = b"1 rows 2 written 2 committed\n2 rows 1 written 1 committed\n";
+pub const LOADED: &[u8] = b"1 rows 2 written 2 committed\n2 rows 1 written 1 committed\n";
 
-const EXPORTED: &[u8] = b"customer,note,placed\n1,\"a,b\",200\n1,first,100\n2,\\N,50\n";
+pub const EXPORTED: &[u8] = b"customer,note,placed\n1,\"a,b\",200\n1,first,100\n2,\\N,50\n";
 
 const NO_TABLE: Refusal = Refusal {
     end: End::NoTable,
