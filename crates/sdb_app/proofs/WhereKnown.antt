@@ -1,5 +1,5 @@
 -- What is said of known contents alone, as other views of the same stores have it.
-use Rattle.std.proofs.Common.{◌≡◌, ◌∙◌, ℕ, List, [], ◌∷◌, map, refl, sym, ap, subst}
+use Rattle.std.proofs.Common.{◌≡◌, ◌∙◌, ℕ, List, [], ◌∷◌, map, None, refl, sym, ap, subst}
 use Rattle.std.specs.Prelude.{slice_get}
 use Rattle.sdb_types.specs.declared.key.Key.{Key}
 use Rattle.sdb_types.specs.declared.key.TableName.{TableName}
@@ -16,9 +16,11 @@ use Rattle.sdb_model.specs.Transactions.{Recorded}
 use Rattle.sdb_board.specs.Board.{AreFitFor, KnownStay, placed, shown}
 use Rattle.sdb_board.specs.Opening.{HoldNothing, IsFirstKey, first_key, records_in, records_of}
 use Rattle.sdb_board.proofs.GoesOn.{fit_for_as}
+use Rattle.sdb_dump.specs.Decided.{is_decided}
 use Rattle.sdb_dump.specs.Dumped.{dump_by}
-use Rattle.sdb_dump.specs.Held.{IsOddIn}
-use Rattle.sdb_dump.specs.Odd.{IsOddAt}
+use Rattle.sdb_dump.specs.Held.{AreDecisions, IsOddIn}
+use Rattle.sdb_dump.specs.Odd.{IsOddAt, first_ill_formed}
+use Rattle.sdb_dump.specs.Refused.{first_unlike}
 use Rattle.sdb_world.specs.Played.{IsReadWhereKnown}
 use Rattle.sdb_app.specs.Run.{placed_as}
 
@@ -72,7 +74,12 @@ module _ (a b : Attached) (s : ShowsAs a b) where
   }
 
   pub odd_as : (catalog : List Table) (key : Key) → IsOddIn catalog b key → IsOddIn catalog a key
-  odd_as catalog key h = record { played = h.played; odd = λ fit. over (λ (ps : List Place) (ss : List Shelf). IsOddAt catalog ps ss key) (h.odd (s.fit key.table fit)) }
+  odd_as catalog key h = record {
+    played = h.played;
+    decide = h.decide;
+    decisions = λ coordinator. over (λ (ps : List Place) (ss : List Shelf). AreDecisions ps ss h.decide) (h.decisions (s.fit coordinator_table coordinator));
+    odd = λ fit. over (λ (ps : List Place) (ss : List Shelf). IsOddAt catalog ps ss h.decide key) (h.odd (s.fit key.table fit));
+  }
 
   pub read_as : (catalog : List Table) (o : Outcome) → IsReadWhereKnown catalog b o → IsReadWhereKnown catalog a o
   read_as catalog o h = record {
@@ -83,6 +90,10 @@ module _ (a b : Attached) (s : ShowsAs a b) where
       named = h.dumped.named;
       each = λ i t dump here there fit coordinator.
           over (λ (ps : List Place) (ss : List Shelf). dump ≡ dump_by (decision_at ps ss) t (records_of ps ss t.name)) (h.dumped.each i t dump here there (s.fit t.name fit) (s.fit coordinator_table coordinator));
+    };
+    well_formed = record {
+      rows = λ coordinator. over (λ (ps : List Place) (ss : List Shelf). first_unlike is_decided (records_of ps ss coordinator_table) ≡ None) (h.well_formed.rows (s.fit coordinator_table coordinator));
+      records = λ coordinator i t here fit. over (λ (ps : List Place) (ss : List Shelf). first_ill_formed (decision_at ps ss) ps ss t ≡ None) (h.well_formed.records (s.fit coordinator_table coordinator) i t here (s.fit t.name fit));
     };
   }
 

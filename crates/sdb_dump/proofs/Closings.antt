@@ -1,5 +1,5 @@
 -- The closing dump, scan by scan.
-use Rattle.std.proofs.Common.{◌≡◌, ◌≢◌, ◌∙◌, ◌⊎◌, inl, inr, ℕ, zero, suc, ◌+◌, ◌<◌, ◌^◌, Bool, true, false, cond, List, [], ◌∷◌, ◌++◌, length, take, Option, Some, None, refl, sym, ap, subst, arith}
+use Rattle.std.proofs.Common.{◌≡◌, ◌≢◌, ◌∙◌, inl, inr, ℕ, zero, suc, ◌+◌, ◌<◌, ◌^◌, Bool, true, false, cond, List, [], ◌∷◌, ◌++◌, length, take, Option, Some, None, refl, sym, ap, subst, arith}
 use Rattle.std.specs.Prelude.{AllPairs, Contains, IsSomeAnd, find, is_some, map, not, slice_get}
 use Rattle.std.specs.List.{AllByRecursion, list_all}
 use Rattle.std.specs.Option.{option_map}
@@ -18,7 +18,6 @@ use Rattle.sdb_types.proofs.Bools.{and_first, and_second}
 use Rattle.sdb_types.proofs.KeyOrder.{table_exact}
 use Rattle.sdb_record.specs.declared.coordinator.Decided.{Decided}
 use Rattle.sdb_record.specs.Coordinator.{coordinator_table, is_coordinator_table}
-use Rattle.sdb_record.specs.Meta.{is_taken}
 use Rattle.sdb_schema.specs.declared.table.Table.{Table}
 use Rattle.sdb_stores.specs.Shelf.{Attached}
 use Rattle.sdb_stores.specs.declared.place.Place.{Place as Placed}
@@ -31,16 +30,17 @@ use Rattle.sdb_board.specs.Board.{AreFit, AreFitFor, GoOn, HoldTheSame, KnownSta
 use Rattle.sdb_board.specs.Opening.{records_in, records_of, table_names, whole}
 use Rattle.sdb_board.proofs.Empty.{records_stay}
 use Rattle.sdb_board.proofs.GoesOn.{fit_for, fit_for_on}
-use Rattle.sdb_board.proofs.Lists.{all_at}
-use Rattle.sdb_board.proofs.RunTables.{each_found, each_played, names_more}
+use Rattle.sdb_board.proofs.Lists.{all_at, take_suc}
+use Rattle.sdb_board.proofs.RunTables.{each_played, names_more}
 use Rattle.sdb_dump.specs.Decided.{decision_among, is_decided, recorded_among}
-use Rattle.sdb_dump.specs.Dumped.{dump_by}
-use Rattle.sdb_dump.specs.Held.{AreDumps, AreDumpsUnder, AreDumpsWhereKnown, AreRecorded, IsOddIn, IsUntaken, IsUntakenAmong, dump_in, dumps_in, first_untaken_in}
+use Rattle.sdb_dump.specs.Dumped.{dump_by, is_well_formed}
+use Rattle.sdb_dump.specs.Held.{AreDecisions, AreDumps, AreDumpsUnder, AreDumpsWhereKnown, AreRecorded, AreWellFormedUnder, AreWellFormedWhereKnown, IsIllFormed, IsIllFormedAmong, IsOddIn, dump_in, dumps_in, first_ill_formed_in}
 use Rattle.sdb_dump.specs.Odd.{first_in, first_odd, first_of}
 use Rattle.sdb_dump.specs.Refused.{first_unlike}
 use Rattle.sdb_dump.proofs.Coordinated.{IsCommitted, recorded_all, recorded_has, recorded_once}
-use Rattle.sdb_dump.proofs.Images.{AreDecisions, decision_there, dump_same, dumps_are}
-use Rattle.sdb_dump.proofs.OddRecords.{first_behind, first_same, none_behind, odd_record, odd_row}
+use Rattle.sdb_dump.proofs.Images.{decision_there, dump_same, dumps_are, first_ill_formed_same}
+use Rattle.sdb_dump.proofs.Lists.{contains_at, last_or_before}
+use Rattle.sdb_dump.proofs.OddRecords.{first_behind, first_same, none_of_all, odd_record, odd_row}
 use Rattle.sdb_types.proofs.Basics.{all_each, none_some, or_second, some_is}
 
 ---- tables of the run
@@ -56,8 +56,15 @@ played_at catalog i t here = all_at (λ (u : Table). is_played catalog u.name �
 pub dump_behind : (decide : TxId → Option Decided) (old mid : Attached) (t : Table) → GoOn old mid → KnownStay old mid → AreFitFor t.name old → dump_in decide mid t ≡ dump_in decide old t
 dump_behind decide old mid t goes stay fit = ap (dump_by decide t) (records_stay old mid t.name goes stay fit)
 
-pub untaken_behind : (old mid : Attached) (t : Table) → GoOn old mid → KnownStay old mid → AreFitFor t.name old → first_untaken_in mid t ≡ first_untaken_in old t
-untaken_behind old mid t goes stay fit = ap (first_unlike is_taken) (records_stay old mid t.name goes stay fit)
+ill_formed_behind : (decide : TxId → Option Decided) (old mid : Attached) (t : Table) → GoOn old mid → KnownStay old mid → AreFitFor t.name old → first_ill_formed_in decide mid t ≡ first_ill_formed_in decide old t
+ill_formed_behind decide old mid t goes stay fit = ap (first_unlike (is_well_formed decide t)) (records_stay old mid t.name goes stay fit)
+
+-- what is so of each is so of the first ones
+all_front : {A : Type 0} (P : A → Type 0) (n : ℕ) (xs : List A) → AllByRecursion P xs → AllByRecursion P (take n xs)
+all_front P zero [] all = tt
+all_front P zero (x ∷ xs) all = tt
+all_front P (suc n) [] all = tt
+all_front P (suc n) (x ∷ xs) all = (all.0, all_front P n xs all.1)
 
 -- one table more
 pub named_more : (ts : List Table) (i : ℕ) (t : Table) (before after : List TableDump) (d : TableDump) → slice_get ts i ≡ Some t → map (λ (x : TableDump). x.name) before ≡ table_names (take i ts) → d.name ≡ t.name → after ≡ before ++ d ∷ []
@@ -81,15 +88,6 @@ dumps_more decide old mid ts i t before after d here size goes stay so is pushed
           sym k.1 ∙ is (fit_for_on old mid t.name goes fit_t) ∙ dump_behind decide old mid t goes stay fit_t ∙ ap (dump_in decide old) same
           )
     ]
-  where
-    last_or_before : (xs : List TableDump) (x : TableDump) (k : ℕ) (y : TableDump) → slice_get (xs ++ x ∷ []) k ≡ Some y → (slice_get xs k ≡ Some y) ⊎ ((k ≡ length xs) × (x ≡ y))
-    last_or_before [] x zero y e = inr (refl, some_is x y e)
-    last_or_before [] x (suc k) y e = absurd (none_some y e)
-    last_or_before (z ∷ xs) x zero y e = inl e
-    last_or_before (z ∷ xs) x (suc k) y e = elim (last_or_before xs x k y e) [
-      | inl h ↦ inl h
-      | inr h ↦ inr (ap suc h.0, h.1)
-    ]
 
 -- all dumps, where all stores are known
 pub dumps_all : (decide : TxId → Option Decided) (stores : Attached) (ts : List Table) (ds : List TableDump) → map (λ (x : TableDump). x.name) ds ≡ table_names ts → AreDumpsUnder decide ts stores ds → AllByRecursion (λ (t : Table). AreFitFor t.name stores) ts → ds ≡ dumps_in decide stores ts
@@ -112,24 +110,29 @@ each_fit catalog stores fit =
 pub coordinator_fit : (catalog : List Table) (stores : Attached) → AreFit catalog stores → AreFitFor coordinator_table stores
 coordinator_fit catalog stores fit = fit_for catalog stores coordinator_table (coordinator_played catalog coordinator_table refl) fit
 
--- a table more whose records are all taken
-pub taken_more : (old mid : Attached) (ts : List Table) (i : ℕ) (t : Table) → slice_get ts i ≡ Some t → GoOn old mid → KnownStay old mid → AreFitFor t.name old → first_in (first_untaken_in old) (take i ts) ≡ None → (AreFitFor t.name mid → first_untaken_in mid t ≡ None)
-    → first_in (first_untaken_in old) (take (i + 1) ts) ≡ None
-taken_more old mid ts i t here goes stay fit before last =
-    ap (λ (k : ℕ). first_in (first_untaken_in old) (take k ts)) (add-one i)
-    ∙ none_behind (first_untaken_in old) ts i t here before (sym (untaken_behind old mid t goes stay fit) ∙ last (fit_for_on old mid t.name goes fit))
+-- a table more whose records are all well formed
+pub well_formed_more : (decide : TxId → Option Decided) (old mid : Attached) (ts : List Table) (i : ℕ) (t : Table) → slice_get ts i ≡ Some t → GoOn old mid → KnownStay old mid → AreWellFormedUnder decide (take i ts) old → (AreFitFor t.name mid → first_ill_formed_in decide mid t ≡ None)
+    → AreWellFormedUnder decide (take (i + 1) ts) old
+well_formed_more decide old mid ts i t here goes stay before last j u there fit =
+    elim (last_or_before (take i ts) t j u (ap (λ (xs : List Table). slice_get xs j) (sym (ap (λ (k : ℕ). take k ts) (add-one i) ∙ take_suc ts i t here)) ∙ there)) [
+      | inl k ↦ before j u k fit
+      | inr k ↦ subst (λ (x : Table). AreFitFor x.name old → first_ill_formed_in decide old x ≡ None) k.1 (λ f. sym (ill_formed_behind decide old mid t goes stay f) ∙ last (fit_for_on old mid t.name goes f)) fit
+    ]
 
 -- a table with one that isn't
-pub untaken_among : (old mid : Attached) (ts : List Table) (i : ℕ) (t : Table) (key : Key) → slice_get ts i ≡ Some t → GoOn old mid → KnownStay old mid → (AreFit ts old → first_in (first_untaken_in old) (take i ts) ≡ None) → IsUntaken t mid key
-    → IsUntakenAmong ts old key
-untaken_among old mid ts i t key here goes stay before first =
-    let at : AreFitFor t.name old → first_untaken_in old t ≡ Some key = λ fit. sym (untaken_behind old mid t goes stay fit) ∙ first.first (fit_for_on old mid t.name goes fit) in
+pub ill_formed_among : (decide : TxId → Option Decided) (old mid : Attached) (ts : List Table) (i : ℕ) (t : Table) (key : Key) → slice_get ts i ≡ Some t → GoOn old mid → KnownStay old mid → AreWellFormedUnder decide (take i ts) old → IsIllFormed decide t mid key
+    → IsIllFormedAmong decide ts old key
+ill_formed_among decide old mid ts i t key here goes stay before first =
+    let at : AreFitFor t.name old → first_ill_formed_in decide old t ≡ Some key = λ fit. sym (ill_formed_behind decide old mid t goes stay fit) ∙ first.first (fit_for_on old mid t.name goes fit) in
     record {
       at = i;
       table = t;
       there = here;
-      untaken = record { named = first.named; first = at };
-      first = λ fit. first_behind (first_untaken_in old) ts i t key here (before fit) (at (fit_for ts old t.name (played_at ts i t here) fit));
+      ill_formed = record { named = first.named; first = at };
+      first = λ fit.
+          first_behind (first_ill_formed_in decide old) ts i t key here
+          (none_of_all (first_ill_formed_in decide old) (take i ts) (λ j u low. before j u low (fit_for ts old u.name (all_at (λ (x : Table). is_played ts x.name ≡ true) (take i ts) j u (all_front (λ (x : Table). is_played ts x.name ≡ true) i ts (each_played ts)) low) fit)))
+          (at (fit_for ts old t.name (played_at ts i t here) fit));
     }
 
 -- a record that isn't so among those of a table is of that table
@@ -189,36 +192,56 @@ closing_recorded stores rows decide recorded r fit id small =
 pub closing_once : (stores : Attached) (rows : List Record) (decide : TxId → Option Decided) (recorded : List TxId) → AreRows stores rows decide recorded → AllPairs (λ a b. a ≢ b) recorded
 closing_once stores rows decide recorded r = subst (AllPairs (λ (a b : TxId). a ≢ b)) (sym r.recorded) (recorded_once rows r.rising)
 
+-- each record is well formed
+pub closing_well_formed : (catalog : List Table) (old mid : Attached) (rows : List Record) (decide : TxId → Option Decided) (recorded : List TxId) → AreRows old rows decide recorded → GoOn old mid → KnownStay old mid → first_unlike is_decided rows ≡ None → AreWellFormedUnder decide catalog mid
+    → AreWellFormedWhereKnown catalog old
+closing_well_formed catalog old mid rows decide recorded r goes stay none under = record {
+  rows = λ fit. ap (first_unlike is_decided) (sym (r.rows fit)) ∙ none;
+  records = λ coordinator i t here fit.
+      first_ill_formed_same (placed old.places) (shown old.shelves) decide t (records_in old t.name) (decisions_are old rows decide recorded r coordinator)
+      ∙ sym (ill_formed_behind decide old mid t goes stay fit) ∙ under i t here (fit_for_on old mid t.name goes fit);
+}
+
 ---- what stopped it
 
 -- the first odd record is a row of the coordinator's table
 pub odd_in_rows : (catalog : List Table) (stores : Attached) (rows : List Record) (key : Key) → rows ≡ records_in stores coordinator_table → first_unlike is_decided rows ≡ Some key → first_odd catalog (placed stores.places) (shown stores.shelves) ≡ Some key
-odd_in_rows catalog stores rows key e first = ap (λ (o : Option Key). first_of o (first_in (first_untaken_in stores) catalog)) (ap (first_unlike is_decided) (sym e) ∙ first)
+odd_in_rows catalog stores rows key e first =
+    ap (λ (o : Option Key). first_of o (first_in (first_ill_formed_in (decision_at (placed stores.places) (shown stores.shelves)) stores) catalog)) (ap (first_unlike is_decided) (sym e) ∙ first)
 
 pub row_odd : (catalog : List Table) (stores : Attached) (rows : List Record) (key : Key) → (AreFitFor coordinator_table stores → rows ≡ records_in stores coordinator_table) → are_rows_of (whole coordinator_table) rows ≡ true → first_unlike is_decided rows ≡ Some key → IsOddIn catalog stores key
 row_odd catalog stores rows key found of first =
     let named = unlike_of coordinator_table is_decided rows key of first in
+    let decide = decision_at (placed stores.places) (shown stores.shelves) in
     record {
       played = coordinator_played catalog key.table named;
-      odd = λ fit. odd_row catalog (placed stores.places) (shown stores.shelves) key (ap (first_unlike is_decided) (sym (found (subst (λ (n : TableName). AreFitFor n stores) named fit))) ∙ first);
+      decide = decide;
+      decisions = λ fit. record { at = λ id small. refl };
+      odd = λ fit. odd_row catalog (placed stores.places) (shown stores.shelves) decide key (ap (first_unlike is_decided) (sym (found (subst (λ (n : TableName). AreFitFor n stores) named fit))) ∙ first);
     }
 
 -- or a record of a table, where these are well formed
-pub odd_in_tables : (catalog : List Table) (old mid : Attached) (rows : List Record) (key : Key) → (AreFitFor coordinator_table old → rows ≡ records_in old coordinator_table) → first_unlike is_decided rows ≡ None → GoOn old mid → KnownStay old mid → IsUntakenAmong catalog mid key
+pub odd_in_tables : (catalog : List Table) (old mid : Attached) (rows : List Record) (decide : TxId → Option Decided) (recorded : List TxId) (key : Key) → AreRows old rows decide recorded → first_unlike is_decided rows ≡ None → GoOn old mid → KnownStay old mid → IsIllFormedAmong decide catalog mid key
     → AreFit catalog old → first_odd catalog (placed old.places) (shown old.shelves) ≡ Some key
-odd_in_tables catalog old mid rows key found none goes stay first fit =
-    ap (λ (o : Option Key). first_of o (first_in (first_untaken_in old) catalog)) (ap (first_unlike is_decided) (sym (found (coordinator_fit catalog old fit))) ∙ none)
-    ∙ sym (first_same (first_untaken_in mid) (first_untaken_in old) catalog (all_each (λ (t : Table). AreFitFor t.name old) (λ (t : Table). first_untaken_in mid t ≡ first_untaken_in old t) catalog (λ t f. untaken_behind old mid t goes stay f) (each_fit catalog old fit)))
+odd_in_tables catalog old mid rows decide recorded key r none goes stay first fit =
+    let held = decision_at (placed old.places) (shown old.shelves) in
+    let coordinator = coordinator_fit catalog old fit in
+    let here : (t : Table) → AreFitFor t.name old → first_ill_formed_in decide mid t ≡ first_ill_formed_in held old t = λ t f.
+    ill_formed_behind decide old mid t goes stay f ∙ sym (first_ill_formed_same (placed old.places) (shown old.shelves) decide t (records_in old t.name) (decisions_are old rows decide recorded r coordinator)) in
+    ap (λ (o : Option Key). first_of o (first_in (first_ill_formed_in held old) catalog)) (ap (first_unlike is_decided) (sym (r.rows coordinator)) ∙ none)
+    ∙ sym (first_same (first_ill_formed_in decide mid) (first_ill_formed_in held old) catalog (all_each (λ (t : Table). AreFitFor t.name old) (λ (t : Table). first_ill_formed_in decide mid t ≡ first_ill_formed_in held old t) catalog here (each_fit catalog old fit)))
     ∙ first.first (goes.fit catalog fit)
 
-pub record_odd : (catalog : List Table) (old mid : Attached) (key : Key) → GoOn old mid → KnownStay old mid → IsUntakenAmong catalog mid key → IsOddIn catalog old key
-record_odd catalog old mid key goes stay first =
+pub record_odd : (catalog : List Table) (old mid : Attached) (rows : List Record) (decide : TxId → Option Decided) (recorded : List TxId) (key : Key) → AreRows old rows decide recorded → GoOn old mid → KnownStay old mid → IsIllFormedAmong decide catalog mid key → IsOddIn catalog old key
+record_odd catalog old mid rows decide recorded key r goes stay first =
     let t = first.table in
-    let named = first.untaken.named in
+    let named = first.ill_formed.named in
     record {
       played = ap (is_played catalog) named ∙ played_at catalog first.at t first.there;
+      decide = decide;
+      decisions = decisions_are old rows decide recorded r;
       odd = λ fit.
           let fit_t : AreFitFor t.name old = subst (λ (n : TableName). AreFitFor n old) named fit in
-          odd_record catalog (placed old.places) (shown old.shelves) t key (all_at (λ (u : Table). is_some (find_table catalog u.name) ≡ true) catalog first.at t (each_found catalog) first.there)
-          (sym (untaken_behind old mid t goes stay fit_t) ∙ first.untaken.first (fit_for_on old mid t.name goes fit_t));
+          odd_record catalog (placed old.places) (shown old.shelves) decide t key (contains_at catalog first.at t first.there)
+          (sym (ill_formed_behind decide old mid t goes stay fit_t) ∙ first.ill_formed.first (fit_for_on old mid t.name goes fit_t));
     }

@@ -1,6 +1,6 @@
 -- What is printed of the stores' records is what plain tables hold that are their committed images.
-use Rattle.std.proofs.Common.{◌≡◌, ◌∙◌, ◌<◌, ◌^◌, Bool, true, cond, List, [], ◌∷◌, Option, Some, None, refl, sym, ap}
-use Rattle.std.specs.Prelude.{filter, map, is_some}
+use Rattle.std.proofs.Common.{◌≡◌, ◌∙◌, ◌<◌, ◌^◌, Bool, true, false, cond, List, [], ◌∷◌, Option, Some, None, refl, sym, ap}
+use Rattle.std.specs.Prelude.{◌&&◌, filter, map, not, is_some}
 use Rattle.std.specs.FinMap.{empty, entries, entries_sorted, get, get-empty, get-entries}
 use Rattle.std.specs.FinMap.Entries.{same_entries}
 use Rattle.std.specs.List.{AllByRecursion, cons_option, filter_map, list_all}
@@ -24,11 +24,12 @@ use Rattle.sdb_types.proofs.Replies.{rows_in-are_rows_of}
 use Rattle.sdb_record.specs.declared.access.Image.{Image}
 use Rattle.sdb_record.specs.declared.coordinator.Decided.{Decided}
 use Rattle.sdb_record.specs.Coordinator.{coordinator_key_of, coordinator_table, decision_in}
-use Rattle.sdb_record.specs.Meta.{id_in, id_in_value}
+use Rattle.sdb_record.specs.Meta.{id_in, id_in_value, is_taken}
 use Rattle.sdb_record.specs.Rolls.{image_of, row_of_image}
 use Rattle.sdb_record.proofs.IdLemmas.{id_of_text-is}
 use Rattle.sdb_laws.proofs.Shown.{row_there}
 use Rattle.sdb_schema.specs.declared.table.Table.{Table}
+use Rattle.sdb_schema.specs.Rows.{fits_table}
 use Rattle.sdb_model.specs.declared.script.Place.{Place}
 use Rattle.sdb_model.specs.Events.{Shelf, held_by, standing, store_of}
 use Rattle.sdb_model.specs.Exec.{Tables, all_rows, find_table, is_row_of, shown, sorted}
@@ -37,7 +38,10 @@ use Rattle.sdb_model.specs.Told.{AreImages, dump_of, dumps_of}
 use Rattle.sdb_board.specs.Opening.{records_of, whole}
 use Rattle.sdb_board.proofs.RunTables.{each_found}
 use Rattle.sdb_dump.specs.Decided.{decision_among}
-use Rattle.sdb_dump.specs.Dumped.{dump_by, image_by, row_by}
+use Rattle.sdb_dump.specs.Dumped.{dump_by, image_by, is_well_formed, row_by}
+use Rattle.sdb_dump.specs.Held.{AreDecisions}
+use Rattle.sdb_dump.specs.Refused.{first_unlike}
+use Rattle.sdb_dump.proofs.Lists.{found_same}
 use Rattle.sdb_dump.proofs.Tables.{of_table, table_rows}
 use Rattle.sdb_types.proofs.Basics.{none_some, all_each}
 use Rattle.sdb_board.proofs.Empty.{nothing_at}
@@ -49,10 +53,6 @@ id_small : (o : Option Value) (id : TxId) → id_in_value o ≡ Some id → id.0
 id_small (Some (value.Text text)) id e = (id_of_text-is text id e).0
 id_small _ id e = absurd (none_some id e)
 
--- Decisions are those of the coordinator's table.
-pub record AreDecisions (places : List Place) (shelves : List Shelf) (decide : TxId → Option Decided) : Type 0 where
-  pub at : (id : TxId) → id.0 < 2 ^ 128 → decide id ≡ decision_at places shelves id
-
 decision_same : (places : List Place) (shelves : List Shelf) (decide : TxId → Option Decided) (r : Record) → AreDecisions places shelves decide → decision_on places shelves r ≡ option_and_then decide (id_in r.columns)
 decision_same places shelves decide r are = by (id_in r.columns) refl
   where
@@ -63,6 +63,18 @@ decision_same places shelves decide r are = by (id_in r.columns) refl
 row_same : (places : List Place) (shelves : List Shelf) (decide : TxId → Option Decided) (found : Option Record) → AreDecisions places shelves decide → option_and_then row_of_image (option_and_then (λ r. image_of r (decision_on places shelves r)) found) ≡ option_and_then (row_by decide) found
 row_same places shelves decide None are = refl
 row_same places shelves decide (Some r) are = ap (λ (d : Option Decided). option_and_then row_of_image (image_of r d)) (decision_same places shelves decide r are)
+
+-- which records are well formed is the same under the decisions of what the stores hold
+well_formed_same : (places : List Place) (shelves : List Shelf) (decide : TxId → Option Decided) (t : Table) (r : Record) → AreDecisions places shelves decide → is_well_formed (decision_at places shelves) t r ≡ is_well_formed decide t r
+well_formed_same places shelves decide t r are = ap (λ (d : Option Decided). is_taken r && option_map_or (fits_table t r.key) (option_and_then row_of_image (image_of r d)) true) (decision_same places shelves decide r are)
+
+pub ill_formed_same : (places : List Place) (shelves : List Shelf) (decide : TxId → Option Decided) (t : Table) (r : Record) → AreDecisions places shelves decide → is_well_formed decide t r ≡ false → is_well_formed (decision_at places shelves) t r ≡ false
+ill_formed_same places shelves decide t r are h = well_formed_same places shelves decide t r are ∙ h
+
+-- so is the first that isn't
+pub first_ill_formed_same : (places : List Place) (shelves : List Shelf) (decide : TxId → Option Decided) (t : Table) (rs : List Record) → AreDecisions places shelves decide → first_unlike (is_well_formed (decision_at places shelves) t) rs ≡ first_unlike (is_well_formed decide t) rs
+first_ill_formed_same places shelves decide t rs are =
+    ap (option_map (λ (r : Record). r.key)) (found_same (λ r. not (is_well_formed (decision_at places shelves) t r)) (λ r. not (is_well_formed decide t r)) rs (λ r. ap not (well_formed_same places shelves decide t r are)))
 
 -- the decision in a transaction's row, among those of the coordinator's table
 pub decision_there : (places : List Place) (shelves : List Shelf) (id : TxId) → decision_among (records_of places shelves coordinator_table) id ≡ decision_at places shelves id

@@ -1,19 +1,18 @@
 -- What stores hold, as it is seen after calls that change nothing.
-use Rattle.std.proofs.Common.{◌≡◌, ◌∙◌, Bool, true, List, [], Option, Some, None, refl, sym, ap, subst}
+use Rattle.std.proofs.Common.{◌≡◌, ◌∙◌, inl, inr, Bool, true, List, [], Option, Some, None, refl, sym, ap, subst}
 use Rattle.std.specs.Prelude.{◌&&◌, IsSomeAnd}
-use Rattle.std.specs.Option.{option_and_then, option_map_or}
-use Rattle.std.specs.Result.{result_ok}
+use Rattle.std.specs.Option.{option_map_or}
 use Rattle.std.specs.Ordering.{is_eq}
 use Rattle.std.specs.Cmp.{tied_itself}
 use Rattle.sdb_types.specs.declared.key.Key.{Key}
+use Rattle.sdb_types.specs.declared.key.TableName.{TableName}
 use Rattle.sdb_types.specs.declared.txid.TxId.{TxId}
 use Rattle.sdb_types.specs.declared.record.Record.{Record}
 use Rattle.sdb_types.specs.Contents.{Contents, in_span, record_among, record_at, rows_in}
-use Rattle.sdb_types.specs.Order.{table_cmp}
 use Rattle.sdb_types.proofs.KeyOrder.{table_total}
 use Rattle.sdb_record.specs.declared.coordinator.Decided.{Decided}
 use Rattle.sdb_record.specs.declared.coordinator.Decision.TheVariants as decision
-use Rattle.sdb_record.specs.Coordinator.{coordinator_key_of, coordinator_table, decision_in}
+use Rattle.sdb_record.specs.Coordinator.{coordinator_table}
 use Rattle.sdb_laws.proofs.Shown.{row_there}
 use Rattle.sdb_schema.specs.declared.table.Table.{Table}
 use Rattle.sdb_stores.specs.Shelf.{Attached}
@@ -27,11 +26,14 @@ use Rattle.sdb_board.specs.Board.{AreFit, AreFitFor, GoOn, HoldTheSame, KnownSta
 use Rattle.sdb_board.specs.Opening.{records_in, records_of, whole}
 use Rattle.sdb_board.proofs.Empty.{records_stay}
 use Rattle.sdb_board.proofs.GoesOn.{fit_for, fit_for_as, fit_for_before}
-use Rattle.sdb_dump.specs.Decided.{decision_among}
-use Rattle.sdb_dump.specs.Dumped.{dump_by}
-use Rattle.sdb_dump.specs.Held.{AreDumpsWhereKnown, IsOddIn}
-use Rattle.sdb_dump.specs.Odd.{IsOddAt}
-use Rattle.sdb_dump.proofs.Images.{decision_there, dump_same}
+use Rattle.sdb_spread.specs.Spread.{is_played}
+use Rattle.sdb_dump.specs.Decided.{decision_among, is_decided}
+use Rattle.sdb_dump.specs.Dumped.{dump_by, is_well_formed}
+use Rattle.sdb_dump.specs.Held.{AreDecisions, AreDumpsWhereKnown, AreWellFormedWhereKnown, IsOddIn}
+use Rattle.sdb_dump.specs.Odd.{IsOdd, IsOddAt}
+use Rattle.sdb_dump.specs.Refused.{first_unlike}
+use Rattle.sdb_dump.proofs.Closings.{coordinator_played}
+use Rattle.sdb_dump.proofs.Images.{decision_there, dump_same, first_ill_formed_same, ill_formed_same}
 
 -- the record at a key is the one among those of its table
 standing_there : (places : List Place) (shelves : List Shelf) (key : Key) → record_among (records_of places shelves key.table) key ≡ standing places shelves key
@@ -43,6 +45,14 @@ standing_there places shelves key = by (held_by shelves (store_of places shelves
     by : (o : Option Contents) → record_among (option_map_or (rows_in (whole key.table)) o []) key ≡ option_map_or (λ (m : Contents). record_at m key) o None
     by None = refl
     by (Some m) = row_there (whole key.table) key m inside
+
+-- under the decisions of what the stores hold it is odd too
+decided_odd : (catalog : List Table) (places : List Place) (shelves : List Shelf) (decide : TxId → Option Decided) (key : Key) → AreDecisions places shelves decide → IsOddAt catalog places shelves decide key → IsOddAt catalog places shelves (decision_at places shelves) key
+decided_odd catalog places shelves decide key are o = record { found = o.found; stands = o.stands; odd = by o.odd }
+  where
+    by : IsOdd catalog decide o.found → IsOdd catalog (decision_at places shelves) o.found
+    by (inl i) = inl (record { table = i.table; listed = i.listed; named = i.named; ill_formed = ill_formed_same places shelves decide i.table o.found are i.ill_formed })
+    by (inr row) = inr row
 
 module _ (old new : Attached) (goes : GoOn old new) (stay : KnownStay old new) where
   standing_later : (key : Key) → AreFitFor key.table (known_before old new) → standing (placed new.places) (shown new.shelves) key ≡ standing (placed old.places) (shown old.shelves) key
@@ -63,6 +73,8 @@ module _ (old new : Attached) (goes : GoOn old new) (stay : KnownStay old new) w
   pub odd_later : (catalog : List Table) (key : Key) → IsOddIn catalog old key → IsOddIn catalog (known_before old new) key
   odd_later catalog key odd = record {
     played = odd.played;
+    decide = odd.decide;
+    decisions = λ fit. record { at = λ id small. (odd.decisions (fit_for_before old new coordinator_table goes fit)).at id small ∙ sym (decision_later id fit) };
     odd = λ fit.
         let o = odd.odd (fit_for_before old new key.table goes fit) in
         record { found = o.found; stands = standing_later key fit ∙ o.stands; odd = o.odd };
@@ -77,9 +89,20 @@ module _ (old new : Attached) (goes : GoOn old new) (stay : KnownStay old new) w
         ∙ sym (ap (dump_by (decision_at (placed new.places) (shown new.shelves)) t) (records_stay old new t.name goes stay (fit_for_before old new t.name goes fit)));
   }
 
+  pub well_formed_later : (catalog : List Table) → AreWellFormedWhereKnown catalog old → AreWellFormedWhereKnown catalog (known_before old new)
+  well_formed_later catalog h = record {
+    rows = λ fit. ap (first_unlike is_decided) (records_stay old new coordinator_table goes stay (fit_for_before old new coordinator_table goes fit)) ∙ h.rows (fit_for_before old new coordinator_table goes fit);
+    records = λ coordinator i t here fit.
+        let fit_t = fit_for_before old new t.name goes fit in
+        first_ill_formed_same (placed new.places) (shown new.shelves) (decision_at (placed old.places) (shown old.shelves)) t (records_in new t.name) (record { at = λ id small. sym (decision_later id coordinator) })
+        ∙ ap (first_unlike (is_well_formed (decision_at (placed old.places) (shown old.shelves)) t)) (records_stay old new t.name goes stay fit_t)
+        ∙ h.records (fit_for_before old new coordinator_table goes coordinator) i t here fit_t;
+  }
+
   -- where all stores of a catalog are known, it was there before
-  pub odd_before : (catalog : List Table) (key : Key) → AreFit catalog old → HoldTheSame old new → IsOddIn catalog (known_before old new) key → IsOddAt catalog (placed old.places) (shown old.shelves) key
+  pub odd_before : (catalog : List Table) (key : Key) → AreFit catalog old → HoldTheSame old new → IsOddIn catalog (known_before old new) key → IsOddAt catalog (placed old.places) (shown old.shelves) (decision_at (placed old.places) (shown old.shelves)) key
   odd_before catalog key fit still odd =
-      subst (λ (ss : List Shelf). IsOddAt catalog (placed old.places) ss key) still
-      (subst (λ (ps : List Placed). IsOddAt catalog (placed ps) (shown new.shelves) key) goes.places
-      (odd.odd (fit_for_as old (known_before old new) key.table goes.places goes.names (λ at t. t) (fit_for catalog old key.table odd.played fit))))
+      let fit_now : (table : TableName) → is_played catalog table ≡ true → AreFitFor table (known_before old new) = λ table about. fit_for_as old (known_before old new) table goes.places goes.names (λ at t. t) (fit_for catalog old table about fit) in
+      subst (λ (ss : List Shelf). IsOddAt catalog (placed old.places) ss (decision_at (placed old.places) ss) key) still
+      (subst (λ (ps : List Placed). IsOddAt catalog (placed ps) (shown new.shelves) (decision_at (placed ps) (shown new.shelves)) key) goes.places
+      (decided_odd catalog (placed new.places) (shown new.shelves) odd.decide key (odd.decisions (fit_now coordinator_table (coordinator_played catalog coordinator_table refl))) (odd.odd (fit_now key.table odd.played))))

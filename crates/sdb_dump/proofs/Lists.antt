@@ -1,5 +1,5 @@
 -- Lists, item by item.
-use Rattle.std.proofs.Common.{◌≡◌, ◌∙◌, ◌⊎◌, inl, inr, ℕ, zero, suc, Bool, true, false, cond, List, [], ◌∷◌, ◌++◌, take, get_or, Option, Some, None, Result, Ok, Err, IfOk, IfErr, refl, sym, ap, subst, arith}
+use Rattle.std.proofs.Common.{◌≡◌, ◌∙◌, ◌⊎◌, inl, inr, ℕ, zero, suc, Bool, true, false, cond, List, [], ◌∷◌, ◌++◌, length, take, get_or, Option, Some, None, Result, Ok, Err, IfOk, IfErr, refl, sym, ap, subst, arith}
 use Rattle.std.specs.Prelude.{AllPairs, Contains, find, slice_get}
 use Rattle.std.specs.List.{cons_option, filter_map}
 use Rattle.std.specs.Result.{result_ok}
@@ -88,3 +88,26 @@ found_in_list q (y ∷ ys) x e =
     (λ t. let same : y ≡ x = some_is y x (sym (ap (λ (b : Bool). cond b (Some y) (find q ys)) t) ∙ e) in
     (subst (λ z. Contains (y ∷ ys) z) same (here_in y ys), ap q (sym same) ∙ t))
     (λ t. let rest = found_in_list q ys x (sym (ap (λ (b : Bool). cond b (Some y) (find q ys)) t) ∙ e) in (later_in y x ys rest.0, rest.1))
+
+-- tests that are the same find the same
+pub found_same : {A : Type 0} (p q : A → Bool) (xs : List A) → ((x : A) → p x ≡ q x) → find p xs ≡ find q xs
+found_same p q [] same = refl
+found_same p q (x ∷ xs) same = ap (λ (b : Bool). cond b (Some x) (find p xs)) (same x) ∙ ap (cond (q x) (Some x)) (found_same p q xs same)
+
+---- places
+
+-- the i-th is one of them
+pub contains_at : {A : Type 0} (xs : List A) (i : ℕ) (x : A) → slice_get xs i ≡ Some x → Contains xs x
+contains_at [] i x e = absurd (none_some x e)
+contains_at (y ∷ ys) zero x e = subst (λ z. Contains (y ∷ ys) z) (some_is y x e) (here_in y ys)
+contains_at (y ∷ ys) (suc i) x e = later_in y x ys (contains_at ys i x e)
+
+-- of a list with one more at its end each place is one of the list, or the last
+pub last_or_before : {A : Type 0} (xs : List A) (x : A) (k : ℕ) (y : A) → slice_get (xs ++ x ∷ []) k ≡ Some y → (slice_get xs k ≡ Some y) ⊎ ((k ≡ length xs) × (x ≡ y))
+last_or_before [] x zero y e = inr (refl, some_is x y e)
+last_or_before [] x (suc k) y e = absurd (none_some y e)
+last_or_before (z ∷ xs) x zero y e = inl e
+last_or_before (z ∷ xs) x (suc k) y e = elim (last_or_before xs x k y e) [
+  | inl h ↦ inl h
+  | inr h ↦ inr (ap suc h.0, h.1)
+]

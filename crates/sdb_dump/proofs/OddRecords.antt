@@ -1,12 +1,13 @@
 -- The records that a scan shows to break the rules are at their keys.
-use Rattle.std.proofs.Common.{◌≡◌, ◌∙◌, inl, inr, ℕ, zero, suc, Bool, true, false, cond, List, [], ◌∷◌, ◌++◌, take, Option, Some, None, refl, sym, ap}
-use Rattle.std.specs.Prelude.{Contains, find, is_some, not, slice_get}
+use Rattle.std.proofs.Common.{◌≡◌, ◌∙◌, inl, inr, ℕ, zero, suc, Bool, true, false, List, [], ◌∷◌, take, Option, Some, None, refl, sym, ap}
+use Rattle.std.specs.Prelude.{Contains, find, not, slice_get}
 use Rattle.std.specs.List.{AllByRecursion, list_all}
 use Rattle.std.specs.Option.{option_map, option_map_or}
 use Rattle.std.specs.Ordering.{is_eq}
 use Rattle.sdb_types.specs.declared.key.Key.{Key}
 use Rattle.sdb_types.specs.declared.key.TableName.{TableName}
 use Rattle.sdb_types.specs.declared.record.Record.{Record}
+use Rattle.sdb_types.specs.declared.txid.TxId.{TxId}
 use Rattle.sdb_types.specs.Contents.{Contents, in_span, record_at, rise, rows_in}
 use Rattle.sdb_types.specs.Exact.{equal_of}
 use Rattle.sdb_types.specs.Order.{table_cmp}
@@ -14,15 +15,15 @@ use Rattle.sdb_types.proofs.Bools.{and_first, and_second}
 use Rattle.sdb_types.proofs.KeyOrder.{table_exact}
 use Rattle.sdb_types.proofs.Replies.{rows_in-are_rows_of}
 use Rattle.sdb_record.specs.Coordinator.{coordinator_table, is_coordinator_table}
-use Rattle.sdb_record.specs.Meta.{is_taken}
+use Rattle.sdb_record.specs.declared.coordinator.Decided.{Decided}
 use Rattle.sdb_laws.proofs.Shown.{row_there}
 use Rattle.sdb_schema.specs.declared.table.Table.{Table}
 use Rattle.sdb_model.specs.declared.script.Place.{Place}
 use Rattle.sdb_model.specs.Events.{Shelf, held_by, standing, store_of}
-use Rattle.sdb_model.specs.Exec.{find_table}
 use Rattle.sdb_board.specs.Opening.{records_of, whole}
 use Rattle.sdb_dump.specs.Decided.{is_decided}
-use Rattle.sdb_dump.specs.Odd.{IsOddAt, first_in, first_of, first_untaken}
+use Rattle.sdb_dump.specs.Dumped.{is_well_formed}
+use Rattle.sdb_dump.specs.Odd.{IsOddAt, first_ill_formed, first_in, first_of}
 use Rattle.sdb_dump.specs.Refused.{first_unlike}
 use Rattle.sdb_dump.proofs.Coordinated.{row_found}
 use Rattle.sdb_dump.proofs.Lists.{first_or_later, found_in_list, none_in}
@@ -77,16 +78,16 @@ unlike places shelves table is_so key h = by (find (λ r. not (is_so r)) (record
         record { found = r; stands = ap (standing places shelves) (sym (some_is r.key key k)) ∙ s.stands; table_is = s.table_is; bad = not_so (is_so r) there.1 }
 
 -- of the coordinator's table
-pub odd_row : (catalog : List Table) (places : List Place) (shelves : List Shelf) (key : Key) → first_unlike is_decided (records_of places shelves coordinator_table) ≡ Some key → IsOddAt catalog places shelves key
-odd_row catalog places shelves key h =
+pub odd_row : (catalog : List Table) (places : List Place) (shelves : List Shelf) (decide : TxId → Option Decided) (key : Key) → first_unlike is_decided (records_of places shelves coordinator_table) ≡ Some key → IsOddAt catalog places shelves decide key
+odd_row catalog places shelves decide key h =
     let u = unlike places shelves coordinator_table is_decided key h in
     record { found = u.found; stands = u.stands; odd = inr (ap is_coordinator_table (sym u.table_is), u.bad) }
 
 -- of a table of the catalog
-pub odd_record : (catalog : List Table) (places : List Place) (shelves : List Shelf) (t : Table) (key : Key) → is_some (find_table catalog t.name) ≡ true → first_untaken places shelves t ≡ Some key → IsOddAt catalog places shelves key
-odd_record catalog places shelves t key known h =
-    let u = unlike places shelves t.name is_taken key h in
-    record { found = u.found; stands = u.stands; odd = inl (ap (λ (n : TableName). is_some (find_table catalog n)) (sym u.table_is) ∙ known, u.bad) }
+pub odd_record : (catalog : List Table) (places : List Place) (shelves : List Shelf) (decide : TxId → Option Decided) (t : Table) (key : Key) → Contains catalog t → first_ill_formed decide places shelves t ≡ Some key → IsOddAt catalog places shelves decide key
+odd_record catalog places shelves decide t key listed h =
+    let u = unlike places shelves t.name (is_well_formed decide t) key h in
+    record { found = u.found; stands = u.stands; odd = inl (record { table = t; listed = listed; named = u.table_is; ill_formed = u.bad }) }
 
 ---- table by table
 
@@ -102,13 +103,10 @@ first_behind f (x ∷ ts) (suc i) t key here none first =
     let both = none_both (f x) (first_in f (take i ts)) none in
     ap (λ (o : Option Key). first_of o (first_in f ts)) both.0 ∙ first_behind f ts i t key here both.1 first
 
--- one table more that gives none
-pub none_behind : (f : Table → Option Key) (ts : List Table) (i : ℕ) (t : Table) → slice_get ts i ≡ Some t → first_in f (take i ts) ≡ None → f t ≡ None → first_in f (take (suc i) ts) ≡ None
-none_behind f [] i t here none last = absurd (none_some t here)
-none_behind f (x ∷ ts) zero t here none last = ap (λ (o : Option Key). first_of o None) (ap f (some_is x t here) ∙ last)
-none_behind f (x ∷ ts) (suc i) t here none last =
-    let both = none_both (f x) (first_in f (take i ts)) none in
-    ap (λ (o : Option Key). first_of o (first_in f (take (suc i) ts))) both.0 ∙ none_behind f ts i t here both.1 last
+-- where no table gives one, there is none
+pub none_of_all : (f : Table → Option Key) (ts : List Table) → ((i : ℕ) (t : Table) → slice_get ts i ≡ Some t → f t ≡ None) → first_in f ts ≡ None
+none_of_all f [] none = refl
+none_of_all f (t ∷ ts) none = ap (λ (o : Option Key). first_of o (first_in f ts)) (none 0 t refl) ∙ none_of_all f ts (λ i u here. none (suc i) u here)
 
 -- what tables give that give the same
 pub first_same : (f g : Table → Option Key) (ts : List Table) → AllByRecursion (λ (t : Table). f t ≡ g t) ts → first_in f ts ≡ first_in g ts

@@ -1,5 +1,5 @@
 -- Why a closing dump stopped, as the calls around the one that stopped it have it.
-use Rattle.std.proofs.Common.{◌≡◌, ◌∙◌, ℕ, ◌+◌, ◌<◌, Bool, false, List, [], ◌∷◌, ◌++◌, length, take, get_or, Some, None, Result, Ok, Err, IfErr, sym, ap, subst}
+use Rattle.std.proofs.Common.{◌≡◌, ◌∙◌, ℕ, ◌+◌, ◌<◌, Bool, false, List, [], ◌∷◌, ◌++◌, length, take, get_or, Some, None, Result, Ok, Err, IfOk, IfErr, sym, ap, subst}
 use Rattle.std.specs.Prelude.{IsErrAnd, find, not, slice_get}
 use Rattle.std.specs.Option.{option_map}
 use Rattle.std.proofs.lemmas.List.{take_more}
@@ -31,6 +31,11 @@ refused_as near far before after refused.NoMemory f g h = tt
 pub refused_then : {T : Type 0} (P Q : ClosingRefused → Type 0) (r : Result T ClosingRefused) → ((e : ClosingRefused) → P e → Q e) → IfErr r P → IfErr r Q
 refused_then P Q (Ok x) f h = tt
 refused_then P Q (Err e) f h = f e h
+
+-- what is so of a success
+pub ok_then : {T : Type 0} (P Q : T → Type 0) (r : Result T ClosingRefused) → ((x : T) → P x → Q x) → IfOk r P → IfOk r Q
+ok_then P Q (Ok x) f h = f x h
+ok_then P Q (Err e) f h = tt
 
 -- the first record that isn't so, after those that are
 pub first_is : (is_so : Record → Bool) (rows : List Record) (i : ℕ) (r : Record) (key : Key) → slice_get rows i ≡ Some r → find (λ x. not (is_so x)) (take i rows) ≡ None → (key ≡ r.key) × (is_so r ≡ false) → first_unlike is_so rows ≡ Some key

@@ -1,5 +1,5 @@
 -- What stores hold in the end, as a closing dump shows it.
-use Rattle.std.specs.Prelude.{◌≡◌, ℕ, ◌<◌, ◌^◌, ◌↔◌, Contains, List, map, slice_get, true, Option, Some}
+use Rattle.std.specs.Prelude.{◌≡◌, ℕ, ◌<◌, ◌^◌, ◌↔◌, Contains, List, map, slice_get, true, Option, Some, None}
 use Rattle.sdb_types.specs.declared.key.Key.{Key}
 use Rattle.sdb_types.specs.declared.txid.TxId.{TxId}
 use Rattle.sdb_record.specs.declared.coordinator.Decided.{Decided}
@@ -7,6 +7,8 @@ use Rattle.sdb_record.specs.Coordinator.{coordinator_table}
 use Rattle.sdb_schema.specs.declared.table.Table.{Table}
 use Rattle.sdb_stores.specs.Shelf.{Attached}
 use Rattle.sdb_model.specs.declared.event.TableDump.{TableDump}
+use Rattle.sdb_model.specs.declared.script.Place.{Place}
+use Rattle.sdb_model.specs.Events.{Shelf}
 use Rattle.sdb_model.specs.Exec.{Tables}
 use Rattle.sdb_model.specs.Images.{decision_at}
 use Rattle.sdb_model.specs.Told.{AreImages, dumps_of}
@@ -14,8 +16,10 @@ use Rattle.sdb_model.specs.Transactions.{Recorded}
 use Rattle.sdb_board.specs.Board.{AreFit, AreFitFor, placed, shown}
 use Rattle.sdb_board.specs.Opening.{records_in, table_names}
 use Rattle.sdb_spread.specs.Spread.{is_played}
+use Rattle.sdb_dump.specs.Decided.{is_decided}
 use Rattle.sdb_dump.specs.Dumped.{dump_by}
-use Rattle.sdb_dump.specs.Odd.{IsOddAt, first_in, first_odd, first_untaken}
+use Rattle.sdb_dump.specs.Odd.{IsOddAt, first_ill_formed, first_in, first_odd}
+use Rattle.sdb_dump.specs.Refused.{first_unlike}
 
 -- the rows of a table under decisions on transactions
 abbrev pub dump_in : (TxId → Option Decided) → Attached → Table → TableDump
@@ -49,28 +53,45 @@ AreRecorded ids stores = (id : TxId) → id.0 < 2 ^ 128 → Contains ids id ↔ 
 
 ---- records that stop a dump
 
--- the key of the first record of a table that isn't a transactional one
-abbrev pub first_untaken_in : Attached → Table → Option Key
-first_untaken_in stores t = first_untaken (placed stores.places) (shown stores.shelves) t
+-- Decisions are those of the coordinator's table.
+pub record AreDecisions (places : List Place) (shelves : List Shelf) (decide : TxId → Option Decided) : Type 0 where
+  pub at : (id : TxId) → id.0 < 2 ^ 128 → decide id ≡ decision_at places shelves id
 
--- The key is of a table, and that of its first record that isn't a transactional one, where the contents of its store are known.
-pub record IsUntaken (t : Table) (stores : Attached) (key : Key) : Type 0 where
+-- the key of the first record of a table that isn't well formed under decisions on transactions
+abbrev pub first_ill_formed_in : (TxId → Option Decided) → Attached → Table → Option Key
+first_ill_formed_in decide stores t = first_ill_formed decide (placed stores.places) (shown stores.shelves) t
+
+-- The key is of a table, and that of its first record that isn't well formed, where the contents of its store are known.
+pub record IsIllFormed (decide : TxId → Option Decided) (t : Table) (stores : Attached) (key : Key) : Type 0 where
   pub named : key.table ≡ t.name
-  pub first : AreFitFor t.name stores → first_untaken_in stores t ≡ Some key
+  pub first : AreFitFor t.name stores → first_ill_formed_in decide stores t ≡ Some key
 
 -- The key is such a one of a table of a catalog, and that of the first such record of all its tables, where the stores are fit.
-pub record IsUntakenAmong (catalog : List Table) (stores : Attached) (key : Key) : Type 0 where
+pub record IsIllFormedAmong (decide : TxId → Option Decided) (catalog : List Table) (stores : Attached) (key : Key) : Type 0 where
   pub at : ℕ
   pub table : Table
   pub there : slice_get catalog at ≡ Some table
-  pub untaken : IsUntaken table stores key
-  pub first : AreFit catalog stores → first_in (first_untaken_in stores) catalog ≡ Some key
+  pub ill_formed : IsIllFormed decide table stores key
+  pub first : AreFit catalog stores → first_in (first_ill_formed_in decide stores) catalog ≡ Some key
+
+-- No record of a catalog's tables is ill formed under decisions on transactions, as far as contents are known.
+abbrev pub AreWellFormedUnder : (TxId → Option Decided) → List Table → Attached → Type 0
+AreWellFormedUnder decide catalog stores = (i : ℕ) (t : Table) → slice_get catalog i ≡ Some t → AreFitFor t.name stores → first_ill_formed_in decide stores t ≡ None
+
+-- Where the store of the coordinator's table has known contents, each of its rows is well formed, and so is each record of each table whose
+-- store has known contents too.
+pub record AreWellFormedWhereKnown (catalog : List Table) (stores : Attached) : Type 0 where
+  pub rows : AreFitFor coordinator_table stores → first_unlike is_decided (records_in stores coordinator_table) ≡ None
+  pub records : AreFitFor coordinator_table stores → AreWellFormedUnder (decision_at (placed stores.places) (shown stores.shelves)) catalog stores
 
 -- The key is that of the first record that breaks the rules of its table, where the stores are fit.
 abbrev pub IsFirstOdd : List Table → Attached → Key → Type 0
 IsFirstOdd catalog stores key = AreFit catalog stores → first_odd catalog (placed stores.places) (shown stores.shelves) ≡ Some key
 
--- The key is of a table of the run, and the record there breaks the rules of its table, where the contents of its store are known.
+-- The key is of a table of the run, and the record there breaks the rules of its table, where the contents of its store are known. Its image
+-- is judged under decisions on transactions that are those of the coordinator's table, where the contents of that one's store are known.
 pub record IsOddIn (catalog : List Table) (stores : Attached) (key : Key) : Type 0 where
   pub played : is_played catalog key.table ≡ true
-  pub odd : AreFitFor key.table stores → IsOddAt catalog (placed stores.places) (shown stores.shelves) key
+  pub decide : TxId → Option Decided
+  pub decisions : AreFitFor coordinator_table stores → AreDecisions (placed stores.places) (shown stores.shelves) decide
+  pub odd : AreFitFor key.table stores → IsOddAt catalog (placed stores.places) (shown stores.shelves) decide key

@@ -5,7 +5,7 @@ ghost use Rattle.sdb_record.specs.Coordinator.{coordinator_table as coordinator_
 ghost use Rattle.sdb_board.specs.Board.{AreFit, AreFitFor, GoOn, HoldTheSame, KnownStay, known_before};
 ghost use Rattle.sdb_board.specs.Opening.{table_names};
 ghost use Rattle.sdb_dump.specs.Decided.{decided};
-ghost use Rattle.sdb_dump.specs.Held.{AreDumps, AreDumpsUnder, AreDumpsWhereKnown, AreRecorded, IsFirstOdd, IsOddIn, IsUntaken, IsUntakenAmong, dump_in, first_untaken_in};
+ghost use Rattle.sdb_dump.specs.Held.{AreDumps, AreDumpsUnder, AreDumpsWhereKnown, AreRecorded, AreWellFormedUnder, AreWellFormedWhereKnown, IsFirstOdd, IsIllFormed, IsIllFormedAmong, IsOddIn, dump_in, first_ill_formed_in};
 ghost use Rattle.sdb_dump.specs.Refused.{RefusesOn};
 
 use crate::decisions::{Decisions, TxIds, decisions_of};
@@ -37,11 +37,11 @@ fn dump<R: Registry>(
     requires some { 0 < length (R.state stores.old).shelves }
     ensures dump { IfOk result (λ dump. AreFitFor table.now.name (R.state stores.old) → dump ≡ dump_in (decided decisions.now) (R.state stores.old) table.now) }
     ensures named { IfOk result (λ dump. dump.name ≡ table.now.name) }
-    ensures taken { OnOk result (AreFitFor table.now.name (R.state stores.old) → first_untaken_in (R.state stores.old) table.now ≡ None) }
+    ensures well_formed { OnOk result (AreFitFor table.now.name (R.state stores.old) → first_ill_formed_in (decided decisions.now) (R.state stores.old) table.now ≡ None) }
     ensures still { AreFitFor table.now.name (R.state stores.old) → HoldTheSame (R.state stores.old) (R.state stores.new) }
     ensures known { KnownStay (R.state stores.old) (R.state stores.new) }
     ensures goes { GoOn (R.state stores.old) (R.state stores.new) }
-    ensures err { IfErr result (RefusesOn (R.state stores.old) (R.state stores.new) (IsUntaken table.now (R.state stores.old))) }
+    ensures err { IfErr result (RefusesOn (R.state stores.old) (R.state stores.new) (IsIllFormed (decided decisions.now) table.now (R.state stores.old))) }
 {
     let records = scan(stores, &table.name)?;
     dump_of(alloc, table, decisions, records.as_slice())
@@ -57,10 +57,11 @@ fn dumps<R: Registry>(
     requires some { 0 < length (R.state stores.old).shelves }
     ensures named { IfOk result (λ tables. map (λ d. d.name) tables ≡ table_names catalog.now) }
     ensures tables { IfOk result (AreDumpsUnder (decided decisions.now) catalog.now (R.state stores.old)) }
+    ensures well_formed { OnOk result (AreWellFormedUnder (decided decisions.now) catalog.now (R.state stores.old)) }
     ensures still { AreFit catalog.now (R.state stores.old) → HoldTheSame (R.state stores.old) (R.state stores.new) }
     ensures known { KnownStay (R.state stores.old) (R.state stores.new) }
     ensures goes { GoOn (R.state stores.old) (R.state stores.new) }
-    ensures err { IfErr result (RefusesOn (R.state stores.old) (R.state stores.new) (IsUntakenAmong catalog.now (R.state stores.old))) }
+    ensures err { IfErr result (RefusesOn (R.state stores.old) (R.state stores.new) (IsIllFormedAmong (decided decisions.now) catalog.now (R.state stores.old))) }
 {
     let mut tables = TableRows::new(alloc);
     for i in 0..catalog.len() {
@@ -71,8 +72,9 @@ fn dumps<R: Registry>(
     Ok(tables)
 }
 
-/// The transactions that are recorded, each once, and the rows of the committed images of what the stores hold, table by table. The stores
-/// are scanned, and hold what they held.
+/// The transactions that are recorded, each once, and the rows of the committed images of what the stores hold, table by table; or the key of
+/// the first record that isn't well formed: a row of the coordinator's table, or a record that fails the checks of its metadata, or whose
+/// committed image doesn't fit its table. The stores are scanned, and hold what they held.
 pub fn closing_dump<R: Registry>(
     alloc: Global,
     stores: &mut R,
@@ -81,6 +83,7 @@ pub fn closing_dump<R: Registry>(
     requires some { 0 < length (R.state stores.old).shelves }
     ensures tables { IfOk result (λ closing. AreFit catalog.now (R.state stores.old) → AreDumps catalog.now (R.state stores.old) closing.tables) }
     ensures dumped { IfOk result (λ closing. AreDumpsWhereKnown catalog.now (known_before (R.state stores.old) (R.state stores.new)) closing.tables) }
+    ensures well_formed { OnOk result (AreWellFormedWhereKnown catalog.now (known_before (R.state stores.old) (R.state stores.new))) }
     ensures recorded { IfOk result (λ closing. AreFitFor coordinator_table_lem (R.state stores.old) → AreRecorded closing.recorded (R.state stores.old)) }
     ensures small { IfOk result (λ closing. (id : Id) → Contains closing.recorded id → id.0 < 2 ^ 128) }
     ensures once { IfOk result (λ closing. AllPairs (λ a b. a ≢ b) closing.recorded) }

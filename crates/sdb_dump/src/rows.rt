@@ -4,7 +4,7 @@ ghost use Rattle.std.specs.List.{filter_map, cons_option};
 ghost use Rattle.sdb_record.specs.Meta.{is_taken};
 ghost use Rattle.sdb_model.specs.Exec.{sorted as sorted_lem};
 ghost use Rattle.sdb_dump.specs.Decided.{decided};
-ghost use Rattle.sdb_dump.specs.Dumped.{dump_by, image_by, row_by};
+ghost use Rattle.sdb_dump.specs.Dumped.{dump_by, image_by, is_well_formed, row_by};
 ghost use Rattle.sdb_dump.specs.Refused.{Refuses, first_unlike};
 
 use crate::decisions::Decisions;
@@ -40,35 +40,41 @@ fn row_under(
 fn push_row(
     alloc: Global,
     rows: &mut Images,
+    table: &Table,
     decisions: &Decisions,
     rec: &Record,
 ) -> Result<(), ClosingRefused>
     ensures rows { OnOk result (rows.new ≡ rows.old ++ cons_option (image_by (decided decisions.now) rec.now) []) }
-    ensures taken { OnOk result (is_taken rec.now ≡ true) }
-    ensures err { IfErr result (Refuses (λ key. (key ≡ rec.now.key) × (is_taken rec.now ≡ false)) ⊥) }
+    ensures well_formed { OnOk result (is_well_formed (decided decisions.now) table.now rec.now ≡ true) }
+    ensures err { IfErr result (Refuses (λ key. (key ≡ rec.now.key) × (is_well_formed (decided decisions.now) table.now rec.now ≡ false)) ⊥) }
 {
-    if let Some(columns) = row_under(alloc, decisions, rec)? {
-        rows.push(Image {
-            key: rec.key.copy()?,
-            columns,
-        })?;
+    let Some(columns) = row_under(alloc, decisions, rec)? else {
+        return Ok(());
+    };
+    if !table.fits(&rec.key, &columns) {
+        return Err(bad(rec));
     }
+    rows.push(Image {
+        key: rec.key.copy()?,
+        columns,
+    })?;
     Ok(())
 }
 
 // The rows of records, in their order.
 fn rows_of(
     alloc: Global,
+    table: &Table,
     decisions: &Decisions,
     records: &[Record],
 ) -> Result<Images, ClosingRefused>
     ensures rows { IfOk result (λ rows. rows ≡ filter_map (image_by (decided decisions.now)) records.now) }
-    ensures taken { OnOk result (first_unlike is_taken records.now ≡ None) }
-    ensures err { IfErr result (Refuses (λ key. first_unlike is_taken records.now ≡ Some key) ⊥) }
+    ensures well_formed { OnOk result (first_unlike (is_well_formed (decided decisions.now) table.now) records.now ≡ None) }
+    ensures err { IfErr result (Refuses (λ key. first_unlike (is_well_formed (decided decisions.now) table.now) records.now ≡ Some key) ⊥) }
 {
     let mut rows = Images::new(alloc);
     for rec in records {
-        push_row(alloc, &mut rows, decisions, rec)?;
+        push_row(alloc, &mut rows, table, decisions, rec)?;
     }
     Ok(rows)
 }
@@ -84,7 +90,7 @@ fn sorted(table: &Table, rows: Images) -> Result<Images, NoMemory>
 }
 
 /// The rows of the committed images of a table's records, in the table's order, each with all columns in the order of their
-/// names. Each record has to pass the checks of its metadata.
+/// names. Each record has to pass the checks of its metadata, and its committed image has to fit the table.
 pub fn dump_of(
     alloc: Global,
     table: &Table,
@@ -92,10 +98,10 @@ pub fn dump_of(
     records: &[Record],
 ) -> Result<TableDump, ClosingRefused>
     ensures dump { IfOk result (λ dump. dump ≡ dump_by (decided decisions.now) table.now records.now) }
-    ensures taken { OnOk result (first_unlike is_taken records.now ≡ None) }
-    ensures err { IfErr result (Refuses (λ key. first_unlike is_taken records.now ≡ Some key) ⊥) }
+    ensures well_formed { OnOk result (first_unlike (is_well_formed (decided decisions.now) table.now) records.now ≡ None) }
+    ensures err { IfErr result (Refuses (λ key. first_unlike (is_well_formed (decided decisions.now) table.now) records.now ≡ Some key) ⊥) }
 {
-    let rows = sorted(table, rows_of(alloc, decisions, records)?)?;
+    let rows = sorted(table, rows_of(alloc, table, decisions, records)?)?;
     let names = shown_names(alloc, table, &None)?;
     Ok(TableDump {
         name: table.name.copy()?,

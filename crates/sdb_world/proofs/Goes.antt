@@ -10,7 +10,7 @@ use Rattle.sdb_stores.specs.declared.place.Place.{Place as Placed}
 use Rattle.sdb_board.specs.Board.{AreFit, GoOn, placed, shown}
 use Rattle.sdb_executions.specs.World.{WorldAt, state_of}
 use Rattle.sdb_execution.proofs.Paths.{paths_on}
-use Rattle.sdb_execution.specs.Execution.{IsPath, IsStepFrom, State}
+use Rattle.sdb_execution.specs.Execution.{IsPath, IsStepFrom}
 use Rattle.sdb_world.specs.Step.{HasCome, HasGone}
 
 pub traces_on : (places : List Place) (es more : List Event) (a b c : List Shelf) (ms ns : List (List Shelf)) → IsTrace places es a ms b → IsTrace places more b ns c → IsTrace places (es ++ more) a (ms ++ ns) c

@@ -1,6 +1,9 @@
 pub mod Goes
 pub mod Acts
 pub mod Rounds
+pub mod Orders
+pub mod FinalRows
+pub mod Fitting
 pub mod Outcomes
 pub mod Fresh
 pub mod Works

@@ -2,27 +2,34 @@
 use Rattle.std.proofs.Common.{◌≡◌, inl, inr, ℕ, zero, suc, ◌<◌, ◌^◌, Bool, true, false, List, [], ◌∷◌, length, Option, Some, None, refl, sym, ap, subst, ◌∙◌, get_or, arith}
 use Rattle.std.specs.Prelude.{◌||◌, All, Contains, ◌↔◌, IsOk, Result, is_ok, is_some, slice_index_or}
 use Rattle.std.specs.FinMap.{empty, get}
-use Rattle.std.specs.Option.{option_map, option_map_or}
+use Rattle.std.specs.Option.{option_and_then, option_map, option_map_or}
 use Rattle.sdb_types.specs.declared.key.Key.{Key}
+use Rattle.sdb_types.specs.declared.key.TableName.{TableName}
 use Rattle.sdb_types.specs.declared.pair.Pair.{Pair}
 use Rattle.sdb_types.specs.declared.record.Record.{Record}
 use Rattle.sdb_types.specs.declared.txid.TxId.{TxId}
 use Rattle.sdb_types.specs.Contents.{Contents, record_at, record_of}
+use Rattle.sdb_types.proofs.Bools.{and_both, and_first}
+use Rattle.sdb_record.specs.declared.coordinator.Decided.{Decided}
 use Rattle.sdb_record.specs.Coordinator.{decision_in, is_coordinator_table}
 use Rattle.sdb_record.specs.Meta.{is_taken}
+use Rattle.sdb_record.specs.Rolls.{image_of, row_of_image}
 use Rattle.sdb_schema.specs.declared.table.Table.{Table}
+use Rattle.sdb_schema.specs.Rows.{fits_table}
 use Rattle.sdb_model.specs.declared.event.Event.{Event}
 use Rattle.sdb_model.specs.declared.event.Point.{Point}
 use Rattle.sdb_model.specs.declared.event.TableDump.{TableDump}
 use Rattle.sdb_model.specs.declared.script.Place.{Place}
 use Rattle.sdb_model.specs.Events.{Shelf, held_by, standing, store_of}
 use Rattle.sdb_model.specs.Exec.{Tables, find_table}
+use Rattle.sdb_model.specs.Images.{decision_at, decision_on, row_at}
 use Rattle.sdb_model.specs.Told.{AreImages, IsRun, dumps_of, serial}
 use Rattle.sdb_model.specs.Transactions.{Recorded}
-use Rattle.sdb_steps.specs.Fitting.{tables_fit}
+use Rattle.sdb_steps.specs.Fitting.{row_fits, tables_fit}
 use Rattle.sdb_linked.specs.Going.{IsGoing}
 use Rattle.sdb_steps.specs.Hands.{Hand, doing_of, system_of}
 use Rattle.sdb_steps.proofs.RowsFit.{is_fitting}
+use Rattle.sdb_dump.specs.Dumped.{image_fits, row_by}
 use Rattle.sdb_dump.specs.Odd.{IsOddAt}
 use Rattle.sdb_endings.specs.Ending.{IsEnd}
 use Rattle.sdb_endings.specs.Order.{HasRisen}
@@ -34,6 +41,7 @@ use Rattle.sdb_executions.specs.World.{IsWorld, WorldAt, hands_of}
 use Rattle.sdb_executions.specs.Linked.{on_one, one_name}
 use Rattle.sdb_executions.proofs.Steps.{execution_linked}
 use Rattle.sdb_world.specs.Played.{HasPlayed}
+use Rattle.sdb_world.proofs.Fitting.{final_row_fits, found_by_name}
 
 or_same : {A : Type 0} (xs : List A) (i : ℕ) (a b : A) → i < length xs → get_or xs i a ≡ get_or xs i b
 or_same [] i a b low = absurd (omega arith)
@@ -104,13 +112,33 @@ module _ (w : WorldAt) (h : IsWorld w) (opening closing : List Shelf) (p : HasPl
   ok_decided : {A B : Type 0} (r : Result A B) → IsOk r → is_ok r ≡ false → ⊥
   ok_decided r a b = absurd (cc)
 
+  abbrev decide : TxId → Option Decided
+  decide = decision_at w.script.places closing
+
+  -- the image of a record of a table fits it
+  images_fit : (key : Key) (t : Table) (r : Record) → Contains w.script.catalog t → t.name ≡ key.table → r.key ≡ key → standing w.script.places closing key ≡ Some r → image_fits decide t r ≡ true
+  images_fit key t r listed named same stands = by (row_by decide r) refl
+    where
+      found : find_table w.script.catalog key.table ≡ Some t
+      found = ap (find_table w.script.catalog) (sym named) ∙ found_by_name w.script.catalog t (and_first _ _ h.playable.catalog) listed
+
+      shown : (columns : List Pair) → row_by decide r ≡ Some columns → row_at w.script.places closing key ≡ Some columns
+      shown columns e = ap (λ (o : Option Record). option_and_then row_of_image (option_and_then (λ x. image_of x (decision_on w.script.places closing x)) o)) stands ∙ e
+
+      by : (o : Option (List Pair)) → row_by decide r ≡ o → option_map_or (fits_table t r.key) o true ≡ true
+      by None e = refl
+      by (Some columns) e =
+          let fits : row_fits w.script.catalog key columns ≡ true = final_row_fits w h opening closing p key columns (ap is_some found) (shown columns e) in
+          ap (λ (k : Key). fits_table t k columns) same ∙ sym (ap (λ (o : Option Table). option_map_or (λ (u : Table). fits_table u key columns) o false) found) ∙ fits
+
   -- no record breaks the rules
-  pub none_odd : (key : Key) → IsOddAt w.script.catalog w.script.places closing key → ⊥
+  pub none_odd : (key : Key) → IsOddAt w.script.catalog w.script.places closing decide key → ⊥
   none_odd key odd = elim odd.odd [
-    | inl data_odd ↦ (
-        let table : is_some (find_table w.script.catalog key.table) ≡ true = ap (λ (k : Key). is_some (find_table w.script.catalog k.table)) (sym same) ∙ data_odd.0 in
+    | inl of_data ↦ (
+        let named : of_data.table.name ≡ key.table = of_data.named ∙ ap (λ (k : Key). k.table) same in
+        let table : is_some (find_table w.script.catalog key.table) ≡ true = ap (λ (n : TableName). is_some (find_table w.script.catalog n)) (sym named) ∙ ap is_some (found_by_name w.script.catalog of_data.table (and_first _ _ h.playable.catalog) of_data.listed) in
         let taken : is_taken odd.found ≡ true = sound.taken key odd.found (or_first (is_some (find_table w.script.catalog key.table)) (is_coordinator_table key.table) table) (h.playable.apart key table) odd.stands in
-        true_false (sym taken ∙ data_odd.1)
+        true_false (sym (and_both (is_taken odd.found) _ taken (images_fit key of_data.table odd.found of_data.listed named same odd.stands)) ∙ of_data.ill_formed)
         )
     | inr row_odd ↦ ok_decided (decision_in odd.found) (sound.rows key odd.found (ap (λ (k : Key). is_coordinator_table k.table) (sym same) ∙ row_odd.0) odd.stands) row_odd.1
   ]
@@ -140,8 +168,8 @@ module _ (F : List Table → Type 0) (w : WorldAt) (h : IsWorld w) (opening old 
       (subst (λ (ss : List Shelf). IsRun w.script opening ss (record { events = w.events; order = order; tables = tables })) (sym (got.still f))
       (run_is w h opening old p recorded order tables each got.small rose images))
 
-  pub outcome_sound : (key : Key) → (F catalog → IsOddAt catalog places old key) → F w.script.catalog → places ≡ w.script.places → HasPlayed w opening old → ⊥
+  pub outcome_sound : (key : Key) → (F catalog → IsOddAt catalog places old (decision_at places old) key) → F w.script.catalog → places ≡ w.script.places → HasPlayed w opening old → ⊥
   outcome_sound key odd fit placed p =
       none_odd w h opening old p key
-      (subst (λ (ts : List Table). IsOddAt ts w.script.places old key) same
-      (subst (λ (ps : List Place). IsOddAt catalog ps old key) placed (odd (subst F (sym same) fit))))
+      (subst (λ (ts : List Table). IsOddAt ts w.script.places old (decision_at w.script.places old) key) same
+      (subst (λ (ps : List Place). IsOddAt catalog ps old (decision_at ps old) key) placed (odd (subst F (sym same) fit))))

@@ -14,7 +14,7 @@ use Rattle.sdb_model.specs.Transactions.{Recorded, point}
 use Rattle.sdb_spread.specs.Spread.{HoldAs}
 use Rattle.sdb_stores.specs.Shelf.{Attached}
 use Rattle.sdb_board.specs.Board.{AreFit, AreFitFor, placed, shown}
-use Rattle.sdb_dump.specs.Held.{AreDumpsWhereKnown}
+use Rattle.sdb_dump.specs.Held.{AreDumpsWhereKnown, AreWellFormedWhereKnown}
 use Rattle.sdb_executions.specs.World.{WorldAt}
 use Rattle.sdb_execution.specs.Execution.{IsExecution}
 use Rattle.sdb_world.specs.Explained.{IsExplained}
@@ -40,12 +40,13 @@ IsOutcomeOf w old new o = (opening : List Shelf) → HasPlayedOn w opening old �
 
 -- What an outcome says of stores of which not all need have known contents: the transactions of its order are each there with its point, by
 -- rising points, and are recorded, where the coordinator's table is known; and there is one dump of each table of the catalog, which is that of
--- its committed images, where its store and the coordinator's are known.
+-- its committed images, where its store and the coordinator's are known. Where they are known each record of it is well formed.
 pub record IsReadWhereKnown (catalog : List Table) (stores : Attached) (o : Outcome) : Type 0 where
   pub points : All (λ p. p.event ≡ point o.events p.id) o.order
   pub rising : IsStrictlyIncreasing (map (λ p. p.event) o.order)
   pub recorded : AreFitFor coordinator_table stores → (id : TxId) → Contains (map (λ p. p.id) o.order) id → Recorded (placed stores.places) (shown stores.shelves) id
   pub dumped : AreDumpsWhereKnown catalog stores o.tables
+  pub well_formed : AreWellFormedWhereKnown catalog stores
 
 -- A world has not played its script on stores that are fit for it.
 abbrev pub HasNotPlayed : WorldAt → Attached → Type 0

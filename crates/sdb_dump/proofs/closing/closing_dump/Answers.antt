@@ -9,9 +9,9 @@ use Rattle.sdb_board.specs.Board.{AreFitFor}
 use Rattle.sdb_board.specs.Opening.{records_in, whole}
 use Rattle.sdb_board.proofs.GoesOn.{goes_more, known_more}
 use Rattle.sdb_dump.specs.Decided.{decided}
-use Rattle.sdb_dump.proofs.Closings.{AreRows, closing_known, closing_once, closing_recorded, closing_tables, coordinator_fit, odd_in_rows, odd_in_tables, record_odd, row_odd}
+use Rattle.sdb_dump.proofs.Closings.{closing_known, closing_once, closing_recorded, closing_tables, closing_well_formed, coordinator_fit, odd_in_rows, odd_in_tables, record_odd, row_odd}
 use Rattle.sdb_dump.proofs.Coordinated.{recorded_small}
-use Rattle.sdb_dump.proofs.Later.{dumps_later, odd_later}
+use Rattle.sdb_dump.proofs.Later.{dumps_later, odd_later, well_formed_later}
 use Rattle.sdb_dump.proofs.Refusals.{passed, refused_as, risen_after}
 use Rattle.sdb_dump.proofs.closing.closing_dump.Goals as goal
 
@@ -35,6 +35,17 @@ returns-clause-dumped g c =
     dumps_later old (g.R.Registry.state c.dumps.new.stores) (goes_more _ _ _ c.in_ok-rows.ensures.goes c.in_ok-tables.ensures.goes) (known_more old mid (g.R.Registry.state c.dumps.new.stores) c.in_ok-rows.ensures.goes c.in_ok-rows.ensures.known c.in_ok-tables.ensures.known) catalog c.in_ok-tables.tables
     (closing_known catalog old mid c.as_slice.result.now (decided c.in_ok-decisions.decisions) c.in_ok-decisions.decisions.recorded c.in_ok-tables.tables
     (record { rows = λ f. c.as_slice.ensures ∙ c.in_ok-rows.ensures.rows (fit_table f) ∙ ap (records_in old) table; rising = and_first _ _ (ap (are_rows_of (whole c.coordinator_table-table.result)) c.as_slice.ensures ∙ c.in_ok-rows.ensures.of); decided = c.in_ok-decisions.ensures.decided; recorded = c.in_ok-decisions.ensures.recorded }) c.in_ok-rows.ensures.goes c.in_ok-rows.ensures.known c.in_ok-tables.ensures.named c.in_ok-tables.ensures.tables)
+
+pub returns-clause-well_formed : goal.returns-clause-well_formed
+returns-clause-well_formed g c =
+    let catalog = c.args.catalog.now in
+    let old = g.R.Registry.state c.args.stores.now in
+    let mid = g.R.Registry.state c.scan.new.stores in
+    let table = c.coordinator_table-table.ensures in
+    let fit_table = λ (f : AreFitFor coordinator_table old). subst (λ (t : TableName). AreFitFor t old) (sym table) f in
+    well_formed_later old (g.R.Registry.state c.dumps.new.stores) (goes_more _ _ _ c.in_ok-rows.ensures.goes c.in_ok-tables.ensures.goes) (known_more old mid (g.R.Registry.state c.dumps.new.stores) c.in_ok-rows.ensures.goes c.in_ok-rows.ensures.known c.in_ok-tables.ensures.known) catalog
+    (closing_well_formed catalog old mid c.as_slice.result.now (decided c.in_ok-decisions.decisions) c.in_ok-decisions.decisions.recorded
+    (record { rows = λ f. c.as_slice.ensures ∙ c.in_ok-rows.ensures.rows (fit_table f) ∙ ap (records_in old) table; rising = and_first _ _ (ap (are_rows_of (whole c.coordinator_table-table.result)) c.as_slice.ensures ∙ c.in_ok-rows.ensures.of); decided = c.in_ok-decisions.ensures.decided; recorded = c.in_ok-decisions.ensures.recorded }) c.in_ok-rows.ensures.goes c.in_ok-rows.ensures.known c.in_ok-decisions.ensures.fine c.in_ok-tables.ensures.well_formed)
 
 pub returns-clause-recorded : goal.returns-clause-recorded
 returns-clause-recorded g c =
@@ -102,7 +113,8 @@ returns-in_err-tables-clause-first g c =
     let fit_table = λ (f : AreFitFor coordinator_table old). subst (λ (t : TableName). AreFitFor t old) (sym table) f in
     passed _ c.from_residual-in_err-tables.result c.in_err-tables.field-0.0 c.from_residual-in_err-tables.ensures.1
     (refused_as _ _ _ _ c.in_err-tables.field-0.0
-    (λ key first fit. odd_in_tables catalog old mid c.as_slice.result.now key (λ f. c.as_slice.ensures ∙ c.in_ok-rows.ensures.rows (fit_table f) ∙ ap (records_in old) table) c.in_ok-decisions.ensures.fine goes c.in_ok-rows.ensures.known first fit)
+    (λ key first fit. odd_in_tables catalog old mid c.as_slice.result.now (decided c.in_ok-decisions.decisions) c.in_ok-decisions.decisions.recorded key
+    (record { rows = λ f. c.as_slice.ensures ∙ c.in_ok-rows.ensures.rows (fit_table f) ∙ ap (records_in old) table; rising = and_first _ _ (ap (are_rows_of (whole c.coordinator_table-table.result)) c.as_slice.ensures ∙ c.in_ok-rows.ensures.of); decided = c.in_ok-decisions.ensures.decided; recorded = c.in_ok-decisions.ensures.recorded }) c.in_ok-decisions.ensures.fine goes c.in_ok-rows.ensures.known first fit)
     (risen_after old mid (g.R.Registry.state c.dumps.new.stores).shelves goes) c.in_err-tables.ensures.err)
 
 pub returns-in_err-tables-clause-err : goal.returns-in_err-tables-clause-err
@@ -111,9 +123,12 @@ returns-in_err-tables-clause-err g c =
     let old = g.R.Registry.state c.args.stores.now in
     let mid = g.R.Registry.state c.scan.new.stores in
     let goes = c.in_ok-rows.ensures.goes in
+    let table = c.coordinator_table-table.ensures in
+    let fit_table = λ (f : AreFitFor coordinator_table old). subst (λ (t : TableName). AreFitFor t old) (sym table) f in
     passed _ c.from_residual-in_err-tables.result c.in_err-tables.field-0.0 c.from_residual-in_err-tables.ensures.1
     (refused_as _ _ _ _ c.in_err-tables.field-0.0
-    (λ key first. odd_later old (g.R.Registry.state c.dumps.new.stores) (goes_more _ _ _ goes c.in_err-tables.ensures.goes) (known_more old mid (g.R.Registry.state c.dumps.new.stores) goes c.in_ok-rows.ensures.known c.in_err-tables.ensures.known) catalog key (record_odd catalog old mid key goes c.in_ok-rows.ensures.known first))
+    (λ key first. odd_later old (g.R.Registry.state c.dumps.new.stores) (goes_more _ _ _ goes c.in_err-tables.ensures.goes) (known_more old mid (g.R.Registry.state c.dumps.new.stores) goes c.in_ok-rows.ensures.known c.in_err-tables.ensures.known) catalog key (record_odd catalog old mid c.as_slice.result.now (decided c.in_ok-decisions.decisions) c.in_ok-decisions.decisions.recorded key
+    (record { rows = λ f. c.as_slice.ensures ∙ c.in_ok-rows.ensures.rows (fit_table f) ∙ ap (records_in old) table; rising = and_first _ _ (ap (are_rows_of (whole c.coordinator_table-table.result)) c.as_slice.ensures ∙ c.in_ok-rows.ensures.of); decided = c.in_ok-decisions.ensures.decided; recorded = c.in_ok-decisions.ensures.recorded }) goes c.in_ok-rows.ensures.known first))
     (risen_after old mid (g.R.Registry.state c.dumps.new.stores).shelves goes) c.in_err-tables.ensures.err)
 
 pub returns-in_err-tables-clause-still : goal.returns-in_err-tables-clause-still

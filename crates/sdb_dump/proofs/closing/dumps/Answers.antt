@@ -1,8 +1,7 @@
-use Rattle.std.proofs.Common.{◌≡◌, ◌∙◌, length, sym, ap}
-use Rattle.sdb_board.specs.Board.{AreFit, AreFitFor}
+use Rattle.std.proofs.Common.{◌≡◌, ◌∙◌, length}
 use Rattle.sdb_board.proofs.GoesOn.{fit_for, goes_more, known_more, some_more}
 use Rattle.sdb_dump.specs.Decided.{decided}
-use Rattle.sdb_dump.proofs.Closings.{dumps_more, named_more, named_size, played_at, taken_more, untaken_among}
+use Rattle.sdb_dump.proofs.Closings.{dumps_more, ill_formed_among, named_more, named_size, played_at, well_formed_more}
 use Rattle.sdb_dump.proofs.Refusals.{passed, refused_as, risen_after}
 use Rattle.sdb_dump.proofs.closing.dumps.Goals as goal
 
@@ -17,7 +16,6 @@ loop-i-preserved g c =
     let decide = decided c.args.decisions.now in
     let here = c.table_at-table.ensures in
     let size : length c.loop-i.tables ≡ c.loop-i.i = named_size catalog c.loop-i.i t c.loop-i.tables here before.named in
-    let for : AreFit catalog old → AreFitFor t.name old = λ fit. fit_for catalog old t.name (played_at catalog c.loop-i.i t here) fit in
     record {
       some = some_more _ _ done.goes.names before.some;
       goes = goes_more _ _ _ before.goes done.goes;
@@ -25,7 +23,7 @@ loop-i-preserved g c =
       known = known_more old mid (g.R.Registry.state c.dump.new.stores) before.goes before.known done.known;
       named = named_more catalog c.loop-i.i t c.loop-i.tables c.push.new.self c.in_ok-rows.rows here before.named done.named c.in_ok-push.ensures.ok;
       tables = dumps_more decide old mid catalog c.loop-i.i t c.loop-i.tables c.push.new.self c.in_ok-rows.rows here size before.goes before.known before.tables done.dump c.in_ok-push.ensures.ok;
-      taken = λ fit. taken_more old mid catalog c.loop-i.i t here before.goes before.known (for fit) (before.taken fit) done.taken;
+      well_formed = well_formed_more decide old mid catalog c.loop-i.i t here before.goes before.known before.well_formed done.well_formed;
     }
 
 pub returns-in_err-rows-clause-err : goal.returns-in_err-rows-clause-err
@@ -38,7 +36,7 @@ returns-in_err-rows-clause-err g c =
     let here = c.table_at-table.ensures in
     passed _ c.from_residual.result c.in_err-rows.field-0.0 c.from_residual.ensures.1
     (refused_as _ _ _ _ c.in_err-rows.field-0.0
-    (λ key first. untaken_among old mid catalog c.loop-i.i t key here before.goes before.known before.taken first)
+    (λ key first. ill_formed_among (decided c.args.decisions.now) old mid catalog c.loop-i.i t key here before.goes before.known before.well_formed first)
     (risen_after old mid (g.R.Registry.state c.dump.new.stores).shelves before.goes) c.in_err-rows.ensures.err)
 
 pub returns-in_err-rows-clause-goes : goal.returns-in_err-rows-clause-goes

@@ -1,10 +1,9 @@
-use Rattle.std.proofs.Common.{◌≡◌, ◌<◌, length, take, None}
+use Rattle.std.proofs.Common.{◌≡◌, ◌<◌, length, take}
 use Rattle.std.specs.Prelude.{map}
 use Rattle.sdb_dump.specs.Decided.{decided}
 use Rattle.sdb_board.specs.Board.{AreFit, GoOn, HoldTheSame, KnownStay}
 use Rattle.sdb_board.specs.Opening.{table_names}
-use Rattle.sdb_dump.specs.Held.{AreDumpsUnder, first_untaken_in}
-use Rattle.sdb_dump.specs.Odd.{first_in}
+use Rattle.sdb_dump.specs.Held.{AreDumpsUnder, AreWellFormedUnder}
 use Rattle.sdb_dump.proofs.closing.dumps.Given as goal
 
 abbrev pub invariant-loop-i : goal.invariant-loop-i
@@ -15,5 +14,5 @@ invariant-loop-i g l = record {
   known : KnownStay (g.R.Registry.state l.initial.stores) (g.R.Registry.state l.stores);
   named : map (λ d. d.name) l.tables ≡ table_names (take l.i l.catalog);
   tables : AreDumpsUnder (decided l.decisions) l.catalog (g.R.Registry.state l.initial.stores) l.tables;
-  taken : AreFit l.catalog (g.R.Registry.state l.initial.stores) → first_in (first_untaken_in (g.R.Registry.state l.initial.stores)) (take l.i l.catalog) ≡ None;
+  well_formed : AreWellFormedUnder (decided l.decisions) (take l.i l.catalog) (g.R.Registry.state l.initial.stores);
 }

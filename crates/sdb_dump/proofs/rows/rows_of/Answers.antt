@@ -5,9 +5,8 @@ use Rattle.std.proofs.lemmas.List.Elements.{filter_map-append}
 use Rattle.sdb_types.specs.declared.key.Key.{Key}
 use Rattle.sdb_types.specs.declared.record.Record.{Record}
 use Rattle.sdb_record.specs.declared.access.Image.{Image}
-use Rattle.sdb_record.specs.Meta.{is_taken}
 use Rattle.sdb_dump.specs.Decided.{decided}
-use Rattle.sdb_dump.specs.Dumped.{image_by}
+use Rattle.sdb_dump.specs.Dumped.{image_by, is_well_formed}
 use Rattle.sdb_dump.proofs.Lists.{none_more}
 use Rattle.sdb_dump.proofs.Refusals.{first_is, item_at, item_more, passed, refused_as}
 use Rattle.sdb_dump.proofs.rows.rows_of.Goals as goal
@@ -19,11 +18,12 @@ loop-rec-preserved c =
     let i = c.loop-rec.rec-index in
     let rec = c.rec-item.result in
     let image = image_by (decided c.args.decisions.now) in
+    let well = is_well_formed (decided c.args.decisions.now) c.args.table.now in
     let next = item_more records i rec c.loop-rec-test.true c.rec-item.is in
     record {
       rows = c.in_ok-push_row.ensures.rows ∙ ap (λ (rs : List Image). rs ++ cons_option (image rec) []) before.rows
           ∙ sym (ap (filter_map image) next ∙ filter_map-append image (take i records) (rec ∷ []));
-      fine = ap (find (λ (r : Record). not (is_taken r))) next ∙ none_more (λ (r : Record). not (is_taken r)) (take i records) rec before.fine (ap not c.in_ok-push_row.ensures.taken);
+      well_formed = ap (find (λ (r : Record). not (well r))) next ∙ none_more (λ (r : Record). not (well r)) (take i records) rec before.well_formed (ap not c.in_ok-push_row.ensures.well_formed);
     }
 
 pub returns-in_err-push_row-clause-err : goal.returns-in_err-push_row-clause-err
@@ -31,6 +31,7 @@ returns-in_err-push_row-clause-err c =
     let records = c.args.records.now in
     let i = c.loop-rec.rec-index in
     let rec = c.rec-item.result in
+    let well = is_well_formed (decided c.args.decisions.now) c.args.table.now in
     passed _ c.from_residual.result c.in_err-push_row.field-0.0 c.from_residual.ensures.1
-    (refused_as (λ (key : Key). (key ≡ rec.key) × (is_taken rec ≡ false)) _ ⊥ ⊥ c.in_err-push_row.field-0.0
-    (λ key bad. first_is is_taken records i rec key (item_at records i rec c.loop-rec-test.true c.rec-item.is) c.loop-rec.invariant.fine bad) (λ h. h) c.in_err-push_row.ensures.err)
+    (refused_as (λ (key : Key). (key ≡ rec.key) × (well rec ≡ false)) _ ⊥ ⊥ c.in_err-push_row.field-0.0
+    (λ key bad. first_is well records i rec key (item_at records i rec c.loop-rec-test.true c.rec-item.is) c.loop-rec.invariant.well_formed bad) (λ h. h) c.in_err-push_row.ensures.err)

@@ -9,7 +9,7 @@ use Rattle.sdb_model.specs.Transactions.{point}
 use Rattle.sdb_board.proofs.GoesOn.{fit_for_before}
 use Rattle.sdb_dump.proofs.Later.{odd_before, recorded_later}
 use Rattle.sdb_record.specs.Coordinator.{coordinator_table}
-use Rattle.sdb_dump.specs.Held.{AreDumpsWhereKnown, IsOddIn}
+use Rattle.sdb_dump.specs.Held.{AreDumpsWhereKnown, AreWellFormedWhereKnown, IsOddIn}
 use Rattle.sdb_dump.proofs.Closings.{coordinator_fit}
 use Rattle.sdb_board.specs.Board.{AreFit, known_before, placed, shown}
 use Rattle.sdb_endings.specs.Order.{HasRisen}
@@ -61,6 +61,7 @@ returns-clause-read g c =
           let listed = subst (λ (ids : List TxId). Contains ids id) c.as_slice-2.ensures (c.in_ok-order.ensures.among id among).0 in
           recorded_later old new read.goes read.known id fit ((read.recorded (fit_for_before old new coordinator_table read.goes fit) id (read.small id listed)).0 listed);
       dumped = subst (λ (ts : List Table). AreDumpsWhereKnown ts (known_before old new) c.in_ok-recorded.field-0.tables) catalog read.dumped;
+      well_formed = subst (λ (ts : List Table). AreWellFormedWhereKnown ts (known_before old new)) catalog read.well_formed;
     }
 
 pub returns-clause-still : goal.returns-clause-still
