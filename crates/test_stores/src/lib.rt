@@ -12,6 +12,8 @@ mod calls;
 #[cfg(test)]
 mod catalog;
 #[cfg(test)]
+mod closing;
+#[cfg(test)]
 mod foreign;
 #[cfg(test)]
 mod registry;
