@@ -20,4 +20,13 @@ pub mod Sweeping
 pub mod SweepCalls
 pub mod Swept
 pub mod Beginnings
+pub mod Meant
+pub mod Views
+pub mod Running
+pub mod FoundGiven
+pub mod Finding
+pub mod FoundSteps
+pub mod FoundTakes
+pub mod FoundCalls
+pub mod FoundRuns
 pub mod Forgeries

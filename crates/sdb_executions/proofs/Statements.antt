@@ -242,7 +242,7 @@ module _ (A : List Table → List Event → ℕ → Said → Type 0) (W : List T
       subst (λ (ss : List Seat). (c : ℕ) (x : Said) → Contains (said c (w.events ++ e ∷ [])) x → SoOver A W w.script.catalog (w.events ++ e ∷ []) c x (hands_of ss c).client x.answer) (sym same)
       (λ c x has. others A W kept w.script.catalog w.events e c (hands_of w.seats c).client (h.caused.each c) (says c) (makes c) (so c) x has)
 
-  step_so : (w : WorldAt) (e : Event) (u : State) → IsStepFrom w.script (state_of w) e u → Holds w → AllSo A W w → AllSo A W (led w e u)
+  pub step_so : (w : WorldAt) (e : Event) (u : State) → IsStepFrom w.script (state_of w) e u → Holds w → AllSo A W w → AllSo A W (led w e u)
   step_so w (event.Take c text a) u t h so =
       let i : ℕ = t.place in
       let k : Knows w.script.catalog w.events (suc i) t.seat.client = at_hand (Knows w.script.catalog w.events (suc i)) w.seats i t.seat t.at (h.caused.each (suc i)) in

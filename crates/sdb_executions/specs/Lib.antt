@@ -3,4 +3,5 @@ pub mod Linked
 pub mod Laws
 pub mod Vacuums
 pub mod Moments
+pub mod Found
 pub mod Forged

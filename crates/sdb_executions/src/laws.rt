@@ -11,6 +11,7 @@ ghost use Rattle.sdb_model.specs.Counted.{AreCounted, AreResolved};
 ghost use Rattle.sdb_spread.specs.Spread.{AreAbout};
 ghost use Rattle.sdb_causes.specs.Tied.{AnswersHaveCauses};
 ghost use Rattle.sdb_executions.specs.Forged.{IsOfOther, IsOtherMoment, busy_at_once, counted_at_once, decides_at_once, prepares_at, reads_and_is_done};
+ghost use Rattle.sdb_executions.specs.Found.{RunsOnFound};
 ghost use Rattle.sdb_executions.specs.Laws.{BusyIsOfReads, CallsAreOfStatements, DecisionsAreDue, ExecutionOf, FollowsMoves, KeepsRules, PreparesAreOwn, ReadsAreFew};
 ghost use Rattle.sdb_executions.specs.Moments.{IsSoundAfter, TraceOf, WritesStandAfter};
 ghost use Rattle.sdb_executions.specs.Vacuums.{VacuumsSweep};
@@ -77,6 +78,12 @@ pub fn decisions_are_due()
 /// found, and five calls for each unresolved record.
 pub fn vacuums_sweep()
     ensures { (x : ExecutionOf) → VacuumsSweep x.script.catalog x.events }
+{}
+
+/// The answered statements of each transaction's body, recorded or not, give the answers that its client got where they run one after the
+/// other, each on what the transaction has found so far, with what it made of it.
+pub fn transactions_run_on_found()
+    ensures { (x : ExecutionOf) → RunsOnFound x.script.catalog x.events }
 {}
 
 /// Each beginning of an execution is an execution: what is so of every execution is so after any number of its events.

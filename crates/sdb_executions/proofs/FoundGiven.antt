@@ -1,0 +1,135 @@
+-- A statement that is answered from the rows that its transaction sees runs on what was found, and leaves what the transaction then has.
+use Rattle.std.proofs.Common.{◌≡◌, ◌⊎◌, inl, inr, ℕ, Bool, true, false, not, List, [], ◌∷◌, ◌++◌, Option, Some, None, refl, sym, ap, subst, ◌∙◌}
+use Rattle.std.specs.Prelude.{◌&&◌, if◌then◌else◌, is_some}
+use Rattle.std.specs.FinMap.{get}
+use Rattle.sdb_types.specs.declared.key.Key.{Key}
+use Rattle.sdb_record.specs.declared.access.Access.{Access}
+use Rattle.sdb_record.specs.declared.write.Keyed.{Keyed}
+use Rattle.sdb_schema.specs.declared.table.Table.{Table}
+use Rattle.sdb_schema.specs.Catalog.{is_catalog}
+use Rattle.sdb_model.specs.declared.answer.Answer.{Answer}
+use Rattle.sdb_model.specs.declared.event.Event.{Event}
+use Rattle.sdb_model.specs.Access.{with_changes}
+use Rattle.sdb_model.specs.Calls.{calls_of}
+use Rattle.sdb_model.specs.Causes.{refused}
+use Rattle.sdb_model.specs.Exec.{Tables, all_rows, exec, named_table}
+use Rattle.sdb_model.specs.Refused.{refusal_of}
+use Rattle.sdb_model.specs.Sql.{Reads, reads_commit}
+use Rattle.sdb_model.specs.Transactions.{Said, changes_nothing, is_effective}
+use Rattle.sdb_exec.specs.declared.plan.PlanStep.{PlanStep}
+use Rattle.sdb_exec.specs.declared.plan.PlanStep.TheVariants.{Finished}
+use Rattle.sdb_exec.specs.Plans.{Planned, answer_on, changes_on, first_unfit, has_all_literals, step_of}
+use Rattle.sdb_exec.specs.Reads.{access_of}
+use Rattle.sdb_snapshot.specs.Rows.{tables_of_notes}
+use Rattle.sdb_snapshot.specs.Seen.{Seen, overlay, tables_seen, with_written}
+use Rattle.sdb_snapshot.specs.Written.{with_writes}
+use Rattle.sdb_snapshot.proofs.Shown.{get_seen, own_is}
+use Rattle.sdb_txn.specs.Txn.{TxnAt}
+use Rattle.sdb_client.specs.Client.{given_answer, given_left, gives, too_many, written}
+use Rattle.sdb_steps.specs.Fitting.{row_fits, tables_fit}
+use Rattle.sdb_steps.proofs.RowsFit.{answers_on}
+use Rattle.sdb_causes.specs.Unfit.{SeesFit}
+use Rattle.sdb_causes.proofs.Given.{asked_gives, given_middle}
+use Rattle.sdb_causes.proofs.Shows.{effective_by}
+use Rattle.sdb_causes.proofs.Takings.{middle_ends}
+use Rattle.sdb_causes.proofs.Unfit.{all_true, rows_there}
+use Rattle.sdb_executions.specs.Found.{IsRunOnFound, View, exec_on, found_by, is_answered, with_found}
+use Rattle.sdb_executions.proofs.Running.{RunsTo, is_running, runs_more, view_after}
+use Rattle.sdb_executions.proofs.Views.{IsViewOf, view_tables}
+
+---- what a plan gives
+
+-- a plan's answer on rows that fit, with its changes
+record IsFinished (p : Planned) (a : Access) (was v : TxnAt) : Type 0 where
+  answer : Answer
+  changes : List Keyed
+  fits : first_unfit p.table (overlay a v.seen) ≡ None
+  step : step_of p (overlay a v.seen) ≡ Finished answer changes
+  some : changes_nothing (given_answer v (gives p a v)) ≡ false
+  gives_it : given_answer v (gives p a v) ≡ answer
+  left : given_left was v (gives p a v) ≡ written v changes
+
+-- It says that nothing was changed, and all is as it was; or it gives an answer on rows that fit.
+abbrev GivesSo : Planned → Access → TxnAt → TxnAt → Type 0
+GivesSo p a was v = ((changes_nothing (given_answer v (gives p a v)) ≡ true) × (given_left was v (gives p a v) ≡ was)) ⊎ IsFinished p a was v
+
+module _ (p : Planned) (a : Access) (was v : TxnAt) (asked : p.asked ≡ true) where
+  finished_on : (b : Answer) (ks : List Keyed) → first_unfit p.table (overlay a v.seen) ≡ None → step_of p (overlay a v.seen) ≡ Finished b ks → GivesSo p a was v
+  finished_on b ks fits step = by (not (changes_nothing b) && too_many v ks) refl (changes_nothing b) refl
+    where
+      gives_as : (z : Bool) → (not (changes_nothing b) && too_many v ks) ≡ z → given_answer v (gives p a v) ≡ (if z then refused 15 else b)
+      gives_as z e = ap (λ (x : PlanStep). given_answer v x) step ∙ ap (λ t. if t then refused 15 else b) e
+
+      left_as : (z : Bool) → changes_nothing (given_answer v (gives p a v)) ≡ z → given_left was v (gives p a v) ≡ (if z then was else written v ks)
+      left_as z e = ap (λ (x : PlanStep). given_left was v x) step ∙ ap (λ t. if t then was else written v ks) (ap (λ (x : PlanStep). changes_nothing (given_answer v x)) (sym step) ∙ e)
+
+      by : (z : Bool) → (not (changes_nothing b) && too_many v ks) ≡ z → (t : Bool) → changes_nothing b ≡ t → GivesSo p a was v
+      by true e t f = let nothing = ap changes_nothing (gives_as true e) in inl (nothing, left_as true nothing)
+      by false e true f = let nothing = ap changes_nothing (gives_as false e) ∙ f in inl (nothing, left_as true nothing)
+      by false e false f = let some = ap changes_nothing (gives_as false e) ∙ f in inr (record { answer = b; changes = ks; fits = fits; step = step; some = some; gives_it = gives_as false e; left = left_as false some })
+
+  gives_so : GivesSo p a was v
+  gives_so = by (first_unfit p.table (overlay a v.seen)) refl
+    where
+      by : (o : Option Key) → first_unfit p.table (overlay a v.seen) ≡ o → GivesSo p a was v
+      by None e = finished_on (answer_on p.table p.statement (overlay a v.seen)) (changes_on p.table p.statement (overlay a v.seen)) e (asked_gives p (overlay a v.seen) None asked e)
+      by (Some key) e = let same = asked_gives p (overlay a v.seen) (Some key) asked e in inl (ap (λ x. changes_nothing (given_answer v x)) same, ap (λ x. given_left was v x) same)
+
+---- a statement
+
+-- what a transaction sees fits where its tables do
+fit_tables : (catalog : List Table) (s : Seen) → SeesFit catalog s → tables_fit catalog (tables_seen s) ≡ true
+fit_tables catalog s fits = all_true (λ r. row_fits catalog r.key r.columns) (all_rows (tables_seen s)) (rows_there (λ q cs. row_fits catalog q cs ≡ true) (tables_seen s) (λ q cs found. fits q cs (sym (get_seen s.notes s.writes q) ∙ found)))
+
+-- A statement whose plan is on its access, taken by the catalog.
+pub record IsPlannedOn (catalog : List Table) (p : Planned) (a : Access) : Type 0 where
+  pub is : is_catalog catalog ≡ true
+  pub named : named_table catalog p.statement ≡ Some p.table
+  pub asked : p.asked ≡ true
+  pub taken : refusal_of catalog p.statement ≡ None
+  pub literals : has_all_literals p.statement ≡ true
+  pub access : a ≡ access_of p.table p.statement
+
+module _ (catalog : List Table) (events : List Event) (c : ℕ) (ss : List Said) (z : Said) (p : Planned) (a : Access) (on : IsPlannedOn catalog p a) (was v : TxnAt) (reads : Reads z.text p.statement) (answered : z.answer ≡ Some (given_answer v (gives p a v)))
+    (run : IsRunOnFound catalog events c ss) (now : IsViewOf (with_found (view_after catalog events c ss run) (found_by (calls_of events c z))) v.seen) (fits : first_unfit p.table (overlay a v.seen) ≡ None → SeesFit catalog v.seen) where
+  abbrev w : View
+  w = with_found (view_after catalog events c ss run) (found_by (calls_of events c z))
+
+  module _ (b : Answer) (ks : List Keyed) (fit : SeesFit catalog v.seen) (step : step_of p (overlay a v.seen) ≡ Finished b ks) where
+    -- the statement on the rows of the view
+    execs : exec catalog p.statement w.rows ≡ (b, with_changes (tables_seen v.seen) ks)
+    execs =
+        ap (exec catalog p.statement) (view_tables w v.seen now)
+        ∙ (answers_on catalog p v.seen b ks on.is on.named on.asked on.taken on.literals (subst (λ (x : Access). step_of p (overlay x v.seen) ≡ Finished b ks) on.access step) (tables_seen v.seen) (fit_tables catalog v.seen fit) refl).0
+
+    left_view : IsViewOf (exec_on catalog p.statement w).1 (with_written v.seen ks)
+    left_view = record {
+      keys = now.keys;
+      rows = λ q. ap (λ (x : Answer × Tables). get x.1 q) execs ∙ ap (λ (d : Tables). get d q) (sym (own_is (tables_of_notes v.seen.notes) v.seen.notes v.seen.writes ks)) ∙ get_seen v.seen.notes (with_writes v.seen.notes v.seen.writes ks) q;
+    }
+
+    runs_written : z.answer ≡ Some b → RunsTo catalog events c (ss ++ z ∷ []) (with_written v.seen ks)
+    runs_written is = runs_more catalog events c ss z p.statement b (with_written v.seen ks) run reads is (ap (λ (x : Answer × Tables). x.0) execs) left_view
+
+  -- it runs where it changed something, or shows it
+  running_by : (t : Bool) → reads_commit z.text ≡ false → changes_nothing (given_answer v (gives p a v)) ≡ t → is_running z ≡ not t
+  running_by t no_commit e =
+      ap (λ x. not x && is_effective z && is_answered z) (middle_ends z (given_answer v (gives p a v)) answered (given_middle p (overlay a v.seen) v) no_commit)
+      ∙ ap (λ x. x && is_answered z) (effective_by z (given_answer v (gives p a v)) t answered e)
+      ∙ ap (λ (o : Option Answer). not t && is_some o) answered
+      ∙ both (not t)
+    where
+      both : (x : Bool) → (x && true) ≡ x
+      both true = refl
+      both false = refl
+
+  -- Where it runs its transaction goes on with what it leaves; and else as it was.
+  pub given_runs : reads_commit z.text ≡ false → ((is_running z ≡ true) × RunsTo catalog events c (ss ++ z ∷ []) (given_left was v (gives p a v)).seen) ⊎ ((is_running z ≡ false) × (given_left was v (gives p a v) ≡ was))
+  given_runs no_commit = by (gives_so p a was v on.asked)
+    where
+      by : GivesSo p a was v → ((is_running z ≡ true) × RunsTo catalog events c (ss ++ z ∷ []) (given_left was v (gives p a v)).seen) ⊎ ((is_running z ≡ false) × (given_left was v (gives p a v) ≡ was))
+      by (inl h) = inr (running_by true no_commit h.0, h.1)
+      by (inr h) = inl (
+        running_by false no_commit h.some,
+        subst (λ (u : TxnAt). RunsTo catalog events c (ss ++ z ∷ []) u.seen) (sym h.left) (runs_written h.answer h.changes (fits h.fits) h.step (answered ∙ ap Some h.gives_it)),
+      )

@@ -1,0 +1,199 @@
+-- What the transactions of a client ran on what they found, as it takes statements and replies.
+use Rattle.std.proofs.Common.{◌≡◌, ◌⊎◌, inl, inr, ℕ, Bool, true, false, not, List, [], ◌∷◌, ◌++◌, Option, Some, None, IfSome, refl, sym, ap, subst, ◌∙◌}
+use Rattle.std.specs.Prelude.{◌&&◌, if◌then◌else◌, filter, is_some}
+use Rattle.std.specs.List.{AllByRecursion}
+use Rattle.std.proofs.lemmas.List.{append-nil}
+use Rattle.std.proofs.lemmas.List.Elements.{filter-append}
+use Rattle.sdb_types.proofs.Basics.{clash, none_some}
+use Rattle.sdb_record.specs.declared.access.Access.{Access}
+use Rattle.sdb_schema.specs.declared.table.Table.{Table}
+use Rattle.sdb_model.specs.declared.answer.Answer.{Answer}
+use Rattle.sdb_model.specs.declared.event.Event.{Event}
+use Rattle.sdb_model.specs.Calls.{calls_of}
+use Rattle.sdb_model.specs.Sql.{Reads, reads_commit}
+use Rattle.sdb_model.specs.Transactions.{Said, changes_nothing, ends, from_begin, is_effective, rest_of, said}
+use Rattle.sdb_exec.specs.Plans.{Planned, first_unfit}
+use Rattle.sdb_snapshot.specs.Seen.{Seen, overlay}
+use Rattle.sdb_txn.specs.declared.txn.Doing.{Doing}
+use Rattle.sdb_txn.specs.declared.txn.Doing.TheVariants as doing
+use Rattle.sdb_txn.specs.Txn.{TxnAt}
+use Rattle.sdb_client.specs.Client.{ClientAt, given_answer, given_left, gives, holding}
+use Rattle.sdb_story.specs.Telling.{waiting_of}
+use Rattle.sdb_causes.specs.Tied.{IsAnswered, IsOpenAs, IsWaiting, Knows, StandsIn, StandsOn, begun_in, open_after}
+use Rattle.sdb_causes.specs.Unfit.{SeesFit}
+use Rattle.sdb_causes.proofs.Lists.{since_more, since_none}
+use Rattle.sdb_causes.proofs.Shows.{effective_by}
+use Rattle.sdb_vacuum.specs.Vacuum.{VacuumAt}
+use Rattle.sdb_executions.specs.Found.{IsRunOnFound, found_by, is_answered, with_found}
+use Rattle.sdb_executions.proofs.FoundGiven.{IsPlannedOn, given_runs}
+use Rattle.sdb_executions.proofs.Running.{RunsTo, each_more, each_running, goes_on, is_running, none_run, run_stays, running, running_more, running_of, running_same, runs_stay, view_after}
+use Rattle.sdb_executions.proofs.Views.{IsViewOf}
+
+---- a client
+
+-- its statements that were answered
+abbrev pub answered_of : ℕ → List Event → List Said
+answered_of c events = filter is_answered (said c events)
+
+-- An open transaction has what its statements left, until its COMMIT is taken.
+abbrev pub SeesIn : List Table → List Event → ℕ → List Said → Seen → Doing → Type 0
+SeesIn catalog events c ss s (doing.Commit k) = Unit {0}
+SeesIn catalog events c ss s d = RunsTo catalog events c ss s
+
+abbrev pub SeesRun : List Table → List Event → ℕ → List Said → TxnAt → Type 0
+SeesRun catalog events c ss t = SeesIn catalog events c ss t.seen t.doing
+
+-- Each transaction of a client ran on what it found, and its open one has what that left.
+pub record ClientRuns (catalog : List Table) (events : List Event) (c : ℕ) (h : ClientAt) : Type 0 where
+  pub ran : (n : ℕ) → IsRunOnFound catalog events c (running_of n (answered_of c events))
+  pub sees : IfSome h.txn (SeesRun catalog events c (running_of h.begun (answered_of c events)))
+
+---- what it was past
+
+pub all_answered : (catalog : List Table) (events : List Event) (c : ℕ) (past : List Said) → AllByRecursion (IsAnswered catalog events c) past → filter is_answered past ≡ past
+all_answered catalog events c [] all = refl
+all_answered catalog events c (s ∷ ss) all = ap (λ (o : Option Answer). if is_some o then s ∷ filter is_answered ss else filter is_answered ss) all.0.is ∙ ap (λ xs. s ∷ xs) (all_answered catalog events c ss all.1)
+
+pub answered_of_is : (catalog : List Table) (events : List Event) (c : ℕ) (h : ClientAt) (k : Knows catalog events c h) → answered_of c events ≡ k.told
+answered_of_is catalog events c h k = ap (filter is_answered) k.same ∙ filter-append is_answered k.told (waiting_of k.waiting) ∙ ap (λ xs. xs ++ filter is_answered (waiting_of k.waiting)) (all_answered catalog events c k.told k.answered) ∙ by k.waiting k.waits ∙ append-nil k.told
+  where
+    by : (o : Option Said) → IfSome o (IsWaiting catalog events c (is_some h.vacuum)) → k.told ++ filter is_answered (waiting_of o) ≡ k.told ++ []
+    by None h = refl
+    by (Some w) x = ap (λ (o : Option Answer). k.told ++ (if is_some o then w ∷ [] else [])) x.unanswered
+
+---- statements that don't run
+
+pub ends_stays : (z : Said) → ends z ≡ true → is_running z ≡ false
+ends_stays z e = ap (λ b. not b && is_effective z && is_answered z) e
+
+pub nothing_stays : (z : Said) (b : Answer) → z.answer ≡ Some b → changes_nothing b ≡ true → is_running z ≡ false
+nothing_stays z b is e = ap (λ x. goes_on z && x && is_answered z) (effective_by z b true is e) ∙ none (goes_on z)
+  where
+    none : (x : Bool) → (x && false && is_answered z) ≡ false
+    none true = refl
+    none false = refl
+
+running_of_same : (n : ℕ) (past : List Said) (z : Said) → is_running z ≡ false → running_of n (past ++ z ∷ []) ≡ running_of n past
+running_of_same n past z none = by (from_begin n past) refl
+  where
+    by : (r : List Said) → from_begin n past ≡ r → running_of n (past ++ z ∷ []) ≡ running_of n past
+    by [] e = ap running (since_none n past z e) ∙ sym (ap (λ x. running (rest_of x)) e)
+    by (b ∷ r) e = ap (λ x. running (rest_of x)) (since_more n past z b r e) ∙ running_same r z none ∙ sym (ap (λ x. running (rest_of x)) e)
+
+running_of_more : (n : ℕ) (past : List Said) (z begin : Said) (body : List Said) → from_begin n past ≡ begin ∷ body → AllByRecursion (λ s. ends s ≡ false) body → is_running z ≡ true → running_of n (past ++ z ∷ []) ≡ running_of n past ++ z ∷ []
+running_of_more n past z begin body since opens runs =
+    ap (λ x. running (rest_of x)) (since_more n past z begin body since) ∙ running_more body z opens ∙ ap (λ b. running body ++ (if b then z ∷ [] else [])) runs ∙ ap (λ x. running (rest_of x) ++ z ∷ []) (sym since)
+
+sees_weak : (catalog : List Table) (events : List Event) (c : ℕ) (ss : List Said) (s : Seen) (d : Doing) → RunsTo catalog events c ss s → SeesIn catalog events c ss s d
+sees_weak catalog events c ss s doing.Idle h = h
+sees_weak catalog events c ss s (doing.Read a x) h = h
+sees_weak catalog events c ss s (doing.Commit k) h = tt
+sees_weak catalog events c ss s doing.Over h = h
+
+sees_stay : (catalog : List Table) (events : List Event) (e : Event) (c : ℕ) (ss : List Said) (s : Seen) (d : Doing) → AllByRecursion (IsAnswered catalog events c) ss → SeesIn catalog events c ss s d → SeesIn catalog (events ++ e ∷ []) c ss s d
+sees_stay catalog events e c ss s doing.Idle all h = runs_stay catalog events e c ss s all h
+sees_stay catalog events e c ss s (doing.Read a x) all h = runs_stay catalog events e c ss s all h
+sees_stay catalog events e c ss s (doing.Commit k) all h = tt
+sees_stay catalog events e c ss s doing.Over all h = runs_stay catalog events e c ss s all h
+
+---- one event more
+
+module _ (catalog : List Table) (events : List Event) (c : ℕ) (h : ClientAt) (k : Knows catalog events c h) (runs : ClientRuns catalog events c h) (e : Event) where
+  abbrev E : List Event
+  E = events ++ e ∷ []
+
+  abbrev answered_same : answered_of c events ≡ k.told
+  answered_same = answered_of_is catalog events c h k
+
+  ran_then : (n : ℕ) → IsRunOnFound catalog E c (running_of n k.told)
+  ran_then n = run_stays catalog events e c (running_of n k.told) (each_running (IsAnswered catalog events c) n k.told k.answered) (subst (λ ts. IsRunOnFound catalog events c (running_of n ts)) answered_same (runs.ran n))
+
+  pub sees_then : IfSome h.txn (SeesRun catalog E c (running_of h.begun k.told))
+  sees_then = by h.txn (subst (λ ts. IfSome h.txn (SeesRun catalog events c (running_of h.begun ts))) answered_same runs.sees)
+    where
+      by : (o : Option TxnAt) → IfSome o (SeesRun catalog events c (running_of h.begun k.told)) → IfSome o (SeesRun catalog E c (running_of h.begun k.told))
+      by None x = tt
+      by (Some t) x = sees_stay catalog events e c (running_of h.begun k.told) t.seen t.doing (each_running (IsAnswered catalog events c) h.begun k.told k.answered) x
+
+  -- where no statement is answered
+  abbrev Stays : ClientAt → Type 0
+  Stays d = IfSome d.txn (SeesRun catalog E c (running_of d.begun k.told))
+
+  pub still_runs : (d : ClientAt) → answered_of c E ≡ k.told → Stays d → ClientRuns catalog E c d
+  still_runs d same sees = record { ran = λ n. subst (λ ts. IsRunOnFound catalog E c (running_of n ts)) (sym same) (ran_then n); sees = subst (λ ts. IfSome d.txn (SeesRun catalog E c (running_of d.begun ts))) (sym same) sees }
+
+  -- where one is
+  abbrev pub Follows : Said → ClientAt → Type 0
+  Follows z d = (open_after k.told ≡ true → is_running z ≡ true → IsRunOnFound catalog E c (running_of (begun_in k.told) k.told ++ z ∷ [])) × IfSome d.txn (SeesRun catalog E c (running_of d.begun (k.told ++ z ∷ [])))
+
+  pub next_runs : (z : Said) (d : ClientAt) → answered_of c E ≡ k.told ++ z ∷ [] → Follows z d → ClientRuns catalog E c d
+  next_runs z d same f = record {
+    ran = λ n. subst (λ ts. IsRunOnFound catalog E c (running_of n ts)) (sym same) (each_more (IsRunOnFound catalog E c) k.told z k.counted.paired (none_run catalog E c) ran_then f.0 n);
+    sees = subst (λ ts. IfSome d.txn (SeesRun catalog E c (running_of d.begun ts))) (sym same) f.1;
+  }
+
+  ---- where its transaction is
+
+  abbrev At : Said → TxnAt → Type 0
+  At z u = SeesRun catalog E c (running_of h.begun (k.told ++ z ∷ [])) u
+
+  sees_same : (z : Said) (s : Seen) (u : TxnAt) → is_running z ≡ false → u.seen ≡ s → RunsTo catalog E c (running_of h.begun k.told) s → At z u
+  sees_same z s u none same r = subst (λ xs. SeesIn catalog E c xs u.seen u.doing) (sym (running_of_same h.begun k.told z none)) (sees_weak catalog E c (running_of h.begun k.told) u.seen u.doing (subst (RunsTo catalog E c (running_of h.begun k.told)) (sym same) r))
+
+  -- no transaction is open
+  closed : h.txn ≡ None → open_after k.told ≡ false
+  closed none = by_vacuum h.vacuum k.waiting k.stands
+    where
+      by_txn : (o : Option TxnAt) (w : Option Said) → o ≡ None → StandsIn events c h.begun k.told w h.plan o → open_after k.told ≡ false
+      by_txn None w e s = s.1
+      by_txn (Some t) w e s = none_some t (sym e)
+
+      by_vacuum : (v : Option VacuumAt) (w : Option Said) → StandsOn events c h.begun k.told w h.plan h.txn v → open_after k.told ≡ false
+      by_vacuum None w s = by_txn h.txn w none s
+      by_vacuum (Some v) None s = absurd s
+      by_vacuum (Some v) (Some x) s = s.1
+
+  -- it changes nothing, or no transaction is open
+  pub no_more : (z : Said) → (is_running z ≡ false) ⊎ (h.txn ≡ None) → open_after k.told ≡ true → is_running z ≡ true → IsRunOnFound catalog E c (running_of (begun_in k.told) k.told ++ z ∷ [])
+  no_more z (inl f) opened t = clash (sym t ∙ f)
+  no_more z (inr f) opened t = clash (sym opened ∙ closed f)
+
+  -- and the client is as it was
+  pub same_follows : (z : Said) → (is_running z ≡ false) ⊎ (h.txn ≡ None) → Follows z h
+  same_follows z none = (no_more z none, by none)
+    where
+      by_txn : (o : Option TxnAt) → is_running z ≡ false → IfSome o (SeesRun catalog E c (running_of h.begun k.told)) → IfSome o (At z)
+      by_txn None f x = tt
+      by_txn (Some t) f x = subst (λ xs. SeesIn catalog E c xs t.seen t.doing) (sym (running_of_same h.begun k.told z f)) x
+
+      by : (is_running z ≡ false) ⊎ (h.txn ≡ None) → IfSome h.txn (At z)
+      by (inl f) = by_txn h.txn f sees_then
+      by (inr f) = subst (λ (o : Option TxnAt). IfSome o (At z)) (sym f) tt
+
+  -- or has none open
+  pub ended_follows : (z : Said) (d : ClientAt) → (is_running z ≡ false) ⊎ (h.txn ≡ None) → d.txn ≡ None → Follows z d
+  ended_follows z d none f = (no_more z none, subst (λ (o : Option TxnAt). IfSome o (SeesRun catalog E c (running_of d.begun (k.told ++ z ∷ [])))) (sym f) tt)
+
+  module _ (t : TxnAt) (some : h.txn ≡ Some t) (free : h.vacuum ≡ None) where
+    opened : IsOpenAs c h.begun k.told t
+    opened = (subst (StandsIn events c h.begun k.told k.waiting h.plan) some (subst (StandsOn events c h.begun k.told k.waiting h.plan h.txn) free k.stands)).1
+
+    pub sees_open : SeesRun catalog E c (running_of h.begun k.told) t
+    sees_open = subst (λ (o : Option TxnAt). IfSome o (SeesRun catalog E c (running_of h.begun k.told))) some sees_then
+
+    -- it is answered that nothing was changed
+    pub held_follows : (z : Said) (u : TxnAt) → is_running z ≡ false → u.seen ≡ t.seen → RunsTo catalog E c (running_of h.begun k.told) t.seen → Follows z (holding h u)
+    held_follows z u none same r = (no_more z (inl none), sees_same z t.seen u none same r)
+
+    -- it is answered from the rows that are seen
+    pub given_follows : (z : Said) (p : Planned) (a : Access) (was v : TxnAt) → IsPlannedOn catalog p a → Reads z.text p.statement → reads_commit z.text ≡ false → z.answer ≡ Some (given_answer v (gives p a v)) → was.seen ≡ t.seen → (r : RunsTo catalog E c (running_of h.begun k.told) t.seen)
+        → IsViewOf (with_found (view_after catalog E c (running_of h.begun k.told) r.run) (found_by (calls_of E c z))) v.seen → (first_unfit p.table (overlay a v.seen) ≡ None → SeesFit catalog v.seen) → Follows z (holding h (given_left was v (gives p a v)))
+    given_follows z p a was v on reads no_commit answered same r now fits = by (given_runs catalog E c (running_of h.begun k.told) z p a on was v reads answered r.run now fits no_commit)
+      where
+        by : ((is_running z ≡ true) × RunsTo catalog E c (running_of h.begun k.told ++ z ∷ []) (given_left was v (gives p a v)).seen) ⊎ ((is_running z ≡ false) × (given_left was v (gives p a v) ≡ was)) → Follows z (holding h (given_left was v (gives p a v)))
+        by (inl x) = (
+          λ opened_now runs_now. subst (λ n. IsRunOnFound catalog E c (running_of n k.told ++ z ∷ [])) k.begun x.1.run,
+          sees_weak catalog E c (running_of h.begun (k.told ++ z ∷ [])) (given_left was v (gives p a v)).seen (given_left was v (gives p a v)).doing
+              (subst (λ xs. RunsTo catalog E c xs (given_left was v (gives p a v)).seen) (sym (running_of_more h.begun k.told z opened.begin opened.body opened.since opened.goes_on x.0)) x.1),
+        )
+        by (inr x) = held_follows z (given_left was v (gives p a v)) x.0 (ap (λ (u : TxnAt). u.seen) x.1 ∙ same) r

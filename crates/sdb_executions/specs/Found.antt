@@ -1,0 +1,114 @@
+-- What a transaction has found in the tables, and what its statements answer on that.
+use Rattle.std.specs.Prelude.{◌≡◌, ◌&&◌, Bool, false, if◌then◌else◌, ℕ, List, [], ◌∷◌, ◌++◌, filter, find, fold, map, Option, Some, None, is_some}
+use Rattle.std.specs.FinMap.{empty}
+use Rattle.std.specs.List.{filter_map, flat_map, list_any}
+use Rattle.std.specs.Option.{option_and_then, option_map_or}
+use Rattle.sdb_types.specs.declared.key.Key.{Key}
+use Rattle.sdb_types.specs.declared.record.Condition.{Condition}
+use Rattle.sdb_types.specs.declared.record.Record.{Record}
+use Rattle.sdb_types.specs.declared.record.Reply.{Reply}
+use Rattle.sdb_types.specs.declared.record.Reply.TheVariants as reply
+use Rattle.sdb_types.specs.declared.record.Request.{Request}
+use Rattle.sdb_types.specs.declared.record.Request.TheVariants as ask
+use Rattle.sdb_types.specs.declared.record.State.TheVariants as state
+use Rattle.sdb_types.specs.declared.txid.TxId.{TxId}
+use Rattle.sdb_types.specs.Contents.{holds}
+use Rattle.sdb_types.specs.Order.{same_key}
+use Rattle.sdb_record.specs.Meta.{is_in}
+use Rattle.sdb_record.specs.Rolls.{row_of_image}
+use Rattle.sdb_schema.specs.declared.table.Table.{Table}
+use Rattle.sdb_model.specs.declared.answer.Answer.{Answer}
+use Rattle.sdb_model.specs.declared.event.Event.{Event}
+use Rattle.sdb_model.specs.declared.statement.Statement.{Statement}
+use Rattle.sdb_model.specs.Access.{with_row}
+use Rattle.sdb_model.specs.Calls.{Made, calls_of, put_by}
+use Rattle.sdb_model.specs.Counted.{is_key_of}
+use Rattle.sdb_model.specs.Exec.{Tables, exec}
+use Rattle.sdb_model.specs.Noted.{reads_rows}
+use Rattle.sdb_model.specs.Told.{AreRead}
+use Rattle.sdb_model.specs.Transactions.{Said, body, client_of}
+
+---- what a statement found
+
+-- the condition on which a call puts or deletes
+abbrev pub condition_asked : Request → Option Condition
+condition_asked (ask.Get key) = None
+condition_asked (ask.Scan span) = None
+condition_asked (ask.PutIf rec condition) = Some condition
+condition_asked (ask.DeleteIf key condition) = Some condition
+
+-- A call rolls a record: it puts or deletes at the record's key, on a condition that the record meets.
+abbrev pub rolls : Record → Made → Bool
+rolls r m = is_key_of r.key m && option_map_or (λ c. holds c (Some r)) (condition_asked m.request) false
+
+-- What a found record means to the statement that found it: itself where it is committed, and else what the statement's own roll put there,
+-- none where that deleted it.
+abbrev pub meant : List Made → Record → Option Record
+meant calls r = if is_in state.Committed r.columns then Some r else option_and_then (λ m. put_by m.request) (find (rolls r) calls)
+
+-- The keys at which a read of a statement found something, each with what this means: a get also finds that there is none, and a scan only
+-- finds records.
+abbrev pub found_in : List Made → Request → Reply → List (Key × Option Record)
+found_in calls (ask.Get key) (reply.Found found) = (key, option_and_then (meant calls) found) ∷ []
+found_in calls (ask.Scan span) (reply.Rows rows) = map (λ (b : Record). (b.key, Some b)) (filter_map (meant calls) rows)
+found_in calls q r = []
+
+-- what a statement with these calls found, in their order
+abbrev pub found_by : List Made → List (Key × Option Record)
+found_by calls = flat_map (λ m. found_in calls m.request m.reply) (filter reads_rows calls)
+
+---- what a transaction has found
+
+-- A transaction's view of the tables: the keys at which it has found something, and the rows there, with its own changes.
+pub record View : Type 0 where
+  pub keys : List Key
+  pub rows : Tables
+
+abbrev pub nothing_found : View
+nothing_found = record { keys = []; rows = empty }
+
+-- something was found at a key
+abbrev pub has_found : View → Key → Bool
+has_found v key = list_any (same_key key) v.keys
+
+-- with what was found at a key; what was found there first stays, with the changes since
+abbrev pub with_one_found : View → Key × Option Record → View
+with_one_found v e = if has_found v e.0 then v else record { keys = v.keys ++ e.0 ∷ []; rows = with_row v.rows e.0 (option_and_then row_of_image e.1) }
+
+-- with what a statement found
+abbrev pub with_found : View → List (Key × Option Record) → View
+with_found v found = fold with_one_found v found
+
+---- statements
+
+-- a statement on the rows of a view: its answer, and the view with its changes
+abbrev pub exec_on : List Table → Statement → View → Answer × View
+exec_on catalog s v = ((exec catalog s v.rows).0, record { keys = v.keys; rows = (exec catalog s v.rows).1 })
+
+-- The answers to statements that run one after the other, each on what was found so far, with what it found itself; and the view after them.
+abbrev pub run_on_found : List Table → List (List (Key × Option Record)) → List Statement → View → List Answer × View
+run_on_found catalog [] ss v = ([], v)
+run_on_found catalog (f ∷ fs) [] v = ([], v)
+run_on_found catalog (f ∷ fs) (s ∷ ss) v =
+    ((exec_on catalog s (with_found v f)).0 ∷ (run_on_found catalog fs ss (exec_on catalog s (with_found v f)).1).0, (run_on_found catalog fs ss (exec_on catalog s (with_found v f)).1).1)
+
+-- what each of some statements of a client found
+abbrev pub finds : List Event → ℕ → List Said → List (List (Key × Option Record))
+finds events client ss = map (λ s. found_by (calls_of events client s)) ss
+
+-- Statements that a client took read as these, which, run one after the other on what they found, give the answers that it got.
+pub record IsRunOnFound (catalog : List Table) (events : List Event) (client : ℕ) (ss : List Said) : Type 0 where
+  pub statements : List Statement
+  pub read : AreRead ss statements
+  pub answers : map (λ s. s.answer) ss ≡ map Some (run_on_found catalog (finds events client ss) statements nothing_found).0
+
+abbrev pub is_answered : Said → Bool
+is_answered s = is_some s.answer
+
+-- the statements of a transaction's body that were answered
+abbrev pub answered_body : List Event → TxId → List Said
+answered_body events id = filter is_answered (body events id)
+
+-- So it is of each transaction, recorded or not.
+abbrev pub RunsOnFound : List Table → List Event → Type 0
+RunsOnFound catalog events = (id : TxId) → IsRunOnFound catalog events (client_of id) (answered_body events id)
