@@ -29,4 +29,5 @@ pub mod FoundSteps
 pub mod FoundTakes
 pub mod FoundCalls
 pub mod FoundRuns
+pub mod ForgedFound
 pub mod Forgeries

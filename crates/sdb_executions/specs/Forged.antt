@@ -1,18 +1,33 @@
 -- Events that no execution has, as values: each is refused by what one law says.
-use Rattle.std.specs.Prelude.{◌≡◌, ◌≢◌, ◌<◌, ◌^◌, true, pos, ℕ, ℤ, List, [], ◌∷◌, Some, None}
+use Rattle.std.specs.Prelude.{◌≡◌, ◌≢◌, ◌<◌, ◌^◌, true, false, pos, ℕ, ℤ, List, [], ◌∷◌, ◌++◌, ◌+◌, Some, None}
 use Rattle.sdb_types.specs.declared.key.Key.{Key}
 use Rattle.sdb_types.specs.declared.record.Condition.TheVariants as condition
+use Rattle.sdb_types.specs.declared.record.Record.{Record}
+use Rattle.sdb_types.specs.declared.record.Reply.{Reply}
 use Rattle.sdb_types.specs.declared.record.Reply.TheVariants as reply
+use Rattle.sdb_types.specs.declared.record.Request.{Request}
 use Rattle.sdb_types.specs.declared.record.Request.TheVariants as ask
+use Rattle.sdb_types.specs.declared.record.State.TheVariants as state
 use Rattle.sdb_types.specs.declared.txid.TxId.{TxId}
+use Rattle.sdb_types.specs.declared.value.Value.{Value}
 use Rattle.sdb_record.specs.declared.coordinator.Decision.{Decision}
 use Rattle.sdb_record.specs.declared.write.Write.{Write}
-use Rattle.sdb_record.specs.Meta.{is_moment}
-use Rattle.sdb_record.specs.Rolls.{prepared_record}
+use Rattle.sdb_record.specs.Coordinator.{is_coordinator_table}
+use Rattle.sdb_record.specs.Meta.{is_in, is_moment}
+use Rattle.sdb_record.specs.Rolls.{is_tombstone, prepared_record}
+use Rattle.sdb_schema.specs.declared.table.Table.{Table}
+use Rattle.sdb_model.specs.declared.answer.Answer.{Answer}
 use Rattle.sdb_model.specs.declared.answer.Answer.TheVariants as answer
 use Rattle.sdb_model.specs.declared.event.Event.{Event}
 use Rattle.sdb_model.specs.declared.event.Event.TheVariants as event
 use Rattle.sdb_model.specs.declared.event.How.TheVariants.{Seen}
+use Rattle.sdb_model.specs.declared.statement.Insert.{Insert}
+use Rattle.sdb_model.specs.declared.statement.Select.{Select}
+use Rattle.sdb_model.specs.declared.statement.Statement.{Statement}
+use Rattle.sdb_model.specs.declared.statement.Statement.TheVariants as statement
+use Rattle.sdb_model.specs.declared.statement.Update.{Update}
+use Rattle.sdb_model.specs.Exec.{key_of, named_table}
+use Rattle.sdb_model.specs.Sql.{Reads, reads_begin}
 use Rattle.sdb_model.specs.Transactions.{client_of}
 use Rattle.sdb_executions.specs.Laws.{row_put}
 
@@ -43,3 +58,86 @@ prepares_at text w id now = event.Take 1 text None ∷ event.Call 1 [] (ask.PutI
 -- A statement puts a transaction's row by its first call.
 abbrev pub decides_at_once : List ℕ → TxId → Decision → ℤ → List Event
 decides_at_once text id d now = event.Take 1 text None ∷ event.Call 1 [] (row_put id d now) Seen reply.Applied None ∷ []
+
+---- answers that statements don't give on what they found
+
+-- A statement on a table of a catalog, and texts that read as BEGIN and as it.
+pub record StatementOn : Type 0 where
+  pub catalog : List Table
+  pub table : Table
+  pub statement : Statement
+  pub begin : List ℕ
+  pub text : List ℕ
+  pub begins : reads_begin begin ≡ true
+  pub reads : Reads text statement
+  pub named : named_table catalog statement ≡ Some table
+  pub apart : is_coordinator_table table.name ≡ false
+
+-- It is an INSERT.
+pub record InsertOn : Type 0 where
+  pub on : StatementOn
+  pub insert : Insert
+  pub is : on.statement ≡ statement.Insert insert
+
+-- the key of its row
+abbrev pub insert_key : InsertOn → Key
+insert_key f = key_of f.on.table f.insert
+
+-- It is a SELECT.
+pub record SelectOn : Type 0 where
+  pub on : StatementOn
+  pub select : Select
+  pub is : on.statement ≡ statement.Select select
+
+-- It is an UPDATE.
+pub record UpdateOn : Type 0 where
+  pub on : StatementOn
+  pub update : Update
+  pub is : on.statement ≡ statement.Update update
+
+-- a committed record that is no tombstone
+abbrev pub ShowsRow : Record → Type 0
+ShowsRow r = (is_in state.Committed r.columns ≡ true) × (is_tombstone r ≡ false)
+
+-- a SELECT without tests and LIMIT, and a row of its table at a key
+pub record FindsRow (f : SelectOn) (key : Key) (r : Record) : Type 0 where
+  pub tests : f.select.tests ≡ []
+  pub limit : f.select.limit ≡ None
+  pub inside : key.table ≡ f.on.table.name
+  pub shows : ShowsRow r
+
+-- a transaction's first statement, which is answered as it is taken
+abbrev pub answered_at_once : StatementOn → Answer → List Event
+answered_at_once f a = event.Take 1 f.begin (Some answer.Done) ∷ event.Take 1 f.text (Some a) ∷ []
+
+-- which is answered after a call
+abbrev pub answered_after : StatementOn → Request → Reply → Answer → List Event
+answered_after f q r a = event.Take 1 f.begin (Some answer.Done) ∷ event.Take 1 f.text None ∷ event.Call 1 [] q Seen r (Some a) ∷ []
+
+-- A SELECT shows rows without a read.
+abbrev pub shows_unread : SelectOn → List Value → List (List Value) → List Event
+shows_unread f row rows = answered_at_once f.on (answer.Rows (row ∷ rows))
+
+-- It leaves out the row that it found.
+abbrev pub leaves_out : SelectOn → Key → Record → List Event
+leaves_out f key r = answered_after f.on (ask.Get key) (reply.Found (Some r)) (answer.Rows [])
+
+-- It shows two rows.
+abbrev pub shows_two : SelectOn → Request → Reply → List Value → List Value → List Event
+shows_two f q r a b = answered_after f.on q r (answer.Rows (a ∷ b ∷ []))
+
+-- An UPDATE counts rows without a read.
+abbrev pub counts_unread : UpdateOn → ℕ → List Event
+counts_unread f n = answered_at_once f.on (answer.Count (n + 1))
+
+-- An INSERT is counted over a row that it found.
+abbrev pub counts_over : InsertOn → Record → List Event
+counts_over f r = answered_after f.on (ask.Get (insert_key f)) (reply.Found (Some r)) (answer.Count 1)
+
+-- An INSERT finds nothing and is counted, and so is the same one after it.
+abbrev pub counts_twice : InsertOn → List Event
+counts_twice f = answered_after f.on (ask.Get (insert_key f)) (reply.Found None) (answer.Count 1) ++ event.Take 1 f.on.text (Some (answer.Count 1)) ∷ []
+
+-- An INSERT finds nothing and is answered Duplicate.
+abbrev pub duplicates_none : InsertOn → List Event
+duplicates_none f = answered_after f.on (ask.Get (insert_key f)) (reply.Found None) (answer.Duplicate (insert_key f))

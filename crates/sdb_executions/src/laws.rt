@@ -1,7 +1,11 @@
 //! Laws of executions, whatever the stores reply.
-ghost use Rattle.std.specs.Prelude.{[], ◌∷◌, ◌≡◌, List, take, true, ℕ, ℤ};
+ghost use Rattle.std.specs.Prelude.{[], ◌∷◌, ◌≡◌, List, Some, pos, take, true, ℕ, ℤ};
 ghost use Rattle.sdb_types.specs.declared.key.Key.{Key};
+ghost use Rattle.sdb_types.specs.declared.record.Record.{Record};
+ghost use Rattle.sdb_types.specs.declared.record.Reply.{Reply};
+ghost use Rattle.sdb_types.specs.declared.record.Request.{Request};
 ghost use Rattle.sdb_types.specs.declared.txid.TxId.{TxId};
+ghost use Rattle.sdb_types.specs.declared.value.Value.{Value};
 ghost use Rattle.sdb_record.specs.declared.coordinator.Decision.{Decision};
 ghost use Rattle.sdb_record.specs.declared.write.Write.{Write};
 ghost use Rattle.sdb_schema.specs.declared.table.Table.{Table};
@@ -10,7 +14,7 @@ ghost use Rattle.sdb_execution.specs.Execution.{IsExecution};
 ghost use Rattle.sdb_model.specs.Counted.{AreCounted, AreResolved};
 ghost use Rattle.sdb_spread.specs.Spread.{AreAbout};
 ghost use Rattle.sdb_causes.specs.Tied.{AnswersHaveCauses};
-ghost use Rattle.sdb_executions.specs.Forged.{IsOfOther, IsOtherMoment, busy_at_once, counted_at_once, decides_at_once, prepares_at, reads_and_is_done};
+ghost use Rattle.sdb_executions.specs.Forged.{FindsRow, InsertOn, IsOfOther, IsOtherMoment, SelectOn, ShowsRow, UpdateOn, busy_at_once, counted_at_once, counts_over, counts_twice, counts_unread, decides_at_once, duplicates_none, leaves_out, prepares_at, reads_and_is_done, shows_two, shows_unread};
 ghost use Rattle.sdb_executions.specs.Found.{RunsOnFound};
 ghost use Rattle.sdb_executions.specs.Laws.{BusyIsOfReads, CallsAreOfStatements, DecisionsAreDue, ExecutionOf, FollowsMoves, KeepsRules, PreparesAreOwn, ReadsAreFew};
 ghost use Rattle.sdb_executions.specs.Moments.{IsSoundAfter, TraceOf, WritesStandAfter};
@@ -102,11 +106,21 @@ pub fn records_stay_sound()
 {}
 
 /// Events that no execution has, and the law that each of them breaks: a COMMIT that is answered Busy, a VACUUM of a table that counts without a
-/// scan, a BEGIN that reads, a prepare with another moment than the clock showed, and a decision on another's transaction by a first call.
+/// scan, a BEGIN that reads, a prepare with another moment than the clock showed, and a decision on another's transaction by a first call; and
+/// statements of a transaction: a SELECT that shows a row without a read, leaves out the row that it found, or shows two rows where its LIMIT is 1,
+/// an UPDATE that counts rows without a read, an INSERT that is counted over a row that it found or over its transaction's own row, and a
+/// Duplicate where nothing was found.
 pub fn forged_events_are_refused()
     ensures busy { (text : List ℕ) (key : Key) (id : TxId) (at : ℤ) → reads_commit text ≡ true → BusyIsOfReads (busy_at_once text key id at) → ⊥ }
     ensures swept { (t : Table) (text : List ℕ) → reads_vacuum text ≡ true → VacuumsSweep (t ∷ []) (counted_at_once text) → ⊥ }
     ensures begun { (text : List ℕ) (key : Key) → reads_begin text ≡ true → ReadsAreFew (reads_and_is_done text key) → ⊥ }
     ensures prepared { (text : List ℕ) (w : Write) (id : TxId) (now : ℤ) → IsOtherMoment id now → PreparesAreOwn (prepares_at text w id now) → ⊥ }
     ensures decided { (text : List ℕ) (id : TxId) (d : Decision) (now : ℤ) → IsOfOther id → DecisionsAreDue (decides_at_once text id d now) → ⊥ }
+    ensures invented { (f : SelectOn) (row : List Value) (rows : List (List Value)) → RunsOnFound f.on.catalog (shows_unread f row rows) → ⊥ }
+    ensures left_out { (f : SelectOn) (key : Key) (r : Record) → FindsRow f key r → RunsOnFound f.on.catalog (leaves_out f key r) → ⊥ }
+    ensures unlimited { (f : SelectOn) (q : Request) (r : Reply) (a b : List Value) → f.select.limit ≡ Some (pos 1) → RunsOnFound f.on.catalog (shows_two f q r a b) → ⊥ }
+    ensures miscounted { (f : UpdateOn) (n : ℕ) → RunsOnFound f.on.catalog (counts_unread f n) → ⊥ }
+    ensures counted_over { (f : InsertOn) (r : Record) → ShowsRow r → RunsOnFound f.on.catalog (counts_over f r) → ⊥ }
+    ensures forgotten { (f : InsertOn) → RunsOnFound f.on.catalog (counts_twice f) → ⊥ }
+    ensures no_duplicate { (f : InsertOn) → RunsOnFound f.on.catalog (duplicates_none f) → ⊥ }
 {}

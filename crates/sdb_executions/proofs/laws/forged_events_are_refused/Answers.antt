@@ -1,3 +1,4 @@
+use Rattle.sdb_executions.proofs.ForgedFound.{counted_over_refused, forgotten_refused, invented_refused, left_out_refused, miscounted_refused, no_duplicate_refused, unlimited_refused}
 use Rattle.sdb_executions.proofs.Forgeries.{begin_refused, busy_refused, decision_refused, lazy_refused, moment_refused}
 use Rattle.sdb_executions.proofs.laws.forged_events_are_refused.Goals as goal
 
@@ -8,4 +9,11 @@ returns c = record {
   begun = begin_refused;
   prepared = λ text w id now h. moment_refused text w id now h.0 h.1 h.2;
   decided = λ text id d now h. decision_refused text id d now h.0 h.1;
+  invented = invented_refused;
+  left_out = left_out_refused;
+  unlimited = unlimited_refused;
+  miscounted = miscounted_refused;
+  counted_over = counted_over_refused;
+  forgotten = forgotten_refused;
+  no_duplicate = no_duplicate_refused;
 }
