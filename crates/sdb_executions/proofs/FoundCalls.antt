@@ -1,15 +1,20 @@
 -- What a client's transactions ran on what they found, as its calls are replied.
-use Rattle.std.proofs.Common.{◌≡◌, inl, inr, ℕ, ℤ, Bool, true, false, List, [], ◌∷◌, ◌++◌, Option, Some, None, IfSome, refl, sym, ap, subst, ◌∙◌}
+use Rattle.std.proofs.Common.{◌≡◌, ◌⊎◌, inl, inr, ℕ, ℤ, Bool, true, false, List, [], ◌∷◌, ◌++◌, Option, Some, None, IfSome, refl, sym, ap, subst, ◌∙◌}
 use Rattle.std.specs.Prelude.{◌&&◌, ◌||◌, filter, is_some}
 use Rattle.std.proofs.lemmas.List.Elements.{filter-append}
+use Rattle.std.proofs.lemmas.List.Folds.{list_any-append}
+use Rattle.std.specs.List.{list_any}
 use Rattle.sdb_types.specs.declared.key.Key.{Key}
 use Rattle.sdb_types.specs.declared.record.Record.{Record}
 use Rattle.sdb_types.specs.declared.record.Reply.{Reply}
 use Rattle.sdb_types.specs.declared.record.Request.{Request}
+use Rattle.sdb_types.specs.declared.record.Span.{Span}
 use Rattle.sdb_types.specs.Contents.{CanAnswer}
-use Rattle.sdb_types.proofs.Basics.{none_some}
+use Rattle.sdb_types.proofs.Basics.{clash, either, none_some, or_false, or_true}
 use Rattle.sdb_keyed.specs.Entries.{value_at}
 use Rattle.sdb_record.specs.declared.access.Access.{Access}
+use Rattle.sdb_record.specs.declared.access.Access.TheVariants as access
+use Rattle.sdb_record.specs.declared.access.Scan.{Scan}
 use Rattle.sdb_record.specs.Meta.{is_moment}
 use Rattle.sdb_schema.specs.declared.table.Table.{Table}
 use Rattle.sdb_schema.specs.Catalog.{is_catalog}
@@ -28,6 +33,8 @@ use Rattle.sdb_laws.specs.Lawful.{is_data}
 use Rattle.sdb_read.specs.declared.read.ReadStep.TheVariants as step
 use Rattle.sdb_read.specs.Read.{Asking, Ended, ReadAt, ReadStage, Resolving, read_result, read_step, request_of}
 use Rattle.sdb_snapshot.specs.Held.{WereRead}
+use Rattle.sdb_snapshot.specs.Noted.{reads_of}
+use Rattle.sdb_snapshot.specs.Seen.{is_scanned, same_span}
 use Rattle.sdb_txn.specs.declared.progress.Progress.{Progress}
 use Rattle.sdb_txn.specs.declared.progress.Progress.TheVariants as progress
 use Rattle.sdb_txn.specs.declared.txn.Doing.{Doing}
@@ -49,16 +56,16 @@ use Rattle.sdb_causes.proofs.Calls.{call_said, made_at, silent_said}
 use Rattle.sdb_causes.proofs.ReadSteps.{IsDataTable}
 use Rattle.sdb_causes.proofs.Showing.{IsOpenAt, shows_on}
 use Rattle.sdb_causes.proofs.Unfit.{fits_now}
-use Rattle.sdb_executions.specs.Found.{found_by, is_answered}
+use Rattle.sdb_executions.specs.Found.{found_by, is_answered, is_scan_of, scans_span, was_scanned}
 use Rattle.sdb_executions.proofs.Finding.{WaitFinds, read_finds}
 use Rattle.sdb_executions.proofs.FoundSteps.{ClientRuns, SeesIn, SeesRun, all_answered, answered_of_is, answered_of}
 use Rattle.sdb_executions.proofs.FoundSteps as follows
 use Rattle.sdb_executions.proofs.Meant.{FindsAt, FindsImages}
 use Rattle.sdb_executions.proofs.OwnPrepares.{ends_commit, goes_further}
 use Rattle.sdb_executions.proofs.Replies.{CallOf, CommitCall, ReadCall, SweepCall}
-use Rattle.sdb_executions.proofs.Running.{RunsTo, running_of, view_after}
+use Rattle.sdb_executions.proofs.Running.{HoldsScans, RunsTo, running_of, scanned_more, view_after}
 use Rattle.sdb_executions.proofs.Statements.{calls_more}
-use Rattle.sdb_executions.proofs.Views.{found_now, view_found}
+use Rattle.sdb_executions.proofs.Views.{found_now, view_found, read_only}
 
 -- a COMMIT that goes on
 commits_see : (catalog : List Table) (events : List Event) (c : ℕ) (ss : List Said) (u : TxnAt) (P : CommitAt → Type 0) → IsCommitting u.doing P → SeesRun catalog events c ss u
@@ -82,6 +89,14 @@ ends_only (progress.Conflict key found) b e = ap next.End (cc)
 ends_only progress.Committed b e = ap next.End (cc)
 ends_only (progress.Expired id) b e = ap next.End (cc)
 ends_only (progress.Unknown id) b e = ap next.End (cc)
+
+-- a scan is among the scans that are then noted
+noted_scans : (t : TxnAt) (a : Access) (images : List Record) (span : Span) (m : Made) → m.request ≡ request_of a → (is_scanned t.seen.scans span ≡ true) ⊎ (is_scan_of span m.request ≡ true) → is_scanned (noting t a images).seen.scans span ≡ true
+noted_scans t (access.Get key) images span m e (inl f) = f
+noted_scans t (access.Get key) images span m e (inr f) = clash (sym f ∙ ap (is_scan_of span) e)
+noted_scans t (access.Scan other) images span m e (inl f) = list_any-append (λ (x : Scan). same_span x.span span) t.seen.scans (record { span = other; found = reads_of images } ∷ []) ∙ ap (λ b. b || list_any (λ (x : Scan). same_span x.span span) (record { span = other; found = reads_of images } ∷ [])) f
+noted_scans t (access.Scan other) images span m e (inr f) =
+    list_any-append (λ (x : Scan). same_span x.span span) t.seen.scans (record { span = other; found = reads_of images } ∷ []) ∙ ap (λ b. is_scanned t.seen.scans span || (b || false)) (sym (ap (is_scan_of span) e) ∙ f) ∙ or_true (is_scanned t.seen.scans span)
 
 module _ (catalog : List Table) (is : is_catalog catalog ≡ true) (apart : (k : Key) → is_some (find_table catalog k.table) ≡ true → is_data k ≡ true) (events : List Event) (c : ℕ) (h : ClientAt) (k : Knows catalog events c h) (runs : ClientRuns catalog events c h)
     (x : Said) (waiting : k.waiting ≡ Some x) (waits : IsWaiting catalog events c (is_some h.vacuum) x) (finds : WaitFinds catalog events c x h) (store : Name) (q : Request) (how : How) (r : Reply) (now : ℤ) (moment : is_moment now ≡ true) (can : CanAnswer q r)
@@ -176,6 +191,16 @@ module _ (catalog : List Table) (is : is_catalog catalog ≡ true) (apart : (k :
     further : (s : ReadStage) → Left next.Call (record t { doing = doing.Read z.access (record z.x { stage = s }) })
     further s = sees None
 
+    -- its scan is among the scans
+    scans_then : (b : Answer) (images : List Record) → read_step z.x.stage now r ≡ Ended (step.Images images) → HoldsScans (E (Some b)) c (running_of h.begun k.told ++ done b ∷ []) (noting t z.access images).seen
+    scans_then b images e span is =
+        noted_scans t z.access images span (has_read images e).first (has_read images e).request
+        (by (either (was_scanned (E (Some b)) c (running_of h.begun k.told) span) (scans_span span (calls_of (E (Some b)) c (done b))) (sym (scanned_more (E (Some b)) c (running_of h.begun k.told) (done b) span) ∙ is)))
+      where
+        by : (was_scanned (E (Some b)) c (running_of h.begun k.told) span ≡ true) ⊎ (scans_span span (calls_of (E (Some b)) c (done b)) ≡ true) → (is_scanned t.seen.scans span ≡ true) ⊎ (is_scan_of span (has_read images e).first.request ≡ true)
+        by (inl f) = inl ((sees (Some b)).scans span f)
+        by (inr f) = inr (sym (ap (scans_span span) (calls_done b) ∙ ap (λ cs. list_any (λ (m : Made). is_scan_of span m.request) cs) (read_only (ms ++ made ∷ []) z.access images (has_read images e) own) ∙ or_false (is_scan_of span (has_read images e).first.request)) ∙ f)
+
     gives_rows : (images : List Record) → read_step z.x.stage now r ≡ Ended (step.Images images) → Left (next.Answer (given_answer (noting t z.access images) (gives p z.access (noting t z.access images)))) (given_left (idle t) (noting t z.access images) (gives p z.access (noting t z.access images)))
     gives_rows images e =
         let b : Answer = given_answer (noting t z.access images) (gives p z.access (noting t z.access images)) in
@@ -183,7 +208,7 @@ module _ (catalog : List Table) (is : is_catalog catalog ≡ true) (apart : (k :
         (record { is = is; named = z.asked.named; asked = z.asked.asked; taken = z.asked.taken; literals = z.asked.literals; access = z.asked.access }) z.is.text z.is.inner.commit refl refl (sees (Some b))
         (view_found (view_after catalog (E (Some b)) c (running_of h.begun k.told) (sees (Some b)).run) t z.access images (found_by (calls_of (E (Some b)) c (done b))) (sees (Some b)).sees (kept t z.free z.opened z.access z.x z.reads)
         (λ key. ap (λ cs. value_at (found_by cs) key) (calls_done b) ∙ found_now (ms ++ made ∷ []) z.access images (has_read images e) (has_found images e) own key))
-        (fits_now catalog p z.access listed of_table (ms ++ made ∷ []) t images (has_read images e) fit)
+        (fits_now catalog p z.access listed of_table (ms ++ made ∷ []) t images (has_read images e) fit) (scans_then b images e)
 
     over : (b : Answer) → is_conflict (Some b) ≡ true → ends (done b) ≡ true
     over b e = ap (λ y. reads_commit x.text || y || (reads_rollback x.text && is_done (Some b))) e ∙ last (reads_commit x.text)

@@ -34,7 +34,7 @@ use Rattle.sdb_causes.proofs.Shows.{effective_by}
 use Rattle.sdb_causes.proofs.Takings.{middle_ends}
 use Rattle.sdb_causes.proofs.Unfit.{all_true, rows_there}
 use Rattle.sdb_executions.specs.Found.{IsRunOnFound, View, exec_on, found_by, is_answered, with_found}
-use Rattle.sdb_executions.proofs.Running.{RunsTo, is_running, runs_more, view_after}
+use Rattle.sdb_executions.proofs.Running.{HoldsScans, RunsTo, is_running, runs_more, view_after}
 use Rattle.sdb_executions.proofs.Views.{IsViewOf, view_tables}
 
 ---- what a plan gives
@@ -91,7 +91,7 @@ pub record IsPlannedOn (catalog : List Table) (p : Planned) (a : Access) : Type 
   pub access : a ≡ access_of p.table p.statement
 
 module _ (catalog : List Table) (events : List Event) (c : ℕ) (ss : List Said) (z : Said) (p : Planned) (a : Access) (on : IsPlannedOn catalog p a) (was v : TxnAt) (reads : Reads z.text p.statement) (answered : z.answer ≡ Some (given_answer v (gives p a v)))
-    (run : IsRunOnFound catalog events c ss) (now : IsViewOf (with_found (view_after catalog events c ss run) (found_by (calls_of events c z))) v.seen) (fits : first_unfit p.table (overlay a v.seen) ≡ None → SeesFit catalog v.seen) where
+    (run : IsRunOnFound catalog events c ss) (now : IsViewOf (with_found (view_after catalog events c ss run) (found_by (calls_of events c z))) v.seen) (fits : first_unfit p.table (overlay a v.seen) ≡ None → SeesFit catalog v.seen) (scans : HoldsScans events c (ss ++ z ∷ []) v.seen) where
   abbrev w : View
   w = with_found (view_after catalog events c ss run) (found_by (calls_of events c z))
 
@@ -109,7 +109,7 @@ module _ (catalog : List Table) (events : List Event) (c : ℕ) (ss : List Said)
     }
 
     runs_written : z.answer ≡ Some b → RunsTo catalog events c (ss ++ z ∷ []) (with_written v.seen ks)
-    runs_written is = runs_more catalog events c ss z p.statement b (with_written v.seen ks) run reads is (ap (λ (x : Answer × Tables). x.0) execs) left_view
+    runs_written is = runs_more catalog events c ss z p.statement b (with_written v.seen ks) run reads is (ap (λ (x : Answer × Tables). x.0) execs) left_view scans
 
   -- it runs where it changed something, or shows it
   running_by : (t : Bool) → reads_commit z.text ≡ false → changes_nothing (given_answer v (gives p a v)) ≡ t → is_running z ≡ not t

@@ -46,7 +46,7 @@ use Rattle.sdb_executions.proofs.Statements.{AllSo, SoOver, none_in, step_so, wa
 use Rattle.sdb_executions.proofs.Steps.{Holds, execution_holds, first_holds, led, step_holds}
 
 -- what is so of each client
-abbrev AllRun : WorldAt → Type 0
+abbrev pub AllRun : WorldAt → Type 0
 AllRun w = (c : ℕ) → ClientRuns w.script.catalog w.events c (hands_of w.seats c).client
 
 -- a client that reads had read what it wrote
@@ -61,7 +61,7 @@ going_kept catalog fit es hands g c goes_on free t some a x reads = ok.1.kept.re
 
 ---- the clients by their numbers
 
-hand_at : (seats : List Seat) (i c : ℕ) (s : Seat) → c ≡ suc i → slice_get seats i ≡ Some s → hands_of seats c ≡ record { client = s.client; stopped = s.stopped }
+pub hand_at : (seats : List Seat) (i c : ℕ) (s : Seat) → c ≡ suc i → slice_get seats i ≡ Some s → hands_of seats c ≡ record { client = s.client; stopped = s.stopped }
 hand_at seats i c s number here = subst (λ (n : ℕ). hands_of seats n ≡ record { client = s.client; stopped = s.stopped }) (sym number) (on_hand (λ (y : Hand). y ≡ record { client = s.client; stopped = s.stopped }) seats i s here refl)
 
 other_at : (seats : List Seat) (i c : ℕ) (s : Seat) (n : ℕ) → c ≡ suc i → (c ≡ n → ⊥) → hands_of (slice_set seats i s) n ≡ hands_of seats n
@@ -69,7 +69,7 @@ other_at seats i c s zero number apart = refl
 other_at seats i c s (suc j) number apart = ap (λ (o : Option Seat). hand_in o (suc j)) (set_other seats i j s (λ e. apart (number ∙ ap suc (sym e))))
 
 -- a client that does nothing
-rests_one : (w : WorldAt) (e : Event) (n : ℕ) → said n (w.events ++ e ∷ []) ≡ said n w.events → Holds w → ClientRuns w.script.catalog w.events n (hands_of w.seats n).client → ClientRuns w.script.catalog (w.events ++ e ∷ []) n (hands_of w.seats n).client
+pub rests_one : (w : WorldAt) (e : Event) (n : ℕ) → said n (w.events ++ e ∷ []) ≡ said n w.events → Holds w → ClientRuns w.script.catalog w.events n (hands_of w.seats n).client → ClientRuns w.script.catalog (w.events ++ e ∷ []) n (hands_of w.seats n).client
 rests_one w e n says h r =
     let k = h.caused.each n in
     still_runs w.script.catalog w.events n (hands_of w.seats n).client k r e (hands_of w.seats n).client (ap (filter is_answered) says ∙ answered_of_is w.script.catalog w.events n (hands_of w.seats n).client k) (sees_then w.script.catalog w.events n (hands_of w.seats n).client k r e)
@@ -125,7 +125,7 @@ module _ (w : WorldAt) (h : Holds w) (all : AllRun w) where
       kept y free some b z reads =
           going_kept catalog (tables_fit catalog) (on_one w.events) (hands_of w.seats) h.linked c (ap (λ (v : Hand). v.stopped) hand ∙ t.goes_on) (ap (λ (v : Hand). v.client.vacuum) hand ∙ free) y (ap (λ (v : Hand). v.client.txn) hand ∙ some) b z reads
 
-  step_runs : (so : AllSo NothingMore WaitFinds w) (e : Event) (u : State) → IsStepFrom w.script (state_of w) e u → AllRun (led w e u)
+  pub step_runs : (so : AllSo NothingMore WaitFinds w) (e : Event) (u : State) → IsStepFrom w.script (state_of w) e u → AllRun (led w e u)
   step_runs so (event.Take c text a) u t = step_take c text a u t
   step_runs so (event.Call c store q how r a) u t = step_call so c store q how r a u t
   step_runs so (event.Stop c) u t =
@@ -136,7 +136,7 @@ module _ (w : WorldAt) (h : Holds w) (all : AllRun w) where
 
 ---- a whole execution
 
-path_runs : (es : List Event) (w : WorldAt) (t : State) → IsPath w.script (state_of w) es t → Holds w → AllSo NothingMore WaitFinds w → AllRun w → AllRun (record { script = w.script; seats = t.seats; events = w.events ++ es; clock = t.clock })
+pub path_runs : (es : List Event) (w : WorldAt) (t : State) → IsPath w.script (state_of w) es t → Holds w → AllSo NothingMore WaitFinds w → AllRun w → AllRun (record { script = w.script; seats = t.seats; events = w.events ++ es; clock = t.clock })
 path_runs [] w t h k so all =
     subst (λ (x : State). AllRun (record { script = w.script; seats = x.seats; events = w.events ++ []; clock = x.clock })) (sym h)
     (subst (λ (xs : List Event). AllRun (record { script = w.script; seats = w.seats; events = xs; clock = w.clock })) (sym (append-nil w.events)) all)
@@ -145,7 +145,7 @@ path_runs (e ∷ es) w t h k so all =
     (path_runs es (led w e h.0) t h.2 (step_holds w e h.0 h.1 k) (step_so NothingMore WaitFinds finds_kept w e h.0 h.1 k so) (step_runs w k all so e h.0 h.1))
 
 -- before any event
-first_runs : (script : Script) (seats : List Seat) (count : ℕ) → AreFresh count seats → (c : ℕ) → ClientRuns script.catalog [] c (hands_of seats c).client
+pub first_runs : (script : Script) (seats : List Seat) (count : ℕ) → AreFresh count seats → (c : ℕ) → ClientRuns script.catalog [] c (hands_of seats c).client
 first_runs script seats count fresh c = subst (λ (y : Hand). ClientRuns script.catalog [] c y.client) (sym (fresh_hand count seats fresh c)) (record { ran = none; sees = tt })
   where
     none : (n : ℕ) → IsRunOnFound script.catalog [] c (running_of n [])
@@ -153,10 +153,10 @@ first_runs script seats count fresh c = subst (λ (y : Hand). ClientRuns script.
     none (suc n) = none_run script.catalog [] c
 
 module _ (script : Script) (events : List Event) (playable : IsPlayable script) (x : IsExecution script events) where
-  abbrev w : WorldAt
+  abbrev pub w : WorldAt
   w = record { script = script; seats = x.last.seats; events = events; clock = x.last.clock }
 
-  all_run : AllRun w
+  pub all_run : AllRun w
   all_run =
       path_runs events (record { script = script; seats = x.first.seats; events = []; clock = x.first.clock }) x.last x.path (first_holds script x.first playable x.initial) (λ c s has. none_in s has)
       (first_runs script x.first.seats (length script.clients) x.initial.fresh)

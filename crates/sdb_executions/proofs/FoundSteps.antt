@@ -26,7 +26,7 @@ use Rattle.sdb_causes.proofs.Shows.{effective_by}
 use Rattle.sdb_vacuum.specs.Vacuum.{VacuumAt}
 use Rattle.sdb_executions.specs.Found.{IsRunOnFound, found_by, is_answered, with_found}
 use Rattle.sdb_executions.proofs.FoundGiven.{IsPlannedOn, given_runs}
-use Rattle.sdb_executions.proofs.Running.{RunsTo, each_more, each_running, goes_on, is_running, none_run, run_stays, running, running_more, running_of, running_same, runs_stay, view_after}
+use Rattle.sdb_executions.proofs.Running.{HoldsScans, RunsTo, each_more, each_running, goes_on, is_running, none_run, run_stays, running, running_more, running_of, running_same, runs_stay, view_after}
 use Rattle.sdb_executions.proofs.Views.{IsViewOf}
 
 ---- a client
@@ -141,7 +141,7 @@ module _ (catalog : List Table) (events : List Event) (c : ℕ) (h : ClientAt) (
   sees_same z s u none same r = subst (λ xs. SeesIn catalog E c xs u.seen u.doing) (sym (running_of_same h.begun k.told z none)) (sees_weak catalog E c (running_of h.begun k.told) u.seen u.doing (subst (RunsTo catalog E c (running_of h.begun k.told)) (sym same) r))
 
   -- no transaction is open
-  closed : h.txn ≡ None → open_after k.told ≡ false
+  pub closed : h.txn ≡ None → open_after k.told ≡ false
   closed none = by_vacuum h.vacuum k.waiting k.stands
     where
       by_txn : (o : Option TxnAt) (w : Option Said) → o ≡ None → StandsIn events c h.begun k.told w h.plan o → open_after k.told ≡ false
@@ -187,8 +187,8 @@ module _ (catalog : List Table) (events : List Event) (c : ℕ) (h : ClientAt) (
 
     -- it is answered from the rows that are seen
     pub given_follows : (z : Said) (p : Planned) (a : Access) (was v : TxnAt) → IsPlannedOn catalog p a → Reads z.text p.statement → reads_commit z.text ≡ false → z.answer ≡ Some (given_answer v (gives p a v)) → was.seen ≡ t.seen → (r : RunsTo catalog E c (running_of h.begun k.told) t.seen)
-        → IsViewOf (with_found (view_after catalog E c (running_of h.begun k.told) r.run) (found_by (calls_of E c z))) v.seen → (first_unfit p.table (overlay a v.seen) ≡ None → SeesFit catalog v.seen) → Follows z (holding h (given_left was v (gives p a v)))
-    given_follows z p a was v on reads no_commit answered same r now fits = by (given_runs catalog E c (running_of h.begun k.told) z p a on was v reads answered r.run now fits no_commit)
+        → IsViewOf (with_found (view_after catalog E c (running_of h.begun k.told) r.run) (found_by (calls_of E c z))) v.seen → (first_unfit p.table (overlay a v.seen) ≡ None → SeesFit catalog v.seen) → HoldsScans E c (running_of h.begun k.told ++ z ∷ []) v.seen → Follows z (holding h (given_left was v (gives p a v)))
+    given_follows z p a was v on reads no_commit answered same r now fits scans = by (given_runs catalog E c (running_of h.begun k.told) z p a on was v reads answered r.run now fits scans no_commit)
       where
         by : ((is_running z ≡ true) × RunsTo catalog E c (running_of h.begun k.told ++ z ∷ []) (given_left was v (gives p a v)).seen) ⊎ ((is_running z ≡ false) × (given_left was v (gives p a v) ≡ was)) → Follows z (holding h (given_left was v (gives p a v)))
         by (inl x) = (

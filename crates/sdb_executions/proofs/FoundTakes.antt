@@ -3,7 +3,7 @@ use Rattle.std.proofs.Common.{◌≡◌, ◌⊎◌, inl, inr, ◌+◌, ℕ, suc,
 use Rattle.std.specs.Prelude.{◌&&◌, ◌||◌, if◌then◌else◌, filter, is_some}
 use Rattle.std.proofs.lemmas.List.{append-nil}
 use Rattle.std.proofs.lemmas.List.Elements.{filter-append}
-use Rattle.sdb_types.proofs.Basics.{by_test, clash}
+use Rattle.sdb_types.proofs.Basics.{by_test, clash, or_false}
 use Rattle.sdb_schema.specs.declared.table.Table.{Table}
 use Rattle.sdb_schema.specs.Catalog.{is_catalog}
 use Rattle.sdb_model.specs.declared.answer.Answer.{Answer}
@@ -33,10 +33,10 @@ use Rattle.sdb_causes.specs.Tied.{Knows, begun_in}
 use Rattle.sdb_causes.specs.Unfit.{IsFit, SeesFit, SeesFitIn}
 use Rattle.sdb_causes.proofs.Lists.{since_new}
 use Rattle.sdb_causes.proofs.Takings.{none_yet}
-use Rattle.sdb_executions.specs.Found.{found_by, is_answered, with_found}
+use Rattle.sdb_executions.specs.Found.{found_by, is_answered, scans_span, was_scanned, with_found}
 use Rattle.sdb_executions.proofs.FoundSteps.{ClientRuns, SeesIn, SeesRun, answered_of_is, answered_of}
 use Rattle.sdb_executions.proofs.FoundSteps as steps
-use Rattle.sdb_executions.proofs.Running.{RunsTo, is_running, none_runs, running, running_of, view_after}
+use Rattle.sdb_executions.proofs.Running.{HoldsScans, RunsTo, is_running, none_runs, running, running_of, scanned_more, view_after}
 use Rattle.sdb_executions.proofs.Views.{IsViewOf}
 
 module _ (q : Taking) (is : is_catalog q.catalog ≡ true) (events : List Event) (c : ℕ) (text : List ℕ) (h : ClientAt) (k : Knows q.catalog events c h) (runs : ClientRuns q.catalog events c h) (idle : IsIdle h) where
@@ -122,6 +122,10 @@ module _ (q : Taking) (is : is_catalog q.catalog ≡ true) (events : List Event)
     fit : SeesFit q.catalog t.seen
     fit = subst (SeesFitIn q.catalog t.seen) still (subst (λ (o : Option TxnAt). IfSome o (IsFit q.catalog)) some k.fits)
 
+    -- it scans nothing
+    scans : (a : Option Answer) → HoldsScans (E a) c (running_of h.begun k.told ++ one a ∷ []) t.seen
+    scans a span e = (sees a).scans span (sym (scanned_more (E a) c (running_of h.begun k.told) (one a) span ∙ ap (λ ms. was_scanned (E a) c (running_of h.begun k.told) span || scans_span span ms) (none_yet c events text a) ∙ or_false (was_scanned (E a) c (running_of h.begun k.told) span)) ∙ e)
+
     abbrev given : Statement → Table → Answer
     given st table = given_answer t (gives (plan_of table st) (access_of table st) t)
 
@@ -132,7 +136,7 @@ module _ (q : Taking) (is : is_catalog q.catalog ≡ true) (events : List Event)
         known =
             steps.given_follows q.catalog events c h k runs (event.Take c text (Some (given st table))) t some idle.free (one (Some (given st table))) (plan_of table st) (access_of table st) t t
             (record { is = is; named = named; asked = refl; taken = taken; literals = literals_read text st reads; access = refl }) reads no_commit refl refl (sees (Some (given st table)))
-            (subst (λ (ms : List Made). IsViewOf (with_found (view_after q.catalog (E (Some (given st table))) c (running_of h.begun k.told) (sees (Some (given st table))).run) (found_by ms)) t.seen) (sym (none_yet c events text (Some (given st table)))) (sees (Some (given st table))).sees) (λ n. fit)
+            (subst (λ (ms : List Made). IsViewOf (with_found (view_after q.catalog (E (Some (given st table))) c (running_of h.begun k.told) (sees (Some (given st table))).run) (found_by ms)) t.seen) (sym (none_yet c events text (Some (given st table)))) (sees (Some (given st table))).sees) (λ n. fit) (scans (Some (given st table)))
 
     table_comes : (st : Statement) (a : Option Answer) (d : ClientAt) → Reads text st → reads_commit text ≡ false → TableTold q.catalog st h t a d → Comes a d
     table_comes st a d reads no_commit x = by_refusal (refusal_of q.catalog st) refl

@@ -29,5 +29,7 @@ pub mod FoundSteps
 pub mod FoundTakes
 pub mod FoundCalls
 pub mod FoundRuns
+pub mod NewReads
+pub mod NewRuns
 pub mod ForgedFound
 pub mod Forgeries

@@ -1,15 +1,17 @@
 -- Statements of a client that run on what they found, as statements and events come.
 use Rattle.std.proofs.Common.{◌≡◌, ◌⊎◌, inl, inr, ℕ, Bool, true, false, not, cond, List, [], ◌∷◌, ◌++◌, map, Option, Some, None, refl, sym, ap, subst, ◌∙◌}
-use Rattle.std.specs.Prelude.{◌&&◌, if◌then◌else◌, filter, is_some, take_while}
+use Rattle.std.specs.Prelude.{◌&&◌, ◌||◌, if◌then◌else◌, filter, is_some, take_while}
 use Rattle.std.specs.FinMap.{get-empty}
 use Rattle.std.specs.List.{AllByRecursion}
+use Rattle.std.proofs.lemmas.List.Folds.{list_any-append}
 use Rattle.std.proofs.lemmas.List.{append-nil}
 use Rattle.std.proofs.lemmas.List.Elements.{filter-append}
 use Rattle.std.proofs.lemmas.List.Sums.{take_while-cons}
 use Rattle.sdb_types.specs.declared.key.Key.{Key}
+use Rattle.sdb_types.specs.declared.record.Span.{Span}
 use Rattle.sdb_types.specs.Order.{key_cmp}
 use Rattle.sdb_types.specs.declared.record.Record.{Record}
-use Rattle.sdb_types.proofs.Basics.{map_last}
+use Rattle.sdb_types.proofs.Basics.{clash, or_false, map_last}
 use Rattle.sdb_schema.specs.declared.table.Table.{Table}
 use Rattle.sdb_model.specs.declared.answer.Answer.{Answer}
 use Rattle.sdb_model.specs.declared.event.Event.{Event}
@@ -18,14 +20,14 @@ use Rattle.sdb_model.specs.Calls.{calls_of}
 use Rattle.sdb_model.specs.Sql.{Reads}
 use Rattle.sdb_model.specs.Told.{AreRead}
 use Rattle.sdb_model.specs.Transactions.{Said, ends, from_begin, is_effective, rest_of}
-use Rattle.sdb_snapshot.specs.Seen.{Seen, nothing}
+use Rattle.sdb_snapshot.specs.Seen.{Seen, is_scanned, nothing}
 use Rattle.sdb_causes.specs.Counts.{ArePaired}
 use Rattle.sdb_causes.specs.Tied.{IsAnswered, begun_in, open_after}
 use Rattle.sdb_causes.proofs.Calls.{calls_stay}
 use Rattle.sdb_causes.proofs.CountsNotes.{open_only}
 use Rattle.sdb_causes.proofs.Lists.{each_kept, since_more, since_none}
 use Rattle.sdb_causes.proofs.Noting.{since_all, take_ends, take_open}
-use Rattle.sdb_executions.specs.Found.{IsRunOnFound, View, exec_on, finds, found_by, is_answered, nothing_found, run_on_found, with_found}
+use Rattle.sdb_executions.specs.Found.{IsRunOnFound, View, exec_on, finds, found_by, is_answered, nothing_found, run_on_found, scans_span, was_scanned, with_found}
 use Rattle.sdb_executions.proofs.Views.{IsViewOf}
 
 ---- the statements that run
@@ -79,7 +81,7 @@ running_same ss z none = by (opens ss)
     by (inl all) = running_more ss z all ∙ ap (λ b. running ss ++ (if b then z ∷ [] else [])) none ∙ append-nil (running ss)
     by (inr h) = ap (λ xs. filter is_answered (filter is_effective xs)) (h z)
 
-each_taken : (P : Said → Type 0) (p : Said → Bool) (ss : List Said) → AllByRecursion P ss → AllByRecursion P (take_while p ss)
+pub each_taken : (P : Said → Type 0) (p : Said → Bool) (ss : List Said) → AllByRecursion P ss → AllByRecursion P (take_while p ss)
 each_taken P p [] all = tt
 each_taken P p (s ∷ ss) all = subst (AllByRecursion P) (sym (take_while-cons p s ss)) (by (p s) (each_taken P p ss all.1))
   where
@@ -138,10 +140,15 @@ read_more (z ∷ zs) (y ∷ ys) x st h r = (h.0, read_more zs ys x st h.1 r)
 abbrev pub view_after : (catalog : List Table) (events : List Event) (c : ℕ) (ss : List Said) → IsRunOnFound catalog events c ss → View
 view_after catalog events c ss r = (run_on_found catalog (finds events c ss) r.statements nothing_found).1
 
+-- each span that statements scanned is among the scans
+abbrev pub HoldsScans : List Event → ℕ → List Said → Seen → Type 0
+HoldsScans events c ss s = (span : Span) → was_scanned events c ss span ≡ true → is_scanned s.scans span ≡ true
+
 -- Statements run on what they found, and leave what a transaction has read and written.
 pub record RunsTo (catalog : List Table) (events : List Event) (c : ℕ) (ss : List Said) (s : Seen) : Type 0 where
   pub run : IsRunOnFound catalog events c ss
   pub sees : IsViewOf (view_after catalog events c ss run) s
+  pub scans : HoldsScans events c ss s
 
 -- before the first
 pub none_run : (catalog : List Table) (events : List Event) (c : ℕ) → IsRunOnFound catalog events c []
@@ -149,12 +156,12 @@ none_run catalog events c = record { statements = []; read = tt; answers = refl 
 
 pub none_runs : (catalog : List Table) (events : List Event) (c : ℕ) → RunsTo catalog events c [] nothing
 unfolding none_run
-none_runs catalog events c = record { run = none_run catalog events c; sees = record { keys = λ q. refl; rows = λ q. get-empty key_cmp q } }
+none_runs catalog events c = record { run = none_run catalog events c; sees = record { keys = λ q. refl; rows = λ q. get-empty key_cmp q }; scans = λ q e. clash (sym e) }
 
 -- A statement runs after others, on what they and itself found, and is answered so.
 pub runs_more : (catalog : List Table) (events : List Event) (c : ℕ) (ss : List Said) (z : Said) (st : Statement) (b : Answer) (s : Seen) (r : IsRunOnFound catalog events c ss) → Reads z.text st → z.answer ≡ Some b
-    → (exec_on catalog st (with_found (view_after catalog events c ss r) (found_by (calls_of events c z)))).0 ≡ b → IsViewOf (exec_on catalog st (with_found (view_after catalog events c ss r) (found_by (calls_of events c z)))).1 s → RunsTo catalog events c (ss ++ z ∷ []) s
-runs_more catalog events c ss z st b s r reads answered gives sees = record {
+    → (exec_on catalog st (with_found (view_after catalog events c ss r) (found_by (calls_of events c z)))).0 ≡ b → IsViewOf (exec_on catalog st (with_found (view_after catalog events c ss r) (found_by (calls_of events c z)))).1 s → HoldsScans events c (ss ++ z ∷ []) s → RunsTo catalog events c (ss ++ z ∷ []) s
+runs_more catalog events c ss z st b s r reads answered gives sees scans = record {
   run = record {
     statements = r.statements ++ st ∷ [];
     read = read_more ss r.statements z st r.read reads;
@@ -166,6 +173,7 @@ runs_more catalog events c ss z st b s r reads answered gives sees = record {
         ∙ sym (ap (λ x. map Some x.0) more);
   };
   sees = subst (λ (v : View). IsViewOf v s) (sym (ap (λ x. x.1) more)) sees;
+  scans = scans;
 }
   where
     before : List Answer
@@ -178,9 +186,19 @@ runs_more catalog events c ss z st b s r reads answered gives sees = record {
 ---- as events come
 
 -- what answered statements found stays
-finds_stay : (catalog : List Table) (events : List Event) (e : Event) (c : ℕ) (ss : List Said) → AllByRecursion (IsAnswered catalog events c) ss → finds (events ++ e ∷ []) c ss ≡ finds events c ss
+pub finds_stay : (catalog : List Table) (events : List Event) (e : Event) (c : ℕ) (ss : List Said) → AllByRecursion (IsAnswered catalog events c) ss → finds (events ++ e ∷ []) c ss ≡ finds events c ss
 finds_stay catalog events e c [] all = refl
 finds_stay catalog events e c (s ∷ ss) all = ap (λ ms. found_by ms ∷ finds (events ++ e ∷ []) c ss) (calls_stay c events e s all.0.given all.0.is all.0.answered) ∙ ap (λ fs. found_by (calls_of events c s) ∷ fs) (finds_stay catalog events e c ss all.1)
+
+pub scanned_stays : (catalog : List Table) (events : List Event) (e : Event) (c : ℕ) (ss : List Said) (span : Span) → AllByRecursion (IsAnswered catalog events c) ss → was_scanned (events ++ e ∷ []) c ss span ≡ was_scanned events c ss span
+scanned_stays catalog events e c [] span all = refl
+scanned_stays catalog events e c (s ∷ ss) span all =
+    ap (λ ms. scans_span span ms || was_scanned (events ++ e ∷ []) c ss span) (calls_stay c events e s all.0.given all.0.is all.0.answered)
+    ∙ ap (λ b. scans_span span (calls_of events c s) || b) (scanned_stays catalog events e c ss span all.1)
+
+-- with one statement more
+pub scanned_more : (events : List Event) (c : ℕ) (ss : List Said) (z : Said) (span : Span) → was_scanned events c (ss ++ z ∷ []) span ≡ (was_scanned events c ss span || scans_span span (calls_of events c z))
+scanned_more events c ss z span = list_any-append (λ (s : Said). scans_span span (calls_of events c s)) ss (z ∷ []) ∙ ap (λ b. was_scanned events c ss span || b) (or_false (scans_span span (calls_of events c z)))
 
 pub run_stays : (catalog : List Table) (events : List Event) (e : Event) (c : ℕ) (ss : List Said) → AllByRecursion (IsAnswered catalog events c) ss → IsRunOnFound catalog events c ss → IsRunOnFound catalog (events ++ e ∷ []) c ss
 run_stays catalog events e c ss all r = record { statements = r.statements; read = r.read; answers = r.answers ∙ ap (λ fs. map Some (run_on_found catalog fs r.statements nothing_found).0) (sym (finds_stay catalog events e c ss all)) }
@@ -190,6 +208,7 @@ unfolding run_stays
 runs_stay catalog events e c ss s all r = record {
   run = run_stays catalog events e c ss all r.run;
   sees = subst (λ fs. IsViewOf (run_on_found catalog fs r.run.statements nothing_found).1 s) (sym (finds_stay catalog events e c ss all)) r.sees;
+  scans = λ span is. r.scans span (sym (scanned_stays catalog events e c ss span all) ∙ is);
 }
 
 ---- each transaction of a client

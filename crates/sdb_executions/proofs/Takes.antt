@@ -32,6 +32,7 @@ pub record TakesRead (q : Taking) (h d : ClientAt) : Type 0 where
   pub t : TxnAt
   pub access : Access
   pub plan : Planned
+  pub unread : is_covered t.seen access ≡ false
   pub left : d ≡ record h { txn = Some (reading t access); plan = Some plan }
 
 abbrev pub TakenAs : Taking → ClientAt → ClientAt → Type 0
@@ -64,7 +65,7 @@ module _ (q : Taking) (h d : ClientAt) where
     where
       by_covered : (table : Table) (b : Bool) → is_covered x.seen (access_of table st) ≡ b → refusal_of q.catalog st ≡ None → named_table q.catalog st ≡ Some table → TakenAs q h d
       by_covered table true e taken named = absurd (let k = ((t.reads table taken named).known e).0 in cc)
-      by_covered table false e taken named = inr (inr (record { t = x; access = access_of table st; plan = plan_of table st; left = ((t.reads table taken named).unknown e).1 }))
+      by_covered table false e taken named = inr (inr (record { t = x; access = access_of table st; plan = plan_of table st; unread = e; left = ((t.reads table taken named).unknown e).1 }))
 
       by_table : (o : Option Table) → refusal_of q.catalog st ≡ None → named_table q.catalog st ≡ o → TakenAs q h d
       by_table (Some table) taken named = by_covered table (is_covered x.seen (access_of table st)) refl taken named

@@ -79,7 +79,7 @@ one_row_found v k o q = by (has_found v k) (same_key q k) refl refl
     by false false e f = get_row v.rows k (row_found o) q ∙ ap (λ x. cond x (row_found o) (get v.rows q)) f ∙ sym (same (has_found v q))
 
 -- all that a statement found
-all_found : (v : View) (fs : List (Key × Option Record)) (q : Key) → (has_found (with_found v fs) q ≡ (has_found v q || is_some (value_at fs q))) × (get (with_found v fs).rows q ≡ laid (has_found v q) (value_at fs q) (get v.rows q))
+pub all_found : (v : View) (fs : List (Key × Option Record)) (q : Key) → (has_found (with_found v fs) q ≡ (has_found v q || is_some (value_at fs q))) × (get (with_found v fs).rows q ≡ laid (has_found v q) (value_at fs q) (get v.rows q))
 all_found v [] q = (sym (or_false (has_found v q)), same (has_found v q))
   where
     same : (x : Bool) → get v.rows q ≡ laid x None (get v.rows q)
@@ -132,19 +132,20 @@ module _ (calls : List Made) where
   none_read [] all = refl
   none_read (m ∷ ms) all = ap (λ b. if b then m ∷ filter reads_rows ms else filter reads_rows ms) all.0 ∙ none_read ms all.1
 
+  -- a read is one call that reads rows
+  pub read_only : (a : Access) (images : List Record) (h : HasRead (request_of a) calls images []) → IsDataTable (access_table a) → filter reads_rows calls ≡ h.first ∷ []
+  read_only a images h own = ap (filter reads_rows) h.calls_are ∙ ap (λ b. if b then h.first ∷ filter reads_rows h.rest else filter reads_rows h.rest) (data_read a own h.first h.request) ∙ ap (λ ms. h.first ∷ ms) (none_read h.rest h.others)
+
   -- A read finds, by its calls, what its client notes.
   pub found_now : (a : Access) (images : List Record) → HasRead (request_of a) calls images [] → FindsImages (request_of a) calls images [] → IsDataTable (access_table a) → (q : Key) → value_at (found_by calls) q ≡ found_new a images q
   found_now a images h f own q =
-      ap (λ ms. value_at (flat_map (λ (m : Made). found_in calls m.request m.reply) ms) q) only
+      ap (λ ms. value_at (flat_map (λ (m : Made). found_in calls m.request m.reply) ms) q) (read_only a images h own)
       ∙ ap (λ es. value_at es q) (append-nil (found_in calls h.first.request h.first.reply))
       ∙ ap (λ x. value_at (found_in calls x h.first.reply) q) h.request
       ∙ found_one a h.first.reply images f.done h.can h.told (ap (λ (m : Made). records_read m.reply) same ∙ f.rows ∙ append-nil f.done) f.images_are q
     where
       same : h.first ≡ f.first
       same = let e : h.first ∷ h.rest ≡ f.first ∷ f.rest = sym h.calls_are ∙ f.calls_are in cc
-
-      only : filter reads_rows calls ≡ h.first ∷ []
-      only = ap (filter reads_rows) h.calls_are ∙ ap (λ b. if b then h.first ∷ filter reads_rows h.rest else filter reads_rows h.rest) (data_read a own h.first h.request) ∙ ap (λ ms. h.first ∷ ms) (none_read h.rest h.others)
 
 ---- what a client sees
 

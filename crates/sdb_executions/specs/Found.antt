@@ -1,5 +1,5 @@
 -- What a transaction has found in the tables, and what its statements answer on that.
-use Rattle.std.specs.Prelude.{◌≡◌, ◌&&◌, Bool, false, if◌then◌else◌, ℕ, List, [], ◌∷◌, ◌++◌, filter, find, fold, map, Option, Some, None, is_some}
+use Rattle.std.specs.Prelude.{◌≡◌, ◌&&◌, Bool, false, if◌then◌else◌, ℕ, List, [], ◌∷◌, ◌++◌, filter, find, fold, map, Option, Some, None, is_some, true, Contains}
 use Rattle.std.specs.FinMap.{empty}
 use Rattle.std.specs.List.{filter_map, flat_map, list_any}
 use Rattle.std.specs.Option.{option_and_then, option_map_or}
@@ -10,6 +10,7 @@ use Rattle.sdb_types.specs.declared.record.Reply.{Reply}
 use Rattle.sdb_types.specs.declared.record.Reply.TheVariants as reply
 use Rattle.sdb_types.specs.declared.record.Request.{Request}
 use Rattle.sdb_types.specs.declared.record.Request.TheVariants as ask
+use Rattle.sdb_types.specs.declared.record.Span.{Span}
 use Rattle.sdb_types.specs.declared.record.State.TheVariants as state
 use Rattle.sdb_types.specs.declared.txid.TxId.{TxId}
 use Rattle.sdb_types.specs.Contents.{holds}
@@ -25,8 +26,10 @@ use Rattle.sdb_model.specs.Calls.{Made, calls_of, put_by}
 use Rattle.sdb_model.specs.Counted.{is_key_of}
 use Rattle.sdb_model.specs.Exec.{Tables, exec}
 use Rattle.sdb_model.specs.Noted.{reads_rows}
+use Rattle.sdb_model.specs.Sql.{reads_commit}
 use Rattle.sdb_model.specs.Told.{AreRead}
-use Rattle.sdb_model.specs.Transactions.{Said, body, client_of}
+use Rattle.sdb_model.specs.Transactions.{Said, body, client_of, is_effective, statements_of}
+use Rattle.sdb_snapshot.specs.Seen.{same_span}
 
 ---- what a statement found
 
@@ -112,3 +115,39 @@ answered_body events id = filter is_answered (body events id)
 -- So it is of each transaction, recorded or not.
 abbrev pub RunsOnFound : List Table → List Event → Type 0
 RunsOnFound catalog events = (id : TxId) → IsRunOnFound catalog events (client_of id) (answered_body events id)
+
+---- new reads
+
+-- the statements found something at a key
+abbrev pub was_found : List Event → ℕ → List Said → Key → Bool
+was_found events client ss key = list_any (λ (found : List (Key × Option Record)). list_any (λ e. same_key key e.0) found) (finds events client ss)
+
+abbrev pub is_scan_of : Span → Request → Bool
+is_scan_of span (ask.Scan other) = same_span other span
+is_scan_of span q = false
+
+-- a read of rows among calls scans a span
+abbrev pub scans_span : Span → List Made → Bool
+scans_span span calls = list_any (λ m. is_scan_of span m.request) (filter reads_rows calls)
+
+-- the statements scanned a span
+abbrev pub was_scanned : List Event → ℕ → List Said → Span → Bool
+was_scanned events client ss span = list_any (λ s. scans_span span (calls_of events client s)) ss
+
+-- A read after statements is new: a get is of no key at which they found something, and a scan of no span that they scanned.
+abbrev pub IsNewRead : List Event → ℕ → List Said → Request → Type 0
+IsNewRead events client ss (ask.Get key) = was_found events client ss key ≡ false
+IsNewRead events client ss (ask.Scan span) = was_scanned events client ss span ≡ false
+IsNewRead events client ss q = Unit {0}
+
+-- A call of a statement of a transaction that is no COMMIT, with the statements before it, reads rows of tables.
+pub record ReadsIn (events : List Event) (id : TxId) (before : List Said) (s : Said) (m : Made) : Type 0 where
+  pub after : List Said
+  pub statements : statements_of events id ≡ before ++ s ∷ after
+  pub no_commit : reads_commit s.text ≡ false
+  pub call : Contains (calls_of events (client_of id) s) m
+  pub reads : reads_rows m ≡ true
+
+-- It is new after those before it that were answered and changed something.
+abbrev pub ReadsAreNew : List Event → Type 0
+ReadsAreNew events = (id : TxId) (before : List Said) (s : Said) (m : Made) → ReadsIn events id before s m → IsNewRead events (client_of id) (filter is_answered (filter is_effective before)) m.request

@@ -15,7 +15,7 @@ ghost use Rattle.sdb_model.specs.Counted.{AreCounted, AreResolved};
 ghost use Rattle.sdb_spread.specs.Spread.{AreAbout};
 ghost use Rattle.sdb_causes.specs.Tied.{AnswersHaveCauses};
 ghost use Rattle.sdb_executions.specs.Forged.{FindsRow, InsertOn, IsOfOther, IsOtherMoment, SelectOn, ShowsRow, UpdateOn, busy_at_once, counted_at_once, counts_over, counts_twice, counts_unread, decides_at_once, duplicates_none, leaves_out, prepares_at, reads_and_is_done, shows_two, shows_unread};
-ghost use Rattle.sdb_executions.specs.Found.{RunsOnFound};
+ghost use Rattle.sdb_executions.specs.Found.{ReadsAreNew, RunsOnFound};
 ghost use Rattle.sdb_executions.specs.Laws.{BusyIsOfReads, CallsAreOfStatements, DecisionsAreDue, ExecutionOf, FollowsMoves, KeepsRules, PreparesAreOwn, ReadsAreFew};
 ghost use Rattle.sdb_executions.specs.Moments.{IsSoundAfter, TraceOf, WritesStandAfter};
 ghost use Rattle.sdb_executions.specs.Vacuums.{VacuumsSweep};
@@ -88,6 +88,12 @@ pub fn vacuums_sweep()
 /// other, each on what the transaction has found so far, with what it made of it.
 pub fn transactions_run_on_found()
     ensures { (x : ExecutionOf) → RunsOnFound x.script.catalog x.events }
+{}
+
+/// Each call of a statement of a transaction, but of its COMMIT, that reads rows of tables is new after the statements before it: a get is of
+/// no key at which they found something, and a scan of no span that they scanned.
+pub fn reads_are_new()
+    ensures { (x : ExecutionOf) → ReadsAreNew x.events }
 {}
 
 /// Each beginning of an execution is an execution: what is so of every execution is so after any number of its events.
