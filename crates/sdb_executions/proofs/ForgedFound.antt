@@ -1,9 +1,9 @@
 -- Statements of a transaction that are answered otherwise than on what they found are refused.
 use Rattle.std.proofs.Common.{◌≡◌, ◌+◌, ℕ, ℤ, zero, suc, pos, Bool, true, false, not, cond, List, [], ◌∷◌, ◌++◌, map, take, Option, Some, None, refl, sym, ap, subst, ◌∙◌, arith}
-use Rattle.std.specs.Prelude.{◌&&◌, if◌then◌else◌, filter, find, is_some, length}
+use Rattle.std.specs.Prelude.{◌&&◌, if◌then◌else◌, filter, find, is_some, length, ◌||◌}
 use Rattle.std.specs.Cmp.{tied_itself}
 use Rattle.std.specs.FinMap.{empty, entries, entries-insert, get, get-insert, get-remove, insert, len-empty, len-entries, put}
-use Rattle.std.specs.List.{flat_map}
+use Rattle.std.specs.List.{flat_map, list_any}
 use Rattle.std.specs.Option.{option_and_then}
 use Rattle.std.specs.Ordering.{is_eq}
 use Rattle.sdb_types.specs.declared.key.Key.{Key}
@@ -15,8 +15,11 @@ use Rattle.sdb_types.specs.declared.record.Request.{Request}
 use Rattle.sdb_types.specs.declared.record.Request.TheVariants as ask
 use Rattle.sdb_types.specs.declared.txid.TxId.{TxId}
 use Rattle.sdb_types.specs.declared.value.Value.{Value}
-use Rattle.sdb_types.specs.Order.{key_cmp, table_cmp}
+use Rattle.sdb_types.specs.Order.{key_cmp, table_cmp, same_key}
 use Rattle.sdb_types.proofs.KeyOrder.{key_total, table_total}
+use Rattle.sdb_types.proofs.Keys.{same_key_self}
+use Rattle.sdb_types.proofs.Basics.{clash}
+use Rattle.std.proofs.lemmas.List.Elements.{Contains-push}
 use Rattle.sdb_record.specs.declared.access.Image.{Image}
 use Rattle.sdb_record.specs.Coordinator.{is_coordinator_table}
 use Rattle.sdb_record.specs.Parts.{user_columns}
@@ -33,14 +36,14 @@ use Rattle.sdb_model.specs.Calls.{Made, calls_of, put_by}
 use Rattle.sdb_model.specs.Exec.{Tables, answer_of, cut, exec, exec_in, left_by, nat_of, passes, passing, row_of_entry, shown, sorted, with_named}
 use Rattle.sdb_model.specs.Sql.{Reads, reads_commit}
 use Rattle.sdb_model.specs.Told.{AreRead}
-use Rattle.sdb_model.specs.Transactions.{Said, begins, changes_nothing, from_begin, is_effective, rest_of, said}
+use Rattle.sdb_model.specs.Transactions.{Said, begins, changes_nothing, from_begin, is_effective, rest_of, said, through_end, statements_of, ends}
 use Rattle.sdb_sqltext.proofs.Clauses.{one_statement}
 use Rattle.sdb_steps.proofs.Taken.{other_no_commit}
 use Rattle.sdb_causes.proofs.Given.{IsMiddle}
 use Rattle.sdb_causes.proofs.Shows.{effective_by}
 use Rattle.sdb_causes.proofs.Takings.{middle_ends}
-use Rattle.sdb_executions.specs.Forged.{FindsRow, InsertOn, SelectOn, ShowsRow, StatementOn, UpdateOn, answered_after, answered_at_once, counts_over, counts_twice, counts_unread, duplicates_none, insert_key, leaves_out, shows_two, shows_unread}
-use Rattle.sdb_executions.specs.Found.{IsRunOnFound, RunsOnFound, View, exec_on, found_by, found_in, is_answered, meant, nothing_found, rolls, run_on_found, with_found}
+use Rattle.sdb_executions.specs.Forged.{FindsRow, InsertOn, SelectOn, ShowsRow, StatementOn, UpdateOn, answered_after, answered_at_once, counts_over, counts_twice, counts_unread, duplicates_none, insert_key, leaves_out, shows_two, shows_unread, reads_again}
+use Rattle.sdb_executions.specs.Found.{IsRunOnFound, RunsOnFound, View, exec_on, found_by, found_in, is_answered, meant, nothing_found, rolls, run_on_found, with_found, ReadsAreNew, was_found}
 use Rattle.sdb_executions.proofs.Running.{is_running, running, running_more}
 
 ---- the statements of the first transaction of client 1
@@ -288,3 +291,30 @@ forgotten_refused f law = no_count (sym (ap (answer_of f.on.table f.on.statement
 
     no_count : answer.Duplicate (insert_key f) ≡ answer.Count 1 → ⊥
     no_count k = cc
+
+---- a read that isn't new
+
+pub again_refused : (f : InsertOn) → ReadsAreNew (reads_again f) → ⊥
+again_refused f law = clash (sym found ∙ law first (s ∷ []) z m (record { after = []; statements = statements; no_commit = insert_commits f; call = Contains-push [] m; reads = ap (λ b. if b then false else true) f.on.apart }))
+  where
+    s : Said
+    s = record { taken = 2; text = f.on.text; answer = Some (answer.Count 1); reached = 3 }
+
+    z : Said
+    z = record { taken = 4; text = f.on.text; answer = None; reached = 4 }
+
+    m : Made
+    m = record { at = 5; store = []; request = ask.Get (insert_key f); how = Seen; reply = reply.Found None }
+
+    ends_last : (b : Bool) → (if b then z ∷ [] else z ∷ []) ≡ z ∷ []
+    ends_last true = refl
+    ends_last false = refl
+
+    statements : statements_of (reads_again f) first ≡ s ∷ z ∷ []
+    statements =
+        ap through_end (since_first (begin_said f.on) (s ∷ z ∷ []) (begun f.on))
+        ∙ ap (λ b. if b then s ∷ [] else s ∷ through_end (z ∷ [])) (middle_ends s (answer.Count 1) refl (record { undone = refl; agrees = refl }) (insert_commits f))
+        ∙ ap (λ xs. s ∷ xs) (ends_last (ends z))
+
+    found : was_found (reads_again f) 1 (s ∷ []) (insert_key f) ≡ true
+    found = ap (λ (fs : List (Key × Option Record)). list_any (λ e. same_key (insert_key f) e.0) fs || false) (got f.on (insert_key f) None refl) ∙ ap (λ b. (b || false) || false) (same_key_self (insert_key f))

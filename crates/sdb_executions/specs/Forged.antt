@@ -141,3 +141,9 @@ counts_twice f = answered_after f.on (ask.Get (insert_key f)) (reply.Found None)
 -- An INSERT finds nothing and is answered Duplicate.
 abbrev pub duplicates_none : InsertOn → List Event
 duplicates_none f = answered_after f.on (ask.Get (insert_key f)) (reply.Found None) (answer.Duplicate (insert_key f))
+
+-- An INSERT finds nothing and is counted, and the same one after it reads the key again.
+abbrev pub reads_again : InsertOn → List Event
+reads_again f =
+    answered_after f.on (ask.Get (insert_key f)) (reply.Found None) (answer.Count 1)
+    ++ event.Take 1 f.on.text None ∷ event.Call 1 [] (ask.Get (insert_key f)) Seen (reply.Found None) None ∷ []

@@ -148,6 +148,6 @@ pub record ReadsIn (events : List Event) (id : TxId) (before : List Said) (s : S
   pub call : Contains (calls_of events (client_of id) s) m
   pub reads : reads_rows m ≡ true
 
--- It is new after those before it that were answered and changed something.
+-- It is new after those before it that were answered, but for those that changed nothing.
 abbrev pub ReadsAreNew : List Event → Type 0
 ReadsAreNew events = (id : TxId) (before : List Said) (s : Said) (m : Made) → ReadsIn events id before s m → IsNewRead events (client_of id) (filter is_answered (filter is_effective before)) m.request

@@ -1,4 +1,4 @@
-use Rattle.sdb_executions.proofs.ForgedFound.{counted_over_refused, forgotten_refused, invented_refused, left_out_refused, miscounted_refused, no_duplicate_refused, unlimited_refused}
+use Rattle.sdb_executions.proofs.ForgedFound.{again_refused, counted_over_refused, forgotten_refused, invented_refused, left_out_refused, miscounted_refused, no_duplicate_refused, unlimited_refused}
 use Rattle.sdb_executions.proofs.Forgeries.{begin_refused, busy_refused, decision_refused, lazy_refused, moment_refused}
 use Rattle.sdb_executions.proofs.laws.forged_events_are_refused.Goals as goal
 
@@ -16,4 +16,5 @@ returns c = record {
   counted_over = counted_over_refused;
   forgotten = forgotten_refused;
   no_duplicate = no_duplicate_refused;
+  read_again = again_refused;
 }
