@@ -2,7 +2,7 @@
 use Rattle.std.proofs.Common.{◌≡◌, ◌+◌, ℕ, ℤ, zero, suc, pos, Bool, true, false, not, cond, List, [], ◌∷◌, ◌++◌, map, take, Option, Some, None, refl, sym, ap, subst, ◌∙◌, arith}
 use Rattle.std.specs.Prelude.{◌&&◌, if◌then◌else◌, filter, find, is_some, length, ◌||◌}
 use Rattle.std.specs.Cmp.{tied_itself}
-use Rattle.std.specs.FinMap.{empty, entries, entries-insert, get, get-insert, get-remove, insert, len-empty, len-entries, put}
+use Rattle.std.specs.FinMap.{empty, entries, entries-insert, get, get-insert, get-remove, insert, len-empty, len-entries, put, get-empty, same_map}
 use Rattle.std.specs.List.{flat_map, list_any}
 use Rattle.std.specs.Option.{option_and_then}
 use Rattle.std.specs.Ordering.{is_eq}
@@ -16,10 +16,11 @@ use Rattle.sdb_types.specs.declared.record.Request.TheVariants as ask
 use Rattle.sdb_types.specs.declared.txid.TxId.{TxId}
 use Rattle.sdb_types.specs.declared.value.Value.{Value}
 use Rattle.sdb_types.specs.Order.{key_cmp, table_cmp, same_key}
-use Rattle.sdb_types.proofs.KeyOrder.{key_total, table_total}
+use Rattle.sdb_types.proofs.KeyOrder.{key_total, table_total, key_exact}
 use Rattle.sdb_types.proofs.Keys.{same_key_self}
-use Rattle.sdb_types.proofs.Basics.{clash}
+use Rattle.sdb_types.proofs.Basics.{clash, and_false}
 use Rattle.std.proofs.lemmas.List.Elements.{Contains-push}
+use Rattle.sdb_model.specs.Counted.{is_key_of}
 use Rattle.sdb_record.specs.declared.access.Image.{Image}
 use Rattle.sdb_record.specs.Coordinator.{is_coordinator_table}
 use Rattle.sdb_record.specs.Parts.{user_columns}
@@ -42,7 +43,7 @@ use Rattle.sdb_steps.proofs.Taken.{other_no_commit}
 use Rattle.sdb_causes.proofs.Given.{IsMiddle}
 use Rattle.sdb_causes.proofs.Shows.{effective_by}
 use Rattle.sdb_causes.proofs.Takings.{middle_ends}
-use Rattle.sdb_executions.specs.Forged.{FindsRow, InsertOn, SelectOn, ShowsRow, StatementOn, UpdateOn, answered_after, answered_at_once, counts_over, counts_twice, counts_unread, duplicates_none, insert_key, leaves_out, shows_two, shows_unread, reads_again}
+use Rattle.sdb_executions.specs.Forged.{FindsRow, InsertOn, SelectOn, ShowsRow, StatementOn, UpdateOn, answered_after, answered_at_once, counts_over, counts_twice, counts_unread, duplicates_none, insert_key, leaves_out, shows_two, shows_unread, reads_again, FindsUnresolved, shows_unrolled}
 use Rattle.sdb_executions.specs.Found.{IsRunOnFound, RunsOnFound, View, exec_on, found_by, found_in, is_answered, meant, nothing_found, rolls, run_on_found, with_found, ReadsAreNew, was_found}
 use Rattle.sdb_executions.proofs.Running.{is_running, running, running_more}
 
@@ -218,6 +219,33 @@ left_out_refused f key r finds law =
     sym (ap (answer_of f.on.table f.on.statement) (got_row f.on key r finds.inside finds.shows) ∙ ap (λ st. answer_of f.on.table st d) f.is ∙ ap (λ ts. answer.Rows (map (shown f.on.table f.select.columns) (cut f.select.limit (sorted f.on.table (passing f.on.table ts d))))) finds.tests ∙ ap (λ o. answer.Rows (map (shown f.on.table f.select.columns) (cut o (sorted f.on.table (passing f.on.table [] d))))) finds.limit
     ∙ ap (λ rs. answer.Rows (map (shown f.on.table f.select.columns) (sorted f.on.table rs))) (one_passing f.on.table key (user_columns r.columns) finds.inside)) ∙ e in
     cc
+
+-- nothing is left of what wasn't there
+none_removed : (k : Key) → with_row empty k None ≡ empty
+none_removed k = same_map key_total key_exact (with_row empty k None) empty (λ q. get-remove key_total empty k q ∙ ap (λ o. cond (is_eq (key_cmp q k)) None o) (get-empty key_cmp q) ∙ none (is_eq (key_cmp q k)) ∙ sym (get-empty key_cmp q))
+  where
+    none : (b : Bool) → cond {A = Option (List Pair)} b None None ≡ None
+    none true = refl
+    none false = refl
+
+pub unrolled_refused : (f : SelectOn) (key : Key) (r : Record) (row : List Value) → FindsUnresolved f key r → RunsOnFound f.on.catalog (shows_unrolled f key r row) → ⊥
+unrolled_refused f key r row finds law =
+    let e = after_answer f.on (select_commits f) (answer.Rows (row ∷ [])) (record { undone = refl; agrees = refl }) refl (ask.Get key) (reply.Found (Some r)) law in
+    let k : answer.Rows [] ≡ answer.Rows (row ∷ []) =
+    sym (ap (answer_of f.on.table f.on.statement) (rows ∙ none_removed key) ∙ ap (λ st. answer_of f.on.table st empty) f.is ∙ ap (λ rs. answer.Rows (map (shown f.on.table f.select.columns) (cut f.select.limit (sorted f.on.table rs)))) (none_passing f.on.table f.select.tests)
+    ∙ ap (λ rs. answer.Rows (map (shown f.on.table f.select.columns) rs)) (no_rows_cut f.select.limit)) ∙ e in
+    cc
+  where
+    get_call : Made
+    get_call = record { at = 3; store = []; request = ask.Get key; how = Seen; reply = reply.Found (Some r) }
+
+    means : meant (get_call ∷ []) r ≡ None
+    means =
+        ap (λ b. if b then Some r else option_and_then (λ m. put_by m.request) (find (rolls r) (get_call ∷ []))) finds.unresolved
+        ∙ ap (λ b. option_and_then (λ (m : Made). put_by m.request) (if b then Some get_call else None)) (and_false (is_key_of r.key get_call))
+
+    rows : (with_found nothing_found (found_by (get_call ∷ []))).rows ≡ with_row empty key None
+    rows = ap (λ fs. (with_found nothing_found fs).rows) (got f.on key (Some r) finds.inside) ∙ ap (λ o. with_row empty key (option_and_then row_of_image o)) means
 
 pub unlimited_refused : (f : SelectOn) (q : Request) (r : Reply) (a b : List Value) → f.select.limit ≡ Some (pos 1) → RunsOnFound f.on.catalog (shows_two f q r a b) → ⊥
 unlimited_refused f q r a b limit law =

@@ -106,6 +106,11 @@ pub record FindsRow (f : SelectOn) (key : Key) (r : Record) : Type 0 where
   pub inside : key.table ≡ f.on.table.name
   pub shows : ShowsRow r
 
+-- a SELECT, and a record at a key of its table that isn't committed
+pub record FindsUnresolved (f : SelectOn) (key : Key) (r : Record) : Type 0 where
+  pub inside : key.table ≡ f.on.table.name
+  pub unresolved : is_in state.Committed r.columns ≡ false
+
 -- a transaction's first statement, which is answered as it is taken
 abbrev pub answered_at_once : StatementOn → Answer → List Event
 answered_at_once f a = event.Take 1 f.begin (Some answer.Done) ∷ event.Take 1 f.text (Some a) ∷ []
@@ -121,6 +126,10 @@ shows_unread f row rows = answered_at_once f.on (answer.Rows (row ∷ rows))
 -- It leaves out the row that it found.
 abbrev pub leaves_out : SelectOn → Key → Record → List Event
 leaves_out f key r = answered_after f.on (ask.Get key) (reply.Found (Some r)) (answer.Rows [])
+
+-- It shows a row where it found a record, which it didn't roll.
+abbrev pub shows_unrolled : SelectOn → Key → Record → List Value → List Event
+shows_unrolled f key r row = answered_after f.on (ask.Get key) (reply.Found (Some r)) (answer.Rows (row ∷ []))
 
 -- It shows two rows.
 abbrev pub shows_two : SelectOn → Request → Reply → List Value → List Value → List Event

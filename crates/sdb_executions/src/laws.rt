@@ -14,7 +14,7 @@ ghost use Rattle.sdb_execution.specs.Execution.{IsExecution};
 ghost use Rattle.sdb_model.specs.Counted.{AreCounted, AreResolved};
 ghost use Rattle.sdb_spread.specs.Spread.{AreAbout};
 ghost use Rattle.sdb_causes.specs.Tied.{AnswersHaveCauses};
-ghost use Rattle.sdb_executions.specs.Forged.{FindsRow, InsertOn, IsOfOther, IsOtherMoment, SelectOn, ShowsRow, UpdateOn, busy_at_once, counted_at_once, counts_over, counts_twice, counts_unread, decides_at_once, duplicates_none, leaves_out, prepares_at, reads_again, reads_and_is_done, shows_two, shows_unread};
+ghost use Rattle.sdb_executions.specs.Forged.{FindsRow, FindsUnresolved, InsertOn, IsOfOther, IsOtherMoment, SelectOn, ShowsRow, UpdateOn, busy_at_once, counted_at_once, counts_over, counts_twice, counts_unread, decides_at_once, duplicates_none, leaves_out, prepares_at, reads_again, reads_and_is_done, shows_two, shows_unread, shows_unrolled};
 ghost use Rattle.sdb_executions.specs.Found.{ReadsAreNew, RunsOnFound};
 ghost use Rattle.sdb_executions.specs.Laws.{BusyIsOfReads, CallsAreOfStatements, DecisionsAreDue, ExecutionOf, FollowsMoves, KeepsRules, PreparesAreOwn, ReadsAreFew};
 ghost use Rattle.sdb_executions.specs.Moments.{IsSoundAfter, TraceOf, WritesStandAfter};
@@ -113,8 +113,8 @@ pub fn records_stay_sound()
 
 /// Events that no execution has, and the law that each of them breaks: a COMMIT that is answered Busy, a VACUUM of a table that counts without a
 /// scan, a BEGIN that reads, a prepare with another moment than the clock showed, and a decision on another's transaction by a first call; and
-/// statements of a transaction: a SELECT that shows a row without a read, leaves out the row that it found, or shows two rows where its LIMIT is 1,
-/// an UPDATE that counts rows without a read, an INSERT that is counted over a row that it found or over its transaction's own row, a Duplicate
+/// statements of a transaction: a SELECT that shows a row without a read, leaves out the row that it found, shows a row of a record that it
+/// found and didn't roll, or shows two rows where its LIMIT is 1, an UPDATE that counts rows without a read, an INSERT that is counted over a row that it found or over its transaction's own row, a Duplicate
 /// where nothing was found, and an INSERT that reads its key again.
 pub fn forged_events_are_refused()
     ensures busy { (text : List ℕ) (key : Key) (id : TxId) (at : ℤ) → reads_commit text ≡ true → BusyIsOfReads (busy_at_once text key id at) → ⊥ }
@@ -124,6 +124,7 @@ pub fn forged_events_are_refused()
     ensures decided { (text : List ℕ) (id : TxId) (d : Decision) (now : ℤ) → IsOfOther id → DecisionsAreDue (decides_at_once text id d now) → ⊥ }
     ensures invented { (f : SelectOn) (row : List Value) (rows : List (List Value)) → RunsOnFound f.on.catalog (shows_unread f row rows) → ⊥ }
     ensures left_out { (f : SelectOn) (key : Key) (r : Record) → FindsRow f key r → RunsOnFound f.on.catalog (leaves_out f key r) → ⊥ }
+    ensures unrolled { (f : SelectOn) (key : Key) (r : Record) (row : List Value) → FindsUnresolved f key r → RunsOnFound f.on.catalog (shows_unrolled f key r row) → ⊥ }
     ensures unlimited { (f : SelectOn) (q : Request) (r : Reply) (a b : List Value) → f.select.limit ≡ Some (pos 1) → RunsOnFound f.on.catalog (shows_two f q r a b) → ⊥ }
     ensures miscounted { (f : UpdateOn) (n : ℕ) → RunsOnFound f.on.catalog (counts_unread f n) → ⊥ }
     ensures counted_over { (f : InsertOn) (r : Record) → ShowsRow r → RunsOnFound f.on.catalog (counts_over f r) → ⊥ }

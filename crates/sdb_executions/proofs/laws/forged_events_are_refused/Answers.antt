@@ -1,4 +1,4 @@
-use Rattle.sdb_executions.proofs.ForgedFound.{again_refused, counted_over_refused, forgotten_refused, invented_refused, left_out_refused, miscounted_refused, no_duplicate_refused, unlimited_refused}
+use Rattle.sdb_executions.proofs.ForgedFound.{again_refused, counted_over_refused, forgotten_refused, invented_refused, left_out_refused, miscounted_refused, no_duplicate_refused, unlimited_refused, unrolled_refused}
 use Rattle.sdb_executions.proofs.Forgeries.{begin_refused, busy_refused, decision_refused, lazy_refused, moment_refused}
 use Rattle.sdb_executions.proofs.laws.forged_events_are_refused.Goals as goal
 
@@ -11,6 +11,7 @@ returns c = record {
   decided = λ text id d now h. decision_refused text id d now h.0 h.1;
   invented = invented_refused;
   left_out = left_out_refused;
+  unrolled = unrolled_refused;
   unlimited = unlimited_refused;
   miscounted = miscounted_refused;
   counted_over = counted_over_refused;
