@@ -44,5 +44,9 @@ expect 'a transaction that is left open is rolled back' 0 $'done\ncount 1' sql \
 expect 'so its row is there' 0 $'done\nrows 1 (70)\ncommitted' sql \
     <<<$'BEGIN\nSELECT balance FROM bank.account WHERE id = 1\nCOMMIT'
 expect 'a line that is no text stops a session' 3 $'done\nbad input at 2' sql <<<$'BEGIN\n\xff'
+SCALARDB_FILE=$room/example.db expect 'the tables of the example are created' 0 $'created bank.account\ncreated coordinator.state' schema \
+    <"$root/examples/bank.json"
+SCALARDB_FILE=$room/example.db expect 'the session of the example is answered so' 0 "$(cat "$root/examples/session.answers")" sql \
+    <"$root/examples/session.sql"
 SCALARDB_FILE=$room/none/kept.db expect 'a path that is not there is refused' 14 'no database' schema <<<"$schema"
 SCALARDB_FILE=$room expect 'a folder is refused' 14 'no database' schema <<<"$schema"
