@@ -30,8 +30,7 @@ use Rattle.sdb_board.proofs.Empty.{no_record}
 use Rattle.sdb_board.proofs.GoesOn.{refused_after}
 use Rattle.sdb_causes.specs.Moves.{TellOne}
 use Rattle.sdb_causes.specs.Tied.{AnswersHaveCauses}
-use Rattle.sdb_causes.proofs.Counting.{all_counted}
-use Rattle.sdb_causes.proofs.Faults.{answered_seen, seen_no_faults}
+use Rattle.sdb_causes.proofs.Faults.{answered_seen}
 use Rattle.sdb_causes.proofs.Lists.{kept_in}
 use Rattle.sdb_causes.proofs.Rolled.{all_resolved}
 use Rattle.sdb_causes.specs.Shows.{WasRead}
@@ -224,11 +223,9 @@ pub outcome_is : (script : Script) (old mid then new : Attached) (o : Outcome) �
     → (AreFit script.catalog mid → first_key (opening_in script.catalog mid) ≡ None) → HoldNothing (run_tables script.catalog) mid → (AreFit script.catalog mid → HoldTheSame mid then) → Follows script.clients script.moves o.events → IsExecution script o.events → BreaksWithin [] o.events then.shelves new.shelves
     → IsReadWhereKnown script.catalog (known_before then new) o → (AreReady script then → IsRun script (shown then.shelves) (shown new.shelves) o) → (AreReady script then → IsExplained script o.events (shown then.shelves)) → IsPlayable script → IsOutcome script old new.shelves o
 outcome_is script old mid then new o same still telling goes more fit none nothing quiet follows executed broken read run explained playable = record {
+  playable = playable;
   follows = follows;
   executed = executed;
-  caused = caused;
-  counted = all_counted script.catalog o.events caused.counted (seen_no_faults script.clients script.moves o.events follows);
-  resolved = resolved;
   broken = subst (λ (ss : List Counted). BreaksWithin [] o.events ss new.shelves) still (breaks_after [] o.events mid then new.shelves goes broken);
   empty = subst (λ (ss : List Counted). HoldNothing (run_tables script.catalog) (placed_as script old ss)) still (nothing_as (placed_as script old mid.shelves) mid (shows_placed script old mid same telling) (run_tables script.catalog) nothing);
   read = read_as (placed_as script old new.shelves) (known_before then new) (shows_placed script old (known_before then new) (ap placed (more.places ∙ goes.places) ∙ same) (λ at tells. goes.telling at (telling at tells))) script.catalog o read;
@@ -262,11 +259,9 @@ found_bad script old mid then new key same telling goes more ready h = record {
 
 made_of : (script : Script) (before mid : Attached) (new : List Counted) (o : Outcome) → mid.shelves ≡ before.shelves → ((at : ℕ) → before.tells at → mid.tells at) → IsOutcome script mid new o → IsOutcome script before new o
 made_of script before mid new o same telling made = record {
+  playable = made.playable;
   follows = made.follows;
   executed = made.executed;
-  caused = made.caused;
-  counted = made.counted;
-  resolved = made.resolved;
   broken = subst (λ (ss : List Counted). BreaksWithin [] o.events ss new) same made.broken;
   empty = nothing_as (placed_as script before before.shelves) (placed_as script mid mid.shelves) (shows_less (placed_as script before before.shelves) (placed_as script mid mid.shelves) refl (sym same) telling) (run_tables script.catalog) made.empty;
   read = read_as (placed_as script before new) (placed_as script mid new) (shows_less (placed_as script before new) (placed_as script mid new) refl refl telling) script.catalog o made.read;

@@ -11,7 +11,6 @@ use Rattle.sdb_model.specs.declared.event.Outcome.{Outcome}
 use Rattle.sdb_model.specs.declared.script.Place.{Place}
 use Rattle.sdb_model.specs.declared.script.Script.{Script}
 use Rattle.sdb_model.specs.Causes.{AreCaused}
-use Rattle.sdb_model.specs.Counted.{AreCounted, AreResolved}
 use Rattle.sdb_model.specs.Events.{Shelf, store_of}
 use Rattle.sdb_model.specs.Follows.{Follows}
 use Rattle.sdb_model.specs.Report.{report_text_of}
@@ -29,9 +28,8 @@ use Rattle.sdb_board.specs.declared.refused.CallRefused.TheVariants as call
 use Rattle.sdb_dump.specs.Held.{IsOddIn}
 use Rattle.sdb_dump.specs.declared.refused.ClosingRefused.{ClosingRefused}
 use Rattle.sdb_dump.specs.declared.refused.ClosingRefused.TheVariants as closing
-use Rattle.sdb_causes.specs.Tied.{AnswersHaveCauses}
 use Rattle.sdb_world.specs.Broken.{BreaksWithin}
-use Rattle.sdb_execution.specs.Execution.{IsExecution}
+use Rattle.sdb_execution.specs.Execution.{IsExecution, IsPlayable}
 use Rattle.sdb_world.specs.Explained.{IsExplained, IsShown}
 use Rattle.sdb_world.specs.Played.{IsReadWhereKnown}
 use Rattle.sdb_app.specs.declared.status.InputFault.TheVariants.{Line}
@@ -67,16 +65,13 @@ abbrev pub placed_as : Script → Attached → List Counted → Attached
 placed_as script stores shelves = record { places = map (λ p. record { ns = p.ns; store = p.store }) script.places; shelves = shelves; tells = stores.tells }
 
 -- One outcome of a script on any stores: its events follow the script's moves, and are an execution of its clients: each takes, asks and
--- answers as the protocol says, whatever the stores reply. The answers have their causes among the events, the calls are counted, whoever was
--- answered from rows had each unresolved record that it found rolled first, and no more calls are Broken than the stores failed. Of each table
--- whose store has known contents it is known that it held nothing at the entry, and that its dump is that of what is there in the end. Where all
--- of them are known, it is the outcome of a run of the script.
+-- answers as the protocol says, whatever the stores reply. So the laws of executions are laws of outcomes. No more calls are Broken than the
+-- stores failed. Of each table whose store has known contents it is known that it held nothing at the entry, and that its dump is that of what
+-- is there in the end. Where all of them are known, it is the outcome of a run of the script.
 pub record IsOutcome (script : Script) (old : Attached) (new : List Counted) (outcome : Outcome) : Type 0 where
+  pub playable : IsPlayable script
   pub follows : Follows script.clients script.moves outcome.events
   pub executed : IsExecution script outcome.events
-  pub caused : AnswersHaveCauses script.catalog outcome.events
-  pub counted : AreCounted script.catalog outcome.events
-  pub resolved : AreResolved outcome.events
   pub broken : BreaksWithin [] outcome.events old.shelves new
   pub empty : HoldNothing (run_tables script.catalog) (placed_as script old old.shelves)
   pub read : IsReadWhereKnown script.catalog (placed_as script old new) outcome
