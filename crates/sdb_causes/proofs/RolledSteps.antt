@@ -64,7 +64,7 @@ final_state ps m y h = by (list_any is_before_pair ps) h
     by true k = before_state m (checked_part is_committed (before_part ps)) y (refuse-ok (find is_misnamed ps) (with_before m (checked_part is_committed (before_part ps))) y k).1
     by false k = let e : m ≡ y = cc in ap (λ (x : Meta). x.state) e
 
-state_says : (r : Record) (m : Meta) → checked r.columns ≡ Ok m → state_in r.columns ≡ Some m.state
+pub state_says : (r : Record) (m : Meta) → checked r.columns ≡ Ok m → state_in r.columns ≡ Some m.state
 state_says r m says = let t = taken r.columns m says in t.1.says.state ∙ ap Some (final_state r.columns t.0 m t.2)
 
 forward_rolls : (rec : Record) (meta : Meta) (d : Decided) (n : ℤ) → d.decision ≡ decision.Committed → d.created_at ≡ n → recover_forward rec meta n ≡ roll_by rec (condition.Version meta.id meta.state) d

@@ -112,7 +112,7 @@ module _ (q : Request) (calls : List Made) where
 image_is : (r : Record) (d : Decided) (w : Decision) → d.decision ≡ w → image_under r (Some d) ≡ elim w [ decision.Committed ↦ Some (forward_record r d.created_at) | decision.Aborted ↦ before_record r ]
 image_is r d w e = ap (λ (x : Decision). elim x [ decision.Committed ↦ Some (forward_record r d.created_at) | decision.Aborted ↦ before_record r ]) e
 
-before_key : (r : Record) → is_unresolved r ≡ true → IfSome (before_record r) (λ b. b.key ≡ r.key)
+pub before_key : (r : Record) → is_unresolved r ≡ true → IfSome (before_record r) (λ b. b.key ≡ r.key)
 before_key r u = by (before_record r) refl
   where
     by : (o : Option Record) → before_record r ≡ o → IfSome o (λ b. b.key ≡ r.key)

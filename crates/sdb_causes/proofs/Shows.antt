@@ -33,7 +33,7 @@ starts_more : (s x : Said) (ss : List Said) → StartsWith s ss → StartsWith s
 starts_more s x [] h = absurd h
 starts_more s x (y ∷ ys) h = h
 
-read_more : (xs : List Said) (sts : List Statement) (x : Said) (st : Statement) → AreRead xs sts → Reads x.text st → AreRead (xs ++ x ∷ []) (sts ++ st ∷ [])
+pub read_more : (xs : List Said) (sts : List Statement) (x : Said) (st : Statement) → AreRead xs sts → Reads x.text st → AreRead (xs ++ x ∷ []) (sts ++ st ∷ [])
 read_more [] [] x st h r = (r, tt)
 read_more [] (y ∷ ys) x st h r = absurd h
 read_more (z ∷ zs) [] x st h r = absurd h

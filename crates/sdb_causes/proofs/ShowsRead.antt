@@ -35,7 +35,7 @@ use Rattle.sdb_read.specs.Read.{request_of}
 use Rattle.sdb_snapshot.specs.Held.{WereRead}
 use Rattle.sdb_snapshot.specs.Noted.{base_at, is_noted}
 use Rattle.sdb_snapshot.specs.Rows.{row_found}
-use Rattle.sdb_snapshot.specs.Seen.{row_seen, row_with}
+use Rattle.sdb_snapshot.specs.Seen.{Seen, row_seen, row_with}
 use Rattle.sdb_txn.specs.Txn.{TxnAt}
 use Rattle.sdb_client.specs.Client.{noting}
 use Rattle.sdb_causes.specs.Moves.{HasRead, IsRows, TellOne}
@@ -115,10 +115,10 @@ row_now : (t : TxnAt) (a : Access) (images : List Record) (q : Key) → row_seen
 row_now t a images q = ap (λ ws. row_with (write_among ws q) (base_at (noting t a images).seen.notes q)) (same_writes t a images) ∙ ap (λ x. row_with (write_among t.seen.writes q) (at_note x)) (noted_now t a images q)
 
 -- a key that wasn't read isn't written
-unwritten : (t : TxnAt) (q : Key) → WereRead t.seen.notes t.seen.writes → is_noted t.seen.notes q ≡ false → write_among t.seen.writes q ≡ None
-unwritten t q kept f = by (write_among t.seen.writes q) refl
+pub unwritten : (s : Seen) (q : Key) → WereRead s.notes s.writes → is_noted s.notes q ≡ false → write_among s.writes q ≡ None
+unwritten s q kept f = by (write_among s.writes q) refl
   where
-    by : (o : Option Write) → write_among t.seen.writes q ≡ o → write_among t.seen.writes q ≡ None
+    by : (o : Option Write) → write_among s.writes q ≡ o → write_among s.writes q ≡ None
     by None e = e
     by (Some w) e = clash (sym (kept q (ap is_some e)) ∙ f)
 
@@ -144,6 +144,6 @@ module _ (catalog : List Table) (events : List Event) (c : ℕ) (body : List Sai
           subst Has (sym (row_now t a images key ∙ ap (λ z. row_with (write_among t.seen.writes key) (at_note (or_else z (found_new a images key)))) e ∙ ap (λ z. row_with (write_among t.seen.writes key) (at_note z)) (sym e)))
           (has_before catalog events c body s key (row_seen t.seen.notes t.seen.writes key) (sees key (ap is_some e)))
       by None (Some o) e f =
-          subst Has (sym (row_now t a images key ∙ ap (λ z. row_with (write_among t.seen.writes key) (at_note (or_else z (found_new a images key)))) e ∙ ap (λ z. row_with (write_among t.seen.writes key) (at_note z)) f ∙ ap (λ w. row_with w o) (unwritten t key kept (ap is_some e))))
+          subst Has (sym (row_now t a images key ∙ ap (λ z. row_with (write_among t.seen.writes key) (at_note (or_else z (found_new a images key)))) e ∙ ap (λ z. row_with (write_among t.seen.writes key) (at_note z)) f ∙ ap (λ w. row_with w o) (unwritten t.seen key kept (ap is_some e))))
           (has_shown catalog events c body s key (row_found o) (record { told = told; no_vacuum = no_vacuum; table = tables key (new_inside (calls_of events c s) a images h key o f); found = found_by (calls_of events c s) a images h one key o f }))
       by None None e f = clash (sym (sym (ap is_some (noted_now t a images key ∙ ap (λ z. or_else z (found_new a images key)) e ∙ f)) ∙ noted))

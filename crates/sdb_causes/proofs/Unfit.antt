@@ -118,7 +118,7 @@ pub rows_there : (P : Key → List Pair → Type 0) (d : Tables) → ((q : Key) 
 rows_there P d each = found_all P (entries d) (truth _ (entries_sorted d)) (λ q cs found. each q cs (get-entries d q ∙ found))
 
 -- what a transaction sees fits where its tables do
-fit_tables : (catalog : List Table) (s : Seen) → SeesFit catalog s → tables_fit catalog (tables_seen s) ≡ true
+pub fit_tables : (catalog : List Table) (s : Seen) → SeesFit catalog s → tables_fit catalog (tables_seen s) ≡ true
 fit_tables catalog s fits = all_true (λ r. row_fits catalog r.key r.columns) (all_rows (tables_seen s)) (rows_there (λ q cs. row_fits catalog q cs ≡ true) (tables_seen s) (λ q cs found. fits q cs (sym (get_seen s.notes s.writes q) ∙ found)))
 
 tables_sees : (catalog : List Table) (s : Seen) → tables_fit catalog (tables_seen s) ≡ true → SeesFit catalog s

@@ -132,7 +132,7 @@ takes_all q events hands c text result d ex ready gate moment is es fit g apart 
 }
 
 -- what a client that reads has read says what is noted, and it had read what it wrote
-going_told : (catalog : List Table) (fit : Tables → Bool) (es : List Event) (hands : ℕ → Hand) (g : IsGoing catalog fit es (system_of hands) (doing_of hands)) (c : ℕ) → (hands c).stopped ≡ false → (hands c).client.vacuum ≡ None → (t : TxnAt) (a : Access) (x : ReadAt) → (hands c).client.txn ≡ Some t → t.doing ≡ doing.Read a x → IsTold t.seen × WereRead t.seen.notes t.seen.writes
+pub going_told : (catalog : List Table) (fit : Tables → Bool) (es : List Event) (hands : ℕ → Hand) (g : IsGoing catalog fit es (system_of hands) (doing_of hands)) (c : ℕ) → (hands c).stopped ≡ false → (hands c).client.vacuum ≡ None → (t : TxnAt) (a : Access) (x : ReadAt) → (hands c).client.txn ≡ Some t → t.doing ≡ doing.Read a x → IsTold t.seen × WereRead t.seen.notes t.seen.writes
 going_told catalog fit es hands g c goes_on free t a x some reads = (record { reads = ok.1.reads; found = ok.1.found; noted = ok.1.noted }, ok.1.kept.read)
   where
     here : (system_of hands).clients c ≡ Reading t.id t.seen a (stands_at x.stage)

@@ -58,7 +58,7 @@ use Rattle.sdb_causes.proofs.Showing.{IsOpenAt, shows_on}
 use Rattle.sdb_causes.proofs.Unfit.{fits_now}
 use Rattle.sdb_executions.specs.Found.{found_by, is_answered, is_scan_of, scans_span, was_scanned}
 use Rattle.sdb_executions.proofs.Finding.{WaitFinds, read_finds}
-use Rattle.sdb_executions.proofs.FoundSteps.{ClientRuns, SeesIn, SeesRun, all_answered, answered_of_is, answered_of}
+use Rattle.sdb_executions.proofs.FoundSteps.{ClientRuns, SeesIn, SeesRun, all_answered, answered_of_is}
 use Rattle.sdb_executions.proofs.FoundSteps as follows
 use Rattle.sdb_executions.proofs.Meant.{FindsAt, FindsImages}
 use Rattle.sdb_executions.proofs.OwnPrepares.{ends_commit, goes_further}

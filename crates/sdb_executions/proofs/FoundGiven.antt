@@ -12,7 +12,7 @@ use Rattle.sdb_model.specs.declared.event.Event.{Event}
 use Rattle.sdb_model.specs.Access.{with_changes}
 use Rattle.sdb_model.specs.Calls.{calls_of}
 use Rattle.sdb_model.specs.Causes.{refused}
-use Rattle.sdb_model.specs.Exec.{Tables, all_rows, exec, named_table}
+use Rattle.sdb_model.specs.Exec.{Tables, exec, named_table}
 use Rattle.sdb_model.specs.Refused.{refusal_of}
 use Rattle.sdb_model.specs.Sql.{Reads, reads_commit}
 use Rattle.sdb_model.specs.Transactions.{Said, changes_nothing, is_effective}
@@ -21,21 +21,20 @@ use Rattle.sdb_exec.specs.declared.plan.PlanStep.TheVariants.{Finished}
 use Rattle.sdb_exec.specs.Plans.{Planned, answer_on, changes_on, first_unfit, has_all_literals, step_of}
 use Rattle.sdb_exec.specs.Reads.{access_of}
 use Rattle.sdb_snapshot.specs.Rows.{tables_of_notes}
-use Rattle.sdb_snapshot.specs.Seen.{Seen, overlay, tables_seen, with_written}
+use Rattle.sdb_snapshot.specs.Seen.{overlay, tables_seen, with_written}
 use Rattle.sdb_snapshot.specs.Written.{with_writes}
 use Rattle.sdb_snapshot.proofs.Shown.{get_seen, own_is}
 use Rattle.sdb_txn.specs.Txn.{TxnAt}
 use Rattle.sdb_client.specs.Client.{given_answer, given_left, gives, too_many, written}
-use Rattle.sdb_steps.specs.Fitting.{row_fits, tables_fit}
 use Rattle.sdb_steps.proofs.RowsFit.{answers_on}
 use Rattle.sdb_causes.specs.Unfit.{SeesFit}
 use Rattle.sdb_causes.proofs.Given.{asked_gives, given_middle}
 use Rattle.sdb_causes.proofs.Shows.{effective_by}
 use Rattle.sdb_causes.proofs.Takings.{middle_ends}
-use Rattle.sdb_causes.proofs.Unfit.{all_true, rows_there}
 use Rattle.sdb_executions.specs.Found.{IsRunOnFound, View, exec_on, found_by, is_answered, with_found}
 use Rattle.sdb_executions.proofs.Running.{HoldsScans, RunsTo, is_running, runs_more, view_after}
 use Rattle.sdb_executions.proofs.Views.{IsViewOf, view_tables}
+use Rattle.sdb_causes.proofs.Unfit.{fit_tables}
 
 ---- what a plan gives
 
@@ -78,8 +77,6 @@ module _ (p : Planned) (a : Access) (was v : TxnAt) (asked : p.asked ≡ true) w
 ---- a statement
 
 -- what a transaction sees fits where its tables do
-fit_tables : (catalog : List Table) (s : Seen) → SeesFit catalog s → tables_fit catalog (tables_seen s) ≡ true
-fit_tables catalog s fits = all_true (λ r. row_fits catalog r.key r.columns) (all_rows (tables_seen s)) (rows_there (λ q cs. row_fits catalog q cs ≡ true) (tables_seen s) (λ q cs found. fits q cs (sym (get_seen s.notes s.writes q) ∙ found)))
 
 -- A statement whose plan is on its access, taken by the catalog.
 pub record IsPlannedOn (catalog : List Table) (p : Planned) (a : Access) : Type 0 where

@@ -20,8 +20,6 @@ use Rattle.sdb_snapshot.specs.Held.{WereRead}
 use Rattle.sdb_txn.specs.declared.txn.Doing.TheVariants as doing
 use Rattle.sdb_txn.specs.Txn.{TxnAt}
 use Rattle.sdb_client.specs.Client.{ClientAt, next_id}
-use Rattle.sdb_turns.specs.Machine.{stands_at}
-use Rattle.sdb_turns.specs.System.{ClientOk, Reading}
 use Rattle.sdb_linked.specs.Going.{IsGoing}
 use Rattle.sdb_steps.specs.Fitting.{tables_fit}
 use Rattle.sdb_steps.specs.Hands.{Hand, doing_of, system_of}
@@ -44,6 +42,7 @@ use Rattle.sdb_executions.proofs.Running.{none_run, running_of, running_waits}
 use Rattle.sdb_executions.proofs.Seats.{set_here, set_other}
 use Rattle.sdb_executions.proofs.Statements.{AllSo, SoOver, none_in, step_so, waits_of}
 use Rattle.sdb_executions.proofs.Steps.{Holds, execution_holds, first_holds, led, step_holds}
+use Rattle.sdb_causes.proofs.Whole.{going_told}
 
 -- what is so of each client
 abbrev pub AllRun : WorldAt → Type 0
@@ -51,13 +50,7 @@ AllRun w = (c : ℕ) → ClientRuns w.script.catalog w.events c (hands_of w.seat
 
 -- a client that reads had read what it wrote
 going_kept : (catalog : List Table) (fit : Tables → Bool) (es : List Event) (hands : ℕ → Hand) (g : IsGoing catalog fit es (system_of hands) (doing_of hands)) (c : ℕ) → (hands c).stopped ≡ false → (hands c).client.vacuum ≡ None → (t : TxnAt) → (hands c).client.txn ≡ Some t → (a : Access) (x : ReadAt) → t.doing ≡ doing.Read a x → WereRead t.seen.notes t.seen.writes
-going_kept catalog fit es hands g c goes_on free t some a x reads = ok.1.kept.read
-  where
-    here : (system_of hands).clients c ≡ Reading t.id t.seen a (stands_at x.stage)
-    here = rw (goes_on, free, some, reads) refl
-
-    ok : ClientOk g.plan g.past c (Reading t.id t.seen a (stands_at x.stage))
-    ok = subst (ClientOk g.plan g.past c) here (g.system.each c)
+going_kept catalog fit es hands g c goes_on free t some a x reads = (going_told catalog fit es hands g c goes_on free t a x some reads).1
 
 ---- the clients by their numbers
 

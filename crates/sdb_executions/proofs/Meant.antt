@@ -2,7 +2,7 @@
 use Rattle.std.proofs.Common.{◌≡◌, ◌⊎◌, inl, inr, ℕ, ℤ, Bool, true, false, cond, List, [], ◌∷◌, ◌++◌, Option, Some, None, IfSome, Result, Ok, Err, refl, sym, ap, subst, ◌∙◌}
 use Rattle.std.specs.Prelude.{◌&&◌, if◌then◌else◌, find}
 use Rattle.std.specs.Cmp.{tied_itself}
-use Rattle.std.specs.List.{AllByRecursion, cons_option, filter_map, list_any}
+use Rattle.std.specs.List.{AllByRecursion, cons_option, filter_map}
 use Rattle.std.specs.Option.{option_and_then, option_map_or}
 use Rattle.std.specs.Ordering.{is_eq}
 use Rattle.std.specs.declared.cmp.Ordering.TheVariants.{Less}
@@ -10,7 +10,6 @@ use Rattle.std.proofs.lemmas.Bool.{and_parts}
 use Rattle.std.proofs.lemmas.List.{append-nil}
 use Rattle.std.proofs.lemmas.List.Elements.{filter_map-append}
 use Rattle.sdb_types.specs.declared.key.Key.{Key}
-use Rattle.sdb_types.specs.declared.pair.Pair.{Pair}
 use Rattle.sdb_types.specs.declared.record.Condition.{Condition}
 use Rattle.sdb_types.specs.declared.record.Record.{Record}
 use Rattle.sdb_types.specs.declared.record.Reply.{Reply}
@@ -34,12 +33,11 @@ use Rattle.sdb_record.specs.declared.coordinator.Decided.{Decided}
 use Rattle.sdb_record.specs.declared.coordinator.Decision.TheVariants as decision
 use Rattle.sdb_record.specs.declared.meta.Meta.{Meta}
 use Rattle.sdb_record.specs.Coordinator.{decision_in, is_expired}
-use Rattle.sdb_record.specs.Meta.{checked, checked_before, checked_part, id_in_value, is_committed, is_in, is_misnamed, is_unresolved, refuse, state_in, state_in_value, with_before}
-use Rattle.sdb_record.specs.Parts.{before_part, before_record, is_before_pair}
+use Rattle.sdb_record.specs.Meta.{checked, id_in_value, is_in, is_unresolved, state_in_value}
+use Rattle.sdb_record.specs.Parts.{before_record}
 use Rattle.sdb_record.specs.Rolls.{forward_record, undo}
-use Rattle.sdb_record.proofs.Fine.{refuse-ok, taken}
 use Rattle.sdb_record.proofs.IdLemmas.{id_of_text-is}
-use Rattle.sdb_record.proofs.RollLaws.{before-kept, forward-key}
+use Rattle.sdb_record.proofs.RollLaws.{forward-key}
 use Rattle.sdb_record.proofs.States.{state_value}
 use Rattle.sdb_model.specs.Calls.{Made, key_asked, put_by, records_read}
 use Rattle.sdb_model.specs.Counted.{is_key_of}
@@ -56,25 +54,11 @@ use Rattle.sdb_read.proofs.Images.{held_of}
 use Rattle.sdb_turns.proofs.Meta.{meta_of}
 use Rattle.sdb_causes.proofs.Lists.{find_more}
 use Rattle.sdb_causes.proofs.ReadSteps.{open_is}
-use Rattle.sdb_causes.proofs.Showing.{firm_is}
+use Rattle.sdb_causes.proofs.Showing.{firm_is, before_key}
 use Rattle.sdb_executions.specs.Found.{condition_asked, meant, rolls}
+use Rattle.sdb_causes.proofs.RolledSteps.{state_says}
 
 ---- the version of a record
-
-before_state : (m : Meta) (o : Result Meta (List ℕ)) (y : Meta) → with_before m o ≡ Ok y → m.state ≡ y.state
-before_state m (Ok b) y h = let e : record m { has_before = true } ≡ y = cc in ap (λ (x : Meta). x.state) e
-before_state m (Err name) y h = absurd (cc)
-
--- the ninth check leaves the state
-final_state : (ps : List Pair) (m y : Meta) → checked_before ps m ≡ Ok y → m.state ≡ y.state
-final_state ps m y h = by (list_any is_before_pair ps) h
-  where
-    by : (b : Bool) → cond b (refuse (find is_misnamed ps) (with_before m (checked_part is_committed (before_part ps)))) (Ok m) ≡ Ok y → m.state ≡ y.state
-    by true k = before_state m (checked_part is_committed (before_part ps)) y (refuse-ok (find is_misnamed ps) (with_before m (checked_part is_committed (before_part ps))) y k).1
-    by false k = let e : m ≡ y = cc in ap (λ (x : Meta). x.state) e
-
-state_says : (r : Record) (m : Meta) → checked r.columns ≡ Ok m → state_in r.columns ≡ Some m.state
-state_says r m says = let t = taken r.columns m says in t.1.says.state ∙ ap Some (final_state r.columns t.0 m t.2)
 
 has_itself : (v : Value) → has_value (Some v) v ≡ true
 has_itself v = ap is_eq (tied_itself value_total v)
@@ -233,13 +217,6 @@ after_key k (x ∷ rs) s r =
 each_of : (P : Record → Type 0) (rs : List Record) → ((r : Record) → P r) → AllByRecursion P rs
 each_of P [] f = tt
 each_of P (r ∷ rs) f = (f r, each_of P rs f)
-
-before_key : (r : Record) → is_unresolved r ≡ true → IfSome (before_record r) (λ b. b.key ≡ r.key)
-before_key r u = by (before_record r) refl
-  where
-    by : (o : Option Record) → before_record r ≡ o → IfSome o (λ b. b.key ≡ r.key)
-    by None e = tt
-    by (Some b) e = (before-kept r b u e).0
 
 -- what an undo asks
 undo_asks : (c : Condition) (k : Key) (o : Option Record) → IfSome o (λ b. b.key ≡ k) → (key_asked (undo c k o) ≡ Some k) × (condition_asked (undo c k o) ≡ Some c) × (put_by (undo c k o) ≡ o)

@@ -29,6 +29,7 @@ use Rattle.sdb_causes.proofs.Lists.{each_kept, since_more, since_none}
 use Rattle.sdb_causes.proofs.Noting.{since_all, take_ends, take_open}
 use Rattle.sdb_executions.specs.Found.{IsRunOnFound, View, exec_on, finds, found_by, is_answered, nothing_found, run_on_found, scans_span, was_scanned, with_found}
 use Rattle.sdb_executions.proofs.Views.{IsViewOf}
+use Rattle.sdb_causes.proofs.Shows.{read_more}
 
 ---- the statements that run
 
@@ -129,12 +130,6 @@ run_more catalog events c [] (y ∷ ys) z st v read = absurd read
 run_more catalog events c (x ∷ xs) [] z st v read = absurd read
 run_more catalog events c (x ∷ xs) (y ∷ ys) z st v read =
     ap (λ r. ((exec_on catalog y (with_found v (found_by (calls_of events c x)))).0 ∷ r.0, r.1)) (run_more catalog events c xs ys z st (exec_on catalog y (with_found v (found_by (calls_of events c x)))).1 read.1)
-
-read_more : (xs : List Said) (sts : List Statement) (x : Said) (st : Statement) → AreRead xs sts → Reads x.text st → AreRead (xs ++ x ∷ []) (sts ++ st ∷ [])
-read_more [] [] x st h r = (r, tt)
-read_more [] (y ∷ ys) x st h r = absurd h
-read_more (z ∷ zs) [] x st h r = absurd h
-read_more (z ∷ zs) (y ∷ ys) x st h r = (h.0, read_more zs ys x st h.1 r)
 
 -- the view after statements that ran
 abbrev pub view_after : (catalog : List Table) (events : List Event) (c : ℕ) (ss : List Said) → IsRunOnFound catalog events c ss → View

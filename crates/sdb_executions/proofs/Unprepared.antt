@@ -31,7 +31,7 @@ use Rattle.sdb_record.proofs.RollLaws.{forward-committed}
 use Rattle.sdb_record.proofs.TakenLaws.{prepared-columns, time-fits}
 use Rattle.sdb_record.proofs.WriteLaws.{marked-time, with_base}
 use Rattle.sdb_read.proofs.Images.{before_firm}
-use Rattle.sdb_model.specs.Calls.{put_by}
+use Rattle.sdb_model.specs.Calls.{put_by, Made}
 use Rattle.sdb_model.specs.Transactions.{prepares}
 use Rattle.sdb_phases.specs.declared.check.Check.{Check}
 use Rattle.sdb_phases.specs.declared.step.DecidePhase.{DecidePhase}
@@ -52,7 +52,6 @@ use Rattle.sdb_causes.proofs.Conflicts.{mapped_at, undo_unprepared}
 use Rattle.sdb_causes.proofs.ReadSteps.{open_is}
 use Rattle.sdb_causes.specs.Reads.{ReadsBy}
 use Rattle.sdb_causes.specs.Sweeps.{SweepsBy}
-use Rattle.sdb_model.specs.Calls.{Made}
 
 -- a record that is prepared has the moment at which it was
 pub moment_of : (w : Write) (u : TxId) (now : ℤ) → is_moment now ≡ true → moment_in (prepared_record w u now).columns tx_prepared_at ≡ Some now

@@ -13,13 +13,12 @@ use Rattle.sdb_types.specs.declared.record.Reply.{Reply}
 use Rattle.sdb_types.specs.declared.record.Reply.TheVariants as reply
 use Rattle.sdb_types.specs.Contents.{CanAnswer, record_among}
 use Rattle.sdb_types.specs.Order.{same_key}
-use Rattle.sdb_types.proofs.Basics.{clash, or_else, or_false}
+use Rattle.sdb_types.proofs.Basics.{or_else, or_false}
 use Rattle.sdb_types.proofs.KeyOrder.{key_exact, key_total}
 use Rattle.sdb_types.proofs.Keys.{same_key_exact, same_key_is}
 use Rattle.sdb_keyed.specs.Entries.{value_at}
 use Rattle.sdb_record.specs.declared.access.Access.{Access}
 use Rattle.sdb_record.specs.declared.access.Access.TheVariants as access
-use Rattle.sdb_record.specs.declared.write.Write.{Write}
 use Rattle.sdb_record.specs.Among.{write_among}
 use Rattle.sdb_model.specs.Access.{with_row}
 use Rattle.sdb_model.specs.Calls.{Made, records_read}
@@ -40,6 +39,7 @@ use Rattle.sdb_causes.proofs.Settling.{data_read}
 use Rattle.sdb_causes.proofs.Unfit.{at_note, found_new, noted_now, same_writes}
 use Rattle.sdb_executions.specs.Found.{View, found_by, found_in, has_found, meant, with_found, with_one_found}
 use Rattle.sdb_executions.proofs.Meant.{FindsImages}
+use Rattle.sdb_causes.proofs.ShowsRead.{unwritten}
 
 ---- a view with what was found
 
@@ -157,14 +157,6 @@ pub record IsViewOf (v : View) (s : Seen) : Type 0 where
 -- its rows are the tables that it sees
 pub view_tables : (v : View) (s : Seen) → IsViewOf v s → v.rows ≡ tables_seen s
 view_tables v s h = same_map key_total key_exact v.rows (tables_seen s) (λ q. h.rows q ∙ sym (get_seen s.notes s.writes q))
-
--- a key that wasn't read isn't written
-unwritten : (s : Seen) (q : Key) → WereRead s.notes s.writes → is_noted s.notes q ≡ false → write_among s.writes q ≡ None
-unwritten s q kept f = by (write_among s.writes q) refl
-  where
-    by : (o : Option Write) → write_among s.writes q ≡ o → write_among s.writes q ≡ None
-    by None e = e
-    by (Some w) e = clash (sym (kept q (ap is_some e)) ∙ f)
 
 -- A view with what a read found is what the transaction has then read.
 pub view_found : (v : View) (t : TxnAt) (a : Access) (images : List Record) (fs : List (Key × Option Record)) → IsViewOf v t.seen → WereRead t.seen.notes t.seen.writes → ((q : Key) → value_at fs q ≡ found_new a images q) → IsViewOf (with_found v fs) (noting t a images).seen
