@@ -36,7 +36,8 @@ fn put_condition(out: &mut String, condition: Condition) -> Result<(), NoMemory>
     Ok(())
 }
 
-fn put_request(out: &mut String, request: &Request) -> Result<(), NoMemory>
+/// Adds what a call asks of its store.
+pub fn put_request(out: &mut String, request: &Request) -> Result<(), NoMemory>
     ensures { OnOk result (string_bytes out.new ≡ string_bytes out.old ++ request_text_of request.now) }
 {
     match request {
@@ -172,7 +173,8 @@ fn put_with_client(out: &mut String, word: &str, client: u32) -> Result<(), NoMe
     put_number(out, u64::from(client))
 }
 
-fn put_event(out: &mut String, event: &Event) -> Result<(), NoMemory>
+/// Adds the line of an event, without its number and its LF.
+pub fn put_event(out: &mut String, event: &Event) -> Result<(), NoMemory>
     ensures { OnOk result (string_bytes out.new ≡ string_bytes out.old ++ event_text_of event.now) }
 {
     match event {

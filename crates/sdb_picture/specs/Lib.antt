@@ -1,0 +1,5 @@
+pub mod Labels
+pub mod Marks
+pub mod Places
+pub mod Svg
+pub mod Whole

@@ -1,0 +1,161 @@
+-- What is drawn of a report: for each event its marks, each with its row, its lane and its label, and a mark for each point.
+use Rattle.std.specs.Prelude.{ℕ, ℤ, ◌+◌, nat_lt, if◌then◌else◌, List, [], ◌∷◌, ◌++◌, length, codes, decimal, Option, Some, None}
+use Rattle.std.specs.Fmt.{signed_decimal}
+use Rattle.sdb_types.specs.TxId.{id_text}
+use Rattle.sdb_types.specs.declared.record.Condition.{Condition}
+use Rattle.sdb_types.specs.declared.record.Record.{Record}
+use Rattle.sdb_types.specs.declared.record.Reply.{Reply}
+use Rattle.sdb_types.specs.declared.record.Reply.TheVariants as reply
+use Rattle.sdb_types.specs.declared.record.Request.{Request}
+use Rattle.sdb_types.specs.declared.record.Request.TheVariants as ask
+use Rattle.sdb_model.specs.Report.{event_text_of, how_text_of, request_text_of}
+use Rattle.sdb_model.specs.Rows.{Name}
+use Rattle.sdb_model.specs.Texts.{answer_text_of}
+use Rattle.sdb_model.specs.declared.answer.Answer.{Answer}
+use Rattle.sdb_model.specs.declared.event.Event.{Event}
+use Rattle.sdb_model.specs.declared.event.Event.TheVariants as event
+use Rattle.sdb_model.specs.declared.event.How.{How}
+use Rattle.sdb_model.specs.declared.event.How.TheVariants.{Seen, Lost, Discarded, Broken}
+use Rattle.sdb_model.specs.declared.event.Outcome.{Outcome}
+use Rattle.sdb_model.specs.declared.event.Point.{Point}
+use Rattle.sdb_lanes.specs.declared.effect.Effect.{Effect}
+use Rattle.sdb_lanes.specs.declared.effect.Stage.{Stage}
+use Rattle.sdb_lanes.specs.declared.effect.Verdict.{Verdict}
+use Rattle.sdb_lanes.specs.declared.lanes.Lanes.{Lanes}
+use Rattle.sdb_lanes.specs.Effects.{effect_of, is_decision, may_change, rows_after, stage_of, verdict_of}
+use Rattle.sdb_lanes.specs.Lanes.{client_lane, lanes_of, record_lane, store_lane}
+
+-- What is drawn. Rows and lanes are numbered from 0.
+pub data Mark : Type 0 where
+  -- a statement that a client takes
+  Statement : (row client : ℕ) → (text : List ℕ) → Mark
+  -- a call of a client on a store, what became of it, what it asks and what came of it
+  Arrow : (row client store : ℕ) → (how : How) → (asked came : List ℕ) → Mark
+  -- an answer that a client is given
+  Answered : (row client : ℕ) → (text : List ℕ) → Mark
+  -- a record that a put leaves, from its row on, and how many rows after it
+  Band : (lane row rows : ℕ) → (stage : Stage) → (effect : Effect) → Mark
+  -- a transaction's row that is put
+  Decided : (row store : ℕ) → (verdict : Verdict) → (effect : Effect) → Mark
+  -- a client that stops or idles
+  Rested : (row client : ℕ) → (text : List ℕ) → Mark
+  -- a move of the clock
+  Ticked : (row : ℕ) → (text : List ℕ) → Mark
+  -- the point of a recorded transaction, below the row of so many events, and its place in the order
+  Pointed : (events place : ℕ) → (id : List ℕ) → Mark
+
+---- calls
+
+-- what a reply says, in a word
+abbrev pub reply_word : Reply → List ℕ
+reply_word (reply.Found None) = codes "none"
+reply_word (reply.Found (Some r)) = codes "found"
+reply_word (reply.Rows rows) = codes "rows"
+reply_word reply.Applied = codes "applied"
+reply_word (reply.NotMet found) = codes "not met"
+reply_word reply.Fault = codes "fault"
+reply_word reply.NoMemory = codes "no memory"
+
+-- what came of a call, in a word: of a call that was seen its reply, and else what became of it
+abbrev pub came_word : How → Reply → List ℕ
+came_word Seen r = reply_word r
+came_word Lost r = how_text_of Lost
+came_word Discarded r = how_text_of Discarded
+came_word Broken r = how_text_of Broken
+
+abbrev pub decision_marks : Lanes → ℕ → Name → Record → Effect → List Mark
+decision_marks lanes row store r effect = Decided row (store_lane lanes store) (verdict_of r) effect ∷ []
+
+abbrev pub band_marks : Lanes → ℕ → Name → Record → Condition → Effect → List Event → List Mark
+band_marks lanes row store r condition effect rest =
+    Band (record_lane lanes store r.key) row (rows_after store r.key rest) (stage_of r condition) effect ∷ []
+
+-- A put that took effect, or may have: a coordinator's row is a decision, and of each other record a band begins.
+abbrev pub put_marks : Lanes → ℕ → Name → Record → Condition → Effect → List Event → List Mark
+put_marks lanes row store r condition effect rest =
+    if may_change effect then
+    (if is_decision r then decision_marks lanes row store r effect else band_marks lanes row store r condition effect rest)
+    else []
+
+abbrev pub effect_marks : Lanes → ℕ → Name → Request → Effect → List Event → List Mark
+effect_marks lanes row store (ask.Get key) effect rest = []
+effect_marks lanes row store (ask.Scan span) effect rest = []
+effect_marks lanes row store (ask.PutIf r condition) effect rest = put_marks lanes row store r condition effect rest
+effect_marks lanes row store (ask.DeleteIf key condition) effect rest = []
+
+---- events
+
+abbrev pub answer_marks : ℕ → ℕ → Option Answer → List Mark
+answer_marks row client None = []
+answer_marks row client (Some a) = Answered row client (answer_text_of a) ∷ []
+
+abbrev pub take_marks : ℕ → ℕ → List ℕ → Option Answer → List Mark
+take_marks row client text given = Statement row client text ∷ answer_marks row client given
+
+-- A call is one arrow, from its client to its store.
+abbrev pub call_marks : Lanes → ℕ → ℕ → Name → Request → How → Reply → List Mark
+call_marks lanes row client store request how reply =
+    Arrow row client (store_lane lanes store) how (request_text_of request) (came_word how reply) ∷ []
+
+abbrev pub clock_text : ℤ → List ℕ
+clock_text moment = codes "clock " ++ signed_decimal moment
+
+abbrev pub clock_marks : ℕ → ℤ → List Mark
+clock_marks row moment = Ticked row (clock_text moment) ∷ []
+
+-- The marks of an event, in its row. The events after it say how long a band lasts.
+abbrev pub marks_of : Lanes → ℕ → Event → List Event → List Mark
+marks_of lanes row (event.Take client text given) rest = take_marks row (client_lane lanes client) text given
+marks_of lanes row (event.Call client store request how reply given) rest =
+    call_marks lanes row (client_lane lanes client) store request how reply
+    ++ effect_marks lanes row store request (effect_of how reply) rest
+    ++ answer_marks row (client_lane lanes client) given
+marks_of lanes row (event.Stop client) rest = Rested row (client_lane lanes client) (codes "stops") ∷ []
+marks_of lanes row (event.Clock moment) rest = clock_marks row moment
+marks_of lanes row (event.Idle client) rest = Rested row (client_lane lanes client) (codes "idles") ∷ []
+
+-- What is drawn of one event, under the line that the report has of it.
+pub record Group : Type 0 where
+  pub row : ℕ
+  pub line : List ℕ
+  pub marks : List Mark
+
+-- the line that the report has of the event in a row
+abbrev pub line_of : ℕ → Event → List ℕ
+line_of row e = decimal (row + 1) ++ codes " " ++ event_text_of e
+
+abbrev pub group_of : Lanes → ℕ → Event → List Event → Group
+group_of lanes row e rest = record { row = row; line = line_of row e; marks = marks_of lanes row e rest }
+
+-- the events from a row on
+abbrev pub groups_of : Lanes → ℕ → List Event → List Group
+groups_of lanes row [] = []
+groups_of lanes row (e ∷ es) = group_of lanes row e es ∷ groups_of lanes (row + 1) es
+
+---- points
+
+-- a point that lies among so many events
+abbrev pub point_marks : ℕ → ℕ → Point → List Mark
+point_marks events place p = if nat_lt events p.event then [] else Pointed p.event place (id_text p.id.0) ∷ []
+
+-- the points, numbered from a place on
+abbrev pub points_of : ℕ → ℕ → List Point → List Mark
+points_of events place [] = []
+points_of events place (p ∷ ps) = point_marks events place p ++ points_of events (place + 1) ps
+
+---- pictures
+
+pub record Picture : Type 0 where
+  pub lanes : Lanes
+  pub rows : ℕ
+  pub groups : List Group
+  pub points : List Mark
+
+-- What is drawn of an outcome.
+abbrev pub picture_of : Outcome → Picture
+picture_of o = record {
+  lanes = lanes_of o.events;
+  rows = length o.events;
+  groups = groups_of (lanes_of o.events) 0 o.events;
+  points = points_of (length o.events) 1 o.order;
+}

@@ -1,0 +1,14 @@
+//! The picture of a report: what is drawn of each event, and how it is printed as SVG.
+#![tactic(auto)]
+
+mod drawing;
+mod heading;
+mod labels;
+mod marks;
+mod places;
+mod refused;
+mod rows;
+mod whole;
+
+pub use refused::PictureRefused;
+pub use whole::picture;

@@ -1,0 +1,254 @@
+//! The marks of one event.
+ghost use Rattle.std.specs.Prelude.{◌≡◌, ◌++◌, OnOk, IfOk};
+ghost use Rattle.std.specs.List.{flat_map};
+ghost use Rattle.std.specs.String.{string_bytes};
+ghost use Rattle.sdb_model.specs.Report.{request_text_of};
+ghost use Rattle.sdb_picture.specs.Marks as spec;
+ghost use Rattle.sdb_picture.specs.Svg.{mark_svg};
+
+use crate::drawing::{
+    put_answered, put_arrow, put_band, put_decided, put_rested, put_statement, put_ticked,
+};
+use sdb_lanes::{
+    Effect, Lanes, effect_of, is_decision, may_change, rows_after, stage_of, verdict_of,
+};
+use sdb_model::{Answer, Event, How};
+use sdb_texts::{answer_text, put_request, put_signed};
+use sdb_types::{Condition, Name, NoMemory, Record, Reply, Request};
+use std::alloc::Global;
+
+fn reply_word(reply: &Reply) -> &'static str
+    ensures { result.now ≡ spec.reply_word reply.now }
+{
+    match reply {
+        Reply::Found(None) => "none",
+        Reply::Found(Some(_)) => "found",
+        Reply::Rows(_) => "rows",
+        Reply::Applied => "applied",
+        Reply::NotMet(_) => "not met",
+        Reply::Fault => "fault",
+        Reply::NoMemory => "no memory",
+    }
+}
+
+fn came_word(how: How, reply: &Reply) -> &'static str
+    ensures { result.now ≡ spec.came_word how reply.now }
+{
+    match how {
+        How::Seen => reply_word(reply),
+        How::Lost => "lost",
+        How::Discarded => "dropped",
+        How::Broken => "failed",
+    }
+}
+
+fn request_text(alloc: Global, request: &Request) -> Result<String, NoMemory>
+    ensures { IfOk result (λ text. string_bytes text ≡ request_text_of request.now) }
+{
+    let mut text = String::new(alloc);
+    put_request(&mut text, request)?;
+    Ok(text)
+}
+
+fn clock_text(alloc: Global, moment: i64) -> Result<String, NoMemory>
+    ensures { IfOk result (λ text. string_bytes text ≡ spec.clock_text moment) }
+{
+    let mut text = String::new(alloc);
+    text.push_str("clock ")?;
+    put_signed(&mut text, moment)?;
+    Ok(text)
+}
+
+fn put_answer_marks(
+    out: &mut String,
+    lanes: &Lanes,
+    row: usize,
+    client: usize,
+    given: &Option<Answer>,
+) -> Result<(), NoMemory>
+    ensures { OnOk result (string_bytes out.new ≡ string_bytes out.old ++ flat_map (mark_svg lanes.now) (spec.answer_marks row client given.now)) }
+{
+    match given {
+        Some(answer) => {
+            let text = answer_text(*out.allocator(), answer)?;
+            put_answered(out, row, client, text.as_str())
+        }
+        None => Ok(()),
+    }
+}
+
+fn put_take(
+    out: &mut String,
+    lanes: &Lanes,
+    row: usize,
+    client: usize,
+    text: &str,
+    given: &Option<Answer>,
+) -> Result<(), NoMemory>
+    ensures { OnOk result (string_bytes out.new ≡ string_bytes out.old ++ flat_map (mark_svg lanes.now) (spec.take_marks row client text.now given.now)) }
+{
+    put_statement(out, row, client, text)?;
+    put_answer_marks(out, lanes, row, client, given)
+}
+
+fn put_call(
+    out: &mut String,
+    lanes: &Lanes,
+    row: usize,
+    client: usize,
+    store: &Name,
+    request: &Request,
+    how: How,
+    reply: &Reply,
+) -> Result<(), NoMemory>
+    ensures { OnOk result (string_bytes out.new ≡ string_bytes out.old ++ flat_map (mark_svg lanes.now) (spec.call_marks lanes.now row client store.now request.now how reply.now)) }
+{
+    let asked = request_text(*out.allocator(), request)?;
+    let came = came_word(how, reply);
+    put_arrow(
+        out,
+        lanes,
+        row,
+        client,
+        lanes.of_store(store),
+        how,
+        asked.as_str(),
+        came,
+    )
+}
+
+fn put_decision(
+    out: &mut String,
+    lanes: &Lanes,
+    row: usize,
+    store: &Name,
+    rec: &Record,
+    effect: Effect,
+) -> Result<(), NoMemory>
+    ensures { OnOk result (string_bytes out.new ≡ string_bytes out.old ++ flat_map (mark_svg lanes.now) (spec.decision_marks lanes.now row store.now rec.now effect)) }
+{
+    put_decided(
+        out,
+        lanes,
+        row,
+        lanes.of_store(store),
+        verdict_of(rec),
+        effect,
+    )
+}
+
+fn put_record_band(
+    out: &mut String,
+    lanes: &Lanes,
+    row: usize,
+    store: &Name,
+    rec: &Record,
+    condition: &Condition,
+    effect: Effect,
+    rest: &[Event],
+) -> Result<(), NoMemory>
+    ensures { OnOk result (string_bytes out.new ≡ string_bytes out.old ++ flat_map (mark_svg lanes.now) (spec.band_marks lanes.now row store.now rec.now condition.now effect rest.now)) }
+{
+    let lane = lanes.of_record(store, &rec.key);
+    let rows = rows_after(rest, store, &rec.key);
+    put_band(
+        out,
+        lanes,
+        lane,
+        row,
+        rows,
+        stage_of(rec, condition),
+        effect,
+    )
+}
+
+fn put_put(
+    out: &mut String,
+    lanes: &Lanes,
+    row: usize,
+    store: &Name,
+    rec: &Record,
+    condition: &Condition,
+    effect: Effect,
+    rest: &[Event],
+) -> Result<(), NoMemory>
+    ensures { OnOk result (string_bytes out.new ≡ string_bytes out.old ++ flat_map (mark_svg lanes.now) (spec.put_marks lanes.now row store.now rec.now condition.now effect rest.now)) }
+{
+    if !may_change(effect) {
+        return Ok(());
+    }
+    if is_decision(rec) {
+        put_decision(out, lanes, row, store, rec, effect)
+    } else {
+        put_record_band(out, lanes, row, store, rec, condition, effect, rest)
+    }
+}
+
+fn put_effect(
+    out: &mut String,
+    lanes: &Lanes,
+    row: usize,
+    store: &Name,
+    request: &Request,
+    effect: Effect,
+    rest: &[Event],
+) -> Result<(), NoMemory>
+    ensures { OnOk result (string_bytes out.new ≡ string_bytes out.old ++ flat_map (mark_svg lanes.now) (spec.effect_marks lanes.now row store.now request.now effect rest.now)) }
+{
+    match request {
+        Request::Get(_) => Ok(()),
+        Request::Scan(_) => Ok(()),
+        Request::PutIf(rec, condition) => {
+            put_put(out, lanes, row, store, rec, condition, effect, rest)
+        }
+        Request::DeleteIf(_, _) => Ok(()),
+    }
+}
+
+fn put_clock(out: &mut String, lanes: &Lanes, row: usize, moment: i64) -> Result<(), NoMemory>
+    ensures { OnOk result (string_bytes out.new ≡ string_bytes out.old ++ flat_map (mark_svg lanes.now) (spec.clock_marks row moment)) }
+{
+    let text = clock_text(*out.allocator(), moment)?;
+    put_ticked(out, row, text.as_str())
+}
+
+/// Adds the marks of an event, which is in this row; the events after it say how long a band lasts.
+pub fn put_marks(
+    out: &mut String,
+    lanes: &Lanes,
+    row: usize,
+    event: &Event,
+    rest: &[Event],
+) -> Result<(), NoMemory>
+    ensures { OnOk result (string_bytes out.new ≡ string_bytes out.old ++ flat_map (mark_svg lanes.now) (spec.marks_of lanes.now row event.now rest.now)) }
+{
+    match event {
+        Event::Take(client, text, given) => {
+            put_take(
+                out,
+                lanes,
+                row,
+                lanes.of_client(*client),
+                text.as_str(),
+                given,
+            )
+        }
+        Event::Call(client, store, request, how, reply, given) => {
+            let client = lanes.of_client(*client);
+            put_call(out, lanes, row, client, store, request, *how, reply)?;
+            put_effect(
+                out,
+                lanes,
+                row,
+                store,
+                request,
+                effect_of(*how, reply),
+                rest,
+            )?;
+            put_answer_marks(out, lanes, row, client, given)
+        }
+        Event::Stop(client) => put_rested(out, row, lanes.of_client(*client), "stops"),
+        Event::Clock(moment) => put_clock(out, lanes, row, *moment),
+        Event::Idle(client) => put_rested(out, row, lanes.of_client(*client), "idles"),
+    }
+}
