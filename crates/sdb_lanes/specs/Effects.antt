@@ -1,5 +1,5 @@
 -- What calls do to records, as far as a report says it.
-use Rattle.std.specs.Prelude.{ℕ, Bool, true, false, not, ◌&&◌, if◌then◌else◌, List, length, position, unwrap_or, Option, Some, None}
+use Rattle.std.specs.Prelude.{Bool, true, false, not, ◌&&◌, if◌then◌else◌, Option, Some, None}
 use Rattle.sdb_types.specs.Order.{same_key}
 use Rattle.sdb_types.specs.declared.key.Key.{Key}
 use Rattle.sdb_types.specs.declared.record.Condition.{Condition}
@@ -15,8 +15,6 @@ use Rattle.sdb_record.specs.Meta.{id_in, is_in}
 use Rattle.sdb_record.specs.Moved.{same_version}
 use Rattle.sdb_record.specs.Rolls.{is_tombstone}
 use Rattle.sdb_model.specs.Rows.{Name, same_name}
-use Rattle.sdb_model.specs.declared.event.Event.{Event}
-use Rattle.sdb_model.specs.declared.event.Event.TheVariants as event
 use Rattle.sdb_model.specs.declared.event.How.{How}
 use Rattle.sdb_model.specs.declared.event.How.TheVariants.{Seen, Lost, Discarded, Broken}
 use Rattle.sdb_lanes.specs.declared.effect.Effect.{Effect}
@@ -37,8 +35,8 @@ effect_seen (reply.NotMet found) = effect.Nothing
 effect_seen reply.Fault = effect.Nothing
 effect_seen reply.NoMemory = effect.Nothing
 
--- A lost call was made, and a failed one had its whole effect or none: no reply says whether the condition held. A dropped call
--- was not made.
+-- What a reply says by itself. A lost call was made, and a failed one had its whole effect or none: the reply doesn't say whether the
+-- condition held. A dropped call was not made.
 abbrev pub effect_of : How → Reply → Effect
 effect_of Seen r = effect_seen r
 effect_of Lost r = effect.Doubtful
@@ -50,7 +48,7 @@ may_change effect.Sure = true
 may_change effect.Doubtful = true
 may_change effect.Nothing = false
 
----- changes of a record
+---- records
 
 abbrev pub writes : Key → Request → Bool
 writes key (ask.Get at) = false
@@ -58,22 +56,9 @@ writes key (ask.Scan span) = false
 writes key (ask.PutIf r condition) = same_key r.key key
 writes key (ask.DeleteIf at condition) = same_key at key
 
--- An event changes the record at a key of a store, or may have changed it.
-abbrev pub changes : Name → Key → Event → Bool
-changes store key (event.Take client text given) = false
-changes store key (event.Call client at request how r given) =
-    same_name at store && (writes key request && may_change (effect_of how r))
-changes store key (event.Stop client) = false
-changes store key (event.Clock moment) = false
-changes store key (event.Idle client) = false
-
--- how many events come before the first that changes a record
-abbrev pub next_change : Name → Key → List Event → Option ℕ
-next_change store key rest = position (changes store key) rest
-
--- How many rows a band lasts after the row of its put: up to the next change of its record, or to the end.
-abbrev pub rows_after : Name → Key → List Event → ℕ
-rows_after store key rest = unwrap_or (next_change store key rest) (length rest)
+-- a call on a store that writes the record at a key of a store
+abbrev pub writes_at : Name → Request → Name → Key → Bool
+writes_at at request store key = same_name at store && writes key request
 
 ---- what a put leaves
 

@@ -54,7 +54,7 @@ abbrev pub with_begun : List Place → Name → Option Record → List Place
 with_begun records store None = records
 with_begun records store (Some r) = with_record records store r
 
--- the record whose band begins at an event
+-- the record that an event puts, or may have put, by its reply
 abbrev pub with_record_of : List Place → Event → List Place
 with_record_of records (event.Take client text given) = records
 with_record_of records (event.Call client store request how reply given) =
@@ -68,7 +68,7 @@ records_of events = fold with_record_of [] events
 
 ---- lanes
 
--- Each client of an event, each store of a call and each record with a band has one lane.
+-- Each client of an event, each store of a call, and each record that a put may have left has one lane.
 abbrev pub lanes_of : List Event → Lanes
 lanes_of events = record { clients = clients_of events; stores = stores_of events; records = records_of events }
 

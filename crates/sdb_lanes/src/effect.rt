@@ -5,16 +5,16 @@ ghost use Rattle.sdb_types.specs.Order.{same_key};
 ghost use Rattle.sdb_model.specs.Rows.{same_name};
 ghost use Rattle.sdb_lanes.specs.Effects as spec;
 
-use sdb_model::{Event, How};
+use sdb_model::How;
 use sdb_record::{has_state, is_coordinator, is_same_version, is_tombstone, writer_of};
 use sdb_types::{Condition, Key, Name, Record, Reply, Request, State};
 
 /// Whether a write took effect.
 #[derive(Clone, Copy, Debug, PartialEq, Eq)]
 pub enum Effect {
-    /// The store's reply says that it did.
+    /// It did, by the store's reply or by what was at its key.
     Sure,
-    /// The call was made, or may have been, and no reply says whether its condition held.
+    /// It is not known.
     Doubtful,
     Nothing,
 }
@@ -43,7 +43,8 @@ pub enum Verdict {
     Other,
 }
 
-fn effect_seen(reply: &Reply) -> Effect
+/// Whether a write with this reply took effect.
+pub fn effect_seen(reply: &Reply) -> Effect
     ensures { result ≡ spec.effect_seen reply.now }
 {
     match reply {
@@ -52,7 +53,7 @@ fn effect_seen(reply: &Reply) -> Effect
     }
 }
 
-/// Whether a write whose call came to this took effect.
+/// Whether a write whose call came to this took effect, as far as the reply says it by itself.
 pub fn effect_of(how: How, reply: &Reply) -> Effect
     ensures { result ≡ spec.effect_of how reply.now }
 {
@@ -107,35 +108,11 @@ pub fn is_same_place(store: &Name, key: &Key, other: &Name, at: &Key) -> bool
     same_name_as(store, other) && same_key_as(key, at)
 }
 
-/// Whether an event changes the record at a key of a store, or may have changed it.
-pub fn changes(event: &Event, store: &Name, key: &Key) -> bool
-    ensures { result ≡ spec.changes store.now key.now event.now }
+/// Whether a call on a store writes the record at a key of a store.
+pub fn writes_at(at: &Name, request: &Request, store: &Name, key: &Key) -> bool
+    ensures { result ≡ spec.writes_at at.now request.now store.now key.now }
 {
-    match event {
-        Event::Take(_, _, _) => false,
-        Event::Call(_, at, request, how, reply, _) => {
-            same_name_as(at, store) && (writes(request, key) && may_change(effect_of(*how, reply)))
-        }
-        Event::Stop(_) => false,
-        Event::Clock(_) => false,
-        Event::Idle(_) => false,
-    }
-}
-
-fn next_change(rest: &[Event], store: &Name, key: &Key) -> Option<usize>
-    ensures { result ≡ spec.next_change store.now key.now rest.now }
-{
-    rest.iter().position(|event| changes(event, store, key))
-}
-
-/// How many rows a band lasts after the row of its put: up to the next change of its record, or to the end.
-pub fn rows_after(rest: &[Event], store: &Name, key: &Key) -> usize
-    ensures { result ≡ spec.rows_after store.now key.now rest.now }
-{
-    match next_change(rest, store, key) {
-        Some(n) => n,
-        None => rest.len(),
-    }
+    same_name_as(at, store) && writes(request, key)
 }
 
 // Whether a put over this version writes another transaction's record back.

@@ -2,9 +2,9 @@
 #![tactic(auto)]
 
 mod effect;
+mod known;
 mod lanes;
 
-pub use effect::{
-    Effect, Stage, Verdict, effect_of, is_decision, may_change, rows_after, stage_of, verdict_of,
-};
+pub use effect::{Effect, Stage, Verdict, is_decision, may_change, stage_of, verdict_of};
+pub use known::{effect_at, rows_after};
 pub use lanes::{Lanes, Place, lanes_of};

@@ -1,5 +1,5 @@
 -- What is drawn of a report: for each event its marks, each with its row, its lane and its label, and a mark for each point.
-use Rattle.std.specs.Prelude.{ℕ, ℤ, ◌+◌, nat_lt, if◌then◌else◌, List, [], ◌∷◌, ◌++◌, length, codes, decimal, Option, Some, None}
+use Rattle.std.specs.Prelude.{ℕ, ℤ, ◌+◌, nat_lt, if◌then◌else◌, List, [], ◌∷◌, ◌++◌, length, take, codes, decimal, Option, Some, None}
 use Rattle.std.specs.Fmt.{signed_decimal}
 use Rattle.sdb_types.specs.TxId.{id_text}
 use Rattle.sdb_types.specs.declared.record.Condition.{Condition}
@@ -22,7 +22,8 @@ use Rattle.sdb_lanes.specs.declared.effect.Effect.{Effect}
 use Rattle.sdb_lanes.specs.declared.effect.Stage.{Stage}
 use Rattle.sdb_lanes.specs.declared.effect.Verdict.{Verdict}
 use Rattle.sdb_lanes.specs.declared.lanes.Lanes.{Lanes}
-use Rattle.sdb_lanes.specs.Effects.{effect_of, is_decision, may_change, rows_after, stage_of, verdict_of}
+use Rattle.sdb_lanes.specs.Effects.{is_decision, may_change, stage_of, verdict_of}
+use Rattle.sdb_lanes.specs.Known.{effect_at, rows_after}
 use Rattle.sdb_lanes.specs.Lanes.{client_lane, lanes_of, record_lane, store_lane}
 
 -- What is drawn. Rows and lanes are numbered from 0.
@@ -66,22 +67,28 @@ came_word Broken r = how_text_of Broken
 abbrev pub decision_marks : Lanes → ℕ → Name → Record → Effect → List Mark
 decision_marks lanes row store r effect = Decided row (store_lane lanes store) (verdict_of r) effect ∷ []
 
-abbrev pub band_marks : Lanes → ℕ → Name → Record → Condition → Effect → List Event → List Mark
-band_marks lanes row store r condition effect rest =
-    Band (record_lane lanes store r.key) row (rows_after store r.key rest) (stage_of r condition) effect ∷ []
+abbrev pub band_marks : Lanes → ℕ → Name → Record → Condition → Effect → ℕ → List Mark
+band_marks lanes row store r condition effect rows =
+    Band (record_lane lanes store r.key) row rows (stage_of r condition) effect ∷ []
 
 -- A put that took effect, or may have: a coordinator's row is a decision, and of each other record a band begins.
-abbrev pub put_marks : Lanes → ℕ → Name → Record → Condition → Effect → List Event → List Mark
-put_marks lanes row store r condition effect rest =
+abbrev pub put_marks : Lanes → ℕ → Name → Record → Condition → Effect → ℕ → List Mark
+put_marks lanes row store r condition effect rows =
     if may_change effect then
-    (if is_decision r then decision_marks lanes row store r effect else band_marks lanes row store r condition effect rest)
+    (if is_decision r then decision_marks lanes row store r effect else band_marks lanes row store r condition effect rows)
     else []
 
-abbrev pub effect_marks : Lanes → ℕ → Name → Request → Effect → List Event → List Mark
-effect_marks lanes row store (ask.Get key) effect rest = []
-effect_marks lanes row store (ask.Scan span) effect rest = []
-effect_marks lanes row store (ask.PutIf r condition) effect rest = put_marks lanes row store r condition effect rest
-effect_marks lanes row store (ask.DeleteIf key condition) effect rest = []
+abbrev pub written_marks : Lanes → List Event → ℕ → Name → Request → Record → Condition → Effect → List Event → List Mark
+written_marks lanes past row store request r condition effect rest =
+    put_marks lanes row store r condition effect (rows_after past store r.key request effect rest)
+
+-- Whether a put took effect is known by the events before it.
+abbrev pub effect_marks : Lanes → List Event → ℕ → Name → Request → How → Reply → List Event → List Mark
+effect_marks lanes past row store (ask.Get key) how reply rest = []
+effect_marks lanes past row store (ask.Scan span) how reply rest = []
+effect_marks lanes past row store (ask.PutIf r condition) how reply rest =
+    written_marks lanes past row store (ask.PutIf r condition) r condition (effect_at past store r.key (ask.PutIf r condition) how reply) rest
+effect_marks lanes past row store (ask.DeleteIf key condition) how reply rest = []
 
 ---- events
 
@@ -103,16 +110,16 @@ clock_text moment = codes "clock " ++ signed_decimal moment
 abbrev pub clock_marks : ℕ → ℤ → List Mark
 clock_marks row moment = Ticked row (clock_text moment) ∷ []
 
--- The marks of an event, in its row. The events after it say how long a band lasts.
-abbrev pub marks_of : Lanes → ℕ → Event → List Event → List Mark
-marks_of lanes row (event.Take client text given) rest = take_marks row (client_lane lanes client) text given
-marks_of lanes row (event.Call client store request how reply given) rest =
+-- The marks of an event, in its row. The events before it say whether a put took effect, and those after it how long a band lasts.
+abbrev pub marks_of : Lanes → List Event → ℕ → Event → List Event → List Mark
+marks_of lanes past row (event.Take client text given) rest = take_marks row (client_lane lanes client) text given
+marks_of lanes past row (event.Call client store request how reply given) rest =
     call_marks lanes row (client_lane lanes client) store request how reply
-    ++ effect_marks lanes row store request (effect_of how reply) rest
+    ++ effect_marks lanes past row store request how reply rest
     ++ answer_marks row (client_lane lanes client) given
-marks_of lanes row (event.Stop client) rest = Rested row (client_lane lanes client) (codes "stops") ∷ []
-marks_of lanes row (event.Clock moment) rest = clock_marks row moment
-marks_of lanes row (event.Idle client) rest = Rested row (client_lane lanes client) (codes "idles") ∷ []
+marks_of lanes past row (event.Stop client) rest = Rested row (client_lane lanes client) (codes "stops") ∷ []
+marks_of lanes past row (event.Clock moment) rest = clock_marks row moment
+marks_of lanes past row (event.Idle client) rest = Rested row (client_lane lanes client) (codes "idles") ∷ []
 
 -- What is drawn of one event, under the line that the report has of it.
 pub record Group : Type 0 where
@@ -124,13 +131,13 @@ pub record Group : Type 0 where
 abbrev pub line_of : ℕ → Event → List ℕ
 line_of row e = decimal (row + 1) ++ codes " " ++ event_text_of e
 
-abbrev pub group_of : Lanes → ℕ → Event → List Event → Group
-group_of lanes row e rest = record { row = row; line = line_of row e; marks = marks_of lanes row e rest }
+abbrev pub group_of : Lanes → List Event → ℕ → Event → List Event → Group
+group_of lanes past row e rest = record { row = row; line = line_of row e; marks = marks_of lanes past row e rest }
 
--- the events from a row on
-abbrev pub groups_of : Lanes → ℕ → List Event → List Group
-groups_of lanes row [] = []
-groups_of lanes row (e ∷ es) = group_of lanes row e es ∷ groups_of lanes (row + 1) es
+-- the groups of all events, from a row on
+abbrev pub groups_of : Lanes → List Event → ℕ → List Event → List Group
+groups_of lanes events row [] = []
+groups_of lanes events row (e ∷ es) = group_of lanes (take row events) row e es ∷ groups_of lanes events (row + 1) es
 
 ---- points
 
@@ -156,6 +163,6 @@ abbrev pub picture_of : Outcome → Picture
 picture_of o = record {
   lanes = lanes_of o.events;
   rows = length o.events;
-  groups = groups_of (lanes_of o.events) 0 o.events;
+  groups = groups_of (lanes_of o.events) o.events 0 o.events;
   points = points_of (length o.events) 1 o.order;
 }

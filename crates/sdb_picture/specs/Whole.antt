@@ -16,7 +16,7 @@ use Rattle.sdb_picture.specs.Svg.{group_svg, heading_svg, mark_svg, svg_of}
 abbrev pub svg_over : Lanes → Outcome → List ℕ
 svg_over lanes o =
     heading_svg lanes (length o.events) ++ flat_map (mark_svg lanes) (points_of (length o.events) 1 o.order)
-    ++ flat_map (group_svg lanes) (groups_of lanes 0 o.events) ++ codes "</svg>\n"
+    ++ flat_map (group_svg lanes) (groups_of lanes o.events 0 o.events) ++ codes "</svg>\n"
 
 abbrev pub refusal : ReportRefused → PictureRefused
 refusal (read.BadLine n) = refused.BadReport n

@@ -100,7 +100,7 @@ const LEGEND: &str = "<g>
 <text class=\"legend\" x=\"300\" y=\"178\">another record</text>
 <rect class=\"band prepared doubtful\" x=\"270\" y=\"188\" width=\"20\" height=\"20\"/>
 <text class=\"letter\" x=\"280\" y=\"203\">P</text>
-<text class=\"legend\" x=\"300\" y=\"202\">no reply says it was put</text>
+<text class=\"legend\" x=\"300\" y=\"202\">may not have been put</text>
 <path class=\"decision commit\" d=\"M500,54m0,-11l11,11l-11,11l-11,-11z\"/>
 <text class=\"verdict\" x=\"500\" y=\"54\">C</text>
 <text class=\"legend\" x=\"520\" y=\"58\">decided: committed</text>

@@ -10,7 +10,7 @@ use crate::drawing::{
     put_answered, put_arrow, put_band, put_decided, put_rested, put_statement, put_ticked,
 };
 use sdb_lanes::{
-    Effect, Lanes, effect_of, is_decision, may_change, rows_after, stage_of, verdict_of,
+    Effect, Lanes, effect_at, is_decision, may_change, rows_after, stage_of, verdict_of,
 };
 use sdb_model::{Answer, Event, How};
 use sdb_texts::{answer_text, put_request, put_signed};
@@ -145,12 +145,11 @@ fn put_record_band(
     rec: &Record,
     condition: &Condition,
     effect: Effect,
-    rest: &[Event],
+    rows: usize,
 ) -> Result<(), NoMemory>
-    ensures { OnOk result (string_bytes out.new ≡ string_bytes out.old ++ flat_map (mark_svg lanes.now) (spec.band_marks lanes.now row store.now rec.now condition.now effect rest.now)) }
+    ensures { OnOk result (string_bytes out.new ≡ string_bytes out.old ++ flat_map (mark_svg lanes.now) (spec.band_marks lanes.now row store.now rec.now condition.now effect rows)) }
 {
     let lane = lanes.of_record(store, &rec.key);
-    let rows = rows_after(rest, store, &rec.key);
     put_band(
         out,
         lanes,
@@ -170,9 +169,9 @@ fn put_put(
     rec: &Record,
     condition: &Condition,
     effect: Effect,
-    rest: &[Event],
+    rows: usize,
 ) -> Result<(), NoMemory>
-    ensures { OnOk result (string_bytes out.new ≡ string_bytes out.old ++ flat_map (mark_svg lanes.now) (spec.put_marks lanes.now row store.now rec.now condition.now effect rest.now)) }
+    ensures { OnOk result (string_bytes out.new ≡ string_bytes out.old ++ flat_map (mark_svg lanes.now) (spec.put_marks lanes.now row store.now rec.now condition.now effect rows)) }
 {
     if !may_change(effect) {
         return Ok(());
@@ -180,26 +179,49 @@ fn put_put(
     if is_decision(rec) {
         put_decision(out, lanes, row, store, rec, effect)
     } else {
-        put_record_band(out, lanes, row, store, rec, condition, effect, rest)
+        put_record_band(out, lanes, row, store, rec, condition, effect, rows)
     }
+}
+
+fn put_written(
+    out: &mut String,
+    lanes: &Lanes,
+    past: &[Event],
+    row: usize,
+    store: &Name,
+    request: &Request,
+    rec: &Record,
+    condition: &Condition,
+    effect: Effect,
+    rest: &[Event],
+) -> Result<(), NoMemory>
+    ensures { OnOk result (string_bytes out.new ≡ string_bytes out.old ++ flat_map (mark_svg lanes.now) (spec.written_marks lanes.now past.now row store.now request.now rec.now condition.now effect rest.now)) }
+{
+    let rows = rows_after(past, store, &rec.key, request, effect, rest);
+    put_put(out, lanes, row, store, rec, condition, effect, rows)
 }
 
 fn put_effect(
     out: &mut String,
     lanes: &Lanes,
+    past: &[Event],
     row: usize,
     store: &Name,
     request: &Request,
-    effect: Effect,
+    how: How,
+    reply: &Reply,
     rest: &[Event],
 ) -> Result<(), NoMemory>
-    ensures { OnOk result (string_bytes out.new ≡ string_bytes out.old ++ flat_map (mark_svg lanes.now) (spec.effect_marks lanes.now row store.now request.now effect rest.now)) }
+    ensures { OnOk result (string_bytes out.new ≡ string_bytes out.old ++ flat_map (mark_svg lanes.now) (spec.effect_marks lanes.now past.now row store.now request.now how reply.now rest.now)) }
 {
     match request {
         Request::Get(_) => Ok(()),
         Request::Scan(_) => Ok(()),
         Request::PutIf(rec, condition) => {
-            put_put(out, lanes, row, store, rec, condition, effect, rest)
+            let effect = effect_at(past, store, &rec.key, request, how, reply);
+            put_written(
+                out, lanes, past, row, store, request, rec, condition, effect, rest,
+            )
         }
         Request::DeleteIf(_, _) => Ok(()),
     }
@@ -212,15 +234,17 @@ fn put_clock(out: &mut String, lanes: &Lanes, row: usize, moment: i64) -> Result
     put_ticked(out, row, text.as_str())
 }
 
-/// Adds the marks of an event, which is in this row; the events after it say how long a band lasts.
+/// Adds the marks of an event, which is in this row. The events before it say whether a put took effect, and those after it how long a
+/// band lasts.
 pub fn put_marks(
     out: &mut String,
     lanes: &Lanes,
+    past: &[Event],
     row: usize,
     event: &Event,
     rest: &[Event],
 ) -> Result<(), NoMemory>
-    ensures { OnOk result (string_bytes out.new ≡ string_bytes out.old ++ flat_map (mark_svg lanes.now) (spec.marks_of lanes.now row event.now rest.now)) }
+    ensures { OnOk result (string_bytes out.new ≡ string_bytes out.old ++ flat_map (mark_svg lanes.now) (spec.marks_of lanes.now past.now row event.now rest.now)) }
 {
     match event {
         Event::Take(client, text, given) => {
@@ -236,15 +260,7 @@ pub fn put_marks(
         Event::Call(client, store, request, how, reply, given) => {
             let client = lanes.of_client(*client);
             put_call(out, lanes, row, client, store, request, *how, reply)?;
-            put_effect(
-                out,
-                lanes,
-                row,
-                store,
-                request,
-                effect_of(*how, reply),
-                rest,
-            )?;
+            put_effect(out, lanes, past, row, store, request, *how, reply, rest)?;
             put_answer_marks(out, lanes, row, client, given)
         }
         Event::Stop(client) => put_rested(out, row, lanes.of_client(*client), "stops"),

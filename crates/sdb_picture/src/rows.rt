@@ -61,25 +61,26 @@ fn put_number_of(out: &mut String, row: usize) -> Result<(), NoMemory>
 fn put_group(
     out: &mut String,
     lanes: &Lanes,
+    past: &[Event],
     row: usize,
     event: &Event,
     rest: &[Event],
 ) -> Result<(), NoMemory>
-    ensures { OnOk result (string_bytes out.new ≡ string_bytes out.old ++ group_svg lanes.now (spec.group_of lanes.now row event.now rest.now)) }
+    ensures { OnOk result (string_bytes out.new ≡ string_bytes out.old ++ group_svg lanes.now (spec.group_of lanes.now past.now row event.now rest.now)) }
 {
     put_line_of(out, row, event)?;
     put_number_of(out, row)?;
-    put_marks(out, lanes, row, event, rest)?;
+    put_marks(out, lanes, past, row, event, rest)?;
     out.push_str("</g>\n")?;
     Ok(())
 }
 
 /// Adds the groups of all events.
 pub fn put_groups(out: &mut String, lanes: &Lanes, events: &[Event]) -> Result<(), NoMemory>
-    ensures { OnOk result (string_bytes out.new ≡ string_bytes out.old ++ flat_map (group_svg lanes.now) (spec.groups_of lanes.now 0 events.now)) }
+    ensures { OnOk result (string_bytes out.new ≡ string_bytes out.old ++ flat_map (group_svg lanes.now) (spec.groups_of lanes.now events.now 0 events.now)) }
 {
     for (row, event) in events.iter().enumerate() {
-        put_group(out, lanes, row, event, &events[row + 1..])?;
+        put_group(out, lanes, &events[..row], row, event, &events[row + 1..])?;
     }
     Ok(())
 }

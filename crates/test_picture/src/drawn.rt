@@ -19,11 +19,12 @@ impl Case for Part {
     }
 }
 
-// A put of each fate: seen, lost, dropped and failed, of two records and of a decision; a client that stops, the clock, an idle step.
+// A put of each fate: seen, lost, dropped and failed, of two records and of a decision; a client that stops, the clock, an idle step;
+// a lost put whose condition did not hold, one that failed, and a lost one after it.
 const FATES: &str =
-    "scalardb report 1\nevents 10\n1 take 1 done : BEGIN\n2 call 1 ordered put a.b(1){tx_id='00000000-0000-0001-0000-000000000001',tx_state=1} if absent seen applied -\n3 call 1 ordered put a.b(2){tx_id='00000000-0000-0001-0000-000000000001',tx_state=1} if absent lost fault -\n4 call 1 hashed put a.b(2){tx_id='00000000-0000-0001-0000-000000000001',tx_state=1} if absent dropped fault -\n5 call 1 ordered put coordinator.state('00000000-0000-0001-0000-000000000001'){tx_created_at=0L,tx_state=3} if absent failed fault committed\n6 call 2 ordered put a.b(1){tx_id='00000000-0000-0001-0000-000000000001',tx_state=3} if 00000000-0000-0001-0000-000000000001 1 seen applied -\n7 call 2 ordered delete a.b(1) if 00000000-0000-0001-0000-000000000001 3 seen applied -\n8 stop 1\n9 clock 15000\n10 idle 1\norder 2\n00000000-0000-0001-0000-000000000001 3\n00000000-0000-0002-0000-000000000001 11\ntables 0\nend\n";
+    "scalardb report 1\nevents 13\n1 take 1 done : BEGIN\n2 call 1 ordered put a.b(1){tx_id='00000000-0000-0001-0000-000000000001',tx_state=1} if absent seen applied -\n3 call 1 ordered put a.b(2){tx_id='00000000-0000-0001-0000-000000000001',tx_state=1} if absent lost fault -\n4 call 1 hashed put a.b(2){tx_id='00000000-0000-0001-0000-000000000001',tx_state=1} if absent dropped fault -\n5 call 1 ordered put coordinator.state('00000000-0000-0001-0000-000000000001'){tx_created_at=0L,tx_state=3} if absent failed fault committed\n6 call 2 ordered put a.b(1){tx_id='00000000-0000-0001-0000-000000000001',tx_state=3} if 00000000-0000-0001-0000-000000000001 1 seen applied -\n7 call 2 ordered delete a.b(1) if 00000000-0000-0001-0000-000000000001 3 seen applied -\n8 stop 1\n9 clock 15000\n10 idle 1\n11 call 2 ordered put a.b(2){tx_id='00000000-0000-0001-0000-000000000001',tx_state=3} if absent lost fault -\n12 call 2 ordered put a.b(2){tx_id='00000000-0000-0001-0000-000000000001',tx_state=3} if 00000000-0000-0001-0000-000000000001 1 failed fault -\n13 call 2 ordered put a.b(2){tx_id='00000000-0000-0001-0000-000000000001',tx_state=1} if 00000000-0000-0001-0000-000000000001 3 lost fault -\norder 2\n00000000-0000-0001-0000-000000000001 3\n00000000-0000-0002-0000-000000000001 14\ntables 0\nend\n";
 
-static FATES_DRAWN: [Part; 14] = [
+static FATES_DRAWN: [Part; 16] = [
     Part {
         report: FATES,
         text: "<path class=\"call seen\" d=\"M190,305H720\"/>",
@@ -56,7 +57,7 @@ static FATES_DRAWN: [Part; 14] = [
     },
     Part {
         report: FATES,
-        text: "<rect class=\"band prepared doubtful\" x=\"946\" y=\"331\" width=\"20\" height=\"208\"/>",
+        text: "<rect class=\"band prepared sure\" x=\"946\" y=\"331\" width=\"20\" height=\"234\"/>",
         times: 1,
     },
     Part {
@@ -66,8 +67,18 @@ static FATES_DRAWN: [Part; 14] = [
     },
     Part {
         report: FATES,
+        text: "<rect class=\"band committed doubtful\" x=\"946\" y=\"565\" width=\"20\" height=\"26\"/>",
+        times: 1,
+    },
+    Part {
+        report: FATES,
+        text: "<rect class=\"band prepared doubtful\" x=\"946\" y=\"591\" width=\"20\" height=\"26\"/>",
+        times: 1,
+    },
+    Part {
+        report: FATES,
         text: "<rect class=\"band",
-        times: 10,
+        times: 12,
     },
     Part {
         report: FATES,

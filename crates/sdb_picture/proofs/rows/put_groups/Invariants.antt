@@ -7,5 +7,5 @@ use Rattle.sdb_picture.proofs.rows.put_groups.Given as goal
 
 abbrev pub invariant-loop-row : goal.invariant-loop-row
 invariant-loop-row l =
-    string_bytes l.out ++ flat_map (group_svg l.lanes) (groups_of l.lanes l.row (drop l.row l.events))
-    ≡ string_bytes l.fn.out ++ flat_map (group_svg l.lanes) (groups_of l.lanes 0 l.events)
+    string_bytes l.out ++ flat_map (group_svg l.lanes) (groups_of l.lanes l.events l.row (drop l.row l.events))
+    ≡ string_bytes l.fn.out ++ flat_map (group_svg l.lanes) (groups_of l.lanes l.events 0 l.events)
