@@ -1,9 +1,9 @@
 //! Marks as SVG. Each `put_` function adds a mark at the end of a text.
 ghost use Rattle.std.specs.Prelude.{◌≡◌, ◌++◌, OnOk, decimal};
 ghost use Rattle.std.specs.String.{string_bytes};
-ghost use Rattle.sdb_model.specs.Report.{how_text_of};
 ghost use Rattle.sdb_picture.specs.Svg as spec;
 
+use crate::fate::{how_word, tip_path};
 use crate::labels::{put_escaped, put_label};
 use crate::places::{
     answer_x, arrow_y, came_x, client_x, decision_x, label_x, letter_x, letter_y, record_x, row_y,
@@ -39,30 +39,6 @@ pub fn put_text(
     put_label(out, text, width)?;
     out.push_str("</text>\n")?;
     Ok(())
-}
-
-// What becomes of a call, as a class of the style.
-fn how_word(how: How) -> &'static str
-    ensures { result.now ≡ how_text_of how }
-{
-    match how {
-        How::Seen => "seen",
-        How::Lost => "lost",
-        How::Discarded => "dropped",
-        How::Broken => "failed",
-    }
-}
-
-// The tip of a call's arrow, from its end.
-fn tip_path(how: How) -> &'static str
-    ensures { result.now ≡ spec.tip_text how }
-{
-    match how {
-        How::Seen => "l-10,-5v10z",
-        How::Lost => "l-10,-5v10z",
-        How::Discarded => "m-12,-5l10,10m0,-10l-10,10",
-        How::Broken => "m-10,-5h10v10h-10z",
-    }
 }
 
 fn doubt_word(effect: Effect) -> &'static str

@@ -2,8 +2,10 @@
 #![tactic(auto)]
 
 mod drawing;
+mod fate;
 mod heading;
 mod labels;
+pub mod laws;
 mod marks;
 mod places;
 mod refused;

@@ -9,6 +9,7 @@ ghost use Rattle.sdb_picture.specs.Svg.{mark_svg};
 use crate::drawing::{
     put_answered, put_arrow, put_band, put_decided, put_rested, put_statement, put_ticked,
 };
+use crate::fate::came_word;
 use sdb_lanes::{
     Effect, Lanes, effect_at, is_decision, may_change, rows_after, stage_of, verdict_of,
 };
@@ -16,31 +17,6 @@ use sdb_model::{Answer, Event, How};
 use sdb_texts::{answer_text, put_request, put_signed};
 use sdb_types::{Condition, Name, NoMemory, Record, Reply, Request};
 use std::alloc::Global;
-
-fn reply_word(reply: &Reply) -> &'static str
-    ensures { result.now ≡ spec.reply_word reply.now }
-{
-    match reply {
-        Reply::Found(None) => "none",
-        Reply::Found(Some(_)) => "found",
-        Reply::Rows(_) => "rows",
-        Reply::Applied => "applied",
-        Reply::NotMet(_) => "not met",
-        Reply::Fault => "fault",
-        Reply::NoMemory => "no memory",
-    }
-}
-
-fn came_word(how: How, reply: &Reply) -> &'static str
-    ensures { result.now ≡ spec.came_word how reply.now }
-{
-    match how {
-        How::Seen => reply_word(reply),
-        How::Lost => "lost",
-        How::Discarded => "dropped",
-        How::Broken => "failed",
-    }
-}
 
 fn request_text(alloc: Global, request: &Request) -> Result<String, NoMemory>
     ensures { IfOk result (λ text. string_bytes text ≡ request_text_of request.now) }
