@@ -8,8 +8,8 @@ use Rattle.sdb_lanes.specs.declared.lanes.Lanes.{Lanes}
 abbrev pub client_x : ℕ → ℕ
 client_x lane = 190 + 140 * lane
 
-abbrev pub said_x : ℕ → ℕ
-said_x lane = 200 + 140 * lane
+abbrev pub statement_x : ℕ → ℕ
+statement_x lane = 200 + 140 * lane
 
 abbrev pub answer_x : ℕ → ℕ
 answer_x lane = 172 + 140 * lane

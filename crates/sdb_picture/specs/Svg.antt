@@ -17,7 +17,7 @@ use Rattle.sdb_lanes.specs.declared.lanes.Lanes.{Lanes}
 use Rattle.sdb_lanes.specs.declared.lanes.Place.{Place}
 use Rattle.sdb_picture.specs.Labels.{escaped_text, label_text}
 use Rattle.sdb_picture.specs.Marks.{Mark, Statement, Arrow, Answered, Band, Decided, Rested, Ticked, Pointed, Group, Picture}
-use Rattle.sdb_picture.specs.Places.{answer_x, arrow_y, came_x, client_x, decision_x, height_of, label_x, letter_x, letter_y, record_x, row_y, said_x, store_x, text_y, width_of}
+use Rattle.sdb_picture.specs.Places.{answer_x, arrow_y, came_x, client_x, decision_x, height_of, label_x, letter_x, letter_y, record_x, row_y, statement_x, store_x, text_y, width_of}
 
 ---- texts
 
@@ -79,7 +79,7 @@ dot_svg x y = codes "<circle class=\"take\" cx=\"" ++ decimal x ++ codes "\" cy=
 
 unfoldable pub statement_svg : ℕ → ℕ → List ℕ → List ℕ
 statement_svg row client text =
-    dot_svg (client_x client) (arrow_y row) ++ text_svg (codes "say") (said_x client) (text_y row) 58 text
+    dot_svg (client_x client) (arrow_y row) ++ text_svg (codes "statement") (statement_x client) (text_y row) 58 text
 
 unfoldable pub line_svg : List ℕ → ℕ → ℕ → ℕ → List ℕ
 line_svg class from to y =
@@ -101,7 +101,7 @@ wedge_svg x y = codes "<path class=\"answer\" d=\"M" ++ decimal x ++ codes "," +
 
 unfoldable pub answer_svg : ℕ → ℕ → List ℕ → List ℕ
 answer_svg row client text =
-    wedge_svg (client_x client) (arrow_y row) ++ text_svg (codes "told") (answer_x client) (text_y row) 15 text
+    wedge_svg (client_x client) (arrow_y row) ++ text_svg (codes "answered") (answer_x client) (text_y row) 15 text
 
 unfoldable pub band_tag_svg : Stage → Effect → List ℕ
 band_tag_svg stage effect = codes "<rect class=\"band " ++ stage_text stage ++ codes " " ++ doubt_text effect
@@ -131,7 +131,7 @@ cross_svg x y = codes "<path class=\"rest\" d=\"M" ++ decimal x ++ codes "," ++ 
 
 unfoldable pub rest_svg : ℕ → ℕ → List ℕ → List ℕ
 rest_svg row client text =
-    cross_svg (client_x client) (arrow_y row) ++ text_svg (codes "note") (said_x client) (text_y row) 48 text
+    cross_svg (client_x client) (arrow_y row) ++ text_svg (codes "note") (statement_x client) (text_y row) 48 text
 
 unfoldable pub tick_svg : ℕ → List ℕ → List ℕ
 tick_svg row text = text_svg (codes "note") 66 (text_y row) 48 text
@@ -223,7 +223,7 @@ lanes_svg lanes rows = clients_svg rows 0 lanes.clients ++ stores_svg lanes rows
 
 ---- the whole
 
--- The picture's size in its own units: it is shown as wide as the page is.
+-- The size of the picture, in its own units: a page draws it as wide as itself.
 unfoldable pub opening_svg : ℕ → ℕ → List ℕ
 opening_svg width height =
     codes "<svg xmlns=\"http://www.w3.org/2000/svg\" style=\"width:100%;height:auto\" viewBox=\"0 0 " ++ decimal width ++ codes " " ++ decimal height ++ codes "\">\n"

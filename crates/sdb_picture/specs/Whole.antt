@@ -1,4 +1,4 @@
--- What is said of a report that is drawn, and of one that is refused.
+-- Reports that are drawn, and reports that are refused.
 use Rattle.std.specs.Prelude.{◌≡◌, ◌<◌, ◌≤◌, List, ◌++◌, length, codes, ℕ, Result, Ok, Err}
 use Rattle.std.specs.List.{flat_map}
 use Rattle.sdb_model.specs.Plain.{IsPlain}

@@ -7,7 +7,7 @@ use crate::fate::{how_word, tip_path};
 use crate::labels::{put_escaped, put_label};
 use crate::places::{
     answer_x, arrow_y, came_x, client_x, decision_x, label_x, letter_x, letter_y, record_x, row_y,
-    said_x, store_x, text_y, width_of,
+    statement_x, store_x, text_y, width_of,
 };
 use sdb_lanes::{Effect, Lanes, Stage, Verdict};
 use sdb_model::How;
@@ -119,7 +119,7 @@ pub fn put_statement(
     ensures { OnOk result (string_bytes out.new ≡ string_bytes out.old ++ spec.statement_svg row client text.now) }
 {
     put_dot(out, client_x(client), arrow_y(row))?;
-    put_text(out, "say", said_x(client), text_y(row), 58, text)
+    put_text(out, "statement", statement_x(client), text_y(row), 58, text)
 }
 
 #[tactic(auto, unfolding(crate::specs::Svg::line_svg))]
@@ -181,7 +181,7 @@ pub fn put_answered(out: &mut String, row: usize, client: usize, text: &str) -> 
     ensures { OnOk result (string_bytes out.new ≡ string_bytes out.old ++ spec.answer_svg row client text.now) }
 {
     put_wedge(out, client_x(client), arrow_y(row))?;
-    put_text(out, "told", answer_x(client), text_y(row), 15, text)
+    put_text(out, "answered", answer_x(client), text_y(row), 15, text)
 }
 
 // A rectangle of the width of a band.
@@ -286,7 +286,7 @@ pub fn put_rested(out: &mut String, row: usize, client: usize, text: &str) -> Re
     ensures { OnOk result (string_bytes out.new ≡ string_bytes out.old ++ spec.rest_svg row client text.now) }
 {
     put_cross(out, client_x(client), arrow_y(row))?;
-    put_text(out, "note", said_x(client), text_y(row), 48, text)
+    put_text(out, "note", statement_x(client), text_y(row), 48, text)
 }
 
 /// Adds a move of the clock.

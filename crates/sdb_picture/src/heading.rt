@@ -26,7 +26,7 @@ text{fill:#1b1f24;paint-order:stroke;stroke:#fff;stroke-width:3px;stroke-linejoi
 .title{font-size:15px;font-weight:bold}
 .take{fill:#1b1f24}
 .answer{fill:#6f42c1}
-.told{text-anchor:end;fill:#5a32a3;font-weight:bold}
+.answered{text-anchor:end;fill:#5a32a3;font-weight:bold}
 .note,.came{fill:#57606a}
 .rest{fill:none;stroke:#1b1f24;stroke-width:2.5}
 .call{fill:none;stroke-width:1.8}

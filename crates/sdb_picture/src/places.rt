@@ -11,9 +11,9 @@ pub fn client_x(lane: usize) -> u128
     190 + 140 * lane as u128
 }
 
-/// Where what a client says begins.
-pub fn said_x(lane: usize) -> u128
-    ensures { result ≡ spec.said_x lane }
+/// Where the text of a statement begins.
+pub fn statement_x(lane: usize) -> u128
+    ensures { result ≡ spec.statement_x lane }
 {
     200 + 140 * lane as u128
 }
