@@ -8,9 +8,9 @@ use Rattle.sdb_types.specs.declared.record.Reply.{Reply}
 use Rattle.sdb_types.specs.declared.record.Reply.TheVariants as reply
 use Rattle.sdb_types.specs.declared.record.Request.{Request}
 use Rattle.sdb_types.specs.declared.record.Request.TheVariants as ask
-use Rattle.sdb_model.specs.Report.{event_text_of, how_text_of, request_text_of}
+use Rattle.sdb_model.specs.Report.{how_text_of}
 use Rattle.sdb_model.specs.Rows.{Name}
-use Rattle.sdb_model.specs.Texts.{answer_text_of}
+use Rattle.sdb_model.specs.Texts.{answer_text_of, key_text_of, record_text_of, span_text_of}
 use Rattle.sdb_model.specs.declared.answer.Answer.{Answer}
 use Rattle.sdb_model.specs.declared.event.Event.{Event}
 use Rattle.sdb_model.specs.declared.event.Event.TheVariants as event
@@ -99,10 +99,17 @@ answer_marks row client (Some a) = Answered row client (answer_text_of a) ∷ []
 abbrev pub take_marks : ℕ → ℕ → List ℕ → Option Answer → List Mark
 take_marks row client text given = Statement row client text ∷ answer_marks row client given
 
+-- what a call asks for: what it reads, puts or deletes
+abbrev pub asked_text : Request → List ℕ
+asked_text (ask.Get key) = codes "get " ++ key_text_of key
+asked_text (ask.Scan span) = codes "scan " ++ span_text_of span
+asked_text (ask.PutIf r condition) = codes "put " ++ record_text_of r
+asked_text (ask.DeleteIf key condition) = codes "delete " ++ key_text_of key
+
 -- A call is one arrow, from its client to its store.
 abbrev pub call_marks : Lanes → ℕ → ℕ → Name → Request → How → Reply → List Mark
 call_marks lanes row client store request how reply =
-    Arrow row client (store_lane lanes store) how (request_text_of request) (came_word how reply) ∷ []
+    Arrow row client (store_lane lanes store) how (asked_text request) (came_word how reply) ∷ []
 
 abbrev pub clock_text : ℤ → List ℕ
 clock_text moment = codes "clock " ++ signed_decimal moment
@@ -121,18 +128,38 @@ marks_of lanes past row (event.Stop client) rest = Rested row (client_lane lanes
 marks_of lanes past row (event.Clock moment) rest = clock_marks row moment
 marks_of lanes past row (event.Idle client) rest = Rested row (client_lane lanes client) (codes "idles") ∷ []
 
--- What is drawn of one event, under the line that the report has of it.
+-- What is drawn of one event, under a title with its texts in full.
 pub record Group : Type 0 where
   pub row : ℕ
-  pub line : List ℕ
+  pub title : List ℕ
   pub marks : List Mark
 
--- the line that the report has of the event in a row
-abbrev pub line_of : ℕ → Event → List ℕ
-line_of row e = decimal (row + 1) ++ codes " " ++ event_text_of e
+-- what is said of an event: the statement that is taken, or what a call asks for
+abbrev pub event_text : Event → List ℕ
+event_text (event.Take client text given) = text
+event_text (event.Call client store request how reply given) = asked_text request
+event_text (event.Stop client) = codes "stops"
+event_text (event.Clock moment) = clock_text moment
+event_text (event.Idle client) = codes "idles"
+
+abbrev pub given_text : Option Answer → List ℕ
+given_text None = []
+given_text (Some a) = codes ": " ++ answer_text_of a
+
+-- and the answer that it gives
+abbrev pub answered_text : Event → List ℕ
+answered_text (event.Take client text given) = given_text given
+answered_text (event.Call client store request how reply given) = given_text given
+answered_text (event.Stop client) = []
+answered_text (event.Clock moment) = []
+answered_text (event.Idle client) = []
+
+-- the title of the event in a row, with its number
+abbrev pub title_of : ℕ → Event → List ℕ
+title_of row e = decimal (row + 1) ++ codes " " ++ event_text e ++ answered_text e
 
 abbrev pub group_of : Lanes → List Event → ℕ → Event → List Event → Group
-group_of lanes past row e rest = record { row = row; line = line_of row e; marks = marks_of lanes past row e rest }
+group_of lanes past row e rest = record { row = row; title = title_of row e; marks = marks_of lanes past row e rest }
 
 -- the groups of all events, from a row on
 abbrev pub groups_of : Lanes → List Event → ℕ → List Event → List Group

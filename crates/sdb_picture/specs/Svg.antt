@@ -162,7 +162,7 @@ mark_svg lanes (Ticked row text) = tick_svg row text
 mark_svg lanes (Pointed events place id) = point_svg lanes events place id
 
 unfoldable pub title_svg : List ℕ → List ℕ
-title_svg line = codes "<g>\n<title>" ++ escaped_text line ++ codes "</title>\n"
+title_svg title = codes "<g>\n<title>" ++ escaped_text title ++ codes "</title>\n"
 
 -- the number of the event in a row
 unfoldable pub number_svg : ℕ → List ℕ
@@ -171,7 +171,7 @@ number_svg row = codes "<text class=\"number\" x=\"32\" y=\"" ++ decimal (text_y
 -- An event: its line as a title, its number, and its marks.
 unfoldable pub group_svg : Lanes → Group → List ℕ
 group_svg lanes g =
-    title_svg g.line ++ number_svg g.row ++ flat_map (mark_svg lanes) g.marks ++ codes "</g>\n"
+    title_svg g.title ++ number_svg g.row ++ flat_map (mark_svg lanes) g.marks ++ codes "</g>\n"
 
 ---- lanes
 

@@ -10,6 +10,7 @@ mod marks;
 mod places;
 mod refused;
 mod rows;
+mod titles;
 mod whole;
 
 pub use refused::PictureRefused;

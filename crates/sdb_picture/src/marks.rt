@@ -2,7 +2,6 @@
 ghost use Rattle.std.specs.Prelude.{◌≡◌, ◌++◌, OnOk, IfOk};
 ghost use Rattle.std.specs.List.{flat_map};
 ghost use Rattle.std.specs.String.{string_bytes};
-ghost use Rattle.sdb_model.specs.Report.{request_text_of};
 ghost use Rattle.sdb_picture.specs.Marks as spec;
 ghost use Rattle.sdb_picture.specs.Svg.{mark_svg};
 
@@ -10,30 +9,14 @@ use crate::drawing::{
     put_answered, put_arrow, put_band, put_decided, put_rested, put_statement, put_ticked,
 };
 use crate::fate::came_word;
+use crate::titles::{asked_text, clock_text};
 use sdb_lanes::{
     Effect, Lanes, effect_at, is_decision, may_change, rows_after, stage_of, verdict_of,
 };
 use sdb_model::{Answer, Event, How};
-use sdb_texts::{answer_text, put_request, put_signed};
+use sdb_texts::answer_text;
 use sdb_types::{Condition, Name, NoMemory, Record, Reply, Request};
 use std::alloc::Global;
-
-fn request_text(alloc: Global, request: &Request) -> Result<String, NoMemory>
-    ensures { IfOk result (λ text. string_bytes text ≡ request_text_of request.now) }
-{
-    let mut text = String::new(alloc);
-    put_request(&mut text, request)?;
-    Ok(text)
-}
-
-fn clock_text(alloc: Global, moment: i64) -> Result<String, NoMemory>
-    ensures { IfOk result (λ text. string_bytes text ≡ spec.clock_text moment) }
-{
-    let mut text = String::new(alloc);
-    text.push_str("clock ")?;
-    put_signed(&mut text, moment)?;
-    Ok(text)
-}
 
 fn put_answer_marks(
     out: &mut String,
@@ -79,7 +62,7 @@ fn put_call(
 ) -> Result<(), NoMemory>
     ensures { OnOk result (string_bytes out.new ≡ string_bytes out.old ++ flat_map (mark_svg lanes.now) (spec.call_marks lanes.now row client store.now request.now how reply.now)) }
 {
-    let asked = request_text(*out.allocator(), request)?;
+    let asked = asked_text(*out.allocator(), request)?;
     let came = came_word(how, reply);
     put_arrow(
         out,

@@ -1,5 +1,5 @@
 //! The rows of a picture: a group for each event, and the points.
-ghost use Rattle.std.specs.Prelude.{◌≡◌, ◌++◌, ◌+◌, OnOk, IfOk};
+ghost use Rattle.std.specs.Prelude.{◌≡◌, ◌++◌, ◌+◌, OnOk};
 ghost use Rattle.std.specs.List.{flat_map};
 ghost use Rattle.std.specs.String.{string_bytes};
 ghost use Rattle.sdb_picture.specs.Marks as spec;
@@ -9,39 +9,27 @@ use crate::drawing::put_pointed;
 use crate::labels::put_escaped;
 use crate::marks::put_marks;
 use crate::places::text_y;
+use crate::titles::title_of;
 use sdb_lanes::Lanes;
 use sdb_model::{Event, Point};
-use sdb_texts::put_event;
 use sdb_types::NoMemory;
-use std::alloc::Global;
 use std::fmt::Write;
 
-// The line that the report has of an event.
-fn line_of(alloc: Global, row: usize, event: &Event) -> Result<String, NoMemory>
-    ensures { IfOk result (λ line. string_bytes line ≡ spec.line_of row event.now) }
-{
-    let mut line = String::new(alloc);
-    let number = row as u128 + 1;
-    write!(line, "{number} ")?;
-    put_event(&mut line, event)?;
-    Ok(line)
-}
-
 #[tactic(auto, unfolding(crate::specs::Svg::title_svg))]
-fn put_title(out: &mut String, line: &str) -> Result<(), NoMemory>
-    ensures { OnOk result (string_bytes out.new ≡ string_bytes out.old ++ title_svg line.now) }
+fn put_title(out: &mut String, title: &str) -> Result<(), NoMemory>
+    ensures { OnOk result (string_bytes out.new ≡ string_bytes out.old ++ title_svg title.now) }
 {
     out.push_str("<g>\n<title>")?;
-    put_escaped(out, line)?;
+    put_escaped(out, title)?;
     out.push_str("</title>\n")?;
     Ok(())
 }
 
-fn put_line_of(out: &mut String, row: usize, event: &Event) -> Result<(), NoMemory>
-    ensures { OnOk result (string_bytes out.new ≡ string_bytes out.old ++ title_svg (spec.line_of row event.now)) }
+fn put_title_of(out: &mut String, row: usize, event: &Event) -> Result<(), NoMemory>
+    ensures { OnOk result (string_bytes out.new ≡ string_bytes out.old ++ title_svg (spec.title_of row event.now)) }
 {
-    let line = line_of(*out.allocator(), row, event)?;
-    put_title(out, line.as_str())
+    let title = title_of(*out.allocator(), row, event)?;
+    put_title(out, title.as_str())
 }
 
 #[tactic(auto, unfolding(crate::specs::Svg::number_svg))]
@@ -68,7 +56,7 @@ fn put_group(
 ) -> Result<(), NoMemory>
     ensures { OnOk result (string_bytes out.new ≡ string_bytes out.old ++ group_svg lanes.now (spec.group_of lanes.now past.now row event.now rest.now)) }
 {
-    put_line_of(out, row, event)?;
+    put_title_of(out, row, event)?;
     put_number_of(out, row)?;
     put_marks(out, lanes, past, row, event, rest)?;
     out.push_str("</g>\n")?;

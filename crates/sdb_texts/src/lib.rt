@@ -4,7 +4,7 @@
 mod report;
 mod text;
 
-pub use report::{put_event, put_request, report_text};
+pub use report::report_text;
 pub use text::{
     answer_text, key_text, put_answer, put_columns, put_id, put_key, put_number, put_record,
     put_row, put_signed, put_span, put_table, put_value,

@@ -36,8 +36,7 @@ fn put_condition(out: &mut String, condition: Condition) -> Result<(), NoMemory>
     Ok(())
 }
 
-/// Adds what a call asks of its store.
-pub fn put_request(out: &mut String, request: &Request) -> Result<(), NoMemory>
+fn put_request(out: &mut String, request: &Request) -> Result<(), NoMemory>
     ensures { OnOk result (string_bytes out.new ≡ string_bytes out.old ++ request_text_of request.now) }
 {
     match request {
@@ -173,8 +172,7 @@ fn put_with_client(out: &mut String, word: &str, client: u32) -> Result<(), NoMe
     put_number(out, u64::from(client))
 }
 
-/// Adds the line of an event, without its number and its LF.
-pub fn put_event(out: &mut String, event: &Event) -> Result<(), NoMemory>
+fn put_event(out: &mut String, event: &Event) -> Result<(), NoMemory>
     ensures { OnOk result (string_bytes out.new ≡ string_bytes out.old ++ event_text_of event.now) }
 {
     match event {

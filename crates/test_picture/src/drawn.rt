@@ -124,7 +124,7 @@ static SIGNS_DRAWN: [Part; 5] = [
     },
     Part {
         report: SIGNS,
-        text: "<title>1 take 1 - : &lt;a href=&quot;x&quot;&gt;&amp;\u{FFFD}\u{FFFD}\u{FFFD}&lt;/a&gt;</title>",
+        text: "<title>1 &lt;a href=&quot;x&quot;&gt;&amp;\u{FFFD}\u{FFFD}\u{FFFD}&lt;/a&gt;</title>",
         times: 1,
     },
     Part {
@@ -139,7 +139,7 @@ static SIGNS_DRAWN: [Part; 5] = [
     },
     Part {
         report: SIGNS,
-        text: ": äbcdefghij1bcdefghij2bcdefghij3bcdefghij4bcdefghij5bcdefghij</title>",
+        text: "<title>2 äbcdefghij1bcdefghij2bcdefghij3bcdefghij4bcdefghij5bcdefghij</title>",
         times: 1,
     },
 ];

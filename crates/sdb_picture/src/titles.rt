@@ -1,0 +1,105 @@
+//! The texts of events: what is taken, what a call asks for, and the answer.
+ghost use Rattle.std.specs.Prelude.{◌≡◌, ◌++◌, OnOk, IfOk};
+ghost use Rattle.std.specs.String.{string_bytes};
+ghost use Rattle.sdb_picture.specs.Marks as spec;
+
+use sdb_model::{Answer, Event};
+use sdb_texts::{put_answer, put_key, put_record, put_signed, put_span};
+use sdb_types::{NoMemory, Request};
+use std::alloc::Global;
+use std::fmt::Write;
+
+fn put_asked(out: &mut String, request: &Request) -> Result<(), NoMemory>
+    ensures { OnOk result (string_bytes out.new ≡ string_bytes out.old ++ spec.asked_text request.now) }
+{
+    match request {
+        Request::Get(key) => {
+            out.push_str("get ")?;
+            put_key(out, key)
+        }
+        Request::Scan(span) => {
+            out.push_str("scan ")?;
+            put_span(out, span)
+        }
+        Request::PutIf(rec, _) => {
+            out.push_str("put ")?;
+            put_record(out, rec)
+        }
+        Request::DeleteIf(key, _) => {
+            out.push_str("delete ")?;
+            put_key(out, key)
+        }
+    }
+}
+
+fn put_clock(out: &mut String, moment: i64) -> Result<(), NoMemory>
+    ensures { OnOk result (string_bytes out.new ≡ string_bytes out.old ++ spec.clock_text moment) }
+{
+    out.push_str("clock ")?;
+    put_signed(out, moment)
+}
+
+/// What a call asks for.
+pub fn asked_text(alloc: Global, request: &Request) -> Result<String, NoMemory>
+    ensures { IfOk result (λ text. string_bytes text ≡ spec.asked_text request.now) }
+{
+    let mut text = String::new(alloc);
+    put_asked(&mut text, request)?;
+    Ok(text)
+}
+
+/// The moment that a clock shows.
+pub fn clock_text(alloc: Global, moment: i64) -> Result<String, NoMemory>
+    ensures { IfOk result (λ text. string_bytes text ≡ spec.clock_text moment) }
+{
+    let mut text = String::new(alloc);
+    put_clock(&mut text, moment)?;
+    Ok(text)
+}
+
+fn put_event_text(out: &mut String, event: &Event) -> Result<(), NoMemory>
+    ensures { OnOk result (string_bytes out.new ≡ string_bytes out.old ++ spec.event_text event.now) }
+{
+    match event {
+        Event::Take(_, text, _) => out.push_str(text.as_str())?,
+        Event::Call(_, _, request, _, _, _) => put_asked(out, request)?,
+        Event::Stop(_) => out.push_str("stops")?,
+        Event::Clock(moment) => put_clock(out, *moment)?,
+        Event::Idle(_) => out.push_str("idles")?,
+    }
+    Ok(())
+}
+
+fn put_given(out: &mut String, given: &Option<Answer>) -> Result<(), NoMemory>
+    ensures { OnOk result (string_bytes out.new ≡ string_bytes out.old ++ spec.given_text given.now) }
+{
+    match given {
+        Some(answer) => {
+            out.push_str(": ")?;
+            put_answer(out, answer)
+        }
+        None => Ok(()),
+    }
+}
+
+fn put_answered_text(out: &mut String, event: &Event) -> Result<(), NoMemory>
+    ensures { OnOk result (string_bytes out.new ≡ string_bytes out.old ++ spec.answered_text event.now) }
+{
+    match event {
+        Event::Take(_, _, given) => put_given(out, given),
+        Event::Call(_, _, _, _, _, given) => put_given(out, given),
+        _ => Ok(()),
+    }
+}
+
+/// The title of an event in a row: its number, its text in full, and its answer.
+pub fn title_of(alloc: Global, row: usize, event: &Event) -> Result<String, NoMemory>
+    ensures { IfOk result (λ title. string_bytes title ≡ spec.title_of row event.now) }
+{
+    let mut title = String::new(alloc);
+    let number = row as u128 + 1;
+    write!(title, "{number} ")?;
+    put_event_text(&mut title, event)?;
+    put_answered_text(&mut title, event)?;
+    Ok(title)
+}
