@@ -15,6 +15,7 @@ use Rattle.sdb_keyed.specs.Entries.{value_at}
 use Rattle.sdb_record.specs.declared.access.Access.{Access}
 use Rattle.sdb_record.specs.declared.access.Access.TheVariants as access
 use Rattle.sdb_record.specs.declared.access.Scan.{Scan}
+use Rattle.sdb_record.specs.declared.write.Write.{Write}
 use Rattle.sdb_record.specs.Meta.{is_moment}
 use Rattle.sdb_schema.specs.declared.table.Table.{Table}
 use Rattle.sdb_schema.specs.Catalog.{is_catalog}
@@ -27,7 +28,7 @@ use Rattle.sdb_model.specs.Calls.{Made, calls_of}
 use Rattle.sdb_model.specs.Exec.{find_table, table_of}
 use Rattle.sdb_model.specs.Rows.{Name}
 use Rattle.sdb_model.specs.Sql.{reads_commit, reads_rollback}
-use Rattle.sdb_model.specs.Transactions.{Said, changes_nothing, ends, is_conflict, is_done}
+use Rattle.sdb_model.specs.Transactions.{Said, changes_nothing, ends, id_of, is_conflict, is_done}
 use Rattle.sdb_exec.specs.Plans.{Planned}
 use Rattle.sdb_laws.specs.Lawful.{is_data}
 use Rattle.sdb_read.specs.declared.read.ReadStep.TheVariants as step
@@ -41,6 +42,7 @@ use Rattle.sdb_txn.specs.declared.txn.Doing.{Doing}
 use Rattle.sdb_txn.specs.declared.txn.Doing.TheVariants as doing
 use Rattle.sdb_txn.specs.Txn.{IsCommitting, TxnAt, idle}
 use Rattle.sdb_commit.specs.Phases.{CommitAt}
+use Rattle.sdb_phases.specs.Work.{Work}
 use Rattle.sdb_client.specs.declared.next.Next.{Next}
 use Rattle.sdb_client.specs.declared.next.Next.TheVariants as next
 use Rattle.sdb_client.specs.Client.{ClientAt, ImagesTold, StageTold, after, answer_in, given_answer, given_left, gives, next_of, noting, resting}
@@ -55,24 +57,28 @@ use Rattle.sdb_causes.specs.Unfit.{IsFit, SeesFit, SeesFitIn}
 use Rattle.sdb_causes.proofs.Calls.{call_said, made_at, silent_said}
 use Rattle.sdb_causes.proofs.ReadSteps.{IsDataTable}
 use Rattle.sdb_causes.proofs.Showing.{IsOpenAt, shows_on}
-use Rattle.sdb_causes.proofs.Unfit.{fits_now}
+use Rattle.sdb_causes.proofs.Unfit.{fits_now, same_writes}
 use Rattle.sdb_executions.specs.Found.{found_by, is_answered, is_scan_of, scans_span, was_scanned}
 use Rattle.sdb_executions.proofs.Finding.{WaitFinds, read_finds}
-use Rattle.sdb_executions.proofs.FoundSteps.{ClientRuns, SeesIn, SeesRun, all_answered, answered_of_is}
+use Rattle.sdb_executions.specs.Written.{PreparesAll}
+use Rattle.sdb_executions.proofs.FoundSteps.{ClientRuns, SeesIn, SeesRun, WroteAs, all_answered, answered_of_is}
 use Rattle.sdb_executions.proofs.FoundSteps as follows
 use Rattle.sdb_executions.proofs.Meant.{FindsAt, FindsImages}
 use Rattle.sdb_executions.proofs.OwnPrepares.{ends_commit, goes_further}
+use Rattle.sdb_executions.proofs.PreparingCalls.{WaitPrepares, call_prepares}
 use Rattle.sdb_executions.proofs.Replies.{CallOf, CommitCall, ReadCall, SweepCall}
 use Rattle.sdb_executions.proofs.Running.{HoldsScans, RunsTo, running_of, scanned_more, view_after}
 use Rattle.sdb_executions.proofs.Statements.{calls_more}
 use Rattle.sdb_executions.proofs.Views.{found_now, view_found, read_only}
+use Rattle.sdb_executions.proofs.WroteCommits.{CommitWrote, LastWrote}
+use Rattle.sdb_executions.proofs.Writing.{write_keys}
 
--- a COMMIT that goes on
-commits_see : (catalog : List Table) (events : List Event) (c : ℕ) (ss : List Said) (u : TxnAt) (P : CommitAt → Type 0) → IsCommitting u.doing P → SeesRun catalog events c ss u
-commits_see catalog events c ss u P h = by u.doing h
+-- a COMMIT that goes on writes the same
+commits_see : (catalog : List Table) (events : List Event) (c : ℕ) (ss : List Said) (u : TxnAt) (ws : List Write) (P : CommitAt → Type 0) → ((k : CommitAt) → P k → k.work.writes ≡ ws) → WroteAs catalog events c ss ws → IsCommitting u.doing P → SeesRun catalog events c ss u
+commits_see catalog events c ss u ws P same wrote h = by u.doing h
   where
     by : (d : Doing) → IsCommitting d P → SeesIn catalog events c ss u.seen d
-    by (doing.Commit k) x = tt
+    by (doing.Commit k) x = subst (WroteAs catalog events c ss) (sym (same k x)) wrote
     by doing.Idle x = absurd x
     by (doing.Read a y) x = absurd x
     by doing.Over x = absurd x
@@ -90,6 +96,10 @@ ends_only progress.Committed b e = ap next.End (cc)
 ends_only (progress.Expired id) b e = ap next.End (cc)
 ends_only (progress.Unknown id) b e = ap next.End (cc)
 
+noted_idle : (t : TxnAt) (a : Access) (images : List Record) → (noting t a images).doing ≡ doing.Idle
+noted_idle t (access.Get key) images = refl
+noted_idle t (access.Scan span) images = refl
+
 -- a scan is among the scans that are then noted
 noted_scans : (t : TxnAt) (a : Access) (images : List Record) (span : Span) (m : Made) → m.request ≡ request_of a → (is_scanned t.seen.scans span ≡ true) ⊎ (is_scan_of span m.request ≡ true) → is_scanned (noting t a images).seen.scans span ≡ true
 noted_scans t (access.Get key) images span m e (inl f) = f
@@ -99,7 +109,7 @@ noted_scans t (access.Scan other) images span m e (inr f) =
     list_any-append (λ (x : Scan). same_span x.span span) t.seen.scans (record { span = other; found = reads_of images } ∷ []) ∙ ap (λ b. is_scanned t.seen.scans span || (b || false)) (sym (ap (is_scan_of span) e) ∙ f) ∙ or_true (is_scanned t.seen.scans span)
 
 module _ (catalog : List Table) (is : is_catalog catalog ≡ true) (apart : (k : Key) → is_some (find_table catalog k.table) ≡ true → is_data k ≡ true) (events : List Event) (c : ℕ) (h : ClientAt) (k : Knows catalog events c h) (runs : ClientRuns catalog events c h)
-    (x : Said) (waiting : k.waiting ≡ Some x) (waits : IsWaiting catalog events c (is_some h.vacuum) x) (finds : WaitFinds catalog events c x h) (store : Name) (q : Request) (how : How) (r : Reply) (now : ℤ) (moment : is_moment now ≡ true) (can : CanAnswer q r)
+    (x : Said) (waiting : k.waiting ≡ Some x) (waits : IsWaiting catalog events c (is_some h.vacuum) x) (finds : WaitFinds catalog events c x h) (prepares : WaitPrepares catalog events c x h) (store : Name) (q : Request) (how : How) (r : Reply) (now : ℤ) (moment : is_moment now ≡ true) (can : CanAnswer q r)
     (kept : (t : TxnAt) → h.vacuum ≡ None → h.txn ≡ Some t → (a : Access) (y : ReadAt) → t.doing ≡ doing.Read a y → WereRead t.seen.notes t.seen.writes) (d : ClientAt) where
   abbrev ev : Option Answer → Event
   ev a = event.Call c store q how r a
@@ -132,10 +142,14 @@ module _ (catalog : List Table) (is : is_catalog catalog ≡ true) (apart : (k :
   sweep_comes None z = subst (λ (o : Option TxnAt). IfSome o (SeesRun catalog (E None) c (running_of d.begun k.told))) (sym (ap (λ (y : ClientAt). y.txn) z.left ∙ z.rests)) tt
   sweep_comes (Some b) z = follows.ended_follows catalog events c h k runs (ev (Some b)) (done b) d (inr z.rests) (ap (λ (y : ClientAt). y.txn) z.left ∙ z.rests)
 
+  -- it writes what its statements wrote
+  commit_wrote : (a : Option Answer) (z : CommitCall events c k.told x h q r a d) → WroteAs catalog (E a) c (running_of h.begun k.told) z.k.work.writes
+  commit_wrote a z = subst (SeesIn catalog (E a) c (running_of h.begun k.told) z.t.seen) z.commits (follows.sees_open catalog events c h k runs (ev a) z.t z.opened z.free)
+
   commit_comes : (a : Option Answer) → CommitCall events c k.told x h q r a d → Comes a d
   commit_comes None z =
       let further : z.progress ≡ progress.More = goes_further z.progress z.answer in
-      as_comes None None _ refl (z.left ∙ ap (λ p. after h (next_of p) z.u) further) (commits_see catalog (E None) c (running_of h.begun k.told) z.u _ (z.told.next further))
+      as_comes None None _ refl (z.left ∙ ap (λ p. after h (next_of p) z.u) further) (commits_see catalog (E None) c (running_of h.begun k.told) z.u z.k.work.writes _ (λ y n. ap (λ (w : Work). w.writes) n.0) (commit_wrote None z) (z.told.next further))
   commit_comes (Some b) z =
       as_comes (Some b) (Some b) (resting h) refl (z.left ∙ ap (λ (n : Next). after h n z.u) (ends_only z.progress b z.answer))
       (follows.ended_follows catalog events c h k runs (ev (Some b)) (done b) (resting h) (inl (follows.ends_stays (done b) (ends_commit (done b) z.is.text))) refl)
@@ -186,7 +200,7 @@ module _ (catalog : List Table) (is : is_catalog catalog ≡ true) (apart : (k :
 
     -- the statement has read nothing
     fails : (b : Answer) → changes_nothing b ≡ true → Left (next.Answer b) (idle t)
-    fails b nothing = follows.held_follows catalog events c h k runs (ev (Some b)) t z.opened z.free (done b) (idle t) (follows.nothing_stays (done b) b refl nothing) refl (sees (Some b))
+    fails b nothing = follows.held_follows catalog events c h k runs (ev (Some b)) t z.opened z.free (done b) (idle t) (follows.nothing_stays (done b) b refl nothing) refl refl (sees (Some b))
 
     further : (s : ReadStage) → Left next.Call (record t { doing = doing.Read z.access (record z.x { stage = s }) })
     further s = sees None
@@ -205,7 +219,7 @@ module _ (catalog : List Table) (is : is_catalog catalog ≡ true) (apart : (k :
     gives_rows images e =
         let b : Answer = given_answer (noting t z.access images) (gives p z.access (noting t z.access images)) in
         follows.given_follows catalog events c h k runs (ev (Some b)) t z.opened z.free (done b) p z.access (idle t) (noting t z.access images)
-        (record { is = is; named = z.asked.named; asked = z.asked.asked; taken = z.asked.taken; literals = z.asked.literals; access = z.asked.access }) z.is.text z.is.inner.commit refl refl (sees (Some b))
+        (record { is = is; named = z.asked.named; asked = z.asked.asked; taken = z.asked.taken; literals = z.asked.literals; access = z.asked.access }) z.is.text z.is.inner.commit refl (refl, refl) (noted_idle t z.access images, same_writes t z.access images) (sees (Some b))
         (view_found (view_after catalog (E (Some b)) c (running_of h.begun k.told) (sees (Some b)).run) t z.access images (found_by (calls_of (E (Some b)) c (done b))) (sees (Some b)).sees (kept t z.free z.opened z.access z.x z.reads)
         (λ key. ap (λ cs. value_at (found_by cs) key) (calls_done b) ∙ found_now (ms ++ made ∷ []) z.access images (has_read images e) (has_found images e) own key))
         (fits_now catalog p z.access listed of_table (ms ++ made ∷ []) t images (has_read images e) fit) (scans_then b images e)
@@ -243,9 +257,20 @@ module _ (catalog : List Table) (is : is_catalog catalog ≡ true) (apart : (k :
   call_comes a (inr (inl z)) = read_comes a z
   call_comes a (inr (inr z)) = commit_comes a z
 
+  -- the COMMIT that is answered prepared what was written
+  last_wrote : (b : Answer) → CallOf catalog events c k.told x h q r now (Some b) d → LastWrote catalog (E (Some b)) c k.told (done b)
+  last_wrote b (inl z) reads opened = clash (sym opened ∙ follows.closed catalog events c h k runs (ev (Some b)) z.rests)
+  last_wrote b (inr (inl z)) reads opened = clash (sym reads ∙ z.is.inner.commit)
+  last_wrote b (inr (inr z)) reads opened =
+      subst (λ n. CommitWrote catalog (E (Some b)) c (running_of n k.told) (id_of c n) (calls_of (E (Some b)) c (done b))) k.begun
+      (λ statements read.
+      subst (λ ks. PreparesAll ks (id_of c h.begun) (calls_of (E (Some b)) c (done b))) (commit_wrote (Some b) z statements read)
+      (subst (λ i. PreparesAll (write_keys z.k.work.writes) i (calls_of (E (Some b)) c (done b))) (z.is.same ∙ z.since.id)
+      (subst (PreparesAll (write_keys z.k.work.writes) z.k.work.id) (sym (calls_done b)) (call_prepares catalog events c h d store q how r now k.told x prepares waits (Some b) z))))
+
   -- So it is after the reply to its call.
   pub calls_runs : (a : Option Answer) → CallOf catalog events c k.told x h q r now a d → ClientRuns catalog (E a) c d
   calls_runs None z = follows.still_runs catalog events c h k runs (ev None) d (ap (filter is_answered) (silent_said c events store q how r) ∙ answered_of_is catalog events c h k) (call_comes None z)
   calls_runs (Some b) z =
       follows.next_runs catalog events c h k runs (ev (Some b)) (done b) d
-      (ap (filter is_answered) (call_said c events store q how r b k.told x (k.same ∙ ap (λ (o : Option Said). k.told ++ waiting_of o) waiting)) ∙ filter-append is_answered k.told (done b ∷ []) ∙ ap (λ ss. ss ++ done b ∷ []) (all_answered catalog events c k.told k.answered)) (call_comes (Some b) z)
+      (ap (filter is_answered) (call_said c events store q how r b k.told x (k.same ∙ ap (λ (o : Option Said). k.told ++ waiting_of o) waiting)) ∙ filter-append is_answered k.told (done b ∷ []) ∙ ap (λ ss. ss ++ done b ∷ []) (all_answered catalog events c k.told k.answered)) (call_comes (Some b) z) (last_wrote b z)

@@ -1,5 +1,5 @@
 -- A statement that is answered from the rows that its transaction sees runs on what was found, and leaves what the transaction then has.
-use Rattle.std.proofs.Common.{◌≡◌, ◌⊎◌, inl, inr, ℕ, Bool, true, false, not, List, [], ◌∷◌, ◌++◌, Option, Some, None, refl, sym, ap, subst, ◌∙◌}
+use Rattle.std.proofs.Common.{◌≡◌, ◌⊎◌, inl, inr, ℕ, Bool, true, false, not, List, [], ◌∷◌, ◌++◌, map, Option, Some, None, refl, sym, ap, subst, ◌∙◌}
 use Rattle.std.specs.Prelude.{◌&&◌, if◌then◌else◌, is_some}
 use Rattle.std.specs.FinMap.{get}
 use Rattle.sdb_types.specs.declared.key.Key.{Key}
@@ -12,7 +12,7 @@ use Rattle.sdb_model.specs.declared.event.Event.{Event}
 use Rattle.sdb_model.specs.Access.{with_changes}
 use Rattle.sdb_model.specs.Calls.{calls_of}
 use Rattle.sdb_model.specs.Causes.{refused}
-use Rattle.sdb_model.specs.Exec.{Tables, exec, named_table}
+use Rattle.sdb_model.specs.Exec.{Tables, all_rows, exec, named_table, table_of}
 use Rattle.sdb_model.specs.Refused.{refusal_of}
 use Rattle.sdb_model.specs.Sql.{Reads, reads_commit}
 use Rattle.sdb_model.specs.Transactions.{Said, changes_nothing, is_effective}
@@ -20,20 +20,26 @@ use Rattle.sdb_exec.specs.declared.plan.PlanStep.{PlanStep}
 use Rattle.sdb_exec.specs.declared.plan.PlanStep.TheVariants.{Finished}
 use Rattle.sdb_exec.specs.Plans.{Planned, answer_on, changes_on, first_unfit, has_all_literals, step_of}
 use Rattle.sdb_exec.specs.Reads.{access_of}
+use Rattle.sdb_exec.proofs.Places.{named_is_table}
 use Rattle.sdb_snapshot.specs.Rows.{tables_of_notes}
 use Rattle.sdb_snapshot.specs.Seen.{overlay, tables_seen, with_written}
 use Rattle.sdb_snapshot.specs.Written.{with_writes}
 use Rattle.sdb_snapshot.proofs.Shown.{get_seen, own_is}
 use Rattle.sdb_txn.specs.Txn.{TxnAt}
 use Rattle.sdb_client.specs.Client.{given_answer, given_left, gives, too_many, written}
-use Rattle.sdb_steps.proofs.RowsFit.{answers_on}
+use Rattle.sdb_steps.proofs.RowsFit.{answers_on, found_itself}
+use Rattle.sdb_session.specs.Keys.{keys_written, with_keys}
+use Rattle.sdb_session.proofs.Fits.{all_in_fit}
+use Rattle.sdb_session.proofs.Keys.{keys_changed, keys_with}
 use Rattle.sdb_causes.specs.Unfit.{SeesFit}
 use Rattle.sdb_causes.proofs.Given.{asked_gives, given_middle}
 use Rattle.sdb_causes.proofs.Shows.{effective_by}
 use Rattle.sdb_causes.proofs.Takings.{middle_ends}
 use Rattle.sdb_executions.specs.Found.{IsRunOnFound, View, exec_on, found_by, is_answered, with_found}
+use Rattle.sdb_executions.specs.Written.{keys_of}
 use Rattle.sdb_executions.proofs.Running.{HoldsScans, RunsTo, is_running, runs_more, view_after}
 use Rattle.sdb_executions.proofs.Views.{IsViewOf, view_tables}
+use Rattle.sdb_executions.proofs.Writing.{write_keys}
 use Rattle.sdb_causes.proofs.Unfit.{fit_tables}
 
 ---- what a plan gives
@@ -76,7 +82,8 @@ module _ (p : Planned) (a : Access) (was v : TxnAt) (asked : p.asked ≡ true) w
 
 ---- a statement
 
--- what a transaction sees fits where its tables do
+changes_are : (a b : Answer) (ks ls : List Keyed) → Finished a ks ≡ Finished b ls → ks ≡ ls
+changes_are a b ks ls e = cc
 
 -- A statement whose plan is on its access, taken by the catalog.
 pub record IsPlannedOn (catalog : List Table) (p : Planned) (a : Access) : Type 0 where
@@ -88,7 +95,8 @@ pub record IsPlannedOn (catalog : List Table) (p : Planned) (a : Access) : Type 
   pub access : a ≡ access_of p.table p.statement
 
 module _ (catalog : List Table) (events : List Event) (c : ℕ) (ss : List Said) (z : Said) (p : Planned) (a : Access) (on : IsPlannedOn catalog p a) (was v : TxnAt) (reads : Reads z.text p.statement) (answered : z.answer ≡ Some (given_answer v (gives p a v)))
-    (run : IsRunOnFound catalog events c ss) (now : IsViewOf (with_found (view_after catalog events c ss run) (found_by (calls_of events c z))) v.seen) (fits : first_unfit p.table (overlay a v.seen) ≡ None → SeesFit catalog v.seen) (scans : HoldsScans events c (ss ++ z ∷ []) v.seen) where
+    (run : IsRunOnFound catalog events c ss) (now : IsViewOf (with_found (view_after catalog events c ss run) (found_by (calls_of events c z))) v.seen) (fits : first_unfit p.table (overlay a v.seen) ≡ None → SeesFit catalog v.seen) (scans : HoldsScans events c (ss ++ z ∷ []) v.seen)
+    (before : write_keys v.seen.writes ≡ keys_of catalog events c ss run.statements) where
   abbrev w : View
   w = with_found (view_after catalog events c ss run) (found_by (calls_of events c z))
 
@@ -105,8 +113,18 @@ module _ (catalog : List Table) (events : List Event) (c : ℕ) (ss : List Said)
       rows = λ q. ap (λ (x : Answer × Tables). get x.1 q) execs ∙ ap (λ (d : Tables). get d q) (sym (own_is (tables_of_notes v.seen.notes) v.seen.notes v.seen.writes ks)) ∙ get_seen v.seen.notes (with_writes v.seen.notes v.seen.writes ks) q;
     }
 
-    runs_written : z.answer ≡ Some b → RunsTo catalog events c (ss ++ z ∷ []) (with_written v.seen ks)
-    runs_written is = runs_more catalog events c ss z p.statement b (with_written v.seen ks) run reads is (ap (λ (x : Answer × Tables). x.0) execs) left_view scans
+    -- its changes are of the keys that it writes
+    changes : first_unfit p.table (overlay a v.seen) ≡ None → map (λ (k : Keyed). k.key) ks ≡ keys_written catalog p.statement w.rows
+    changes none =
+        ap (map (λ (k : Keyed). k.key)) (changes_are b (answer_on p.table p.statement (overlay a v.seen)) ks (changes_on p.table p.statement (overlay a v.seen)) (sym step ∙ asked_gives p (overlay a v.seen) None on.asked none))
+        ∙ ap (λ (x : Access). map (λ (k : Keyed). k.key) (changes_on p.table p.statement (overlay x v.seen))) on.access
+        ∙ keys_changed catalog p.table p.statement (tables_seen v.seen) (named_is_table catalog p.statement p.table on.is on.named) on.named (all_in_fit catalog p.table (all_rows (tables_seen v.seen)) (found_itself catalog (table_of p.statement) p.table on.named) (fit_tables catalog v.seen fit))
+        ∙ sym (ap (keys_written catalog p.statement) (view_tables w v.seen now))
+
+    runs_written : z.answer ≡ Some b → first_unfit p.table (overlay a v.seen) ≡ None → RunsTo catalog events c (ss ++ z ∷ []) (with_written v.seen ks)
+    runs_written is none =
+        runs_more catalog events c ss z p.statement b (with_written v.seen ks) run reads is (ap (λ (x : Answer × Tables). x.0) execs) left_view scans
+        (keys_with v.seen.notes v.seen.writes ks ∙ ap (λ (qs : List Key). with_keys qs (map (λ (k : Keyed). k.key) ks)) before ∙ ap (with_keys (keys_of catalog events c ss run.statements)) (changes none))
 
   -- it runs where it changed something, or shows it
   running_by : (t : Bool) → reads_commit z.text ≡ false → changes_nothing (given_answer v (gives p a v)) ≡ t → is_running z ≡ not t
@@ -128,5 +146,5 @@ module _ (catalog : List Table) (events : List Event) (c : ℕ) (ss : List Said)
       by (inl h) = inr (running_by true no_commit h.0, h.1)
       by (inr h) = inl (
         running_by false no_commit h.some,
-        subst (λ (u : TxnAt). RunsTo catalog events c (ss ++ z ∷ []) u.seen) (sym h.left) (runs_written h.answer h.changes (fits h.fits) h.step (answered ∙ ap Some h.gives_it)),
+        subst (λ (u : TxnAt). RunsTo catalog events c (ss ++ z ∷ []) u.seen) (sym h.left) (runs_written h.answer h.changes (fits h.fits) h.step (answered ∙ ap Some h.gives_it) h.fits),
       )

@@ -6,28 +6,36 @@ use Rattle.std.proofs.lemmas.List.{append-nil}
 use Rattle.std.proofs.lemmas.List.Elements.{filter-append}
 use Rattle.sdb_types.proofs.Basics.{clash, none_some}
 use Rattle.sdb_record.specs.declared.access.Access.{Access}
+use Rattle.sdb_record.specs.declared.write.Write.{Write}
 use Rattle.sdb_schema.specs.declared.table.Table.{Table}
 use Rattle.sdb_model.specs.declared.answer.Answer.{Answer}
 use Rattle.sdb_model.specs.declared.event.Event.{Event}
+use Rattle.sdb_model.specs.declared.statement.Statement.{Statement}
 use Rattle.sdb_model.specs.Calls.{calls_of}
 use Rattle.sdb_model.specs.Sql.{Reads, reads_commit}
+use Rattle.sdb_model.specs.Told.{AreRead}
 use Rattle.sdb_model.specs.Transactions.{Said, changes_nothing, ends, from_begin, is_effective, rest_of, said}
+use Rattle.sdb_exec.specs.declared.plan.PlanStep.{PlanStep}
+use Rattle.sdb_exec.specs.declared.plan.PlanStep.TheVariants.{Finished, Read as Wants}
 use Rattle.sdb_exec.specs.Plans.{Planned, first_unfit}
 use Rattle.sdb_snapshot.specs.Seen.{Seen, overlay}
 use Rattle.sdb_txn.specs.declared.txn.Doing.{Doing}
 use Rattle.sdb_txn.specs.declared.txn.Doing.TheVariants as doing
 use Rattle.sdb_txn.specs.Txn.{TxnAt}
-use Rattle.sdb_client.specs.Client.{ClientAt, given_answer, given_left, gives, holding}
+use Rattle.sdb_client.specs.Client.{ClientAt, given_answer, given_left, gives, holding, written}
 use Rattle.sdb_story.specs.Telling.{waiting_of}
 use Rattle.sdb_causes.specs.Tied.{IsAnswered, IsOpenAs, IsWaiting, Knows, StandsIn, StandsOn, begun_in, open_after}
 use Rattle.sdb_causes.specs.Unfit.{SeesFit}
 use Rattle.sdb_causes.proofs.Lists.{since_more, since_none}
 use Rattle.sdb_causes.proofs.Shows.{effective_by}
 use Rattle.sdb_vacuum.specs.Vacuum.{VacuumAt}
-use Rattle.sdb_executions.specs.Found.{IsRunOnFound, found_by, is_answered, with_found}
+use Rattle.sdb_executions.specs.Found.{IsRunOnFound, found_by, is_answered, nothing_found, with_found}
+use Rattle.sdb_executions.specs.Written.{keys_of, written_on_found}
 use Rattle.sdb_executions.proofs.FoundGiven.{IsPlannedOn, given_runs}
-use Rattle.sdb_executions.proofs.Running.{HoldsScans, RunsTo, each_more, each_running, goes_on, is_running, none_run, run_stays, running, running_more, running_of, running_same, runs_stay, view_after}
+use Rattle.sdb_executions.proofs.Running.{HoldsScans, RunsTo, each_more, each_running, finds_stay, goes_on, is_running, none_run, run_stays, running, running_more, running_of, running_same, runs_stay, view_after}
 use Rattle.sdb_executions.proofs.Views.{IsViewOf}
+use Rattle.sdb_executions.proofs.Writing.{read_once, write_keys}
+use Rattle.sdb_executions.proofs.WroteCommits.{CommitsWrote, LastWrote, commits_more, commits_still}
 
 ---- a client
 
@@ -35,18 +43,29 @@ use Rattle.sdb_executions.proofs.Views.{IsViewOf}
 abbrev pub answered_of : ℕ → List Event → List Said
 answered_of c events = filter is_answered (said c events)
 
--- An open transaction has what its statements left, until its COMMIT is taken.
+-- writes are of the keys that statements wrote
+abbrev pub WroteAs : List Table → List Event → ℕ → List Said → List Write → Type 0
+WroteAs catalog events c ss ws = (statements : List Statement) → AreRead ss statements → write_keys ws ≡ keys_of catalog events c ss statements
+
+-- An open transaction has what its statements left, until its COMMIT is taken, which then writes what they wrote.
 abbrev pub SeesIn : List Table → List Event → ℕ → List Said → Seen → Doing → Type 0
-SeesIn catalog events c ss s (doing.Commit k) = Unit {0}
+SeesIn catalog events c ss s (doing.Commit k) = WroteAs catalog events c ss k.work.writes
 SeesIn catalog events c ss s d = RunsTo catalog events c ss s
 
 abbrev pub SeesRun : List Table → List Event → ℕ → List Said → TxnAt → Type 0
 SeesRun catalog events c ss t = SeesIn catalog events c ss t.seen t.doing
 
--- Each transaction of a client ran on what it found, and its open one has what that left.
+-- Each transaction of a client ran on what it found, its open one has what that left, and each COMMIT prepares what its statements wrote.
 pub record ClientRuns (catalog : List Table) (events : List Event) (c : ℕ) (h : ClientAt) : Type 0 where
   pub ran : (n : ℕ) → IsRunOnFound catalog events c (running_of n (answered_of c events))
   pub sees : IfSome h.txn (SeesRun catalog events c (running_of h.begun (answered_of c events)))
+  pub commits : CommitsWrote catalog events c (answered_of c events)
+
+pub runs_wrote : (catalog : List Table) (events : List Event) (c : ℕ) (ss : List Said) (s : Seen) → RunsTo catalog events c ss s → WroteAs catalog events c ss s.writes
+runs_wrote catalog events c ss s r statements read = r.writes ∙ ap (keys_of catalog events c ss) (read_once ss r.run.statements statements r.run.read read)
+
+wrote_stays : (catalog : List Table) (events : List Event) (e : Event) (c : ℕ) (ss : List Said) (ws : List Write) → AllByRecursion (IsAnswered catalog events c) ss → WroteAs catalog events c ss ws → WroteAs catalog (events ++ e ∷ []) c ss ws
+wrote_stays catalog events e c ss ws all h statements read = h statements read ∙ ap (λ fs. written_on_found catalog fs statements nothing_found []) (sym (finds_stay catalog events e c ss all))
 
 ---- what it was past
 
@@ -60,6 +79,15 @@ answered_of_is catalog events c h k = ap (filter is_answered) k.same ∙ filter-
     by : (o : Option Said) → IfSome o (IsWaiting catalog events c (is_some h.vacuum)) → k.told ++ filter is_answered (waiting_of o) ≡ k.told ++ []
     by None h = refl
     by (Some w) x = ap (λ (o : Option Answer). k.told ++ (if is_some o then w ∷ [] else [])) x.unanswered
+
+-- the transaction that a statement leaves does nothing
+left_idle : (was v : TxnAt) (x : PlanStep) → was.doing ≡ doing.Idle → v.doing ≡ doing.Idle → (given_left was v x).doing ≡ doing.Idle
+left_idle was v (Finished b ks) h k = by (changes_nothing (given_answer v (Finished b ks)))
+  where
+    by : (t : Bool) → (if t then was else written v ks).doing ≡ doing.Idle
+    by true = h
+    by false = k
+left_idle was v (Wants a) h k = h
 
 ---- statements that don't run
 
@@ -84,16 +112,10 @@ running_of_more : (n : ℕ) (past : List Said) (z begin : Said) (body : List Sai
 running_of_more n past z begin body since opens runs =
     ap (λ x. running (rest_of x)) (since_more n past z begin body since) ∙ running_more body z opens ∙ ap (λ b. running body ++ (if b then z ∷ [] else [])) runs ∙ ap (λ x. running (rest_of x) ++ z ∷ []) (sym since)
 
-sees_weak : (catalog : List Table) (events : List Event) (c : ℕ) (ss : List Said) (s : Seen) (d : Doing) → RunsTo catalog events c ss s → SeesIn catalog events c ss s d
-sees_weak catalog events c ss s doing.Idle h = h
-sees_weak catalog events c ss s (doing.Read a x) h = h
-sees_weak catalog events c ss s (doing.Commit k) h = tt
-sees_weak catalog events c ss s doing.Over h = h
-
 sees_stay : (catalog : List Table) (events : List Event) (e : Event) (c : ℕ) (ss : List Said) (s : Seen) (d : Doing) → AllByRecursion (IsAnswered catalog events c) ss → SeesIn catalog events c ss s d → SeesIn catalog (events ++ e ∷ []) c ss s d
 sees_stay catalog events e c ss s doing.Idle all h = runs_stay catalog events e c ss s all h
 sees_stay catalog events e c ss s (doing.Read a x) all h = runs_stay catalog events e c ss s all h
-sees_stay catalog events e c ss s (doing.Commit k) all h = tt
+sees_stay catalog events e c ss s (doing.Commit k) all h = wrote_stays catalog events e c ss k.work.writes all h
 sees_stay catalog events e c ss s doing.Over all h = runs_stay catalog events e c ss s all h
 
 ---- one event more
@@ -119,17 +141,26 @@ module _ (catalog : List Table) (events : List Event) (c : ℕ) (h : ClientAt) (
   abbrev Stays : ClientAt → Type 0
   Stays d = IfSome d.txn (SeesRun catalog E c (running_of d.begun k.told))
 
+  -- the COMMITs that were answered
+  wrote_then : CommitsWrote catalog E c k.told
+  wrote_then = commits_still catalog events e c k.told k.answered (subst (CommitsWrote catalog events c) answered_same runs.commits)
+
   pub still_runs : (d : ClientAt) → answered_of c E ≡ k.told → Stays d → ClientRuns catalog E c d
-  still_runs d same sees = record { ran = λ n. subst (λ ts. IsRunOnFound catalog E c (running_of n ts)) (sym same) (ran_then n); sees = subst (λ ts. IfSome d.txn (SeesRun catalog E c (running_of d.begun ts))) (sym same) sees }
+  still_runs d same sees = record {
+    ran = λ n. subst (λ ts. IsRunOnFound catalog E c (running_of n ts)) (sym same) (ran_then n);
+    sees = subst (λ ts. IfSome d.txn (SeesRun catalog E c (running_of d.begun ts))) (sym same) sees;
+    commits = subst (CommitsWrote catalog E c) (sym same) wrote_then;
+  }
 
   -- where one is
   abbrev pub Follows : Said → ClientAt → Type 0
   Follows z d = (open_after k.told ≡ true → is_running z ≡ true → IsRunOnFound catalog E c (running_of (begun_in k.told) k.told ++ z ∷ [])) × IfSome d.txn (SeesRun catalog E c (running_of d.begun (k.told ++ z ∷ [])))
 
-  pub next_runs : (z : Said) (d : ClientAt) → answered_of c E ≡ k.told ++ z ∷ [] → Follows z d → ClientRuns catalog E c d
-  next_runs z d same f = record {
+  pub next_runs : (z : Said) (d : ClientAt) → answered_of c E ≡ k.told ++ z ∷ [] → Follows z d → LastWrote catalog E c k.told z → ClientRuns catalog E c d
+  next_runs z d same f last = record {
     ran = λ n. subst (λ ts. IsRunOnFound catalog E c (running_of n ts)) (sym same) (each_more (IsRunOnFound catalog E c) k.told z k.counted.paired (none_run catalog E c) ran_then f.0 n);
     sees = subst (λ ts. IfSome d.txn (SeesRun catalog E c (running_of d.begun ts))) (sym same) f.1;
+    commits = subst (CommitsWrote catalog E c) (sym same) (commits_more catalog E c k.told z k.counted.paired wrote_then last);
   }
 
   ---- where its transaction is
@@ -137,8 +168,8 @@ module _ (catalog : List Table) (events : List Event) (c : ℕ) (h : ClientAt) (
   abbrev At : Said → TxnAt → Type 0
   At z u = SeesRun catalog E c (running_of h.begun (k.told ++ z ∷ [])) u
 
-  sees_same : (z : Said) (s : Seen) (u : TxnAt) → is_running z ≡ false → u.seen ≡ s → RunsTo catalog E c (running_of h.begun k.told) s → At z u
-  sees_same z s u none same r = subst (λ xs. SeesIn catalog E c xs u.seen u.doing) (sym (running_of_same h.begun k.told z none)) (sees_weak catalog E c (running_of h.begun k.told) u.seen u.doing (subst (RunsTo catalog E c (running_of h.begun k.told)) (sym same) r))
+  sees_same : (z : Said) (s : Seen) (u : TxnAt) → is_running z ≡ false → u.doing ≡ doing.Idle → u.seen ≡ s → RunsTo catalog E c (running_of h.begun k.told) s → At z u
+  sees_same z s u none idle same r = subst (λ xs. SeesIn catalog E c xs u.seen u.doing) (sym (running_of_same h.begun k.told z none)) (subst (SeesIn catalog E c (running_of h.begun k.told) u.seen) (sym idle) (subst (RunsTo catalog E c (running_of h.begun k.told)) (sym same) r))
 
   -- no transaction is open
   pub closed : h.txn ≡ None → open_after k.told ≡ false
@@ -182,18 +213,21 @@ module _ (catalog : List Table) (events : List Event) (c : ℕ) (h : ClientAt) (
     sees_open = subst (λ (o : Option TxnAt). IfSome o (SeesRun catalog E c (running_of h.begun k.told))) some sees_then
 
     -- it is answered that nothing was changed
-    pub held_follows : (z : Said) (u : TxnAt) → is_running z ≡ false → u.seen ≡ t.seen → RunsTo catalog E c (running_of h.begun k.told) t.seen → Follows z (holding h u)
-    held_follows z u none same r = (no_more z (inl none), sees_same z t.seen u none same r)
+    pub held_follows : (z : Said) (u : TxnAt) → is_running z ≡ false → u.doing ≡ doing.Idle → u.seen ≡ t.seen → RunsTo catalog E c (running_of h.begun k.told) t.seen → Follows z (holding h u)
+    held_follows z u none idle same r = (no_more z (inl none), sees_same z t.seen u none idle same r)
 
     -- it is answered from the rows that are seen
-    pub given_follows : (z : Said) (p : Planned) (a : Access) (was v : TxnAt) → IsPlannedOn catalog p a → Reads z.text p.statement → reads_commit z.text ≡ false → z.answer ≡ Some (given_answer v (gives p a v)) → was.seen ≡ t.seen → (r : RunsTo catalog E c (running_of h.begun k.told) t.seen)
+    pub given_follows : (z : Said) (p : Planned) (a : Access) (was v : TxnAt) → IsPlannedOn catalog p a → Reads z.text p.statement → reads_commit z.text ≡ false → z.answer ≡ Some (given_answer v (gives p a v)) → (was.doing ≡ doing.Idle) × (was.seen ≡ t.seen) → (v.doing ≡ doing.Idle) × (v.seen.writes ≡ t.seen.writes) → (r : RunsTo catalog E c (running_of h.begun k.told) t.seen)
         → IsViewOf (with_found (view_after catalog E c (running_of h.begun k.told) r.run) (found_by (calls_of E c z))) v.seen → (first_unfit p.table (overlay a v.seen) ≡ None → SeesFit catalog v.seen) → HoldsScans E c (running_of h.begun k.told ++ z ∷ []) v.seen → Follows z (holding h (given_left was v (gives p a v)))
-    given_follows z p a was v on reads no_commit answered same r now fits scans = by (given_runs catalog E c (running_of h.begun k.told) z p a on was v reads answered r.run now fits scans no_commit)
+    given_follows z p a was v on reads no_commit answered same unwritten r now fits scans = by (given_runs catalog E c (running_of h.begun k.told) z p a on was v reads answered r.run now fits scans (ap write_keys unwritten.1 ∙ r.writes) no_commit)
       where
+        rests : (given_left was v (gives p a v)).doing ≡ doing.Idle
+        rests = left_idle was v (gives p a v) same.0 unwritten.0
+
         by : ((is_running z ≡ true) × RunsTo catalog E c (running_of h.begun k.told ++ z ∷ []) (given_left was v (gives p a v)).seen) ⊎ ((is_running z ≡ false) × (given_left was v (gives p a v) ≡ was)) → Follows z (holding h (given_left was v (gives p a v)))
         by (inl x) = (
           λ opened_now runs_now. subst (λ n. IsRunOnFound catalog E c (running_of n k.told ++ z ∷ [])) k.begun x.1.run,
-          sees_weak catalog E c (running_of h.begun (k.told ++ z ∷ [])) (given_left was v (gives p a v)).seen (given_left was v (gives p a v)).doing
+          subst (SeesIn catalog E c (running_of h.begun (k.told ++ z ∷ [])) (given_left was v (gives p a v)).seen) (sym rests)
               (subst (λ xs. RunsTo catalog E c xs (given_left was v (gives p a v)).seen) (sym (running_of_more h.begun k.told z opened.begin opened.body opened.since opened.goes_on x.0)) x.1),
         )
-        by (inr x) = held_follows z (given_left was v (gives p a v)) x.0 (ap (λ (u : TxnAt). u.seen) x.1 ∙ same) r
+        by (inr x) = held_follows z (given_left was v (gives p a v)) x.0 rests (ap (λ (u : TxnAt). u.seen) x.1 ∙ same.1) r

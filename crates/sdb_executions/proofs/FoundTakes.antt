@@ -13,11 +13,11 @@ use Rattle.sdb_model.specs.declared.event.Event.{Event}
 use Rattle.sdb_model.specs.declared.event.Event.TheVariants as event
 use Rattle.sdb_model.specs.declared.statement.Statement.{Statement}
 use Rattle.sdb_model.specs.declared.statement.Statement.TheVariants as statement
-use Rattle.sdb_model.specs.Calls.{Made}
+use Rattle.sdb_model.specs.Calls.{Made, calls_of}
 use Rattle.sdb_model.specs.Exec.{named_table}
 use Rattle.sdb_model.specs.Refused.{refusal_by, refusal_of}
 use Rattle.sdb_model.specs.Sql.{Reads, reads_commit}
-use Rattle.sdb_model.specs.Transactions.{Said, begins, changes_nothing, ends, rest_of, said}
+use Rattle.sdb_model.specs.Transactions.{Said, begins, changes_nothing, ends, id_of, rest_of, said}
 use Rattle.sdb_exec.specs.Reads.{access_of}
 use Rattle.sdb_snapshot.specs.Seen.{nothing}
 use Rattle.sdb_sqltext.proofs.OneWord.{begin_read, rollback_read}
@@ -38,6 +38,7 @@ use Rattle.sdb_executions.proofs.FoundSteps.{ClientRuns, SeesIn, SeesRun, answer
 use Rattle.sdb_executions.proofs.FoundSteps as steps
 use Rattle.sdb_executions.proofs.Running.{HoldsScans, RunsTo, is_running, none_runs, running, running_of, scanned_more, view_after}
 use Rattle.sdb_executions.proofs.Views.{IsViewOf}
+use Rattle.sdb_executions.proofs.WroteCommits.{none_wrote}
 
 module _ (q : Taking) (is : is_catalog q.catalog ≡ true) (events : List Event) (c : ℕ) (text : List ℕ) (h : ClientAt) (k : Knows q.catalog events c h) (runs : ClientRuns q.catalog events c h) (idle : IsIdle h) where
   abbrev E : Option Answer → List Event
@@ -82,10 +83,6 @@ module _ (q : Taking) (is : is_catalog q.catalog ≡ true) (events : List Event)
   begin_comes : (o : Option TxnAt) (a : Option Answer) (d : ClientAt) → h.txn ≡ o → Reads text statement.Begin → BeginTold q.gate q.fresh h o a d → Comes a d
   begin_comes None a d e reads t = gate_comes q.gate.vacuum_runs a d e reads t
   begin_comes (Some x) a d e reads t = answer_comes _ a d t (inl refl)
-
-  commit_comes : (o : Option TxnAt) (a : Option Answer) (d : ClientAt) → h.txn ≡ o → CommitTaken q.now h o a d → Comes a d
-  commit_comes None a d e t = answer_comes _ a d t (inl refl)
-  commit_comes (Some x) a d e t = as_comes a d None (holding h (committing x q.now)) t.0 t.1 tt
 
   rollback_comes : (o : Option TxnAt) (a : Option Answer) (d : ClientAt) → Reads text statement.Rollback → RollbackTold h o a d → Comes a d
   rollback_comes None a d reads t = answer_comes _ a d t (inl refl)
@@ -135,7 +132,7 @@ module _ (q : Taking) (is : is_catalog q.catalog ≡ true) (events : List Event)
         known : Comes (Some (given st table)) (holding h (given_left t t (gives (plan_of table st) (access_of table st) t)))
         known =
             steps.given_follows q.catalog events c h k runs (event.Take c text (Some (given st table))) t some idle.free (one (Some (given st table))) (plan_of table st) (access_of table st) t t
-            (record { is = is; named = named; asked = refl; taken = taken; literals = literals_read text st reads; access = refl }) reads no_commit refl refl (sees (Some (given st table)))
+            (record { is = is; named = named; asked = refl; taken = taken; literals = literals_read text st reads; access = refl }) reads no_commit refl (still, refl) (still, refl) (sees (Some (given st table)))
             (subst (λ (ms : List Made). IsViewOf (with_found (view_after q.catalog (E (Some (given st table))) c (running_of h.begun k.told) (sees (Some (given st table))).run) (found_by ms)) t.seen) (sym (none_yet c events text (Some (given st table)))) (sees (Some (given st table))).sees) (λ n. fit) (scans (Some (given st table)))
 
     table_comes : (st : Statement) (a : Option Answer) (d : ClientAt) → Reads text st → reads_commit text ≡ false → TableTold q.catalog st h t a d → Comes a d
@@ -152,6 +149,10 @@ module _ (q : Taking) (is : is_catalog q.catalog ≡ true) (events : List Event)
   ask_comes : (st : Statement) (o : Option TxnAt) (a : Option Answer) (d : ClientAt) → h.txn ≡ o → Reads text st → reads_commit text ≡ false → AskTold q.catalog st h o a d → Comes a d
   ask_comes st None a d e reads no_commit t = answer_comes _ a d t (inl refl)
   ask_comes st (Some x) a d e reads no_commit t = table_comes x e st a d reads no_commit t
+
+  commit_comes : (o : Option TxnAt) (a : Option Answer) (d : ClientAt) → h.txn ≡ o → CommitTaken q.now h o a d → Comes a d
+  commit_comes None a d e t = answer_comes _ a d t (inl refl)
+  commit_comes (Some x) a d e t = as_comes a d None (holding h (committing x q.now)) t.0 t.1 (steps.runs_wrote q.catalog (E None) c (running_of h.begun k.told) x.seen (sees x e None))
 
   ---- each text
 
@@ -193,4 +194,6 @@ module _ (q : Taking) (is : is_catalog q.catalog ≡ true) (events : List Event)
 
       by : (b : Option Answer) → Comes b d → ClientRuns q.catalog (E b) c d
       by None z = steps.still_runs q.catalog events c h k runs (event.Take c text None) d (now None ∙ append-nil k.told) z
-      by (Some b) z = steps.next_runs q.catalog events c h k runs (event.Take c text (Some b)) (one (Some b)) d (now (Some b)) z
+      by (Some b) z =
+          steps.next_runs q.catalog events c h k runs (event.Take c text (Some b)) (one (Some b)) d (now (Some b)) z
+          (λ reads opened. none_wrote q.catalog (E (Some b)) c (running_of (begun_in k.told) k.told) (id_of c (begun_in k.told)) (calls_of (E (Some b)) c (one (Some b))) (none_yet c events text (Some b)))

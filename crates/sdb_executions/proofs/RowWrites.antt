@@ -73,6 +73,21 @@ undo_key : (c : Condition) (k : Key) (o : Option Record) → IfSome o (IsBaseOf 
 undo_key c k None is = refl
 undo_key c k (Some b) is = ap Some is.0
 
+-- the checks of a COMMIT only read
+pub checks_read : (p : Work) → AllByRecursion (λ c. is_read c.request ≡ true) (checks p)
+checks_read p =
+    each_append (λ (c : Check). is_read c.request ≡ true) (map check_of_read (filter (λ r. not (is_written p.writes r.key)) p.reads)) (map (check_of_scan p.writes) p.scans)
+    (each_map (λ (c : Check). is_read c.request ≡ true) check_of_read (filter (λ r. not (is_written p.writes r.key)) p.reads) (reads (filter (λ r. not (is_written p.writes r.key)) p.reads)))
+    (each_map (λ (c : Check). is_read c.request ≡ true) (check_of_scan p.writes) p.scans (scans p.scans))
+  where
+    reads : (xs : List Read) → AllByRecursion (λ r. is_read (check_of_read r).request ≡ true) xs
+    reads [] = tt
+    reads (x ∷ xs) = (refl, reads xs)
+
+    scans : (xs : List Scan) → AllByRecursion (λ s. is_read (check_of_scan p.writes s).request ≡ true) xs
+    scans [] = tt
+    scans (x ∷ xs) = (refl, scans xs)
+
 ---- requests that write the row of a transaction
 
 module _ (catalog : List Table) (apart : (k : Key) → IsIn catalog k → is_data k ≡ true) (id : TxId) where
@@ -117,21 +132,6 @@ module _ (catalog : List Table) (apart : (k : Key) → IsIn catalog k → is_dat
   decide_writes p decide.Abort q e fits own w = (row_is p.id decision.Aborted p.now fits own (as_asked (abort_of p.id p.now) q e w), decision.Aborted, sym (some_is (abort_of p.id p.now) q e))
   decide_writes p decide.Again q e fits own w = absurd (read_not (look_of p.id) refl (as_asked (look_of p.id) q e w))
   decide_writes p decide.Ended q e fits own w = none_some q e
-
-  -- the checks of a COMMIT only read
-  checks_read : (p : Work) → AllByRecursion (λ c. is_read c.request ≡ true) (checks p)
-  checks_read p =
-      each_append (λ (c : Check). is_read c.request ≡ true) (map check_of_read (filter (λ r. not (is_written p.writes r.key)) p.reads)) (map (check_of_scan p.writes) p.scans)
-      (each_map (λ (c : Check). is_read c.request ≡ true) check_of_read (filter (λ r. not (is_written p.writes r.key)) p.reads) (reads (filter (λ r. not (is_written p.writes r.key)) p.reads)))
-      (each_map (λ (c : Check). is_read c.request ≡ true) (check_of_scan p.writes) p.scans (scans p.scans))
-    where
-      reads : (xs : List Read) → AllByRecursion (λ r. is_read (check_of_read r).request ≡ true) xs
-      reads [] = tt
-      reads (x ∷ xs) = (refl, reads xs)
-
-      scans : (xs : List Scan) → AllByRecursion (λ s. is_read (check_of_scan p.writes s).request ≡ true) xs
-      scans [] = tt
-      scans (x ∷ xs) = (refl, scans xs)
 
   -- A COMMIT puts its own, with the moment at which it was taken.
   pub commit_writes : (p : Work) (s : Stage) (q : Request) → pending p s ≡ Some q → AreWritesIn catalog p.writes → AllByRecursion IsWrite p.writes → id.0 < 2 ^ 128 → p.id.0 < 2 ^ 128 → Writes q → OwnPut p q

@@ -28,7 +28,10 @@ use Rattle.sdb_causes.proofs.CountsNotes.{open_only}
 use Rattle.sdb_causes.proofs.Lists.{each_kept, since_more, since_none}
 use Rattle.sdb_causes.proofs.Noting.{since_all, take_ends, take_open}
 use Rattle.sdb_executions.specs.Found.{IsRunOnFound, View, exec_on, finds, found_by, is_answered, nothing_found, run_on_found, scans_span, was_scanned, with_found}
+use Rattle.sdb_session.specs.Keys.{keys_written, with_keys}
+use Rattle.sdb_executions.specs.Written.{keys_of, written_on_found}
 use Rattle.sdb_executions.proofs.Views.{IsViewOf}
+use Rattle.sdb_executions.proofs.Writing.{write_keys, written_more}
 use Rattle.sdb_causes.proofs.Shows.{read_more}
 
 ---- the statements that run
@@ -144,6 +147,7 @@ pub record RunsTo (catalog : List Table) (events : List Event) (c : ℕ) (ss : L
   pub run : IsRunOnFound catalog events c ss
   pub sees : IsViewOf (view_after catalog events c ss run) s
   pub scans : HoldsScans events c ss s
+  pub writes : write_keys s.writes ≡ keys_of catalog events c ss run.statements
 
 -- before the first
 pub none_run : (catalog : List Table) (events : List Event) (c : ℕ) → IsRunOnFound catalog events c []
@@ -151,12 +155,13 @@ none_run catalog events c = record { statements = []; read = tt; answers = refl 
 
 pub none_runs : (catalog : List Table) (events : List Event) (c : ℕ) → RunsTo catalog events c [] nothing
 unfolding none_run
-none_runs catalog events c = record { run = none_run catalog events c; sees = record { keys = λ q. refl; rows = λ q. get-empty key_cmp q }; scans = λ q e. clash (sym e) }
+none_runs catalog events c = record { run = none_run catalog events c; sees = record { keys = λ q. refl; rows = λ q. get-empty key_cmp q }; scans = λ q e. clash (sym e); writes = refl }
 
 -- A statement runs after others, on what they and itself found, and is answered so.
 pub runs_more : (catalog : List Table) (events : List Event) (c : ℕ) (ss : List Said) (z : Said) (st : Statement) (b : Answer) (s : Seen) (r : IsRunOnFound catalog events c ss) → Reads z.text st → z.answer ≡ Some b
-    → (exec_on catalog st (with_found (view_after catalog events c ss r) (found_by (calls_of events c z)))).0 ≡ b → IsViewOf (exec_on catalog st (with_found (view_after catalog events c ss r) (found_by (calls_of events c z)))).1 s → HoldsScans events c (ss ++ z ∷ []) s → RunsTo catalog events c (ss ++ z ∷ []) s
-runs_more catalog events c ss z st b s r reads answered gives sees scans = record {
+    → (exec_on catalog st (with_found (view_after catalog events c ss r) (found_by (calls_of events c z)))).0 ≡ b → IsViewOf (exec_on catalog st (with_found (view_after catalog events c ss r) (found_by (calls_of events c z)))).1 s → HoldsScans events c (ss ++ z ∷ []) s
+    → write_keys s.writes ≡ with_keys (keys_of catalog events c ss r.statements) (keys_written catalog st (with_found (view_after catalog events c ss r) (found_by (calls_of events c z))).rows) → RunsTo catalog events c (ss ++ z ∷ []) s
+runs_more catalog events c ss z st b s r reads answered gives sees scans writes = record {
   run = record {
     statements = r.statements ++ st ∷ [];
     read = read_more ss r.statements z st r.read reads;
@@ -169,6 +174,7 @@ runs_more catalog events c ss z st b s r reads answered gives sees scans = recor
   };
   sees = subst (λ (v : View). IsViewOf v s) (sym (ap (λ x. x.1) more)) sees;
   scans = scans;
+  writes = writes ∙ sym (written_more catalog events c ss r.statements z st nothing_found [] r.read);
 }
   where
     before : List Answer
@@ -204,6 +210,7 @@ runs_stay catalog events e c ss s all r = record {
   run = run_stays catalog events e c ss all r.run;
   sees = subst (λ fs. IsViewOf (run_on_found catalog fs r.run.statements nothing_found).1 s) (sym (finds_stay catalog events e c ss all)) r.sees;
   scans = λ span is. r.scans span (sym (scanned_stays catalog events e c ss span all) ∙ is);
+  writes = r.writes ∙ ap (λ fs. written_on_found catalog fs r.run.statements nothing_found []) (sym (finds_stay catalog events e c ss all));
 }
 
 ---- each transaction of a client

@@ -64,7 +64,7 @@ module _ (id : TxId) where
   unfolding coordinator_row_of
   row_no u d now c = refl
 
-  forward_no : (r : Record) (now : ℤ) (c : Condition) → prepares id (ask.PutIf (forward_record r now) c) ≡ false
+  pub forward_no : (r : Record) (now : ℤ) (c : Condition) → prepares id (ask.PutIf (forward_record r now) c) ≡ false
   forward_no r now c = firm_no id (forward_record r now) c (forward-committed r now)
 
   -- a record that is unresolved was put over a committed one, or over none
@@ -104,7 +104,7 @@ module _ (id : TxId) where
 
   ---- a COMMIT
 
-  checks_no : (p : Work) → AllByRecursion (λ c. prepares id c.request ≡ false) (checks p)
+  pub checks_no : (p : Work) → AllByRecursion (λ c. prepares id c.request ≡ false) (checks p)
   checks_no p =
       each_append (λ (c : Check). prepares id c.request ≡ false) (map check_of_read (filter (λ r. not (is_written p.writes r.key)) p.reads)) (map (check_of_scan p.writes) p.scans)
       (each_map (λ (c : Check). prepares id c.request ≡ false) check_of_read (filter (λ r. not (is_written p.writes r.key)) p.reads) (reads (filter (λ r. not (is_written p.writes r.key)) p.reads)))
@@ -118,7 +118,7 @@ module _ (id : TxId) where
       scans [] = tt
       scans (x ∷ xs) = (refl, scans xs)
 
-  decide_no : (u : TxId) (now : ℤ) (d : DecidePhase) (q : Request) → decide_request_at u now d ≡ Some q → prepares id q ≡ false
+  pub decide_no : (u : TxId) (now : ℤ) (d : DecidePhase) (q : Request) → decide_request_at u now d ≡ Some q → prepares id q ≡ false
   decide_no u now decide.Put q e = sym (ap (prepares id) (some_is (decide_of u now) q e)) ∙ row_no u decision.Committed now condition.Absent
   decide_no u now decide.Look q e = sym (ap (prepares id) (some_is (look_of u) q e))
   decide_no u now decide.Abort q e = sym (ap (prepares id) (some_is (abort_of u now) q e)) ∙ row_no u decision.Aborted now condition.Absent

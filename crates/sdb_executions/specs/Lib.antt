@@ -4,4 +4,5 @@ pub mod Laws
 pub mod Vacuums
 pub mod Moments
 pub mod Found
+pub mod Written
 pub mod Forged

@@ -19,6 +19,7 @@ ghost use Rattle.sdb_executions.specs.Found.{ReadsAreNew, RunsOnFound};
 ghost use Rattle.sdb_executions.specs.Laws.{BusyIsOfReads, CallsAreOfStatements, DecisionsAreDue, ExecutionOf, FollowsMoves, KeepsRules, PreparesAreOwn, ReadsAreFew};
 ghost use Rattle.sdb_executions.specs.Moments.{IsSoundAfter, TraceOf, WritesStandAfter};
 ghost use Rattle.sdb_executions.specs.Vacuums.{VacuumsSweep};
+ghost use Rattle.sdb_executions.specs.Written.{CommitsPrepareWritten};
 
 /// Each answer has its cause among the events: of Conflict, and of BadRecord of a record of a table, where calls show no two decisions on one
 /// transaction. The calls of every statement are counted, and whoever was answered from rows had each unresolved record that it found rolled
@@ -94,6 +95,12 @@ pub fn transactions_run_on_found()
 /// no key at which they found something, and a scan of no span that they scanned.
 pub fn reads_are_new()
     ensures { (x : ExecutionOf) → ReadsAreNew x.events }
+{}
+
+/// Each COMMIT prepares the keys that the statements of its transaction wrote on what they found: each once, in the order in which they were
+/// first written, from the first. Before it puts its transaction's row COMMITTED, the prepares of all of them were applied.
+pub fn commits_prepare_written()
+    ensures { (x : ExecutionOf) → CommitsPrepareWritten x.script.catalog x.events }
 {}
 
 /// Each beginning of an execution is an execution: what is so of every execution is so after any number of its events.

@@ -1,0 +1,60 @@
+-- The keys that a transaction's statements write, and which of them its COMMIT prepares.
+use Rattle.std.specs.Prelude.{◌≡◌, ℕ, ℤ, List, [], ◌∷◌, take, filter, Option, Contains}
+use Rattle.std.specs.List.{filter_map}
+use Rattle.sdb_types.specs.declared.key.Key.{Key}
+use Rattle.sdb_types.specs.declared.record.Record.{Record}
+use Rattle.sdb_types.specs.declared.txid.TxId.{TxId}
+use Rattle.sdb_types.specs.Replies.{is_applied}
+use Rattle.sdb_record.specs.declared.coordinator.Decision.TheVariants as decision
+use Rattle.sdb_schema.specs.declared.table.Table.{Table}
+use Rattle.sdb_model.specs.declared.event.Event.{Event}
+use Rattle.sdb_model.specs.declared.statement.Statement.{Statement}
+use Rattle.sdb_model.specs.Calls.{Made, calls_before, calls_of, key_asked}
+use Rattle.sdb_model.specs.Causes.{IsCommitOf}
+use Rattle.sdb_model.specs.Counted.{prepares_in}
+use Rattle.sdb_model.specs.Told.{AreRead}
+use Rattle.sdb_model.specs.Transactions.{Said}
+use Rattle.sdb_session.specs.Keys.{keys_written, with_keys}
+use Rattle.sdb_executions.specs.Found.{View, answered_body, exec_on, finds, nothing_found, with_found}
+use Rattle.sdb_executions.specs.Laws.{row_put}
+
+---- keys that are written
+
+-- The keys that statements write that run one after the other, each on what was found so far, with what it found itself: each once, in the
+-- order in which they are first written, after those that were written before.
+abbrev pub written_on_found : List Table → List (List (Key × Option Record)) → List Statement → View → List Key → List Key
+written_on_found catalog [] ss v ks = ks
+written_on_found catalog (f ∷ fs) [] v ks = ks
+written_on_found catalog (f ∷ fs) (s ∷ ss) v ks = written_on_found catalog fs ss (exec_on catalog s (with_found v f)).1 (with_keys ks (keys_written catalog s (with_found v f).rows))
+
+-- those that statements of a client write, which read as these
+abbrev pub keys_of : List Table → List Event → ℕ → List Said → List Statement → List Key
+keys_of catalog events client ss statements = written_on_found catalog (finds events client ss) statements nothing_found []
+
+---- keys that are prepared
+
+-- the keys for which calls prepare, in the order of the calls
+abbrev pub keys_prepared : TxId → List Made → List Key
+keys_prepared id calls = filter_map (λ m. key_asked m.request) (prepares_in id calls)
+
+-- those of the prepares that were applied
+abbrev pub keys_applied : TxId → List Made → List Key
+keys_applied id calls = keys_prepared id (filter (λ m. is_applied m.reply) calls)
+
+-- The calls of a COMMIT prepare these keys, each once, in their order, from the first; and all of them were applied before a call that puts the
+-- transaction's row COMMITTED.
+pub record PreparesAll (keys : List Key) (id : TxId) (calls : List Made) : Type 0 where
+  pub count : ℕ
+  pub prepared : keys_prepared id calls ≡ take count keys
+  pub decided : (m : Made) (now : ℤ) → Contains calls m → m.request ≡ row_put id decision.Committed now → keys_applied id (calls_before m.at calls) ≡ keys
+
+-- A COMMIT of a transaction, and what the answered statements of its body read as.
+pub record CommitOf (events : List Event) (client : ℕ) (s : Said) (id : TxId) : Type 0 where
+  pub commit : IsCommitOf events client s id
+  pub statements : List Statement
+  pub read : AreRead (answered_body events id) statements
+
+-- Each COMMIT, answered or not, prepares the keys that the statements of its transaction wrote.
+abbrev pub CommitsPrepareWritten : List Table → List Event → Type 0
+CommitsPrepareWritten catalog events =
+    (client : ℕ) (s : Said) (id : TxId) (x : CommitOf events client s id) → PreparesAll (keys_of catalog events client (answered_body events id) x.statements) id (calls_of events client s)
