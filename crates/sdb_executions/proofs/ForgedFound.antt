@@ -52,19 +52,19 @@ use Rattle.sdb_executions.proofs.Running.{is_running, running, running_more}
 abbrev first : TxId
 first = record { 0 = 18446744073709551617 }
 
-since_first : (b : Said) (ss : List Said) → begins b ≡ true → rest_of (from_begin 1 (b ∷ ss)) ≡ ss
+pub since_first : (b : Said) (ss : List Said) → begins b ≡ true → rest_of (from_begin 1 (b ∷ ss)) ≡ ss
 since_first b ss e = ap (λ t. rest_of (if t then b ∷ ss else from_begin 1 ss)) e
 
 runs_of : (catalog : List Table) (events : List Event) (b : Said) (ss : List Said) → RunsOnFound catalog events → begins b ≡ true → said 1 events ≡ b ∷ ss → IsRunOnFound catalog events 1 (running ss)
 runs_of catalog events b ss law e same = subst (λ xs. IsRunOnFound catalog events 1 (running xs)) (ap (λ xs. rest_of (from_begin 1 xs)) same ∙ since_first b ss e) (law first)
 
 -- a statement that reads rows, which is answered so
-record IsPlain (s : Said) (st : Statement) (b : Answer) : Type 0 where
-  reads : Reads s.text st
-  answered : s.answer ≡ Some b
-  middle : IsMiddle b
-  changes : changes_nothing b ≡ false
-  no_commit : reads_commit s.text ≡ false
+pub record IsPlain (s : Said) (st : Statement) (b : Answer) : Type 0 where
+  pub reads : Reads s.text st
+  pub answered : s.answer ≡ Some b
+  pub middle : IsMiddle b
+  pub changes : changes_nothing b ≡ false
+  pub no_commit : reads_commit s.text ≡ false
 
 runs_plain : (s : Said) (st : Statement) (b : Answer) → IsPlain s st b → is_running s ≡ true
 runs_plain s st b h =
@@ -72,7 +72,7 @@ runs_plain s st b h =
     ∙ ap (λ x. x && is_answered s) (effective_by s b false h.answered h.changes)
     ∙ ap is_some h.answered
 
-one_running : (s : Said) (st : Statement) (b : Answer) → IsPlain s st b → running (s ∷ []) ≡ s ∷ []
+pub one_running : (s : Said) (st : Statement) (b : Answer) → IsPlain s st b → running (s ∷ []) ≡ s ∷ []
 one_running s st b h = running_more [] s tt ∙ ap (λ t. if t then s ∷ [] else []) (runs_plain s st b h)
 
 two_running : (s z : Said) (st : Statement) (a b : Answer) → IsPlain s st a → IsPlain z st b → running (s ∷ z ∷ []) ≡ s ∷ z ∷ []
@@ -133,7 +133,7 @@ one_passing t k c same =
 got_inserted : (d : Tables) (k : Key) (c : List Pair) → is_some (get (insert d k c) k) ≡ true
 got_inserted d k c = ap is_some (get-insert key_total d k c k ∙ ap (λ b. cond b (Some c) (get d k)) (ap is_eq (tied_itself key_total k)))
 
-got_removed : (d : Tables) (k : Key) → get (with_row d k None) k ≡ None
+pub got_removed : (d : Tables) (k : Key) → get (with_row d k None) k ≡ None
 got_removed d k = get-remove key_total d k k ∙ ap (λ b. cond b None (get d k)) (ap is_eq (tied_itself key_total k))
 
 ---- a get of a key of the table
@@ -143,16 +143,16 @@ module _ (f : StatementOn) where
   answers_on : (d : Tables) → exec f.catalog f.statement d ≡ (answer_of f.table f.statement d, left_by f.table f.statement d)
   answers_on d = ap (λ (o : Option Table). exec_in o f.statement d) f.named
 
-  abbrev begin_said : Said
+  abbrev pub begin_said : Said
   begin_said = record { taken = 1; text = f.begin; answer = Some answer.Done; reached = 1 }
 
-  begun : begins begin_said ≡ true
+  pub begun : begins begin_said ≡ true
   begun = ap (λ b. b && true) f.begins
 
   abbrev at_once : Answer → Said
   at_once b = record { taken = 2; text = f.text; answer = Some b; reached = 2 }
 
-  abbrev after_call : Answer → Said
+  abbrev pub after_call : Answer → Said
   after_call b = record { taken = 2; text = f.text; answer = Some b; reached = 3 }
 
   module _ (no_commit : reads_commit f.text ≡ false) (b : Answer) (middle : IsMiddle b) (changes : changes_nothing b ≡ false) where
@@ -182,7 +182,7 @@ module _ (f : StatementOn) where
       ∙ ap (λ b. with_row empty key (if b then None else Some (user_columns r.columns))) shows.1
 
   -- of none
-  got_none : (key : Key) → key.table ≡ f.table.name → (with_found nothing_found (found_by (record { at = 3; store = []; request = ask.Get key; how = Seen; reply = reply.Found None } ∷ []))).rows ≡ with_row empty key None
+  pub got_none : (key : Key) → key.table ≡ f.table.name → (with_found nothing_found (found_by (record { at = 3; store = []; request = ask.Get key; how = Seen; reply = reply.Found None } ∷ []))).rows ≡ with_row empty key None
   got_none key same = ap (λ fs. (with_found nothing_found fs).rows) (got key None same)
 
 ---- the forgeries
@@ -195,10 +195,10 @@ no_rows_cut (Some n) = by (nat_of n)
     by zero = refl
     by (suc m) = refl
 
-select_commits : (f : SelectOn) → reads_commit f.on.text ≡ false
+pub select_commits : (f : SelectOn) → reads_commit f.on.text ≡ false
 select_commits f = other_no_commit f.on.text f.on.statement f.on.reads (λ e. let k = sym f.is ∙ e in cc)
 
-insert_commits : (f : InsertOn) → reads_commit f.on.text ≡ false
+pub insert_commits : (f : InsertOn) → reads_commit f.on.text ≡ false
 insert_commits f = other_no_commit f.on.text f.on.statement f.on.reads (λ e. let k = sym f.is ∙ e in cc)
 
 update_commits : (f : UpdateOn) → reads_commit f.on.text ≡ false

@@ -37,4 +37,5 @@ pub mod WroteRuns
 pub mod NewReads
 pub mod NewRuns
 pub mod ForgedFound
+pub mod ForgedCommits
 pub mod Forgeries

@@ -71,7 +71,7 @@ module _ (id : TxId) (calls : List Made) (m : Made) where
       by true = none_prepared f
       by false = refl
 
-  one_prepared : (k : Key) → prepares id m.request ≡ true → key_asked m.request ≡ Some k → keys_prepared id (m ∷ []) ≡ k ∷ []
+  pub one_prepared : (k : Key) → prepares id m.request ≡ true → key_asked m.request ≡ Some k → keys_prepared id (m ∷ []) ≡ k ∷ []
   one_prepared k t e = ap (λ b. filter_map (λ (x : Made). key_asked x.request) (if b then m ∷ [] else [])) t ∙ ap (λ (o : Option Key). cons_option o []) e
 
   one_applied : (k : Key) → is_applied m.reply ≡ true → prepares id m.request ≡ true → key_asked m.request ≡ Some k → keys_applied id (m ∷ []) ≡ k ∷ []

@@ -63,7 +63,7 @@ commit_is (Some x) s h = test (reads_commit x.text) refl h
     test false t z = none_some s z
 
 -- those that run are those before it
-running_ended : (body : List Said) (s : Said) (tail : List Said) → AllByRecursion (λ x. ends x ≡ false) body → ends s ≡ true → running (body ++ s ∷ tail) ≡ running body
+pub running_ended : (body : List Said) (s : Said) (tail : List Said) → AllByRecursion (λ x. ends x ≡ false) body → ends s ≡ true → running (body ++ s ∷ tail) ≡ running body
 running_ended body s tail opens over =
     ap (λ xs. filter is_answered (filter is_effective xs)) (take_open body (s ∷ tail) opens ∙ ap (λ xs. body ++ xs) (take_ends s tail over) ∙ sym (take_open body [] opens) ∙ ap (take_while goes_on) (append-nil body))
 

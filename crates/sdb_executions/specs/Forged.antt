@@ -11,6 +11,7 @@ use Rattle.sdb_types.specs.declared.record.State.TheVariants as state
 use Rattle.sdb_types.specs.declared.txid.TxId.{TxId}
 use Rattle.sdb_types.specs.declared.value.Value.{Value}
 use Rattle.sdb_record.specs.declared.coordinator.Decision.{Decision}
+use Rattle.sdb_record.specs.declared.coordinator.Decision.TheVariants as decision
 use Rattle.sdb_record.specs.declared.write.Write.{Write}
 use Rattle.sdb_record.specs.Coordinator.{is_coordinator_table}
 use Rattle.sdb_record.specs.Meta.{is_in, is_moment}
@@ -27,8 +28,8 @@ use Rattle.sdb_model.specs.declared.statement.Statement.{Statement}
 use Rattle.sdb_model.specs.declared.statement.Statement.TheVariants as statement
 use Rattle.sdb_model.specs.declared.statement.Update.{Update}
 use Rattle.sdb_model.specs.Exec.{key_of, named_table}
-use Rattle.sdb_model.specs.Sql.{Reads, reads_begin}
-use Rattle.sdb_model.specs.Transactions.{client_of}
+use Rattle.sdb_model.specs.Sql.{Reads, reads_begin, reads_commit}
+use Rattle.sdb_model.specs.Transactions.{client_of, id_of}
 use Rattle.sdb_executions.specs.Laws.{row_put}
 
 -- an id of 128 bits, and a moment that isn't 0
@@ -156,3 +157,37 @@ abbrev pub reads_again : InsertOn → List Event
 reads_again f =
     answered_after f.on (ask.Get (insert_key f)) (reply.Found None) (answer.Count 1)
     ++ event.Take 1 f.on.text None ∷ event.Call 1 [] (ask.Get (insert_key f)) Seen (reply.Found None) None ∷ []
+
+---- COMMITs that prepare otherwise than what was written
+
+-- a text that reads as COMMIT, and a moment
+pub record CommitText : Type 0 where
+  pub text : List ℕ
+  pub commits : reads_commit text ≡ true
+  pub now : ℤ
+
+-- the put of a prepared record of client 1's first transaction, where there is none
+abbrev pub prepare_first : Write → ℤ → Request
+prepare_first w now = ask.PutIf (prepared_record w (id_of 1 1) now) condition.Absent
+
+-- its put of its row COMMITTED
+abbrev pub decide_first : ℤ → Request
+decide_first now = row_put (id_of 1 1) decision.Committed now
+
+-- A call of the client is seen, and its statement isn't answered.
+abbrev pub seen_so : Request → Reply → Event
+seen_so q r = event.Call 1 [] q Seen r None
+
+-- A COMMIT prepares a key that its transaction only read.
+abbrev pub prepares_unwritten : SelectOn → Record → List Value → CommitText → Write → List Event
+prepares_unwritten f r row t w = answered_after f.on (ask.Get w.key) (reply.Found (Some r)) (answer.Rows (row ∷ [])) ++ event.Take 1 t.text None ∷ seen_so (prepare_first w t.now) reply.Applied ∷ []
+
+-- One decides on COMMITTED and hasn't prepared the row that its transaction inserted.
+abbrev pub decides_unprepared : InsertOn → CommitText → List Event
+decides_unprepared f t = answered_after f.on (ask.Get (insert_key f)) (reply.Found None) (answer.Count 1) ++ event.Take 1 t.text None ∷ seen_so (decide_first t.now) reply.Applied ∷ []
+
+-- One does so after a prepare that faulted.
+abbrev pub decides_unapplied : InsertOn → CommitText → Write → List Event
+decides_unapplied f t w =
+    answered_after f.on (ask.Get (insert_key f)) (reply.Found None) (answer.Count 1)
+    ++ event.Take 1 t.text None ∷ seen_so (prepare_first w t.now) reply.Fault ∷ seen_so (decide_first t.now) reply.Applied ∷ []

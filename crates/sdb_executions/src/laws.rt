@@ -14,7 +14,7 @@ ghost use Rattle.sdb_execution.specs.Execution.{IsExecution};
 ghost use Rattle.sdb_model.specs.Counted.{AreCounted, AreResolved};
 ghost use Rattle.sdb_spread.specs.Spread.{AreAbout};
 ghost use Rattle.sdb_causes.specs.Tied.{AnswersHaveCauses};
-ghost use Rattle.sdb_executions.specs.Forged.{FindsRow, FindsUnresolved, InsertOn, IsOfOther, IsOtherMoment, SelectOn, ShowsRow, UpdateOn, busy_at_once, counted_at_once, counts_over, counts_twice, counts_unread, decides_at_once, duplicates_none, leaves_out, prepares_at, reads_again, reads_and_is_done, shows_two, shows_unread, shows_unrolled};
+ghost use Rattle.sdb_executions.specs.Forged.{CommitText, FindsRow, FindsUnresolved, InsertOn, IsOfOther, IsOtherMoment, SelectOn, ShowsRow, UpdateOn, busy_at_once, counted_at_once, counts_over, counts_twice, counts_unread, decides_at_once, decides_unapplied, decides_unprepared, duplicates_none, leaves_out, prepares_at, prepares_unwritten, reads_again, reads_and_is_done, shows_two, shows_unread, shows_unrolled};
 ghost use Rattle.sdb_executions.specs.Found.{ReadsAreNew, RunsOnFound};
 ghost use Rattle.sdb_executions.specs.Laws.{BusyIsOfReads, CallsAreOfStatements, DecisionsAreDue, ExecutionOf, FollowsMoves, KeepsRules, PreparesAreOwn, ReadsAreFew};
 ghost use Rattle.sdb_executions.specs.Moments.{IsSoundAfter, TraceOf, WritesStandAfter};
@@ -122,7 +122,8 @@ pub fn records_stay_sound()
 /// scan, a BEGIN that reads, a prepare with another moment than the clock showed, and a decision on another's transaction by a first call; and
 /// statements of a transaction: a SELECT that shows a row without a read, leaves out the row that it found, shows a row of a record that it
 /// found and didn't roll, or shows two rows where its LIMIT is 1, an UPDATE that counts rows without a read, an INSERT that is counted over a row that it found or over its transaction's own row, a Duplicate
-/// where nothing was found, and an INSERT that reads its key again.
+/// where nothing was found, and an INSERT that reads its key again; and a COMMIT that prepares a key that its transaction only read, or puts its
+/// row COMMITTED without an applied prepare of what its transaction inserted: without any, or after one that faulted.
 pub fn forged_events_are_refused()
     ensures busy { (text : List ℕ) (key : Key) (id : TxId) (at : ℤ) → reads_commit text ≡ true → BusyIsOfReads (busy_at_once text key id at) → ⊥ }
     ensures swept { (t : Table) (text : List ℕ) → reads_vacuum text ≡ true → VacuumsSweep (t ∷ []) (counted_at_once text) → ⊥ }
@@ -138,4 +139,7 @@ pub fn forged_events_are_refused()
     ensures forgotten { (f : InsertOn) → RunsOnFound f.on.catalog (counts_twice f) → ⊥ }
     ensures no_duplicate { (f : InsertOn) → RunsOnFound f.on.catalog (duplicates_none f) → ⊥ }
     ensures read_again { (f : InsertOn) → ReadsAreNew (reads_again f) → ⊥ }
+    ensures unwritten { (f : SelectOn) (r : Record) (row : List Value) (t : CommitText) (w : Write) → CommitsPrepareWritten f.on.catalog (prepares_unwritten f r row t w) → ⊥ }
+    ensures unprepared { (f : InsertOn) (t : CommitText) → CommitsPrepareWritten f.on.catalog (decides_unprepared f t) → ⊥ }
+    ensures unapplied { (f : InsertOn) (t : CommitText) (w : Write) → CommitsPrepareWritten f.on.catalog (decides_unapplied f t w) → ⊥ }
 {}
