@@ -1,41 +1,38 @@
 -- COMMITs that prepare otherwise than what their transaction's statement wrote are refused.
-use Rattle.std.proofs.Common.{◌≡◌, ℕ, ℤ, zero, suc, Bool, true, false, List, [], ◌∷◌, ◌++◌, take, Option, Some, None, refl, sym, ap, subst, ◌∙◌}
-use Rattle.std.specs.Prelude.{Contains, if◌then◌else◌, find, is_some}
-use Rattle.std.specs.FinMap.{empty, get}
+use Rattle.std.proofs.Common.{◌≡◌, ◌<◌, ◌≤◌, arith, ℕ, zero, suc, true, false, List, [], ◌∷◌, take, Option, Some, None, refl, sym, ap, subst, ◌∙◌}
+use Rattle.std.specs.Prelude.{if◌then◌else◌, find, is_some}
+use Rattle.std.specs.FinMap.{empty}
 use Rattle.std.specs.Option.{option_and_then, option_map_or}
-use Rattle.std.proofs.lemmas.List.Elements.{Contains-push}
+use Rattle.std.proofs.lemmas.List.Elements.{Contains-append_left, Contains-push}
 use Rattle.sdb_types.specs.declared.key.Key.{Key}
 use Rattle.sdb_types.specs.declared.record.Record.{Record}
 use Rattle.sdb_types.specs.declared.record.Reply.{Reply}
 use Rattle.sdb_types.specs.declared.record.Reply.TheVariants as reply
 use Rattle.sdb_types.specs.declared.record.Request.{Request}
 use Rattle.sdb_types.specs.declared.record.Request.TheVariants as ask
-use Rattle.sdb_types.specs.declared.txid.TxId.{TxId}
 use Rattle.sdb_record.specs.declared.coordinator.Decision.TheVariants as decision
-use Rattle.sdb_record.specs.declared.write.Write.{Write}
 use Rattle.sdb_record.proofs.TakenLaws.{prepared-key}
 use Rattle.sdb_schema.specs.declared.table.Table.{Table}
 use Rattle.sdb_model.specs.declared.answer.Answer.{Answer}
 use Rattle.sdb_model.specs.declared.answer.Answer.TheVariants as answer
 use Rattle.sdb_model.specs.declared.event.Event.{Event}
 use Rattle.sdb_model.specs.declared.event.How.TheVariants.{Seen}
-use Rattle.sdb_model.specs.declared.statement.Statement.{Statement}
 use Rattle.sdb_types.specs.declared.value.Value.{Value}
 use Rattle.sdb_model.specs.Access.{with_row}
 use Rattle.sdb_model.specs.Calls.{Made, calls_of}
 use Rattle.sdb_model.specs.Exec.{Tables}
 use Rattle.sdb_model.specs.Sql.{reads_commit}
 use Rattle.sdb_model.specs.Told.{AreRead}
-use Rattle.sdb_model.specs.Transactions.{Said, changes_nothing, commit_of, ends, from_begin, id_of, rest_of, said}
+use Rattle.sdb_model.specs.Transactions.{Said, changes_nothing, commit_of, ends, from_begin, id_of, point, rest_of, said}
 use Rattle.sdb_session.specs.Keys.{keys_on, keys_written, with_keys}
 use Rattle.sdb_causes.proofs.Conflicts.{prepared_is}
 use Rattle.sdb_causes.proofs.Given.{IsMiddle}
 use Rattle.sdb_causes.proofs.Takings.{middle_ends}
-use Rattle.sdb_executions.specs.Forged.{CommitText, InsertOn, SelectOn, StatementOn, decides_unapplied, decides_unprepared, insert_key, prepare_first, prepares_unwritten}
+use Rattle.sdb_executions.specs.Forged.{CommitText, InsertOn, SelectOn, StatementOn, decides_early, decides_unapplied, decides_unprepared, insert_key, prepare_first, prepares_unwritten}
 use Rattle.sdb_executions.specs.Found.{answered_body, found_by, nothing_found, with_found}
 use Rattle.sdb_executions.specs.Laws.{row_put}
-use Rattle.sdb_executions.specs.Written.{CommitsPrepareWritten, PreparesAll, keys_of}
-use Rattle.sdb_executions.proofs.ForgedFound.{IsPlain, after_call, begin_said, begun, got_none, got_removed, insert_commits, one_running, select_commits, since_first}
+use Rattle.sdb_executions.specs.Written.{CommitsPrepareWritten, DecisionsFollowPoints, IsAfterPoint, PreparesAll, keys_of}
+use Rattle.sdb_executions.proofs.ForgedFound.{after_call, begin_said, begun, got_none, got_removed, insert_commits, one_running, select_commits, since_first}
 use Rattle.sdb_executions.proofs.OwnPrepares.{ends_commit}
 use Rattle.sdb_executions.proofs.Preparing.{one_prepared}
 use Rattle.sdb_executions.proofs.Running.{running}
@@ -93,20 +90,20 @@ module _ (f : StatementOn) (no_commit : reads_commit f.text ≡ false) (b : Answ
 
 ---- the forgeries
 
-pub unwritten_refused : (f : SelectOn) (r : Record) (row : List Value) (t : CommitText) (w : Write) → CommitsPrepareWritten f.on.catalog (prepares_unwritten f r row t w) → ⊥
-unwritten_refused f r row t w law = by has.count (sym (one_prepared (id_of 1 1) [] m w.key (prepared_is (id_of 1 1) t.now w) (ap Some (prepared-key w (id_of 1 1) t.now))) ∙ has.prepared)
+pub unwritten_refused : (f : SelectOn) (r : Record) (row : List Value) (t : CommitText) → CommitsPrepareWritten f.on.catalog (prepares_unwritten f r row t) → ⊥
+unwritten_refused f r row t law = by has.count (sym (one_prepared (id_of 1 1) [] m t.write.key (prepared_is (id_of 1 1) t.now t.write) (ap Some (prepared-key t.write (id_of 1 1) t.now))) ∙ has.prepared)
   where
     m : Made
-    m = record { at = 5; store = []; request = prepare_first w t.now; how = Seen; reply = reply.Applied }
+    m = record { at = 5; store = []; request = prepare_first t; how = Seen; reply = reply.Applied }
 
-    keys : with_keys [] (keys_on f.on.table f.on.statement (with_found nothing_found (found_by (read_call (ask.Get w.key) (reply.Found (Some r)) ∷ []))).rows) ≡ []
-    keys = ap (λ st. with_keys [] (keys_on f.on.table st (with_found nothing_found (found_by (read_call (ask.Get w.key) (reply.Found (Some r)) ∷ []))).rows)) f.is
+    keys : with_keys [] (keys_on f.on.table f.on.statement (with_found nothing_found (found_by (read_call (ask.Get t.write.key) (reply.Found (Some r)) ∷ []))).rows) ≡ []
+    keys = ap (λ st. with_keys [] (keys_on f.on.table st (with_found nothing_found (found_by (read_call (ask.Get t.write.key) (reply.Found (Some r)) ∷ []))).rows)) f.is
 
     has : PreparesAll [] (id_of 1 1) (m ∷ [])
     has = subst (λ ks. PreparesAll ks (id_of 1 1) (m ∷ [])) keys
-        (commit_prepares f.on (select_commits f) (answer.Rows (row ∷ [])) (record { undone = refl; agrees = refl }) refl (ask.Get w.key) (reply.Found (Some r)) t (prepares_unwritten f r row t w) refl refl law)
+        (commit_prepares f.on (select_commits f) (answer.Rows (row ∷ [])) (record { undone = refl; agrees = refl }) refl (ask.Get t.write.key) (reply.Found (Some r)) t (prepares_unwritten f r row t) refl refl law)
 
-    by : (n : ℕ) → w.key ∷ [] ≡ take n [] → ⊥
+    by : (n : ℕ) → t.write.key ∷ [] ≡ take n [] → ⊥
     by zero e = cc
     by (suc n) e = cc
 
@@ -121,7 +118,7 @@ none_first : (k : Key) → [] ≡ k ∷ [] → ⊥
 none_first k e = cc
 
 pub unprepared_refused : (f : InsertOn) (t : CommitText) → CommitsPrepareWritten f.on.catalog (decides_unprepared f t) → ⊥
-unprepared_refused f t law = none_first (insert_key f) (has.decided m t.now (Contains-push [] m) refl)
+unprepared_refused f t law = none_first (insert_key f) (has.decided m (Contains-push [] m) (t.now, refl))
   where
     m : Made
     m = record { at = 5; store = []; request = row_put (id_of 1 1) decision.Committed t.now; how = Seen; reply = reply.Applied }
@@ -130,15 +127,36 @@ unprepared_refused f t law = none_first (insert_key f) (has.decided m t.now (Con
     has = subst (λ ks. PreparesAll ks (id_of 1 1) (m ∷ [])) (inserted f)
         (commit_prepares f.on (insert_commits f) (answer.Count 1) (record { undone = refl; agrees = refl }) refl (ask.Get (insert_key f)) (reply.Found None) t (decides_unprepared f t) refl refl law)
 
-pub unapplied_refused : (f : InsertOn) (t : CommitText) (w : Write) → CommitsPrepareWritten f.on.catalog (decides_unapplied f t w) → ⊥
-unapplied_refused f t w law = none_first (insert_key f) (has.decided m t.now (Contains-push (p ∷ []) m) refl)
+pub unapplied_refused : (f : InsertOn) (t : CommitText) → CommitsPrepareWritten f.on.catalog (decides_unapplied f t) → ⊥
+unapplied_refused f t law = none_first (insert_key f) (has.decided m (Contains-push (p ∷ []) m) (t.now, refl))
   where
     p : Made
-    p = record { at = 5; store = []; request = prepare_first w t.now; how = Seen; reply = reply.Fault }
+    p = record { at = 5; store = []; request = prepare_first t; how = Seen; reply = reply.Fault }
 
     m : Made
     m = record { at = 6; store = []; request = row_put (id_of 1 1) decision.Committed t.now; how = Seen; reply = reply.Applied }
 
     has : PreparesAll (insert_key f ∷ []) (id_of 1 1) (p ∷ m ∷ [])
     has = subst (λ ks. PreparesAll ks (id_of 1 1) (p ∷ m ∷ [])) (inserted f)
-        (commit_prepares f.on (insert_commits f) (answer.Count 1) (record { undone = refl; agrees = refl }) refl (ask.Get (insert_key f)) (reply.Found None) t (decides_unapplied f t w) refl refl law)
+        (commit_prepares f.on (insert_commits f) (answer.Count 1) (record { undone = refl; agrees = refl }) refl (ask.Get (insert_key f)) (reply.Found None) t (decides_unapplied f t) refl refl law)
+
+pub early_refused : (f : InsertOn) (t : CommitText) → DecisionsFollowPoints (decides_early f t) → ⊥
+early_refused f t law = no_order (point (decides_early f t) (id_of 1 1)) (after.prepared p (Contains-push (m ∷ []) p) (prepared_is (id_of 1 1) t.now t.write)).2 after.decides
+  where
+    m : Made
+    m = record { at = 5; store = []; request = row_put (id_of 1 1) decision.Committed t.now; how = Seen; reply = reply.Applied }
+
+    p : Made
+    p = record { at = 6; store = []; request = prepare_first t; how = Seen; reply = reply.Applied }
+
+    after : IsAfterPoint (decides_early f t) 1 (commit_said t) (id_of 1 1) m
+    after =
+        law 1 (commit_said t) (id_of 1 1) m (record {
+          commit = (refl, commits f.on (insert_commits f) (answer.Count 1) (record { undone = refl; agrees = refl }) refl (ask.Get (insert_key f)) (reply.Found None) t (decides_early f t) refl refl);
+          fits = omega arith;
+          call = Contains-append_left (m ∷ []) (p ∷ []) m (Contains-push [] m);
+          puts = (t.now, refl);
+        })
+
+    no_order : (n : ℕ) → 6 ≤ n → n < 5 → ⊥
+    no_order n a b = absurd (omega (arith, a, b))

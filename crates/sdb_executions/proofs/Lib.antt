@@ -33,6 +33,7 @@ pub mod FoundSteps
 pub mod FoundTakes
 pub mod FoundCalls
 pub mod FoundRuns
+pub mod AfterPoints
 pub mod WroteRuns
 pub mod NewReads
 pub mod NewRuns

@@ -47,7 +47,7 @@ use Rattle.sdb_causes.proofs.Conflicts.{mapped_at, prepared_is, undo_unprepared}
 use Rattle.sdb_causes.proofs.Lists.{each_in}
 use Rattle.sdb_causes.proofs.Rows.{before_stays}
 use Rattle.sdb_executions.specs.Laws.{row_put}
-use Rattle.sdb_executions.specs.Written.{PreparesAll, keys_applied, keys_prepared}
+use Rattle.sdb_executions.specs.Written.{PreparesAll, PutsCommitted, keys_applied, keys_prepared}
 use Rattle.sdb_executions.proofs.RowWrites.{checks_read}
 use Rattle.sdb_executions.proofs.Unprepared.{checks_no, decide_no, forward_no, row_no}
 use Rattle.sdb_executions.proofs.Writing.{write_keys}
@@ -156,15 +156,15 @@ module _ (p : Work) (writes : AllByRecursion IsWrite p.writes) (calls : List Mad
   now_before : calls_before m.at more ≡ calls
   now_before = before_stays p.id calls m older m.at (omega arith) ∙ all_before m.at calls older
 
-  decided_more : PreparesAll keys p.id calls → ((now : ℤ) → Decides now → keys_applied p.id calls ≡ keys) → (x : Made) (now : ℤ) → Contains more x → x.request ≡ row_put p.id decision.Committed now → keys_applied p.id (calls_before x.at more) ≡ keys
-  decided_more h own x now has e = by (Contains-push_cases calls m x has)
+  decided_more : PreparesAll keys p.id calls → ((now : ℤ) → Decides now → keys_applied p.id calls ≡ keys) → (x : Made) → Contains more x → PutsCommitted p.id x → keys_applied p.id (calls_before x.at more) ≡ keys
+  decided_more h own x has e = by (Contains-push_cases calls m x has)
     where
       le : (a b : ℕ) → a < b → a ≤ b
       le a b l = omega arith
 
       by : Contains calls x ⊎ (m ≡ x) → keys_applied p.id (calls_before x.at more) ≡ keys
-      by (inl old) = ap (keys_applied p.id) (before_stays p.id calls m older x.at (le x.at m.at (each_in (λ (y : Made). y.at < m.at) calls x older old))) ∙ h.decided x now old e
-      by (inr same) = subst (λ (y : Made). keys_applied p.id (calls_before y.at more) ≡ keys) same (ap (keys_applied p.id) now_before ∙ own now (ap (λ (y : Made). y.request) same ∙ e))
+      by (inl old) = ap (keys_applied p.id) (before_stays p.id calls m older x.at (le x.at m.at (each_in (λ (y : Made). y.at < m.at) calls x older old))) ∙ h.decided x old e
+      by (inr same) = subst (λ (y : Made). keys_applied p.id (calls_before y.at more) ≡ keys) same (ap (keys_applied p.id) now_before ∙ own e.0 (ap (λ (y : Made). y.request) same ∙ e.1))
 
   other_more : prepares p.id m.request ≡ false → ((now : ℤ) → Decides now → keys_applied p.id calls ≡ keys) → PreparesAll keys p.id calls → PreparesAll keys p.id more
   other_more f own h = record { count = h.count; prepared = prepared_same p.id calls m f ∙ h.prepared; decided = decided_more h own }
@@ -370,7 +370,7 @@ module _ (p : Work) (writes : AllByRecursion IsWrite p.writes) (calls : List Mad
 
 -- before its first call
 pub prepares_first : (p : Work) → CommitPrepares p [] (preparing p 0)
-prepares_first p = record { ready = by (nat_lt 0 (length p.writes)) refl; sofar = record { count = 0; prepared = refl; decided = λ m now has e. none_here m has } }
+prepares_first p = record { ready = by (nat_lt 0 (length p.writes)) refl; sofar = record { count = 0; prepared = refl; decided = λ m has e. none_here m has } }
   where
     none_here : (m : Made) → Contains [] m → [] ≡ write_keys p.writes
     none_here m h = absurd (let low : h.0 < 0 = h.1 in omega (arith, low))

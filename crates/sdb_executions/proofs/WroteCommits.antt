@@ -41,7 +41,7 @@ LastWrote catalog events c told z = reads_commit z.text ≡ true → open_after 
 
 -- a COMMIT without a call
 pub none_wrote : (catalog : List Table) (events : List Event) (c : ℕ) (ss : List Said) (id : TxId) (calls : List Made) → calls ≡ [] → CommitWrote catalog events c ss id calls
-none_wrote catalog events c ss id calls none statements read = subst (PreparesAll (keys_of catalog events c ss statements) id) (sym none) (record { count = 0; prepared = refl; decided = λ m now has e. none_in m has })
+none_wrote catalog events c ss id calls none statements read = subst (PreparesAll (keys_of catalog events c ss statements) id) (sym none) (record { count = 0; prepared = refl; decided = λ m has e. none_in m has })
 
 -- what was answered stays so
 pub commits_still : (catalog : List Table) (events : List Event) (e : Event) (c : ℕ) (told : List Said) → AllByRecursion (IsAnswered catalog events c) told → CommitsWrote catalog events c told → CommitsWrote catalog (events ++ e ∷ []) c told

@@ -1,9 +1,10 @@
 -- Each COMMIT of an execution prepares what the statements of its transaction wrote.
 use Rattle.std.proofs.Common.{◌≡◌, ℕ, Bool, true, false, List, [], ◌∷◌, ◌++◌, Option, Some, None, IfSome, refl, sym, ap, subst, ◌∙◌}
-use Rattle.std.specs.Prelude.{filter, find, if◌then◌else◌, is_some, take_while}
+use Rattle.std.specs.Prelude.{Contains, filter, find, if◌then◌else◌, is_some, take_while}
 use Rattle.std.specs.List.{AllByRecursion}
 use Rattle.std.specs.Option.{option_and_then}
 use Rattle.std.proofs.lemmas.List.{append-nil}
+use Rattle.std.proofs.lemmas.List.Elements.{All-contains_itself, recursion_from_All}
 use Rattle.sdb_types.specs.declared.txid.TxId.{TxId}
 use Rattle.sdb_types.proofs.Basics.{clash, none_some, some_is}
 use Rattle.sdb_schema.specs.declared.table.Table.{Table}
@@ -21,14 +22,18 @@ use Rattle.sdb_vacuum.specs.Vacuum.{VacuumAt}
 use Rattle.sdb_client.specs.Client.{ClientAt}
 use Rattle.sdb_story.specs.Telling.{waiting_of}
 use Rattle.sdb_causes.specs.Tied.{IsDoing, IsOpenAs, IsWaiting, Knows, StandsIn, StandsOn, begun_in}
-use Rattle.sdb_causes.proofs.Noting.{take_ends, take_open}
+use Rattle.sdb_causes.specs.Rolled.{AnsweredWereSeen}
+use Rattle.sdb_causes.proofs.Noting.{each_middle, since_all, take_ends, take_open}
 use Rattle.sdb_execution.specs.Execution.{IsExecution, IsPlayable}
 use Rattle.sdb_executions.specs.Found.{answered_body, is_answered}
-use Rattle.sdb_executions.specs.Written.{CommitsPrepareWritten, PreparesAll, keys_of}
+use Rattle.sdb_executions.specs.Written.{CommitsPrepareWritten, DecisionsFollowPoints, PreparesAll, PreparesAreAsMany, keys_of}
 use Rattle.sdb_executions.specs.World.{WorldAt, hands_of}
 use Rattle.sdb_executions.proofs.Finding.{NothingMore}
-use Rattle.sdb_executions.proofs.FoundRuns.{all_run, wait_so}
+use Rattle.sdb_executions.proofs.AfterPoints.{as_many, follows_point}
+use Rattle.sdb_executions.proofs.Belonging.{execution_belongs}
+use Rattle.sdb_executions.proofs.FoundRuns.{all_run, execution_runs, wait_so}
 use Rattle.sdb_executions.proofs.FoundSteps.{SeesIn, SeesRun, answered_of_is}
+use Rattle.sdb_executions.proofs.OwnPrepares.{execution_own}
 use Rattle.sdb_executions.proofs.PreparingCalls.{DoingPrepares, TxnPrepares, WaitPrepares, prepares_kept}
 use Rattle.sdb_executions.proofs.Running.{goes_on, running, running_of}
 use Rattle.sdb_executions.proofs.Statements.{AllSo, statements_so}
@@ -128,6 +133,19 @@ module _ (script : Script) (events : List Event) (playable : IsPlayable script) 
         by None e v = subst (CommitsWrote catalog events c) (sym (append-nil k.told)) before
         by (Some y) e v = commits_more catalog events c k.told y k.counted.paired before (waiting_wrote y e v)
 
+  -- it is one of its client's statements
+  commit_said : (id : TxId) (s : Said) → commit_of events id ≡ Some s → Contains (said (client_of id) events) s
+  commit_said id s e = by (from_begin (ordinal_of id) (said (client_of id) events)) refl (commit_is (find ends (rest_of (from_begin (ordinal_of id) (said (client_of id) events)))) s e)
+    where
+      itself : AllByRecursion (Contains (said (client_of id) events)) (said (client_of id) events)
+      itself = recursion_from_All (Contains (said (client_of id) events)) (said (client_of id) events) (All-contains_itself (said (client_of id) events))
+
+      by : (r : List Said) → from_begin (ordinal_of id) (said (client_of id) events) ≡ r → (find ends (rest_of (from_begin (ordinal_of id) (said (client_of id) events))) ≡ Some s) × (reads_commit s.text ≡ true) → Contains (said (client_of id) events) s
+      by [] from z = none_some s (sym (ap (λ ss. find ends (rest_of ss)) from) ∙ z.0)
+      by (b ∷ rest) from z =
+          let f = end_found rest s (sym (ap (λ ss. find ends (rest_of ss)) from) ∙ z.0) in
+          each_middle (Contains (said (client_of id) events)) f.body f.tail s (subst (AllByRecursion (Contains (said (client_of id) events))) f.whole (since_all (Contains (said (client_of id) events)) (ordinal_of id) (said (client_of id) events) b rest itself from))
+
   -- by the COMMIT of a transaction
   commit_wrote : (id : TxId) (s : Said) → commit_of events id ≡ Some s → CommitWrote catalog events (client_of id) (answered_body events id) id (calls_of events (client_of id) s)
   commit_wrote id s e = by (from_begin (ordinal_of id) (said (client_of id) events)) refl (commit_is (find ends (rest_of (from_begin (ordinal_of id) (said (client_of id) events)))) s e)
@@ -146,3 +164,18 @@ module _ (script : Script) (events : List Event) (playable : IsPlayable script) 
   execution_wrote client s id z =
       subst (λ c. PreparesAll (keys_of catalog events c (answered_body events id) z.statements) id (calls_of events c s)) z.commit.0
       (commit_wrote id s z.commit.1 z.statements z.read)
+
+  ---- one that decides
+
+  -- Each COMMIT that decides makes as many prepares as keys were written.
+  pub execution_many : PreparesAreAsMany catalog events
+  execution_many client s id m z d =
+      let h = execution_wrote client s id z in
+      as_many (keys_of catalog events client (answered_body events id) z.statements) id (calls_of events client s) m h (h.decided m d.call d.puts)
+
+  -- Each COMMIT decides after its point.
+  pub execution_points : AnsweredWereSeen events → DecisionsFollowPoints events
+  execution_points seen client s id m d =
+      let run = execution_runs script events playable x id in
+      follows_point events (execution_own script events playable x) (execution_belongs script events playable x) seen client s id m d (subst (λ c. Contains (said c events) s) d.commit.0 (commit_said id s d.commit.1)) (keys_of catalog events client (answered_body events id) run.statements)
+      (execution_wrote client s id (record { commit = d.commit; statements = run.statements; read = run.read }))

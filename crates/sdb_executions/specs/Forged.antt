@@ -160,34 +160,41 @@ reads_again f =
 
 ---- COMMITs that prepare otherwise than what was written
 
--- a text that reads as COMMIT, and a moment
+-- a text that reads as COMMIT, and the write and the moment of a prepare
 pub record CommitText : Type 0 where
   pub text : List ℕ
   pub commits : reads_commit text ≡ true
+  pub write : Write
   pub now : ℤ
 
 -- the put of a prepared record of client 1's first transaction, where there is none
-abbrev pub prepare_first : Write → ℤ → Request
-prepare_first w now = ask.PutIf (prepared_record w (id_of 1 1) now) condition.Absent
+abbrev pub prepare_first : CommitText → Request
+prepare_first t = ask.PutIf (prepared_record t.write (id_of 1 1) t.now) condition.Absent
 
 -- its put of its row COMMITTED
-abbrev pub decide_first : ℤ → Request
-decide_first now = row_put (id_of 1 1) decision.Committed now
+abbrev pub decide_first : CommitText → Request
+decide_first t = row_put (id_of 1 1) decision.Committed t.now
 
 -- A call of the client is seen, and its statement isn't answered.
 abbrev pub seen_so : Request → Reply → Event
 seen_so q r = event.Call 1 [] q Seen r None
 
 -- A COMMIT prepares a key that its transaction only read.
-abbrev pub prepares_unwritten : SelectOn → Record → List Value → CommitText → Write → List Event
-prepares_unwritten f r row t w = answered_after f.on (ask.Get w.key) (reply.Found (Some r)) (answer.Rows (row ∷ [])) ++ event.Take 1 t.text None ∷ seen_so (prepare_first w t.now) reply.Applied ∷ []
+abbrev pub prepares_unwritten : SelectOn → Record → List Value → CommitText → List Event
+prepares_unwritten f r row t = answered_after f.on (ask.Get t.write.key) (reply.Found (Some r)) (answer.Rows (row ∷ [])) ++ event.Take 1 t.text None ∷ seen_so (prepare_first t) reply.Applied ∷ []
 
 -- One decides on COMMITTED and hasn't prepared the row that its transaction inserted.
 abbrev pub decides_unprepared : InsertOn → CommitText → List Event
-decides_unprepared f t = answered_after f.on (ask.Get (insert_key f)) (reply.Found None) (answer.Count 1) ++ event.Take 1 t.text None ∷ seen_so (decide_first t.now) reply.Applied ∷ []
+decides_unprepared f t = answered_after f.on (ask.Get (insert_key f)) (reply.Found None) (answer.Count 1) ++ event.Take 1 t.text None ∷ seen_so (decide_first t) reply.Applied ∷ []
 
 -- One does so after a prepare that faulted.
-abbrev pub decides_unapplied : InsertOn → CommitText → Write → List Event
-decides_unapplied f t w =
+abbrev pub decides_unapplied : InsertOn → CommitText → List Event
+decides_unapplied f t =
     answered_after f.on (ask.Get (insert_key f)) (reply.Found None) (answer.Count 1)
-    ++ event.Take 1 t.text None ∷ seen_so (prepare_first w t.now) reply.Fault ∷ seen_so (decide_first t.now) reply.Applied ∷ []
+    ++ event.Take 1 t.text None ∷ seen_so (prepare_first t) reply.Fault ∷ seen_so (decide_first t) reply.Applied ∷ []
+
+-- One does so before its prepare.
+abbrev pub decides_early : InsertOn → CommitText → List Event
+decides_early f t =
+    answered_after f.on (ask.Get (insert_key f)) (reply.Found None) (answer.Count 1)
+    ++ event.Take 1 t.text None ∷ seen_so (decide_first t) reply.Applied ∷ seen_so (prepare_first t) reply.Applied ∷ []

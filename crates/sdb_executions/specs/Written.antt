@@ -1,19 +1,21 @@
 -- The keys that a transaction's statements write, and which of them its COMMIT prepares.
-use Rattle.std.specs.Prelude.{◌≡◌, ℕ, ℤ, List, [], ◌∷◌, take, filter, Option, Contains}
+use Rattle.std.specs.Prelude.{◌≡◌, ◌<◌, ◌≤◌, ◌^◌, true, ℕ, ℤ, List, [], ◌∷◌, length, take, filter, Option, Contains}
 use Rattle.std.specs.List.{filter_map}
 use Rattle.sdb_types.specs.declared.key.Key.{Key}
 use Rattle.sdb_types.specs.declared.record.Record.{Record}
+use Rattle.sdb_types.specs.declared.record.Reply.TheVariants as reply
 use Rattle.sdb_types.specs.declared.txid.TxId.{TxId}
 use Rattle.sdb_types.specs.Replies.{is_applied}
 use Rattle.sdb_record.specs.declared.coordinator.Decision.TheVariants as decision
 use Rattle.sdb_schema.specs.declared.table.Table.{Table}
 use Rattle.sdb_model.specs.declared.event.Event.{Event}
+use Rattle.sdb_model.specs.declared.event.How.TheVariants.{Seen}
 use Rattle.sdb_model.specs.declared.statement.Statement.{Statement}
 use Rattle.sdb_model.specs.Calls.{Made, calls_before, calls_of, key_asked}
 use Rattle.sdb_model.specs.Causes.{IsCommitOf}
 use Rattle.sdb_model.specs.Counted.{prepares_in}
 use Rattle.sdb_model.specs.Told.{AreRead}
-use Rattle.sdb_model.specs.Transactions.{Said}
+use Rattle.sdb_model.specs.Transactions.{Said, point, prepares}
 use Rattle.sdb_session.specs.Keys.{keys_written, with_keys}
 use Rattle.sdb_executions.specs.Found.{View, answered_body, exec_on, finds, nothing_found, with_found}
 use Rattle.sdb_executions.specs.Laws.{row_put}
@@ -41,12 +43,16 @@ keys_prepared id calls = filter_map (λ m. key_asked m.request) (prepares_in id 
 abbrev pub keys_applied : TxId → List Made → List Key
 keys_applied id calls = keys_prepared id (filter (λ m. is_applied m.reply) calls)
 
+-- a call puts a transaction's row COMMITTED, where there is none
+abbrev pub PutsCommitted : TxId → Made → Type 0
+PutsCommitted id m = (now : ℤ) × (m.request ≡ row_put id decision.Committed now)
+
 -- The calls of a COMMIT prepare these keys, each once, in their order, from the first; and all of them were applied before a call that puts the
 -- transaction's row COMMITTED.
 pub record PreparesAll (keys : List Key) (id : TxId) (calls : List Made) : Type 0 where
   pub count : ℕ
   pub prepared : keys_prepared id calls ≡ take count keys
-  pub decided : (m : Made) (now : ℤ) → Contains calls m → m.request ≡ row_put id decision.Committed now → keys_applied id (calls_before m.at calls) ≡ keys
+  pub decided : (m : Made) → Contains calls m → PutsCommitted id m → keys_applied id (calls_before m.at calls) ≡ keys
 
 -- A COMMIT of a transaction, and what the answered statements of its body read as.
 pub record CommitOf (events : List Event) (client : ℕ) (s : Said) (id : TxId) : Type 0 where
@@ -58,3 +64,26 @@ pub record CommitOf (events : List Event) (client : ℕ) (s : Said) (id : TxId) 
 abbrev pub CommitsPrepareWritten : List Table → List Event → Type 0
 CommitsPrepareWritten catalog events =
     (client : ℕ) (s : Said) (id : TxId) (x : CommitOf events client s id) → PreparesAll (keys_of catalog events client (answered_body events id) x.statements) id (calls_of events client s)
+
+---- one that decides
+
+-- A call of a transaction's COMMIT puts its row COMMITTED.
+pub record Decides (events : List Event) (client : ℕ) (s : Said) (id : TxId) (m : Made) : Type 0 where
+  pub commit : IsCommitOf events client s id
+  pub fits : id.0 < 2 ^ 128
+  pub call : Contains (calls_of events client s) m
+  pub puts : PutsCommitted id m
+
+-- Such a COMMIT makes as many prepares as keys were written.
+abbrev pub PreparesAreAsMany : List Table → List Event → Type 0
+PreparesAreAsMany catalog events =
+    (client : ℕ) (s : Said) (id : TxId) (m : Made) (x : CommitOf events client s id) → Decides events client s id m → length (prepares_in id (calls_of events client s)) ≡ length (keys_of catalog events client (answered_body events id) x.statements)
+
+-- Each prepare of the COMMIT was seen and applied, at the transaction's point or before it, and the call is after that.
+pub record IsAfterPoint (events : List Event) (client : ℕ) (s : Said) (id : TxId) (m : Made) : Type 0 where
+  pub prepared : (p : Made) → Contains (calls_of events client s) p → prepares id p.request ≡ true → (p.how ≡ Seen) × (p.reply ≡ reply.Applied) × (p.at ≤ point events id)
+  pub decides : point events id < m.at
+
+-- So it is of each.
+abbrev pub DecisionsFollowPoints : List Event → Type 0
+DecisionsFollowPoints events = (client : ℕ) (s : Said) (id : TxId) (m : Made) → Decides events client s id m → IsAfterPoint events client s id m

@@ -14,12 +14,12 @@ ghost use Rattle.sdb_execution.specs.Execution.{IsExecution};
 ghost use Rattle.sdb_model.specs.Counted.{AreCounted, AreResolved};
 ghost use Rattle.sdb_spread.specs.Spread.{AreAbout};
 ghost use Rattle.sdb_causes.specs.Tied.{AnswersHaveCauses};
-ghost use Rattle.sdb_executions.specs.Forged.{CommitText, FindsRow, FindsUnresolved, InsertOn, IsOfOther, IsOtherMoment, SelectOn, ShowsRow, UpdateOn, busy_at_once, counted_at_once, counts_over, counts_twice, counts_unread, decides_at_once, decides_unapplied, decides_unprepared, duplicates_none, leaves_out, prepares_at, prepares_unwritten, reads_again, reads_and_is_done, shows_two, shows_unread, shows_unrolled};
+ghost use Rattle.sdb_executions.specs.Forged.{CommitText, FindsRow, FindsUnresolved, InsertOn, IsOfOther, IsOtherMoment, SelectOn, ShowsRow, UpdateOn, busy_at_once, counted_at_once, counts_over, counts_twice, counts_unread, decides_at_once, decides_early, decides_unapplied, decides_unprepared, duplicates_none, leaves_out, prepares_at, prepares_unwritten, reads_again, reads_and_is_done, shows_two, shows_unread, shows_unrolled};
 ghost use Rattle.sdb_executions.specs.Found.{ReadsAreNew, RunsOnFound};
 ghost use Rattle.sdb_executions.specs.Laws.{BusyIsOfReads, CallsAreOfStatements, DecisionsAreDue, ExecutionOf, FollowsMoves, KeepsRules, PreparesAreOwn, ReadsAreFew};
 ghost use Rattle.sdb_executions.specs.Moments.{IsSoundAfter, TraceOf, WritesStandAfter};
 ghost use Rattle.sdb_executions.specs.Vacuums.{VacuumsSweep};
-ghost use Rattle.sdb_executions.specs.Written.{CommitsPrepareWritten};
+ghost use Rattle.sdb_executions.specs.Written.{CommitsPrepareWritten, DecisionsFollowPoints, PreparesAreAsMany};
 
 /// Each answer has its cause among the events: of Conflict, and of BadRecord of a record of a table, where calls show no two decisions on one
 /// transaction. The calls of every statement are counted, and whoever was answered from rows had each unresolved record that it found rolled
@@ -98,9 +98,17 @@ pub fn reads_are_new()
 {}
 
 /// Each COMMIT prepares the keys that the statements of its transaction wrote on what they found: each once, in the order in which they were
-/// first written, from the first. Before it puts its transaction's row COMMITTED, the prepares of all of them were applied.
+/// first written, from the first. Before it puts its transaction's row COMMITTED, the prepares of all of them were applied: so it makes as many
+/// prepares as keys were written.
 pub fn commits_prepare_written()
-    ensures { (x : ExecutionOf) → CommitsPrepareWritten x.script.catalog x.events }
+    ensures written { (x : ExecutionOf) → CommitsPrepareWritten x.script.catalog x.events }
+    ensures counted { (x : ExecutionOf) → PreparesAreAsMany x.script.catalog x.events }
+{}
+
+/// Where the events follow the script's moves, a call that puts a transaction's row COMMITTED is after the transaction's point, and each prepare
+/// of its COMMIT was seen and applied, at the point or before it.
+pub fn decisions_follow_points()
+    ensures { (x : ExecutionOf) → FollowsMoves x → DecisionsFollowPoints x.events }
 {}
 
 /// Each beginning of an execution is an execution: what is so of every execution is so after any number of its events.
@@ -123,7 +131,7 @@ pub fn records_stay_sound()
 /// statements of a transaction: a SELECT that shows a row without a read, leaves out the row that it found, shows a row of a record that it
 /// found and didn't roll, or shows two rows where its LIMIT is 1, an UPDATE that counts rows without a read, an INSERT that is counted over a row that it found or over its transaction's own row, a Duplicate
 /// where nothing was found, and an INSERT that reads its key again; and a COMMIT that prepares a key that its transaction only read, or puts its
-/// row COMMITTED without an applied prepare of what its transaction inserted: without any, or after one that faulted.
+/// row COMMITTED without an applied prepare of what its transaction inserted: without any, after one that faulted, or before one.
 pub fn forged_events_are_refused()
     ensures busy { (text : List ℕ) (key : Key) (id : TxId) (at : ℤ) → reads_commit text ≡ true → BusyIsOfReads (busy_at_once text key id at) → ⊥ }
     ensures swept { (t : Table) (text : List ℕ) → reads_vacuum text ≡ true → VacuumsSweep (t ∷ []) (counted_at_once text) → ⊥ }
@@ -139,7 +147,8 @@ pub fn forged_events_are_refused()
     ensures forgotten { (f : InsertOn) → RunsOnFound f.on.catalog (counts_twice f) → ⊥ }
     ensures no_duplicate { (f : InsertOn) → RunsOnFound f.on.catalog (duplicates_none f) → ⊥ }
     ensures read_again { (f : InsertOn) → ReadsAreNew (reads_again f) → ⊥ }
-    ensures unwritten { (f : SelectOn) (r : Record) (row : List Value) (t : CommitText) (w : Write) → CommitsPrepareWritten f.on.catalog (prepares_unwritten f r row t w) → ⊥ }
+    ensures unwritten { (f : SelectOn) (r : Record) (row : List Value) (t : CommitText) → CommitsPrepareWritten f.on.catalog (prepares_unwritten f r row t) → ⊥ }
     ensures unprepared { (f : InsertOn) (t : CommitText) → CommitsPrepareWritten f.on.catalog (decides_unprepared f t) → ⊥ }
-    ensures unapplied { (f : InsertOn) (t : CommitText) (w : Write) → CommitsPrepareWritten f.on.catalog (decides_unapplied f t w) → ⊥ }
+    ensures unapplied { (f : InsertOn) (t : CommitText) → CommitsPrepareWritten f.on.catalog (decides_unapplied f t) → ⊥ }
+    ensures early { (f : InsertOn) (t : CommitText) → DecisionsFollowPoints (decides_early f t) → ⊥ }
 {}

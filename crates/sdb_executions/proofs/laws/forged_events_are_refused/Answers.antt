@@ -1,4 +1,4 @@
-use Rattle.sdb_executions.proofs.ForgedCommits.{unapplied_refused, unprepared_refused, unwritten_refused}
+use Rattle.sdb_executions.proofs.ForgedCommits.{early_refused, unapplied_refused, unprepared_refused, unwritten_refused}
 use Rattle.sdb_executions.proofs.ForgedFound.{again_refused, counted_over_refused, forgotten_refused, invented_refused, left_out_refused, miscounted_refused, no_duplicate_refused, unlimited_refused, unrolled_refused}
 use Rattle.sdb_executions.proofs.Forgeries.{begin_refused, busy_refused, decision_refused, lazy_refused, moment_refused}
 use Rattle.sdb_executions.proofs.laws.forged_events_are_refused.Goals as goal
@@ -22,4 +22,5 @@ returns c = record {
   unwritten = unwritten_refused;
   unprepared = unprepared_refused;
   unapplied = unapplied_refused;
+  early = early_refused;
 }

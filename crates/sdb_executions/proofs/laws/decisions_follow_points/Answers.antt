@@ -1,0 +1,6 @@
+use Rattle.sdb_causes.proofs.Faults.{answered_seen}
+use Rattle.sdb_executions.proofs.WroteRuns.{execution_points}
+use Rattle.sdb_executions.proofs.laws.decisions_follow_points.Goals as goal
+
+pub returns : goal.returns
+returns c = λ x follows. execution_points x.script x.events x.playable x.execution (answered_seen x.script.clients x.script.moves x.events follows)
