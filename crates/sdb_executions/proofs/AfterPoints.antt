@@ -5,7 +5,6 @@ use Rattle.std.specs.List.{AllByRecursion, cons_option, enumerate_from, filter_m
 use Rattle.std.specs.Option.{option_map_or}
 use Rattle.std.proofs.lemmas.Bool.{and_parts}
 use Rattle.std.proofs.lemmas.Bool.Decides.{nat_tests}
-use Rattle.std.proofs.lemmas.List.Elements.{Contains-append_left, Contains-append_right, Contains-push}
 use Rattle.sdb_types.specs.declared.key.Key.{Key}
 use Rattle.sdb_types.specs.declared.record.Record.{Record}
 use Rattle.sdb_types.specs.declared.record.Reply.{Reply}
@@ -24,6 +23,7 @@ use Rattle.sdb_model.specs.Counted.{prepares_in}
 use Rattle.sdb_model.specs.Transactions.{Said, commit_of, is_prepared_by, last_prepare, point, prepares, said}
 use Rattle.sdb_causes.specs.Rolled.{AnsweredWereSeen}
 use Rattle.sdb_causes.proofs.Lists.{each_in, kept_in}
+use Rattle.sdb_endings.proofs.Calls.{a_later, the_first}
 use Rattle.sdb_executions.specs.Laws.{CallsAreOfStatements, PreparesAreOwn}
 use Rattle.sdb_executions.specs.Written.{Decides, IsAfterPoint, PreparesAll, keys_applied, keys_prepared}
 use Rattle.sdb_executions.proofs.Statements.{none_in}
@@ -41,10 +41,7 @@ passes p (x ∷ xs) = by (p x) refl (passes p xs)
 
 later_in : {X : Type 0} (o : Option X) (xs : List X) (x : X) → Contains xs x → Contains (cons_option o xs) x
 later_in None xs x h = h
-later_in (Some y) xs x h = Contains-append_right (y ∷ []) xs x h
-
-first_in : {X : Type 0} (x : X) (xs : List X) → Contains (x ∷ xs) x
-first_in x xs = Contains-append_left (x ∷ []) xs x (Contains-push [] x)
+later_in (Some y) xs x h = a_later y x xs h
 
 ---- each prepare was applied, and before the deciding put
 
@@ -214,7 +211,7 @@ module _ (id : TxId) where
       now (event.Call d store q Seen reply.Applied a) is same = record {
         c = d;
         p = record { at = k; store = store; request = q; how = Seen; reply = reply.Applied };
-        among = subst (λ (b : Bool). Contains (cons_option (if b then Some (record { at = k; store = store; request = q; how = Seen; reply = reply.Applied }) else None) (filter_map (made_by d) (enumerate_from (k + 1) es))) (record { at = k; store = store; request = q; how = Seen; reply = reply.Applied })) (sym (itself d)) (first_in _ (filter_map (made_by d) (enumerate_from (k + 1) es)));
+        among = subst (λ (b : Bool). Contains (cons_option (if b then Some (record { at = k; store = store; request = q; how = Seen; reply = reply.Applied }) else None) (filter_map (made_by d) (enumerate_from (k + 1) es))) (record { at = k; store = store; request = q; how = Seen; reply = reply.Applied })) (sym (itself d)) (the_first _ (filter_map (made_by d) (enumerate_from (k + 1) es)));
         is = is;
         at = same;
       }

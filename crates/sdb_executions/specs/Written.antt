@@ -54,7 +54,7 @@ pub record PreparesAll (keys : List Key) (id : TxId) (calls : List Made) : Type 
   pub prepared : keys_prepared id calls ≡ take count keys
   pub decided : (m : Made) → Contains calls m → PutsCommitted id m → keys_applied id (calls_before m.at calls) ≡ keys
 
--- A COMMIT of a transaction, and what the answered statements of its body read as.
+-- A COMMIT of a transaction, and what the answered statements of its body read as (`RunsOnFound` has them).
 pub record CommitOf (events : List Event) (client : ℕ) (s : Said) (id : TxId) : Type 0 where
   pub commit : IsCommitOf events client s id
   pub statements : List Statement
