@@ -126,12 +126,13 @@ pub fn records_stay_sound()
     ensures { (x : ExecutionOf) (t : TraceOf x) (n : ℕ) → IsSoundAfter x t n }
 {}
 
-/// Events that no execution has, and the law that each of them breaks: a COMMIT that is answered Busy, a VACUUM of a table that counts without a
-/// scan, a BEGIN that reads, a prepare with another moment than the clock showed, and a decision on another's transaction by a first call; and
-/// statements of a transaction: a SELECT that shows a row without a read, leaves out the row that it found, shows a row of a record that it
-/// found and didn't roll, or shows two rows where its LIMIT is 1, an UPDATE that counts rows without a read, an INSERT that is counted over a row that it found or over its transaction's own row, a Duplicate
-/// where nothing was found, and an INSERT that reads its key again; and a COMMIT that prepares a key that its transaction only read, or puts its
-/// row COMMITTED without an applied prepare of what its transaction inserted: without any, after one that faulted, or before one.
+/// Events that no execution has, and the law that each of them breaks: a COMMIT that is answered Busy, a VACUUM of a table that counts without
+/// a scan, a BEGIN that reads, a prepare with another moment than the clock showed, and a decision on another's transaction by a first call;
+/// and statements of a transaction: a SELECT that shows a row without a read, leaves out the row that it found, shows a row of a record that it
+/// found and didn't roll, or shows two rows where its LIMIT is 1, an UPDATE that counts rows without a read, an INSERT that is counted over a
+/// row that it found or over its transaction's own row, a Duplicate where nothing was found, and an INSERT that reads its key again; and a
+/// COMMIT that prepares a key that its transaction only read, or puts its row COMMITTED without an applied prepare of what its transaction
+/// inserted: without any, after one that faulted, or before one.
 pub fn forged_events_are_refused()
     ensures busy { (text : List ℕ) (key : Key) (id : TxId) (at : ℤ) → reads_commit text ≡ true → BusyIsOfReads (busy_at_once text key id at) → ⊥ }
     ensures swept { (t : Table) (text : List ℕ) → reads_vacuum text ≡ true → VacuumsSweep (t ∷ []) (counted_at_once text) → ⊥ }
