@@ -1,0 +1,56 @@
+-- What a verdict on a script and the report of it says.
+use Rattle.std.specs.Prelude.{◌≡◌, ℕ, List, [], ◌∷◌, ◌++◌, codes}
+use Rattle.sdb_model.specs.declared.event.Outcome.{Outcome}
+use Rattle.sdb_model.specs.declared.script.Script.{Script}
+use Rattle.sdb_model.specs.Causes.{AreCaused}
+use Rattle.sdb_model.specs.Counted.{AreCounted, AreResolved}
+use Rattle.sdb_model.specs.Plain.{IsPlain}
+use Rattle.sdb_model.specs.Report.{report_text_of}
+use Rattle.sdb_model.specs.Shown.{AreShown}
+use Rattle.sdb_execution.specs.Execution.{IsExecution}
+use Rattle.sdb_script.specs.Whole.{IsScript}
+use Rattle.sdb_runs.specs.declared.stores.Stores.{Stores}
+use Rattle.sdb_runs.specs.Values.{all_moments, all_shelves}
+use Rattle.sdb_judge.specs.declared.promises.Promise.{Promise}
+use Rattle.sdb_judge.specs.declared.promises.Promise.TheVariants as promise
+use Rattle.sdb_judge.specs.declared.promises.Verdict.{Verdict}
+use Rattle.sdb_judge.specs.declared.promises.Verdict.TheVariants as verdict
+
+-- the stores that the program attaches, in their order
+abbrev pub own_stores : List (List ℕ)
+own_stores = codes "ordered" ∷ codes "hashed" ∷ codes "sqlite" ∷ []
+
+-- What is promised of events whatever the stores reply: they are an execution of the script's clients, each answer has its cause, calls are
+-- counted, and unresolved records were rolled before an answer.
+pub record KeepsProtocol (script : Script) (o : Outcome) : Type 0 where
+  pub executed : IsExecution script o.events
+  pub caused : AreCaused script.catalog o.events
+  pub counted : AreCounted script.catalog o.events
+  pub resolved : AreResolved o.events
+
+-- Rows that answers show were committed, or the transaction's own, by what stores contain.
+abbrev pub ShowsCommitted : Script → Outcome → Stores → Type 0
+ShowsCommitted script o x = AreShown script.catalog x.places o.events (all_shelves x.opening) (all_moments x.moments)
+
+-- A promise of the events that fails. Whether events are an execution is decided soundly alone, so nothing is said where that one fails; nor
+-- where one fails that is checked without a contract.
+abbrev pub Fails : Script → Outcome → Promise → Type 0
+Fails script o promise.Causes = AreCaused script.catalog o.events → ⊥
+Fails script o promise.Counts = AreCounted script.catalog o.events → ⊥
+Fails script o promise.Resolved = AreResolved o.events → ⊥
+Fails script o _ = Unit {0}
+
+-- What a verdict says of an outcome of a script.
+abbrev pub Says : Script → Outcome → Verdict → Type 0
+Says script o verdict.AsPromised = KeepsProtocol script o
+Says script o (verdict.Fails p) = Fails script o p
+
+-- A text is that of a script and the report of an outcome after it, and the verdict is on these.
+pub record IsJudged (text : List ℕ) (v : Verdict) : Type 0 where
+  pub before : List ℕ
+  pub script : Script
+  pub outcome : Outcome
+  pub split : text ≡ before ++ report_text_of outcome
+  pub is_script : IsScript own_stores before script
+  pub is_plain : IsPlain outcome
+  pub says : Says script outcome v
