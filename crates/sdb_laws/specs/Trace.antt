@@ -1,14 +1,14 @@
 -- A trace beside the events, newest first, and what was done.
 use Rattle.std.specs.Prelude.{◌≡◌, ℕ, Bool, false, not, ◌&&◌, List, [], ◌∷◌, Option, Some, None}
+use Rattle.std.specs.Option.{option_map_or}
 use Rattle.sdb_types.specs.declared.key.Key.{Key}
 use Rattle.sdb_types.specs.declared.record.Condition.{Condition}
 use Rattle.sdb_types.specs.declared.record.Request.{Request}
 use Rattle.sdb_types.specs.declared.record.Request.TheVariants as ask
 use Rattle.sdb_types.specs.Contents.{holds}
 use Rattle.sdb_model.specs.declared.event.Event.{Event}
-use Rattle.sdb_model.specs.declared.event.Event.TheVariants as event
 use Rattle.sdb_model.specs.declared.script.Place.{Place}
-use Rattle.sdb_model.specs.Events.{Shelf, Effect, standing}
+use Rattle.sdb_model.specs.Events.{Shelf, Effect, contact_of, standing}
 use Rattle.sdb_laws.specs.Plan.{Plan}
 use Rattle.sdb_laws.specs.History.{Ends, History, start, happens, says}
 use Rattle.sdb_laws.specs.Lawful.{Played}
@@ -41,8 +41,7 @@ took_effect places (ask.PutIf r c) before now = took_at places r.key c before no
 took_effect places (ask.DeleteIf key c) before now = took_at places key c before now
 
 abbrev pub has_effect : List Place → Event → List Shelf → List Shelf → Bool
-has_effect places (event.Call client store q how r answer) before now = took_effect places q before now
-has_effect places _ before now = false
+has_effect places e before now = option_map_or (λ c. took_effect places c.request before now) (contact_of e) false
 
 abbrev pub after_end : (ℕ → Plan) → History → Option ℕ → History
 after_end plan w None = w

@@ -66,13 +66,29 @@ pub record IsCall (places : List Place) (store : Name) (q : Request) (how : How)
   pub performed : IsPerformed q how r held left
   pub others : now ≡ with_contents before store left
 
--- The effect of an event on what the stores hold: only a call has one.
+-- An event's contact with a store: which store, what it asks of it, how that went, and the reply.
+pub record Contact : Type 0 where
+  pub store : Name
+  pub request : Request
+  pub how : How
+  pub reply : Reply
+
+-- the contact with a store that an event is: only a call is one
+abbrev pub contact_of : Event → Option Contact
+contact_of (event.Take client text answer) = None
+contact_of (event.Call client store q how r answer) = Some (record { store = store; request = q; how = how; reply = r })
+contact_of (event.Stop client) = None
+contact_of (event.Clock moment) = None
+contact_of (event.Idle client) = None
+
+-- The effect of a contact on what the stores hold: without one they hold what they held.
+abbrev pub EffectOf : List Place → Option Contact → List Shelf → List Shelf → Type 0
+EffectOf places None before now = now ≡ before
+EffectOf places (Some c) before now = IsCall places c.store c.request c.how c.reply before now
+
+-- the effect of an event: that of its contact
 abbrev pub Effect : List Place → Event → List Shelf → List Shelf → Type 0
-Effect places (event.Take client text answer) before now = now ≡ before
-Effect places (event.Call client store q how r answer) before now = IsCall places store q how r before now
-Effect places (event.Stop client) before now = now ≡ before
-Effect places (event.Clock moment) before now = now ≡ before
-Effect places (event.Idle client) before now = now ≡ before
+Effect places e before now = EffectOf places (contact_of e) before now
 
 -- A trace: what the stores hold after each event, one moment made from the one before by the event's effect, from the
 -- opening to the closing.
