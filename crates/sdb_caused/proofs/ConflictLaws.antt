@@ -20,15 +20,17 @@ use Rattle.sdb_record.specs.Parts.{before_part, before_record, record_with}
 use Rattle.sdb_record.specs.Among.{version_among}
 use Rattle.sdb_model.specs.declared.event.Event.{Event}
 use Rattle.sdb_model.specs.Calls as calls
-use Rattle.sdb_model.specs.Calls.{calls_of, key_asked, put_by}
+use Rattle.sdb_model.specs.Calls.{calls_of, put_by}
 use Rattle.sdb_model.specs.Causes.{HasMoved, IsChecked, IsConflict, IsConflictAtCommit, IsConflictAtScan, IsRebased, IsUnmet, ReadShows, prepares_key}
 use Rattle.sdb_model.specs.Noted.{Note, Got, Scanned, noted_in, resolved, version_noted}
 use Rattle.sdb_model.specs.Sql.{reads_commit}
-use Rattle.sdb_model.specs.Transactions.{Said, prepares}
+use Rattle.sdb_model.specs.Requests.{records_put}
+use Rattle.sdb_model.specs.Transactions.{Said, is_prepared_record}
+use Rattle.sdb_model.proofs.Requests.{PreparesAt, in_only, only_put, shown_unmet, unmet_shown}
 use Rattle.sdb_said.proofs.Lists.{none_some, right, or_left, not_true, true_not, In, any_some, some_any}
 use Rattle.sdb_plain.specs.declared.made.Made.{Made}
 use Rattle.sdb_plain.specs.Values.{all_made, made_of}
-use Rattle.sdb_caused.specs.Tests.{any_id, asks_key, base_put, conflict_at_commit, conflict_at_scan, conflict_of, get_shows, has_moved, has_prepared, is_commit_of, is_found_by, is_in, is_moved, is_rebased, is_unmet, not_met_as, read_shows, resolves, resolves_by, same_found, scan_differs, scan_shows, scan_shows_by}
+use Rattle.sdb_caused.specs.Tests.{any_id, base_put, conflict_at_commit, conflict_at_scan, conflict_of, get_shows, has_moved, has_prepared, is_commit_of, is_found_by, is_in, is_moved, is_rebased, is_unmet, not_met_as, read_shows, resolves, resolves_by, same_found, scan_differs, scan_shows, scan_shows_by}
 use Rattle.sdb_caused.proofs.Finds.{in_contains, contains_in, made_contained, contained_made, found_is, is_found}
 use Rattle.sdb_caused.proofs.IdLaws.{commit_is, is_commit, in_is, is_in_of, id_some, commit_found, in_found}
 use Rattle.sdb_types.proofs.Basics.{clash, or_second as or_right, some_is, either}
@@ -129,17 +131,22 @@ kept_version r = by (before_part r.columns)
 abbrev base_in : Request → Option TxId
 base_in q = option_and_then (λ r. id_in (before_part r.columns)) (put_by q)
 
-puts_is : (id : TxId) (key : Key) (q : Request) → prepares id q ≡ true → option_map_or (λ k. same_key k key) (key_asked q) false ≡ true → (r : Record) × (put_by q ≡ Some r) × (r.key ≡ key) × (version_of (before_record r) ≡ base_in q)
-puts_is id key (ask.PutIf rec condition) p h = (rec, refl, same_key_exact rec.key key h, sym (kept_version rec))
-puts_is id key (ask.Get k) p h = clash (sym p)
-puts_is id key (ask.Scan span) p h = clash (sym p)
-puts_is id key (ask.DeleteIf k condition) p h = clash (sym p)
+puts_is : (id : TxId) (key : Key) (q : Request) → PreparesAt id key q → (r : Record) × Contains (records_put q) r × (is_prepared_record id r ≡ true) × (r.key ≡ key) × (version_of (before_record r) ≡ base_in q)
+puts_is id key (ask.PutIf rec condition) h =
+    let p = is_prepared_record id rec in
+    let k = same_key rec.key key in
+    (rec, in_only rec rec refl, left p k h, same_key_exact rec.key key (right p k h), sym (kept_version rec))
+puts_is id key (ask.Get k) h = clash (sym h)
+puts_is id key (ask.Scan span) h = clash (sym h)
+puts_is id key (ask.DeleteIf k condition) h = clash (sym h)
 
-is_puts : (key : Key) (q : Request) (r : Record) → put_by q ≡ Some r → r.key ≡ key → option_map_or (λ k. same_key k key) (key_asked q) false ≡ true
-is_puts key (ask.PutIf rec condition) r e k = same_key_of rec.key key (ap (λ (x : Record). x.key) (some_is rec r e) ∙ k)
-is_puts key (ask.Get k) r e h = none_some e
-is_puts key (ask.Scan span) r e h = none_some e
-is_puts key (ask.DeleteIf k condition) r e h = none_some e
+is_puts : (id : TxId) (key : Key) (q : Request) (r : Record) → put_by q ≡ Some r → is_prepared_record id r ≡ true → r.key ≡ key → PreparesAt id key q
+is_puts id key (ask.PutIf rec condition) r e p k =
+    let same = some_is rec r e in
+    both (is_prepared_record id rec) (same_key rec.key key) (ap (is_prepared_record id) same ∙ p) (same_key_of rec.key key (ap (λ (x : Record). x.key) same ∙ k))
+is_puts id key (ask.Get k) r e p h = none_some e
+is_puts id key (ask.Scan span) r e p h = none_some e
+is_puts id key (ask.DeleteIf k condition) r e p h = none_some e
 
 differs_is : (key : Key) (base : Option TxId) (n : Note) → scan_differs key base n ≡ true → (scan : Scan) × (n ≡ Scanned scan) × (in_span scan.span key ≡ true) × (same_version base (version_among scan.found key) ≡ false)
 differs_is key base (Got read) h = clash (sym h)
@@ -161,24 +168,24 @@ module _ (events : List Event) (ms : List Made) (client : ℕ) (s : Said) (e : a
       let at = left (prepares_key id key (made_of p)) l r.2 in
       let n = any_some (scan_differs key (base_put p)) notes (right (prepares_key id key (made_of p)) l r.2) in
       let d = differs_is key (base_put p) n.0 n.2 in
-      let put = puts_is id key p.request (left (prepares id p.request) (asks_key p key) at) (right (prepares id p.request) (asks_key p key) at) in (
+      let put = puts_is id key p.request at in (
         made_of p,
         base_put p,
         version_among d.0.found key,
         contained p r.1,
-        (put.0, left (prepares id p.request) (asks_key p key) at, put.1, put.2, put.3),
+        put,
         (d.0, in_contains notes (Scanned d.0) (subst (λ x. In notes x) d.1 n.1), d.2, refl),
         d.3,
       )
 
   is_rebased_of : (notes : List Note) (id : TxId) → IsRebased (calls_of events client s) notes id key → is_rebased ms notes id key ≡ true
-  is_rebased_of notes id (prepare, base, version, c, (r, p, put, k, b), (scan, n, i, v), d) =
+  is_rebased_of notes id (prepare, base, version, c, (r, put, p, k, b), (scan, n, i, v), d) =
       let m = made prepare c in
-      let q : put_by m.0.request ≡ Some r = sym (ap (λ (x : calls.Made). put_by x.request) m.2) ∙ put in
+      let q : put_by m.0.request ≡ Some r = sym (ap (λ (x : calls.Made). put_by x.request) m.2) ∙ only_put prepare.request r put in
       let same : base_put m.0 ≡ base = ap (option_and_then (λ (x : Record). id_in (before_part x.columns))) q ∙ kept_version r ∙ b in
       some_any (λ (x : Made). prepares_key id key (made_of x) && list_any (scan_differs key (base_put x)) notes) ms m.0 m.1
       (both (prepares_key id key (made_of m.0)) (list_any (scan_differs key (base_put m.0)) notes)
-      (both (prepares id m.0.request) (asks_key m.0 key) (sym (ap (λ (x : calls.Made). prepares id x.request) m.2) ∙ p) (is_puts key m.0.request r q k))
+      (is_puts id key m.0.request r q p k)
       (some_any (scan_differs key (base_put m.0)) notes (Scanned scan) (contains_in notes (Scanned scan) n)
       (both (in_span scan.span key) (not (same_version (base_put m.0) (version_among scan.found key))) i (true_not (same_version (base_put m.0) (version_among scan.found key)) (ap (λ x. same_version x (version_among scan.found key)) same ∙ ap (same_version base) v ∙ d)))))
 
@@ -187,13 +194,13 @@ module _ (events : List Event) (ms : List Made) (client : ℕ) (s : Said) (e : a
       let r = any_some (is_unmet id key found) ms h in
       let p = prepares_key id key (made_of r.0) in
       let n = not_met_as r.0.reply found in
-      (made_of r.0, contained r.0 r.1, left p n r.2, met_is r.0.reply found (right p n r.2))
+      (made_of r.0, contained r.0 r.1, left p n r.2, unmet_shown id key found r.0.request r.0.reply (left p n r.2) (met_is r.0.reply found (right p n r.2)))
 
   is_unmet_of : (id : TxId) → IsUnmet (calls_of events client s) id key found → list_any (is_unmet id key found) ms ≡ true
   is_unmet_of id (c, k, p, n) =
       let m = made c k in
       some_any (is_unmet id key found) ms m.0 m.1
-      (both (prepares_key id key (made_of m.0)) (not_met_as m.0.reply found) (sym (ap (prepares_key id key) m.2) ∙ p) (is_met m.0.reply found (sym (ap (λ (x : calls.Made). x.reply) m.2) ∙ n)))
+      (both (prepares_key id key (made_of m.0)) (not_met_as m.0.reply found) (sym (ap (prepares_key id key) m.2) ∙ p) (is_met m.0.reply found (sym (ap (λ (x : calls.Made). x.reply) m.2) ∙ shown_unmet id key found c.request c.reply p n)))
 
   -- a key is prepared by the calls, seen either way
   prepared_as : (id : TxId) → list_any (prepares_key id key) (calls_of events client s) ≡ has_prepared ms id key

@@ -34,7 +34,7 @@ use Rattle.sdb_model.specs.Exec.{find_table, key_of}
 use Rattle.sdb_model.specs.Refused.{refusal_of}
 use Rattle.sdb_model.specs.Rows.{same_name}
 use Rattle.sdb_model.specs.Transactions.{Said, client_of, commit_of, id_of, is_effective, ordinal_of, said, statements_of}
-use Rattle.sdb_model.specs.Calls.{clock_at, calls_of, decision_learned, is_read, key_asked, put_by, records_read, records_shown}
+use Rattle.sdb_model.specs.Calls.{clock_at, calls_of, decision_learned, is_read, put_by, records_read, records_shown}
 use Rattle.sdb_model.specs.Noted.{Note, Got, Scanned, noted_in, reads_rows, resolved, version_noted}
 use Rattle.sdb_model.specs.Causes.{IsCaused, IsCounted, IsTurnedAway, before, is_misfit, is_open, is_select, prepares_key, records_found, refused, removes, counted_by}
 use Rattle.sdb_said.specs.Values.{same_record}
@@ -156,9 +156,6 @@ is_moved key found n = option_map_or (λ version. not (is_unchanged found versio
 
 abbrev pub has_moved : List Note → Key → Option Record → Bool
 has_moved notes key found = list_any (is_moved key found) notes
-
-abbrev pub asks_key : Made → Key → Bool
-asks_key m key = option_map_or (λ k. same_key k key) (key_asked m.request) false
 
 abbrev pub not_met_as : Reply → Option Record → Bool
 not_met_as (reply.NotMet standing) found = same_found standing found

@@ -11,14 +11,14 @@ ghost use Rattle.sdb_record.specs.Parts.{before_record};
 ghost use Rattle.sdb_record.specs.Rolls.{forward_record};
 ghost use Rattle.sdb_said.specs.Values.{note_of};
 ghost use Rattle.sdb_plain.specs.Values.{all_made, all_notes, made_of};
-ghost use Rattle.sdb_caused.specs.Tests.{asks_key, conflict_at_scan, is_moved as is_moved_lem, has_moved as has_moved_lem, get_shows as get_shows_lem, is_found_by as is_found_by_lem, is_unmet as is_unmet_lem, not_met_as as not_met_as_lem, read_shows as read_shows_lem, scan_shows as scan_shows_lem, base_put as base_put_lem, scan_differs as scan_differs_lem, is_rebased as is_rebased_lem, conflict_at_commit as conflict_at_commit_lem, same_found, resolves as resolves_lem, any_upto, conflict_of as conflict_of_lem};
+ghost use Rattle.sdb_caused.specs.Tests.{conflict_at_scan, is_moved as is_moved_lem, has_moved as has_moved_lem, get_shows as get_shows_lem, is_found_by as is_found_by_lem, is_unmet as is_unmet_lem, not_met_as as not_met_as_lem, read_shows as read_shows_lem, scan_shows as scan_shows_lem, base_put as base_put_lem, scan_differs as scan_differs_lem, is_rebased as is_rebased_lem, conflict_at_commit as conflict_at_commit_lem, same_found, resolves as resolves_lem, any_upto, conflict_of as conflict_of_lem};
 
 use crate::commit::{is_commit_of, is_in};
 use crate::same::is_same_found;
 use crate::sign::{Sign, any};
 use sdb_model::{Event, Keyword};
 use sdb_order::{Said, is_word, statements_said};
-use sdb_plain::{Made, calls_of, decision_for, id_of, is_prepare, key_asked, noted_in, put_by};
+use sdb_plain::{Made, calls_of, decision_for, id_of, is_prepared_record, noted_in, put_by};
 use sdb_record::{Decided, Decision, Scan, is_same_version, is_unchanged, rolled_forward};
 use sdb_said::{
     Note, is_committed, is_kept_in, is_same_key, keeps_none, kept_writer, record_among,
@@ -65,20 +65,14 @@ pub fn scan_shows(made: &Made, key: &Key, found: &Option<Record>) -> bool
     }
 }
 
-fn is_asked(made: &Made, key: &Key) -> bool
-    ensures { result ≡ asks_key made.now key.now }
-{
-    match key_asked(&made.request) {
-        Some(asked) => is_same_key(asked, key),
-        None => false,
-    }
-}
-
 /// Whether a call is a prepare of the key.
 pub fn prepares_key(id: TxId, key: &Key, made: &Made) -> bool
     ensures { result ≡ prepares_key_lem id key.now (made_of made.now) }
 {
-    is_prepare(&made.request, id) && is_asked(made, key)
+    match &made.request {
+        Request::PutIf(rec, _) => is_prepared_record(rec, id) && is_same_key(&rec.key, key),
+        _ => false,
+    }
 }
 
 fn not_met_as(reply: &Reply, found: &Option<Record>) -> bool

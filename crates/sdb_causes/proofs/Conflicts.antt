@@ -2,7 +2,7 @@
 use Rattle.std.proofs.Common.{◌≡◌, ◌<◌, ◌+◌, ◌⊎◌, inl, inr, ℕ, ℤ, zero, suc, Bool, true, false, not, cond, List, [], ◌∷◌, ◌++◌, map, length, Option, Some, None, refl, sym, ap, subst, ◌∙◌, arith}
 use Rattle.std.specs.Prelude.{if◌then◌else◌, ◌&&◌, ◌||◌, filter, find, nat_lt, slice_get, Contains, IfSome, is_some}
 use Rattle.std.specs.List.{AllByRecursion, list_all, list_any}
-use Rattle.std.specs.Option.{option_and_then, option_map, option_map_or}
+use Rattle.std.specs.Option.{option_and_then, option_map}
 use Rattle.std.specs.Ordering.{is_eq}
 use Rattle.std.specs.Cmp.{eq_by_cmp_equiv}
 use Rattle.std.proofs.lemmas.Bool.{and_parts}
@@ -38,10 +38,12 @@ use Rattle.sdb_record.proofs.Fine.{has_value-is}
 use Rattle.sdb_record.proofs.ImageLaws.{prepared-version}
 use Rattle.sdb_record.proofs.TakenLaws.{prepared-base, prepared-key}
 use Rattle.sdb_record.specs.Among.{version_among, write_among, is_written}
-use Rattle.sdb_model.specs.Calls.{Made, key_asked, put_by}
+use Rattle.sdb_model.specs.Calls.{Made, put_by}
 use Rattle.sdb_model.specs.Causes.{ConflictsAtCommit, IsUnmet, ScanShows, prepares_key}
 use Rattle.sdb_model.specs.Noted.{Got, Note, Scanned, version_noted}
-use Rattle.sdb_model.specs.Transactions.{prepares}
+use Rattle.sdb_model.specs.Requests.{any_of, records_put}
+use Rattle.sdb_model.specs.Transactions.{is_prepared_record, prepares}
+use Rattle.sdb_model.proofs.Requests.{any_less, put_among, unmet_shown}
 use Rattle.sdb_phases.specs.declared.check.Check.{Check}
 use Rattle.sdb_phases.specs.declared.step.DecidePhase.{DecidePhase}
 use Rattle.sdb_phases.specs.declared.step.DecidePhase.TheVariants as phase
@@ -101,7 +103,7 @@ base_at_write (w ∷ ws) k v e = by (same_key k w.key) refl (λ h. base_at_write
 ---- what prepares
 
 unprepared_key : (id : TxId) (q : Key) (m : Made) → prepares id m.request ≡ false → prepares_key id q m ≡ false
-unprepared_key id q m f = ap (λ b. b && option_map_or (λ k. same_key k q) (key_asked m.request) false) f
+unprepared_key id q m f = any_less (is_prepared_record id) (λ r. same_key r.key q) (records_put m.request) f
 
 -- a committed record is no prepared one
 base_unprepared : (id : TxId) (k : Key) (b : Record) (c : Condition) → IsBaseOf k b → prepares id (ask.PutIf b c) ≡ false
@@ -193,8 +195,8 @@ module _ (p : Work) (notes : List Note) (w : WorkBy notes p) (calls : List Made)
   module _ (i : ℕ) (x : Write) (at : slice_get p.writes i ≡ Some x) (asks : m.request ≡ prepare_of p.id p.now x) (only : PreparesOnly p calls) (done : HasPrepared p i calls) where
     prepares_it : (q : Key) → prepares_key p.id q m ≡ true → is_written p.writes q ≡ true
     prepares_it q t =
-        let s : option_map_or (λ k. same_key k q) (key_asked m.request) false ≡ true = (and_parts (prepares p.id m.request) (option_map_or (λ k. same_key k q) (key_asked m.request) false) t).1 in
-        let k : same_key (prepared_record x p.id p.now).key q ≡ true = sym (ap (λ (r : Request). option_map_or (λ k. same_key k q) (key_asked r) false) asks) ∙ s in
+        let both : (is_prepared_record p.id (prepared_record x p.id p.now) && same_key (prepared_record x p.id p.now).key q) ≡ true = sym (ap (λ (r : Request). any_of (λ y. is_prepared_record p.id y && same_key y.key q) (records_put r)) asks) ∙ t in
+        let k : same_key (prepared_record x p.id p.now).key q ≡ true = (and_parts (is_prepared_record p.id (prepared_record x p.id p.now)) (same_key (prepared_record x p.id p.now).key q) both).1 in
         let same : x.key ≡ q = same_key_exact x.key q (sym (ap (λ (z : Key). same_key z q) (prepared-key x p.id p.now)) ∙ k) in
         ap (is_written p.writes) (sym same) ∙ written_at p.writes i x at
 
@@ -219,9 +221,9 @@ module _ (p : Work) (notes : List Note) (w : WorkBy notes p) (calls : List Made)
         let k : CanAnswer (prepare_of p.id p.now x) (reply.NotMet found) = subst (λ (r : Request). CanAnswer r (reply.NotMet found)) asks (subst (CanAnswer m.request) f can) in
         let key : (prepared_record x p.id p.now).key ≡ x.key = prepared-key x p.id p.now in
         let asked : prepares_key p.id (prepared_record x p.id p.now).key m ≡ true =
-        ap (λ (r : Request). prepares p.id r && option_map_or (λ z. same_key z (prepared_record x p.id p.now).key) (key_asked r) false) asks
+        ap (λ (r : Request). any_of (λ y. is_prepared_record p.id y && same_key y.key (prepared_record x p.id p.now).key) (records_put r)) asks
         ∙ ap (λ b. b && same_key (prepared_record x p.id p.now).key (prepared_record x p.id p.now).key) (prepared_is p.id p.now x) ∙ same_key_self (prepared_record x p.id p.now).key in
-        inl ((noted_base.note, version_of x.base, noted_base.among, ap (version_noted noted_base.note) key ∙ noted_base.noted, k.1), inl (m, Contains-push calls m, asked, f))
+        inl ((noted_base.note, version_of x.base, noted_base.among, ap (version_noted noted_base.note) key ∙ noted_base.noted, k.1), inl (m, Contains-push calls m, asked, unmet_shown p.id (prepared_record x p.id p.now).key found m.request m.reply asked f))
 
     refused_at : (n : ℕ) (o : Option Request) (found : Option Record) → Some (prepare_of p.id p.now x) ≡ o → m.reply ≡ reply.NotMet found → CanAnswer m.request m.reply → ChecksBy notes p more (after_prepare p i n (refused o found))
     refused_at n o found e f can = subst (λ (z : Option Request). ChecksBy notes p more (after_prepare p i n (refused z found))) e (unmet_now found f can)
@@ -300,8 +302,8 @@ module _ (p : Work) (notes : List Note) (w : WorkBy notes p) (calls : List Made)
               made.1,
               (
                 prepared_record b.1 p.id p.now,
-                ap (prepares p.id) made.2 ∙ prepared_is p.id p.now b.1,
-                ap put_by made.2,
+                put_among made.0.request (prepared_record b.1 p.id p.now) (ap put_by made.2),
+                prepared_is p.id p.now b.1,
                 prepared-key b.1 p.id p.now ∙ b.4,
                 ap version_of (prepared-base b.1 p.id p.now fine) ∙ b.5,
               ),

@@ -133,12 +133,12 @@ module _ (id : TxId) where
           (All-from_recursion (λ (x : Made). PutsRow id decision.Aborted x → ⊥) (calls_before m.at calls) (each_kept (λ (x : Made). PutsRow id decision.Aborted x → ⊥) (λ x. nat_lt x.at m.at) calls none));
     }
 
-  pub found_now : (m : Made) (row : Record) (d : Decided) → is_of_row id m.request ≡ true → standing_said m.reply ≡ Some (Some row) → decision_in row ≡ Ok d → d.decision ≡ decision.Aborted → IsDecided decision.Aborted (decision_found id m)
+  pub found_now : (m : Made) (row : Record) (d : Decided) → is_of_row id m.request ≡ true → standing_said m.request m.reply ≡ Some (Some row) → decision_in row ≡ Ok d → d.decision ≡ decision.Aborted → IsDecided decision.Aborted (decision_found id m)
   found_now m row d t said is aborted = subst (IsDecided decision.Aborted) (sym found) aborted
     where
       found : decision_found id m ≡ Some d
       found =
-          ap (λ (b : Bool). if b then option_and_then (λ (f : Option Record). option_and_then (λ (r : Record). result_ok (decision_in r)) f) (standing_said m.reply) else None) t
+          ap (λ (b : Bool). if b then option_and_then (λ (f : Option Record). option_and_then (λ (r : Record). result_ok (decision_in r)) f) (standing_said m.request m.reply) else None) t
           ∙ ap (λ (o : Option (Option Record)). option_and_then (λ (f : Option Record). option_and_then (λ (r : Record). result_ok (decision_in r)) f) o) said
           ∙ ap result_ok is
 

@@ -189,7 +189,7 @@ module _ (p : Work) (is : IsOfData p) where
         by (Ok d) e = by_decision d d.decision e refl
 
     -- it is given up where none before has put ABORTED
-    expires_is : (row : Record) → is_of_row p.id m.request ≡ true → standing_said m.reply ≡ Some (Some row) → AllByRecursion (λ x. PutsRow p.id decision.Aborted x → ⊥) calls → (d : Decided) → decision_in row ≡ Ok d → d.decision ≡ decision.Aborted → StandsBy p more (decided p (phase.Ended, decide.Expired p.id))
+    expires_is : (row : Record) → is_of_row p.id m.request ≡ true → standing_said m.request m.reply ≡ Some (Some row) → AllByRecursion (λ x. PutsRow p.id decision.Aborted x → ⊥) calls → (d : Decided) → decision_in row ≡ Ok d → d.decision ≡ decision.Aborted → StandsBy p more (decided p (phase.Ended, decide.Expired p.id))
     expires_is row t said none d e w = back_is (outcome.Expired p.id) (length p.writes) 0 (refl, given_up_now p.id calls m older none (found_now p.id m row d t said e w))
 
     put_row : (d : Decision) → m.request ≡ ask.PutIf (coordinator_row_of p.id d p.now) condition.Absent → is_of_row p.id m.request ≡ true
@@ -231,6 +231,9 @@ module _ (p : Work) (is : IsOfData p) where
     said_unmet : (d : Decision) (row : Record) → m.request ≡ ask.PutIf (coordinator_row_of p.id d p.now) condition.Absent → m.reply ≡ reply.NotMet (Some row) → decision_said m.request m.reply ≡ result_ok (decision_in row)
     said_unmet d row e f = ap (λ (q : Request). decision_said q m.reply) e ∙ ap (decision_said (ask.PutIf (coordinator_row_of p.id d p.now) condition.Absent)) f
 
+    stands_said : (q : Request) (r : Reply) → m.request ≡ q → m.reply ≡ r → standing_said m.request m.reply ≡ standing_said q r
+    stands_said q r e f = ap (λ (x : Request). standing_said x m.reply) e ∙ ap (standing_said q) f
+
     -- a call shows no decision
     shows_none : decision_said m.request m.reply ≡ None → decision_learned calls p.id ≡ None → decision_learned more p.id ≡ None
     shows_none e none = learned_now p.id calls m None none (by_row (is_of_row p.id m.request))
@@ -253,7 +256,7 @@ module _ (p : Work) (is : IsOfData p) where
     put_is reply.Applied none e f can = forward_is 0 (subst (IsDecided decision.Committed) (sym (learned_now p.id calls m _ (none_learned p.id calls none) (shown_is p.id m _ (put_row decision.Committed e) (applied_shows decision.Committed e f)))) refl)
     put_is (reply.NotMet (Some row)) none e f can =
         followed_is (decide.Expired p.id) row (put_row decision.Committed e) (unmet_key decision.Committed row e f can) (ap records_shown f) (said_unmet decision.Committed row e f) (none_learned p.id calls none)
-        (expires_is row (put_row decision.Committed e) (ap standing_said f) (none_puts p.id decision.Aborted calls none))
+        (expires_is row (put_row decision.Committed e) (stands_said (decide_of p.id p.now) (reply.NotMet (Some row)) e f) (none_puts p.id decision.Aborted calls none))
     put_is (reply.NotMet None) none e f can = absurd (unmet_none decision.Committed e f can)
     put_is reply.Fault none e f can = record {
       put = m;
@@ -278,7 +281,7 @@ module _ (p : Work) (is : IsOfData p) where
     }
     look_is (reply.Found (Some row)) u e f can =
         followed_is (decide.Expired p.id) row (look_row e) (found_key row e f can) (ap records_shown f) (said_found row (reply.Found (Some row)) e f) u.none
-        (expires_is row (look_row e) (ap standing_said f) u.not_own)
+        (expires_is row (look_row e) (stands_said (look_of p.id) (reply.Found (Some row)) e f) u.not_own)
     look_is reply.Fault u e f can = (refl, failing_now u (look_row e) (inl f))
     look_is reply.NoMemory u e f can = (refl, failing_now u (look_row e) (inr f))
     look_is reply.Applied u e f can = absurd (no_answer (look_of p.id) reply.Applied e f (λ k. k) can)
@@ -289,7 +292,7 @@ module _ (p : Work) (is : IsOfData p) where
     abort_is reply.Applied u e f can = back_is outcome.Faulted (length p.writes) 0 (faulted_put u.put u.deciding)
     abort_is (reply.NotMet (Some row)) u e f can =
         followed_is (decide.Expired p.id) row (put_row decision.Aborted e) (unmet_key decision.Aborted row e f can) (ap records_shown f) (said_unmet decision.Aborted row e f) u.none
-        (expires_is row (put_row decision.Aborted e) (ap standing_said f) u.not_own)
+        (expires_is row (put_row decision.Aborted e) (stands_said (abort_of p.id p.now) (reply.NotMet (Some row)) e f) u.not_own)
     abort_is (reply.NotMet None) u e f can = absurd (unmet_none decision.Aborted e f can)
     abort_is reply.Fault u e f can = record {
       failed = failing_now u (put_row decision.Aborted e) (inl f);

@@ -1,7 +1,7 @@
 -- All calls of clients show one decision on a transaction, where its row stays in the stores.
 use Rattle.std.proofs.Common.{◌≡◌, ◌⊎◌, inl, inr, ℕ, suc, ◌<◌, ◌≤◌, ◌^◌, Bool, true, false, List, length, Option, Some, None, refl, sym, ap, subst, ◌∙◌, arith}
 use Rattle.std.specs.Prelude.{if◌then◌else◌, Contains}
-use Rattle.std.specs.Option.{option_map_or}
+use Rattle.std.specs.Option.{option_and_then, option_map_or}
 use Rattle.std.specs.Ordering.{is_eq}
 use Rattle.std.specs.Result.{result_ok}
 use Rattle.std.proofs.lemmas.Bool.{cases_lt}
@@ -37,17 +37,13 @@ pub record Stands (at : Option Record) (d : Decided) : Type 0 where
   pub decided : result_ok (decision_in row) ≡ Some d
 
 -- the decision of a reply that shows a record, or none
-of_found : (q : Request) (o : Option Record) (d : Decided) → decision_said q (reply.NotMet o) ≡ Some d → Stands o d
-of_found q None d h = none_some d h
-of_found q (Some row) d h = record { row = row; stands = refl; decided = h }
-
-of_get : (q : Request) (o : Option Record) (d : Decided) → decision_said q (reply.Found o) ≡ Some d → Stands o d
-of_get q None d h = none_some d h
-of_get q (Some row) d h = record { row = row; stands = refl; decided = h }
+of_found : (o : Option Record) (d : Decided) → option_and_then (λ (row : Record). result_ok (decision_in row)) o ≡ Some d → Stands o d
+of_found None d h = none_some d h
+of_found (Some row) d h = record { row = row; stands = refl; decided = h }
 
 -- what a reply of a store shows of a decision is what then is at the key that was asked
 said_stands : (q : Request) (k : Key) (m : Contents) (d : Decided) → key_asked q ≡ Some k → decision_said q (reply_to q m) ≡ Some d → Stands (record_at (after q m) k) d
-said_stands (ask.Get key) k m d asked h = subst (λ (x : Key). Stands (record_at m x) d) (some_is key k asked) (of_get (ask.Get key) (record_at m key) d h)
+said_stands (ask.Get key) k m d asked h = subst (λ (x : Key). Stands (record_at m x) d) (some_is key k asked) (of_found (record_at m key) d h)
 said_stands (ask.Scan span) k m d asked h = none_some k asked
 said_stands (ask.PutIf rec c) k m d asked h = subst (λ (x : Key). Stands (record_at (after (ask.PutIf rec c) m) x) d) (some_is rec.key k asked) (by (holds c (record_at m rec.key)) refl h)
   where
@@ -59,7 +55,7 @@ said_stands (ask.PutIf rec c) k m d asked h = subst (λ (x : Key). Stands (recor
     by true e said = record { row = rec; stands = left true e; decided = sym (ap (λ (b : Bool). decision_said (ask.PutIf rec c) (if b then reply.Applied else reply.NotMet (record_at m rec.key))) e) ∙ said }
     by false e said =
         subst (λ (o : Option Record). Stands o d) (sym (left false e))
-        (of_found (ask.PutIf rec c) (record_at m rec.key) d (sym (ap (λ (b : Bool). decision_said (ask.PutIf rec c) (if b then reply.Applied else reply.NotMet (record_at m rec.key))) e) ∙ said))
+        (of_found (record_at m rec.key) d (sym (ap (λ (b : Bool). decision_said (ask.PutIf rec c) (if b then reply.Applied else reply.NotMet (record_at m rec.key))) e) ∙ said))
 said_stands (ask.DeleteIf key c) k m d asked h = subst (λ (x : Key). Stands (record_at (after (ask.DeleteIf key c) m) x) d) (some_is key k asked) (by (holds c (record_at m key)) refl h)
   where
     left : holds c (record_at m key) ≡ false → record_at (after (ask.DeleteIf key c) m) key ≡ record_at m key
@@ -69,7 +65,7 @@ said_stands (ask.DeleteIf key c) k m d asked h = subst (λ (x : Key). Stands (re
     by true e said = none_some d (sym (ap (λ (b : Bool). decision_said (ask.DeleteIf key c) (if b then reply.Applied else reply.NotMet (record_at m key))) e) ∙ said)
     by false e said =
         subst (λ (o : Option Record). Stands o d) (sym (left e))
-        (of_found (ask.DeleteIf key c) (record_at m key) d (sym (ap (λ (b : Bool). decision_said (ask.DeleteIf key c) (if b then reply.Applied else reply.NotMet (record_at m key))) e) ∙ said))
+        (of_found (record_at m key) d (sym (ap (λ (b : Bool). decision_said (ask.DeleteIf key c) (if b then reply.Applied else reply.NotMet (record_at m key))) e) ∙ said))
 
 -- a fault shows none, nor does out of memory
 fault_says : (q : Request) (r : Reply) (d : Decided) → (r ≡ reply.NoMemory) ⊎ (r ≡ reply.Fault) → decision_said q r ≡ Some d → ⊥

@@ -29,11 +29,12 @@ use Rattle.sdb_model.specs.declared.script.Place.{Place}
 use Rattle.sdb_model.specs.declared.statement.Statement.{Statement}
 use Rattle.sdb_model.specs.Events.{IsTrace, Shelf, moment, standing, table_asked}
 use Rattle.sdb_model.specs.Exec.{Tables, find_table}
-use Rattle.sdb_model.specs.Explained.{Explained, IsCurrent, IsLastBefore, IsLeftBy, IsOfOrLater, IsPreparedAfter, IsTableKey, IsWriter, ReadsCurrent, StandingExplained, closing_of}
+use Rattle.sdb_model.specs.Explained.{Explained, IsCurrent, IsLastBefore, IsLeftBy, IsOfOrLater, IsPrepareOf, IsPreparedAfter, IsTableKey, IsWriter, ReadsCurrent, StandingExplained, closing_of}
 use Rattle.sdb_model.specs.Images.{decision_at, image_at}
 use Rattle.sdb_model.specs.Noted.{Note}
 use Rattle.sdb_model.specs.Rows.{Name}
 use Rattle.sdb_model.specs.Transactions.{Recorded, point}
+use Rattle.sdb_model.proofs.Requests.{call_of, puts_table}
 use Rattle.sdb_laws.proofs.Current.{current_at, stand_at, unchanged_at}
 use Rattle.sdb_laws.proofs.Moments.{committed_at, gone_at, rows_at, stands_at, unresolved_at}
 use Rattle.sdb_turns.specs.System.{SystemAt}
@@ -171,42 +172,46 @@ module _ (catalog : List Table) (name : Name) (places : List Place) (events : Li
   call_on : (front : List Event) (client : ℕ) (store : Name) (q : Request) (how : How) (r : Reply) (answer : Option Answer) (back : List Event) → events ≡ front ++ event.Call client store q how r answer ∷ back → moved events ≡ moved front ++ event.Call client name q how r answer ∷ moved back
   call_on front client store q how r answer back same = ap moved same ∙ moved_more (λ ns. name) front (event.Call client store q how r answer ∷ back)
 
+  -- a prepare is about the table of the record that it puts
+  prepare_played : (front : List Event) (id : TxId) (r : Record) (e : Event) (back : List Event) → events ≡ front ++ e ∷ back → IsPrepareOf id r e → is_played catalog r.key.table ≡ true
+  prepare_played front id r e back same p =
+      let c = call_of e p.contact p.asks in
+      ap (is_played catalog) (sym (puts_table p.contact.request r p.puts))
+      ∙ put_played front (event.Call c.0 p.contact.store p.contact.request p.contact.how p.contact.reply c.1) back (same ∙ ap (λ (x : Event). front ++ x ∷ back) c.2)
+
+  put_in : (store : Name) (client : ℕ) (answer : Option Answer) (id : TxId) (r : Record) (e : Event) (p : IsPrepareOf id r e) → IsPrepareOf id r (event.Call client store p.contact.request p.contact.how p.contact.reply answer)
+  put_in store client answer id r e p = record { contact = record p.contact { store = store }; asks = refl; puts = p.puts; prepare = p.prepare }
+
   -- a prepare on several stores, and on the one
   prepared_on : (id : TxId) (r : Record) (front : List Event) → IsPreparedAfter places events opening moments id r front → IsPreparedAfter [] (moved events) (one_shelf name m) a.singles id r (moved front)
   prepared_on id r front p =
-      let played = put_played front (event.Call p.client p.store (ask.PutIf r p.condition) p.how p.reply p.answer) p.back p.at in
+      let c = call_of p.event p.put.contact p.put.asks in
+      let played = prepare_played front id r p.event p.back p.at p.put in
       record {
-        client = p.client;
-        store = name;
-        condition = p.condition;
-        how = p.how;
-        reply = p.reply;
-        answer = p.answer;
+        event = event.Call c.0 name p.put.contact.request p.put.contact.how p.put.contact.reply c.1;
         back = moved p.back;
-        at = call_on front p.client p.store (ask.PutIf r p.condition) p.how p.reply p.answer p.back p.at;
-        prepare = p.prepare;
+        at = call_on front c.0 p.put.contact.store p.put.contact.request p.put.contact.how p.put.contact.reply c.1 p.back (p.at ∙ ap (λ (x : Event). front ++ x ∷ p.back) c.2);
+        put = put_in name c.0 c.1 id r p.event p.put;
         before = ap (λ (n : ℕ). standing [] (one n) r.key) (long front) ∙ sym (a.stands (length front) r.key played) ∙ p.before;
         after = ap (λ (n : ℕ). standing [] (one (suc n)) r.key) (long front) ∙ sym (a.stands (suc (length front)) r.key played) ∙ p.after;
       }
 
   prepared_back : (id : TxId) (r : Record) (front : List Event) → IsPreparedAfter [] (moved events) (one_shelf name m) a.singles id r front → (early : List Event) × (length early ≡ length front) × IsPreparedAfter places events opening moments id r early
   prepared_back id r front p =
-      let c = moved_from (λ ns. name) events front p.back p.client p.store (ask.PutIf r p.condition) p.how p.reply p.answer p.at in
-      let played = put_played c.early (event.Call p.client c.store (ask.PutIf r p.condition) p.how p.reply p.answer) c.back c.same in (
-        c.early,
-        c.long,
+      let q = p.put.contact in
+      let c = call_of p.event q p.put.asks in
+      let b = moved_from (λ ns. name) events front p.back c.0 q.store q.request q.how q.reply c.1 (p.at ∙ ap (λ (x : Event). front ++ x ∷ p.back) c.2) in
+      let put = put_in b.store c.0 c.1 id r p.event p.put in
+      let played = prepare_played b.early id r (event.Call c.0 b.store q.request q.how q.reply c.1) b.back b.same put in (
+        b.early,
+        b.long,
         record {
-          client = p.client;
-          store = c.store;
-          condition = p.condition;
-          how = p.how;
-          reply = p.reply;
-          answer = p.answer;
-          back = c.back;
-          at = c.same;
-          prepare = p.prepare;
-          before = a.stands (length c.early) r.key played ∙ ap (λ (n : ℕ). standing [] (one n) r.key) c.long ∙ p.before;
-          after = a.stands (suc (length c.early)) r.key played ∙ ap (λ (n : ℕ). standing [] (one (suc n)) r.key) c.long ∙ p.after;
+          event = event.Call c.0 b.store q.request q.how q.reply c.1;
+          back = b.back;
+          at = b.same;
+          put = put;
+          before = a.stands (length b.early) r.key played ∙ ap (λ (n : ℕ). standing [] (one n) r.key) b.long ∙ p.before;
+          after = a.stands (suc (length b.early)) r.key played ∙ ap (λ (n : ℕ). standing [] (one (suc n)) r.key) b.long ∙ p.after;
         },
       )
 

@@ -165,7 +165,7 @@ effect_at plan places opening played moments front back e r parts = (m.x, subst 
 
 pub unchanged_at : (plan : ℕ → Plan) (places : List Place) (opening : List Shelf) (played : List Played) (moments : List (List Shelf)) (catalog : List Table) → IsRunOf plan places opening (newest_first played) (newest_first moments) → find_table catalog coordinator_table ≡ None → UnchangedResolved catalog places (events_of played) opening moments
 unchanged_at plan places opening played moments catalog r none front back client store q how reply answer key found version parts shows same table id x before fits at early p no_row =
-    open_changed x version (open_put id x p.condition p.prepare) (subst (λ o. is_unchanged o version ≡ true) (stood ∙ ap (standing places (moment opening moments (length front))) (sym at) ∙ stands) same)
+    open_changed x version (open_put id x p.put.prepare) (subst (λ o. is_unchanged o version ≡ true) (stood ∙ ap (standing places (moment opening moments (length front))) (sym at) ∙ stands) same)
   where
     effect : (now : List Shelf) × Effect places (event.Call client store q how reply answer) (moment opening moments (length front)) now
     effect = effect_at plan places opening played moments front back (event.Call client store q how reply answer) r parts

@@ -8,9 +8,8 @@ use Rattle.sdb_types.specs.declared.key.Key.{Key}
 use Rattle.sdb_types.specs.declared.key.TableName.{TableName}
 use Rattle.sdb_types.specs.declared.txid.TxId.{TxId}
 use Rattle.sdb_types.specs.declared.record.Record.{Record}
-use Rattle.sdb_types.specs.declared.record.Condition.{Condition}
+use Rattle.sdb_types.specs.declared.record.Condition.TheVariants as condition
 use Rattle.sdb_types.specs.declared.record.Request.TheVariants as ask
-use Rattle.sdb_types.specs.declared.record.Reply.{Reply}
 use Rattle.sdb_types.specs.declared.record.State.TheVariants as state
 use Rattle.sdb_schema.specs.declared.table.Table.{Table}
 use Rattle.sdb_record.specs.declared.coordinator.Decided.{Decided}
@@ -22,16 +21,14 @@ use Rattle.sdb_record.proofs.NameLemmas.{same_name-true}
 use Rattle.sdb_record.specs.Meta.{id_in, is_in}
 use Rattle.sdb_record.specs.Moved.{version_of, condition_of}
 use Rattle.sdb_record.specs.Parts.{before_record}
-use Rattle.sdb_model.specs.declared.answer.Answer.{Answer}
+use Rattle.sdb_record.specs.Rolls.{prepared_record}
 use Rattle.sdb_model.specs.declared.event.Event.{Event}
-use Rattle.sdb_model.specs.declared.event.Event.TheVariants as event
-use Rattle.sdb_model.specs.declared.event.How.{How}
 use Rattle.sdb_model.specs.declared.script.Place.{Place}
-use Rattle.sdb_model.specs.Rows.{Name}
 use Rattle.sdb_model.specs.Exec.{find_table}
-use Rattle.sdb_model.specs.Events.{Shelf, standing, moment}
-use Rattle.sdb_model.specs.Transactions.{prepares}
-use Rattle.sdb_model.specs.Explained.{IsTableKey, CommittedRecorded, AbortedGone, IsAborted, RowsFinal, UnresolvedPrepared, PreparedStands, IsPreparedAfter}
+use Rattle.sdb_model.specs.Events.{Shelf, contact_of, standing, moment}
+use Rattle.sdb_model.specs.Transactions.{is_prepared_record}
+use Rattle.sdb_model.specs.Explained.{IsTableKey, CommittedRecorded, AbortedGone, IsAborted, RowsFinal, UnresolvedPrepared, PreparedStands, IsPrepareOf, IsPreparedAfter}
+use Rattle.sdb_model.proofs.Requests.{in_only}
 use Rattle.sdb_laws.specs.Plan.{Plan}
 use Rattle.sdb_laws.specs.History.{Role, Other, Begins, Takes, Prepares, Checks, Decides, Aborts, Rolls, Removes, Ends, Stops, Word, History, Held, happens}
 use Rattle.sdb_laws.specs.Lawful.{Played, MayPlay, MayPrepare, id, is_data}
@@ -215,27 +212,18 @@ rows_put plan w t k word (Some u) = put_here plan w t k word
 
 -- what an event that is a prepare of a key, and took effect, put there, and over what
 record IsPut (plan : ℕ → Plan) (places : List Place) (t : ℕ) (k : Key) (e : Event) (old new : List Shelf) : Type 0 where
-  client : ℕ
-  store : Name
-  condition : Condition
-  how : How
-  reply : Reply
-  answer : Option Answer
-  call : e ≡ event.Call client store (ask.PutIf (held_record plan t k) condition) how reply answer
-  prepare : prepares (id t) (ask.PutIf (held_record plan t k) condition) ≡ true
+  put : IsPrepareOf (id t) (held_record plan t k) e
   before : standing places old (held_record plan t k).key ≡ before_record (held_record plan t k)
   after : standing places new (held_record plan t k).key ≡ Some (held_record plan t k)
 
 put_is : (plan : ℕ → Plan) (places : List Place) (opening : List Shelf) (early : List Played) (p : Played) (es : List (List Shelf)) (s : List Shelf) (t : ℕ) (k : Key) (word : Word) → IsRunOf plan places opening (p ∷ early) (s ∷ es) → p.role ≡ Prepares t k word → has_effect places p.event (closing opening es) s ≡ true → IsPut plan places t k p.event (closing opening es) s
 put_is plan places opening early p es s t k word r role done = record {
-  client = m.client;
-  store = m.call.store;
-  condition = condition_of (version_of m.write.base);
-  how = m.call.how;
-  reply = m.r;
-  answer = m.call.answer;
-  call = m.call.call ∙ ap (λ x. event.Call m.client m.call.store (ask.PutIf x (condition_of (version_of m.write.base))) m.call.how m.r m.call.answer) (held_is plan t k m.write m.at);
-  prepare = held_prepares plan t t k (condition_of (version_of m.write.base)) fits fits ∙ itself t;
+  put = record {
+    contact = record { store = m.call.store; request = ask.PutIf (prepared_record m.write (id t) (plan t).now) (condition_of (version_of m.write.base)); how = m.call.how; reply = m.r };
+    asks = ap contact_of m.call.call;
+    puts = in_only (prepared_record m.write (id t) (plan t).now) (held_record plan t k) (held_is plan t k m.write m.at);
+    prepare = held_prepares plan t t k (condition_of (version_of m.write.base)) fits fits ∙ itself t;
+  };
   before = ap (standing places (closing opening es)) key ∙ stood_before plan places opening early p es s t k word r role done;
   after = ap (standing places s) key ∙ i.held.records k (took_data plan w (p ∷ early) t k i.knows put.1) ∙ ap (option_map (record_for plan k)) put.0;
 }
@@ -318,15 +306,10 @@ put_after plan places opening front back ms more t key same r took = (events_of 
 
     prepared : IsPreparedAfter places (events_of (front ++ back)) opening (ms ++ more) (id t) (held_record plan t key) (events_of (newest_first b.early))
     prepared = record {
-      client = put.client;
-      store = put.store;
-      condition = put.condition;
-      how = put.how;
-      reply = put.reply;
-      answer = put.answer;
+      event = b.p.event;
       back = events_of (newest_first b.later) ++ events_of back;
-      at = events_is ∙ ap (λ y. events_of (newest_first b.early) ++ y ∷ (events_of (newest_first b.later) ++ events_of back)) put.call;
-      prepare = put.prepare;
+      at = events_is;
+      put = put.put;
       before = ap (λ y. standing places y (held_record plan t key).key) before_is ∙ put.before;
       after = ap (λ y. standing places y (held_record plan t key).key) after_is ∙ put.after;
     }
@@ -344,34 +327,34 @@ unresolved plan places opening front back ms more catalog same r apart key x tab
 
 ---- what a transaction without a row prepared is there
 
-pub open_put : (t : TxId) (r : Record) (c : Condition) → prepares t (ask.PutIf r c) ≡ true → is_in state.Committed r.columns ≡ false
-open_put t r c h = by (is_in state.Committed r.columns) refl
+pub open_put : (t : TxId) (r : Record) → is_prepared_record t r ≡ true → is_in state.Committed r.columns ≡ false
+open_put t r h = by (is_in state.Committed r.columns) refl
   where
     by : (b : Bool) → is_in state.Committed r.columns ≡ b → is_in state.Committed r.columns ≡ false
     by false e = e
-    by true e = clash (sym h ∙ firm_no t r c e)
+    by true e = clash (sym h ∙ firm_no t r condition.Absent e)
 
-put_writer : (t : TxId) (r : Record) (c : Condition) → t.0 < 2 ^ 128 → prepares t (ask.PutIf r c) ≡ true → id_in r.columns ≡ Some t
-put_writer t r c fits h = by (is_version t state.Prepared r) refl
+put_writer : (t : TxId) (r : Record) → t.0 < 2 ^ 128 → is_prepared_record t r ≡ true → id_in r.columns ≡ Some t
+put_writer t r fits h = by (is_version t state.Prepared r) refl
   where
     by : (b : Bool) → is_version t state.Prepared r ≡ b → id_in r.columns ≡ Some t
     by true e = version-writer r t state.Prepared fits e
     by false e = version-writer r t state.Deleted fits (ap (λ b. b || is_version t state.Deleted r) (sym e) ∙ h)
 
 -- the prefix of a run that ends with an event after `front`, and that its record was prepared by then
-pub took_by : (plan : ℕ → Plan) (places : List Place) (opening : List Shelf) (early later : List Played) (es ls : List (List Shelf)) (t : TxId) (r : Record) (c : Condition) → length later ≡ length ls → IsRunOf plan places opening (newest_first (early ++ later)) (newest_first (es ++ ls))
-    → t.0 < 2 ^ 128 → is_data r.key ≡ true → prepares t (ask.PutIf r c) ≡ true → standing places (closing opening (newest_first es)) r.key ≡ Some r
+pub took_by : (plan : ℕ → Plan) (places : List Place) (opening : List Shelf) (early later : List Played) (es ls : List (List Shelf)) (t : TxId) (r : Record) → length later ≡ length ls → IsRunOf plan places opening (newest_first (early ++ later)) (newest_first (es ++ ls))
+    → t.0 < 2 ^ 128 → is_data r.key ≡ true → is_prepared_record t r ≡ true → standing places (closing opening (newest_first es)) r.key ≡ Some r
     → ((history plan places opening (newest_first (early ++ later)) (newest_first (es ++ ls))).took t.0 r.key ≡ true) × (r ≡ held_record plan t.0 r.key)
-took_by plan places opening early later es ls t r c same run fits outside prepare at = (still, subst (λ n. r ≡ held_record plan n r.key) number u.same)
+took_by plan places opening early later es ls t r same run fits outside prepare at = (still, subst (λ n. r ≡ held_record plan n r.key) number u.same)
   where
     first : IsRunOf plan places opening (newest_first early) (newest_first es)
     first = early_run plan places opening early later es ls same run
 
     u : IsPreparedRecord plan (history plan places opening (newest_first early) (newest_first es)) r.key r
-    u = unresolved_prepared plan places (history plan places opening (newest_first early) (newest_first es)) (newest_first early) (closing opening (newest_first es)) (whole_of plan places opening (newest_first early) (newest_first es) first) r.key r outside at (open_put t r c prepare)
+    u = unresolved_prepared plan places (history plan places opening (newest_first early) (newest_first es)) (newest_first early) (closing opening (newest_first es)) (whole_of plan places opening (newest_first early) (newest_first es) first) r.key r outside at (open_put t r prepare)
 
     number : u.t ≡ t.0
-    number = same_writer r u.t t.0 u.writer (put_writer t r c fits prepare)
+    number = same_writer r u.t t.0 u.writer (put_writer t r fits prepare)
 
     now : IsRunOf plan places opening (newest_first later ++ newest_first early) (newest_first ls ++ newest_first es)
     now = subst (λ x. IsRunOf plan places opening x (newest_first ls ++ newest_first es)) (turned_append early later) (subst (λ x. IsRunOf plan places opening (newest_first (early ++ later)) x) (turned_append es ls) run)
@@ -424,9 +407,9 @@ stands plan places opening front back ms more catalog even same r apart t x befo
     took =
         subst (λ y. ((history plan places opening (newest_first y) (newest_first ms)).took t.0 x.key ≡ true) × (x ≡ held_record plan t.0 x.key)) (take-append-drop n front)
         (subst (λ y. ((history plan places opening (newest_first (take n front ++ drop n front)) (newest_first y)).took t.0 x.key ≡ true) × (x ≡ held_record plan t.0 x.key)) (take-append-drop n ms)
-        (took_by plan places opening (take n front) (drop n front) (take n ms) (drop n ms) t x p.condition (length-drop n front ∙ ap (λ y. y - n) even ∙ sym (length-drop n ms))
+        (took_by plan places opening (take n front) (drop n front) (take n ms) (drop n ms) t x (length-drop n front ∙ ap (λ y. y - n) even ∙ sym (length-drop n ms))
         (subst (λ y. IsRunOf plan places opening (newest_first y) (newest_first (take n ms ++ drop n ms))) (sym (take-append-drop n front)) (subst (λ y. IsRunOf plan places opening (newest_first front) (newest_first y)) parts run))
-        fits (apart.outside x.key table) p.prepare (ap (λ y. standing places y x.key) (sym first) ∙ p.after)))
+        fits (apart.outside x.key table) p.put.prepare (ap (λ y. standing places y x.key) (sym first) ∙ p.after)))
 
 ---- the laws
 
@@ -464,7 +447,7 @@ pub took_of : (plan : ℕ → Plan) (places : List Place) (opening : List Shelf)
 took_of plan places opening played moments t x before r fits outside p =
     subst (λ y. ((history plan places opening (newest_first y) (newest_first moments)).took t.0 x.key ≡ true) × (x ≡ held_record plan t.0 x.key)) (take-append-drop n played)
     (subst (λ y. ((history plan places opening (newest_first (take n played ++ drop n played)) (newest_first y)).took t.0 x.key ≡ true) × (x ≡ held_record plan t.0 x.key)) (take-append-drop n moments)
-    (took_by plan places opening (take n played) (drop n played) (take n moments) (drop n moments) t x p.condition c.same c.whole fits outside p.prepare (ap (λ y. standing places y x.key) (sym (at_cut opening moments n c.size)) ∙ p.after)))
+    (took_by plan places opening (take n played) (drop n played) (take n moments) (drop n moments) t x c.same c.whole fits outside p.put.prepare (ap (λ y. standing places y x.key) (sym (at_cut opening moments n c.size)) ∙ p.after)))
   where
     n : ℕ
     n = suc (length before)
@@ -473,7 +456,7 @@ took_of plan places opening played moments t x before r fits outside p =
     size = length-map played (λ (y : Played). y.event) ∙ sym (turned_length played) ∙ trace_length places opening (newest_first played) (newest_first moments) r.traced ∙ turned_length moments
 
     at_most : n ≤ length moments
-    at_most = most (length moments) (length p.back) (sym size ∙ ap length p.at ∙ length-append before (event.Call p.client p.store (ask.PutIf x p.condition) p.how p.reply p.answer ∷ p.back))
+    at_most = most (length moments) (length p.back) (sym size ∙ ap length p.at ∙ length-append before (p.event ∷ p.back))
       where
         most : (a b : ℕ) → a ≡ length before + suc b → suc (length before) ≤ a
         most a b e = omega (arith, e)

@@ -1,2 +1,3 @@
 pub mod RealTime
 pub mod Basics
+pub mod Requests

@@ -1,6 +1,6 @@
 -- What a client did for one statement: the calls that it made, what they asked, and what their replies showed.
 use Rattle.std.specs.Prelude.{ℕ, ℤ, pos, Bool, true, false, ◌&&◌, ◌==◌, nat_le, nat_lt, if◌then◌else◌, List, [], ◌∷◌, filter, fold, length, take, Option, Some, None, is_some}
-use Rattle.std.specs.Option.{option_and_then, option_map_or}
+use Rattle.std.specs.Option.{option_and_then, option_map, option_map_or}
 use Rattle.std.specs.List.{filter_map}
 use Rattle.std.specs.Result.{result_ok}
 use Rattle.std.specs.Ordering.{is_eq}
@@ -14,11 +14,13 @@ use Rattle.sdb_types.specs.declared.record.Request.TheVariants as ask
 use Rattle.sdb_types.specs.declared.record.Reply.{Reply}
 use Rattle.sdb_types.specs.declared.record.Reply.TheVariants as reply
 use Rattle.sdb_types.specs.Order.{key_cmp}
+use Rattle.sdb_types.specs.Replies.{is_applied}
 use Rattle.sdb_record.specs.declared.coordinator.Decided.{Decided}
 use Rattle.sdb_record.specs.Coordinator.{coordinator_key_of, decision_in}
 use Rattle.sdb_model.specs.declared.event.Event.{Event}
 use Rattle.sdb_model.specs.declared.event.Event.TheVariants as event
 use Rattle.sdb_model.specs.declared.event.How.{How}
+use Rattle.sdb_model.specs.Requests.{keys_asked, only_of, records_put, shown_by}
 use Rattle.sdb_model.specs.Rows.{Name}
 use Rattle.sdb_model.specs.Transactions.{Said, numbered}
 
@@ -67,11 +69,9 @@ clock_at events n = fold clock_after (pos 0) (take n events)
 
 ---- what a call asks
 
+-- the one key that a call names
 abbrev pub key_asked : Request → Option Key
-key_asked (ask.Get key) = Some key
-key_asked (ask.Scan span) = None
-key_asked (ask.PutIf rec condition) = Some rec.key
-key_asked (ask.DeleteIf key condition) = Some key
+key_asked q = only_of (keys_asked q)
 
 abbrev pub is_read : Request → Bool
 is_read (ask.Get key) = true
@@ -88,10 +88,9 @@ is_removal q = false
 abbrev pub is_of_row : TxId → Request → Bool
 is_of_row id q = option_map_or (λ k. is_eq (key_cmp k (coordinator_key_of id))) (key_asked q) false
 
--- the record that a call puts
+-- the one record that a call puts
 abbrev pub put_by : Request → Option Record
-put_by (ask.PutIf rec condition) = Some rec
-put_by q = None
+put_by q = only_of (records_put q)
 
 ---- what a reply shows
 
@@ -107,25 +106,24 @@ abbrev pub records_shown : Reply → List Record
 records_shown (reply.NotMet (Some r)) = r ∷ []
 records_shown r = records_read r
 
--- what a reply says is at the one key that was asked
-abbrev pub standing_said : Reply → Option (Option Record)
-standing_said (reply.Found found) = Some found
-standing_said (reply.NotMet found) = Some found
-standing_said r = None
+-- what a reply says is at the one key that its request names
+abbrev pub standing_said : Request → Reply → Option (Option Record)
+standing_said q r = option_map (λ s. s.1) (only_of (shown_by q r))
+
+-- the row that a reply says is at that key, or that was put there
+abbrev pub row_said : Request → Reply → Option Record
+row_said q r = if is_applied r then put_by q else option_and_then (λ found. found) (standing_said q r)
 
 -- the decision that a call on a transaction's row showed: that of the row found, or of the row that was put
 abbrev pub decision_said : Request → Reply → Option Decided
-decision_said q (reply.Found (Some row)) = result_ok (decision_in row)
-decision_said q (reply.NotMet (Some row)) = result_ok (decision_in row)
-decision_said (ask.PutIf row condition) reply.Applied = result_ok (decision_in row)
-decision_said q r = None
+decision_said q r = option_and_then (λ row. result_ok (decision_in row)) (row_said q r)
 
 abbrev pub decision_shown : TxId → Made → Option Decided
 decision_shown id m = if is_of_row id m.request then decision_said m.request m.reply else None
 
 -- the decision in the row that a call found, and did not put
 abbrev pub decision_found : TxId → Made → Option Decided
-decision_found id m = if is_of_row id m.request then option_and_then (λ found. option_and_then (λ row. result_ok (decision_in row)) found) (standing_said m.reply) else None
+decision_found id m = if is_of_row id m.request then option_and_then (λ found. option_and_then (λ row. result_ok (decision_in row)) found) (standing_said m.request m.reply) else None
 
 -- the decision on a transaction that calls showed first
 abbrev pub decision_learned : List Made → TxId → Option Decided

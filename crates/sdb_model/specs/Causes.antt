@@ -35,8 +35,9 @@ use Rattle.sdb_model.specs.Sql.{Reads, Refuses, reads_commit, reads_vacuum}
 use Rattle.sdb_model.specs.Exec.{find_table, key_of, table_of}
 use Rattle.sdb_model.specs.Refused.{refusal_of}
 use Rattle.sdb_model.specs.Follows.{has_stopped}
-use Rattle.sdb_model.specs.Transactions.{Said, said, begins, ends, body, client_of, commit_of, statements_of, prepares}
-use Rattle.sdb_model.specs.Calls.{Made, calls_of, calls_after, calls_before, clock_at, decision_found, decision_learned, is_of_row, is_read, is_removal, key_asked, put_by, records_read, records_shown}
+use Rattle.sdb_model.specs.Transactions.{Said, said, begins, ends, body, client_of, commit_of, statements_of, is_prepared_record}
+use Rattle.sdb_model.specs.Calls.{Made, calls_of, calls_after, calls_before, clock_at, decision_found, decision_learned, is_of_row, is_read, is_removal, put_by, records_read, records_shown}
+use Rattle.sdb_model.specs.Requests.{any_of, records_put, shown_by}
 use Rattle.sdb_model.specs.Noted.{Note, Scanned, noted_in, reads_rows, resolved, version_noted}
 use Rattle.sdb_types.specs.Replies.{is_applied, is_fault}
 use Rattle.sdb_types.specs.Order.{same_key}
@@ -150,11 +151,11 @@ ReadShows m key found = ((m.request ≡ ask.Get key) × (m.reply ≡ reply.Found
 
 -- a prepare of a key by a transaction
 abbrev pub prepares_key : TxId → Key → Made → Bool
-prepares_key id key m = prepares id m.request && option_map_or (λ k. same_key k key) (key_asked m.request) false
+prepares_key id key m = any_of (λ r. is_prepared_record id r && same_key r.key key) (records_put m.request)
 
 -- A prepare of the key was not met, and this was found there.
 abbrev pub IsUnmet : List Made → TxId → Key → Option Record → Type 0
-IsUnmet calls id key found = (m : Made) × Contains calls m × (prepares_key id key m ≡ true) × (m.reply ≡ reply.NotMet found)
+IsUnmet calls id key found = (m : Made) × Contains calls m × (prepares_key id key m ≡ true) × Contains (shown_by m.request m.reply) (key, found)
 
 -- A check showed it at a key that was not prepared.
 abbrev pub IsChecked : List Made → TxId → Key → Option Record → Type 0
@@ -162,7 +163,7 @@ IsChecked calls id key found = (m : Made) × Contains calls m × ReadShows m key
 
 -- the base of a transaction's prepare of a key has this version
 abbrev pub IsPrepareOver : TxId → Key → Option TxId → Made → Type 0
-IsPrepareOver id key version m = (r : Record) × (prepares id m.request ≡ true) × (put_by m.request ≡ Some r) × (r.key ≡ key) × (version_of (before_record r) ≡ version)
+IsPrepareOver id key version m = (r : Record) × Contains (records_put m.request) r × (is_prepared_record id r ≡ true) × (r.key ≡ key) × (version_of (before_record r) ≡ version)
 
 -- A scan was noted with another version of a key than the base of its prepare has.
 abbrev pub IsRebased : List Made → List Note → TxId → Key → Type 0

@@ -3,7 +3,6 @@ use Rattle.std.specs.Prelude.{◌≡◌, ◌≢◌, ◌⊎◌, ℕ, suc, ◌<◌
 use Rattle.sdb_types.specs.declared.txid.TxId.{TxId}
 use Rattle.sdb_types.specs.declared.key.Key.{Key}
 use Rattle.sdb_types.specs.declared.record.Record.{Record}
-use Rattle.sdb_types.specs.declared.record.Condition.{Condition}
 use Rattle.sdb_types.specs.declared.record.Request.{Request}
 use Rattle.sdb_types.specs.declared.record.Request.TheVariants as ask
 use Rattle.sdb_types.specs.declared.record.Reply.{Reply}
@@ -21,12 +20,13 @@ use Rattle.sdb_model.specs.declared.event.Event.{Event}
 use Rattle.sdb_model.specs.declared.event.Event.TheVariants as event
 use Rattle.sdb_model.specs.declared.event.How.{How}
 use Rattle.sdb_model.specs.declared.script.Place.{Place}
+use Rattle.sdb_model.specs.Requests.{records_put}
 use Rattle.sdb_model.specs.Rows.{Name}
 use Rattle.sdb_model.specs.Exec.{find_table}
-use Rattle.sdb_model.specs.Events.{Shelf, standing, moment}
+use Rattle.sdb_model.specs.Events.{Contact, Shelf, contact_of, standing, moment}
 use Rattle.sdb_model.specs.Images.{decision_at, image_at}
 use Rattle.sdb_model.specs.Noted.{Note, noted_in, version_noted}
-use Rattle.sdb_model.specs.Transactions.{Recorded, begun, point, prepares}
+use Rattle.sdb_model.specs.Transactions.{Recorded, begun, is_prepared_record, point}
 
 -- a key of a table of the catalog: the coordinator's rows are no records of transactions
 abbrev pub IsTableKey : List Table → Key → Type 0
@@ -60,18 +60,20 @@ RowsFinal places early late = (id : TxId) (row : Record) → id.0 < 2 ^ 128 → 
 
 ---- after so many events
 
+-- An event asks a store for a prepare of a transaction that puts this record.
+pub record IsPrepareOf (id : TxId) (r : Record) (e : Event) : Type 0 where
+  pub contact : Contact
+  pub asks : contact_of e ≡ Some contact
+  pub puts : Contains (records_put contact.request) r
+  pub prepare : is_prepared_record id r ≡ true
+
 -- A prepare of a transaction put a record, by the event after `front`: just before it there was what the record is rolled back
 -- to, and just after it the record.
 pub record IsPreparedAfter (places : List Place) (events : List Event) (opening : List Shelf) (moments : List (List Shelf)) (id : TxId) (r : Record) (front : List Event) : Type 0 where
-  pub client : ℕ
-  pub store : Name
-  pub condition : Condition
-  pub how : How
-  pub reply : Reply
-  pub answer : Option Answer
+  pub event : Event
   pub back : List Event
-  pub at : events ≡ front ++ event.Call client store (ask.PutIf r condition) how reply answer ∷ back
-  pub prepare : prepares id (ask.PutIf r condition) ≡ true
+  pub at : events ≡ front ++ event ∷ back
+  pub put : IsPrepareOf id r event
   pub before : standing places (moment opening moments (length front)) r.key ≡ before_record r
   pub after : standing places (moment opening moments (suc (length front))) r.key ≡ Some r
 

@@ -3,6 +3,7 @@ pub mod Report
 pub mod Rows
 pub mod Exec
 pub mod Refused
+pub mod Requests
 pub mod Events
 pub mod Follows
 pub mod Images

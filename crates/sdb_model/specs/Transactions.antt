@@ -4,9 +4,9 @@ use Rattle.std.specs.Option.{option_map, option_map_or, option_and_then}
 use Rattle.std.specs.List.{enumerate_from}
 use Rattle.std.specs.List.Sorted.{IsStrictlyIncreasing}
 use Rattle.sdb_types.specs.declared.txid.TxId.{TxId}
+use Rattle.sdb_types.specs.declared.record.Record.{Record}
 use Rattle.sdb_types.specs.declared.record.State.TheVariants.{Prepared, Deleted}
 use Rattle.sdb_types.specs.declared.record.Request.{Request}
-use Rattle.sdb_types.specs.declared.record.Request.TheVariants as ask
 use Rattle.sdb_types.specs.declared.record.Reply.TheVariants as reply
 use Rattle.sdb_types.specs.Contents.{is_version}
 use Rattle.sdb_model.specs.declared.answer.Answer.{Answer}
@@ -18,6 +18,7 @@ use Rattle.sdb_model.specs.declared.event.Point.{Point}
 use Rattle.sdb_model.specs.declared.script.Place.{Place}
 use Rattle.sdb_model.specs.Events.{Shelf}
 use Rattle.sdb_model.specs.Images.{decision_at}
+use Rattle.sdb_model.specs.Requests.{any_of, records_put}
 use Rattle.sdb_model.specs.Sql.{reads_begin, reads_commit, reads_rollback}
 use Rattle.sdb_record.specs.declared.coordinator.Decision.TheVariants as decision
 
@@ -153,10 +154,13 @@ body events id = filter is_effective (take_while (λ s. not (ends s)) (rest_of (
 
 ---- its place in the order
 
--- A prepare of a transaction: a put of a record of it in state PREPARED or DELETED.
+-- a record of a transaction in state PREPARED or DELETED
+abbrev pub is_prepared_record : TxId → Record → Bool
+is_prepared_record id r = is_version id Prepared r || is_version id Deleted r
+
+-- A prepare of a transaction: it puts such a record.
 abbrev pub prepares : TxId → Request → Bool
-prepares id (ask.PutIf rec condition) = is_version id Prepared rec || is_version id Deleted rec
-prepares id _ = false
+prepares id q = any_of (is_prepared_record id) (records_put q)
 
 -- a prepare call that was seen and applied
 abbrev pub is_prepared_by : TxId → Event → Bool

@@ -51,7 +51,7 @@ decision_at row m = if asks_row row m.request then decision_said m.request m.rep
 
 -- the decision in the row that a call found, and did not put
 abbrev pub decision_found_at : Key → Made → Option Decided
-decision_found_at row m = if asks_row row m.request then option_and_then (λ found. option_and_then (λ r. result_ok (decision_in r)) found) (standing_said m.reply) else None
+decision_found_at row m = if asks_row row m.request then option_and_then (λ found. option_and_then (λ r. result_ok (decision_in r)) found) (standing_said m.request m.reply) else None
 
 -- the decision that calls showed first
 abbrev pub decision_learned_at : List Made → Key → Option Decided

@@ -19,7 +19,9 @@ pub use made::{Made, calls_of, end_of};
 pub use noted::{decision_for, noted_in};
 pub use open::{Work, has_stopped, is_open, runs_vacuum, someone_does, taker};
 pub use order::{Answers, Bodies, Body, run_body, serial};
-pub use points::{first_ending, from_begin, is_prepare, last_prepare, order_of, point};
+pub use points::{
+    first_ending, from_begin, is_prepare, is_prepared_record, last_prepare, order_of, point,
+};
 pub use reply::{decision_at, decision_found_at, decision_learned_at, standing_said};
 pub use request::{asks_row, is_read, is_removal, key_asked, put_by, reads_rows};
 pub use statement::exec;

@@ -1,6 +1,6 @@
 //! Transactions among the events of a run, and their order.
 ghost use Rattle.std.specs.Prelude.{◌≡◌, ◌<◌, [], IfOk, OnOk, Some, None, map, fold, length, option_map, find, take_while, nat_le};
-ghost use Rattle.sdb_model.specs.Transactions.{from_begin as from_begin_lem, ends as ends_lem, prepares as prepares_lem, is_prepared_by, last_prepare as last_prepare_lem, point as point_lem, point_at};
+ghost use Rattle.sdb_model.specs.Transactions.{from_begin as from_begin_lem, ends as ends_lem, is_prepared_record as is_prepared_record_lem, prepares as prepares_lem, is_prepared_by, last_prepare as last_prepare_lem, point as point_lem, point_at};
 ghost use Rattle.sdb_order.specs.Commits.{said_of, all_said};
 ghost use Rattle.sdb_plain.specs.Points.{placed_point, order_of as order_of_lem};
 
@@ -8,17 +8,22 @@ use crate::transaction::{client_of, commit_of, ordinal_of};
 use sdb_model::{Event, How, Point, Points};
 use sdb_order::{Said, begins, ends, statements_said};
 use sdb_record::has_version;
-use sdb_types::{NoMemory, Reply, Request, State, TxId};
+use sdb_types::{NoMemory, Record, Reply, Request, State, TxId};
 use std::alloc::Global;
+
+/// Whether a record is one of a transaction in state PREPARED or DELETED.
+pub fn is_prepared_record(rec: &Record, id: TxId) -> bool
+    ensures { result ≡ is_prepared_record_lem id rec.now }
+{
+    has_version(rec, id, State::Prepared) || has_version(rec, id, State::Deleted)
+}
 
 /// Whether a request is a prepare of a transaction.
 pub fn is_prepare(request: &Request, id: TxId) -> bool
     ensures { result ≡ prepares_lem id request.now }
 {
     match request {
-        Request::PutIf(rec, _) => {
-            has_version(rec, id, State::Prepared) || has_version(rec, id, State::Deleted)
-        }
+        Request::PutIf(rec, _) => is_prepared_record(rec, id),
         _ => false,
     }
 }

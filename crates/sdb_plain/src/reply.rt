@@ -13,13 +13,14 @@ use sdb_said::decided;
 use sdb_types::{Key, Record, Reply, Request};
 use std::alloc::Global;
 
-/// What a reply says is at the one key that was asked.
-pub fn standing_said(reply: &Reply) -> Option<&Option<Record>>
-    ensures { option_copied result ≡ standing_said_lem reply.now }
+/// What a reply says is at the one key that its request names.
+pub fn standing_said<'a>(request: &Request, reply: &'a Reply) -> Option<&'a Option<Record>>
+    ensures { option_copied result ≡ standing_said_lem request.now reply.now }
 {
-    match reply {
-        Reply::Found(found) => Some(found),
-        Reply::NotMet(found) => Some(found),
+    match (request, reply) {
+        (Request::Get(_), Reply::Found(found)) => Some(found),
+        (Request::PutIf(_, _), Reply::NotMet(found)) => Some(found),
+        (Request::DeleteIf(_, _), Reply::NotMet(found)) => Some(found),
         _ => None,
     }
 }
@@ -42,14 +43,21 @@ fn put_decided(alloc: Global, request: &Request) -> Option<Decided>
     }
 }
 
+fn found_decided(alloc: Global, request: &Request, reply: &Reply) -> Option<Decided>
+    ensures { result ≡ option_and_then (λ found. option_and_then (λ r. result_ok (decision_in r)) found) (standing_said_lem request.now reply.now) }
+{
+    match standing_said(request, reply) {
+        Some(found) => decided_in(alloc, found),
+        None => None,
+    }
+}
+
 fn decision_said(alloc: Global, request: &Request, reply: &Reply) -> Option<Decided>
     ensures { result ≡ decision_said_lem request.now reply.now }
 {
     match reply {
-        Reply::Found(found) => decided_in(alloc, found),
-        Reply::NotMet(found) => decided_in(alloc, found),
         Reply::Applied => put_decided(alloc, request),
-        _ => None,
+        _ => found_decided(alloc, request, reply),
     }
 }
 
@@ -68,12 +76,10 @@ pub fn decision_at(alloc: Global, row: &Key, made: &Made) -> Option<Decided>
 pub fn decision_found_at(alloc: Global, row: &Key, made: &Made) -> Option<Decided>
     ensures { result ≡ decision_found_at_lem row.now made.now }
 {
-    if !asks_row(row, &made.request) {
-        return None;
-    }
-    match standing_said(&made.reply) {
-        Some(found) => decided_in(alloc, found),
-        None => None,
+    if asks_row(row, &made.request) {
+        found_decided(alloc, &made.request, &made.reply)
+    } else {
+        None
     }
 }
 
