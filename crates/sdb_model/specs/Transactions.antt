@@ -99,6 +99,27 @@ abbrev pub rest_of : {X : Type 0} → List X → List X
 rest_of [] = []
 rest_of (x ∷ xs) = xs
 
+---- of what a client said from a transaction's BEGIN on
+
+-- the statement that ended it, if one did
+abbrev pub ending_in : List Said → Option Said
+ending_in ss = find ends (rest_of ss)
+
+-- its COMMIT: the statement that ended it, where that reads as COMMIT
+abbrev pub commit_in : List Said → Option Said
+commit_in ss = option_and_then (λ s. if reads_commit s.text then Some s else None) (ending_in ss)
+
+-- statements up to the first that ends the transaction, that one included
+abbrev pub through_end : List Said → List Said
+through_end [] = []
+through_end (s ∷ ss) = if ends s then s ∷ [] else s ∷ through_end ss
+
+-- its statements after the BEGIN, with the one that ended it
+abbrev pub statements_in : List Said → List Said
+statements_in ss = through_end (rest_of ss)
+
+---- by its id
+
 -- a transaction's BEGIN and what its client said since
 abbrev pub said_since : List Event → TxId → List Said
 said_since events id = from_begin (ordinal_of id) (said (client_of id) events)
@@ -109,20 +130,15 @@ begun events id = option_map (λ s. s.taken) (first_of (said_since events id))
 
 -- the statement that ended a transaction, if one did
 abbrev pub ending : List Event → TxId → Option Said
-ending events id = find ends (rest_of (said_since events id))
+ending events id = ending_in (said_since events id)
 
 -- A transaction's COMMIT: the statement that ended it, where that reads as COMMIT.
 abbrev pub commit_of : List Event → TxId → Option Said
-commit_of events id = option_and_then (λ s. if reads_commit s.text then Some s else None) (ending events id)
-
--- statements up to the first that ends the transaction, that one included
-abbrev pub through_end : List Said → List Said
-through_end [] = []
-through_end (s ∷ ss) = if ends s then s ∷ [] else s ∷ through_end ss
+commit_of events id = commit_in (said_since events id)
 
 -- all statements of a transaction after its BEGIN, with the one that ended it
 abbrev pub statements_of : List Event → TxId → List Said
-statements_of events id = through_end (rest_of (said_since events id))
+statements_of events id = statements_in (said_since events id)
 
 -- Some answers say that a statement changed nothing of its transaction, and left it open.
 abbrev pub changes_nothing : Answer → Bool
@@ -148,9 +164,13 @@ is_committed_answer a = false
 abbrev pub is_effective : Said → Bool
 is_effective s = not (option_map_or changes_nothing s.answer false)
 
--- A transaction's body: its client's statements between its BEGIN and its end, but for those that changed nothing.
+-- The body of a transaction, of what its client said from its BEGIN on: the statements between that and its end, but for those that
+-- changed nothing.
+abbrev pub body_in : List Said → List Said
+body_in ss = filter is_effective (take_while (λ s. not (ends s)) (rest_of ss))
+
 abbrev pub body : List Event → TxId → List Said
-body events id = filter is_effective (take_while (λ s. not (ends s)) (rest_of (said_since events id)))
+body events id = body_in (said_since events id)
 
 ---- its place in the order
 
