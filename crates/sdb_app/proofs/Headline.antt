@@ -220,7 +220,7 @@ played_on script old mid then new o same still goes fit none quiet run explained
     explained_now = subst (λ (ss : List Shelf). IsExplained script o.events ss) (quiet ∙ ap shown still) (explained (ready_after script mid then same goes fit none quiet))
 
 pub outcome_is : (script : Script) (old mid then new : Attached) (o : Outcome) → placed mid.places ≡ script.places → mid.shelves ≡ old.shelves → ((at : ℕ) → old.tells at → mid.tells at) → GoOn mid then → GoOn then new → (TellOf script old → AreFit script.catalog mid)
-    → (AreFit script.catalog mid → first_key (opening_in script.catalog mid) ≡ None) → HoldNothing (run_tables script.catalog) mid → (AreFit script.catalog mid → HoldTheSame mid then) → Follows script.clients script.moves o.events → IsExecution script o.events → BreaksWithin [] o.events then.shelves new.shelves
+    → (AreFit script.catalog mid → first_key (opening_in script.catalog mid) ≡ None) → HoldNothing (run_tables script.catalog) mid → (AreFit script.catalog mid → HoldTheSame mid then) → Follows script o.events → IsExecution script o.events → BreaksWithin [] o.events then.shelves new.shelves
     → IsReadWhereKnown script.catalog (known_before then new) o → (AreReady script then → IsRun script (shown then.shelves) (shown new.shelves) o) → (AreReady script then → IsExplained script o.events (shown then.shelves)) → IsPlayable script → IsOutcome script old new.shelves o
 outcome_is script old mid then new o same still telling goes more fit none nothing quiet follows executed broken read run explained playable = record {
   playable = playable;
@@ -236,7 +236,7 @@ outcome_is script old mid then new o same still telling goes more fit none nothi
     caused = execution_caused script o.events playable executed
 
     resolved : AreResolved o.events
-    resolved = all_resolved o.events caused.rolled (answered_seen script.clients script.moves o.events follows)
+    resolved = all_resolved o.events caused.rolled (answered_seen script o.events follows)
 
 -- the first record is that of the script's tables
 pub found_first : (script : Script) (old mid left : Attached) (key : Key) → placed mid.places ≡ script.places → mid.shelves ≡ old.shelves → ((at : ℕ) → old.tells at → mid.tells at) → (TellOf script old → AreFit script.catalog mid) → IsFoundIn script.catalog mid left key → IsFirstFound script old left.shelves key

@@ -29,10 +29,10 @@ use Rattle.sdb_world.proofs.Broken.{breaks_more, breaks_still}
 use Rattle.sdb_app.specs.Run.{AreReady, Stops, status_of_call, status_of_closing}
 use Rattle.sdb_stores.specs.Shelf.{HaveRisen}
 
-pub has_followed : (old new : Attached) (script : Script) (w v : WorldAt) → w.script ≡ script → w.events ≡ [] → HasFollowed old new w v → Follows script.clients script.moves v.events
+pub has_followed : (old new : Attached) (script : Script) (w v : WorldAt) → w.script ≡ script → w.events ≡ [] → HasFollowed old new w v → Follows script v.events
 has_followed old new script w v same none came =
     let all : v.events ≡ came.es = came.gone.events ∙ ap (λ (xs : List Event). xs ++ came.es) none in
-    subst (λ (xs : List Event). Follows script.clients script.moves xs) (sym all)
+    subst (λ (xs : List Event). Follows script xs) (sym all)
     (subst (λ (s : Script). AreMoved s.clients s.moves [] came.es) same (subst (λ (xs : List Event). AreMoved w.script.clients w.script.moves xs came.es) none came.so))
 
 -- they are an execution of its clients
@@ -51,7 +51,7 @@ has_played old new script w v same none initial came ready =
     let made = came.gone.traced (subst (λ (s : Script). AreFit s.catalog old) (sym same) ready.fit) in
     record {
       executed = subst (λ (s : Script). IsExecution s v.events) (sym vs) (executed_played old new script w v same none initial came v.events refl);
-      follows = subst (λ (s : Script). Follows s.clients s.moves v.events) (sym vs) (has_followed old new script w v same none came);
+      follows = subst (λ (s : Script). Follows s v.events) (sym vs) (has_followed old new script w v same none came);
       moments = made.0;
       traced = subst (λ (s : Script). IsTrace s.places v.events before made.0 now) (sym vs) (subst (λ (xs : List Event). IsTrace script.places xs before made.0 now) (sym all) (subst (λ (ps : List Place). IsTrace ps came.es before made.0 now) ready.placed_so made.1));
       nothing = subst (λ (s : Script). HoldAs s.catalog s.places before empty) (sym vs) ready.nothing;

@@ -70,7 +70,7 @@ placed_as script stores shelves = record { places = map (λ p. record { ns = p.n
 -- is there in the end. Where all of them are known, it is the outcome of a run of the script.
 pub record IsOutcome (script : Script) (old : Attached) (new : List Counted) (outcome : Outcome) : Type 0 where
   pub playable : IsPlayable script
-  pub follows : Follows script.clients script.moves outcome.events
+  pub follows : Follows script outcome.events
   pub executed : IsExecution script outcome.events
   pub broken : BreaksWithin [] outcome.events old.shelves new
   pub empty : HoldNothing (run_tables script.catalog) (placed_as script old old.shelves)

@@ -97,7 +97,7 @@ fn run_world<R: Registry>(alloc: Global, stores: &mut R, script: Script) -> Resu
     requires some { 0 < length (R.state stores.old).shelves }
     requires playable { IsPlayable script }
     requires can { CanFollow script }
-    ensures follows { IfOk result (λ o. Follows script.clients script.moves o.events) }
+    ensures follows { IfOk result (λ o. Follows script o.events) }
     ensures executed { IfOk result (λ o. IsExecution script o.events) }
     ensures broken { IfOk result (λ o. BreaksWithin [] o.events (R.state stores.old).shelves (R.state stores.new).shelves) }
     ensures explained { IfOk result (λ o. AreReady script (R.state stores.old) → IsExplained script o.events (shown (R.state stores.old).shelves)) }

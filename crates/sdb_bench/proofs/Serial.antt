@@ -142,7 +142,7 @@ are_once f (p ∷ ps) points r =
 pub run_is_even : (n : ℕ) (first last : List ℕ) (opening closing : List Shelf) (outcome : Outcome) → IsRun (bench_script_of n first last) opening closing outcome → uneven_of outcome.tables ≡ 0
 unfolding bench_script_of
 run_is_even n first last opening closing outcome run =
-    let taken = all_taken (bench_clients n) (bench_moves n) outcome.events run.follows in
+    let taken = all_taken (bench_script_of n first last) outcome.events run.follows in
     let once = are_once (point outcome.events) outcome.order (at_points (point outcome.events) outcome.order run.order.points) run.order.rising in
     let none : HasNone (empty {X = List Pair} {R = key_cmp}) = subst (AllByRecursion (λ e. ⊥)) (sym no_entries) tt in
     let even = before_setup n outcome.events taken outcome.order run.told.bodies empty run.told.read once none in

@@ -11,6 +11,7 @@ use Rattle.sdb_model.specs.declared.script.Act.{Act}
 use Rattle.sdb_model.specs.declared.script.Act.TheVariants as act
 use Rattle.sdb_model.specs.declared.script.Move.{Move}
 use Rattle.sdb_model.specs.declared.script.Move.TheVariants as move
+use Rattle.sdb_model.specs.declared.script.Script.{Script}
 use Rattle.sdb_model.specs.declared.script.ScriptClient.{ScriptClient}
 use Rattle.sdb_model.specs.Follows.{AreMoved, AreStepsOf, Follows, IsActed, IsCallOf, IsHowOfDiscard, IsHowOfLose, IsHowOfStep, IsMoved, IsRest, IsStep, IsTakeOf, has_work, is_pending, taken_by, takes_by, texts_of}
 use Rattle.sdb_model.specs.Transactions.{Said, said, said_after, with_answer}
@@ -130,5 +131,5 @@ moves_taken clients [] past es h t = subst (AreTaken clients) (sym (ap (λ (xs :
 moves_taken clients (m ∷ ms) past es (front, back, whole, moved, rest) t =
     subst (AreTaken clients) (assoc past front back ∙ ap (λ (xs : List Event). past ++ xs) (sym whole)) (moves_taken clients ms (past ++ front) back rest (move_taken clients m past front moved t))
 
-pub all_taken : (clients : List ScriptClient) (ms : List Move) (es : List Event) → Follows clients ms es → AreTaken clients es
-all_taken clients ms es h = moves_taken clients ms [] es h (λ c. refl)
+pub all_taken : (script : Script) (es : List Event) → Follows script es → AreTaken script.clients es
+all_taken script es h = moves_taken script.clients script.moves [] es h (λ c. refl)

@@ -14,6 +14,7 @@ use Rattle.sdb_model.specs.declared.script.Act.{Act}
 use Rattle.sdb_model.specs.declared.script.Act.TheVariants as act
 use Rattle.sdb_model.specs.declared.script.Move.{Move}
 use Rattle.sdb_model.specs.declared.script.Move.TheVariants as move
+use Rattle.sdb_model.specs.declared.script.Script.{Script}
 use Rattle.sdb_model.specs.declared.script.ScriptClient.{ScriptClient}
 use Rattle.sdb_model.specs.Calls.{Made, calls_by, calls_of, end_of, made_by}
 use Rattle.sdb_model.specs.Counted.{is_seen}
@@ -125,11 +126,11 @@ calls_fit c n (e ∷ es) m fits has = by (made_by c (n, e)) refl has (λ among. 
         first (inl same) = event_made c n e m fits.0 (k ∙ ap Some same)
         first (inr among) = later among
 
-said_fit : (clients : List ScriptClient) (moves : List Move) (events : List Event) → Follows clients moves events → (c : ℕ) (s : Said) (m : Made) → Contains (calls_of events c s) m → HowFits m.how m.reply
-said_fit clients moves events follows c s m among = calls_fit c 1 events m (moves_fit clients moves [] events follows) (kept_in (λ (x : Made). nat_lt s.taken x.at && nat_le x.at (end_of events s)) (calls_by events c) m among)
+said_fit : (script : Script) (events : List Event) → Follows script events → (c : ℕ) (s : Said) (m : Made) → Contains (calls_of events c s) m → HowFits m.how m.reply
+said_fit script events follows c s m among = calls_fit c 1 events m (moves_fit script.clients script.moves [] events follows) (kept_in (λ (x : Made). nat_lt s.taken x.at && nat_le x.at (end_of events s)) (calls_by events c) m among)
 
-pub seen_no_faults : (clients : List ScriptClient) (moves : List Move) (events : List Event) → Follows clients moves events → SeenAreNoFaults events
-seen_no_faults clients moves events follows c s m has among = (said_fit clients moves events follows c s m among).0
+pub seen_no_faults : (script : Script) (events : List Event) → Follows script events → SeenAreNoFaults events
+seen_no_faults script events follows c s m has among = (said_fit script events follows c s m among).0
 
-pub answered_seen : (clients : List ScriptClient) (moves : List Move) (events : List Event) → Follows clients moves events → AnsweredWereSeen events
-answered_seen clients moves events follows c s m has among = (said_fit clients moves events follows c s m among).1
+pub answered_seen : (script : Script) (events : List Event) → Follows script events → AnsweredWereSeen events
+answered_seen script events follows c s m has among = (said_fit script events follows c s m among).1

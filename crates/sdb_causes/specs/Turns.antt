@@ -2,8 +2,7 @@
 use Rattle.std.specs.Prelude.{◌≡◌, ℕ, ℤ, Bool, List, true}
 use Rattle.sdb_schema.specs.declared.table.Table.{Table}
 use Rattle.sdb_model.specs.declared.event.Event.{Event}
-use Rattle.sdb_model.specs.declared.script.Move.{Move}
-use Rattle.sdb_model.specs.declared.script.ScriptClient.{ScriptClient}
+use Rattle.sdb_model.specs.declared.script.Script.{Script}
 use Rattle.sdb_model.specs.Exec.{Tables}
 use Rattle.sdb_model.specs.Follows.{Follows}
 use Rattle.sdb_linked.specs.Going.{IsGoing}
@@ -46,9 +45,8 @@ pub record IsStoredReply (r : CallReplied) : Type 0 where
 abbrev pub TiedAtReply : CallReplied → List Event → (ℕ → Hand) → Type 0
 TiedAtReply r events hands = AreTied r.catalog events r.call.now hands
 
--- Events follow the moves of a script's clients.
+-- Events follow the moves of a script.
 pub record ScriptEvents : Type 0 where
-  pub clients : List ScriptClient
-  pub moves : List Move
+  pub script : Script
   pub events : List Event
-  pub follows : Follows clients moves events
+  pub follows : Follows script events

@@ -91,7 +91,7 @@ going_is_run_on_stores script name fit events sys doing opening closing order fi
     let moved : List Event = moved_events (λ ns. name) events in
     let s = single script.catalog name script.places events opening e.moments closing empty e.traced e.about e.nothing in
     let ran = going_is_run alone fit moved sys doing (one_shelf name empty) (one_shelf name s.last) s.singles order fitting going
-    (follows_moved (λ ns. name) script.clients script.moves events e.follows) s.traced (starts_empty name) (order_on_one (λ ns. name) script.catalog script.places closing name s.last events order s.same e.ordered) e.small in
+    (follows_moved (λ ns. name) script events e.follows) s.traced (starts_empty name) (order_on_one (λ ns. name) script.catalog script.places closing name s.last events order s.same e.ordered) e.small in
     let at : Name → Name = store_of script.places opening in
     let back : moved_events at moved ≡ events = put_back name script.places at events opening e.moments closing (λ ns. refl) e.traced in
     let there = run_moved alone name empty s.last (record { events = moved; order = order; tables = ran.0 }) script.places at opening closing e.moments refl ran.1

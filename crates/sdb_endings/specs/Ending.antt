@@ -13,7 +13,7 @@ use Rattle.sdb_spread.specs.Spread.{AreAbout, HoldAs}
 -- with; and this is the order of the transactions that are recorded in the end.
 pub record IsEnd (script : Script) (events : List Event) (opening closing : List Shelf) (order : List Point) : Type 0 where
   pub moments : List (List Shelf)
-  pub follows : Follows script.clients script.moves events
+  pub follows : Follows script events
   pub traced : IsTrace script.places events opening moments closing
   pub about : AreAbout script.catalog events
   pub nothing : HoldAs script.catalog script.places opening empty

@@ -37,7 +37,7 @@ pub record ExecutionOf : Type 0 where
 
 -- its events follow the moves of the script
 abbrev pub FollowsMoves : ExecutionOf → Type 0
-FollowsMoves x = Follows x.script.clients x.script.moves x.events
+FollowsMoves x = Follows x.script x.events
 
 -- The rules of the protocol hold of its events, and each client knows, has said and has run what these say, wherever its tables are kept.
 abbrev pub KeepsRules : ExecutionOf → Type 0

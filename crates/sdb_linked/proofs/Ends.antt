@@ -199,11 +199,11 @@ length_ids (p ∷ ps) = ap suc (length_ids ps)
 
 -- Events of any number of clients that are tied to them, follow a script's moves, and agree with stores whose tables began empty, are a run.
 pub going_is_run : (script : Script) (fit : Tables → Bool) (events : List Event) (sys : SystemAt) (doing : ℕ → Option Statement) (opening end : List Shelf) (moments : List (List Shelf)) (order : List Point) → IsFitting script.catalog fit → IsGoing script.catalog fit events sys doing
-    → Follows script.clients script.moves events → IsTrace script.places events opening moments end → StartsEmpty script.places opening → IsOrder script.places events end order → All (λ (p : Point). p.id.0 < 2 ^ 128) order
+    → Follows script events → IsTrace script.places events opening moments end → StartsEmpty script.places opening → IsOrder script.places events end order → All (λ (p : Point). p.id.0 < 2 ^ 128) order
     → (tables : List TableDump) × IsRun script opening end (record { events = events; order = order; tables = tables })
 going_is_run script fit events sys doing opening end moments order fitting g follows trace empty ordered small =
     subst (λ es. (tables : List TableDump) × IsRun script opening end (record { events = es; order = order; tables = tables })) (sym g.same)
-    (linked_run script fit g.played opening end moments order fitting linked (subst (Follows script.clients script.moves) g.same follows) (subst (λ es. IsTrace script.places es opening moments end) g.same trace) empty (subst (λ es. IsOrder script.places es end order) g.same ordered) small)
+    (linked_run script fit g.played opening end moments order fitting linked (subst (Follows script) g.same follows) (subst (λ es. IsTrace script.places es opening moments end) g.same trace) empty (subst (λ es. IsOrder script.places es end order) g.same ordered) small)
   where
     turned : IsTraced script.places opening (newest_first g.played) (newest_first moments) × (closing opening (newest_first moments) ≡ end)
     turned = traced_of script.places opening g.played moments end (subst (λ es. IsTrace script.places es opening moments end) g.same trace)

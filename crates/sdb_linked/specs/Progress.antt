@@ -172,7 +172,7 @@ pub record Ending (script : Script) : Type 0 where
   pub order : List Point
   pub fitting : IsFitting script.catalog fit
   pub going : IsGoing script.catalog fit events sys doing
-  pub follows : Follows script.clients script.moves events
+  pub follows : Follows script events
   pub traced : IsTrace script.places events opening moments closing
   pub empty : StartsEmpty script.places opening
   pub ordered : IsOrder script.places events closing order

@@ -32,6 +32,7 @@ use Rattle.sdb_model.specs.declared.statement.Insert.{Insert}
 use Rattle.sdb_model.specs.declared.statement.Statement.{Statement}
 use Rattle.sdb_model.specs.declared.statement.Statement.TheVariants as statement
 use Rattle.sdb_model.specs.Sql.{Reads, Refuses, reads_commit, reads_vacuum}
+use Rattle.sdb_model.specs.Events.{catalog_at}
 use Rattle.sdb_model.specs.Exec.{find_table, key_of, table_of}
 use Rattle.sdb_model.specs.Refused.{refusal_of}
 use Rattle.sdb_model.specs.Follows.{has_stopped}
@@ -91,7 +92,7 @@ StandsOutside past client text a = (st : Statement) × Reads text st × NeedsTra
 
 -- the catalog refuses it
 abbrev pub IsUnfit : List Table → List Event → ℕ → List ℕ → Answer → Type 0
-IsUnfit catalog past client text a = (st : Statement) × (r : Refusal) × Reads text st × (is_open past client ≡ true) × (is_some (table_of st) ≡ true) × (refusal_of catalog st ≡ Some r) × (a ≡ answer.Refused r)
+IsUnfit catalog past client text a = (st : Statement) × (r : Refusal) × Reads text st × (is_open past client ≡ true) × (is_some (table_of st) ≡ true) × (refusal_of (catalog_at catalog past (length past)) st ≡ Some r) × (a ≡ answer.Refused r)
 
 -- it is BEGIN while a client that isn't stopped runs VACUUM
 abbrev pub MeetsVacuum : List Event → ℕ → List ℕ → Answer → Type 0
@@ -302,7 +303,7 @@ IsCaused catalog events client s (answer.Rows rows) = (st : Statement) × Reads 
 IsCaused catalog events client s (answer.Count n) = (st : Statement) × Reads s.text st × IsCounted events client s st n
 IsCaused catalog events client s answer.Done = Reads s.text statement.Begin ⊎ Reads s.text statement.Rollback
 IsCaused catalog events client s answer.Committed = IsOfCommit events client s
-IsCaused catalog events client s (answer.Duplicate key) = (t : Table) × (i : Insert) × Reads s.text (statement.Insert i) × (find_table catalog i.table ≡ Some t) × (key_of t i ≡ key)
+IsCaused catalog events client s (answer.Duplicate key) = (t : Table) × (i : Insert) × Reads s.text (statement.Insert i) × (find_table (catalog_at catalog events s.taken) i.table ≡ Some t) × (key_of t i ≡ key)
 IsCaused catalog events client s (answer.Busy key id at) = IsBusy events client s key id at
 IsCaused catalog events client s (answer.Conflict key found) = IsConflict events client s key found
 IsCaused catalog events client s (answer.Expired id) = IsExpired events client s id

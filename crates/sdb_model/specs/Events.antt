@@ -9,12 +9,17 @@ use Rattle.sdb_types.specs.declared.record.Request.TheVariants as ask
 use Rattle.sdb_types.specs.declared.record.Reply.{Reply}
 use Rattle.sdb_types.specs.declared.record.Reply.TheVariants as reply
 use Rattle.sdb_types.specs.Contents.{Contents, record_at, apply, after}
+use Rattle.sdb_schema.specs.declared.table.Table.{Table}
 use Rattle.sdb_model.specs.declared.event.Event.{Event}
 use Rattle.sdb_model.specs.declared.event.Event.TheVariants as event
 use Rattle.sdb_model.specs.declared.event.How.{How}
 use Rattle.sdb_model.specs.declared.event.How.TheVariants.{Seen, Lost, Discarded, Broken}
 use Rattle.sdb_model.specs.declared.script.Place.{Place}
 use Rattle.sdb_model.specs.Rows.{Name, same_name}
+
+-- The tables of a script after so many of its events: those of its catalog, since no event changes them.
+abbrev pub catalog_at : List Table → List Event → ℕ → List Table
+catalog_at catalog events n = catalog
 
 -- What one attached store holds, under the store's name.
 pub record Shelf : Type 0 where

@@ -12,6 +12,7 @@ use Rattle.sdb_model.specs.declared.script.Act.{Act}
 use Rattle.sdb_model.specs.declared.script.Act.TheVariants as act
 use Rattle.sdb_model.specs.declared.script.Move.{Move}
 use Rattle.sdb_model.specs.declared.script.Move.TheVariants as move
+use Rattle.sdb_model.specs.declared.script.Script.{Script}
 use Rattle.sdb_model.specs.declared.script.ScriptClient.{ScriptClient}
 use Rattle.sdb_types.specs.Replies.{is_fault}
 
@@ -143,5 +144,5 @@ AreMoved clients (m ∷ ms) past es =
     (front : List Event) × (back : List Event) × (es ≡ front ++ back) × IsMoved clients m past front × AreMoved clients ms (past ++ front) back
 
 -- The events are, in order, those of a script's moves.
-abbrev pub Follows : List ScriptClient → List Move → List Event → Type 0
-Follows clients moves events = AreMoved clients moves [] events
+abbrev pub Follows : Script → List Event → Type 0
+Follows script events = AreMoved script.clients script.moves [] events

@@ -24,7 +24,7 @@ use Rattle.sdb_model.specs.declared.statement.Statement.{Statement}
 use Rattle.sdb_model.specs.declared.statement.Statement.TheVariants as statement
 use Rattle.sdb_model.specs.Sql.{Reads}
 use Rattle.sdb_model.specs.Exec.{Tables, exec, find_table, shown}
-use Rattle.sdb_model.specs.Events.{Shelf, moment}
+use Rattle.sdb_model.specs.Events.{Shelf, catalog_at, moment}
 use Rattle.sdb_model.specs.Explained.{Shows}
 use Rattle.sdb_model.specs.Images.{row_at}
 use Rattle.sdb_model.specs.Noted.{resolved}
@@ -101,7 +101,7 @@ pub record HasRow (catalog : List Table) (was : Said → Key → Option (List Pa
 -- Rows that a SELECT is answered are rows that its transaction has.
 abbrev pub ShowsRows : List Table → (Said → Key → Option (List Pair) → Type 0) → List Event → TxId → Said → List (List Value) → Type 0
 ShowsRows catalog was events id s rows =
-    (t : Table) × (select : Select) × (images : List Image) × Reads s.text (statement.Select select) × (find_table catalog select.table ≡ Some t) × (rows ≡ map (shown t select.columns) images)
+    (t : Table) × (select : Select) × (images : List Image) × Reads s.text (statement.Select select) × (find_table (catalog_at catalog events s.taken) select.table ≡ Some t) × (rows ≡ map (shown t select.columns) images)
     × AllByRecursion (λ image. HasRow catalog was events id s image.key (Some image.columns)) images
 
 -- The key of a Duplicate has a row.

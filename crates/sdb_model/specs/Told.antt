@@ -1,6 +1,6 @@
 -- What a run owes its clients: whole transactions, run one after the other on plain tables in the order of their points,
 -- give the answers that were told and the final rows.
-use Rattle.std.specs.Prelude.{◌≡◌, ◌⊎◌, ℕ, ◌<◌, ◌^◌, if◌then◌else◌, List, [], ◌∷◌, ◌++◌, map, filter, Option, Some, None, is_some, Contains}
+use Rattle.std.specs.Prelude.{◌≡◌, ◌⊎◌, ℕ, ◌<◌, ◌^◌, if◌then◌else◌, List, [], ◌∷◌, ◌++◌, map, filter, length, Option, Some, None, is_some, Contains}
 use Rattle.std.specs.Option.{option_and_then}
 use Rattle.std.specs.FinMap.{get, empty}
 use Rattle.sdb_types.specs.declared.txid.TxId.{TxId}
@@ -17,7 +17,7 @@ use Rattle.sdb_model.specs.declared.script.Script.{Script}
 use Rattle.sdb_model.specs.declared.statement.Statement.{Statement}
 use Rattle.sdb_model.specs.Sql.{Reads}
 use Rattle.sdb_model.specs.Exec.{Tables, exec, find_table, all_rows, is_row_of, sorted, shown}
-use Rattle.sdb_model.specs.Events.{Shelf, IsTrace}
+use Rattle.sdb_model.specs.Events.{Shelf, IsTrace, catalog_at}
 use Rattle.sdb_model.specs.Images.{row_at}
 use Rattle.sdb_model.specs.Follows.{Follows}
 use Rattle.sdb_model.specs.Transactions.{Said, answered, said, begun, client_of, commit_of, body, Recorded, IsOrder}
@@ -92,7 +92,7 @@ pub record IsTold (catalog : List Table) (places : List Place) (events : List Ev
   pub bodies : List (List Statement)
   pub read : AreBodies events order bodies
   pub answers : map (answers_told events) order ≡ map (map Some) (serial catalog bodies empty).0
-  pub printed : tables ≡ dumps_of catalog (serial catalog bodies empty).1
+  pub printed : tables ≡ dumps_of (catalog_at catalog events (length events)) (serial catalog bodies empty).1
   pub images : AreImages catalog places closing (serial catalog bodies empty).1
   pub committed : (id : TxId) → id.0 < 2 ^ 128 → commit_answer events id ≡ Some answer.Committed → Recorded places closing id
   pub owned : CommittedIsOwned places events closing
@@ -132,7 +132,7 @@ KeepsRealTime places events closing order =
 -- on plain tables, give the answers that were told and the final rows; and that order keeps real time.
 pub record IsRun (script : Script) (opening closing : List Shelf) (outcome : Outcome) : Type 0 where
   pub moments : List (List Shelf)
-  pub follows : Follows script.clients script.moves outcome.events
+  pub follows : Follows script outcome.events
   pub consistent : IsTrace script.places outcome.events opening moments closing
   pub order : IsOrder script.places outcome.events closing outcome.order
   pub told : IsTold script.catalog script.places outcome.events closing outcome.order outcome.tables

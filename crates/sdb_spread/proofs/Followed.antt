@@ -11,6 +11,7 @@ use Rattle.sdb_model.specs.declared.script.Act.{Act}
 use Rattle.sdb_model.specs.declared.script.Act.TheVariants as act
 use Rattle.sdb_model.specs.declared.script.Move.{Move}
 use Rattle.sdb_model.specs.declared.script.Move.TheVariants as move
+use Rattle.sdb_model.specs.declared.script.Script.{Script}
 use Rattle.sdb_model.specs.declared.script.ScriptClient.{ScriptClient}
 use Rattle.sdb_model.specs.Rows.{Name}
 use Rattle.sdb_model.specs.Follows.{has_work, is_pending, texts_of, IsCallOf, IsTakeOf, IsStep, IsHowOfStep, IsHowOfLose, IsHowOfDiscard, IsActed, AreStepsOf, AllIdle, IsTurn, IsRest, IsMoved, AreMoved, Follows, end_of}
@@ -93,5 +94,5 @@ moves_moved at clients (m ∷ ms) past es h = (
   subst (λ (front : List Event). AreMoved clients ms front (moved_events at h.1)) (moved_more at past h.0) (moves_moved at clients ms (past ++ h.0) h.1 h.4),
 )
 
-pub follows_moved : (at : Name → Name) (clients : List ScriptClient) (moves : List Move) (events : List Event) → Follows clients moves events → Follows clients moves (moved_events at events)
-follows_moved at clients moves events h = moves_moved at clients moves [] events h
+pub follows_moved : (at : Name → Name) (script : Script) (events : List Event) → Follows script events → Follows script (moved_events at events)
+follows_moved at script events h = moves_moved at script.clients script.moves [] events h

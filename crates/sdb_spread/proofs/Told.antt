@@ -140,7 +140,7 @@ run_moved script name m0 m1 o places at opening closing moments none run trace h
     let a = alike script.catalog places closing name m1 held in
     record {
       moments = moments;
-      follows = follows_moved at script.clients script.moves o.events run.follows;
+      follows = follows_moved at script o.events run.follows;
       consistent = trace;
       order = order_moved at script.catalog places closing name m1 o.events o.order a (subst (λ (ps : List Place). IsOrder ps o.events (one_shelf name m1) o.order) none run.order);
       told = told_moved at script.catalog places closing name m1 o.events o.order o.tables a (subst (λ (ps : List Place). IsTold script.catalog ps o.events (one_shelf name m1) o.order o.tables) none run.told);

@@ -19,7 +19,7 @@ use Rattle.sdb_story.proofs.Ends.{run_told}
 use Rattle.sdb_story.proofs.Files.{clients_faithful}
 
 pub linked_run : (script : Script) (fit : Tables → Bool) (played : List Played) (opening end : List Shelf) (moments : List (List Shelf)) (order : List Point) → IsFitting script.catalog fit → IsLinked script.catalog fit played order
-    → Follows script.clients script.moves (events_of played) → IsTrace script.places (events_of played) opening moments end → StartsEmpty script.places opening → IsOrder script.places (events_of played) end order → All (λ (p : Point). p.id.0 < 2 ^ 128) order
+    → Follows script (events_of played) → IsTrace script.places (events_of played) opening moments end → StartsEmpty script.places opening → IsOrder script.places (events_of played) end order → All (λ (p : Point). p.id.0 < 2 ^ 128) order
     → (tables : List TableDump) × IsRun script opening end (record { events = events_of played; order = order; tables = tables })
 linked_run script fit played opening end moments order fitting linked follows trace empty ordered small = (
   found.0,

@@ -62,7 +62,7 @@ pub record LinkedEnd (script : Script) : Type 0 where
   pub order : List Point
   pub fitting : IsFitting script.catalog fit
   pub linked : IsLinked script.catalog fit played order
-  pub follows : Follows script.clients script.moves (events_of played)
+  pub follows : Follows script (events_of played)
   pub traced : IsTrace script.places (events_of played) opening moments closing
   pub empty : StartsEmpty script.places opening
   pub ordered : IsOrder script.places (events_of played) closing order

@@ -23,7 +23,7 @@ use Rattle.sdb_world.specs.Explained.{IsExplained}
 -- its clients, and a trace of the stores agrees with them.
 pub record HasPlayed (w : WorldAt) (opening closing : List Shelf) : Type 0 where
   pub executed : IsExecution w.script w.events
-  pub follows : Follows w.script.clients w.script.moves w.events
+  pub follows : Follows w.script w.events
   pub moments : List (List Shelf)
   pub traced : IsTrace w.script.places w.events opening moments closing
   pub nothing : HoldAs w.script.catalog w.script.places opening empty

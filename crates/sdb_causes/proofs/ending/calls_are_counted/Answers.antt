@@ -6,4 +6,4 @@ pub returns-clause-fits : goal.returns-clause-fits
 returns-clause-fits x = calls_counted
 
 pub returns-clause-seen : goal.returns-clause-seen
-returns-clause-seen x = λ catalog s counted. all_counted catalog s.events counted (seen_no_faults s.clients s.moves s.events s.follows)
+returns-clause-seen x = λ catalog s counted. all_counted catalog s.events counted (seen_no_faults s.script s.events s.follows)

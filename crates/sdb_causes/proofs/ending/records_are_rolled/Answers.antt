@@ -6,4 +6,4 @@ pub returns-clause-rolled : goal.returns-clause-rolled
 returns-clause-rolled x = records_rolled
 
 pub returns-clause-seen : goal.returns-clause-seen
-returns-clause-seen x = λ s rolled. all_resolved s.events rolled (answered_seen s.clients s.moves s.events s.follows)
+returns-clause-seen x = λ s rolled. all_resolved s.events rolled (answered_seen s.script s.events s.follows)
