@@ -1,7 +1,7 @@
 -- A script that was read and played is a run of the headline.
 use Rattle.std.proofs.Common.{◌≡◌, ◌∙◌, refl, Result, Ok, Err, IfErr, ℕ, ◌≤◌, ◌<◌, true, false, List, [], Option, Some, None, length, sym, ap, subst, arith}
 use Rattle.std.specs.FinMap.{empty}
-use Rattle.std.specs.Prelude.{Contains, slice_get, IsErrAnd, nat_le, nat_lt, ◌&&◌}
+use Rattle.std.specs.Prelude.{slice_get, IsErrAnd}
 use Rattle.std.specs.Option.{option_map_or}
 use Rattle.sdb_types.specs.declared.key.Key.{Key}
 use Rattle.sdb_types.specs.declared.pair.Pair.{Pair}
@@ -14,30 +14,24 @@ use Rattle.sdb_model.specs.declared.script.Place.{Place}
 use Rattle.sdb_model.specs.declared.script.Script.{Script}
 use Rattle.sdb_model.specs.declared.answer.Answer.{Answer}
 use Rattle.sdb_model.specs.declared.answer.Answer.TheVariants as answer
-use Rattle.sdb_model.specs.Calls.{Made, calls_by, calls_of, end_of}
-use Rattle.sdb_model.specs.Causes.{AreCaused, IsCaused}
 use Rattle.sdb_model.specs.Counted.{AreResolved}
-use Rattle.sdb_model.specs.Events.{IsTrace, Shelf, store_of}
+use Rattle.sdb_model.specs.Events.{Shelf, store_of}
 use Rattle.sdb_model.specs.Exec.{find_table}
 use Rattle.sdb_model.specs.Follows.{Follows}
 use Rattle.sdb_model.specs.Told.{IsRun}
-use Rattle.sdb_model.specs.Transactions.{Said, is_answered_from_rows, said}
+use Rattle.sdb_model.specs.Transactions.{Said, is_answered_from_rows}
 use Rattle.sdb_spread.specs.Spread.{HoldAs}
 use Rattle.sdb_board.specs.Board.{AreFit, GoOn, HoldTheSame, known_before, placed, shown}
 use Rattle.sdb_board.specs.Opening.{HoldNothing, IsFirstKey, first_key, opening_in, opening_records, run_tables}
 use Rattle.sdb_board.specs.declared.refused.CallRefused.TheVariants as refused
 use Rattle.sdb_board.proofs.Empty.{no_record}
 use Rattle.sdb_board.proofs.GoesOn.{refused_after}
-use Rattle.sdb_causes.specs.Moves.{TellOne}
 use Rattle.sdb_causes.specs.Tied.{AnswersHaveCauses}
 use Rattle.sdb_causes.proofs.Faults.{answered_seen}
-use Rattle.sdb_causes.proofs.Lists.{kept_in}
 use Rattle.sdb_causes.proofs.Rolled.{all_resolved}
 use Rattle.sdb_causes.specs.Shows.{WasRead}
 use Rattle.sdb_causes.proofs.ShowsWhole.{answers_own}
-use Rattle.sdb_endings.specs.Decisions.{ShowOne}
 use Rattle.sdb_endings.specs.Shown.{IsReader, ReadBy}
-use Rattle.sdb_endings.proofs.Agreeing.{decisions_agree}
 use Rattle.sdb_endings.proofs.Finding.{answers_as, answers_committed}
 use Rattle.sdb_world.specs.Broken.{BreaksWithin}
 use Rattle.sdb_execution.specs.Execution.{IsExecution, IsPlayable}
@@ -155,22 +149,12 @@ ready_after script mid then same goes fit none quiet = record {
 
 ---- where the stores tell
 
--- stores that tell show one decision on each transaction
-tell_one : (script : Script) (opening closing : List Shelf) (moments : List (List Shelf)) (events : List Event) → IsTrace script.places events opening moments closing → IsExplained script events opening → (c : ℕ) (s : Said) → TellOne (calls_of events c s)
-tell_one script opening closing moments events traced explained c s id m x a b fits in_m in_x = one c c id m x a b fits (within m in_m) (within x in_x)
-  where
-    one : ShowOne events
-    one = decisions_agree script.places events opening closing moments traced (explained moments closing traced).explained.standing.rows_final
-
-    within : (y : Made) → Contains (calls_of events c s) y → Contains (calls_by events c) y
-    within y = kept_in (λ (z : Made). nat_lt s.taken z.at && nat_le z.at (end_of events s)) (calls_by events c) y
-
--- so each row that is shown was its transaction's own or committed
+-- each row that is shown was its transaction's own or committed
 shown_of : (script : Script) (opening : List Shelf) (events : List Event) → find_table script.catalog coordinator_table ≡ None → AnswersHaveCauses script.catalog events → AreResolved events → IsExplained script events opening → IsShown script events opening
 shown_of script opening events none caused resolved explained moments end traced =
     let at = explained moments end traced in
     answers_committed script.catalog script.places events opening end moments none traced at.explained.standing at.taken resolved
-    (answers_as script.catalog (WasRead script.catalog events) (ReadBy script.catalog events) events read (answers_own script.catalog events caused.shown (λ c s has. tell_one script opening end moments events traced explained c s)))
+    (answers_as script.catalog (WasRead script.catalog events) (ReadBy script.catalog events) events read (answers_own script.catalog events caused.shown))
   where
     read : (c : ℕ) (s : Said) (key : Key) (row : Option (List Pair)) → WasRead script.catalog events c s key row → ReadBy script.catalog events c s key row
     read c s key row w = (by s.answer refl w.1.told, w.1.table, w.1.found)
@@ -179,37 +163,12 @@ shown_of script opening events none caused resolved explained moments end traced
         by None e h = clash (sym h)
         by (Some a) e h = record { among = w.0; a = a; answer = e; from_rows = h; no_vacuum = w.1.no_vacuum }
 
--- and each answer has its cause
-causes_of : (script : Script) (opening closing : List Shelf) (o : Outcome) → AnswersHaveCauses script.catalog o.events → IsRun script opening closing o → IsExplained script o.events opening → AreCaused script.catalog o.events
-causes_of script opening closing o caused run explained = record { caused = each; turned_away = caused.turned_away }
-  where
-    tells : (c : ℕ) (s : Said) → TellOne (calls_of o.events c s)
-    tells = tell_one script opening closing run.moments o.events run.consistent explained
-
-    each : (c : ℕ) (s : Said) (a : Answer) → Contains (said c o.events) s → s.answer ≡ Some a → IsCaused script.catalog o.events c s a
-    each c s (answer.Rows rows) has is = caused.caused c s (answer.Rows rows) has is refl
-    each c s (answer.Count n) has is = caused.caused c s (answer.Count n) has is refl
-    each c s answer.Done has is = caused.caused c s answer.Done has is refl
-    each c s answer.Committed has is = caused.caused c s answer.Committed has is refl
-    each c s (answer.Duplicate key) has is = caused.caused c s (answer.Duplicate key) has is refl
-    each c s (answer.Busy key id at) has is = caused.caused c s (answer.Busy key id at) has is refl
-    each c s (answer.Conflict key found) has is = caused.conflicts c (λ x in_said. tells c x) s key found has is
-    each c s (answer.Expired id) has is = caused.caused c s (answer.Expired id) has is refl
-    each c s answer.Faulted has is = caused.caused c s answer.Faulted has is refl
-    each c s (answer.Unknown id) has is = caused.caused c s (answer.Unknown id) has is refl
-    each c s (answer.BadRecord key) has is = caused.bad_records c s key has is (tells c s)
-    each c s (answer.Refused r) has is = caused.caused c s (answer.Refused r) has is refl
-    each c s answer.Vacuuming has is = caused.caused c s answer.Vacuuming has is refl
-    each c s answer.OpenTransactions has is = caused.caused c s answer.OpenTransactions has is refl
-    each c s answer.NoMemory has is = caused.caused c s answer.NoMemory has is refl
-
 played_on : (script : Script) (old mid then : Attached) (new : List Shelf) (o : Outcome) → placed mid.places ≡ script.places → mid.shelves ≡ old.shelves → GoOn mid then → AreFit script.catalog mid
     → first_key (opening_in script.catalog mid) ≡ None → HoldTheSame mid then → (AreReady script then → IsRun script (shown then.shelves) new o) → (AreReady script then → IsExplained script o.events (shown then.shelves)) → AnswersHaveCauses script.catalog o.events → find_table script.catalog coordinator_table ≡ None → AreResolved o.events → IsPlayed script (shown old.shelves) new o
 played_on script old mid then new o same still goes fit none quiet run explained caused apart resolved = record {
   empty = sym (ap (λ (ss : List Shelf). first_key (opening_records script.catalog script.places ss)) (ap shown still)) ∙ sym (ap (λ (xs : List Place). first_key (opening_records script.catalog xs (shown mid.shelves))) same) ∙ none;
   run = run_now;
   explained = explained_now;
-  caused = causes_of script (shown old.shelves) new o caused run_now explained_now;
   shown = shown_of script (shown old.shelves) o.events apart caused resolved explained_now;
 }
   where
@@ -226,6 +185,7 @@ outcome_is script old mid then new o same still telling goes more fit none nothi
   playable = playable;
   follows = follows;
   executed = executed;
+  caused = caused.caused;
   broken = subst (λ (ss : List Counted). BreaksWithin [] o.events ss new.shelves) still (breaks_after [] o.events mid then new.shelves goes broken);
   empty = subst (λ (ss : List Counted). HoldNothing (run_tables script.catalog) (placed_as script old ss)) still (nothing_as (placed_as script old mid.shelves) mid (shows_placed script old mid same telling) (run_tables script.catalog) nothing);
   read = read_as (placed_as script old new.shelves) (known_before then new) (shows_placed script old (known_before then new) (ap placed (more.places ∙ goes.places) ∙ same) (λ at tells. goes.telling at (telling at tells))) script.catalog o read;
@@ -262,6 +222,7 @@ made_of script before mid new o same telling made = record {
   playable = made.playable;
   follows = made.follows;
   executed = made.executed;
+  caused = made.caused;
   broken = subst (λ (ss : List Counted). BreaksWithin [] o.events ss new) same made.broken;
   empty = nothing_as (placed_as script before before.shelves) (placed_as script mid mid.shelves) (shows_less (placed_as script before before.shelves) (placed_as script mid mid.shelves) refl (sym same) telling) (run_tables script.catalog) made.empty;
   read = read_as (placed_as script before new) (placed_as script mid new) (shows_less (placed_as script before new) (placed_as script mid new) refl refl telling) script.catalog o made.read;

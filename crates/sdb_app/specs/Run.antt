@@ -51,13 +51,12 @@ TellOf script stores =
 
 -- The tables of a script were empty, and one outcome is that of a run that follows it, from what the stores held at the entry
 -- to what they hold at the exit; what was in the stores at each moment is explained by its events, and what each recorded
--- transaction noted is current at its point; each answer has its cause; and no transaction, recorded or not, was shown a row that
--- was neither its own nor committed when it was read.
+-- transaction noted is current at its point; and no transaction, recorded or not, was shown a row that was neither its own nor
+-- committed when it was read.
 pub record IsPlayed (script : Script) (opening closing : List Shelf) (outcome : Outcome) : Type 0 where
   pub empty : first_key (opening_records script.catalog script.places opening) ≡ None
   pub run : IsRun script opening closing outcome
   pub explained : IsExplained script outcome.events opening
-  pub caused : AreCaused script.catalog outcome.events
   pub shown : IsShown script outcome.events opening
 
 -- The stores of a call with the places of a script, when they showed this. Those are known that were known at the entry.
@@ -65,13 +64,15 @@ abbrev pub placed_as : Script → Attached → List Counted → Attached
 placed_as script stores shelves = record { places = map (λ p. record { ns = p.ns; store = p.store }) script.places; shelves = shelves; tells = stores.tells }
 
 -- One outcome of a script on any stores: its events follow the script's moves, and are an execution of its clients: each takes, asks and
--- answers as the protocol says, whatever the stores reply. So the laws of executions are laws of outcomes. No more calls are Broken than the
+-- answers as the protocol says, whatever the stores reply. So the laws of executions are laws of outcomes. Each answer has its cause among
+-- the events. No more calls are Broken than the
 -- stores failed. Of each table whose store has known contents it is known that it held nothing at the entry, and that its dump is that of what
 -- is there in the end. Where all of them are known, it is the outcome of a run of the script.
 pub record IsOutcome (script : Script) (old : Attached) (new : List Counted) (outcome : Outcome) : Type 0 where
   pub playable : IsPlayable script
   pub follows : Follows script outcome.events
   pub executed : IsExecution script outcome.events
+  pub caused : AreCaused script.catalog outcome.events
   pub broken : BreaksWithin [] outcome.events old.shelves new
   pub empty : HoldNothing (run_tables script.catalog) (placed_as script old old.shelves)
   pub read : IsReadWhereKnown script.catalog (placed_as script old new) outcome

@@ -22,7 +22,7 @@ use Rattle.sdb_model.specs.declared.event.Event.{Event}
 use Rattle.sdb_model.specs.Calls as calls
 use Rattle.sdb_model.specs.Calls.{calls_of, put_by}
 use Rattle.sdb_model.specs.Causes.{HasMoved, IsChecked, IsConflict, IsConflictAtCommit, IsConflictAtScan, IsRebased, IsUnmet, ReadShows, prepares_key}
-use Rattle.sdb_model.specs.Noted.{Note, Got, Scanned, noted_in, resolved, version_noted}
+use Rattle.sdb_model.specs.Noted.{Note, Got, Scanned, meaning_of, noted_in, version_noted}
 use Rattle.sdb_model.specs.Sql.{reads_commit}
 use Rattle.sdb_model.specs.Requests.{records_put}
 use Rattle.sdb_model.specs.Transactions.{Said, is_prepared_record}
@@ -30,7 +30,7 @@ use Rattle.sdb_model.proofs.Requests.{PreparesAt, in_only, only_put, shown_unmet
 use Rattle.sdb_said.proofs.Lists.{none_some, right, or_left, not_true, true_not, In, any_some, some_any}
 use Rattle.sdb_plain.specs.declared.made.Made.{Made}
 use Rattle.sdb_plain.specs.Values.{all_made, made_of}
-use Rattle.sdb_caused.specs.Tests.{any_id, base_put, conflict_at_commit, conflict_at_scan, conflict_of, get_shows, has_moved, has_prepared, is_commit_of, is_found_by, is_in, is_moved, is_rebased, is_unmet, not_met_as, read_shows, resolves, resolves_by, same_found, scan_differs, scan_shows, scan_shows_by}
+use Rattle.sdb_caused.specs.Tests.{any_id, base_put, conflict_at_commit, conflict_at_scan, conflict_of, get_shows, has_moved, has_prepared, is_commit_of, is_found_by, is_in, is_moved, is_rebased, is_unmet, not_met_as, read_shows, same_found, scan_differs, scan_shows, scan_shows_by, means, means_by}
 use Rattle.sdb_caused.proofs.Finds.{in_contains, contains_in, made_contained, contained_made, found_is, is_found}
 use Rattle.sdb_caused.proofs.IdLaws.{commit_is, is_commit, in_is, is_in_of, id_some, commit_found, in_found}
 use Rattle.sdb_types.proofs.Basics.{clash, or_second as or_right, some_is, either}
@@ -254,38 +254,38 @@ module _ (events : List Event) (ms : List Made) (client : ℕ) (s : Said) (e : a
       (is_rebased_of notes id based))
 
   abbrev look : List calls.Made → List Record → Option Record
-  look cs rows = option_and_then (resolved cs) (record_among rows key)
+  look cs rows = option_and_then (meaning_of cs) (record_among rows key)
 
-  resolves_is : (q : Request) (r : Reply) → resolves_by ms key found q r ≡ true → Scans (look (all_made ms)) q r key found
-  resolves_is (ask.Scan span) (reply.Rows rows) h =
+  means_is : (q : Request) (r : Reply) → means_by ms key found q r ≡ true → Scans (look (all_made ms)) q r key found
+  means_is (ask.Scan span) (reply.Rows rows) h =
       (span, rows, refl, left (in_span span key) (same_found (look (all_made ms) rows) found) h, refl, sym (found_is (look (all_made ms) rows) found (right (in_span span key) (same_found (look (all_made ms) rows) found) h)))
-  resolves_is (ask.Scan span) (reply.Found x) h = clash (sym h)
-  resolves_is (ask.Scan span) reply.Applied h = clash (sym h)
-  resolves_is (ask.Scan span) (reply.NotMet x) h = clash (sym h)
-  resolves_is (ask.Scan span) reply.Fault h = clash (sym h)
-  resolves_is (ask.Scan span) reply.NoMemory h = clash (sym h)
-  resolves_is (ask.Get k) r h = clash (sym h)
-  resolves_is (ask.PutIf rec condition) r h = clash (sym h)
-  resolves_is (ask.DeleteIf k condition) r h = clash (sym h)
+  means_is (ask.Scan span) (reply.Found x) h = clash (sym h)
+  means_is (ask.Scan span) reply.Applied h = clash (sym h)
+  means_is (ask.Scan span) (reply.NotMet x) h = clash (sym h)
+  means_is (ask.Scan span) reply.Fault h = clash (sym h)
+  means_is (ask.Scan span) reply.NoMemory h = clash (sym h)
+  means_is (ask.Get k) r h = clash (sym h)
+  means_is (ask.PutIf rec condition) r h = clash (sym h)
+  means_is (ask.DeleteIf k condition) r h = clash (sym h)
 
-  is_resolves : (q : Request) (r : Reply) → Scans (look (all_made ms)) q r key found → resolves_by ms key found q r ≡ true
-  is_resolves q r (span, rows, a, i, b, g) =
-      ap (λ x. resolves_by ms key found x r) a ∙ ap (λ x. resolves_by ms key found (ask.Scan span) x) b
+  is_means : (q : Request) (r : Reply) → Scans (look (all_made ms)) q r key found → means_by ms key found q r ≡ true
+  is_means q r (span, rows, a, i, b, g) =
+      ap (λ x. means_by ms key found x r) a ∙ ap (λ x. means_by ms key found (ask.Scan span) x) b
       ∙ both (in_span span key) (same_found (look (all_made ms) rows) found) i (is_found (look (all_made ms) rows) found (sym g))
 
   at_scan : (id : TxId) → conflict_at_scan ms (noted_in events id) key found ≡ true → IsConflictAtScan events client s id key found
   at_scan id h =
       let notes = noted_in events id in
-      let r = any_some (resolves ms key found) ms (right (has_moved notes key found) (list_any (resolves ms key found) ms) h) in
-      let x = resolves_is r.0.request r.0.reply r.2 in
-      (made_of r.0, x.0, x.1, contained r.0 r.1, x.2, x.4, x.3, subst (λ cs. found ≡ look cs x.1) e x.5, moved_is notes key found (left (has_moved notes key found) (list_any (resolves ms key found) ms) h))
+      let r = any_some (means ms key found) ms (right (has_moved notes key found) (list_any (means ms key found) ms) h) in
+      let x = means_is r.0.request r.0.reply r.2 in
+      (made_of r.0, x.0, x.1, contained r.0 r.1, x.2, x.4, x.3, subst (λ cs. found ≡ look cs x.1) e x.5, moved_is notes key found (left (has_moved notes key found) (list_any (means ms key found) ms) h))
 
   is_at_scan : (id : TxId) → IsConflictAtScan events client s id key found → conflict_at_scan ms (noted_in events id) key found ≡ true
   is_at_scan id (c, span, rows, k, q, r, i, g, moved) =
       let notes = noted_in events id in
       let m = made c k in
-      both (has_moved notes key found) (list_any (resolves ms key found) ms) (is_moved_of notes key found moved)
-      (some_any (resolves ms key found) ms m.0 m.1 (is_resolves m.0.request m.0.reply (span, rows, sym (ap (λ (x : calls.Made). x.request) m.2) ∙ q, i, sym (ap (λ (x : calls.Made). x.reply) m.2) ∙ r, subst (λ cs. found ≡ look cs rows) (sym e) g)))
+      both (has_moved notes key found) (list_any (means ms key found) ms) (is_moved_of notes key found moved)
+      (some_any (means ms key found) ms m.0 m.1 (is_means m.0.request m.0.reply (span, rows, sym (ap (λ (x : calls.Made). x.request) m.2) ∙ q, i, sym (ap (λ (x : calls.Made). x.reply) m.2) ∙ r, subst (λ cs. found ≡ look cs rows) (sym e) g)))
 
   pub conflict_is : any_id events client (conflict_of events client s ms key found) ≡ true → IsConflict events client s key found
   conflict_is h =

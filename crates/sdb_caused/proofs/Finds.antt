@@ -3,12 +3,10 @@ use Rattle.std.proofs.Common.{◌≡◌, zero, suc, Bool, true, false, List, [],
 use Rattle.std.specs.Prelude.{filter, Contains, ◌||◌, if◌then◌else◌}
 use Rattle.std.specs.List.{list_any}
 use Rattle.sdb_types.specs.declared.record.Record.{Record}
-use Rattle.sdb_record.specs.Parts.{before_record}
 use Rattle.sdb_model.specs.Noted as noted
 use Rattle.sdb_said.specs.declared.plan.Note.{Note}
-use Rattle.sdb_said.specs.Shown.{is_kept_in, keeps_none}
 use Rattle.sdb_said.specs.Values.{note_of}
-use Rattle.sdb_said.proofs.ShownLaws.{record_is, is_record, kept_is, is_kept_of, keeps_none_is, is_keeps_none}
+use Rattle.sdb_said.proofs.ShownLaws.{record_is, is_record}
 use Rattle.sdb_caused.specs.Tests.{same_found}
 use Rattle.sdb_model.specs.Calls as calls
 use Rattle.sdb_said.proofs.Lists.{In}
@@ -75,12 +73,7 @@ pub any_noted : (f : noted.Note → Bool) (ns : List Note) → list_any f (all_n
 any_noted f [] = refl
 any_noted f (n ∷ ns) = ap (λ b. f (note_of n) || b) (any_noted f ns)
 
----- what is kept
-
-same_bits : (a b : Bool) → (a ≡ true → b ≡ true) → (b ≡ true → a ≡ true) → a ≡ b
-same_bits true b f g = sym (f refl)
-same_bits false true f g = g refl
-same_bits false false f g = refl
+---- what is found
 
 pub found_is : (a b : Option Record) → same_found a b ≡ true → a ≡ b
 found_is None None h = refl
@@ -94,9 +87,3 @@ is_found a b e = ap (same_found a) (sym e) ∙ itself a
     itself : (o : Option Record) → same_found o o ≡ true
     itself None = refl
     itself (Some x) = is_record x x refl
-
-pub kept_found : (r b : Record) → is_kept_in r b ≡ same_found (before_record r) (Some b)
-kept_found r b = same_bits (is_kept_in r b) (same_found (before_record r) (Some b)) (λ h. is_found (before_record r) (Some b) (kept_is r b h)) (λ h. is_kept_of r b (found_is (before_record r) (Some b) h))
-
-pub kept_none : (r : Record) → keeps_none r ≡ same_found (before_record r) None
-kept_none r = same_bits (keeps_none r) (same_found (before_record r) None) (λ h. is_found (before_record r) None (keeps_none_is r h)) (λ h. is_keeps_none r (found_is (before_record r) None h))

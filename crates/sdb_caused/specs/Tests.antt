@@ -35,7 +35,7 @@ use Rattle.sdb_model.specs.Refused.{refusal_of}
 use Rattle.sdb_model.specs.Rows.{same_name}
 use Rattle.sdb_model.specs.Transactions.{Said, client_of, commit_of, id_of, is_effective, ordinal_of, said, statements_of}
 use Rattle.sdb_model.specs.Calls.{clock_at, calls_of, decision_learned, is_read, put_by, records_read, records_shown}
-use Rattle.sdb_model.specs.Noted.{Note, Got, Scanned, noted_in, reads_rows, resolved, version_noted}
+use Rattle.sdb_model.specs.Noted.{Note, Got, Scanned, noted_in, reads_rows, version_noted, meaning_of}
 use Rattle.sdb_model.specs.Causes.{IsCaused, IsCounted, IsTurnedAway, before, is_misfit, is_open, is_select, prepares_key, records_found, refused, removes, counted_by}
 use Rattle.sdb_said.specs.Values.{same_record}
 use Rattle.sdb_plain.specs.declared.made.Made.{Made}
@@ -199,15 +199,15 @@ is_rebased ms notes id key = list_any (λ p. prepares_key id key (made_of p) && 
 abbrev pub conflict_at_commit : List Made → List Note → TxId → Key → Option Record → Bool
 conflict_at_commit ms notes id key found = (has_moved notes key found && is_found_by ms id key found) || (list_any (λ m. scan_shows m key found) ms && is_rebased ms notes id key)
 
-abbrev pub resolves_by : List Made → Key → Option Record → Request → Reply → Bool
-resolves_by ms key found (ask.Scan span) (reply.Rows rows) = in_span span key && same_found (option_and_then (resolved (all_made ms)) (record_among rows key)) found
-resolves_by ms key found q r = false
+abbrev pub means_by : List Made → Key → Option Record → Request → Reply → Bool
+means_by ms key found (ask.Scan span) (reply.Rows rows) = in_span span key && same_found (option_and_then (meaning_of (all_made ms)) (record_among rows key)) found
+means_by ms key found q r = false
 
-abbrev pub resolves : List Made → Key → Option Record → Made → Bool
-resolves ms key found m = resolves_by ms key found m.request m.reply
+abbrev pub means : List Made → Key → Option Record → Made → Bool
+means ms key found m = means_by ms key found m.request m.reply
 
 abbrev pub conflict_at_scan : List Made → List Note → Key → Option Record → Bool
-conflict_at_scan ms notes key found = has_moved notes key found && list_any (resolves ms key found) ms
+conflict_at_scan ms notes key found = has_moved notes key found && list_any (means ms key found) ms
 
 -- a statement ends this transaction, or is one of it, and has its conflict
 abbrev pub conflict_of : List Event → ℕ → Said → List Made → Key → Option Record → TxId → Bool

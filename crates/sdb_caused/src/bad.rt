@@ -1,10 +1,9 @@
 //! The cause of BadRecord: a record isn't of the form of records, or the row that it means doesn't fit its table.
-ghost use Rattle.std.specs.Prelude.{◌≡◌, ◌&&◌, not, false, true, IfOk, IsTrue, ◌↔◌};
+ghost use Rattle.std.specs.Prelude.{◌≡◌, ◌&&◌, not, false, IfOk, IsTrue, ◌↔◌};
 ghost use Rattle.std.specs.Option.{option_and_then, option_map_or};
 ghost use Rattle.std.specs.List.{list_any};
-ghost use Rattle.sdb_record.specs.Meta.{is_taken};
 ghost use Rattle.sdb_record.specs.Rolls.{row_of_image};
-ghost use Rattle.sdb_model.specs.Noted.{resolved};
+ghost use Rattle.sdb_model.specs.Noted.{meaning_of as meaning_of_lem};
 ghost use Rattle.sdb_model.specs.Causes.{IsBadRecord, is_fit as is_fit_lem};
 ghost use Rattle.sdb_order.specs.Commits.{said_of};
 ghost use Rattle.sdb_plain.specs.Values.{all_made};
@@ -13,22 +12,20 @@ ghost use Rattle.sdb_types.specs.Order.{same_key};
 
 use sdb_model::{Event, Keyword};
 use sdb_order::{Said, is_word};
-use sdb_plain::{Made, calls_of, decision_for, reads_rows};
-use sdb_record::{committed_image, is_coordinator, meta_of};
+use sdb_plain::{Made, calls_of, meaning_of, reads_rows};
+use sdb_record::{is_coordinator, meta_of};
 use sdb_said::{decided, is_same_key};
 use sdb_schema::Catalog;
 use sdb_snapshot::row_of;
 use sdb_types::{Columns, Key, NoMemory, Record, Reply};
 use std::alloc::Global;
 
-// The row that a record means, by what the calls showed.
-fn row_resolved(alloc: Global, calls: &[Made], rec: &Record) -> Result<Option<Columns>, NoMemory>
-    requires { is_taken rec.now ≡ true }
-    ensures { IfOk result (λ row. row ≡ option_and_then row_of_image (resolved (all_made calls.now) rec.now)) }
+// The row that a record means to the statement with these calls.
+fn row_meant(alloc: Global, calls: &[Made], rec: &Record) -> Result<Option<Columns>, NoMemory>
+    ensures { IfOk result (λ row. row ≡ option_and_then row_of_image (meaning_of_lem (all_made calls.now) rec.now)) }
 {
-    let decided = decision_for(alloc, calls, rec)?;
-    match committed_image(alloc, rec, decided.as_ref())? {
-        Some(image) => row_of(alloc, &image),
+    match meaning_of(calls, rec) {
+        Some(image) => row_of(alloc, image),
         None => Ok(None),
     }
 }
@@ -49,10 +46,9 @@ fn is_unfit(
     calls: &[Made],
     rec: &Record,
 ) -> Result<bool, NoMemory>
-    requires { is_taken rec.now ≡ true }
-    ensures { IfOk result (λ is. is ≡ option_map_or (λ columns. not (is_fit_lem catalog.now rec.now.key columns)) (option_and_then row_of_image (resolved (all_made calls.now) rec.now)) false) }
+    ensures { IfOk result (λ is. is ≡ option_map_or (λ columns. not (is_fit_lem catalog.now rec.now.key columns)) (option_and_then row_of_image (meaning_of_lem (all_made calls.now) rec.now)) false) }
 {
-    match row_resolved(alloc, calls, rec)? {
+    match row_meant(alloc, calls, rec)? {
         Some(columns) => Ok(!is_fit(catalog, &rec.key, &columns)),
         None => Ok(false),
     }

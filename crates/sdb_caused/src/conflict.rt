@@ -1,29 +1,24 @@
 //! The cause of Conflict: what is found at a key is no longer what was noted there.
-ghost use Rattle.std.specs.Prelude.{◌≡◌, ◌&&◌, IfOk, IsTrue, ◌↔◌, Some};
+ghost use Rattle.std.specs.Prelude.{◌≡◌, ◌&&◌, IfOk, IsTrue, ◌↔◌};
 ghost use Rattle.std.specs.Option.{option_and_then, option_copied};
 ghost use Rattle.std.specs.List.{list_any};
 ghost use Rattle.sdb_model.specs.Causes.{IsConflict, prepares_key as prepares_key_lem};
-ghost use Rattle.sdb_model.specs.Noted.{noted_in as noted_in_lem, resolved};
+ghost use Rattle.sdb_model.specs.Noted.{meaning_of as meaning_of_lem, noted_in as noted_in_lem};
 ghost use Rattle.sdb_model.specs.Transactions.{id_of as id_of_lem};
 ghost use Rattle.sdb_order.specs.Commits.{said_of};
 ghost use Rattle.sdb_record.specs.Moved.{is_unchanged as is_unchanged_lem};
-ghost use Rattle.sdb_record.specs.Parts.{before_record};
-ghost use Rattle.sdb_record.specs.Rolls.{forward_record};
 ghost use Rattle.sdb_said.specs.Values.{note_of};
 ghost use Rattle.sdb_plain.specs.Values.{all_made, all_notes, made_of};
-ghost use Rattle.sdb_caused.specs.Tests.{conflict_at_scan, is_moved as is_moved_lem, has_moved as has_moved_lem, get_shows as get_shows_lem, is_found_by as is_found_by_lem, is_unmet as is_unmet_lem, not_met_as as not_met_as_lem, read_shows as read_shows_lem, scan_shows as scan_shows_lem, base_put as base_put_lem, scan_differs as scan_differs_lem, is_rebased as is_rebased_lem, conflict_at_commit as conflict_at_commit_lem, same_found, resolves as resolves_lem, any_upto, conflict_of as conflict_of_lem};
+ghost use Rattle.sdb_caused.specs.Tests.{conflict_at_scan, is_moved as is_moved_lem, has_moved as has_moved_lem, get_shows as get_shows_lem, is_found_by as is_found_by_lem, is_unmet as is_unmet_lem, not_met_as as not_met_as_lem, read_shows as read_shows_lem, scan_shows as scan_shows_lem, base_put as base_put_lem, scan_differs as scan_differs_lem, is_rebased as is_rebased_lem, conflict_at_commit as conflict_at_commit_lem, same_found, any_upto, conflict_of as conflict_of_lem, means as means_lem};
 
 use crate::commit::{is_commit_of, is_in};
 use crate::same::is_same_found;
 use crate::sign::{Sign, any};
 use sdb_model::{Event, Keyword};
 use sdb_order::{Said, is_word, statements_said};
-use sdb_plain::{Made, calls_of, decision_for, id_of, is_prepared_record, noted_in, put_by};
-use sdb_record::{Decided, Decision, Scan, is_same_version, is_unchanged, rolled_forward};
-use sdb_said::{
-    Note, is_committed, is_kept_in, is_same_key, keeps_none, kept_writer, record_among,
-    version_among, version_noted,
-};
+use sdb_plain::{Made, calls_of, id_of, is_prepared_record, noted_in, put_by, meaning_of};
+use sdb_record::{Scan, is_same_version, is_unchanged};
+use sdb_said::{Note, is_same_key, kept_writer, record_among, version_among, version_noted};
 use sdb_types::{Key, NoMemory, Record, Reply, Request, TxId};
 use std::alloc::Global;
 
@@ -189,101 +184,37 @@ fn conflicts_at_commit(
         || (any(alloc, calls, Sign::Scan(key, found)) && is_rebased(calls, notes, id, key))
 }
 
-// Whether a before image keeps this, where there is one.
-#[tactic(auto, using(crate::proofs::Finds::kept_found, crate::proofs::Finds::kept_none))]
-fn is_kept(rec: &Record, found: &Option<Record>) -> bool
-    ensures { result ≡ same_found (before_record rec.now) found.now }
-{
-    match found {
-        Some(base) => is_kept_in(rec, base),
-        None => keeps_none(rec),
-    }
-}
-
-fn is_forward(
-    alloc: Global,
-    rec: &Record,
-    moment: i64,
-    found: &Option<Record>,
-) -> Result<bool, NoMemory>
-    ensures { IfOk result (λ is. is ≡ same_found (Some (forward_record rec.now moment)) found.now) }
-{
-    let forward = rolled_forward(alloc, rec, moment)?;
-    Ok(is_same_found(Some(&forward), found))
-}
-
-// Whether this is what a found record means, by what the calls showed.
-fn resolves_to(
-    alloc: Global,
-    calls: &[Made],
-    rec: &Record,
-    found: &Option<Record>,
-) -> Result<bool, NoMemory>
-    ensures { IfOk result (λ is. is ≡ same_found (resolved (all_made calls.now) rec.now) found.now) }
-{
-    if is_committed(rec) {
-        return Ok(is_same_found(Some(rec), found));
-    }
-    match decision_for(alloc, calls, rec)? {
-        Some(
-            Decided {
-                decision: Decision::Committed,
-                created_at,
-            },
-        ) => is_forward(alloc, rec, created_at, found),
-        _ => Ok(is_kept(rec, found)),
-    }
-}
-
-fn standing_resolves(
-    alloc: Global,
-    calls: &[Made],
-    rec: Option<&Record>,
-    found: &Option<Record>,
-) -> Result<bool, NoMemory>
-    ensures { IfOk result (λ is. is ≡ same_found (option_and_then (resolved (all_made calls.now)) (option_copied rec.entry)) found.now) }
+// Whether this is what a found record means to the statement with these calls, or none where none was found.
+fn is_meant(calls: &[Made], rec: Option<&Record>, found: &Option<Record>) -> bool
+    ensures { result ≡ same_found (option_and_then (meaning_of_lem (all_made calls.now)) (option_copied rec.entry)) found.now }
 {
     match rec {
-        Some(rec) => resolves_to(alloc, calls, rec, found),
-        None => Ok(found.is_none()),
+        Some(rec) => is_same_found(meaning_of(calls, rec), found),
+        None => found.is_none(),
     }
 }
 
-// Whether a scan of the statement found this at the key, once its rows were resolved.
-fn scan_resolves(
-    alloc: Global,
-    calls: &[Made],
-    made: &Made,
-    key: &Key,
-    found: &Option<Record>,
-) -> Result<bool, NoMemory>
-    ensures { IfOk result (λ is. is ≡ resolves_lem calls.now key.now found.now made.now) }
+// Whether a scan of the statement found this at the key, by what its rows mean.
+fn scan_means(calls: &[Made], made: &Made, key: &Key, found: &Option<Record>) -> bool
+    ensures { result ≡ means_lem calls.now key.now found.now made.now }
 {
     match (&made.request, &made.reply) {
         (Request::Scan(span), Reply::Rows(rows)) => {
-            if !span.contains(key) {
-                return Ok(false);
-            }
-            standing_resolves(alloc, calls, record_among(rows.as_slice(), key), found)
+            span.contains(key) && is_meant(calls, record_among(rows.as_slice(), key), found)
         }
-        _ => Ok(false),
+        _ => false,
     }
 }
 
-fn any_resolves(
-    alloc: Global,
-    calls: &[Made],
-    key: &Key,
-    found: &Option<Record>,
-) -> Result<bool, NoMemory>
-    ensures { IfOk result (λ is. is ≡ list_any (resolves_lem calls.now key.now found.now) calls.now) }
+fn any_means(calls: &[Made], key: &Key, found: &Option<Record>) -> bool
+    ensures { result ≡ list_any (means_lem calls.now key.now found.now) calls.now }
 {
     for made in calls {
-        if scan_resolves(alloc, calls, made, key, found)? {
-            return Ok(true);
+        if scan_means(calls, made, key, found) {
+            return true;
         }
     }
-    Ok(false)
+    false
 }
 
 fn commit_conflicts(
@@ -311,10 +242,7 @@ fn scan_conflicts(
     ensures { IfOk result (λ is. is ≡ conflict_at_scan calls.now (noted_in_lem events.now id) key.now found.now) }
 {
     let notes = noted_in(alloc, events, id)?;
-    if !has_moved(notes.as_slice(), key, found) {
-        return Ok(false);
-    }
-    any_resolves(alloc, calls, key, found)
+    Ok(has_moved(notes.as_slice(), key, found) && any_means(calls, key, found))
 }
 
 // Whether a statement ends this transaction by a conflict.

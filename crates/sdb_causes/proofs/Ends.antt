@@ -1,5 +1,5 @@
 -- Where a COMMIT goes, what it ends with, and which transaction it ends.
-use Rattle.std.proofs.Common.{◌≡◌, ◌<◌, ◌^◌, ◌⊎◌, inl, inr, ℕ, true, List, [], ◌∷◌, ◌++◌, Option, Some, None, refl, sym, ap, subst, ◌∙◌}
+use Rattle.std.proofs.Common.{◌≡◌, ◌<◌, ◌^◌, ◌⊎◌, inl, inr, ℕ, true, false, List, [], ◌∷◌, ◌++◌, Option, Some, None, refl, sym, ap, subst, ◌∙◌}
 use Rattle.std.specs.Prelude.{if◌then◌else◌, find, Contains}
 use Rattle.std.specs.Option.{option_and_then}
 use Rattle.std.proofs.lemmas.List.Elements.{Contains-append_left, Contains-push}
@@ -8,13 +8,13 @@ use Rattle.sdb_types.specs.declared.record.Record.{Record}
 use Rattle.sdb_types.specs.declared.record.Reply.{Reply}
 use Rattle.sdb_types.specs.declared.txid.TxId.{TxId}
 use Rattle.sdb_schema.specs.declared.table.Table.{Table}
-use Rattle.sdb_types.proofs.Basics.{none_some, some_is}
+use Rattle.sdb_types.proofs.Basics.{clash, none_some, some_is}
 use Rattle.sdb_model.specs.declared.answer.Answer.TheVariants as answer
 use Rattle.sdb_model.specs.declared.event.Event.{Event}
 use Rattle.sdb_model.specs.Calls.{Made, calls_of}
 use Rattle.sdb_model.specs.Causes.{ConflictsAtCommit, IsCaused, IsCommitOf}
 use Rattle.sdb_model.specs.Sql.{reads_commit}
-use Rattle.sdb_model.specs.Transactions.{Said, client_of, commit_of, ends, from_begin, id_of, ordinal_of, rest_of, said}
+use Rattle.sdb_model.specs.Transactions.{Said, client_of, commit_of, ends, from_begin, id_of, is_conflict, ordinal_of, rest_of, said}
 use Rattle.sdb_commit.specs.Phases.{IsNext, ended_at}
 use Rattle.sdb_phases.specs.declared.step.Outcome.{Outcome}
 use Rattle.sdb_phases.specs.declared.step.Outcome.TheVariants as outcome
@@ -27,7 +27,7 @@ use Rattle.sdb_client.specs.Client.{next_of}
 use Rattle.sdb_turns.specs.System.{answer_of_outcome}
 use Rattle.sdb_causes.specs.Commits.{EndsBy, HasFailed, IsGivenUp}
 use Rattle.sdb_causes.specs.Shows.{GivesOwn}
-use Rattle.sdb_causes.specs.Tied.{CanTell, IsOpenAs}
+use Rattle.sdb_causes.specs.Tied.{IsOpenAs}
 use Rattle.sdb_causes.specs.Conflicts.{ConflictBy}
 use Rattle.sdb_causes.proofs.Noting.{client_is, ordinal_is}
 use Rattle.sdb_causes.proofs.Lists.{ends_last, since_more}
@@ -87,9 +87,9 @@ outcome_tells catalog events c body s (outcome.BadRecord key) = tt
 outcome_tells catalog events c body s outcome.NoMemory = tt
 
 -- and has its cause
-pub outcome_caused : (catalog : List Table) (events : List Event) (c : ℕ) (s : Said) (id : TxId) (a : Outcome) → IsCommitOf events c s id → EndsBy id (calls_of events c s) a → CanTell (calls_of events c s) s.text (answer_of_outcome a) → IsCaused catalog events c s (answer_of_outcome a)
+pub outcome_caused : (catalog : List Table) (events : List Event) (c : ℕ) (s : Said) (id : TxId) (a : Outcome) → IsCommitOf events c s id → EndsBy id (calls_of events c s) a → is_conflict (Some (answer_of_outcome a)) ≡ false → IsCaused catalog events c s (answer_of_outcome a)
 outcome_caused catalog events c s id outcome.Committed commit e z = (id, commit, e)
-outcome_caused catalog events c s id (outcome.Conflict key found) commit e z = absurd z
+outcome_caused catalog events c s id (outcome.Conflict key found) commit e z = clash z
 outcome_caused catalog events c s id (outcome.Expired u) commit e z =
     let b = subst (λ (i : TxId). IsGivenUp i (calls_of events c s)) (sym e.0) e.1 in
     record { commit = subst (IsCommitOf events c s) (sym e.0) commit; call = b.call; among = b.among; aborted = b.aborted; not_own = b.not_own }

@@ -23,7 +23,6 @@ use Rattle.sdb_model.specs.declared.answer.Answer.TheVariants as answer
 use Rattle.sdb_model.specs.declared.event.Event.{Event}
 use Rattle.sdb_model.specs.declared.statement.Statement.{Statement}
 use Rattle.sdb_model.specs.declared.statement.Statement.TheVariants as statement
-use Rattle.sdb_model.specs.Calls.{calls_of}
 use Rattle.sdb_model.specs.Causes.{IsBadRecord, IsCaused, MayPassMost, before, is_open, refused}
 use Rattle.sdb_model.specs.Exec.{all_rows, key_of, named_table}
 use Rattle.sdb_model.specs.Sql.{Reads}
@@ -35,7 +34,6 @@ use Rattle.sdb_txn.specs.Txn.{TxnAt}
 use Rattle.sdb_client.specs.Client.{given_answer, given_left, too_many, written}
 use Rattle.sdb_steps.proofs.Asked.{from_rows}
 use Rattle.sdb_types.proofs.Basics.{clash, none_some, some_is}
-use Rattle.sdb_causes.specs.Tied.{CanTell}
 
 -- what a statement is answered on rows has its cause
 on_rows : (catalog : List Table) (events : List Event) (c : ℕ) (s : Said) (t : Table) (st : Statement) (rows : List Image) → Reads s.text st → named_table catalog st ≡ Some t → is_open (before s events) c ≡ true → IsCaused catalog events c s (answer_on t st rows)
@@ -54,10 +52,10 @@ on_rows catalog events c s t statement.Rollback rows reads named open_before = n
 on_rows catalog events c s t statement.Vacuum rows reads named open_before = none_some t named
 
 -- what a plan that was asked gives, with no more keys than may be
-given_on : (catalog : List Table) (events : List Event) (c : ℕ) (s : Said) (t : TxnAt) (x : PlanStep) (b : Answer) (ks : List Keyed) → (CanTell (calls_of events c s) s.text b → IsCaused catalog events c s b) → ((not (changes_nothing b) && too_many t ks) ≡ true → MayPassMost events c s) → x ≡ Finished b ks → CanTell (calls_of events c s) s.text (given_answer t x) → IsCaused catalog events c s (given_answer t x)
-given_on catalog events c s t x b ks caused full e told = subst (λ y. IsCaused catalog events c s (given_answer t y)) (sym e) (by (not (changes_nothing b) && too_many t ks) refl (subst (λ y. CanTell (calls_of events c s) s.text (given_answer t y)) e told))
+given_on : (catalog : List Table) (events : List Event) (c : ℕ) (s : Said) (t : TxnAt) (x : PlanStep) (b : Answer) (ks : List Keyed) → (is_conflict (Some b) ≡ false → IsCaused catalog events c s b) → ((not (changes_nothing b) && too_many t ks) ≡ true → MayPassMost events c s) → x ≡ Finished b ks → is_conflict (Some (given_answer t x)) ≡ false → IsCaused catalog events c s (given_answer t x)
+given_on catalog events c s t x b ks caused full e told = subst (λ y. IsCaused catalog events c s (given_answer t y)) (sym e) (by (not (changes_nothing b) && too_many t ks) refl (subst (λ y. is_conflict (Some (given_answer t y)) ≡ false) e told))
   where
-    by : (z : Bool) → (not (changes_nothing b) && too_many t ks) ≡ z → CanTell (calls_of events c s) s.text (if z then refused 15 else b) → IsCaused catalog events c s (if z then refused 15 else b)
+    by : (z : Bool) → (not (changes_nothing b) && too_many t ks) ≡ z → is_conflict (Some (if z then refused 15 else b)) ≡ false → IsCaused catalog events c s (if z then refused 15 else b)
     by true many h = inr (refl, refl, full many)
     by false many h = caused h
 
@@ -65,12 +63,12 @@ pub asked_gives : (p : Planned) (rows : List Image) (o : Option Key) → p.asked
 asked_gives p rows o asked e = ap (λ b. step_at b p.table p.statement rows) asked ∙ ap (finished p.table p.statement rows) e
 
 pub given_caused : (catalog : List Table) (events : List Event) (c : ℕ) (s : Said) (p : Planned) (rows : List Image) (t : TxnAt) → Reads s.text p.statement → named_table catalog p.statement ≡ Some p.table → p.asked ≡ true → is_open (before s events) c ≡ true
-    → ((key : Key) → first_unfit p.table rows ≡ Some key → CanTell (calls_of events c s) s.text (answer.BadRecord key) → IsBadRecord catalog events c s key) → (too_many t (changes_on p.table p.statement rows) ≡ true → MayPassMost events c s) → CanTell (calls_of events c s) s.text (given_answer t (step_of p rows)) → IsCaused catalog events c s (given_answer t (step_of p rows))
+    → ((key : Key) → first_unfit p.table rows ≡ Some key → IsBadRecord catalog events c s key) → (too_many t (changes_on p.table p.statement rows) ≡ true → MayPassMost events c s) → is_conflict (Some (given_answer t (step_of p rows))) ≡ false → IsCaused catalog events c s (given_answer t (step_of p rows))
 given_caused catalog events c s p rows t reads named asked open_before bad full = by (first_unfit p.table rows) refl
   where
-    by : (o : Option Key) → first_unfit p.table rows ≡ o → CanTell (calls_of events c s) s.text (given_answer t (step_of p rows)) → IsCaused catalog events c s (given_answer t (step_of p rows))
+    by : (o : Option Key) → first_unfit p.table rows ≡ o → is_conflict (Some (given_answer t (step_of p rows))) ≡ false → IsCaused catalog events c s (given_answer t (step_of p rows))
     by None e = given_on catalog events c s t (step_of p rows) (answer_on p.table p.statement rows) (changes_on p.table p.statement rows) (λ h. on_rows catalog events c s p.table p.statement rows reads named open_before) (λ m. full (and_parts (not (changes_nothing (answer_on p.table p.statement rows))) (too_many t (changes_on p.table p.statement rows)) m).1) (asked_gives p rows None asked e)
-    by (Some key) e = given_on catalog events c s t (step_of p rows) (answer.BadRecord key) [] (bad key e) (λ m. clash (sym m)) (asked_gives p rows (Some key) asked e)
+    by (Some key) e = given_on catalog events c s t (step_of p rows) (answer.BadRecord key) [] (λ h. bad key e) (λ m. clash (sym m)) (asked_gives p rows (Some key) asked e)
 
 ---- it is no Done and no Conflict
 

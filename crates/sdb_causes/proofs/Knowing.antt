@@ -24,7 +24,7 @@ use Rattle.sdb_causes.specs.Commits.{StandsBy}
 use Rattle.sdb_causes.specs.Reads.{ReadsBy}
 use Rattle.sdb_causes.specs.Conflicts.{ChecksBy}
 use Rattle.sdb_causes.specs.Moves.{ShowsAt, WorkBy, notes_told}
-use Rattle.sdb_causes.proofs.Noting.{body_answered, moved_still, noted_still, notes_stay, tell_back}
+use Rattle.sdb_causes.proofs.Noting.{body_answered, moved_still, noted_still, notes_stay}
 use Rattle.sdb_causes.specs.Sweeps.{VacuumBy}
 use Rattle.sdb_causes.specs.Unfit.{ShowStored}
 use Rattle.sdb_causes.specs.Tied.{IsAnswered, IsDoing, IsNoting, IsOpenAs, IsSweeping, IsWaiting, Knows, StandsIn, StandsOn, open_after}
@@ -146,10 +146,9 @@ noting_stays : (catalog : List Table) (c : ℕ) (events : List Event) (e : Event
 noting_stays catalog c events e n told t o doing.Idle w same all h = noted_still catalog events e c n told t o all t.seen h
 noting_stays catalog c events e n told t o (doing.Read a x) w same all h = noted_still catalog events e c n told t o all t.seen h
 noting_stays catalog c events e n told t o (doing.Commit k) None same all h = tt
-noting_stays catalog c events e n told t o (doing.Commit k) (Some x) same all h = λ one.
-    let z = h (tell_back catalog events e c told all one) in
+noting_stays catalog c events e n told t o (doing.Commit k) (Some x) same all h =
     let notes : notes_told events c o.body ≡ notes_told (events ++ e ∷ []) c o.body = sym (notes_stay catalog events e c o.body (body_answered catalog events e c n told t o all)) in
-    (subst (λ ns. WorkBy ns k.work) notes z.0, subst (λ ns. ChecksBy ns k.work (calls_of (events ++ e ∷ []) c x) k.stage) notes (subst (λ ms. ChecksBy (notes_told events c o.body) k.work ms k.stage) (sym (same x refl)) z.1))
+    (subst (λ ns. WorkBy ns k.work) notes h.0, subst (λ ns. ChecksBy ns k.work (calls_of (events ++ e ∷ []) c x) k.stage) notes (subst (λ ms. ChecksBy (notes_told events c o.body) k.work ms k.stage) (sym (same x refl)) h.1))
 noting_stays catalog c events e n told t o doing.Over w same all h = noted_still catalog events e c n told t o all t.seen h
 
 stands_stay : (catalog : List Table) (c : ℕ) (events : List Event) (e : Event) (n : ℕ) (told : List Said) (w : Option Said) (p : Option Planned) (o : Option TxnAt) → AllByRecursion (IsAnswered catalog events c) told → ((x : Said) → w ≡ Some x → calls_of (events ++ e ∷ []) c x ≡ calls_of events c x) → StandsIn events c n told w p o → StandsIn (events ++ e ∷ []) c n told w p o
@@ -170,7 +169,7 @@ knows_still catalog c events e h nothing none k = record {
   same = nothing ∙ k.same;
   answered = answered_stay catalog c events e k.told (inl nothing) k.answered;
   waits = waits k.waiting k.waits;
-  moved = λ one. moved_still catalog events e c k.told k.told k.answered (k.moved (tell_back catalog events e c k.told k.answered one));
+  moved = moved_still catalog events e c k.told k.told k.answered k.moved;
   number = k.number;
   begun = k.begun;
   small = k.small;

@@ -20,9 +20,9 @@ use Rattle.sdb_model.specs.Calls.{Made, calls_after, calls_before, calls_of, dec
 use Rattle.sdb_model.specs.Causes.{HasReply, IsBad, IsBusy, IsCaused, IsCommitOf, IsCounted, IsDecided, IsTurnedAway, MayPassMost, PutsRow, is_misfit, is_open, removes}
 use Rattle.sdb_model.specs.Noted.{reads_rows}
 use Rattle.sdb_model.specs.Sql.{reads_commit, reads_vacuum}
-use Rattle.sdb_model.specs.Transactions.{Said, client_of, ends, from_begin, ordinal_of, rest_of, said}
-use Rattle.sdb_types.proofs.Basics.{none_some, some_is}
-use Rattle.sdb_causes.specs.Tied.{CanTell, IsAnswered, IsWaiting}
+use Rattle.sdb_model.specs.Transactions.{Said, client_of, ends, from_begin, is_conflict, ordinal_of, rest_of, said}
+use Rattle.sdb_types.proofs.Basics.{clash, none_some, some_is}
+use Rattle.sdb_causes.specs.Tied.{IsAnswered, IsWaiting}
 use Rattle.sdb_causes.proofs.Lists.{ending_front, ending_stays, kept_in}
 use Rattle.sdb_causes.proofs.Passing.{Grows, pass_stays}
 use Rattle.sdb_causes.proofs.Calls.{before_same, calls_stay, clock_same, of_within, within_more}
@@ -88,7 +88,7 @@ BadIn catalog s key calls =
     (m : Made) × (r : Record) × Contains calls m × Contains (records_shown m.reply) r × (r.key ≡ key)
     × (IsBad r ⊎ ((reads_commit s.text ≡ false) × (reads_vacuum s.text ≡ false) × (reads_rows m ≡ true) × (is_misfit catalog calls r ≡ true)))
 
-caused_stays : (catalog : List Table) (c : ℕ) (events : List Event) (e : Event) (s : Said) (a : Answer) → IsPast c events e s a → CanTell (calls_of events c s) s.text a → IsCaused catalog events c s a → IsCaused catalog (events ++ e ∷ []) c s a
+caused_stays : (catalog : List Table) (c : ℕ) (events : List Event) (e : Event) (s : Said) (a : Answer) → IsPast c events e s a → is_conflict (Some a) ≡ false → IsCaused catalog events c s a → IsCaused catalog (events ++ e ∷ []) c s a
 caused_stays catalog c events e s (answer.Rows rows) k t h = (h.0, h.1, h.2, ap (λ es. is_open es c) (before_same s events e k.taken) ∙ h.3)
 caused_stays catalog c events e s (answer.Count n) k t h = (h.0, h.1, counted_stays c events e s h.0 n (calls_stay c events e s (answer.Count n) k.is k.answered) h.2)
 caused_stays catalog c events e s answer.Done k t h = h
@@ -114,7 +114,7 @@ caused_stays catalog c events e s (answer.Busy key id at) k t h = busy (sym (cal
         early = ap (is_expired at) (clock_same events e h.early.asked.at within) ∙ h.early.early;
       };
     }
-caused_stays catalog c events e s (answer.Conflict key found) k t h = absurd t
+caused_stays catalog c events e s (answer.Conflict key found) k t h = clash t
 caused_stays catalog c events e s (answer.Expired id) k t h = record {
   commit = k.commit id h.commit;
   call = h.call;
@@ -148,7 +148,7 @@ answered_one catalog c events e s grows k = record {
   is = k.is;
   taken = within_more s.taken events e k.taken;
   answered = within_more s.reached events e k.answered;
-  caused = λ t. let told : CanTell (calls_of events c s) s.text k.given = subst (λ ms. CanTell ms s.text k.given) (calls_stay c events e s k.given k.is k.answered) t in caused_stays catalog c events e s k.given (record { is = k.is; taken = k.taken; answered = k.answered; commit = λ id h. commit_stays c events (events ++ e ∷ []) s k.given id grows k.is h; passes = pass_stays c events e s k.given grows k.is }) told (k.caused told);
+  caused = λ t. caused_stays catalog c events e s k.given (record { is = k.is; taken = k.taken; answered = k.answered; commit = λ id h. commit_stays c events (events ++ e ∷ []) s k.given id grows k.is h; passes = pass_stays c events e s k.given grows k.is }) t (k.caused t);
   turned_away = λ a h. k.turned_away a (subst (λ es. IsTurnedAway catalog es c s.text a) (before_same s events e k.taken) h);
 }
 

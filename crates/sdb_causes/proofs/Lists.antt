@@ -5,20 +5,12 @@ use Rattle.std.specs.List.{AllByRecursion}
 use Rattle.std.proofs.lemmas.Bool.Decides.{nat_tests}
 use Rattle.std.proofs.lemmas.List.Elements.{All-contains, All-contains_itself, All-from_recursion, recursion_from_All}
 use Rattle.sdb_model.specs.Transactions.{Said, begins, ends, from_begin, rest_of}
+use Rattle.sdb_story.proofs.Meanings.{find_more}
 use Rattle.sdb_types.proofs.Basics.{none_some}
 use Rattle.sdb_causes.specs.Tied.{begun_in}
 
 pub each_in : {X : Type 0} (P : X → Type 0) (xs : List X) (x : X) → AllByRecursion P xs → Contains xs x → P x
 each_in P xs x all has = All-contains P xs x (All-from_recursion P xs all) has
-
--- what is found stays where more comes
-pub find_more : {X : Type 0} (p : X → Bool) (xs ys : List X) (x : X) → find p xs ≡ Some x → find p (xs ++ ys) ≡ Some x
-find_more p [] ys x e = none_some x e
-find_more {X = X} p (y ∷ xs) ys x e = by (p y) (λ h. find_more p xs ys x h) e
-  where
-    by : (b : Bool) → (find p xs ≡ Some x → find p (xs ++ ys) ≡ Some x) → (if b then Some y else find p xs) ≡ Some x → (if b then Some y else find p (xs ++ ys)) ≡ Some x
-    by true ih h = h
-    by false ih h = ih h
 
 -- what is found was there before one more came, or is that
 pub find_front : {X : Type 0} (p : X → Bool) (xs : List X) (w x : X) → find p (xs ++ w ∷ []) ≡ Some x → (find p xs ≡ Some x) ⊎ (w ≡ x)

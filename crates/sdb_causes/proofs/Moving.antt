@@ -28,7 +28,7 @@ use Rattle.sdb_record.specs.Moved.{Moved, condition_of, same_version, version_of
 use Rattle.sdb_record.proofs.ImageLaws.{version-writer}
 use Rattle.sdb_model.specs.Calls.{Made, records_read}
 use Rattle.sdb_model.specs.Causes.{HasMoved}
-use Rattle.sdb_model.specs.Noted.{Got, Note, Scanned, resolved}
+use Rattle.sdb_model.specs.Noted.{Got, Note, Scanned, meaning_of}
 use Rattle.sdb_snapshot.specs.Noted as snapshot
 use Rattle.sdb_snapshot.specs.Noted.{base_at, differs, has_moved, is_noted, note_at}
 use Rattle.sdb_snapshot.specs.Seen.{Seen}
@@ -38,8 +38,8 @@ use Rattle.sdb_snapshot.specs.Held.{AreKept}
 use Rattle.sdb_turns.proofs.Lists.{each_both}
 use Rattle.sdb_txn.specs.Txn.{TxnAt, work_of}
 use Rattle.sdb_validate.specs.Rescan.{reads_rise}
-use Rattle.sdb_causes.specs.Moves.{HasRead, IsNotedAt, IsRows, IsSettledAs, SeenBy, TellOne, WorkBy}
-use Rattle.sdb_causes.proofs.Settling.{resolved_as, settled_keys}
+use Rattle.sdb_causes.specs.Moves.{HasRead, IsNotedAt, IsRows, IsSettledAs, SeenBy, WorkBy}
+use Rattle.sdb_causes.proofs.Settling.{settled_keys, settled_means}
 use Rattle.sdb_record.proofs.IdLemmas.{id_in_value-fits}
 use Rattle.sdb_record.specs.Among.{version_among}
 
@@ -73,9 +73,9 @@ absent k (x ∷ es) keys all = by x.1 keys.0 (absent k es keys.1 all.1)
     by (Some b) same ih = ap (λ t. if t then Some b else record_among (filter_map (λ (e : Record × Option Record). e.1) es) k) (apart b same) ∙ ih
 
 -- the record of a key among those that a scan found, settled, is that among its images
-scan_found : (calls : List Made) (k : Key) (es : List (Record × Option Record)) → TellOne calls → AllByRecursion (IsSettledAs calls) es → rise (map (λ e. e.0) es) ≡ true → option_and_then (resolved calls) (record_among (map (λ e. e.0) es) k) ≡ record_among (filter_map (λ (e : Record × Option Record). e.1) es) k
-scan_found calls k [] one all r = refl
-scan_found calls k (x ∷ es) one all r = by (same_key k x.0.key) refl (scan_found calls k es one all.1 rest.1)
+scan_found : (calls : List Made) (k : Key) (es : List (Record × Option Record)) → AllByRecursion (IsSettledAs calls) es → rise (map (λ e. e.0) es) ≡ true → option_and_then (meaning_of calls) (record_among (map (λ e. e.0) es) k) ≡ record_among (filter_map (λ (e : Record × Option Record). e.1) es) k
+scan_found calls k [] all r = refl
+scan_found calls k (x ∷ es) all r = by (same_key k x.0.key) refl (scan_found calls k es all.1 rest.1)
   where
     rest : (starts_after x.0.key (map (λ e. e.0) es) ≡ true) × (rise (map (λ e. e.0) es) ≡ true)
     rest = and_parts (starts_after x.0.key (map (λ e. e.0) es)) (rise (map (λ e. e.0) es)) r
@@ -88,18 +88,18 @@ scan_found calls k (x ∷ es) one all r = by (same_key k x.0.key) refl (scan_fou
     there None same f = refl
     there (Some b) same f = sym (ap (λ t. if t then Some b else record_among (filter_map (λ (e : Record × Option Record). e.1) es) k) (ap (λ (z : Key). same_key k z) same ∙ f))
 
-    by : (t : Bool) → same_key k x.0.key ≡ t → option_and_then (resolved calls) (record_among (map (λ e. e.0) es) k) ≡ record_among (filter_map (λ (e : Record × Option Record). e.1) es) k
-        → option_and_then (resolved calls) (if t then Some x.0 else record_among (map (λ e. e.0) es) k) ≡ record_among (cons_option x.1 (filter_map (λ (e : Record × Option Record). e.1) es)) k
-    by true e ih = resolved_as calls x one all.0 ∙ here x.1 all.0.key (sym (same_key_exact k x.0.key e))
+    by : (t : Bool) → same_key k x.0.key ≡ t → option_and_then (meaning_of calls) (record_among (map (λ e. e.0) es) k) ≡ record_among (filter_map (λ (e : Record × Option Record). e.1) es) k
+        → option_and_then (meaning_of calls) (if t then Some x.0 else record_among (map (λ e. e.0) es) k) ≡ record_among (cons_option x.1 (filter_map (λ (e : Record × Option Record). e.1) es)) k
+    by true e ih = settled_means calls x all.0 ∙ here x.1 all.0.key (sym (same_key_exact k x.0.key e))
     by false e ih = ih ∙ there x.1 all.0.key e
 
-pub scan_shows : (calls : List Made) (span : Span) (images : List Record) (k : Key) (h : HasRead (ask.Scan span) calls images []) → TellOne calls → (rows : List Record) × (h.first.reply ≡ reply.Rows rows) × (option_and_then (resolved calls) (record_among rows k) ≡ record_among images k)
-scan_shows calls span images k h one = by h.first.reply refl h.can h.told
+pub scan_shows : (calls : List Made) (span : Span) (images : List Record) (k : Key) (h : HasRead (ask.Scan span) calls images []) → (rows : List Record) × (h.first.reply ≡ reply.Rows rows) × (option_and_then (meaning_of calls) (record_among rows k) ≡ record_among images k)
+scan_shows calls span images k h = by h.first.reply refl h.can h.told
   where
-    by : (r : Reply) → h.first.reply ≡ r → CanAnswer (ask.Scan span) r → IsRows r → (rows : List Record) × (h.first.reply ≡ reply.Rows rows) × (option_and_then (resolved calls) (record_among rows k) ≡ record_among images k)
+    by : (r : Reply) → h.first.reply ≡ r → CanAnswer (ask.Scan span) r → IsRows r → (rows : List Record) × (h.first.reply ≡ reply.Rows rows) × (option_and_then (meaning_of calls) (record_among rows k) ≡ record_among images k)
     by (reply.Rows rows) e can told =
         let same : rows ≡ map (λ x. x.0) h.steps = ap records_read (sym e) ∙ h.rows ∙ append-nil (map (λ x. x.0) h.steps) in
-        (rows, e, ap (λ rs. option_and_then (resolved calls) (record_among rs k)) same ∙ scan_found calls k h.steps one h.settled (subst (λ rs. rise rs ≡ true) same (and_parts (rise rows) _ can).0) ∙ ap (λ is. record_among is k) (sym h.images_are))
+        (rows, e, ap (λ rs. option_and_then (meaning_of calls) (record_among rs k)) same ∙ scan_found calls k h.steps h.settled (subst (λ rs. rise rs ≡ true) same (and_parts (rise rows) _ can).0) ∙ ap (λ is. record_among is k) (sym h.images_are))
     by (reply.Found found) e can told = absurd can
     by reply.Applied e can told = absurd told
     by (reply.NotMet found) e can told = absurd told

@@ -25,7 +25,7 @@ use Rattle.sdb_txn.specs.Txn.{TxnAt}
 use Rattle.sdb_turns.proofs.Lists.{each_more}
 use Rattle.sdb_types.proofs.Basics.{clash, all_each as each_any}
 use Rattle.sdb_causes.specs.Tied.{IsAnswered, IsOpenAs}
-use Rattle.sdb_causes.specs.Moves.{AllTellOne, AreMoved, IsMovedIn, MovesBy, SeenBy, TellOne, notes_told}
+use Rattle.sdb_causes.specs.Moves.{AreMoved, IsMovedIn, MovesBy, SeenBy, notes_told}
 use Rattle.sdb_causes.proofs.Calls.{calls_stay}
 use Rattle.sdb_causes.proofs.Lists.{since_more}
 
@@ -91,11 +91,6 @@ told_stay catalog events e c (s ∷ ss) all = by (is_effective s) (is_from_rows 
 pub notes_stay : (catalog : List Table) (events : List Event) (e : Event) (c : ℕ) (ss : List Said) → AllByRecursion (IsAnswered catalog events c) ss → notes_told (events ++ e ∷ []) c ss ≡ notes_told events c ss
 notes_stay catalog events e c ss all = told_stay catalog events e c ss all
 
--- the calls that showed no two decisions still do
-pub tell_back : (catalog : List Table) (events : List Event) (e : Event) (c : ℕ) (ss : List Said) → AllByRecursion (IsAnswered catalog events c) ss → AllTellOne (events ++ e ∷ []) c ss → AllTellOne events c ss
-tell_back catalog events e c [] all one = tt
-tell_back catalog events e c (s ∷ ss) all one = (subst TellOne (calls_stay c events e s all.0.given all.0.is all.0.answered) one.0, tell_back catalog events e c ss all.1 one.1)
-
 pub each_front : (P : Said → Type 0) (ss : List Said) (s : Said) → AllByRecursion P (ss ++ s ∷ []) → AllByRecursion P ss
 each_front P [] s all = tt
 each_front P (x ∷ ss) s all = (all.0, each_front P ss s all.1)
@@ -140,14 +135,14 @@ module _ (catalog : List Table) (events : List Event) (e : Event) (c n : ℕ) (t
   pub body_answered : AllByRecursion (IsAnswered catalog events c) o.body
   body_answered = since_all (IsAnswered catalog events c) n told o.begin o.body all o.since
 
-  pub noted_still : (s : Seen) → (AllTellOne events c told → SeenBy (notes_told events c o.body) s) → AllTellOne (events ++ e ∷ []) c told → SeenBy (notes_told (events ++ e ∷ []) c o.body) s
-  noted_still s h one = subst (λ ns. SeenBy ns s) (sym (notes_stay catalog events e c o.body body_answered)) (h (tell_back catalog events e c told all one))
+  pub noted_still : (s : Seen) → SeenBy (notes_told events c o.body) s → SeenBy (notes_told (events ++ e ∷ []) c o.body) s
+  noted_still s h = subst (λ ns. SeenBy ns s) (sym (notes_stay catalog events e c o.body body_answered)) h
 
   -- with one statement more, that read nothing
-  pub noted_more : (x : Said) (s u : Seen) → u.reads ≡ s.reads → u.scans ≡ s.scans → (AllTellOne events c told → SeenBy (notes_told events c o.body) s) → AllTellOne (events ++ e ∷ []) c (told ++ x ∷ []) → SeenBy (notes_told (events ++ e ∷ []) c (o.body ++ x ∷ [])) u
-  noted_more x s u r y h one =
+  pub noted_more : (x : Said) (s u : Seen) → u.reads ≡ s.reads → u.scans ≡ s.scans → SeenBy (notes_told events c o.body) s → SeenBy (notes_told (events ++ e ∷ []) c (o.body ++ x ∷ [])) u
+  noted_more x s u r y h =
       subst (λ ns. SeenBy ns u) (sym (notes_more (events ++ e ∷ []) c o.body x))
-      (seen_more (notes_told (events ++ e ∷ []) c o.body) (notes_told (events ++ e ∷ []) c (x ∷ [])) s u r y (noted_still s h (each_front (λ z. TellOne (calls_of (events ++ e ∷ []) c z)) told x one)))
+      (seen_more (notes_told (events ++ e ∷ []) c o.body) (notes_told (events ++ e ∷ []) c (x ∷ [])) s u r y (noted_still s h))
 
 ---- statements that were answered Conflict
 
@@ -196,9 +191,9 @@ pub unmoved : (events : List Event) (c : ℕ) (told : List Said) (s : Said) (b :
 unmoved events c told s b is f key found e = clash (sym (ap is_conflict (sym is ∙ e)) ∙ f)
 
 -- all of a client's, with one statement more
-pub moved_all : (catalog : List Table) (events : List Event) (e : Event) (c : ℕ) (told : List Said) (y : Said) → AllByRecursion (IsAnswered catalog events c) told → (AllTellOne events c told → AreMoved events c told told)
-    → (AllTellOne (events ++ e ∷ []) c (told ++ y ∷ []) → (key : Key) (found : Option Record) → y.answer ≡ Some (answer.Conflict key found) → IsMovedIn (events ++ e ∷ []) c (told ++ y ∷ []) y key found)
-    → AllTellOne (events ++ e ∷ []) c (told ++ y ∷ []) → AreMoved (events ++ e ∷ []) c (told ++ y ∷ []) (told ++ y ∷ [])
-moved_all catalog events e c told y all m last one =
+pub moved_all : (catalog : List Table) (events : List Event) (e : Event) (c : ℕ) (told : List Said) (y : Said) → AllByRecursion (IsAnswered catalog events c) told → AreMoved events c told told
+    → ((key : Key) (found : Option Record) → y.answer ≡ Some (answer.Conflict key found) → IsMovedIn (events ++ e ∷ []) c (told ++ y ∷ []) y key found)
+    → AreMoved (events ++ e ∷ []) c (told ++ y ∷ []) (told ++ y ∷ [])
+moved_all catalog events e c told y all m last =
     each_more (λ s. (key : Key) (found : Option Record) → s.answer ≡ Some (answer.Conflict key found) → IsMovedIn (events ++ e ∷ []) c (told ++ y ∷ []) s key found) told y
-    (moved_more catalog events e c told told y all (m (tell_back catalog events e c told all (each_front (λ z. TellOne (calls_of (events ++ e ∷ []) c z)) told y one)))) (last one)
+    (moved_more catalog events e c told told y all m) last

@@ -1,6 +1,6 @@
 -- A client that gets the reply to its call keeps what ties the events to it.
 use Rattle.std.proofs.Common.{◌≡◌, ◌≤◌, ◌<◌, ◌^◌, ◌+◌, ◌⊎◌, inl, inr, ℕ, true, false, not, List, [], ◌∷◌, ◌++◌, length, Option, Some, None, refl, sym, ap, subst, ◌∙◌, arith}
-use Rattle.std.specs.Prelude.{◌&&◌, ◌||◌, is_some, IfSome, nat_le, nat_lt, MatchBool, Contains}
+use Rattle.std.specs.Prelude.{◌&&◌, ◌||◌, is_some, IfSome, nat_le, nat_lt, Contains}
 use Rattle.std.specs.List.{AllByRecursion, count_by}
 use Rattle.std.proofs.lemmas.List.{append-nil}
 use Rattle.sdb_types.specs.declared.key.Key.{Key}
@@ -14,7 +14,6 @@ use Rattle.sdb_record.specs.declared.access.Access.{Access}
 use Rattle.sdb_record.specs.declared.access.Access.TheVariants as access
 use Rattle.sdb_record.specs.declared.access.Read.{Read}
 use Rattle.sdb_record.specs.declared.write.Write.{Write}
-use Rattle.sdb_record.specs.Coordinator.{is_coordinator_table}
 use Rattle.sdb_record.specs.Meta.{is_moment}
 use Rattle.sdb_schema.specs.declared.table.Table.{Table}
 use Rattle.sdb_schema.specs.Catalog.{is_catalog}
@@ -60,7 +59,7 @@ use Rattle.sdb_story.specs.Telling.{answered_said, waiting_of}
 use Rattle.sdb_turns.proofs.Lists.{each_more}
 use Rattle.sdb_turns.specs.System.{ClientCall, answer_of_outcome, call_event}
 use Rattle.sdb_causes.specs.Commits.{EndsBy, ShowsBad, StandsBy}
-use Rattle.sdb_causes.specs.Tied.{IsAnswered, IsCommitting, IsDoing, AreTied, IsNoting, IsReading, IsSweeping, IsWaiting, Knows, StandsIn, StandsOn, begun_in, is_caused, open_after, CanTell}
+use Rattle.sdb_causes.specs.Tied.{IsAnswered, IsCommitting, IsDoing, AreTied, IsNoting, IsReading, IsSweeping, IsWaiting, Knows, StandsIn, StandsOn, begun_in, open_after}
 use Rattle.sdb_causes.specs.Unfit.{IsFit, SeesFit, SeesFitIn, ShowStored, shows_stored}
 use Rattle.sdb_causes.specs.Conflicts.{ChecksBy, ConflictBy}
 use Rattle.sdb_causes.specs.Counts.{CommitCounted, CommitFits, DoingCounted, IsCountedBy, NotedBy, NotedDoing, NotesAre, OpenCounted, ReadCounted, SweepCounted, WaitCounted, notes_since}
@@ -70,13 +69,13 @@ use Rattle.sdb_record.specs.Rolls.{IsWrite}
 use Rattle.sdb_causes.proofs.Counting.{call_counted, counts_end, counts_on}
 use Rattle.sdb_causes.proofs.Counts.{read_more, sweep_more}
 use Rattle.sdb_causes.specs.Filled.{IsFilled, IsFilledBy, IsFilledIn, counted_told, found_told}
-use Rattle.sdb_causes.specs.Moves.{AllTellOne, HasRead, IsMovedIn, MovesAtScan, MovesBy, SeenBy, ShowsAt, TellOne, WorkBy, notes_told}
+use Rattle.sdb_causes.specs.Moves.{HasRead, IsMovedIn, MovesAtScan, MovesBy, SeenBy, ShowsAt, WorkBy, notes_told}
 use Rattle.sdb_causes.proofs.Conflicts.{checks_on, starved_checks}
 use Rattle.sdb_causes.specs.Reads.{IsBusyBy, LedBy, ReadsBy}
 use Rattle.sdb_causes.specs.Sweeps.{SweptBy, VacuumBy}
 use Rattle.sdb_causes.proofs.SweepSteps.{IfMore, SweepLed, SweepsData, step_led}
 use Rattle.sdb_causes.proofs.Moving.{IsTold, differs_moved, scan_shows}
-use Rattle.sdb_causes.proofs.Noting.{each_front, each_last, moved_all, moved_still, noted_more, noted_still, notes_more, notes_one, notes_stay, seen_same, since_all, tell_back, unmoved}
+use Rattle.sdb_causes.proofs.Noting.{moved_all, moved_still, noted_more, noted_still, notes_more, notes_one, notes_stay, seen_same, since_all, unmoved}
 use Rattle.sdb_causes.proofs.Settling.{read_noted, data_read}
 use Rattle.sdb_causes.proofs.Showing.{IsOpenAt, shows_on}
 use Rattle.sdb_causes.proofs.Ends.{next_by, ended_is, told_end, conflict_of, commit_is, first_in, outcome_caused, outcome_tells}
@@ -84,7 +83,7 @@ use Rattle.sdb_causes.proofs.Calls.{before_same, call_said, calls_open, clock_mo
 use Rattle.sdb_causes.proofs.Filling.{filled_few, filled_found, filled_given, filled_idle, filled_more, filled_noting, filled_stays, images_few, passes_given}
 use Rattle.sdb_causes.proofs.Passing.{pass_now, least}
 use Rattle.sdb_causes.proofs.Unfit.{fits_now, given_fits, misfit_read, shown_bad}
-use Rattle.sdb_causes.proofs.Given.{IsMiddle, given_caused, given_middle, gives_rows, left_by, unfit_data}
+use Rattle.sdb_causes.proofs.Given.{IsMiddle, given_caused, given_middle, gives_rows, left_by}
 use Rattle.sdb_causes.proofs.Knowing.{after_end, after_more, after_plain, open_more}
 use Rattle.sdb_causes.proofs.Later.{answered_stay, waiting_stays}
 use Rattle.sdb_causes.proofs.Lists.{begun_same, since_more, each_kept}
@@ -205,7 +204,7 @@ module _ (catalog : List Table) (events : List Event) (hands : ℕ → Hand) (y 
     CountsThen b d = (reads_commit w.text ≡ true → CommitFits so_noted so_id (Some b) (ms ++ made ∷ [])) × NotedBy (notes_since (E (Some b)) c d.begun (k.told ++ done b ∷ [])) d.txn
 
     -- it is answered
-    answers : (b : Answer) (d : Client) → (CanTell (calls_of (E (Some b)) c (done b)) w.text b → IsCaused catalog (E (Some b)) c (done b) b) → (AllTellOne (E (Some b)) c (k.told ++ done b ∷ []) → (key : Key) (found : Option Record) → Some b ≡ Some (answer.Conflict key found) → IsMovedIn (E (Some b)) c (k.told ++ done b ∷ []) (done b) key found) → d.number ≡ h.number → d.begun ≡ h.begun → StandsOn (E (Some b)) c d.begun (k.told ++ done b ∷ []) None d.plan d.txn d.vacuum → CountsThen b d → IfSome d.txn (IsFilled (E (Some b)) c (rest_of (from_begin d.begun (k.told ++ done b ∷ [])))) → IfSome d.txn (IsFit catalog) → RollsThen b → ShowsNext catalog (E (Some b)) c k.told (done b) b d → So (Some b) d
+    answers : (b : Answer) (d : Client) → (is_conflict (Some b) ≡ false → IsCaused catalog (E (Some b)) c (done b) b) → ((key : Key) (found : Option Record) → Some b ≡ Some (answer.Conflict key found) → IsMovedIn (E (Some b)) c (k.told ++ done b ∷ []) (done b) key found) → d.number ≡ h.number → d.begun ≡ h.begun → StandsOn (E (Some b)) c d.begun (k.told ++ done b ∷ []) None d.plan d.txn d.vacuum → CountsThen b d → IfSome d.txn (IsFilled (E (Some b)) c (rest_of (from_begin d.begun (k.told ++ done b ∷ [])))) → IfSome d.txn (IsFit catalog) → RollsThen b → ShowsNext catalog (E (Some b)) c k.told (done b) b d → So (Some b) d
     answers b d caused moves number begun stands counts filled fits rolls shows = record {
       told = k.told ++ done b ∷ [];
       waiting = None;
@@ -243,7 +242,7 @@ module _ (catalog : List Table) (events : List Event) (hands : ℕ → Hand) (y 
       same = silent_said c events y.store y.request y.how y.reply ∙ said_told;
       answered = answered_stay catalog c events (call_event y None) k.told (inl (silent_said c events y.store y.request y.how y.reply)) k.answered;
       waits = subst (λ b. IsWaiting catalog (E None) c b w) (sym sweeps) (waiting_stays catalog c events (call_event y None) (is_some h.vacuum) w waits);
-      moved = λ one. moved_still catalog events (call_event y None) c k.told k.told k.answered (k.moved (tell_back catalog events (call_event y None) c k.told k.answered one));
+      moved = moved_still catalog events (call_event y None) c k.told k.told k.answered k.moved;
       number = number ∙ k.number;
       begun = begun ∙ k.begun;
       small = subst (λ n. n < 2 ^ 64) (sym begun) k.small;
@@ -292,11 +291,11 @@ module _ (catalog : List Table) (events : List Event) (hands : ℕ → Hand) (y 
       notes_as_before b nothing = since_same (E (Some b)) c h.begun k.told (done b) (none_noted (E (Some b)) c (done b) (ap not nothing)) ∙ since_stay catalog events (call_event y (Some b)) c h.begun k.told k.answered
 
       -- an answer that is no Conflict
-      stays : (b : Answer) → is_conflict (Some b) ≡ false → AllTellOne (E (Some b)) c (k.told ++ done b ∷ []) → (key : Key) (found : Option Record) → Some b ≡ Some (answer.Conflict key found) → IsMovedIn (E (Some b)) c (k.told ++ done b ∷ []) (done b) key found
-      stays b f one = unmoved (E (Some b)) c (k.told ++ done b ∷ []) (done b) b refl f
+      stays : (b : Answer) → is_conflict (Some b) ≡ false → (key : Key) (found : Option Record) → Some b ≡ Some (answer.Conflict key found) → IsMovedIn (E (Some b)) c (k.told ++ done b ∷ []) (done b) key found
+      stays b f = unmoved (E (Some b)) c (k.told ++ done b ∷ []) (done b) b refl f
 
       -- the transaction stays open, and does nothing
-      held : (b : Answer) (u : TxnAt) → IsMiddle b → reads_commit w.text ≡ false → u.id ≡ t.id → u.doing ≡ doing.Idle → (AllTellOne (E (Some b)) c (k.told ++ done b ∷ []) → SeenBy (notes_told (E (Some b)) c (stands_open.1.body ++ done b ∷ [])) u.seen) → StandsOn (E (Some b)) c h.begun (k.told ++ done b ∷ []) None None (Some u) h.vacuum
+      held : (b : Answer) (u : TxnAt) → IsMiddle b → reads_commit w.text ≡ false → u.id ≡ t.id → u.doing ≡ doing.Idle → SeenBy (notes_told (E (Some b)) c (stands_open.1.body ++ done b ∷ [])) u.seen → StandsOn (E (Some b)) c h.begun (k.told ++ done b ∷ []) None None (Some u) h.vacuum
       held b u m no_commit same idles noted = stands_free (Some b) h.begun (k.told ++ done b ∷ []) None None (Some u) (
         after_more k.told (done b) ∙ ap (λ x. is_open_after x (done b)) stands_open.0 ∙ after_plain true (done b) (begins_none b) (λ e. middle_ends (done b) b refl m no_commit),
         open_more c h.begun k.told t u (done b) same (middle_ends (done b) b refl m no_commit) stands_open.1,
@@ -340,7 +339,7 @@ module _ (catalog : List Table) (events : List Event) (hands : ℕ → Hand) (y 
             let read : read_pending_at x.request x.stage ≡ Some y.request = subst (λ (d : Doing). pending_in d ≡ Some y.request) reads open_txn in
             subst (λ (q : Request). read_pending_at q x.stage ≡ Some y.request) asked.request read
 
-        noting_now : AllTellOne events c k.told → SeenBy (notes_told events c stands_open.1.body) t.seen
+        noting_now : SeenBy (notes_told events c stands_open.1.body) t.seen
         noting_now = subst (λ d. IsNoting events c k.told stands_open.1.body t d k.waiting) reads stands_open.3
 
         filled_reading : IsFilledBy (counted_told (rest_of (from_begin h.begun k.told))) (found_told events c (rest_of (from_begin h.begun k.told))) t.seen
@@ -357,8 +356,8 @@ module _ (catalog : List Table) (events : List Event) (hands : ℕ → Hand) (y 
         sees_reading : (result : Option Answer) → ShowsBy catalog events c k.told h → SeesOwn catalog (E result) c (rest_of (from_begin h.begun k.told)) t.seen
         sees_reading result z = subst (SeesOwnIn catalog (E result) c (rest_of (from_begin h.begun k.told)) t.seen) reads (showing_stays catalog events (call_event y result) c h.begun k.told (Some t) k.answered (subst (λ (o : Option TxnAt). IfSome o (IsShowing catalog events c (rest_of (from_begin h.begun k.told)))) some z.sees_own))
 
-        sees_now : AllTellOne events c k.told → SeesOwn catalog events c stands_open.1.body t.seen
-        sees_now one = subst (λ r. SeesOwn catalog events c (rest_of r) t.seen) stands_open.1.since (subst (SeesOwnIn catalog events c (rest_of (from_begin h.begun k.told)) t.seen) reads (subst (λ (o : Option TxnAt). IfSome o (IsShowing catalog events c (rest_of (from_begin h.begun k.told)))) some (k.shows one).sees_own))
+        sees_now : SeesOwn catalog events c stands_open.1.body t.seen
+        sees_now = subst (λ r. SeesOwn catalog events c (rest_of r) t.seen) stands_open.1.since (subst (SeesOwnIn catalog events c (rest_of (from_begin h.begun k.told)) t.seen) reads (subst (λ (o : Option TxnAt). IfSome o (IsShowing catalog events c (rest_of (from_begin h.begun k.told)))) some k.shows.sees_own))
 
         listed : find_table catalog p.table.name ≡ Some p.table
         listed = found_itself catalog (table_of p.statement) p.table asked.named
@@ -400,7 +399,7 @@ module _ (catalog : List Table) (events : List Event) (hands : ℕ → Hand) (y 
         as_left n m u v e f s = subst (λ (z : Next). Left z u) (sym e) (subst (λ (z : TxnAt). Left m z) (sym f) s)
 
         -- the statement is answered, and nothing is noted
-        fails : (b : Answer) → changes_nothing b ≡ true → is_answered_from_rows b ≡ false → IsMiddle b → (CanTell (calls_of (E (Some b)) c (done b)) w.text b → IsCaused catalog (E (Some b)) c (done b) b) → Left (next.Answer b) (idle t)
+        fails : (b : Answer) → changes_nothing b ≡ true → is_answered_from_rows b ≡ false → IsMiddle b → (is_conflict (Some b) ≡ false → IsCaused catalog (E (Some b)) c (done b) b) → Left (next.Answer b) (idle t)
         fails b nothing no_rows m caused =
             answers b (holding h (idle t)) caused (stays b m.agrees) refl refl
             (held b (idle t) m is.inner.commit refl refl (noted_more catalog events (call_event y (Some b)) c h.begun k.told t stands_open.1 k.answered (done b) t.seen t.seen refl refl noting_now))
@@ -426,12 +425,11 @@ module _ (catalog : List Table) (events : List Event) (hands : ℕ → Hand) (y 
         -- what the transaction has then noted
         noted_then : (images : List Record) (z : Answer) (u : TxnAt) → read_step x.stage y.now y.reply ≡ Ended (step.Images images)
             → ((changes_nothing z ≡ true) × (u.seen ≡ t.seen)) ⊎ ((changes_nothing z ≡ false) × (u.seen.reads ≡ (noting t a images).seen.reads) × (u.seen.scans ≡ (noting t a images).seen.scans)) → (changes_nothing z ≡ false → is_answered_from_rows z ≡ true)
-            → AllTellOne (E (Some z)) c (k.told ++ done z ∷ []) → SeenBy (notes_told (E (Some z)) c (stands_open.1.body ++ done z ∷ [])) u.seen
-        noted_then images z u e (inl s) rows one = noted_more catalog events (call_event y (Some z)) c h.begun k.told t stands_open.1 k.answered (done z) t.seen u.seen (ap (λ (v : Seen). v.reads) s.1) (ap (λ (v : Seen). v.scans) s.1) noting_now one
-        noted_then images z u e (inr s) rows one =
-            let front : SeenBy (notes_told (E (Some z)) c stands_open.1.body) t.seen = noted_still catalog events (call_event y (Some z)) c h.begun k.told t stands_open.1 k.answered t.seen noting_now (each_front (λ v. TellOne (calls_of (E (Some z)) c v)) k.told (done z) one) in
-            let tells_one : TellOne (ms ++ made ∷ []) = subst TellOne (calls_done z) (each_last (λ v. TellOne (calls_of (E (Some z)) c v)) k.told (done z) one) in
-            let now_seen : SeenBy (notes_told (E (Some z)) c stands_open.1.body ++ notes_in (ms ++ made ∷ [])) (noting t a images).seen = read_noted a (ms ++ made ∷ []) images (notes_told (E (Some z)) c stands_open.1.body) t (has_read images e) tells_one own front in
+            → SeenBy (notes_told (E (Some z)) c (stands_open.1.body ++ done z ∷ [])) u.seen
+        noted_then images z u e (inl s) rows = noted_more catalog events (call_event y (Some z)) c h.begun k.told t stands_open.1 k.answered (done z) t.seen u.seen (ap (λ (v : Seen). v.reads) s.1) (ap (λ (v : Seen). v.scans) s.1) noting_now
+        noted_then images z u e (inr s) rows =
+            let front : SeenBy (notes_told (E (Some z)) c stands_open.1.body) t.seen = noted_still catalog events (call_event y (Some z)) c h.begun k.told t stands_open.1 k.answered t.seen noting_now in
+            let now_seen : SeenBy (notes_told (E (Some z)) c stands_open.1.body ++ notes_in (ms ++ made ∷ [])) (noting t a images).seen = read_noted a (ms ++ made ∷ []) images (notes_told (E (Some z)) c stands_open.1.body) t (has_read images e) own front in
             let last : notes_told (E (Some z)) c (done z ∷ []) ≡ notes_in (ms ++ made ∷ []) = notes_one (E (Some z)) c (done z) (ap not s.0) (rows s.0) ∙ ap notes_in (calls_done z) in
             let whole : notes_told (E (Some z)) c (stands_open.1.body ++ done z ∷ []) ≡ notes_told (E (Some z)) c stands_open.1.body ++ notes_in (ms ++ made ∷ []) = notes_more (E (Some z)) c stands_open.1.body (done z) ∙ ap (λ ns. notes_told (E (Some z)) c stands_open.1.body ++ ns) last in
             subst (λ ns. SeenBy ns u.seen) (sym whole) (seen_same (notes_told (E (Some z)) c stands_open.1.body ++ notes_in (ms ++ made ∷ [])) (noting t a images).seen u.seen s.1 s.2 now_seen)
@@ -462,13 +460,11 @@ module _ (catalog : List Table) (events : List Event) (hands : ℕ → Hand) (y 
             (filled_found events (call_event y (Some b)) c stands_open.1.body (records_found (ms ++ made ∷ [])) (records_found (calls_of (E (Some b)) c (done b))) (noting t a images).seen (found_done b) (filled_with images e)) many)
 
         -- a row that doesn't fit its table was read
-        misfit_caused : (images : List Record) → read_step x.stage y.now y.reply ≡ Ended (step.Images images) → (b : Answer) (key : Key) → first_unfit p.table (overlay a (noting t a images).seen) ≡ Some key → CanTell (calls_of (E (Some b)) c (done b)) w.text (answer.BadRecord key) → IsBadRecord catalog (E (Some b)) c (done b) key
-        misfit_caused images e b key f z =
+        misfit_caused : (images : List Record) → read_step x.stage y.now y.reply ≡ Ended (step.Images images) → (b : Answer) (key : Key) → first_unfit p.table (overlay a (noting t a images).seen) ≡ Some key → IsBadRecord catalog (E (Some b)) c (done b) key
+        misfit_caused images e b key f =
             let no_vacuum : reads_vacuum w.text ≡ false = waits.vacuum ∙ ap is_some free in
-            let untold : is_caused w.text (answer.BadRecord key) ≡ false = ap (λ u. u || reads_vacuum w.text || is_coordinator_table key.table) is.inner.commit ∙ ap (λ u. false || u || is_coordinator_table key.table) no_vacuum ∙ ap (λ u. false || false || u) (unfit_data a (noting t a images).seen p.table key own f) in
-            let tells_one : TellOne (ms ++ made ∷ []) = subst TellOne (calls_done b) (subst (λ u. MatchBool u (Unit {0}) (TellOne (calls_of (E (Some b)) c (done b)))) untold z) in
             let h = has_read images e in
-            let r = misfit_read catalog p a listed of_table (ms ++ made ∷ []) t images h fit_now key tells_one own f in (
+            let r = misfit_read catalog p a listed of_table (ms ++ made ∷ []) t images h fit_now key own f in (
               h.first,
               r.0,
               subst (λ cs. Contains cs h.first) (sym (calls_done b)) (first_in h.first h.rest (ms ++ made ∷ []) h.calls_are),
@@ -500,13 +496,13 @@ module _ (catalog : List Table) (events : List Event) (hands : ℕ → Hand) (y 
             (λ z. subst (ReadRolls (E (Some (given_answer v (gives p a v)))) (reads_vacuum w.text) (ms ++ made ∷ [])) e (rolled_read (Some (given_answer v (gives p a v))))) (shows_then images e)
 
         -- a key that was read differs
-        moves_now : (images : List Record) (key : Key) (found : Option Record) → read_step x.stage y.now y.reply ≡ Ended (step.Images images) → (z : Access) → a ≡ z → IsMovedAt t z images key found → TellOne (ms ++ made ∷ []) → SeenBy (notes_told events c stands_open.1.body) t.seen
+        moves_now : (images : List Record) (key : Key) (found : Option Record) → read_step x.stage y.now y.reply ≡ Ended (step.Images images) → (z : Access) → a ≡ z → IsMovedAt t z images key found → SeenBy (notes_told events c stands_open.1.body) t.seen
             → MovesAtScan (ms ++ made ∷ []) (notes_told events c stands_open.1.body) key found
-        moves_now images key found e (access.Get k) is_it moved one by_notes = absurd moved
-        moves_now images key found e (access.Scan span) is_it moved one by_notes =
+        moves_now images key found e (access.Get k) is_it moved by_notes = absurd moved
+        moves_now images key found e (access.Scan span) is_it moved by_notes =
             let r : HasRead (request_of a) (ms ++ made ∷ []) images [] = has_read images e in
             let s : HasRead (ask.Scan span) (ms ++ made ∷ []) images [] = subst (λ (v : Access). HasRead (request_of v) (ms ++ made ∷ []) images []) is_it r in
-            let shows = scan_shows (ms ++ made ∷ []) span images key s one in (
+            let shows = scan_shows (ms ++ made ∷ []) span images key s in (
               s.first,
               span,
               shows.0,
@@ -519,13 +515,11 @@ module _ (catalog : List Table) (events : List Event) (hands : ℕ → Hand) (y 
             )
 
         moved_now : (images : List Record) (key : Key) (found : Option Record) → read_step x.stage y.now y.reply ≡ Ended (step.Images images) → IsMovedAt t a images key found → ends (done (answer.Conflict key found)) ≡ true
-            → AllTellOne (E (Some (answer.Conflict key found))) c (k.told ++ done (answer.Conflict key found) ∷ []) → (other : Key) (others : Option Record) → Some (answer.Conflict key found) ≡ Some (answer.Conflict other others)
+            → (other : Key) (others : Option Record) → Some (answer.Conflict key found) ≡ Some (answer.Conflict other others)
             → IsMovedIn (E (Some (answer.Conflict key found))) c (k.told ++ done (answer.Conflict key found) ∷ []) (done (answer.Conflict key found)) other others
-        moved_now images key found e moved over one other others same =
+        moved_now images key found e moved over other others same =
             let b : Answer = answer.Conflict key found in
-            let tells_one : TellOne (ms ++ made ∷ []) = subst TellOne (calls_done b) (each_last (λ v. TellOne (calls_of (E (Some b)) c v)) k.told (done b) one) in
-            let before_it : AllTellOne events c k.told = tell_back catalog events (call_event y (Some b)) c k.told k.answered (each_front (λ v. TellOne (calls_of (E (Some b)) c v)) k.told (done b) one) in
-            let here : MovesAtScan (ms ++ made ∷ []) (notes_told events c stands_open.1.body) key found = moves_now images key found e a refl moved tells_one (noting_now before_it) in
+            let here : MovesAtScan (ms ++ made ∷ []) (notes_told events c stands_open.1.body) key found = moves_now images key found e a refl moved noting_now in
             let keys : key ≡ other = cc in
             let founds : found ≡ others = cc in
             record {
@@ -546,7 +540,7 @@ module _ (catalog : List Table) (events : List Event) (hands : ℕ → Hand) (y 
         images_case images ends_at (next.Answer z) u e = as_left (next.Answer z) (next.Answer (given_answer (noting t a images) (gives p a (noting t a images)))) u _ (ap next.Answer e.1) e.2 (tells images ends_at)
         images_case images ends_at (next.End (answer.Conflict key found)) u e =
             let over : ends (done (answer.Conflict key found)) ≡ true = ap (λ b. b || true || (reads_rollback w.text && false)) is.inner.commit in
-            answers (answer.Conflict key found) (resting h) (λ z. absurd z) (moved_now images key found ends_at e over) refl refl (ended (answer.Conflict key found) over) (no_fit (answer.Conflict key found), tt) tt tt (λ z. clash (sym z)) (λ one. ((λ was. tt), tt))
+            answers (answer.Conflict key found) (resting h) (λ z. clash z) (moved_now images key found ends_at e over) refl refl (ended (answer.Conflict key found) over) (no_fit (answer.Conflict key found), tt) tt tt (λ z. clash (sym z)) ((λ was. tt), tt)
         images_case images ends_at n u e = absurd e
 
         stage_case : (s : ReadStage) → read_step x.stage y.now y.reply ≡ s → (n : Next) (u : TxnAt) → StageTold t p a x s (read_result s) n u → Left n u
@@ -614,25 +608,24 @@ module _ (catalog : List Table) (events : List Event) (hands : ℕ → Hand) (y 
         commit_done b = subst (IsCommitOf (E (Some b)) c (done b)) (sym is.same) (commit_is (E (Some b)) c h.begun k.told (done b) t k.small (said_done b) is.text (over_done b) stands_open.1)
 
         -- why it ends so
-        end_caused : (a : Outcome) → EndsBy j.work.id (ms ++ made ∷ []) a → CanTell (calls_of (E (Some (answer_of_outcome a))) c (done (answer_of_outcome a))) w.text (answer_of_outcome a) → IsCaused catalog (E (Some (answer_of_outcome a))) c (done (answer_of_outcome a)) (answer_of_outcome a)
+        end_caused : (a : Outcome) → EndsBy j.work.id (ms ++ made ∷ []) a → is_conflict (Some (answer_of_outcome a)) ≡ false → IsCaused catalog (E (Some (answer_of_outcome a))) c (done (answer_of_outcome a)) (answer_of_outcome a)
         end_caused a e = outcome_caused catalog (E (Some (answer_of_outcome a))) c (done (answer_of_outcome a)) j.work.id a (commit_done (answer_of_outcome a)) (subst (λ cs. EndsBy j.work.id cs a) (sym (calls_done (answer_of_outcome a))) e)
 
         -- an end of the transaction, of which a COMMIT's cause is told elsewhere
-        checks_now : AllTellOne events c k.told → WorkBy (notes_told events c stands_open.1.body) j.work × ChecksBy (notes_told events c stands_open.1.body) j.work ms j.stage
+        checks_now : WorkBy (notes_told events c stands_open.1.body) j.work × ChecksBy (notes_told events c stands_open.1.body) j.work ms j.stage
         checks_now = subst (λ d. IsNoting events c k.told stands_open.1.body t d (Some w)) commits (subst (λ v. IsNoting events c k.told stands_open.1.body t t.doing v) waiting stands_open.3)
 
-        checks_then : AllTellOne events c k.told → WorkBy (notes_told events c stands_open.1.body) j.work × ChecksBy (notes_told events c stands_open.1.body) j.work (ms ++ made ∷ []) then_at
-        checks_then one = let z = checks_now one in (z.0, checks_on j.work (notes_told events c stands_open.1.body) z.0 ms made j.stage z.1 pends_commit called.can)
+        checks_then : WorkBy (notes_told events c stands_open.1.body) j.work × ChecksBy (notes_told events c stands_open.1.body) j.work (ms ++ made ∷ []) then_at
+        checks_then = let z = checks_now in (z.0, checks_on j.work (notes_told events c stands_open.1.body) z.0 ms made j.stage z.1 pends_commit called.can)
 
         body_notes : (result : Option Answer) → notes_told events c stands_open.1.body ≡ notes_told (E result) c stands_open.1.body
         body_notes result = sym (notes_stay catalog events (call_event y result) c stands_open.1.body (since_all (IsAnswered catalog events c) h.begun k.told stands_open.1.begin stands_open.1.body k.answered stands_open.1.since))
 
-        ends_moved : (a : Outcome) → then_at ≡ Over a → AllTellOne (E (Some (answer_of_outcome a))) c (k.told ++ done (answer_of_outcome a) ∷ []) → (key : Key) (found : Option Record) → Some (answer_of_outcome a) ≡ Some (answer.Conflict key found)
+        ends_moved : (a : Outcome) → then_at ≡ Over a → (key : Key) (found : Option Record) → Some (answer_of_outcome a) ≡ Some (answer.Conflict key found)
             → IsMovedIn (E (Some (answer_of_outcome a))) c (k.told ++ done (answer_of_outcome a) ∷ []) (done (answer_of_outcome a)) key found
-        ends_moved a at_end one key found e =
+        ends_moved a at_end key found e =
             let b : Answer = answer_of_outcome a in
-            let before_it : AllTellOne events c k.told = tell_back catalog events (call_event y (Some b)) c k.told k.answered (each_front (λ v. TellOne (calls_of (E (Some b)) c v)) k.told (done b) one) in
-            let ended_by : ConflictBy (notes_told events c stands_open.1.body) j.work (ms ++ made ∷ []) a = subst (ChecksBy (notes_told events c stands_open.1.body) j.work (ms ++ made ∷ [])) at_end (checks_then before_it).1 in
+            let ended_by : ConflictBy (notes_told events c stands_open.1.body) j.work (ms ++ made ∷ []) a = subst (ChecksBy (notes_told events c stands_open.1.body) j.work (ms ++ made ∷ [])) at_end checks_then.1 in
             let here : ConflictsAtCommit (ms ++ made ∷ []) (notes_told events c stands_open.1.body) j.work.id key found = conflict_of (notes_told events c stands_open.1.body) j.work (ms ++ made ∷ []) a key found (some_is b (answer.Conflict key found) e) ended_by in
             record {
               n = h.begun;
@@ -653,7 +646,7 @@ module _ (catalog : List Table) (events : List Event) (hands : ℕ → Hand) (y 
         is_over a e =
             answers (answer_of_outcome a) (resting h) (end_caused a (subst (StandsBy j.work (ms ++ made ∷ [])) e then_stands)) (ends_moved a e) refl refl (ended (answer_of_outcome a) (over_done (answer_of_outcome a)))
             (λ z. subst (λ (i : TxId). CommitFits so_noted i (Some (answer_of_outcome a)) (ms ++ made ∷ [])) commit_so.1 (commit_over so_noted j.work (ms ++ made ∷ []) a (subst (CommitCounted so_noted j.work (ms ++ made ∷ [])) e counted_commit) (subst (StandsBy j.work (ms ++ made ∷ [])) e then_stands)), tt) tt tt (λ z. clash (sym z ∙ outcome_rows a))
-            (λ one. ((λ was. outcome_tells catalog (E (Some (answer_of_outcome a))) c (rest_of (from_begin (begun_in k.told) k.told)) (done (answer_of_outcome a)) a), tt))
+            ((λ was. outcome_tells catalog (E (Some (answer_of_outcome a))) c (rest_of (from_begin (begun_in k.told) k.told)) (done (answer_of_outcome a)) a), tt)
 
         commits_on : (u : TxnAt) (m : CommitAt) → u.id ≡ t.id → u.doing ≡ doing.Commit m → m.work ≡ j.work → StandsBy j.work (ms ++ made ∷ []) m.stage → ((ns : List Note) → ChecksBy ns j.work (ms ++ made ∷ []) then_at → ChecksBy ns j.work (ms ++ made ∷ []) m.stage) → CommitCounted so_noted j.work (ms ++ made ∷ []) m.stage → So None (record h { txn = Some u })
         commits_on u m same does work stands checked counts =
@@ -665,9 +658,8 @@ module _ (catalog : List Table) (events : List Event) (hands : ℕ → Hand) (y 
               moment = subst (λ (z : Work). is_moment z.now ≡ true) (sym work) is.moment;
               stage = subst (λ (z : Work). StandsBy z (calls_of (E None) c w) m.stage) (sym work) (subst (λ cs. StandsBy j.work cs m.stage) (sym calls_on) stands);
             }))
-            (subst (λ d. IsNoting (E None) c k.told stands_open.1.body u d (Some w)) (sym does) (λ one.
-            let before_it : AllTellOne events c k.told = tell_back catalog events (call_event y None) c k.told k.answered one in
-            let z = checks_then before_it in (
+            (subst (λ d. IsNoting (E None) c k.told stands_open.1.body u d (Some w)) (sym does) (
+            let z = checks_then in (
               subst (λ (v : Work). WorkBy (notes_told (E None) c stands_open.1.body) v) (sym work) (subst (λ ns. WorkBy ns j.work) (body_notes None) z.0),
               subst (λ (v : Work). ChecksBy (notes_told (E None) c stands_open.1.body) v (calls_of (E None) c w) m.stage) (sym work)
                   (subst (λ cs. ChecksBy (notes_told (E None) c stands_open.1.body) j.work cs m.stage) (sym calls_on)
@@ -741,12 +733,12 @@ module _ (catalog : List Table) (events : List Event) (hands : ℕ → Hand) (y 
       sweeps_on left by counts rolls = goes_on (record h { vacuum = Some left }) refl refl (sym (ap is_some runs)) (is.0, is.1, subst (λ cs. VacuumBy cs left) (sym calls_on) by) (k.counted.noted, counts) (subst (λ (o : Option TxnAt). IfSome o (IsFilled (E None) c (rest_of (from_begin h.begun k.told)))) (sym is.0) tt) (subst (λ (o : Option TxnAt). IfSome o (IsFit catalog)) (sym is.0) tt) rolls (λ z. subst (λ (o : Option TxnAt). IfSome o (IsShowing catalog (E None) c (rest_of (from_begin h.begun k.told)))) (sym is.0) tt)
 
       -- it is answered
-      sweep_ends : (b : Answer) → IsMiddle b → (CanTell (calls_of (E (Some b)) c (done b)) w.text b → IsCaused catalog (E (Some b)) c (done b) b) → RollsThen b → So (Some b) (record h { vacuum = None })
+      sweep_ends : (b : Answer) → IsMiddle b → (is_conflict (Some b) ≡ false → IsCaused catalog (E (Some b)) c (done b) b) → RollsThen b → So (Some b) (record h { vacuum = None })
       sweep_ends b m caused rolls =
-          answers b (record h { vacuum = None }) caused (λ one. unmoved (E (Some b)) c (k.told ++ done b ∷ []) (done b) b refl m.agrees) refl refl
+          answers b (record h { vacuum = None }) caused (unmoved (E (Some b)) c (k.told ++ done b ∷ []) (done b) b refl m.agrees) refl refl
           (subst (StandsIn (E (Some b)) c h.begun (k.told ++ done b ∷ []) None h.plan) (sym is.0) (refl, after_more k.told (done b) ∙ ap (λ x. is_open_after x (done b)) is.1 ∙ after_plain false (done b) (begins_none b) (λ e. clash (sym e))))
           (λ e. clash (sym e ∙ no_commit), subst (NotedBy (notes_since (E (Some b)) c h.begun (k.told ++ done b ∷ []))) (sym is.0) tt)
-          (subst (λ (o : Option TxnAt). IfSome o (IsFilled (E (Some b)) c (rest_of (from_begin h.begun (k.told ++ done b ∷ []))))) (sym is.0) tt) (subst (λ (o : Option TxnAt). IfSome o (IsFit catalog)) (sym is.0) tt) rolls (λ one. ((λ was. clash (sym was ∙ is.1)), subst (λ (o : Option TxnAt). IfSome o (IsShowing catalog (E (Some b)) c (rest_of (from_begin h.begun (k.told ++ done b ∷ []))))) (sym is.0) tt))
+          (subst (λ (o : Option TxnAt). IfSome o (IsFilled (E (Some b)) c (rest_of (from_begin h.begun (k.told ++ done b ∷ []))))) (sym is.0) tt) (subst (λ (o : Option TxnAt). IfSome o (IsFit catalog)) (sym is.0) tt) rolls ((λ was. clash (sym was ∙ is.1)), subst (λ (o : Option TxnAt). IfSome o (IsShowing catalog (E (Some b)) c (rest_of (from_begin h.begun (k.told ++ done b ∷ []))))) (sym is.0) tt)
 
       as_swept : (r result : Option Answer) (x o : Option VacuumAt) → result ≡ r → o ≡ x → So r (record h { vacuum = x }) → So result (record h { vacuum = o })
       as_swept r result x o e f g = subst (λ (z : Option Answer). So z (record h { vacuum = o })) (sym e) (subst (λ (z : Option VacuumAt). So r (record h { vacuum = z })) (sym f) g)

@@ -1,11 +1,10 @@
 -- Each call of a read and of a VACUUM keeps which of the unresolved records that were found are dealt with.
 use Rattle.std.proofs.Common.{◌≡◌, ◌<◌, ◌+◌, ◌⊎◌, inl, inr, ℕ, ℤ, Bool, true, false, cond, List, [], ◌∷◌, ◌++◌, Option, Some, None, Result, Ok, Err, refl, sym, ap, subst, ◌∙◌, arith}
-use Rattle.std.specs.Prelude.{if◌then◌else◌, find, Contains}
-use Rattle.std.specs.List.{AllByRecursion, list_any}
+use Rattle.std.specs.Prelude.{if◌then◌else◌, Contains}
+use Rattle.std.specs.List.{AllByRecursion}
 use Rattle.std.specs.Option.{option_map}
 use Rattle.std.specs.Result.{result_ok}
 use Rattle.std.proofs.lemmas.List.Elements.{Contains-push, Contains-push_cases}
-use Rattle.sdb_types.specs.declared.pair.Pair.{Pair}
 use Rattle.sdb_types.specs.declared.txid.TxId.{TxId}
 use Rattle.sdb_types.specs.declared.record.Condition.TheVariants as condition
 use Rattle.sdb_types.specs.declared.record.Record.{Record}
@@ -21,10 +20,9 @@ use Rattle.sdb_record.specs.declared.coordinator.Decision.{Decision}
 use Rattle.sdb_record.specs.declared.coordinator.Decision.TheVariants as decision
 use Rattle.sdb_record.specs.declared.meta.Meta.{Meta}
 use Rattle.sdb_record.specs.Coordinator.{coordinator_key_of, coordinator_row_of, decision_in, is_expired}
-use Rattle.sdb_record.specs.Meta.{checked, checked_before, checked_part, id_in, is_committed, is_misnamed, is_moment, is_unresolved, refuse, state_in, with_before}
-use Rattle.sdb_record.specs.Parts.{before_part, before_record, is_before_pair}
+use Rattle.sdb_record.specs.Meta.{checked, id_in, is_committed, is_moment, is_unresolved}
+use Rattle.sdb_record.specs.Parts.{before_record}
 use Rattle.sdb_record.specs.Rolls.{back_to, forward_record, is_tombstone, undo}
-use Rattle.sdb_record.proofs.Fine.{refuse-ok, taken}
 use Rattle.sdb_record.proofs.ImageLaws.{row-decision, row-key}
 use Rattle.sdb_model.specs.declared.event.Event.{Event}
 use Rattle.sdb_model.specs.Calls.{Made, clock_at, decision_said, is_of_row, is_read, records_read}
@@ -47,25 +45,12 @@ use Rattle.sdb_vacuum.specs.Vacuum.{First, Malformed, Nothing, Tombstone, Unreso
 use Rattle.sdb_causes.specs.Rolled.{HasLooked, IsDealtWith, IsRolledBy, PhaseLooks, ReadRolls, RolledBut, SweepRolls}
 use Rattle.sdb_causes.proofs.ReadSteps.{open_is, prepared_moment}
 use Rattle.sdb_causes.proofs.Rows.{after_last, after_more, asks_row, shown_is}
+use Rattle.sdb_story.proofs.Meanings.{state_says}
 use Rattle.sdb_causes.proofs.Showing.{firm_is, look_rows, undo_unread, unread_rows}
 use Rattle.sdb_types.specs.Replies.{is_answered}
 use Rattle.sdb_read.proofs.Images.{held_of}
 
 ---- what rolls a record
-
-before_state : (m : Meta) (o : Result Meta (List ℕ)) (y : Meta) → with_before m o ≡ Ok y → m.state ≡ y.state
-before_state m (Ok b) y h = let e : record m { has_before = true } ≡ y = cc in ap (λ (x : Meta). x.state) e
-before_state m (Err name) y h = absurd (cc)
-
-final_state : (ps : List Pair) (m y : Meta) → checked_before ps m ≡ Ok y → m.state ≡ y.state
-final_state ps m y h = by (list_any is_before_pair ps) h
-  where
-    by : (b : Bool) → cond b (refuse (find is_misnamed ps) (with_before m (checked_part is_committed (before_part ps)))) (Ok m) ≡ Ok y → m.state ≡ y.state
-    by true k = before_state m (checked_part is_committed (before_part ps)) y (refuse-ok (find is_misnamed ps) (with_before m (checked_part is_committed (before_part ps))) y k).1
-    by false k = let e : m ≡ y = cc in ap (λ (x : Meta). x.state) e
-
-pub state_says : (r : Record) (m : Meta) → checked r.columns ≡ Ok m → state_in r.columns ≡ Some m.state
-state_says r m says = let t = taken r.columns m says in t.1.says.state ∙ ap Some (final_state r.columns t.0 m t.2)
 
 forward_rolls : (rec : Record) (meta : Meta) (d : Decided) (n : ℤ) → d.decision ≡ decision.Committed → d.created_at ≡ n → recover_forward rec meta n ≡ roll_by rec (condition.Version meta.id meta.state) d
 forward_rolls rec meta d n w e =

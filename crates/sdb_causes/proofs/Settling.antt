@@ -1,12 +1,11 @@
 -- What a read is noted as: the records that it found, settled as its calls showed.
-use Rattle.std.proofs.Common.{◌≡◌, ◌⊎◌, ◌<◌, ◌^◌, inl, inr, Bool, true, false, not, List, [], ◌∷◌, ◌++◌, map, Option, Some, None, IfSome, refl, sym, ap, subst, ◌∙◌, arith}
-use Rattle.std.specs.Prelude.{if◌then◌else◌, ◌&&◌, filter, is_some, slice_get, Contains}
+use Rattle.std.proofs.Common.{◌≡◌, ◌⊎◌, inl, inr, Bool, true, false, not, List, [], ◌∷◌, ◌++◌, map, Option, Some, None, IfSome, refl, sym, ap, subst, ◌∙◌, arith}
+use Rattle.std.specs.Prelude.{if◌then◌else◌, ◌&&◌, filter, slice_get, Contains}
 use Rattle.std.specs.List.{AllByRecursion, cons_option, filter_map, list_all}
 use Rattle.std.specs.Option.{option_and_then, option_map}
 use Rattle.std.proofs.lemmas.Bool.{and_parts}
 use Rattle.std.proofs.lemmas.List.{append-nil}
 use Rattle.std.proofs.lemmas.List.Elements.{Contains-append_left, Contains-append_right, Contains-push}
-use Rattle.sdb_types.specs.declared.txid.TxId.{TxId}
 use Rattle.sdb_types.specs.declared.key.Key.{Key}
 use Rattle.sdb_types.specs.declared.record.Record.{Record}
 use Rattle.sdb_types.specs.declared.record.Reply.{Reply}
@@ -15,62 +14,59 @@ use Rattle.sdb_types.specs.declared.record.Request.{Request}
 use Rattle.sdb_types.specs.declared.record.Request.TheVariants as ask
 use Rattle.sdb_types.specs.declared.record.Span.{Span}
 use Rattle.sdb_types.specs.declared.record.State.TheVariants as state
-use Rattle.sdb_types.specs.Columns.{column}
-use Rattle.sdb_types.specs.Contents.{CanAnswer, in_span, rise, tx_id}
-use Rattle.sdb_types.proofs.Basics.{clash, none_some, all_each as each_any, one_of}
+use Rattle.sdb_types.specs.Contents.{CanAnswer, in_span, rise}
+use Rattle.sdb_types.proofs.Basics.{clash, all_each as each_any, one_of}
 use Rattle.sdb_record.specs.declared.access.Access.{Access}
 use Rattle.sdb_record.specs.declared.access.Access.TheVariants as access
 use Rattle.sdb_record.specs.declared.access.Read.{Read}
 use Rattle.sdb_record.specs.declared.access.Scan.{Scan}
-use Rattle.sdb_record.specs.declared.coordinator.Decided.{Decided}
 use Rattle.sdb_record.specs.Coordinator.{is_coordinator_table}
-use Rattle.sdb_record.specs.Meta.{id_in, is_in}
+use Rattle.sdb_record.specs.Meta.{is_in}
 use Rattle.sdb_record.specs.Moved.{version_of}
-use Rattle.sdb_record.specs.Rolls.{image_under}
-use Rattle.sdb_record.proofs.IdLemmas.{id_in_value-fits}
-use Rattle.sdb_record.proofs.ImageLaws.{image-open, image-settled}
-use Rattle.sdb_model.specs.Calls.{Made, decision_learned, decision_shown, is_read, records_read}
+use Rattle.sdb_model.specs.Calls.{Made, is_read, records_read}
 use Rattle.sdb_model.specs.Events.{table_asked}
-use Rattle.sdb_model.specs.Noted.{Got, Note, Scanned, note_of, notes_in, read_of, reads_of, reads_rows, resolved}
+use Rattle.sdb_model.specs.Noted.{Got, Note, Scanned, meaning_of, note_of, notes_in, read_of, reads_of, reads_rows}
+use Rattle.sdb_model.specs.Shown.{IsMeantBy}
+use Rattle.sdb_story.proofs.Meanings.{meaning_rolled, meaning_settled}
 use Rattle.sdb_read.specs.Read.{request_of}
 use Rattle.sdb_snapshot.specs.Noted as snapshot
 use Rattle.sdb_steps.proofs.InTables.{access_table}
 use Rattle.sdb_client.specs.Client.{noting}
 use Rattle.sdb_turns.proofs.Lists.{each_more}
 use Rattle.sdb_txn.specs.Txn.{TxnAt}
-use Rattle.sdb_causes.specs.Moves.{HasRead, HasShown, IsRolledAs, IsRows, IsSettledAs, SeenBy, TellOne}
+use Rattle.sdb_causes.specs.Moves.{HasRead, IsRolledAs, IsRows, IsSettledAs, SeenBy}
 use Rattle.sdb_causes.proofs.ReadSteps.{IsDataTable}
 
----- what calls learned
+---- what records mean
 
--- where a call shows a decision, some call shows the one that is learned
-learned_some : (id : TxId) (calls : List Made) (call : Made) (d : Decided) → Contains calls call → decision_shown id call ≡ Some d → (x : Made) × (e : Decided) × Contains calls x × (decision_shown id x ≡ Some e) × (decision_learned calls id ≡ Some e)
-learned_some id [] call d has shown = absurd (omega (arith, has.1))
-learned_some id (m ∷ ms) call d has shown = by (decision_shown id m) refl (λ h. learned_some id ms call d h shown)
+-- a record means what it is settled as
+pub settled_means : (calls : List Made) (e : Record × Option Record) → IsSettledAs calls e → meaning_of calls e.0 ≡ e.1
+settled_means calls e h = by h.by
   where
-    by : (o : Option Decided) → decision_shown id m ≡ o → (Contains ms call → (x : Made) × (e : Decided) × Contains ms x × (decision_shown id x ≡ Some e) × (decision_learned ms id ≡ Some e))
-        → (x : Made) × (e : Decided) × Contains (m ∷ ms) x × (decision_shown id x ≡ Some e) × (decision_learned (m ∷ ms) id ≡ Some e)
-    by (Some e) k ih = (m, e, Contains-append_left (m ∷ []) ms m (Contains-push [] m), k, ap (λ (o : Option Decided). if is_some o then o else decision_learned ms id) k)
-    by None k ih = later (one_of m call ms has)
-      where
-        later : (m ≡ call) ⊎ Contains ms call → (x : Made) × (e : Decided) × Contains (m ∷ ms) x × (decision_shown id x ≡ Some e) × (decision_learned (m ∷ ms) id ≡ Some e)
-        later (inl same) = none_some d (sym k ∙ ap (decision_shown id) same ∙ shown)
-        later (inr h) = let r = ih h in (r.0, r.1, Contains-append_right (m ∷ []) ms r.0 r.2, r.3, ap (λ (o : Option Decided). if is_some o then o else decision_learned ms id) k ∙ r.4)
+    by : ((is_in state.Committed e.0.columns ≡ true) × (e.1 ≡ Some e.0)) ⊎ IsRolledAs calls e.0 e.1 → meaning_of calls e.0 ≡ e.1
+    by (inl k) = meaning_settled calls e.0 k.0 ∙ sym k.1
+    by (inr k) = meaning_rolled calls e.0 k.roll e.1 k.open_still k.rolled k.puts
 
-pub learned_one : (calls : List Made) (id : TxId) (d : Decided) → id.0 < 2 ^ 128 → TellOne calls → HasShown calls id d → decision_learned calls id ≡ Some d
-learned_one calls id d fits one h = let r = learned_some id calls h.call d h.among h.shown in r.4 ∙ ap Some (one id r.0 h.call r.1 d fits r.2 h.among r.3 h.shown)
-
--- a record is settled as it is resolved
-pub resolved_as : (calls : List Made) (e : Record × Option Record) → TellOne calls → IsSettledAs calls e → resolved calls e.0 ≡ e.1
-resolved_as calls e one h = by h.by
+-- by the decision that was shown, where it isn't committed
+settled_meant : (calls : List Made) (e : Record × Option Record) → IsSettledAs calls e → is_in state.Committed e.0.columns ≡ false → IsMeantBy calls e.0
+settled_meant calls e h loose = by h.by
   where
-    by : ((is_in state.Committed e.0.columns ≡ true) × (e.1 ≡ Some e.0)) ⊎ IsRolledAs calls e.0 e.1 → resolved calls e.0 ≡ e.1
-    by (inl k) = image-settled e.0 (option_and_then (decision_learned calls) (id_in e.0.columns)) k.0 ∙ sym k.1
-    by (inr k) =
-        image-open e.0 (option_and_then (decision_learned calls) (id_in e.0.columns)) k.open_still
-        ∙ ap (λ o. image_under e.0 (option_and_then (decision_learned calls) o)) k.writer
-        ∙ ap (image_under e.0) (learned_one calls k.id k.decided (id_in_value-fits (column e.0.columns tx_id) k.id k.writer) one k.shown)
-        ∙ sym k.image
+    by : ((is_in state.Committed e.0.columns ≡ true) × (e.1 ≡ Some e.0)) ⊎ IsRolledAs calls e.0 e.1 → IsMeantBy calls e.0
+    by (inl k) = clash (sym k.0 ∙ loose)
+    by (inr k) = record { id = k.id; decided = k.decided; look = k.shown.call; writer = k.writer; looks = (k.shown.among, k.shown.shown); means = settled_means calls e h ∙ k.image }
+
+meant_among : (calls : List Made) (es : List (Record × Option Record)) (r : Record) → AllByRecursion (IsSettledAs calls) es → Contains (map (λ e. e.0) es) r → is_in state.Committed r.columns ≡ false → IsMeantBy calls r
+meant_among calls [] r all has loose = absurd (omega (arith, has.1))
+meant_among calls (x ∷ es) r all has loose = by (one_of x.0 r (map (λ e. e.0) es) has) (λ h. meant_among calls es r all.1 h loose)
+  where
+    by : (x.0 ≡ r) ⊎ Contains (map (λ (e : Record × Option Record). e.0) es) r → (Contains (map (λ (e : Record × Option Record). e.0) es) r → IsMeantBy calls r) → IsMeantBy calls r
+    by (inl same) later = subst (IsMeantBy calls) same (settled_meant calls x all.0 (ap (λ (y : Record). is_in state.Committed y.columns) same ∙ loose))
+    by (inr h) later = later h
+
+-- so it is of what a read found
+pub found_meant : (calls : List Made) (q : Request) (images : List Record) (h : HasRead q calls images []) (found : Option Record) → ((r : Record) → found ≡ Some r → Contains (records_read h.first.reply) r) → IfSome found (λ r. is_in state.Committed r.columns ≡ false → IsMeantBy calls r)
+found_meant calls q images h None among = tt
+found_meant calls q images h (Some r) among = meant_among calls h.steps r h.settled (subst (λ rs. Contains rs r) (h.rows ∙ append-nil (map (λ e. e.0) h.steps)) (among r refl))
 
 ---- one read among the calls
 
@@ -100,13 +96,13 @@ read_notes a calls images left h is =
 
 ---- a get
 
-module _ (calls : List Made) (one : TellOne calls) where
+module _ (calls : List Made) where
   -- the record that a get found, settled
-  pub got_image : (es : List (Record × Option Record)) (found : Option Record) → AllByRecursion (IsSettledAs calls) es → records_read (reply.Found found) ≡ map (λ e. e.0) es → option_and_then (resolved calls) found ≡ slice_get (filter_map (λ (e : Record × Option Record). e.1) es) 0
+  pub got_image : (es : List (Record × Option Record)) (found : Option Record) → AllByRecursion (IsSettledAs calls) es → records_read (reply.Found found) ≡ map (λ e. e.0) es → option_and_then (meaning_of calls) found ≡ slice_get (filter_map (λ (e : Record × Option Record). e.1) es) 0
   got_image [] None all e = refl
   got_image (x ∷ es) None all e = absurd (cc)
   got_image [] (Some r) all e = absurd (cc)
-  got_image (x ∷ []) (Some r) all e = let same : r ≡ x.0 = cc in ap (resolved calls) same ∙ resolved_as calls x one all.0 ∙ first x.1
+  got_image (x ∷ []) (Some r) all e = let same : r ≡ x.0 = cc in ap (meaning_of calls) same ∙ settled_means calls x all.0 ∙ first x.1
     where
       first : (o : Option Record) → o ≡ slice_get (cons_option o []) 0
       first None = refl
@@ -131,7 +127,7 @@ module _ (calls : List Made) (one : TellOne calls) where
   scan_images : (es : List (Record × Option Record)) → AllByRecursion (IsSettledAs calls) es → reads_of calls (map (λ e. e.0) es) ≡ snapshot.reads_of (filter_map (λ (e : Record × Option Record). e.1) es)
   scan_images [] all = refl
   scan_images (x ∷ es) all =
-      ap (λ (o : Option Record). cons_option (option_map (λ (image : Record). read_of x.0.key (Some image)) o) (reads_of calls (map (λ e. e.0) es))) (resolved_as calls x one all.0)
+      ap (λ (o : Option Record). cons_option (option_map (λ (image : Record). read_of x.0.key (Some image)) o) (reads_of calls (map (λ e. e.0) es))) (settled_means calls x all.0)
       ∙ ap (λ rs. cons_option (option_map (λ (image : Record). read_of x.0.key (Some image)) x.1) rs) (scan_images es all.1)
       ∙ by x.1 all.0.key
     where
@@ -185,16 +181,16 @@ scan_lies calls span images h = by h.first.reply refl h.can h.told
     by reply.NoMemory e can told = absurd told
 
 -- what a read found is noted with what was
-pub read_noted : (a : Access) (calls : List Made) (images : List Record) (notes : List Note) (t : TxnAt) → HasRead (request_of a) calls images [] → TellOne calls → IsDataTable (access_table a) → SeenBy notes t.seen → SeenBy (notes ++ notes_in calls) (noting t a images).seen
-read_noted (access.Get key) calls images notes t h one is s = record {
+pub read_noted : (a : Access) (calls : List Made) (images : List Record) (notes : List Note) (t : TxnAt) → HasRead (request_of a) calls images [] → IsDataTable (access_table a) → SeenBy notes t.seen → SeenBy (notes ++ notes_in calls) (noting t a images).seen
+read_noted (access.Get key) calls images notes t h is s = record {
   reads = each_more (λ (y : Read). Contains (notes ++ notes_in calls) (Got y)) t.seen.reads (record { key = key; version = version_of (slice_get images 0) })
       (each_any (λ (y : Read). Contains notes (Got y)) (λ (y : Read). Contains (notes ++ notes_in calls) (Got y)) t.seen.reads (λ y k. Contains-append_left notes (notes_in calls) (Got y) k) s.reads)
-      (Contains-append_right notes (notes_in calls) (Got (record { key = key; version = version_of (slice_get images 0) })) (got_note calls one key images h is));
+      (Contains-append_right notes (notes_in calls) (Got (record { key = key; version = version_of (slice_get images 0) })) (got_note calls key images h is));
   scans = each_any (λ (y : Scan). Contains notes (Scanned y) × (list_all (λ z. in_span y.span z.key) y.found ≡ true)) (λ (y : Scan). Contains (notes ++ notes_in calls) (Scanned y) × (list_all (λ z. in_span y.span z.key) y.found ≡ true)) t.seen.scans (λ y k. (Contains-append_left notes (notes_in calls) (Scanned y) k.0, k.1)) s.scans;
 }
-read_noted (access.Scan span) calls images notes t h one is s = record {
+read_noted (access.Scan span) calls images notes t h is s = record {
   reads = each_any (λ (y : Read). Contains notes (Got y)) (λ (y : Read). Contains (notes ++ notes_in calls) (Got y)) t.seen.reads (λ y k. Contains-append_left notes (notes_in calls) (Got y) k) s.reads;
   scans = each_more (λ (y : Scan). Contains (notes ++ notes_in calls) (Scanned y) × (list_all (λ z. in_span y.span z.key) y.found ≡ true)) t.seen.scans (record { span = span; found = snapshot.reads_of images })
       (each_any (λ (y : Scan). Contains notes (Scanned y) × (list_all (λ z. in_span y.span z.key) y.found ≡ true)) (λ (y : Scan). Contains (notes ++ notes_in calls) (Scanned y) × (list_all (λ z. in_span y.span z.key) y.found ≡ true)) t.seen.scans (λ y k. (Contains-append_left notes (notes_in calls) (Scanned y) k.0, k.1)) s.scans)
-      (Contains-append_right notes (notes_in calls) (Scanned (record { span = span; found = snapshot.reads_of images })) (scan_note calls one span images h is), scan_lies calls span images h);
+      (Contains-append_right notes (notes_in calls) (Scanned (record { span = span; found = snapshot.reads_of images })) (scan_note calls span images h is), scan_lies calls span images h);
 }

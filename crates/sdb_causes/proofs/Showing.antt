@@ -1,5 +1,5 @@
 -- Each call of a read keeps what its calls showed of the records that it found.
-use Rattle.std.proofs.Common.{◌≡◌, ◌⊎◌, inl, inr, ℕ, ℤ, Bool, true, false, cond, List, [], ◌∷◌, ◌++◌, map, Option, Some, None, IfSome, Result, Ok, Err, refl, sym, ap, subst, ◌∙◌}
+use Rattle.std.proofs.Common.{◌≡◌, ◌⊎◌, inl, inr, ℕ, ℤ, Bool, true, false, cond, List, [], ◌∷◌, ◌++◌, map, Option, Some, None, Result, Ok, Err, refl, sym, ap, subst, ◌∙◌}
 use Rattle.std.specs.Prelude.{if◌then◌else◌}
 use Rattle.std.specs.List.{AllByRecursion, filter_map}
 use Rattle.std.specs.Result.{result_ok}
@@ -13,9 +13,10 @@ use Rattle.sdb_types.specs.declared.record.Reply.{Reply}
 use Rattle.sdb_types.specs.declared.record.Reply.TheVariants as reply
 use Rattle.sdb_types.specs.declared.record.Request.{Request}
 use Rattle.sdb_types.specs.declared.record.State.TheVariants as state
-use Rattle.sdb_types.specs.Contents.{CanAnswer}
-use Rattle.sdb_types.proofs.Basics.{some_is, all_each as each_any}
+use Rattle.sdb_types.specs.Contents.{CanAnswer, rise, starts_after}
+use Rattle.sdb_types.proofs.Basics.{and_parts, some_is, all_each as each_any}
 use Rattle.sdb_record.specs.declared.access.Access.{Access}
+use Rattle.sdb_record.specs.declared.access.Access.TheVariants as access
 use Rattle.sdb_record.specs.declared.coordinator.Decided.{Decided}
 use Rattle.sdb_record.specs.declared.coordinator.Decision.{Decision}
 use Rattle.sdb_record.specs.declared.coordinator.Decision.TheVariants as decision
@@ -25,10 +26,10 @@ use Rattle.sdb_record.specs.Meta.{checked, id_in, is_in, is_moment, is_taken, is
 use Rattle.sdb_record.specs.Parts.{before_record}
 use Rattle.sdb_record.specs.Rolls.{forward_record, image_under, undo}
 use Rattle.sdb_record.proofs.ImageLaws.{row-decision, row-key}
-use Rattle.sdb_record.proofs.RollLaws.{before-kept, forward-key}
+use Rattle.sdb_record.proofs.RollLaws.{forward-key}
 use Rattle.sdb_model.specs.Calls.{Made, decision_said, is_of_row, is_read, records_read}
 use Rattle.sdb_model.specs.Events.{table_asked}
-use Rattle.sdb_model.specs.Noted.{reads_rows}
+use Rattle.sdb_model.specs.Noted.{condition_asked, reads_rows, rolls}
 use Rattle.sdb_phases.specs.declared.step.RecoverPhase.{RecoverPhase}
 use Rattle.sdb_phases.specs.declared.step.RecoverPhase.TheVariants as phase
 use Rattle.sdb_phases.specs.declared.step.RecoverStep.{RecoverStep}
@@ -41,6 +42,8 @@ use Rattle.sdb_turns.proofs.Meta.{meta_of}
 use Rattle.sdb_causes.specs.Moves.{HasRead, HasShown, IsRolledAs, IsRows, IsSettledAs, PhaseShows, ShowsAt}
 use Rattle.sdb_causes.proofs.ReadSteps.{open_is}
 use Rattle.sdb_causes.proofs.Rows.{asks_row, shown_is}
+use Rattle.sdb_story.specs.Calls.{IsUnrolled}
+use Rattle.sdb_story.proofs.Meanings.{IsRollTo, abort_rolls_none, back_rolls_to, before_key, each_of, find_last, find_more, forward_rolls_to, look_rolls_none, read_unrolled, rolls_none_after, unrolled_more}
 use Rattle.sdb_story.proofs.Noting.{coordinators}
 use Rattle.sdb_read.proofs.Images.{held_of}
 
@@ -76,7 +79,7 @@ settled_stay calls m es all = each_any (IsSettledAs calls) (IsSettledAs (calls +
   where
     by : (e : Record × Option Record) → ((is_in state.Committed e.0.columns ≡ true) × (e.1 ≡ Some e.0)) ⊎ IsRolledAs calls e.0 e.1 → ((is_in state.Committed e.0.columns ≡ true) × (e.1 ≡ Some e.0)) ⊎ IsRolledAs (calls ++ m ∷ []) e.0 e.1
     by e (inl h) = inl h
-    by e (inr h) = inr (record { id = h.id; decided = h.decided; open_still = h.open_still; writer = h.writer; shown = shown_stays calls m h.id h.decided h.shown; image = h.image })
+    by e (inr h) = inr (record { id = h.id; decided = h.decided; roll = h.roll; open_still = h.open_still; writer = h.writer; shown = shown_stays calls m h.id h.decided h.shown; image = h.image; rolled = find_more (rolls e.0) calls (m ∷ []) h.roll h.rolled; puts = h.puts })
 
 map_more : (es : List (Record × Option Record)) (e : Record × Option Record) (left : List Record) → map (λ x. x.0) (es ++ e ∷ []) ++ left ≡ map (λ x. x.0) es ++ e.0 ∷ left
 map_more [] e left = refl
@@ -97,6 +100,8 @@ module _ (q : Request) (calls : List Made) where
     settled = each_more (IsSettledAs calls) h.steps (r, o) h.settled s;
     rows = h.rows ∙ sym (map_more h.steps (r, o) left);
     images_are = e ∙ ap (λ is. is ++ filter_map (λ (e : Record × Option Record). e.1) ((r, o) ∷ [])) h.images_are ∙ sym (filter_map-append (λ (e : Record × Option Record). e.1) h.steps ((r, o) ∷ []));
+    unrolled = h.unrolled.1;
+    rises = (and_parts (starts_after r.key left) (rise left) h.rises).1;
   }
 
   settled_shows : (images left : List Record) → HasRead q calls images left → ShowsAt q calls (settle images left)
@@ -112,26 +117,41 @@ module _ (q : Request) (calls : List Made) where
 image_is : (r : Record) (d : Decided) (w : Decision) → d.decision ≡ w → image_under r (Some d) ≡ elim w [ decision.Committed ↦ Some (forward_record r d.created_at) | decision.Aborted ↦ before_record r ]
 image_is r d w e = ap (λ (x : Decision). elim x [ decision.Committed ↦ Some (forward_record r d.created_at) | decision.Aborted ↦ before_record r ]) e
 
-pub before_key : (r : Record) → is_unresolved r ≡ true → IfSome (before_record r) (λ b. b.key ≡ r.key)
-before_key r u = by (before_record r) refl
-  where
-    by : (o : Option Record) → before_record r ≡ o → IfSome o (λ b. b.key ≡ r.key)
-    by None e = tt
-    by (Some b) e = (before-kept r b u e).0
-
 module _ (q : Request) (calls : List Made) (m : Made) (now : ℤ) (moment : is_moment now ≡ true) where
   abbrev more : List Made
   more = calls ++ m ∷ []
 
   ---- the rows
 
-  asked_now : calls ≡ [] → m.request ≡ q → CanAnswer q m.reply → IsRows m.reply → (rows : List Record) → records_read m.reply ≡ rows → HasRead q more [] rows
-  asked_now none e can told rows shown = record { first = m; rest = []; calls_are = ap (λ ms. ms ++ m ∷ []) none; request = e; can = can; told = told; others = tt; steps = []; settled = tt; rows = shown; images_are = refl }
+  asked_now : (a : Access) → q ≡ request_of a → calls ≡ [] → m.request ≡ q → CanAnswer q m.reply → IsRows m.reply → (rows : List Record) → records_read m.reply ≡ rows → rise rows ≡ true → HasRead q more [] rows
+  asked_now a is none e can told rows shown rises = record {
+    first = m;
+    rest = [];
+    calls_are = ap (λ ms. ms ++ m ∷ []) none;
+    request = e;
+    can = can;
+    told = told;
+    others = tt;
+    steps = [];
+    settled = tt;
+    rows = shown;
+    images_are = refl;
+    unrolled = subst (λ ms. AllByRecursion (IsUnrolled (ms ++ m ∷ [])) rows) (sym none) (read_unrolled m rows (plainly a (e ∙ is)));
+    rises = rises;
+  }
+    where
+      plainly : (a : Access) → m.request ≡ request_of a → condition_asked m.request ≡ None
+      plainly (access.Get key) k = ap condition_asked k
+      plainly (access.Scan span) k = ap condition_asked k
+
+  scan_rises : (a : Access) (rows : List Record) → CanAnswer (request_of a) (reply.Rows rows) → rise rows ≡ true
+  scan_rises (access.Get key) rows can = absurd can
+  scan_rises (access.Scan span) rows can = (and_parts (rise rows) _ can).0
 
   answered_shows : (a : Access) (r : Reply) → q ≡ request_of a → calls ≡ [] → m.request ≡ q → m.reply ≡ r → CanAnswer q m.reply → ShowsAt q more (answered r)
-  answered_shows a (reply.Found None) is none e f can = asked_now none e can (subst IsRows (sym f) tt) [] (ap records_read f)
-  answered_shows a (reply.Found (Some row)) is none e f can = settled_shows q more [] (row ∷ []) (asked_now none e can (subst IsRows (sym f) tt) (row ∷ []) (ap records_read f))
-  answered_shows a (reply.Rows rows) is none e f can = settled_shows q more [] rows (asked_now none e can (subst IsRows (sym f) tt) rows (ap records_read f))
+  answered_shows a (reply.Found None) is none e f can = asked_now a is none e can (subst IsRows (sym f) tt) [] (ap records_read f) refl
+  answered_shows a (reply.Found (Some row)) is none e f can = settled_shows q more [] (row ∷ []) (asked_now a is none e can (subst IsRows (sym f) tt) (row ∷ []) (ap records_read f) refl)
+  answered_shows a (reply.Rows rows) is none e f can = settled_shows q more [] rows (asked_now a is none e can (subst IsRows (sym f) tt) rows (ap records_read f) (scan_rises a rows (subst (λ (x : Request). CanAnswer x (reply.Rows rows)) is (subst (CanAnswer q) f can))))
   answered_shows a reply.Applied is none e f can = tt
   answered_shows a (reply.NotMet found) is none e f can = tt
   answered_shows a reply.Fault is none e f can = tt
@@ -139,8 +159,9 @@ module _ (q : Request) (calls : List Made) (m : Made) (now : ℤ) (moment : is_m
 
   ---- the recovery of a record
 
-  read_more : (images left : List Record) → HasRead q calls images left → reads_rows m ≡ false → HasRead q more images left
-  read_more images left h f = record {
+  -- a call that rolls none of the rows
+  read_more : (images left : List Record) → HasRead q calls images left → reads_rows m ≡ false → AllByRecursion (λ r. rolls r m ≡ false) left → HasRead q more images left
+  read_more images left h f none = record {
     first = h.first;
     rest = h.rest ++ m ∷ [];
     calls_are = ap (λ ms. ms ++ m ∷ []) h.calls_are;
@@ -152,6 +173,8 @@ module _ (q : Request) (calls : List Made) (m : Made) (now : ℤ) (moment : is_m
     settled = settled_stay calls m h.steps h.settled;
     rows = h.rows;
     images_are = h.images_are;
+    unrolled = unrolled_more calls m left h.unrolled none;
+    rises = h.rises;
   }
 
   module _ (images : List Record) (rec : Record) (meta : Meta) (left : List Record) (is_open : kind_of rec ≡ Open meta) (h : HasRead q calls images (rec ∷ left)) where
@@ -163,21 +186,49 @@ module _ (q : Request) (calls : List Made) (m : Made) (now : ℤ) (moment : is_m
 
     abbrev ComesTo : RecoverPhase × RecoverStep → Type 0
     ComesTo (x, steps.More) = HasRead q more images (rec ∷ left) × PhaseShows more meta.id x
-    ComesTo (x, steps.Image o) = HasRead q more images (rec ∷ left) × IsSettledAs more (rec, o)
+    ComesTo (x, steps.Image o) = (is : List Record) → is ≡ images ++ filter_map (λ (e : Record × Option Record). e.1) ((rec, o) ∷ []) → HasRead q more is left
     ComesTo (x, steps.Busy id at) = Unit {0}
     ComesTo (x, steps.Faulted) = Unit {0}
     ComesTo (x, steps.BadRecord key) = Unit {0}
     ComesTo (x, steps.NoMemory) = Unit {0}
 
+    -- the record and the rows after it are not rolled by such a call
+    abbrev NoneRolled : Type 0
+    NoneRolled = AllByRecursion (λ (r : Record). rolls r m ≡ false) (rec ∷ left)
+
+    look_rolls : m.request ≡ look_of meta.id → NoneRolled
+    look_rolls e = each_of (λ (r : Record). rolls r m ≡ false) (rec ∷ left) (look_rolls_none rec meta unresolved says m e)
+
+    abort_rolls : (n : ℤ) → m.request ≡ abort_of meta.id n → NoneRolled
+    abort_rolls n e = each_of (λ (r : Record). rolls r m ≡ false) (rec ∷ left) (abort_rolls_none rec meta unresolved says m n e)
+
+    -- the call that rolls it
+    read_rolled : (o : Option Record) → reads_rows m ≡ false → IsRollTo m rec o → IsSettledAs more (rec, o) → ComesTo (phase.Ended, steps.Image o)
+    read_rolled o f roll s is e = record {
+      first = h.first;
+      rest = h.rest ++ m ∷ [];
+      calls_are = ap (λ ms. ms ++ m ∷ []) h.calls_are;
+      request = h.request;
+      can = h.can;
+      told = h.told;
+      others = each_more (λ (x : Made). reads_rows x ≡ false) h.rest m h.others f;
+      steps = h.steps ++ (rec, o) ∷ [];
+      settled = each_more (IsSettledAs more) h.steps (rec, o) (settled_stay calls m h.steps h.settled) s;
+      rows = h.rows ∙ sym (map_more h.steps (rec, o) left);
+      images_are = e ∙ ap (λ is. is ++ filter_map (λ (e : Record × Option Record). e.1) ((rec, o) ∷ [])) h.images_are ∙ sym (filter_map-append (λ (e : Record × Option Record). e.1) h.steps ((rec, o) ∷ []));
+      unrolled = unrolled_more calls m left h.unrolled.1 (rolls_none_after m rec o left roll h.rises);
+      rises = (and_parts (starts_after rec.key left) (rise left) h.rises).1;
+    }
+
     shown_now : (d : Decided) → is_of_row meta.id m.request ≡ true → decision_said m.request m.reply ≡ Some d → HasShown more meta.id d
     shown_now d t e = record { call = m; among = Contains-push calls m; shown = shown_is meta.id m (Some d) t e }
 
-    rolled_shows : (row : Record) → reads_rows m ≡ false → is_of_row meta.id m.request ≡ true → decision_said m.request m.reply ≡ result_ok (decision_in row) → ComesTo (roll_to meta (decision_in row))
-    rolled_shows row f t said = by (decision_in row) refl
+    rolled_shows : (row : Record) → reads_rows m ≡ false → NoneRolled → is_of_row meta.id m.request ≡ true → decision_said m.request m.reply ≡ result_ok (decision_in row) → ComesTo (roll_to meta (decision_in row))
+    rolled_shows row f none t said = by (decision_in row) refl
       where
         by_decision : (d : Decided) (w : Decision) → decision_in row ≡ Ok d → d.decision ≡ w → ComesTo (elim w [ decision.Committed ↦ (phase.Forward d.created_at, steps.More) | decision.Aborted ↦ (phase.Back, steps.More) ])
-        by_decision d decision.Committed e w = (read_more images (rec ∷ left) h f, (d, shown_now d t (said ∙ ap result_ok e), w, refl))
-        by_decision d decision.Aborted e w = (read_more images (rec ∷ left) h f, (d, shown_now d t (said ∙ ap result_ok e), w, tt))
+        by_decision d decision.Committed e w = (read_more images (rec ∷ left) h f none, (d, shown_now d t (said ∙ ap result_ok e), w, refl))
+        by_decision d decision.Aborted e w = (read_more images (rec ∷ left) h f none, (d, shown_now d t (said ∙ ap result_ok e), w, tt))
 
         by : (o : Result Decided (List ℕ)) → decision_in row ≡ o → ComesTo (roll_to meta o)
         by (Err name) e = tt
@@ -187,7 +238,7 @@ module _ (q : Request) (calls : List Made) (m : Made) (now : ℤ) (moment : is_m
     undecided_shows e = by (is_expired meta.prepared_at now)
       where
         by : (b : Bool) → ComesTo (cond b (phase.Abort now, steps.More) (phase.Ended, steps.Busy meta.id meta.prepared_at))
-        by true = (read_more images (rec ∷ left) h (look_rows m meta.id e), moment)
+        by true = (read_more images (rec ∷ left) h (look_rows m meta.id e) (look_rolls e), moment)
         by false = tt
 
     asked_at : (x : Request) → Some x ≡ Some m.request → m.request ≡ x
@@ -207,7 +258,7 @@ module _ (q : Request) (calls : List Made) (m : Made) (now : ℤ) (moment : is_m
 
     look_shows : (r : Reply) → m.request ≡ look_of meta.id → m.reply ≡ r → ComesTo (recover_next rec meta phase.Look now r)
     look_shows (reply.Found None) e f = undecided_shows e
-    look_shows (reply.Found (Some row)) e f = rolled_shows row (look_rows m meta.id e) (look_row e) (said_by (look_of meta.id) (reply.Found (Some row)) e f)
+    look_shows (reply.Found (Some row)) e f = rolled_shows row (look_rows m meta.id e) (look_rolls e) (look_row e) (said_by (look_of meta.id) (reply.Found (Some row)) e f)
     look_shows (reply.Rows rows) e f = tt
     look_shows reply.Applied e f = tt
     look_shows (reply.NotMet None) e f = tt
@@ -217,7 +268,7 @@ module _ (q : Request) (calls : List Made) (m : Made) (now : ℤ) (moment : is_m
 
     again_shows : (r : Reply) → m.request ≡ look_of meta.id → m.reply ≡ r → ComesTo (recover_next rec meta phase.Again now r)
     again_shows (reply.Found None) e f = tt
-    again_shows (reply.Found (Some row)) e f = rolled_shows row (look_rows m meta.id e) (look_row e) (said_by (look_of meta.id) (reply.Found (Some row)) e f)
+    again_shows (reply.Found (Some row)) e f = rolled_shows row (look_rows m meta.id e) (look_rolls e) (look_row e) (said_by (look_of meta.id) (reply.Found (Some row)) e f)
     again_shows (reply.Rows rows) e f = tt
     again_shows reply.Applied e f = tt
     again_shows (reply.NotMet None) e f = tt
@@ -230,7 +281,7 @@ module _ (q : Request) (calls : List Made) (m : Made) (now : ℤ) (moment : is_m
     abort_shows n (reply.Found (Some row)) at e f = tt
     abort_shows n (reply.Rows rows) at e f = tt
     abort_shows n reply.Applied at e f = (
-      read_more images (rec ∷ left) h (unread (abort_of meta.id n) e refl),
+      read_more images (rec ∷ left) h (unread (abort_of meta.id n) e refl) (abort_rolls n e),
       (
         record { decision = decision.Aborted; created_at = n },
         shown_now (record { decision = decision.Aborted; created_at = n }) (abort_row n e) (said_by (abort_of meta.id n) reply.Applied e f ∙ ap result_ok (row-decision meta.id decision.Aborted n (meta_of rec meta unresolved says).fits at)),
@@ -239,30 +290,48 @@ module _ (q : Request) (calls : List Made) (m : Made) (now : ℤ) (moment : is_m
       ),
     )
     abort_shows n (reply.NotMet None) at e f = tt
-    abort_shows n (reply.NotMet (Some row)) at e f = rolled_shows row (unread (abort_of meta.id n) e refl) (abort_row n e) (said_by (abort_of meta.id n) (reply.NotMet (Some row)) e f)
-    abort_shows n reply.Fault at e f = (read_more images (rec ∷ left) h (unread (abort_of meta.id n) e refl), tt)
+    abort_shows n (reply.NotMet (Some row)) at e f = rolled_shows row (unread (abort_of meta.id n) e refl) (abort_rolls n e) (abort_row n e) (said_by (abort_of meta.id n) (reply.NotMet (Some row)) e f)
+    abort_shows n reply.Fault at e f = (read_more images (rec ∷ left) h (unread (abort_of meta.id n) e refl) (abort_rolls n e), tt)
     abort_shows n reply.NoMemory at e f = tt
 
     writer : id_in rec.columns ≡ Some meta.id
     writer = (meta_of rec meta unresolved says).writer
 
-    forwarded : (n : ℤ) → m.request ≡ recover_forward rec meta n → PhaseShows calls meta.id (phase.Forward n) → HasRead q more images (rec ∷ left) × IsSettledAs more (rec, Some (forward_record rec n))
-    forwarded n e p = (
-      read_more images (rec ∷ left) h (unread (recover_forward rec meta n) e refl),
-      record {
-        key = forward-key rec n;
-        by = inr (record { id = meta.id; decided = p.0; open_still = held_of rec unresolved; writer = writer; shown = shown_stays calls m meta.id p.0 p.1; image = ap (λ x. Some (forward_record rec x)) (sym p.3) ∙ sym (image_is rec p.0 decision.Committed p.2) });
-      },
-    )
+    forwarded : (n : ℤ) → m.request ≡ recover_forward rec meta n → PhaseShows calls meta.id (phase.Forward n) → ComesTo (phase.Ended, steps.Image (Some (forward_record rec n)))
+    forwarded n e p =
+        let roll = forward_rolls_to rec meta unresolved says m n e in
+        read_rolled (Some (forward_record rec n)) (unread (recover_forward rec meta n) e refl) roll (record {
+          key = forward-key rec n;
+          by = inr (record {
+            id = meta.id;
+            decided = p.0;
+            roll = m;
+            open_still = held_of rec unresolved;
+            writer = writer;
+            shown = shown_stays calls m meta.id p.0 p.1;
+            image = ap (λ x. Some (forward_record rec x)) (sym p.3) ∙ sym (image_is rec p.0 decision.Committed p.2);
+            rolled = find_last (rolls rec) calls m h.unrolled.0 roll.rolls_it;
+            puts = roll.puts;
+          });
+        })
 
-    backed : m.request ≡ recover_back rec meta → PhaseShows calls meta.id phase.Back → HasRead q more images (rec ∷ left) × IsSettledAs more (rec, before_record rec)
-    backed e p = (
-      read_more images (rec ∷ left) h (unread (recover_back rec meta) e (undo_unread (stands_found meta) rec.key (before_record rec))),
-      record {
-        key = before_key rec unresolved;
-        by = inr (record { id = meta.id; decided = p.0; open_still = held_of rec unresolved; writer = writer; shown = shown_stays calls m meta.id p.0 p.1; image = sym (image_is rec p.0 decision.Aborted p.2) });
-      },
-    )
+    backed : m.request ≡ recover_back rec meta → PhaseShows calls meta.id phase.Back → ComesTo (phase.Ended, steps.Image (before_record rec))
+    backed e p =
+        let roll = back_rolls_to rec meta unresolved says m e in
+        read_rolled (before_record rec) (unread (recover_back rec meta) e (undo_unread (stands_found meta) rec.key (before_record rec))) roll (record {
+          key = before_key rec unresolved;
+          by = inr (record {
+            id = meta.id;
+            decided = p.0;
+            roll = m;
+            open_still = held_of rec unresolved;
+            writer = writer;
+            shown = shown_stays calls m meta.id p.0 p.1;
+            image = sym (image_is rec p.0 decision.Aborted p.2);
+            rolled = find_last (rolls rec) calls m h.unrolled.0 roll.rolls_it;
+            puts = roll.puts;
+          });
+        })
 
     forward_shows : (n : ℤ) (r : Reply) → m.request ≡ recover_forward rec meta n → PhaseShows calls meta.id (phase.Forward n) → ComesTo (recover_next rec meta (phase.Forward n) now r)
     forward_shows n (reply.Found None) e p = tt
@@ -294,8 +363,8 @@ module _ (q : Request) (calls : List Made) (m : Made) (now : ℤ) (moment : is_m
 
     resolved_shows : (n : RecoverPhase × RecoverStep) → ComesTo n → ShowsAt q more (resolved images rec meta left n)
     resolved_shows (x, steps.More) c = c
-    resolved_shows (x, steps.Image None) c = settled_shows q more images left (settles_more q more images rec left None c.0 c.1 images (sym (append-nil images)))
-    resolved_shows (x, steps.Image (Some b)) c = settled_shows q more (images ++ b ∷ []) left (settles_more q more images rec left (Some b) c.0 c.1 (images ++ b ∷ []) refl)
+    resolved_shows (x, steps.Image None) c = settled_shows q more images left (c images (sym (append-nil images)))
+    resolved_shows (x, steps.Image (Some b)) c = settled_shows q more (images ++ b ∷ []) left (c (images ++ b ∷ []) refl)
     resolved_shows (x, steps.Busy id at) c = tt
     resolved_shows (x, steps.Faulted) c = tt
     resolved_shows (x, steps.BadRecord key) c = tt

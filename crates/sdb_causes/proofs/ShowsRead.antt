@@ -1,10 +1,11 @@
 -- What a read found at a key is what its calls showed there.
 use Rattle.std.proofs.Common.{◌≡◌, ℕ, Bool, true, false, cond, List, [], map, Option, Some, None, refl, sym, ap, subst, ◌∙◌}
-use Rattle.std.specs.Prelude.{is_some, slice_get}
+use Rattle.std.specs.Prelude.{Contains, is_some, slice_get}
 use Rattle.std.specs.Cmp.{tied_itself}
 use Rattle.std.specs.Option.{option_map}
 use Rattle.std.specs.Ordering.{is_eq}
 use Rattle.std.proofs.lemmas.List.{append-nil}
+use Rattle.std.proofs.lemmas.List.Elements.{Contains-push}
 use Rattle.sdb_types.specs.declared.key.Key.{Key}
 use Rattle.sdb_types.specs.declared.pair.Pair.{Pair}
 use Rattle.sdb_types.specs.declared.record.Record.{Record}
@@ -36,13 +37,14 @@ use Rattle.sdb_snapshot.specs.Held.{WereRead}
 use Rattle.sdb_snapshot.specs.Noted.{base_at, is_noted}
 use Rattle.sdb_snapshot.specs.Rows.{row_found}
 use Rattle.sdb_snapshot.specs.Seen.{Seen, row_seen, row_with}
+use Rattle.sdb_story.proofs.Meanings.{among_found}
 use Rattle.sdb_txn.specs.Txn.{TxnAt}
 use Rattle.sdb_client.specs.Client.{noting}
-use Rattle.sdb_causes.specs.Moves.{HasRead, IsRows, TellOne}
+use Rattle.sdb_causes.specs.Moves.{HasRead, IsRows}
 use Rattle.sdb_causes.specs.Shows.{HasBefore, SeesOwn}
 use Rattle.sdb_causes.proofs.Ends.{first_in}
 use Rattle.sdb_causes.proofs.Moving.{scan_shows}
-use Rattle.sdb_causes.proofs.Settling.{got_image}
+use Rattle.sdb_causes.proofs.Settling.{found_meant, got_image}
 use Rattle.sdb_causes.proofs.Shows.{has_before, has_shown}
 use Rattle.sdb_causes.proofs.Unfit.{IsReadAt, at_note, found_new, new_read, noted_now, same_writes}
 
@@ -53,8 +55,8 @@ shows_it : (m : Made) (q : Request) (r : Reply) (key : Key) (found : Option Reco
 shows_it m q r key found e f h = subst (λ (x : Request). Shows x m.reply key found) (sym e) (subst (λ (x : Reply). Shows q x key found) (sym f) h)
 
 -- a get found a record, or none
-got_by : (calls : List Made) (k : Key) (images : List Record) (h : HasRead (ask.Get k) calls images []) → TellOne calls → WasFound calls k (row_found (slice_get images 0))
-got_by calls k images h one = by h.first.reply refl h.can h.told
+got_by : (calls : List Made) (k : Key) (images : List Record) (h : HasRead (ask.Get k) calls images []) → WasFound calls k (row_found (slice_get images 0))
+got_by calls k images h = by h.first.reply refl h.can h.told
   where
     by : (r : Reply) → h.first.reply ≡ r → CanAnswer (ask.Get k) r → IsRows r → WasFound calls k (row_found (slice_get images 0))
     by (reply.Found found) e can told = record {
@@ -62,7 +64,8 @@ got_by calls k images h one = by h.first.reply refl h.can h.told
       found = found;
       among = first_in h.first h.rest calls h.calls_are;
       shows = shows_it h.first (ask.Get k) (reply.Found found) k found h.request e (refl, refl);
-      stands = ap row_found (ap (λ is. slice_get is 0) h.images_are ∙ sym (got_image calls one h.steps found h.settled (ap records_read (sym e) ∙ h.rows ∙ append-nil (map (λ x. x.0) h.steps))));
+      stands = ap row_found (ap (λ is. slice_get is 0) h.images_are ∙ sym (got_image calls h.steps found h.settled (ap records_read (sym e) ∙ h.rows ∙ append-nil (map (λ x. x.0) h.steps))));
+      meant = found_meant calls (ask.Get k) images h found (λ r is. subst (λ (x : Reply). Contains (records_read x) r) (sym (e ∙ ap reply.Found is)) (Contains-push [] r));
     }
     by (reply.Rows rows) e can told = absurd can
     by reply.Applied e can told = absurd told
@@ -71,17 +74,17 @@ got_by calls k images h one = by h.first.reply refl h.can h.told
     by reply.NoMemory e can told = absurd told
 
 -- what a read found at a key that it noted
-found_by : (calls : List Made) (a : Access) (images : List Record) (h : HasRead (request_of a) calls images []) → TellOne calls → (q : Key) (o : Option Record) → found_new a images q ≡ Some o → WasFound calls q (row_found o)
-found_by calls (access.Get k) images h one q o e = by (same_key q k) refl e
+found_by : (calls : List Made) (a : Access) (images : List Record) (h : HasRead (request_of a) calls images []) → (q : Key) (o : Option Record) → found_new a images q ≡ Some o → WasFound calls q (row_found o)
+found_by calls (access.Get k) images h q o e = by (same_key q k) refl e
   where
     by : (t : Bool) → same_key q k ≡ t → cond t (Some (slice_get images 0)) None ≡ Some o → WasFound calls q (row_found o)
     by false s f = none_some o f
-    by true s f = subst (λ (x : Option Record). WasFound calls q (row_found x)) (some_is (slice_get images 0) o f) (subst (λ (x : Key). WasFound calls x (row_found (slice_get images 0))) (sym (same_key_exact q k s)) (got_by calls k images h one))
-found_by calls (access.Scan span) images h one q o e = by (record_among images q) refl e
+    by true s f = subst (λ (x : Option Record). WasFound calls q (row_found x)) (some_is (slice_get images 0) o f) (subst (λ (x : Key). WasFound calls x (row_found (slice_get images 0))) (sym (same_key_exact q k s)) (got_by calls k images h))
+found_by calls (access.Scan span) images h q o e = by (record_among images q) refl e
   where
     found : (b : Record) → record_among images q ≡ Some b → WasFound calls q (row_found (Some b))
     found b s =
-        let shows = scan_shows calls span images q h one in
+        let shows = scan_shows calls span images q h in
         let r : IsReadAt calls h.first (access.Scan span) q b = new_read calls (access.Scan span) images h q b (ap (option_map Some) s) in
         record {
           call = h.first;
@@ -89,6 +92,7 @@ found_by calls (access.Scan span) images h one q o e = by (record_among images q
           among = first_in h.first h.rest calls h.calls_are;
           shows = shows_it h.first (ask.Scan span) (reply.Rows shows.0) q (record_among shows.0 q) h.request shows.1 (r.inside, refl);
           stands = ap row_found (sym (shows.2 ∙ s));
+          meant = found_meant calls (ask.Scan span) images h (record_among shows.0 q) (λ x is. subst (λ (y : Reply). Contains (records_read y) x) (sym shows.1) (among_found shows.0 q x is));
         }
 
     by : (x : Option Record) → record_among images q ≡ x → option_map Some x ≡ Some o → WasFound calls q (row_found o)
@@ -130,7 +134,7 @@ kept_now t a images kept q written = some (value_at t.seen.notes q) (kept q (sub
     some None h e = clash (sym h)
     some (Some x) h e = ap is_some e
 
-module _ (catalog : List Table) (events : List Event) (c : ℕ) (body : List Said) (s : Said) (a : Access) (t : TxnAt) (images : List Record) (h : HasRead (request_of a) (calls_of events c s) images []) (one : TellOne (calls_of events c s)) (kept : WereRead t.seen.notes t.seen.writes) (sees : SeesOwn catalog events c body t.seen)
+module _ (catalog : List Table) (events : List Event) (c : ℕ) (body : List Said) (s : Said) (a : Access) (t : TxnAt) (images : List Record) (h : HasRead (request_of a) (calls_of events c s) images []) (kept : WereRead t.seen.notes t.seen.writes) (sees : SeesOwn catalog events c body t.seen)
     (no_vacuum : reads_vacuum s.text ≡ false) (tables : (q : Key) → in_access a q ≡ true → IsTableKey catalog q) (told : is_from_rows s ≡ true) (key : Key) where
   abbrev Has : Option (List Pair) → Type 0
   Has row = HasBefore catalog events c body s key row
@@ -145,5 +149,5 @@ module _ (catalog : List Table) (events : List Event) (c : ℕ) (body : List Sai
           (has_before catalog events c body s key (row_seen t.seen.notes t.seen.writes key) (sees key (ap is_some e)))
       by None (Some o) e f =
           subst Has (sym (row_now t a images key ∙ ap (λ z. row_with (write_among t.seen.writes key) (at_note (or_else z (found_new a images key)))) e ∙ ap (λ z. row_with (write_among t.seen.writes key) (at_note z)) f ∙ ap (λ w. row_with w o) (unwritten t.seen key kept (ap is_some e))))
-          (has_shown catalog events c body s key (row_found o) (record { told = told; no_vacuum = no_vacuum; table = tables key (new_inside (calls_of events c s) a images h key o f); found = found_by (calls_of events c s) a images h one key o f }))
+          (has_shown catalog events c body s key (row_found o) (record { told = told; no_vacuum = no_vacuum; table = tables key (new_inside (calls_of events c s) a images h key o f); found = found_by (calls_of events c s) a images h key o f }))
       by None None e f = clash (sym (sym (ap is_some (noted_now t a images key ∙ ap (λ z. or_else z (found_new a images key)) e ∙ f)) ∙ noted))

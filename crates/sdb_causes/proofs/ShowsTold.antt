@@ -5,7 +5,6 @@ use Rattle.std.specs.List.{AllByRecursion}
 use Rattle.sdb_schema.specs.declared.table.Table.{Table}
 use Rattle.sdb_model.specs.declared.answer.Answer.{Answer}
 use Rattle.sdb_model.specs.declared.event.Event.{Event}
-use Rattle.sdb_model.specs.Calls.{calls_of}
 use Rattle.sdb_model.specs.Transactions.{Said, changes_nothing, from_begin, rest_of}
 use Rattle.sdb_snapshot.specs.Seen.{Seen}
 use Rattle.sdb_txn.specs.declared.txn.Doing.{Doing}
@@ -14,13 +13,12 @@ use Rattle.sdb_txn.specs.Txn.{TxnAt}
 use Rattle.sdb_client.specs.Client.{ClientAt}
 use Rattle.sdb_types.proofs.Basics.{some_is}
 use Rattle.sdb_causes.specs.Counts.{ArePaired}
-use Rattle.sdb_causes.specs.Moves.{AllTellOne, TellOne}
 use Rattle.sdb_causes.specs.Shows.{AllGiveOwn, IsShowing, SeesOwn, SeesOwnIn, ShowsBy, GivesOwn}
 use Rattle.sdb_causes.specs.Tied.{IsAnswered, begun_in, open_after}
 use Rattle.sdb_causes.proofs.Calls.{calls_stay}
 use Rattle.sdb_causes.proofs.CountsNotes.{last_or, open_only}
 use Rattle.sdb_causes.proofs.Lists.{since_more, since_none}
-use Rattle.sdb_causes.proofs.Noting.{each_front, each_left, each_middle, since_all, tell_back}
+use Rattle.sdb_causes.proofs.Noting.{each_left, each_middle, since_all}
 use Rattle.sdb_causes.proofs.Shows.{effective_by, sees_same, sees_still, tells_none, tells_still}
 
 ---- statements that were answered
@@ -92,39 +90,35 @@ showing_idle catalog events c n told s begin body t since idle h =
 
 -- what is to be so of a statement that is answered, and of the client that this leaves
 abbrev pub ShowsNext : List Table → List Event → ℕ → List Said → Said → Answer → ClientAt → Type 0
-ShowsNext catalog events c told z b d = AllTellOne events c (told ++ z ∷ []) → (open_after told ≡ true → GivesOwn catalog events c (rest_of (from_begin (begun_in told) told)) z b) × IfSome d.txn (IsShowing catalog events c (rest_of (from_begin d.begun (told ++ z ∷ []))))
+ShowsNext catalog events c told z b d = (open_after told ≡ true → GivesOwn catalog events c (rest_of (from_begin (begun_in told) told)) z b) × IfSome d.txn (IsShowing catalog events c (rest_of (from_begin d.begun (told ++ z ∷ []))))
 
 module _ (catalog : List Table) (c : ℕ) (events : List Event) (e : Event) (told : List Said) (all : AllByRecursion (IsAnswered catalog events c) told) where
   abbrev E : List Event
   E = events ++ e ∷ []
 
-  module _ (h : ClientAt) (k : AllTellOne events c told → ShowsBy catalog events c told h) where
-    -- what was so before it
-    shows_then : AllTellOne E c told → ShowsBy catalog events c told h
-    shows_then one = k (tell_back catalog events e c told all one)
-
+  module _ (h : ClientAt) (k : ShowsBy catalog events c told h) where
     -- where the client goes on with what it saw
-    pub shows_further : (d : ClientAt) → (ShowsBy catalog events c told h → IfSome d.txn (IsShowing catalog E c (rest_of (from_begin d.begun told)))) → AllTellOne E c told → ShowsBy catalog E c told d
-    shows_further d sees one = record { told_own = own_still catalog events e c told all (shows_then one).told_own; sees_own = sees (shows_then one) }
+    pub shows_further : (d : ClientAt) → (ShowsBy catalog events c told h → IfSome d.txn (IsShowing catalog E c (rest_of (from_begin d.begun told)))) → ShowsBy catalog E c told d
+    shows_further d sees = record { told_own = own_still catalog events e c told all k.told_own; sees_own = sees k }
 
-    pub shows_stay : AllTellOne E c told → ShowsBy catalog E c told h
+    pub shows_stay : ShowsBy catalog E c told h
     shows_stay = shows_further h (λ x. showing_stays catalog events e c h.begun told h.txn all x.sees_own)
 
     -- where a statement is answered
-    pub shows_end : ArePaired false told → (z : Said) (b : Answer) (d : ClientAt) → z.answer ≡ Some b → ShowsNext catalog E c told z b d → AllTellOne E c (told ++ z ∷ []) → ShowsBy catalog E c (told ++ z ∷ []) d
-    shows_end pairs z b d is next one = record {
-      told_own = own_more catalog E c told z pairs (own_still catalog events e c told all (shows_then (each_front (λ x. TellOne (calls_of E c x)) told z one)).told_own) (λ a has opened. subst (GivesOwn catalog E c (rest_of (from_begin (begun_in told) told)) z) (some_is b a (sym is ∙ has)) ((next one).0 opened));
-      sees_own = (next one).1;
+    pub shows_end : ArePaired false told → (z : Said) (b : Answer) (d : ClientAt) → z.answer ≡ Some b → ShowsNext catalog E c told z b d → ShowsBy catalog E c (told ++ z ∷ []) d
+    shows_end pairs z b d is next = record {
+      told_own = own_more catalog E c told z pairs (own_still catalog events e c told all k.told_own) (λ a has opened. subst (GivesOwn catalog E c (rest_of (from_begin (begun_in told) told)) z) (some_is b a (sym is ∙ has)) (next.0 opened));
+      sees_own = next.1;
     }
 
-  module _ (n : ℕ) (begin : Said) (body : List Said) (since : from_begin n told ≡ begin ∷ body) (v : Seen) (sees : AllTellOne events c told → SeesOwn catalog events c body v) (z : Said) where
+  module _ (n : ℕ) (begin : Said) (body : List Said) (since : from_begin n told ≡ begin ∷ body) (v : Seen) (sees : SeesOwn catalog events c body v) (z : Said) where
     -- what the open transaction saw before
-    pub sees_then : AllTellOne E c (told ++ z ∷ []) → SeesOwn catalog E c body v
-    sees_then one = sees_still catalog events e c body v (since_all (IsAnswered catalog events c) n told begin body all since) (sees (tell_back catalog events e c told all (each_front (λ x. TellOne (calls_of E c x)) told z one)))
+    pub sees_then : SeesOwn catalog E c body v
+    sees_then = sees_still catalog events e c body v (since_all (IsAnswered catalog events c) n told begin body all since) sees
 
     -- a statement that changes nothing leaves that
-    pub next_same : (b : Answer) (t : TxnAt) → z.answer ≡ Some b → changes_nothing b ≡ true → t.doing ≡ doing.Idle → t.seen ≡ v → AllTellOne E c (told ++ z ∷ []) → (open_after told ≡ true → GivesOwn catalog E c (rest_of (from_begin (begun_in told) told)) z b) × IsShowing catalog E c (rest_of (from_begin n (told ++ z ∷ []))) t
-    next_same b t is nothing idle same one = (
+    pub next_same : (b : Answer) (t : TxnAt) → z.answer ≡ Some b → changes_nothing b ≡ true → t.doing ≡ doing.Idle → t.seen ≡ v → (open_after told ≡ true → GivesOwn catalog E c (rest_of (from_begin (begun_in told) told)) z b) × IsShowing catalog E c (rest_of (from_begin n (told ++ z ∷ []))) t
+    next_same b t is nothing idle same = (
       λ opened. tells_none catalog E c (rest_of (from_begin (begun_in told) told)) z b nothing,
-      showing_idle catalog E c n told z begin body t since idle (subst (SeesOwn catalog E c (body ++ z ∷ [])) (sym same) (sees_same catalog E c body z v (effective_by z b true is nothing) (sees_then one))),
+      showing_idle catalog E c n told z begin body t since idle (subst (SeesOwn catalog E c (body ++ z ∷ [])) (sym same) (sees_same catalog E c body z v (effective_by z b true is nothing) sees_then)),
     )

@@ -3,7 +3,7 @@ use Rattle.std.proofs.Common.{◌≡◌, ◌⊎◌, inl, inr, ℕ, ℤ, Bool, tr
 use Rattle.std.specs.Prelude.{if◌then◌else◌, filter, is_some, IfSome, Contains}
 use Rattle.std.specs.List.{AllByRecursion}
 use Rattle.std.proofs.lemmas.List.{append-nil}
-use Rattle.std.proofs.lemmas.List.Elements.{All-contains_itself, Contains-append_left, filter-append, recursion_from_All}
+use Rattle.std.proofs.lemmas.List.Elements.{All-contains_itself, filter-append, recursion_from_All}
 use Rattle.sdb_types.specs.declared.txid.TxId.{TxId}
 use Rattle.sdb_types.specs.declared.key.Key.{Key}
 use Rattle.sdb_types.proofs.Basics.{all_each as each_any, one_of}
@@ -13,13 +13,11 @@ use Rattle.sdb_schema.specs.declared.table.Table.{Table}
 use Rattle.sdb_model.specs.declared.answer.Answer.{Answer}
 use Rattle.sdb_model.specs.declared.answer.Answer.TheVariants as answer
 use Rattle.sdb_model.specs.declared.event.Event.{Event}
-use Rattle.sdb_model.specs.Calls.{calls_of}
 use Rattle.sdb_model.specs.Shown.{AnswersShow, HasRow, ShowsOwn}
 use Rattle.sdb_model.specs.Transactions.{Said, client_of, ends, from_begin, is_effective, ordinal_of, rest_of, said, statements_of, through_end}
 use Rattle.sdb_steps.specs.Hands.{Hand}
 use Rattle.sdb_story.specs.Telling.{waiting_of}
-use Rattle.sdb_causes.specs.Moves.{AllTellOne, TellOne}
-use Rattle.sdb_causes.specs.Shows.{AllGiveOwn, HasBefore, RowsAreShown, CallsAgree, GivesOwn, WasRead}
+use Rattle.sdb_causes.specs.Shows.{AllGiveOwn, HasBefore, RowsAreShown, GivesOwn, WasRead}
 use Rattle.sdb_causes.specs.Tied.{AreTied, IsWaiting, Knows}
 use Rattle.sdb_causes.proofs.Noting.{each_left, each_middle, since_all}
 use Rattle.sdb_causes.proofs.Shows.{each_changing, effective_by, first_so}
@@ -96,19 +94,16 @@ module _ (catalog : List Table) (events : List Event) (c : ℕ) (id : TxId) (s :
 
 ---- all clients
 
-module _ (catalog : List Table) (events : List Event) (now : ℤ) (hands : ℕ → Hand) (ex : AreTied catalog events now hands) (c : ℕ) (tell : CallsAgree events c) where
+module _ (catalog : List Table) (events : List Event) (now : ℤ) (hands : ℕ → Hand) (ex : AreTied catalog events now hands) (c : ℕ) where
   abbrev k : Knows catalog events c (hands c).client
   k = ex.each c
-
-  tells_one : AllTellOne events c k.told
-  tells_one = each_any (Contains k.told) (λ x. TellOne (calls_of events c x)) k.told (λ x z. tell x (subst (λ ss. Contains ss x) (sym k.same) (Contains-append_left k.told (waiting_of k.waiting) x z))) (recursion_from_All (Contains k.told) k.told (All-contains_itself k.told))
 
   all_own : AllGiveOwn catalog events c (said c events)
   all_own = subst (AllGiveOwn catalog events c) (sym k.same) (by k.waiting k.waits)
     where
       by : (o : Option Said) → IfSome o (IsWaiting catalog events c (is_some (hands c).client.vacuum)) → AllGiveOwn catalog events c (k.told ++ waiting_of o)
-      by None w = subst (AllGiveOwn catalog events c) (sym (append-nil k.told)) (k.shows tells_one).told_own
-      by (Some w) waits = own_waits catalog events c k.told w waits.unanswered k.counted.paired (k.shows tells_one).told_own
+      by None w = subst (AllGiveOwn catalog events c) (sym (append-nil k.told)) k.shows.told_own
+      by (Some w) waits = own_waits catalog events c k.told w waits.unanswered k.counted.paired k.shows.told_own
 
   all_said : AllByRecursion (Contains (said c events)) (said c events)
   all_said = recursion_from_All (Contains (said c events)) (said c events) (All-contains_itself (said c events))
@@ -134,8 +129,8 @@ module _ (catalog : List Table) (events : List Event) (now : ℤ) (hands : ℕ �
           at b rest e whole (parted rest s (subst (λ ss. Contains ss s) whole has))
 
 pub rows_shown : (catalog : List Table) (events : List Event) (now : ℤ) (hands : ℕ → Hand) → AreTied catalog events now hands → RowsAreShown catalog events
-rows_shown catalog events now hands ex c tell id s a is has answered = rows_own catalog events now hands ex c tell id s a is has answered
+rows_shown catalog events now hands ex c id s a is has answered = rows_own catalog events now hands ex c id s a is has answered
 
--- So each answer of a run shows own rows, where the calls of no statement show two decisions on a transaction.
-pub answers_own : (catalog : List Table) (events : List Event) → RowsAreShown catalog events → ((c : ℕ) → CallsAgree events c) → AnswersShow catalog (WasRead catalog events) events
-answers_own catalog events shown tell id s a has is = shown (client_of id) (tell (client_of id)) id s a refl has is
+-- So each answer of a run shows own rows.
+pub answers_own : (catalog : List Table) (events : List Event) → RowsAreShown catalog events → AnswersShow catalog (WasRead catalog events) events
+answers_own catalog events shown id s a has is = shown (client_of id) id s a refl has is

@@ -49,11 +49,11 @@ use Rattle.sdb_types.proofs.Basics.{by_test, clash, none_some, some_is, length_m
 use Rattle.sdb_causes.specs.Commits.{StandsBy}
 use Rattle.sdb_causes.specs.Conflicts.{ChecksBy}
 use Rattle.sdb_causes.specs.Filled.{IsFilled, IsFilledBy, IsFilledIn, counted_told, found_told}
-use Rattle.sdb_causes.specs.Moves.{AllTellOne, SeenBy, notes_told}
+use Rattle.sdb_causes.specs.Moves.{SeenBy, notes_told}
 use Rattle.sdb_causes.proofs.Conflicts.{begins_checked}
 use Rattle.sdb_causes.proofs.Moving.{IsTaken, work_by}
-use Rattle.sdb_causes.proofs.Noting.{moved_all, moved_still, noted_more, noted_still, tell_back, unmoved}
-use Rattle.sdb_causes.specs.Tied.{IsAnswered, IsDoing, AreTied, IsGate, IsNoting, IsOpenAs, Knows, SomeSweeps, StandsIn, StandsOn, begun_in, open_after, CanTell}
+use Rattle.sdb_causes.proofs.Noting.{moved_all, moved_still, noted_more, noted_still, unmoved}
+use Rattle.sdb_causes.specs.Tied.{IsAnswered, IsDoing, AreTied, IsGate, IsNoting, IsOpenAs, Knows, SomeSweeps, StandsIn, StandsOn, begun_in, open_after}
 use Rattle.sdb_causes.specs.Unfit.{IsFit, SeesFit, SeesFitIn, ShowStored}
 use Rattle.sdb_causes.proofs.Calls.{before_taken, calls_open, calls_within, end_answered, end_waiting, later_same, none_made}
 use Rattle.sdb_causes.proofs.Filling.{filled_found, filled_given, filled_idle, filled_more, filled_nothing, filled_stays, filled_up, further, passes_given, zero_least}
@@ -308,7 +308,7 @@ module _ (q : Taking) (events : List Event) (hands : ℕ → Hand) (ex : AreTied
 
   -- why it is answered so
   abbrev Caused : Answer → Type 0
-  Caused b = CanTell (calls_of (E (Some b)) c (one (Some b))) text b → IsCaused q.catalog (E (Some b)) c (one (Some b)) b
+  Caused b = is_conflict (Some b) ≡ false → IsCaused q.catalog (E (Some b)) c (one (Some b)) b
 
   by_turning : (b : Answer) → IsTurnedAway q.catalog events c text b → IsTurnedAway q.catalog (before (one (Some b)) (E (Some b))) c text b
   by_turning b = subst (λ es. IsTurnedAway q.catalog es c text b) (sym (before_taken events (event.Take c text (Some b)) text (Some b)))
@@ -333,7 +333,7 @@ module _ (q : Taking) (events : List Event) (hands : ℕ → Hand) (ex : AreTied
 
       uncommitted : b ≡ answer.Committed → ⊥
       uncommitted e =
-          let z : IsCaused q.catalog (E (Some b)) c (one (Some b)) answer.Committed = subst (λ a. CanTell (calls_of (E (Some b)) c (one (Some b))) text a → IsCaused q.catalog (E (Some b)) c (one (Some b)) a) e caused tt in
+          let z : IsCaused q.catalog (E (Some b)) c (one (Some b)) answer.Committed = subst (λ a. is_conflict (Some a) ≡ false → IsCaused q.catalog (E (Some b)) c (one (Some b)) a) e caused refl in
           undecided (calls_of (E (Some b)) c (one (Some b))) z.0 (none_yet c events text (Some b)) z.2
 
   -- what its transaction has then noted
@@ -356,7 +356,7 @@ module _ (q : Taking) (events : List Event) (hands : ℕ → Hand) (ex : AreTied
       turned_away = λ a t. (refl, turned a (away (Some b) a t));
     });
     waits = tt;
-    moved = moved_all q.catalog events (event.Take c text (Some b)) c k.told (one (Some b)) k.answered k.moved (λ one_each. unmoved (E (Some b)) c (k.told ++ one (Some b) ∷ []) (one (Some b)) b refl agrees);
+    moved = moved_all q.catalog events (event.Take c text (Some b)) c k.told (one (Some b)) k.answered k.moved (unmoved (E (Some b)) c (k.told ++ one (Some b) ∷ []) (one (Some b)) b refl agrees);
     number = number ∙ k.number;
     begun = begun;
     small = small;
@@ -402,7 +402,7 @@ module _ (q : Taking) (events : List Event) (hands : ℕ → Hand) (ex : AreTied
       opened = ap (λ es. is_open es c) (before_taken events (event.Take c text None) text None) ∙ opened c ∙ open_txn;
       stays = λ a t. none (turned a (away None a t));
     };
-    moved = λ one_each. moved_still q.catalog events (event.Take c text None) c k.told k.told k.answered (k.moved (tell_back q.catalog events (event.Take c text None) c k.told k.answered one_each));
+    moved = moved_still q.catalog events (event.Take c text None) c k.told k.told k.answered k.moved;
     number = number ∙ k.number;
     begun = begun ∙ k.begun;
     small = subst (λ n. n < 2 ^ 64) (sym begun) k.small;
@@ -439,7 +439,7 @@ module _ (q : Taking) (events : List Event) (hands : ℕ → Hand) (ex : AreTied
   stands_none b p d f = (refl, after_more k.told (one (Some b)) ∙ ap (λ w. is_open_after w (one (Some b))) f ∙ after_plain false (one (Some b)) (undone_begins (one (Some b)) b refl d) (λ e. clash (sym e)))
 
   -- the open transaction, which does nothing, goes on
-  stands_held : (b : Answer) (p : Option Planned) (t u : TxnAt) → IsMiddle b → reads_commit text ≡ false → u.id ≡ t.id → u.doing ≡ doing.Idle → open_after k.told ≡ true → (o : IsOpenAs c h.begun k.told t) → (AllTellOne events c k.told → SeenBy (notes_told events c o.body) t.seen) → u.seen.reads ≡ t.seen.reads → u.seen.scans ≡ t.seen.scans → StandsIn (E (Some b)) c h.begun (k.told ++ one (Some b) ∷ []) None p (Some u)
+  stands_held : (b : Answer) (p : Option Planned) (t u : TxnAt) → IsMiddle b → reads_commit text ≡ false → u.id ≡ t.id → u.doing ≡ doing.Idle → open_after k.told ≡ true → (o : IsOpenAs c h.begun k.told t) → SeenBy (notes_told events c o.body) t.seen → u.seen.reads ≡ t.seen.reads → u.seen.scans ≡ t.seen.scans → StandsIn (E (Some b)) c h.begun (k.told ++ one (Some b) ∷ []) None p (Some u)
   stands_held b p t u m no_commit same idle is o noting r x = (
     after_more k.told (one (Some b)) ∙ ap (λ w. is_open_after w (one (Some b))) is ∙ after_plain true (one (Some b)) (undone_begins (one (Some b)) b refl m.undone) (λ e. middle_ends (one (Some b)) b refl m no_commit),
     open_more c h.begun k.told t u (one (Some b)) same (middle_ends (one (Some b)) b refl m no_commit) o,
@@ -450,7 +450,7 @@ module _ (q : Taking) (events : List Event) (hands : ℕ → Hand) (ex : AreTied
   idle_of : (t : TxnAt) → h.txn ≡ Some t → t.doing ≡ doing.Idle
   idle_of t e = subst (λ (o : Option TxnAt). IfSome o (λ u. u.doing ≡ doing.Idle)) e ready.idle.still
 
-  stands_open : (t : TxnAt) → h.txn ≡ Some t → (open_after k.told ≡ true) × (o : IsOpenAs c h.begun k.told t) × (AllTellOne events c k.told → SeenBy (notes_told events c o.body) t.seen)
+  stands_open : (t : TxnAt) → h.txn ≡ Some t → (open_after k.told ≡ true) × (o : IsOpenAs c h.begun k.told t) × SeenBy (notes_told events c o.body) t.seen
   stands_open t e = let s = subst (StandsIn events c h.begun k.told k.waiting h.plan) e stands_free in (s.0, s.1, subst (λ d. IsNoting events c k.told s.1.body t d k.waiting) (idle_of t e) s.3)
 
   noted_open : (t : TxnAt) → h.txn ≡ Some t → NotesAre so_noted t.seen.reads t.seen.scans
@@ -474,9 +474,9 @@ module _ (q : Taking) (events : List Event) (hands : ℕ → Hand) (ex : AreTied
   fit_open t e = subst (SeesFitIn q.catalog t.seen) (idle_of t e) (subst (λ (o : Option TxnAt). IfSome o (IsFit q.catalog)) e k.fits)
 
   -- what it sees it has
-  sees_open : (t : TxnAt) (e : h.txn ≡ Some t) → AllTellOne events c k.told → SeesOwn q.catalog events c (stands_open t e).1.body t.seen
-  sees_open t e one_each =
-      let s : SeesOwnIn q.catalog events c (rest_of (from_begin h.begun k.told)) t.seen t.doing = subst (λ (o : Option TxnAt). IfSome o (IsShowing q.catalog events c (rest_of (from_begin h.begun k.told)))) e (k.shows one_each).sees_own in
+  sees_open : (t : TxnAt) (e : h.txn ≡ Some t) → SeesOwn q.catalog events c (stands_open t e).1.body t.seen
+  sees_open t e =
+      let s : SeesOwnIn q.catalog events c (rest_of (from_begin h.begun k.told)) t.seen t.doing = subst (λ (o : Option TxnAt). IfSome o (IsShowing q.catalog events c (rest_of (from_begin h.begun k.told)))) e k.shows.sees_own in
       subst (λ r. SeesOwnIn q.catalog events c (rest_of r) t.seen doing.Idle) (stands_open t e).1.since (subst (SeesOwnIn q.catalog events c (rest_of (from_begin h.begun k.told)) t.seen) (idle_of t e) s)
 
   sees_reading : (t : TxnAt) → h.txn ≡ Some t → ShowsBy q.catalog events c k.told h → SeesOwn q.catalog (E None) c (rest_of (from_begin h.begun k.told)) t.seen
@@ -503,11 +503,11 @@ module _ (q : Taking) (events : List Event) (hands : ℕ → Hand) (ex : AreTied
           let o = (stands_open t e).1 in
           filled_idle (E (Some b)) c h.begun k.told (one (Some b)) o.begin o.body t o.since (idle_of t e) (filled_more events (event.Take c text (Some b)) c o.body (one (Some b)) t.seen (filled_open t e))
 
-      shows_by : (o : Option TxnAt) → h.txn ≡ o → AllTellOne (E (Some b)) c (k.told ++ one (Some b) ∷ []) → (open_after k.told ≡ true → GivesOwn q.catalog (E (Some b)) c (rest_of (from_begin (begun_in k.told) k.told)) (one (Some b)) b) × IfSome o (IsShowing q.catalog (E (Some b)) c (rest_of (from_begin h.begun (k.told ++ one (Some b) ∷ []))))
-      shows_by None e one_each = ((λ opens. clash (sym opens ∙ stands_closed e)), tt)
-      shows_by (Some t) e one_each =
+      shows_by : (o : Option TxnAt) → h.txn ≡ o → (open_after k.told ≡ true → GivesOwn q.catalog (E (Some b)) c (rest_of (from_begin (begun_in k.told) k.told)) (one (Some b)) b) × IfSome o (IsShowing q.catalog (E (Some b)) c (rest_of (from_begin h.begun (k.told ++ one (Some b) ∷ []))))
+      shows_by None e = ((λ opens. clash (sym opens ∙ stands_closed e)), tt)
+      shows_by (Some t) e =
           let o = (stands_open t e).1 in
-          next_same q.catalog c events (event.Take c text (Some b)) k.told k.answered h.begun o.begin o.body o.since t.seen (sees_open t e) (one (Some b)) b t refl (idles (ap is_some e)) (idle_of t e) refl one_each
+          next_same q.catalog c events (event.Take c text (Some b)) k.told k.answered h.begun o.begin o.body o.since t.seen (sees_open t e) (one (Some b)) b t refl (idles (ap is_some e)) (idle_of t e) refl
 
   as_told : (b : Answer) (result : Option Answer) (d : Client) → IsMiddle b → (is_some h.txn ≡ true → reads_commit text ≡ false) → (is_some h.txn ≡ true → changes_nothing b ≡ true) → IsTold h b result d → Caused b → Turned result → So result d
   as_told b result d m no_commit idles x caused turned = as_so (Some b) result h d x.answer x.same (same b m no_commit idles caused (subst Turned x.answer turned))
@@ -527,7 +527,7 @@ module _ (q : Taking) (events : List Event) (hands : ℕ → Hand) (ex : AreTied
   -- ended with its transaction
   at_end : (b : Answer) → is_conflict (Some b) ≡ false → Caused b → Turned (Some b) → begins (one (Some b)) ≡ false → ends (one (Some b)) ≡ true → ((body : List Said) → GivesOwn q.catalog (E (Some b)) c body (one (Some b)) b) → So (Some b) (resting h)
   at_end b agrees caused turned no_begin over tells =
-      at_once b (resting h) agrees caused turned refl (k.begun ∙ sym (begun_same k.told (one (Some b)) no_begin)) k.small (on_free (Some b) h.begun (k.told ++ one (Some b) ∷ []) None None None (refl, after_more k.told (one (Some b)) ∙ after_end (open_after k.told) (one (Some b)) b no_begin over refl)) tt tt tt (λ one_each. ((λ opens. tells (rest_of (from_begin (begun_in k.told) k.told))), tt))
+      at_once b (resting h) agrees caused turned refl (k.begun ∙ sym (begun_same k.told (one (Some b)) no_begin)) k.small (on_free (Some b) h.begun (k.told ++ one (Some b) ∷ []) None None None (refl, after_more k.told (one (Some b)) ∙ after_end (open_after k.told) (one (Some b)) b no_begin over refl)) tt tt tt ((λ opens. tells (rest_of (from_begin (begun_in k.told) k.told))), tt)
 
   begin_case : (o : Option TxnAt) (result : Option Answer) (d : Client) → h.txn ≡ o → Reads text statement.Begin → d.begun < 2 ^ 64 → Turned result → BeginTold q.gate q.fresh h o result d → So result d
   begin_case (Some t) result d e reads few turned x = as_refused (record { kind = 4; place = 0 }) result d (λ z. other_no_commit text statement.Begin reads (λ y. cc)) x (inr (inl (reads, opened c ∙ ap is_some e, refl))) turned
@@ -556,8 +556,8 @@ module _ (q : Taking) (events : List Event) (hands : ℕ → Hand) (ex : AreTied
       by false f y =
           as_so (Some answer.Done) result (with_begun h (next_id h)) d y.0 (y.1 ∙ ap (with_begun h) numbered)
           (at_once answer.Done (with_begun h (next_id h)) refl (λ z. inl reads) (subst Turned y.0 turned) refl (ap (λ n. n + 1) k.begun ∙ sym (begun_more k.told (one (Some answer.Done)) begun_now)) (subst (λ (x : Client). x.begun < 2 ^ 64) (y.1 ∙ ap (with_begun h) numbered) few)
-          (after_more k.told (one (Some answer.Done)) ∙ after_begin (open_after k.told) (one (Some answer.Done)) begun_now, opens, refl, λ one_each. record { reads = tt; scans = tt }) (subst (λ ss. NotesAre (notes_told (E (Some answer.Done)) c (rest_of ss)) [] []) (sym opens.since) (record { reads = refl; scans = refl }))
-          (filled_nothing (counted_told (rest_of (from_begin (h.begun + 1) (k.told ++ one (Some answer.Done) ∷ [])))) (found_told (E (Some answer.Done)) c (rest_of (from_begin (h.begun + 1) (k.told ++ one (Some answer.Done) ∷ []))))) (fit_nothing q.catalog) (λ one_each. ((λ was. tt), (λ key noted. clash (sym noted)))))
+          (after_more k.told (one (Some answer.Done)) ∙ after_begin (open_after k.told) (one (Some answer.Done)) begun_now, opens, refl, record { reads = tt; scans = tt }) (subst (λ ss. NotesAre (notes_told (E (Some answer.Done)) c (rest_of ss)) [] []) (sym opens.since) (record { reads = refl; scans = refl }))
+          (filled_nothing (counted_told (rest_of (from_begin (h.begun + 1) (k.told ++ one (Some answer.Done) ∷ [])))) (found_told (E (Some answer.Done)) c (rest_of (from_begin (h.begun + 1) (k.told ++ one (Some answer.Done) ∷ []))))) (fit_nothing q.catalog) ((λ was. tt), (λ key noted. clash (sym noted))))
 
   commit_case : (o : Option TxnAt) (result : Option Answer) (d : Client) → h.txn ≡ o → Reads text statement.Commit → Turned result → CommitTaken q.now h o result d → So result d
   commit_case None result d e reads turned x = as_refused (record { kind = 5; place = 0 }) result d (λ z. clash (sym z ∙ ap is_some e)) x (outside statement.Commit reads ((λ y. cc), (λ y. cc)) e) turned
@@ -568,8 +568,7 @@ module _ (q : Taking) (events : List Event) (hands : ℕ → Hand) (ex : AreTied
         s.0,
         record { begin = s.1.begin; body = s.1.body; since = s.1.since; goes_on = s.1.goes_on; id = s.1.id; client = s.1.client },
         record { text = (commit_read text).1 reads; same = refl; moment = moment; stage = subst (λ ms. StandsBy (work_of t q.now) ms (preparing (work_of t q.now) 0)) (sym (none_yet c events text None)) (begins_standing (work_of t q.now)) },
-        λ one_each.
-            let seen : SeenBy (notes_told (E None) c s.1.body) t.seen = noted_still q.catalog events (event.Take c text None) c h.begun k.told t s.1 k.answered t.seen s.2 one_each in
+        let seen : SeenBy (notes_told (E None) c s.1.body) t.seen = noted_still q.catalog events (event.Take c text None) c h.begun k.told t s.1 k.answered t.seen s.2 in
             (work_by (notes_told (E None) c s.1.body) t q.now seen (sound t e), subst (λ ms. ChecksBy (notes_told (E None) c s.1.body) (work_of t q.now) ms (preparing (work_of t q.now) 0)) (sym (none_yet c events text None)) (begins_checked (notes_told (E None) c s.1.body) (work_of t q.now))),
       ) (noted_open t e, ((commit_read text).1 reads, s.1.id, (sound t e).kept.fine, commit_begins so_noted (work_of t q.now))) tt tt tt (λ z. tt))
 
@@ -621,7 +620,7 @@ module _ (q : Taking) (events : List Event) (hands : ℕ → Hand) (ex : AreTied
       (λ b. let r = x.known b in as_so (Some (given_answer t (gives (plan_of table st) (access_of table st) t))) result (holding h (given_left t t (gives (plan_of table st) (access_of table st) t))) d r.0 r.1 (known (subst Turned r.0 turned)))
       (λ b. let r = x.unknown b in as_so None result (record h { txn = Some (reading t (access_of table st)); plan = Some (plan_of table st) }) d r.0 r.1 (unknown (subst Turned r.0 turned)))
     where
-      s : (open_after k.told ≡ true) × (o : IsOpenAs c h.begun k.told t) × (AllTellOne events c k.told → SeenBy (notes_told events c o.body) t.seen)
+      s : (open_after k.told ≡ true) × (o : IsOpenAs c h.begun k.told t) × SeenBy (notes_told events c o.body) t.seen
       s = stands_open t e
 
       idle : t.doing ≡ doing.Idle
@@ -658,15 +657,15 @@ module _ (q : Taking) (events : List Event) (hands : ℕ → Hand) (ex : AreTied
           (given_fits q.catalog (plan_of table st) (access_of table st) listed (own_table table st) is named refl taken (literals_read text st reads) refl t t (fit_open t e) (λ n. fit_open t e))
 
       shows_known : ShowsNext q.catalog (E (Some (given_now table st t))) c k.told (one (Some (given_now table st t))) (given_now table st t) (holding h (given_left t t (gives (plan_of table st) (access_of table st) t)))
-      shows_known one_each =
-          let before : SeesOwn q.catalog (E (Some (given_now table st t))) c s.1.body t.seen = sees_then q.catalog c events (event.Take c text (Some (given_now table st t))) k.told k.answered h.begun s.1.begin s.1.body s.1.since t.seen (sees_open t e) (one (Some (given_now table st t))) one_each in
+      shows_known =
+          let before : SeesOwn q.catalog (E (Some (given_now table st t))) c s.1.body t.seen = sees_then q.catalog c events (event.Take c text (Some (given_now table st t))) k.told k.answered h.begun s.1.begin s.1.body s.1.since t.seen (sees_open t e) (one (Some (given_now table st t))) in
           next_given q.catalog (E (Some (given_now table st t))) c h.begun k.told (one (Some (given_now table st t))) s.1.begin s.1.body (plan_of table st) (access_of table st) t t s.1.since k.begun is reads named refl refl refl (left_idle t t (gives (plan_of table st) (access_of table st) t) idle idle) (sound t e).kept.read (λ n. fit_open t e) before
           (λ told key noted. has_before q.catalog (E (Some (given_now table st t))) c s.1.body (one (Some (given_now table st t))) key (row_seen t.seen.notes t.seen.writes key) (before key noted))
 
       known : Turned (Some (given_answer t (gives (plan_of table st) (access_of table st) t))) → So (Some (given_answer t (gives (plan_of table st) (access_of table st) t))) (holding h (given_left t t (gives (plan_of table st) (access_of table st) t)))
       known turned =
           let m = given_middle (plan_of table st) (overlay (access_of table st) t.seen) t in
-          at_once (given_answer t (gives (plan_of table st) (access_of table st) t)) (holding h (given_left t t (gives (plan_of table st) (access_of table st) t))) m.agrees (given_caused q.catalog (E (Some (given_answer t (gives (plan_of table st) (access_of table st) t)))) c (one (Some (given_answer t (gives (plan_of table st) (access_of table st) t)))) (plan_of table st) (overlay (access_of table st) t.seen) t reads named refl open_before (λ key f z. absurd (none_unfits q.catalog (plan_of table st) (access_of table st) listed (own_table table st) t.seen key (fit_open t e) f)) passes) turned refl (begun_plain (given_answer t (gives (plan_of table st) (access_of table st) t)) m.undone) k.small
+          at_once (given_answer t (gives (plan_of table st) (access_of table st) t)) (holding h (given_left t t (gives (plan_of table st) (access_of table st) t))) m.agrees (given_caused q.catalog (E (Some (given_answer t (gives (plan_of table st) (access_of table st) t)))) c (one (Some (given_answer t (gives (plan_of table st) (access_of table st) t)))) (plan_of table st) (overlay (access_of table st) t.seen) t reads named refl open_before (λ key f. absurd (none_unfits q.catalog (plan_of table st) (access_of table st) listed (own_table table st) t.seen key (fit_open t e) f)) passes) turned refl (begun_plain (given_answer t (gives (plan_of table st) (access_of table st) t)) m.undone) k.small
           (on_free (Some (given_answer t (gives (plan_of table st) (access_of table st) t))) h.begun (k.told ++ one (Some (given_answer t (gives (plan_of table st) (access_of table st) t))) ∷ []) None None (Some (given_left t t (gives (plan_of table st) (access_of table st) t))) (stands_held (given_answer t (gives (plan_of table st) (access_of table st) t)) None t (given_left t t (gives (plan_of table st) (access_of table st) t)) m inner.commit (left_id t t (gives (plan_of table st) (access_of table st) t) refl) (left_idle t t (gives (plan_of table st) (access_of table st) t) idle idle) s.0 s.1 s.2 (left_reads t t (gives (plan_of table st) (access_of table st) t) refl refl).0 (left_reads t t (gives (plan_of table st) (access_of table st) t) refl refl).1))
           (known_noted (given_left t t (gives (plan_of table st) (access_of table st) t)) (left_reads t t (gives (plan_of table st) (access_of table st) t) refl refl) (left_idle t t (gives (plan_of table st) (access_of table st) t) idle idle)) left_filled left_fits shows_known
 

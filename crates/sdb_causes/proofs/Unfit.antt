@@ -41,7 +41,7 @@ use Rattle.sdb_model.specs.Access.{in_access}
 use Rattle.sdb_model.specs.Calls.{Made, records_read, records_shown}
 use Rattle.sdb_model.specs.Causes.{IsBad, is_fit, is_misfit}
 use Rattle.sdb_model.specs.Exec.{Tables, all_rows, find_table, named_table, row_of_entry}
-use Rattle.sdb_model.specs.Noted.{resolved}
+use Rattle.sdb_model.specs.Noted.{meaning_of}
 use Rattle.sdb_model.specs.Refused.{refusal_of}
 use Rattle.sdb_model.specs.Transactions.{changes_nothing}
 use Rattle.sdb_exec.specs.declared.plan.PlanStep.TheVariants.{Finished}
@@ -61,13 +61,13 @@ use Rattle.sdb_steps.specs.Fitting.{row_fits, tables_fit}
 use Rattle.sdb_steps.proofs.InTables.{access_table}
 use Rattle.sdb_steps.proofs.RowsFit.{answers_on}
 use Rattle.sdb_causes.specs.Commits.{IsBadRow, ShowsBad}
-use Rattle.sdb_causes.specs.Moves.{HasRead, IsRows, IsSettledAs, TellOne}
+use Rattle.sdb_causes.specs.Moves.{HasRead, IsRows, IsSettledAs}
 use Rattle.sdb_causes.specs.Unfit.{SeesFit, ShowStored, shows_stored}
 use Rattle.sdb_causes.proofs.Filled.{found_all}
 use Rattle.sdb_causes.proofs.Given.{asked_gives, found_so, inside_access, passes_all}
 use Rattle.sdb_causes.proofs.Lists.{each_in, each_kept}
 use Rattle.sdb_causes.proofs.ReadSteps.{IsDataTable}
-use Rattle.sdb_causes.proofs.Settling.{resolved_as}
+use Rattle.sdb_causes.proofs.Settling.{settled_means}
 
 ---- records of no form
 
@@ -339,8 +339,8 @@ module _ (catalog : List Table) (p : Planned) (a : Access) (listed : find_table 
             (sym (get-entries (tables_seen (noting t a images).seen) q) ∙ get_seen (noting t a images).seen.notes (noting t a images).seen.writes q ∙ found) r.inside
 
     -- and one that doesn't is that of a record that was read
-    pub misfit_read : (key : Key) → TellOne calls → IsDataTable (access_table a) → first_unfit p.table (overlay a (noting t a images).seen) ≡ Some key → (r : Record) × Contains (records_read h.first.reply) r × (r.key ≡ key) × (is_misfit catalog calls r ≡ true)
-    misfit_read key one is e = by (row_new t a images key row.columns row.seen)
+    pub misfit_read : (key : Key) → IsDataTable (access_table a) → first_unfit p.table (overlay a (noting t a images).seen) ≡ Some key → (r : Record) × Contains (records_read h.first.reply) r × (r.key ≡ key) × (is_misfit catalog calls r ≡ true)
+    misfit_read key is e = by (row_new t a images key row.columns row.seen)
       where
         row : IsUnfitRow p.table a (noting t a images).seen key
         row = unfit_row p.table a (noting t a images).seen key e
@@ -352,10 +352,10 @@ module _ (catalog : List Table) (p : Planned) (a : Access) (listed : find_table 
               r.found,
               r.shown,
               r.key,
-              ap (λ (k : Key). not (is_coordinator_table k.table) && option_map_or (λ columns. not (is_fit catalog k columns)) (option_and_then row_of_image (resolved calls r.found)) false) r.key
-                  ∙ ap (λ x. not (is_coordinator_table x) && option_map_or (λ columns. not (is_fit catalog key columns)) (option_and_then row_of_image (resolved calls r.found)) false) (inside_access a key row.inside)
-                  ∙ ap (λ x. x && option_map_or (λ columns. not (is_fit catalog key columns)) (option_and_then row_of_image (resolved calls r.found)) false) is
-                  ∙ ap (λ o. option_map_or (λ columns. not (is_fit catalog key columns)) (option_and_then row_of_image o) false) (resolved_as calls (r.found, Some b) one r.settled)
+              ap (λ (k : Key). not (is_coordinator_table k.table) && option_map_or (λ columns. not (is_fit catalog k columns)) (option_and_then row_of_image (meaning_of calls r.found)) false) r.key
+                  ∙ ap (λ x. not (is_coordinator_table x) && option_map_or (λ columns. not (is_fit catalog key columns)) (option_and_then row_of_image (meaning_of calls r.found)) false) (inside_access a key row.inside)
+                  ∙ ap (λ x. x && option_map_or (λ columns. not (is_fit catalog key columns)) (option_and_then row_of_image (meaning_of calls r.found)) false) is
+                  ∙ ap (λ o. option_map_or (λ columns. not (is_fit catalog key columns)) (option_and_then row_of_image o) false) (settled_means calls (r.found, Some b) r.settled)
                   ∙ ap (λ o. option_map_or (λ columns. not (is_fit catalog key columns)) o false) g
                   ∙ ap (λ (o : Option Table). not (option_map_or (λ x. fits_table x key row.columns) o true)) (table_at key row.inside)
                   ∙ ap not row.unfit,

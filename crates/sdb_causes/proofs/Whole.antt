@@ -1,11 +1,11 @@
 -- Whatever event comes, what ties the events to all clients is kept; and what follows of it.
 use Rattle.std.proofs.Common.{◌≡◌, ◌<◌, ◌^◌, ◌+◌, ◌==◌, ◌⊎◌, inl, inr, ℕ, zero, suc, ℤ, Bool, true, false, List, [], ◌∷◌, ◌++◌, length, Option, Some, None, refl, sym, ap, subst, ◌∙◌, arith}
-use Rattle.std.specs.Prelude.{if◌then◌else◌, ◌||◌, find, is_some, pos, IfSome, Contains, MatchBool}
+use Rattle.std.specs.Prelude.{if◌then◌else◌, ◌||◌, find, is_some, pos, IfSome, Contains}
 use Rattle.std.specs.List.{AllByRecursion}
 use Rattle.std.specs.Option.{option_and_then}
 use Rattle.std.proofs.lemmas.Bool.{eqb-false, eqb-true, ne_eqb}
 use Rattle.std.proofs.lemmas.List.{append-nil, append_assoc}
-use Rattle.std.proofs.lemmas.List.Elements.{All-contains_itself, Contains-append_cases, Contains-append_left, Contains-append_right, Contains-push, Contains-push_cases, recursion_from_All}
+use Rattle.std.proofs.lemmas.List.Elements.{Contains-append_cases, Contains-append_right, Contains-push, Contains-push_cases}
 use Rattle.sdb_types.specs.declared.key.Key.{Key}
 use Rattle.sdb_types.specs.declared.record.Record.{Record}
 use Rattle.sdb_types.specs.declared.record.Reply.{Reply}
@@ -19,13 +19,13 @@ use Rattle.sdb_model.specs.declared.event.Event.{Event}
 use Rattle.sdb_model.specs.declared.event.Event.TheVariants as event
 use Rattle.sdb_model.specs.declared.event.How.{How}
 use Rattle.sdb_model.specs.Rows.{Name}
-use Rattle.sdb_model.specs.Calls.{calls_of, made_by, Made}
+use Rattle.sdb_model.specs.Calls.{calls_of, made_by}
 use Rattle.sdb_model.specs.Noted.{noted_in}
 use Rattle.sdb_model.specs.Sql.{reads_commit}
 use Rattle.sdb_model.specs.Causes.{ConflictsAtCommit, IsCaused, IsCommitOf, IsConflict, IsTurnedAway, before}
 use Rattle.sdb_model.specs.Exec.{Tables, find_table}
 use Rattle.sdb_model.specs.Follows.{has_stopped, stops}
-use Rattle.sdb_model.specs.Transactions.{Said, ends, from_begin, id_of, ordinal_of, rest_of, said, statements_of, through_end, with_answer}
+use Rattle.sdb_model.specs.Transactions.{Said, ends, from_begin, id_of, is_conflict, ordinal_of, rest_of, said, statements_of, through_end, with_answer}
 use Rattle.sdb_client.specs.Client.{ClientAt as Client, ReplyTold, Taking, nothing_done, next_id}
 use Rattle.sdb_snapshot.specs.Held.{WereRead}
 use Rattle.sdb_laws.specs.Lawful.{is_data}
@@ -42,14 +42,14 @@ use Rattle.sdb_read.specs.Read.{ReadAt}
 use Rattle.sdb_record.specs.declared.access.Access.{Access}
 use Rattle.sdb_txn.specs.declared.txn.Doing.TheVariants as doing
 use Rattle.sdb_txn.specs.Txn.{TxnAt}
-use Rattle.sdb_types.proofs.Basics.{none_some, some_is, clash, all_each as each_any, or_false, itself}
-use Rattle.sdb_causes.specs.Tied.{AnswersHaveCauses, ConflictsHaveCauses, IsAnswered, AreTied, IsGate, IsWaiting, Knows, is_caused, with_stopped, CanTell}
+use Rattle.sdb_types.proofs.Basics.{none_some, some_is, all_each as each_any, or_false, itself}
+use Rattle.sdb_causes.specs.Tied.{AnswersHaveCauses, IsAnswered, AreTied, IsGate, IsWaiting, Knows, with_stopped}
 use Rattle.sdb_causes.specs.Unfit.{shows_stored}
 use Rattle.sdb_causes.proofs.Calls.{clock_more}
 use Rattle.sdb_causes.proofs.Knowing.{knows_still}
 use Rattle.sdb_causes.specs.Counts.{CommitsFit}
 use Rattle.sdb_causes.specs.Shows.{AllGiveOwn}
-use Rattle.sdb_causes.specs.Moves.{AllTellOne, IsMovedIn, MovesAtScan, MovesBy, TellOne, notes_told}
+use Rattle.sdb_causes.specs.Moves.{IsMovedIn, MovesAtScan, MovesBy, notes_told}
 use Rattle.sdb_causes.proofs.Counting.{calls_counted}
 use Rattle.sdb_causes.proofs.Lists.{each_in, since_more}
 use Rattle.sdb_causes.proofs.Moving.{IsTaken, IsTold}
@@ -214,7 +214,7 @@ starts_all catalog hands fresh = record {
     none_told c n begin body s tail a since goes is = absurd (let e : [] ≡ begin ∷ (body ++ s ∷ tail) = sym (none_begins n) ∙ since in cc)
 
     nothing : (c : ℕ) → Knows catalog [] c (nothing_done c)
-    nothing c = record { told = []; waiting = None; same = refl; answered = tt; waits = tt; moved = λ one. tt; number = refl; begun = refl; small = positive; stands = (refl, refl); counted = record { answered = tt; commits = no_commits c; paired = tt; noted = tt; waits = tt }; filled = tt; fits = tt; stored = tt; rolled = record { answered = tt; waits = tt }; shows = λ one. record { told_own = none_told c; sees_own = tt } }
+    nothing c = record { told = []; waiting = None; same = refl; answered = tt; waits = tt; moved = tt; number = refl; begun = refl; small = positive; stands = (refl, refl); counted = record { answered = tt; commits = no_commits c; paired = tt; noted = tt; waits = tt }; filled = tt; fits = tt; stored = tt; rolled = record { answered = tt; waits = tt }; shows = record { told_own = none_told c; sees_own = tt } }
 
 ---- what follows
 
@@ -288,14 +288,11 @@ module _ (catalog : List Table) (events : List Event) (c : ℕ) (h : Client) (k 
   moved_is : IsConflict events c s key found
   moved_is = moved_by (reads_commit s.text) refl m.why
 
-scans_moved : (catalog : List Table) (events : List Event) (now : ℤ) (hands : ℕ → Hand) → AreTied catalog events now hands → ConflictsHaveCauses events
-scans_moved catalog events now hands ex c tell s key found has is = by (answered_or (Contains-append_cases k.told (waiting_of k.waiting) s (subst (λ ss. Contains ss s) k.same has)))
+scans_moved : (catalog : List Table) (events : List Event) (now : ℤ) (hands : ℕ → Hand) → AreTied catalog events now hands → (c : ℕ) (s : Said) (key : Key) (found : Option Record) → Contains (said c events) s → s.answer ≡ Some (answer.Conflict key found) → IsConflict events c s key found
+scans_moved catalog events now hands ex c s key found has is = by (answered_or (Contains-append_cases k.told (waiting_of k.waiting) s (subst (λ ss. Contains ss s) k.same has)))
   where
     k : Knows catalog events c (hands c).client
     k = ex.each c
-
-    one : AllTellOne events c k.told
-    one = each_any (Contains k.told) (λ x. TellOne (calls_of events c x)) k.told (λ x z. tell x (subst (λ ss. Contains ss x) (sym k.same) (Contains-append_left k.told (waiting_of k.waiting) x z))) (recursion_from_All (Contains k.told) k.told (All-contains_itself k.told))
 
     unanswered : (o : Option Said) → IfSome o (IsWaiting catalog events c (is_some (hands c).client.vacuum)) → Contains (waiting_of o) s → ⊥
     unanswered None w x = absurd (omega (arith, x.1))
@@ -310,50 +307,31 @@ scans_moved catalog events now hands ex c tell s key found has is = by (answered
     answered_or (inr x) = absurd (unanswered k.waiting k.waits x)
 
     by : Contains k.told s → IsConflict events c s key found
-    by x = moved_is catalog events c (hands c).client k s key found (each_in (λ y. (z : Key) (f : Option Record) → y.answer ≡ Some (answer.Conflict z f) → IsMovedIn events c k.told y z f) k.told s (k.moved one) x key found is)
+    by x = moved_is catalog events c (hands c).client k s key found (each_in (λ y. (z : Key) (f : Option Record) → y.answer ≡ Some (answer.Conflict z f) → IsMovedIn events c k.told y z f) k.told s k.moved x key found is)
 
 ---- all answers
 
-can_tell : (calls : List Made) (text : List ℕ) (a : Answer) → is_caused text a ≡ true → CanTell calls text a
-can_tell calls text (answer.Rows rows) t = tt
-can_tell calls text (answer.Count n) t = tt
-can_tell calls text answer.Done t = tt
-can_tell calls text answer.Committed t = tt
-can_tell calls text (answer.Duplicate key) t = tt
-can_tell calls text (answer.Busy key id at) t = tt
-can_tell calls text (answer.Conflict key found) t = clash (sym t)
-can_tell calls text (answer.Expired id) t = tt
-can_tell calls text answer.Faulted t = tt
-can_tell calls text (answer.Unknown id) t = tt
-can_tell calls text (answer.BadRecord key) t = subst (λ b. MatchBool b (Unit {0}) (TellOne calls)) (sym t) tt
-can_tell calls text (answer.Refused r) t = tt
-can_tell calls text answer.Vacuuming t = tt
-can_tell calls text answer.OpenTransactions t = tt
-can_tell calls text answer.NoMemory t = tt
-
-tells_bad : (calls : List Made) (text : List ℕ) (key : Key) → TellOne calls → CanTell calls text (answer.BadRecord key)
-tells_bad calls text key one = by (is_caused text (answer.BadRecord key))
-  where
-    by : (b : Bool) → MatchBool b (Unit {0}) (TellOne calls)
-    by true = tt
-    by false = one
+-- what is so of Conflict, and of each other answer
+by_conflict : (P : Answer → Type 0) (a : Answer) → ((key : Key) (found : Option Record) → a ≡ answer.Conflict key found → P a) → (is_conflict (Some a) ≡ false → P a) → P a
+by_conflict P (answer.Conflict key found) moved other = moved key found refl
+by_conflict P a moved other = other refl
 
 pub explained : (catalog : List Table) (events : List Event) (now : ℤ) (hands : ℕ → Hand) → AreTied catalog events now hands → AnswersHaveCauses catalog events
 explained catalog events now hands ex = record {
-  caused = λ c s a has is t. caused_by c s a is (can_tell (calls_of events c s) s.text a t) (answered_said catalog events c (hands c).client (ex.each c) s has);
-  turned_away = λ c s a has away. turned_by c s a away (answered_said catalog events c (hands c).client (ex.each c) s has);
-  conflicts = scans_moved catalog events now hands ex;
+  caused = record {
+    caused = λ c s a has is. by_conflict (IsCaused catalog events c s) a (λ key found same. subst (IsCaused catalog events c s) (sym same) (scans_moved catalog events now hands ex c s key found has (is ∙ ap Some same))) (λ plain. caused_by c s a is plain (answered_said catalog events c (hands c).client (ex.each c) s has));
+    turned_away = λ c s a has away. turned_by c s a away (answered_said catalog events c (hands c).client (ex.each c) s has);
+  };
   counted = calls_counted catalog events now hands ex;
   rolled = records_rolled catalog events now hands ex;
   shown = rows_shown catalog events now hands ex;
-  bad_records = λ c s key has is one. caused_by c s (answer.BadRecord key) is (tells_bad (calls_of events c s) s.text key one) (answered_said catalog events c (hands c).client (ex.each c) s has);
 }
   where
-    caused_by : (c : ℕ) (s : Said) (a : Answer) → s.answer ≡ Some a → CanTell (calls_of events c s) s.text a → IsAnswered catalog events c s ⊎ IsWaiting catalog events c (is_some (hands c).client.vacuum) s → IsCaused catalog events c s a
-    caused_by c s a is t (inl k) =
+    caused_by : (c : ℕ) (s : Said) (a : Answer) → s.answer ≡ Some a → is_conflict (Some a) ≡ false → IsAnswered catalog events c s ⊎ IsWaiting catalog events c (is_some (hands c).client.vacuum) s → IsCaused catalog events c s a
+    caused_by c s a is plain (inl k) =
         let same : k.given ≡ a = some_is k.given a (sym k.is ∙ is) in
-        subst (IsCaused catalog events c s) same (k.caused (subst (CanTell (calls_of events c s) s.text) (sym same) t))
-    caused_by c s a is t (inr w) = none_some a (sym w.unanswered ∙ is)
+        subst (IsCaused catalog events c s) same (k.caused (ap (λ (x : Answer). is_conflict (Some x)) same ∙ plain))
+    caused_by c s a is plain (inr w) = none_some a (sym w.unanswered ∙ is)
 
     turned_by : (c : ℕ) (s : Said) (a : Answer) → IsTurnedAway catalog (before s events) c s.text a → IsAnswered catalog events c s ⊎ IsWaiting catalog events c (is_some (hands c).client.vacuum) s → (s.reached ≡ s.taken) × ((s.answer ≡ Some a) ⊎ (s.answer ≡ Some answer.NoMemory))
     turned_by c s a away (inl k) = k.turned_away a away

@@ -1,5 +1,5 @@
--- What a statement that reads has settled the records as that it found, by what its calls showed.
-use Rattle.std.specs.Prelude.{◌≡◌, ◌⊎◌, ◌<◌, ◌^◌, ℕ, Bool, true, false, List, [], ◌∷◌, ◌++◌, map, filter, Option, Some, IfSome, Contains}
+-- What a statement that reads has settled the records as that it found, which is what they mean by its calls.
+use Rattle.std.specs.Prelude.{◌≡◌, ◌⊎◌, ◌<◌, ◌^◌, ℕ, Bool, true, false, List, [], ◌∷◌, ◌++◌, map, filter, find, Option, Some, IfSome, Contains}
 use Rattle.std.specs.List.{AllByRecursion, filter_map, flat_map, list_all}
 use Rattle.std.specs.Option.{option_and_then}
 use Rattle.sdb_types.specs.declared.txid.TxId.{TxId}
@@ -11,7 +11,7 @@ use Rattle.sdb_types.specs.declared.record.Request.TheVariants as ask
 use Rattle.sdb_types.specs.declared.record.Span.{Span}
 use Rattle.sdb_types.specs.declared.record.State.TheVariants as state
 use Rattle.sdb_types.specs.declared.key.Key.{Key}
-use Rattle.sdb_types.specs.Contents.{CanAnswer, in_span, record_among}
+use Rattle.sdb_types.specs.Contents.{CanAnswer, in_span, record_among, rise}
 use Rattle.sdb_record.specs.declared.coordinator.Decided.{Decided}
 use Rattle.sdb_record.specs.declared.coordinator.Decision.{Decision}
 use Rattle.sdb_record.specs.declared.coordinator.Decision.TheVariants as decision
@@ -19,8 +19,8 @@ use Rattle.sdb_record.specs.Meta.{id_in, is_in, is_moment}
 use Rattle.sdb_record.specs.Moved.{version_of}
 use Rattle.sdb_record.specs.Rolls.{IsWrite, image_under}
 use Rattle.sdb_model.specs.declared.event.Event.{Event}
-use Rattle.sdb_model.specs.Calls.{Made, calls_of, decision_shown, records_read}
-use Rattle.sdb_model.specs.Noted.{Got, Note, Scanned, notes_in, reads_rows, resolved, version_noted, is_from_rows}
+use Rattle.sdb_model.specs.Calls.{Made, calls_of, decision_shown, put_by, records_read}
+use Rattle.sdb_model.specs.Noted.{Got, Note, Scanned, meaning_of, notes_in, reads_rows, rolls, version_noted, is_from_rows}
 use Rattle.sdb_model.specs.Transactions.{Said, ends, from_begin, id_of, is_effective}
 use Rattle.sdb_model.specs.declared.answer.Answer.TheVariants as answer
 use Rattle.sdb_model.specs.Causes.{ConflictsAtCommit, HasMoved}
@@ -32,11 +32,8 @@ use Rattle.sdb_read.specs.declared.read.ReadStep.{ReadStep}
 use Rattle.sdb_read.specs.declared.read.ReadStep.TheVariants as step
 use Rattle.sdb_read.specs.Read.{Asking, Ended, ReadStage, Resolving}
 use Rattle.sdb_snapshot.specs.Seen.{Seen}
+use Rattle.sdb_story.specs.Calls.{IsUnrolled}
 use Rattle.sdb_validate.specs.Rescan.{reads_rise}
-
--- No two calls show different decisions on a transaction.
-abbrev pub TellOne : List Made → Type 0
-TellOne calls = (id : TxId) (m x : Made) (a b : Decided) → id.0 < 2 ^ 128 → Contains calls m → Contains calls x → decision_shown id m ≡ Some a → decision_shown id x ≡ Some b → a ≡ b
 
 -- a call showed this decision on a transaction
 pub record HasShown (calls : List Made) (id : TxId) (d : Decided) : Type 0 where
@@ -44,14 +41,17 @@ pub record HasShown (calls : List Made) (id : TxId) (d : Decided) : Type 0 where
   pub among : Contains calls call
   pub shown : decision_shown id call ≡ Some d
 
--- a record that is rolled by a decision that was shown on its transaction
+-- A record was rolled: by a decision that a call showed on its transaction, and the call that rolled it put what this makes of it.
 pub record IsRolledAs (calls : List Made) (r : Record) (o : Option Record) : Type 0 where
   pub id : TxId
   pub decided : Decided
+  pub roll : Made
   pub open_still : is_in state.Committed r.columns ≡ false
   pub writer : id_in r.columns ≡ Some id
   pub shown : HasShown calls id decided
   pub image : o ≡ image_under r (Some decided)
+  pub rolled : find (rolls r) calls ≡ Some roll
+  pub puts : put_by roll.request ≡ o
 
 -- A record that was found, with what it was settled as: itself where it is committed, or what it was rolled to.
 pub record IsSettledAs (calls : List Made) (e : Record × Option Record) : Type 0 where
@@ -76,7 +76,7 @@ IsRows (reply.Rows rows) = Unit {0}
 IsRows r = ⊥
 
 -- The first call asked for the rows, and no other reads rows of tables; the rows up to these that are left were settled, and these are
--- the images.
+-- the images; no call rolled one that is left.
 pub record HasRead (q : Request) (calls : List Made) (images left : List Record) : Type 0 where
   pub first : Made
   pub rest : List Made
@@ -89,6 +89,8 @@ pub record HasRead (q : Request) (calls : List Made) (images left : List Record)
   pub settled : AllByRecursion (IsSettledAs calls) steps
   pub rows : records_read first.reply ≡ map (λ e. e.0) steps ++ left
   pub images_are : images ≡ filter_map (λ e. e.1) steps
+  pub unrolled : AllByRecursion (IsUnrolled calls) left
+  pub rises : rise left ≡ true
 
 abbrev pub EndShows : Request → List Made → ReadStep → Type 0
 EndShows q calls (step.Images images) = HasRead q calls images []
@@ -126,11 +128,11 @@ pub record WorkBy (notes : List Note) (p : Work) : Type 0 where
 abbrev pub notes_told : List Event → ℕ → List Said → List Note
 notes_told events c body = flat_map (λ s. notes_in (calls_of events c s)) (filter is_from_rows (filter is_effective body))
 
--- A scan of a statement found, once its rows were resolved, something else at a key than was noted there.
+-- What a scan of a statement found at a key, by what its rows mean, is something else than was noted there.
 abbrev pub MovesAtScan : List Made → List Note → Key → Option Record → Type 0
 MovesAtScan calls notes key found =
     (m : Made) × (span : Span) × (rows : List Record) × Contains calls m × (m.request ≡ ask.Scan span) × (m.reply ≡ reply.Rows rows) × (in_span span key ≡ true)
-    × (found ≡ option_and_then (resolved calls) (record_among rows key)) × HasMoved notes key found
+    × (found ≡ option_and_then (meaning_of calls) (record_among rows key)) × HasMoved notes key found
 
 -- Why a statement moved, by whether it is COMMIT: a call of the COMMIT found something else, or such a scan.
 abbrev pub MovesBy : Bool → TxId → List Made → List Note → Key → Option Record → Type 0
@@ -152,7 +154,3 @@ pub record IsMovedIn (events : List Event) (c : ℕ) (told : List Said) (s : Sai
 -- each of these statements that was answered Conflict did so
 abbrev pub AreMoved : List Event → ℕ → List Said → List Said → Type 0
 AreMoved events c told ss = AllByRecursion (λ s. (key : Key) (found : Option Record) → s.answer ≡ Some (answer.Conflict key found) → IsMovedIn events c told s key found) ss
-
--- the calls of none of these statements show two decisions on a transaction
-abbrev pub AllTellOne : List Event → ℕ → List Said → Type 0
-AllTellOne events c ss = AllByRecursion (λ s. TellOne (calls_of events c s)) ss

@@ -13,7 +13,6 @@ use Rattle.sdb_model.specs.declared.event.Event.{Event}
 use Rattle.sdb_model.specs.declared.statement.Select.{Select}
 use Rattle.sdb_model.specs.declared.statement.Statement.{Statement}
 use Rattle.sdb_model.specs.declared.statement.Statement.TheVariants as statement
-use Rattle.sdb_model.specs.Calls.{calls_of}
 use Rattle.sdb_model.specs.Exec.{find_table, shown}
 use Rattle.sdb_model.specs.Explained.{IsTableKey}
 use Rattle.sdb_model.specs.Noted.{is_from_rows}
@@ -27,7 +26,6 @@ use Rattle.sdb_txn.specs.declared.txn.Doing.{Doing}
 use Rattle.sdb_txn.specs.declared.txn.Doing.TheVariants as doing
 use Rattle.sdb_txn.specs.Txn.{TxnAt}
 use Rattle.sdb_client.specs.Client.{ClientAt}
-use Rattle.sdb_causes.specs.Moves.{TellOne}
 
 ---- the row of a key
 
@@ -115,10 +113,5 @@ pub record ShowsBy (catalog : List Table) (events : List Event) (c : ℕ) (told 
 abbrev pub ShowsOwnOf : List Table → List Event → ℕ → Type 0
 ShowsOwnOf catalog events c = (id : TxId) (s : Said) (a : Answer) → client_of id ≡ c → Contains (statements_of events id) s → s.answer ≡ Some a → ShowsOwn catalog (WasRead catalog events c) events id s a
 
--- the calls of no statement of a client show two decisions on a transaction
-abbrev pub CallsAgree : List Event → ℕ → Type 0
-CallsAgree events c = (s : Said) → Contains (said c events) s → TellOne (calls_of events c s)
-
--- So it is where the calls of no statement of the client show two decisions on a transaction.
 abbrev pub RowsAreShown : List Table → List Event → Type 0
-RowsAreShown catalog events = (c : ℕ) → CallsAgree events c → ShowsOwnOf catalog events c
+RowsAreShown catalog events = (c : ℕ) → ShowsOwnOf catalog events c

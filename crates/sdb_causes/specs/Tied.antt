@@ -1,21 +1,18 @@
 -- What ties the events of a run to its clients, so that each answer has its cause: what a client said, why each statement was answered
 -- so, and what the calls of the statement that waits say of where the client is.
-use Rattle.std.specs.Prelude.{◌≡◌, ◌≢◌, ◌⊎◌, ◌<◌, ◌≤◌, ◌^◌, ℕ, suc, ℤ, not, if◌then◌else◌, ◌||◌, Bool, true, false, List, [], ◌∷◌, ◌++◌, length, fold, Option, Some, None, IfSome, is_some, MatchBool, Contains}
+use Rattle.std.specs.Prelude.{◌≡◌, ◌≢◌, ◌⊎◌, ◌<◌, ◌≤◌, ◌^◌, ℕ, suc, ℤ, not, if◌then◌else◌, Bool, true, false, List, [], ◌∷◌, ◌++◌, length, fold, Option, Some, None, IfSome, is_some}
 use Rattle.std.specs.List.{AllByRecursion}
-use Rattle.sdb_types.specs.declared.key.Key.{Key}
-use Rattle.sdb_types.specs.declared.record.Record.{Record}
 use Rattle.sdb_schema.specs.declared.table.Table.{Table}
 use Rattle.sdb_model.specs.declared.answer.Answer.{Answer}
 use Rattle.sdb_model.specs.declared.answer.Answer.TheVariants as answer
 use Rattle.sdb_model.specs.declared.event.Event.{Event}
-use Rattle.sdb_model.specs.Calls.{Made, calls_by, calls_of, clock_at}
-use Rattle.sdb_model.specs.Causes.{IsBadRecord, IsCaused, IsConflict, IsTurnedAway, before, is_open, is_open_after}
+use Rattle.sdb_model.specs.Calls.{calls_by, calls_of, clock_at}
+use Rattle.sdb_model.specs.Causes.{AreCaused, IsCaused, IsTurnedAway, before, is_open, is_open_after}
 use Rattle.sdb_model.specs.Follows.{has_stopped}
 use Rattle.sdb_model.specs.Sql.{Reads, reads_begin, reads_commit, reads_vacuum}
-use Rattle.sdb_model.specs.Transactions.{Said, begins, ends, from_begin, id_of, rest_of, said}
+use Rattle.sdb_model.specs.Transactions.{Said, begins, ends, from_begin, id_of, is_conflict, rest_of, said}
 use Rattle.sdb_exec.specs.Plans.{Planned}
 use Rattle.sdb_laws.specs.History.{at}
-use Rattle.sdb_record.specs.Coordinator.{is_coordinator_table}
 use Rattle.sdb_record.specs.Meta.{is_moment}
 use Rattle.sdb_commit.specs.Phases.{CommitAt}
 use Rattle.sdb_read.specs.Read.{ReadAt}
@@ -32,35 +29,23 @@ use Rattle.sdb_causes.specs.Commits.{StandsBy}
 use Rattle.sdb_causes.specs.Conflicts.{ChecksBy}
 use Rattle.sdb_causes.specs.Counts.{CallsAreCounted, CountsBy}
 use Rattle.sdb_causes.specs.Filled.{IsFilled}
-use Rattle.sdb_causes.specs.Moves.{AllTellOne, AreMoved, SeenBy, ShowsAt, TellOne, WorkBy, notes_told}
+use Rattle.sdb_causes.specs.Moves.{AreMoved, SeenBy, ShowsAt, WorkBy, notes_told}
 use Rattle.sdb_causes.specs.Reads.{ReadsBy}
 use Rattle.sdb_causes.specs.Rolled.{RecordsAreRolled, RollsBy}
 use Rattle.sdb_causes.specs.Shows.{RowsAreShown, ShowsBy}
 use Rattle.sdb_causes.specs.Sweeps.{VacuumBy}
 use Rattle.sdb_causes.specs.Unfit.{IsFit, ShowStored}
 
--- The answers to a text of which the cause is told over whatever replies: all but Conflict, and BadRecord of a record of a table to a
--- statement that is no COMMIT and no VACUUM.
-abbrev pub is_caused : List ℕ → Answer → Bool
-is_caused text (answer.Conflict key found) = false
-is_caused text (answer.BadRecord key) = reads_commit text || reads_vacuum text || is_coordinator_table key.table
-is_caused text a = true
-
--- Of such a BadRecord too, where no two calls of the statement show different decisions on a transaction.
-abbrev pub CanTell : List Made → List ℕ → Answer → Type 0
-CanTell calls text (answer.Conflict key found) = ⊥
-CanTell calls text (answer.BadRecord key) = MatchBool (is_caused text (answer.BadRecord key)) (Unit {0}) (TellOne calls)
-CanTell calls text a = Unit {0}
-
 ---- one client
 
--- A statement that was answered within the events so far: its answer has its cause, and where it was to be turned away it was.
+-- A statement that was answered within the events so far: its answer has its cause, unless it is Conflict, and where it was to be turned
+-- away it was.
 pub record IsAnswered (catalog : List Table) (events : List Event) (c : ℕ) (s : Said) : Type 0 where
   pub given : Answer
   pub is : s.answer ≡ Some given
   pub taken : s.taken ≤ length events
   pub answered : s.reached ≤ length events
-  pub caused : CanTell (calls_of events c s) s.text given → IsCaused catalog events c s given
+  pub caused : is_conflict (Some given) ≡ false → IsCaused catalog events c s given
   pub turned_away : (a : Answer) → IsTurnedAway catalog (before s events) c s.text a → (s.reached ≡ s.taken) × ((s.answer ≡ Some a) ⊎ (s.answer ≡ Some answer.NoMemory))
 
 -- A statement that waits for its answer: it is a VACUUM that was taken outside of transactions, or its transaction was open when it was
@@ -112,13 +97,12 @@ IsDoing events c t (Some p) (Some w) (doing.Read a x) = IsReading events c w p x
 IsDoing events c t p (Some w) (doing.Commit k) = IsCommitting events c w t k
 IsDoing events c t p w d = ⊥
 
--- What was noted is what the transaction has read, where no statement's calls showed two decisions on a transaction; and so it is with what
--- its COMMIT takes, prepares and checks.
+-- What was noted is what the transaction has read; and so it is with what its COMMIT takes, prepares and checks.
 abbrev pub IsNoting : List Event → ℕ → List Said → List Said → TxnAt → Doing → Option Said → Type 0
 IsNoting events c told body t (doing.Commit k) None = Unit {0}
 IsNoting events c told body t (doing.Commit k) (Some w) =
-    AllTellOne events c told → WorkBy (notes_told events c body) k.work × ChecksBy (notes_told events c body) k.work (calls_of events c w) k.stage
-IsNoting events c told body t d w = AllTellOne events c told → SeenBy (notes_told events c body) t.seen
+    WorkBy (notes_told events c body) k.work × ChecksBy (notes_told events c body) k.work (calls_of events c w) k.stage
+IsNoting events c told body t d w = SeenBy (notes_told events c body) t.seen
 
 -- where a client is, by what it said
 abbrev pub StandsIn : List Event → ℕ → ℕ → List Said → Option Said → Option Planned → Option TxnAt → Type 0
@@ -142,7 +126,7 @@ pub record Knows (catalog : List Table) (events : List Event) (c : ℕ) (h : Cli
   pub same : said c events ≡ told ++ waiting_of waiting
   pub answered : AllByRecursion (IsAnswered catalog events c) told
   pub waits : IfSome waiting (IsWaiting catalog events c (is_some h.vacuum))
-  pub moved : AllTellOne events c told → AreMoved events c told told
+  pub moved : AreMoved events c told told
   pub number : h.number ≡ c
   pub begun : h.begun ≡ begun_in told
   pub small : h.begun < 2 ^ 64
@@ -152,7 +136,7 @@ pub record Knows (catalog : List Table) (events : List Event) (c : ℕ) (h : Cli
   pub fits : IfSome h.txn (IsFit catalog)
   pub stored : ShowStored (calls_by events c)
   pub rolled : RollsBy events c told waiting h
-  pub shows : AllTellOne events c told → ShowsBy catalog events c told h
+  pub shows : ShowsBy catalog events c told h
 
 ---- all clients
 
@@ -191,23 +175,10 @@ pub record IsGate (hands : ℕ → Hand) (c : ℕ) (g : Gate) : Type 0 where
 
 ---- what follows of the events
 
--- Each Conflict of a client has its cause.
-abbrev pub ConflictsOf : List Event → ℕ → Type 0
-ConflictsOf events c = (s : Said) (key : Key) (found : Option Record) → Contains (said c events) s → s.answer ≡ Some (answer.Conflict key found) → IsConflict events c s key found
-
--- So it is where the calls of no statement of the client show two decisions on a transaction.
-abbrev pub ConflictsHaveCauses : List Event → Type 0
-ConflictsHaveCauses events = (c : ℕ) → ((s : Said) → Contains (said c events) s → TellOne (calls_of events c s)) → ConflictsOf events c
-
--- Each such answer of a run has its cause, a statement that is to be turned away is, unless memory ran out, each Conflict has its cause
--- where no statement's calls show two decisions on a transaction, and each BadRecord where those of its statement show none; the
--- calls of all statements are counted; the unresolved records that were found were rolled first; and, where no statement's calls show two
--- decisions on a transaction, rows that are shown are rows that their transactions have.
+-- Each answer of a run has its cause, and a statement that is to be turned away is, unless memory ran out; the calls of all statements are
+-- counted; the unresolved records that were found were rolled first; and rows that are shown are rows that their transactions have.
 pub record AnswersHaveCauses (catalog : List Table) (events : List Event) : Type 0 where
-  pub caused : (c : ℕ) (s : Said) (a : Answer) → Contains (said c events) s → s.answer ≡ Some a → is_caused s.text a ≡ true → IsCaused catalog events c s a
-  pub turned_away : (c : ℕ) (s : Said) (a : Answer) → Contains (said c events) s → IsTurnedAway catalog (before s events) c s.text a → (s.reached ≡ s.taken) × ((s.answer ≡ Some a) ⊎ (s.answer ≡ Some answer.NoMemory))
-  pub conflicts : ConflictsHaveCauses events
-  pub bad_records : (c : ℕ) (s : Said) (key : Key) → Contains (said c events) s → s.answer ≡ Some (answer.BadRecord key) → TellOne (calls_of events c s) → IsBadRecord catalog events c s key
+  pub caused : AreCaused catalog events
   pub counted : CallsAreCounted catalog events
   pub rolled : RecordsAreRolled events
   pub shown : RowsAreShown catalog events

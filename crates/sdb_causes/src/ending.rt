@@ -8,7 +8,7 @@ ghost use Rattle.sdb_model.specs.Counted.{AreCounted, AreResolved};
 ghost use Rattle.sdb_model.specs.Shown.{AnswersShow};
 ghost use Rattle.sdb_causes.specs.Counts.{CallsAreCounted};
 ghost use Rattle.sdb_causes.specs.Rolled.{RecordsAreRolled};
-ghost use Rattle.sdb_causes.specs.Shows.{CallsAgree, RowsAreShown, WasRead};
+ghost use Rattle.sdb_causes.specs.Shows.{RowsAreShown, WasRead};
 ghost use Rattle.sdb_causes.specs.Tied.{AnswersHaveCauses, AreTied};
 ghost use Rattle.sdb_causes.specs.Turns.{ScriptEvents};
 
@@ -17,8 +17,7 @@ pub fn starts()
     ensures { (catalog : List Table) (hands : ℕ → Hand) → ((c : ℕ) → hands c ≡ record { client = nothing_done c; stopped = false }) → AreTied catalog [] (pos 0) hands }
 {}
 
-/// Then the answers have their causes, and what is to be turned away is; and so does each Conflict, where the calls of no
-/// statement of its client show two decisions on a transaction, and each BadRecord, where those of its own statement show none.
+/// Then the answers have their causes, and what is to be turned away is.
 pub fn answers_are_explained()
     ensures { (catalog : List Table) (events : List Event) (now : ℤ) (hands : ℕ → Hand) → AreTied catalog events now hands → AnswersHaveCauses catalog events }
 {}
@@ -38,8 +37,8 @@ pub fn records_are_rolled()
 {}
 
 /// And each row that is shown is one that its transaction has by what the calls of its statements were shown, of those that were
-/// answered from rows, at keys of tables, where the calls of no statement of its client show two decisions on a transaction.
+/// answered from rows, at keys of tables.
 pub fn answers_show_own_rows()
     ensures each { (catalog : List Table) (events : List Event) (now : ℤ) (hands : ℕ → Hand) → AreTied catalog events now hands → RowsAreShown catalog events }
-    ensures all { (catalog : List Table) (events : List Event) → RowsAreShown catalog events → ((c : ℕ) → CallsAgree events c) → AnswersShow catalog (WasRead catalog events) events }
+    ensures all { (catalog : List Table) (events : List Event) → RowsAreShown catalog events → AnswersShow catalog (WasRead catalog events) events }
 {}

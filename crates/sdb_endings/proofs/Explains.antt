@@ -43,7 +43,7 @@ use Rattle.sdb_spread.specs.Spread.{AreAbout, HoldAs, IsAbout, is_played, moved_
 use Rattle.sdb_spread.proofs.Moved.{begun_moved, moved_more, point_moved}
 use Rattle.sdb_endings.proofs.Ended.{starts_empty}
 use Rattle.sdb_endings.proofs.Moments.{Alone, alone}
-use Rattle.sdb_endings.proofs.Noted.{calls_agree, noted_moved}
+use Rattle.sdb_endings.proofs.Noted.{noted_moved}
 use Rattle.sdb_endings.specs.Stores.{AreTaken}
 use Rattle.sdb_endings.proofs.Runs.{IsLawfulRun, lawful_run}
 use Rattle.sdb_endings.proofs.Standing.{taken_at}
@@ -63,10 +63,8 @@ standing_by_run catalog places events opening moments none b =
     })
 
 -- what each recorded transaction noted is current
-reads_by_run : (catalog : List Table) (places : List Place) (events : List Event) (opening closing : List Shelf) (moments : List (List Shelf)) → find_table catalog coordinator_table ≡ None → IsTrace places events opening moments closing → IsLawfulRun places events opening moments → ReadsCurrent catalog places events opening moments
-reads_by_run catalog places events opening closing moments none trace b =
-    let agree = calls_agree places events opening closing moments trace (standing_by_run catalog places events opening moments none b).rows_final in
-    subst (λ (es : List Event). ReadsCurrent catalog places es opening moments) (sym b.same) (current_at b.plan places opening b.played moments catalog b.run none b.faithful (b.noted agree))
+reads_by_run : (catalog : List Table) (places : List Place) (events : List Event) (opening : List Shelf) (moments : List (List Shelf)) → find_table catalog coordinator_table ≡ None → IsLawfulRun places events opening moments → ReadsCurrent catalog places events opening moments
+reads_by_run catalog places events opening moments none b = subst (λ (es : List Event). ReadsCurrent catalog places es opening moments) (sym b.same) (current_at b.plan places opening b.played moments catalog b.run none b.faithful b.noted)
 
 ---- calls among events
 
@@ -322,7 +320,7 @@ going_is_explained catalog places name fit events sys doing opening closing mome
     let b = beside catalog places name fit events sys doing opening closing moments g t about h in
     record {
       standing = standing_back catalog name places events opening moments empty about b.0 (standing_by_run catalog [] (moved_events (λ ns. name) events) (one_shelf name empty) b.0.singles none b.1);
-      reads_current = reads_back catalog name places events opening moments empty about b.0 (reads_by_run catalog [] (moved_events (λ ns. name) events) (one_shelf name empty) b.0.last b.0.singles none b.0.traced b.1);
+      reads_current = reads_back catalog name places events opening moments empty about b.0 (reads_by_run catalog [] (moved_events (λ ns. name) events) (one_shelf name empty) b.0.singles none b.1);
     }
 
 pub going_is_taken : (catalog : List Table) (places : List Place) (name : Name) (fit : Tables → Bool) (events : List Event) (sys : SystemAt) (doing : ℕ → Option Statement) (opening closing : List Shelf) (moments : List (List Shelf))

@@ -1,6 +1,6 @@
 -- What the calls of statements found at keys of tables is the row of a committed image at a moment of these calls.
-use Rattle.std.proofs.Common.{◌≡◌, ◌≢◌, ◌⊎◌, inl, inr, ℕ, zero, suc, ◌+◌, ◌<◌, ◌≤◌, ◌^◌, Bool, true, false, List, [], ◌∷◌, length, Option, Some, None, refl, sym, ap, subst, ◌∙◌, arith}
-use Rattle.std.specs.Prelude.{◌&&◌, if◌then◌else◌, IfSome, is_some, not, Contains}
+use Rattle.std.proofs.Common.{◌≡◌, ◌≢◌, ◌⊎◌, inl, inr, ℕ, zero, suc, ◌+◌, ◌<◌, ◌≤◌, ◌^◌, Bool, true, false, List, [], length, Option, Some, None, refl, sym, ap, subst, ◌∙◌, arith}
+use Rattle.std.specs.Prelude.{◌&&◌, if◌then◌else◌, IfSome, not, Contains}
 use Rattle.std.specs.Option.{option_and_then, option_map_or}
 use Rattle.std.specs.Ordering.{is_eq}
 use Rattle.std.specs.Result.{result_ok}
@@ -15,10 +15,10 @@ use Rattle.sdb_types.specs.declared.record.Reply.{Reply}
 use Rattle.sdb_types.specs.declared.record.Reply.TheVariants as reply
 use Rattle.sdb_types.specs.declared.record.State.TheVariants as state
 use Rattle.sdb_types.specs.Columns.{column}
-use Rattle.sdb_types.specs.Contents.{Contents, after, holds, is_partition, record_at, tx_id, record_among}
+use Rattle.sdb_types.specs.Contents.{Contents, after, holds, is_partition, record_at, tx_id}
 use Rattle.sdb_types.specs.Exact.{equal_of}
 use Rattle.sdb_types.specs.Order.{table_cmp, same_key}
-use Rattle.sdb_types.proofs.Basics.{all_each, by_test, clash, none_some, not_true, some_is, one_of}
+use Rattle.sdb_types.proofs.Basics.{all_each, by_test, clash, none_some, not_true, some_is}
 use Rattle.sdb_types.proofs.Bools.{and_both, and_first}
 use Rattle.sdb_types.proofs.KeyOrder.{table_exact}
 use Rattle.sdb_types.proofs.Replies.{record_at-key}
@@ -28,30 +28,31 @@ use Rattle.sdb_record.specs.declared.access.Image.{Image}
 use Rattle.sdb_record.specs.declared.coordinator.Decided.{Decided}
 use Rattle.sdb_record.specs.Coordinator.{coordinator_key_of, coordinator_table, decision_in, is_coordinator_table}
 use Rattle.sdb_record.specs.Meta.{id_in, id_in_value, is_in, is_taken}
-use Rattle.sdb_record.specs.Rolls.{image_of, row_of_image}
+use Rattle.sdb_record.specs.Rolls.{image_of, image_under, row_of_image}
 use Rattle.sdb_record.proofs.IdLemmas.{id_in_value-fits}
-use Rattle.sdb_record.proofs.ImageLaws.{image-settled}
+use Rattle.sdb_record.proofs.ImageLaws.{image-open, image-settled}
 use Rattle.sdb_model.specs.declared.answer.Answer.{Answer}
 use Rattle.sdb_model.specs.declared.answer.Answer.TheVariants as answer
 use Rattle.sdb_model.specs.declared.event.Event.{Event}
 use Rattle.sdb_model.specs.declared.event.Event.TheVariants as event
 use Rattle.sdb_model.specs.declared.script.Place.{Place}
-use Rattle.sdb_model.specs.Calls.{Made, calls_of, decision_learned, decision_shown, end_of, is_read, records_read}
+use Rattle.sdb_model.specs.Calls.{Made, calls_of, decision_shown, end_of, is_read, records_read}
 use Rattle.sdb_model.specs.Counted.{AreResolved, IsPassedOver, IsResolved}
 use Rattle.sdb_model.specs.Events.{Effect, IsTrace, Shelf, held_by, moment, standing, store_of, table_asked}
 use Rattle.sdb_model.specs.Exec.{find_table}
 use Rattle.sdb_model.specs.Explained.{IsPreparedAfter, IsTableKey, Shows, StandingExplained}
 use Rattle.sdb_model.specs.Images.{decision_at, decision_on}
-use Rattle.sdb_model.specs.Noted.{reads_rows, resolved}
-use Rattle.sdb_model.specs.Shown.{AnswersShow, AreShown, CommittedBy, HasRow, ReadsKey, ShowsOwn, WasCommitted, WasFound}
+use Rattle.sdb_model.specs.Noted.{meaning_of, reads_rows}
+use Rattle.sdb_model.specs.Shown.{AnswersShow, AreShown, CommittedBy, HasRow, IsMeantBy, ReadsKey, ShowsOwn, WasCommitted, WasFound}
 use Rattle.sdb_model.specs.Transactions.{Said, client_of}
 use Rattle.sdb_laws.proofs.Effects.{AtCall, after_put, at_call}
 use Rattle.sdb_laws.proofs.Moments.{apart_from}
 use Rattle.sdb_laws.proofs.Shown.{get_reply, scan_reply}
+use Rattle.sdb_story.proofs.Meanings.{among_found, meaning_settled}
 use Rattle.sdb_endings.specs.Shown.{FoundDecided, IsDecidedIn, IsReader, ReadBy}
 use Rattle.sdb_endings.specs.Stores.{AreTaken}
 use Rattle.sdb_endings.proofs.Agreeing.{Stands, decisions_agree, same_row, shown_stands}
-use Rattle.sdb_endings.proofs.Calls.{IsAt, IsWithin, a_later, call_at, effect_at, later_call, the_first, within_statement}
+use Rattle.sdb_endings.proofs.Calls.{IsAt, IsWithin, call_at, effect_at, later_call, the_first, within_statement}
 use Rattle.sdb_endings.proofs.Others.{PutsAt, stood_or_put}
 
 ---- one event
@@ -95,14 +96,6 @@ standing_key places now key r h = by (held_by now (store_of places now key.table
 
 ---- what a read shows
 
-found_among : (rows : List Record) (key : Key) (r : Record) → record_among rows key ≡ Some r → Contains rows r
-found_among [] key r h = none_some r h
-found_among (x ∷ xs) key r h = by (same_key key x.key) h (found_among xs key r)
-  where
-    by : (b : Bool) → (if b then Some x else record_among xs key) ≡ Some r → (record_among xs key ≡ Some r → Contains xs r) → Contains (x ∷ xs) r
-    by true e rest = subst (Contains (x ∷ xs)) (some_is x r e) (the_first x xs)
-    by false e rest = a_later x r xs (rest e)
-
 -- a read that showed what was at a key
 record IsRead (q : Request) (r : Reply) (key : Key) (found : Option Record) : Type 0 where
   reads : ReadsKey key q
@@ -124,7 +117,7 @@ read_of (ask.Scan span) (reply.Rows rows) key found (inside, is) = record {
   is = refl;
   table = table_exact span.table key.table (equal_of (table_cmp span.table key.table) (and_first (is_eq (table_cmp span.table key.table)) (is_partition span.partition key) inside));
   stood = λ places before now a. sym (scan_reply places span (reply.Rows rows) rows before now a refl key inside) ∙ is;
-  shown = λ y e. found_among rows key y (is ∙ e);
+  shown = λ y e. among_found rows key y (is ∙ e);
 }
 read_of (ask.Get k) r key found h = absurd h
 read_of (ask.Scan span) r key found h = absurd h
@@ -132,26 +125,6 @@ read_of (ask.PutIf rec c) r key found h = absurd h
 read_of (ask.DeleteIf k c) r key found h = absurd h
 
 ---- decisions
-
--- a call that shows the decision that is learned
-record IsLearned (calls : List Made) (id : TxId) : Type 0 where
-  m : Made
-  d : Decided
-  among : Contains calls m
-  shown : decision_shown id m ≡ Some d
-  learned : decision_learned calls id ≡ Some d
-
-learned_of : (id : TxId) (calls : List Made) (m : Made) (d : Decided) → Contains calls m → decision_shown id m ≡ Some d → IsLearned calls id
-learned_of id [] m d has shown = absurd (omega (arith, has.1))
-learned_of id (x ∷ xs) m d has shown = by (decision_shown id x) refl (λ (h : Contains xs m). learned_of id xs m d h shown)
-  where
-    by : (o : Option Decided) → decision_shown id x ≡ o → (Contains xs m → IsLearned xs id) → IsLearned (x ∷ xs) id
-    by (Some e) k rest = record { m = x; d = e; among = the_first x xs; shown = k; learned = ap (λ (o : Option Decided). if is_some o then o else decision_learned xs id) k }
-    by None k rest = either (one_of x m xs has)
-      where
-        either : (x ≡ m) ⊎ Contains xs m → IsLearned (x ∷ xs) id
-        either (inl same) = none_some d (sym k ∙ ap (decision_shown id) same ∙ shown)
-        either (inr h) = let r = rest h in record { m = r.m; d = r.d; among = a_later x r.m xs r.among; shown = r.shown; learned = ap (λ (o : Option Decided). if is_some o then o else decision_learned xs id) k ∙ r.learned }
 
 -- the image of an open record, by what is told of the decision on its transaction
 image_told : (decide : TxId → Option Decided) (r : Record) (id : TxId) (d : Decided) → id_in r.columns ≡ Some id → decide id ≡ Some d → image_of r (option_and_then decide (id_in r.columns)) ≡ image_of r (Some d)
@@ -236,7 +209,7 @@ module _ (catalog : List Table) (places : List Place) (events : List Event) (ope
         least a b c e l = omega (arith, e, l)
 
     -- it was shown the image of a moment
-    committed_at : (at : ℕ) → s.taken ≤ at → at < end_of events s → (o : Option Record) → w.found ≡ o → standing places (now at) key ≡ o → option_and_then (λ (r : Record). image_of r (decision_on places (now at) r)) o ≡ option_and_then (resolved calls) o → WasCommitted places events opening moments client s key row
+    committed_at : (at : ℕ) → s.taken ≤ at → at < end_of events s → (o : Option Record) → w.found ≡ o → standing places (now at) key ≡ o → option_and_then (λ (r : Record). image_of r (decision_on places (now at) r)) o ≡ option_and_then (meaning_of calls) o → WasCommitted places events opening moments client s key row
     committed_at at a b o is stands same = record {
       call = w.call;
       at = at;
@@ -245,7 +218,7 @@ module _ (catalog : List Table) (places : List Place) (events : List Event) (ope
       image =
           ap (λ (y : Option Record). option_and_then row_of_image (option_and_then (λ (r : Record). image_of r (decision_on places (now at) r)) y)) stands
           ∙ ap (option_and_then row_of_image) same
-          ∙ ap (λ (y : Option Record). option_and_then row_of_image (option_and_then (resolved calls) y)) (sym is)
+          ∙ ap (λ (y : Option Record). option_and_then row_of_image (option_and_then (meaning_of calls) y)) (sym is)
           ∙ sym w.stands;
     }
 
@@ -262,11 +235,19 @@ module _ (catalog : List Table) (places : List Place) (events : List Event) (ope
       shown : Stands (row_of (suc q.n)) d.decided
       shown = shown_stands places opening moments 1 d.id d.look d.decided q d.shown
 
-      -- what the calls showed of the decision is what the look showed
-      learned : decision_learned calls d.id ≡ Some d.decided
-      learned =
-          let l = learned_of d.id calls d.look d.decided d.among d.shown in
-          l.learned ∙ ap Some (decisions_agree places events opening closing moments trace x.rows_final client client d.id l.m d.look l.d d.decided fits (within l.m l.among).among (within d.look d.among).among l.shown d.shown)
+      -- the decision by which the statement rolled it
+      meant : IsMeantBy calls r
+      meant = subst (λ (o : Option Record). IfSome o (λ x. is_in state.Committed x.columns ≡ false → IsMeantBy calls x)) is w.meant open_still
+
+      -- is what the look showed
+      agrees : meant.decided ≡ d.decided
+      agrees =
+          let same : meant.id ≡ d.id = some_is meant.id d.id (sym meant.writer ∙ d.writer) in
+          decisions_agree places events opening closing moments trace x.rows_final client client d.id meant.look d.look meant.decided d.decided fits (within meant.look meant.looks.0).among (within d.look d.among).among (subst (λ (id : TxId). decision_shown id meant.look ≡ Some meant.decided) same meant.looks.1) d.shown
+
+      -- so this makes what the record means
+      means : meaning_of calls r ≡ image_of r (Some d.decided)
+      means = meant.means ∙ ap (λ (x : Decided). image_under r (Some x)) agrees ∙ sym (image-open r (Some d.decided) open_still)
 
       -- and where there is a row, it is that of the stores
       decided_at : (at : ℕ) (y : Record) → at ≤ length moments → row_of at ≡ Some y → decision_at places (now at) d.id ≡ Some d.decided
@@ -275,8 +256,8 @@ module _ (catalog : List Table) (places : List Place) (events : List Event) (ope
           ∙ ap (λ (z : Record). result_ok (decision_in z)) (same_row places opening moments x.rows_final d.id at (suc q.n) y shown.row fits l q.within stands shown.stands)
           ∙ shown.decided
 
-      image_there : (at : ℕ) (y : Record) → at ≤ length moments → row_of at ≡ Some y → image_of r (decision_on places (now at) r) ≡ resolved calls r
-      image_there at y l stands = image_told (decision_at places (now at)) r d.id d.decided d.writer (decided_at at y l stands) ∙ sym (image_told (decision_learned calls) r d.id d.decided d.writer learned)
+      image_there : (at : ℕ) (y : Record) → at ≤ length moments → row_of at ≡ Some y → image_of r (decision_on places (now at) r) ≡ meaning_of calls r
+      image_there at y l stands = image_told (decision_at places (now at)) r d.id d.decided d.writer (decided_at at y l stands) ∙ sym means
 
       here : standing places (now n) key ≡ Some r
       here = stood ∙ is
@@ -347,7 +328,7 @@ module _ (catalog : List Table) (places : List Place) (events : List Event) (ope
         by : (o : Option Record) → w.found ≡ o → WasCommitted places events opening moments client s key row
         by None is = committed_at n taken before_end None is (stood ∙ is) refl
         by (Some r) is = by_test (is_in state.Committed r.columns)
-            (λ firm. committed_at n taken before_end (Some r) is (stood ∙ is) (image-settled r (decision_on places (now n) r) firm ∙ sym (image-settled r (option_and_then (decision_learned calls) (id_in r.columns)) firm)))
+            (λ firm. committed_at n taken before_end (Some r) is (stood ∙ is) (image-settled r (decision_on places (now n) r) firm ∙ sym (meaning_settled calls r firm)))
             (λ loose. open_committed r is loose (decided w.call r w.among (subst (Shows w.call.request w.call.reply key) is w.shows) loose))
 
   ---- what was rolled

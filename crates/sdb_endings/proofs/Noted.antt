@@ -1,80 +1,50 @@
--- What calls show of decisions agrees, and what statements noted is the same where calls are moved to other stores.
-use Rattle.std.proofs.Common.{◌≡◌, inl, inr, ℕ, ◌+◌, ◌≤◌, Bool, true, false, List, [], ◌∷◌, length, map, Option, Some, None, refl, sym, ap, ◌∙◌}
-use Rattle.std.specs.Prelude.{◌==◌, ◌&&◌, Contains, filter, if◌then◌else◌, is_some, nat_le, nat_lt}
+-- What statements noted is the same where calls are moved to other stores.
+use Rattle.std.proofs.Common.{◌≡◌, ℕ, ◌+◌, Bool, true, false, List, [], ◌∷◌, length, map, Option, Some, None, refl, sym, ap, ◌∙◌}
+use Rattle.std.specs.Prelude.{◌==◌, ◌&&◌, filter, find, if◌then◌else◌, is_some, nat_le, nat_lt}
 use Rattle.std.specs.List.{cons_option, enumerate_from, filter_map, flat_map}
 use Rattle.std.specs.Option.{option_and_then, option_map, option_map_or}
 use Rattle.std.proofs.lemmas.List.{length-map}
-use Rattle.std.proofs.lemmas.List.Elements.{Contains-append_left, Contains-append_right, Contains-push}
 use Rattle.sdb_types.specs.declared.txid.TxId.{TxId}
 use Rattle.sdb_types.specs.declared.record.Record.{Record}
 use Rattle.sdb_types.specs.declared.record.Reply.{Reply}
 use Rattle.sdb_types.specs.declared.record.Reply.TheVariants as reply
 use Rattle.sdb_types.specs.declared.record.Request.{Request}
 use Rattle.sdb_types.specs.declared.record.Request.TheVariants as ask
-use Rattle.sdb_record.specs.declared.coordinator.Decided.{Decided}
-use Rattle.sdb_record.specs.declared.coordinator.Decision.{Decision}
-use Rattle.sdb_record.specs.Meta.{id_in}
-use Rattle.sdb_record.specs.Rolls.{image_of}
+use Rattle.sdb_types.specs.declared.record.State.TheVariants as state
+use Rattle.sdb_record.specs.Meta.{is_in}
 use Rattle.sdb_model.specs.declared.event.Event.{Event}
 use Rattle.sdb_model.specs.declared.event.Event.TheVariants as event
-use Rattle.sdb_model.specs.declared.script.Place.{Place}
-use Rattle.sdb_model.specs.Calls.{Made, calls_by, calls_of, decision_learned, decision_shown, end_of, made_by}
-use Rattle.sdb_model.specs.Events.{IsTrace, Shelf, moment, table_asked}
-use Rattle.sdb_model.specs.Explained.{RowsFinal}
-use Rattle.sdb_model.specs.Noted.{Got, Note, Scanned, note_of, read_of, noted_in, notes_in, reads_rows}
+use Rattle.sdb_model.specs.Calls.{Made, calls_by, calls_of, end_of, made_by, put_by}
+use Rattle.sdb_model.specs.Events.{table_asked}
+use Rattle.sdb_model.specs.Noted.{Got, Note, Scanned, meaning_of, note_of, read_of, noted_in, notes_in, reads_rows, rolls}
 use Rattle.sdb_model.specs.Rows.{Name}
 use Rattle.sdb_model.specs.Transactions.{Said, body, client_of, is_answered_from_rows}
-use Rattle.sdb_story.specs.Calls.{AgreeOn, Learned}
 use Rattle.sdb_spread.specs.Spread.{moved_event, moved_events}
 use Rattle.sdb_spread.proofs.Moved.{body_moved}
-use Rattle.sdb_endings.proofs.Agreeing.{decisions_agree}
-
----- what calls show of decisions agrees
-
--- one of some calls showed that decision in a transaction's row
-record WasShown (ms : List Made) (id : TxId) (d : Decision) : Type 0 where
-  made : Made
-  decided : Decided
-  among : Contains ms made
-  shown : decision_shown id made ≡ Some decided
-  is : decided.decision ≡ d
-
-was_shown : (ms : List Made) (id : TxId) (d : Decision) → Learned ms id d → WasShown ms id d
-was_shown [] id d h = absurd h
-was_shown (m ∷ ms) id d (inl h) = record { made = m; decided = h.0; among = Contains-append_left (m ∷ []) ms m (Contains-push [] m); shown = h.1; is = h.2 }
-was_shown (m ∷ ms) id d (inr h) = let w = was_shown ms id d h in record { made = w.made; decided = w.decided; among = Contains-append_right (m ∷ []) ms w.made w.among; shown = w.shown; is = w.is }
-
--- Where a trace agrees with the events and no row changes, what each client's calls showed of each row agrees.
-pub calls_agree : (places : List Place) (events : List Event) (opening closing : List Shelf) (moments : List (List Shelf)) → IsTrace places events opening moments closing → ((early late : ℕ) → early ≤ late → late ≤ length moments → RowsFinal places (moment opening moments early) (moment opening moments late))
-    → (c : ℕ) → AgreeOn (calls_by events c)
-calls_agree places events opening closing moments trace final c id a b fits h k =
-    let m = was_shown (calls_by events c) id a h in
-    let x = was_shown (calls_by events c) id b k in
-    sym m.is ∙ ap (λ (d : Decided). d.decision) (decisions_agree places events opening closing moments trace final c c id m.made x.made m.decided x.decided fits m.among x.among m.shown x.shown) ∙ x.is
 
 ---- calls that are moved to other stores
 
--- a note, by the decisions that were learned
-abbrev noted_under : (TxId → Option Decided) → Request → Reply → Option Note
-noted_under learned (ask.Get key) (reply.Found found) = Some (Got (read_of key (option_and_then (λ r. image_of r (option_and_then learned (id_in r.columns))) found)))
-noted_under learned (ask.Scan span) (reply.Rows rows) = Some (Scanned (record { span = span; found = filter_map (λ r. option_map (λ (image : Record). read_of r.key (Some image)) (image_of r (option_and_then learned (id_in r.columns)))) rows }))
-noted_under learned q r = None
+-- a note, by what records mean
+abbrev noted_under : (Record → Option Record) → Request → Reply → Option Note
+noted_under means (ask.Get key) (reply.Found found) = Some (Got (read_of key (option_and_then means found)))
+noted_under means (ask.Scan span) (reply.Rows rows) = Some (Scanned (record { span = span; found = filter_map (λ r. option_map (λ (image : Record). read_of r.key (Some image)) (means r)) rows }))
+noted_under means q r = None
 
-noted_by_learned : (ms : List Made) (q : Request) (r : Reply) → note_of ms q r ≡ noted_under (decision_learned ms) q r
-noted_by_learned ms (ask.Get key) (reply.Found found) = refl
-noted_by_learned ms (ask.Get key) reply.Applied = refl
-noted_by_learned ms (ask.Get key) (reply.NotMet found) = refl
-noted_by_learned ms (ask.Get key) (reply.Rows rows) = refl
-noted_by_learned ms (ask.Get key) reply.Fault = refl
-noted_by_learned ms (ask.Get key) reply.NoMemory = refl
-noted_by_learned ms (ask.Scan span) (reply.Rows rows) = refl
-noted_by_learned ms (ask.Scan span) reply.Applied = refl
-noted_by_learned ms (ask.Scan span) (reply.NotMet found) = refl
-noted_by_learned ms (ask.Scan span) (reply.Found found) = refl
-noted_by_learned ms (ask.Scan span) reply.Fault = refl
-noted_by_learned ms (ask.Scan span) reply.NoMemory = refl
-noted_by_learned ms (ask.PutIf rec condition) r = refl
-noted_by_learned ms (ask.DeleteIf key condition) r = refl
+noted_by_meaning : (ms : List Made) (q : Request) (r : Reply) → note_of ms q r ≡ noted_under (meaning_of ms) q r
+noted_by_meaning ms (ask.Get key) (reply.Found found) = refl
+noted_by_meaning ms (ask.Get key) reply.Applied = refl
+noted_by_meaning ms (ask.Get key) (reply.NotMet found) = refl
+noted_by_meaning ms (ask.Get key) (reply.Rows rows) = refl
+noted_by_meaning ms (ask.Get key) reply.Fault = refl
+noted_by_meaning ms (ask.Get key) reply.NoMemory = refl
+noted_by_meaning ms (ask.Scan span) (reply.Rows rows) = refl
+noted_by_meaning ms (ask.Scan span) reply.Applied = refl
+noted_by_meaning ms (ask.Scan span) (reply.NotMet found) = refl
+noted_by_meaning ms (ask.Scan span) (reply.Found found) = refl
+noted_by_meaning ms (ask.Scan span) reply.Fault = refl
+noted_by_meaning ms (ask.Scan span) reply.NoMemory = refl
+noted_by_meaning ms (ask.PutIf rec condition) r = refl
+noted_by_meaning ms (ask.DeleteIf key condition) r = refl
 
 module _ (at : Name → Name) where
   abbrev moved_made : Made → Made
@@ -113,12 +83,20 @@ module _ (at : Name → Name) where
       ∙ ap (filter (λ m. nat_lt s.taken m.at && nat_le m.at (end_of events s))) (calls_from c 1 events)
       ∙ kept_moved (λ m. nat_lt s.taken m.at && nat_le m.at (end_of events s)) (λ m. refl) (calls_by events c)
 
-  learned_moved : (ms : List Made) (id : TxId) → decision_learned (map moved_made ms) id ≡ decision_learned ms id
-  learned_moved [] id = refl
-  learned_moved (m ∷ ms) id = ap (λ o. if is_some (decision_shown id m) then decision_shown id m else o) (learned_moved ms id)
+  put_moved : (ms : List Made) (r : Record) → option_and_then (λ m. put_by m.request) (find (rolls r) (map moved_made ms)) ≡ option_and_then (λ m. put_by m.request) (find (rolls r) ms)
+  put_moved [] r = refl
+  put_moved (m ∷ ms) r = by (rolls r m) (put_moved ms r)
+    where
+      by : (b : Bool) → option_and_then (λ m. put_by m.request) (find (rolls r) (map moved_made ms)) ≡ option_and_then (λ m. put_by m.request) (find (rolls r) ms)
+          → option_and_then (λ m. put_by m.request) (if b then Some (moved_made m) else find (rolls r) (map moved_made ms)) ≡ option_and_then (λ m. put_by m.request) (if b then Some m else find (rolls r) ms)
+      by true ih = refl
+      by false ih = ih
+
+  meaning_moved : (ms : List Made) (r : Record) → meaning_of (map moved_made ms) r ≡ meaning_of ms r
+  meaning_moved ms r = ap (λ o. if is_in state.Committed r.columns then Some r else o) (put_moved ms r)
 
   note_moved : (ms : List Made) (q : Request) (r : Reply) → note_of (map moved_made ms) q r ≡ note_of ms q r
-  note_moved ms q r = noted_by_learned (map moved_made ms) q r ∙ (λ k. noted_under (λ id. learned_moved ms id k) q r) ∙ sym (noted_by_learned ms q r)
+  note_moved ms q r = noted_by_meaning (map moved_made ms) q r ∙ (λ k. noted_under (λ x. meaning_moved ms x k) q r) ∙ sym (noted_by_meaning ms q r)
 
   each_moved : (calls ms : List Made) → filter_map (λ m. note_of (map moved_made calls) m.request m.reply) (map moved_made ms) ≡ filter_map (λ m. note_of calls m.request m.reply) ms
   each_moved calls [] = refl

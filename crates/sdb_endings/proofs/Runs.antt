@@ -4,7 +4,6 @@ use Rattle.sdb_schema.specs.declared.table.Table.{Table}
 use Rattle.sdb_model.specs.declared.event.Event.{Event}
 use Rattle.sdb_model.specs.declared.script.Place.{Place}
 use Rattle.sdb_model.specs.declared.statement.Statement.{Statement}
-use Rattle.sdb_model.specs.Calls.{calls_by}
 use Rattle.sdb_model.specs.Events.{IsTrace, Shelf}
 use Rattle.sdb_model.specs.Exec.{Tables}
 use Rattle.sdb_laws.specs.Explained.{IsRunOf, events_of, newest_first}
@@ -14,21 +13,19 @@ use Rattle.sdb_laws.specs.Plan.{Plan}
 use Rattle.sdb_laws.specs.Trace.{IsTraced, StartsEmpty, closing}
 use Rattle.sdb_laws.proofs.Times.{traced_of}
 use Rattle.sdb_turns.specs.System.{SystemAt, SystemOk}
-use Rattle.sdb_story.specs.Calls.{AgreeOn}
 use Rattle.sdb_story.specs.Telling.{AllStories}
 use Rattle.sdb_story.proofs.Files.{clients_faithful}
 use Rattle.sdb_linked.specs.Going.{IsGoing}
 use Rattle.sdb_linked.proofs.Ends.{going_is_noted}
 
--- The parts of the events, which with these moments are a run of the laws. The plans' notes are what the statements noted, where what the
--- calls of each client showed of each row agrees.
+-- The parts of the events, which with these moments are a run of the laws. The plans' notes are what the statements noted.
 pub record IsLawfulRun (places : List Place) (events : List Event) (opening : List Shelf) (moments : List (List Shelf)) : Type 0 where
   pub plan : ℕ → Plan
   pub played : List Played
   pub same : events ≡ events_of played
   pub run : IsRunOf plan places opening (newest_first played) (newest_first moments)
   pub faithful : IsFaithful (events_of played) (newest_first played)
-  pub noted : ((c : ℕ) → AgreeOn (calls_by events c)) → AreNoted plan (events_of played) (newest_first played)
+  pub noted : AreNoted plan (events_of played) (newest_first played)
 
 -- the trace, newest first
 turned : (catalog : List Table) (fit : Tables → Bool) (events : List Event) (sys : SystemAt) (doing : ℕ → Option Statement) (places : List Place) (opening end : List Shelf) (moments : List (List Shelf)) → (g : IsGoing catalog fit events sys doing) → IsTrace places events opening moments end
@@ -44,7 +41,7 @@ lawful_run catalog fit events sys doing places opening end moments g trace empty
   faithful = clients_faithful g.plan (events_of g.played) (newest_first g.played) sys g.told
       (subst (λ ps. SystemOk g.plan ps sys) g.turned g.system)
       (subst (λ ps. AllStories (events_of g.played) ps sys g.told) g.turned (subst (λ es. AllStories es g.past sys g.told) g.same g.stories));
-  noted = λ agree. subst (λ ps. AreNoted g.plan (events_of g.played) ps) g.turned (subst (λ es. AreNoted g.plan es g.past) g.same (going_is_noted catalog fit events sys doing g agree));
+  noted = subst (λ ps. AreNoted g.plan (events_of g.played) ps) g.turned (subst (λ es. AreNoted g.plan es g.past) g.same (going_is_noted catalog fit events sys doing g));
 }
 
 -- The parts of the events, and what the stores held, newest first.

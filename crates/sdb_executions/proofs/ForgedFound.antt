@@ -44,7 +44,8 @@ use Rattle.sdb_causes.proofs.Given.{IsMiddle}
 use Rattle.sdb_causes.proofs.Shows.{effective_by}
 use Rattle.sdb_causes.proofs.Takings.{middle_ends}
 use Rattle.sdb_executions.specs.Forged.{FindsRow, InsertOn, SelectOn, ShowsRow, StatementOn, UpdateOn, answered_after, answered_at_once, counts_over, counts_twice, counts_unread, duplicates_none, insert_key, leaves_out, shows_two, shows_unread, reads_again, FindsUnresolved, shows_unrolled}
-use Rattle.sdb_executions.specs.Found.{IsRunOnFound, RunsOnFound, View, exec_on, found_by, found_in, is_answered, meant, nothing_found, rolls, run_on_found, with_found, ReadsAreNew, was_found}
+use Rattle.sdb_model.specs.Noted.{meaning_of, rolls}
+use Rattle.sdb_executions.specs.Found.{IsRunOnFound, RunsOnFound, View, exec_on, found_by, found_in, is_answered, nothing_found, run_on_found, with_found, ReadsAreNew, was_found}
 use Rattle.sdb_executions.proofs.Running.{is_running, running, running_more}
 
 ---- the statements of the first transaction of client 1
@@ -171,7 +172,7 @@ module _ (f : StatementOn) where
         ∙ one_answer f.catalog (answered_after f q r b) (after_call b) f.statement b f.reads refl (subst (IsRunOnFound f.catalog (answered_after f q r b) 1) (one_running (after_call b) f.statement b h) (runs_of f.catalog (answered_after f q r b) begin_said (after_call b ∷ []) law begun refl))
 
   -- what a get of a key of the table finds
-  got : (key : Key) (found : Option Record) → key.table ≡ f.table.name → found_by (record { at = 3; store = []; request = ask.Get key; how = Seen; reply = reply.Found found } ∷ []) ≡ (key, option_and_then (meant (record { at = 3; store = []; request = ask.Get key; how = Seen; reply = reply.Found found } ∷ [])) found) ∷ []
+  got : (key : Key) (found : Option Record) → key.table ≡ f.table.name → found_by (record { at = 3; store = []; request = ask.Get key; how = Seen; reply = reply.Found found } ∷ []) ≡ (key, option_and_then (meaning_of (record { at = 3; store = []; request = ask.Get key; how = Seen; reply = reply.Found found } ∷ [])) found) ∷ []
   got key found same = ap (λ b. flat_map (λ (m : Made). found_in (record { at = 3; store = []; request = ask.Get key; how = Seen; reply = reply.Found found } ∷ []) m.request m.reply) (if (if b then false else true) then record { at = 3; store = []; request = ask.Get key; how = Seen; reply = reply.Found found } ∷ [] else [])) (ap is_coordinator_table same ∙ f.apart)
 
   -- of a row
@@ -239,7 +240,7 @@ unrolled_refused f key r row finds law =
     get_call : Made
     get_call = record { at = 3; store = []; request = ask.Get key; how = Seen; reply = reply.Found (Some r) }
 
-    means : meant (get_call ∷ []) r ≡ None
+    means : meaning_of (get_call ∷ []) r ≡ None
     means =
         ap (λ b. if b then Some r else option_and_then (λ m. put_by m.request) (find (rolls r) (get_call ∷ []))) finds.unresolved
         ∙ ap (λ b. option_and_then (λ (m : Made). put_by m.request) (if b then Some get_call else None)) (and_false (is_key_of r.key get_call))

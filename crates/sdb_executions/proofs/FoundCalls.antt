@@ -59,11 +59,9 @@ use Rattle.sdb_causes.proofs.ReadSteps.{IsDataTable}
 use Rattle.sdb_causes.proofs.Showing.{IsOpenAt, shows_on}
 use Rattle.sdb_causes.proofs.Unfit.{fits_now, same_writes}
 use Rattle.sdb_executions.specs.Found.{found_by, is_answered, is_scan_of, scans_span, was_scanned}
-use Rattle.sdb_executions.proofs.Finding.{WaitFinds, read_finds}
 use Rattle.sdb_executions.specs.Written.{PreparesAll}
 use Rattle.sdb_executions.proofs.FoundSteps.{ClientRuns, SeesIn, SeesRun, WroteAs, all_answered, answered_of_is}
 use Rattle.sdb_executions.proofs.FoundSteps as follows
-use Rattle.sdb_executions.proofs.Meant.{FindsAt, FindsImages}
 use Rattle.sdb_executions.proofs.OwnPrepares.{ends_commit, goes_further}
 use Rattle.sdb_executions.proofs.PreparingCalls.{WaitPrepares, call_prepares}
 use Rattle.sdb_executions.proofs.Replies.{CallOf, CommitCall, ReadCall, SweepCall}
@@ -109,7 +107,7 @@ noted_scans t (access.Scan other) images span m e (inr f) =
     list_any-append (λ (x : Scan). same_span x.span span) t.seen.scans (record { span = other; found = reads_of images } ∷ []) ∙ ap (λ b. is_scanned t.seen.scans span || (b || false)) (sym (ap (is_scan_of span) e) ∙ f) ∙ or_true (is_scanned t.seen.scans span)
 
 module _ (catalog : List Table) (is : is_catalog catalog ≡ true) (apart : (k : Key) → is_some (find_table catalog k.table) ≡ true → is_data k ≡ true) (events : List Event) (c : ℕ) (h : ClientAt) (k : Knows catalog events c h) (runs : ClientRuns catalog events c h)
-    (x : Said) (waiting : k.waiting ≡ Some x) (waits : IsWaiting catalog events c (is_some h.vacuum) x) (finds : WaitFinds catalog events c x h) (prepares : WaitPrepares catalog events c x h) (store : Name) (q : Request) (how : How) (r : Reply) (now : ℤ) (moment : is_moment now ≡ true) (can : CanAnswer q r)
+    (x : Said) (waiting : k.waiting ≡ Some x) (waits : IsWaiting catalog events c (is_some h.vacuum) x) (prepares : WaitPrepares catalog events c x h) (store : Name) (q : Request) (how : How) (r : Reply) (now : ℤ) (moment : is_moment now ≡ true) (can : CanAnswer q r)
     (kept : (t : TxnAt) → h.vacuum ≡ None → h.txn ≡ Some t → (a : Access) (y : ReadAt) → t.doing ≡ doing.Read a y → WereRead t.seen.notes t.seen.writes) (d : ClientAt) where
   abbrev ev : Option Answer → Event
   ev a = event.Call c store q how r a
@@ -189,9 +187,6 @@ module _ (catalog : List Table) (is : is_catalog catalog ≡ true) (apart : (k :
     has_read : (images : List Record) → read_step z.x.stage now r ≡ Ended (step.Images images) → HasRead (request_of z.access) (ms ++ made ∷ []) images []
     has_read images e = subst (λ (y : Request). HasRead y (ms ++ made ∷ []) images []) z.asked.request (subst (ShowsAt z.x.request (ms ++ made ∷ [])) e shown)
 
-    has_found : (images : List Record) → read_step z.x.stage now r ≡ Ended (step.Images images) → FindsImages (request_of z.access) (ms ++ made ∷ []) images []
-    has_found images e = subst (λ (y : Request). FindsImages y (ms ++ made ∷ []) images []) z.asked.request (subst (FindsAt z.x.request (ms ++ made ∷ [])) e (read_finds catalog events c h d store q how r now k.told x can finds a z))
-
     abbrev Left : Next → TxnAt → Type 0
     Left n u = Comes (answer_in n) (after h n u)
 
@@ -221,7 +216,7 @@ module _ (catalog : List Table) (is : is_catalog catalog ≡ true) (apart : (k :
         follows.given_follows catalog events c h k runs (ev (Some b)) t z.opened z.free (done b) p z.access (idle t) (noting t z.access images)
         (record { is = is; named = z.asked.named; asked = z.asked.asked; taken = z.asked.taken; literals = z.asked.literals; access = z.asked.access }) z.is.text z.is.inner.commit refl (refl, refl) (noted_idle t z.access images, same_writes t z.access images) (sees (Some b))
         (view_found (view_after catalog (E (Some b)) c (running_of h.begun k.told) (sees (Some b)).run) t z.access images (found_by (calls_of (E (Some b)) c (done b))) (sees (Some b)).sees (kept t z.free z.opened z.access z.x z.reads)
-        (λ key. ap (λ cs. value_at (found_by cs) key) (calls_done b) ∙ found_now (ms ++ made ∷ []) z.access images (has_read images e) (has_found images e) own key))
+        (λ key. ap (λ cs. value_at (found_by cs) key) (calls_done b) ∙ found_now (ms ++ made ∷ []) z.access images (has_read images e) own key))
         (fits_now catalog p z.access listed of_table (ms ++ made ∷ []) t images (has_read images e) fit) (scans_then b images e)
 
     over : (b : Answer) → is_conflict (Some b) ≡ true → ends (done b) ≡ true

@@ -31,7 +31,7 @@ use Rattle.sdb_execution.specs.Execution.{AreFresh, CallStep, IsExecution, IsPat
 use Rattle.sdb_executions.specs.Found.{IsRunOnFound, RunsOnFound, answered_body, is_answered}
 use Rattle.sdb_executions.specs.Linked.{on_one}
 use Rattle.sdb_executions.specs.World.{WorldAt, hand_in, hands_of, state_of}
-use Rattle.sdb_executions.proofs.Finding.{NothingMore, WaitFinds, finds_kept}
+use Rattle.sdb_executions.proofs.Finding.{NothingMore}
 use Rattle.sdb_executions.proofs.FoundCalls.{calls_runs}
 use Rattle.sdb_executions.proofs.FoundSteps.{ClientRuns, sees_then, still_runs, answered_of_is, answered_of}
 use Rattle.sdb_executions.proofs.FoundTakes.{takes_runs}
@@ -95,10 +95,10 @@ module _ (w : WorldAt) (h : Holds w) (all : AllRun w) where
       moves_all w (event.Take c text a) u t.place c t.seat (moved_seat t.seat 1 t.client) t.number t.at t.left h all (λ n apart. others_silent w.events n c (event.Take c text a) apart refl)
       (takes_runs (record { catalog = catalog; now = w.clock; gate = t.gate; fresh = next_id t.seat.client }) h.world.playable.catalog w.events c text t.seat.client (subst (λ (y : Hand). Knows catalog w.events c y.client) hand (h.caused.each c)) (subst (λ (y : Hand). ClientRuns catalog w.events c y.client) hand (all c)) t.idle a t.client t.takes)
 
-  step_call : (so : AllSo NothingMore WaitFinds w) (prepared : AllSo NothingMore WaitPrepares w) (c : ℕ) (store : Name) (q : Request) (how : How) (r : Reply) (a : Option Answer) (u : State) (t : CallStep (state_of w) c q r a u) → AllRun (led w (event.Call c store q how r a) u)
-  step_call so prepared c store q how r a u t =
+  step_call : (prepared : AllSo NothingMore WaitPrepares w) (c : ℕ) (store : Name) (q : Request) (how : How) (r : Reply) (a : Option Answer) (u : State) (t : CallStep (state_of w) c q r a u) → AllRun (led w (event.Call c store q how r a) u)
+  step_call prepared c store q how r a u t =
       moves_all w (event.Call c store q how r a) u t.place c t.seat (moved_seat t.seat 0 t.client) t.number t.at t.left h all (λ n apart. others_silent w.events n c (event.Call c store q how r a) apart refl)
-      (calls_runs catalog h.world.playable.catalog h.world.playable.apart w.events c t.seat.client k (subst (λ (y : Hand). ClientRuns catalog w.events c y.client) hand (all c)) x.0 x.1 waits finds prepares store q how r w.clock h.world.moment t.can kept t.client a
+      (calls_runs catalog h.world.playable.catalog h.world.playable.apart w.events c t.seat.client k (subst (λ (y : Hand). ClientRuns catalog w.events c y.client) hand (all c)) x.0 x.1 waits prepares store q how r w.clock h.world.moment t.can kept t.client a
       (call_of catalog w.events c t.seat.client k x.0 x.1 q r w.clock a t.client t.pending (h.world.each t.place t.seat t.at).fitted t.takes))
     where
       hand : hands_of w.seats c ≡ record { client = t.seat.client; stopped = t.seat.stopped }
@@ -113,9 +113,6 @@ module _ (w : WorldAt) (h : Holds w) (all : AllRun w) where
       waits : IsWaiting catalog w.events c (is_some t.seat.client.vacuum) x.0
       waits = waits_of catalog w.events c t.seat.client k x.0 x.1
 
-      finds : WaitFinds catalog w.events c x.0 t.seat.client
-      finds = wait_so w WaitFinds so c t.seat.client (ap (λ (y : Hand). y.client) hand) k x.0 x.1 waits
-
       prepares : WaitPrepares catalog w.events c x.0 t.seat.client
       prepares = wait_so w WaitPrepares prepared c t.seat.client (ap (λ (y : Hand). y.client) hand) k x.0 x.1 waits
 
@@ -123,24 +120,24 @@ module _ (w : WorldAt) (h : Holds w) (all : AllRun w) where
       kept y free some b z reads =
           going_kept catalog (tables_fit catalog) (on_one w.events) (hands_of w.seats) h.linked c (ap (λ (v : Hand). v.stopped) hand ∙ t.goes_on) (ap (λ (v : Hand). v.client.vacuum) hand ∙ free) y (ap (λ (v : Hand). v.client.txn) hand ∙ some) b z reads
 
-  pub step_runs : AllSo NothingMore WaitFinds w → AllSo NothingMore WaitPrepares w → (e : Event) (u : State) → IsStepFrom w.script (state_of w) e u → AllRun (led w e u)
-  step_runs so prepared (event.Take c text a) u t = step_take c text a u t
-  step_runs so prepared (event.Call c store q how r a) u t = step_call so prepared c store q how r a u t
-  step_runs so prepared (event.Stop c) u t =
+  pub step_runs : AllSo NothingMore WaitPrepares w → (e : Event) (u : State) → IsStepFrom w.script (state_of w) e u → AllRun (led w e u)
+  step_runs prepared (event.Take c text a) u t = step_take c text a u t
+  step_runs prepared (event.Call c store q how r a) u t = step_call prepared c store q how r a u t
+  step_runs prepared (event.Stop c) u t =
       moves_all w (event.Stop c) u t.place c t.seat (stopped_seat t.seat) t.number t.at t.left h all (λ n apart. said_more n w.events (event.Stop c))
       (subst (λ (y : Hand). ClientRuns catalog (w.events ++ event.Stop c ∷ []) c y.client) (hand_at w.seats t.place c t.seat t.number t.at) (rests_one w (event.Stop c) c (said_more c w.events (event.Stop c)) h (all c)))
-  step_runs so prepared (event.Clock m) u t = λ n. subst (λ (x : State). ClientRuns catalog (w.events ++ event.Clock m ∷ []) n (hands_of x.seats n).client) (sym t.1) (rests_one w (event.Clock m) n (said_more n w.events (event.Clock m)) h (all n))
-  step_runs so prepared (event.Idle d) u t = λ n. subst (λ (x : State). ClientRuns catalog (w.events ++ event.Idle d ∷ []) n (hands_of x.seats n).client) (sym t) (rests_one w (event.Idle d) n (said_more n w.events (event.Idle d)) h (all n))
+  step_runs prepared (event.Clock m) u t = λ n. subst (λ (x : State). ClientRuns catalog (w.events ++ event.Clock m ∷ []) n (hands_of x.seats n).client) (sym t.1) (rests_one w (event.Clock m) n (said_more n w.events (event.Clock m)) h (all n))
+  step_runs prepared (event.Idle d) u t = λ n. subst (λ (x : State). ClientRuns catalog (w.events ++ event.Idle d ∷ []) n (hands_of x.seats n).client) (sym t) (rests_one w (event.Idle d) n (said_more n w.events (event.Idle d)) h (all n))
 
 ---- a whole execution
 
-pub path_runs : (es : List Event) (w : WorldAt) (t : State) → IsPath w.script (state_of w) es t → Holds w → AllSo NothingMore WaitFinds w → AllSo NothingMore WaitPrepares w → AllRun w → AllRun (record { script = w.script; seats = t.seats; events = w.events ++ es; clock = t.clock })
-path_runs [] w t h k so prepared all =
+pub path_runs : (es : List Event) (w : WorldAt) (t : State) → IsPath w.script (state_of w) es t → Holds w → AllSo NothingMore WaitPrepares w → AllRun w → AllRun (record { script = w.script; seats = t.seats; events = w.events ++ es; clock = t.clock })
+path_runs [] w t h k prepared all =
     subst (λ (x : State). AllRun (record { script = w.script; seats = x.seats; events = w.events ++ []; clock = x.clock })) (sym h)
     (subst (λ (xs : List Event). AllRun (record { script = w.script; seats = w.seats; events = xs; clock = w.clock })) (sym (append-nil w.events)) all)
-path_runs (e ∷ es) w t h k so prepared all =
+path_runs (e ∷ es) w t h k prepared all =
     subst (λ (xs : List Event). AllRun (record { script = w.script; seats = t.seats; events = xs; clock = t.clock })) (append_assoc w.events (e ∷ []) es)
-    (path_runs es (led w e h.0) t h.2 (step_holds w e h.0 h.1 k) (step_so NothingMore WaitFinds finds_kept w e h.0 h.1 k so) (step_so NothingMore WaitPrepares prepares_kept w e h.0 h.1 k prepared) (step_runs w k all so prepared e h.0 h.1))
+    (path_runs es (led w e h.0) t h.2 (step_holds w e h.0 h.1 k) (step_so NothingMore WaitPrepares prepares_kept w e h.0 h.1 k prepared) (step_runs w k all prepared e h.0 h.1))
 
 no_commits : (catalog : List Table) (c : ℕ) → CommitsWrote catalog [] c []
 no_commits catalog c n body s x = absurd (by n x.since)
@@ -163,7 +160,7 @@ module _ (script : Script) (events : List Event) (playable : IsPlayable script) 
 
   pub all_run : AllRun w
   all_run =
-      path_runs events (record { script = script; seats = x.first.seats; events = []; clock = x.first.clock }) x.last x.path (first_holds script x.first playable x.initial) (λ c s has. none_in s has) (λ c s has. none_in s has)
+      path_runs events (record { script = script; seats = x.first.seats; events = []; clock = x.first.clock }) x.last x.path (first_holds script x.first playable x.initial) (λ c s has. none_in s has)
       (first_runs script x.first.seats (length script.clients) x.initial.fresh)
 
   -- Each of its transactions runs on what it has found.

@@ -20,7 +20,6 @@ pub mod Sweeping
 pub mod SweepCalls
 pub mod Swept
 pub mod Beginnings
-pub mod Meant
 pub mod Views
 pub mod Writing
 pub mod Running

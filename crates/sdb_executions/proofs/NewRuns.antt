@@ -28,7 +28,7 @@ use Rattle.sdb_causes.proofs.Noting.{take_open}
 use Rattle.sdb_execution.specs.Execution.{IsExecution, IsPath, IsPlayable, IsStepFrom, State}
 use Rattle.sdb_executions.specs.Found.{IsNewRead, ReadsAreNew, is_answered}
 use Rattle.sdb_executions.specs.World.{WorldAt, hands_of, state_of}
-use Rattle.sdb_executions.proofs.Finding.{NothingMore, WaitFinds, finds_kept}
+use Rattle.sdb_executions.proofs.Finding.{NothingMore}
 use Rattle.sdb_executions.proofs.FoundRuns.{AllRun, all_run, first_runs, hand_at, step_runs}
 use Rattle.sdb_executions.proofs.FoundSteps.{ClientRuns, SeesIn, SeesRun, all_answered, answered_of, answered_of_is}
 use Rattle.sdb_executions.proofs.Kept.{by_nat}
@@ -116,11 +116,11 @@ module _ (w : WorldAt) (h : Holds w) (all : AllRun w) (so : AllSo NothingMore Wa
 
 ---- a whole execution
 
-path_new : (es : List Event) (w : WorldAt) (t : State) → IsPath w.script (state_of w) es t → Holds w → AllSo NothingMore WaitFinds w → AllSo NothingMore WaitPrepares w → AllRun w → AllSo NothingMore WaitNew w → AllReadNew w → AllReadNew (record { script = w.script; seats = t.seats; events = w.events ++ es; clock = t.clock })
-path_new [] w t h k finds prepared all so new = subst (λ (xs : List Event). (c : ℕ) → AllNew xs c (answered_of c xs)) (sym (append-nil w.events)) new
-path_new (e ∷ es) w t h k finds prepared all so new =
+path_new : (es : List Event) (w : WorldAt) (t : State) → IsPath w.script (state_of w) es t → Holds w → AllSo NothingMore WaitPrepares w → AllRun w → AllSo NothingMore WaitNew w → AllReadNew w → AllReadNew (record { script = w.script; seats = t.seats; events = w.events ++ es; clock = t.clock })
+path_new [] w t h k prepared all so new = subst (λ (xs : List Event). (c : ℕ) → AllNew xs c (answered_of c xs)) (sym (append-nil w.events)) new
+path_new (e ∷ es) w t h k prepared all so new =
     subst (λ (xs : List Event). (c : ℕ) → AllNew xs c (answered_of c xs)) (append_assoc w.events (e ∷ []) es)
-    (path_new es (led w e h.0) t h.2 (step_holds w e h.0 h.1 k) (step_so NothingMore WaitFinds finds_kept w e h.0 h.1 k finds) (step_so NothingMore WaitPrepares prepares_kept w e h.0 h.1 k prepared) (step_runs w k all finds prepared e h.0 h.1) (step_so NothingMore WaitNew new_kept w e h.0 h.1 k so) (step_new w k all so new e h.0 h.1))
+    (path_new es (led w e h.0) t h.2 (step_holds w e h.0 h.1 k) (step_so NothingMore WaitPrepares prepares_kept w e h.0 h.1 k prepared) (step_runs w k all prepared e h.0 h.1) (step_so NothingMore WaitNew new_kept w e h.0 h.1 k so) (step_new w k all so new e h.0 h.1))
 
 -- before any event
 first_new : (c : ℕ) → AllNew [] c []
@@ -167,7 +167,7 @@ running_open before opens = ap (λ xs. filter is_answered (filter is_effective x
 module _ (script : Script) (events : List Event) (playable : IsPlayable script) (x : IsExecution script events) where
   all_new : AllReadNew (record { script = script; seats = x.last.seats; events = events; clock = x.last.clock })
   all_new =
-      path_new events (record { script = script; seats = x.first.seats; events = []; clock = x.first.clock }) x.last x.path (first_holds script x.first playable x.initial) (λ c s has. none_in s has) (λ c s has. none_in s has)
+      path_new events (record { script = script; seats = x.first.seats; events = []; clock = x.first.clock }) x.last x.path (first_holds script x.first playable x.initial) (λ c s has. none_in s has)
       (first_runs script x.first.seats (length script.clients) x.initial.fresh) (λ c s has. none_in s has) first_new
 
   module _ (c : ℕ) where

@@ -236,7 +236,7 @@ execution_sweeps script events playable x client s has sweeps = full (by s.answe
       deletes = y.deletes;
       scans = λ n e. (y.done n e).0;
       deleted = λ n m r e f. (y.done n e).1 m r f;
-      counts = λ n e. counts_of events client s n script.catalog sweeps ((execution_caused script events playable x).caused client s (answer.Count n) has e refl);
+      counts = λ n e. counts_of events client s n script.catalog sweeps ((execution_caused script events playable x).caused.caused client s (answer.Count n) has e);
     }
 
     -- one that waits is the VACUUM that runs

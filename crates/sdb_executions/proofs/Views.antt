@@ -23,7 +23,7 @@ use Rattle.sdb_record.specs.Among.{write_among}
 use Rattle.sdb_model.specs.Access.{with_row}
 use Rattle.sdb_model.specs.Calls.{Made, records_read}
 use Rattle.sdb_model.specs.Exec.{Tables}
-use Rattle.sdb_model.specs.Noted.{reads_rows}
+use Rattle.sdb_model.specs.Noted.{meaning_of, reads_rows}
 use Rattle.sdb_read.specs.Read.{request_of}
 use Rattle.sdb_snapshot.specs.Held.{WereRead}
 use Rattle.sdb_snapshot.specs.Noted.{is_noted}
@@ -33,12 +33,11 @@ use Rattle.sdb_snapshot.proofs.Shown.{get_seen}
 use Rattle.sdb_txn.specs.Txn.{TxnAt}
 use Rattle.sdb_client.specs.Client.{noting}
 use Rattle.sdb_steps.proofs.InTables.{access_table}
-use Rattle.sdb_causes.specs.Moves.{HasRead, IsRows}
+use Rattle.sdb_causes.specs.Moves.{HasRead, IsRows, IsSettledAs}
 use Rattle.sdb_causes.proofs.ReadSteps.{IsDataTable}
-use Rattle.sdb_causes.proofs.Settling.{data_read}
+use Rattle.sdb_causes.proofs.Settling.{data_read, settled_means}
 use Rattle.sdb_causes.proofs.Unfit.{at_note, found_new, noted_now, same_writes}
-use Rattle.sdb_executions.specs.Found.{View, found_by, found_in, has_found, meant, with_found, with_one_found}
-use Rattle.sdb_executions.proofs.Meant.{FindsImages}
+use Rattle.sdb_executions.specs.Found.{View, found_by, found_in, has_found, with_found, with_one_found}
 use Rattle.sdb_causes.proofs.ShowsRead.{unwritten}
 
 ---- a view with what was found
@@ -113,20 +112,25 @@ found_images (b ∷ bs) q = ap (λ o. cond (same_key q b.key) (Some (Some b)) o)
     by false = refl
 
 module _ (calls : List Made) where
-  found_one : (a : Access) (r : Reply) (images done : List Record) → CanAnswer (request_of a) r → IsRows r → records_read r ≡ done → images ≡ filter_map (meant calls) done → (q : Key) → value_at (found_in calls (request_of a) r) q ≡ found_new a images q
-  found_one (access.Get k) (reply.Found None) images done can rows_found rows are q = ap (λ x. cond (same_key q k) (Some x) None) (sym (ap (λ is. slice_get is 0) (are ∙ ap (filter_map (meant calls)) (sym rows))))
-  found_one (access.Get k) (reply.Found (Some r)) images done can rows_found rows are q = ap (λ x. cond (same_key q k) (Some x) None) (sym (ap (λ is. slice_get is 0) (are ∙ ap (filter_map (meant calls)) (sym rows)) ∙ first (meant calls r)))
+  found_one : (a : Access) (r : Reply) (images done : List Record) → CanAnswer (request_of a) r → IsRows r → records_read r ≡ done → images ≡ filter_map (meaning_of calls) done → (q : Key) → value_at (found_in calls (request_of a) r) q ≡ found_new a images q
+  found_one (access.Get k) (reply.Found None) images done can rows_found rows are q = ap (λ x. cond (same_key q k) (Some x) None) (sym (ap (λ is. slice_get is 0) (are ∙ ap (filter_map (meaning_of calls)) (sym rows))))
+  found_one (access.Get k) (reply.Found (Some r)) images done can rows_found rows are q = ap (λ x. cond (same_key q k) (Some x) None) (sym (ap (λ is. slice_get is 0) (are ∙ ap (filter_map (meaning_of calls)) (sym rows)) ∙ first (meaning_of calls r)))
     where
       first : (o : Option Record) → slice_get (cons_option o []) 0 ≡ o
       first None = refl
       first (Some b) = refl
-  found_one (access.Scan span) (reply.Rows rs) images done can rows_found rows are q = found_images (filter_map (meant calls) rs) q ∙ ap (λ is. option_map Some (record_among is q)) (ap (filter_map (meant calls)) rows ∙ sym are)
+  found_one (access.Scan span) (reply.Rows rs) images done can rows_found rows are q = found_images (filter_map (meaning_of calls) rs) q ∙ ap (λ is. option_map Some (record_among is q)) (ap (filter_map (meaning_of calls)) rows ∙ sym are)
   found_one (access.Get k) (reply.Rows rs) images done can rows_found rows are q = absurd can
   found_one (access.Scan span) (reply.Found found) images done can rows_found rows are q = absurd can
   found_one a reply.Applied images done can rows_found rows are q = absurd rows_found
   found_one a (reply.NotMet found) images done can rows_found rows are q = absurd rows_found
   found_one a reply.Fault images done can rows_found rows are q = absurd rows_found
   found_one a reply.NoMemory images done can rows_found rows are q = absurd rows_found
+
+  -- the images are what the rows mean
+  steps_mean : (es : List (Record × Option Record)) → AllByRecursion (IsSettledAs calls) es → filter_map (λ (e : Record × Option Record). e.1) es ≡ filter_map (meaning_of calls) (map (λ e. e.0) es)
+  steps_mean [] all = refl
+  steps_mean (e ∷ es) all = ap (cons_option e.1) (steps_mean es all.1) ∙ ap (λ o. cons_option o (filter_map (meaning_of calls) (map (λ x. x.0) es))) (sym (settled_means calls e all.0))
 
   none_read : (ms : List Made) → AllByRecursion (λ m. reads_rows m ≡ false) ms → filter reads_rows ms ≡ []
   none_read [] all = refl
@@ -137,15 +141,12 @@ module _ (calls : List Made) where
   read_only a images h own = ap (filter reads_rows) h.calls_are ∙ ap (λ b. if b then h.first ∷ filter reads_rows h.rest else filter reads_rows h.rest) (data_read a own h.first h.request) ∙ ap (λ ms. h.first ∷ ms) (none_read h.rest h.others)
 
   -- A read finds, by its calls, what its client notes.
-  pub found_now : (a : Access) (images : List Record) → HasRead (request_of a) calls images [] → FindsImages (request_of a) calls images [] → IsDataTable (access_table a) → (q : Key) → value_at (found_by calls) q ≡ found_new a images q
-  found_now a images h f own q =
+  pub found_now : (a : Access) (images : List Record) → HasRead (request_of a) calls images [] → IsDataTable (access_table a) → (q : Key) → value_at (found_by calls) q ≡ found_new a images q
+  found_now a images h own q =
       ap (λ ms. value_at (flat_map (λ (m : Made). found_in calls m.request m.reply) ms) q) (read_only a images h own)
       ∙ ap (λ es. value_at es q) (append-nil (found_in calls h.first.request h.first.reply))
       ∙ ap (λ x. value_at (found_in calls x h.first.reply) q) h.request
-      ∙ found_one a h.first.reply images f.done h.can h.told (ap (λ (m : Made). records_read m.reply) same ∙ f.rows ∙ append-nil f.done) f.images_are q
-    where
-      same : h.first ≡ f.first
-      same = let e : h.first ∷ h.rest ≡ f.first ∷ f.rest = sym h.calls_are ∙ f.calls_are in cc
+      ∙ found_one a h.first.reply images (map (λ e. e.0) h.steps) h.can h.told (h.rows ∙ append-nil (map (λ e. e.0) h.steps)) (h.images_are ∙ steps_mean h.steps h.settled) q
 
 ---- what a client sees
 

@@ -1,31 +1,26 @@
 -- What a transaction has found in the tables, and what its statements answer on that.
-use Rattle.std.specs.Prelude.{◌≡◌, ◌&&◌, Bool, false, if◌then◌else◌, ℕ, List, [], ◌∷◌, ◌++◌, filter, find, fold, map, Option, Some, None, is_some, true, Contains}
+use Rattle.std.specs.Prelude.{◌≡◌, Bool, false, if◌then◌else◌, ℕ, List, [], ◌∷◌, ◌++◌, filter, fold, map, Option, Some, is_some, true, Contains}
 use Rattle.std.specs.FinMap.{empty}
 use Rattle.std.specs.List.{filter_map, flat_map, list_any}
-use Rattle.std.specs.Option.{option_and_then, option_map_or}
+use Rattle.std.specs.Option.{option_and_then}
 use Rattle.sdb_types.specs.declared.key.Key.{Key}
-use Rattle.sdb_types.specs.declared.record.Condition.{Condition}
 use Rattle.sdb_types.specs.declared.record.Record.{Record}
 use Rattle.sdb_types.specs.declared.record.Reply.{Reply}
 use Rattle.sdb_types.specs.declared.record.Reply.TheVariants as reply
 use Rattle.sdb_types.specs.declared.record.Request.{Request}
 use Rattle.sdb_types.specs.declared.record.Request.TheVariants as ask
 use Rattle.sdb_types.specs.declared.record.Span.{Span}
-use Rattle.sdb_types.specs.declared.record.State.TheVariants as state
 use Rattle.sdb_types.specs.declared.txid.TxId.{TxId}
-use Rattle.sdb_types.specs.Contents.{holds}
 use Rattle.sdb_types.specs.Order.{same_key}
-use Rattle.sdb_record.specs.Meta.{is_in}
 use Rattle.sdb_record.specs.Rolls.{row_of_image}
 use Rattle.sdb_schema.specs.declared.table.Table.{Table}
 use Rattle.sdb_model.specs.declared.answer.Answer.{Answer}
 use Rattle.sdb_model.specs.declared.event.Event.{Event}
 use Rattle.sdb_model.specs.declared.statement.Statement.{Statement}
 use Rattle.sdb_model.specs.Access.{with_row}
-use Rattle.sdb_model.specs.Calls.{Made, calls_of, put_by}
-use Rattle.sdb_model.specs.Counted.{is_key_of}
+use Rattle.sdb_model.specs.Calls.{Made, calls_of}
 use Rattle.sdb_model.specs.Exec.{Tables, exec}
-use Rattle.sdb_model.specs.Noted.{reads_rows}
+use Rattle.sdb_model.specs.Noted.{meaning_of, reads_rows}
 use Rattle.sdb_model.specs.Sql.{reads_commit}
 use Rattle.sdb_model.specs.Told.{AreRead}
 use Rattle.sdb_model.specs.Transactions.{Said, body, client_of, is_effective, statements_of}
@@ -33,27 +28,11 @@ use Rattle.sdb_snapshot.specs.Seen.{same_span}
 
 ---- what a statement found
 
--- the condition on which a call puts or deletes
-abbrev pub condition_asked : Request → Option Condition
-condition_asked (ask.Get key) = None
-condition_asked (ask.Scan span) = None
-condition_asked (ask.PutIf rec condition) = Some condition
-condition_asked (ask.DeleteIf key condition) = Some condition
-
--- A call rolls a record: it puts or deletes at the record's key, on a condition that the record meets.
-abbrev pub rolls : Record → Made → Bool
-rolls r m = is_key_of r.key m && option_map_or (λ c. holds c (Some r)) (condition_asked m.request) false
-
--- What a found record means to the statement that found it: itself where it is committed, and else what the statement's own roll put there,
--- none where that deleted it.
-abbrev pub meant : List Made → Record → Option Record
-meant calls r = if is_in state.Committed r.columns then Some r else option_and_then (λ m. put_by m.request) (find (rolls r) calls)
-
 -- The keys at which a read of a statement found something, each with what this means: a get also finds that there is none, and a scan only
 -- finds records.
 abbrev pub found_in : List Made → Request → Reply → List (Key × Option Record)
-found_in calls (ask.Get key) (reply.Found found) = (key, option_and_then (meant calls) found) ∷ []
-found_in calls (ask.Scan span) (reply.Rows rows) = map (λ (b : Record). (b.key, Some b)) (filter_map (meant calls) rows)
+found_in calls (ask.Get key) (reply.Found found) = (key, option_and_then (meaning_of calls) found) ∷ []
+found_in calls (ask.Scan span) (reply.Rows rows) = map (λ (b : Record). (b.key, Some b)) (filter_map (meaning_of calls) rows)
 found_in calls q r = []
 
 -- what a statement with these calls found, in their order

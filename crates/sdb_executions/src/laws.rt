@@ -11,9 +11,9 @@ ghost use Rattle.sdb_record.specs.declared.write.Write.{Write};
 ghost use Rattle.sdb_schema.specs.declared.table.Table.{Table};
 ghost use Rattle.sdb_model.specs.Sql.{reads_begin, reads_commit, reads_vacuum};
 ghost use Rattle.sdb_execution.specs.Execution.{IsExecution};
+ghost use Rattle.sdb_model.specs.Causes.{AreCaused};
 ghost use Rattle.sdb_model.specs.Counted.{AreCounted, AreResolved};
 ghost use Rattle.sdb_spread.specs.Spread.{AreAbout};
-ghost use Rattle.sdb_causes.specs.Tied.{AnswersHaveCauses};
 ghost use Rattle.sdb_executions.specs.Forged.{CommitText, FindsRow, FindsUnresolved, InsertOn, IsOfOther, IsOtherMoment, SelectOn, ShowsRow, UpdateOn, busy_at_once, counted_at_once, counts_over, counts_twice, counts_unread, decides_at_once, decides_early, decides_unapplied, decides_unprepared, duplicates_none, leaves_out, prepares_at, prepares_unwritten, reads_again, reads_and_is_done, shows_two, shows_unread, shows_unrolled};
 ghost use Rattle.sdb_executions.specs.Found.{ReadsAreNew, RunsOnFound};
 ghost use Rattle.sdb_executions.specs.Laws.{BusyIsOfReads, CallsAreOfStatements, DecisionsAreDue, ExecutionOf, FollowsMoves, KeepsRules, PreparesAreOwn, ReadsAreFew};
@@ -21,11 +21,9 @@ ghost use Rattle.sdb_executions.specs.Moments.{IsSoundAfter, TraceOf, WritesStan
 ghost use Rattle.sdb_executions.specs.Vacuums.{VacuumsSweep};
 ghost use Rattle.sdb_executions.specs.Written.{CommitsPrepareWritten, DecisionsFollowPoints, PreparesAreAsMany};
 
-/// Each answer has its cause among the events: of Conflict, and of BadRecord of a record of a table, where calls show no two decisions on one
-/// transaction. The calls of every statement are counted, and whoever was answered from rows had each unresolved record that it found rolled
-/// first.
+/// Each answer has its cause among the events, and a statement that is to be turned away is.
 pub fn answers_have_causes()
-    ensures { (x : ExecutionOf) → AnswersHaveCauses x.script.catalog x.events }
+    ensures { (x : ExecutionOf) → AreCaused x.script.catalog x.events }
 {}
 
 /// Where the events follow the script's moves, the calls of every statement are counted by those that were seen.

@@ -249,7 +249,7 @@ module _ (catalog : List Table) (fit : Tables → Bool) (events : List Event) (s
         story = story_stays events g.past sys (with_client sys c (Reading i seen a next_read)) c x q story (plain_counts q.role plain) (plain_apart g.past c q.role plain) (keeps (Reading i seen a s) (Reading i seen a next_read) at_read (λ u h. h)) call_silent;
         own = record { ended = (kept q plain).0; opened = (kept q plain).1; hand = subst (HandOk (doing c) x (ran n)) (sym (here (Reading i seen a next_read))) held_then_read };
         noted = noted_elsewhere events c q.event (sys.clients c) x ran (g.noted c) ((with_client sys c (Reading i seen a next_read)).clients c) (subst (IsMadeSince (events ++ q.event ∷ []) c x.waiting) (sym (here (Reading i seen a next_read)))
-            (made_reads kind g.past events c x.waiting i seen a s store request how reply now None kinds (client_at (Reading i seen a s) at_read).3 (g.noted c).taken made_then asked.asked asked.can));
+            (made_reads kind events c x.waiting i seen a s store request how reply now None kinds (g.noted c).taken made_then asked.asked asked.can));
       })
         where
           none_some : ◌≡◌ {A = Option Answer} None (Some answer.Committed) → ⊥
@@ -328,7 +328,7 @@ module _ (catalog : List Table) (fit : Tables → Bool) (events : List Event) (s
             taken_before = subst (λ o. IfSome o (λ (w : Said). w.taken ≤ length events)) w.1 (g.noted c).taken
 
             made_now : ReadMade (calls_since (events ++ answered_q.event ∷ []) c w.0.taken) a next_read
-            made_now = since_read kind g.past events c w.0.taken a s store request how reply now (Some b) kinds (client_at (Reading i seen a s) at_read).3 taken_before (subst (λ o. IsMadeSince events c o (Reading i seen a s)) w.1 made_then) asked.asked asked.can
+            made_now = since_read kind events c w.0.taken a s store request how reply now (Some b) kinds taken_before (subst (λ o. IsMadeSince events c o (Reading i seen a s)) w.1 made_then) asked.asked asked.can
 
             m : IsMild b × (changes_nothing b ≡ false)
             m = rows_mild b rows

@@ -19,7 +19,6 @@ use Rattle.sdb_model.specs.Follows.{Follows}
 use Rattle.sdb_model.specs.Told.{IsRun}
 use Rattle.sdb_model.specs.Transactions.{IsOrder, Recorded, Said, begins, body, client_of, is_effective, ordinal_of, said}
 use Rattle.sdb_model.specs.Sql.{reads_begin, reads_commit}
-use Rattle.sdb_model.specs.Calls.{calls_by}
 use Rattle.sdb_laws.specs.Explained.{IsRunOf, events_of, newest_first}
 use Rattle.sdb_laws.specs.Faithful.{AreNoted}
 use Rattle.sdb_record.specs.declared.coordinator.Decision.TheVariants.{Committed}
@@ -32,7 +31,6 @@ use Rattle.sdb_laws.proofs.Times.{traced_of, whole_of}
 use Rattle.sdb_turns.specs.System.{SystemAt}
 use Rattle.sdb_turns.proofs.Begin.{taken_begun}
 use Rattle.sdb_turns.specs.Noted.{work_of}
-use Rattle.sdb_story.specs.Calls.{AgreeOn}
 use Rattle.sdb_story.specs.Filed.{number}
 use Rattle.sdb_story.specs.Left.{Execution, ExecutionOk, BodyIsSaid, IsFitting, numbers_of}
 use Rattle.sdb_story.specs.Linked.{IsLinked}
@@ -172,11 +170,11 @@ module _ (catalog : List Table) (fit : Tables → Bool) (events : List Event) (s
       let r = ran_at t taken in
       (record { seen = r.ok.inside.seen; planned = r.ok.planned taken; body = r.ok.inside.body }, body_is_said events t r.inside (ran_of t) r.body r.ok.inside.said)
 
-  -- where what each client's calls showed of each row agrees, the plans' notes are what the statements noted
-  pub going_is_noted : ((c : ℕ) → AgreeOn (calls_by events c)) → AreNoted g.plan events g.past
-  going_is_noted agree = are_noted g.plan events g.past (λ t. work_of (id t) (ran_of t).now (ran_of t).seen) (λ t taken.
+  -- the plans' notes are what the statements noted
+  pub going_is_noted : AreNoted g.plan events g.past
+  going_is_noted = are_noted g.plan events g.past (λ t. work_of (id t) (ran_of t).now (ran_of t).seen) (λ t taken.
       let r = ran_at t taken in
-      noted_whole g.plan events (client_of (id t)) t (ran_of t).now r.inside (ran_of t).seen refl r.body (r.ok.planned taken) (r.noted.noted (agree (client_of (id t)))))
+      noted_whole g.plan events (client_of (id t)) t (ran_of t).now r.inside (ran_of t).seen refl r.body (r.ok.planned taken) r.noted.noted)
 
 ---- points
 

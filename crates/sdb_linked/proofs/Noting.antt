@@ -1,6 +1,6 @@
 -- Each event keeps what the transactions of a client have read tied to the calls of its statements.
 use Rattle.std.proofs.Common.{◌≡◌, ◌≢◌, ◌≤◌, ◌+◌, ℕ, ℤ, Bool, true, false, List, [], ◌∷◌, ◌++◌, length, Option, Some, None, IfSome, refl, sym, ap, ◌∙◌, subst, arith, ◌⊎◌, inl, inr}
-use Rattle.std.specs.Prelude.{◌==◌, ◌&&◌, filter, if◌then◌else◌, is_some, nat_lt, not}
+use Rattle.std.specs.Prelude.{◌==◌, ◌&&◌, if◌then◌else◌, is_some, not}
 use Rattle.std.specs.Cmp.{tied_itself}
 use Rattle.std.specs.Cmp.Lexicographic.{lists_total}
 use Rattle.std.specs.List.{cons_option}
@@ -19,65 +19,37 @@ use Rattle.sdb_types.proofs.KeyOrder.{key_total, table_total}
 use Rattle.sdb_record.specs.declared.access.Access.{Access}
 use Rattle.sdb_record.specs.declared.access.Access.TheVariants as access
 use Rattle.sdb_record.specs.Coordinator.{is_coordinator_table}
-use Rattle.sdb_record.specs.declared.coordinator.Decision.{Decision}
 use Rattle.sdb_record.specs.declared.write.Keyed.{Keyed}
 use Rattle.sdb_model.specs.declared.answer.Answer.{Answer}
 use Rattle.sdb_model.specs.declared.event.Event.{Event}
 use Rattle.sdb_model.specs.declared.event.Event.TheVariants as event
 use Rattle.sdb_model.specs.declared.event.How.{How}
-use Rattle.sdb_model.specs.Calls.{Made, calls_by, end_of}
+use Rattle.sdb_model.specs.Calls.{Made, end_of}
 use Rattle.sdb_model.specs.Events.{table_asked}
 use Rattle.sdb_model.specs.Noted.{notes_in, is_from_rows as from_rows}
 use Rattle.sdb_model.specs.Rows.{Name}
 use Rattle.sdb_model.specs.Transactions.{Said, begins, ends, is_effective}
 use Rattle.sdb_laws.specs.History.{at}
-use Rattle.sdb_laws.specs.Lawful.{Played}
 use Rattle.sdb_phases.specs.Commit.{Stage, Preparing, Checking, Deciding, Forward, Stopping, Back, Over}
 use Rattle.sdb_phases.specs.Work.{Work}
 use Rattle.sdb_snapshot.specs.Seen.{Seen, nothing, with_written}
 use Rattle.sdb_turns.specs.Noted.{with_read}
-use Rattle.sdb_turns.specs.ReadAt.{AreKinds, Done, IsOfData, ReadAt, ReadOk, read_pending, read_step}
+use Rattle.sdb_turns.specs.ReadAt.{AreKinds, Done, IsOfData, ReadAt, read_pending, read_step}
 use Rattle.sdb_turns.specs.System.{ClientAt, Committing, IsBy, Open, Reading, Resting, Stopped, Sweeping, commit_left}
 use Rattle.sdb_turns.proofs.Lists.{each_more}
-use Rattle.sdb_story.specs.Calls.{AgreeOn, Learned, NotesNothing, NotesRead, ReadMade, WasAnswered, call_made, calls_since}
+use Rattle.sdb_story.specs.Calls.{NotesNothing, NotesRead, ReadMade, WasAnswered, call_made, calls_since}
 use Rattle.sdb_story.specs.Left.{Execution}
 use Rattle.sdb_story.specs.Story.{Closed, Finished, Opened, Rest, finished_at}
 use Rattle.sdb_story.specs.Telling.{Telling, with_answered}
 use Rattle.sdb_story.proofs.Answered.{one_more}
 use Rattle.sdb_story.proofs.Bodily.{noted_later, noted_nothing, noted_read, noted_starts}
 use Rattle.sdb_story.proofs.Noting.{read_made, read_notes}
-use Rattle.sdb_story.proofs.Since.{calls_just, since_more, since_now, calls_more}
+use Rattle.sdb_story.proofs.Since.{calls_just, since_more, since_now}
 use Rattle.sdb_linked.specs.Going.{IsSilent}
 use Rattle.sdb_linked.specs.Noted.{ClientNoted, EndedNoted, InsideNoted, IsMadeSince, OpenedNoted}
 use Rattle.sdb_linked.proofs.Own.{below, finished, ran_before, ran_here, settled_begin, settled_gap, settled_inside, settled_over}
 use Rattle.sdb_types.proofs.Basics.{all_each as each_any}
 use Rattle.sdb_read.specs.Read.{request_of, Kind}
-
----- what was learned
-
-learned_first : (ms ns : List Made) (id : TxId) (d : Decision) → Learned ms id d → Learned (ms ++ ns) id d
-learned_first [] ns id d h = absurd h
-learned_first (m ∷ ms) ns id d (inl h) = inl h
-learned_first (m ∷ ms) ns id d (inr h) = inr (learned_first ms ns id d h)
-
-learned_kept : (t : Made → Bool) (ms : List Made) (id : TxId) (d : Decision) → Learned (filter t ms) id d → Learned ms id d
-learned_kept t [] id d h = absurd h
-learned_kept t (m ∷ ms) id d h = by (t m) (learned_kept t ms id d) h
-  where
-    by : (b : Bool) → (Learned (filter t ms) id d → Learned ms id d) → Learned (if b then m ∷ filter t ms else filter t ms) id d → Learned (m ∷ ms) id d
-    by true rest (inl h) = inl h
-    by true rest (inr h) = inr (rest h)
-    by false rest h = inr (rest h)
-
--- what some calls among these showed agrees too
-pub agree_among : (t : Made → Bool) (ms : List Made) → AgreeOn ms → AgreeOn (filter t ms)
-agree_among t ms agree id a b fits h k = agree id a b fits (learned_kept t ms id a h) (learned_kept t ms id b k)
-
-agree_before : (events : List Event) (c : ℕ) (e : Event) → AgreeOn (calls_by (events ++ e ∷ []) c) → AgreeOn (calls_by events c)
-agree_before events c e agree id a b fits h k = agree id a b fits (later a h) (later b k)
-  where
-    later : (d : Decision) → Learned (calls_by events c) id d → Learned (calls_by (events ++ e ∷ []) c) id d
-    later d h = subst (λ ms. Learned ms id d) (sym (calls_more events c e)) (learned_first (calls_by events c) (call_made c (1 + length events) e) id d h)
 
 ---- numbers of events
 
@@ -104,11 +76,11 @@ just_now events e = subst (λ m. 1 + length events ≤ m) (sym (long events e)) 
 pub inside_noted_later : (events : List Event) (c : ℕ) (e : Event) (inside : List Said) (seen : Seen) → InsideNoted events c inside seen → InsideNoted (events ++ e ∷ []) c inside seen
 inside_noted_later events c e inside seen ok = record {
   answered = each_any (WasAnswered events) (WasAnswered (events ++ e ∷ [])) inside (λ s was. record { answered = was.answered; before = later_at events e s.reached was.before }) ok.answered;
-  noted = λ agree. noted_later events c inside seen e ok.answered (ok.noted (agree_before events c e agree));
+  noted = noted_later events c inside seen e ok.answered ok.noted;
 }
 
 pub starts_noted : (events : List Event) (c : ℕ) → InsideNoted events c [] nothing
-starts_noted events c = record { answered = tt; noted = λ agree. noted_starts events c }
+starts_noted events c = record { answered = tt; noted = noted_starts events c }
 
 -- what is written adds nothing to what was read
 pub written_noted : (events : List Event) (c : ℕ) (inside : List Said) (seen : Seen) (changes : List Keyed) → InsideNoted events c inside seen → InsideNoted events c inside (with_written seen changes)
@@ -127,17 +99,17 @@ inside_nothing events c e inside seen s is none ok =
     let now = inside_noted_later events c e inside seen ok in
     record {
       answered = each_more (WasAnswered (events ++ e ∷ [])) inside s now.answered (was_just events e s is);
-      noted = λ agree. noted_nothing (events ++ e ∷ []) c inside seen s none (now.noted agree);
+      noted = noted_nothing (events ++ e ∷ []) c inside seen s none now.noted;
     }
 
 -- a statement more noted what its read was done with
-pub inside_read : (events : List Event) (c : ℕ) (e : Event) (inside : List Said) (seen : Seen) (s : Said) (a : Access) (images : List Record) → IsJustAnswered events s → (AgreeOn (calls_by (events ++ e ∷ []) c) → NotesRead (events ++ e ∷ []) c s a images) → InsideNoted events c inside seen
+pub inside_read : (events : List Event) (c : ℕ) (e : Event) (inside : List Said) (seen : Seen) (s : Said) (a : Access) (images : List Record) → IsJustAnswered events s → NotesRead (events ++ e ∷ []) c s a images → InsideNoted events c inside seen
     → InsideNoted (events ++ e ∷ []) c (inside ++ s ∷ []) (with_read seen a images)
 inside_read events c e inside seen s a images is reads ok =
     let now = inside_noted_later events c e inside seen ok in
     record {
       answered = each_more (WasAnswered (events ++ e ∷ [])) inside s now.answered (was_just events e s is);
-      noted = λ agree. noted_read (events ++ e ∷ []) c inside seen s a images (reads agree) (now.noted agree);
+      noted = noted_read (events ++ e ∷ []) c inside seen s a images reads now.noted;
     }
 
 ---- the calls of a client
@@ -329,25 +301,25 @@ not_rows (access.Scan span) tables = untrue (is_coordinator_table span.table) (t
     there = ap (λ b. b && is_partition span.partition inside) (ap is_eq (tied_itself table_total span.table)) ∙ of_part span.partition
 
 -- A read whose call was made and answered has made one call more since its statement was taken.
-pub since_read : (kind : Record → Kind) (past : List Played) (events : List Event) (c taken : ℕ) (a : Access) (s : ReadAt) (store : Name) (q : Request) (how : How) (r : Reply) (now : ℤ) (o : Option Answer) → AreKinds kind → ReadOk past a s → taken ≤ length events → ReadMade (calls_since events c taken) a s
+pub since_read : (kind : Record → Kind) (events : List Event) (c taken : ℕ) (a : Access) (s : ReadAt) (store : Name) (q : Request) (how : How) (r : Reply) (now : ℤ) (o : Option Answer) → AreKinds kind → taken ≤ length events → ReadMade (calls_since events c taken) a s
     → read_pending a s ≡ Some q → CanAnswer q r → ReadMade (calls_since (events ++ event.Call c store q how r o ∷ []) c taken) a (read_step kind s now r)
-since_read kind past events c taken a s store q how r now o kinds ok low made pending can =
+since_read kind events c taken a s store q how r now o kinds low made pending can =
     let m : Made = record { at = 1 + length events; store = store; request = q; how = how; reply = r } in
     subst (λ ms. ReadMade ms a (read_step kind s now r)) (sym (since_more events c taken (event.Call c store q how r o) low ∙ ap (λ ms. calls_since events c taken ++ ms) (own_call c (1 + length events) store q how r o)))
-    (read_made kind past (calls_since events c taken) m a s now q r kinds ok made pending can (record { request = refl; reply = refl }))
+    (read_made kind (calls_since events c taken) m a s now q r kinds made pending can (record { request = refl; reply = refl }))
 
-pub made_reads : (kind : Record → Kind) (past : List Played) (events : List Event) (c : ℕ) (w : Option Said) (i : TxId) (seen : Seen) (a : Access) (s : ReadAt) (store : Name) (q : Request) (how : How) (r : Reply) (now : ℤ) (o : Option Answer) → AreKinds kind → ReadOk past a s → IfSome w (λ w. w.taken ≤ length events)
+pub made_reads : (kind : Record → Kind) (events : List Event) (c : ℕ) (w : Option Said) (i : TxId) (seen : Seen) (a : Access) (s : ReadAt) (store : Name) (q : Request) (how : How) (r : Reply) (now : ℤ) (o : Option Answer) → AreKinds kind → IfSome w (λ w. w.taken ≤ length events)
     → IsMadeSince events c w (Reading i seen a s) → read_pending a s ≡ Some q → CanAnswer q r → IsMadeSince (events ++ event.Call c store q how r o ∷ []) c w (Reading i seen a (read_step kind s now r))
-made_reads kind past events c None i seen a s store q how r now o kinds ok low made pending can = tt
-made_reads kind past events c (Some w) i seen a s store q how r now o kinds ok low made pending can = since_read kind past events c w.taken a s store q how r now o kinds ok low made pending can
+made_reads kind events c None i seen a s store q how r now o kinds low made pending can = tt
+made_reads kind events c (Some w) i seen a s store q how r now o kinds low made pending can = since_read kind events c w.taken a s store q how r now o kinds low made pending can
 
 -- A statement that is answered from the rows of its read notes what the read was done with.
-pub notes_read : (events : List Event) (c : ℕ) (e : Event) (s : Said) (a : Access) (images : List Record) → IsJustAnswered events s → is_effective s ≡ true → from_rows s ≡ true → IsOfData a → ReadMade (calls_since (events ++ e ∷ []) c s.taken) a (Done images) → AgreeOn (calls_by (events ++ e ∷ []) c)
+pub notes_read : (events : List Event) (c : ℕ) (e : Event) (s : Said) (a : Access) (images : List Record) → IsJustAnswered events s → is_effective s ≡ true → from_rows s ≡ true → IsOfData a → ReadMade (calls_since (events ++ e ∷ []) c s.taken) a (Done images)
     → NotesRead (events ++ e ∷ []) c s a images
-notes_read events c e s a images is effective rows tables made agree = record {
+notes_read events c e s a images is effective rows tables made = record {
   effective = effective;
   rows = rows;
-  notes = ap notes_in (calls_just (events ++ e ∷ []) c s ended) ∙ read_notes (calls_since (events ++ e ∷ []) c s.taken) a images made (agree_among (λ m. nat_lt s.taken m.at) (calls_by (events ++ e ∷ []) c) agree) (not_rows a tables);
+  notes = ap notes_in (calls_just (events ++ e ∷ []) c s ended) ∙ read_notes (calls_since (events ++ e ∷ []) c s.taken) a images made (not_rows a tables);
 }
   where
     ended : end_of (events ++ e ∷ []) s ≡ length (events ++ e ∷ [])

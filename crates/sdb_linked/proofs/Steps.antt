@@ -35,8 +35,7 @@ use Rattle.sdb_turns.proofs.Quiet.{asks, leave_turn, quiet_turn, stop_turn, swee
 use Rattle.sdb_turns.proofs.Seen.{seen_nothing}
 use Rattle.sdb_turns.proofs.Take.{take_turn}
 use Rattle.sdb_story.specs.Body.{AnswersOn, BodyOk, IsCovered}
-use Rattle.sdb_model.specs.Calls.{calls_by}
-use Rattle.sdb_story.specs.Calls.{AgreeOn, NotesRead}
+use Rattle.sdb_story.specs.Calls.{NotesRead}
 use Rattle.sdb_story.specs.Filed.{number}
 use Rattle.sdb_story.specs.Left.{Execution}
 use Rattle.sdb_story.specs.Story.{Closed, Finished, MayCome, Opened, Rest, finished_at}
@@ -406,7 +405,7 @@ module _ (catalog : List Table) (fit : Tables → Bool) (events : List Event) (s
         (subst (InsideNoted (events ++ q.event ∷ []) c (parts.2 ++ s ∷ [])) e (inside_nothing events c q.event parts.2 (ran n).seen s just (at_once events c q.event s just now) noted_before))))
 
     -- or from those of its own read
-    pub read_noted : (r : Execution) (a : Access) (images : List Record) (changes : List Keyed) → (ran n).seen ≡ seen → (AgreeOn (calls_by (events ++ q.event ∷ []) c) → NotesRead (events ++ q.event ∷ []) c s a images) → r.seen ≡ with_written (with_read seen a images) changes
+    pub read_noted : (r : Execution) (a : Access) (images : List Record) (changes : List Keyed) → (ran n).seen ≡ seen → NotesRead (events ++ q.event ∷ []) c s a images → r.seen ≡ with_written (with_read seen a images) changes
         → ClientNoted (events ++ q.event ∷ []) c ((with_client sys c (Open i (with_written (with_read seen a images) changes))).clients c) (with_answered x s) (at ran n r)
     read_noted r a images changes e reads same = inside_noted r (with_written (with_read seen a images) changes) (subst (InsideNoted (events ++ q.event ∷ []) c (parts.2 ++ s ∷ [])) (sym same) (written_noted (events ++ q.event ∷ []) c (parts.2 ++ s ∷ []) (with_read seen a images) changes
         (inside_read events c q.event parts.2 seen s a images just reads (subst (InsideNoted events c parts.2) e noted_before))))

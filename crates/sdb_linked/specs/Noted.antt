@@ -2,20 +2,18 @@
 use Rattle.std.specs.Prelude.{◌≡◌, ◌≤◌, ℕ, List, length, Option, Some, IfSome}
 use Rattle.std.specs.List.{AllByRecursion}
 use Rattle.sdb_model.specs.declared.event.Event.{Event}
-use Rattle.sdb_model.specs.Calls.{calls_by}
 use Rattle.sdb_model.specs.Transactions.{Said}
 use Rattle.sdb_snapshot.specs.Seen.{Seen}
 use Rattle.sdb_turns.specs.System.{ClientAt, Reading}
-use Rattle.sdb_story.specs.Calls.{AgreeOn, IsNotedSo, ReadMade, WasAnswered, calls_since}
+use Rattle.sdb_story.specs.Calls.{IsNotedSo, ReadMade, WasAnswered, calls_since}
 use Rattle.sdb_story.specs.Left.{Execution}
 use Rattle.sdb_story.specs.Story.{Closed, Finished, Opened, Rest, finished_at}
 use Rattle.sdb_story.specs.Telling.{Telling}
 
--- The statements said inside of a transaction were answered, and where the client's calls showed one decision of each row, what they
--- noted is what the transaction has read.
+-- The statements said inside of a transaction were answered, and what they noted is what the transaction has read.
 pub record InsideNoted (events : List Event) (c : ℕ) (inside : List Said) (seen : Seen) : Type 0 where
   pub answered : AllByRecursion (WasAnswered events) inside
-  pub noted : AgreeOn (calls_by events c) → IsNotedSo events c inside seen
+  pub noted : IsNotedSo events c inside seen
 
 -- so it is of each transaction that ended
 abbrev pub EndedNoted : List Event → ℕ → List Finished → (ℕ → Execution) → Type 0

@@ -11,7 +11,6 @@ ghost use Rattle.sdb_model.specs.declared.event.Event.TheVariants as event;
 ghost use Rattle.sdb_model.specs.declared.event.TableDump.{TableDump};
 ghost use Rattle.sdb_model.specs.declared.script.Script.{Script};
 ghost use Rattle.sdb_model.specs.declared.statement.Statement.{Statement};
-ghost use Rattle.sdb_model.specs.Calls.{calls_by};
 ghost use Rattle.sdb_model.specs.Told.{IsRun};
 ghost use Rattle.sdb_model.specs.Exec.{Tables};
 ghost use Rattle.sdb_model.specs.Sql.{reads_commit};
@@ -23,7 +22,6 @@ ghost use Rattle.sdb_turns.specs.Knowledge.{CommitReply, MayBegin, MaySweep, com
 ghost use Rattle.sdb_turns.specs.ReadAt.{Asking, IsOfData};
 ghost use Rattle.sdb_turns.specs.Sweep.{Scanning};
 ghost use Rattle.sdb_turns.specs.System.{Committing, IsCommit, Open, Reading, Resting, Stopped, Sweeping, SystemAt, answer_at, commit_left, idle, with_client};
-ghost use Rattle.sdb_story.specs.Calls.{AgreeOn};
 ghost use Rattle.sdb_linked.specs.Going.{IsGoing, IsMild, IsSilent, LeavesAtOnce};
 ghost use Rattle.sdb_linked.specs.Progress.{After, AfterAsked, AfterReply, AfterTake, Asked, AskedRows, Ending, GoesAs, IsSame, LastReply, MayRead, Progress, ReadReply, Runs, SweepReply, committing, outcome_with, read_next, seen_after, seen_asked, sweep_next};
 
@@ -87,8 +85,7 @@ pub fn going_is_run()
     ensures { (script : Script) (e : Ending script) → (tables : List TableDump) × IsRun script e.opening e.closing (outcome_with e tables) }
 {}
 
-/// Where what each client's calls showed of each row agrees, the notes of each transaction whose COMMIT was taken are what its statements
-/// noted.
+/// The notes of each transaction whose COMMIT was taken are what its statements noted.
 pub fn going_is_noted()
-    ensures { (p : Progress) → ((c : ℕ) → AgreeOn (calls_by p.events c)) → AreNoted p.going.plan p.events p.going.past }
+    ensures { (p : Progress) → AreNoted p.going.plan p.events p.going.past }
 {}

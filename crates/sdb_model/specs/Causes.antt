@@ -39,7 +39,7 @@ use Rattle.sdb_model.specs.Follows.{has_stopped}
 use Rattle.sdb_model.specs.Transactions.{Said, said, begins, ends, body, client_of, commit_of, statements_of, is_prepared_record}
 use Rattle.sdb_model.specs.Calls.{Made, calls_of, calls_after, calls_before, clock_at, decision_found, decision_learned, is_of_row, is_read, is_removal, put_by, records_read, records_shown}
 use Rattle.sdb_model.specs.Requests.{any_of, records_put, shown_by}
-use Rattle.sdb_model.specs.Noted.{Note, Scanned, noted_in, reads_rows, resolved, version_noted}
+use Rattle.sdb_model.specs.Noted.{Note, Scanned, noted_in, reads_rows, version_noted, meaning_of}
 use Rattle.sdb_types.specs.Replies.{is_applied, is_fault}
 use Rattle.sdb_types.specs.Order.{same_key}
 
@@ -181,11 +181,11 @@ ConflictsAtCommit calls notes id key found =
 abbrev pub IsConflictAtCommit : List Event → ℕ → Said → TxId → Key → Option Record → Type 0
 IsConflictAtCommit events client s id key found = ConflictsAtCommit (calls_of events client s) (noted_in events id) id key found
 
--- A scan of a statement found, once its rows were resolved, something else at a key than was noted there.
+-- What a scan of a statement found at a key, by what its rows mean, is something else than was noted there.
 abbrev pub IsConflictAtScan : List Event → ℕ → Said → TxId → Key → Option Record → Type 0
 IsConflictAtScan events client s id key found =
     (m : Made) × (span : Span) × (rows : List Record) × Contains (calls_of events client s) m × (m.request ≡ ask.Scan span) × (m.reply ≡ reply.Rows rows) × (in_span span key ≡ true)
-    × (found ≡ option_and_then (resolved (calls_of events client s)) (record_among rows key)) × HasMoved (noted_in events id) key found
+    × (found ≡ option_and_then (meaning_of (calls_of events client s)) (record_among rows key)) × HasMoved (noted_in events id) key found
 
 -- a statement is one of a transaction, after its BEGIN
 abbrev pub IsIn : List Event → ℕ → Said → TxId → Type 0
@@ -222,9 +222,9 @@ IsBad r = (name : List ℕ) × MatchBool (is_coordinator_table r.key.table) (dec
 abbrev pub is_fit : List Table → Key → List Pair → Bool
 is_fit catalog key columns = option_map_or (λ t. fits_table t key columns) (find_table catalog key.table) true
 
--- the row that a record means, by what the statement's calls showed, doesn't fit its table
+-- the row that a record means to a statement with these calls doesn't fit its table
 abbrev pub is_misfit : List Table → List Made → Record → Bool
-is_misfit catalog calls r = not (is_coordinator_table r.key.table) && option_map_or (λ columns. not (is_fit catalog r.key columns)) (option_and_then row_of_image (resolved calls r)) false
+is_misfit catalog calls r = not (is_coordinator_table r.key.table) && option_map_or (λ columns. not (is_fit catalog r.key columns)) (option_and_then row_of_image (meaning_of calls r)) false
 
 -- A statement that is no COMMIT and no VACUUM read such a record.
 abbrev pub IsMisfit : List Table → List Event → ℕ → Said → Made → Record → Type 0

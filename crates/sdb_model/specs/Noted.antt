@@ -1,27 +1,29 @@
--- What the statements of a transaction noted: the records that they read, resolved, with the versions found.
-use Rattle.std.specs.Prelude.{Bool, false, List, filter, Option, Some, None, if◌then◌else◌}
+-- What the statements of a transaction noted: what the records that they read mean, with the versions found.
+use Rattle.std.specs.Prelude.{Bool, false, List, ◌&&◌, filter, find, Option, Some, None, if◌then◌else◌}
 use Rattle.std.specs.Option.{option_and_then, option_map, option_map_or}
 use Rattle.std.specs.List.{filter_map, flat_map}
+use Rattle.std.specs.Ordering.{is_eq}
 use Rattle.sdb_types.specs.declared.txid.TxId.{TxId}
 use Rattle.sdb_types.specs.declared.key.Key.{Key}
+use Rattle.sdb_types.specs.declared.record.Condition.{Condition}
 use Rattle.sdb_types.specs.declared.record.Record.{Record}
+use Rattle.sdb_types.specs.declared.record.State.TheVariants as state
 use Rattle.sdb_types.specs.declared.record.Request.{Request}
 use Rattle.sdb_types.specs.declared.record.Request.TheVariants as ask
 use Rattle.sdb_types.specs.declared.record.Reply.{Reply}
 use Rattle.sdb_types.specs.declared.record.Reply.TheVariants as reply
-use Rattle.sdb_types.specs.Order.{same_key}
-use Rattle.sdb_types.specs.Contents.{in_span}
+use Rattle.sdb_types.specs.Order.{key_cmp, same_key}
+use Rattle.sdb_types.specs.Contents.{holds, in_span}
 use Rattle.sdb_record.specs.declared.access.Read.{Read}
 use Rattle.sdb_record.specs.declared.access.Scan.{Scan}
 use Rattle.sdb_record.specs.Coordinator.{is_coordinator_table}
-use Rattle.sdb_record.specs.Meta.{id_in}
+use Rattle.sdb_record.specs.Meta.{is_in}
 use Rattle.sdb_record.specs.Moved.{version_of}
-use Rattle.sdb_record.specs.Rolls.{image_of}
 use Rattle.sdb_record.specs.Among.{version_among}
 use Rattle.sdb_model.specs.declared.answer.Answer.TheVariants as answer
 use Rattle.sdb_model.specs.declared.event.Event.{Event}
 use Rattle.sdb_model.specs.Events.{table_asked}
-use Rattle.sdb_model.specs.Calls.{Made, calls_of, decision_learned, is_read}
+use Rattle.sdb_model.specs.Calls.{Made, calls_of, is_read, key_asked, put_by}
 use Rattle.sdb_model.specs.Transactions.{Said, body, client_of, is_answered_from_rows}
 
 -- One noted read: a key with the version found there, or a span with the versions found in it.
@@ -34,23 +36,36 @@ abbrev pub version_noted : Note → Key → Option (Option TxId)
 version_noted (Got read) key = if same_key read.key key then Some read.version else None
 version_noted (Scanned scan) key = if in_span scan.span key then Some (version_among scan.found key) else None
 
----- what a statement noted
+---- what a found record means
 
--- The record that a found record means, by what the statement's calls showed of its transaction: itself where it is
--- committed, and else what it is rolled to.
-abbrev pub resolved : List Made → Record → Option Record
-resolved calls r = image_of r (option_and_then (decision_learned calls) (id_in r.columns))
+-- the condition on which a call puts or deletes
+abbrev pub condition_asked : Request → Option Condition
+condition_asked (ask.Get key) = None
+condition_asked (ask.Scan span) = None
+condition_asked (ask.PutIf rec condition) = Some condition
+condition_asked (ask.DeleteIf key condition) = Some condition
+
+-- A call rolls a record: it puts or deletes at the record's key, on a condition that the record meets.
+abbrev pub rolls : Record → Made → Bool
+rolls r m = option_map_or (λ k. is_eq (key_cmp k r.key)) (key_asked m.request) false && option_map_or (λ c. holds c (Some r)) (condition_asked m.request) false
+
+-- What a found record means to the statement with these calls: itself where it is committed, and else what the statement's own roll put
+-- there, none where that deleted it.
+abbrev pub meaning_of : List Made → Record → Option Record
+meaning_of calls r = if is_in state.Committed r.columns then Some r else option_and_then (λ m. put_by m.request) (find (rolls r) calls)
+
+---- what a statement noted
 
 abbrev pub read_of : Key → Option Record → Read
 read_of key found = record { key = key; version = version_of found }
 
 -- the reads of the records that a scan found and that mean some record
 abbrev pub reads_of : List Made → List Record → List Read
-reads_of calls rows = filter_map (λ r. option_map (λ (image : Record). read_of r.key (Some image)) (resolved calls r)) rows
+reads_of calls rows = filter_map (λ r. option_map (λ (image : Record). read_of r.key (Some image)) (meaning_of calls r)) rows
 
 -- what one read of a statement, with all of its calls, is noted as
 abbrev pub note_of : List Made → Request → Reply → Option Note
-note_of calls (ask.Get key) (reply.Found found) = Some (Got (read_of key (option_and_then (resolved calls) found)))
+note_of calls (ask.Get key) (reply.Found found) = Some (Got (read_of key (option_and_then (meaning_of calls) found)))
 note_of calls (ask.Scan span) (reply.Rows rows) = Some (Scanned (record { span = span; found = reads_of calls rows }))
 note_of calls q r = None
 

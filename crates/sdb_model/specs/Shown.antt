@@ -1,6 +1,6 @@
 -- Which rows a client may be shown: a row is its transaction's own, or it was committed while the statement that read it was
 -- answered.
-use Rattle.std.specs.Prelude.{◌≡◌, ◌≤◌, ◌<◌, ℕ, true, List, [], ◌∷◌, ◌++◌, map, filter, fold, Option, Some, None, Contains}
+use Rattle.std.specs.Prelude.{◌≡◌, ◌≤◌, ◌<◌, ℕ, true, List, [], ◌∷◌, ◌++◌, map, filter, fold, Option, Some, None, IfSome, Contains, false}
 use Rattle.std.specs.Option.{option_and_then}
 use Rattle.std.specs.List.{AllByRecursion}
 use Rattle.std.specs.FinMap.{get, insert, empty}
@@ -9,12 +9,15 @@ use Rattle.sdb_types.specs.declared.key.Key.{Key}
 use Rattle.sdb_types.specs.declared.pair.Pair.{Pair}
 use Rattle.sdb_types.specs.declared.value.Value.{Value}
 use Rattle.sdb_types.specs.declared.record.Request.{Request}
+use Rattle.sdb_types.specs.declared.record.State.TheVariants as state
 use Rattle.sdb_types.specs.declared.record.Request.TheVariants as ask
 use Rattle.sdb_types.specs.Contents.{in_span}
 use Rattle.sdb_schema.specs.declared.table.Table.{Table}
 use Rattle.sdb_types.specs.declared.record.Record.{Record}
 use Rattle.sdb_record.specs.declared.access.Image.{Image}
-use Rattle.sdb_record.specs.Rolls.{row_of_image}
+use Rattle.sdb_record.specs.declared.coordinator.Decided.{Decided}
+use Rattle.sdb_record.specs.Meta.{id_in, is_in}
+use Rattle.sdb_record.specs.Rolls.{image_under, row_of_image}
 use Rattle.sdb_model.specs.declared.answer.Answer.{Answer}
 use Rattle.sdb_model.specs.declared.answer.Answer.TheVariants as answer
 use Rattle.sdb_model.specs.declared.event.Event.{Event}
@@ -27,10 +30,10 @@ use Rattle.sdb_model.specs.Exec.{Tables, exec, find_table, shown}
 use Rattle.sdb_model.specs.Events.{Shelf, catalog_at, moment}
 use Rattle.sdb_model.specs.Explained.{Shows}
 use Rattle.sdb_model.specs.Images.{row_at}
-use Rattle.sdb_model.specs.Noted.{resolved}
+use Rattle.sdb_model.specs.Noted.{meaning_of}
 use Rattle.sdb_model.specs.Transactions.{Said, client_of, is_effective, statements_of}
 use Rattle.sdb_model.specs.Told.{AreRead}
-use Rattle.sdb_model.specs.Calls.{Made, calls_of, end_of}
+use Rattle.sdb_model.specs.Calls.{Made, calls_of, decision_shown, end_of}
 
 ---- what the stores showed
 
@@ -49,14 +52,24 @@ pub record WasCommitted (places : List Place) (events : List Event) (opening : L
   pub within : (s.taken ≤ at) × (at < end_of events s)
   pub image : row_at places (moment opening moments at) key ≡ row
 
--- A statement's calls showed a row at a key: one of them read the key, and what it found there means this row, by what these
--- calls showed of its transaction.
+-- What a record that isn't committed means to a statement is what the decision on its transaction makes of it, which a call of the statement
+-- showed.
+pub record IsMeantBy (calls : List Made) (r : Record) : Type 0 where
+  pub id : TxId
+  pub decided : Decided
+  pub look : Made
+  pub writer : id_in r.columns ≡ Some id
+  pub looks : Contains calls look × (decision_shown id look ≡ Some decided)
+  pub means : meaning_of calls r ≡ image_under r (Some decided)
+
+-- A statement's calls showed a row at a key: one of them read the key, and what it found there means this row.
 pub record WasFound (calls : List Made) (key : Key) (row : Option (List Pair)) : Type 0 where
   pub call : Made
   pub found : Option Record
   pub among : Contains calls call
   pub shows : Shows call.request call.reply key found
-  pub stands : row ≡ option_and_then row_of_image (option_and_then (resolved calls) found)
+  pub stands : row ≡ option_and_then row_of_image (option_and_then (meaning_of calls) found)
+  pub meant : IfSome found (λ r. is_in state.Committed r.columns ≡ false → IsMeantBy calls r)
 
 -- a statement's own calls did
 abbrev pub FoundBy : List Event → ℕ → Said → Key → Option (List Pair) → Type 0

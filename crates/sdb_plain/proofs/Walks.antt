@@ -1,29 +1,23 @@
 -- Lemmas on walks over calls and statements.
 use Rattle.std.proofs.Common.{◌≡◌, ℕ, zero, suc, Bool, true, false, List, [], ◌∷◌, ◌++◌, length, take, map, Option, Some, None, refl, sym, ap, ◌∙◌}
 use Rattle.std.specs.Prelude.{filter, find, is_some, if◌then◌else◌, ◌&&◌}
-use Rattle.std.specs.Option.{option_and_then, option_map}
+use Rattle.std.specs.Option.{option_and_then}
 use Rattle.std.specs.List.{cons_option, filter_map, flat_map}
 use Rattle.std.proofs.lemmas.List.{append_assoc, append-nil}
 use Rattle.sdb_types.specs.declared.txid.TxId.{TxId}
 use Rattle.sdb_types.specs.declared.key.Key.{Key}
-use Rattle.sdb_types.specs.declared.pair.Pair.{Pair}
 use Rattle.sdb_types.specs.declared.record.Record.{Record}
 use Rattle.sdb_record.specs.declared.coordinator.Decided.{Decided}
 use Rattle.sdb_record.specs.Coordinator.{coordinator_key_of}
-use Rattle.sdb_record.specs.Meta.{id_in}
-use Rattle.sdb_record.specs.Parts.{before_part, before_record, record_with}
 use Rattle.sdb_model.specs.declared.event.Event.{Event}
 use Rattle.sdb_model.specs.Calls as calls
-use Rattle.sdb_model.specs.Calls.{calls_of, decision_learned}
-use Rattle.sdb_model.specs.Noted.{Note, note_of, notes_in, reads_rows, is_from_rows}
+use Rattle.sdb_model.specs.Calls.{calls_of, decision_learned, put_by}
+use Rattle.sdb_model.specs.Noted.{Note, note_of, notes_in, reads_rows, rolls, is_from_rows}
 use Rattle.sdb_model.specs.Transactions.{Said, is_effective}
 use Rattle.sdb_order.specs.declared.said.Said as plain
 use Rattle.sdb_order.specs.Commits.{all_said, said_of}
-use Rattle.sdb_said.specs.Shown.{keeps_none, kept_writer}
-use Rattle.sdb_said.proofs.Lists.{not_both}
-use Rattle.sdb_said.proofs.ShownLaws.{kept_writer_is, keeps_none_is, is_keeps_none}
 use Rattle.sdb_plain.specs.declared.made.Made.{Made}
-use Rattle.sdb_plain.specs.Values.{all_made, decision_at, decision_learned_at, notes_by, said_notes}
+use Rattle.sdb_plain.specs.Values.{all_made, decision_at, decision_learned_at, made_of, notes_by, said_notes}
 
 pub taken_again : {X : Type 0} (n : ℕ) (xs : List X) → take (length (take n xs)) xs ≡ take n xs
 taken_again zero [] = refl
@@ -54,6 +48,18 @@ learned_is id (m ∷ ms) = by (learned_is id ms) (decision_at (coordinator_key_o
     by : decision_learned (all_made ms) id ≡ decision_learned_at ms row → (o : Option Decided) → decision_at row m ≡ o → (if is_some o then o else decision_learned (all_made ms) id) ≡ option_and_then (decision_at row) (if is_some o then Some m else find (λ x. is_some (decision_at row x)) ms)
     by more None e = more
     by more (Some d) e = sym e
+
+---- what records mean
+
+-- the first call that rolled a record puts the same in the words of the model
+pub roll_put : (r : Record) (ms : List Made) → option_and_then (λ (m : calls.Made). put_by m.request) (find (rolls r) (all_made ms)) ≡ option_and_then (λ (m : Made). put_by m.request) (find (λ m. rolls r (made_of m)) ms)
+roll_put r [] = refl
+roll_put r (m ∷ ms) = by (rolls r (made_of m)) (roll_put r ms)
+  where
+    by : (b : Bool) → option_and_then (λ (x : calls.Made). put_by x.request) (find (rolls r) (all_made ms)) ≡ option_and_then (λ (x : Made). put_by x.request) (find (λ x. rolls r (made_of x)) ms)
+        → option_and_then (λ (x : calls.Made). put_by x.request) (if b then Some (made_of m) else find (rolls r) (all_made ms)) ≡ option_and_then (λ (x : Made). put_by x.request) (if b then Some m else find (λ x. rolls r (made_of x)) ms)
+    by true more = refl
+    by false more = more
 
 ---- notes
 
@@ -89,16 +95,3 @@ composed events client (s ∷ ss) = ap (λ xs. said_notes events client (said_of
 
 pub all_noted : (events : List Event) (client : ℕ) (ss : List plain.Said) → flat_map (λ s. said_notes events client (said_of s)) ss ≡ flat_map (λ s. notes_in (calls_of events client s)) (filter is_from_rows (filter is_effective (all_said ss)))
 all_noted events client ss = composed events client ss ∙ said_notes_are events client (all_said ss)
-
----- before images
-
-pub kept_version : (r : Record) → keeps_none r ≡ false → option_map (λ (b : Record). id_in b.columns) (before_record r) ≡ Some (kept_writer r.columns)
-unfolding before_record
-kept_version r h = by (before_part r.columns) refl
-  where
-    by : (ps : List Pair) → before_part r.columns ≡ ps → option_map (λ (b : Record). id_in b.columns) (record_with r.key ps) ≡ Some (kept_writer r.columns)
-    by [] e = not_both (keeps_none r) (is_keeps_none r (ap (record_with r.key) e)) h
-    by (p ∷ ps) e = ap Some (ap id_in (sym e) ∙ kept_writer_is r.columns)
-
-pub kept_nothing : (r : Record) → keeps_none r ≡ true → option_map (λ (b : Record). id_in b.columns) (before_record r) ≡ None
-kept_nothing r h = ap (option_map (λ (b : Record). id_in b.columns)) (keeps_none_is r h)

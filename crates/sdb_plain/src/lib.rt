@@ -4,6 +4,7 @@
 
 mod clock;
 mod made;
+mod meaning;
 mod noted;
 mod open;
 mod order;
@@ -16,7 +17,8 @@ mod transaction;
 
 pub use clock::{clock_at, prefix};
 pub use made::{Made, calls_of, end_of};
-pub use noted::{decision_for, noted_in};
+pub use meaning::meaning_of;
+pub use noted::noted_in;
 pub use open::{Work, has_stopped, is_open, runs_vacuum, someone_does, taker};
 pub use order::{Answers, Bodies, Body, run_body, serial};
 pub use points::{

@@ -4,88 +4,36 @@ ghost use Rattle.std.specs.Option.{option_and_then, option_map};
 ghost use Rattle.std.specs.List.{cons_option, flat_map};
 ghost use Rattle.sdb_record.specs.Meta.{id_in};
 ghost use Rattle.sdb_record.specs.Moved.{version_of};
-ghost use Rattle.sdb_record.specs.Parts.{before_record};
-ghost use Rattle.sdb_record.specs.Rolls.{forward_record};
-ghost use Rattle.sdb_model.specs.Calls.{decision_learned};
-ghost use Rattle.sdb_model.specs.Noted.{Got, Scanned, resolved, read_of, reads_of as reads_of_lem, note_of as note_of_lem, notes_in as notes_in_lem, noted_in as noted_in_lem};
+ghost use Rattle.sdb_model.specs.Noted.{Got, Scanned, meaning_of as meaning_of_lem, read_of, reads_of as reads_of_lem, note_of as note_of_lem, notes_in as notes_in_lem, noted_in as noted_in_lem};
 ghost use Rattle.sdb_order.specs.Commits.{said_of};
 ghost use Rattle.sdb_said.specs.Values.{note_of as noted_of};
 ghost use Rattle.sdb_plain.specs.Values.{all_made, made_of, all_notes, notes_by, said_notes};
 
 use crate::made::{Made, calls_of};
-use crate::reply::decision_learned_at;
+use crate::meaning::meaning_of;
 use crate::request::reads_rows;
 use crate::transaction::{client_of, inside_of, is_effective, is_from_rows, ordinal_of};
 use sdb_model::Event;
 use sdb_order::{Said, statements_said};
-use sdb_record::{Decided, Decision, Read, Reads, Scan, coordinator_key, rolled_forward};
-use sdb_said::{Note, is_committed, keeps_none, kept_writer, writer};
+use sdb_record::{Read, Reads, Scan};
+use sdb_said::{Note, writer};
 use sdb_types::{Duplicate, Key, NoMemory, Record, Reply, Request, Seq, Span, TxId};
 use std::alloc::Global;
 
-/// The decision that calls showed first on the transaction that wrote a record.
-#[tactic(auto, using(crate::proofs::Walks::learned_is))]
-pub fn decision_for(
-    alloc: Global,
-    calls: &[Made],
-    rec: &Record,
-) -> Result<Option<Decided>, NoMemory>
-    ensures { IfOk result (λ d. d ≡ option_and_then (decision_learned (all_made calls.now)) (id_in rec.now.columns)) }
+// The version of the record that a found record means, where it means one.
+fn version_meant(calls: &[Made], rec: &Record) -> Option<Option<TxId>>
+    ensures { result ≡ option_map (λ image. id_in image.columns) (meaning_of_lem (all_made calls.now) rec.now) }
 {
-    match writer(rec) {
-        Some(id) => {
-            let row = coordinator_key(alloc, id)?;
-            Ok(decision_learned_at(alloc, calls, &row))
-        }
-        None => Ok(None),
+    match meaning_of(calls, rec) {
+        Some(image) => Some(writer(image)),
+        None => None,
     }
 }
 
-// The version of the record that a before image keeps, where there is one.
-#[tactic(auto, using(crate::proofs::Walks::kept_version, crate::proofs::Walks::kept_nothing))]
-fn version_kept(rec: &Record) -> Option<Option<TxId>>
-    ensures { result ≡ option_map (λ b. id_in b.columns) (before_record rec.now) }
+fn add_read(reads: &mut Reads, calls: &[Made], rec: &Record) -> Result<(), NoMemory>
+    ensures { OnOk result (reads.new ≡ reads.old ++ cons_option (option_map (λ image. read_of rec.now.key (Some image)) (meaning_of_lem (all_made calls.now) rec.now)) []) }
 {
-    if keeps_none(rec) {
-        None
-    } else {
-        Some(kept_writer(&rec.columns))
-    }
-}
-
-fn version_forward(alloc: Global, rec: &Record, moment: i64) -> Result<Option<TxId>, NoMemory>
-    ensures { IfOk result (λ version. version ≡ id_in (forward_record rec.now moment).columns) }
-{
-    let forward = rolled_forward(alloc, rec, moment)?;
-    Ok(writer(&forward))
-}
-
-// The version of the record that a found record means, by what the statement's calls showed, where it means one.
-fn version_resolved(
-    alloc: Global,
-    calls: &[Made],
-    rec: &Record,
-) -> Result<Option<Option<TxId>>, NoMemory>
-    ensures { IfOk result (λ version. version ≡ option_map (λ image. id_in image.columns) (resolved (all_made calls.now) rec.now)) }
-{
-    if is_committed(rec) {
-        return Ok(Some(writer(rec)));
-    }
-    match decision_for(alloc, calls, rec)? {
-        Some(
-            Decided {
-                decision: Decision::Committed,
-                created_at,
-            },
-        ) => Ok(Some(version_forward(alloc, rec, created_at)?)),
-        _ => Ok(version_kept(rec)),
-    }
-}
-
-fn add_read(alloc: Global, reads: &mut Reads, calls: &[Made], rec: &Record) -> Result<(), NoMemory>
-    ensures { OnOk result (reads.new ≡ reads.old ++ cons_option (option_map (λ image. read_of rec.now.key (Some image)) (resolved (all_made calls.now) rec.now)) []) }
-{
-    match version_resolved(alloc, calls, rec)? {
+    match version_meant(calls, rec) {
         Some(version) => reads.push(Read {
             key: rec.key.copy()?,
             version,
@@ -99,39 +47,26 @@ fn reads_of(alloc: Global, calls: &[Made], rows: &[Record]) -> Result<Reads, NoM
 {
     let mut reads = Reads::new(alloc);
     for rec in rows {
-        add_read(alloc, &mut reads, calls, rec)?;
+        add_read(&mut reads, calls, rec)?;
     }
     Ok(reads)
 }
 
-fn version_found(
-    alloc: Global,
-    calls: &[Made],
-    found: &Option<Record>,
-) -> Result<Option<TxId>, NoMemory>
-    ensures { IfOk result (λ version. version ≡ version_of (option_and_then (resolved (all_made calls.now)) found.now)) }
+fn version_found(calls: &[Made], found: &Option<Record>) -> Option<TxId>
+    ensures { result ≡ version_of (option_and_then (meaning_of_lem (all_made calls.now)) found.now) }
 {
-    let Some(rec) = found else {
-        return Ok(None);
-    };
-    match version_resolved(alloc, calls, rec)? {
-        Some(version) => Ok(version),
-        None => Ok(None),
+    match found {
+        Some(rec) => version_meant(calls, rec).flatten(),
+        None => None,
     }
 }
 
-fn get_noted(
-    alloc: Global,
-    calls: &[Made],
-    key: &Key,
-    found: &Option<Record>,
-) -> Result<Note, NoMemory>
-    ensures { IfOk result (λ note. noted_of note ≡ Got (read_of key.now (option_and_then (resolved (all_made calls.now)) found.now))) }
+fn get_noted(calls: &[Made], key: &Key, found: &Option<Record>) -> Result<Note, NoMemory>
+    ensures { IfOk result (λ note. noted_of note ≡ Got (read_of key.now (option_and_then (meaning_of_lem (all_made calls.now)) found.now))) }
 {
-    let version = version_found(alloc, calls, found)?;
     Ok(Note::Got(Read {
         key: key.copy()?,
-        version,
+        version: version_found(calls, found),
     }))
 }
 
@@ -149,9 +84,7 @@ fn note_of(alloc: Global, calls: &[Made], made: &Made) -> Result<Option<Note>, N
     ensures { IfOk result (λ note. option_map noted_of note ≡ note_of_lem (all_made calls.now) made.now.request made.now.reply) }
 {
     match (&made.request, &made.reply) {
-        (Request::Get(key), Reply::Found(found)) => {
-            Ok(Some(get_noted(alloc, calls, key, found)?))
-        }
+        (Request::Get(key), Reply::Found(found)) => { Ok(Some(get_noted(calls, key, found)?)) }
         (Request::Scan(span), Reply::Rows(rows)) => {
             Ok(Some(scan_noted(alloc, calls, span, rows.as_slice())?))
         }
@@ -218,7 +151,7 @@ fn add_all_said(
     Ok(())
 }
 
-/// What the statements of a transaction noted, in order: what those that were answered from rows read, resolved.
+/// What the statements of a transaction noted, in order: what the records mean that those read that were answered from rows.
 #[tactic(auto, using(crate::proofs::Walks::all_noted))]
 pub fn noted_in(alloc: Global, events: &[Event], id: TxId) -> Result<Seq<Note>, NoMemory>
     ensures { IfOk result (λ notes. all_notes notes ≡ noted_in_lem events.now id) }

@@ -12,6 +12,7 @@ pub mod Turns
 pub mod Run
 pub mod Notes
 pub mod Agree
+pub mod Meanings
 pub mod Noting
 pub mod Since
 pub mod Bodily

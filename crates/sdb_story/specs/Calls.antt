@@ -1,69 +1,39 @@
--- What the calls of a read showed of the records that it found.
-use Rattle.std.specs.Prelude.{◌≡◌, ◌⊎◌, ◌<◌, ◌^◌, ℤ, true, false, List, [], ◌∷◌, ◌++◌, Option, Some, None, ℕ, ◌≤◌, filter, nat_lt, length, is_some, Contains, ◌↔◌, map}
-use Rattle.std.specs.List.{AllByRecursion, cons_option, flat_map}
-use Rattle.sdb_types.specs.declared.txid.TxId.{TxId}
+-- What the records that a read found mean by its calls, and what a transaction has read by those of its statements.
+use Rattle.std.specs.Prelude.{◌≡◌, ◌⊎◌, true, false, List, [], ◌∷◌, ◌++◌, Option, Some, None, Ok, ℕ, ℤ, ◌≤◌, filter, find, nat_lt, length, is_some, Contains, ◌↔◌, map}
+use Rattle.std.specs.List.{AllByRecursion, cons_option, filter_map, flat_map}
 use Rattle.sdb_types.specs.declared.record.Record.{Record}
 use Rattle.sdb_types.specs.declared.record.Request.{Request}
 use Rattle.sdb_types.specs.declared.record.Reply.{Reply}
 use Rattle.sdb_types.specs.declared.record.Reply.TheVariants as reply
 use Rattle.sdb_types.specs.declared.record.State.TheVariants as state
-use Rattle.sdb_types.specs.Contents.{CanAnswer}
+use Rattle.sdb_types.specs.Contents.{CanAnswer, rise}
 use Rattle.sdb_record.specs.declared.access.Access.{Access}
 use Rattle.sdb_record.specs.declared.access.Access.TheVariants as access
-use Rattle.sdb_record.specs.declared.coordinator.Decided.{Decided}
-use Rattle.sdb_record.specs.declared.coordinator.Decision.{Decision}
-use Rattle.sdb_record.specs.declared.coordinator.Decision.TheVariants as decision
 use Rattle.sdb_record.specs.Coordinator.{is_coordinator_table}
-use Rattle.sdb_record.specs.Meta.{id_in, is_in}
-use Rattle.sdb_record.specs.Parts.{before_record}
-use Rattle.sdb_record.specs.Rolls.{forward_record}
+use Rattle.sdb_record.specs.Meta.{checked, is_in, is_unresolved}
 use Rattle.sdb_model.specs.declared.event.Event.{Event}
 use Rattle.sdb_model.specs.Events.{table_asked}
-use Rattle.sdb_model.specs.Calls.{Made, calls_by, calls_of, decision_shown, made_by}
+use Rattle.sdb_model.specs.Calls.{Made, calls_by, calls_of, made_by}
 use Rattle.sdb_model.specs.Transactions.{Said, body, client_of, is_effective}
 use Rattle.sdb_record.specs.Moved.{version_of}
-use Rattle.sdb_model.specs.Noted.{Note, Got, Scanned, notes_in, reads_rows, is_from_rows as from_rows}
+use Rattle.sdb_model.specs.Noted.{Note, Got, Scanned, meaning_of, notes_in, reads_rows, rolls, is_from_rows as from_rows}
 use Rattle.sdb_snapshot.specs.Noted.{reads_of}
 use Rattle.sdb_snapshot.specs.Seen.{Seen}
-use Rattle.sdb_laws.specs.Lawful.{Played, id}
+use Rattle.sdb_laws.specs.Lawful.{id}
 use Rattle.sdb_laws.specs.Plan.{Plan}
 use Rattle.sdb_turns.specs.Noted.{first_image, work_of}
 use Rattle.sdb_turns.specs.Owner.{plan_of}
 use Rattle.sdb_turns.specs.System.{ClientCall, IsReplyTo}
-use Rattle.sdb_phases.specs.declared.step.RecoverPhase.{RecoverPhase}
-use Rattle.sdb_phases.specs.declared.step.RecoverPhase.TheVariants as phase
-use Rattle.sdb_turns.specs.ReadAt.{AreKinds, ReadAt, ReadOk, Asking, Resolving, Done, Failed, read_pending, read_step}
+use Rattle.sdb_turns.specs.ReadAt.{AreKinds, ReadAt, Asking, Resolving, Done, Failed, read_pending, read_step}
 use Rattle.sdb_read.specs.Read.{Kind, request_of}
 
--- one of the calls showed that decision in a transaction's row
-abbrev pub Learned : List Made → TxId → Decision → Type 0
-Learned [] id d = ⊥
-Learned (m ∷ ms) id d = ((x : Decided) × (decision_shown id m ≡ Some x) × (x.decision ≡ d)) ⊎ Learned ms id d
+-- a record has a meaning by some calls: it is committed, or one of them rolled it
+abbrev pub HasMeaning : List Made → Record → Type 0
+HasMeaning ms r = (is_in state.Committed r.columns ≡ true) ⊎ ((m : Made) × (find (rolls r) ms ≡ Some m))
 
--- an unresolved record of that writer
-pub record IsHeldBy (r : Record) (id : TxId) : Type 0 where
-  pub held : is_in state.Committed r.columns ≡ false
-  pub writer : id_in r.columns ≡ Some id
-
--- The image of a record that was found, by what the calls showed of its writer: itself where it is committed, and else what it is
--- rolled to.
-pub data ImageBy (ms : List Made) (r : Record) (o : Option Record) : Type 0 where
-  Itself : (firm : is_in state.Committed r.columns ≡ true) (same : o ≡ Some r) → ImageBy ms r o
-  Forward : (id : TxId) (m : ℤ) (held : IsHeldBy r id) (learned : Learned ms id decision.Committed) (same : o ≡ Some (forward_record r m)) → ImageBy ms r o
-  Back : (id : TxId) (held : IsHeldBy r id) (learned : Learned ms id decision.Aborted) (same : o ≡ before_record r) → ImageBy ms r o
-
--- each record has that image
-abbrev pub AreImagesBy : List Made → List Record → List (Option Record) → Type 0
-AreImagesBy ms [] [] = Unit {0}
-AreImagesBy ms [] (o ∷ os) = ⊥
-AreImagesBy ms (r ∷ rs) [] = ⊥
-AreImagesBy ms (r ∷ rs) (o ∷ os) = ImageBy ms r o × AreImagesBy ms rs os
-
--- those that there are
-abbrev pub somes : {A : Type 0} → List (Option A) → List A
-somes [] = []
-somes (None ∷ os) = somes os
-somes (Some x ∷ os) = x ∷ somes os
+-- no call rolled it
+abbrev pub IsUnrolled : List Made → Record → Type 0
+IsUnrolled ms r = find (rolls r) ms ≡ None
 
 -- the rows that a read was answered
 abbrev pub rows_of : Reply → Option (List Record)
@@ -72,13 +42,8 @@ rows_of (reply.Found (Some r)) = Some (r ∷ [])
 rows_of (reply.Rows rows) = Some rows
 rows_of r = None
 
--- what was learned where a roll is pending
-abbrev pub PhaseLearned : List Made → TxId → RecoverPhase → Type 0
-PhaseLearned ms id (phase.Forward at) = Learned ms id decision.Committed
-PhaseLearned ms id phase.Back = Learned ms id decision.Aborted
-PhaseLearned ms id p = Unit {0}
-
--- The calls of a read: the first asked for its rows, of which these are settled and those are left; the others are of recoveries.
+-- The calls of a read: the first asked for its rows. Those that are done have a meaning each, and these are the images; none of those that are
+-- left was rolled. The other calls are of recoveries.
 pub record RowsMade (ms : List Made) (a : Access) (images left : List Record) : Type 0 where
   pub first : Made
   pub more : List Made
@@ -86,31 +51,26 @@ pub record RowsMade (ms : List Made) (a : Access) (images left : List Record) : 
   pub asked : first.request ≡ request_of a
   pub can : CanAnswer (request_of a) first.reply
   pub done : List Record
-  pub settled : List (Option Record)
   pub rows : rows_of first.reply ≡ Some (done ++ left)
-  pub by : AreImagesBy ms done settled
-  pub found : images ≡ somes settled
+  pub rises : rise left ≡ true
+  pub settled : AllByRecursion (HasMeaning ms) done
+  pub found : images ≡ filter_map (meaning_of ms) done
+  pub unrolled : AllByRecursion (IsUnrolled ms) left
   pub others : AllByRecursion (λ m. reads_rows m ≡ false) more
 
 -- the calls that a read has made where it is
 abbrev pub ReadMade : List Made → Access → ReadAt → Type 0
 ReadMade ms a Asking = ms ≡ []
-ReadMade ms a (Resolving images rec meta p left) = RowsMade ms a images (rec ∷ left) × IsHeldBy rec meta.id × PhaseLearned ms meta.id p
+ReadMade ms a (Resolving images rec meta p left) = RowsMade ms a images (rec ∷ left) × (is_unresolved rec ≡ true) × (checked rec.columns ≡ Ok meta)
 ReadMade ms a (Done images) = RowsMade ms a images []
 ReadMade ms a Failed = Unit {0}
-
--- what the calls showed of one row agrees
-abbrev pub AgreeOn : List Made → Type 0
-AgreeOn ms = (id : TxId) (c d : Decision) → id.0 < 2 ^ 128 → Learned ms id c → Learned ms id d → c ≡ d
 
 -- A reply to the pending call of a read, whose rows are as they were shown, and the calls that it has made.
 pub record MadeReply : Type 0 where
   pub kind : Record → Kind
   pub kinds : AreKinds kind
-  pub past : List Played
   pub asked : Access
   pub stage : ReadAt
-  pub ok : ReadOk past asked stage
   pub made : List Made
   pub shown : ReadMade made asked stage
   pub call : ClientCall

@@ -18,7 +18,7 @@ ghost use Rattle.sdb_turns.specs.Noted.{SeenOk, with_read, work_of};
 ghost use Rattle.sdb_turns.specs.ReadAt.{Done};
 ghost use Rattle.sdb_model.specs.Calls.{Made, calls_of, end_of};
 ghost use Rattle.sdb_model.specs.Noted.{Note, notes_in};
-ghost use Rattle.sdb_story.specs.Calls.{AgreeOn, AsksRows, HasNoted, IsMade, IsNotedSo, IsTakenSo, MadeReply, NotedBody, NotedWith, NotesNothing, NotesRead, ReadMade, WasAnswered, call_made, calls_since, note_with, stage_after};
+ghost use Rattle.sdb_story.specs.Calls.{AsksRows, HasNoted, IsMade, IsNotedSo, IsTakenSo, MadeReply, NotedBody, NotedWith, NotesNothing, NotesRead, ReadMade, WasAnswered, call_made, calls_since, note_with, stage_after};
 ghost use Rattle.sdb_story.specs.Body.{AgreesAll, Body, BodyOk, ComeTo, IsCovered, NextStatement};
 
 /// Before its first statement a transaction asks nothing of the tables and leaves them as they are.
@@ -55,16 +55,15 @@ pub fn notes_are_reads()
     ensures { (plan : ℕ → Plan) (events : List Event) (past : List Played) (works : ℕ → Work) → AllAreReads plan events past works → AreNoted plan events past }
 {}
 
-/// Whatever call of a read is pending and whatever its reply, the calls that the read has made showed what it knows: each row is settled
-/// as they say, and each recovery goes on by what they learned.
+/// Whatever call of a read is pending and whatever its reply, the rows that the read has settled mean by its calls what it has settled them as,
+/// and its calls have rolled none of those that are left.
 pub fn calls_show_rows()
     ensures { (r : MadeReply) (m : Made) → IsMade m r.call.request r.call.reply → ReadMade (r.made ++ m ∷ []) r.asked (stage_after r) }
 {}
 
-/// Where what the calls of a read showed of each row agrees, the model notes of them what the read is done with, and nothing else; and
-/// that is what the transaction's notes are more by.
+/// The model notes of the calls of a read what the read is done with, and nothing else; and that is what the transaction's notes are more by.
 pub fn read_is_noted()
-    ensures calls { (ms : List Made) (a : Access) (images : List Record) → ReadMade ms a (Done images) → AgreeOn ms → AsksRows a → notes_in ms ≡ note_with a images ∷ [] }
+    ensures calls { (ms : List Made) (a : Access) (images : List Record) → ReadMade ms a (Done images) → AsksRows a → notes_in ms ≡ note_with a images ∷ [] }
     ensures adds { (s : Seen) (a : Access) (images : List Record) (n : Note) → HasNoted (with_read s a images) n ↔ (HasNoted s n ⊎ (n ≡ note_with a images)) }
 {}
 
