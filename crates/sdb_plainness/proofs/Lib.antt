@@ -1,0 +1,11 @@
+pub mod Lists
+pub mod Clear
+pub mod Statements
+pub mod Tokens
+pub mod Contents
+pub mod Snapshots
+pub mod Recoveries
+pub mod Commits
+pub mod Clients
+pub mod Paths
+pub mod Plain
