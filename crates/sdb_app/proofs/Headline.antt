@@ -48,6 +48,8 @@ use Rattle.sdb_app.specs.Run.StopsReplay.{Unread, Unplayed}
 use Rattle.sdb_app.proofs.Placing.{fit_for}
 use Rattle.sdb_app.proofs.WhereKnown.{first_as, known_from, nothing_as, odd_as, read_as, shows_less, shows_placed}
 use Rattle.sdb_world.specs.Played.{IsReadWhereKnown}
+use Rattle.sdb_plainness.specs.Facts.{outcome_fits}
+use Rattle.sdb_plainness.proofs.Plain.{run_plain}
 
 ---- why it stopped
 
@@ -164,14 +166,18 @@ shown_of script opening events none caused resolved explained moments end traced
         by (Some a) e h = record { among = w.0; a = a; answer = e; from_rows = h; no_vacuum = w.1.no_vacuum }
 
 played_on : (script : Script) (old mid then : Attached) (new : List Shelf) (o : Outcome) → placed mid.places ≡ script.places → mid.shelves ≡ old.shelves → GoOn mid then → AreFit script.catalog mid
-    → first_key (opening_in script.catalog mid) ≡ None → HoldTheSame mid then → (AreReady script then → IsRun script (shown then.shelves) new o) → (AreReady script then → IsExplained script o.events (shown then.shelves)) → AnswersHaveCauses script.catalog o.events → find_table script.catalog coordinator_table ≡ None → AreResolved o.events → IsPlayed script (shown old.shelves) new o
-played_on script old mid then new o same still goes fit none quiet run explained caused apart resolved = record {
+    → first_key (opening_in script.catalog mid) ≡ None → HoldTheSame mid then → (AreReady script then → IsRun script (shown then.shelves) new o) → (AreReady script then → IsExplained script o.events (shown then.shelves)) → AnswersHaveCauses script.catalog o.events → find_table script.catalog coordinator_table ≡ None → AreResolved o.events → IsPlayable script → IsExecution script o.events → outcome_fits o → IsPlayed script (shown old.shelves) new o
+played_on script old mid then new o same still goes fit none quiet run explained caused apart resolved playable executed fits = record {
   empty = sym (ap (λ (ss : List Shelf). first_key (opening_records script.catalog script.places ss)) (ap shown still)) ∙ sym (ap (λ (xs : List Place). first_key (opening_records script.catalog xs (shown mid.shelves))) same) ∙ none;
   run = run_now;
   explained = explained_now;
   shown = shown_of script (shown old.shelves) o.events apart caused resolved explained_now;
+  plain = λ lines. run_plain (record { script = script; opening = shown old.shelves; closing = new; outcome = o; playable = playable; lines = lines; executed = executed; nothing = nothing_now; run = run_now }) fits;
 }
   where
+    nothing_now : HoldAs script.catalog script.places (shown old.shelves) empty
+    nothing_now = subst (λ (ss : List Shelf). HoldAs script.catalog script.places ss empty) (quiet ∙ ap shown still) (ready_after script mid then same goes fit none quiet).nothing
+
     run_now : IsRun script (shown old.shelves) new o
     run_now = subst (λ (ss : List Shelf). IsRun script ss new o) (quiet ∙ ap shown still) (run (ready_after script mid then same goes fit none quiet))
 
@@ -180,8 +186,8 @@ played_on script old mid then new o same still goes fit none quiet run explained
 
 pub outcome_is : (script : Script) (old mid then new : Attached) (o : Outcome) → placed mid.places ≡ script.places → mid.shelves ≡ old.shelves → ((at : ℕ) → old.tells at → mid.tells at) → GoOn mid then → GoOn then new → (TellOf script old → AreFit script.catalog mid)
     → (AreFit script.catalog mid → first_key (opening_in script.catalog mid) ≡ None) → HoldNothing (run_tables script.catalog) mid → (AreFit script.catalog mid → HoldTheSame mid then) → Follows script o.events → IsExecution script o.events → BreaksWithin [] o.events then.shelves new.shelves
-    → IsReadWhereKnown script.catalog (known_before then new) o → (AreReady script then → IsRun script (shown then.shelves) (shown new.shelves) o) → (AreReady script then → IsExplained script o.events (shown then.shelves)) → IsPlayable script → IsOutcome script old new.shelves o
-outcome_is script old mid then new o same still telling goes more fit none nothing quiet follows executed broken read run explained playable = record {
+    → IsReadWhereKnown script.catalog (known_before then new) o → (AreReady script then → IsRun script (shown then.shelves) (shown new.shelves) o) → (AreReady script then → IsExplained script o.events (shown then.shelves)) → IsPlayable script → outcome_fits o → IsOutcome script old new.shelves o
+outcome_is script old mid then new o same still telling goes more fit none nothing quiet follows executed broken read run explained playable fits = record {
   playable = playable;
   follows = follows;
   executed = executed;
@@ -189,7 +195,7 @@ outcome_is script old mid then new o same still telling goes more fit none nothi
   broken = subst (λ (ss : List Counted). BreaksWithin [] o.events ss new.shelves) still (breaks_after [] o.events mid then new.shelves goes broken);
   empty = subst (λ (ss : List Counted). HoldNothing (run_tables script.catalog) (placed_as script old ss)) still (nothing_as (placed_as script old mid.shelves) mid (shows_placed script old mid same telling) (run_tables script.catalog) nothing);
   read = read_as (placed_as script old new.shelves) (known_before then new) (shows_placed script old (known_before then new) (ap placed (more.places ∙ goes.places) ∙ same) (λ at tells. goes.telling at (telling at tells))) script.catalog o read;
-  played = λ all. played_on script old mid then (shown new.shelves) o same still goes (fit all) (none (fit all)) (quiet (fit all)) run explained caused (no_coordinator script playable) resolved;
+  played = λ all. played_on script old mid then (shown new.shelves) o same still goes (fit all) (none (fit all)) (quiet (fit all)) run explained caused (no_coordinator script playable) resolved playable executed fits;
 }
   where
     caused : AnswersHaveCauses script.catalog o.events
@@ -259,6 +265,8 @@ replayed_before before work report same telling h = record {
   outcome = h.outcome;
   made = made_of h.script before work.old work.left h.outcome same telling h.made;
   text = h.text;
+  plain = λ all. h.plain (tell_on h.script before work.old same telling all);
+  only = λ all. h.only (tell_on h.script before work.old same telling all);
 }
 
 pub replay_stops_before : (before : Attached) (work : Work) (s : Status) → work.old.shelves ≡ before.shelves → ((at : ℕ) → before.tells at → work.old.tells at) → StopsReplay work s → StopsReplay (begun_with before work) s

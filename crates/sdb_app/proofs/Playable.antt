@@ -1,6 +1,6 @@
 -- What a script that was read gives its player.
 use Rattle.std.proofs.Common.{◌≡◌, ℕ, zero, suc, ◌≤◌, ◌<◌, ◌^◌, Bool, true, false, not, ◌&&◌, List, [], ◌∷◌, ◌++◌, length, map, flat_map, Option, Some, None, refl, sym, ap, subst, ◌∙◌, arith, codes}
-use Rattle.std.specs.Prelude.{nat_le, is_some, slice_get, All}
+use Rattle.std.specs.Prelude.{nat_le, is_some, slice_get, All, ◌==◌}
 use Rattle.std.specs.List.{list_all, AllByRecursion}
 use Rattle.std.specs.Option.{option_map_or}
 use Rattle.std.specs.Ordering.{is_eq}
@@ -24,7 +24,8 @@ use Rattle.sdb_model.specs.declared.script.Script.{Script}
 use Rattle.sdb_model.specs.declared.script.ScriptClient.{ScriptClient}
 use Rattle.sdb_model.specs.Exec.{find_table}
 use Rattle.sdb_model.specs.Follows.{texts_of}
-use Rattle.sdb_model.specs.Form.{client_line}
+use Rattle.sdb_model.specs.Form.{client_line, lines_of, onto_first}
+use Rattle.sdb_model.specs.Plain.{is_one_line}
 use Rattle.sdb_script.specs.Lines.{client_lines, is_act, is_client, is_line, is_move, most_line, place_line, text_line}
 use Rattle.sdb_script.specs.Begun.{IsSchema}
 use Rattle.sdb_script.specs.Whole.{IsScript}
@@ -33,6 +34,7 @@ use Rattle.sdb_script.proofs.OneLine.{json_may, may_name}
 use Rattle.sdb_script.proofs.Pieces.{no_some}
 use Rattle.sdb_execution.specs.Execution.{IsPlayable}
 use Rattle.sdb_world.specs.Step.{CanAct, CanFollow, CanMove}
+use Rattle.sdb_plainness.specs.Runs.{HasLines}
 use Rattle.sdb_app.proofs.CatalogRead.{catalog_read}
 use Rattle.sdb_types.proofs.Basics.{by_test, some_is, nat_at_most as at_most}
 
@@ -63,40 +65,51 @@ other_table name h =
 
 ---- the texts of its statements
 
-both_lines : (xs ys : List (List ℕ)) → list_all is_line (xs ++ ys) ≡ true → (list_all is_line xs ≡ true) × (list_all is_line ys ≡ true)
-both_lines xs ys h =
-    let e : (list_all is_line xs && list_all is_line ys) ≡ true = sym (list_all-append is_line xs ys) ∙ h in
-    (and_first (list_all is_line xs) (list_all is_line ys) e, and_second (list_all is_line xs) (list_all is_line ys) e)
+both_lines : (p : List ℕ → Bool) (xs ys : List (List ℕ)) → list_all p (xs ++ ys) ≡ true → (list_all p xs ≡ true) × (list_all p ys ≡ true)
+both_lines p xs ys h =
+    let e : (list_all p xs && list_all p ys) ≡ true = sym (list_all-append p xs ys) ∙ h in
+    (and_first (list_all p xs) (list_all p ys) e, and_second (list_all p xs) (list_all p ys) e)
 
 text_short : (text : List ℕ) → is_line (text_line text) ≡ true → length text < 2 ^ 32
 text_short text h =
     let fits : length (text_line text) ≤ most_line = at_most (length (text_line text)) most_line (and_first (nat_le (length (text_line text)) most_line) _ h) in
     omega arith
 
-texts_short : (texts : List (List ℕ)) → list_all is_line (map text_line texts) ≡ true → (i : ℕ) (text : List ℕ) → slice_get texts i ≡ Some text → length text < 2 ^ 32
-texts_short [] h i text e = no_some text e
-texts_short (t ∷ ts) h zero text e = subst (λ (x : List ℕ). length x < 2 ^ 32) (some_is t text e) (text_short t (and_first (is_line (text_line t)) (list_all is_line (map text_line ts)) h))
-texts_short (t ∷ ts) h (suc i) text e = texts_short ts (and_second (is_line (text_line t)) (list_all is_line (map text_line ts)) h) i text e
+-- what lines that pass a test say of the texts of statements
+module _ (p : List ℕ → Bool) (Q : List ℕ → Type 0) (each : (text : List ℕ) → p (text_line text) ≡ true → Q text) where
+  texts_so : (texts : List (List ℕ)) → list_all p (map text_line texts) ≡ true → (i : ℕ) (text : List ℕ) → slice_get texts i ≡ Some text → Q text
+  texts_so [] h i text e = no_some text e
+  texts_so (t ∷ ts) h zero text e = subst Q (some_is t text e) (each t (and_first (p (text_line t)) (list_all p (map text_line ts)) h))
+  texts_so (t ∷ ts) h (suc i) text e = texts_so ts (and_second (p (text_line t)) (list_all p (map text_line ts)) h) i text e
 
-lines_at : (cs : List ScriptClient) → list_all is_line (flat_map client_lines cs) ≡ true → (k : ℕ) (c : ScriptClient) → slice_get cs k ≡ Some c → list_all is_line (client_lines c) ≡ true
-lines_at [] h k c e = no_some c e
-lines_at (d ∷ ds) h zero c e = subst (λ (x : ScriptClient). list_all is_line (client_lines x) ≡ true) (some_is d c e) (both_lines (client_lines d) (flat_map client_lines ds) h).0
-lines_at (d ∷ ds) h (suc k) c e = lines_at ds (both_lines (client_lines d) (flat_map client_lines ds) h).1 k c e
+  lines_at : (cs : List ScriptClient) → list_all p (flat_map client_lines cs) ≡ true → (k : ℕ) (c : ScriptClient) → slice_get cs k ≡ Some c → list_all p (client_lines c) ≡ true
+  lines_at [] h k c e = no_some c e
+  lines_at (d ∷ ds) h zero c e = subst (λ (x : ScriptClient). list_all p (client_lines x) ≡ true) (some_is d c e) (both_lines p (client_lines d) (flat_map client_lines ds) h).0
+  lines_at (d ∷ ds) h (suc k) c e = lines_at ds (both_lines p (client_lines d) (flat_map client_lines ds) h).1 k c e
 
-all_short : (cs : List ScriptClient) → list_all is_line (flat_map client_lines cs) ≡ true → (c i : ℕ) (text : List ℕ) → slice_get (texts_of cs c) i ≡ Some text → length text < 2 ^ 32
-all_short cs h zero i text e = no_some text e
-all_short cs h (suc k) i text e = by (slice_get cs k) refl e
-  where
-    by : (o : Option ScriptClient) → slice_get cs k ≡ o → slice_get (option_map_or (λ (c : ScriptClient). c.statements) o []) i ≡ Some text → length text < 2 ^ 32
-    by None q f = no_some text f
-    by (Some c) q f = texts_short c.statements (and_second (is_line (client_line c.name)) (list_all is_line (map text_line c.statements)) (lines_at cs h k c q)) i text f
+  all_so : (cs : List ScriptClient) → list_all p (flat_map client_lines cs) ≡ true → (c i : ℕ) (text : List ℕ) → slice_get (texts_of cs c) i ≡ Some text → Q text
+  all_so cs h zero i text e = no_some text e
+  all_so cs h (suc k) i text e = by (slice_get cs k) refl e
+    where
+      by : (o : Option ScriptClient) → slice_get cs k ≡ o → slice_get (option_map_or (λ (c : ScriptClient). c.statements) o []) i ≡ Some text → Q text
+      by None q f = no_some text f
+      by (Some c) q f = texts_so c.statements (and_second (p (client_line c.name)) (list_all p (map text_line c.statements)) (lines_at cs h k c q)) i text f
 
-lines_of_clients : (stores : List (List ℕ)) (text : List ℕ) (s : Script) → IsScript stores text s → list_all is_line (flat_map client_lines s.clients) ≡ true
-lines_of_clients stores text s h =
-    let all = subst (λ (ls : List (List ℕ)). list_all is_line ls ≡ true) h.lines.order h.lines.fit in
-    let behind = both_lines (map place_line s.places) _ all in
-    let rest = both_lines h.lines.schema _ behind.1 in
-    (both_lines (flat_map client_lines s.clients) _ rest.1).0
+lines_of_clients : (p : List ℕ → Bool) (stores : List (List ℕ)) (text : List ℕ) (s : Script) → IsScript stores text s → list_all p (lines_of text) ≡ true → list_all p (flat_map client_lines s.clients) ≡ true
+lines_of_clients p stores text s h fit =
+    let all = subst (λ (ls : List (List ℕ)). list_all p ls ≡ true) h.lines.order fit in
+    let behind = both_lines p (map place_line s.places) _ all in
+    let rest = both_lines p h.lines.schema _ behind.1 in
+    (both_lines p (flat_map client_lines s.clients) _ rest.1).0
+
+-- the lines of a text have no LF
+first_one : (b : ℕ) (ls : List (List ℕ)) → (b == 10) ≡ false → list_all is_one_line ls ≡ true → list_all is_one_line (onto_first b ls) ≡ true
+first_one b [] t h = rw t refl
+first_one b (l ∷ ls) t h = rw t h
+
+lines_one : (text : List ℕ) → list_all is_one_line (lines_of text) ≡ true
+lines_one [] = refl
+lines_one (b ∷ bs) = by_test (b == 10) (λ t. rw t (lines_one bs)) (λ t. rw t (first_one b (lines_of bs) t (lines_one bs)))
 
 ---- its moves
 
@@ -131,8 +144,12 @@ playable stores text s h =
       catalog = known.0;
       apart = λ k f. other_table k.table (found_may s.catalog k.table known.1 f);
       few = let most = h.lines.clients.few in omega arith;
-      short = all_short s.clients (lines_of_clients stores text s h);
+      short = all_so is_line (λ (x : List ℕ). length x < 2 ^ 32) text_short s.clients (lines_of_clients is_line stores text s h h.lines.fit);
     }
+
+-- None of its statements has an LF.
+pub of_lines : (stores : List (List ℕ)) (text : List ℕ) (s : Script) → IsScript stores text s → HasLines s
+of_lines stores text s h = all_so is_one_line (λ (x : List ℕ). is_one_line x ≡ true) (λ x one. one) s.clients (lines_of_clients is_one_line stores text s h (lines_one text))
 
 -- Each of its moves can be made.
 pub followable : (stores : List (List ℕ)) (text : List ℕ) (s : Script) → IsScript stores text s → CanFollow s

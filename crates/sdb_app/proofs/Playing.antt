@@ -117,9 +117,9 @@ err_both P Q R (Ok x) p q h = tt
 err_both P Q R (Err e) p q h = h e p q
 
 -- what six clauses say of a result gives what another says
-pub ok_six : {T E : Type 0} (A B C D F H Q : T → Type 0) (r : Result T E) → IfOk r A → IfOk r B → IfOk r C → IfOk r D → IfOk r F → IfOk r H → ((x : T) → A x → B x → C x → D x → F x → H x → Q x) → IfOk r Q
-ok_six A B C D F H Q (Ok x) a b c d f h g = g x a b c d f h
-ok_six A B C D F H Q (Err e) a b c d f h g = tt
+pub ok_seven : {T E : Type 0} (A B C D F H K Q : T → Type 0) (r : Result T E) → IfOk r A → IfOk r B → IfOk r C → IfOk r D → IfOk r F → IfOk r H → IfOk r K → ((x : T) → A x → B x → C x → D x → F x → H x → K x → Q x) → IfOk r Q
+ok_seven A B C D F H K Q (Ok x) a b c d f h k g = g x a b c d f h k
+ok_seven A B C D F H K Q (Err e) a b c d f h k g = tt
 
 ---- why it stopped
 

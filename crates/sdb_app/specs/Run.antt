@@ -13,6 +13,7 @@ use Rattle.sdb_model.specs.declared.script.Script.{Script}
 use Rattle.sdb_model.specs.Causes.{AreCaused}
 use Rattle.sdb_model.specs.Events.{Shelf, store_of}
 use Rattle.sdb_model.specs.Follows.{Follows}
+use Rattle.sdb_model.specs.Plain.{IsPlain}
 use Rattle.sdb_model.specs.Report.{report_text_of}
 use Rattle.sdb_model.specs.Rows.{Name}
 use Rattle.sdb_model.specs.Told.{IsRun}
@@ -30,6 +31,7 @@ use Rattle.sdb_dump.specs.declared.refused.ClosingRefused.{ClosingRefused}
 use Rattle.sdb_dump.specs.declared.refused.ClosingRefused.TheVariants as closing
 use Rattle.sdb_world.specs.Broken.{BreaksWithin}
 use Rattle.sdb_execution.specs.Execution.{IsExecution, IsPlayable}
+use Rattle.sdb_plainness.specs.Runs.{HasLines}
 use Rattle.sdb_world.specs.Explained.{IsExplained, IsShown}
 use Rattle.sdb_world.specs.Played.{IsReadWhereKnown}
 use Rattle.sdb_app.specs.declared.status.InputFault.TheVariants.{Line}
@@ -51,13 +53,14 @@ TellOf script stores =
 
 -- The tables of a script were empty, and one outcome is that of a run that follows it, from what the stores held at the entry
 -- to what they hold at the exit; what was in the stores at each moment is explained by its events, and what each recorded
--- transaction noted is current at its point; and no transaction, recorded or not, was shown a row that was neither its own nor
--- committed when it was read.
+-- transaction noted is current at its point; no transaction, recorded or not, was shown a row that was neither its own nor
+-- committed when it was read; and where no statement has an LF the outcome is plain.
 pub record IsPlayed (script : Script) (opening closing : List Shelf) (outcome : Outcome) : Type 0 where
   pub empty : first_key (opening_records script.catalog script.places opening) ≡ None
   pub run : IsRun script opening closing outcome
   pub explained : IsExplained script outcome.events opening
   pub shown : IsShown script outcome.events opening
+  pub plain : HasLines script → IsPlain outcome
 
 -- The stores of a call with the places of a script, when they showed this. Those are known that were known at the entry.
 abbrev pub placed_as : Script → Attached → List Counted → Attached
@@ -78,13 +81,16 @@ pub record IsOutcome (script : Script) (old : Attached) (new : List Counted) (ou
   pub read : IsReadWhereKnown script.catalog (placed_as script old new) outcome
   pub played : TellOf script old → IsPlayed script (shown old.shelves) (shown new) outcome
 
--- A script was read, and this is the report of one outcome of it.
+-- A script was read, and this is the report of one outcome of it. Where the stores of its tables have known contents, the outcome is plain, and
+-- no other plain outcome has this report.
 pub record IsReplayed (work : Work) (report : List ℕ) : Type 0 where
   pub script : Script
   pub read : IsScriptRead (names_of work.old.shelves) work.input.bytes work.rest.bytes script
   pub outcome : Outcome
   pub made : IsOutcome script work.old work.left outcome
   pub text : report ≡ report_text_of outcome
+  pub plain : TellOf script work.old → IsPlain outcome
+  pub only : TellOf script work.old → (other : Outcome) → IsPlain other → report ≡ report_text_of other → other ≡ outcome
 
 -- The key is that of the first record in the tables of the script, as far as contents are known. Each store of known contents holds what it
 -- held, and all hold what they held, where those of the script's tables are known.

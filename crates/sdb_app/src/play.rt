@@ -11,6 +11,7 @@ ghost use Rattle.sdb_execution.specs.Execution.{IsExecution, IsPlayable};
 ghost use Rattle.sdb_world.specs.Explained.{IsExplained};
 ghost use Rattle.sdb_world.specs.Played.{HasNotPlayed, IsOutcomeOf, IsPlayExplained, IsReadWhereKnown};
 ghost use Rattle.sdb_executions.specs.World.{IsWorld};
+ghost use Rattle.sdb_plainness.specs.Facts.{outcome_fits};
 ghost use Rattle.sdb_world.specs.Step.{CanFollow};
 ghost use Rattle.sdb_app.specs.Ends.{AreKept};
 ghost use Rattle.sdb_app.specs.Run.{AreReady, CanBePlaced, IsOutcome, Stops, StopsLook, StopsPlay, StopsWorld, status_of_call, status_of_closing};
@@ -20,6 +21,7 @@ use crate::status::Status;
 use sdb_board::{CallRefused, first_record};
 use sdb_dump::ClosingRefused;
 use sdb_model::{Outcome, Script};
+use sdb_plainness::outcome_facts;
 use sdb_schema::Catalog;
 use sdb_stores::Registry;
 use sdb_types::NoMemory;
@@ -79,6 +81,7 @@ fn ended<R: Registry>(alloc: Global, stores: &mut R, world: World) -> Result<Out
     requires some { 0 < length (R.state stores.old).shelves }
     requires world { IsWorld world }
     ensures events { IfOk result (λ o. o.events ≡ world.events) }
+    ensures fits { IfOk result outcome_fits }
     ensures explained { IfOk result (λ o. IsPlayExplained world (R.state stores.old) o.events) }
     ensures run { IfOk result (IsOutcomeOf world (R.state stores.old) (R.state stores.new)) }
     ensures read { IfOk result (IsReadWhereKnown world.script.catalog (known_before (R.state stores.old) (R.state stores.new))) }
@@ -87,7 +90,10 @@ fn ended<R: Registry>(alloc: Global, stores: &mut R, world: World) -> Result<Out
     ensures bad { IfErr result (Stops (R.state stores.old).shelves (R.state stores.new).shelves (IsOddIn world.script.catalog (known_before (R.state stores.old) (R.state stores.new))) (λ key. ⊥)) }
 {
     match world.outcome(alloc, stores) {
-        Ok(outcome) => Ok(outcome),
+        Ok(outcome) => {
+            outcome_facts(&outcome);
+            Ok(outcome)
+        }
         Err(refused) => Err(closing_status(refused)),
     }
 }
@@ -99,6 +105,7 @@ fn run_world<R: Registry>(alloc: Global, stores: &mut R, script: Script) -> Resu
     requires can { CanFollow script }
     ensures follows { IfOk result (λ o. Follows script o.events) }
     ensures executed { IfOk result (λ o. IsExecution script o.events) }
+    ensures fits { IfOk result outcome_fits }
     ensures broken { IfOk result (λ o. BreaksWithin [] o.events (R.state stores.old).shelves (R.state stores.new).shelves) }
     ensures explained { IfOk result (λ o. AreReady script (R.state stores.old) → IsExplained script o.events (shown (R.state stores.old).shelves)) }
     ensures read { IfOk result (IsReadWhereKnown script.catalog (known_before (R.state stores.old) (R.state stores.new))) }

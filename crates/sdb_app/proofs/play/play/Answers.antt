@@ -3,7 +3,7 @@ use Rattle.sdb_stores.specs.Shelf.{Shelf as Counted}
 use Rattle.sdb_board.proofs.GoesOn.{goes_more, some_more}
 use Rattle.sdb_app.specs.Run.{IsBadFound}
 use Rattle.sdb_app.proofs.Headline.{kept_after, stops_after, stops_as, fit_script, outcome_is, ready_after, found_bad, found_first}
-use Rattle.sdb_app.proofs.Playing.{err_then, ok_six}
+use Rattle.sdb_app.proofs.Playing.{err_then, ok_seven}
 use Rattle.sdb_app.proofs.play.play.Goals as goal
 
 ---- places for which there is no memory
@@ -31,9 +31,9 @@ returns-in-Ok-be_empty-clause-made g c =
     let mid = g.R.Registry.state c.place_all.new.stores in
     let then = g.R.Registry.state c.be_empty.new.stores in
     let ran = c.run_world.ensures in
-    ok_six _ _ _ _ _ _ _ c.run_world.result ran.follows ran.executed ran.broken ran.read ran.run ran.explained
-    (λ o follows executed broken read run explained. outcome_is c.args.script old mid then (g.R.Registry.state c.run_world.new.stores) o c.in-Ok.ensures.places c.place_all.ensures.stores c.place_all.ensures.telling c.in-Ok-be_empty.ensures.goes ran.goes
-    (λ all. fit_script c.args.script old mid c.in-Ok.ensures.places c.place_all.ensures.stores c.requires.places c.requires.some c.requires.distinct c.place_all.ensures.telling all) c.in-Ok-be_empty.ensures.empty c.in-Ok-be_empty.ensures.none c.in-Ok-be_empty.ensures.still follows executed broken read run explained c.requires.playable)
+    ok_seven _ _ _ _ _ _ _ _ c.run_world.result ran.follows ran.executed ran.broken ran.read ran.run ran.explained ran.fits
+    (λ o follows executed broken read run explained fits. outcome_is c.args.script old mid then (g.R.Registry.state c.run_world.new.stores) o c.in-Ok.ensures.places c.place_all.ensures.stores c.place_all.ensures.telling c.in-Ok-be_empty.ensures.goes ran.goes
+    (λ all. fit_script c.args.script old mid c.in-Ok.ensures.places c.place_all.ensures.stores c.requires.places c.requires.some c.requires.distinct c.place_all.ensures.telling all) c.in-Ok-be_empty.ensures.empty c.in-Ok-be_empty.ensures.none c.in-Ok-be_empty.ensures.still follows executed broken read run explained c.requires.playable fits)
 
 pub returns-in-Ok-be_empty-clause-err : goal.returns-in-Ok-be_empty-clause-err
 returns-in-Ok-be_empty-clause-err g c =

@@ -19,6 +19,9 @@ returns-in_err-world-clause-follows g c = IfOk-from_err c.from_residual.result _
 pub returns-in_err-world-clause-executed : goal.returns-in_err-world-clause-executed
 returns-in_err-world-clause-executed g c = IfOk-from_err c.from_residual.result _ c.from_residual.ensures.0
 
+pub returns-in_err-world-clause-fits : goal.returns-in_err-world-clause-fits
+returns-in_err-world-clause-fits g c = IfOk-from_err c.from_residual.result _ c.from_residual.ensures.0
+
 pub returns-in_err-world-clause-broken : goal.returns-in_err-world-clause-broken
 returns-in_err-world-clause-broken g c = IfOk-from_err c.from_residual.result _ c.from_residual.ensures.0
 
@@ -44,6 +47,9 @@ returns-in_err-follow-clause-follows g c = IfOk-from_err c.from_residual-in_err-
 
 pub returns-in_err-follow-clause-executed : goal.returns-in_err-follow-clause-executed
 returns-in_err-follow-clause-executed g c = IfOk-from_err c.from_residual-in_err-follow.result _ c.from_residual-in_err-follow.ensures.0
+
+pub returns-in_err-follow-clause-fits : goal.returns-in_err-follow-clause-fits
+returns-in_err-follow-clause-fits g c = IfOk-from_err c.from_residual-in_err-follow.result _ c.from_residual-in_err-follow.ensures.0
 
 pub returns-in_err-follow-clause-broken : goal.returns-in_err-follow-clause-broken
 returns-in_err-follow-clause-broken g c = IfOk-from_err c.from_residual-in_err-follow.result _ c.from_residual-in_err-follow.ensures.0
@@ -95,6 +101,9 @@ pub returns-clause-executed : goal.returns-clause-executed
 returns-clause-executed g c =
     let before = c.in_ok-world.ensures in
     ok_then _ _ c.ended.result (λ o. executed_played (g.R.Registry.state c.args.stores.now) (g.R.Registry.state c.follow.new.stores) c.args.script c.in_ok-world.world c.follow.new.self before.script before.events before.initial c.in_ok-follow.ensures.come o.events) c.ended.ensures.events
+
+pub returns-clause-fits : goal.returns-clause-fits
+returns-clause-fits g c = c.ended.ensures.fits
 
 pub returns-clause-broken : goal.returns-clause-broken
 returns-clause-broken g c =

@@ -1,9 +1,10 @@
-use Rattle.std.proofs.Common.{List, ℕ, subst, sym}
+use Rattle.std.proofs.Common.{List, ℕ, subst, sym, ◌∙◌}
+use Rattle.sdb_report.proofs.PartLaws.{one_text_of}
 use Rattle.sdb_app.specs.declared.status.Status.{Status}
 use Rattle.sdb_app.specs.Ends.{stream, work_of}
 use Rattle.sdb_app.specs.Run.{CanBePlaced, IsScriptRead, StopsReplay}
 use Rattle.sdb_app.specs.Run.StopsReplay.{Unplayed}
-use Rattle.sdb_app.proofs.Playable.{followable, placeable, playable}
+use Rattle.sdb_app.proofs.Playable.{followable, of_lines, placeable, playable}
 use Rattle.sdb_app.proofs.Playing.{err_then, ok_then}
 use Rattle.sdb_app.proofs.replay.replay.Goals as goal
 
@@ -20,7 +21,12 @@ pub returns-in-Ok-play-clause-answered : goal.returns-in-Ok-play-clause-answered
 returns-in-Ok-play-clause-answered g c =
     let work = work_of g.S.Registry.state (stream g.R.Source.remaining g.R.Source.faults) c.args.stores.now c.play.new.stores c.args.input.now c.read_input_script.new.input in
     let read = subst (λ (ns : List (List ℕ)). IsScriptRead ns work.input.bytes work.rest.bytes c.in-Ok.script) c.requires.names c.in-Ok.ensures.read in
-    ok_then _ _ c.text_of.result (λ text is. record { script = c.in-Ok.script; read = read; outcome = c.in-Ok-play.outcome; made = c.in-Ok-play.ensures.made; text = is }) c.text_of.ensures.ok
+    let outcome = c.in-Ok-play.outcome in
+    let made = c.in-Ok-play.ensures.made in
+    let lines = of_lines c.args.names.now _ c.in-Ok.script c.in-Ok.ensures.read.form in
+    ok_then _ _ c.text_of.result
+    (λ text is. record { script = c.in-Ok.script; read = read; outcome = outcome; made = made; text = is; plain = λ all. (made.played all).plain lines; only = λ all other plain same. one_text_of other outcome plain ((made.played all).plain lines) (sym same ∙ is) })
+    c.text_of.ensures.ok
 
 pub returns-in-Ok-play-clause-err : goal.returns-in-Ok-play-clause-err
 returns-in-Ok-play-clause-err g c =
