@@ -145,8 +145,8 @@ module _ (q : Taking) (c d : ClientAt) (result : Option Answer) (waits : IsIdle 
   vacuum_clear false [] k = same_clear c d _ result k tt h
   vacuum_clear false (t ∷ ts) k = led_clear d _ result None k tt (record { txn = h.txn; plan = h.plan; vacuum = begun_clear (t ∷ ts) })
 
-  rows_told : (st : Statement) (t : TxnAt) (table : Table) → StatementClear st → c.txn ≡ Some t → RowsTold (plan_of table st) (access_of table st) c t result d → StepClear result d
-  rows_told st t table clear e k =
+  rows_step : (st : Statement) (t : TxnAt) (table : Table) → StatementClear st → c.txn ≡ Some t → RowsTold (plan_of table st) (access_of table st) c t result d → StepClear result d
+  rows_step st t table clear e k =
       let seen = idle_seen c t e waits h in
       let still : t.doing ≡ doing.Idle = subst (λ (o : Option TxnAt). IfSome o (λ u. u.doing ≡ doing.Idle)) e waits.still in
       let p : Planned = plan_of table st in
@@ -157,35 +157,35 @@ module _ (q : Taking) (c d : ClientAt) (result : Option Answer) (waits : IsIdle 
       (λ b. led_clear d _ result (Some (given_answer t (gives p a t))) (k.known b) (given_clear t (gives p a t) given) (holds_clear c (given_left t t (gives p a t)) h (at_rest (given_left t t (gives p a t)) (left_clear t t (gives p a t) (still, seen) (still, seen) given))))
       (λ b. led_clear d _ result None (k.unknown b) tt (record { txn = (seen, here, asked_clear a here, tt); plan = clear; vacuum = h.vacuum }))
 
-  table_told : (st : Statement) (t : TxnAt) → StatementClear st → c.txn ≡ Some t → TableTold q.catalog st c t result d → StepClear result d
-  table_told st t clear e k = by_refusal (refusal_of q.catalog st) refl
+  table_step : (st : Statement) (t : TxnAt) → StatementClear st → c.txn ≡ Some t → TableTold q.catalog st c t result d → StepClear result d
+  table_step st t clear e k = by_refusal (refusal_of q.catalog st) refl
     where
       by_table : (o : Option Table) → refusal_of q.catalog st ≡ None → named_table q.catalog st ≡ o → StepClear result d
-      by_table (Some table) taken named = rows_told st t table clear e (k.reads table taken named)
+      by_table (Some table) taken named = rows_step st t table clear e (k.reads table taken named)
       by_table None taken named = absurd (let no : Some (record { kind = 6; place = 0 }) ≡ None = sym (ap (λ (o : Option Table). refusal_by o st) named) ∙ taken in cc)
 
       by_refusal : (o : Option Refusal) → refusal_of q.catalog st ≡ o → StepClear result d
       by_refusal (Some r) taken = same_clear c d _ result (k.refused r taken) tt h
       by_refusal None taken = by_table (named_table q.catalog st) taken refl
 
-  ask_told : (st : Statement) (o : Option TxnAt) → StatementClear st → c.txn ≡ o → AskTold q.catalog st c o result d → StepClear result d
-  ask_told st None clear e k = same_clear c d _ result k tt h
-  ask_told st (Some t) clear e k = table_told st t clear e k
+  ask_step : (st : Statement) (o : Option TxnAt) → StatementClear st → c.txn ≡ o → AskTold q.catalog st c o result d → StepClear result d
+  ask_step st None clear e k = same_clear c d _ result k tt h
+  ask_step st (Some t) clear e k = table_step st t clear e k
 
-  statement_told : (st : Statement) → StatementClear st → StatementTold q st c result d → StepClear result d
-  statement_told statement.Begin clear k = begin_clear c.txn k
-  statement_told statement.Commit clear k = commit_clear c.txn refl k
-  statement_told statement.Rollback clear k = rollback_clear c.txn k
-  statement_told statement.Vacuum clear k = vacuum_clear (is_some c.txn || q.gate.open_elsewhere) q.catalog k
-  statement_told (statement.Insert s) clear k = ask_told (statement.Insert s) c.txn clear refl k
-  statement_told (statement.Upsert s) clear k = ask_told (statement.Upsert s) c.txn clear refl k
-  statement_told (statement.Update s) clear k = ask_told (statement.Update s) c.txn clear refl k
-  statement_told (statement.Delete s) clear k = ask_told (statement.Delete s) c.txn clear refl k
-  statement_told (statement.Select s) clear k = ask_told (statement.Select s) c.txn clear refl k
+  statement_step : (st : Statement) → StatementClear st → StatementTold q st c result d → StepClear result d
+  statement_step statement.Begin clear k = begin_clear c.txn k
+  statement_step statement.Commit clear k = commit_clear c.txn refl k
+  statement_step statement.Rollback clear k = rollback_clear c.txn k
+  statement_step statement.Vacuum clear k = vacuum_clear (is_some c.txn || q.gate.open_elsewhere) q.catalog k
+  statement_step (statement.Insert s) clear k = ask_step (statement.Insert s) c.txn clear refl k
+  statement_step (statement.Upsert s) clear k = ask_step (statement.Upsert s) c.txn clear refl k
+  statement_step (statement.Update s) clear k = ask_step (statement.Update s) c.txn clear refl k
+  statement_step (statement.Delete s) clear k = ask_step (statement.Delete s) c.txn clear refl k
+  statement_step (statement.Select s) clear k = ask_step (statement.Select s) c.txn clear refl k
 
-  text_told : (text : List ℕ) → is_one_line text ≡ true → TextTold q text c result d → StepClear result d
-  text_told text one (Ok st, reads, k) = statement_told st (read_clear text st one reads) k
-  text_told text one (Err r, refuses, k) = same_clear c d _ result k tt h
+  text_step : (text : List ℕ) → is_one_line text ≡ true → TextTold q text c result d → StepClear result d
+  text_step text one (Ok st, reads, k) = statement_step st (read_clear text st one reads) k
+  text_step text one (Err r, refuses, k) = same_clear c d _ result k tt h
 
 starved_clear : (text : List ℕ) (c : ClientAt) → ClientClear c → ClientClear (starved text c)
 starved_clear text c h = elim (reads_commit text) as (λ b. ClientClear (cond b (resting c) c)) [ true ↦ rests_clear c h | false ↦ h ]
@@ -194,7 +194,7 @@ pub takes_clear : (q : Taking) (text : List ℕ) (c d : ClientAt) (result : Opti
 takes_clear q text c d result one waits h k =
     by_memory result
     (λ e. record { client = subst ClientClear (sym (k.memory e)) (starved_clear text c h); answer = subst (λ (o : Option Answer). IfSome o AnswerClear) (sym e) tt })
-    (λ n. text_told q c d result waits h text one (k.told n))
+    (λ n. text_step q c d result waits h text one (k.told n))
 
 ---- a reply that is taken
 
@@ -225,46 +225,46 @@ noting_clear t (access.Get key) images k h g = (refl, get_clear t.seen key image
 noting_clear t (access.Scan span) images k h g = (refl, scan_clear t.seen span images k h g)
 
 module _ (t u : TxnAt) (p : Planned) (a : Access) (x : ReadAt) (clear : PlanClear p) (seen : SeenClear t.seen) (here : AccessClear a) (asks : RequestClear x.request) where
-  idle_told : (n : Next) (b : Answer) → AnswerClear b → (n ≡ next.Answer b) × (u ≡ idle t) → AfterClear n u
-  idle_told n b k h = subst (λ (m : Next). AfterClear m u) (sym h.0) (subst TxnClear (sym h.1) seen, k)
+  idle_step : (n : Next) (b : Answer) → AnswerClear b → (n ≡ next.Answer b) × (u ≡ idle t) → AfterClear n u
+  idle_step n b k h = subst (λ (m : Next). AfterClear m u) (sym h.0) (subst TxnClear (sym h.1) seen, k)
 
-  more_told : (n : Next) (s : ReadStage) → StageClear s → (n ≡ next.Call) × (u ≡ record t { doing = doing.Read a (record x { stage = s }) }) → AfterClear n u
-  more_told n s i h = subst (λ (m : Next). AfterClear m u) (sym h.0) (subst TxnClear (sym h.1) (seen, here, asks, i))
+  more_step : (n : Next) (s : ReadStage) → StageClear s → (n ≡ next.Call) × (u ≡ record t { doing = doing.Read a (record x { stage = s }) }) → AfterClear n u
+  more_step n s i h = subst (λ (m : Next). AfterClear m u) (sym h.0) (subst TxnClear (sym h.1) (seen, here, asks, i))
 
-  moved_told : (b : Access) (images : List Record) (key : Key) (found : Option Record) → RecordsClear images → IsMovedAt t b images key found → AnswerClear (answer.Conflict key found)
-  moved_told (access.Get k) images key found i h = absurd h
-  moved_told (access.Scan span) images key found i h = (
+  moved_step : (b : Access) (images : List Record) (key : Key) (found : Option Record) → RecordsClear images → IsMovedAt t b images key found → AnswerClear (answer.Conflict key found)
+  moved_step (access.Get k) images key found i h = absurd h
+  moved_step (access.Scan span) images key found i h = (
     noted_key t.seen.notes key seen.notes (moved_noted (note_at t.seen.notes key) (record_among images key) h.moved),
     subst (λ (o : Option Record). IfSome o (FoundAt key)) (sym h.stands) (among_at images key i),
   )
 
-  images_told : (images : List Record) (n : Next) → RecordsClear images → ImagesTold t p a images n u → AfterClear n u
-  images_told images next.Call i h = absurd h
-  images_told images (next.End (answer.Conflict key found)) i h = moved_told a images key found i h
-  images_told images (next.End z) i h = absurd h
-  images_told images (next.Answer z) i h =
+  images_step : (images : List Record) (n : Next) → RecordsClear images → ImagesTold t p a images n u → AfterClear n u
+  images_step images next.Call i h = absurd h
+  images_step images (next.End (answer.Conflict key found)) i h = moved_step a images key found i h
+  images_step images (next.End z) i h = absurd h
+  images_step images (next.Answer z) i h =
       let v : TxnAt = noting t a images in
       let noted : RestsWith v = noting_clear t a images here i seen in
       let given : GivesClear (gives p a v) = plan_gives p a v clear noted.1 in
       (subst TxnClear (sym h.2) (at_rest (given_left (idle t) v (gives p a v)) (left_clear (idle t) v (gives p a v) (refl, seen) noted given)), subst AnswerClear (sym h.1) (given_clear v (gives p a v) given))
 
-  stage_told : (n : Next) (s : ReadStage) → StageClear s → StageTold t p a x s (read_result s) n u → AfterClear n u
-  stage_told n Asking i h = more_told n Asking i h
-  stage_told n (Resolving images rec meta phase left) i h = more_told n (Resolving images rec meta phase left) i h
-  stage_told n (Ended step.More) i h = more_told n (Ended step.More) i h
-  stage_told n (Ended (step.Images images)) i h = images_told images n i h
-  stage_told n (Ended (step.Busy key id at)) i h = idle_told n (answer.Busy key id at) i h
-  stage_told n (Ended step.Faulted) i h = idle_told n answer.Faulted tt h
-  stage_told n (Ended (step.BadRecord key)) i h = idle_told n (answer.BadRecord key) i h
-  stage_told n (Ended step.NoMemory) i h = absurd h
+  stage_step : (n : Next) (s : ReadStage) → StageClear s → StageTold t p a x s (read_result s) n u → AfterClear n u
+  stage_step n Asking i h = more_step n Asking i h
+  stage_step n (Resolving images rec meta phase left) i h = more_step n (Resolving images rec meta phase left) i h
+  stage_step n (Ended step.More) i h = more_step n (Ended step.More) i h
+  stage_step n (Ended (step.Images images)) i h = images_step images n i h
+  stage_step n (Ended (step.Busy key id at)) i h = idle_step n (answer.Busy key id at) i h
+  stage_step n (Ended step.Faulted) i h = idle_step n answer.Faulted tt h
+  stage_step n (Ended (step.BadRecord key)) i h = idle_step n (answer.BadRecord key) i h
+  stage_step n (Ended step.NoMemory) i h = absurd h
 
-  call_told : (n : Next) (r : Reply) (now : ℤ) → StageClear (read_step x.stage now r) → CallTold t p a x r now n u → AfterClear n u
-  call_told next.Call r now i h = stage_told next.Call (read_step x.stage now r) i (h.told (λ e. cc))
-  call_told (next.End z) r now i h = stage_told (next.End z) (read_step x.stage now r) i (h.told (λ e. cc))
-  call_told (next.Answer z) r now i h =
+  call_step : (n : Next) (r : Reply) (now : ℤ) → StageClear (read_step x.stage now r) → CallTold t p a x r now n u → AfterClear n u
+  call_step next.Call r now i h = stage_step next.Call (read_step x.stage now r) i (h.told (λ e. cc))
+  call_step (next.End z) r now i h = stage_step (next.End z) (read_step x.stage now r) i (h.told (λ e. cc))
+  call_step (next.Answer z) r now i h =
       by_memory (Some z)
-      (λ e. let same : z ≡ answer.NoMemory = cc in idle_told (next.Answer z) answer.NoMemory tt (ap (λ (y : Answer). next.Answer y) same, h.memory (ap (λ (y : Answer). next.Answer y) same)))
-      (λ other. stage_told (next.Answer z) (read_step x.stage now r) i (h.told (λ e. other (let same : z ≡ answer.NoMemory = cc in ap (λ (y : Answer). Some y) same))))
+      (λ e. let same : z ≡ answer.NoMemory = cc in idle_step (next.Answer z) answer.NoMemory tt (ap (λ (y : Answer). next.Answer y) same, h.memory (ap (λ (y : Answer). next.Answer y) same)))
+      (λ other. stage_step (next.Answer z) (read_step x.stage now r) i (h.told (λ e. other (let same : z ≡ answer.NoMemory = cc in ap (λ (y : Answer). Some y) same))))
 
 ---- a COMMIT
 
@@ -280,39 +280,39 @@ ProgressClear progress.Committed = Unit {0}
 ProgressClear (progress.Expired id) = Unit {0}
 ProgressClear (progress.Unknown id) = Unit {0}
 
-outcome_told : (a : Outcome) → OutcomeClear a → ProgressClear (progress_of (Some a))
-outcome_told outcome.Committed h = tt
-outcome_told (outcome.Conflict key found) h = h
-outcome_told (outcome.Expired id) h = tt
-outcome_told outcome.Faulted h = tt
-outcome_told (outcome.Unknown id) h = tt
-outcome_told (outcome.BadRecord key) h = h
-outcome_told outcome.NoMemory h = tt
+outcome_progress : (a : Outcome) → OutcomeClear a → ProgressClear (progress_of (Some a))
+outcome_progress outcome.Committed h = tt
+outcome_progress (outcome.Conflict key found) h = h
+outcome_progress (outcome.Expired id) h = tt
+outcome_progress outcome.Faulted h = tt
+outcome_progress (outcome.Unknown id) h = tt
+outcome_progress (outcome.BadRecord key) h = h
+outcome_progress outcome.NoMemory h = tt
 
-ended_told : (s : Stage) → CommitClear s → ProgressClear (progress_of (ended_at s))
-ended_told (Preparing i) h = tt
-ended_told (Checking i) h = tt
-ended_told (Deciding d) h = tt
-ended_told (Forward i) h = tt
-ended_told (Stopping a n) h = tt
-ended_told (Back a n i) h = tt
-ended_told (Over a) h = outcome_told a h
+ended_progress : (s : Stage) → CommitClear s → ProgressClear (progress_of (ended_at s))
+ended_progress (Preparing i) h = tt
+ended_progress (Checking i) h = tt
+ended_progress (Deciding d) h = tt
+ended_progress (Forward i) h = tt
+ended_progress (Stopping a n) h = tt
+ended_progress (Back a n i) h = tt
+ended_progress (Over a) h = outcome_progress a h
 
-committing_told : (k : CommitAt) (r : Reply) (s : Seen) (o : Doing) → WorkClear k.work → CommitClear k.stage → CanGet k.work k.stage r → ReplyClear r → IsCommitting o (λ j. (j.work ≡ k.work) × IsNext k.work k.stage r j.stage) → DoingClear s o
-committing_told k r s doing.Idle w g can c i = absurd i
-committing_told k r s (doing.Read a x) w g can c i = absurd i
-committing_told k r s (doing.Commit j) w g can c i = (subst WorkClear (sym i.0) w, next_clear k.work k.stage r j.stage w g can c i.1)
-committing_told k r s doing.Over w g can c i = absurd i
+committing_step : (k : CommitAt) (r : Reply) (s : Seen) (o : Doing) → WorkClear k.work → CommitClear k.stage → CanGet k.work k.stage r → ReplyClear r → IsCommitting o (λ j. (j.work ≡ k.work) × IsNext k.work k.stage r j.stage) → DoingClear s o
+committing_step k r s doing.Idle w g can c i = absurd i
+committing_step k r s (doing.Read a x) w g can c i = absurd i
+committing_step k r s (doing.Commit j) w g can c i = (subst WorkClear (sym i.0) w, next_clear k.work k.stage r j.stage w g can c i.1)
+committing_step k r s doing.Over w g can c i = absurd i
 
-commit_told : (t u : TxnAt) (k : CommitAt) (r : Reply) (n : Next) → WorkClear k.work → CommitClear k.stage → CanGet k.work k.stage r → ReplyClear r → CommitNext t k r n u → AfterClear n u
-commit_told t u k r n w g can c h =
-    by_progress h.progress refl (subst ProgressClear (sym h.told.answer) (ended_told (commit_step k.work k.stage r) (commit_step_clear k.work k.stage r w g can c))) h.next
+commit_step_to : (t u : TxnAt) (k : CommitAt) (r : Reply) (n : Next) → WorkClear k.work → CommitClear k.stage → CanGet k.work k.stage r → ReplyClear r → CommitNext t k r n u → AfterClear n u
+commit_step_to t u k r n w g can c h =
+    by_progress h.progress refl (subst ProgressClear (sym h.told.answer) (ended_progress (commit_step k.work k.stage r) (commit_step_clear k.work k.stage r w g can c))) h.next
   where
     ends : (a : Answer) → AnswerClear a → n ≡ next.End a → AfterClear n u
     ends a k m = subst (λ (y : Next). AfterClear y u) (sym m) k
 
     by_progress : (p : Progress) → h.progress ≡ p → ProgressClear p → n ≡ next_of p → AfterClear n u
-    by_progress progress.More e q m = subst (λ (y : Next). AfterClear y u) (sym m) (committing_told k r u.seen u.doing w g can c (h.told.next e))
+    by_progress progress.More e q m = subst (λ (y : Next). AfterClear y u) (sym m) (committing_step k r u.seen u.doing w g can c (h.told.next e))
     by_progress (progress.Rows rows) e q m = ends answer.NoMemory tt m
     by_progress (progress.Busy key id at) e q m = ends (answer.Busy key id at) q m
     by_progress progress.Faulted e q m = ends answer.Faulted tt m
@@ -328,36 +328,36 @@ commit_told t u k r n w g can c h =
 can_get : (o : Option Request) (q : Request) (r : Reply) → o ≡ Some q → CanAnswer q r → IfSome o (λ x. CanAnswer x r)
 can_get o q r e can = subst (λ (x : Option Request). IfSome x (λ y. CanAnswer y r)) (sym e) can
 
-next_told : (t u : TxnAt) (o : Doing) (p : Option Planned) (q : Request) (r : Reply) (now : ℤ) (n : Next) → DoingClear t.seen o → IfSome p PlanClear → pending_in o ≡ Some q → CanAnswer q r → ReplyClear r → NextTold t o p r now n u → AfterClear n u
-next_told t u doing.Idle p q r now n h f e can c k = absurd k
-next_told t u (doing.Read a x) None q r now n h f e can c k = absurd k
-next_told t u (doing.Read a x) (Some p) q r now n h f e can c k = call_told t u p a x f h.0 h.1 h.2 n r now (stage_clear x.stage now r h.3 c) k
-next_told t u (doing.Commit j) None q r now n h f e can c k = commit_told t u j r n h.0 h.1 (can_get (commit_pending j.work j.stage) q r e can) c k
-next_told t u (doing.Commit j) (Some p) q r now n h f e can c k = absurd k
-next_told t u doing.Over p q r now n h f e can c k = absurd k
+next_step : (t u : TxnAt) (o : Doing) (p : Option Planned) (q : Request) (r : Reply) (now : ℤ) (n : Next) → DoingClear t.seen o → IfSome p PlanClear → pending_in o ≡ Some q → CanAnswer q r → ReplyClear r → NextTold t o p r now n u → AfterClear n u
+next_step t u doing.Idle p q r now n h f e can c k = absurd k
+next_step t u (doing.Read a x) None q r now n h f e can c k = absurd k
+next_step t u (doing.Read a x) (Some p) q r now n h f e can c k = call_step t u p a x f h.0 h.1 h.2 n r now (stage_clear x.stage now r h.3 c) k
+next_step t u (doing.Commit j) None q r now n h f e can c k = commit_step_to t u j r n h.0 h.1 (can_get (commit_pending j.work j.stage) q r e can) c k
+next_step t u (doing.Commit j) (Some p) q r now n h f e can c k = absurd k
+next_step t u doing.Over p q r now n h f e can c k = absurd k
 
 -- the VACUUM after a call, and what it answers
-swept_told : (v w : VacuumAt) (e : VacuumStep) (r : Reply) (now : ℤ) → Gives (vacuum_step v now r) w e → AreSwept (vacuum_step v now r) → IfSome (vacuum_left e w) VacuumClear × IfSome (answer_of e) AnswerClear
-swept_told v w sweep.More r now g h = (subst VacuumClear (sym g.0) h.0, tt)
-swept_told v w (sweep.Count n) r now g h = (tt, tt)
-swept_told v w sweep.Faulted r now g h = (tt, tt)
-swept_told v w (sweep.BadRecord key) r now g h = (tt, subst SweptClear (sym g.1) h.1)
-swept_told v w sweep.NoMemory r now g h = (tt, tt)
+swept_step : (v w : VacuumAt) (e : VacuumStep) (r : Reply) (now : ℤ) → Gives (vacuum_step v now r) w e → AreSwept (vacuum_step v now r) → IfSome (vacuum_left e w) VacuumClear × IfSome (answer_of e) AnswerClear
+swept_step v w sweep.More r now g h = (subst VacuumClear (sym g.0) h.0, tt)
+swept_step v w (sweep.Count n) r now g h = (tt, tt)
+swept_step v w sweep.Faulted r now g h = (tt, tt)
+swept_step v w (sweep.BadRecord key) r now g h = (tt, subst SweptClear (sym g.1) h.1)
+swept_step v w sweep.NoMemory r now g h = (tt, tt)
 
 pub replies_clear : (c d : ClientAt) (q : Request) (r : Reply) (now : ℤ) (result : Option Answer) → client_pending c ≡ Some q → CanAnswer q r → ReplyClear r → ClientClear c → ReplyTold c c.vacuum r now result d → StepClear result d
-replies_clear c d q r now result asked can reply h told = by_vacuum c.vacuum refl asked told
+replies_clear c d q r now result asked can reply h leads = by_vacuum c.vacuum refl asked leads
   where
     by_txn : (o : Option TxnAt) → c.txn ≡ o → pending_of o ≡ Some q → OpenTold c o r now result d → StepClear result d
     by_txn None e pends k = absurd k
     by_txn (Some t) e pends k =
-        let so = after_clear c k.next k.left h (next_told t k.left t.doing c.plan q r now k.next (open_clear c t e h) h.plan pends can reply k.told) in
+        let so = after_clear c k.next k.left h (next_step t k.left t.doing c.plan q r now k.next (open_clear c t e h) h.plan pends can reply k.told) in
         record { client = subst ClientClear (sym k.client) so.client; answer = subst (λ (o : Option Answer). IfSome o AnswerClear) (sym k.answer) so.answer }
 
     by_vacuum : (v : Option VacuumAt) → c.vacuum ≡ v → pending_by v c.txn ≡ Some q → ReplyTold c v r now result d → StepClear result d
     by_vacuum None e pends k = by_txn c.txn refl pends k
     by_vacuum (Some v) e pends k =
         let is : VacuumClear v = subst (λ (o : Option VacuumAt). IfSome o VacuumClear) e h.vacuum in
-        let so = swept_told v k.0.left k.0.step r now k.0.told (swept_clear v.spans v.removed v.stage now r is.0 is.1 reply) in
+        let so = swept_step v k.0.left k.0.step r now k.0.told (swept_clear v.spans v.removed v.stage now r is.0 is.1 reply) in
         record {
           client = subst ClientClear (sym k.1) (record { txn = h.txn; plan = h.plan; vacuum = subst (λ (o : Option VacuumAt). IfSome o VacuumClear) (sym k.0.goes) so.0 });
           answer = subst (λ (o : Option Answer). IfSome o AnswerClear) (sym k.0.answer) so.1;

@@ -298,12 +298,12 @@ DecideClear (decide.Unknown id) = Unit {0}
 DecideClear (decide.BadRecord key) = KeyClear key
 DecideClear decide.NoMemory = Unit {0}
 
-told_clear : (id : TxId) (aborted : DecideStep) (o : Result Decided (List ℕ)) → DecideClear aborted → DecideClear (told id aborted o)
-told_clear id aborted (Err column) h = row_key_clear id
-told_clear id aborted (Ok d) h = elim d.decision as (λ x. DecideClear (elim x [ decision.Committed ↦ decide.Committed | decision.Aborted ↦ aborted ])) [ decision.Committed ↦ tt | decision.Aborted ↦ h ]
+followed_clear : (id : TxId) (aborted : DecideStep) (o : Result Decided (List ℕ)) → DecideClear aborted → DecideClear (told id aborted o)
+followed_clear id aborted (Err column) h = row_key_clear id
+followed_clear id aborted (Ok d) h = elim d.decision as (λ x. DecideClear (elim x [ decision.Committed ↦ decide.Committed | decision.Aborted ↦ aborted ])) [ decision.Committed ↦ tt | decision.Aborted ↦ h ]
 
 expired_clear : (id : TxId) (row : Record) → DecideClear (followed id (decide.Expired id) row)
-expired_clear id row = told_clear id (decide.Expired id) (decision_in row) tt
+expired_clear id row = followed_clear id (decide.Expired id) (decision_in row) tt
 
 decide_clear : (id : TxId) (d : DecidePhase) (r : Reply) → DecideClear (decide_next id d r).1
 decide_clear id phase.Put (reply.Found None) = tt
@@ -331,7 +331,7 @@ decide_clear id phase.Abort (reply.NotMet (Some row)) = expired_clear id row
 decide_clear id phase.Abort reply.Fault = tt
 decide_clear id phase.Abort reply.NoMemory = tt
 decide_clear id phase.Again (reply.Found None) = tt
-decide_clear id phase.Again (reply.Found (Some row)) = told_clear id decide.Faulted (decision_in row) tt
+decide_clear id phase.Again (reply.Found (Some row)) = followed_clear id decide.Faulted (decision_in row) tt
 decide_clear id phase.Again (reply.Rows rows) = tt
 decide_clear id phase.Again reply.Applied = tt
 decide_clear id phase.Again (reply.NotMet None) = tt
