@@ -57,8 +57,5 @@ pub option_so : {A B : Type 0} (P : A → Type 0) (Q : B → Type 0) (f : A → 
 option_so P Q f None g h = tt
 option_so P Q f (Some x) g h = g x h
 
-pub some_so : {A : Type 0} (P : A → Type 0) (o : Option A) (x : A) → IfSome o P → o ≡ Some x → P x
-some_so P o x h e = subst (λ (q : Option _). IfSome q P) e h
-
 pub is_so : {A : Type 0} (P : A → Type 0) (x y : A) → P x → Some x ≡ Some y → P y
 is_so P x y h e = subst P (some_is x y e) h
