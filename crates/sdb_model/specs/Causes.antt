@@ -36,10 +36,10 @@ use Rattle.sdb_model.specs.Events.{catalog_at}
 use Rattle.sdb_model.specs.Exec.{find_table, key_of, table_of}
 use Rattle.sdb_model.specs.Refused.{refusal_of}
 use Rattle.sdb_model.specs.Follows.{has_stopped}
-use Rattle.sdb_model.specs.Transactions.{Said, said, begins, ends, body, client_of, commit_of, statements_of, is_prepared_record}
+use Rattle.sdb_model.specs.Transactions.{Said, said, begins, ends, body, client_of, commit_of, statements_of, is_prepared_record, statements_inside}
 use Rattle.sdb_model.specs.Calls.{Made, calls_of, calls_after, calls_before, clock_at, decision_found, decision_learned, is_of_row, is_read, is_removal, put_by, records_read, records_shown}
 use Rattle.sdb_model.specs.Requests.{any_of, records_put, shown_by}
-use Rattle.sdb_model.specs.Noted.{Note, Scanned, noted_in, reads_rows, version_noted, meaning_of}
+use Rattle.sdb_model.specs.Noted.{Note, Scanned, noted_in, reads_rows, version_noted, meaning_of, has_finished}
 use Rattle.sdb_types.specs.Replies.{is_applied, is_fault}
 use Rattle.sdb_types.specs.Order.{same_key}
 
@@ -242,6 +242,10 @@ most_keys = 4096
 abbrev pub body_before : List Event → TxId → Said → List Said
 body_before events id s = filter (λ b. nat_lt b.taken s.taken) (body events id)
 
+-- its statements that were taken before this one and whose reads have finished
+abbrev pub finished_before : List Event → TxId → Said → List Said
+finished_before events id s = filter (λ b. nat_lt b.taken s.taken) (filter has_finished (statements_inside events id))
+
 -- how many rows an answer counts
 abbrev pub rows_counted : Option Answer → ℕ
 rows_counted (Some (answer.Count n)) = n
@@ -272,7 +276,7 @@ pub record MayPassMost (events : List Event) (client : ℕ) (s : Said) : Type 0 
   pub read : Reads s.text statement
   pub past :
       may_pass (sum_by (λ b. rows_counted b.answer) (body_before events id s))
-      (sum_by (λ b. records_found (calls_of events client b)) (body_before events id s) + records_found (calls_of events client s)) statement ≡ true
+      (sum_by (λ b. records_found (calls_of events client b)) (finished_before events id s) + records_found (calls_of events client s)) statement ≡ true
 
 -- a delete of a committed record that took effect
 abbrev pub removes : Made → Bool

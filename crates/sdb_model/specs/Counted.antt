@@ -28,9 +28,9 @@ use Rattle.sdb_model.specs.declared.event.Event.TheVariants as event
 use Rattle.sdb_model.specs.declared.event.How.{How}
 use Rattle.sdb_model.specs.declared.event.How.TheVariants.{Seen, Lost, Discarded, Broken}
 use Rattle.sdb_model.specs.Sql.{reads_commit, reads_vacuum}
-use Rattle.sdb_model.specs.Transactions.{Said, said, client_of, commit_of, is_answered_from_rows, prepares}
+use Rattle.sdb_model.specs.Transactions.{Said, said, client_of, commit_of, prepares}
 use Rattle.sdb_model.specs.Calls.{Made, calls_of, calls_after, decision_shown, is_removal, key_asked, records_read}
-use Rattle.sdb_model.specs.Noted.{Note, Got, Scanned, noted_in, reads_rows}
+use Rattle.sdb_model.specs.Noted.{Note, Got, Scanned, noted_in, read_finished, reads_rows}
 use Rattle.sdb_model.specs.Causes.{IsEarly}
 use Rattle.sdb_types.specs.Replies.{is_answered}
 
@@ -123,9 +123,9 @@ pub record IsResolved (calls : List Made) (read : Made) (r : Record) : Type 0 wh
 abbrev pub IsPassedOver : List Event → Said → List Made → Made → Record → Type 0
 IsPassedOver events s calls read r = (id : TxId) × (at : ℤ) × (reads_vacuum s.text ≡ true) × IsEarly events calls read r id at
 
--- Whoever was answered from rows had each unresolved record that was found rolled first.
+-- Whoever has finished a read had each unresolved record that was found rolled first.
 abbrev pub AreResolved : List Event → Type 0
-AreResolved events = (client : ℕ) (s : Said) (a : Answer) (m : Made) (r : Record) → Contains (said client events) s → s.answer ≡ Some a → is_answered_from_rows a ≡ true
+AreResolved events = (client : ℕ) (s : Said) (a : Answer) (m : Made) (r : Record) → Contains (said client events) s → s.answer ≡ Some a → read_finished a ≡ true
     → Contains (calls_of events client s) m → reads_rows m ≡ true → Contains (records_read m.reply) r → is_unresolved r ≡ true → IsResolved (calls_of events client s) m r ⊎ IsPassedOver events s (calls_of events client s) m r
 
 ---- stores that fail

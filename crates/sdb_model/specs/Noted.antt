@@ -1,5 +1,5 @@
 -- What the statements of a transaction noted: what the records that they read mean, with the versions found.
-use Rattle.std.specs.Prelude.{Bool, false, List, ◌&&◌, filter, find, Option, Some, None, if◌then◌else◌}
+use Rattle.std.specs.Prelude.{Bool, true, false, List, ◌&&◌, filter, find, Option, Some, None, if◌then◌else◌}
 use Rattle.std.specs.Option.{option_and_then, option_map, option_map_or}
 use Rattle.std.specs.List.{filter_map, flat_map}
 use Rattle.std.specs.Ordering.{is_eq}
@@ -20,11 +20,12 @@ use Rattle.sdb_record.specs.Coordinator.{is_coordinator_table}
 use Rattle.sdb_record.specs.Meta.{is_in}
 use Rattle.sdb_record.specs.Moved.{version_of}
 use Rattle.sdb_record.specs.Among.{version_among}
+use Rattle.sdb_model.specs.declared.answer.Answer.{Answer}
 use Rattle.sdb_model.specs.declared.answer.Answer.TheVariants as answer
 use Rattle.sdb_model.specs.declared.event.Event.{Event}
 use Rattle.sdb_model.specs.Events.{table_asked}
 use Rattle.sdb_model.specs.Calls.{Made, calls_of, is_read, key_asked, put_by}
-use Rattle.sdb_model.specs.Transactions.{Said, body, client_of, is_answered_from_rows}
+use Rattle.sdb_model.specs.Transactions.{Said, client_of, statements_inside}
 
 -- One noted read: a key with the version found there, or a span with the versions found in it.
 pub data Note : Type 0 where
@@ -76,11 +77,20 @@ reads_rows m = if is_coordinator_table (table_asked m.request) then false else i
 abbrev pub notes_in : List Made → List Note
 notes_in calls = filter_map (λ m. note_of calls m.request m.reply) (filter reads_rows calls)
 
--- a statement was answered from rows
-abbrev pub is_from_rows : Said → Bool
-is_from_rows s = option_map_or is_answered_from_rows s.answer false
+-- The read of a statement that is answered so has finished: it is answered from rows, or is refused, which says that it would write too
+-- many keys, or that it made no call.
+abbrev pub read_finished : Answer → Bool
+read_finished (answer.Rows rows) = true
+read_finished (answer.Count n) = true
+read_finished (answer.Duplicate key) = true
+read_finished (answer.Refused refusal) = true
+read_finished a = false
 
--- What the statements of a transaction noted, in order. A statement notes what it read where it was answered Rows, Count or
--- Duplicate, and nothing else.
+-- the read of a statement has finished
+abbrev pub has_finished : Said → Bool
+has_finished s = option_map_or read_finished s.answer false
+
+-- What the statements of a transaction noted, in order. A statement notes what it read where its read has finished, whatever it is then
+-- answered.
 abbrev pub noted_in : List Event → TxId → List Note
-noted_in events id = flat_map (λ s. notes_in (calls_of events (client_of id) s)) (filter is_from_rows (body events id))
+noted_in events id = flat_map (λ s. notes_in (calls_of events (client_of id) s)) (filter has_finished (statements_inside events id))

@@ -30,7 +30,7 @@ use Rattle.sdb_model.specs.Exec.{Tables, exec, find_table, shown}
 use Rattle.sdb_model.specs.Events.{Shelf, catalog_at, moment}
 use Rattle.sdb_model.specs.Explained.{Shows}
 use Rattle.sdb_model.specs.Images.{row_at}
-use Rattle.sdb_model.specs.Noted.{meaning_of}
+use Rattle.sdb_model.specs.Noted.{meaning_of, has_finished}
 use Rattle.sdb_model.specs.Transactions.{Said, client_of, is_effective, statements_of}
 use Rattle.sdb_model.specs.Told.{AreRead}
 use Rattle.sdb_model.specs.Calls.{Made, calls_of, decision_shown, end_of}
@@ -94,8 +94,8 @@ abbrev pub StartsWith : Said → List Said → Type 0
 StartsWith s [] = ⊥
 StartsWith s (x ∷ xs) = s ≡ x
 
--- A transaction has a row at a key when it takes a statement: an effective statement of it, this one or one before, was shown a
--- row there, in some way, and the effective statements from that one on made this of it.
+-- A transaction has a row at a key when it takes a statement: a statement of it, this one or one before, whose read has finished, was shown
+-- a row there, in some way, and the effective statements from that one on made this of it.
 pub record HasRow (catalog : List Table) (was : Said → Key → Option (List Pair) → Type 0) (events : List Event) (id : TxId) (s : Said) (key : Key) (row : Option (List Pair)) : Type 0 where
   pub first : Said
   pub earlier : List Said
@@ -103,10 +103,11 @@ pub record HasRow (catalog : List Table) (was : Said → Key → Option (List Pa
   pub later : List Said
   pub sts : List Statement
   pub base : Option (List Pair)
-  pub parts : filter is_effective (statements_of events id) ≡ earlier ++ changing ++ s ∷ later
+  pub parts : statements_of events id ≡ earlier ++ changing ++ s ∷ later
   pub begins : StartsWith first (changing ++ s ∷ [])
+  pub finished : has_finished first ≡ true
   pub shown : was first key base
-  pub read : AreRead changing sts
+  pub read : AreRead (filter is_effective changing) sts
   pub made : row ≡ fold (λ r st. row_left catalog st key r) base sts
 
 ---- what answers show

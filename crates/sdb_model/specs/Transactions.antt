@@ -164,10 +164,16 @@ is_committed_answer a = false
 abbrev pub is_effective : Said → Bool
 is_effective s = not (option_map_or changes_nothing s.answer false)
 
--- The body of a transaction, of what its client said from its BEGIN on: the statements between that and its end, but for those that
--- changed nothing.
+-- A transaction's statements between its BEGIN and its end, of what its client said from the BEGIN on.
+abbrev pub inside_in : List Said → List Said
+inside_in ss = take_while (λ s. not (ends s)) (rest_of ss)
+
+-- its body: these, but for those that changed nothing
 abbrev pub body_in : List Said → List Said
-body_in ss = filter is_effective (take_while (λ s. not (ends s)) (rest_of ss))
+body_in ss = filter is_effective (inside_in ss)
+
+abbrev pub statements_inside : List Event → TxId → List Said
+statements_inside events id = inside_in (said_since events id)
 
 abbrev pub body : List Event → TxId → List Said
 body events id = body_in (said_since events id)

@@ -1,6 +1,6 @@
 -- Lemmas on walks over calls and statements.
 use Rattle.std.proofs.Common.{◌≡◌, ℕ, zero, suc, Bool, true, false, List, [], ◌∷◌, ◌++◌, length, take, map, Option, Some, None, refl, sym, ap, ◌∙◌}
-use Rattle.std.specs.Prelude.{filter, find, is_some, if◌then◌else◌, ◌&&◌}
+use Rattle.std.specs.Prelude.{filter, find, is_some, if◌then◌else◌}
 use Rattle.std.specs.Option.{option_and_then}
 use Rattle.std.specs.List.{cons_option, filter_map, flat_map}
 use Rattle.std.proofs.lemmas.List.{append_assoc, append-nil}
@@ -12,8 +12,8 @@ use Rattle.sdb_record.specs.Coordinator.{coordinator_key_of}
 use Rattle.sdb_model.specs.declared.event.Event.{Event}
 use Rattle.sdb_model.specs.Calls as calls
 use Rattle.sdb_model.specs.Calls.{calls_of, decision_learned, put_by}
-use Rattle.sdb_model.specs.Noted.{Note, note_of, notes_in, reads_rows, rolls, is_from_rows}
-use Rattle.sdb_model.specs.Transactions.{Said, is_effective}
+use Rattle.sdb_model.specs.Noted.{Note, note_of, notes_in, reads_rows, rolls, has_finished}
+use Rattle.sdb_model.specs.Transactions.{Said}
 use Rattle.sdb_order.specs.declared.said.Said as plain
 use Rattle.sdb_order.specs.Commits.{all_said, said_of}
 use Rattle.sdb_plain.specs.declared.made.Made.{Made}
@@ -76,22 +76,20 @@ notes_are all (m ∷ ms) = by (reads_rows m) (notes_are all ms)
     by true more = ap (λ xs. cons_option (note_of all m.request m.reply) [] ++ xs) more ∙ with_option (note_of all m.request m.reply) (filter_map (λ m. note_of all m.request m.reply) (filter reads_rows ms))
     by false more = more
 
-said_notes_are : (events : List Event) (client : ℕ) (ss : List Said) → flat_map (said_notes events client) ss ≡ flat_map (λ s. notes_in (calls_of events client s)) (filter is_from_rows (filter is_effective ss))
+said_notes_are : (events : List Event) (client : ℕ) (ss : List Said) → flat_map (said_notes events client) ss ≡ flat_map (λ s. notes_in (calls_of events client s)) (filter has_finished ss)
 said_notes_are events client [] = refl
-said_notes_are events client (s ∷ ss) = by (is_effective s) (is_from_rows s) refl (said_notes_are events client ss)
+said_notes_are events client (s ∷ ss) = by (has_finished s) (said_notes_are events client ss)
   where
     all : List Said → List Note
     all = flat_map (λ s. notes_in (calls_of events client s))
 
-    by : (b c : Bool) → is_from_rows s ≡ c → flat_map (said_notes events client) ss ≡ all (filter is_from_rows (filter is_effective ss))
-        → (if b && c then notes_in (calls_of events client s) else []) ++ flat_map (said_notes events client) ss ≡ all (filter is_from_rows (if b then s ∷ filter is_effective ss else filter is_effective ss))
-    by false c e more = more
-    by true true e more = ap (λ xs. notes_in (calls_of events client s) ++ xs) more ∙ sym (ap (λ c. all (if c then s ∷ filter is_from_rows (filter is_effective ss) else filter is_from_rows (filter is_effective ss))) e)
-    by true false e more = more ∙ sym (ap (λ c. all (if c then s ∷ filter is_from_rows (filter is_effective ss) else filter is_from_rows (filter is_effective ss))) e)
+    by : (b : Bool) → flat_map (said_notes events client) ss ≡ all (filter has_finished ss) → (if b then notes_in (calls_of events client s) else []) ++ flat_map (said_notes events client) ss ≡ all (if b then s ∷ filter has_finished ss else filter has_finished ss)
+    by true more = ap (λ xs. notes_in (calls_of events client s) ++ xs) more
+    by false more = more
 
 composed : (events : List Event) (client : ℕ) (ss : List plain.Said) → flat_map (λ s. said_notes events client (said_of s)) ss ≡ flat_map (said_notes events client) (all_said ss)
 composed events client [] = refl
 composed events client (s ∷ ss) = ap (λ xs. said_notes events client (said_of s) ++ xs) (composed events client ss)
 
-pub all_noted : (events : List Event) (client : ℕ) (ss : List plain.Said) → flat_map (λ s. said_notes events client (said_of s)) ss ≡ flat_map (λ s. notes_in (calls_of events client s)) (filter is_from_rows (filter is_effective (all_said ss)))
+pub all_noted : (events : List Event) (client : ℕ) (ss : List plain.Said) → flat_map (λ s. said_notes events client (said_of s)) ss ≡ flat_map (λ s. notes_in (calls_of events client s)) (filter has_finished (all_said ss))
 all_noted events client ss = composed events client ss ∙ said_notes_are events client (all_said ss)

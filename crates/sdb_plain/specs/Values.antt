@@ -10,8 +10,8 @@ use Rattle.sdb_record.specs.declared.coordinator.Decided.{Decided}
 use Rattle.sdb_model.specs.Calls as calls
 use Rattle.sdb_model.specs.Calls.{calls_of, key_asked, decision_said, standing_said}
 use Rattle.sdb_model.specs.Noted as noted
-use Rattle.sdb_model.specs.Noted.{notes_in, reads_rows, is_from_rows}
-use Rattle.sdb_model.specs.Transactions.{Said, ends, from_begin, is_effective, rest_of}
+use Rattle.sdb_model.specs.Noted.{has_finished, notes_in, reads_rows}
+use Rattle.sdb_model.specs.Transactions.{Said, ends, from_begin, rest_of}
 use Rattle.sdb_record.specs.Coordinator.{decision_in}
 use Rattle.std.specs.Result.{result_ok}
 use Rattle.sdb_said.specs.declared.plan.Note.{Note}
@@ -87,6 +87,6 @@ someone_does w past = list_any (λ e. option_map_or (is_client_doing w past) (ta
 abbrev pub notes_by : List calls.Made → calls.Made → List noted.Note
 notes_by ms m = if reads_rows m then cons_option (noted.note_of ms m.request m.reply) [] else []
 
--- what one statement of a transaction noted, where it is of its body
+-- what one statement of a transaction noted, where its read has finished
 abbrev pub said_notes : List Event → ℕ → Said → List noted.Note
-said_notes events client s = if is_effective s && is_from_rows s then notes_in (calls_of events client s) else []
+said_notes events client s = if has_finished s then notes_in (calls_of events client s) else []

@@ -29,5 +29,5 @@ pub use request::{asks_row, is_read, is_removal, key_asked, put_by, reads_rows};
 pub use statement::exec;
 pub use tables::PlainTables;
 pub use transaction::{
-    client_of, commit_of, id_of, inside_of, is_effective, is_from_rows, ordinal_of, rest_of,
+    client_of, commit_of, has_finished, id_of, inside_of, is_effective, ordinal_of, rest_of,
 };

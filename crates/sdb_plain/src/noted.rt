@@ -12,7 +12,7 @@ ghost use Rattle.sdb_plain.specs.Values.{all_made, made_of, all_notes, notes_by,
 use crate::made::{Made, calls_of};
 use crate::meaning::meaning_of;
 use crate::request::reads_rows;
-use crate::transaction::{client_of, inside_of, is_effective, is_from_rows, ordinal_of};
+use crate::transaction::{client_of, has_finished, inside_of, ordinal_of};
 use sdb_model::Event;
 use sdb_order::{Said, statements_said};
 use sdb_record::{Read, Reads, Scan};
@@ -129,7 +129,7 @@ fn add_said(
 ) -> Result<(), NoMemory>
     ensures { OnOk result (all_notes notes.new ≡ all_notes notes.old ++ said_notes events.now client (said_of said.now)) }
 {
-    if !is_effective(said) || !is_from_rows(said) {
+    if !has_finished(said) {
         return Ok(());
     }
     let calls = calls_of(alloc, events, client, said)?;
@@ -151,7 +151,7 @@ fn add_all_said(
     Ok(())
 }
 
-/// What the statements of a transaction noted, in order: what the records mean that those read that were answered from rows.
+/// What the statements of a transaction noted, in order: what the records mean that those read whose reads have finished.
 #[tactic(auto, using(crate::proofs::Walks::all_noted))]
 pub fn noted_in(alloc: Global, events: &[Event], id: TxId) -> Result<Seq<Note>, NoMemory>
     ensures { IfOk result (λ notes. all_notes notes ≡ noted_in_lem events.now id) }

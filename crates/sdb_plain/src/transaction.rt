@@ -1,5 +1,5 @@
 //! Transactions among what a client said.
-ghost use Rattle.sdb_model.specs.Noted.{is_from_rows as is_from_rows_lem};
+ghost use Rattle.sdb_model.specs.Noted.{has_finished as has_finished_lem};
 ghost use Rattle.std.specs.Prelude.{◌≡◌, ◌≤◌, IfOk, not, length, take_while};
 ghost use Rattle.std.specs.Option.{option_map};
 ghost use Rattle.sdb_model.specs.Transactions.{from_begin as from_begin_lem, client_of as client_of_lem, ordinal_of as ordinal_of_lem, id_of as id_of_lem, ends as ends_lem, rest_of as rest_of_lem, is_effective as is_effective_lem, changes_nothing as changes_nothing_lem};
@@ -109,12 +109,12 @@ pub fn is_effective(said: &Said) -> bool
     }
 }
 
-/// Whether a statement was answered from rows.
-pub fn is_from_rows(said: &Said) -> bool
-    ensures { result ≡ is_from_rows_lem (said_of said.now) }
+/// Whether a statement's read has finished: it was answered from rows, or refused.
+pub fn has_finished(said: &Said) -> bool
+    ensures { result ≡ has_finished_lem (said_of said.now) }
 {
     matches!(
         &said.answer,
-        Some(Answer::Rows(_) | Answer::Count(_) | Answer::Duplicate(_))
+        Some(Answer::Rows(_) | Answer::Count(_) | Answer::Duplicate(_) | Answer::Refused(_))
     )
 }
