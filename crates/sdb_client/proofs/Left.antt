@@ -1,9 +1,10 @@
 -- What a call leaves of its client.
-use Rattle.std.proofs.Common.{◌≡◌, ◌≢◌, ℤ, true, false, cond, Option, Some, None, refl, sym, ap, subst, ◌∙◌, ◌⊎◌, inl, inr, IsSome}
+use Rattle.std.proofs.Common.{◌≡◌, ◌≢◌, ℤ, Bool, true, false, cond, Option, Some, None, refl, sym, ap, subst, ◌∙◌, ◌⊎◌, inl, inr, IsSome}
 use Rattle.sdb_types.specs.declared.record.Reply.{Reply}
 use Rattle.sdb_record.specs.declared.access.Access.{Access}
 use Rattle.sdb_model.specs.declared.answer.Answer.{Answer}
 use Rattle.sdb_model.specs.declared.answer.Answer.TheVariants as answer
+use Rattle.sdb_model.specs.Noted.{read_finished}
 use Rattle.sdb_model.specs.Transactions.{changes_nothing}
 use Rattle.sdb_exec.specs.declared.plan.PlanStep.{PlanStep}
 use Rattle.sdb_exec.specs.declared.plan.PlanStep.TheVariants.{Finished, Read as Wants}
@@ -33,7 +34,12 @@ use Rattle.sdb_read.specs.Read.{read_pending_at}
 ---- reads
 
 pub given_idle : (was t : TxnAt) (s : PlanStep) → was.doing ≡ doing.Idle → t.doing ≡ doing.Idle → (given_left was t s).doing ≡ doing.Idle
-given_idle was t (Finished a ks) h k = elim (changes_nothing (given_answer t (Finished a ks))) as (λ b. (cond b was (written t ks)).doing ≡ doing.Idle) [ true ↦ h | false ↦ k ]
+given_idle was t (Finished a ks) h k = by (changes_nothing (given_answer t (Finished a ks))) (read_finished (given_answer t (Finished a ks)))
+  where
+    by : (b f : Bool) → (cond b (cond f t was) (written t ks)).doing ≡ doing.Idle
+    by true true = k
+    by true false = h
+    by false f = k
 given_idle was t (Wants a) h k = h
 
 call_stage : (t u : TxnAt) (p : Planned) (a : Access) (x : ReadAt) (f : ReadStage) (s : ReadStep) → read_result f ≡ s → IsReadOf (doing.Read a x) p → (read_result f ≡ step.More → IsSome (read_pending_at x.request f)) → StageTold t p a x f s next.Call u → IsUnder u.doing (Some p)

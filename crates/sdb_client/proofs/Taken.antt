@@ -1,5 +1,5 @@
 -- What the taking of a statement rests on.
-use Rattle.std.proofs.Common.{◌≡◌, ◌≢◌, ℕ, true, List, Option, Some, None, Err, refl, sym, ap, subst, ◌∙◌, ◌⊎◌, inl, inr}
+use Rattle.std.proofs.Common.{◌≡◌, ◌≢◌, ℕ, Bool, true, false, cond, List, Option, Some, None, Err, refl, sym, ap, subst, ◌∙◌, ◌⊎◌, inl, inr}
 use Rattle.std.specs.Prelude.{IfSome}
 use Rattle.sdb_schema.specs.declared.table.Table.{Table}
 use Rattle.sdb_schema.specs.Catalog.{is_catalog}
@@ -9,13 +9,14 @@ use Rattle.sdb_model.specs.declared.answer.Refusal.{Refusal}
 use Rattle.sdb_model.specs.declared.statement.Statement.{Statement}
 use Rattle.sdb_model.specs.Refused.{refusal_by, refusal_on}
 use Rattle.sdb_model.specs.Sql.{Refuses}
+use Rattle.sdb_model.specs.Noted.{read_finished}
 use Rattle.sdb_model.specs.Transactions.{changes_nothing}
 use Rattle.sdb_exec.specs.declared.plan.PlanStep.{PlanStep}
 use Rattle.sdb_exec.specs.declared.plan.PlanStep.TheVariants.{Finished, Read as Wants}
 use Rattle.sdb_exec.specs.Plans.{Planned, has_all_literals}
 use Rattle.sdb_exec.proofs.Places.{named_is_table}
 use Rattle.sdb_txn.specs.Txn.{TxnAt}
-use Rattle.sdb_client.specs.Client.{ClientAt, Taking, TextTold, given_answer, given_left}
+use Rattle.sdb_client.specs.Client.{ClientAt, Taking, TextTold, given_answer, given_left, written}
 use Rattle.sdb_client.specs.Inside.{IsFine, IsPlanOf}
 
 ---- answers
@@ -38,7 +39,11 @@ memory_or answer.Vacuuming = inr (λ e. cc)
 memory_or answer.OpenTransactions = inr (λ e. cc)
 
 left_same : (t : TxnAt) (s : PlanStep) → changes_nothing (given_answer t s) ≡ true → given_left t t s ≡ t
-left_same t (Finished a ks) h = rw h refl
+left_same t (Finished a ks) h = ap (λ b. cond b (cond (read_finished (given_answer t (Finished a ks))) t t) (written t ks)) h ∙ both (read_finished (given_answer t (Finished a ks)))
+  where
+    both : (f : Bool) → cond f t t ≡ t
+    both true = refl
+    both false = refl
 left_same t (Wants a) h = refl
 
 -- a statement that is answered that it changed nothing has written nothing

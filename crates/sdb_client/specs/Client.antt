@@ -16,6 +16,7 @@ use Rattle.sdb_model.specs.declared.statement.Statement.{Statement}
 use Rattle.sdb_model.specs.declared.statement.Statement.TheVariants as statement
 use Rattle.sdb_model.specs.Causes.{refused}
 use Rattle.sdb_model.specs.Exec.{named_table}
+use Rattle.sdb_model.specs.Noted.{read_finished}
 use Rattle.sdb_model.specs.Refused.{refusal_of}
 use Rattle.sdb_model.specs.Sql.{Reads, Refuses, reads_commit}
 use Rattle.sdb_model.specs.Transactions.{changes_nothing, id_of}
@@ -101,10 +102,13 @@ given_answer t (Wants a) = answer.NoMemory
 abbrev pub written : TxnAt → List Keyed → TxnAt
 written t ks = record t { seen = with_written t.seen ks }
 
--- The transaction that a statement leaves, which it read as `t`: with its changes written, or, where it is answered that it changed
--- nothing, as it was before it.
+-- The transaction that a statement leaves, which it read as `t` and began as `was`: with its changes written; where its read has
+-- finished and it is refused, as it read it; or as it was, and what it read is forgotten.
+abbrev pub left_by_answer : (was t : TxnAt) → Answer → List Keyed → TxnAt
+left_by_answer was t z ks = if changes_nothing z then (if read_finished z then t else was) else written t ks
+
 abbrev pub given_left : (was t : TxnAt) → PlanStep → TxnAt
-given_left was t (Finished a ks) = if changes_nothing (given_answer t (Finished a ks)) then was else written t ks
+given_left was t (Finished a ks) = left_by_answer was t (given_answer t (Finished a ks)) ks
 given_left was t (Wants a) = was
 
 -- a statement's plan on the rows that its transaction sees

@@ -1,6 +1,7 @@
 //! Answers that a client gives of its own.
 ghost use Rattle.std.specs.Prelude.{◌≡◌, true, false};
 ghost use Rattle.sdb_model.specs.Causes.{refused as refused_lem};
+ghost use Rattle.sdb_model.specs.Noted.{read_finished as read_finished_lem};
 ghost use Rattle.sdb_model.specs.Transactions.{changes_nothing as changes_nothing_lem};
 ghost use Rattle.sdb_client.specs.Client.{answer_of as answer_of_lem, next_of as next_of_lem};
 
@@ -29,6 +30,16 @@ pub fn changes_nothing(answer: &Answer) -> bool
         | Answer::NoMemory => true,
         _ => false,
     }
+}
+
+/// Whether the read of a statement that is answered so has finished.
+pub fn read_finished(answer: &Answer) -> bool
+    ensures { result ≡ read_finished_lem answer.now }
+{
+    matches!(
+        answer,
+        Answer::Rows(_) | Answer::Count(_) | Answer::Duplicate(_) | Answer::Refused(_)
+    )
 }
 
 /// What a call of a COMMIT leads to.

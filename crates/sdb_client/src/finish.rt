@@ -10,7 +10,7 @@ ghost use Rattle.sdb_txn.specs.declared.txn.Doing.TheVariants as doing;
 ghost use Rattle.sdb_client.specs.Client.{given_answer, given_left};
 ghost use Rattle.sdb_client.specs.Inside.{IsFine, IsKeyRead};
 
-use crate::answers::{changes_nothing, refused};
+use crate::answers::{changes_nothing, read_finished, refused};
 use sdb_exec::{Plan, PlanStep};
 use sdb_model::Answer;
 use sdb_record::{Changes, Images};
@@ -54,7 +54,8 @@ pub fn finish(txn: &mut Txn, plan: &mut Plan, rows: Images) -> Answer
     }
 }
 
-/// Answers a statement on rows that it read after a mark. Where it is answered that it changed nothing, what it read is forgotten.
+/// Answers a statement on rows that it read after a mark. Where it is refused, what it read stays noted; where it is answered otherwise that
+/// it changed nothing, that is forgotten.
 pub fn finish_read(txn: &mut Txn, plan: &mut Plan, rows: Images, mark: Mark) -> Answer
     requires idle { txn.old.doing ≡ doing.Idle }
     requires fine { IsFine plan.old }
@@ -67,7 +68,7 @@ pub fn finish_read(txn: &mut Txn, plan: &mut Plan, rows: Images, mark: Mark) -> 
     ensures memory { result ≡ Answer.NoMemory → txn.new ≡ record txn.old { seen = forgotten mark txn.old.seen } }
 {
     let answer = finish(txn, plan, rows);
-    if changes_nothing(&answer) {
+    if changes_nothing(&answer) && !read_finished(&answer) {
         txn.forget(mark);
     }
     answer
