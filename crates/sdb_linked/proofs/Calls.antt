@@ -1,5 +1,5 @@
 -- Each call of a client, over what ties the events to the clients.
-use Rattle.std.proofs.Common.{◌≡◌, ◌≤◌, ℕ, ℤ, Bool, true, false, List, [], ◌∷◌, ◌++◌, length, Option, Some, None, IfSome, refl, sym, ap, ◌∙◌, subst}
+use Rattle.std.proofs.Common.{◌≡◌, ◌≤◌, inl, ℕ, ℤ, Bool, true, false, List, [], ◌∷◌, ◌++◌, length, Option, Some, None, IfSome, refl, sym, ap, ◌∙◌, subst}
 use Rattle.std.specs.Prelude.{◌&&◌, ◌||◌}
 use Rattle.sdb_types.specs.declared.record.Record.{Record}
 use Rattle.sdb_types.specs.declared.record.Reply.{Reply}
@@ -36,7 +36,8 @@ use Rattle.sdb_turns.proofs.Calls.{read_turn, read_ends_turn, vacuum_turn}
 use Rattle.sdb_turns.proofs.Commit.{commit_turn, own_kept}
 use Rattle.sdb_turns.proofs.Quiet.{gives_up, notes, sweep_ends, sweep_goes, writes}
 use Rattle.sdb_story.specs.Body.{AnswersOn, BodyOk, IsCovered}
-use Rattle.sdb_story.specs.Calls.{ReadMade, calls_since}
+use Rattle.sdb_model.specs.Noted.{read_finished}
+use Rattle.sdb_story.specs.Calls.{NotesRead, ReadMade, calls_since}
 use Rattle.sdb_story.specs.Filed.{number}
 use Rattle.sdb_story.specs.Left.{Execution}
 use Rattle.sdb_story.specs.Story.{Closed, MayCome, Opened}
@@ -48,7 +49,7 @@ use Rattle.sdb_story.proofs.Turns.{client_stands}
 use Rattle.sdb_linked.specs.Going.{ClientGoes, EndedOk, HandOk, InsideOk, IsClosed, IsCommitting, IsGoing, IsInner, IsMild, IsRunning, IsWaiting, OpenedOk, RanOk}
 use Rattle.sdb_linked.specs.Noted.{IsMadeSince}
 use Rattle.sdb_linked.proofs.Goings.{turned}
-use Rattle.sdb_linked.proofs.Mild.{effective_by, mild_begins, nothing_mild, rows_mild, uncommitted}
+use Rattle.sdb_linked.proofs.Mild.{mild_begins, nothing_mild, rows_finish, rows_mild, uncommitted}
 use Rattle.sdb_linked.proofs.Noting.{commit_made, made_reads, noted_elsewhere, noted_gap, noted_over, notes_read, since_read}
 use Rattle.sdb_linked.proofs.Steps as one
 use Rattle.sdb_linked.proofs.Small.{committing_as, running_as, twice, waiting_as}
@@ -281,9 +282,32 @@ module _ (catalog : List Table) (fit : Tables → Bool) (events : List Event) (s
         stands_read : IsMild b → StandsAt g.plan (answered_q ∷ g.past) (with_client sys c (Reading i seen a next_read)) c (Reading i seen a next_read)
         stands_read m = record { ok = system_read m; at = here (Reading i seen a next_read) }
 
-        -- as one that changes nothing
-        pub going_fails : changes_nothing b ≡ true → IsGoing catalog fit (events ++ call_event y (Some b) ∷ []) (with_client sys c (Open i seen)) (at doing c None)
-        going_fails idle = turned catalog fit events sys (with_client sys c (Open i seen)) doing g c None answered_q (record {
+        taken_before : w.0.taken ≤ length events
+        taken_before = subst (λ o. IfSome o (λ (w : Said). w.taken ≤ length events)) w.1 (g.noted c).taken
+
+        made_before : ReadMade (calls_since events c w.0.taken) a s
+        made_before = subst (λ o. IsMadeSince events c o (Reading i seen a s)) w.1 made_then
+
+        made_now : ReadMade (calls_since (events ++ answered_q.event ∷ []) c w.0.taken) a next_read
+        made_now = since_read kind events c w.0.taken a s store request how reply now (Some b) kinds taken_before made_before asked.asked asked.can
+
+        inside_then : InsideOk catalog fit (answered_q ∷ g.past) (opened_as x.rest held_then_read.0).2 (ran n)
+        inside_then = (open_ran answered_q (read_plain s reply) (opened_as x.rest held_then_read.0).0 (opened_as x.rest held_then_read.0).1 (opened_as x.rest held_then_read.0).2 (opened_as x.rest held_then_read.0).3).inside
+
+        -- with what the read was done with
+        module _ (m : IsMild b) (images : List Record) (done : next_read ≡ Done images) (may : MayNote seen a images) where
+          system_noted : SystemOk g.plan (answered_q ∷ g.past) (with_client sys c (Open i (with_read seen a images)))
+          system_noted = subst (SystemOk g.plan (answered_q ∷ g.past)) (twice sys c (Reading i seen a next_read) (Open i (with_read seen a images))) (notes g.plan (answered_q ∷ g.past) (with_client sys c (Reading i seen a next_read)) c i seen a images (record { ok = system_read m; at = here (Reading i seen a next_read) ∙ ap (Reading i seen a) done }) may)
+
+          body_noted : BodyOk catalog fit (ran n).body (ran n).answers (with_read seen a images)
+          body_noted = body_read (answered_q ∷ g.past) catalog fit (ran n).body (ran n).answers seen a images (subst (SeenOk (answered_q ∷ g.past)) held_then_read.2 inside_then.seen) (subst (BodyOk catalog fit (ran n).body (ran n).answers) held_then_read.2 inside_then.body)
+
+          notes_done : read_finished b ≡ true → NotesRead (events ++ answered_q.event ∷ []) c s_now a images
+          notes_done finishes = notes_read events c answered_q.event s_now a images (refl, refl) finishes (client_at (Reading i seen a s) at_read).2 (subst (ReadMade (calls_since (events ++ answered_q.event ∷ []) c w.0.taken) a) done made_now)
+
+        -- as one that changes nothing, whose read has not finished
+        pub going_fails : changes_nothing b ≡ true → read_finished b ≡ false → IsGoing catalog fit (events ++ call_event y (Some b) ∷ []) (with_client sys c (Open i seen)) (at doing c None)
+        going_fails idle unfinished = turned catalog fit events sys (with_client sys c (Open i seen)) doing g c None answered_q (record {
           plan = g.plan;
           x = with_answered x s_now;
           ran = at ran n (ran n);
@@ -293,7 +317,7 @@ module _ (catalog : List Table) (fit : Tables → Bool) (events : List Event) (s
           others = client_stands sys c (Open i seen);
           story = one.inside_story catalog fit events sys doing g c answered_q plain s_now b refl m w.3.commit is_said_read held_then_read.0 i seen (Reading i seen a s) at_read (λ u h. h) seen;
           own = one.idle_own catalog fit events sys doing g c answered_q plain s_now b refl m w.3.commit is_said_read held_then_read.0 i seen (Reading i seen a s) at_read (λ u h. h) idle held_then_read.2;
-          noted = one.idle_noted catalog fit events sys doing g c answered_q plain s_now b refl m w.3.commit is_said_read held_then_read.0 i seen (Reading i seen a s) at_read (λ u h. h) idle;
+          noted = one.idle_noted catalog fit events sys doing g c answered_q plain s_now b refl m w.3.commit is_said_read held_then_read.0 i seen (Reading i seen a s) at_read (λ u h. h) (inl unfinished);
         })
           where
             m : IsMild b
@@ -301,6 +325,31 @@ module _ (catalog : List Table) (fit : Tables → Bool) (events : List Event) (s
 
             plain : IsPlainRole answered_q.role
             plain = read_plain s reply
+
+        -- as one that changes nothing, whose read was done
+        pub going_keeps : (images : List Record) → changes_nothing b ≡ true → read_finished b ≡ true → next_read ≡ Done images → MayNote seen a images → IsGoing catalog fit (events ++ call_event y (Some b) ∷ []) (with_client sys c (Open i (with_read seen a images))) (at doing c None)
+        going_keeps images idle finishes done may = turned catalog fit events sys (with_client sys c (Open i (with_read seen a images))) doing g c None answered_q (record {
+          plan = g.plan;
+          x = with_answered x s_now;
+          ran = at ran n run;
+          same = same;
+          system = system_noted m images done may;
+          by = refl;
+          others = client_stands sys c (Open i (with_read seen a images));
+          story = one.inside_story catalog fit events sys doing g c answered_q plain s_now b refl m w.3.commit is_said_read held_then_read.0 i seen (Reading i seen a s) at_read (λ u h. h) (with_read seen a images);
+          own = one.kept_own catalog fit events sys doing g c answered_q plain s_now b refl m w.3.commit is_said_read held_then_read.0 i seen (Reading i seen a s) at_read (λ u h. h) (with_read seen a images) idle
+              (subst (ClientOk g.plan (answered_q ∷ g.past) c) (here (Open i (with_read seen a images))) ((system_noted m images done may).each c)).1 (body_noted m images done may) read_untaken;
+          noted = one.done_noted catalog fit events sys doing g c answered_q plain s_now b refl m w.3.commit is_said_read held_then_read.0 i seen (Reading i seen a s) at_read (λ u h. h) run a images held_then_read.2 (notes_done m images done may finishes) refl;
+        })
+          where
+            m : IsMild b
+            m = nothing_mild b idle
+
+            plain : IsPlainRole answered_q.role
+            plain = read_plain s reply
+
+            run : Execution
+            run = record { seen = with_read seen a images; now = (ran n).now; body = (ran n).body; answers = (ran n).answers }
 
         -- from the rows that the read was done with
         pub going_tells : (images : List Record) (changes : List Keyed) → is_answered_from_rows b ≡ true → next_read ≡ Done images → MayNote seen a images → IsCovered (with_read seen a images) a → AnswersOn catalog fit (with_read seen a images) st a b changes → AreChanges (with_read seen a images).notes changes
@@ -315,21 +364,15 @@ module _ (catalog : List Table) (fit : Tables → Bool) (events : List Event) (s
           others = client_stands sys c (Open i written);
           story = one.inside_story catalog fit events sys doing g c answered_q plain s_now b refl m.0 w.3.commit is_said_read held_then_read.0 i seen (Reading i seen a s) at_read (λ u h. h) written;
           own = one.more_own catalog fit events sys doing g c answered_q plain s_now b refl m.0 w.3.commit is_said_read held_then_read.0 i seen (Reading i seen a s) at_read (λ u h. h) st read a changes
-              (subst (ClientOk g.plan (answered_q ∷ g.past) c) (here (Open i read)) (system_noted.each c)).1
+              (subst (ClientOk g.plan (answered_q ∷ g.past) c) (here (Open i read)) ((system_noted m.0 images done may).each c)).1
               (subst (ClientOk g.plan (answered_q ∷ g.past) c) (here (Open i written)) (system_written.each c)).1
-              (body_read (answered_q ∷ g.past) catalog fit (ran n).body (ran n).answers seen a images (subst (SeenOk (answered_q ∷ g.past)) held_then_read.2 inside_now.seen) (subst (BodyOk catalog fit (ran n).body (ran n).answers) held_then_read.2 inside_now.body))
+              (body_noted m.0 images done may)
               covered answers w.2 m.1 read_untaken;
           noted = one.read_noted catalog fit events sys doing g c answered_q plain s_now b refl m.0 w.3.commit is_said_read held_then_read.0 i seen (Reading i seen a s) at_read (λ u h. h)
               (record { seen = written; now = (ran n).now; body = (ran n).body ++ st ∷ []; answers = (ran n).answers ++ b ∷ [] }) a images changes held_then_read.2
-              (notes_read events c answered_q.event s_now a images (refl, refl) (effective_by s_now b false refl m.1) rows (client_at (Reading i seen a s) at_read).2 (subst (ReadMade (calls_since (events ++ answered_q.event ∷ []) c w.0.taken) a) done made_now)) refl;
+              (notes_done m.0 images done may (rows_finish b rows)) refl;
         })
           where
-            taken_before : w.0.taken ≤ length events
-            taken_before = subst (λ o. IfSome o (λ (w : Said). w.taken ≤ length events)) w.1 (g.noted c).taken
-
-            made_now : ReadMade (calls_since (events ++ answered_q.event ∷ []) c w.0.taken) a next_read
-            made_now = since_read kind events c w.0.taken a s store request how reply now (Some b) kinds taken_before (subst (λ o. IsMadeSince events c o (Reading i seen a s)) w.1 made_then) asked.asked asked.can
-
             m : IsMild b × (changes_nothing b ≡ false)
             m = rows_mild b rows
 
@@ -345,14 +388,8 @@ module _ (catalog : List Table) (fit : Tables → Bool) (events : List Event) (s
             next : SystemAt
             next = with_client sys c (Open i written)
 
-            inside_now : InsideOk catalog fit (answered_q ∷ g.past) (opened_as x.rest held_then_read.0).2 (ran n)
-            inside_now = (open_ran answered_q plain (opened_as x.rest held_then_read.0).0 (opened_as x.rest held_then_read.0).1 (opened_as x.rest held_then_read.0).2 (opened_as x.rest held_then_read.0).3).inside
-
-            system_noted : SystemOk g.plan (answered_q ∷ g.past) (with_client sys c (Open i read))
-            system_noted = subst (SystemOk g.plan (answered_q ∷ g.past)) (twice sys c (Reading i seen a next_read) (Open i read)) (notes g.plan (answered_q ∷ g.past) (with_client sys c (Reading i seen a next_read)) c i seen a images (record { ok = system_read m.0; at = here (Reading i seen a next_read) ∙ ap (Reading i seen a) done }) may)
-
             system_written : SystemOk g.plan (answered_q ∷ g.past) next
-            system_written = subst (SystemOk g.plan (answered_q ∷ g.past)) (twice sys c (Open i read) (Open i written)) (writes g.plan (answered_q ∷ g.past) (with_client sys c (Open i read)) c i read changes (record { ok = system_noted; at = here (Open i read) }) fine)
+            system_written = subst (SystemOk g.plan (answered_q ∷ g.past)) (twice sys c (Open i read) (Open i written)) (writes g.plan (answered_q ∷ g.past) (with_client sys c (Open i read)) c i read changes (record { ok = system_noted m.0 images done may; at = here (Open i read) }) fine)
 
         -- as one that ends the transaction: a key that was read differs
         pub going_differs : is_conflict (Some b) ≡ true → IsGoing catalog fit (events ++ call_event y (Some b) ∷ []) (with_client sys c Resting) (at doing c None)

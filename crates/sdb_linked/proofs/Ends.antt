@@ -17,7 +17,7 @@ use Rattle.sdb_model.specs.Events.{IsTrace, Shelf}
 use Rattle.sdb_model.specs.Exec.{Tables}
 use Rattle.sdb_model.specs.Follows.{Follows}
 use Rattle.sdb_model.specs.Told.{IsRun}
-use Rattle.sdb_model.specs.Transactions.{IsOrder, Recorded, Said, begins, body, client_of, is_effective, ordinal_of, said}
+use Rattle.sdb_model.specs.Transactions.{IsOrder, Recorded, Said, begins, client_of, is_effective, ordinal_of, said, statements_inside}
 use Rattle.sdb_model.specs.Sql.{reads_begin, reads_commit}
 use Rattle.sdb_laws.specs.Explained.{IsRunOf, events_of, newest_first}
 use Rattle.sdb_laws.specs.Faithful.{AreNoted}
@@ -41,7 +41,7 @@ use Rattle.sdb_story.proofs.Bodily.{noted_whole}
 use Rattle.sdb_story.proofs.Faith.{beyond}
 use Rattle.sdb_story.proofs.Files.{taken_counts}
 use Rattle.sdb_story.proofs.Notes.{are_noted}
-use Rattle.sdb_story.proofs.Places.{finished_body, story_kept, story_same}
+use Rattle.sdb_story.proofs.Places.{finished_inside, story_kept, story_same}
 use Rattle.sdb_story.proofs.Run.{linked_run}
 use Rattle.sdb_story.proofs.Turns.{body_is_said}
 use Rattle.sdb_linked.specs.Going.{IsGoing, OpenedOk, RanOk}
@@ -73,7 +73,7 @@ last_at (g ∷ fs) f = last_at fs f
 -- What is so of a transaction, with its body as the texts have it.
 pub record Ran (catalog : List Table) (fit : Tables → Bool) (plan : ℕ → Plan) (events : List Event) (past : List Played) (t : ℕ) (r : Execution) : Type 0 where
   pub inside : List Said
-  pub body : body events (id t) ≡ filter is_effective inside
+  pub body : statements_inside events (id t) ≡ inside
   pub ok : RanOk catalog fit plan past t inside r
   pub noted : InsideNoted events (client_of (id t)) inside r.seen
 
@@ -98,7 +98,7 @@ module _ (catalog : List Table) (fit : Tables → Bool) (events : List Event) (s
       in_hand : (gap : List Said) (b : Said) (inside : List Said) → x.rest ≡ Opened gap b inside → k ≡ length x.whole → Ran catalog fit g.plan events g.past (number c k) (g.ran c k)
       in_hand gap b inside e at = record {
         inside = inside;
-        body = finished_body events (id (number c k)) (x.whole ++ f ∷ []) [] (length x.whole) f (told (x.whole ++ f ∷ []) [] all) (ordinal ∙ ap suc at) kept.whole (last_at x.whole f);
+        body = finished_inside events (id (number c k)) (x.whole ++ f ∷ []) [] (length x.whole) f (told (x.whole ++ f ∷ []) [] all) (ordinal ∙ ap suc at) kept.whole (last_at x.whole f);
         ok = subst (λ j. RanOk catalog fit g.plan g.past (number c j) inside (g.ran c j)) (sym at) (subst (λ r. OpenedOk catalog fit g.plan g.past (number c (length x.whole)) r (g.ran c (length x.whole))) e (g.clients c).opened);
         noted = subst (λ d. InsideNoted events d inside (g.ran c k).seen) (sym client) (subst (λ j. InsideNoted events c inside (g.ran c j).seen) (sym at) (subst (λ r. OpenedNoted events c r (g.ran c (length x.whole))) e (g.noted c).opened));
       }
@@ -140,7 +140,7 @@ module _ (catalog : List Table) (fit : Tables → Bool) (events : List Event) (s
       by : (o : Option Finished) → finished_at x.whole k ≡ o → Ran catalog fit g.plan events g.past (number c k) (g.ran c k)
       by (Some f) e = record {
         inside = f.body;
-        body = finished_body events (id (number c k)) x.whole (said_of x.rest ++ waiting_of x.waiting) k f (told x.whole (said_of x.rest ++ waiting_of x.waiting) (story.same ∙ append_assoc (saids_of x.whole) (said_of x.rest) (waiting_of x.waiting))) ordinal story.ok e;
+        body = finished_inside events (id (number c k)) x.whole (said_of x.rest ++ waiting_of x.waiting) k f (told x.whole (said_of x.rest ++ waiting_of x.waiting) (story.same ∙ append_assoc (saids_of x.whole) (said_of x.rest) (waiting_of x.waiting))) ordinal story.ok e;
         ok = (g.clients c).ended k f e;
         noted = subst (λ d. InsideNoted events d f.body (g.ran c k).seen) (sym client) ((g.noted c).ended k f e);
       }
@@ -168,7 +168,7 @@ module _ (catalog : List Table) (fit : Tables → Bool) (events : List Event) (s
   done : (t : ℕ) → (talk g.past).taken t ≡ true → ExecutionOk catalog fit g.plan g.past t (ran_of t) × BodyIsSaid events t (ran_of t)
   done t taken =
       let r = ran_at t taken in
-      (record { seen = r.ok.inside.seen; planned = r.ok.planned taken; body = r.ok.inside.body }, body_is_said events t r.inside (ran_of t) r.body r.ok.inside.said)
+      (record { seen = r.ok.inside.seen; planned = r.ok.planned taken; body = r.ok.inside.body }, body_is_said events t r.inside (ran_of t) (ap (filter is_effective) r.body) r.ok.inside.said)
 
   -- the plans' notes are what the statements noted
   pub going_is_noted : AreNoted g.plan events g.past

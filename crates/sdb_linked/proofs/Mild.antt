@@ -4,6 +4,7 @@ use Rattle.std.specs.Prelude.{◌&&◌, ◌||◌, not}
 use Rattle.std.specs.Option.{option_map_or}
 use Rattle.sdb_model.specs.declared.answer.Answer.{Answer}
 use Rattle.sdb_model.specs.declared.answer.Answer.TheVariants as answer
+use Rattle.sdb_model.specs.Noted.{read_finished}
 use Rattle.sdb_model.specs.Sql.{reads_begin, reads_commit, reads_rollback}
 use Rattle.sdb_model.specs.Transactions.{Said, begins, changes_nothing, ends, is_answered_from_rows, is_conflict, is_done, is_effective}
 use Rattle.sdb_linked.specs.Going.{IsMild}
@@ -47,6 +48,24 @@ rows_mild (answer.Conflict key found) n = clash (sym n)
 rows_mild (answer.Expired i) n = clash (sym n)
 rows_mild (answer.Unknown i) n = clash (sym n)
 rows_mild answer.Vacuuming n = clash (sym n)
+
+-- a statement that is answered from rows has finished its read
+pub rows_finish : (a : Answer) → is_answered_from_rows a ≡ true → read_finished a ≡ true
+rows_finish (answer.Rows rows) n = refl
+rows_finish (answer.Count k) n = refl
+rows_finish (answer.Duplicate key) n = refl
+rows_finish (answer.Busy key i m) n = clash (sym n)
+rows_finish answer.Faulted n = clash (sym n)
+rows_finish (answer.BadRecord key) n = clash (sym n)
+rows_finish (answer.Refused r) n = clash (sym n)
+rows_finish answer.OpenTransactions n = clash (sym n)
+rows_finish answer.NoMemory n = clash (sym n)
+rows_finish answer.Done n = clash (sym n)
+rows_finish answer.Committed n = clash (sym n)
+rows_finish (answer.Conflict key found) n = clash (sym n)
+rows_finish (answer.Expired i) n = clash (sym n)
+rows_finish (answer.Unknown i) n = clash (sym n)
+rows_finish answer.Vacuuming n = clash (sym n)
 
 pub mild_begins : (s : Said) (a : Answer) → s.answer ≡ Some a → IsMild a → begins s ≡ false
 mild_begins s a e m = ap (λ o. reads_begin s.text && is_done o) e ∙ ap (λ b. reads_begin s.text && b) m.undone ∙ no_second (reads_begin s.text)

@@ -26,9 +26,9 @@ use Rattle.sdb_model.specs.declared.event.Event.TheVariants as event
 use Rattle.sdb_model.specs.declared.event.How.{How}
 use Rattle.sdb_model.specs.Calls.{Made, end_of}
 use Rattle.sdb_model.specs.Events.{table_asked}
-use Rattle.sdb_model.specs.Noted.{notes_in, is_from_rows as from_rows}
+use Rattle.sdb_model.specs.Noted.{has_finished, notes_in}
 use Rattle.sdb_model.specs.Rows.{Name}
-use Rattle.sdb_model.specs.Transactions.{Said, begins, ends, is_effective}
+use Rattle.sdb_model.specs.Transactions.{Said, begins, ends}
 use Rattle.sdb_laws.specs.History.{at}
 use Rattle.sdb_phases.specs.Commit.{Stage, Preparing, Checking, Deciding, Forward, Stopping, Back, Over}
 use Rattle.sdb_phases.specs.Work.{Work}
@@ -313,12 +313,10 @@ pub made_reads : (kind : Record → Kind) (events : List Event) (c : ℕ) (w : O
 made_reads kind events c None i seen a s store q how r now o kinds low made pending can = tt
 made_reads kind events c (Some w) i seen a s store q how r now o kinds low made pending can = since_read kind events c w.taken a s store q how r now o kinds low made pending can
 
--- A statement that is answered from the rows of its read notes what the read was done with.
-pub notes_read : (events : List Event) (c : ℕ) (e : Event) (s : Said) (a : Access) (images : List Record) → IsJustAnswered events s → is_effective s ≡ true → from_rows s ≡ true → IsOfData a → ReadMade (calls_since (events ++ e ∷ []) c s.taken) a (Done images)
-    → NotesRead (events ++ e ∷ []) c s a images
-notes_read events c e s a images is effective rows tables made = record {
-  effective = effective;
-  rows = rows;
+-- A statement whose read was done, and has finished by its answer, notes what the read was done with.
+pub notes_read : (events : List Event) (c : ℕ) (e : Event) (s : Said) (a : Access) (images : List Record) → IsJustAnswered events s → has_finished s ≡ true → IsOfData a → ReadMade (calls_since (events ++ e ∷ []) c s.taken) a (Done images) → NotesRead (events ++ e ∷ []) c s a images
+notes_read events c e s a images is finishes tables made = record {
+  finished = finishes;
   notes = ap notes_in (calls_just (events ++ e ∷ []) c s ended) ∙ read_notes (calls_since (events ++ e ∷ []) c s.taken) a images made (not_rows a tables);
 }
   where
@@ -334,7 +332,7 @@ none_since events c e = since_now (events ++ e ∷ []) c (1 + length events) (su
 
 -- A statement that is answered as it is taken notes nothing.
 pub at_once : (events : List Event) (c : ℕ) (e : Event) (s : Said) → IsJustAnswered events s → s.taken ≡ 1 + length events → NotesNothing (events ++ e ∷ []) c s
-at_once events c e s is now = inr (inr (ap notes_in (calls_just (events ++ e ∷ []) c s ended ∙ ap (calls_since (events ++ e ∷ []) c) now ∙ none_since events c e)))
+at_once events c e s is now = inr (ap notes_in (calls_just (events ++ e ∷ []) c s ended ∙ ap (calls_since (events ++ e ∷ []) c) now ∙ none_since events c e))
   where
     ended : end_of (events ++ e ∷ []) s ≡ length (events ++ e ∷ [])
     ended = ap (λ b. if b then s.reached else length (events ++ e ∷ [])) is.0 ∙ is.1 ∙ sym (long events e)

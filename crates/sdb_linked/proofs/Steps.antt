@@ -35,7 +35,7 @@ use Rattle.sdb_turns.proofs.Quiet.{asks, leave_turn, quiet_turn, stop_turn, swee
 use Rattle.sdb_turns.proofs.Seen.{seen_nothing}
 use Rattle.sdb_turns.proofs.Take.{take_turn}
 use Rattle.sdb_story.specs.Body.{AnswersOn, BodyOk, IsCovered}
-use Rattle.sdb_story.specs.Calls.{NotesRead}
+use Rattle.sdb_story.specs.Calls.{NotesRead, NotesNothing}
 use Rattle.sdb_story.specs.Filed.{number}
 use Rattle.sdb_story.specs.Left.{Execution}
 use Rattle.sdb_story.specs.Story.{Closed, Finished, MayCome, Opened, Rest, finished_at}
@@ -396,15 +396,25 @@ module _ (catalog : List Table) (fit : Tables → Bool) (events : List Event) (s
         by : (m : ℕ) → m + 1 ≡ 1 + m
         by m = omega arith
 
-    pub idle_noted : changes_nothing b ≡ true → ClientNoted (events ++ q.event ∷ []) c ((with_client sys c (Open i seen)).clients c) (with_answered x s) (at ran n (ran n))
-    idle_noted idle = inside_noted (ran n) seen (inside_nothing events c q.event parts.2 (ran n).seen s just (inl (effective_by s b true said_so idle)) noted_before)
+    -- it noted nothing
+    pub idle_noted : NotesNothing (events ++ q.event ∷ []) c s → ClientNoted (events ++ q.event ∷ []) c ((with_client sys c (Open i seen)).clients c) (with_answered x s) (at ran n (ran n))
+    idle_noted none = inside_noted (ran n) seen (inside_nothing events c q.event parts.2 (ran n).seen s just none noted_before)
+
+    -- as one that was answered as it was taken
+    idle_at_once : s.taken ≡ 1 + length events → ClientNoted (events ++ q.event ∷ []) c ((with_client sys c (Open i seen)).clients c) (with_answered x s) (at ran n (ran n))
+    idle_at_once now = idle_noted (at_once events c q.event s just now)
 
     -- it was answered from rows that were read before
     rows_noted : (r : Execution) (changes : List Keyed) → (ran n).seen ≡ seen → s.taken ≡ 1 + length events → r.seen ≡ with_written seen changes → ClientNoted (events ++ q.event ∷ []) c ((with_client sys c (Open i (with_written seen changes))).clients c) (with_answered x s) (at ran n r)
     rows_noted r changes e now same = inside_noted r (with_written seen changes) (subst (InsideNoted (events ++ q.event ∷ []) c (parts.2 ++ s ∷ [])) (sym same) (written_noted (events ++ q.event ∷ []) c (parts.2 ++ s ∷ []) seen changes
         (subst (InsideNoted (events ++ q.event ∷ []) c (parts.2 ++ s ∷ [])) e (inside_nothing events c q.event parts.2 (ran n).seen s just (at_once events c q.event s just now) noted_before))))
 
-    -- or from those of its own read
+    -- its own read was done
+    pub done_noted : (r : Execution) (a : Access) (images : List Record) → (ran n).seen ≡ seen → NotesRead (events ++ q.event ∷ []) c s a images → r.seen ≡ with_read seen a images
+        → ClientNoted (events ++ q.event ∷ []) c ((with_client sys c (Open i (with_read seen a images))).clients c) (with_answered x s) (at ran n r)
+    done_noted r a images e reads same = inside_noted r (with_read seen a images) (subst (InsideNoted (events ++ q.event ∷ []) c (parts.2 ++ s ∷ [])) (sym same) (inside_read events c q.event parts.2 seen s a images just reads (subst (InsideNoted events c parts.2) e noted_before)))
+
+    -- or it was answered from the rows of its own read
     pub read_noted : (r : Execution) (a : Access) (images : List Record) (changes : List Keyed) → (ran n).seen ≡ seen → NotesRead (events ++ q.event ∷ []) c s a images → r.seen ≡ with_written (with_read seen a images) changes
         → ClientNoted (events ++ q.event ∷ []) c ((with_client sys c (Open i (with_written (with_read seen a images) changes))).clients c) (with_answered x s) (at ran n r)
     read_noted r a images changes e reads same = inside_noted r (with_written (with_read seen a images) changes) (subst (InsideNoted (events ++ q.event ∷ []) c (parts.2 ++ s ∷ [])) (sym same) (written_noted (events ++ q.event ∷ []) c (parts.2 ++ s ∷ []) (with_read seen a images) changes
@@ -416,6 +426,14 @@ module _ (catalog : List Table) (fit : Tables → Bool) (events : List Event) (s
       inside = record { seen = before_it.inside.seen; body = before_it.inside.body; said = said_nothing_more parts.2 s (ran n) before_it.inside.said (effective_by s b true said_so idle) };
       planned = before_it.planned;
     }) e
+
+    -- it changed nothing, and what it read is noted
+    pub kept_own : (read : Seen) → changes_nothing b ≡ true → SeenOk (q ∷ g.past) read → BodyOk catalog fit (ran n).body (ran n).answers read → (talk g.past).taken (number c n) ≡ false
+        → ClientGoes catalog fit g.plan (q ∷ g.past) c None ((with_client sys c (Open i read)).clients c) (with_answered x s) (at ran n (record { seen = read; now = (ran n).now; body = (ran n).body; answers = (ran n).answers }))
+    kept_own read idle known body fresh = inside_own (record { seen = read; now = (ran n).now; body = (ran n).body; answers = (ran n).answers }) read (record {
+      inside = record { seen = known; body = body; said = let was = said_nothing_more parts.2 s (ran n) before_it.inside.said (effective_by s b true said_so idle) in record { read = was.read; told = was.told } };
+      planned = λ h. clash (sym h ∙ (same_of g.past q (number c n) (plain_not (number c n) q.role plain)).taken ∙ fresh);
+    }) refl
 
     -- it was answered from rows of an access that was read, and its changes were written
     pub more_own : (st : Statement) (read : Seen) (a : Access) (changes : List Keyed) → SeenOk (q ∷ g.past) read → SeenOk (q ∷ g.past) (with_written read changes) → BodyOk catalog fit (ran n).body (ran n).answers read → IsCovered read a → AnswersOn catalog fit read st a b changes → Reads s.text st → changes_nothing b ≡ false → (talk g.past).taken (number c n) ≡ false
@@ -488,7 +506,7 @@ module _ (catalog : List Table) (fit : Tables → Bool) (events : List Event) (s
         others = client_stands sys c (Open i seen);
         story = inside_story played tt said_of_it b refl (nothing_mild b idle) no_commit is_said held.0 i seen (Open i seen) at_open unmoved seen;
         own = idle_own played tt said_of_it b refl (nothing_mild b idle) no_commit is_said held.0 i seen (Open i seen) at_open unmoved idle held.2;
-        noted = idle_noted played tt said_of_it b refl (nothing_mild b idle) no_commit is_said held.0 i seen (Open i seen) at_open unmoved idle;
+        noted = idle_at_once played tt said_of_it b refl (nothing_mild b idle) no_commit is_said held.0 i seen (Open i seen) at_open unmoved refl;
       })
 
       -- a statement that is answered from what was read before

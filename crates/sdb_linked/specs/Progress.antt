@@ -17,7 +17,8 @@ use Rattle.sdb_model.specs.Events.{IsTrace, Shelf}
 use Rattle.sdb_model.specs.Exec.{Tables}
 use Rattle.sdb_model.specs.Follows.{Follows}
 use Rattle.sdb_model.specs.Sql.{Reads, reads_commit}
-use Rattle.sdb_model.specs.Transactions.{IsOrder, is_answered_from_rows}
+use Rattle.sdb_model.specs.Noted.{read_finished}
+use Rattle.sdb_model.specs.Transactions.{IsOrder, changes_nothing, is_answered_from_rows}
 use Rattle.sdb_laws.specs.History.{at}
 use Rattle.sdb_laws.specs.Trace.{StartsEmpty}
 use Rattle.sdb_phases.specs.Commit.{preparing}
@@ -130,6 +131,21 @@ pub record ReadReply (p : Progress) : Type 0 where
 -- where it takes the read to
 abbrev pub read_next : {p : Progress} → ReadReply p → ReadAt
 read_next r = read_step r.kind r.stage r.call.now r.call.reply
+
+-- The reply that a read was done with, and the answer to its statement, which changes nothing.
+pub record DoneReply (p : Progress) : Type 0 where
+  pub reply : ReadReply p
+  pub images : List Record
+  pub done : read_next reply ≡ Done images
+  pub may_note : MayNote reply.seen reply.asked images
+  pub answer : Answer
+  pub nothing : changes_nothing answer ≡ true
+  pub finishes : read_finished answer ≡ true
+  pub runs : (st : Statement) × (p.doing reply.call.client ≡ Some st)
+
+-- what its transaction has then read
+abbrev pub seen_done : {p : Progress} → DoneReply p → Seen
+seen_done r = with_read r.reply.seen r.reply.asked r.images
 
 -- The reply that a read was done with, and the answer to its statement from the rows.
 pub record LastReply (p : Progress) : Type 0 where

@@ -14,6 +14,7 @@ ghost use Rattle.sdb_model.specs.declared.statement.Statement.{Statement};
 ghost use Rattle.sdb_model.specs.Told.{IsRun};
 ghost use Rattle.sdb_model.specs.Exec.{Tables};
 ghost use Rattle.sdb_model.specs.Sql.{reads_commit};
+ghost use Rattle.sdb_model.specs.Noted.{read_finished};
 ghost use Rattle.sdb_model.specs.Transactions.{changes_nothing, is_conflict};
 ghost use Rattle.sdb_laws.specs.Faithful.{AreNoted};
 ghost use Rattle.sdb_phases.specs.Work.{Work};
@@ -23,7 +24,7 @@ ghost use Rattle.sdb_turns.specs.ReadAt.{Asking, IsOfData};
 ghost use Rattle.sdb_turns.specs.Sweep.{Scanning};
 ghost use Rattle.sdb_turns.specs.System.{Committing, IsCommit, Open, Reading, Resting, Stopped, Sweeping, SystemAt, answer_at, commit_left, idle, with_client};
 ghost use Rattle.sdb_linked.specs.Going.{IsGoing, IsMild, IsSilent, LeavesAtOnce};
-ghost use Rattle.sdb_linked.specs.Progress.{After, AfterAsked, AfterReply, AfterTake, Asked, AskedRows, Ending, GoesAs, IsSame, LastReply, MayRead, Progress, ReadReply, Runs, SweepReply, committing, outcome_with, read_next, seen_after, seen_asked, sweep_next};
+ghost use Rattle.sdb_linked.specs.Progress.{After, AfterAsked, AfterReply, AfterTake, Asked, AskedRows, DoneReply, Ending, GoesAs, IsSame, LastReply, MayRead, Progress, ReadReply, Runs, SweepReply, committing, outcome_with, read_next, seen_after, seen_asked, seen_done, sweep_next};
 
 /// Before the first event no client has done anything; and the clock moves, or a client without work idles.
 pub fn rests()
@@ -61,11 +62,13 @@ pub fn answers()
 {}
 
 /// A statement begins to read; whatever call of the read is pending and whatever its reply, the read goes on; and the statement is
-/// answered: as one that changes nothing, from the rows that the read was done with, or by a conflict, which ends the transaction.
+/// answered: as one that changes nothing, whose read has not finished, or was done and stays noted, from the rows that the read was done
+/// with, or by a conflict, which ends the transaction.
 pub fn reads()
     ensures asks { (p : Progress) (q : Asked p) (st : Statement) (a : Access) → MayRead q st a → AfterAsked q None (Reading q.id q.seen a Asking) (Some st) }
     ensures goes_on { (p : Progress) (r : ReadReply p) → AfterReply p r.call None (Reading r.id r.seen r.asked (read_next r)) (p.doing r.call.client) }
-    ensures fails { (p : Progress) (r : ReadReply p) (b : Answer) → Runs p r.call.client → changes_nothing b ≡ true → AfterReply p r.call (Some b) (Open r.id r.seen) None }
+    ensures fails { (p : Progress) (r : ReadReply p) (b : Answer) → Runs p r.call.client → changes_nothing b ≡ true → read_finished b ≡ false → AfterReply p r.call (Some b) (Open r.id r.seen) None }
+    ensures keeps { (p : Progress) (r : DoneReply p) → AfterReply p r.reply.call (Some r.answer) (Open r.reply.id (seen_done r)) None }
     ensures tells { (p : Progress) (r : LastReply p) → AfterReply p r.reply.call (Some r.answered.answer) (Open r.reply.id (seen_after r)) None }
     ensures differs { (p : Progress) (r : ReadReply p) (b : Answer) → Runs p r.call.client → is_conflict (Some b) ≡ true → AfterReply p r.call (Some b) Resting None }
 {}

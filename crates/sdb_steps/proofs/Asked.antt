@@ -18,6 +18,7 @@ use Rattle.sdb_model.specs.Causes.{refused}
 use Rattle.sdb_model.specs.Exec.{key_of, named_table}
 use Rattle.sdb_model.specs.Refused.{refusal_by, refusal_of}
 use Rattle.sdb_model.specs.Sql.{Reads, reads_commit}
+use Rattle.sdb_model.specs.Noted.{read_finished}
 use Rattle.sdb_model.specs.Transactions.{changes_nothing, is_answered_from_rows}
 use Rattle.sdb_exec.specs.declared.plan.PlanStep.{PlanStep}
 use Rattle.sdb_exec.specs.declared.plan.PlanStep.TheVariants.{Finished}
@@ -125,7 +126,7 @@ module _ (catalog : List Table) (events : List Event) (hands : ℕ → Hand) (g 
       finished_so : (b : Answer) (ks : List Keyed) → gives p a t ≡ Finished b ks → (changes_nothing b ≡ false → is_answered_from_rows b ≡ true) → Told (Finished b ks)
       finished_so b ks step rows =
           by_test (changes_nothing b)
-          (λ q. rw q (rw q (as_it_was b q)))
+          (λ q. by_test (read_finished b) (λ f. rw q (rw (q, f) (as_it_was b q))) (λ f. rw q (rw (q, f) (as_it_was b q))))
           (λ q. by_test (too_many t ks) (λ m. rw (q, m) (as_it_was (refused 15) refl)) (λ m. rw (q, m) (rw q (from_before b ks covered step (rows q)))))
 
       by_unfit : (o : Option Key) → first_unfit table (overlay a t.seen) ≡ o → Told (gives p a t)

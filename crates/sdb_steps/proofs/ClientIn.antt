@@ -16,6 +16,7 @@ use Rattle.sdb_model.specs.declared.statement.Statement.TheVariants as statement
 use Rattle.sdb_model.specs.Exec.{find_table, named_table, table_of}
 use Rattle.sdb_model.specs.Refused.{refusal_by, refusal_of}
 use Rattle.sdb_model.specs.Sql.{reads_commit}
+use Rattle.sdb_model.specs.Noted.{read_finished}
 use Rattle.sdb_model.specs.Transactions.{changes_nothing}
 use Rattle.sdb_exec.specs.declared.plan.PlanStep.{PlanStep}
 use Rattle.sdb_exec.specs.declared.plan.PlanStep.TheVariants.{Finished, Read as Wants}
@@ -72,7 +73,12 @@ module _ (catalog : List Table) where
   left_in : (was t : TxnAt) (s : PlanStep) → IsIdleIn was → IsIdleIn t → GivesIn catalog s → IsIdleIn (given_left was t s)
   left_in was t (Wants a) w h g = w
   left_in was t (Finished a ks) w h g =
-      elim (changes_nothing (given_answer t (Finished a ks))) as (λ b. IsIdleIn (cond b was (written t ks))) [ true ↦ w | false ↦ (h.0, written_in catalog t.seen ks g h.1) ]
+      by (changes_nothing (given_answer t (Finished a ks))) (read_finished (given_answer t (Finished a ks)))
+    where
+      by : (b f : Bool) → IsIdleIn (cond b (cond f t was) (written t ks))
+      by true true = h
+      by true false = w
+      by false f = (h.0, written_in catalog t.seen ks g h.1)
 
   ---- a text that is taken
 

@@ -48,7 +48,8 @@ use Rattle.sdb_turns.proofs.Machine.{machine_asks, machine_kinds, machine_steps}
 use Rattle.sdb_turns.proofs.Quiet.{notes}
 use Rattle.sdb_story.specs.Body.{AnswersOn, IsCovered}
 use Rattle.sdb_linked.specs.Going.{IsGoing}
-use Rattle.sdb_linked.proofs.Calls.{going_differs, going_fails, going_reads, going_tells}
+use Rattle.sdb_linked.proofs.Calls.{going_differs, going_fails, going_keeps, going_reads, going_tells}
+use Rattle.sdb_model.specs.Noted.{read_finished}
 use Rattle.sdb_steps.specs.Fitting.{tables_fit}
 use Rattle.sdb_steps.specs.Hands.{Hand, IsAskedBy, IsCalled, doing_of, stands_txn, system_of}
 use Rattle.sdb_steps.proofs.RowsFit.{answers_on}
@@ -141,11 +142,11 @@ module _ (catalog : List Table) (events : List Event) (hands : ℕ → Hand) (g 
         (subst (λ (z : laws.ReadAt). IsGoing catalog (tables_fit catalog) (events ++ call_event y None ∷ []) (with_client (system_of hands) y.client (Reading t.id t.seen a z)) (at (doing_of hands) y.client (doing_of hands y.client)))
         (sym (machine_steps x.stage y.now y.reply) ∙ ap stands_at e) going)
 
-    -- it is answered as one that changes nothing
-    fails : (b : Answer) → changes_nothing b ≡ true → RepliedSo (Some b) (holding now (idle_of t))
-    fails b nothing =
+    -- it is answered as one that changes nothing, and its read has not finished
+    fails : (b : Answer) → changes_nothing b ≡ true → read_finished b ≡ false → RepliedSo (Some b) (holding now (idle_of t))
+    fails b nothing unfinished =
         moved catalog (tables_fit catalog) hands y.client (holding now (idle_of t)) (events ++ call_event y (Some b) ∷ []) free refl
-        (going_fails catalog (tables_fit catalog) events (system_of hands) (doing_of hands) g y.client y.store y.request y.how y.reply y.now machine_kind machine_kinds t.id t.seen a (stands_at x.stage) here asked b p.statement runs_it nothing)
+        (going_fails catalog (tables_fit catalog) events (system_of hands) (doing_of hands) g y.client y.store y.request y.how y.reply y.now machine_kind machine_kinds t.id t.seen a (stands_at x.stage) here asked b p.statement runs_it nothing unfinished)
 
     -- a key that was read differs
     differs : (key : Key) (found : Option Record) → RepliedSo (Some (answer.Conflict key found)) (resting now)
@@ -188,14 +189,25 @@ module _ (catalog : List Table) (events : List Event) (hands : ℕ → Hand) (g 
           by_doing : stands_txn (Some (written v ks)) ≡ Open t.id (with_written seen ks)
           by_doing = rw n.idle (λ i. Open (n.id i) (with_written (n.seen i) ks))
 
+      -- it is answered as one that changes nothing, and what it read stays noted
+      keeps : (v : TxnAt) (b : Answer) → IsNoting t a images v → changes_nothing b ≡ true → read_finished b ≡ true → RepliedSo (Some b) (holding now v)
+      keeps v b n nothing finishes =
+          moved catalog (tables_fit catalog) hands y.client (holding now v) (events ++ call_event y (Some b) ∷ []) free refl
+          (subst (λ (z : ClientAt). IsGoing catalog (tables_fit catalog) (events ++ call_event y (Some b) ∷ []) (with_client (system_of hands) y.client z) (at (doing_of hands) y.client None)) (sym by_doing)
+          (going_keeps catalog (tables_fit catalog) events (system_of hands) (doing_of hands) g y.client y.store y.request y.how y.reply y.now machine_kind machine_kinds t.id t.seen a (stands_at x.stage) here asked b p.statement runs_it images nothing finishes done
+          (may_note t a images as_read)))
+        where
+          by_doing : stands_txn (Some v) ≡ Open t.id seen
+          by_doing = rw n.idle (λ i. Open (n.id i) (n.seen i))
+
       abbrev Told : TxnAt → PlanStep → Type 0
       Told v s = RepliedSo (Some (given_answer v s)) (holding now (given_left (idle_of t) v s))
 
       finished_so : (v : TxnAt) (b : Answer) (ks : List Keyed) → IsNoting t a images v → gives p a v ≡ Finished b ks → (changes_nothing b ≡ false → is_answered_from_rows b ≡ true) → Told v (Finished b ks)
       finished_so v b ks n gave rows =
           by_test (changes_nothing b)
-          (λ q. rw q (rw q (fails b q)))
-          (λ q. by_test (too_many v ks) (λ m. rw (q, m) (fails (refused 15) refl)) (λ m. rw (q, m) (rw q (tells v b ks n gave (rows q)))))
+          (λ q. by_test (read_finished b) (λ f. rw q (rw (q, f) (keeps v b n q f))) (λ f. rw q (rw (q, f) (fails b q f))))
+          (λ q. by_test (too_many v ks) (λ m. rw (q, m) (keeps v (refused 15) n refl refl)) (λ m. rw (q, m) (rw q (tells v b ks n gave (rows q)))))
 
       told : (v : TxnAt) → IsNoting t a images v → Told v (gives p a v)
       told v n = by_unfit (first_unfit p.table (overlay a v.seen)) refl
@@ -219,13 +231,13 @@ module _ (catalog : List Table) (events : List Event) (hands : ℕ → Hand) (g 
     stage_case (Resolving images rec meta q left) e n u h = as_led n next.Call u (record t { doing = doing.Read a (record x { stage = Resolving images rec meta q left }) }) h.0 h.1 (reads_on (Resolving images rec meta q left) e)
     stage_case (Ended step.More) e n u h = as_led n next.Call u (record t { doing = doing.Read a (record x { stage = Ended step.More }) }) h.0 h.1 (reads_on (Ended step.More) e)
     stage_case (Ended (step.Images images)) e n u h = images_case images e n u h
-    stage_case (Ended (step.Busy key id moment)) e n u h = as_led n (next.Answer (answer.Busy key id moment)) u (idle_of t) h.0 h.1 (fails (answer.Busy key id moment) refl)
-    stage_case (Ended step.Faulted) e n u h = as_led n (next.Answer answer.Faulted) u (idle_of t) h.0 h.1 (fails answer.Faulted refl)
-    stage_case (Ended (step.BadRecord key)) e n u h = as_led n (next.Answer (answer.BadRecord key)) u (idle_of t) h.0 h.1 (fails (answer.BadRecord key) refl)
+    stage_case (Ended (step.Busy key id moment)) e n u h = as_led n (next.Answer (answer.Busy key id moment)) u (idle_of t) h.0 h.1 (fails (answer.Busy key id moment) refl refl)
+    stage_case (Ended step.Faulted) e n u h = as_led n (next.Answer answer.Faulted) u (idle_of t) h.0 h.1 (fails answer.Faulted refl refl)
+    stage_case (Ended (step.BadRecord key)) e n u h = as_led n (next.Answer (answer.BadRecord key)) u (idle_of t) h.0 h.1 (fails (answer.BadRecord key) refl refl)
     stage_case (Ended step.NoMemory) e n u h = absurd h
 
     pub replied_read : (n : Next) (u : TxnAt) → CallTold t p a x y.reply y.now n u → LedSo n u
     replied_read n u h =
         by_next n
-        (λ e. as_led n (next.Answer answer.NoMemory) u (idle_of t) e (h.memory e) (fails answer.NoMemory refl))
+        (λ e. as_led n (next.Answer answer.NoMemory) u (idle_of t) e (h.memory e) (fails answer.NoMemory refl refl))
         (λ e. stage_case (read_step x.stage y.now y.reply) refl n u (h.told e))

@@ -2,13 +2,14 @@
 use Rattle.std.proofs.Common.{◌≡◌, ℕ, ℤ, Bool, true, false, List, [], ◌∷◌, ◌++◌, map, refl, sym, ap, subst, ◌∙◌, ◌⊎◌, inl, inr}
 use Rattle.std.specs.Prelude.{Contains, ◌↔◌, filter, if◌then◌else◌}
 use Rattle.std.specs.List.{AllByRecursion, flat_map}
-use Rattle.std.proofs.lemmas.List.Elements.{Contains-append_left, Contains-push}
+use Rattle.std.proofs.lemmas.List.Concat.{flat_map-append}
+use Rattle.std.proofs.lemmas.List.Elements.{Contains-append_left, Contains-push, filter-append}
 use Rattle.sdb_types.specs.declared.record.Record.{Record}
 use Rattle.sdb_record.specs.declared.access.Access.{Access}
 use Rattle.sdb_model.specs.declared.event.Event.{Event}
 use Rattle.sdb_model.specs.Calls.{calls_of}
-use Rattle.sdb_model.specs.Noted.{Note, Got, Scanned, noted_in, notes_in, is_from_rows as from_rows}
-use Rattle.sdb_model.specs.Transactions.{Said, body, client_of, is_effective}
+use Rattle.sdb_model.specs.Noted.{Note, Got, Scanned, has_finished, noted_in, notes_in}
+use Rattle.sdb_model.specs.Transactions.{Said, client_of, statements_inside}
 use Rattle.sdb_laws.specs.Plan.{Plan}
 use Rattle.sdb_laws.specs.Lawful.{id}
 use Rattle.sdb_snapshot.specs.Seen.{Seen, nothing}
@@ -19,42 +20,27 @@ use Rattle.sdb_story.specs.Left.{AreReads, reads_and_scans}
 use Rattle.sdb_story.proofs.Notes.{last_cases, read_adds}
 use Rattle.sdb_story.proofs.Since.{calls_stay}
 use Rattle.std.proofs.lemmas.List.{append-nil as no_more}
-use Rattle.sdb_types.proofs.Basics.{assoc}
 
 -- what one statement noted
 abbrev one_noted : List Event → ℕ → Said → List Note
-one_noted events c s = if is_effective s then (if from_rows s then notes_in (calls_of events c s) else []) else []
+one_noted events c s = if has_finished s then notes_in (calls_of events c s) else []
 
 noted_more : (events : List Event) (c : ℕ) (ss : List Said) (s : Said) → noted_by events c (ss ++ s ∷ []) ≡ noted_by events c ss ++ one_noted events c s
-noted_more events c [] s = by (is_effective s) (from_rows s)
+noted_more events c ss s =
+    ap (flat_map (λ x. notes_in (calls_of events c x))) (filter-append has_finished ss (s ∷ []))
+    ∙ flat_map-append (λ x. notes_in (calls_of events c x)) (filter has_finished ss) (filter has_finished (s ∷ []))
+    ∙ ap (λ ns. noted_by events c ss ++ ns) (by (has_finished s))
   where
-    by : (a b : Bool) → flat_map (λ s. notes_in (calls_of events c s)) (filter from_rows (if a then s ∷ [] else [])) ≡ (if a then (if from_rows s then notes_in (calls_of events c s) else []) else [])
-    by true b = on (from_rows s)
-      where
-        on : (b : Bool) → flat_map (λ s. notes_in (calls_of events c s)) (if b then s ∷ [] else []) ≡ (if b then notes_in (calls_of events c s) else [])
-        on true = no_more (notes_in (calls_of events c s))
-        on false = refl
-    by false b = refl
-noted_more events c (x ∷ ss) s = by (is_effective x) (noted_more events c ss s)
-  where
-    on : (b : Bool) → noted_by events c (ss ++ s ∷ []) ≡ noted_by events c ss ++ one_noted events c s → flat_map (λ s. notes_in (calls_of events c s)) (if b then x ∷ filter from_rows (filter is_effective (ss ++ s ∷ [])) else filter from_rows (filter is_effective (ss ++ s ∷ []))) ≡ flat_map (λ s. notes_in (calls_of events c s)) (if b then x ∷ filter from_rows (filter is_effective ss) else filter from_rows (filter is_effective ss)) ++ one_noted events c s
-    on true ih = ap (λ r. notes_in (calls_of events c x) ++ r) ih ∙ sym (assoc (notes_in (calls_of events c x)) (noted_by events c ss) (one_noted events c s))
-    on false ih = ih
-
-    by : (a : Bool) → noted_by events c (ss ++ s ∷ []) ≡ noted_by events c ss ++ one_noted events c s → flat_map (λ s. notes_in (calls_of events c s)) (filter from_rows (if a then x ∷ filter is_effective (ss ++ s ∷ []) else filter is_effective (ss ++ s ∷ []))) ≡ flat_map (λ s. notes_in (calls_of events c s)) (filter from_rows (if a then x ∷ filter is_effective ss else filter is_effective ss)) ++ one_noted events c s
-    by true ih = on (from_rows x) ih
-    by false ih = ih
+    by : (b : Bool) → flat_map (λ x. notes_in (calls_of events c x)) (if b then s ∷ [] else []) ≡ (if b then notes_in (calls_of events c s) else [])
+    by true = no_more (notes_in (calls_of events c s))
+    by false = refl
 
 noted_stay : (events : List Event) (c : ℕ) (ss : List Said) (e : Event) → AllByRecursion (WasAnswered events) ss → noted_by (events ++ e ∷ []) c ss ≡ noted_by events c ss
 noted_stay events c [] e was = refl
-noted_stay events c (x ∷ ss) e was = by (is_effective x) (noted_stay events c ss e was.1)
+noted_stay events c (x ∷ ss) e was = by (has_finished x) (noted_stay events c ss e was.1)
   where
-    on : (b : Bool) → noted_by (events ++ e ∷ []) c ss ≡ noted_by events c ss → flat_map (λ s. notes_in (calls_of (events ++ e ∷ []) c s)) (if b then x ∷ filter from_rows (filter is_effective ss) else filter from_rows (filter is_effective ss)) ≡ flat_map (λ s. notes_in (calls_of events c s)) (if b then x ∷ filter from_rows (filter is_effective ss) else filter from_rows (filter is_effective ss))
-    on true ih = ap (λ ms. notes_in ms ++ noted_by (events ++ e ∷ []) c ss) (calls_stay events c x e was.0) ∙ ap (λ r. notes_in (calls_of events c x) ++ r) ih
-    on false ih = ih
-
-    by : (a : Bool) → noted_by (events ++ e ∷ []) c ss ≡ noted_by events c ss → flat_map (λ s. notes_in (calls_of (events ++ e ∷ []) c s)) (filter from_rows (if a then x ∷ filter is_effective ss else filter is_effective ss)) ≡ flat_map (λ s. notes_in (calls_of events c s)) (filter from_rows (if a then x ∷ filter is_effective ss else filter is_effective ss))
-    by true ih = on (from_rows x) ih
+    by : (b : Bool) → noted_by (events ++ e ∷ []) c ss ≡ noted_by events c ss → flat_map (λ s. notes_in (calls_of (events ++ e ∷ []) c s)) (if b then x ∷ filter has_finished ss else filter has_finished ss) ≡ flat_map (λ s. notes_in (calls_of events c s)) (if b then x ∷ filter has_finished ss else filter has_finished ss)
+    by true ih = ap (λ ms. notes_in ms ++ noted_by (events ++ e ∷ []) c ss) (calls_stay events c x e was.0) ∙ ap (λ r. notes_in (calls_of events c x) ++ r) ih
     by false ih = ih
 
 pub noted_starts : (events : List Event) (c : ℕ) → IsNotedSo events c [] nothing
@@ -71,15 +57,14 @@ pub noted_nothing : (events : List Event) (c : ℕ) (ss : List Said) (seen : See
 noted_nothing events c ss seen s none ok = subst (λ xs. (n : Note) → Contains (map Got seen.reads ++ map Scanned seen.scans) n ↔ Contains xs n) (sym (noted_more events c ss s ∙ ap (λ xs. noted_by events c ss ++ xs) (empty none) ∙ no_more (noted_by events c ss))) ok
   where
     empty : NotesNothing events c s → one_noted events c s ≡ []
-    empty (inl e) = ap (λ b. if b then (if from_rows s then notes_in (calls_of events c s) else []) else []) e
-    empty (inr (inl e)) = ap (λ b. if is_effective s then (if b then notes_in (calls_of events c s) else []) else []) e ∙ unread (is_effective s)
-    empty (inr (inr e)) = ap (λ ns. if is_effective s then (if from_rows s then ns else []) else []) e ∙ ap (λ ns. if is_effective s then ns else []) (unread (from_rows s)) ∙ unread (is_effective s)
+    empty (inl e) = ap (λ b. if b then notes_in (calls_of events c s) else []) e
+    empty (inr e) = ap (λ ns. if has_finished s then ns else []) e ∙ unread (has_finished s)
 
 pub noted_read : (events : List Event) (c : ℕ) (ss : List Said) (seen : Seen) (s : Said) (a : Access) (images : List Record) → NotesRead events c s a images → IsNotedSo events c ss seen → IsNotedSo events c (ss ++ s ∷ []) (with_read seen a images)
 noted_read events c ss seen s a images reads ok n = by (read_adds (record { 0 = 0 }) (Rattle.std.specs.Prelude.pos 0) seen a images n)
   where
     said_is : noted_by events c (ss ++ s ∷ []) ≡ noted_by events c ss ++ note_with a images ∷ []
-    said_is = noted_more events c ss s ∙ ap (λ xs. noted_by events c ss ++ xs) (ap (λ b. if b then (if from_rows s then notes_in (calls_of events c s) else []) else []) reads.effective ∙ ap (λ b. if b then notes_in (calls_of events c s) else []) reads.rows ∙ reads.notes)
+    said_is = noted_more events c ss s ∙ ap (λ xs. noted_by events c ss ++ xs) (ap (λ b. if b then notes_in (calls_of events c s) else []) reads.finished ∙ reads.notes)
 
     into : Contains (map Got seen.reads ++ map Scanned seen.scans) n ⊎ (n ≡ note_with a images) → Contains (noted_by events c (ss ++ s ∷ [])) n
     into (inl h) = subst (λ xs. Contains xs n) (sym said_is) (Contains-append_left (noted_by events c ss) (note_with a images ∷ []) n ((ok n).0 h))
@@ -92,9 +77,9 @@ noted_read events c ss seen s a images reads ok n = by (read_adds (record { 0 = 
     by : Contains (reads_and_scans (work_of (record { 0 = 0 }) (Rattle.std.specs.Prelude.pos 0) (with_read seen a images))) n ↔ (Contains (map Got seen.reads ++ map Scanned seen.scans) n ⊎ (n ≡ note_with a images)) → Contains (map Got (with_read seen a images).reads ++ map Scanned (with_read seen a images).scans) n ↔ Contains (noted_by events c (ss ++ s ∷ [])) n
     by x = (λ h. into (x.0 h), λ h. x.1 (out (last_cases (noted_by events c ss) (note_with a images) n (subst (λ xs. Contains xs n) said_is h))))
 
--- Of a transaction whose body these statements are, the COMMIT took what they noted.
-pub noted_whole : (plan : ℕ → Plan) (events : List Event) (c t : ℕ) (now : ℤ) (ss : List Said) (seen : Seen) → client_of (id t) ≡ c → body events (id t) ≡ filter is_effective ss → plan t ≡ plan_of (work_of (id t) now seen) → IsNotedSo events c ss seen → AreReads plan events (work_of (id t) now seen) t
+-- Of a transaction whose statements these are, the COMMIT took what they noted.
+pub noted_whole : (plan : ℕ → Plan) (events : List Event) (c t : ℕ) (now : ℤ) (ss : List Said) (seen : Seen) → client_of (id t) ≡ c → statements_inside events (id t) ≡ ss → plan t ≡ plan_of (work_of (id t) now seen) → IsNotedSo events c ss seen → AreReads plan events (work_of (id t) now seen) t
 noted_whole plan events c t now ss seen client is planned ok = record { planned = planned; noted = λ n. (λ h. subst (λ xs. Contains xs n) (sym same) ((ok n).0 h), λ h. (ok n).1 (subst (λ xs. Contains xs n) same h)) }
   where
     same : noted_in events (id t) ≡ noted_by events c ss
-    same = ap (λ d. flat_map (λ s. notes_in (calls_of events d s)) (filter from_rows (body events (id t)))) client ∙ ap (λ xs. flat_map (λ s. notes_in (calls_of events c s)) (filter from_rows xs)) is
+    same = ap (λ d. flat_map (λ s. notes_in (calls_of events d s)) (filter has_finished (statements_inside events (id t)))) client ∙ ap (noted_by events c) is

@@ -6,7 +6,7 @@ use Rattle.std.proofs.lemmas.Bool.Decides.{nat_tests}
 use Rattle.std.proofs.lemmas.List.Sums.{take_while-cons}
 use Rattle.sdb_types.specs.declared.txid.TxId.{TxId}
 use Rattle.sdb_model.specs.declared.event.Event.{Event}
-use Rattle.sdb_model.specs.Transactions.{Said, begins, ends, said, from_begin, first_of, rest_of, said_since, begun, commit_of, client_of, ordinal_of, body, is_effective}
+use Rattle.sdb_model.specs.Transactions.{Said, begins, ends, said, from_begin, first_of, rest_of, said_since, begun, commit_of, client_of, ordinal_of, body, is_effective, statements_inside}
 use Rattle.std.specs.List.{AllByRecursion}
 use Rattle.sdb_turns.proofs.Lists.{each_more}
 use Rattle.sdb_story.specs.Story.{Finished, Rest, Closed, Opened, settle, saids_of, said_of, all_of, IsPlain, IsInside, IsFinished, IsRest, IsStory, MayCome, finished_at, commit_in}
@@ -187,13 +187,17 @@ inside_all : (body : List Said) → AllByRecursion IsInside body → take_while 
 inside_all [] i = refl
 inside_all (x ∷ xs) i = take_while-cons (λ y. not (ends y)) x xs ∙ ap (λ b. cond (not b) (x ∷ take_while (λ y. not (ends y)) xs) []) i.0.1 ∙ ap (λ r. x ∷ r) (inside_all xs i.1)
 
--- The body of a transaction that ended is what changed something of its statements.
-pub finished_body : (events : List Event) (id : TxId) (whole : List Finished) (more : List Said) (k : ℕ) (f : Finished) → said (client_of id) events ≡ saids_of whole ++ more → ordinal_of id ≡ suc k → AllByRecursion IsFinished whole → finished_at whole k ≡ Some f → body events id ≡ filter is_effective f.body
-finished_body events id whole more k f same ordinal w e =
+-- The statements of a transaction that ended, up to its end.
+pub finished_inside : (events : List Event) (id : TxId) (whole : List Finished) (more : List Said) (k : ℕ) (f : Finished) → said (client_of id) events ≡ saids_of whole ++ more → ordinal_of id ≡ suc k → AllByRecursion IsFinished whole → finished_at whole k ≡ Some f → statements_inside events id ≡ f.body
+finished_inside events id whole more k f same ordinal w e =
     let r = since whole more k f w e in
     let ok = finished_ok whole k f w e in
-    ap (λ ss. filter is_effective (take_while (λ x. not (ends x)) (rest_of ss))) (ap (λ n. from_begin n (said (client_of id) events)) ordinal ∙ ap (from_begin (suc k)) same ∙ r.1)
-    ∙ ap (filter is_effective) (inside_only f.body f.last r.0 ok.body ok.last)
+    ap (λ ss. take_while (λ x. not (ends x)) (rest_of ss)) (ap (λ n. from_begin n (said (client_of id) events)) ordinal ∙ ap (from_begin (suc k)) same ∙ r.1)
+    ∙ inside_only f.body f.last r.0 ok.body ok.last
+
+-- Its body is what changed something of them.
+pub finished_body : (events : List Event) (id : TxId) (whole : List Finished) (more : List Said) (k : ℕ) (f : Finished) → said (client_of id) events ≡ saids_of whole ++ more → ordinal_of id ≡ suc k → AllByRecursion IsFinished whole → finished_at whole k ≡ Some f → body events id ≡ filter is_effective f.body
+finished_body events id whole more k f same ordinal w e = ap (filter is_effective) (finished_inside events id whole more k f same ordinal w e)
 
 -- And so is that of an open one.
 pub open_body : (events : List Event) (id : TxId) (whole : List Finished) (gap : List Said) (b : Said) (inside : List Said) → said (client_of id) events ≡ saids_of whole ++ (gap ++ b ∷ inside) → ordinal_of id ≡ suc (length whole) → AllByRecursion IsFinished whole → IsRest (Opened gap b inside) → body events id ≡ filter is_effective inside

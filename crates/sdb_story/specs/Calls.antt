@@ -14,9 +14,9 @@ use Rattle.sdb_record.specs.Meta.{checked, is_in, is_unresolved}
 use Rattle.sdb_model.specs.declared.event.Event.{Event}
 use Rattle.sdb_model.specs.Events.{table_asked}
 use Rattle.sdb_model.specs.Calls.{Made, calls_by, calls_of, made_by}
-use Rattle.sdb_model.specs.Transactions.{Said, body, client_of, is_effective}
+use Rattle.sdb_model.specs.Transactions.{Said, client_of, statements_inside}
 use Rattle.sdb_record.specs.Moved.{version_of}
-use Rattle.sdb_model.specs.Noted.{Note, Got, Scanned, meaning_of, notes_in, reads_rows, rolls, is_from_rows as from_rows}
+use Rattle.sdb_model.specs.Noted.{Note, Got, Scanned, meaning_of, notes_in, reads_rows, rolls, has_finished}
 use Rattle.sdb_snapshot.specs.Noted.{reads_of}
 use Rattle.sdb_snapshot.specs.Seen.{Seen}
 use Rattle.sdb_laws.specs.Lawful.{id}
@@ -107,9 +107,9 @@ pub record WasAnswered (events : List Event) (s : Said) : Type 0 where
   pub answered : is_some s.answer ≡ true
   pub before : s.reached ≤ length events
 
--- the notes of the statements of a list that changed something and were answered from rows
+-- the notes of the statements of a list whose reads have finished
 abbrev pub noted_by : List Event → ℕ → List Said → List Note
-noted_by events c ss = flat_map (λ s. notes_in (calls_of events c s)) (filter from_rows (filter is_effective ss))
+noted_by events c ss = flat_map (λ s. notes_in (calls_of events c s)) (filter has_finished ss)
 
 -- What a transaction has read has this note.
 abbrev pub HasNoted : Seen → Note → Type 0
@@ -119,14 +119,13 @@ HasNoted seen n = Contains (map Got seen.reads ++ map Scanned seen.scans) n
 abbrev pub IsNotedSo : List Event → ℕ → List Said → Seen → Type 0
 IsNotedSo events c ss seen = (n : Note) → HasNoted seen n ↔ Contains (noted_by events c ss) n
 
--- a statement noted nothing: it changed nothing, was not answered from rows, or made no read
+-- a statement noted nothing: its read has not finished, or it made none
 abbrev pub NotesNothing : List Event → ℕ → Said → Type 0
-NotesNothing events c s = (is_effective s ≡ false) ⊎ (from_rows s ≡ false) ⊎ (notes_in (calls_of events c s) ≡ [])
+NotesNothing events c s = (has_finished s ≡ false) ⊎ (notes_in (calls_of events c s) ≡ [])
 
 -- a statement noted what a read was done with
 pub record NotesRead (events : List Event) (c : ℕ) (s : Said) (a : Access) (images : List Record) : Type 0 where
-  pub effective : is_effective s ≡ true
-  pub rows : from_rows s ≡ true
+  pub finished : has_finished s ≡ true
   pub notes : notes_in (calls_of events c s) ≡ note_with a images ∷ []
 
 -- The statements that a client said of a transaction, and what this has read, which is what they noted.
@@ -144,5 +143,5 @@ NotedWith b s seen = IsNotedSo b.events b.client (b.said ++ s ∷ []) seen
 -- They are those of a transaction of that number and client, whose COMMIT took what it has read and written at that moment.
 pub record IsTakenSo (plan : ℕ → Plan) (b : NotedBody) (t : ℕ) (now : ℤ) : Type 0 where
   pub owner : client_of (id t) ≡ b.client
-  pub said : body b.events (id t) ≡ filter is_effective b.said
+  pub said : statements_inside b.events (id t) ≡ b.said
   pub planned : plan t ≡ plan_of (work_of (id t) now b.seen)
