@@ -10,7 +10,7 @@ use Rattle.sdb_model.specs.declared.statement.Statement.{Statement}
 use Rattle.sdb_model.specs.declared.statement.Statement.TheVariants as statement
 use Rattle.sdb_model.specs.Calls as calls
 use Rattle.sdb_model.specs.Calls.{records_read}
-use Rattle.sdb_model.specs.Noted.{reads_rows}
+use Rattle.sdb_model.specs.Noted.{has_finished, reads_rows}
 use Rattle.sdb_model.specs.Causes.{MayPassMost, body_before, may_pass, records_found, counted_by}
 use Rattle.sdb_model.specs.Transactions.{Said, client_of, id_of, is_effective, ordinal_of, said}
 use Rattle.sdb_said.proofs.Lists.{right}
@@ -35,17 +35,17 @@ found_is (m ∷ ms) = by (reads_rows (made_of m)) (found_is ms)
     by true more = ap (λ n. length (records_read m.reply) + n) more ∙ sym (sum_by-cons size (made_of m) (filter reads_rows (all_made ms)))
     by false more = zero-add (found_among ms) ∙ more
 
-sum_before : (f : Said → ℕ) (taken : ℕ) (ss : List Said) → sum_by f (filter (λ b. nat_lt b.taken taken) (filter is_effective ss)) ≡ total_before f taken ss
-sum_before f taken [] = refl
-sum_before f taken (s ∷ ss) = by (is_effective s) (nat_lt s.taken taken) refl (sum_before f taken ss)
+sum_before : (t : Said → Bool) (f : Said → ℕ) (taken : ℕ) (ss : List Said) → sum_by f (filter (λ b. nat_lt b.taken taken) (filter t ss)) ≡ total_before t f taken ss
+sum_before t f taken [] = refl
+sum_before t f taken (s ∷ ss) = by (t s) (nat_lt s.taken taken) refl (sum_before t f taken ss)
   where
     early : List Said → List Said
     early = filter (λ b. nat_lt b.taken taken)
 
-    by : (a c : Bool) → nat_lt s.taken taken ≡ c → sum_by f (early (filter is_effective ss)) ≡ total_before f taken ss → sum_by f (early (if a then s ∷ filter is_effective ss else filter is_effective ss)) ≡ (if a && c then f s else 0) + total_before f taken ss
-    by false c e more = more ∙ sym (zero-add (total_before f taken ss))
-    by true true e more = ap (λ b. sum_by f (if b then s ∷ early (filter is_effective ss) else early (filter is_effective ss))) e ∙ sum_by-cons f s (early (filter is_effective ss)) ∙ ap (λ n. f s + n) more
-    by true false e more = ap (λ b. sum_by f (if b then s ∷ early (filter is_effective ss) else early (filter is_effective ss))) e ∙ more ∙ sym (zero-add (total_before f taken ss))
+    by : (a c : Bool) → nat_lt s.taken taken ≡ c → sum_by f (early (filter t ss)) ≡ total_before t f taken ss → sum_by f (early (if a then s ∷ filter t ss else filter t ss)) ≡ (if a && c then f s else 0) + total_before t f taken ss
+    by false c e more = more ∙ sym (zero-add (total_before t f taken ss))
+    by true true e more = ap (λ b. sum_by f (if b then s ∷ early (filter t ss) else early (filter t ss))) e ∙ sum_by-cons f s (early (filter t ss)) ∙ ap (λ n. f s + n) more
+    by true false e more = ap (λ b. sum_by f (if b then s ∷ early (filter t ss) else early (filter t ss))) e ∙ more ∙ sym (zero-add (total_before t f taken ss))
 
 ---- the test
 
@@ -74,13 +74,13 @@ module _ (events : List Event) (client : ℕ) (s : Said) (o : Option Statement) 
   before id = body_before events id s
 
   abbrev here : TxId → Statement → Bool
-  here id st = may_pass (sum_by counted_by (before id)) (sum_by (found_by events client) (before id) + found_by events client s) st
+  here id st = may_pass (sum_by counted_by (before id)) (sum_by (found_by events client) (finished id) + found_by events client s) st
 
   same : (id : TxId) (st : Statement) → passes_left (written_left events id s.taken) (found_left events client id s) st ≡ here id st
   same id st =
-      passes_is (total_before counted_by s.taken (inside id)) (total_before (found_by events client) s.taken (inside id)) (found_by events client s) st
-      ∙ ap (λ n. may_pass n (total_before (found_by events client) s.taken (inside id) + found_by events client s) st) (sym (sum_before counted_by s.taken (inside id)))
-      ∙ ap (λ n. may_pass (sum_by counted_by (before id)) (n + found_by events client s) st) (sym (sum_before (found_by events client) s.taken (inside id)))
+      passes_is (total_before is_effective counted_by s.taken (inside id)) (total_before has_finished (found_by events client) s.taken (inside id)) (found_by events client s) st
+      ∙ ap (λ n. may_pass n (total_before has_finished (found_by events client) s.taken (inside id) + found_by events client s) st) (sym (sum_before is_effective counted_by s.taken (inside id)))
+      ∙ ap (λ n. may_pass (sum_by counted_by (before id)) (n + found_by events client s) st) (sym (sum_before has_finished (found_by events client) s.taken (inside id)))
 
   abbrev passes : TxId → Statement → Bool
   passes id = passes_left (written_left events id s.taken) (found_left events client id s)

@@ -35,7 +35,7 @@ use Rattle.sdb_model.specs.Refused.{refusal_of}
 use Rattle.sdb_model.specs.Rows.{same_name}
 use Rattle.sdb_model.specs.Transactions.{Said, client_of, commit_of, id_of, is_effective, ordinal_of, said, statements_of}
 use Rattle.sdb_model.specs.Calls.{clock_at, calls_of, decision_learned, is_read, put_by, records_read, records_shown}
-use Rattle.sdb_model.specs.Noted.{Note, Got, Scanned, noted_in, reads_rows, version_noted, meaning_of}
+use Rattle.sdb_model.specs.Noted.{Note, Got, Scanned, noted_in, reads_rows, version_noted, meaning_of, has_finished}
 use Rattle.sdb_model.specs.Causes.{IsCaused, IsCounted, IsTurnedAway, before, is_misfit, is_open, is_select, prepares_key, records_found, refused, removes, counted_by}
 use Rattle.sdb_said.specs.Values.{same_record}
 use Rattle.sdb_plain.specs.declared.made.Made.{Made}
@@ -228,17 +228,17 @@ has_sign sign.Fault m = is_fault m.reply
 
 ---- too many keys
 
--- a statement of the body, unless it ends the transaction, that was taken before
-abbrev pub is_before : ℕ → Said → Bool
-is_before taken b = is_effective b && nat_lt b.taken taken
+-- a statement that a test takes, and that was taken before
+abbrev pub is_before : (Said → Bool) → ℕ → Said → Bool
+is_before t taken b = t b && nat_lt b.taken taken
 
-abbrev pub before_only : (Said → ℕ) → ℕ → Said → ℕ
-before_only f taken b = if is_before taken b then f b else 0
+abbrev pub before_only : (Said → Bool) → (Said → ℕ) → ℕ → Said → ℕ
+before_only t f taken b = if is_before t taken b then f b else 0
 
 -- a sum over the statements that are so
-abbrev pub total_before : (Said → ℕ) → ℕ → List Said → ℕ
-total_before f taken [] = 0
-total_before f taken (b ∷ bs) = before_only f taken b + total_before f taken bs
+abbrev pub total_before : (Said → Bool) → (Said → ℕ) → ℕ → List Said → ℕ
+total_before t f taken [] = 0
+total_before t f taken (b ∷ bs) = before_only t f taken b + total_before t f taken bs
 
 abbrev pub found_by : List Event → ℕ → Said → ℕ
 found_by events client b = records_found (calls_of events client b)
@@ -264,11 +264,11 @@ passes_left written found statement.Vacuum = false
 
 -- what the transaction's statements, up to its end, leave of so many keys before one
 abbrev pub written_left : List Event → TxId → ℕ → ℕ
-written_left events id taken = 4097 - total_before counted_by taken (inside_among (said (client_of id) events) (ordinal_of id))
+written_left events id taken = 4097 - total_before is_effective counted_by taken (inside_among (said (client_of id) events) (ordinal_of id))
 
 abbrev pub found_left : List Event → ℕ → TxId → Said → ℕ
 found_left events client id s =
-    (written_left events id s.taken - total_before (found_by events client) s.taken (inside_among (said (client_of id) events) (ordinal_of id))) - found_by events client s
+    (written_left events id s.taken - total_before has_finished (found_by events client) s.taken (inside_among (said (client_of id) events) (ordinal_of id))) - found_by events client s
 
 abbrev pub passes_most : List Event → ℕ → Said → Option Statement → TxId → Bool
 passes_most events client s read id = is_in events client s id && option_map_or (passes_left (written_left events id s.taken) (found_left events client id s)) read false

@@ -3,7 +3,8 @@ ghost use Rattle.std.specs.Prelude.{◌≡◌, ◌-◌, ◌==◌, false, IfOk, I
 ghost use Rattle.std.specs.Option.{option_map_or};
 ghost use Rattle.sdb_model.specs.Calls.{records_read};
 ghost use Rattle.sdb_model.specs.Causes.{MayPassMost, rows_counted as rows_counted_lem, counted_by};
-ghost use Rattle.sdb_model.specs.Transactions.{id_of as id_of_lem};
+ghost use Rattle.sdb_model.specs.Noted.{has_finished as has_finished_lem};
+ghost use Rattle.sdb_model.specs.Transactions.{id_of as id_of_lem, is_effective as is_effective_lem};
 ghost use Rattle.sdb_order.specs.Commits.{said_of, all_said};
 ghost use Rattle.sdb_caused.specs.Tests.{any_upto, before_only, found_among, found_by, found_left as found_left_lem, is_before as is_before_lem, passes_left as passes_left_lem, passes_most as passes_most_lem, read_by as read_by_lem, total_before, written_left as written_left_lem};
 
@@ -11,7 +12,9 @@ use crate::commit::is_in;
 use crate::reading::statement_in;
 use sdb_model::{Answer, Event, Statement};
 use sdb_order::{Said, statements_said};
-use sdb_plain::{Made, calls_of, id_of, inside_of, is_effective, ordinal_of, reads_rows};
+use sdb_plain::{
+    Made, calls_of, has_finished, id_of, inside_of, is_effective, ordinal_of, reads_rows,
+};
 use sdb_types::{NoMemory, Reply, TxId};
 use std::alloc::Global;
 
@@ -25,14 +28,20 @@ fn rows_counted(answer: &Option<Answer>) -> u64
 }
 
 fn is_before(said: &Said, taken: u64) -> bool
-    ensures { result ≡ is_before_lem taken (said_of said.now) }
+    ensures { result ≡ is_before_lem is_effective_lem taken (said_of said.now) }
 {
     is_effective(said) && said.taken < taken
 }
 
+fn has_finished_before(said: &Said, taken: u64) -> bool
+    ensures { result ≡ is_before_lem has_finished_lem taken (said_of said.now) }
+{
+    has_finished(said) && said.taken < taken
+}
+
 // What is left of a number without the rows that a statement counted, where it was taken before.
 fn without_counted(said: &Said, taken: u64, left: u64) -> u64
-    ensures { result ≡ left - before_only counted_by taken (said_of said.now) }
+    ensures { result ≡ left - before_only is_effective_lem counted_by taken (said_of said.now) }
 {
     if is_before(said, taken) {
         left.saturating_sub(rows_counted(&said.answer))
@@ -42,7 +51,7 @@ fn without_counted(said: &Said, taken: u64, left: u64) -> u64
 }
 
 fn without_all_counted(inside: &[Said], taken: u64, left: u64) -> u64
-    ensures { result ≡ left - total_before counted_by taken (all_said inside.now) }
+    ensures { result ≡ left - total_before is_effective_lem counted_by taken (all_said inside.now) }
 {
     let Some((first, rest)) = inside.split_first() else {
         return left;
@@ -102,9 +111,9 @@ fn without_found_before(
     taken: u64,
     left: u64,
 ) -> Result<u64, NoMemory>
-    ensures { IfOk result (λ n. n ≡ left - before_only (found_by events.now client) taken (said_of said.now)) }
+    ensures { IfOk result (λ n. n ≡ left - before_only has_finished_lem (found_by events.now client) taken (said_of said.now)) }
 {
-    if is_before(said, taken) {
+    if has_finished_before(said, taken) {
         without_found_by(alloc, events, client, said, left)
     } else {
         Ok(left)
@@ -119,7 +128,7 @@ fn without_all_found(
     taken: u64,
     left: u64,
 ) -> Result<u64, NoMemory>
-    ensures { IfOk result (λ n. n ≡ left - total_before (found_by events.now client) taken (all_said inside.now)) }
+    ensures { IfOk result (λ n. n ≡ left - total_before has_finished_lem (found_by events.now client) taken (all_said inside.now)) }
 {
     let Some((first, rest)) = inside.split_first() else {
         return Ok(left);

@@ -22,9 +22,9 @@ use Rattle.sdb_model.specs.declared.event.Event.{Event}
 use Rattle.sdb_model.specs.Calls.{Made, calls_of}
 use Rattle.sdb_model.specs.Causes.{is_open_after}
 use Rattle.sdb_model.specs.Counted.{is_scan}
-use Rattle.sdb_model.specs.Noted.{Got, Note, Scanned, note_of, notes_in, is_from_rows}
+use Rattle.sdb_model.specs.Noted.{Got, Note, Scanned, note_of, notes_in, has_finished}
 use Rattle.sdb_model.specs.Sql.{reads_commit}
-use Rattle.sdb_model.specs.Transactions.{Said, begins, ends, from_begin, id_of, is_effective, rest_of}
+use Rattle.sdb_model.specs.Transactions.{Said, begins, ends, from_begin, id_of, rest_of}
 use Rattle.sdb_read.specs.Read.{request_of}
 use Rattle.sdb_snapshot.specs.Seen.{Seen}
 use Rattle.sdb_steps.proofs.InTables.{access_table}
@@ -116,21 +116,17 @@ since_same events c n told s none = either (since_split n told s)
 pub since_open : (events : List Event) (c n : ℕ) (told : List Said) (s b : Said) (body : List Said) → from_begin n told ≡ b ∷ body → notes_since events c n (told ++ s ∷ []) ≡ notes_since events c n told ++ notes_told events c (s ∷ [])
 since_open events c n told s b body e = ap (λ r. notes_told events c (rest_of r)) (since_more n told s b body e) ∙ notes_more events c body s ∙ ap (λ ns. ns ++ notes_told events c (s ∷ [])) (sym (ap (λ r. notes_told events c (rest_of r)) e))
 
--- one that changes nothing
-pub none_noted : (events : List Event) (c : ℕ) (s : Said) → is_effective s ≡ false → notes_told events c (s ∷ []) ≡ []
-none_noted events c s f = ap (λ b. flat_map (λ (x : Said). notes_in (calls_of events c x)) (filter is_from_rows (if b then s ∷ [] else []))) f
+-- one whose read has not finished
+pub none_noted : (events : List Event) (c : ℕ) (s : Said) → has_finished s ≡ false → notes_told events c (s ∷ []) ≡ []
+none_noted events c s f = ap (λ b. flat_map (λ (x : Said). notes_in (calls_of events c x)) (if b then s ∷ [] else [])) f
 
 -- one that makes no call
 pub none_called : (events : List Event) (c : ℕ) (s : Said) → calls_of events c s ≡ [] → notes_told events c (s ∷ []) ≡ []
-none_called events c s none = by (is_effective s) (is_from_rows s)
+none_called events c s none = by (has_finished s)
   where
-    by_told : (t : Bool) → flat_map (λ x. notes_in (calls_of events c x)) (if t then s ∷ [] else []) ≡ []
-    by_told true = append-nil (notes_in (calls_of events c s)) ∙ ap notes_in none
-    by_told false = refl
-
-    by : (f t : Bool) → flat_map (λ x. notes_in (calls_of events c x)) (filter is_from_rows (if f then s ∷ [] else [])) ≡ []
-    by true t = by_told (is_from_rows s)
-    by false t = refl
+    by : (t : Bool) → flat_map (λ x. notes_in (calls_of events c x)) (if t then s ∷ [] else []) ≡ []
+    by true = append-nil (notes_in (calls_of events c s)) ∙ ap notes_in none
+    by false = refl
 
 ---- as events come
 

@@ -25,6 +25,7 @@ use Rattle.sdb_model.specs.Calls.{Made, calls_of, records_read}
 use Rattle.sdb_model.specs.Causes.{may_pass, records_found, refused, rows_counted}
 use Rattle.sdb_model.specs.Exec.{key_of, passes, with_named, with_sets}
 use Rattle.sdb_model.specs.Noted.{reads_rows}
+use Rattle.sdb_model.specs.Noted.{has_finished, read_finished}
 use Rattle.sdb_model.specs.Transactions.{Said, changes_nothing, from_begin, is_effective, rest_of}
 use Rattle.sdb_exec.specs.declared.plan.PlanStep.TheVariants.{Finished}
 use Rattle.sdb_exec.specs.Plans.{Planned, answer_on, changes_on, columns_at, finished, first_unfit, put_row, step_at, step_of}
@@ -35,7 +36,9 @@ use Rattle.sdb_snapshot.specs.Written.{with_writes}
 use Rattle.sdb_txn.specs.declared.txn.Doing.{Doing}
 use Rattle.sdb_txn.specs.declared.txn.Doing.TheVariants as doing
 use Rattle.sdb_txn.specs.Txn.{TxnAt}
-use Rattle.sdb_client.specs.Client.{given_answer, given_left, noting, too_many, written}
+use Rattle.sdb_client.specs.Client.{given_answer, given_left, left_by_answer, noting, too_many, written}
+use Rattle.sdb_linked.proofs.Mild.{rows_finish}
+use Rattle.sdb_steps.proofs.Asked.{from_rows}
 use Rattle.sdb_steps.proofs.InTables.{access_table}
 use Rattle.sdb_causes.specs.Filled.{IsFilled, IsFilledBy, IsFilledIn, counted_told, found_told, records_noted}
 use Rattle.sdb_causes.specs.Moves.{HasRead}
@@ -68,7 +71,7 @@ filled_nothing a x = record { writes = zero_least a; notes = zero_least x }
 ---- as events come
 
 found_stays : (events : List Event) (e : Event) (c : ℕ) (body : List Said) → found_told events c body ≤ found_told (events ++ e ∷ []) c body
-found_stays events e c body = sum_by-le-sum_by (λ b. records_found (calls_of events c b)) (λ b. records_found (calls_of (events ++ e ∷ []) c b)) (filter is_effective body) (found_grows c events e)
+found_stays events e c body = sum_by-le-sum_by (λ b. records_found (calls_of events c b)) (λ b. records_found (calls_of (events ++ e ∷ []) c b)) (filter has_finished body) (found_grows c events e)
 
 in_stays : (events : List Event) (e : Event) (c : ℕ) (body : List Said) (s : Seen) (d : Doing) → IsFilledIn events c body s d → IsFilledIn (events ++ e ∷ []) c body s d
 in_stays events e c body s doing.Idle h = filled_up (counted_told body) (counted_told body) (found_told events c body) (found_told (events ++ e ∷ []) c body) s (least (counted_told body)) (found_stays events e c body) h
@@ -85,7 +88,7 @@ counted_more : (body : List Said) (s : Said) → counted_told (body ++ s ∷ [])
 counted_more body s = ap (sum_by (λ (b : Said). rows_counted b.answer)) (filter-append is_effective body (s ∷ [])) ∙ sum_by-append (λ (b : Said). rows_counted b.answer) (filter is_effective body) (filter is_effective (s ∷ []))
 
 found_more : (events : List Event) (c : ℕ) (body : List Said) (s : Said) → found_told events c (body ++ s ∷ []) ≡ found_told events c body + found_told events c (s ∷ [])
-found_more events c body s = ap (sum_by (λ b. records_found (calls_of events c b))) (filter-append is_effective body (s ∷ [])) ∙ sum_by-append (λ b. records_found (calls_of events c b)) (filter is_effective body) (filter is_effective (s ∷ []))
+found_more events c body s = ap (sum_by (λ b. records_found (calls_of events c b))) (filter-append has_finished body (s ∷ [])) ∙ sum_by-append (λ b. records_found (calls_of events c b)) (filter has_finished body) (filter has_finished (s ∷ []))
 
 pub filled_found : (events : List Event) (e : Event) (c : ℕ) (body : List Said) (own most : ℕ) (s : Seen) → own ≤ most → IsFilledBy (counted_told body) (found_told events c body + own) s → IsFilledBy (counted_told body) (found_told (events ++ e ∷ []) c body + most) s
 filled_found events e c body own most s few = filled_up (counted_told body) (counted_told body) (found_told events c body + own) (found_told (events ++ e ∷ []) c body + most) s (least (counted_told body)) (sums (found_told events c body) (found_told (events ++ e ∷ []) c body) own most (found_stays events e c body) few)
@@ -200,11 +203,14 @@ unless b n = if b then 0 else n
 
 -- what is left where the transaction read as `v`, and was `was` before
 abbrev IsLeftBy : ℕ → ℕ → ℕ → Answer → Seen → Type 0
-IsLeftBy counted found own b s = IsFilledBy (counted + unless (changes_nothing b) (rows_counted (Some b))) (found + unless (changes_nothing b) own) s
+IsLeftBy counted found own b s = IsFilledBy (counted + unless (changes_nothing b) (rows_counted (Some b))) (found + unless (not (read_finished b)) own) s
 
 module _ (counted found own : ℕ) (was v : TxnAt) (before : IsFilledBy counted found was.seen) (now : IsFilledBy counted (found + own) v.seen) where
   as_before : IsFilledBy (counted + 0) (found + 0) was.seen
   as_before = filled_up counted (counted + 0) found (found + 0) was.seen (further counted 0) (further found 0) before
+
+  as_read : IsFilledBy (counted + 0) (found + own) v.seen
+  as_read = filled_up counted (counted + 0) (found + own) (found + own) v.seen (further counted 0) (least (found + own)) now
 
   with_changes : (b : Answer) (ks : List Keyed) → length ks ≤ rows_counted (Some b) → IsFilledBy (counted + rows_counted (Some b)) (found + own) (written v ks).seen
   with_changes b ks few = record { writes = within (length (with_writes v.seen.notes v.seen.writes ks)) (length v.seen.writes) (length ks) counted (rows_counted (Some b)) (length_all v.seen.notes v.seen.writes ks) now.writes few; notes = now.notes }
@@ -212,49 +218,58 @@ module _ (counted found own : ℕ) (was v : TxnAt) (before : IsFilledBy counted 
       within : (a b x f y : ℕ) → a ≤ b + x → b ≤ f → x ≤ y → a ≤ f + y
       within a b x f y k l m = omega arith
 
-  finished_left : (b : Answer) (ks : List Keyed) → length ks ≤ rows_counted (Some b) → IsLeftBy counted found own (given_answer v (Finished b ks)) (given_left was v (Finished b ks)).seen
-  finished_left b ks few = by (not (changes_nothing b) && too_many v ks)
+  finished_left : (b : Answer) (ks : List Keyed) → length ks ≤ rows_counted (Some b) → (changes_nothing b ≡ false → read_finished b ≡ true) → IsLeftBy counted found own (given_answer v (Finished b ks)) (given_left was v (Finished b ks)).seen
+  finished_left b ks few finishes = by (not (changes_nothing b) && too_many v ks)
     where
-      by_changes : (t : Bool) → IsFilledBy (counted + unless t (rows_counted (Some b))) (found + unless t own) (if t then was else written v ks).seen
-      by_changes true = as_before
-      by_changes false = with_changes b ks few
+      by_changes : (t f : Bool) → changes_nothing b ≡ t → read_finished b ≡ f → IsFilledBy (counted + unless t (rows_counted (Some b))) (found + unless (not f) own) (if t then (if f then v else was) else written v ks).seen
+      by_changes true true e f = as_read
+      by_changes true false e f = as_before
+      by_changes false true e f = with_changes b ks few
+      by_changes false false e f = clash (sym (finishes e) ∙ f)
 
-      by : (z : Bool) → IsLeftBy counted found own (if z then refused 15 else b) (if changes_nothing (if z then refused 15 else b) then was else written v ks).seen
-      by true = as_before
-      by false = by_changes (changes_nothing b)
+      by : (z : Bool) → IsLeftBy counted found own (if z then refused 15 else b) (left_by_answer was v (if z then refused 15 else b) ks).seen
+      by true = as_read
+      by false = by_changes (changes_nothing b) (read_finished b) refl refl
 
   given_left_by : (p : Planned) (rows : List Image) → IsLeftBy counted found own (given_answer v (step_of p rows)) (given_left was v (step_of p rows)).seen
   given_left_by p rows = by_asked p.asked
     where
       by_unfit : (o : Option Key) → IsLeftBy counted found own (given_answer v (finished p.table p.statement rows o)) (given_left was v (finished p.table p.statement rows o)).seen
-      by_unfit None = finished_left (answer_on p.table p.statement rows) (changes_on p.table p.statement rows) (counted_changes p.table p.statement rows)
-      by_unfit (Some key) = finished_left (answer.BadRecord key) [] (least 0)
+      by_unfit None = finished_left (answer_on p.table p.statement rows) (changes_on p.table p.statement rows) (counted_changes p.table p.statement rows) (λ some. rows_finish (answer_on p.table p.statement rows) (from_rows p.table p.statement rows some))
+      by_unfit (Some key) = finished_left (answer.BadRecord key) [] (least 0) (λ some. clash some)
 
       by_asked : (b : Bool) → IsLeftBy counted found own (given_answer v (step_at b p.table p.statement rows)) (given_left was v (step_at b p.table p.statement rows)).seen
       by_asked false = as_before
       by_asked true = by_unfit (first_unfit p.table rows)
 
--- what is said of a statement counts where it changed something
-one_kept : (f : Said → ℕ) (s : Said) (b : Answer) (n : ℕ) → s.answer ≡ Some b → n ≤ f s → unless (changes_nothing b) n ≤ sum_by f (filter is_effective (s ∷ []))
-one_kept f s b n is few = subst (λ z. unless (changes_nothing b) n ≤ sum_by f (if z then s ∷ [] else [])) (sym effective) (by (changes_nothing b))
+-- what is said of a statement counts where a test takes it
+one_taken : (t : Said → Bool) (f : Said → ℕ) (s : Said) (b : Bool) (n : ℕ) → t s ≡ not b → n ≤ f s → unless b n ≤ sum_by f (filter t (s ∷ []))
+one_taken t f s b n is few = subst (λ z. unless b n ≤ sum_by f (if z then s ∷ [] else [])) (sym is) (by b)
   where
-    effective : is_effective s ≡ not (changes_nothing b)
-    effective = ap (λ (o : Option Answer). not (option_map_or changes_nothing o false)) is
-
     within : (k : ℕ) → n ≤ k → n ≤ k + 0
     within k l = omega arith
 
-    by : (t : Bool) → unless t n ≤ sum_by f (if not t then s ∷ [] else [])
+    by : (z : Bool) → unless z n ≤ sum_by f (if not z then s ∷ [] else [])
     by true = least 0
     by false = subst (λ k. n ≤ k) (sym (sum_by-cons f s [])) (within (f s) few)
+
+effective_is : (s : Said) (b : Answer) → s.answer ≡ Some b → is_effective s ≡ not (changes_nothing b)
+effective_is s b is = ap (λ (o : Option Answer). not (option_map_or changes_nothing o false)) is
+
+finished_is : (s : Said) (b : Answer) → s.answer ≡ Some b → has_finished s ≡ not (not (read_finished b))
+finished_is s b is = ap (λ (o : Option Answer). option_map_or read_finished o false) is ∙ twice (read_finished b)
+  where
+    twice : (f : Bool) → f ≡ not (not f)
+    twice true = refl
+    twice false = refl
 
 -- what a statement's plan leaves, with the statement
 pub filled_given : (events : List Event) (e : Event) (c : ℕ) (body : List Said) (s : Said) (p : Planned) (rows : List Image) (was v : TxnAt) (own : ℕ) → s.answer ≡ Some (given_answer v (step_of p rows)) → own ≤ records_found (calls_of (events ++ e ∷ []) c s) → IsFilledBy (counted_told body) (found_told events c body) was.seen
     → IsFilledBy (counted_told body) (found_told events c body + own) v.seen → IsFilledBy (counted_told (body ++ s ∷ [])) (found_told (events ++ e ∷ []) c (body ++ s ∷ [])) (given_left was v (step_of p rows)).seen
 filled_given events e c body s p rows was v own is few before now =
-    filled_up (counted_told body + unless (changes_nothing (given_answer v (step_of p rows))) (rows_counted (Some (given_answer v (step_of p rows))))) (counted_told (body ++ s ∷ [])) (found_told events c body + unless (changes_nothing (given_answer v (step_of p rows))) own) (found_told (events ++ e ∷ []) c (body ++ s ∷ [])) (given_left was v (step_of p rows)).seen
-    (subst (λ n. counted_told body + unless (changes_nothing (given_answer v (step_of p rows))) (rows_counted (Some (given_answer v (step_of p rows)))) ≤ n) (sym (counted_more body s)) (sums (counted_told body) (counted_told body) (unless (changes_nothing (given_answer v (step_of p rows))) (rows_counted (Some (given_answer v (step_of p rows))))) (counted_told (s ∷ [])) (least (counted_told body)) (one_kept (λ x. rows_counted x.answer) s (given_answer v (step_of p rows)) (rows_counted (Some (given_answer v (step_of p rows)))) is (subst (λ o. rows_counted (Some (given_answer v (step_of p rows))) ≤ rows_counted o) (sym is) (least (rows_counted (Some (given_answer v (step_of p rows)))))))))
-    (subst (λ n. found_told events c body + unless (changes_nothing (given_answer v (step_of p rows))) own ≤ n) (sym (found_more (events ++ e ∷ []) c body s)) (sums (found_told events c body) (found_told (events ++ e ∷ []) c body) (unless (changes_nothing (given_answer v (step_of p rows))) own) (found_told (events ++ e ∷ []) c (s ∷ [])) (found_stays events e c body) (one_kept (λ x. records_found (calls_of (events ++ e ∷ []) c x)) s (given_answer v (step_of p rows)) own is few)))
+    filled_up (counted_told body + unless (changes_nothing (given_answer v (step_of p rows))) (rows_counted (Some (given_answer v (step_of p rows))))) (counted_told (body ++ s ∷ [])) (found_told events c body + unless (not (read_finished (given_answer v (step_of p rows)))) own) (found_told (events ++ e ∷ []) c (body ++ s ∷ [])) (given_left was v (step_of p rows)).seen
+    (subst (λ n. counted_told body + unless (changes_nothing (given_answer v (step_of p rows))) (rows_counted (Some (given_answer v (step_of p rows)))) ≤ n) (sym (counted_more body s)) (sums (counted_told body) (counted_told body) (unless (changes_nothing (given_answer v (step_of p rows))) (rows_counted (Some (given_answer v (step_of p rows))))) (counted_told (s ∷ [])) (least (counted_told body)) (one_taken is_effective (λ x. rows_counted x.answer) s (changes_nothing (given_answer v (step_of p rows))) (rows_counted (Some (given_answer v (step_of p rows)))) (effective_is s (given_answer v (step_of p rows)) is) (subst (λ o. rows_counted (Some (given_answer v (step_of p rows))) ≤ rows_counted o) (sym is) (least (rows_counted (Some (given_answer v (step_of p rows)))))))))
+    (subst (λ n. found_told events c body + unless (not (read_finished (given_answer v (step_of p rows)))) own ≤ n) (sym (found_more (events ++ e ∷ []) c body s)) (sums (found_told events c body) (found_told (events ++ e ∷ []) c body) (unless (not (read_finished (given_answer v (step_of p rows)))) own) (found_told (events ++ e ∷ []) c (s ∷ [])) (found_stays events e c body) (one_taken has_finished (λ x. records_found (calls_of (events ++ e ∷ []) c x)) s (not (read_finished (given_answer v (step_of p rows)))) own (finished_is s (given_answer v (step_of p rows)) is) few)))
     (given_left_by (counted_told body) (found_told events c body) own was v before now p rows)
   where
     sums : (a b x y : ℕ) → a ≤ b → x ≤ y → a + x ≤ b + y

@@ -26,7 +26,9 @@ use Rattle.sdb_model.specs.declared.statement.Statement.TheVariants as statement
 use Rattle.sdb_model.specs.Causes.{IsBadRecord, IsCaused, MayPassMost, before, is_open, refused}
 use Rattle.sdb_model.specs.Exec.{all_rows, key_of, named_table}
 use Rattle.sdb_model.specs.Sql.{Reads}
+use Rattle.sdb_model.specs.Noted.{read_finished}
 use Rattle.sdb_model.specs.Transactions.{Said, changes_nothing, is_answered_from_rows, is_conflict, is_done}
+use Rattle.sdb_linked.proofs.Mild.{rows_finish}
 use Rattle.sdb_exec.specs.declared.plan.PlanStep.{PlanStep}
 use Rattle.sdb_exec.specs.declared.plan.PlanStep.TheVariants.{Finished, Read as Wants}
 use Rattle.sdb_exec.specs.Plans.{Planned, answer_on, changes_on, columns_at, finished, first_unfit, is_unfit, step_at, step_of}
@@ -130,14 +132,23 @@ gives_rows p rows t = by_asked p.asked
     by_asked false h = clash h
     by_asked true h = by_unfit (first_unfit p.table rows) h
 
--- what is left has read what was read before, or what was read now
-pub left_by : (was t : TxnAt) (x : PlanStep) → ((changes_nothing (given_answer t x) ≡ true) × ((given_left was t x).seen ≡ was.seen)) ⊎ ((changes_nothing (given_answer t x) ≡ false) × ((given_left was t x).seen.reads ≡ t.seen.reads) × ((given_left was t x).seen.scans ≡ t.seen.scans))
-left_by was t (Finished a ks) = by (changes_nothing (given_answer t (Finished a ks))) refl
+-- what is left has read what was read before, where the read has not finished, or what was read now
+pub left_by : (was t : TxnAt) (x : PlanStep) → (changes_nothing (given_answer t x) ≡ false → read_finished (given_answer t x) ≡ true)
+    → ((read_finished (given_answer t x) ≡ false) × ((given_left was t x).seen ≡ was.seen)) ⊎ ((read_finished (given_answer t x) ≡ true) × ((given_left was t x).seen.reads ≡ t.seen.reads) × ((given_left was t x).seen.scans ≡ t.seen.scans))
+left_by was t (Finished a ks) finishes = by (changes_nothing (given_answer t (Finished a ks))) (read_finished (given_answer t (Finished a ks))) refl refl
   where
-    by : (b : Bool) → changes_nothing (given_answer t (Finished a ks)) ≡ b → ((changes_nothing (given_answer t (Finished a ks)) ≡ true) × ((if b then was else written t ks).seen ≡ was.seen)) ⊎ ((changes_nothing (given_answer t (Finished a ks)) ≡ false) × ((if b then was else written t ks).seen.reads ≡ t.seen.reads) × ((if b then was else written t ks).seen.scans ≡ t.seen.scans))
-    by true e = inl (e, refl)
-    by false e = inr (e, refl, refl)
-left_by was t (Wants a) = inl (refl, refl)
+    by : (b f : Bool) → changes_nothing (given_answer t (Finished a ks)) ≡ b → read_finished (given_answer t (Finished a ks)) ≡ f
+        → ((read_finished (given_answer t (Finished a ks)) ≡ false) × ((if b then (if f then t else was) else written t ks).seen ≡ was.seen))
+        ⊎ ((read_finished (given_answer t (Finished a ks)) ≡ true) × ((if b then (if f then t else was) else written t ks).seen.reads ≡ t.seen.reads) × ((if b then (if f then t else was) else written t ks).seen.scans ≡ t.seen.scans))
+    by true true e f = inr (f, refl, refl)
+    by true false e f = inl (f, refl)
+    by false true e f = inr (f, refl, refl)
+    by false false e f = clash (sym (finishes e) ∙ f)
+left_by was t (Wants a) finishes = inl (refl, refl)
+
+-- a plan's answer that changes something is one whose read has finished
+pub gives_finished : (p : Planned) (rows : List Image) (t : TxnAt) → changes_nothing (given_answer t (step_of p rows)) ≡ false → read_finished (given_answer t (step_of p rows)) ≡ true
+gives_finished p rows t some = rows_finish (given_answer t (step_of p rows)) (gives_rows p rows t some)
 
 ---- the rows of an access are of its table
 

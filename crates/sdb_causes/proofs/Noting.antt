@@ -17,9 +17,9 @@ use Rattle.sdb_model.specs.declared.answer.Answer.{Answer}
 use Rattle.sdb_model.specs.declared.answer.Answer.TheVariants as answer
 use Rattle.sdb_model.specs.declared.event.Event.{Event}
 use Rattle.sdb_model.specs.Calls.{calls_of}
-use Rattle.sdb_model.specs.Noted.{Got, Note, Scanned, noted_in, notes_in, is_from_rows}
+use Rattle.sdb_model.specs.Noted.{Got, Note, Scanned, noted_in, notes_in, has_finished}
 use Rattle.sdb_model.specs.Sql.{reads_commit}
-use Rattle.sdb_model.specs.Transactions.{Said, begins, body, client_of, ends, from_begin, id_of, is_conflict, is_effective, ordinal_of, rest_of, said}
+use Rattle.sdb_model.specs.Transactions.{Said, begins, client_of, ends, from_begin, id_of, is_conflict, ordinal_of, rest_of, said, statements_inside}
 use Rattle.sdb_snapshot.specs.Seen.{Seen}
 use Rattle.sdb_txn.specs.Txn.{TxnAt}
 use Rattle.sdb_turns.proofs.Lists.{each_more}
@@ -64,32 +64,20 @@ take_ends s more e = take_while-cons (λ x. not (ends x)) s more ∙ ap (λ b. c
 -- what a transaction noted, whose statements since its BEGIN these are
 pub noted_since : (events : List Event) (c n : ℕ) (b : Said) (rest : List Said) → n < 2 ^ 64 → from_begin n (said c events) ≡ b ∷ rest → noted_in events (id_of c n) ≡ notes_told events c (take_while (λ s. not (ends s)) rest)
 noted_since events c n b rest small since =
-    ap (λ d. flat_map (λ s. notes_in (calls_of events d s)) (filter is_from_rows (body events (id_of c n)))) (client_is c n small)
-    ∙ ap (λ ss. flat_map (λ s. notes_in (calls_of events c s)) (filter is_from_rows (filter is_effective (take_while (λ s. not (ends s)) (rest_of ss)))))
+    ap (λ d. flat_map (λ s. notes_in (calls_of events d s)) (filter has_finished (statements_inside events (id_of c n)))) (client_is c n small)
+    ∙ ap (λ ss. flat_map (λ s. notes_in (calls_of events c s)) (filter has_finished (take_while (λ s. not (ends s)) (rest_of ss))))
     (ap (λ d. from_begin (ordinal_of (id_of c n)) (said d events)) (client_is c n small) ∙ ap (λ k. from_begin k (said c events)) (ordinal_is c n small) ∙ since)
 
 ---- as events come
 
-told_stay : (catalog : List Table) (events : List Event) (e : Event) (c : ℕ) (ss : List Said) → AllByRecursion (IsAnswered catalog events c) ss → flat_map (λ s. notes_in (calls_of (events ++ e ∷ []) c s)) (filter is_from_rows (filter is_effective ss)) ≡ flat_map (λ s. notes_in (calls_of events c s)) (filter is_from_rows (filter is_effective ss))
-told_stay catalog events e c [] all = refl
-told_stay catalog events e c (s ∷ ss) all = by (is_effective s) (is_from_rows s) (told_stay catalog events e c ss all.1)
-  where
-    same : notes_in (calls_of (events ++ e ∷ []) c s) ≡ notes_in (calls_of events c s)
-    same = ap notes_in (calls_stay c events e s all.0.given all.0.is all.0.answered)
-
-    by_told : (t : Bool) → flat_map (λ x. notes_in (calls_of (events ++ e ∷ []) c x)) (filter is_from_rows (filter is_effective ss)) ≡ flat_map (λ x. notes_in (calls_of events c x)) (filter is_from_rows (filter is_effective ss))
-        → flat_map (λ x. notes_in (calls_of (events ++ e ∷ []) c x)) (if t then s ∷ filter is_from_rows (filter is_effective ss) else filter is_from_rows (filter is_effective ss)) ≡ flat_map (λ x. notes_in (calls_of events c x)) (if t then s ∷ filter is_from_rows (filter is_effective ss) else filter is_from_rows (filter is_effective ss))
-    by_told true ih = ap (λ ns. ns ++ flat_map (λ x. notes_in (calls_of (events ++ e ∷ []) c x)) (filter is_from_rows (filter is_effective ss))) same ∙ ap (λ ns. notes_in (calls_of events c s) ++ ns) ih
-    by_told false ih = ih
-
-    by : (f t : Bool) → flat_map (λ x. notes_in (calls_of (events ++ e ∷ []) c x)) (filter is_from_rows (filter is_effective ss)) ≡ flat_map (λ x. notes_in (calls_of events c x)) (filter is_from_rows (filter is_effective ss))
-        → flat_map (λ x. notes_in (calls_of (events ++ e ∷ []) c x)) (filter is_from_rows (if f then s ∷ filter is_effective ss else filter is_effective ss)) ≡ flat_map (λ x. notes_in (calls_of events c x)) (filter is_from_rows (if f then s ∷ filter is_effective ss else filter is_effective ss))
-    by true t ih = by_told (is_from_rows s) ih
-    by false t ih = ih
-
 -- what was noted stays
 pub notes_stay : (catalog : List Table) (events : List Event) (e : Event) (c : ℕ) (ss : List Said) → AllByRecursion (IsAnswered catalog events c) ss → notes_told (events ++ e ∷ []) c ss ≡ notes_told events c ss
-notes_stay catalog events e c ss all = told_stay catalog events e c ss all
+notes_stay catalog events e c [] all = refl
+notes_stay catalog events e c (s ∷ ss) all = by (has_finished s) (notes_stay catalog events e c ss all.1)
+  where
+    by : (b : Bool) → notes_told (events ++ e ∷ []) c ss ≡ notes_told events c ss → flat_map (λ x. notes_in (calls_of (events ++ e ∷ []) c x)) (if b then s ∷ filter has_finished ss else filter has_finished ss) ≡ flat_map (λ x. notes_in (calls_of events c x)) (if b then s ∷ filter has_finished ss else filter has_finished ss)
+    by true ih = ap (λ ms. notes_in ms ++ notes_told (events ++ e ∷ []) c ss) (calls_stay c events e s all.0.given all.0.is all.0.answered) ∙ ap (λ ns. notes_in (calls_of events c s) ++ ns) ih
+    by false ih = ih
 
 pub each_front : (P : Said → Type 0) (ss : List Said) (s : Said) → AllByRecursion P (ss ++ s ∷ []) → AllByRecursion P ss
 each_front P [] s all = tt
@@ -103,17 +91,11 @@ each_last P (x ∷ ss) s all = each_last P ss s all.1
 
 -- what it noted is after what was noted
 pub notes_more : (events : List Event) (c : ℕ) (ss : List Said) (s : Said) → notes_told events c (ss ++ s ∷ []) ≡ notes_told events c ss ++ notes_told events c (s ∷ [])
-notes_more events c ss s =
-    ap (λ xs. flat_map (λ x. notes_in (calls_of events c x)) (filter is_from_rows xs)) (filter-append is_effective ss (s ∷ []))
-    ∙ ap (flat_map (λ x. notes_in (calls_of events c x))) (filter-append is_from_rows (filter is_effective ss) (filter is_effective (s ∷ [])))
-    ∙ flat_map-append (λ x. notes_in (calls_of events c x)) (filter is_from_rows (filter is_effective ss)) (filter is_from_rows (filter is_effective (s ∷ [])))
+notes_more events c ss s = ap (flat_map (λ x. notes_in (calls_of events c x))) (filter-append has_finished ss (s ∷ [])) ∙ flat_map-append (λ x. notes_in (calls_of events c x)) (filter has_finished ss) (filter has_finished (s ∷ []))
 
--- of one that was answered from rows that is what its calls noted
-pub notes_one : (events : List Event) (c : ℕ) (s : Said) → is_effective s ≡ true → is_from_rows s ≡ true → notes_told events c (s ∷ []) ≡ notes_in (calls_of events c s)
-notes_one events c s e t =
-    ap (λ b. flat_map (λ x. notes_in (calls_of events c x)) (filter is_from_rows (if b then s ∷ [] else []))) e
-    ∙ ap (λ b. flat_map (λ x. notes_in (calls_of events c x)) (if b then s ∷ [] else [])) t
-    ∙ append-nil (notes_in (calls_of events c s))
+-- of one whose read has finished that is what its calls noted
+pub notes_one : (events : List Event) (c : ℕ) (s : Said) → has_finished s ≡ true → notes_told events c (s ∷ []) ≡ notes_in (calls_of events c s)
+notes_one events c s e = ap (λ b. flat_map (λ x. notes_in (calls_of events c x)) (if b then s ∷ [] else [])) e ∙ append-nil (notes_in (calls_of events c s))
 
 -- what was read and scanned is still noted
 pub seen_more : (notes more : List Note) (s u : Seen) → u.reads ≡ s.reads → u.scans ≡ s.scans → SeenBy notes s → SeenBy (notes ++ more) u

@@ -13,9 +13,10 @@ use Rattle.sdb_model.specs.declared.event.Event.TheVariants as event
 use Rattle.sdb_model.specs.declared.statement.Statement.{Statement}
 use Rattle.sdb_model.specs.declared.statement.Statement.TheVariants as statement
 use Rattle.sdb_model.specs.Calls.{Made, calls_by, calls_of, made_by, records_read}
-use Rattle.sdb_model.specs.Causes.{MayPassMost, body_before, may_pass, records_found, rows_counted, counted_by}
+use Rattle.sdb_model.specs.Causes.{MayPassMost, body_before, finished_before, may_pass, records_found, rows_counted, counted_by}
 use Rattle.sdb_model.specs.Noted.{reads_rows}
 use Rattle.sdb_model.specs.Sql.{Reads}
+use Rattle.sdb_model.specs.Noted.{has_finished}
 use Rattle.sdb_model.specs.Transactions.{Said, client_of, ends, from_begin, id_of, is_effective, ordinal_of, rest_of, said, said_after, through_end, with_answer}
 use Rattle.sdb_types.proofs.Basics.{none_some}
 use Rattle.sdb_causes.specs.Filled.{counted_told, found_told}
@@ -142,15 +143,15 @@ since_adds F n ss x none adds = by (from_begin n ss) refl
 
 ---- what was counted and found before a statement
 
--- the body before a statement, by what the client said
-abbrev before_in : ℕ → Said → List Said → List Said
-before_in n s ss = filter (λ b. nat_lt b.taken s.taken) (filter is_effective (take_while (λ x. not (ends x)) (rest_of (from_begin n ss))))
+-- those of the statements before a statement that a test takes, by what the client said
+abbrev before_in : (Said → Bool) → ℕ → Said → List Said → List Said
+before_in t n s ss = filter (λ b. nat_lt b.taken s.taken) (filter t (take_while (λ x. not (ends x)) (rest_of (from_begin n ss))))
 
-abbrev kept : Said → List Said → List Said
-kept s ss = filter (λ b. nat_lt b.taken s.taken) (filter is_effective ss)
+abbrev kept : (Said → Bool) → Said → List Said → List Said
+kept t s ss = filter (λ b. nat_lt b.taken s.taken) (filter t ss)
 
-kept_append : (s : Said) (xs ys : List Said) → kept s (xs ++ ys) ≡ kept s xs ++ kept s ys
-kept_append s xs ys = ap (filter (λ b. nat_lt b.taken s.taken)) (filter-append is_effective xs ys) ∙ filter-append (λ b. nat_lt b.taken s.taken) (filter is_effective xs) (filter is_effective ys)
+kept_append : (t : Said → Bool) (s : Said) (xs ys : List Said) → kept t s (xs ++ ys) ≡ kept t s xs ++ kept t s ys
+kept_append t s xs ys = ap (filter (λ b. nat_lt b.taken s.taken)) (filter-append t xs ys) ∙ filter-append (λ b. nat_lt b.taken s.taken) (filter t xs) (filter t ys)
 
 sum_front : (f : Said → ℕ) (xs ys : List Said) → sum_by f xs ≤ sum_by f (xs ++ ys)
 sum_front f xs ys = subst (λ n. sum_by f xs ≤ n) (sym (sum_by-append f xs ys)) (more (sum_by f xs) (sum_by f ys))
@@ -162,24 +163,24 @@ open_more : (n : ℕ) (ss : List Said) (x : Said) → Adds (take_while (λ s. no
 open_more n ss x = since_adds (take_while (λ s. not (ends s))) n ss x refl (λ body. open_adds body x)
 
 -- with a statement more no less was
-before_more : (f : Said → ℕ) (n : ℕ) (s : Said) (ss : List Said) (x : Said) → sum_by f (before_in n s ss) ≤ sum_by f (before_in n s (ss ++ x ∷ []))
-before_more f n s ss x =
+before_more : (t : Said → Bool) (f : Said → ℕ) (n : ℕ) (s : Said) (ss : List Said) (x : Said) → sum_by f (before_in t n s ss) ≤ sum_by f (before_in t n s (ss ++ x ∷ []))
+before_more t f n s ss x =
     let a = open_more n ss x in
-    subst (λ ts. sum_by f (before_in n s ss) ≤ sum_by f ts) (sym (ap (kept s) a.2 ∙ kept_append s (take_while (λ s. not (ends s)) (rest_of (from_begin n ss))) a.0)) (sum_front f (before_in n s ss) (kept s a.0))
+    subst (λ ts. sum_by f (before_in t n s ss) ≤ sum_by f ts) (sym (ap (kept t s) a.2 ∙ kept_append t s (take_while (λ s. not (ends s)) (rest_of (from_begin n ss))) a.0)) (sum_front f (before_in t n s ss) (kept t s a.0))
 
 -- one that was taken later doesn't count
-before_apart : (f : Said → ℕ) (n : ℕ) (s : Said) (ss : List Said) (x : Said) → nat_lt x.taken s.taken ≡ false → sum_by f (before_in n s (ss ++ x ∷ [])) ≡ sum_by f (before_in n s ss)
-before_apart f n s ss x later =
+before_apart : (t : Said → Bool) (f : Said → ℕ) (n : ℕ) (s : Said) (ss : List Said) (x : Said) → nat_lt x.taken s.taken ≡ false → sum_by f (before_in t n s (ss ++ x ∷ [])) ≡ sum_by f (before_in t n s ss)
+before_apart t f n s ss x later =
     let a = open_more n ss x in
-    ap (sum_by f) (ap (kept s) a.2 ∙ kept_append s (take_while (λ s. not (ends s)) (rest_of (from_begin n ss))) a.0 ∙ ap (λ ys. before_in n s ss ++ ys) (none a.0 a.1) ∙ append-nil (before_in n s ss))
+    ap (sum_by f) (ap (kept t s) a.2 ∙ kept_append t s (take_while (λ s. not (ends s)) (rest_of (from_begin n ss))) a.0 ∙ ap (λ ys. before_in t n s ss ++ ys) (none a.0 a.1) ∙ append-nil (before_in t n s ss))
   where
     one : (b : Bool) → filter (λ b. nat_lt b.taken s.taken) (if b then x ∷ [] else []) ≡ []
     one true = ap (λ b. if b then x ∷ [] else []) later
     one false = refl
 
-    none : (y : List Said) → (y ≡ []) ⊎ (y ≡ x ∷ []) → kept s y ≡ []
-    none y (inl e) = ap (kept s) e
-    none y (inr e) = ap (kept s) e ∙ one (is_effective x)
+    none : (y : List Said) → (y ≡ []) ⊎ (y ≡ x ∷ []) → kept t s y ≡ []
+    none y (inl e) = ap (kept t s) e
+    none y (inr e) = ap (kept t s) e ∙ one (t x)
 
 pub least : (n : ℕ) → n ≤ n
 least n = omega arith
@@ -196,13 +197,13 @@ apart_last front w s a none is has = by (Contains-push_cases front w s has)
     by (inr e) = absurd (none_some a (sym none ∙ ap (λ (x : Said). x.answer) e ∙ is))
 
 -- as its client's statements grow, no less was counted and found before it
-before_grows : (f : Said → ℕ) (n : ℕ) (s : Said) (ss ts : List Said) → ((front : List Said) (w : Said) → ss ≡ front ++ w ∷ [] → w.answer ≡ None → nat_lt w.taken s.taken ≡ false) → Grows ss ts → sum_by f (before_in n s ss) ≤ sum_by f (before_in n s ts)
-before_grows f n s ss ts later (inl e) = subst (λ xs. sum_by f (before_in n s ss) ≤ sum_by f (before_in n s xs)) (sym e) (least (sum_by f (before_in n s ss)))
-before_grows f n s ss ts later (inr (inl (x, e))) = subst (λ xs. sum_by f (before_in n s ss) ≤ sum_by f (before_in n s xs)) (sym e) (before_more f n s ss x)
-before_grows f n s ss ts later (inr (inr (front, w, x, e, none, g))) =
-    subst (λ xs. sum_by f (before_in n s xs) ≤ sum_by f (before_in n s ts)) (sym e)
-    (subst (λ xs. sum_by f (before_in n s (front ++ w ∷ [])) ≤ sum_by f (before_in n s xs)) (sym g)
-    (subst (λ k. k ≤ sum_by f (before_in n s (front ++ x ∷ []))) (sym (before_apart f n s front w (later front w e none))) (before_more f n s front x)))
+before_grows : (t : Said → Bool) (f : Said → ℕ) (n : ℕ) (s : Said) (ss ts : List Said) → ((front : List Said) (w : Said) → ss ≡ front ++ w ∷ [] → w.answer ≡ None → nat_lt w.taken s.taken ≡ false) → Grows ss ts → sum_by f (before_in t n s ss) ≤ sum_by f (before_in t n s ts)
+before_grows t f n s ss ts later (inl e) = subst (λ xs. sum_by f (before_in t n s ss) ≤ sum_by f (before_in t n s xs)) (sym e) (least (sum_by f (before_in t n s ss)))
+before_grows t f n s ss ts later (inr (inl (x, e))) = subst (λ xs. sum_by f (before_in t n s ss) ≤ sum_by f (before_in t n s xs)) (sym e) (before_more t f n s ss x)
+before_grows t f n s ss ts later (inr (inr (front, w, x, e, none, g))) =
+    subst (λ xs. sum_by f (before_in t n s xs) ≤ sum_by f (before_in t n s ts)) (sym e)
+    (subst (λ xs. sum_by f (before_in t n s (front ++ w ∷ [])) ≤ sum_by f (before_in t n s xs)) (sym g)
+    (subst (λ k. k ≤ sum_by f (before_in t n s (front ++ x ∷ []))) (sym (before_apart t f n s front w (later front w e none))) (before_more t f n s front x)))
 
 -- and it stays one of its transaction
 in_more : (n : ℕ) (ss : List Said) (x s : Said) → Contains (through_end (rest_of (from_begin n ss))) s → Contains (through_end (rest_of (from_begin n (ss ++ x ∷ [])))) s
@@ -292,7 +293,7 @@ passes_more a b x y statement.Rollback l m h = absurd (cc)
 passes_more a b x y statement.Vacuum l m h = absurd (cc)
 
 abbrev found_at : List Event → ℕ → TxId → Said → ℕ
-found_at es c id s = sum_by (λ b. records_found (calls_of es c b)) (body_before es id s)
+found_at es c id s = sum_by (λ b. records_found (calls_of es c b)) (finished_before es id s)
 
 -- A statement that was answered, and may pass the most, still may.
 pub pass_stays : (c : ℕ) (events : List Event) (e : Event) (s : Said) (a : Answer) → Grows (said c events) (said c (events ++ e ∷ [])) → s.answer ≡ Some a → MayPassMost events c s → MayPassMost (events ++ e ∷ []) c s
@@ -318,14 +319,14 @@ pass_stays c events e s a grows is h = record {
         later : (m n : ℕ) → n < m → nat_lt m n ≡ false
         later m n l = grind (arith, nat_tests)
 
-    grown : (f : Said → ℕ) → sum_by f (body_before events h.id s) ≤ sum_by f (body_before (events ++ e ∷ []) h.id s)
-    grown f = before_grows f (ordinal_of h.id) s (said (client_of h.id) events) (said (client_of h.id) (events ++ e ∷ [])) waits_later grows_id
+    grown : (t : Said → Bool) (f : Said → ℕ) → sum_by f (before_in t (ordinal_of h.id) s (said (client_of h.id) events)) ≤ sum_by f (before_in t (ordinal_of h.id) s (said (client_of h.id) (events ++ e ∷ [])))
+    grown t f = before_grows t f (ordinal_of h.id) s (said (client_of h.id) events) (said (client_of h.id) (events ++ e ∷ [])) waits_later grows_id
 
     counted : sum_by counted_by (body_before events h.id s) ≤ sum_by counted_by (body_before (events ++ e ∷ []) h.id s)
-    counted = grown counted_by
+    counted = grown is_effective counted_by
 
     found : found_at events c h.id s ≤ found_at (events ++ e ∷ []) c h.id s
-    found = through (found_at events c h.id s) (sum_by (λ b. records_found (calls_of (events ++ e ∷ []) c b)) (body_before events h.id s)) (found_at (events ++ e ∷ []) c h.id s) (sum_by-le-sum_by (λ b. records_found (calls_of events c b)) (λ b. records_found (calls_of (events ++ e ∷ []) c b)) (body_before events h.id s) (found_grows c events e)) (grown (λ b. records_found (calls_of (events ++ e ∷ []) c b)))
+    found = through (found_at events c h.id s) (sum_by (λ b. records_found (calls_of (events ++ e ∷ []) c b)) (finished_before events h.id s)) (found_at (events ++ e ∷ []) c h.id s) (sum_by-le-sum_by (λ b. records_found (calls_of events c b)) (λ b. records_found (calls_of (events ++ e ∷ []) c b)) (finished_before events h.id s) (found_grows c events e)) (grown has_finished (λ b. records_found (calls_of (events ++ e ∷ []) c b)))
 
 ---- the last statement
 
@@ -337,7 +338,7 @@ pass_now c n events told begin s body st small same since goes_on reads past = r
   statement = st;
   within = (client_is c n small, subst (λ ss. Contains (through_end (rest_of ss)) s) (sym said_is) (subst (λ ss. Contains ss s) (sym (through_last body goes_on)) (Contains-append_right body (s ∷ []) s (Contains-push [] s))));
   read = reads;
-  past = passes_more (counted_told body) (sum_by (λ b. rows_counted b.answer) (body_before events (id_of c n) s)) (found_told events c body + records_found (calls_of events c s)) (sum_by (λ b. records_found (calls_of events c b)) (body_before events (id_of c n) s) + records_found (calls_of events c s)) st (grown (λ b. rows_counted b.answer)) (plus (found_told events c body) (sum_by (λ b. records_found (calls_of events c b)) (body_before events (id_of c n) s)) (records_found (calls_of events c s)) (grown (λ b. records_found (calls_of events c b)))) past;
+  past = passes_more (counted_told body) (sum_by (λ b. rows_counted b.answer) (body_before events (id_of c n) s)) (found_told events c body + records_found (calls_of events c s)) (sum_by (λ b. records_found (calls_of events c b)) (finished_before events (id_of c n) s) + records_found (calls_of events c s)) st (grown is_effective (λ b. rows_counted b.answer)) (plus (found_told events c body) (sum_by (λ b. records_found (calls_of events c b)) (finished_before events (id_of c n) s)) (records_found (calls_of events c s)) (grown has_finished (λ b. records_found (calls_of events c b)))) past;
 }
   where
     plus : (a b x : ℕ) → a ≤ b → a + x ≤ b + x
@@ -355,23 +356,23 @@ pass_now c n events told begin s body st small same since goes_on reads past = r
     through_last (x ∷ xs) all = ap (λ b. if b then x ∷ [] else x ∷ through_end (xs ++ s ∷ [])) all.0 ∙ ap (λ r. x ∷ r) (through_last xs all.1)
 
     -- all of the body was taken before it
-    none_dropped : (xs : List Said) → AllByRecursion (λ b. b.taken < s.taken) xs → kept s xs ≡ filter is_effective xs
-    none_dropped [] all = refl
-    none_dropped (x ∷ xs) all = by (is_effective x) (none_dropped xs all.1)
+    none_dropped : (t : Said → Bool) (xs : List Said) → AllByRecursion (λ b. b.taken < s.taken) xs → kept t s xs ≡ filter t xs
+    none_dropped t [] all = refl
+    none_dropped t (x ∷ xs) all = by (t x) (none_dropped t xs all.1)
       where
         below : (a b : ℕ) → a < b → nat_lt a b ≡ true
         below a b l = grind (arith, nat_tests)
 
-        by : (b : Bool) → kept s xs ≡ filter is_effective xs → filter (λ b. nat_lt b.taken s.taken) (if b then x ∷ filter is_effective xs else filter is_effective xs) ≡ (if b then x ∷ filter is_effective xs else filter is_effective xs)
-        by true ih = ap (λ b. if b then x ∷ kept s xs else kept s xs) (below x.taken s.taken all.0) ∙ ap (λ r. x ∷ r) ih
+        by : (b : Bool) → kept t s xs ≡ filter t xs → filter (λ b. nat_lt b.taken s.taken) (if b then x ∷ filter t xs else filter t xs) ≡ (if b then x ∷ filter t xs else filter t xs)
+        by true ih = ap (λ b. if b then x ∷ kept t s xs else kept t s xs) (below x.taken s.taken all.0) ∙ ap (λ r. x ∷ r) ih
         by false ih = ih
 
-    body_is : body_before events (id_of c n) s ≡ filter is_effective body ++ kept s (take_while (λ x. not (ends x)) (s ∷ []))
-    body_is =
-        ap (λ ss. kept s (take_while (λ x. not (ends x)) (rest_of ss))) said_is
-        ∙ ap (kept s) (take_open body (s ∷ []) goes_on)
-        ∙ kept_append s body (take_while (λ x. not (ends x)) (s ∷ []))
-        ∙ ap (λ r. r ++ kept s (take_while (λ x. not (ends x)) (s ∷ []))) (none_dropped body (since_all (λ b. b.taken < s.taken) n told begin body (taken_before c events told s same) since))
+    before_is : (t : Said → Bool) → before_in t (ordinal_of (id_of c n)) s (said (client_of (id_of c n)) events) ≡ filter t body ++ kept t s (take_while (λ x. not (ends x)) (s ∷ []))
+    before_is t =
+        ap (λ ss. kept t s (take_while (λ x. not (ends x)) (rest_of ss))) said_is
+        ∙ ap (kept t s) (take_open body (s ∷ []) goes_on)
+        ∙ kept_append t s body (take_while (λ x. not (ends x)) (s ∷ []))
+        ∙ ap (λ r. r ++ kept t s (take_while (λ x. not (ends x)) (s ∷ []))) (none_dropped t body (since_all (λ b. b.taken < s.taken) n told begin body (taken_before c events told s same) since))
 
-    grown : (f : Said → ℕ) → sum_by f (filter is_effective body) ≤ sum_by f (body_before events (id_of c n) s)
-    grown f = subst (λ ss. sum_by f (filter is_effective body) ≤ sum_by f ss) (sym body_is) (sum_front f (filter is_effective body) (kept s (take_while (λ x. not (ends x)) (s ∷ []))))
+    grown : (t : Said → Bool) (f : Said → ℕ) → sum_by f (filter t body) ≤ sum_by f (before_in t (ordinal_of (id_of c n)) s (said (client_of (id_of c n)) events))
+    grown t f = subst (λ ss. sum_by f (filter t body) ≤ sum_by f ss) (sym (before_is t)) (sum_front f (filter t body) (kept t s (take_while (λ x. not (ends x)) (s ∷ []))))

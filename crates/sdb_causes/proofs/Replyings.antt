@@ -27,7 +27,7 @@ use Rattle.sdb_model.specs.Exec.{find_table, table_of}
 use Rattle.sdb_sqltext.proofs.OneWord.{vacuum_read}
 use Rattle.sdb_steps.proofs.Taken.{other_no_commit}
 use Rattle.sdb_model.specs.Sql.{Reads, reads_commit, reads_rollback, reads_vacuum}
-use Rattle.sdb_model.specs.Transactions.{Said, begins, changes_nothing, is_answered_from_rows, ends, from_begin, id_of, is_conflict, is_done, rest_of, said}
+use Rattle.sdb_model.specs.Transactions.{Said, begins, changes_nothing, ends, from_begin, id_of, is_conflict, is_done, rest_of, said}
 use Rattle.sdb_exec.specs.Plans.{Planned, changes_on, first_unfit}
 use Rattle.sdb_commit.specs.Phases.{CommitAt, IsNext, ended_at}
 use Rattle.sdb_phases.specs.declared.step.Outcome.{Outcome}
@@ -35,7 +35,7 @@ use Rattle.sdb_phases.specs.Commit.{Stage, Over, pending as commit_pending, step
 use Rattle.sdb_phases.specs.Work.{Work}
 use Rattle.sdb_read.specs.declared.read.ReadStep.TheVariants as step
 use Rattle.sdb_read.specs.Read.{Asking, Ended, ReadAt, ReadStage, Resolving, read_pending_at, read_result, read_step, request_of}
-use Rattle.sdb_model.specs.Noted.{Note, notes_in}
+use Rattle.sdb_model.specs.Noted.{Note, notes_in, read_finished}
 use Rattle.sdb_snapshot.specs.Held.{WereRead}
 use Rattle.sdb_snapshot.specs.Seen.{Seen, overlay}
 use Rattle.sdb_txn.specs.declared.progress.Progress.TheVariants as progress
@@ -83,7 +83,7 @@ use Rattle.sdb_causes.proofs.Calls.{before_same, call_said, calls_open, clock_mo
 use Rattle.sdb_causes.proofs.Filling.{filled_few, filled_found, filled_given, filled_idle, filled_more, filled_noting, filled_stays, images_few, passes_given}
 use Rattle.sdb_causes.proofs.Passing.{pass_now, least}
 use Rattle.sdb_causes.proofs.Unfit.{fits_now, given_fits, misfit_read, shown_bad}
-use Rattle.sdb_causes.proofs.Given.{IsMiddle, given_caused, given_middle, gives_rows, left_by}
+use Rattle.sdb_causes.proofs.Given.{IsMiddle, given_caused, given_middle, left_by, gives_finished}
 use Rattle.sdb_causes.proofs.Knowing.{after_end, after_more, after_plain, open_more}
 use Rattle.sdb_causes.proofs.Later.{answered_stay, waiting_stays}
 use Rattle.sdb_causes.proofs.Lists.{begun_same, since_more, each_kept}
@@ -197,7 +197,7 @@ module _ (catalog : List Table) (events : List Event) (hands : ℕ → Hand) (y 
     rolls_now = subst (λ (o : Option Said). IfSome o (λ x. WaitRolls events (reads_vacuum x.text) (calls_of events c x) h.vacuum h.txn)) waiting k.rolled.waits
 
     abbrev RollsThen : Answer → Type 0
-    RollsThen b = is_answered_from_rows b ≡ true → RolledBut (E (Some b)) (reads_vacuum w.text) (ms ++ made ∷ []) []
+    RollsThen b = read_finished b ≡ true → RolledBut (E (Some b)) (reads_vacuum w.text) (ms ++ made ∷ []) []
 
     -- what its calls come to where it is answered, and what its transaction has then noted
     abbrev CountsThen : Answer → Client → Type 0
@@ -227,7 +227,7 @@ module _ (catalog : List Table) (events : List Event) (hands : ℕ → Hand) (y 
       filled = filled;
       fits = fits;
       stored = all_stored (Some b);
-      rolled = rolls_end catalog c events (call_event y (Some b)) k.told k.waiting h k.answered k.rolled (done b) d (ms ++ made ∷ []) (calls_done b) (λ a e rows. rolls (ap is_answered_from_rows (some_is b a e) ∙ rows));
+      rolled = rolls_end catalog c events (call_event y (Some b)) k.told k.waiting h k.answered k.rolled (done b) d (ms ++ made ∷ []) (calls_done b) (λ a e rows. rolls (ap read_finished (some_is b a e) ∙ rows));
       shows = shows_end catalog c events (call_event y (Some b)) k.told k.answered h k.shows k.counted.paired (done b) b d refl shows;
     }
       where
@@ -287,8 +287,8 @@ module _ (catalog : List Table) (events : List Event) (hands : ℕ → Hand) (y 
       open_noted = subst (NotedBy so_noted) some k.counted.noted
 
       -- one that notes nothing
-      notes_as_before : (b : Answer) → changes_nothing b ≡ true → notes_since (E (Some b)) c h.begun (k.told ++ done b ∷ []) ≡ so_noted
-      notes_as_before b nothing = since_same (E (Some b)) c h.begun k.told (done b) (none_noted (E (Some b)) c (done b) (ap not nothing)) ∙ since_stay catalog events (call_event y (Some b)) c h.begun k.told k.answered
+      notes_as_before : (b : Answer) → read_finished b ≡ false → notes_since (E (Some b)) c h.begun (k.told ++ done b ∷ []) ≡ so_noted
+      notes_as_before b unfinished = since_same (E (Some b)) c h.begun k.told (done b) (none_noted (E (Some b)) c (done b) unfinished) ∙ since_stay catalog events (call_event y (Some b)) c h.begun k.told k.answered
 
       -- an answer that is no Conflict
       stays : (b : Answer) → is_conflict (Some b) ≡ false → (key : Key) (found : Option Record) → Some b ≡ Some (answer.Conflict key found) → IsMovedIn (E (Some b)) c (k.told ++ done b ∷ []) (done b) key found
@@ -399,12 +399,12 @@ module _ (catalog : List Table) (events : List Event) (hands : ℕ → Hand) (y 
         as_left n m u v e f s = subst (λ (z : Next). Left z u) (sym e) (subst (λ (z : TxnAt). Left m z) (sym f) s)
 
         -- the statement is answered, and nothing is noted
-        fails : (b : Answer) → changes_nothing b ≡ true → is_answered_from_rows b ≡ false → IsMiddle b → (is_conflict (Some b) ≡ false → IsCaused catalog (E (Some b)) c (done b) b) → Left (next.Answer b) (idle t)
-        fails b nothing no_rows m caused =
+        fails : (b : Answer) → changes_nothing b ≡ true → read_finished b ≡ false → IsMiddle b → (is_conflict (Some b) ≡ false → IsCaused catalog (E (Some b)) c (done b) b) → Left (next.Answer b) (idle t)
+        fails b nothing unfinished m caused =
             answers b (holding h (idle t)) caused (stays b m.agrees) refl refl
             (held b (idle t) m is.inner.commit refl refl (noted_more catalog events (call_event y (Some b)) c h.begun k.told t stands_open.1 k.answered (done b) t.seen t.seen refl refl noting_now))
-            (no_fit b, subst (λ ns. NotesAre ns t.seen.reads t.seen.scans) (sym (notes_as_before b nothing)) read_so)
-            (filled_idle (E (Some b)) c h.begun k.told (done b) stands_open.1.begin stands_open.1.body (idle t) stands_open.1.since refl (filled_more events (call_event y (Some b)) c stands_open.1.body (done b) t.seen filled_now)) fit_now (λ z. clash (sym z ∙ no_rows))
+            (no_fit b, subst (λ ns. NotesAre ns t.seen.reads t.seen.scans) (sym (notes_as_before b unfinished)) read_so)
+            (filled_idle (E (Some b)) c h.begun k.told (done b) stands_open.1.begin stands_open.1.body (idle t) stands_open.1.since refl (filled_more events (call_event y (Some b)) c stands_open.1.body (done b) t.seen filled_now)) fit_now (λ z. clash (sym z ∙ unfinished))
             (next_same catalog c events (call_event y (Some b)) k.told k.answered h.begun stands_open.1.begin stands_open.1.body stands_open.1.since t.seen sees_now (done b) b (idle t) refl nothing refl refl)
 
         reads_further : (s : ReadStage) → ReadsBy (ms ++ made ∷ []) s → ShowsAt x.request (ms ++ made ∷ []) s → ReadCounted (ms ++ made ∷ []) s → ReadRolls (E None) (reads_vacuum w.text) (ms ++ made ∷ []) s → Left next.Call (record t { doing = doing.Read a (record x { stage = s }) })
@@ -424,23 +424,23 @@ module _ (catalog : List Table) (events : List Event) (hands : ℕ → Hand) (y 
 
         -- what the transaction has then noted
         noted_then : (images : List Record) (z : Answer) (u : TxnAt) → read_step x.stage y.now y.reply ≡ Ended (step.Images images)
-            → ((changes_nothing z ≡ true) × (u.seen ≡ t.seen)) ⊎ ((changes_nothing z ≡ false) × (u.seen.reads ≡ (noting t a images).seen.reads) × (u.seen.scans ≡ (noting t a images).seen.scans)) → (changes_nothing z ≡ false → is_answered_from_rows z ≡ true)
+            → ((read_finished z ≡ false) × (u.seen ≡ t.seen)) ⊎ ((read_finished z ≡ true) × (u.seen.reads ≡ (noting t a images).seen.reads) × (u.seen.scans ≡ (noting t a images).seen.scans))
             → SeenBy (notes_told (E (Some z)) c (stands_open.1.body ++ done z ∷ [])) u.seen
-        noted_then images z u e (inl s) rows = noted_more catalog events (call_event y (Some z)) c h.begun k.told t stands_open.1 k.answered (done z) t.seen u.seen (ap (λ (v : Seen). v.reads) s.1) (ap (λ (v : Seen). v.scans) s.1) noting_now
-        noted_then images z u e (inr s) rows =
+        noted_then images z u e (inl s) = noted_more catalog events (call_event y (Some z)) c h.begun k.told t stands_open.1 k.answered (done z) t.seen u.seen (ap (λ (v : Seen). v.reads) s.1) (ap (λ (v : Seen). v.scans) s.1) noting_now
+        noted_then images z u e (inr s) =
             let front : SeenBy (notes_told (E (Some z)) c stands_open.1.body) t.seen = noted_still catalog events (call_event y (Some z)) c h.begun k.told t stands_open.1 k.answered t.seen noting_now in
             let now_seen : SeenBy (notes_told (E (Some z)) c stands_open.1.body ++ notes_in (ms ++ made ∷ [])) (noting t a images).seen = read_noted a (ms ++ made ∷ []) images (notes_told (E (Some z)) c stands_open.1.body) t (has_read images e) own front in
-            let last : notes_told (E (Some z)) c (done z ∷ []) ≡ notes_in (ms ++ made ∷ []) = notes_one (E (Some z)) c (done z) (ap not s.0) (rows s.0) ∙ ap notes_in (calls_done z) in
+            let last : notes_told (E (Some z)) c (done z ∷ []) ≡ notes_in (ms ++ made ∷ []) = notes_one (E (Some z)) c (done z) s.0 ∙ ap notes_in (calls_done z) in
             let whole : notes_told (E (Some z)) c (stands_open.1.body ++ done z ∷ []) ≡ notes_told (E (Some z)) c stands_open.1.body ++ notes_in (ms ++ made ∷ []) = notes_more (E (Some z)) c stands_open.1.body (done z) ∙ ap (λ ns. notes_told (E (Some z)) c stands_open.1.body ++ ns) last in
             subst (λ ns. SeenBy ns u.seen) (sym whole) (seen_same (notes_told (E (Some z)) c stands_open.1.body ++ notes_in (ms ++ made ∷ [])) (noting t a images).seen u.seen s.1 s.2 now_seen)
 
         -- and as what that is counted
-        told_noted : (images : List Record) (z : Answer) (u : TxnAt) → read_step x.stage y.now y.reply ≡ Ended (step.Images images) → ((changes_nothing z ≡ true) × (u.seen ≡ t.seen)) ⊎ ((changes_nothing z ≡ false) × (u.seen.reads ≡ (noting t a images).seen.reads) × (u.seen.scans ≡ (noting t a images).seen.scans)) → (changes_nothing z ≡ false → is_answered_from_rows z ≡ true)
+        told_noted : (images : List Record) (z : Answer) (u : TxnAt) → read_step x.stage y.now y.reply ≡ Ended (step.Images images) → ((read_finished z ≡ false) × (u.seen ≡ t.seen)) ⊎ ((read_finished z ≡ true) × (u.seen.reads ≡ (noting t a images).seen.reads) × (u.seen.scans ≡ (noting t a images).seen.scans))
             → u.doing ≡ doing.Idle → NotedDoing (notes_since (E (Some z)) c h.begun (k.told ++ done z ∷ [])) u.seen u.doing
-        told_noted images z u e (inl s) rows idles = subst (λ ns. NotedDoing ns u.seen u.doing) (sym (notes_as_before z s.0)) (notes_idle so_noted u.seen u.doing idles (subst (λ (v : Seen). NotesAre so_noted v.reads v.scans) (sym s.1) read_so))
-        told_noted images z u e (inr s) rows idles =
+        told_noted images z u e (inl s) idles = subst (λ ns. NotedDoing ns u.seen u.doing) (sym (notes_as_before z s.0)) (notes_idle so_noted u.seen u.doing idles (subst (λ (v : Seen). NotesAre so_noted v.reads v.scans) (sym s.1) read_so))
+        told_noted images z u e (inr s) idles =
             let now_so : NotesAre (so_noted ++ notes_in (ms ++ made ∷ [])) (noting t a images).seen.reads (noting t a images).seen.scans = noted_read a (ms ++ made ∷ []) images so_noted t (has_read images e) own read_so in
-            let last : notes_told (E (Some z)) c (done z ∷ []) ≡ notes_in (ms ++ made ∷ []) = notes_one (E (Some z)) c (done z) (ap not s.0) (rows s.0) ∙ ap notes_in (calls_done z) in
+            let last : notes_told (E (Some z)) c (done z ∷ []) ≡ notes_in (ms ++ made ∷ []) = notes_one (E (Some z)) c (done z) s.0 ∙ ap notes_in (calls_done z) in
             let whole : notes_since (E (Some z)) c h.begun (k.told ++ done z ∷ []) ≡ so_noted ++ notes_in (ms ++ made ∷ []) =
             since_open (E (Some z)) c h.begun k.told (done z) stands_open.1.begin stands_open.1.body stands_open.1.since ∙ ap (λ ns. ns ++ notes_told (E (Some z)) c (done z ∷ [])) (since_stay catalog events (call_event y (Some z)) c h.begun k.told k.answered) ∙ ap (λ ns. so_noted ++ ns) last in
             subst (λ ns. NotedDoing ns u.seen u.doing) (sym whole) (notes_idle (so_noted ++ notes_in (ms ++ made ∷ [])) u.seen u.doing idles (subst (λ rs. NotesAre (so_noted ++ notes_in (ms ++ made ∷ [])) rs u.seen.scans) (sym s.1) (subst (NotesAre (so_noted ++ notes_in (ms ++ made ∷ [])) (noting t a images).seen.reads) (sym s.2) now_so)))
@@ -487,8 +487,8 @@ module _ (catalog : List Table) (events : List Event) (hands : ℕ → Hand) (y 
             answers (given_answer v (gives p a v)) (holding h (given_left (idle t) v (gives p a v)))
             (given_caused catalog (E (Some (given_answer v (gives p a v)))) c (done (given_answer v (gives p a v))) p (overlay a v.seen) v is.text asked.named asked.asked (open_before (given_answer v (gives p a v))) (misfit_caused images e (given_answer v (gives p a v))) (passes_then images e (given_answer v (gives p a v)))) (stays (given_answer v (gives p a v)) m.agrees) refl refl
             (held (given_answer v (gives p a v)) (given_left (idle t) v (gives p a v)) m is.inner.commit (left_id (idle t) v (gives p a v) (sym (noting_id t a images)) ∙ noting_id t a images) (left_idle (idle t) v (gives p a v) refl (noting_idle t a images))
-            (noted_then images (given_answer v (gives p a v)) (given_left (idle t) v (gives p a v)) e (left_by (idle t) v (gives p a v)) (gives_rows p (overlay a v.seen) v)))
-            (no_fit (given_answer v (gives p a v)), told_noted images (given_answer v (gives p a v)) (given_left (idle t) v (gives p a v)) e (left_by (idle t) v (gives p a v)) (gives_rows p (overlay a v.seen) v) (left_idle (idle t) v (gives p a v) refl (noting_idle t a images)))
+            (noted_then images (given_answer v (gives p a v)) (given_left (idle t) v (gives p a v)) e (left_by (idle t) v (gives p a v) (gives_finished p (overlay a v.seen) v))))
+            (no_fit (given_answer v (gives p a v)), told_noted images (given_answer v (gives p a v)) (given_left (idle t) v (gives p a v)) e (left_by (idle t) v (gives p a v) (gives_finished p (overlay a v.seen) v)) (left_idle (idle t) v (gives p a v) refl (noting_idle t a images)))
             (filled_idle (E (Some (given_answer v (gives p a v)))) c h.begun k.told (done (given_answer v (gives p a v))) stands_open.1.begin stands_open.1.body (given_left (idle t) v (gives p a v)) stands_open.1.since (left_idle (idle t) v (gives p a v) refl (noting_idle t a images))
             (filled_given events (call_event y (Some (given_answer v (gives p a v)))) c stands_open.1.body (done (given_answer v (gives p a v))) p (overlay a v.seen) (idle t) v (records_found (ms ++ made ∷ [])) refl (found_done (given_answer v (gives p a v))) filled_now (filled_with images e)))
             (subst (SeesFitIn catalog (given_left (idle t) v (gives p a v)).seen) (sym (left_idle (idle t) v (gives p a v) refl (noting_idle t a images)))

@@ -7,12 +7,13 @@ use Rattle.sdb_types.specs.declared.record.Record.{Record}
 use Rattle.sdb_types.proofs.Basics.{none_some}
 use Rattle.sdb_record.specs.Coordinator.{is_expired}
 use Rattle.sdb_schema.specs.declared.table.Table.{Table}
+use Rattle.sdb_model.specs.Noted.{read_finished}
 use Rattle.sdb_model.specs.declared.answer.Answer.{Answer}
 use Rattle.sdb_model.specs.declared.event.Event.{Event}
 use Rattle.sdb_model.specs.Calls.{Made, calls_after, calls_of}
 use Rattle.sdb_model.specs.Counted.{AreResolved, IsPassedOver, IsResolved}
 use Rattle.sdb_model.specs.Sql.{reads_vacuum}
-use Rattle.sdb_model.specs.Transactions.{Said, is_answered_from_rows, said}
+use Rattle.sdb_model.specs.Transactions.{Said, said}
 use Rattle.sdb_phases.specs.declared.step.Outcome.{Outcome}
 use Rattle.sdb_phases.specs.declared.step.Outcome.TheVariants as outcome
 use Rattle.sdb_read.specs.declared.read.ReadStep.TheVariants as step
@@ -103,7 +104,7 @@ module _ (catalog : List Table) (c : ℕ) (events : List Event) (e : Event) wher
     rolls_on w d calls are waits = record { answered = still_rolled told all k.answered; waits = subst (λ ms. WaitRolls now_events (reads_vacuum w.text) ms d.vacuum d.txn) (sym are) waits }
 
     -- where one is answered, with these calls
-    pub rolls_end : (w : Said) (d : ClientAt) (calls : List Made) → calls_of now_events c w ≡ calls → ((a : Answer) → w.answer ≡ Some a → is_answered_from_rows a ≡ true → RolledBut now_events (reads_vacuum w.text) calls []) → RollsBy now_events c (told ++ w ∷ []) None d
+    pub rolls_end : (w : Said) (d : ClientAt) (calls : List Made) → calls_of now_events c w ≡ calls → ((a : Answer) → w.answer ≡ Some a → read_finished a ≡ true → RolledBut now_events (reads_vacuum w.text) calls []) → RollsBy now_events c (told ++ w ∷ []) None d
     rolls_end w d calls are rolled = record {
       answered = each_more (IsRolledIn now_events c) told w (still_rolled told all k.answered) (λ a is rows. subst (λ ms. RolledBut now_events (reads_vacuum w.text) ms []) (sym are) (rolled a is rows));
       waits = tt;
@@ -120,7 +121,7 @@ module _ (c : ℕ) (events : List Event) (e : Event) (w : Said) where
   sweeps_so_far = sweep_still events e (reads_vacuum w.text) (calls_of events c w) (of_within c events w)
 
 -- no outcome of a COMMIT says what rows were seen
-pub outcome_rows : (a : Outcome) → is_answered_from_rows (answer_of_outcome a) ≡ false
+pub outcome_rows : (a : Outcome) → read_finished (answer_of_outcome a) ≡ false
 outcome_rows outcome.Committed = refl
 outcome_rows (outcome.Conflict key found) = refl
 outcome_rows (outcome.Expired id) = refl

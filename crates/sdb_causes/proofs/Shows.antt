@@ -25,7 +25,6 @@ use Rattle.sdb_snapshot.specs.Seen.{Seen}
 use Rattle.sdb_causes.specs.Shows.{FoundFor, HasAfter, HasBefore, SeesOwn, GivesOwn, GivesRows}
 use Rattle.sdb_causes.specs.Tied.{IsAnswered}
 use Rattle.sdb_causes.proofs.Calls.{calls_stay}
-use Rattle.sdb_causes.proofs.Lists.{each_kept}
 
 ---- lists of statements
 
@@ -57,7 +56,7 @@ module _ (catalog : List Table) (events : List Event) (c : ℕ) where
 
   -- what the statement itself was shown
   pub has_shown : (body : List Said) (s : Said) (key : Key) (row : Option (List Pair)) → FoundFor catalog events c s key row → HasBefore catalog events c body s key row
-  has_shown body s key row f = record { first = s; earlier = filter is_effective body; changing = []; sts = []; base = row; parts = sym (append-nil (filter is_effective body)); begins = refl; shown = f; read = tt; made = refl }
+  has_shown body s key row f = record { first = s; earlier = body; changing = []; sts = []; base = row; parts = sym (append-nil body); begins = refl; shown = f; read = tt; made = refl }
 
   -- and what the statement then leaves
   pub has_next : (body : List Said) (s : Said) (key : Key) (row left : Option (List Pair)) (st : Statement) → is_effective s ≡ true → Reads s.text st → row_left catalog st key row ≡ left → HasBefore catalog events c body s key row → HasAfter catalog events c (body ++ s ∷ []) key left
@@ -67,16 +66,42 @@ module _ (catalog : List Table) (events : List Event) (c : ℕ) where
     changing = h.changing ++ s ∷ [];
     sts = h.sts ++ st ∷ [];
     base = h.base;
-    parts = effective_more body s e ∙ ap (λ xs. xs ++ s ∷ []) h.parts ∙ append_assoc h.earlier h.changing (s ∷ []);
+    parts = ap (λ xs. xs ++ s ∷ []) h.parts ∙ append_assoc h.earlier h.changing (s ∷ []);
     begins = h.begins;
     shown = h.shown;
-    read = read_more h.changing h.sts s st h.read reads;
+    read = subst (λ xs. AreRead xs (h.sts ++ st ∷ [])) (sym (effective_more h.changing s e)) (read_more (filter is_effective h.changing) h.sts s st h.read reads);
     made = sym leaves ∙ ap (row_left catalog st key) h.made ∙ sym (fold-append (λ r x. row_left catalog x key r) h.base h.sts (st ∷ []));
   }
 
   -- one that changes nothing leaves all as it was
   has_same : (body : List Said) (s : Said) (key : Key) (row : Option (List Pair)) → is_effective s ≡ false → HasAfter catalog events c body key row → HasAfter catalog events c (body ++ s ∷ []) key row
-  has_same body s key row e h = record { first = h.first; earlier = h.earlier; changing = h.changing; sts = h.sts; base = h.base; parts = effective_same body s e ∙ h.parts; begins = h.begins; shown = h.shown; read = h.read; made = h.made }
+  has_same body s key row e h = record {
+    first = h.first;
+    earlier = h.earlier;
+    changing = h.changing ++ s ∷ [];
+    sts = h.sts;
+    base = h.base;
+    parts = ap (λ xs. xs ++ s ∷ []) h.parts ∙ append_assoc h.earlier h.changing (s ∷ []);
+    begins = starts_more h.first s h.changing h.begins;
+    shown = h.shown;
+    read = subst (λ xs. AreRead xs h.sts) (sym (effective_same h.changing s e)) h.read;
+    made = h.made;
+  }
+
+  -- also what it was shown itself
+  pub has_kept : (body : List Said) (s : Said) (key : Key) (row : Option (List Pair)) → is_effective s ≡ false → HasBefore catalog events c body s key row → HasAfter catalog events c (body ++ s ∷ []) key row
+  has_kept body s key row e h = record {
+    first = h.first;
+    earlier = h.earlier;
+    changing = h.changing ++ s ∷ [];
+    sts = h.sts;
+    base = h.base;
+    parts = ap (λ xs. xs ++ s ∷ []) h.parts ∙ append_assoc h.earlier h.changing (s ∷ []);
+    begins = h.begins;
+    shown = h.shown;
+    read = subst (λ xs. AreRead xs h.sts) (sym (effective_same h.changing s e)) h.read;
+    made = h.made;
+  }
 
   pub sees_same : (body : List Said) (s : Said) (v : Seen) → is_effective s ≡ false → SeesOwn catalog events c body v → SeesOwn catalog events c (body ++ s ∷ []) v
   sees_same body s v e sees key noted = has_same body s key _ e (sees key noted)
@@ -93,9 +118,9 @@ each_behind : (P : Said → Type 0) (xs ys : List Said) → AllByRecursion P (xs
 each_behind P [] ys all = all
 each_behind P (x ∷ xs) ys all = each_behind P xs ys all.1
 
--- what is so of the statements of a body is so of the effective ones from one on
-pub each_changing : (P : Said → Type 0) (body earlier changing : List Said) → filter is_effective body ≡ earlier ++ changing → AllByRecursion P body → AllByRecursion P changing
-each_changing P body earlier changing parts all = each_behind P earlier changing (subst (AllByRecursion P) parts (each_kept P is_effective body all))
+-- what is so of the statements of a body is so of those from one on
+pub each_changing : (P : Said → Type 0) (body earlier changing : List Said) → body ≡ earlier ++ changing → AllByRecursion P body → AllByRecursion P changing
+each_changing P body earlier changing parts all = each_behind P earlier changing (subst (AllByRecursion P) parts all)
 
 pub first_so : (P : Said → Type 0) (xs : List Said) (s first : Said) → StartsWith first (xs ++ s ∷ []) → AllByRecursion P xs → P s → P first
 first_so P [] s first b all p = subst P (sym b) p
@@ -116,7 +141,7 @@ module _ (catalog : List Table) (events : List Event) (e : Event) (c : ℕ) wher
   stay_all : (ss : List Said) → AllByRecursion (IsAnswered catalog events c) ss → AllByRecursion Stays ss
   stay_all ss all = each_any (IsAnswered catalog events c) Stays ss (λ s h. calls_stay c events e s h.given h.is h.answered) all
 
-  stay_changing : (body earlier changing : List Said) → AllByRecursion (IsAnswered catalog events c) body → filter is_effective body ≡ earlier ++ changing → AllByRecursion Stays changing
+  stay_changing : (body earlier changing : List Said) → AllByRecursion (IsAnswered catalog events c) body → body ≡ earlier ++ changing → AllByRecursion Stays changing
   stay_changing body earlier changing all parts = each_changing Stays body earlier changing parts (stay_all body all)
 
   found_still : (s : Said) (key : Key) (row : Option (List Pair)) → Stays s → FoundFor catalog events c s key row → FoundFor catalog E c s key row

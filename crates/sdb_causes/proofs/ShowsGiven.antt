@@ -14,9 +14,9 @@ use Rattle.sdb_model.specs.declared.answer.Answer.TheVariants as answer
 use Rattle.sdb_model.specs.declared.event.Event.{Event}
 use Rattle.sdb_model.specs.Causes.{refused}
 use Rattle.sdb_model.specs.Exec.{named_table}
-use Rattle.sdb_model.specs.Noted.{is_from_rows}
+use Rattle.sdb_model.specs.Noted.{has_finished, read_finished}
 use Rattle.sdb_model.specs.Sql.{Reads}
-use Rattle.sdb_model.specs.Transactions.{Said, changes_nothing, from_begin, is_answered_from_rows, rest_of}
+use Rattle.sdb_model.specs.Transactions.{Said, changes_nothing, from_begin, rest_of}
 use Rattle.sdb_exec.specs.declared.plan.PlanStep.{PlanStep}
 use Rattle.sdb_exec.specs.declared.plan.PlanStep.TheVariants.{Finished}
 use Rattle.sdb_exec.specs.Plans.{Planned, answer_on, changes_on, first_unfit}
@@ -28,43 +28,56 @@ use Rattle.sdb_snapshot.specs.Written.{with_writes}
 use Rattle.sdb_snapshot.proofs.Shown.{no_row}
 use Rattle.sdb_txn.specs.declared.txn.Doing.TheVariants as doing
 use Rattle.sdb_txn.specs.Txn.{TxnAt}
-use Rattle.sdb_client.specs.Client.{given_answer, given_left, gives, too_many, written}
+use Rattle.sdb_client.specs.Client.{given_answer, given_left, gives, left_by_answer, too_many, written}
 use Rattle.sdb_causes.specs.Shows.{HasBefore, IsShowing, SeesOwn, GivesOwn}
 use Rattle.sdb_causes.specs.Tied.{begun_in, open_after}
 use Rattle.sdb_causes.specs.Unfit.{SeesFit}
-use Rattle.sdb_causes.proofs.Given.{asked_gives, gives_rows}
+use Rattle.sdb_causes.proofs.Given.{asked_gives, gives_finished}
 use Rattle.sdb_causes.proofs.OneRow.{key_told, one_row_left, rows_told}
-use Rattle.sdb_causes.proofs.Shows.{effective_by, has_next, sees_same, tells_none}
+use Rattle.sdb_causes.proofs.Shows.{effective_by, has_kept, has_next, sees_same, tells_none}
 use Rattle.sdb_causes.proofs.ShowsTold.{showing_idle}
 
 ---- what a plan gives
 
--- It says that nothing was changed, and all is as it was; or it gives an answer, and its changes are written.
+-- It says that nothing was changed, and all is as it was, or what was read stays; or it gives an answer, and its changes are written.
+abbrev IsSame : TxnAt → TxnAt → PlanStep → Type 0
+IsSame was v x = (changes_nothing (given_answer v x) ≡ true) × (given_left was v x ≡ was)
+
+abbrev IsKept : TxnAt → TxnAt → PlanStep → Type 0
+IsKept was v x = (changes_nothing (given_answer v x) ≡ true) × (read_finished (given_answer v x) ≡ true) × (given_left was v x ≡ v)
+
 abbrev IsGiven : TxnAt → TxnAt → Answer → List Keyed → PlanStep → Type 0
-IsGiven was v b ks x = ((changes_nothing (given_answer v x) ≡ true) × (given_left was v x ≡ was)) ⊎ ((changes_nothing (given_answer v x) ≡ false) × (given_answer v x ≡ b) × (given_left was v x ≡ written v ks))
+IsGiven was v b ks x = IsSame was v x ⊎ IsKept was v x ⊎ ((changes_nothing (given_answer v x) ≡ false) × (given_answer v x ≡ b) × (given_left was v x ≡ written v ks))
 
 module _ (was v : TxnAt) (b : Answer) (ks : List Keyed) where
   abbrev IsSo : Answer → Type 0
-  IsSo z = ((changes_nothing z ≡ true) × ((if changes_nothing z then was else written v ks) ≡ was)) ⊎ ((changes_nothing z ≡ false) × (z ≡ b) × ((if changes_nothing z then was else written v ks) ≡ written v ks))
+  IsSo z =
+      ((changes_nothing z ≡ true) × (left_by_answer was v z ks ≡ was))
+      ⊎ ((changes_nothing z ≡ true) × (read_finished z ≡ true) × (left_by_answer was v z ks ≡ v))
+      ⊎ ((changes_nothing z ≡ false) × (z ≡ b) × (left_by_answer was v z ks ≡ written v ks))
 
   given_on : IsGiven was v b ks (Finished b ks)
   given_on = by (not (changes_nothing b) && too_many v ks)
     where
-      itself : (t : Bool) → changes_nothing b ≡ t → IsSo b
-      itself true e = inl (e, ap (λ x. if x then was else written v ks) e)
-      itself false e = inr (e, refl, ap (λ x. if x then was else written v ks) e)
+      left_as : (t f : Bool) → changes_nothing b ≡ t → read_finished b ≡ f → left_by_answer was v b ks ≡ (if t then (if f then v else was) else written v ks)
+      left_as t f e g = ap (λ x. if x then (if read_finished b then v else was) else written v ks) e ∙ ap (λ x. if t then (if x then v else was) else written v ks) g
+
+      itself : (t f : Bool) → changes_nothing b ≡ t → read_finished b ≡ f → IsSo b
+      itself true true e f = inr (inl (e, f, left_as true true e f))
+      itself true false e f = inl (e, left_as true false e f)
+      itself false f e g = inr (inr (e, refl, left_as false f e g))
 
       by : (z : Bool) → IsSo (if z then refused 15 else b)
-      by true = inl (refl, refl)
-      by false = itself (changes_nothing b) refl
+      by true = inr (inl (refl, refl, refl))
+      by false = itself (changes_nothing b) (read_finished b) refl refl
 
 -- what it gives on rows that fit, or else nothing
 given_by : (p : Planned) (a : Access) (was v : TxnAt) → p.asked ≡ true
-    → ((changes_nothing (given_answer v (gives p a v)) ≡ true) × (given_left was v (gives p a v) ≡ was)) ⊎ ((first_unfit p.table (overlay a v.seen) ≡ None) × IsGiven was v (answer_on p.table p.statement (overlay a v.seen)) (changes_on p.table p.statement (overlay a v.seen)) (gives p a v))
+    → IsSame was v (gives p a v) ⊎ ((first_unfit p.table (overlay a v.seen) ≡ None) × IsGiven was v (answer_on p.table p.statement (overlay a v.seen)) (changes_on p.table p.statement (overlay a v.seen)) (gives p a v))
 given_by p a was v asked = by (first_unfit p.table (overlay a v.seen)) refl
   where
     by : (o : Option Key) → first_unfit p.table (overlay a v.seen) ≡ o
-        → ((changes_nothing (given_answer v (gives p a v)) ≡ true) × (given_left was v (gives p a v) ≡ was)) ⊎ ((first_unfit p.table (overlay a v.seen) ≡ None) × IsGiven was v (answer_on p.table p.statement (overlay a v.seen)) (changes_on p.table p.statement (overlay a v.seen)) (gives p a v))
+        → IsSame was v (gives p a v) ⊎ ((first_unfit p.table (overlay a v.seen) ≡ None) × IsGiven was v (answer_on p.table p.statement (overlay a v.seen)) (changes_on p.table p.statement (overlay a v.seen)) (gives p a v))
     by None e = inr (e, subst (IsGiven was v (answer_on p.table p.statement (overlay a v.seen)) (changes_on p.table p.statement (overlay a v.seen))) (sym (asked_gives p (overlay a v.seen) None asked e)) (given_on was v (answer_on p.table p.statement (overlay a v.seen)) (changes_on p.table p.statement (overlay a v.seen))))
     by (Some key) e = let same = asked_gives p (overlay a v.seen) (Some key) asked e in inl (ap (λ x. changes_nothing (given_answer v x)) same, ap (λ x. given_left was v x) same)
 
@@ -72,13 +85,17 @@ given_by p a was v asked = by (first_unfit p.table (overlay a v.seen)) refl
 
 module _ (catalog : List Table) (events : List Event) (c : ℕ) (body : List Said) (s : Said) (p : Planned) (a : Access) (is : is_catalog catalog ≡ true) (reads : Reads s.text p.statement) (named : named_table catalog p.statement ≡ Some p.table) (asked : p.asked ≡ true) (access_is : a ≡ access_of p.table p.statement) (was v : TxnAt)
     (answered : s.answer ≡ Some (given_answer v (gives p a v)))
-    (now : is_from_rows s ≡ true → (key : Key) → is_noted v.seen.notes key ≡ true → HasBefore catalog events c body s key (row_seen v.seen.notes v.seen.writes key)) where
-  -- where it changes something, or shows it, it is answered from rows
-  from_rows : changes_nothing (given_answer v (gives p a v)) ≡ false → is_from_rows s ≡ true
-  from_rows some = ap (λ (o : Option Answer). option_map_or is_answered_from_rows o false) answered ∙ gives_rows p (overlay a v.seen) v some
+    (now : has_finished s ≡ true → (key : Key) → is_noted v.seen.notes key ≡ true → HasBefore catalog events c body s key (row_seen v.seen.notes v.seen.writes key)) where
+  -- its read has finished, by its answer
+  finishes : read_finished (given_answer v (gives p a v)) ≡ true → has_finished s ≡ true
+  finishes f = ap (λ (o : Option Answer). option_map_or read_finished o false) answered ∙ f
+
+  -- so it has where it changes something, or shows it
+  from_rows : changes_nothing (given_answer v (gives p a v)) ≡ false → has_finished s ≡ true
+  from_rows some = finishes (gives_finished p (overlay a v.seen) v some)
 
   -- what it is answered on the rows that it sees
-  tells_on : is_from_rows s ≡ true → WereRead v.seen.notes v.seen.writes → (b : Answer) → answer_on p.table p.statement (overlay a v.seen) ≡ b → GivesOwn catalog events c body s b
+  tells_on : has_finished s ≡ true → WereRead v.seen.notes v.seen.writes → (b : Answer) → answer_on p.table p.statement (overlay a v.seen) ≡ b → GivesOwn catalog events c body s b
   tells_on told kept (answer.Rows rows) e =
       let r = rows_told p.table p.statement a v.seen rows e in (
         p.table,
@@ -97,9 +114,10 @@ module _ (catalog : List Table) (events : List Event) (c : ℕ) (body : List Sai
     where
       by_given : IsGiven was v (answer_on p.table p.statement (overlay a v.seen)) (changes_on p.table p.statement (overlay a v.seen)) (gives p a v) → GivesOwn catalog events c body s (given_answer v (gives p a v))
       by_given (inl h) = tells_none catalog events c body s (given_answer v (gives p a v)) h.0
-      by_given (inr h) = tells_on (from_rows h.0) kept (given_answer v (gives p a v)) (sym h.1)
+      by_given (inr (inl h)) = tells_none catalog events c body s (given_answer v (gives p a v)) h.0
+      by_given (inr (inr h)) = tells_on (from_rows h.0) kept (given_answer v (gives p a v)) (sym h.1)
 
-      by : ((changes_nothing (given_answer v (gives p a v)) ≡ true) × (given_left was v (gives p a v) ≡ was)) ⊎ ((first_unfit p.table (overlay a v.seen) ≡ None) × IsGiven was v (answer_on p.table p.statement (overlay a v.seen)) (changes_on p.table p.statement (overlay a v.seen)) (gives p a v)) → GivesOwn catalog events c body s (given_answer v (gives p a v))
+      by : IsSame was v (gives p a v) ⊎ ((first_unfit p.table (overlay a v.seen) ≡ None) × IsGiven was v (answer_on p.table p.statement (overlay a v.seen)) (changes_on p.table p.statement (overlay a v.seen)) (gives p a v)) → GivesOwn catalog events c body s (given_answer v (gives p a v))
       by (inl h) = tells_none catalog events c body s (given_answer v (gives p a v)) h.0
       by (inr h) = by_given h.1
 
@@ -107,6 +125,12 @@ module _ (catalog : List Table) (events : List Event) (c : ℕ) (body : List Sai
     -- where nothing was changed
     sees_was : changes_nothing (given_answer v (gives p a v)) ≡ true → given_left was v (gives p a v) ≡ was → SeesOwn catalog events c (body ++ s ∷ []) (given_left was v (gives p a v)).seen
     sees_was nothing left = subst (λ (u : TxnAt). SeesOwn catalog events c (body ++ s ∷ []) u.seen) (sym left) (sees_same catalog events c body s was.seen (effective_by s (given_answer v (gives p a v)) true answered nothing) before)
+
+    -- where what was read stays
+    sees_kept : IsKept was v (gives p a v) → SeesOwn catalog events c (body ++ s ∷ []) (given_left was v (gives p a v)).seen
+    sees_kept k =
+        subst (λ (u : TxnAt). SeesOwn catalog events c (body ++ s ∷ []) u.seen) (sym k.2)
+        (λ key noted. has_kept catalog events c body s key (row_seen v.seen.notes v.seen.writes key) (effective_by s (given_answer v (gives p a v)) true answered k.0) (now (finishes k.1) key noted))
 
     -- where its changes are written
     sees_written : changes_nothing (given_answer v (gives p a v)) ≡ false → SeesFit catalog v.seen → SeesOwn catalog events c (body ++ s ∷ []) (written v (changes_on p.table p.statement (overlay a v.seen))).seen
@@ -119,15 +143,16 @@ module _ (catalog : List Table) (events : List Event) (c : ℕ) (body : List Sai
       where
         by_given : SeesFit catalog v.seen → IsGiven was v (answer_on p.table p.statement (overlay a v.seen)) (changes_on p.table p.statement (overlay a v.seen)) (gives p a v) → SeesOwn catalog events c (body ++ s ∷ []) (given_left was v (gives p a v)).seen
         by_given fit (inl h) = sees_was h.0 h.1
-        by_given fit (inr h) = subst (λ (u : TxnAt). SeesOwn catalog events c (body ++ s ∷ []) u.seen) (sym h.2) (sees_written h.0 fit)
+        by_given fit (inr (inl h)) = sees_kept h
+        by_given fit (inr (inr h)) = subst (λ (u : TxnAt). SeesOwn catalog events c (body ++ s ∷ []) u.seen) (sym h.2) (sees_written h.0 fit)
 
-        by : ((changes_nothing (given_answer v (gives p a v)) ≡ true) × (given_left was v (gives p a v) ≡ was)) ⊎ ((first_unfit p.table (overlay a v.seen) ≡ None) × IsGiven was v (answer_on p.table p.statement (overlay a v.seen)) (changes_on p.table p.statement (overlay a v.seen)) (gives p a v)) → SeesOwn catalog events c (body ++ s ∷ []) (given_left was v (gives p a v)).seen
+        by : IsSame was v (gives p a v) ⊎ ((first_unfit p.table (overlay a v.seen) ≡ None) × IsGiven was v (answer_on p.table p.statement (overlay a v.seen)) (changes_on p.table p.statement (overlay a v.seen)) (gives p a v)) → SeesOwn catalog events c (body ++ s ∷ []) (given_left was v (gives p a v)).seen
         by (inl h) = sees_was h.0 h.1
         by (inr h) = by_given (fits h.0) h.1
 
 -- A statement that is answered so shows rows that its transaction has, and the transaction goes on with such.
 pub next_given : (catalog : List Table) (events : List Event) (c n : ℕ) (told : List Said) (s begin : Said) (body : List Said) (p : Planned) (a : Access) (was v : TxnAt) → from_begin n told ≡ begin ∷ body → n ≡ begun_in told → is_catalog catalog ≡ true → Reads s.text p.statement → named_table catalog p.statement ≡ Some p.table → p.asked ≡ true → a ≡ access_of p.table p.statement
-    → s.answer ≡ Some (given_answer v (gives p a v)) → (given_left was v (gives p a v)).doing ≡ doing.Idle → WereRead v.seen.notes v.seen.writes → (first_unfit p.table (overlay a v.seen) ≡ None → SeesFit catalog v.seen) → SeesOwn catalog events c body was.seen → (is_from_rows s ≡ true → (key : Key) → is_noted v.seen.notes key ≡ true → HasBefore catalog events c body s key (row_seen v.seen.notes v.seen.writes key))
+    → s.answer ≡ Some (given_answer v (gives p a v)) → (given_left was v (gives p a v)).doing ≡ doing.Idle → WereRead v.seen.notes v.seen.writes → (first_unfit p.table (overlay a v.seen) ≡ None → SeesFit catalog v.seen) → SeesOwn catalog events c body was.seen → (has_finished s ≡ true → (key : Key) → is_noted v.seen.notes key ≡ true → HasBefore catalog events c body s key (row_seen v.seen.notes v.seen.writes key))
     → (open_after told ≡ true → GivesOwn catalog events c (rest_of (from_begin (begun_in told) told)) s (given_answer v (gives p a v))) × IsShowing catalog events c (rest_of (from_begin n (told ++ s ∷ []))) (given_left was v (gives p a v))
 next_given catalog events c n told s begin body p a was v since number is reads named asked access_is answered idles kept fits before now = (
   λ opened. subst (λ r. GivesOwn catalog events c r s (given_answer v (gives p a v))) (sym (ap (λ i. rest_of (from_begin i told)) (sym number) ∙ ap rest_of since)) (tells_given catalog events c body s p a is reads named asked access_is was v answered now kept),

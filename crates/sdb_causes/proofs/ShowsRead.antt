@@ -28,7 +28,7 @@ use Rattle.sdb_model.specs.declared.event.Event.{Event}
 use Rattle.sdb_model.specs.Access.{in_access}
 use Rattle.sdb_model.specs.Calls.{Made, calls_of, records_read}
 use Rattle.sdb_model.specs.Explained.{IsTableKey, Shows}
-use Rattle.sdb_model.specs.Noted.{is_from_rows}
+use Rattle.sdb_model.specs.Noted.{has_finished}
 use Rattle.sdb_model.specs.Shown.{WasFound}
 use Rattle.sdb_model.specs.Sql.{reads_vacuum}
 use Rattle.sdb_model.specs.Transactions.{Said}
@@ -135,7 +135,7 @@ kept_now t a images kept q written = some (value_at t.seen.notes q) (kept q (sub
     some (Some x) h e = ap is_some e
 
 module _ (catalog : List Table) (events : List Event) (c : ℕ) (body : List Said) (s : Said) (a : Access) (t : TxnAt) (images : List Record) (h : HasRead (request_of a) (calls_of events c s) images []) (kept : WereRead t.seen.notes t.seen.writes) (sees : SeesOwn catalog events c body t.seen)
-    (no_vacuum : reads_vacuum s.text ≡ false) (tables : (q : Key) → in_access a q ≡ true → IsTableKey catalog q) (told : is_from_rows s ≡ true) (key : Key) where
+    (no_vacuum : reads_vacuum s.text ≡ false) (tables : (q : Key) → in_access a q ≡ true → IsTableKey catalog q) (told : has_finished s ≡ true) (key : Key) where
   abbrev Has : Option (List Pair) → Type 0
   Has row = HasBefore catalog events c body s key row
 

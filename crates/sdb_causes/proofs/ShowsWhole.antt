@@ -1,9 +1,9 @@
 -- Each row that a client is shown is one that its transaction has.
 use Rattle.std.proofs.Common.{◌≡◌, ◌⊎◌, inl, inr, ℕ, ℤ, Bool, true, false, List, [], ◌∷◌, ◌++◌, Option, Some, None, refl, sym, ap, subst, ◌∙◌, arith}
-use Rattle.std.specs.Prelude.{if◌then◌else◌, filter, is_some, IfSome, Contains}
+use Rattle.std.specs.Prelude.{if◌then◌else◌, is_some, IfSome, Contains}
 use Rattle.std.specs.List.{AllByRecursion}
 use Rattle.std.proofs.lemmas.List.{append-nil}
-use Rattle.std.proofs.lemmas.List.Elements.{All-contains_itself, filter-append, recursion_from_All}
+use Rattle.std.proofs.lemmas.List.Elements.{All-contains_itself, recursion_from_All}
 use Rattle.sdb_types.specs.declared.txid.TxId.{TxId}
 use Rattle.sdb_types.specs.declared.key.Key.{Key}
 use Rattle.sdb_types.proofs.Basics.{all_each as each_any, one_of}
@@ -14,13 +14,13 @@ use Rattle.sdb_model.specs.declared.answer.Answer.{Answer}
 use Rattle.sdb_model.specs.declared.answer.Answer.TheVariants as answer
 use Rattle.sdb_model.specs.declared.event.Event.{Event}
 use Rattle.sdb_model.specs.Shown.{AnswersShow, HasRow, ShowsOwn}
-use Rattle.sdb_model.specs.Transactions.{Said, client_of, ends, from_begin, is_effective, ordinal_of, rest_of, said, statements_of, through_end}
+use Rattle.sdb_model.specs.Transactions.{Said, client_of, ends, from_begin, ordinal_of, rest_of, said, statements_of, through_end}
 use Rattle.sdb_steps.specs.Hands.{Hand}
 use Rattle.sdb_story.specs.Telling.{waiting_of}
 use Rattle.sdb_causes.specs.Shows.{AllGiveOwn, HasBefore, RowsAreShown, GivesOwn, WasRead}
 use Rattle.sdb_causes.specs.Tied.{AreTied, IsWaiting, Knows}
 use Rattle.sdb_causes.proofs.Noting.{each_left, each_middle, since_all}
-use Rattle.sdb_causes.proofs.Shows.{each_changing, effective_by, first_so}
+use Rattle.sdb_causes.proofs.Shows.{each_changing, first_so}
 use Rattle.sdb_causes.proofs.ShowsTold.{own_waits}
 
 ---- the statements of a transaction
@@ -60,20 +60,17 @@ parted (x ∷ xs) s has = by (ends x) refl (λ h. parted xs s h) has
 
 module _ (catalog : List Table) (events : List Event) (c : ℕ) (id : TxId) (s : Said) (body post : List Said) (statements : statements_of events id ≡ body ++ s ∷ post)
     (among : AllByRecursion (Contains (said c events)) body) (last : Contains (said c events) s) where
-  row_own : (key : Key) (row : Option (List Pair)) → is_effective s ≡ true → HasBefore catalog events c body s key row → HasRow catalog (WasRead catalog events c) events id s key row
-  row_own key row e h = record {
+  row_own : (key : Key) (row : Option (List Pair)) → HasBefore catalog events c body s key row → HasRow catalog (WasRead catalog events c) events id s key row
+  row_own key row h = record {
     first = h.first;
     earlier = h.earlier;
     changing = h.changing;
-    later = filter is_effective post;
+    later = post;
     sts = h.sts;
     base = h.base;
-    parts =
-        ap (filter is_effective) statements
-        ∙ filter-append is_effective body (s ∷ post)
-        ∙ ap (λ b. filter is_effective body ++ (if b then s ∷ filter is_effective post else filter is_effective post)) e
-        ∙ ap (λ xs. xs ++ s ∷ filter is_effective post) h.parts;
+    parts = statements ∙ ap (λ xs. xs ++ s ∷ post) h.parts;
     begins = h.begins;
+    finished = h.shown.told;
     shown = (first_so (Contains (said c events)) h.changing s h.first h.begins (each_changing (Contains (said c events)) body h.earlier h.changing h.parts among) last, h.shown);
     read = h.read;
     made = h.made;
@@ -87,9 +84,9 @@ module _ (catalog : List Table) (events : List Event) (c : ℕ) (id : TxId) (s :
     reads,
     found,
     shown,
-    each_any (λ (r : Image). HasBefore catalog events c body s r.key (Some r.columns)) (λ (r : Image). HasRow catalog (WasRead catalog events c) events id s r.key (Some r.columns)) images (λ r h. row_own r.key (Some r.columns) (effective_by s (answer.Rows rows) false is refl) h) own,
+    each_any (λ (r : Image). HasBefore catalog events c body s r.key (Some r.columns)) (λ (r : Image). HasRow catalog (WasRead catalog events c) events id s r.key (Some r.columns)) images (λ r h. row_own r.key (Some r.columns) h) own,
   )
-  shows_own (answer.Duplicate key) is h = (h.0, row_own key (Some h.0) (effective_by s (answer.Duplicate key) false is refl) h.1)
+  shows_own (answer.Duplicate key) is h = (h.0, row_own key (Some h.0) h.1)
   shows_own a is h = tt
 
 ---- all clients

@@ -77,7 +77,7 @@ use Rattle.sdb_causes.proofs.ShowsGiven.{next_given}
 use Rattle.sdb_causes.proofs.ShowsTold.{ShowsNext, next_same, sees_then, showing_stays, shows_end, shows_further}
 use Rattle.sdb_model.specs.Calls.{decision_learned}
 use Rattle.sdb_model.specs.Causes.{IsDecided}
-use Rattle.sdb_model.specs.Noted.{Note}
+use Rattle.sdb_model.specs.Noted.{Note, read_finished}
 use Rattle.sdb_model.specs.Transactions.{rest_of}
 use Rattle.sdb_record.specs.declared.coordinator.Decision.TheVariants as decision
 use Rattle.sdb_types.specs.declared.txid.TxId.{TxId}
@@ -107,17 +107,32 @@ middle_ends s a e m c = ap (λ o. reads_commit s.text || is_conflict o || (reads
 
 -- what a plan leaves does nothing
 pub left_idle : (was t : TxnAt) (s : PlanStep) → was.doing ≡ doing.Idle → t.doing ≡ doing.Idle → (given_left was t s).doing ≡ doing.Idle
-left_idle was t (Finished a ks) h k = elim (changes_nothing (given_answer t (Finished a ks))) as (λ b. (if b then was else written t ks).doing ≡ doing.Idle) [ true ↦ h | false ↦ k ]
+left_idle was t (Finished a ks) h k = by (changes_nothing (given_answer t (Finished a ks))) (read_finished (given_answer t (Finished a ks)))
+  where
+    by : (b f : Bool) → (if b then (if f then t else was) else written t ks).doing ≡ doing.Idle
+    by true true = k
+    by true false = h
+    by false f = k
 left_idle was t (Wants a) h k = h
 
 -- and is the same transaction
 pub left_id : (was t : TxnAt) (s : PlanStep) → was.id ≡ t.id → (given_left was t s).id ≡ t.id
-left_id was t (Finished a ks) h = elim (changes_nothing (given_answer t (Finished a ks))) as (λ b. (if b then was else written t ks).id ≡ t.id) [ true ↦ h | false ↦ refl ]
+left_id was t (Finished a ks) h = by (changes_nothing (given_answer t (Finished a ks))) (read_finished (given_answer t (Finished a ks)))
+  where
+    by : (b f : Bool) → (if b then (if f then t else was) else written t ks).id ≡ t.id
+    by true true = refl
+    by true false = h
+    by false f = refl
 left_id was t (Wants a) h = h
 
 -- and has read what it had
 pub left_reads : (was t : TxnAt) (s : PlanStep) → was.seen.reads ≡ t.seen.reads → was.seen.scans ≡ t.seen.scans → ((given_left was t s).seen.reads ≡ t.seen.reads) × ((given_left was t s).seen.scans ≡ t.seen.scans)
-left_reads was t (Finished a ks) r x = elim (changes_nothing (given_answer t (Finished a ks))) as (λ b. ((if b then was else written t ks).seen.reads ≡ t.seen.reads) × ((if b then was else written t ks).seen.scans ≡ t.seen.scans)) [ true ↦ (r, x) | false ↦ (refl, refl) ]
+left_reads was t (Finished a ks) r x = by (changes_nothing (given_answer t (Finished a ks))) (read_finished (given_answer t (Finished a ks)))
+  where
+    by : (b f : Bool) → ((if b then (if f then t else was) else written t ks).seen.reads ≡ t.seen.reads) × ((if b then (if f then t else was) else written t ks).seen.scans ≡ t.seen.scans)
+    by true true = (refl, refl)
+    by true false = (r, x)
+    by false f = (refl, refl)
 left_reads was t (Wants a) r x = (r, x)
 
 none_kept : {X : Type 0} (p : X → Bool) (xs : List X) → AllByRecursion (λ x. p x ≡ false) xs → filter p xs ≡ []

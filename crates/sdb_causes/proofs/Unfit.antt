@@ -41,7 +41,7 @@ use Rattle.sdb_model.specs.Access.{in_access}
 use Rattle.sdb_model.specs.Calls.{Made, records_read, records_shown}
 use Rattle.sdb_model.specs.Causes.{IsBad, is_fit, is_misfit}
 use Rattle.sdb_model.specs.Exec.{Tables, all_rows, find_table, named_table, row_of_entry}
-use Rattle.sdb_model.specs.Noted.{meaning_of}
+use Rattle.sdb_model.specs.Noted.{meaning_of, read_finished}
 use Rattle.sdb_model.specs.Refused.{refusal_of}
 use Rattle.sdb_model.specs.Transactions.{changes_nothing}
 use Rattle.sdb_exec.specs.declared.plan.PlanStep.TheVariants.{Finished}
@@ -372,13 +372,15 @@ module _ (catalog : List Table) (p : Planned) (a : Access) (listed : find_table 
     pub given_fits : (was v : TxnAt) → SeesFit catalog was.seen → (first_unfit p.table (overlay a v.seen) ≡ None → SeesFit catalog v.seen) → SeesFit catalog (given_left was v (gives p a v)).seen
     given_fits was v before now = by (first_unfit p.table (overlay a v.seen)) refl
       where
-        left : (ks : List Keyed) (t : Bool) → SeesFit catalog (with_written v.seen ks) → SeesFit catalog (if t then was else written v ks).seen
-        left ks true fits = before
-        left ks false fits = fits
+        left : (ks : List Keyed) (t f : Bool) → SeesFit catalog v.seen → SeesFit catalog (with_written v.seen ks) → SeesFit catalog (if t then (if f then v else was) else written v ks).seen
+        left ks true true seen fits = seen
+        left ks true false seen fits = before
+        left ks false f seen fits = fits
 
         by : (o : Option Key) → first_unfit p.table (overlay a v.seen) ≡ o → SeesFit catalog (given_left was v (gives p a v)).seen
         by None e =
             let step : step_of p (overlay a v.seen) ≡ Finished (answer_on p.table p.statement (overlay a v.seen)) (changes_on p.table p.statement (overlay a v.seen)) = asked_gives p (overlay a v.seen) None asked e in
             subst (λ y. SeesFit catalog (given_left was v y).seen) (sym step)
-            (left (changes_on p.table p.statement (overlay a v.seen)) (changes_nothing (given_answer v (Finished (answer_on p.table p.statement (overlay a v.seen)) (changes_on p.table p.statement (overlay a v.seen))))) (written_fits v.seen (answer_on p.table p.statement (overlay a v.seen)) (changes_on p.table p.statement (overlay a v.seen)) step (now e)))
+            (left (changes_on p.table p.statement (overlay a v.seen)) (changes_nothing (given_answer v (Finished (answer_on p.table p.statement (overlay a v.seen)) (changes_on p.table p.statement (overlay a v.seen)))))
+            (read_finished (given_answer v (Finished (answer_on p.table p.statement (overlay a v.seen)) (changes_on p.table p.statement (overlay a v.seen))))) (now e) (written_fits v.seen (answer_on p.table p.statement (overlay a v.seen)) (changes_on p.table p.statement (overlay a v.seen)) step (now e)))
         by (Some key) e = subst (λ y. SeesFit catalog (given_left was v y).seen) (sym (asked_gives p (overlay a v.seen) (Some key) asked e)) before

@@ -4,6 +4,7 @@ use Rattle.std.specs.List.{count_by}
 use Rattle.sdb_model.specs.declared.event.Event.{Event}
 use Rattle.sdb_model.specs.Calls.{calls_of}
 use Rattle.sdb_model.specs.Causes.{records_found, rows_counted}
+use Rattle.sdb_model.specs.Noted.{has_finished}
 use Rattle.sdb_model.specs.Transactions.{Said, is_effective}
 use Rattle.sdb_snapshot.specs.Noted.{Note}
 use Rattle.sdb_snapshot.specs.Seen.{Seen}
@@ -15,9 +16,9 @@ use Rattle.sdb_txn.specs.Txn.{TxnAt}
 abbrev pub counted_told : List Said → ℕ
 counted_told body = sum_by (λ b. rows_counted b.answer) (filter is_effective body)
 
--- how many records their calls found
+-- how many records the calls of those whose reads have finished found
 abbrev pub found_told : List Event → ℕ → List Said → ℕ
-found_told events c body = sum_by (λ b. records_found (calls_of events c b)) (filter is_effective body)
+found_told events c body = sum_by (λ b. records_found (calls_of events c b)) (filter has_finished body)
 
 -- at how many of the keys that were read there was a record
 abbrev pub records_noted : List Note → ℕ

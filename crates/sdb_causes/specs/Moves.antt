@@ -20,8 +20,8 @@ use Rattle.sdb_record.specs.Moved.{version_of}
 use Rattle.sdb_record.specs.Rolls.{IsWrite, image_under}
 use Rattle.sdb_model.specs.declared.event.Event.{Event}
 use Rattle.sdb_model.specs.Calls.{Made, calls_of, decision_shown, put_by, records_read}
-use Rattle.sdb_model.specs.Noted.{Got, Note, Scanned, meaning_of, notes_in, reads_rows, rolls, version_noted, is_from_rows}
-use Rattle.sdb_model.specs.Transactions.{Said, ends, from_begin, id_of, is_effective}
+use Rattle.sdb_model.specs.Noted.{Got, Note, Scanned, meaning_of, notes_in, reads_rows, rolls, version_noted, has_finished}
+use Rattle.sdb_model.specs.Transactions.{Said, ends, from_begin, id_of}
 use Rattle.sdb_model.specs.declared.answer.Answer.TheVariants as answer
 use Rattle.sdb_model.specs.Causes.{ConflictsAtCommit, HasMoved}
 use Rattle.sdb_model.specs.Sql.{reads_commit}
@@ -124,9 +124,9 @@ pub record WorkBy (notes : List Note) (p : Work) : Type 0 where
 
 ---- statements
 
--- what the statements of a transaction's body noted
+-- what these statements of a transaction noted
 abbrev pub notes_told : List Event → ℕ → List Said → List Note
-notes_told events c body = flat_map (λ s. notes_in (calls_of events c s)) (filter is_from_rows (filter is_effective body))
+notes_told events c body = flat_map (λ s. notes_in (calls_of events c s)) (filter has_finished body)
 
 -- What a scan of a statement found at a key, by what its rows mean, is something else than was noted there.
 abbrev pub MovesAtScan : List Made → List Note → Key → Option Record → Type 0

@@ -14,9 +14,9 @@ use Rattle.sdb_model.specs.declared.event.How.TheVariants.{Seen}
 use Rattle.sdb_model.specs.Calls.{Made, calls_after, calls_of, decision_shown, records_read}
 use Rattle.sdb_model.specs.Causes.{IsEarly}
 use Rattle.sdb_model.specs.Counted.{IsPassedOver, roll_by}
-use Rattle.sdb_model.specs.Noted.{reads_rows}
+use Rattle.sdb_model.specs.Noted.{read_finished, reads_rows}
 use Rattle.sdb_model.specs.Sql.{reads_vacuum}
-use Rattle.sdb_model.specs.Transactions.{Said, is_answered_from_rows, said}
+use Rattle.sdb_model.specs.Transactions.{Said, said}
 use Rattle.sdb_phases.specs.declared.step.RecoverPhase.{RecoverPhase}
 use Rattle.sdb_phases.specs.declared.step.RecoverPhase.TheVariants as phase
 use Rattle.sdb_read.specs.declared.read.ReadStep.{ReadStep}
@@ -45,9 +45,9 @@ pub record IsRolledBy (calls : List Made) (read : Made) (r : Record) : Type 0 wh
 
 ---- what is so of all events
 
--- Whoever was answered from rows had each unresolved record that was found rolled first, but for those that a VACUUM passed over.
+-- Each statement whose read finished had each unresolved record that was found rolled first, but for those that a VACUUM passed over.
 abbrev pub RecordsAreRolled : List Event → Type 0
-RecordsAreRolled events = (c : ℕ) (s : Said) (a : Answer) (m : Made) (r : Record) → Contains (said c events) s → s.answer ≡ Some a → is_answered_from_rows a ≡ true
+RecordsAreRolled events = (c : ℕ) (s : Said) (a : Answer) (m : Made) (r : Record) → Contains (said c events) s → s.answer ≡ Some a → read_finished a ≡ true
     → Contains (calls_of events c s) m → reads_rows m ≡ true → Contains (records_read m.reply) r → is_unresolved r ≡ true → IsRolledBy (calls_of events c s) m r ⊎ IsPassedOver events s (calls_of events c s) m r
 
 -- each call that was answered Applied or NotMet was seen
@@ -105,9 +105,9 @@ WaitRolls events sweeps calls None None = Unit {0}
 WaitRolls events sweeps calls None (Some t) = DoingRolls events sweeps calls t.doing
 WaitRolls events sweeps calls (Some v) o = SweepRolls events sweeps calls v.stage
 
--- of one that was answered from rows
+-- of one whose read finished
 abbrev pub IsRolledIn : List Event → ℕ → Said → Type 0
-IsRolledIn events c s = (a : Answer) → s.answer ≡ Some a → is_answered_from_rows a ≡ true → RolledBut events (reads_vacuum s.text) (calls_of events c s) []
+IsRolledIn events c s = (a : Answer) → s.answer ≡ Some a → read_finished a ≡ true → RolledBut events (reads_vacuum s.text) (calls_of events c s) []
 
 -- The records that the statements of a client found, those that were answered and the one that waits.
 pub record RollsBy (events : List Event) (c : ℕ) (told : List Said) (waiting : Option Said) (h : ClientAt) : Type 0 where

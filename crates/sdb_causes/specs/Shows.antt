@@ -15,7 +15,7 @@ use Rattle.sdb_model.specs.declared.statement.Statement.{Statement}
 use Rattle.sdb_model.specs.declared.statement.Statement.TheVariants as statement
 use Rattle.sdb_model.specs.Exec.{find_table, shown}
 use Rattle.sdb_model.specs.Explained.{IsTableKey}
-use Rattle.sdb_model.specs.Noted.{is_from_rows}
+use Rattle.sdb_model.specs.Noted.{has_finished}
 use Rattle.sdb_model.specs.Shown.{FoundBy, ShowsOwn, StartsWith, row_left}
 use Rattle.sdb_model.specs.Sql.{Reads, reads_vacuum}
 use Rattle.sdb_model.specs.Told.{AreRead}
@@ -29,9 +29,9 @@ use Rattle.sdb_client.specs.Client.{ClientAt}
 
 ---- the row of a key
 
--- A statement that is no VACUUM was answered from rows, and its calls showed a row at a key of a table of the catalog.
+-- A statement that is no VACUUM has finished its read, and its calls showed a row at a key of a table of the catalog.
 pub record FoundFor (catalog : List Table) (events : List Event) (c : ℕ) (s : Said) (key : Key) (row : Option (List Pair)) : Type 0 where
-  pub told : is_from_rows s ≡ true
+  pub told : has_finished s ≡ true
   pub no_vacuum : reads_vacuum s.text ≡ false
   pub table : IsTableKey catalog key
   pub found : FoundBy events c s key row
@@ -40,18 +40,18 @@ pub record FoundFor (catalog : List Table) (events : List Event) (c : ℕ) (s : 
 abbrev pub WasRead : List Table → List Event → ℕ → Said → Key → Option (List Pair) → Type 0
 WasRead catalog events c s key row = Contains (said c events) s × FoundFor catalog events c s key row
 
--- A transaction has a row at a key when it takes a statement after those of a body: an effective one of these, or that statement,
--- was shown a row there, and the effective ones from there on made this of it.
+-- A transaction has a row at a key when it takes a statement after those of a body: one of these, or that statement, was shown a row
+-- there, and the effective ones from there on made this of it.
 pub record HasBefore (catalog : List Table) (events : List Event) (c : ℕ) (body : List Said) (s : Said) (key : Key) (row : Option (List Pair)) : Type 0 where
   pub first : Said
   pub earlier : List Said
   pub changing : List Said
   pub sts : List Statement
   pub base : Option (List Pair)
-  pub parts : filter is_effective body ≡ earlier ++ changing
+  pub parts : body ≡ earlier ++ changing
   pub begins : StartsWith first (changing ++ s ∷ [])
   pub shown : FoundFor catalog events c first key base
-  pub read : AreRead changing sts
+  pub read : AreRead (filter is_effective changing) sts
   pub made : row ≡ fold (λ r st. row_left catalog st key r) base sts
 
 -- And so it has it after them, where one of them was shown it.
@@ -61,10 +61,10 @@ pub record HasAfter (catalog : List Table) (events : List Event) (c : ℕ) (body
   pub changing : List Said
   pub sts : List Statement
   pub base : Option (List Pair)
-  pub parts : filter is_effective body ≡ earlier ++ changing
+  pub parts : body ≡ earlier ++ changing
   pub begins : StartsWith first changing
   pub shown : FoundFor catalog events c first key base
-  pub read : AreRead changing sts
+  pub read : AreRead (filter is_effective changing) sts
   pub made : row ≡ fold (λ r st. row_left catalog st key r) base sts
 
 ---- what a statement is answered
@@ -109,7 +109,7 @@ pub record ShowsBy (catalog : List Table) (events : List Event) (c : ℕ) (told 
 
 ---- what follows of the events
 
--- each answer of a client shows rows that its transaction has, by what calls showed to statements answered from rows
+-- each answer of a client shows rows that its transaction has, by what calls showed to statements whose reads have finished
 abbrev pub ShowsOwnOf : List Table → List Event → ℕ → Type 0
 ShowsOwnOf catalog events c = (id : TxId) (s : Said) (a : Answer) → client_of id ≡ c → Contains (statements_of events id) s → s.answer ≡ Some a → ShowsOwn catalog (WasRead catalog events c) events id s a
 

@@ -36,8 +36,8 @@ pub fn records_are_rolled()
     ensures seen { (s : ScriptEvents) → RecordsAreRolled s.events → AreResolved s.events }
 {}
 
-/// And each row that is shown is one that its transaction has by what the calls of its statements were shown, of those that were
-/// answered from rows, at keys of tables.
+/// And each row that is shown is one that its transaction has by what the calls of its statements were shown, of those whose reads
+/// finished, at keys of tables.
 pub fn answers_show_own_rows()
     ensures each { (catalog : List Table) (events : List Event) (now : ℤ) (hands : ℕ → Hand) → AreTied catalog events now hands → RowsAreShown catalog events }
     ensures all { (catalog : List Table) (events : List Event) → RowsAreShown catalog events → AnswersShow catalog (WasRead catalog events) events }
