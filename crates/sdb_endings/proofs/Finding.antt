@@ -338,7 +338,7 @@ module _ (catalog : List Table) (places : List Place) (events : List Event) (ope
     data_read m is same = ap (λ (b : Bool). if b then false else is_read m.request) (ap is_coordinator_table same ∙ not_true (is_coordinator_table key.table) ((apart_from catalog none).outside key table)) ∙ is
 
     pub resolved_decided : FoundDecided events client s key
-    resolved_decided m r has shows loose = by (rolled client s reader.a m r reader.among reader.answer reader.from_rows has (data_read m read.is read.table) (read.shown r refl) (and_both (is_taken r) (not (is_in state.Committed r.columns)) taken (ap not loose)))
+    resolved_decided m r has shows loose = by (rolled client s reader.a m r reader.among reader.answer reader.finished has (data_read m read.is read.table) (read.shown r refl) (and_both (is_taken r) (not (is_in state.Committed r.columns)) taken (ap not loose)))
       where
         read : IsRead m.request m.reply key (Some r)
         read = read_of m.request m.reply key (Some r) shows
@@ -376,6 +376,7 @@ has_row_as catalog was now id events f s key row h = record {
   base = h.base;
   parts = h.parts;
   begins = h.begins;
+  finished = h.finished;
   shown = f h.first key h.base h.shown;
   read = h.read;
   made = h.made;

@@ -1,8 +1,8 @@
 -- What statements noted is the same where calls are moved to other stores.
 use Rattle.std.proofs.Common.{◌≡◌, ℕ, ◌+◌, Bool, true, false, List, [], ◌∷◌, length, map, Option, Some, None, refl, sym, ap, ◌∙◌}
-use Rattle.std.specs.Prelude.{◌==◌, ◌&&◌, filter, find, if◌then◌else◌, is_some, nat_le, nat_lt}
+use Rattle.std.specs.Prelude.{◌==◌, ◌&&◌, filter, find, if◌then◌else◌, is_some, nat_le, nat_lt, not, take_while}
 use Rattle.std.specs.List.{cons_option, enumerate_from, filter_map, flat_map}
-use Rattle.std.specs.Option.{option_and_then, option_map, option_map_or}
+use Rattle.std.specs.Option.{option_and_then, option_map}
 use Rattle.std.proofs.lemmas.List.{length-map}
 use Rattle.sdb_types.specs.declared.txid.TxId.{TxId}
 use Rattle.sdb_types.specs.declared.record.Record.{Record}
@@ -16,11 +16,11 @@ use Rattle.sdb_model.specs.declared.event.Event.{Event}
 use Rattle.sdb_model.specs.declared.event.Event.TheVariants as event
 use Rattle.sdb_model.specs.Calls.{Made, calls_by, calls_of, end_of, made_by, put_by}
 use Rattle.sdb_model.specs.Events.{table_asked}
-use Rattle.sdb_model.specs.Noted.{Got, Note, Scanned, meaning_of, note_of, read_of, noted_in, notes_in, reads_rows, rolls}
+use Rattle.sdb_model.specs.Noted.{Got, Note, Scanned, has_finished, meaning_of, note_of, read_of, noted_in, notes_in, reads_rows, rolls}
 use Rattle.sdb_model.specs.Rows.{Name}
-use Rattle.sdb_model.specs.Transactions.{Said, body, client_of, is_answered_from_rows}
+use Rattle.sdb_model.specs.Transactions.{Said, client_of, ends, from_begin, ordinal_of, rest_of, statements_inside}
 use Rattle.sdb_spread.specs.Spread.{moved_event, moved_events}
-use Rattle.sdb_spread.proofs.Moved.{body_moved}
+use Rattle.sdb_spread.proofs.Moved.{said_moved}
 
 ---- calls that are moved to other stores
 
@@ -108,8 +108,11 @@ module _ (at : Name → Name) where
   flat_same : (f g : Said → List Note) → ((s : Said) → f s ≡ g s) → (ss : List Said) → flat_map f ss ≡ flat_map g ss
   flat_same f g same ss = λ k. flat_map (λ s. same s k) ss
 
+  inside_moved : (events : List Event) (id : TxId) → statements_inside (moved_events at events) id ≡ statements_inside events id
+  inside_moved events id = ap (λ ss. take_while (λ s. not (ends s)) (rest_of (from_begin (ordinal_of id) ss))) (said_moved at (client_of id) events)
+
   -- What the statements of a transaction noted is the same where calls are moved to other stores.
   pub noted_moved : (events : List Event) (id : TxId) → noted_in (moved_events at events) id ≡ noted_in events id
   noted_moved events id =
-      ap (λ ss. flat_map (λ s. notes_in (calls_of (moved_events at events) (client_of id) s)) (filter (λ s. option_map_or is_answered_from_rows s.answer false) ss)) (body_moved at events id)
-      ∙ flat_same (λ s. notes_in (calls_of (moved_events at events) (client_of id) s)) (λ s. notes_in (calls_of events (client_of id) s)) (λ s. ap notes_in (of_moved events (client_of id) s) ∙ notes_moved (calls_of events (client_of id) s)) (filter (λ s. option_map_or is_answered_from_rows s.answer false) (body events id))
+      ap (λ ss. flat_map (λ s. notes_in (calls_of (moved_events at events) (client_of id) s)) (filter has_finished ss)) (inside_moved events id)
+      ∙ flat_same (λ s. notes_in (calls_of (moved_events at events) (client_of id) s)) (λ s. notes_in (calls_of events (client_of id) s)) (λ s. ap notes_in (of_moved events (client_of id) s) ∙ notes_moved (calls_of events (client_of id) s)) (filter has_finished (statements_inside events id))

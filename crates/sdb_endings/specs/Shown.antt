@@ -8,13 +8,14 @@ use Rattle.sdb_types.specs.declared.record.State.TheVariants as state
 use Rattle.sdb_schema.specs.declared.table.Table.{Table}
 use Rattle.sdb_record.specs.declared.coordinator.Decided.{Decided}
 use Rattle.sdb_record.specs.Meta.{id_in, is_in}
+use Rattle.sdb_model.specs.Noted.{read_finished}
 use Rattle.sdb_model.specs.declared.answer.Answer.{Answer}
 use Rattle.sdb_model.specs.declared.event.Event.{Event}
 use Rattle.sdb_model.specs.Calls.{Made, calls_of, decision_shown, end_of}
 use Rattle.sdb_model.specs.Explained.{IsTableKey, Shows}
 use Rattle.sdb_model.specs.Shown.{WasFound}
 use Rattle.sdb_model.specs.Sql.{reads_vacuum}
-use Rattle.sdb_model.specs.Transactions.{Said, is_answered_from_rows, said}
+use Rattle.sdb_model.specs.Transactions.{Said, said}
 
 -- A call of a statement, before the statement's last event, showed the decision on the transaction that wrote a record.
 pub record IsDecidedIn (events : List Event) (client : ℕ) (s : Said) (r : Record) : Type 0 where
@@ -30,12 +31,12 @@ pub record IsDecidedIn (events : List Event) (client : ℕ) (s : Said) (r : Reco
 abbrev pub FoundDecided : List Event → ℕ → Said → Key → Type 0
 FoundDecided events client s key = (m : Made) (r : Record) → Contains (calls_of events client s) m → Shows m.request m.reply key (Some r) → is_in state.Committed r.columns ≡ false → IsDecidedIn events client s r
 
--- A statement of a client was answered from rows, and is no VACUUM.
+-- A statement of a client has finished its read, and is no VACUUM.
 pub record IsReader (events : List Event) (client : ℕ) (s : Said) : Type 0 where
   pub among : Contains (said client events) s
   pub a : Answer
   pub answer : s.answer ≡ Some a
-  pub from_rows : is_answered_from_rows a ≡ true
+  pub finished : read_finished a ≡ true
   pub no_vacuum : reads_vacuum s.text ≡ false
 
 -- Calls of such a statement showed a row at a key of a table.

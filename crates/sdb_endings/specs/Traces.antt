@@ -53,7 +53,7 @@ StandsExplained t = StandingExplained t.catalog t.places t.events t.opening t.mo
 abbrev pub TakesRecords : Traced → Type 0
 TakesRecords t = AreTaken t.catalog t.places t.opening t.moments
 
--- answers show rows that their transactions have, as the calls of statements answered from rows showed them
+-- answers show rows that their transactions have, as the calls of statements whose reads finished showed them
 abbrev pub ShowsAsRead : Traced → Type 0
 ShowsAsRead t = AnswersShow t.catalog (ReadBy t.catalog t.events) t.events
 

@@ -11,13 +11,13 @@ pub fn found_rows_are_committed()
     ensures { (t : Traced) (x : SaidAtKey t) (row : Option (List Pair)) → StandsExplained t → WereDecidedAt x → WasFoundAt x row → WasCommittedAt x row }
 {}
 
-/// Where whoever was answered from rows had each unresolved record rolled that was found, the calls of such a statement that is no
+/// Where each statement whose read finished had each unresolved record rolled that was found, the calls of such a statement that is no
 /// VACUUM showed the decision on each.
 pub fn resolved_are_decided()
     ensures { (t : Traced) (x : SaidAtKey t) → IsApart t → TakesRecords t → AreResolved t.events → IsReader t.events x.client x.said → WereDecidedAt x }
 {}
 
-/// Where answers show rows that their transactions have, as the calls of statements answered from rows showed them, no transaction was
+/// Where answers show rows that their transactions have, as the calls of statements whose reads finished showed them, no transaction was
 /// shown a row that was neither its own nor committed.
 pub fn answers_show_committed_rows()
     ensures { (t : Traced) → IsApart t → StandsExplained t → TakesRecords t → AreResolved t.events → ShowsAsRead t → ShowsCommitted t }
