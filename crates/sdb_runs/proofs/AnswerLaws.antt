@@ -1,6 +1,6 @@
 -- The tests of answers hold exactly where the rows that answers show are rows that the transaction has.
 use Rattle.std.proofs.Common.{◌≡◌, ℕ, Bool, true, false, List, [], ◌∷◌, map, Option, Some, None, inl, refl, sym, ap, subst, ◌∙◌}
-use Rattle.std.specs.Prelude.{◌↔◌, Contains, IsTrue, filter}
+use Rattle.std.specs.Prelude.{◌↔◌, Contains, IsTrue}
 use Rattle.std.specs.Cmp.{tied_itself}
 use Rattle.std.specs.Cmp.Lexicographic.{lists_total, slice_cmp}
 use Rattle.std.specs.FinMap.{slice_cmp-IsAntisymmetric}
@@ -26,10 +26,10 @@ use Rattle.sdb_model.specs.declared.statement.Statement.{Statement}
 use Rattle.sdb_model.specs.declared.statement.Statement.TheVariants as statement
 use Rattle.sdb_model.specs.Exec.{find_table, shown}
 use Rattle.sdb_model.specs.Shown.{HasRow, ShowsKey, ShowsOwn, ShowsRows}
-use Rattle.sdb_model.specs.Transactions.{Said, client_of, is_effective, statements_of}
+use Rattle.sdb_model.specs.Transactions.{Said, client_of, statements_of}
 use Rattle.sdb_said.proofs.Lists.{In, all_each as each_in, any_some, each_all, right, some_any}
 use Rattle.sdb_types.proofs.Bools.{and_both as both}
-use Rattle.sdb_caused.proofs.Finds.{contains_in, in_contains, in_kept, kept_in}
+use Rattle.sdb_caused.proofs.Finds.{contains_in, in_contains}
 use Rattle.sdb_runs.specs.declared.stores.Stores.{Stores}
 use Rattle.sdb_runs.specs.declared.turn.Turn.{Turn}
 use Rattle.sdb_runs.specs.All.{IsTransactionShown}
@@ -68,9 +68,9 @@ module _ (t : Table) (columns : Option (List (List ℕ))) (images : List Image) 
 
 ---- what single answers show
 
-module _ (catalog : List Table) (x : Stores) (events : List Event) (id : TxId) (ts : List Turn) (turns : AreTurns events (client_of id) (filter is_effective (statements_of events id)) ts) where
+module _ (catalog : List Table) (x : Stores) (events : List Event) (id : TxId) (ts : List Turn) (turns : AreTurns events (client_of id) (statements_of events id) ts) where
   abbrev all : List Said
-  all = filter is_effective (statements_of events id)
+  all = statements_of events id
 
   abbrev Has : Said → Key → Option (List Pair) → Type 0
   Has s key row = HasRow catalog (Was x events (client_of id)) events id s key row
@@ -88,6 +88,7 @@ module _ (catalog : List Table) (x : Stores) (events : List Event) (id : TxId) (
     base = h.base;
     parts = h.parts;
     begins = h.begins;
+    finished = h.finished;
     shown = h.shown;
     read = h.read;
     made = h.made;
@@ -103,6 +104,7 @@ module _ (catalog : List Table) (x : Stores) (events : List Event) (id : TxId) (
     base = h.base;
     parts = h.parts;
     begins = h.begins;
+    finished = h.finished;
     shown = h.shown;
     read = h.read;
     made = h.made;
@@ -183,18 +185,17 @@ module _ (catalog : List Table) (x : Stores) (events : List Event) (id : TxId) (
   at_turn : (s : Said) (t : Turn) (a : Answer) → IsTurn events (client_of id) s t → s.answer ≡ Some a → test t ≡ true → answer_shown catalog x keys ts t (Some a) ≡ true
   at_turn s t a h e g = ap (answer_shown catalog x keys ts t) (sym (ap (λ (z : Said). z.answer) h.said ∙ e)) ∙ g
 
-  effective_own : (s : Said) (a : Answer) → list_all test ts ≡ true → Contains (statements_of events id) s → s.answer ≡ Some a → is_effective s ≡ true → (t : Turn) × IsTurn events (client_of id) s t × (answer_shown catalog x keys ts t (Some a) ≡ true)
-  effective_own s a g k e f =
-      let i = kept_in is_effective (statements_of events id) s (contains_in (statements_of events id) s k) f in
-      let t = turn_found events (client_of id) all ts s turns i in
+  turn_own : (s : Said) (a : Answer) → list_all test ts ≡ true → Contains (statements_of events id) s → s.answer ≡ Some a → (t : Turn) × IsTurn events (client_of id) s t × (answer_shown catalog x keys ts t (Some a) ≡ true)
+  turn_own s a g k e =
+      let t = turn_found events (client_of id) all ts s turns (contains_in (statements_of events id) s k) in
       (t.0, t.2, at_turn s t.0 a t.2 e (each_in test ts g t.0 t.1))
 
   own_is : (s : Said) (a : Answer) → list_all test ts ≡ true → Contains (statements_of events id) s → s.answer ≡ Some a → Own s a
   own_is s (answer.Rows rows) g k e =
-      let t = effective_own s (answer.Rows rows) g k e (ap (λ o. is_effective (record { taken = s.taken; text = s.text; answer = o; reached = s.reached })) e) in
+      let t = turn_own s (answer.Rows rows) g k e in
       rows_by s t.0 t.1 rows t.0.statement refl (subst (λ z. statement_shown catalog t.0.statement rows (images z) ≡ true) t.1.said t.2)
   own_is s (answer.Duplicate key) g k e =
-      let t = effective_own s (answer.Duplicate key) g k e (ap (λ o. is_effective (record { taken = s.taken; text = s.text; answer = o; reached = s.reached })) e) in
+      let t = turn_own s (answer.Duplicate key) g k e in
       key_by s key (subst (λ z. some_had (had_at catalog x z key ts) ≡ true) t.1.said t.2)
   own_is s (answer.Count n) g k e = tt
   own_is s answer.Done g k e = tt
@@ -231,8 +232,7 @@ module _ (catalog : List Table) (x : Stores) (events : List Event) (id : TxId) (
   all_tested : IsTransactionShown catalog events x id → list_all test ts ≡ true
   all_tested own = each_all test ts (λ t i.
       let s = found_turn events (client_of id) all ts t turns i in
-      let k = in_kept is_effective (statements_of events id) s.0 s.1 in
-      own_test s.0 t t.said.answer s.2 (λ a e. own s.0 a (in_contains (statements_of events id) s.0 k.0) (sym (ap (λ (z : Said). z.answer) s.2.said) ∙ e))
+      own_test s.0 t t.said.answer s.2 (λ a e. own s.0 a (in_contains (statements_of events id) s.0 s.1) (sym (ap (λ (z : Said). z.answer) s.2.said) ∙ e))
       )
 
   pub transaction : (b : Bool) → b ≡ list_all test ts → IsTrue b ↔ IsTransactionShown catalog events x id

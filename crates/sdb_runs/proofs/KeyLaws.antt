@@ -26,7 +26,8 @@ use Rattle.sdb_model.specs.Images.{decision_on, image_at, row_at}
 use Rattle.sdb_model.specs.Rows.{Name, same_name}
 use Rattle.sdb_model.specs.Shown.{row_left}
 use Rattle.sdb_model.specs.Told.{AreRead}
-use Rattle.sdb_model.specs.Transactions.{Said}
+use Rattle.sdb_model.specs.Sql.{Reads}
+use Rattle.sdb_model.specs.Transactions.{Said, is_effective}
 use Rattle.sdb_said.proofs.Lists.{In, found_in, none_some}
 use Rattle.sdb_runs.specs.declared.stores.Shelf.{Shelf}
 use Rattle.sdb_runs.specs.declared.stores.Stores.{Stores}
@@ -136,17 +137,22 @@ module _ (catalog : List Table) (x : Stores) (events : List Event) (client : ℕ
   abbrev inserts : Turn → List Key
   inserts t = key_inserted catalog t.statement
 
-  made_new : (changing later : List Said) (sts : List Statement) (ts : List Turn) (columns : List Pair) → AreTurns events client (changing ++ s ∷ later) ts → AreRead changing sts → Some columns ≡ fold (λ r st. row_left catalog st key r) None sts → In (flat_map inserts ts) key
+  made_new : (changing later : List Said) (sts : List Statement) (ts : List Turn) (columns : List Pair) → AreTurns events client (changing ++ s ∷ later) ts → AreRead (filter is_effective changing) sts → Some columns ≡ fold (λ r st. row_left catalog st key r) None sts → In (flat_map inserts ts) key
   made_new changing later [] ts columns a r m = none_some (sym m)
   made_new [] later (st ∷ sts) ts columns a r m = absurd r
   made_new (c ∷ cs) later (st ∷ sts) [] columns a r m = absurd a
-  made_new (c ∷ cs) later (st ∷ sts) (t ∷ ts) columns (h, a) (rd, r) m = by (row_left catalog st key None) refl m (λ k. made_new cs later sts ts columns a r k)
+  made_new (c ∷ cs) later (st ∷ sts) (t ∷ ts) columns (h, a) r m = skip (is_effective c) r m (λ us k n. made_new cs later us ts columns a k n)
     where
-      by : (o : Option (List Pair)) → row_left catalog st key None ≡ o → Some columns ≡ fold (λ r st. row_left catalog st key r) o sts → (Some columns ≡ fold (λ r st. row_left catalog st key r) None sts → In (flat_map inserts ts) key) → In (flat_map inserts (t ∷ ts)) key
-      by None e k more = in_right (inserts t) (flat_map inserts ts) key (more k)
-      by (Some b) e k more = in_left (inserts t) (flat_map inserts ts) key (subst (λ o. In (key_inserted catalog o) key) (sym ((h.read st).0 rd)) (new_in catalog st key b e))
+      by : (us : List Statement) (o : Option (List Pair)) → row_left catalog st key None ≡ o → Reads c.text st → Some columns ≡ fold (λ r st. row_left catalog st key r) o us → (Some columns ≡ fold (λ r st. row_left catalog st key r) None us → In (flat_map inserts ts) key) → In (flat_map inserts (t ∷ ts)) key
+      by us None e rd k more = in_right (inserts t) (flat_map inserts ts) key (more k)
+      by us (Some b) e rd k more = in_left (inserts t) (flat_map inserts ts) key (subst (λ o. In (key_inserted catalog o) key) (sym ((h.read st).0 rd)) (new_in catalog st key b e))
 
-  later_new : (earlier changing later : List Said) (sts : List Statement) (ts : List Turn) (columns : List Pair) → AreTurns events client (earlier ++ changing ++ s ∷ later) ts → AreRead changing sts → Some columns ≡ fold (λ r st. row_left catalog st key r) None sts → In (flat_map inserts ts) key
+      skip : (b : Bool) → AreRead (if b then c ∷ filter is_effective cs else filter is_effective cs) (st ∷ sts) → Some columns ≡ fold (λ r st. row_left catalog st key r) None (st ∷ sts)
+          → ((us : List Statement) → AreRead (filter is_effective cs) us → Some columns ≡ fold (λ r st. row_left catalog st key r) None us → In (flat_map inserts ts) key) → In (flat_map inserts (t ∷ ts)) key
+      skip false k n more = in_right (inserts t) (flat_map inserts ts) key (more (st ∷ sts) k n)
+      skip true (rd, k) n more = by sts (row_left catalog st key None) refl rd n (λ z. more sts k z)
+
+  later_new : (earlier changing later : List Said) (sts : List Statement) (ts : List Turn) (columns : List Pair) → AreTurns events client (earlier ++ changing ++ s ∷ later) ts → AreRead (filter is_effective changing) sts → Some columns ≡ fold (λ r st. row_left catalog st key r) None sts → In (flat_map inserts ts) key
   later_new [] changing later sts ts columns a r m = made_new changing later sts ts columns a r m
   later_new (e ∷ es) changing later sts [] columns a r m = absurd a
   later_new (e ∷ es) changing later sts (t ∷ ts) columns (h, a) r m = in_right (inserts t) (flat_map inserts ts) key (later_new es changing later sts ts columns a r m)

@@ -17,9 +17,9 @@ use Rattle.sdb_model.specs.declared.event.How.TheVariants.{Seen, Lost, Discarded
 use Rattle.sdb_model.specs.Calls as calls
 use Rattle.sdb_model.specs.Calls.{calls_after, calls_of, decision_shown, records_read}
 use Rattle.sdb_model.specs.Counted.{IsPassedOver, IsResolved, is_seen, roll_by}
-use Rattle.sdb_model.specs.Noted.{reads_rows, is_from_rows}
+use Rattle.sdb_model.specs.Noted.{has_finished, read_finished, reads_rows}
 use Rattle.sdb_model.specs.Sql.{reads_vacuum}
-use Rattle.sdb_model.specs.Transactions.{Said, is_answered_from_rows}
+use Rattle.sdb_model.specs.Transactions.{Said}
 use Rattle.sdb_said.specs.Values.{same_request}
 use Rattle.sdb_said.proofs.Lists.{In, right, or_left, not_true, true_not, not_both, all_each, each_all, any_some, some_any}
 use Rattle.sdb_plain.specs.declared.made.Made.{Made}
@@ -144,7 +144,7 @@ module _ (events : List Event) (client : ℕ) (s : Said) (ms : List Made) (e : a
         subst (λ cs. IsWell cs m r) e (subst (λ z. IsWell (all_made ms) z r) (sym w.2) (left_is ms w.0 r events s one u));
   }
 
-  well_of : (a : Answer) → s.answer ≡ Some a → is_answered_from_rows a ≡ true → IsSaidResolved events client s → list_all (is_well_read events (reads_vacuum s.text) ms) ms ≡ true
+  well_of : (a : Answer) → s.answer ≡ Some a → read_finished a ≡ true → IsSaidResolved events client s → list_all (is_well_read events (reads_vacuum s.text) ms) ms ≡ true
   well_of a x y all = each_all (is_well_read events (reads_vacuum s.text) ms) ms (λ m i. elim (decide (reads_rows (made_of m))) [
     | inr n ↦ or_left (not (reads_rows (made_of m))) (are_well_left events (reads_vacuum s.text) ms m (records_read m.reply)) (true_not (reads_rows (made_of m)) n)
     | inl t ↦ or_right (not (reads_rows (made_of m))) (are_well_left events (reads_vacuum s.text) ms m (records_read m.reply))
@@ -152,14 +152,14 @@ module _ (events : List Event) (client : ℕ) (s : Said) (ms : List Made) (e : a
         subst (λ cs. IsWell cs (made_of m) r) (sym e) (all.records a (made_of m) r x y (subst (λ cs. Contains cs (made_of m)) e (in_contains (all_made ms) (made_of m) (made_in ms m i))) t (in_contains (records_read m.reply) r j) u))))
   ])
 
-  from_rows : is_from_rows s ≡ true → (a : Answer) × (s.answer ≡ Some a) × (is_answered_from_rows a ≡ true)
-  from_rows h = some_of is_answered_from_rows s.answer h
+  from_rows : has_finished s ≡ true → (a : Answer) × (s.answer ≡ Some a) × (read_finished a ≡ true)
+  from_rows h = some_of read_finished s.answer h
 
-  pub said_resolved : (b v : Bool) → is_from_rows s ≡ true → v ≡ reads_vacuum s.text → b ≡ list_all (is_well_read events v ms) ms → IsTrue b ↔ IsSaidResolved events client s
+  pub said_resolved : (b v : Bool) → has_finished s ≡ true → v ≡ reads_vacuum s.text → b ≡ list_all (is_well_read events v ms) ms → IsTrue b ↔ IsSaidResolved events client s
   said_resolved b v f g h =
       let same : b ≡ list_all (is_well_read events (reads_vacuum s.text) ms) ms = h ∙ ap (λ x. list_all (is_well_read events x ms) ms) g in
       let a = from_rows f in
       (λ t. are_well (sym same ∙ t), λ all. same ∙ well_of a.0 a.1 a.2 all)
 
-pub said_not_from_rows : (events : List Event) (client : ℕ) (s : Said) → is_from_rows s ≡ false → IsTrue true ↔ IsSaidResolved events client s
-said_not_from_rows events client s f = (λ t. record { records = λ a m r x y k. not_both (is_from_rows s) (of_some is_answered_from_rows s.answer a x y) f }, λ all. refl)
+pub said_unfinished : (events : List Event) (client : ℕ) (s : Said) → has_finished s ≡ false → IsTrue true ↔ IsSaidResolved events client s
+said_unfinished events client s f = (λ t. record { records = λ a m r x y k. not_both (has_finished s) (of_some read_finished s.answer a x y) f }, λ all. refl)

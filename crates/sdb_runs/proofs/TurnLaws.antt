@@ -1,9 +1,8 @@
--- The effective statements of a transaction, as the program has them.
-use Rattle.std.proofs.Common.{◌≡◌, ℕ, Bool, true, false, List, [], ◌∷◌, ◌++◌, inl, inr, refl, sym, ap, subst, ◌∙◌, append_assoc}
+-- The statements of a transaction, as the program has them.
+use Rattle.std.proofs.Common.{◌≡◌, ℕ, Bool, true, false, List, [], ◌∷◌, ◌++◌, inl, inr, refl, sym, subst, append_assoc}
 use Rattle.sdb_model.specs.declared.event.Event.{Event}
-use Rattle.std.specs.Prelude.{filter, if◌then◌else◌}
-use Rattle.std.proofs.lemmas.List.{append-nil}
-use Rattle.sdb_model.specs.Transactions.{Said, ends, is_effective, through_end}
+use Rattle.std.specs.Prelude.{if◌then◌else◌}
+use Rattle.sdb_model.specs.Transactions.{Said, ends, through_end}
 use Rattle.sdb_said.proofs.Lists.{In}
 use Rattle.sdb_runs.specs.declared.turn.Turn.{Turn}
 use Rattle.sdb_runs.specs.Turns.{AreTurns, IsTurn}
@@ -30,20 +29,10 @@ found_turn events client (r ∷ ss) (u ∷ ts) t (k, a) (inr i) = let f = found_
 
 module _ (events : List Event) (client : ℕ) (past : List Said) (s : Said) (ts : List Turn) where
   abbrev With : List Said → List Turn → Type 0
-  With ss us = AreTurns events client (past ++ filter is_effective ss) us
-
-  pub not_added : is_effective s ≡ false → AreTurns events client past ts → With (s ∷ []) ts
-  not_added e a = subst (λ (b : Bool). AreTurns events client (past ++ (if b then s ∷ [] else [])) ts) (sym e) (subst (λ z. AreTurns events client z ts) (sym (append-nil past)) a)
-
-  pub added : (t : Turn) → is_effective s ≡ true → IsTurn events client s t → AreTurns events client past ts → With (s ∷ []) (ts ++ t ∷ [])
-  added t e h a = subst (λ (b : Bool). AreTurns events client (past ++ (if b then s ∷ [] else [])) (ts ++ t ∷ [])) (sym e) (turns_more events client past ts s t a h)
+  With ss us = AreTurns events client (past ++ ss) us
 
   pub ended : (ss : List Said) → ends s ≡ true → With (s ∷ []) ts → With (through_end (s ∷ ss)) ts
   ended ss e a = subst (λ (b : Bool). With (if b then s ∷ [] else s ∷ through_end ss) ts) (sym e) a
 
-  pub gone_on : (ss : List Said) → ends s ≡ false → AreTurns events client ((past ++ filter is_effective (s ∷ [])) ++ filter is_effective (through_end ss)) ts → With (through_end (s ∷ ss)) ts
-  gone_on ss e a = subst (λ (b : Bool). With (if b then s ∷ [] else s ∷ through_end ss) ts) (sym e) (subst (λ z. AreTurns events client z ts) (append_assoc past (filter is_effective (s ∷ [])) (filter is_effective (through_end ss)) ∙ ap (λ z. past ++ z) (by (is_effective s))) a)
-    where
-      by : (b : Bool) → (if b then s ∷ [] else []) ++ filter is_effective (through_end ss) ≡ (if b then s ∷ filter is_effective (through_end ss) else filter is_effective (through_end ss))
-      by true = refl
-      by false = refl
+  pub gone_on : (ss : List Said) → ends s ≡ false → AreTurns events client ((past ++ s ∷ []) ++ through_end ss) ts → With (through_end (s ∷ ss)) ts
+  gone_on ss e a = subst (λ (b : Bool). With (if b then s ∷ [] else s ∷ through_end ss) ts) (sym e) (subst (λ z. AreTurns events client z ts) (append_assoc past (s ∷ []) (through_end ss)) a)

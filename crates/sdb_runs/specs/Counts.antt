@@ -17,9 +17,9 @@ use Rattle.sdb_model.specs.Calls.{calls_of, is_removal, records_read}
 use Rattle.sdb_model.specs.Calls as calls
 use Rattle.sdb_model.specs.Causes.{IsCommitOf}
 use Rattle.sdb_model.specs.Counted.{IsCommitCounted, IsPassedOver, IsReadCounted, IsResolved, IsVacuumCounted, is_seen, roll_by}
-use Rattle.sdb_model.specs.Noted.{Note, Got, Scanned, noted_in, reads_rows}
+use Rattle.sdb_model.specs.Noted.{Got, Note, Scanned, noted_in, read_finished, reads_rows}
 use Rattle.sdb_model.specs.Sql.{reads_commit, reads_vacuum}
-use Rattle.sdb_model.specs.Transactions.{Said, is_answered_from_rows, prepares, is_committed_answer}
+use Rattle.sdb_model.specs.Transactions.{Said, prepares, is_committed_answer}
 use Rattle.sdb_said.specs.Values.{same_request}
 use Rattle.sdb_plain.specs.declared.made.Made.{Made}
 use Rattle.sdb_plain.specs.Values.{asks_row, decision_at, made_of}
@@ -111,4 +111,4 @@ is_well_read events vacuums ms m = not (reads_rows (made_of m)) || are_well_left
 
 -- each unresolved record that a statement was answered from was rolled, or passed over by VACUUM
 pub record IsSaidResolved (events : List Event) (client : ℕ) (s : Said) : Type 0 where
-  pub records : (a : Answer) (m : calls.Made) (r : Record) → s.answer ≡ Some a → is_answered_from_rows a ≡ true → Contains (calls_of events client s) m → reads_rows m ≡ true → Contains (records_read m.reply) r → is_unresolved r ≡ true → IsResolved (calls_of events client s) m r ⊎ IsPassedOver events s (calls_of events client s) m r
+  pub records : (a : Answer) (m : calls.Made) (r : Record) → s.answer ≡ Some a → read_finished a ≡ true → Contains (calls_of events client s) m → reads_rows m ≡ true → Contains (records_read m.reply) r → is_unresolved r ≡ true → IsResolved (calls_of events client s) m r ⊎ IsPassedOver events s (calls_of events client s) m r

@@ -1,5 +1,5 @@
 -- Tests that hold exactly where the answers of a transaction show rows that it has, over its effective statements.
-use Rattle.std.specs.Prelude.{ℕ, zero, suc, Bool, true, false, nat_lt, if◌then◌else◌, List, [], ◌∷◌, ◌++◌, map, Option, Some}
+use Rattle.std.specs.Prelude.{◌&&◌, ℕ, zero, suc, Bool, true, false, nat_lt, if◌then◌else◌, List, [], ◌∷◌, ◌++◌, map, Option, Some}
 use Rattle.std.specs.Cmp.Lexicographic.{slice_cmp}
 use Rattle.std.specs.List.{cons_option, flat_map, list_all, list_any}
 use Rattle.std.specs.Option.{option_map, option_map_or}
@@ -21,7 +21,8 @@ use Rattle.sdb_model.specs.declared.statement.Statement.{Statement}
 use Rattle.sdb_model.specs.declared.statement.Statement.TheVariants as statement
 use Rattle.sdb_model.specs.Exec.{all_rows, find_table, key_of, shown}
 use Rattle.sdb_model.specs.Shown.{row_left}
-use Rattle.sdb_model.specs.Transactions.{Said}
+use Rattle.sdb_model.specs.Noted.{has_finished}
+use Rattle.sdb_model.specs.Transactions.{Said, is_effective}
 use Rattle.sdb_snapshot.specs.Seen.{images_with}
 use Rattle.sdb_order.specs.Commits.{said_of}
 use Rattle.sdb_caused.specs.Tests.{same_said}
@@ -44,7 +45,7 @@ rows_below f taken zero = []
 rows_below f taken (suc n) = rows_below f taken n ++ (if nat_lt taken (suc n) then f n ∷ [] else [])
 
 abbrev pub bases : Stores → Key → Turn → List (Option (List Pair))
-bases x key t = if list_any (λ m. reads_key key m.request) t.calls then rows_below (row_then x key) t.said.taken t.end else []
+bases x key t = if has_finished (said_of t.said) && list_any (λ m. reads_key key m.request) t.calls then rows_below (row_then x key) t.said.taken t.end else []
 
 ---- what the statements made of it
 
@@ -52,10 +53,11 @@ bases x key t = if list_any (λ m. reads_key key m.request) t.calls then rows_be
 abbrev pub image_then : Said → Key → Option (List Pair) → Turn → List Image
 image_then s key row t = if same_said (said_of t.said) s then images_with key row else []
 
--- the rows that there are at a statement where it is one of these, made of a first row by those before it
+-- the rows that there are at a statement where it is one of these, made of a first row by the effective ones before it
 abbrev pub rows_from : List Table → Said → Key → Option (List Pair) → List Turn → List Image
 rows_from catalog s key row [] = []
-rows_from catalog s key row (t ∷ ts) = image_then s key row t ++ option_map_or (λ st. rows_from catalog s key (row_left catalog st key row) ts) t.statement []
+rows_from catalog s key row (t ∷ ts) =
+    image_then s key row t ++ (if is_effective (said_of t.said) then option_map_or (λ st. rows_from catalog s key (row_left catalog st key row) ts) t.statement [] else rows_from catalog s key row ts)
 
 -- the rows that a transaction has at a key, each shown first to one of these statements
 abbrev pub had_at : List Table → Stores → Said → Key → List Turn → List Image

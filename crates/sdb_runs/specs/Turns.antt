@@ -1,4 +1,4 @@
--- The effective statements of a transaction, as the program has them.
+-- The statements of a transaction, as the program has them.
 use Rattle.std.specs.Prelude.{◌≡◌, ℕ, List, [], ◌∷◌}
 use Rattle.sdb_model.specs.Calls.{calls_of, end_of}
 use Rattle.sdb_model.specs.declared.event.Event.{Event}

@@ -166,7 +166,7 @@ pub fn calls_are_counted(
     are_takers_kept(alloc, Law::Counts, catalog, events, events)
 }
 
-/// Whether whoever was answered from rows had each unresolved record that was found rolled first. Slow.
+/// Whether each statement whose read finished had each unresolved record that was found rolled first. Slow.
 pub fn records_are_resolved(
     alloc: Global,
     catalog: &Catalog,

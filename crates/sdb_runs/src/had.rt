@@ -11,7 +11,7 @@ use crate::stores::{Stores, moment_at};
 use crate::turn::Turn;
 use sdb_caused::is_same_said;
 use sdb_order::Said;
-use sdb_plain::Made;
+use sdb_plain::{Made, has_finished, is_effective};
 use sdb_record::{Image, Images};
 use sdb_said::is_same_key;
 use sdb_schema::Catalog;
@@ -72,12 +72,12 @@ fn add_below(
     Ok(())
 }
 
-// The committed rows that a statement was shown at a key.
+// The committed rows that a statement whose read has finished was shown at a key.
 fn bases(alloc: Global, stores: &Stores, key: &Key, turn: &Turn) -> Result<Bases, NoMemory>
     ensures { IfOk result (λ rows. rows ≡ bases_lem stores.now key.now turn.now) }
 {
     let mut rows = Bases::new(alloc);
-    if any_reads(key, turn.calls.as_slice()) {
+    if has_finished(&turn.said) && any_reads(key, turn.calls.as_slice()) {
         add_below(alloc, &mut rows, stores, key, turn.said.taken, turn.end)?;
     }
     Ok(rows)
@@ -110,7 +110,7 @@ fn add_if_said(
     Ok(())
 }
 
-// Adds the row at each of these statements that is this one, made of a first row by the statements before it.
+// Adds the row at each of these statements that is this one, made of a first row by the effective statements before it.
 fn add_from(
     alloc: Global,
     images: &mut Images,
@@ -126,6 +126,9 @@ fn add_from(
         return Ok(());
     };
     add_if_said(images, said, key, &row, first)?;
+    if !is_effective(&first.said) {
+        return add_from(alloc, images, catalog, said, key, row, rest);
+    }
     match &first.statement {
         Some(statement) => {
             let left = row_left(alloc, catalog, statement, key, row)?;

@@ -11,7 +11,7 @@ ghost use Rattle.sdb_runs.specs.Counts.{IsSaidResolved, are_well_left as are_wel
 use sdb_caused::{is_early, is_unresolved, prepared_moment};
 use sdb_model::{Event, How, Keyword};
 use sdb_order::{Said, is_word};
-use sdb_plain::{Made, calls_of, decision_at, is_from_rows, reads_rows};
+use sdb_plain::{Made, calls_of, decision_at, has_finished, reads_rows};
 use sdb_record::{Back, Decided, Decision, coordinator_key, rolled_back, rolled_forward};
 use sdb_said::{is_same_request, writer};
 use sdb_types::{
@@ -271,7 +271,7 @@ pub fn is_said_resolved(
 ) -> Result<bool, NoMemory>
     ensures { IfOk result (λ is. IsTrue is ↔ IsSaidResolved events.now client (said_of said.now)) }
 {
-    if !is_from_rows(said) {
+    if !has_finished(said) {
         return Ok(true);
     }
     let calls = calls_of(alloc, events, client, said)?;

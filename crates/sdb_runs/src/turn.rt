@@ -1,13 +1,13 @@
-//! The effective statements of a transaction, with what is asked of each.
-ghost use Rattle.std.specs.Prelude.{◌≡◌, ◌++◌, ◌∷◌, [], IfOk, OnOk, List, filter};
-ghost use Rattle.sdb_model.specs.Transactions.{Said as SaidOf, client_of as client_of_lem, is_effective as is_effective_lem, statements_of, through_end};
+//! The statements of a transaction, with what is asked of each.
+ghost use Rattle.std.specs.Prelude.{◌≡◌, ◌++◌, ◌∷◌, [], IfOk, OnOk, List};
+ghost use Rattle.sdb_model.specs.Transactions.{Said as SaidOf, client_of as client_of_lem, statements_of, through_end};
 ghost use Rattle.sdb_order.specs.Commits.{all_said, said_of};
 ghost use Rattle.sdb_runs.specs.Turns.{AreTurns, IsTurn};
 
 use sdb_caused::statement_in;
 use sdb_model::{Event, Statement};
 use sdb_order::{Said, ends, statements_said};
-use sdb_plain::{Made, calls_of, client_of, end_of, from_begin, is_effective, ordinal_of, rest_of};
+use sdb_plain::{Made, calls_of, client_of, end_of, from_begin, ordinal_of, rest_of};
 use sdb_types::{Duplicate, NoMemory, Seq, TxId};
 use std::alloc::Global;
 
@@ -55,7 +55,7 @@ fn turn_of(alloc: Global, events: &[Event], client: u64, said: &Said) -> Result<
     })
 }
 
-// Adds the statement, where it is effective.
+// Adds the statement.
 fn add_turn(
     alloc: Global,
     turns: &mut Turns,
@@ -63,17 +63,14 @@ fn add_turn(
     client: u64,
     said: &Said,
 ) -> Result<(), NoMemory>
-    ensures { OnOk result ((past : List SaidOf) → AreTurns events.now client past turns.old → AreTurns events.now client (past ++ filter is_effective_lem (said_of said.now ∷ [])) turns.new) }
+    ensures { OnOk result ((past : List SaidOf) → AreTurns events.now client past turns.old → AreTurns events.now client (past ++ said_of said.now ∷ []) turns.new) }
 {
-    if !is_effective(said) {
-        return Ok(());
-    }
     let turn = turn_of(alloc, events, client, said)?;
     turns.push(turn)?;
     Ok(())
 }
 
-// Adds the effective statements up to the one that ends the transaction.
+// Adds the statements up to the one that ends the transaction.
 fn add_turns(
     alloc: Global,
     turns: &mut Turns,
@@ -81,7 +78,7 @@ fn add_turns(
     client: u64,
     said: &[Said],
 ) -> Result<(), NoMemory>
-    ensures { OnOk result ((past : List SaidOf) → AreTurns events.now client past turns.old → AreTurns events.now client (past ++ filter is_effective_lem (through_end (all_said said.now))) turns.new) }
+    ensures { OnOk result ((past : List SaidOf) → AreTurns events.now client past turns.old → AreTurns events.now client (past ++ through_end (all_said said.now)) turns.new) }
 {
     let Some((first, rest)) = said.split_first() else {
         return Ok(());
@@ -93,9 +90,9 @@ fn add_turns(
     add_turns(alloc, turns, events, client, rest)
 }
 
-/// The effective statements of a transaction.
+/// The statements of a transaction.
 pub fn turns_of(alloc: Global, events: &[Event], id: TxId) -> Result<Turns, NoMemory>
-    ensures { IfOk result (AreTurns events.now (client_of_lem id) (filter is_effective_lem (statements_of events.now id))) }
+    ensures { IfOk result (AreTurns events.now (client_of_lem id) (statements_of events.now id)) }
 {
     let client = client_of(id);
     let all = statements_said(alloc, client, events)?;

@@ -7,4 +7,4 @@ use Rattle.sdb_runs.proofs.rolls.is_said_resolved.Goals as goal
 
 pub returns : goal.returns
 returns c =
-    if_ok c.are_well_read.result (λ b h. said_resolved c.args.events.now c.args.client (said_of c.args.said.now) c.as_slice-all.result.now (ap all_made c.as_slice-all.ensures ∙ c.in_ok-calls.ensures) b c.in_ok-vacuums.vacuums (sym c.if-not-is_from_rows.ensures) c.in_ok-vacuums.ensures h) c.are_well_read.ensures
+    if_ok c.are_well_read.result (λ b h. said_resolved c.args.events.now c.args.client (said_of c.args.said.now) c.as_slice-all.result.now (ap all_made c.as_slice-all.ensures ∙ c.in_ok-calls.ensures) b c.in_ok-vacuums.vacuums (sym c.if-not-has_finished.ensures) c.in_ok-vacuums.ensures h) c.are_well_read.ensures

@@ -1,6 +1,5 @@
 use Rattle.std.proofs.Common.{◌≡◌, List, [], sym, ap, subst, ◌∙◌}
-use Rattle.std.specs.Prelude.{filter}
-use Rattle.sdb_model.specs.Transactions.{Said, client_of, from_begin, is_effective, ordinal_of, rest_of, said, through_end}
+use Rattle.sdb_model.specs.Transactions.{Said, client_of, from_begin, ordinal_of, rest_of, said, through_end}
 use Rattle.sdb_order.specs.Commits.{all_said}
 use Rattle.sdb_runs.specs.Turns.{AreTurns}
 use Rattle.sdb_runs.proofs.turn.turns_of.Goals as goal
@@ -16,5 +15,5 @@ returns c =
     c.in_ok-since.ensures ∙ ap (λ ss. from_begin c.ordinal_of.result (all_said ss)) c.as_slice.ensures ∙ ap (from_begin c.ordinal_of.result) c.in_ok-all.ensures
     ∙ ap (λ k. from_begin k (said client events)) c.ordinal_of.ensures ∙ ap (λ n. from_begin (ordinal_of c.args.id) (said n events)) c.client_of-client.ensures
     ) in
-    subst (λ n. AreTurns events n (filter is_effective (through_end (rest_of since))) c.add_turns.new.turns) c.client_of-client.ensures
-    (subst (λ ss. AreTurns events client (filter is_effective (through_end ss)) c.add_turns.new.turns) rest (c.in_ok-add_turns.ensures [] (subst (AreTurns events client []) (sym c.new-turns.ensures) tt)))
+    subst (λ n. AreTurns events n (through_end (rest_of since)) c.add_turns.new.turns) c.client_of-client.ensures
+    (subst (λ ss. AreTurns events client (through_end ss) c.add_turns.new.turns) rest (c.in_ok-add_turns.ensures [] (subst (AreTurns events client []) (sym c.new-turns.ensures) tt)))
