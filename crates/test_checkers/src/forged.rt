@@ -308,7 +308,7 @@ static FULL: [Judged; 11] = [
         "scalardb report 1\nevents 2\n1 take 1 done : BEGIN\n2 take 1 rows 1 (42) : SELECT * FROM bank.account WHERE id = 1\norder 0\ntables 0\nend\n",
         true,
     ),
-    // A read whose statement was not answered from rows is not noted, so nothing found at its key is a conflict.
+    // A read whose statement was out of memory is not noted, so nothing found at its key is a conflict.
     Judged(
         Asked::Caused,
         "scalardb report 1\nevents 5\n1 take 1 done : BEGIN\n2 take 1 - : SELECT * FROM bank.account WHERE id = 1\n3 call 1 ordered get bank.account(1) seen found none nomemory\n4 take 1 - : COMMIT\n5 call 1 ordered get bank.account(1) seen found bank.account(1){balance=100,tx_id='00000000-0000-0002-0000-000000000001',tx_prepared_at=0L,tx_state=1,tx_version=1} conflict bank.account(1) {balance=100,tx_id='00000000-0000-0002-0000-000000000001',tx_prepared_at=0L,tx_state=1,tx_version=1}\norder 0\ntables 0\nend\n",

@@ -412,6 +412,76 @@ fn outside_of_them(alloc: Global) -> Result<(), Fail> {
     all_cases(alloc, "outside", OUTSIDE_OF_THEM.as_slice())
 }
 
+// Whether the INSERT of a row that isn't there makes one call, and is then answered so.
+fn inserts(alloc: Global, client: &mut Client, catalog: &Catalog, id: u64, told: &str) -> bool {
+    let made = format!(in alloc; "INSERT INTO bank.account (id, balance) VALUES ({id}, 0)");
+    let Ok(text) = made else {
+        return false;
+    };
+    matches!(
+        take(alloc, client, catalog, text.as_str(), told),
+        Outcome::Pending
+    ) && matches!(give(alloc, client, Answer::NoRow, told), Outcome::Told)
+}
+
+fn fills(alloc: Global, client: &mut Client, catalog: &Catalog, count: u64) -> bool {
+    for id in 0..count {
+        if !inserts(alloc, client, catalog, id, "count 1") {
+            return false;
+        }
+    }
+    true
+}
+
+// Whether a COMMIT makes so many prepares, which are applied, and then makes another call.
+fn prepares(alloc: Global, client: &mut Client, count: u64) -> bool {
+    for _id in 0..count {
+        let puts = matches!(client.pending(), Some(Request::PutIf(_, _)));
+        if !puts
+            || !matches!(
+                give(alloc, client, Answer::Applied, "committed"),
+                Outcome::Pending
+            )
+        {
+            return false;
+        }
+    }
+    true
+}
+
+// The INSERT that is one too many is refused each time, and reads once; the COMMIT checks what it read.
+fn checks_refused(alloc: Global) -> Result<bool, Fail> {
+    const AGAIN: Step = (
+        "INSERT INTO bank.account (id, balance) VALUES (4096, 0)",
+        &[],
+        "refused 15 0",
+    );
+    let catalog = catalog_of(alloc, BANK)?;
+    let mut client = Client::new(alloc, 1);
+    let filled = goes(alloc, &mut client, &catalog, &BEGIN)
+        && fills(alloc, &mut client, &catalog, 4_096)
+        && inserts(alloc, &mut client, &catalog, 4_096, "refused 15 0")
+        && goes(alloc, &mut client, &catalog, &AGAIN);
+    let taken = take(alloc, &mut client, &catalog, "COMMIT", "committed");
+    Ok(
+        filled
+            && matches!(taken, Outcome::Pending)
+            && prepares(alloc, &mut client, 4_096)
+            && asks(alloc, &client, "get bank.account(4096)")
+            && matches!(
+                give(alloc, &mut client, Answer::NoRow, "committed"),
+                Outcome::Pending
+            )
+            && matches!(client.pending(), Some(Request::PutIf(_, _))),
+    )
+}
+
+#[test]
+fn refused_insert_is_checked(rt: HostRuntime) -> Result<(), Fail> {
+    assert!(checks_refused(rt.alloc())?);
+    Ok(())
+}
+
 #[test]
 fn clients_are_answered(rt: HostRuntime) -> Result<(), Fail> {
     in_transactions(rt.alloc())?;
