@@ -9,7 +9,7 @@ use Rattle.sdb_types.specs.Draws.{Tells}
 use Rattle.sdb_schema.specs.declared.table.Table.{Table}
 use Rattle.sdb_model.specs.declared.answer.Answer.{Answer}
 use Rattle.sdb_stores.specs.Shelf.{Attached, HaveRisen}
-use Rattle.sdb_board.specs.Board.{AreFit, GoOn, placed, shown}
+use Rattle.sdb_board.specs.Board.{AreFit, GoOn, shown}
 use Rattle.sdb_client.specs.Client.{nothing_done}
 use Rattle.sdb_session.specs.Database.{Database}
 use Rattle.sdb_session.specs.Between.{Between}
@@ -176,7 +176,7 @@ module _ (catalog : List Table) (old mid new : Attached) (clock clock_mid clock_
         new = there.unused s.fresh (subst (IsNewId catalog (database_in old)) (sym so.hand) last.0) (subst (λ xs. AllByRecursion (λ x. x ≢ s.fresh) xs) (sym so.begun) (subst (λ y. AllByRecursion (λ x. x ≢ y) (map drawn_id so.drawn)) (sym so.hand) last.1));
       } in
       let x = h.answered.alone alone in
-      (chain_more catalog no_parts (database_in old) (database_in mid) (database_in new) es e t.client before.0 (own_at (placed new.places) (shown new.shelves)) x, between_more catalog (database_in mid) (database_in new) es e t.client x)
+      (chain_more catalog no_parts (database_in old) (database_in mid) (database_in new) es e t.client before.0 (own_at new.places (shown new.shelves)) x, between_more catalog (database_in mid) (database_in new) es e t.client x)
 
   pub session_more : IsSessionSoFar catalog old new clock clock_then ids ids_then (es ++ e ∷ []) t
   session_more = by (begins e) refl h.hand

@@ -10,9 +10,9 @@ use Rattle.sdb_model.specs.declared.statement.Statement.{Statement}
 use Rattle.sdb_types.specs.declared.record.Reply.{Reply}
 use Rattle.sdb_types.proofs.Basics.{none_some, some_is}
 use Rattle.sdb_stores.specs.Shelf.{Attached, HaveCause, HaveRisen}
-use Rattle.sdb_stores.specs.declared.place.Place.{Place as Placed}
+use Rattle.sdb_stores.specs.declared.place.Place.{Place}
 use Rattle.sdb_model.specs.Events.{table_asked}
-use Rattle.sdb_board.specs.Board.{GoOn, how_seen, placed, shown}
+use Rattle.sdb_board.specs.Board.{GoOn, how_seen, shown}
 use Rattle.sdb_board.specs.declared.refused.CallRefused.TheVariants as refused
 use Rattle.sdb_board.proofs.GoesOn.{fit_for, refused_after}
 use Rattle.sdb_client.specs.Client.{ClientAt, IsIdle, SaidTold, Says, Taking, TextTold, starved}
@@ -87,11 +87,11 @@ alone_leads : (now : ℤ) (old new : Attached) (c : ClientAt) (result : Option A
 alone_leads now old new c result d h goes w =
     let f = w.well_formed in
     replies w.catalog f.apart w.was f.sound f.tables f.are_images f.fit w.fresh now w.time w.statement (database_in old) (database_in new)
-    (own_at (placed old.places) (shown old.shelves)) (own_at (placed new.places) (shown new.shelves)) h.request h.reply here w.opened c h.pending result d h.took w.waits
+    (own_at old.places (shown old.shelves)) (own_at new.places (shown new.shelves)) h.request h.reply here w.opened c h.pending result d h.took w.waits
   where
     here : Called h.request h.reply (database_in old) (database_in new)
-    here = subst (λ (ps : List Placed). Called h.request h.reply (database_in old) (database_of (placed ps) (shown new.shelves))) (sym goes.places)
-        (called (placed old.places) _ h.request (how_seen h.reply) h.reply (shown old.shelves) (shown new.shelves) (h.called (fit_for w.catalog old (table_asked h.request) (asks_in w.catalog c h.request w.about h.pending) w.fit)))
+    here = subst (λ (ps : List Place). Called h.request h.reply (database_in old) (database_of ps (shown new.shelves))) (sym goes.places)
+        (called old.places _ h.request (how_seen h.reply) h.reply (shown old.shelves) (shown new.shelves) (h.called (fit_for w.catalog old (table_asked h.request) (asks_in w.catalog c h.request w.about h.pending) w.fit)))
 
 pub waits_still : (now : ℤ) (old new : Attached) (c d : ClientAt) → HasCalled now old c None new d → GoOn old new → (w : WaitsOver now old c) → Waits w.catalog w.was now w.statement (database_in new) w.opened d
 waits_still now old new c d h goes w = by (alone_leads now old new c None d h goes w)

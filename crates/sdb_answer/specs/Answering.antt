@@ -11,7 +11,7 @@ use Rattle.sdb_model.specs.declared.answer.Refusal.{Refusal}
 use Rattle.sdb_model.specs.declared.statement.Statement.{Statement}
 use Rattle.sdb_model.specs.Events.{table_asked}
 use Rattle.sdb_stores.specs.Shelf.{Attached, HaveCause, HaveRisen}
-use Rattle.sdb_board.specs.Board.{AreFit, AreFitFor, IsCalled, placed, shown}
+use Rattle.sdb_board.specs.Board.{AreFit, AreFitFor, IsCalled, shown}
 use Rattle.sdb_client.specs.Client.{ClientAt, ReplyTold, Says, client_pending}
 use Rattle.sdb_steps.specs.About.{IsOfTables}
 use Rattle.sdb_session.specs.Database.{Database, database_of}
@@ -25,7 +25,7 @@ use Rattle.sdb_session.specs.Working.{IsAtWork, IsEnded}
 
 -- the record at each key of the tables of stores
 abbrev pub database_in : Attached → Database
-database_in stores = database_of (placed stores.places) (shown stores.shelves)
+database_in stores = database_of stores.places (shown stores.shelves)
 
 -- a statement with its answer
 abbrev pub exchange : Result Statement Refusal → ℤ → TxId → Answer → Exchange

@@ -10,7 +10,7 @@ use Rattle.sdb_record.specs.Coordinator.{coordinator_table}
 use Rattle.sdb_model.specs.declared.event.Event.{Event}
 use Rattle.sdb_stores.specs.Shelf.{Attached, Shelf as Counted, AreDistinct, HaveRisen, names_of, total_faults}
 use Rattle.sdb_model.specs.declared.event.Outcome.{Outcome}
-use Rattle.sdb_model.specs.declared.script.Place.{Place}
+use Rattle.sdb_stores.specs.declared.place.Place.{Place}
 use Rattle.sdb_model.specs.declared.script.Script.{Script}
 use Rattle.sdb_model.specs.declared.answer.Answer.{Answer}
 use Rattle.sdb_model.specs.declared.answer.Answer.TheVariants as answer
@@ -21,7 +21,7 @@ use Rattle.sdb_model.specs.Follows.{Follows}
 use Rattle.sdb_model.specs.Told.{IsRun}
 use Rattle.sdb_model.specs.Transactions.{Said, is_answered_from_rows}
 use Rattle.sdb_spread.specs.Spread.{HoldAs}
-use Rattle.sdb_board.specs.Board.{AreFit, GoOn, HoldTheSame, known_before, placed, shown}
+use Rattle.sdb_board.specs.Board.{AreFit, GoOn, HoldTheSame, known_before, shown}
 use Rattle.sdb_board.specs.Opening.{HoldNothing, IsFirstKey, first_key, opening_in, opening_records, run_tables}
 use Rattle.sdb_board.specs.declared.refused.CallRefused.TheVariants as refused
 use Rattle.sdb_board.proofs.Empty.{no_record}
@@ -136,17 +136,17 @@ tell_on script before mid same telling all at store table here about named =
     telling at (all at store table (ap (λ (ss : List Counted). slice_get ss at) (sym same) ∙ here) about (ap (λ (ss : List Counted). store_of script.places (shown ss) table.ns) (sym same) ∙ named))
 
 -- The stores of a script's tables tell, and it has its places.
-pub fit_script : (script : Script) (old mid : Attached) → placed mid.places ≡ script.places → mid.shelves ≡ old.shelves → CanBePlaced (names_of old.shelves) script.places → 0 < length old.shelves → AreDistinct (names_of old.shelves) → ((i : ℕ) → old.tells i → mid.tells i) → TellOf script old → AreFit script.catalog mid
+pub fit_script : (script : Script) (old mid : Attached) → mid.places ≡ script.places → mid.shelves ≡ old.shelves → CanBePlaced (names_of old.shelves) script.places → 0 < length old.shelves → AreDistinct (names_of old.shelves) → ((i : ℕ) → old.tells i → mid.tells i) → TellOf script old → AreFit script.catalog mid
 fit_script script old mid same still f some distinct telling all =
     fit_for script.catalog script.places mid same (subst (λ (ss : List Counted). CanBePlaced (names_of ss) script.places) (sym still) f) (subst (λ (ss : List Counted). 0 < length ss) (sym still) some) (subst (λ (ss : List Counted). AreDistinct (names_of ss)) (sym still) distinct)
     (tell_on script old mid still telling all)
 
 -- Stores whose tables hold no record are ready: mid are as after the placing, then as after the look for records.
-pub ready_after : (script : Script) (mid then : Attached) → placed mid.places ≡ script.places → GoOn mid then → AreFit script.catalog mid → first_key (opening_in script.catalog mid) ≡ None → HoldTheSame mid then → AreReady script then
+pub ready_after : (script : Script) (mid then : Attached) → mid.places ≡ script.places → GoOn mid then → AreFit script.catalog mid → first_key (opening_in script.catalog mid) ≡ None → HoldTheSame mid then → AreReady script then
 ready_after script mid then same goes fit none quiet = record {
   fit = goes.fit script.catalog fit;
-  placed_so = ap placed goes.places ∙ same;
-  nothing = subst (λ (ss : List Shelf). HoldAs script.catalog script.places ss empty) (sym quiet) (subst (λ (xs : List Place). HoldAs script.catalog xs (shown mid.shelves) empty) same (no_record script.catalog (placed mid.places) (shown mid.shelves) none));
+  placed_so = goes.places ∙ same;
+  nothing = subst (λ (ss : List Shelf). HoldAs script.catalog script.places ss empty) (sym quiet) (subst (λ (xs : List Place). HoldAs script.catalog xs (shown mid.shelves) empty) same (no_record script.catalog mid.places (shown mid.shelves) none));
 }
 
 ---- where the stores tell
@@ -165,7 +165,7 @@ shown_of script opening events none caused resolved explained moments end traced
         by None e h = clash (sym h)
         by (Some a) e h = record { among = w.0; a = a; answer = e; from_rows = h; no_vacuum = w.1.no_vacuum }
 
-played_on : (script : Script) (old mid then : Attached) (new : List Shelf) (o : Outcome) → placed mid.places ≡ script.places → mid.shelves ≡ old.shelves → GoOn mid then → AreFit script.catalog mid
+played_on : (script : Script) (old mid then : Attached) (new : List Shelf) (o : Outcome) → mid.places ≡ script.places → mid.shelves ≡ old.shelves → GoOn mid then → AreFit script.catalog mid
     → first_key (opening_in script.catalog mid) ≡ None → HoldTheSame mid then → (AreReady script then → IsRun script (shown then.shelves) new o) → (AreReady script then → IsExplained script o.events (shown then.shelves)) → AnswersHaveCauses script.catalog o.events → find_table script.catalog coordinator_table ≡ None → AreResolved o.events → IsPlayable script → IsExecution script o.events → outcome_fits o → IsPlayed script (shown old.shelves) new o
 played_on script old mid then new o same still goes fit none quiet run explained caused apart resolved playable executed fits = record {
   empty = sym (ap (λ (ss : List Shelf). first_key (opening_records script.catalog script.places ss)) (ap shown still)) ∙ sym (ap (λ (xs : List Place). first_key (opening_records script.catalog xs (shown mid.shelves))) same) ∙ none;
@@ -184,7 +184,7 @@ played_on script old mid then new o same still goes fit none quiet run explained
     explained_now : IsExplained script o.events (shown old.shelves)
     explained_now = subst (λ (ss : List Shelf). IsExplained script o.events ss) (quiet ∙ ap shown still) (explained (ready_after script mid then same goes fit none quiet))
 
-pub outcome_is : (script : Script) (old mid then new : Attached) (o : Outcome) → placed mid.places ≡ script.places → mid.shelves ≡ old.shelves → ((at : ℕ) → old.tells at → mid.tells at) → GoOn mid then → GoOn then new → (TellOf script old → AreFit script.catalog mid)
+pub outcome_is : (script : Script) (old mid then new : Attached) (o : Outcome) → mid.places ≡ script.places → mid.shelves ≡ old.shelves → ((at : ℕ) → old.tells at → mid.tells at) → GoOn mid then → GoOn then new → (TellOf script old → AreFit script.catalog mid)
     → (AreFit script.catalog mid → first_key (opening_in script.catalog mid) ≡ None) → HoldNothing (run_tables script.catalog) mid → (AreFit script.catalog mid → HoldTheSame mid then) → Follows script o.events → IsExecution script o.events → BreaksWithin [] o.events then.shelves new.shelves
     → IsReadWhereKnown script.catalog (known_before then new) o → (AreReady script then → IsRun script (shown then.shelves) (shown new.shelves) o) → (AreReady script then → IsExplained script o.events (shown then.shelves)) → IsPlayable script → outcome_fits o → IsOutcome script old new.shelves o
 outcome_is script old mid then new o same still telling goes more fit none nothing quiet follows executed broken read run explained playable fits = record {
@@ -194,7 +194,7 @@ outcome_is script old mid then new o same still telling goes more fit none nothi
   caused = caused.caused;
   broken = subst (λ (ss : List Counted). BreaksWithin [] o.events ss new.shelves) still (breaks_after [] o.events mid then new.shelves goes broken);
   empty = subst (λ (ss : List Counted). HoldNothing (run_tables script.catalog) (placed_as script old ss)) still (nothing_as (placed_as script old mid.shelves) mid (shows_placed script old mid same telling) (run_tables script.catalog) nothing);
-  read = read_as (placed_as script old new.shelves) (known_before then new) (shows_placed script old (known_before then new) (ap placed (more.places ∙ goes.places) ∙ same) (λ at tells. goes.telling at (telling at tells))) script.catalog o read;
+  read = read_as (placed_as script old new.shelves) (known_before then new) (shows_placed script old (known_before then new) ((more.places ∙ goes.places) ∙ same) (λ at tells. goes.telling at (telling at tells))) script.catalog o read;
   played = λ all. played_on script old mid then (shown new.shelves) o same still goes (fit all) (none (fit all)) (quiet (fit all)) run explained caused (no_coordinator script playable) resolved playable executed fits;
 }
   where
@@ -205,7 +205,7 @@ outcome_is script old mid then new o same still telling goes more fit none nothi
     resolved = all_resolved o.events caused.rolled (answered_seen script o.events follows)
 
 -- the first record is that of the script's tables
-pub found_first : (script : Script) (old mid left : Attached) (key : Key) → placed mid.places ≡ script.places → mid.shelves ≡ old.shelves → ((at : ℕ) → old.tells at → mid.tells at) → (TellOf script old → AreFit script.catalog mid) → IsFoundIn script.catalog mid left key → IsFirstFound script old left.shelves key
+pub found_first : (script : Script) (old mid left : Attached) (key : Key) → mid.places ≡ script.places → mid.shelves ≡ old.shelves → ((at : ℕ) → old.tells at → mid.tells at) → (TellOf script old → AreFit script.catalog mid) → IsFoundIn script.catalog mid left key → IsFirstFound script old left.shelves key
 found_first script old mid left key same still telling fit h = record {
   found = subst (λ (ss : List Counted). IsFirstKey (run_tables script.catalog) (placed_as script old ss) key) still (first_as (placed_as script old mid.shelves) mid (shows_placed script old mid same telling) (run_tables script.catalog) key h.found);
   known = known_from script old mid left still telling h.known;
@@ -215,9 +215,9 @@ found_first script old mid left key same still telling fit h = record {
 }
 
 -- the record that is bad in the end is one of the script's tables
-pub found_bad : (script : Script) (old mid then new : Attached) (key : Key) → placed mid.places ≡ script.places → ((at : ℕ) → old.tells at → mid.tells at) → GoOn mid then → GoOn then new → (TellOf script old → AreReady script then) → IsBadAfter script then new key → IsBadFound script old new.shelves key
+pub found_bad : (script : Script) (old mid then new : Attached) (key : Key) → mid.places ≡ script.places → ((at : ℕ) → old.tells at → mid.tells at) → GoOn mid then → GoOn then new → (TellOf script old → AreReady script then) → IsBadAfter script then new key → IsBadFound script old new.shelves key
 found_bad script old mid then new key same telling goes more ready h = record {
-  odd = odd_as (placed_as script old new.shelves) (known_before then new) (shows_placed script old (known_before then new) (ap placed (more.places ∙ goes.places) ∙ same) (λ at tells. goes.telling at (telling at tells))) script.catalog key h.odd;
+  odd = odd_as (placed_as script old new.shelves) (known_before then new) (shows_placed script old (known_before then new) ((more.places ∙ goes.places) ∙ same) (λ at tells. goes.telling at (telling at tells))) script.catalog key h.odd;
   foreign = λ all. h.foreign (ready all);
 }
 

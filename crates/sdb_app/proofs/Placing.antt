@@ -10,13 +10,12 @@ use Rattle.std.proofs.lemmas.Slice.Eq.{bytes_eq-Decides}
 use Rattle.sdb_types.specs.declared.key.TableName.{TableName}
 use Rattle.sdb_schema.specs.declared.table.Table.{Table}
 use Rattle.sdb_stores.specs.Shelf.{Attached, Shelf as Counted, AreDistinct, home, names_of, place_of, placed_on}
-use Rattle.sdb_stores.specs.declared.place.Place.{Place as Placed}
+use Rattle.sdb_stores.specs.declared.place.Place.{Place}
 use Rattle.sdb_stores.proofs.Distinct.{apart}
-use Rattle.sdb_model.specs.declared.script.Place.{Place}
 use Rattle.sdb_model.specs.Rows.{Name}
 use Rattle.sdb_model.specs.Events.{store_of}
 use Rattle.sdb_spread.specs.Spread.{is_played}
-use Rattle.sdb_board.specs.Board.{AreFit, placed, shown}
+use Rattle.sdb_board.specs.Board.{AreFit, shown}
 use Rattle.sdb_board.proofs.Shelves.{named_home}
 use Rattle.sdb_app.specs.Run.{CanBePlaced}
 use Rattle.sdb_types.proofs.Basics.{by_test, none_some, some_is}
@@ -37,12 +36,12 @@ attached_at names places i p h e =
     let here : get_or places i p ≡ p = get_or_from_slice_get places i p p e in
     contained p.store names (subst (λ (x : Place). Contains names x.store) here (h.attached i p (slice_get_within places i p e)))
 
-homed_by : (ps : List Placed) (names : List Name) → ((k : ℕ) (p : Place) → slice_get (placed ps) k ≡ Some p → IsSome (place_of p.store names)) → (ns : Name) → IfSome (placed_on ns ps) (λ store. IsSome (place_of store names))
+homed_by : (ps : List Place) (names : List Name) → ((k : ℕ) (p : Place) → slice_get ps k ≡ Some p → IsSome (place_of p.store names)) → (ns : Name) → IfSome (placed_on ns ps) (λ store. IsSome (place_of store names))
 homed_by [] names h ns = tt
 homed_by (p ∷ ps) names h ns =
     by_test (bytes_eq p.ns ns)
-    (λ t. subst (λ (b : Bool). IfSome (option_map (λ (x : Placed). x.store) (cond b (Some p) (find (λ (x : Placed). bytes_eq x.ns ns) ps))) (λ store. IsSome (place_of store names))) (sym t) (h 0 (record { ns = p.ns; store = p.store }) refl))
-    (λ t. subst (λ (b : Bool). IfSome (option_map (λ (x : Placed). x.store) (cond b (Some p) (find (λ (x : Placed). bytes_eq x.ns ns) ps))) (λ store. IsSome (place_of store names))) (sym t) (homed_by ps names (λ k q e. h (suc k) q e) ns))
+    (λ t. subst (λ (b : Bool). IfSome (option_map (λ (x : Place). x.store) (cond b (Some p) (find (λ (x : Place). bytes_eq x.ns ns) ps))) (λ store. IsSome (place_of store names))) (sym t) (h 0 p refl))
+    (λ t. subst (λ (b : Bool). IfSome (option_map (λ (x : Place). x.store) (cond b (Some p) (find (λ (x : Place). bytes_eq x.ns ns) ps))) (λ store. IsSome (place_of store names))) (sym t) (homed_by ps names (λ k q e. h (suc k) q e) ns))
 
 named_there : (shelves : List Counted) (at : ℕ) (name : Name) → slice_get (names_of shelves) at ≡ Some name → (s : Counted) × (slice_get shelves at ≡ Some s) × (s.name ≡ name)
 named_there [] at name e = absurd (none_some name e)
@@ -54,7 +53,7 @@ abbrev pub Tell : List Table → List Place → Attached → Type 0
 Tell catalog places stores = (at : ℕ) (store : Counted) (table : TableName) → slice_get stores.shelves at ≡ Some store → is_played catalog table ≡ true → store_of places (shown stores.shelves) table.ns ≡ store.name → stores.tells at
 
 -- stores whose tables tell are fit for a run with the places of a script
-pub fit_for : (catalog : List Table) (places : List Place) (stores : Attached) → placed stores.places ≡ places → CanBePlaced (names_of stores.shelves) places → 0 < length stores.shelves → AreDistinct (names_of stores.shelves) → Tell catalog places stores → AreFit catalog stores
+pub fit_for : (catalog : List Table) (places : List Place) (stores : Attached) → stores.places ≡ places → CanBePlaced (names_of stores.shelves) places → 0 < length stores.shelves → AreDistinct (names_of stores.shelves) → Tell catalog places stores → AreFit catalog stores
 fit_for catalog places stores same h some distinct telling =
     let ps = stores.places in
     let shelves = stores.shelves in
@@ -64,18 +63,18 @@ fit_for catalog places stores same h some distinct telling =
       distinct = distinct;
       homed = homed;
       telling = λ table about.
-          let there = named_there shelves (home table.ns ps (names_of shelves)) (store_of (placed ps) (shown shelves) table.ns) (named_home ps shelves table.ns some (homed table.ns)) in
+          let there = named_there shelves (home table.ns ps (names_of shelves)) (store_of ps (shown shelves) table.ns) (named_home ps shelves table.ns some (homed table.ns)) in
           telling (home table.ns ps (names_of shelves)) there.0 table there.1 about (sym (ap (λ (xs : List Place). store_of xs (shown shelves) table.ns) same) ∙ sym there.2);
     }
 
 ---- one place more
 
-free_by : (ps : List Placed) (ns : Name) → ((k : ℕ) (p : Place) → slice_get (placed ps) k ≡ Some p → p.ns ≢ ns) → placed_on ns ps ≡ None
+free_by : (ps : List Place) (ns : Name) → ((k : ℕ) (p : Place) → slice_get ps k ≡ Some p → p.ns ≢ ns) → placed_on ns ps ≡ None
 free_by [] ns h = refl
 free_by (p ∷ ps) ns h =
     by_test (bytes_eq p.ns ns)
-    (λ t. absurd (h 0 (record { ns = p.ns; store = p.store }) refl ((bytes_eq-Decides p.ns ns).0 t)))
-    (λ t. ap (λ (b : Bool). option_map (λ (x : Placed). x.store) (cond b (Some p) (find (λ (x : Placed). bytes_eq x.ns ns) ps))) t ∙ free_by ps ns (λ k q e. h (suc k) q e))
+    (λ t. absurd (h 0 p refl ((bytes_eq-Decides p.ns ns).0 t)))
+    (λ t. ap (λ (b : Bool). option_map (λ (x : Place). x.store) (cond b (Some p) (find (λ (x : Place). bytes_eq x.ns ns) ps))) t ∙ free_by ps ns (λ k q e. h (suc k) q e))
 
 taken_at : {A : Type 0} (xs : List A) (i k : ℕ) (x : A) → slice_get (take i xs) k ≡ Some x → (k < i) × (slice_get xs k ≡ Some x)
 taken_at [] zero k x e = absurd (none_some x e)
@@ -96,13 +95,13 @@ name_within (q ∷ qs) zero p e = omega arith
 name_within (q ∷ qs) (suc k) p e = let h = name_within qs k p e in omega arith
 
 -- the next namespace has no place yet
-pub free_at : (ps : List Placed) (names : List Name) (places : List Place) (i : ℕ) (p : Place) → CanBePlaced names places → placed ps ≡ take i places → slice_get places i ≡ Some p → placed_on p.ns ps ≡ None
+pub free_at : (ps : List Place) (names : List Name) (places : List Place) (i : ℕ) (p : Place) → CanBePlaced names places → ps ≡ take i places → slice_get places i ≡ Some p → placed_on p.ns ps ≡ None
 free_at ps names places i p h same here =
     free_by ps p.ns (λ k q e.
     let t = taken_at places i k q (ap (λ (xs : List Place). slice_get xs k) (sym same) ∙ e) in
     λ alike. h.once k i p.ns t.0 (name_within places i p here) (name_at places k q p.ns t.1 ∙ alike ∙ sym (name_at places i p p.ns here)))
 
 -- and then it has one
-pub placed_more : (ps qs : List Placed) (places : List Place) (i : ℕ) (p : Place) → slice_get places i ≡ Some p → placed ps ≡ take i places → placed qs ≡ placed ps ++ p ∷ [] → placed qs ≡ take (i + 1) places
+pub placed_more : (ps qs : List Place) (places : List Place) (i : ℕ) (p : Place) → slice_get places i ≡ Some p → ps ≡ take i places → qs ≡ ps ++ p ∷ [] → qs ≡ take (i + 1) places
 placed_more ps qs places i p here same more =
     more ∙ ap (λ (xs : List Place). xs ++ p ∷ []) same ∙ sym (ap (λ (k : ℕ). take k places) (add-one i) ∙ take_suc places i p here)

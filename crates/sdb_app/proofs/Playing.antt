@@ -5,13 +5,13 @@ use Rattle.sdb_types.specs.declared.key.Key.{Key}
 use Rattle.sdb_stores.specs.Shelf.{Attached}
 use Rattle.sdb_model.specs.declared.event.Event.{Event}
 use Rattle.sdb_model.specs.declared.event.Outcome.{Outcome}
-use Rattle.sdb_model.specs.declared.script.Place.{Place}
+use Rattle.sdb_stores.specs.declared.place.Place.{Place}
 use Rattle.sdb_model.specs.declared.script.Script.{Script}
 use Rattle.sdb_model.specs.Events.{IsTrace, Shelf}
 use Rattle.sdb_model.specs.Follows.{AreMoved, Follows}
 use Rattle.sdb_model.specs.Told.{IsRun}
 use Rattle.sdb_spread.specs.Spread.{HoldAs}
-use Rattle.sdb_board.specs.Board.{AreFit, GoOn, Refuses, known_before, placed, shown}
+use Rattle.sdb_board.specs.Board.{AreFit, GoOn, Refuses, known_before, shown}
 use Rattle.sdb_board.specs.declared.refused.CallRefused.{CallRefused}
 use Rattle.sdb_board.specs.declared.refused.CallRefused.TheVariants as call
 use Rattle.sdb_dump.specs.Refused.{Refuses as ClosingRefuses}
@@ -65,7 +65,7 @@ module _ (script : Script) (w v : WorldAt) (old mid : Attached) (same : w.script
   played : AreReady script old → HasPlayedOn v (shown old.shelves) mid
   played ready = record {
     fit = goes.fit v.script.catalog (subst (λ (s : Script). AreFit s.catalog old) (sym vs) ready.fit);
-    as_placed = ap placed goes.places ∙ ready.placed_so ∙ ap (λ (s : Script). s.places) (sym vs);
+    as_placed = goes.places ∙ ready.placed_so ∙ ap (λ (s : Script). s.places) (sym vs);
     played = has_played old mid script w v same none initial came ready;
   }
 

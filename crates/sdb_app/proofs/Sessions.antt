@@ -5,7 +5,7 @@ use Rattle.sdb_types.specs.Bytes.{HasRisen}
 use Rattle.sdb_schema.specs.declared.table.Table.{Table}
 use Rattle.sdb_stores.specs.declared.place.Place.{Place}
 use Rattle.sdb_stores.specs.Shelf.{Attached, Shelf as Counted, AreDistinct, home, names_of, place_of, placed_on}
-use Rattle.sdb_board.specs.Board.{AreFit, placed, shown}
+use Rattle.sdb_board.specs.Board.{AreFit, shown}
 use Rattle.sdb_catalog.specs.Calls.{first_contents}
 use Rattle.sdb_catalog.specs.Known.{IsBadIn, IsCatalogIn}
 use Rattle.sdb_catalog.specs.declared.refused.CatalogRefused.{CatalogRefused}
@@ -42,7 +42,7 @@ fit_more catalog less more l f = record {
 }
 
 same_database : (less more : Attached) → AreLess less more → database_in more ≡ database_in less
-same_database less more l = ap (λ ps. database_of (placed ps) (shown more.shelves)) l.places ∙ ap (λ ss. database_of (placed less.places) (shown ss)) l.shelves
+same_database less more l = ap (λ ps. database_of ps (shown more.shelves)) l.places ∙ ap (λ ss. database_of less.places (shown ss)) l.shelves
 
 pub session_less : (catalog : List Table) (old new old' new' : Attached) (clock clock_then : Option (List ℤ)) (ids ids_then : Option (List ℕ)) (es : List Exchange) → AreLess old' old → AreLess new' new → IsSession catalog old new clock clock_then ids ids_then es → IsSession catalog old' new' clock clock_then ids ids_then es
 session_less catalog old new old' new' clock clock_then ids ids_then es o n so = record {

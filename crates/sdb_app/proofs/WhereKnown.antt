@@ -1,19 +1,18 @@
 -- What is said of known contents alone, as other views of the same stores have it.
-use Rattle.std.proofs.Common.{◌≡◌, ◌∙◌, ℕ, List, [], ◌∷◌, map, None, refl, sym, ap, subst}
+use Rattle.std.proofs.Common.{◌≡◌, ◌∙◌, ℕ, List, None, refl, sym, ap, subst}
 use Rattle.std.specs.Prelude.{slice_get}
 use Rattle.sdb_types.specs.declared.key.Key.{Key}
 use Rattle.sdb_types.specs.declared.key.TableName.{TableName}
 use Rattle.sdb_record.specs.Coordinator.{coordinator_table}
 use Rattle.sdb_schema.specs.declared.table.Table.{Table}
 use Rattle.sdb_stores.specs.Shelf.{Attached, Shelf as Counted, names_of}
-use Rattle.sdb_stores.specs.declared.place.Place.{Place as Placed}
+use Rattle.sdb_stores.specs.declared.place.Place.{Place}
 use Rattle.sdb_model.specs.declared.event.Outcome.{Outcome}
-use Rattle.sdb_model.specs.declared.script.Place.{Place}
 use Rattle.sdb_model.specs.declared.script.Script.{Script}
 use Rattle.sdb_model.specs.Events.{Shelf}
 use Rattle.sdb_model.specs.Images.{decision_at}
 use Rattle.sdb_model.specs.Transactions.{Recorded}
-use Rattle.sdb_board.specs.Board.{AreFitFor, KnownStay, placed, shown}
+use Rattle.sdb_board.specs.Board.{AreFitFor, KnownStay, shown}
 use Rattle.sdb_board.specs.Opening.{HoldNothing, IsFirstKey, first_key, records_in, records_of}
 use Rattle.sdb_board.proofs.GoesOn.{fit_for_as}
 use Rattle.sdb_dump.specs.Decided.{is_decided}
@@ -24,40 +23,30 @@ use Rattle.sdb_dump.specs.Refused.{first_unlike}
 use Rattle.sdb_world.specs.Played.{IsReadWhereKnown}
 use Rattle.sdb_app.specs.Run.{placed_as}
 
----- places
-
-placed_back : (ps : List Place) → placed (map (λ (p : Place). record { ns = p.ns; store = p.store }) ps) ≡ ps
-placed_back [] = refl
-placed_back (p ∷ ps) = let rest = placed_back ps in λ i. p ∷ rest i
-
-places_back : (ps : List Placed) → map (λ (p : Place). record { ns = p.ns; store = p.store }) (placed ps) ≡ ps
-places_back [] = refl
-places_back (p ∷ ps) = let rest = places_back ps in λ i. p ∷ rest i
-
 ---- two views
 
 -- One view shows what another shows, and no more is known of it.
 pub record ShowsAs (a b : Attached) : Type 0 where
-  pub places : placed a.places ≡ placed b.places
+  pub places : a.places ≡ b.places
   pub shelves : a.shelves ≡ b.shelves
   pub fit : (table : TableName) → AreFitFor table a → AreFitFor table b
 
 -- the view of an entry's stores with a script's places
-pub shows_placed : (script : Script) (old b : Attached) → placed b.places ≡ script.places → ((at : ℕ) → old.tells at → b.tells at) → ShowsAs (placed_as script old b.shelves) b
+pub shows_placed : (script : Script) (old b : Attached) → b.places ≡ script.places → ((at : ℕ) → old.tells at → b.tells at) → ShowsAs (placed_as script old b.shelves) b
 shows_placed script old b same telling = record {
-  places = placed_back script.places ∙ sym same;
+  places = sym same;
   shelves = refl;
-  fit = λ table f. fit_for_as (placed_as script old b.shelves) b table (sym (places_back b.places) ∙ ap (map (λ (p : Place). record { ns = p.ns; store = p.store })) same) refl telling f;
+  fit = λ table f. fit_for_as (placed_as script old b.shelves) b table same refl telling f;
 }
 
 -- the same places and contents, of which no more are known
 pub shows_less : (a b : Attached) → a.places ≡ b.places → a.shelves ≡ b.shelves → ((at : ℕ) → a.tells at → b.tells at) → ShowsAs a b
-shows_less a b places shelves telling = record { places = ap placed places; shelves = shelves; fit = λ table f. fit_for_as a b table (sym places) (ap names_of (sym shelves)) telling f }
+shows_less a b places shelves telling = record { places = places; shelves = shelves; fit = λ table f. fit_for_as a b table (sym places) (ap names_of (sym shelves)) telling f }
 
 module _ (a b : Attached) (s : ShowsAs a b) where
   -- what is so of the places and contents of one is so of those of the other
-  over : (P : List Place → List Shelf → Type 0) → P (placed b.places) (shown b.shelves) → P (placed a.places) (shown a.shelves)
-  over P h = subst (λ (ps : List Place). P ps (shown a.shelves)) (sym s.places) (subst (λ (ss : List Counted). P (placed b.places) (shown ss)) (sym s.shelves) h)
+  over : (P : List Place → List Shelf → Type 0) → P b.places (shown b.shelves) → P a.places (shown a.shelves)
+  over P h = subst (λ (ps : List Place). P ps (shown a.shelves)) (sym s.places) (subst (λ (ss : List Counted). P b.places (shown ss)) (sym s.shelves) h)
 
   records_as : (t : TableName) → records_in a t ≡ records_in b t
   records_as t = over (λ (ps : List Place) (ss : List Shelf). records_of ps ss t ≡ records_in b t) refl

@@ -8,7 +8,7 @@ use Rattle.sdb_types.specs.Bytes.{HasRisen, Takes, IsAtEnd}
 use Rattle.sdb_schema.specs.declared.table.Table.{Table}
 use Rattle.sdb_stores.specs.Shelf.{Attached, Shelf as Counted, HaveRisen, names_of}
 use Rattle.sdb_model.specs.declared.event.Outcome.{Outcome}
-use Rattle.sdb_model.specs.declared.script.Place.{Place}
+use Rattle.sdb_stores.specs.declared.place.Place.{Place}
 use Rattle.sdb_model.specs.declared.script.Script.{Script}
 use Rattle.sdb_model.specs.Causes.{AreCaused}
 use Rattle.sdb_model.specs.Events.{Shelf, store_of}
@@ -22,7 +22,7 @@ use Rattle.sdb_script.specs.declared.fault.ScriptRefused.TheVariants.{BadLine, L
 use Rattle.sdb_script.specs.Lines.{most_bytes}
 use Rattle.sdb_script.specs.Whole.{IsScript, IsRefused as IsRefusedText}
 use Rattle.sdb_spread.specs.Spread.{HoldAs, is_played}
-use Rattle.sdb_board.specs.Board.{AreFit, HoldTheSame, KnownStay, known_before, placed, shown}
+use Rattle.sdb_board.specs.Board.{AreFit, HoldTheSame, KnownStay, known_before, shown}
 use Rattle.sdb_board.specs.Opening.{HoldNothing, IsFirstKey, first_key, opening_in, opening_records, run_tables}
 use Rattle.sdb_board.specs.declared.refused.CallRefused.{CallRefused}
 use Rattle.sdb_board.specs.declared.refused.CallRefused.TheVariants as call
@@ -64,7 +64,7 @@ pub record IsPlayed (script : Script) (opening closing : List Shelf) (outcome : 
 
 -- The stores of a call with the places of a script, when they showed this. Those are known that were known at the entry.
 abbrev pub placed_as : Script → Attached → List Counted → Attached
-placed_as script stores shelves = record { places = map (λ p. record { ns = p.ns; store = p.store }) script.places; shelves = shelves; tells = stores.tells }
+placed_as script stores shelves = record { places = script.places; shelves = shelves; tells = stores.tells }
 
 -- One outcome of a script on any stores: its events follow the script's moves, and are an execution of its clients: each takes, asks and
 -- answers as the protocol says, whatever the stores reply. So the laws of executions are laws of outcomes. Each answer has its cause among
@@ -152,7 +152,7 @@ pub record CanBePlaced (stores : List Name) (places : List Place) : Type 0 where
 -- The stores of a script's tables are fit for a run of it, as it places them, and hold nothing of them.
 pub record AreReady (script : Script) (stores : Attached) : Type 0 where
   pub fit : AreFit script.catalog stores
-  pub placed_so : placed stores.places ≡ script.places
+  pub placed_so : stores.places ≡ script.places
   pub nothing : HoldAs script.catalog script.places (shown stores.shelves) empty
 
 -- The key is that of the first record of a catalog's tables, as far as contents are known, and where the stores are fit for a run, of all;
@@ -180,7 +180,7 @@ pub record IsBadAfter (script : Script) (old new : Attached) (key : Key) : Type 
   pub odd : IsOddIn script.catalog (known_before old new) key
   pub foreign : AreReady script old → ⊥
 
--- Why a script that was placed was not played to its end.
+-- Why a script that was was not played to its end.
 abbrev pub StopsWorld : Script → Attached → Attached → Status → Type 0
 StopsWorld script old new = Stops old.shelves new.shelves (IsBadAfter script old new) (λ key. ⊥)
 

@@ -1,7 +1,6 @@
 //! Placing the namespaces of a script.
 ghost use Rattle.std.specs.Prelude.{◌≡◌, ◌<◌, ◌++◌, ◌∷◌, [], ℕ, length, Some, None, IsSome, OnOk, slice_get};
 ghost use Rattle.sdb_stores.specs.Shelf.{names_of, place_of, placed_on};
-ghost use Rattle.sdb_board.specs.Board.{placed};
 ghost use Rattle.sdb_app.specs.Run.{CanBePlaced};
 
 use sdb_model::{Place, Places};
@@ -23,7 +22,7 @@ fn place_at(places: &Places, i: usize) -> &Place
 fn place<R: Registry>(stores: &mut R, place: &Place) -> Result<(), NoMemory>
     requires attached { IsSome (place_of place.now.store (names_of (R.state stores.old).shelves)) }
     requires free { placed_on place.now.ns (R.state stores.old).places ≡ None }
-    ensures places { OnOk result (placed (R.state stores.new).places ≡ placed (R.state stores.old).places ++ place.now ∷ []) }
+    ensures places { OnOk result ((R.state stores.new).places ≡ (R.state stores.old).places ++ place.now ∷ []) }
     ensures stores { (R.state stores.new).shelves ≡ (R.state stores.old).shelves }
     ensures telling { (i : ℕ) → (R.state stores.old).tells i → (R.state stores.new).tells i }
 {
@@ -39,7 +38,7 @@ fn place<R: Registry>(stores: &mut R, place: &Place) -> Result<(), NoMemory>
 pub fn place_all<R: Registry>(stores: &mut R, places: &Places) -> Result<(), NoMemory>
     requires none { (R.state stores.old).places ≡ [] }
     requires fit { CanBePlaced (names_of (R.state stores.old).shelves) places.now }
-    ensures places { OnOk result (placed (R.state stores.new).places ≡ places.now) }
+    ensures places { OnOk result ((R.state stores.new).places ≡ places.now) }
     ensures stores { (R.state stores.new).shelves ≡ (R.state stores.old).shelves }
     ensures telling { (i : ℕ) → (R.state stores.old).tells i → (R.state stores.new).tells i }
 {

@@ -24,12 +24,11 @@ use Rattle.sdb_types.specs.Exact.{equal_of}
 use Rattle.sdb_laws.proofs.Shown.{row_there}
 use Rattle.sdb_schema.specs.declared.table.Table.{Table}
 use Rattle.sdb_stores.specs.Shelf.{Attached, Shelf as Counted, home, home_in, names_of}
-use Rattle.sdb_stores.specs.declared.place.Place.{Place as Placed}
-use Rattle.sdb_model.specs.declared.script.Place.{Place}
+use Rattle.sdb_stores.specs.declared.place.Place.{Place}
 use Rattle.sdb_model.specs.Rows.{Name}
 use Rattle.sdb_model.specs.Events.{Shelf, held_by, store_of}
 use Rattle.sdb_spread.specs.Spread.{HoldAs, is_played}
-use Rattle.sdb_board.specs.Board.{AreFit, AreFitFor, GoOn, HoldTheSame, IsCalled, KnownStay, placed, shown}
+use Rattle.sdb_board.specs.Board.{AreFit, AreFitFor, GoOn, HoldTheSame, IsCalled, KnownStay, shown}
 use Rattle.sdb_board.specs.Opening.{HoldNothing, IsFirstKey, records_of, records_in, run_tables, opening_records, opening_in, first_key, whole}
 use Rattle.sdb_board.proofs.GoesOn.{fit_for, fit_for_on}
 use Rattle.sdb_board.proofs.Lists.{all_at}
@@ -118,8 +117,8 @@ looked_at ts i t within is = slice_get-get_or ts i t within ∙ ap Some (sym is)
 pub scanned_behind : (catalog : List Table) (old mid : Attached) (table : TableName) (rows : List Record) → GoOn old mid → (AreFit catalog old → HoldTheSame old mid)
     → (AreFitFor table mid → rows ≡ records_in mid table) → is_played catalog table ≡ true → AreFit catalog old → rows ≡ records_in old table
 scanned_behind catalog old mid table rows goes still found about fit =
-    found (fit_for catalog mid table about (goes.fit catalog fit)) ∙ ap (λ (ps : List Placed). records_of (placed ps) (shown mid.shelves) table) goes.places
-    ∙ ap (λ (ss : List Shelf). records_of (placed old.places) ss table) (still fit)
+    found (fit_for catalog mid table about (goes.fit catalog fit)) ∙ ap (λ (ps : List Place). records_of ps (shown mid.shelves) table) goes.places
+    ∙ ap (λ (ss : List Shelf). records_of old.places ss table) (still fit)
 
 -- nothing became of the stores by a scan more
 pub still_behind : (catalog : List Table) (old mid new : Attached) (table : TableName) → GoOn old mid → (AreFit catalog old → HoldTheSame old mid) → (AreFitFor table mid → HoldTheSame mid new) → is_played catalog table ≡ true → AreFit catalog old → HoldTheSame old new
@@ -162,7 +161,7 @@ records_home : (stores : Attached) (table : TableName) (s : Counted) → AreFitF
 records_home stores table s fit here =
     let at = home_in stores table.ns in
     let name : slice_get (names_of stores.shelves) at ≡ Some s.name = slice_get-map (λ (x : Counted). x.name) stores.shelves at ∙ ap (option_map (λ (x : Counted). x.name)) here in
-    let store : store_of (placed stores.places) (shown stores.shelves) table.ns ≡ s.name = some_is _ _ (sym (named_home stores.places stores.shelves table.ns fit.some (fit.homed table.ns)) ∙ name) in
+    let store : store_of stores.places (shown stores.shelves) table.ns ≡ s.name = some_is _ _ (sym (named_home stores.places stores.shelves table.ns fit.some (fit.homed table.ns)) ∙ name) in
     ap (λ (n : Name). option_map_or (rows_in (whole table)) (held_by (shown stores.shelves) n) []) store
     ∙ ap (λ (o : Option Contents). option_map_or (rows_in (whole table)) o []) (held_at stores.shelves at s fit.distinct here)
 
@@ -174,7 +173,7 @@ records_stay old mid table goes stay fit = by (slice_get old.shelves at) refl
     at = home_in old table.ns
 
     same : home_in mid table.ns ≡ at
-    same = ap (λ (ps : List Placed). home table.ns ps (names_of mid.shelves)) goes.places ∙ ap (home table.ns old.places) goes.names
+    same = ap (λ (ps : List Place). home table.ns ps (names_of mid.shelves)) goes.places ∙ ap (home table.ns old.places) goes.names
 
     then : (s : Counted) → slice_get old.shelves at ≡ Some s → (o : Option Counted) → slice_get mid.shelves at ≡ o → IsSomeAnd o (λ now. now.contents ≡ s.contents) → records_in mid table ≡ records_in old table
     then s here None e h = absurd h

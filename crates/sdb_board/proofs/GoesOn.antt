@@ -9,11 +9,10 @@ use Rattle.sdb_types.specs.declared.key.TableName.{TableName}
 use Rattle.sdb_types.specs.declared.record.Request.{Request}
 use Rattle.sdb_types.specs.declared.record.Reply.{Reply}
 use Rattle.sdb_stores.specs.Shelf.{Attached, Shelf as Counted, AreDistinct, HaveRisen, IsCallAt, names_of, home, home_in, place_of, placed_on}
-use Rattle.sdb_stores.specs.declared.place.Place.{Place as Placed}
+use Rattle.sdb_stores.specs.declared.place.Place.{Place}
 use Rattle.sdb_stores.proofs.Called.{same_names, grown, not_fewer}
 use Rattle.sdb_schema.specs.declared.table.Table.{Table}
 use Rattle.sdb_model.specs.declared.event.Event.{Event}
-use Rattle.sdb_model.specs.declared.script.Place.{Place}
 use Rattle.sdb_model.specs.Rows.{Name}
 use Rattle.sdb_model.specs.Events.{Shelf, IsTrace, Effect}
 use Rattle.sdb_spread.specs.Spread.{is_played}
@@ -58,11 +57,11 @@ fit_on catalog old new places names telling f = record {
   some = some_more old.shelves new.shelves names f.some;
   distinct = subst AreDistinct (sym names) f.distinct;
   homed = λ ns.
-      subst (λ (ps : List Placed). IfSome (placed_on ns ps) (λ store. IsSome (place_of store (names_of new.shelves)))) (sym places)
+      subst (λ (ps : List Place). IfSome (placed_on ns ps) (λ store. IsSome (place_of store (names_of new.shelves)))) (sym places)
       (subst (λ (xs : List Name). IfSome (placed_on ns old.places) (λ store. IsSome (place_of store xs))) (sym names) (f.homed ns));
   telling = λ table about.
       telling (home_in new table.ns)
-      (subst (λ (ps : List Placed). old.tells (home table.ns ps (names_of new.shelves))) (sym places)
+      (subst (λ (ps : List Place). old.tells (home table.ns ps (names_of new.shelves))) (sym places)
       (subst (λ (xs : List Name). old.tells (home table.ns old.places xs)) (sym names) (f.telling table about)));
 }
 
@@ -76,11 +75,11 @@ fit_for_as old new table places names telling f = record {
   some = some_more old.shelves new.shelves names f.some;
   distinct = subst AreDistinct (sym names) f.distinct;
   homed = λ ns.
-      subst (λ (ps : List Placed). IfSome (placed_on ns ps) (λ store. IsSome (place_of store (names_of new.shelves)))) (sym places)
+      subst (λ (ps : List Place). IfSome (placed_on ns ps) (λ store. IsSome (place_of store (names_of new.shelves)))) (sym places)
       (subst (λ (xs : List Name). IfSome (placed_on ns old.places) (λ store. IsSome (place_of store xs))) (sym names) (f.homed ns));
   telling =
       telling (home_in new table.ns)
-      (subst (λ (ps : List Placed). old.tells (home table.ns ps (names_of new.shelves))) (sym places)
+      (subst (λ (ps : List Place). old.tells (home table.ns ps (names_of new.shelves))) (sym places)
       (subst (λ (xs : List Name). old.tells (home table.ns old.places xs)) (sym names) f.telling));
 }
 

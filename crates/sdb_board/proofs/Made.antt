@@ -16,7 +16,7 @@ use Rattle.sdb_stores.specs.Shelf.{Attached, Shelf as Counted, IsCallAt, names_o
 use Rattle.sdb_model.specs.declared.event.How.TheVariants.{Seen, Lost, Discarded}
 use Rattle.sdb_model.specs.Rows.{Name}
 use Rattle.sdb_model.specs.Events.{IsPerformed, held_by, with_contents, store_of, table_asked}
-use Rattle.sdb_board.specs.Board.{AreFitFor, HoldTheSame, IsCalled, IsMade, KnownStay, how_lost, how_seen, reply_lost, shown, placed}
+use Rattle.sdb_board.specs.Board.{AreFitFor, HoldTheSame, IsCalled, IsMade, KnownStay, how_lost, how_seen, reply_lost, shown}
 use Rattle.sdb_board.proofs.Shelves.{held_at, set_there, set_still, named_home}
 use Rattle.sdb_types.proofs.Basics.{some_is}
 use Rattle.sdb_model.specs.Calls.{is_read}
@@ -79,11 +79,11 @@ known_stay at q r old new call read i store tells here =
 
 module _ (old : Attached) (q : Request) (fit : AreFitFor (table_asked q) old) where
   -- the store at the home of a table is the one of its namespace
-  there_is : (s : Counted) → slice_get old.shelves (home_in old (table_of q).ns) ≡ Some s → store_of (placed old.places) (shown old.shelves) (table_asked q).ns ≡ s.name
+  there_is : (s : Counted) → slice_get old.shelves (home_in old (table_of q).ns) ≡ Some s → store_of old.places (shown old.shelves) (table_asked q).ns ≡ s.name
   there_is s at =
       let name : slice_get (names_of old.shelves) (home_in old (table_of q).ns) ≡ Some s.name = slice_get-map (λ (s : Counted). s.name) old.shelves (home_in old (table_of q).ns) ∙ ap (option_map (λ (s : Counted). s.name)) at in
-      let store : s.name ≡ store_of (placed old.places) (shown old.shelves) (table_of q).ns = some_is _ _ (sym name ∙ named_home old.places old.shelves (table_of q).ns fit.some (fit.homed (table_of q).ns)) in
-      ap (λ (t : TableName). store_of (placed old.places) (shown old.shelves) t.ns) (sym (asked q)) ∙ sym store
+      let store : s.name ≡ store_of old.places (shown old.shelves) (table_of q).ns = some_is _ _ (sym name ∙ named_home old.places old.shelves (table_of q).ns fit.some (fit.homed (table_of q).ns)) in
+      ap (λ (t : TableName). store_of old.places (shown old.shelves) t.ns) (sym (asked q)) ∙ sym store
 
   told_there : old.tells (home_in old (table_of q).ns)
   told_there = subst (λ (t : TableName). old.tells (home_in old t.ns)) (sym (asked q)) fit.telling

@@ -10,11 +10,10 @@ use Rattle.std.proofs.lemmas.Slice.Eq.{bytes_eq-Decides}
 use Rattle.sdb_types.specs.Contents.{Contents}
 use Rattle.sdb_record.proofs.NameLemmas.{same_name-itself, same_name-true}
 use Rattle.sdb_stores.specs.Shelf.{Shelf as Counted, AreDistinct, names_of, place_of, placed_on, home, home_of}
-use Rattle.sdb_stores.specs.declared.place.Place.{Place as Placed}
-use Rattle.sdb_model.specs.declared.script.Place.{Place}
+use Rattle.sdb_stores.specs.declared.place.Place.{Place}
 use Rattle.sdb_model.specs.Rows.{Name, same_name}
 use Rattle.sdb_model.specs.Events.{held_by, with_contents, first_name, store_of}
-use Rattle.sdb_board.specs.Board.{shown, placed}
+use Rattle.sdb_board.specs.Board.{shown}
 use Rattle.sdb_types.proofs.Basics.{by_test, some_is, clash as true_false}
 
 ---- names
@@ -75,12 +74,12 @@ set_still (x ∷ xs) (suc at) s now e name held = ap (λ ss. record { name = x.n
 
 ---- the store of a namespace
 
-find_placed : (places : List Placed) (ns : Name) → find (λ (p : Place). same_name p.ns ns) (placed places) ≡ option_map (λ (p : Placed). record { ns = p.ns; store = p.store }) (find (λ (p : Placed). bytes_eq p.ns ns) places)
-find_placed [] ns = refl
-find_placed (p ∷ ps) ns = by (find_placed ps ns) (bytes_eq p.ns ns) refl
+find_named : (places : List Place) (ns : Name) → find (λ (p : Place). same_name p.ns ns) places ≡ find (λ (p : Place). bytes_eq p.ns ns) places
+find_named [] ns = refl
+find_named (p ∷ ps) ns = by (find_named ps ns) (bytes_eq p.ns ns) refl
   where
-    by : find (λ (x : Place). same_name x.ns ns) (placed ps) ≡ option_map (λ (x : Placed). record { ns = x.ns; store = x.store }) (find (λ (x : Placed). bytes_eq x.ns ns) ps) → (b : Bool) → bytes_eq p.ns ns ≡ b
-        → find (λ (x : Place). same_name x.ns ns) (placed (p ∷ ps)) ≡ option_map (λ (x : Placed). record { ns = x.ns; store = x.store }) (find (λ (x : Placed). bytes_eq x.ns ns) (p ∷ ps))
+    by : find (λ (x : Place). same_name x.ns ns) ps ≡ find (λ (x : Place). bytes_eq x.ns ns) ps → (b : Bool) → bytes_eq p.ns ns ≡ b
+        → find (λ (x : Place). same_name x.ns ns) (p ∷ ps) ≡ find (λ (x : Place). bytes_eq x.ns ns) (p ∷ ps)
     by rest true e = rw (same_bytes p.ns ns ∙ e, e) refl
     by rest false e = rw (same_bytes p.ns ns ∙ e, e) rest
 
@@ -95,8 +94,8 @@ stands_there names store at e =
     let here : get_or names at [] ≡ store = (bytes_eq-Decides (get_or names at []) store).0 found.1 in
     slice_get-get_or names at [] found.0 ∙ ap Some here
 
-named : (o : Option Placed) (shelves : List Counted) → 0 < length shelves → IfSome (option_map (λ (p : Placed). p.store) o) (λ store. IsSome (place_of store (names_of shelves)))
-    → slice_get (names_of shelves) (home_of (option_map (λ (p : Placed). p.store) o) (names_of shelves)) ≡ Some (option_map_or (λ (p : Place). p.store) (option_map (λ (p : Placed). record { ns = p.ns; store = p.store }) o) (first_name (shown shelves)))
+named : (o : Option Place) (shelves : List Counted) → 0 < length shelves → IfSome (option_map (λ (p : Place). p.store) o) (λ store. IsSome (place_of store (names_of shelves)))
+    → slice_get (names_of shelves) (home_of (option_map (λ (p : Place). p.store) o) (names_of shelves)) ≡ Some (option_map_or (λ (p : Place). p.store) o (first_name (shown shelves)))
 named None shelves some homed = first_shown shelves some
 named (Some p) shelves some homed = by (place_of p.store (names_of shelves)) refl homed
   where
@@ -105,7 +104,7 @@ named (Some p) shelves some homed = by (place_of p.store (names_of shelves)) ref
     by (Some at) e h = rw e (stands_there (names_of shelves) p.store at e)
 
 -- the store of a namespace, by its place among the stores, is the one of its name
-pub named_home : (places : List Placed) (shelves : List Counted) (ns : Name) → 0 < length shelves → IfSome (placed_on ns places) (λ store. IsSome (place_of store (names_of shelves))) → slice_get (names_of shelves) (home ns places (names_of shelves)) ≡ Some (store_of (placed places) (shown shelves) ns)
+pub named_home : (places : List Place) (shelves : List Counted) (ns : Name) → 0 < length shelves → IfSome (placed_on ns places) (λ store. IsSome (place_of store (names_of shelves))) → slice_get (names_of shelves) (home ns places (names_of shelves)) ≡ Some (store_of places (shown shelves) ns)
 named_home places shelves ns some homed =
-    named (find (λ (p : Placed). bytes_eq p.ns ns) places) shelves some homed
-    ∙ ap (λ o. Some (option_map_or (λ (p : Place). p.store) o (first_name (shown shelves)))) (sym (find_placed places ns))
+    named (find (λ (p : Place). bytes_eq p.ns ns) places) shelves some homed
+    ∙ ap (λ o. Some (option_map_or (λ (p : Place). p.store) o (first_name (shown shelves)))) (sym (find_named places ns))

@@ -6,10 +6,8 @@ use Rattle.sdb_types.specs.declared.record.Reply.{Reply}
 use Rattle.sdb_types.specs.declared.record.Reply.TheVariants as reply
 use Rattle.sdb_schema.specs.declared.table.Table.{Table}
 use Rattle.sdb_stores.specs.Shelf.{Attached, Shelf as Counted, AreDistinct, HaveRisen, home_in, names_of, place_of, placed_on, total_faults}
-use Rattle.sdb_stores.specs.declared.place.Place.{Place as Placed}
 use Rattle.sdb_model.specs.declared.event.How.{How}
 use Rattle.sdb_model.specs.declared.event.How.TheVariants.{Seen, Lost, Broken}
-use Rattle.sdb_model.specs.declared.script.Place.{Place}
 use Rattle.sdb_model.specs.Events.{Shelf, IsCall, store_of, table_asked}
 use Rattle.sdb_spread.specs.Spread.{is_played}
 use Rattle.sdb_board.specs.declared.refused.CallRefused.{CallRefused}
@@ -18,10 +16,6 @@ use Rattle.sdb_board.specs.declared.refused.CallRefused.TheVariants as refused
 -- the stores as events see them: without their counts of faults
 abbrev pub shown : List Counted → List Shelf
 shown shelves = map (λ s. record { name = s.name; contents = s.contents }) shelves
-
--- the places as a script has them
-abbrev pub placed : List Placed → List Place
-placed places = map (λ p. record { ns = p.ns; store = p.store }) places
 
 -- The store of each table of a run over a catalog has known contents.
 abbrev pub AreTold : List Table → Attached → Type 0
@@ -95,7 +89,7 @@ reply_lost r = reply.Fault
 
 -- a request is made on the store of its table, and so it comes out
 abbrev pub IsMade : Request → How → Reply → Attached → Attached → Type 0
-IsMade q how r old new = IsCall (placed old.places) (store_of (placed old.places) (shown old.shelves) (table_asked q).ns) q how r (shown old.shelves) (shown new.shelves)
+IsMade q how r old new = IsCall old.places (store_of old.places (shown old.shelves) (table_asked q).ns) q how r (shown old.shelves) (shown new.shelves)
 
 -- A request that was made on the store of its table.
 abbrev pub IsCalled : Request → Reply → Attached → Attached → Type 0

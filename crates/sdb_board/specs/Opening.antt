@@ -12,9 +12,9 @@ use Rattle.sdb_types.specs.Order.{table_cmp}
 use Rattle.sdb_record.specs.Coordinator.{coordinator_table}
 use Rattle.sdb_schema.specs.declared.table.Table.{Table}
 use Rattle.sdb_stores.specs.Shelf.{Attached}
-use Rattle.sdb_model.specs.declared.script.Place.{Place}
+use Rattle.sdb_stores.specs.declared.place.Place.{Place}
 use Rattle.sdb_model.specs.Events.{Shelf, held_by, store_of}
-use Rattle.sdb_board.specs.Board.{AreFitFor, placed, shown}
+use Rattle.sdb_board.specs.Board.{AreFitFor, shown}
 
 -- a whole table
 abbrev pub whole : TableName → Span
@@ -34,7 +34,7 @@ records_of places shelves table = option_map_or (rows_in (whole table)) (held_by
 
 -- the same, as stores hold them
 abbrev pub records_in : Attached → TableName → List Record
-records_in stores table = records_of (placed stores.places) (shown stores.shelves) table
+records_in stores table = records_of stores.places (shown stores.shelves) table
 
 -- all records of a run's tables, table by table, in the order of their names
 abbrev pub opening_records : List Table → List Place → List Shelf → List Record
@@ -42,7 +42,7 @@ opening_records catalog places shelves = flat_map (records_of places shelves) (r
 
 -- the same, as stores hold them
 abbrev pub opening_in : List Table → Attached → List Record
-opening_in catalog stores = opening_records catalog (placed stores.places) (shown stores.shelves)
+opening_in catalog stores = opening_records catalog stores.places (shown stores.shelves)
 
 abbrev pub first_key : List Record → Option Key
 first_key [] = None

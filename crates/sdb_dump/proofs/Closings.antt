@@ -20,13 +20,13 @@ use Rattle.sdb_record.specs.declared.coordinator.Decided.{Decided}
 use Rattle.sdb_record.specs.Coordinator.{coordinator_table, is_coordinator_table}
 use Rattle.sdb_schema.specs.declared.table.Table.{Table}
 use Rattle.sdb_stores.specs.Shelf.{Attached}
-use Rattle.sdb_stores.specs.declared.place.Place.{Place as Placed}
+use Rattle.sdb_stores.specs.declared.place.Place.{Place}
 use Rattle.sdb_model.specs.declared.event.TableDump.{TableDump}
 use Rattle.sdb_model.specs.Events.{Shelf}
 use Rattle.sdb_model.specs.Exec.{find_table}
 use Rattle.sdb_model.specs.Images.{decision_at}
 use Rattle.sdb_spread.specs.Spread.{is_played}
-use Rattle.sdb_board.specs.Board.{AreFit, AreFitFor, GoOn, HoldTheSame, KnownStay, placed, shown}
+use Rattle.sdb_board.specs.Board.{AreFit, AreFitFor, GoOn, HoldTheSame, KnownStay, shown}
 use Rattle.sdb_board.specs.Opening.{records_in, records_of, table_names, whole}
 use Rattle.sdb_board.proofs.Empty.{records_stay}
 use Rattle.sdb_board.proofs.GoesOn.{fit_for, fit_for_on}
@@ -159,19 +159,19 @@ pub record AreRows (stores : Attached) (found : List Record) (decide : TxId → 
   pub decided : rise found ≡ true → (id : TxId) → id.0 < 2 ^ 128 → decide id ≡ decision_among found id
   pub recorded : ids ≡ recorded_among found
 
-decision_where : (stores : Attached) (rows : List Record) (id : TxId) → rows ≡ records_in stores coordinator_table → decision_among rows id ≡ decision_at (placed stores.places) (shown stores.shelves) id
-decision_where stores rows id e = ap (λ (xs : List Record). decision_among xs id) e ∙ decision_there (placed stores.places) (shown stores.shelves) id
+decision_where : (stores : Attached) (rows : List Record) (id : TxId) → rows ≡ records_in stores coordinator_table → decision_among rows id ≡ decision_at stores.places (shown stores.shelves) id
+decision_where stores rows id e = ap (λ (xs : List Record). decision_among xs id) e ∙ decision_there stores.places (shown stores.shelves) id
 
 -- they are the decisions of what the stores hold
-pub decisions_are : (stores : Attached) (rows : List Record) (decide : TxId → Option Decided) (recorded : List TxId) → AreRows stores rows decide recorded → AreFitFor coordinator_table stores → AreDecisions (placed stores.places) (shown stores.shelves) decide
+pub decisions_are : (stores : Attached) (rows : List Record) (decide : TxId → Option Decided) (recorded : List TxId) → AreRows stores rows decide recorded → AreFitFor coordinator_table stores → AreDecisions stores.places (shown stores.shelves) decide
 decisions_are stores rows decide recorded r fit = record { at = λ id small. r.decided r.rising id small ∙ decision_where stores rows id (r.rows fit) }
 
 pub closing_tables : (catalog : List Table) (old mid : Attached) (rows : List Record) (decide : TxId → Option Decided) (recorded : List TxId) (tables : List TableDump) → AreRows old rows decide recorded → GoOn old mid → (AreFit catalog old → HoldTheSame old mid)
     → map (λ (d : TableDump). d.name) tables ≡ table_names catalog → AreDumpsUnder decide catalog mid tables → AreFit catalog old → AreDumps catalog old tables
 closing_tables catalog old mid rows decide recorded tables r goes still named under fit d images =
     dumps_all decide mid catalog tables named under (each_fit catalog mid (goes.fit catalog fit))
-    ∙ ap (λ (ps : List Placed). map (λ t. dump_by decide t (records_of (placed ps) (shown mid.shelves) t.name)) catalog) goes.places ∙ ap (λ (ss : List Shelf). map (λ t. dump_by decide t (records_of (placed old.places) ss t.name)) catalog) (still fit)
-    ∙ dumps_are catalog (placed old.places) (shown old.shelves) decide d (decisions_are old rows decide recorded r (coordinator_fit catalog old fit)) images
+    ∙ ap (λ (ps : List Place). map (λ t. dump_by decide t (records_of ps (shown mid.shelves) t.name)) catalog) goes.places ∙ ap (λ (ss : List Shelf). map (λ t. dump_by decide t (records_of old.places ss t.name)) catalog) (still fit)
+    ∙ dumps_are catalog old.places (shown old.shelves) decide d (decisions_are old rows decide recorded r (coordinator_fit catalog old fit)) images
 
 pub closing_known : (catalog : List Table) (old mid : Attached) (rows : List Record) (decide : TxId → Option Decided) (recorded : List TxId) (tables : List TableDump) → AreRows old rows decide recorded → GoOn old mid → KnownStay old mid
     → map (λ (d : TableDump). d.name) tables ≡ table_names catalog → AreDumpsUnder decide catalog mid tables → AreDumpsWhereKnown catalog old tables
@@ -179,7 +179,7 @@ closing_known catalog old mid rows decide recorded tables r goes stay named unde
   named = named;
   each = λ i t dump here there fit coordinator.
       under i t dump here there (fit_for_on old mid t.name goes fit) ∙ dump_behind decide old mid t goes stay fit
-      ∙ sym (dump_same (placed old.places) (shown old.shelves) decide t (records_in old t.name) (decisions_are old rows decide recorded r coordinator));
+      ∙ sym (dump_same old.places (shown old.shelves) decide t (records_in old t.name) (decisions_are old rows decide recorded r coordinator));
 }
 
 pub closing_recorded : (stores : Attached) (rows : List Record) (decide : TxId → Option Decided) (recorded : List TxId) → AreRows stores rows decide recorded → AreFitFor coordinator_table stores → AreRecorded recorded stores
@@ -198,36 +198,36 @@ pub closing_well_formed : (catalog : List Table) (old mid : Attached) (rows : Li
 closing_well_formed catalog old mid rows decide recorded r goes stay none under = record {
   rows = λ fit. ap (first_unlike is_decided) (sym (r.rows fit)) ∙ none;
   records = λ coordinator i t here fit.
-      first_ill_formed_same (placed old.places) (shown old.shelves) decide t (records_in old t.name) (decisions_are old rows decide recorded r coordinator)
+      first_ill_formed_same old.places (shown old.shelves) decide t (records_in old t.name) (decisions_are old rows decide recorded r coordinator)
       ∙ sym (ill_formed_behind decide old mid t goes stay fit) ∙ under i t here (fit_for_on old mid t.name goes fit);
 }
 
 ---- what stopped it
 
 -- the first odd record is a row of the coordinator's table
-pub odd_in_rows : (catalog : List Table) (stores : Attached) (rows : List Record) (key : Key) → rows ≡ records_in stores coordinator_table → first_unlike is_decided rows ≡ Some key → first_odd catalog (placed stores.places) (shown stores.shelves) ≡ Some key
+pub odd_in_rows : (catalog : List Table) (stores : Attached) (rows : List Record) (key : Key) → rows ≡ records_in stores coordinator_table → first_unlike is_decided rows ≡ Some key → first_odd catalog stores.places (shown stores.shelves) ≡ Some key
 odd_in_rows catalog stores rows key e first =
-    ap (λ (o : Option Key). first_of o (first_in (first_ill_formed_in (decision_at (placed stores.places) (shown stores.shelves)) stores) catalog)) (ap (first_unlike is_decided) (sym e) ∙ first)
+    ap (λ (o : Option Key). first_of o (first_in (first_ill_formed_in (decision_at stores.places (shown stores.shelves)) stores) catalog)) (ap (first_unlike is_decided) (sym e) ∙ first)
 
 pub row_odd : (catalog : List Table) (stores : Attached) (rows : List Record) (key : Key) → (AreFitFor coordinator_table stores → rows ≡ records_in stores coordinator_table) → are_rows_of (whole coordinator_table) rows ≡ true → first_unlike is_decided rows ≡ Some key → IsOddIn catalog stores key
 row_odd catalog stores rows key found of first =
     let named = unlike_of coordinator_table is_decided rows key of first in
-    let decide = decision_at (placed stores.places) (shown stores.shelves) in
+    let decide = decision_at stores.places (shown stores.shelves) in
     record {
       played = coordinator_played catalog key.table named;
       decide = decide;
       decisions = λ fit. record { at = λ id small. refl };
-      odd = λ fit. odd_row catalog (placed stores.places) (shown stores.shelves) decide key (ap (first_unlike is_decided) (sym (found (subst (λ (n : TableName). AreFitFor n stores) named fit))) ∙ first);
+      odd = λ fit. odd_row catalog stores.places (shown stores.shelves) decide key (ap (first_unlike is_decided) (sym (found (subst (λ (n : TableName). AreFitFor n stores) named fit))) ∙ first);
     }
 
 -- or a record of a table, where these are well formed
 pub odd_in_tables : (catalog : List Table) (old mid : Attached) (rows : List Record) (decide : TxId → Option Decided) (recorded : List TxId) (key : Key) → AreRows old rows decide recorded → first_unlike is_decided rows ≡ None → GoOn old mid → KnownStay old mid → IsIllFormedAmong decide catalog mid key
-    → AreFit catalog old → first_odd catalog (placed old.places) (shown old.shelves) ≡ Some key
+    → AreFit catalog old → first_odd catalog old.places (shown old.shelves) ≡ Some key
 odd_in_tables catalog old mid rows decide recorded key r none goes stay first fit =
-    let held = decision_at (placed old.places) (shown old.shelves) in
+    let held = decision_at old.places (shown old.shelves) in
     let coordinator = coordinator_fit catalog old fit in
     let here : (t : Table) → AreFitFor t.name old → first_ill_formed_in decide mid t ≡ first_ill_formed_in held old t = λ t f.
-    ill_formed_behind decide old mid t goes stay f ∙ sym (first_ill_formed_same (placed old.places) (shown old.shelves) decide t (records_in old t.name) (decisions_are old rows decide recorded r coordinator)) in
+    ill_formed_behind decide old mid t goes stay f ∙ sym (first_ill_formed_same old.places (shown old.shelves) decide t (records_in old t.name) (decisions_are old rows decide recorded r coordinator)) in
     ap (λ (o : Option Key). first_of o (first_in (first_ill_formed_in held old) catalog)) (ap (first_unlike is_decided) (sym (r.rows coordinator)) ∙ none)
     ∙ sym (first_same (first_ill_formed_in decide mid) (first_ill_formed_in held old) catalog (all_each (λ (t : Table). AreFitFor t.name old) (λ (t : Table). first_ill_formed_in decide mid t ≡ first_ill_formed_in held old t) catalog here (each_fit catalog old fit)))
     ∙ first.first (goes.fit catalog fit)
@@ -242,6 +242,6 @@ record_odd catalog old mid rows decide recorded key r goes stay first =
       decisions = decisions_are old rows decide recorded r;
       odd = λ fit.
           let fit_t : AreFitFor t.name old = subst (λ (n : TableName). AreFitFor n old) named fit in
-          odd_record catalog (placed old.places) (shown old.shelves) decide t key (contains_at catalog first.at t first.there)
+          odd_record catalog old.places (shown old.shelves) decide t key (contains_at catalog first.at t first.there)
           (sym (ill_formed_behind decide old mid t goes stay fit_t) ∙ first.ill_formed.first (fit_for_on old mid t.name goes fit_t));
     }

@@ -16,13 +16,12 @@ use Rattle.sdb_record.specs.Coordinator.{coordinator_table}
 use Rattle.sdb_laws.proofs.Shown.{row_there}
 use Rattle.sdb_schema.specs.declared.table.Table.{Table}
 use Rattle.sdb_stores.specs.Shelf.{Attached}
-use Rattle.sdb_stores.specs.declared.place.Place.{Place as Placed}
+use Rattle.sdb_stores.specs.declared.place.Place.{Place}
 use Rattle.sdb_model.specs.declared.event.TableDump.{TableDump}
-use Rattle.sdb_model.specs.declared.script.Place.{Place}
 use Rattle.sdb_model.specs.Events.{Shelf, held_by, standing, store_of}
 use Rattle.sdb_model.specs.Images.{decision_at}
 use Rattle.sdb_model.specs.Transactions.{Recorded}
-use Rattle.sdb_board.specs.Board.{AreFit, AreFitFor, GoOn, HoldTheSame, KnownStay, known_before, placed, shown}
+use Rattle.sdb_board.specs.Board.{AreFit, AreFitFor, GoOn, HoldTheSame, KnownStay, known_before, shown}
 use Rattle.sdb_board.specs.Opening.{records_in, records_of, whole}
 use Rattle.sdb_board.proofs.Empty.{records_stay}
 use Rattle.sdb_board.proofs.GoesOn.{fit_for, fit_for_as, fit_for_before}
@@ -55,19 +54,19 @@ decided_odd catalog places shelves decide key are o = record { found = o.found; 
     by (inr row) = inr row
 
 module _ (old new : Attached) (goes : GoOn old new) (stay : KnownStay old new) where
-  standing_later : (key : Key) → AreFitFor key.table (known_before old new) → standing (placed new.places) (shown new.shelves) key ≡ standing (placed old.places) (shown old.shelves) key
+  standing_later : (key : Key) → AreFitFor key.table (known_before old new) → standing new.places (shown new.shelves) key ≡ standing old.places (shown old.shelves) key
   standing_later key fit =
-      sym (standing_there (placed new.places) (shown new.shelves) key)
+      sym (standing_there new.places (shown new.shelves) key)
       ∙ ap (λ (rs : List Record). record_among rs key) (records_stay old new key.table goes stay (fit_for_before old new key.table goes fit))
-      ∙ standing_there (placed old.places) (shown old.shelves) key
+      ∙ standing_there old.places (shown old.shelves) key
 
-  decision_later : (id : TxId) → AreFitFor coordinator_table (known_before old new) → decision_at (placed new.places) (shown new.shelves) id ≡ decision_at (placed old.places) (shown old.shelves) id
+  decision_later : (id : TxId) → AreFitFor coordinator_table (known_before old new) → decision_at new.places (shown new.shelves) id ≡ decision_at old.places (shown old.shelves) id
   decision_later id fit =
-      sym (decision_there (placed new.places) (shown new.shelves) id)
+      sym (decision_there new.places (shown new.shelves) id)
       ∙ ap (λ (rs : List Record). decision_among rs id) (records_stay old new coordinator_table goes stay (fit_for_before old new coordinator_table goes fit))
-      ∙ decision_there (placed old.places) (shown old.shelves) id
+      ∙ decision_there old.places (shown old.shelves) id
 
-  pub recorded_later : (id : TxId) → AreFitFor coordinator_table (known_before old new) → Recorded (placed old.places) (shown old.shelves) id → Recorded (placed new.places) (shown new.shelves) id
+  pub recorded_later : (id : TxId) → AreFitFor coordinator_table (known_before old new) → Recorded old.places (shown old.shelves) id → Recorded new.places (shown new.shelves) id
   recorded_later id fit h = subst (λ (o : Option Decided). IsSomeAnd o (λ d. d.decision ≡ decision.Committed)) (sym (decision_later id fit)) h
 
   pub odd_later : (catalog : List Table) (key : Key) → IsOddIn catalog old key → IsOddIn catalog (known_before old new) key
@@ -85,8 +84,8 @@ module _ (old new : Attached) (goes : GoOn old new) (stay : KnownStay old new) w
     named = h.named;
     each = λ i t dump here there fit coordinator.
         h.each i t dump here there (fit_for_before old new t.name goes fit) (fit_for_before old new coordinator_table goes coordinator)
-        ∙ sym (dump_same (placed new.places) (shown new.shelves) (decision_at (placed old.places) (shown old.shelves)) t (records_in old t.name) (record { at = λ id small. sym (decision_later id coordinator) }))
-        ∙ sym (ap (dump_by (decision_at (placed new.places) (shown new.shelves)) t) (records_stay old new t.name goes stay (fit_for_before old new t.name goes fit)));
+        ∙ sym (dump_same new.places (shown new.shelves) (decision_at old.places (shown old.shelves)) t (records_in old t.name) (record { at = λ id small. sym (decision_later id coordinator) }))
+        ∙ sym (ap (dump_by (decision_at new.places (shown new.shelves)) t) (records_stay old new t.name goes stay (fit_for_before old new t.name goes fit)));
   }
 
   pub well_formed_later : (catalog : List Table) → AreWellFormedWhereKnown catalog old → AreWellFormedWhereKnown catalog (known_before old new)
@@ -94,15 +93,15 @@ module _ (old new : Attached) (goes : GoOn old new) (stay : KnownStay old new) w
     rows = λ fit. ap (first_unlike is_decided) (records_stay old new coordinator_table goes stay (fit_for_before old new coordinator_table goes fit)) ∙ h.rows (fit_for_before old new coordinator_table goes fit);
     records = λ coordinator i t here fit.
         let fit_t = fit_for_before old new t.name goes fit in
-        first_ill_formed_same (placed new.places) (shown new.shelves) (decision_at (placed old.places) (shown old.shelves)) t (records_in new t.name) (record { at = λ id small. sym (decision_later id coordinator) })
-        ∙ ap (first_unlike (is_well_formed (decision_at (placed old.places) (shown old.shelves)) t)) (records_stay old new t.name goes stay fit_t)
+        first_ill_formed_same new.places (shown new.shelves) (decision_at old.places (shown old.shelves)) t (records_in new t.name) (record { at = λ id small. sym (decision_later id coordinator) })
+        ∙ ap (first_unlike (is_well_formed (decision_at old.places (shown old.shelves)) t)) (records_stay old new t.name goes stay fit_t)
         ∙ h.records (fit_for_before old new coordinator_table goes coordinator) i t here fit_t;
   }
 
   -- where all stores of a catalog are known, it was there before
-  pub odd_before : (catalog : List Table) (key : Key) → AreFit catalog old → HoldTheSame old new → IsOddIn catalog (known_before old new) key → IsOddAt catalog (placed old.places) (shown old.shelves) (decision_at (placed old.places) (shown old.shelves)) key
+  pub odd_before : (catalog : List Table) (key : Key) → AreFit catalog old → HoldTheSame old new → IsOddIn catalog (known_before old new) key → IsOddAt catalog old.places (shown old.shelves) (decision_at old.places (shown old.shelves)) key
   odd_before catalog key fit still odd =
       let fit_now : (table : TableName) → is_played catalog table ≡ true → AreFitFor table (known_before old new) = λ table about. fit_for_as old (known_before old new) table goes.places goes.names (λ at t. t) (fit_for catalog old table about fit) in
-      subst (λ (ss : List Shelf). IsOddAt catalog (placed old.places) ss (decision_at (placed old.places) ss) key) still
-      (subst (λ (ps : List Placed). IsOddAt catalog (placed ps) (shown new.shelves) (decision_at (placed ps) (shown new.shelves)) key) goes.places
-      (decided_odd catalog (placed new.places) (shown new.shelves) odd.decide key (odd.decisions (fit_now coordinator_table (coordinator_played catalog coordinator_table refl))) (odd.odd (fit_now key.table odd.played))))
+      subst (λ (ss : List Shelf). IsOddAt catalog old.places ss (decision_at old.places ss) key) still
+      (subst (λ (ps : List Place). IsOddAt catalog ps (shown new.shelves) (decision_at ps (shown new.shelves)) key) goes.places
+      (decided_odd catalog new.places (shown new.shelves) odd.decide key (odd.decisions (fit_now coordinator_table (coordinator_played catalog coordinator_table refl))) (odd.odd (fit_now key.table odd.played))))

@@ -7,13 +7,13 @@ use Rattle.sdb_record.specs.Coordinator.{coordinator_table}
 use Rattle.sdb_schema.specs.declared.table.Table.{Table}
 use Rattle.sdb_stores.specs.Shelf.{Attached}
 use Rattle.sdb_model.specs.declared.event.TableDump.{TableDump}
-use Rattle.sdb_model.specs.declared.script.Place.{Place}
+use Rattle.sdb_stores.specs.declared.place.Place.{Place}
 use Rattle.sdb_model.specs.Events.{Shelf}
 use Rattle.sdb_model.specs.Exec.{Tables}
 use Rattle.sdb_model.specs.Images.{decision_at}
 use Rattle.sdb_model.specs.Told.{AreImages, dumps_of}
 use Rattle.sdb_model.specs.Transactions.{Recorded}
-use Rattle.sdb_board.specs.Board.{AreFit, AreFitFor, placed, shown}
+use Rattle.sdb_board.specs.Board.{AreFit, AreFitFor, shown}
 use Rattle.sdb_board.specs.Opening.{records_in, table_names}
 use Rattle.sdb_spread.specs.Spread.{is_played}
 use Rattle.sdb_dump.specs.Decided.{is_decided}
@@ -36,11 +36,11 @@ AreDumpsUnder decide catalog stores dumps =
 
 -- The dumps are those of the committed images of what the stores hold.
 abbrev pub AreDumps : List Table → Attached → List TableDump → Type 0
-AreDumps catalog stores dumps = (d : Tables) → AreImages catalog (placed stores.places) (shown stores.shelves) d → dumps ≡ dumps_of catalog d
+AreDumps catalog stores dumps = (d : Tables) → AreImages catalog stores.places (shown stores.shelves) d → dumps ≡ dumps_of catalog d
 
 -- The dump is that of a table's committed images, where its store and that of the coordinator's table have known contents.
 abbrev pub IsDumpWhereKnown : Attached → Table → TableDump → Type 0
-IsDumpWhereKnown stores t dump = AreFitFor t.name stores → AreFitFor coordinator_table stores → dump ≡ dump_in (decision_at (placed stores.places) (shown stores.shelves)) stores t
+IsDumpWhereKnown stores t dump = AreFitFor t.name stores → AreFitFor coordinator_table stores → dump ≡ dump_in (decision_at stores.places (shown stores.shelves)) stores t
 
 -- There is one dump of each table, in their order, under its name.
 pub record AreDumpsWhereKnown (catalog : List Table) (stores : Attached) (dumps : List TableDump) : Type 0 where
@@ -49,7 +49,7 @@ pub record AreDumpsWhereKnown (catalog : List Table) (stores : Attached) (dumps 
 
 -- The transactions are those that the stores record.
 abbrev pub AreRecorded : List TxId → Attached → Type 0
-AreRecorded ids stores = (id : TxId) → id.0 < 2 ^ 128 → Contains ids id ↔ Recorded (placed stores.places) (shown stores.shelves) id
+AreRecorded ids stores = (id : TxId) → id.0 < 2 ^ 128 → Contains ids id ↔ Recorded stores.places (shown stores.shelves) id
 
 ---- records that stop a dump
 
@@ -59,7 +59,7 @@ pub record AreDecisions (places : List Place) (shelves : List Shelf) (decide : T
 
 -- the key of the first record of a table that isn't well formed under decisions on transactions
 abbrev pub first_ill_formed_in : (TxId → Option Decided) → Attached → Table → Option Key
-first_ill_formed_in decide stores t = first_ill_formed decide (placed stores.places) (shown stores.shelves) t
+first_ill_formed_in decide stores t = first_ill_formed decide stores.places (shown stores.shelves) t
 
 -- The key is of a table, and that of its first record that isn't well formed, where the contents of its store are known.
 pub record IsIllFormed (decide : TxId → Option Decided) (t : Table) (stores : Attached) (key : Key) : Type 0 where
@@ -82,16 +82,16 @@ AreWellFormedUnder decide catalog stores = (i : ℕ) (t : Table) → slice_get c
 -- store has known contents too.
 pub record AreWellFormedWhereKnown (catalog : List Table) (stores : Attached) : Type 0 where
   pub rows : AreFitFor coordinator_table stores → first_unlike is_decided (records_in stores coordinator_table) ≡ None
-  pub records : AreFitFor coordinator_table stores → AreWellFormedUnder (decision_at (placed stores.places) (shown stores.shelves)) catalog stores
+  pub records : AreFitFor coordinator_table stores → AreWellFormedUnder (decision_at stores.places (shown stores.shelves)) catalog stores
 
 -- The key is that of the first record that breaks the rules of its table, where the stores are fit.
 abbrev pub IsFirstOdd : List Table → Attached → Key → Type 0
-IsFirstOdd catalog stores key = AreFit catalog stores → first_odd catalog (placed stores.places) (shown stores.shelves) ≡ Some key
+IsFirstOdd catalog stores key = AreFit catalog stores → first_odd catalog stores.places (shown stores.shelves) ≡ Some key
 
 -- The key is of a table of the run, and the record there breaks the rules of its table, where the contents of its store are known. Its image
 -- is judged under decisions on transactions that are those of the coordinator's table, where the contents of that one's store are known.
 pub record IsOddIn (catalog : List Table) (stores : Attached) (key : Key) : Type 0 where
   pub played : is_played catalog key.table ≡ true
   pub decide : TxId → Option Decided
-  pub decisions : AreFitFor coordinator_table stores → AreDecisions (placed stores.places) (shown stores.shelves) decide
-  pub odd : AreFitFor key.table stores → IsOddAt catalog (placed stores.places) (shown stores.shelves) decide key
+  pub decisions : AreFitFor coordinator_table stores → AreDecisions stores.places (shown stores.shelves) decide
+  pub odd : AreFitFor key.table stores → IsOddAt catalog stores.places (shown stores.shelves) decide key

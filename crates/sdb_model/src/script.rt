@@ -2,14 +2,8 @@
 ghost use Rattle.std.specs.Prelude.{◌≡◌, IfOk};
 
 use sdb_schema::Catalog;
+pub use sdb_stores::Place;
 use sdb_types::{Duplicate, Name, NoMemory, Seq, Txt};
-
-/// Where the tables of a namespace are kept.
-#[derive(Debug, Drop, PartialEq, Eq)]
-pub struct Place {
-    pub ns: Name,
-    pub store: Name,
-}
 
 pub type Places = Seq<Place>;
 
@@ -63,15 +57,6 @@ pub enum Which {
     Clients,
     Statements,
     Moves,
-}
-
-impl Duplicate for Place {
-    fn copy(&self) -> Result<Place, NoMemory> {
-        Ok(Place {
-            ns: self.ns.copy()?,
-            store: self.store.copy()?,
-        })
-    }
 }
 
 impl Duplicate for ScriptClient {

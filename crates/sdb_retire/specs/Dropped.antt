@@ -3,7 +3,7 @@ use Rattle.std.specs.Prelude.{◌≡◌, ◌≢◌, ◌<◌, ℕ, List, Some, Co
 use Rattle.sdb_types.specs.declared.key.Key.{Key}
 use Rattle.sdb_types.specs.Contents.{Contents, rows_in}
 use Rattle.sdb_schema.specs.declared.table.Table.{Table}
-use Rattle.sdb_stores.specs.declared.place.Place.{Place as Placed}
+use Rattle.sdb_stores.specs.declared.place.Place.{Place}
 use Rattle.sdb_stores.specs.Shelf.{Attached, Shelf, IsDropped, index_at, index_in, names_of}
 use Rattle.sdb_catalog.specs.declared.entry.Entry.{Entry}
 use Rattle.sdb_catalog.specs.Calls.{first_contents, metadata_span, with_shelves}
@@ -52,7 +52,7 @@ pub record Reopening : Type 0 where
   pub names : List (List ℕ)
   pub contents : Contents
   pub tables : List Table
-  pub places : List Placed
+  pub places : List Place
 
 -- The rows open as entries that give the same tables as the entries of before, and the opening returned a catalog.
 pub record IsReopened (r : Reopening) (before : List Entry) : Type 0 where

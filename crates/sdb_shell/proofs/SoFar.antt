@@ -12,7 +12,7 @@ use Rattle.sdb_schema.specs.declared.table.Table.{Table}
 use Rattle.sdb_model.specs.Form.{lines_of, onto_first}
 use Rattle.sdb_model.specs.Rows.{Name}
 use Rattle.sdb_stores.specs.Shelf.{Attached, AreDistinct, home, place_of, placed_on}
-use Rattle.sdb_board.specs.Board.{GoOn, HoldTheSame, placed, shown}
+use Rattle.sdb_board.specs.Board.{GoOn, HoldTheSame, shown}
 use Rattle.sdb_board.proofs.GoesOn.{some_more}
 use Rattle.sdb_client.specs.Client.{Says, nothing_done}
 use Rattle.sdb_session.specs.Database.{Database, database_of}
@@ -139,7 +139,7 @@ at_end bytes (Some r) h = let p = nil_parts bytes r h in (p.1, ap (λ xs. Some (
 
 -- stores that hold what they held, at their places
 same_database : (old new : Attached) → GoOn old new → HoldTheSame old new → database_in new ≡ database_in old
-same_database old new goes held = ap (λ ps. database_of (placed ps) (shown new.shelves)) goes.places ∙ ap (λ ss. database_of (placed old.places) ss) held
+same_database old new goes held = ap (λ ps. database_of ps (shown new.shelves)) goes.places ∙ ap (λ ss. database_of old.places ss) held
 
 session_same : (catalog : List Table) (old mid new : Attached) (clock clock_mid : Option (List ℤ)) (ids ids_mid : Option (List ℕ)) (es : List Exchange) (s : SessionAt) → IsSessionSoFar catalog old mid clock clock_mid ids ids_mid es s → GoOn mid new → HoldTheSame mid new → IsSessionSoFar catalog old new clock clock_mid ids ids_mid es s
 session_same catalog old mid new clock clock_mid ids ids_mid es s so goes held = record {
@@ -209,7 +209,7 @@ so_passed catalog old mid new clock clock_mid clock_then ids ids_mid ids_then wr
 -- the same stores, with the places and the known contents of those before them
 session_held : (catalog : List Table) (old mid : Attached) (clock clock_mid : Option (List ℤ)) (ids ids_mid : Option (List ℕ)) (es : List Exchange) (s : SessionAt) → IsSessionSoFar catalog old mid clock clock_mid ids ids_mid es s → GoOn old mid → IsSessionSoFar catalog old (record old { shelves = mid.shelves }) clock clock_mid ids ids_mid es s
 session_held catalog old mid clock clock_mid ids ids_mid es s so goes =
-    let same : database_in (record old { shelves = mid.shelves }) ≡ database_in mid = ap (λ ps. database_of (placed ps) (shown mid.shelves)) (sym goes.places) in
+    let same : database_in (record old { shelves = mid.shelves }) ≡ database_in mid = ap (λ ps. database_of ps (shown mid.shelves)) (sym goes.places) in
     record {
       moments = so.moments;
       drawn = so.drawn;

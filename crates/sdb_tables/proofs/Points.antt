@@ -5,7 +5,7 @@ use Rattle.std.specs.Prelude.{IfErr, IfOk, IsErrAnd, Result, Ok, Err}
 use Rattle.sdb_types.specs.Draws.{Tells}
 use Rattle.sdb_schema.specs.declared.table.Table.{Table}
 use Rattle.sdb_stores.specs.Shelf.{Attached, total_faults}
-use Rattle.sdb_board.specs.Board.{GoOn, placed, shown}
+use Rattle.sdb_board.specs.Board.{GoOn, shown}
 use Rattle.sdb_model.specs.declared.answer.Answer.{Answer}
 use Rattle.sdb_model.specs.declared.statement.Statement.{Statement}
 use Rattle.sdb_model.specs.Sql.{statement_text_of}
@@ -68,7 +68,7 @@ over_before catalog e mid clock_mid ids_mid es places counted so = record {
     begun = so.begun;
     taken = so.taken;
     faults = so.faults;
-    serial = λ f w n. subst (λ (d : Database). IsSerialSession catalog (database_in e.old) d w.tables es) (ap (λ ps. database_of (placed ps) (shown mid.shelves)) places) (so.serial f w n);
+    serial = λ f w n. subst (λ (d : Database). IsSerialSession catalog (database_in e.old) d w.tables es) (ap (λ ps. database_of ps (shown mid.shelves)) places) (so.serial f w n);
   };
   counted = counted;
 }

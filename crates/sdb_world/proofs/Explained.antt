@@ -7,14 +7,14 @@ use Rattle.sdb_record.specs.Coordinator.{coordinator_table}
 use Rattle.sdb_schema.specs.declared.table.Table.{Table}
 use Rattle.sdb_model.specs.declared.event.Event.{Event}
 use Rattle.sdb_model.specs.declared.script.Act.{Act}
-use Rattle.sdb_model.specs.declared.script.Place.{Place}
+use Rattle.sdb_stores.specs.declared.place.Place.{Place}
 use Rattle.sdb_model.specs.declared.script.Script.{Script}
 use Rattle.sdb_model.specs.Events.{Effect, IsTrace, Shelf}
 use Rattle.sdb_model.specs.Exec.{find_table}
 use Rattle.sdb_model.specs.Explained.{Explained}
 use Rattle.sdb_spread.specs.Spread.{HoldAs}
 use Rattle.sdb_stores.specs.Shelf.{Attached}
-use Rattle.sdb_board.specs.Board.{placed, shown}
+use Rattle.sdb_board.specs.Board.{shown}
 use Rattle.sdb_steps.specs.Fitting.{tables_fit}
 use Rattle.sdb_steps.specs.Hands.{doing_of, system_of}
 use Rattle.sdb_endings.specs.Stores.{AreTaken}
@@ -72,7 +72,7 @@ execution_more old new w v es reached gone =
 pub came_explained : (old new : Attached) (w v : WorldAt) (a : Act) → Came old new w a v → IsExplainedAfter old new w v
 came_explained old new w v a (h, c) f reached opening moments nothing traced =
     let e : Event = c.so.event in
-    let places : List Place = placed old.places in
+    let places : List Place = old.places in
     let before : List Shelf = shown old.shelves in
     let now : List Shelf = shown new.shelves in
     let s = c.gone.traced f in

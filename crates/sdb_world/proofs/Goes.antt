@@ -2,12 +2,11 @@
 use Rattle.std.proofs.Common.{◌≡◌, List, [], ◌∷◌, ◌++◌, refl, sym, ap, subst, ◌∙◌, append_assoc}
 use Rattle.std.proofs.lemmas.List.{append-nil}
 use Rattle.sdb_model.specs.declared.event.Event.{Event}
-use Rattle.sdb_model.specs.declared.script.Place.{Place}
+use Rattle.sdb_stores.specs.declared.place.Place.{Place}
 use Rattle.sdb_model.specs.declared.script.Script.{Script}
 use Rattle.sdb_model.specs.Events.{Effect, IsTrace, Shelf}
 use Rattle.sdb_stores.specs.Shelf.{Attached}
-use Rattle.sdb_stores.specs.declared.place.Place.{Place as Placed}
-use Rattle.sdb_board.specs.Board.{AreFit, GoOn, placed, shown}
+use Rattle.sdb_board.specs.Board.{AreFit, GoOn, shown}
 use Rattle.sdb_executions.specs.World.{WorldAt, state_of}
 use Rattle.sdb_execution.proofs.Paths.{paths_on}
 use Rattle.sdb_execution.specs.Execution.{IsPath, IsStepFrom}
@@ -25,7 +24,7 @@ gone_none stores w = record { script = refl; events = sym (append-nil w.events);
 
 -- one event came
 pub gone_one : (old new : Attached) (w v : WorldAt) (e : Event) → v.script ≡ w.script → v.events ≡ w.events ++ e ∷ [] → IsStepFrom w.script (state_of w) e (state_of v)
-    → (AreFit w.script.catalog old → Effect (placed old.places) e (shown old.shelves) (shown new.shelves)) → HasGone old new w v (e ∷ [])
+    → (AreFit w.script.catalog old → Effect old.places e (shown old.shelves) (shown new.shelves)) → HasGone old new w v (e ∷ [])
 gone_one old new w v e script events step effect = record { script = script; events = events; executed = (state_of v, step, refl); traced = λ f. (shown new.shelves ∷ [], (effect f, refl)) }
 
 -- and more, on stores that went on
@@ -37,8 +36,8 @@ gone_more a b c u v w es more goes g h = record {
   traced = λ f.
       let s = g.traced f in
       let t = h.traced (subst (λ (x : Script). AreFit x.catalog b) (sym g.script) (goes.fit u.script.catalog f)) in
-      let on = subst (λ (ps : List Placed). IsTrace (placed ps) more (shown b.shelves) t.0 (shown c.shelves)) goes.places t.1 in
-      (s.0 ++ t.0, traces_on (placed a.places) es more (shown a.shelves) (shown b.shelves) (shown c.shelves) s.0 t.0 s.1 on);
+      let on = subst (λ (ps : List Place). IsTrace ps more (shown b.shelves) t.0 (shown c.shelves)) goes.places t.1 in
+      (s.0 ++ t.0, traces_on a.places es more (shown a.shelves) (shown b.shelves) (shown c.shelves) s.0 t.0 s.1 on);
 }
 
 ---- what came

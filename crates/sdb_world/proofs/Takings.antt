@@ -19,7 +19,7 @@ use Rattle.sdb_model.specs.Follows.{texts_of}
 use Rattle.sdb_spread.specs.Spread.{is_played}
 use Rattle.sdb_client.specs.Client.{ClientAt, ReplyTold, client_pending, next_id}
 use Rattle.sdb_client.specs.declared.gate.Gate.{Gate}
-use Rattle.sdb_board.specs.Board.{AreFit, IsMade, placed, shown}
+use Rattle.sdb_board.specs.Board.{AreFit, IsMade, shown}
 use Rattle.sdb_board.proofs.Made.{asked}
 use Rattle.sdb_board.proofs.Shelves.{named_home}
 use Rattle.sdb_steps.specs.Hands.{Takes}
@@ -80,14 +80,14 @@ abbrev pub after_calling : WorldAt → ℕ → Seat → ClientAt → List Event 
 after_calling u i s d es = record { script = u.script; seats = slice_set u.seats i (record { client = d; taken = s.taken; stopped = s.stopped }); events = es; clock = u.clock }
 
 -- the store of a call is that of its table's namespace
-pub named_store : (stores : Attached) (q : Request) (table : TableName) (store : Name) → table ≡ table_of q → slice_get (names_of stores.shelves) (home_in stores table.ns) ≡ Some store → {catalog : List Table} → AreFit catalog stores → store ≡ store_of (placed stores.places) (shown stores.shelves) (table_asked q).ns
+pub named_store : (stores : Attached) (q : Request) (table : TableName) (store : Name) → table ≡ table_of q → slice_get (names_of stores.shelves) (home_in stores table.ns) ≡ Some store → {catalog : List Table} → AreFit catalog stores → store ≡ store_of stores.places (shown stores.shelves) (table_asked q).ns
 named_store stores q table store same found fit =
-    some_is store (store_of (placed stores.places) (shown stores.shelves) (table_asked q).ns)
-    (sym found ∙ named_home stores.places stores.shelves table.ns fit.some (fit.homed table.ns) ∙ ap (λ (t : TableName). Some (store_of (placed stores.places) (shown stores.shelves) t.ns)) (same ∙ asked q))
+    some_is store (store_of stores.places (shown stores.shelves) (table_asked q).ns)
+    (sym found ∙ named_home stores.places stores.shelves table.ns fit.some (fit.homed table.ns) ∙ ap (λ (t : TableName). Some (store_of stores.places (shown stores.shelves) t.ns)) (same ∙ asked q))
 
 -- A client's call was made.
 pub called : (old new : Attached) (u w : WorldAt) → u ≡ w → (i : ℕ) (s : Seat) (way : Way) (store : Name) (q : Request) (how : How) (r : Reply) (a : Option Answer) (d : ClientAt) (es : List Event) → i < length w.seats → s ≡ get_or w.seats i s → IsPendingAt w i q → CanAnswer q r → IsHowOf way how r → shows_stored r ≡ true
-    → ReplyTold s.client s.client.vacuum r u.clock a d → (AreFit w.script.catalog old → is_played w.script.catalog (table_asked q) ≡ true → (store ≡ store_of (placed old.places) (shown old.shelves) (table_asked q).ns) × IsMade q how r old new) → es ≡ u.events ++ event.Call (i + 1) store q how r a ∷ []
+    → ReplyTold s.client s.client.vacuum r u.clock a d → (AreFit w.script.catalog old → is_played w.script.catalog (table_asked q) ≡ true → (store ≡ store_of old.places (shown old.shelves) (table_asked q).ns) × IsMade q how r old new) → es ≡ u.events ++ event.Call (i + 1) store q how r a ∷ []
     → HasCalled old new w i way (after_calling u i s d es)
 called old new u w same i s way store q how r a d es low read pends can allowed stored told made came =
     subst (λ (x : WorldAt). HasCalled old new w i way (after_calling x i s d es)) (sym same)

@@ -2,14 +2,14 @@
 use Rattle.std.specs.Prelude.{List, [], ◌∷◌, ◌++◌}
 use Rattle.std.specs.FinMap.{empty}
 use Rattle.sdb_model.specs.declared.event.Event.{Event}
-use Rattle.sdb_model.specs.declared.script.Place.{Place}
+use Rattle.sdb_stores.specs.declared.place.Place.{Place}
 use Rattle.sdb_model.specs.declared.script.Script.{Script}
 use Rattle.sdb_model.specs.Events.{IsTrace, Shelf}
 use Rattle.sdb_model.specs.Explained.{Explained}
 use Rattle.sdb_model.specs.Shown.{AreShown}
 use Rattle.sdb_spread.specs.Spread.{HoldAs}
 use Rattle.sdb_stores.specs.Shelf.{Attached}
-use Rattle.sdb_board.specs.Board.{AreFit, placed, shown}
+use Rattle.sdb_board.specs.Board.{AreFit, shown}
 use Rattle.sdb_endings.specs.Stores.{AreTaken}
 use Rattle.sdb_executions.specs.World.{WorldAt, state_of}
 use Rattle.sdb_execution.specs.Execution.{IsReachedBy}
@@ -39,4 +39,4 @@ pub record GoesOnExplained (places : List Place) (v : WorldAt) (opening : List S
 -- were before the event.
 abbrev pub IsExplainedAfter : Attached → Attached → WorldAt → WorldAt → Type 0
 IsExplainedAfter old new w v =
-    AreFit w.script.catalog old → IsReachedBy w.script w.events (state_of w) → (opening : List Shelf) (moments : List (List Shelf)) → HoldAs w.script.catalog (placed old.places) opening empty → IsTrace (placed old.places) w.events opening moments (shown old.shelves) → GoesOnExplained (placed old.places) v opening moments (shown new.shelves)
+    AreFit w.script.catalog old → IsReachedBy w.script w.events (state_of w) → (opening : List Shelf) (moments : List (List Shelf)) → HoldAs w.script.catalog old.places opening empty → IsTrace old.places w.events opening moments (shown old.shelves) → GoesOnExplained old.places v opening moments (shown new.shelves)

@@ -13,7 +13,7 @@ use Rattle.sdb_model.specs.Told.{IsRun}
 use Rattle.sdb_model.specs.Transactions.{Recorded, point}
 use Rattle.sdb_spread.specs.Spread.{HoldAs}
 use Rattle.sdb_stores.specs.Shelf.{Attached}
-use Rattle.sdb_board.specs.Board.{AreFit, AreFitFor, placed, shown}
+use Rattle.sdb_board.specs.Board.{AreFit, AreFitFor, shown}
 use Rattle.sdb_dump.specs.Held.{AreDumpsWhereKnown, AreWellFormedWhereKnown}
 use Rattle.sdb_executions.specs.World.{WorldAt}
 use Rattle.sdb_execution.specs.Execution.{IsExecution}
@@ -31,7 +31,7 @@ pub record HasPlayed (w : WorldAt) (opening closing : List Shelf) : Type 0 where
 -- A world has played its script on these stores, which are fit for it and have its places, and began with this.
 pub record HasPlayedOn (w : WorldAt) (opening : List Shelf) (stores : Attached) : Type 0 where
   pub fit : AreFit w.script.catalog stores
-  pub as_placed : placed stores.places ≡ w.script.places
+  pub as_placed : stores.places ≡ w.script.places
   pub played : HasPlayed w opening (shown stores.shelves)
 
 -- The outcome is that of a run of a world's script, where the world has played it on stores that are fit for it.
@@ -44,7 +44,7 @@ IsOutcomeOf w old new o = (opening : List Shelf) → HasPlayedOn w opening old �
 pub record IsReadWhereKnown (catalog : List Table) (stores : Attached) (o : Outcome) : Type 0 where
   pub points : All (λ p. p.event ≡ point o.events p.id) o.order
   pub rising : IsStrictlyIncreasing (map (λ p. p.event) o.order)
-  pub recorded : AreFitFor coordinator_table stores → (id : TxId) → Contains (map (λ p. p.id) o.order) id → Recorded (placed stores.places) (shown stores.shelves) id
+  pub recorded : AreFitFor coordinator_table stores → (id : TxId) → Contains (map (λ p. p.id) o.order) id → Recorded stores.places (shown stores.shelves) id
   pub dumped : AreDumpsWhereKnown catalog stores o.tables
   pub well_formed : AreWellFormedWhereKnown catalog stores
 

@@ -22,7 +22,7 @@ use Rattle.sdb_client.specs.Client.{ClientAt, IsBusy, IsIdle, ReplyTold, client_
 use Rattle.sdb_client.specs.declared.gate.Gate.{Gate}
 use Rattle.sdb_spread.specs.Spread.{is_played}
 use Rattle.sdb_stores.specs.Shelf.{Attached}
-use Rattle.sdb_board.specs.Board.{AreFit, IsMade, placed, shown}
+use Rattle.sdb_board.specs.Board.{AreFit, IsMade, shown}
 use Rattle.sdb_causes.specs.Unfit.{shows_stored}
 use Rattle.sdb_steps.specs.Hands.{Takes}
 use Rattle.sdb_execution.specs.declared.seat.Seat.{Seat}
@@ -98,7 +98,7 @@ pub record HasCalled (old new : Attached) (w : WorldAt) (i : ℕ) (way : Way) (v
   pub allowed : IsHowOf way how reply
   pub stored : shows_stored reply ≡ true
   pub told : ReplyTold seat.client seat.client.vacuum reply w.clock answer client
-  pub made : AreFit w.script.catalog old → is_played w.script.catalog (table_asked request) ≡ true → (store ≡ store_of (placed old.places) (shown old.shelves) (table_asked request).ns) × IsMade request how reply old new
+  pub made : AreFit w.script.catalog old → is_played w.script.catalog (table_asked request) ≡ true → (store ≡ store_of old.places (shown old.shelves) (table_asked request).ns) × IsMade request how reply old new
   pub left : v ≡ with_event (with_seat w i (moved_seat seat 0 client)) (event.Call (suc i) store request how reply answer)
 
 -- A client stops.
@@ -123,7 +123,7 @@ pub record HasGone (old new : Attached) (w v : WorldAt) (es : List Event) : Type
   pub script : v.script ≡ w.script
   pub events : v.events ≡ w.events ++ es
   pub executed : IsPath w.script (state_of w) es (state_of v)
-  pub traced : AreFit w.script.catalog old → (moments : List (List Shelf)) × IsTrace (placed old.places) es (shown old.shelves) moments (shown new.shelves)
+  pub traced : AreFit w.script.catalog old → (moments : List (List Shelf)) × IsTrace old.places es (shown old.shelves) moments (shown new.shelves)
 
 -- Events came, and they are so.
 pub record HasCome (P : List Event → Type 0) (old new : Attached) (w v : WorldAt) : Type 0 where
