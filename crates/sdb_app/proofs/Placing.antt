@@ -14,12 +14,12 @@ use Rattle.sdb_stores.specs.declared.place.Place.{Place}
 use Rattle.sdb_stores.proofs.Distinct.{apart}
 use Rattle.sdb_model.specs.Rows.{Name}
 use Rattle.sdb_model.specs.Events.{store_of}
-use Rattle.sdb_spread.specs.Spread.{is_played}
 use Rattle.sdb_board.specs.Board.{AreFit, shown}
 use Rattle.sdb_board.proofs.Shelves.{named_home}
 use Rattle.sdb_app.specs.Run.{CanBePlaced}
 use Rattle.sdb_types.proofs.Basics.{by_test, none_some, some_is}
 use Rattle.sdb_board.proofs.Lists.{take_suc}
+use Rattle.sdb_model.specs.Tables.{is_played}
 
 ---- the stores of places
 

@@ -25,7 +25,7 @@ use Rattle.sdb_model.specs.declared.script.ScriptClient.{ScriptClient}
 use Rattle.sdb_model.specs.Exec.{find_table}
 use Rattle.sdb_model.specs.Follows.{texts_of}
 use Rattle.sdb_model.specs.Form.{client_line, lines_of, onto_first}
-use Rattle.sdb_model.specs.Plain.{is_one_line}
+use Rattle.sdb_model.specs.Plain.{is_one_line, HasLines}
 use Rattle.sdb_script.specs.Lines.{client_lines, is_act, is_client, is_line, is_move, most_line, place_line, text_line}
 use Rattle.sdb_script.specs.Begun.{IsSchema}
 use Rattle.sdb_script.specs.Whole.{IsScript}
@@ -34,7 +34,6 @@ use Rattle.sdb_script.proofs.OneLine.{json_may, may_name}
 use Rattle.sdb_script.proofs.Pieces.{no_some}
 use Rattle.sdb_execution.specs.Execution.{IsPlayable}
 use Rattle.sdb_world.specs.Step.{CanAct, CanFollow, CanMove}
-use Rattle.sdb_plainness.specs.Runs.{HasLines}
 use Rattle.sdb_app.proofs.CatalogRead.{catalog_read}
 use Rattle.sdb_types.proofs.Basics.{by_test, some_is, nat_at_most as at_most}
 

@@ -13,7 +13,7 @@ use Rattle.sdb_model.specs.declared.script.Script.{Script}
 use Rattle.sdb_model.specs.Causes.{AreCaused}
 use Rattle.sdb_model.specs.Events.{Shelf, store_of}
 use Rattle.sdb_model.specs.Follows.{Follows}
-use Rattle.sdb_model.specs.Plain.{IsPlain}
+use Rattle.sdb_model.specs.Plain.{IsPlain, HasLines}
 use Rattle.sdb_model.specs.Report.{report_text_of}
 use Rattle.sdb_model.specs.Rows.{Name}
 use Rattle.sdb_model.specs.Told.{IsRun}
@@ -21,7 +21,7 @@ use Rattle.sdb_script.specs.declared.fault.ScriptRefused.{ScriptRefused}
 use Rattle.sdb_script.specs.declared.fault.ScriptRefused.TheVariants.{BadLine, Limit as Limited, NoMemory as OutOfMemory}
 use Rattle.sdb_script.specs.Lines.{most_bytes}
 use Rattle.sdb_script.specs.Whole.{IsScript, IsRefused as IsRefusedText}
-use Rattle.sdb_spread.specs.Spread.{HoldAs, is_played}
+use Rattle.sdb_spread.specs.Spread.{HoldAs}
 use Rattle.sdb_board.specs.Board.{AreFit, HoldTheSame, KnownStay, known_before, shown}
 use Rattle.sdb_board.specs.Opening.{HoldNothing, IsFirstKey, first_key, opening_in, opening_records, run_tables}
 use Rattle.sdb_board.specs.declared.refused.CallRefused.{CallRefused}
@@ -31,13 +31,13 @@ use Rattle.sdb_dump.specs.declared.refused.ClosingRefused.{ClosingRefused}
 use Rattle.sdb_dump.specs.declared.refused.ClosingRefused.TheVariants as closing
 use Rattle.sdb_world.specs.Broken.{BreaksWithin}
 use Rattle.sdb_execution.specs.Execution.{IsExecution, IsPlayable}
-use Rattle.sdb_plainness.specs.Runs.{HasLines}
 use Rattle.sdb_world.specs.Explained.{IsExplained, IsShown}
 use Rattle.sdb_world.specs.Played.{IsReadWhereKnown}
 use Rattle.sdb_app.specs.declared.status.InputFault.TheVariants.{Line}
 use Rattle.sdb_app.specs.declared.status.Status.{Status}
 use Rattle.sdb_app.specs.declared.status.Status.TheVariants as status
 use Rattle.sdb_app.specs.Ends.{AreUnchanged, Stream, Work}
+use Rattle.sdb_model.specs.Tables.{is_played}
 
 -- The input was read to its end and is the text of a script over these stores.
 pub record IsScriptRead (stores : List Name) (old_input new_input : Option (List ℕ)) (script : Script) : Type 0 where

@@ -27,7 +27,7 @@ use Rattle.sdb_stores.specs.Shelf.{Attached, Shelf as Counted, home, home_in, na
 use Rattle.sdb_stores.specs.declared.place.Place.{Place}
 use Rattle.sdb_model.specs.Rows.{Name}
 use Rattle.sdb_model.specs.Events.{Shelf, held_by, store_of}
-use Rattle.sdb_spread.specs.Spread.{HoldAs, is_played}
+use Rattle.sdb_spread.specs.Spread.{HoldAs}
 use Rattle.sdb_board.specs.Board.{AreFit, AreFitFor, GoOn, HoldTheSame, IsCalled, KnownStay, shown}
 use Rattle.sdb_board.specs.Opening.{HoldNothing, IsFirstKey, records_of, records_in, run_tables, opening_records, opening_in, first_key, whole}
 use Rattle.sdb_board.proofs.GoesOn.{fit_for, fit_for_on}
@@ -35,6 +35,7 @@ use Rattle.sdb_board.proofs.Lists.{all_at}
 use Rattle.sdb_board.proofs.Shelves.{held_at, named_home}
 use Rattle.sdb_board.proofs.RunTables.{names_played, of_played}
 use Rattle.sdb_types.proofs.Basics.{none_some, some_is, take_all as taken_up}
+use Rattle.sdb_model.specs.Tables.{is_played}
 
 pub nothing_at : (key : Key) → record_at empty key ≡ None
 nothing_at key = ap (option_map (λ columns. record_of (key, columns))) (get-empty key_cmp key)

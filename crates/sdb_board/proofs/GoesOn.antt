@@ -15,10 +15,10 @@ use Rattle.sdb_schema.specs.declared.table.Table.{Table}
 use Rattle.sdb_model.specs.declared.event.Event.{Event}
 use Rattle.sdb_model.specs.Rows.{Name}
 use Rattle.sdb_model.specs.Events.{Shelf, IsTrace, Effect}
-use Rattle.sdb_spread.specs.Spread.{is_played}
 use Rattle.sdb_board.specs.Board.{AreFit, AreFitFor, GoOn, IsFull, KnownStay, Refuses, known_before}
 use Rattle.sdb_board.specs.declared.refused.CallRefused.{CallRefused}
 use Rattle.sdb_board.specs.declared.refused.CallRefused.TheVariants as refused
+use Rattle.sdb_model.specs.Tables.{is_played}
 
 pub goes_none : (stores : Attached) → GoOn stores stores
 goes_none stores = record { places = refl; names = refl; counted = omega arith; full = λ m. m; fit = λ catalog f. f; telling = λ at h. h }

@@ -15,10 +15,10 @@ use Rattle.sdb_record.specs.Coordinator.{coordinator_table, is_coordinator_table
 use Rattle.sdb_record.proofs.NameLemmas.{same_name-true}
 use Rattle.sdb_schema.specs.declared.table.Table.{Table}
 use Rattle.sdb_model.specs.Exec.{find_table}
-use Rattle.sdb_spread.specs.Spread.{is_played}
 use Rattle.sdb_board.specs.Opening.{run_tables, table_names}
 use Rattle.sdb_board.proofs.Lists.{take_suc}
 use Rattle.sdb_types.proofs.Basics.{by_test, or_second, all_each, either as or_cases}
+use Rattle.sdb_model.specs.Tables.{is_played}
 
 or_first : (a b : Bool) → a ≡ true → (a || b) ≡ true
 or_first a b e = ap (λ (x : Bool). x || b) e

@@ -9,9 +9,9 @@ use Rattle.sdb_stores.specs.Shelf.{Attached, Shelf as Counted, AreDistinct, Have
 use Rattle.sdb_model.specs.declared.event.How.{How}
 use Rattle.sdb_model.specs.declared.event.How.TheVariants.{Seen, Lost, Broken}
 use Rattle.sdb_model.specs.Events.{Shelf, IsCall, store_of, table_asked}
-use Rattle.sdb_spread.specs.Spread.{is_played}
 use Rattle.sdb_board.specs.declared.refused.CallRefused.{CallRefused}
 use Rattle.sdb_board.specs.declared.refused.CallRefused.TheVariants as refused
+use Rattle.sdb_model.specs.Tables.{is_played}
 
 -- the stores as events see them: without their counts of faults
 abbrev pub shown : List Counted → List Shelf

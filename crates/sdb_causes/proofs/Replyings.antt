@@ -20,7 +20,7 @@ use Rattle.sdb_schema.specs.Catalog.{is_catalog}
 use Rattle.sdb_model.specs.declared.answer.Answer.{Answer}
 use Rattle.sdb_model.specs.declared.answer.Answer.TheVariants as answer
 use Rattle.sdb_model.specs.declared.event.Event.{Event}
-use Rattle.sdb_model.specs.Calls.{Made, calls_of, clock_at, calls_by, end_of}
+use Rattle.sdb_model.specs.Calls.{Made, calls_of, clock_at, calls_by, end_of, shows_stored}
 use Rattle.sdb_model.specs.Causes.{ConflictsAtCommit, HasMoved, HasReply, IsBadRecord, IsCaused, IsCommitOf, IsTurnedAway, MayPassMost, before, is_open, is_open_after, records_found, removes, is_misfit}
 use Rattle.sdb_model.specs.declared.statement.Statement.TheVariants as statement
 use Rattle.sdb_model.specs.Exec.{find_table, table_of}
@@ -49,7 +49,6 @@ use Rattle.sdb_vacuum.specs.declared.work.VacuumStep.TheVariants as sweep
 use Rattle.sdb_vacuum.specs.Vacuum as Sweeping
 use Rattle.sdb_vacuum.specs.Vacuum.{Gives, Removing, Scanning, VacuumAt, VacuumStage, vacuum_step}
 use Rattle.sdb_client.specs.Client.{CallTold, ClientAt as Client, CommitNext, ImagesTold, IsMovedAt, NextTold, OpenTold, ReplyTold, StageTold, SweepTold, after, answer_in, answer_of, given_answer, given_left, gives, holding, next_of, noting, pending_by, pending_of, resting, too_many, vacuum_left}
-use Rattle.sdb_laws.specs.Lawful.{is_data}
 use Rattle.sdb_steps.specs.About.{IsDoingIn, IsIn, IsOfTables, IsReadIn, IsRecordIn, IsStageIn, IsSweepIn, IsVacuumIn, IsWorkIn}
 use Rattle.sdb_steps.specs.Hands.{Hand, IsAskedBy, IsCalled, IsFittedBy, IsUsing, IsUsingTxn}
 use Rattle.sdb_steps.proofs.Fitted.{by_next}
@@ -60,7 +59,7 @@ use Rattle.sdb_turns.proofs.Lists.{each_more}
 use Rattle.sdb_turns.specs.System.{ClientCall, answer_of_outcome, call_event}
 use Rattle.sdb_causes.specs.Commits.{EndsBy, ShowsBad, StandsBy}
 use Rattle.sdb_causes.specs.Tied.{IsAnswered, IsCommitting, IsDoing, AreTied, IsNoting, IsReading, IsSweeping, IsWaiting, Knows, StandsIn, StandsOn, begun_in, open_after}
-use Rattle.sdb_causes.specs.Unfit.{IsFit, SeesFit, SeesFitIn, ShowStored, shows_stored}
+use Rattle.sdb_causes.specs.Unfit.{IsFit, SeesFit, SeesFitIn, ShowStored}
 use Rattle.sdb_causes.specs.Conflicts.{ChecksBy, ConflictBy}
 use Rattle.sdb_causes.specs.Counts.{CommitCounted, CommitFits, DoingCounted, IsCountedBy, NotedBy, NotedDoing, NotesAre, OpenCounted, ReadCounted, SweepCounted, WaitCounted, notes_since}
 use Rattle.sdb_causes.proofs.CountsCommit.{commit_more, commit_over, commit_starved}
@@ -98,6 +97,7 @@ use Rattle.sdb_causes.proofs.ShowsTurn.{read_next}
 use Rattle.sdb_causes.proofs.Takings.{left_id, left_idle, middle_ends}
 use Rattle.sdb_types.specs.Replies.{is_fault}
 use Rattle.sdb_client.proofs.Calls.{noting_idle, noting_id}
+use Rattle.sdb_model.specs.Tables.{is_data}
 
 ---- the call
 

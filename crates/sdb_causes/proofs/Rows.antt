@@ -25,10 +25,10 @@ use Rattle.sdb_record.specs.Coordinator.{coordinator_key_of, decision_in, is_coo
 use Rattle.sdb_record.specs.Meta.{checked, is_taken}
 use Rattle.sdb_model.specs.Calls.{Made, calls_after, calls_before, decision_found, decision_learned, decision_said, decision_shown, is_of_row, key_asked, records_shown, standing_said}
 use Rattle.sdb_model.specs.Causes.{HasReply, IsBad, IsDecided, PutsRow}
-use Rattle.sdb_laws.specs.Lawful.{is_data}
 use Rattle.sdb_causes.specs.Commits.{IsBadRow, IsGivenUp, NoneOfRow, ShowsBad}
 use Rattle.sdb_causes.proofs.Lists.{each_in, each_kept}
 use Rattle.sdb_story.proofs.Noting.{coordinators}
+use Rattle.sdb_model.specs.Tables.{is_data}
 
 ---- keys
 

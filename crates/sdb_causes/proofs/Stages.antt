@@ -29,7 +29,6 @@ use Rattle.sdb_record.proofs.TakenLaws.{prepared-key}
 use Rattle.sdb_record.specs.Among.{is_written}
 use Rattle.sdb_model.specs.Calls.{Made, decision_learned, decision_said, is_of_row, key_asked, put_by, records_shown, standing_said}
 use Rattle.sdb_model.specs.Causes.{HasReply, IsDecided, PutsRow}
-use Rattle.sdb_laws.specs.Lawful.{is_data}
 use Rattle.sdb_phases.specs.declared.check.Check.{Check}
 use Rattle.sdb_phases.specs.declared.step.DecidePhase.TheVariants as phase
 use Rattle.sdb_phases.specs.declared.step.DecideStep.{DecideStep}
@@ -44,6 +43,7 @@ use Rattle.sdb_turns.proofs.Lists.{each_at, each_filter, each_map, each_more}
 use Rattle.sdb_causes.specs.Commits.{EndsBy, HasFailed, HasFaulted, IsFailing, IsUndecided, NoneDecides, NoneOfRow, PutsStarved, StandsBy}
 use Rattle.sdb_causes.proofs.Rows.{after_last, after_more, asks_data, asks_row, bad_stays, decided_stays, found_now, given_up_now, given_up_stays, learned_now, none_learned, none_puts, reply_now, reply_stays, shown_is, shows_bad_row}
 use Rattle.sdb_types.specs.Replies.{is_fault}
+use Rattle.sdb_model.specs.Tables.{is_data}
 
 -- A COMMIT of records of tables, with an id and a moment in range.
 pub record IsOfData (p : Work) : Type 0 where

@@ -33,12 +33,11 @@ use Rattle.sdb_txn.specs.declared.txn.Doing.{Doing}
 use Rattle.sdb_txn.specs.declared.txn.Doing.TheVariants as doing
 use Rattle.sdb_txn.specs.Txn.{TxnAt, begun, committing, reading, work_of}
 use Rattle.sdb_vacuum.specs.Vacuum.{begun as begins_sweep}
-use Rattle.sdb_client.specs.Client.{AskTold, BeginTold, ClientAt as Client, CommitTaken, GateTold, IsTold, RollbackTold, RowsTold, StatementTold, TableTold, Taking, TextTold, VacuumTold, given_answer, given_left, gives, holding, is_covered, next_id, plan_of, resting, starved, too_many, with_begun, written}
+use Rattle.sdb_client.specs.Client.{AskTold, BeginTold, ClientAt as Client, CommitTaken, GateTold, IsTold, RollbackTold, RowsTold, StatementTold, TableTold, Taking, TextTold, VacuumTold, given_answer, given_left, gives, holding, is_covered, next_id, plan_of, resting, starved, too_many, with_begun, written, Takes}
 use Rattle.sdb_linked.specs.Going.{IsInner}
 use Rattle.sdb_snapshot.specs.Seen.{overlay, row_seen}
-use Rattle.sdb_steps.specs.Hands.{Hand, IsReady, Takes}
+use Rattle.sdb_steps.specs.Hands.{Hand, IsReady}
 use Rattle.sdb_steps.proofs.Taken.{other_no_begin, other_no_commit, refused_no_commit}
-use Rattle.sdb_laws.specs.Lawful.{is_data}
 use Rattle.sdb_steps.proofs.InTables.{own_table}
 use Rattle.sdb_steps.proofs.RowsFit.{found_itself}
 use Rattle.sdb_steps.proofs.Whole.{by_memory, literals_read, other_no_rollback}
@@ -83,6 +82,7 @@ use Rattle.sdb_record.specs.declared.coordinator.Decision.TheVariants as decisio
 use Rattle.sdb_types.specs.declared.txid.TxId.{TxId}
 use Rattle.std.proofs.lemmas.Bool.{and_parts}
 use Rattle.sdb_story.proofs.Answered.{take_said}
+use Rattle.sdb_model.specs.Tables.{is_data}
 
 ---- texts
 

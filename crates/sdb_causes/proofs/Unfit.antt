@@ -38,7 +38,7 @@ use Rattle.sdb_schema.specs.Catalog.{is_catalog}
 use Rattle.sdb_schema.specs.Rows.{fits_table}
 use Rattle.sdb_model.specs.declared.answer.Answer.{Answer}
 use Rattle.sdb_model.specs.Access.{in_access}
-use Rattle.sdb_model.specs.Calls.{Made, records_read, records_shown}
+use Rattle.sdb_model.specs.Calls.{Made, records_read, records_shown, shows_stored}
 use Rattle.sdb_model.specs.Causes.{IsBad, is_fit, is_misfit}
 use Rattle.sdb_model.specs.Exec.{Tables, all_rows, find_table, named_table, row_of_entry}
 use Rattle.sdb_model.specs.Noted.{meaning_of, read_finished}
@@ -62,7 +62,7 @@ use Rattle.sdb_steps.proofs.InTables.{access_table}
 use Rattle.sdb_steps.proofs.RowsFit.{answers_on}
 use Rattle.sdb_causes.specs.Commits.{IsBadRow, ShowsBad}
 use Rattle.sdb_causes.specs.Moves.{HasRead, IsRows, IsSettledAs}
-use Rattle.sdb_causes.specs.Unfit.{SeesFit, ShowStored, shows_stored}
+use Rattle.sdb_causes.specs.Unfit.{SeesFit, ShowStored}
 use Rattle.sdb_causes.proofs.Filled.{found_all}
 use Rattle.sdb_causes.proofs.Given.{asked_gives, found_so, inside_access, passes_all}
 use Rattle.sdb_causes.proofs.Lists.{each_in, each_kept}

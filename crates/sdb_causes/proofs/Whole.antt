@@ -19,18 +19,17 @@ use Rattle.sdb_model.specs.declared.event.Event.{Event}
 use Rattle.sdb_model.specs.declared.event.Event.TheVariants as event
 use Rattle.sdb_model.specs.declared.event.How.{How}
 use Rattle.sdb_model.specs.Rows.{Name}
-use Rattle.sdb_model.specs.Calls.{calls_of, made_by}
+use Rattle.sdb_model.specs.Calls.{calls_of, made_by, shows_stored}
 use Rattle.sdb_model.specs.Noted.{noted_in}
 use Rattle.sdb_model.specs.Sql.{reads_commit}
 use Rattle.sdb_model.specs.Causes.{ConflictsAtCommit, IsCaused, IsCommitOf, IsConflict, IsTurnedAway, before}
 use Rattle.sdb_model.specs.Exec.{Tables, find_table}
 use Rattle.sdb_model.specs.Follows.{has_stopped, stops}
 use Rattle.sdb_model.specs.Transactions.{Said, ends, from_begin, id_of, is_conflict, ordinal_of, rest_of, said, statements_of, through_end, with_answer}
-use Rattle.sdb_client.specs.Client.{ClientAt as Client, ReplyTold, Taking, nothing_done, next_id}
+use Rattle.sdb_client.specs.Client.{ClientAt as Client, ReplyTold, Taking, nothing_done, next_id, Takes}
 use Rattle.sdb_snapshot.specs.Held.{WereRead}
-use Rattle.sdb_laws.specs.Lawful.{is_data}
 use Rattle.sdb_steps.specs.About.{IsOfTables}
-use Rattle.sdb_steps.specs.Hands.{Hand, IsCalled, IsReady, Takes, doing_of, system_of, with_hand}
+use Rattle.sdb_steps.specs.Hands.{Hand, IsCalled, IsReady, doing_of, system_of, with_hand}
 use Rattle.sdb_story.specs.Telling.{taken_said, waiting_of}
 use Rattle.sdb_story.proofs.Tellings.{said_more}
 use Rattle.sdb_turns.specs.Machine.{stands_at}
@@ -44,7 +43,6 @@ use Rattle.sdb_txn.specs.declared.txn.Doing.TheVariants as doing
 use Rattle.sdb_txn.specs.Txn.{TxnAt}
 use Rattle.sdb_types.proofs.Basics.{none_some, some_is, all_each as each_any, or_false, itself}
 use Rattle.sdb_causes.specs.Tied.{AnswersHaveCauses, IsAnswered, AreTied, IsGate, IsWaiting, Knows, with_stopped}
-use Rattle.sdb_causes.specs.Unfit.{shows_stored}
 use Rattle.sdb_causes.proofs.Calls.{clock_more}
 use Rattle.sdb_causes.proofs.Knowing.{knows_still}
 use Rattle.sdb_causes.specs.Counts.{CommitsFit}
@@ -58,6 +56,7 @@ use Rattle.sdb_causes.proofs.Replyings.{replies_known}
 use Rattle.sdb_causes.proofs.Rolled.{records_rolled}
 use Rattle.sdb_causes.proofs.ShowsWhole.{rows_shown}
 use Rattle.sdb_causes.proofs.Takings.{takes_known}
+use Rattle.sdb_model.specs.Tables.{is_data}
 
 ---- who has stopped
 

@@ -10,7 +10,7 @@ use Rattle.sdb_steps.specs.About.{IsOfTables}
 use Rattle.sdb_steps.specs.Hands.{Hand, doing_of, system_of}
 use Rattle.sdb_steps.specs.Turns.{CallReplied, TextTaken}
 use Rattle.sdb_causes.specs.Tied.{AreTied, IsGate}
-use Rattle.sdb_causes.specs.Unfit.{shows_stored}
+use Rattle.sdb_model.specs.Calls.{shows_stored}
 
 -- The events so far over a catalog, the moment that the clock shows, and the clients, to which these are tied.
 pub record TiedSoFar : Type 0 where

@@ -1,21 +1,15 @@
 -- Records of replies whose columns are as records hold them, and rows that an open transaction sees, which fit the catalog.
-use Rattle.std.specs.Prelude.{◌≡◌, Bool, true, List, Some}
-use Rattle.std.specs.List.{AllByRecursion, list_all}
+use Rattle.std.specs.Prelude.{◌≡◌, true, List, Some}
+use Rattle.std.specs.List.{AllByRecursion}
 use Rattle.sdb_types.specs.declared.key.Key.{Key}
 use Rattle.sdb_types.specs.declared.pair.Pair.{Pair}
-use Rattle.sdb_types.specs.declared.record.Reply.{Reply}
-use Rattle.sdb_record.specs.Parts.{are_stored}
 use Rattle.sdb_schema.specs.declared.table.Table.{Table}
-use Rattle.sdb_model.specs.Calls.{Made, records_shown}
+use Rattle.sdb_model.specs.Calls.{Made, shows_stored}
 use Rattle.sdb_snapshot.specs.Seen.{Seen, row_seen}
 use Rattle.sdb_steps.specs.Fitting.{row_fits}
 use Rattle.sdb_txn.specs.declared.txn.Doing.{Doing}
 use Rattle.sdb_txn.specs.declared.txn.Doing.TheVariants as doing
 use Rattle.sdb_txn.specs.Txn.{TxnAt}
-
--- each record that a reply shows has its columns as a record holds them: in order, each with a name
-abbrev pub shows_stored : Reply → Bool
-shows_stored r = list_all (λ x. are_stored x.columns) (records_shown r)
 
 -- so it is of each of these calls
 abbrev pub ShowStored : List Made → Type 0

@@ -323,3 +323,8 @@ pub record SweepTold (v : VacuumAt) (r : Reply) (now : ℤ) (result : Option Ans
 abbrev pub ReplyTold : ClientAt → Option VacuumAt → Reply → ℤ → Option Answer → ClientAt → Type 0
 ReplyTold c (Some v) r now result d = SweepTold v r now result d.vacuum × (d ≡ record c { vacuum = d.vacuum })
 ReplyTold c None r now result d = OpenTold c c.txn r now result d
+
+-- What the taking of a text by a client comes to: that, or out of memory.
+pub record Takes (q : Taking) (text : List ℕ) (c : ClientAt) (result : Option Answer) (d : ClientAt) : Type 0 where
+  pub memory : result ≡ Some answer.NoMemory → d ≡ starved text c
+  pub told : result ≢ Some answer.NoMemory → TextTold q text c result d

@@ -25,7 +25,6 @@ use Rattle.sdb_model.specs.declared.event.TableDump.{TableDump}
 use Rattle.sdb_model.specs.Events.{Shelf}
 use Rattle.sdb_model.specs.Exec.{find_table}
 use Rattle.sdb_model.specs.Images.{decision_at}
-use Rattle.sdb_spread.specs.Spread.{is_played}
 use Rattle.sdb_board.specs.Board.{AreFit, AreFitFor, GoOn, HoldTheSame, KnownStay, shown}
 use Rattle.sdb_board.specs.Opening.{records_in, records_of, table_names, whole}
 use Rattle.sdb_board.proofs.Empty.{records_stay}
@@ -42,6 +41,7 @@ use Rattle.sdb_dump.proofs.Images.{decision_there, dump_same, dumps_are, first_i
 use Rattle.sdb_dump.proofs.Lists.{contains_at, last_or_before}
 use Rattle.sdb_dump.proofs.OddRecords.{first_behind, first_same, none_of_all, odd_record, odd_row}
 use Rattle.sdb_types.proofs.Basics.{all_each, none_some, or_second, some_is}
+use Rattle.sdb_model.specs.Tables.{is_played}
 
 ---- tables of the run
 

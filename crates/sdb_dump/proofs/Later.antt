@@ -25,7 +25,6 @@ use Rattle.sdb_board.specs.Board.{AreFit, AreFitFor, GoOn, HoldTheSame, KnownSta
 use Rattle.sdb_board.specs.Opening.{records_in, records_of, whole}
 use Rattle.sdb_board.proofs.Empty.{records_stay}
 use Rattle.sdb_board.proofs.GoesOn.{fit_for, fit_for_as, fit_for_before}
-use Rattle.sdb_spread.specs.Spread.{is_played}
 use Rattle.sdb_dump.specs.Decided.{decision_among, is_decided}
 use Rattle.sdb_dump.specs.Dumped.{dump_by, is_well_formed}
 use Rattle.sdb_dump.specs.Held.{AreDecisions, AreDumpsWhereKnown, AreWellFormedWhereKnown, IsOddIn}
@@ -33,6 +32,7 @@ use Rattle.sdb_dump.specs.Odd.{IsOdd, IsOddAt}
 use Rattle.sdb_dump.specs.Refused.{first_unlike}
 use Rattle.sdb_dump.proofs.Closings.{coordinator_played}
 use Rattle.sdb_dump.proofs.Images.{decision_there, dump_same, first_ill_formed_same, ill_formed_same}
+use Rattle.sdb_model.specs.Tables.{is_played}
 
 -- the record at a key is the one among those of its table
 standing_there : (places : List Place) (shelves : List Shelf) (key : Key) → record_among (records_of places shelves key.table) key ≡ standing places shelves key

@@ -15,11 +15,11 @@ use Rattle.sdb_model.specs.Told.{AreImages, dumps_of}
 use Rattle.sdb_model.specs.Transactions.{Recorded}
 use Rattle.sdb_board.specs.Board.{AreFit, AreFitFor, shown}
 use Rattle.sdb_board.specs.Opening.{records_in, table_names}
-use Rattle.sdb_spread.specs.Spread.{is_played}
 use Rattle.sdb_dump.specs.Decided.{is_decided}
 use Rattle.sdb_dump.specs.Dumped.{dump_by}
 use Rattle.sdb_dump.specs.Odd.{IsOddAt, first_ill_formed, first_in, first_odd}
 use Rattle.sdb_dump.specs.Refused.{first_unlike}
+use Rattle.sdb_model.specs.Tables.{is_played}
 
 -- the rows of a table under decisions on transactions
 abbrev pub dump_in : (TxId → Option Decided) → Attached → Table → TableDump

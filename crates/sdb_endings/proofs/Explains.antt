@@ -28,7 +28,7 @@ use Rattle.sdb_stores.specs.declared.place.Place.{Place}
 use Rattle.sdb_model.specs.declared.statement.Statement.{Statement}
 use Rattle.sdb_model.specs.Events.{IsTrace, Shelf, moment, standing, table_asked}
 use Rattle.sdb_model.specs.Exec.{Tables, find_table}
-use Rattle.sdb_model.specs.Explained.{Explained, IsCurrent, IsLastBefore, IsLeftBy, IsOfOrLater, IsPrepareOf, IsPreparedAfter, IsTableKey, IsWriter, ReadsCurrent, StandingExplained, closing_of}
+use Rattle.sdb_model.specs.Explained.{Explained, IsCurrent, IsLastBefore, IsLeftBy, IsOfOrLater, IsPrepareOf, IsPreparedAfter, IsTableKey, IsWriter, ReadsCurrent, StandingExplained, closing_of, AreTaken}
 use Rattle.sdb_model.specs.Images.{decision_at, image_at}
 use Rattle.sdb_model.specs.Noted.{Note}
 use Rattle.sdb_model.specs.Rows.{Name}
@@ -38,14 +38,14 @@ use Rattle.sdb_laws.proofs.Current.{current_at, stand_at, unchanged_at}
 use Rattle.sdb_laws.proofs.Moments.{committed_at, gone_at, rows_at, stands_at, unresolved_at}
 use Rattle.sdb_turns.specs.System.{SystemAt}
 use Rattle.sdb_linked.specs.Going.{IsGoing}
-use Rattle.sdb_spread.specs.Spread.{AreAbout, HoldAs, IsAbout, is_played, moved_event, moved_events, one_shelf}
+use Rattle.sdb_spread.specs.Spread.{AreAbout, HoldAs, IsAbout, moved_event, moved_events, one_shelf}
 use Rattle.sdb_spread.proofs.Moved.{begun_moved, moved_more, point_moved}
 use Rattle.sdb_endings.proofs.Ended.{starts_empty}
 use Rattle.sdb_endings.proofs.Moments.{Alone, alone}
 use Rattle.sdb_endings.proofs.Noted.{noted_moved}
-use Rattle.sdb_endings.specs.Stores.{AreTaken}
 use Rattle.sdb_endings.proofs.Runs.{IsLawfulRun, lawful_run}
 use Rattle.sdb_endings.proofs.Standing.{taken_at}
+use Rattle.sdb_model.specs.Tables.{is_played}
 
 ---- a run of the laws
 

@@ -40,7 +40,7 @@ use Rattle.sdb_model.specs.Calls.{Made, calls_of, decision_shown, end_of, is_rea
 use Rattle.sdb_model.specs.Counted.{AreResolved, IsPassedOver, IsResolved}
 use Rattle.sdb_model.specs.Events.{Effect, IsTrace, Shelf, held_by, moment, standing, store_of, table_asked}
 use Rattle.sdb_model.specs.Exec.{find_table}
-use Rattle.sdb_model.specs.Explained.{IsPreparedAfter, IsTableKey, Shows, StandingExplained}
+use Rattle.sdb_model.specs.Explained.{IsPreparedAfter, IsTableKey, Shows, StandingExplained, AreTaken}
 use Rattle.sdb_model.specs.Images.{decision_at, decision_on}
 use Rattle.sdb_model.specs.Noted.{meaning_of, reads_rows}
 use Rattle.sdb_model.specs.Shown.{AnswersShow, AreShown, CommittedBy, HasRow, IsMeantBy, ReadsKey, ShowsOwn, WasCommitted, WasFound}
@@ -50,7 +50,6 @@ use Rattle.sdb_laws.proofs.Moments.{apart_from}
 use Rattle.sdb_laws.proofs.Shown.{get_reply, scan_reply}
 use Rattle.sdb_story.proofs.Meanings.{among_found, meaning_settled}
 use Rattle.sdb_endings.specs.Shown.{FoundDecided, IsDecidedIn, IsReader, ReadBy}
-use Rattle.sdb_endings.specs.Stores.{AreTaken}
 use Rattle.sdb_endings.proofs.Agreeing.{Stands, decisions_agree, same_row, shown_stands}
 use Rattle.sdb_endings.proofs.Calls.{IsAt, IsWithin, call_at, effect_at, later_call, the_first, within_statement}
 use Rattle.sdb_endings.proofs.Others.{PutsAt, stood_or_put}

@@ -7,9 +7,10 @@ use Rattle.sdb_model.specs.declared.event.Event.{Event}
 use Rattle.sdb_stores.specs.declared.place.Place.{Place}
 use Rattle.sdb_model.specs.Rows.{Name}
 use Rattle.sdb_model.specs.Events.{Effect, IsTrace, Shelf, moment, standing}
-use Rattle.sdb_spread.specs.Spread.{AreAbout, HoldAs, is_played, moved_event, moved_events, one_shelf}
+use Rattle.sdb_spread.specs.Spread.{AreAbout, HoldAs, moved_event, moved_events, one_shelf}
 use Rattle.sdb_spread.proofs.Single.{single}
 use Rattle.sdb_spread.proofs.Told.{one_standing}
+use Rattle.sdb_model.specs.Tables.{is_played}
 
 -- The one store's moments: beside each moment of several stores one at which it holds the same of the tables.
 pub record Alone (catalog : List Table) (name : Name) (places : List Place) (events : List Event) (before : List Shelf) (moments : List (List Shelf)) (m : Contents) : Type 0 where

@@ -19,7 +19,7 @@ use Rattle.sdb_model.specs.Rows.{Name}
 use Rattle.sdb_model.specs.Transactions.{Recorded}
 use Rattle.sdb_turns.specs.System.{SystemAt}
 use Rattle.sdb_linked.specs.Going.{IsGoing}
-use Rattle.sdb_spread.specs.Spread.{is_played, moved_events, one_shelf}
+use Rattle.sdb_spread.specs.Spread.{moved_events, one_shelf}
 use Rattle.sdb_spread.proofs.Moved.{commit_moved, point_moved}
 use Rattle.sdb_spread.proofs.Single.{Single, single}
 use Rattle.sdb_spread.proofs.Told.{one_standing}
@@ -30,6 +30,7 @@ use Rattle.sdb_endings.proofs.Recorded.{have_points}
 use Rattle.sdb_endings.proofs.Runs.{ByLaws, by_laws}
 use Rattle.sdb_endings.proofs.Standing.{are_known}
 use Rattle.sdb_types.proofs.Basics.{or_true}
+use Rattle.sdb_model.specs.Tables.{is_played}
 
 rows_played : (catalog : List Table) (table : TableName) → is_coordinator_table table ≡ true → is_played catalog table ≡ true
 rows_played catalog table h = rw h (or_true (is_some (find_table catalog table)))

@@ -26,13 +26,14 @@ use Rattle.sdb_stores.specs.declared.place.Place.{Place}
 use Rattle.sdb_model.specs.Events.{Effect, Shelf, standing}
 use Rattle.sdb_model.specs.Noted.{Got, Note, Scanned}
 use Rattle.sdb_laws.specs.History.{Role, Other, Begins, Takes, Prepares, Checks, Decides, Aborts, Rolls, Removes, Ends, Stops, History, Talk}
-use Rattle.sdb_laws.specs.Lawful.{IsCallOf, IsLawful, IsUnchanged, MayPlay, MayRoll, Played, id, is_data, is_quiet}
+use Rattle.sdb_laws.specs.Lawful.{IsCallOf, IsLawful, IsUnchanged, MayPlay, MayRoll, Played, id, is_quiet}
 use Rattle.sdb_laws.specs.Plan.{Plan}
 use Rattle.sdb_laws.specs.Trace.{IsTraced, StartsEmpty, closing, history}
 use Rattle.sdb_laws.proofs.Effects.{AtCall, after_delete, after_put, at_call}
 use Rattle.sdb_laws.proofs.Known.{held_key, taken_fits, write_key}
 use Rattle.sdb_laws.proofs.Settled.{Knows, prepared_there}
 use Rattle.sdb_laws.proofs.Whole.{whole}
+use Rattle.sdb_model.specs.Tables.{is_data}
 
 -- the key of a transaction's row
 pub record IsRowKey (k : Key) : Type 0 where

@@ -19,7 +19,7 @@ use Rattle.sdb_model.specs.Events.{Shelf, standing}
 use Rattle.sdb_model.specs.Exec.{find_table}
 use Rattle.sdb_laws.specs.Explained.{IsRunOf, newest_first}
 use Rattle.sdb_laws.specs.History.{Firm, Held, History, Standing}
-use Rattle.sdb_laws.specs.Lawful.{Played, id, is_data}
+use Rattle.sdb_laws.specs.Lawful.{Played, id}
 use Rattle.sdb_laws.specs.Plan.{Plan, written}
 use Rattle.sdb_laws.specs.Records.{firm_record, held_record, record_for, write_there}
 use Rattle.sdb_laws.specs.Trace.{closing, history}
@@ -28,9 +28,10 @@ use Rattle.sdb_laws.proofs.Moments.{apart_from, at_cut, cut, early_run}
 use Rattle.sdb_laws.proofs.Times.{whole_of}
 use Rattle.sdb_laws.proofs.Whole.{Whole}
 use Rattle.sdb_endings.specs.Points.{AreKnown}
-use Rattle.sdb_endings.specs.Stores.{AreTaken}
 use Rattle.sdb_endings.proofs.Others.{only_rows}
 use Rattle.sdb_endings.proofs.Runs.{ByLaws}
+use Rattle.sdb_model.specs.Tables.{is_data}
+use Rattle.sdb_model.specs.Explained.{AreTaken}
 
 ---- records
 

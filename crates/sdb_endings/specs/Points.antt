@@ -9,7 +9,7 @@ use Rattle.sdb_model.specs.declared.event.Event.{Event}
 use Rattle.sdb_stores.specs.declared.place.Place.{Place}
 use Rattle.sdb_model.specs.Events.{Shelf, standing}
 use Rattle.sdb_model.specs.Transactions.{Recorded, commit_of, point}
-use Rattle.sdb_laws.specs.Lawful.{is_data}
+use Rattle.sdb_model.specs.Tables.{is_data}
 
 -- The COMMIT of each recorded transaction was taken, each has a point, and no two have one.
 pub record HavePoints (places : List Place) (events : List Event) (closing : List Shelf) : Type 0 where

@@ -1,5 +1,5 @@
 -- Events on the stores of a script.
-use Rattle.std.specs.Prelude.{◌≡◌, ◌≤◌, ℕ, true, List, length, Some, IsOk}
+use Rattle.std.specs.Prelude.{◌≡◌, true, List, Some, IsOk}
 use Rattle.std.specs.FinMap.{empty}
 use Rattle.sdb_types.specs.declared.key.Key.{Key}
 use Rattle.sdb_types.specs.declared.record.Record.{Record}
@@ -9,10 +9,9 @@ use Rattle.sdb_schema.specs.declared.table.Table.{Table}
 use Rattle.sdb_model.specs.declared.event.Event.{Event}
 use Rattle.sdb_stores.specs.declared.place.Place.{Place}
 use Rattle.sdb_model.specs.declared.script.Script.{Script}
-use Rattle.sdb_model.specs.Events.{IsTrace, Shelf, moment, standing}
-use Rattle.sdb_model.specs.Explained.{IsTableKey}
-use Rattle.sdb_laws.specs.Lawful.{is_data}
-use Rattle.sdb_spread.specs.Spread.{AreAbout, HoldAs, is_played}
+use Rattle.sdb_model.specs.Events.{IsTrace, Shelf, standing}
+use Rattle.sdb_spread.specs.Spread.{AreAbout, HoldAs}
+use Rattle.sdb_model.specs.Tables.{is_data, is_played}
 
 -- Events are about a script's tables and the coordinator's, and agree with stores that held nothing of these to begin with.
 pub record IsPlayedOn (script : Script) (events : List Event) (opening closing : List Shelf) : Type 0 where
@@ -25,7 +24,3 @@ pub record IsPlayedOn (script : Script) (events : List Event) (opening closing :
 pub record AreSound (catalog : List Table) (places : List Place) (closing : List Shelf) : Type 0 where
   pub taken : (k : Key) (r : Record) → is_played catalog k.table ≡ true → is_data k ≡ true → standing places closing k ≡ Some r → is_taken r ≡ true
   pub rows : (k : Key) (row : Record) → is_coordinator_table k.table ≡ true → standing places closing k ≡ Some row → IsOk (decision_in row)
-
--- At each moment every record that is at a key of a table passes the checks.
-abbrev pub AreTaken : List Table → List Place → List Shelf → List (List Shelf) → Type 0
-AreTaken catalog places opening moments = (n : ℕ) (key : Key) (r : Record) → n ≤ length moments → IsTableKey catalog key → standing places (moment opening moments n) key ≡ Some r → is_taken r ≡ true

@@ -15,7 +15,7 @@ use Rattle.sdb_model.specs.declared.statement.Statement.{Statement}
 use Rattle.sdb_model.specs.Calls.{calls_of}
 use Rattle.sdb_model.specs.Events.{IsTrace, Shelf}
 use Rattle.sdb_model.specs.Exec.{Tables, find_table}
-use Rattle.sdb_model.specs.Explained.{IsTableKey, StandingExplained}
+use Rattle.sdb_model.specs.Explained.{IsTableKey, StandingExplained, AreTaken}
 use Rattle.sdb_model.specs.Rows.{Name}
 use Rattle.sdb_model.specs.Shown.{AnswersShow, AreShown, WasCommitted, WasFound}
 use Rattle.sdb_model.specs.Transactions.{Said}
@@ -27,7 +27,7 @@ use Rattle.sdb_linked.specs.Progress.{Progress}
 use Rattle.sdb_spread.specs.Spread.{AreAbout, HoldAs, moved_events}
 use Rattle.sdb_endings.specs.Ending.{IsEnd}
 use Rattle.sdb_endings.specs.Shown.{FoundDecided, ReadBy}
-use Rattle.sdb_endings.specs.Stores.{AreTaken, IsPlayedOn}
+use Rattle.sdb_endings.specs.Stores.{IsPlayedOn}
 
 ---- any events
 

@@ -1,7 +1,6 @@
 //! Which records are there at every moment, which events put them there, that they pass the checks, and that what recorded
 //! transactions noted is current.
-ghost use Rattle.sdb_model.specs.Explained.{Explained};
-ghost use Rattle.sdb_endings.specs.Stores.{AreTaken};
+ghost use Rattle.sdb_model.specs.Explained.{Explained, AreTaken};
 ghost use Rattle.sdb_endings.specs.Traces.{TracedOnStores};
 
 /// Where events, as made on one store, are tied to their clients, and agree with stores that held nothing of their tables, what

@@ -10,12 +10,11 @@ use Rattle.sdb_types.specs.Contents.{CanAnswer}
 use Rattle.sdb_model.specs.declared.answer.Answer.{Answer}
 use Rattle.sdb_model.specs.declared.script.Script.{Script}
 use Rattle.sdb_model.specs.Follows.{texts_of}
-use Rattle.sdb_client.specs.Client.{ClientAt, IsIdle, ReplyTold, client_pending, next_id}
+use Rattle.sdb_client.specs.Client.{ClientAt, IsIdle, ReplyTold, client_pending, next_id, Takes}
 use Rattle.sdb_client.specs.declared.gate.Gate.{Gate}
-use Rattle.sdb_steps.specs.Hands.{Takes}
 use Rattle.sdb_execution.specs.declared.seat.Seat.{Seat}
-use Rattle.sdb_causes.specs.Unfit.{shows_stored}
 use Rattle.sdb_execution.specs.Execution.{CallStep, IsGateAt, State, TakeStep, moved_seat, with_seat_at}
+use Rattle.sdb_model.specs.Calls.{shows_stored}
 
 pub took : (script : Script) (s : State) (c at : ℕ) (seat : Seat) (gate : Gate) (text : List ℕ) (answer : Option Answer) (client : ClientAt)
     → c ≡ suc at → at < length s.seats → IfSome (slice_get s.seats at) (λ x. x.stopped ≡ false) → seat ≡ get_or s.seats at seat → IsIdle seat.client → slice_get (texts_of script.clients (suc at)) seat.taken ≡ Some text → IsGateAt gate s.seats at → client.begun < 2 ^ 64

@@ -2,7 +2,7 @@
 ghost use Rattle.std.specs.Prelude.{◌≡◌, true};
 ghost use Rattle.std.specs.List.{list_all};
 ghost use Rattle.sdb_record.specs.Parts.{are_stored};
-ghost use Rattle.sdb_causes.specs.Unfit.{shows_stored};
+ghost use Rattle.sdb_model.specs.Calls.{shows_stored};
 
 use sdb_types::{Columns, Record, Reply};
 

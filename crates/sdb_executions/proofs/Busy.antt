@@ -29,8 +29,7 @@ use Rattle.sdb_txn.specs.declared.progress.Progress.{Progress}
 use Rattle.sdb_txn.specs.Txn.{TxnAt, progress_of}
 use Rattle.sdb_vacuum.specs.declared.work.VacuumStep.{VacuumStep}
 use Rattle.sdb_vacuum.specs.declared.work.VacuumStep.TheVariants as sweep
-use Rattle.sdb_client.specs.Client.{ClientAt, CommitTaken, SaidTold, Says, StatementTold, Taking, TextTold, VacuumTold, answer_in, answer_of, next_id, next_of}
-use Rattle.sdb_steps.specs.Hands.{Takes}
+use Rattle.sdb_client.specs.Client.{ClientAt, CommitTaken, SaidTold, Says, StatementTold, Taking, TextTold, VacuumTold, answer_in, answer_of, next_id, next_of, Takes}
 use Rattle.sdb_story.specs.Telling.{taken_said}
 use Rattle.sdb_steps.proofs.Taken.{other_no_commit}
 use Rattle.sdb_causes.specs.Tied.{IsWaiting, Knows}

@@ -12,14 +12,13 @@ use Rattle.sdb_model.specs.declared.event.How.{How}
 use Rattle.sdb_model.specs.declared.script.Script.{Script}
 use Rattle.sdb_model.specs.Rows.{Name}
 use Rattle.sdb_schema.specs.declared.table.Table.{Table}
-use Rattle.sdb_client.specs.Client.{ClientAt as Client, ReplyTold, next_id}
+use Rattle.sdb_client.specs.Client.{ClientAt as Client, ReplyTold, next_id, Takes}
 use Rattle.sdb_client.specs.declared.gate.Gate.{Gate}
 use Rattle.sdb_laws.specs.History.{at}
 use Rattle.sdb_steps.specs.About.{IsOfTables}
 use Rattle.sdb_steps.specs.Fitting.{tables_fit}
-use Rattle.sdb_steps.specs.Hands.{Hand, IsReady, IsWaiting, Takes}
+use Rattle.sdb_steps.specs.Hands.{Hand, IsReady, IsWaiting}
 use Rattle.sdb_causes.specs.Tied.{AnswersHaveCauses, AreTied, IsGate, with_stopped}
-use Rattle.sdb_causes.specs.Unfit.{shows_stored}
 use Rattle.sdb_causes.proofs.Whole.{clock_all, explained, idles_all, replies_all, starts_all, stops_all, takes_all}
 use Rattle.sdb_execution.specs.declared.seat.Seat.{Seat}
 use Rattle.sdb_execution.specs.Execution.{AreFresh, IsGateAt, IsPlayable, moved_seat, stopped_seat}
@@ -28,6 +27,7 @@ use Rattle.sdb_executions.specs.Linked.{HaveCauses, IsLinked, on_one}
 use Rattle.sdb_executions.proofs.Linked.{fresh_hand, on_hand}
 use Rattle.sdb_executions.proofs.Seats.{hands_moved, suc_is}
 use Rattle.sdb_executions.proofs.Gates.{gated_at}
+use Rattle.sdb_model.specs.Calls.{shows_stored}
 
 -- what is so of clients that are in the same place
 same_kept : (catalog : List Table) (events : List Event) (moment : ℤ) (f g : ℕ → Hand) → ((c : ℕ) → f c ≡ g c) → AreTied catalog events moment f → AreTied catalog events moment g

@@ -30,7 +30,6 @@ use Rattle.sdb_model.specs.Rows.{Name}
 use Rattle.sdb_model.specs.Sql.{reads_commit, reads_rollback}
 use Rattle.sdb_model.specs.Transactions.{Said, changes_nothing, ends, id_of, is_conflict, is_done}
 use Rattle.sdb_exec.specs.Plans.{Planned}
-use Rattle.sdb_laws.specs.Lawful.{is_data}
 use Rattle.sdb_read.specs.declared.read.ReadStep.TheVariants as step
 use Rattle.sdb_read.specs.Read.{Asking, Ended, ReadAt, ReadStage, Resolving, read_result, read_step, request_of}
 use Rattle.sdb_snapshot.specs.Held.{WereRead}
@@ -70,6 +69,7 @@ use Rattle.sdb_executions.proofs.Statements.{calls_more}
 use Rattle.sdb_executions.proofs.Views.{found_now, view_found, read_only}
 use Rattle.sdb_executions.proofs.WroteCommits.{CommitWrote, LastWrote}
 use Rattle.sdb_executions.proofs.Writing.{write_keys}
+use Rattle.sdb_model.specs.Tables.{is_data}
 
 -- a COMMIT that goes on writes the same
 commits_see : (catalog : List Table) (events : List Event) (c : ℕ) (ss : List Said) (u : TxnAt) (ws : List Write) (P : CommitAt → Type 0) → ((k : CommitAt) → P k → k.work.writes ≡ ws) → WroteAs catalog events c ss ws → IsCommitting u.doing P → SeesRun catalog events c ss u

@@ -23,8 +23,7 @@ use Rattle.sdb_snapshot.specs.Seen.{nothing}
 use Rattle.sdb_sqltext.proofs.OneWord.{begin_read, rollback_read}
 use Rattle.sdb_txn.specs.declared.txn.Doing.TheVariants as doing
 use Rattle.sdb_txn.specs.Txn.{TxnAt, committing}
-use Rattle.sdb_client.specs.Client.{AskTold, BeginTold, ClientAt, CommitTaken, GateTold, IsIdle, IsTold, RollbackTold, RowsTold, SaidTold, Says, StatementTold, TableTold, Taking, VacuumTold, given_answer, given_left, gives, holding, is_covered, plan_of, resting, starved, with_begun}
-use Rattle.sdb_steps.specs.Hands.{Takes}
+use Rattle.sdb_client.specs.Client.{AskTold, BeginTold, ClientAt, CommitTaken, GateTold, IsIdle, IsTold, RollbackTold, RowsTold, SaidTold, Says, StatementTold, TableTold, Taking, VacuumTold, given_answer, given_left, gives, holding, is_covered, plan_of, resting, starved, with_begun, Takes}
 use Rattle.sdb_steps.proofs.Taken.{other_no_commit}
 use Rattle.sdb_steps.proofs.Whole.{by_memory, literals_read}
 use Rattle.sdb_story.specs.Telling.{taken_said}

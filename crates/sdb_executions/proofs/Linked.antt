@@ -17,13 +17,13 @@ use Rattle.sdb_laws.specs.History.{at}
 use Rattle.sdb_schema.specs.declared.table.Table.{Table}
 use Rattle.sdb_spread.specs.Spread.{moved_event}
 use Rattle.sdb_spread.proofs.Moved.{moved_more}
-use Rattle.sdb_client.specs.Client.{ClientAt as Client, ReplyTold, Taking, nothing_done, next_id}
+use Rattle.sdb_client.specs.Client.{ClientAt as Client, ReplyTold, Taking, nothing_done, next_id, Takes}
 use Rattle.sdb_turns.specs.System.{ClientAt, Stopped, SystemAt}
 use Rattle.sdb_linked.specs.Going.{ClientGoes, HandOk, IsGoing, IsSilent}
 use Rattle.sdb_linked.proofs.Rests.{going_rests, going_starts}
 use Rattle.sdb_linked.proofs.Steps.{going_stops}
 use Rattle.sdb_steps.specs.Fitting.{tables_fit}
-use Rattle.sdb_steps.specs.Hands.{Hand, IsGated, IsReady, IsWaiting, Takes, doing_of, stands, system_of, with_hand}
+use Rattle.sdb_steps.specs.Hands.{Hand, IsGated, IsReady, IsWaiting, doing_of, stands, system_of, with_hand}
 use Rattle.sdb_steps.proofs.Replied.{replies_so}
 use Rattle.sdb_steps.proofs.Taken.{kept_at, mapped_at}
 use Rattle.sdb_steps.proofs.Whole.{takes_so}

@@ -33,8 +33,7 @@ use Rattle.sdb_txn.specs.Txn.{IsCommitting, TxnAt}
 use Rattle.sdb_commit.specs.Phases.{CommitAt}
 use Rattle.sdb_client.specs.declared.next.Next.{Next}
 use Rattle.sdb_client.specs.declared.next.Next.TheVariants as next
-use Rattle.sdb_client.specs.Client.{ClientAt, IsIdle, Taking, after, is_covered, next_id, next_of}
-use Rattle.sdb_steps.specs.Hands.{Takes}
+use Rattle.sdb_client.specs.Client.{ClientAt, IsIdle, Taking, after, is_covered, next_id, next_of, Takes}
 use Rattle.sdb_story.specs.Telling.{answered_said, taken_said}
 use Rattle.sdb_causes.specs.Counts.{ArePaired}
 use Rattle.sdb_causes.specs.Tied.{IsAnswered, IsWaiting, Knows, begun_in, open_after}

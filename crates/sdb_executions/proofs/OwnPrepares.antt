@@ -34,9 +34,8 @@ use Rattle.sdb_txn.specs.Txn.{IsCommitting as GoesOn, TxnAt, committing, reading
 use Rattle.sdb_vacuum.specs.Vacuum.{VacuumAt}
 use Rattle.sdb_client.specs.declared.next.Next.{Next}
 use Rattle.sdb_client.specs.declared.next.Next.TheVariants as next
-use Rattle.sdb_client.specs.Client.{CallTold, ClientAt, IsIdle, StageTold, Taking, after, answer_in, next_id, next_of}
+use Rattle.sdb_client.specs.Client.{CallTold, ClientAt, IsIdle, StageTold, Taking, after, answer_in, next_id, next_of, Takes}
 use Rattle.sdb_exec.specs.Plans.{Planned}
-use Rattle.sdb_steps.specs.Hands.{Takes}
 use Rattle.sdb_story.specs.Telling.{answered_said, taken_said, waiting_of}
 use Rattle.sdb_commit.specs.Phases.{CommitAt}
 use Rattle.sdb_causes.specs.Tied.{IsAnswered, IsDoing, IsOpenAs, IsWaiting, Knows, StandsIn, StandsOn}

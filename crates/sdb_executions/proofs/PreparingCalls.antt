@@ -19,8 +19,7 @@ use Rattle.sdb_txn.specs.declared.txn.Doing.{Doing}
 use Rattle.sdb_txn.specs.declared.txn.Doing.TheVariants as doing
 use Rattle.sdb_txn.specs.Txn.{IsCommitting, TxnAt, work_of}
 use Rattle.sdb_client.specs.declared.next.Next.TheVariants as next
-use Rattle.sdb_client.specs.Client.{ClientAt, IsIdle, Taking, after, next_id, next_of}
-use Rattle.sdb_steps.specs.Hands.{Takes}
+use Rattle.sdb_client.specs.Client.{ClientAt, IsIdle, Taking, after, next_id, next_of, Takes}
 use Rattle.sdb_story.specs.Telling.{taken_said}
 use Rattle.sdb_causes.specs.Tied.{IsWaiting}
 use Rattle.sdb_causes.proofs.Calls.{calls_open, end_waiting, later_within, made_at}

@@ -33,7 +33,6 @@ use Rattle.sdb_record.proofs.ImageLaws.{key-of-id}
 use Rattle.sdb_record.proofs.TakenLaws.{prepared-key}
 use Rattle.sdb_schema.specs.declared.table.Table.{Table}
 use Rattle.sdb_model.specs.Calls.{is_of_row, is_read, key_asked}
-use Rattle.sdb_laws.specs.Lawful.{is_data}
 use Rattle.sdb_phases.specs.declared.check.Check.{Check}
 use Rattle.sdb_phases.specs.declared.step.DecidePhase.{DecidePhase}
 use Rattle.sdb_phases.specs.declared.step.DecidePhase.TheVariants as decide
@@ -49,6 +48,7 @@ use Rattle.sdb_steps.specs.About.{AreWritesIn, IsIn, IsRecordIn}
 use Rattle.sdb_causes.proofs.Conflicts.{mapped_at}
 use Rattle.sdb_causes.proofs.Rows.{asks_data}
 use Rattle.sdb_executions.specs.Laws.{row_put}
+use Rattle.sdb_model.specs.Tables.{is_data}
 
 ---- ids and keys
 

@@ -30,11 +30,9 @@ use Rattle.sdb_vacuum.specs.Vacuum.{Gives, Scanning, VacuumAt, begun as sweeping
 use Rattle.sdb_txn.specs.Txn.{TxnAt}
 use Rattle.sdb_client.specs.declared.next.Next.{Next}
 use Rattle.sdb_client.specs.declared.next.Next.TheVariants as next
-use Rattle.sdb_client.specs.Client.{ClientAt, SaidTold, Taking, TextTold, VacuumTold, after, answer_of, next_id, next_of, vacuum_left}
-use Rattle.sdb_steps.specs.Hands.{Takes}
+use Rattle.sdb_client.specs.Client.{ClientAt, SaidTold, Taking, TextTold, VacuumTold, after, answer_of, next_id, next_of, vacuum_left, Takes}
 use Rattle.sdb_story.specs.Telling.{taken_said}
 use Rattle.sdb_steps.specs.About.{IsIn, IsOfTables, IsSweepIn, IsVacuumIn}
-use Rattle.sdb_laws.specs.Lawful.{is_data}
 use Rattle.sdb_causes.proofs.ReadSteps.{IsDataTable}
 use Rattle.sdb_causes.specs.Tied.{IsAnswered, IsWaiting, Knows}
 use Rattle.sdb_causes.proofs.Calls.{made_at, of_within}
@@ -49,6 +47,7 @@ use Rattle.sdb_executions.proofs.Steps.{Holds, execution_caused, execution_holds
 use Rattle.sdb_executions.proofs.SweepCalls.{MostLeft, most_enough, most_more, most_so_far}
 use Rattle.sdb_executions.proofs.Sweeping.{AllDelete, AllDeleted, Going, LedTo, deletes_more, in_order, sweep_led}
 use Rattle.sdb_executions.proofs.Takes.{TakenAs, taken_as}
+use Rattle.sdb_model.specs.Tables.{is_data}
 
 ---- what is so of a VACUUM
 

@@ -12,8 +12,7 @@ use Rattle.sdb_exec.specs.Plans.{Planned}
 use Rattle.sdb_exec.specs.Reads.{access_of}
 use Rattle.sdb_txn.specs.Txn.{TxnAt, committing, reading}
 use Rattle.sdb_vacuum.specs.Vacuum.{begun as sweeping}
-use Rattle.sdb_client.specs.Client.{AskTold, BeginTold, ClientAt, CommitTaken, GateTold, RollbackTold, SaidTold, StatementTold, TableTold, Taking, VacuumTold, holding, is_covered, plan_of}
-use Rattle.sdb_steps.specs.Hands.{Takes}
+use Rattle.sdb_client.specs.Client.{AskTold, BeginTold, ClientAt, CommitTaken, GateTold, RollbackTold, SaidTold, StatementTold, TableTold, Taking, VacuumTold, holding, is_covered, plan_of, Takes}
 
 -- its COMMIT has its first call pending
 pub record TakesCommit (q : Taking) (h d : ClientAt) : Type 0 where

@@ -25,7 +25,7 @@ use Rattle.sdb_model.specs.declared.event.Event.TheVariants as event
 use Rattle.sdb_model.specs.declared.event.How.{How}
 use Rattle.sdb_model.specs.Rows.{Name}
 use Rattle.sdb_laws.specs.Plan.{write_at}
-use Rattle.sdb_laws.specs.Lawful.{id, is_data, talk, IsPreparedThere, MayRollForward, MayRollBack, MayRollBy, MayRemove}
+use Rattle.sdb_laws.specs.Lawful.{id, talk, IsPreparedThere, MayRollForward, MayRollBack, MayRollBy, MayRemove}
 use Rattle.sdb_said.specs.declared.plan.Plan.{Plan}
 use Rattle.sdb_said.specs.declared.played.Role.{Role}
 use Rattle.sdb_said.specs.declared.played.Role.TheVariants as role
@@ -42,6 +42,7 @@ use Rattle.sdb_lawful.proofs.KnownLaws.{moment_known, known_moment, aborted_is, 
 use Rattle.sdb_types.proofs.Basics.{clash, or_second as or_right, either, decides as decide}
 use Rattle.sdb_types.proofs.Bools.{and_first as left, and_both as both}
 use Rattle.sdb_types.proofs.Keys.{same_key_exact, same_key_of}
+use Rattle.sdb_model.specs.Tables.{is_data}
 
 -- each write of a key that it has asked to prepare has the form of records
 abbrev pub Sound : List Played → List Plan → ℕ → Key → Type 0

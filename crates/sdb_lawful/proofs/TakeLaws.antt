@@ -30,7 +30,7 @@ use Rattle.sdb_model.specs.declared.event.Event.TheVariants as event
 use Rattle.sdb_model.specs.Sql.{reads_begin, reads_commit}
 use Rattle.sdb_laws.specs.Plan.{write_at, noted, number_of}
 use Rattle.sdb_model.specs.Noted.{version_noted}
-use Rattle.sdb_laws.specs.Lawful.{id, is_data, talk, IsSettled, MayBegin, MayTake}
+use Rattle.sdb_laws.specs.Lawful.{id, talk, IsSettled, MayBegin, MayTake}
 use Rattle.sdb_said.specs.declared.plan.Plan.{Plan}
 use Rattle.sdb_said.specs.declared.plan.Note.{Note}
 use Rattle.sdb_said.specs.declared.plan.Note.TheVariants as note
@@ -47,6 +47,7 @@ use Rattle.sdb_lawful.proofs.PlanLaws.{sound_is, is_sound_of, write_is, write_in
 use Rattle.sdb_types.proofs.Basics.{clash, or_second as or_right, some_is, either, decides as decide}
 use Rattle.sdb_types.proofs.Bools.{and_first as left, and_both as both}
 use Rattle.sdb_model.specs.Transactions.{is_done}
+use Rattle.sdb_model.specs.Tables.{is_data}
 
 ---- BEGIN
 

@@ -29,7 +29,7 @@ use Rattle.sdb_model.specs.declared.event.Event.{Event}
 use Rattle.sdb_model.specs.declared.event.Event.TheVariants as event
 use Rattle.sdb_model.specs.Sql.{reads_begin, reads_commit}
 use Rattle.sdb_model.specs.Noted.{version_noted}
-use Rattle.sdb_laws.specs.Lawful.{id, is_data, is_quiet, is_denial, answer_of}
+use Rattle.sdb_laws.specs.Lawful.{id, is_quiet, is_denial, answer_of}
 use Rattle.sdb_said.specs.declared.plan.Note.{Note}
 use Rattle.sdb_said.specs.declared.plan.Note.TheVariants as note
 use Rattle.sdb_said.specs.declared.plan.Plan.{Plan}
@@ -42,6 +42,7 @@ use Rattle.sdb_said.specs.Values.{note_of, writes_in, notes_in, moment_in, same_
 use Rattle.sdb_said.specs.Said.{taken_in, begun_in, asked_in, told_in, checked_in, staged_in, deciding_in, risked_in, won_in, dead_in, met_in, stopped_in, owner_of, open_in}
 use Rattle.sdb_said.specs.Shown.{shown, is_held_by, is_kept_in, keeps_none, is_forward, moments, shows_commit, shows_abort, shows_bad_row, is_settled, settles, settles_gone}
 use Rattle.sdb_model.specs.Transactions.{is_done, is_committed_answer}
+use Rattle.sdb_model.specs.Tables.{is_data}
 
 ---- writes and notes
 

@@ -6,9 +6,9 @@ ghost use Rattle.sdb_record.specs.Moved.{is_unchanged as is_unchanged_lem};
 ghost use Rattle.sdb_record.specs.Names.{is_user};
 ghost use Rattle.sdb_record.specs.Parts.{are_user_columns as are_user_columns_lem, is_column_name};
 ghost use Rattle.sdb_record.specs.Rolls.{is_change as is_change_lem, prepared_record};
-ghost use Rattle.sdb_laws.specs.Lawful.{is_data as is_data_lem};
 ghost use Rattle.sdb_said.specs.Shown.{is_settled as is_settled_lem};
 ghost use Rattle.sdb_lawful.specs.Rules.{is_base as is_base_lem, is_sound as is_sound_lem, is_fine_write as is_fine_write_lem, is_fine_key as is_fine_key_lem, are_fine_writes as are_fine_writes_lem, is_fine_version as is_fine_version_lem, is_fine_found as is_fine_found_lem, is_fine_note as is_fine_note_lem, prepared_by as prepared_by_lem};
+ghost use Rattle.sdb_model.specs.Tables.{is_data as is_data_lem};
 
 use sdb_record::{
     Change, MetaRefused, Read, Scan, Write, is_coordinator, is_user_name, meta_of, prepared,

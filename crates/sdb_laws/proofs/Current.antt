@@ -37,7 +37,7 @@ use Rattle.sdb_model.specs.Explained as model
 use Rattle.sdb_model.specs.Explained.{IsTableKey, IsPreparedAfter, Shows, UnchangedResolved, IsOfOrLater, WritesStand, IsLastBefore, ReadsCurrent, closing_of}
 use Rattle.sdb_laws.specs.Plan.{Plan, written, deletes, is_delete, noted, number_of}
 use Rattle.sdb_laws.specs.History.{Role, Other, Begins, Takes, Prepares, Checks, Decides, Aborts, Rolls, Removes, Ends, Stops, Talk, History, IsWriter, happens, heard}
-use Rattle.sdb_laws.specs.Lawful.{Played, MayPlay, IsLawful, id, is_data, talk, ended}
+use Rattle.sdb_laws.specs.Lawful.{Played, MayPlay, IsLawful, id, talk, ended}
 use Rattle.sdb_laws.specs.Trace.{closing, history}
 use Rattle.sdb_laws.specs.Records.{held_record, write_there}
 use Rattle.sdb_laws.specs.Explained.{IsRunOf, IsLastWriter, ImageOf, IsAsFound, newest_first, events_of}
@@ -58,6 +58,7 @@ use Rattle.sdb_laws.proofs.Moments.{IsApart, IsCut, apart_from, at_cut, cut, ear
 use Rattle.sdb_laws.proofs.Unchecked.{got}
 use Rattle.sdb_types.proofs.Basics.{clash, some_is}
 use Rattle.sdb_types.proofs.Keys.{tests}
+use Rattle.sdb_model.specs.Tables.{is_data}
 
 some_none : {A : Type 0} (a : A) → Some a ≡ None → ⊥
 some_none a e = cc

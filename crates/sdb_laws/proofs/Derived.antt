@@ -20,7 +20,7 @@ use Rattle.sdb_model.specs.Images.{decision_at, decision_on, image_at}
 use Rattle.sdb_model.specs.Transactions.{Recorded}
 use Rattle.sdb_laws.specs.Plan.{Plan, written, noted}
 use Rattle.sdb_laws.specs.History.{History, Standing, Firm, Held, Talk, base_of, image_in, image, or_else, shadow, is_recorded, IsWriter, Covers}
-use Rattle.sdb_laws.specs.Lawful.{Played, id, is_data}
+use Rattle.sdb_laws.specs.Lawful.{Played, id}
 use Rattle.sdb_laws.specs.Records.{held_record, firm_record, record_for}
 use Rattle.sdb_laws.specs.Explained.{RecordedIsPut, IsPreparedRecord, UnresolvedPrepared, IsCommittedRecord, CommittedIsCanon, PreparedStands, AbortedGone, IsLastWriter, IsNeverWritten, IsRemoved, ImageOf, ImageIsLastWriter, WritersInOrder, PointsDiffer, IsAsFound, SawLast, CheckSaw, PrepareSaw, IsCurrent, ReadsCurrent, Middle, IsAsFound as Saw}
 use Rattle.sdb_laws.proofs.Cover.{Inv}
@@ -31,6 +31,7 @@ use Rattle.sdb_laws.proofs.Settled.{Knows, forward_at}
 use Rattle.sdb_laws.proofs.Moves.{writer_fits}
 use Rattle.sdb_laws.proofs.Whole.{Whole}
 use Rattle.sdb_types.proofs.Basics.{clash, some_is}
+use Rattle.sdb_model.specs.Tables.{is_data}
 
 ---- rows
 

@@ -25,7 +25,7 @@ use Rattle.sdb_model.specs.declared.event.How.{How}
 use Rattle.sdb_model.specs.Transactions.{rest_of}
 use Rattle.sdb_laws.specs.Plan.{Plan, write_at, written, noted, number_of}
 use Rattle.sdb_model.specs.Noted.{Note, Got}
-use Rattle.sdb_laws.specs.Lawful.{Played, id, is_data, IsLawful, IsShown, IsRowShown, IsHeldShown, IsSettled, Itself, Forward, InReply, IsUnchanged, is_denial, talk}
+use Rattle.sdb_laws.specs.Lawful.{Played, id, IsLawful, IsShown, IsRowShown, IsHeldShown, IsSettled, Itself, Forward, InReply, IsUnchanged, is_denial, talk}
 use Rattle.sdb_laws.specs.Worked.{account, one, two, three, inserts, updates, deletes_it, prepared, forward, read_at, plan_with, first_run, second_run, lost_decision, recovery, vacuumed, decided_early, prepared_twice, rolled_blindly, checked_moved, removed_while_open, update_text, delete_text, row}
 use Rattle.sdb_laws.proofs.Canon.{version_state, not_firm_version}
 use Rattle.sdb_laws.proofs.Reading.{noted_got}
@@ -33,6 +33,7 @@ use Rattle.sdb_laws.proofs.Texts.{begin_begins, commit_commits}
 use Rattle.sdb_types.proofs.Basics.{clash}
 use Rattle.sdb_types.specs.Order.{same_key}
 use Rattle.sdb_types.proofs.Keys.{same_key_tells, same_key_self}
+use Rattle.sdb_model.specs.Tables.{is_data}
 
 ---- plans of one write and one note
 

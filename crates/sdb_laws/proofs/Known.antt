@@ -22,12 +22,13 @@ use Rattle.sdb_stores.specs.declared.place.Place.{Place}
 use Rattle.sdb_model.specs.Events.{Shelf, standing}
 use Rattle.sdb_laws.specs.Plan.{Plan, write_at, written, number_of, noted}
 use Rattle.sdb_laws.specs.History.{Role, History, Standing, Firm, Held, base_of, happens, IsWriter}
-use Rattle.sdb_laws.specs.Lawful.{Played, id, is_data, IsShown, IsRowShown}
+use Rattle.sdb_laws.specs.Lawful.{Played, id, IsShown, IsRowShown}
 use Rattle.sdb_laws.specs.Trace.{after_end}
 use Rattle.sdb_laws.specs.Records.{write_there, held_record, firm_record, record_for, row_for, IsHeld}
 use Rattle.sdb_laws.proofs.Allowed.{Allowed}
 use Rattle.sdb_laws.proofs.Small.{TakenOk, TookOk, BegunOk, writer_kept}
 use Rattle.sdb_laws.proofs.Cover.{Inv}
+use Rattle.sdb_model.specs.Tables.{is_data}
 
 ---- plans
 

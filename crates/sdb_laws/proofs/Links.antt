@@ -19,10 +19,11 @@ use Rattle.sdb_stores.specs.declared.place.Place.{Place}
 use Rattle.sdb_model.specs.Events.{Shelf, Effect, standing, IsCall}
 use Rattle.sdb_laws.specs.Plan.{Plan}
 use Rattle.sdb_laws.specs.History.{History, Standing}
-use Rattle.sdb_laws.specs.Lawful.{id, is_data, IsCallOf}
+use Rattle.sdb_laws.specs.Lawful.{id, IsCallOf}
 use Rattle.sdb_laws.specs.Records.{record_for, row_for, IsHeld}
 use Rattle.sdb_laws.specs.Trace.{took_at, has_effect}
 use Rattle.sdb_laws.proofs.Writes.{IsWritten, put_written, delete_written}
+use Rattle.sdb_model.specs.Tables.{is_data}
 
 ---- keys of rows
 

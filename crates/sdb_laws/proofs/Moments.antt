@@ -31,7 +31,7 @@ use Rattle.sdb_model.specs.Explained.{IsTableKey, CommittedRecorded, AbortedGone
 use Rattle.sdb_model.proofs.Requests.{in_only}
 use Rattle.sdb_laws.specs.Plan.{Plan}
 use Rattle.sdb_laws.specs.History.{Role, Other, Begins, Takes, Prepares, Checks, Decides, Aborts, Rolls, Removes, Ends, Stops, Word, History, Held, happens}
-use Rattle.sdb_laws.specs.Lawful.{Played, MayPlay, MayPrepare, id, is_data}
+use Rattle.sdb_laws.specs.Lawful.{Played, MayPlay, MayPrepare, id}
 use Rattle.sdb_laws.specs.Trace.{closing, history, has_effect, after_end, IsTraced}
 use Rattle.sdb_laws.specs.Records.{held_record, record_for, row_for}
 use Rattle.sdb_laws.specs.Explained.{IsRunOf, IsPreparedRecord, newest_first, events_of}
@@ -47,6 +47,7 @@ use Rattle.sdb_types.specs.Contents.{is_version}
 use Rattle.sdb_types.proofs.Basics.{clash}
 use Rattle.sdb_types.specs.Order.{same_key}
 use Rattle.sdb_types.proofs.Keys.{tests, same_key_self, same_key_tells}
+use Rattle.sdb_model.specs.Tables.{is_data}
 
 -- the keys of a catalog's tables are keys of records
 pub record IsApart (catalog : List Table) : Type 0 where

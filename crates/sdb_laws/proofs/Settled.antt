@@ -11,12 +11,13 @@ use Rattle.sdb_record.specs.Parts.{before_record}
 use Rattle.sdb_record.specs.Rolls.{forward_record}
 use Rattle.sdb_laws.specs.Plan.{Plan, written}
 use Rattle.sdb_laws.specs.History.{History, Talk, base_of, IsWriter}
-use Rattle.sdb_laws.specs.Lawful.{Played, talk, is_data, IsShown, IsHeldShown, IsSettled, Itself, Forward, Back, IsPreparedThere, prepared_at, IsKnownCommitted, IsKnownAborted}
+use Rattle.sdb_laws.specs.Lawful.{Played, talk, IsShown, IsHeldShown, IsSettled, Itself, Forward, Back, IsPreparedThere, prepared_at, IsKnownCommitted, IsKnownAborted}
 use Rattle.sdb_laws.specs.Records.{held_record, firm_record}
 use Rattle.sdb_laws.proofs.Cover.{Inv}
 use Rattle.sdb_laws.proofs.Canon.{held_writer, held_open, firm_committed, same_writer}
 use Rattle.sdb_laws.proofs.Known.{IsPlanned, IsFirmOf, IsHeldOf, Known, AreMoments, row_known, held_before, took_is_taken, taken_fits, writer_taken, writes_it}
 use Rattle.sdb_types.proofs.Basics.{clash}
+use Rattle.sdb_model.specs.Tables.{is_data}
 
 -- What holds at a moment, over what was shown up to then.
 pub record Knows (plan : ℕ → Plan) (w : History) (past : List Played) : Type 0 where

@@ -16,9 +16,10 @@ use Rattle.sdb_model.specs.Images.{image_at}
 use Rattle.sdb_model.specs.Transactions.{Recorded}
 use Rattle.sdb_laws.specs.Plan.{Plan, written, deletes, noted}
 use Rattle.sdb_laws.specs.History.{History, base_of, IsLive, IsWriter, IsPrepared}
-use Rattle.sdb_laws.specs.Lawful.{Played, id, is_data, IsLawful, IsSettled, answer_of, is_denial, talk}
+use Rattle.sdb_laws.specs.Lawful.{Played, id, IsLawful, IsSettled, answer_of, is_denial, talk}
 use Rattle.sdb_laws.specs.Trace.{IsTraced, StartsEmpty}
 use Rattle.sdb_laws.specs.Records.{held_record, firm_record}
+use Rattle.sdb_model.specs.Tables.{is_data}
 
 -- A lawful list of events and a trace of it from empty stores, newest first.
 pub record IsRunOf (plan : ℕ → Plan) (places : List Place) (opening : List Shelf) (past : List Played) (ss : List (List Shelf)) : Type 0 where

@@ -1,6 +1,6 @@
 -- The rules of the protocol: which event may come after which. They quote the events so far, and what replies said in them,
 -- never what the stores hold. Lists have the newest event first.
-use Rattle.std.specs.Prelude.{◌≡◌, ◌≢◌, ◌⊎◌, ℕ, ℤ, ◌^◌, ◌<◌, Bool, true, false, not, List, [], ◌∷◌, Option, Some, None, Ok, slice_get}
+use Rattle.std.specs.Prelude.{◌≡◌, ◌≢◌, ◌⊎◌, ℕ, ℤ, ◌^◌, ◌<◌, Bool, true, false, List, [], ◌∷◌, Option, Some, None, Ok, slice_get}
 use Rattle.std.specs.Option.{option_map}
 use Rattle.std.specs.Result.{result_ok}
 use Rattle.sdb_types.specs.declared.key.Key.{Key}
@@ -17,7 +17,7 @@ use Rattle.sdb_types.specs.Contents.{in_span, record_among}
 use Rattle.sdb_record.specs.declared.coordinator.Decision.{Decision}
 use Rattle.sdb_record.specs.declared.coordinator.Decision.TheVariants as decision
 use Rattle.sdb_record.specs.declared.write.Write.{Write}
-use Rattle.sdb_record.specs.Coordinator.{coordinator_key_of, coordinator_row_of, decision_in, is_coordinator_table}
+use Rattle.sdb_record.specs.Coordinator.{coordinator_key_of, coordinator_row_of, decision_in}
 use Rattle.sdb_record.specs.Meta.{id_in, is_in, is_moment, is_committed}
 use Rattle.sdb_record.specs.Moved.{version_of, condition_of, is_unchanged}
 use Rattle.sdb_record.specs.Parts.{before_record}
@@ -33,6 +33,7 @@ use Rattle.sdb_model.specs.Rows.{Name}
 use Rattle.sdb_laws.specs.Plan.{Plan, write_at, written, noted}
 use Rattle.sdb_model.specs.Noted.{Note, Got, Scanned}
 use Rattle.sdb_laws.specs.History.{Role, Other, Begins, Takes, Prepares, Checks, Decides, Aborts, Rolls, Removes, Ends, Stops, Word, Yes, No, Silence, Wanting, Talk, Preparing, Deciding, silence, heard, says, IsPrepared}
+use Rattle.sdb_model.specs.Tables.{is_data}
 
 -- An event, the part that it plays, and the transaction that its answer ends, if one is ended.
 pub record Played : Type 0 where
@@ -51,10 +52,6 @@ talk (p ∷ past) = ended (heard (talk past) p.role) p.ends
 
 abbrev pub id : ℕ → TxId
 id t = record { 0 = t }
-
--- tables that hold records of transactions: all but the coordinator's
-abbrev pub is_data : Key → Bool
-is_data key = not (is_coordinator_table key.table)
 
 ---- what replies said
 

@@ -11,7 +11,8 @@ use Rattle.sdb_stores.specs.declared.place.Place.{Place}
 use Rattle.sdb_model.specs.Events.{Shelf, standing}
 use Rattle.sdb_laws.specs.Plan.{Plan, write_at}
 use Rattle.sdb_laws.specs.History.{History, Standing, Firm, Held}
-use Rattle.sdb_laws.specs.Lawful.{id, is_data}
+use Rattle.sdb_laws.specs.Lawful.{id}
+use Rattle.sdb_model.specs.Tables.{is_data}
 
 abbrev pub write_there : Plan → Key → Write
 write_there plan k = unwrap_or (write_at plan k) (record { key = k; base = None; change = change.Delete })

@@ -9,8 +9,8 @@ use Rattle.sdb_model.specs.Events.{Shelf}
 use Rattle.sdb_model.specs.Images.{row_at}
 use Rattle.sdb_laws.specs.Plan.{Plan, written, noted}
 use Rattle.sdb_laws.specs.History.{History, or_else}
-use Rattle.sdb_laws.specs.Lawful.{is_data}
 use Rattle.sdb_laws.specs.Records.{write_there}
+use Rattle.sdb_model.specs.Tables.{is_data}
 
 abbrev pub IsIn : ℕ → List ℕ → Type 0
 IsIn t [] = ⊥

@@ -1,7 +1,7 @@
 -- What a client did for one statement: the calls that it made, what they asked, and what their replies showed.
 use Rattle.std.specs.Prelude.{ℕ, ℤ, pos, Bool, true, false, ◌&&◌, ◌==◌, nat_le, nat_lt, if◌then◌else◌, List, [], ◌∷◌, filter, fold, length, take, Option, Some, None, is_some}
 use Rattle.std.specs.Option.{option_and_then, option_map, option_map_or}
-use Rattle.std.specs.List.{filter_map}
+use Rattle.std.specs.List.{filter_map, list_all}
 use Rattle.std.specs.Result.{result_ok}
 use Rattle.std.specs.Ordering.{is_eq}
 use Rattle.sdb_types.specs.declared.txid.TxId.{TxId}
@@ -23,6 +23,7 @@ use Rattle.sdb_model.specs.declared.event.How.{How}
 use Rattle.sdb_model.specs.Requests.{keys_asked, only_of, records_put, shown_by}
 use Rattle.sdb_model.specs.Rows.{Name}
 use Rattle.sdb_model.specs.Transactions.{Said, numbered}
+use Rattle.sdb_record.specs.Parts.{are_stored}
 
 ---- calls
 
@@ -129,3 +130,7 @@ decision_found id m = if is_of_row id m.request then option_and_then (λ found. 
 abbrev pub decision_learned : List Made → TxId → Option Decided
 decision_learned [] id = None
 decision_learned (m ∷ ms) id = if is_some (decision_shown id m) then decision_shown id m else decision_learned ms id
+
+-- each record that a reply shows has its columns as a record holds them: in order, each with a name
+abbrev pub shows_stored : Reply → Bool
+shows_stored r = list_all (λ x. are_stored x.columns) (records_shown r)

@@ -12,7 +12,7 @@ use Rattle.sdb_schema.specs.declared.table.Table.{Table}
 use Rattle.sdb_record.specs.declared.coordinator.Decision.TheVariants as decision
 use Rattle.sdb_record.specs.Coordinator.{coordinator_key_of}
 use Rattle.sdb_types.specs.Contents.{in_span, record_among}
-use Rattle.sdb_record.specs.Meta.{id_in, is_in}
+use Rattle.sdb_record.specs.Meta.{id_in, is_in, is_taken}
 use Rattle.sdb_record.specs.Moved.{is_unchanged}
 use Rattle.sdb_record.specs.Parts.{before_record}
 use Rattle.sdb_model.specs.declared.answer.Answer.{Answer}
@@ -171,3 +171,7 @@ pub record StandingExplained (catalog : List Table) (places : List Place) (event
 pub record Explained (catalog : List Table) (places : List Place) (events : List Event) (opening : List Shelf) (moments : List (List Shelf)) : Type 0 where
   pub standing : StandingExplained catalog places events opening moments
   pub reads_current : ReadsCurrent catalog places events opening moments
+
+-- At each moment every record that is at a key of a table passes the checks.
+abbrev pub AreTaken : List Table → List Place → List Shelf → List (List Shelf) → Type 0
+AreTaken catalog places opening moments = (n : ℕ) (key : Key) (r : Record) → n ≤ length moments → IsTableKey catalog key → standing places (moment opening moments n) key ≡ Some r → is_taken r ≡ true

@@ -20,3 +20,4 @@ pub mod SqlTokens
 pub mod Sql
 pub mod Access
 pub mod Plain
+pub mod Tables

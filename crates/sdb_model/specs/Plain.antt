@@ -1,5 +1,5 @@
 -- Plain outcomes: those that a report shows in full, so that no two of them have one report.
-use Rattle.std.specs.Prelude.{◌≡◌, ◌<◌, ◌^◌, ◌==◌, ℕ, Bool, true, not, ◌&&◌, List, [], ◌∷◌, length, All, Option, IfSome, FitsSigned}
+use Rattle.std.specs.Prelude.{◌≡◌, ◌<◌, ◌^◌, ◌==◌, ℕ, Bool, true, not, ◌&&◌, List, [], ◌∷◌, length, All, Option, IfSome, FitsSigned, slice_get, Some}
 use Rattle.std.specs.Int.{w64}
 use Rattle.std.specs.List.{list_all}
 use Rattle.std.specs.Ordering.{is_lt}
@@ -29,6 +29,8 @@ use Rattle.sdb_model.specs.declared.event.Point.{Point}
 use Rattle.sdb_model.specs.declared.event.TableDump.{TableDump}
 use Rattle.sdb_model.specs.Report.{event_text_of}
 use Rattle.sdb_model.specs.Texts.{row_text_of}
+use Rattle.sdb_model.specs.Follows.{texts_of}
+use Rattle.sdb_model.specs.declared.script.Script.{Script}
 
 ---- what the types keep of every value
 
@@ -157,3 +159,7 @@ pub record IsPlain (o : Outcome) : Type 0 where
   pub tables_counted : is_counted o.tables
   pub tables : All IsPlainDump o.tables
   pub rising : are_rising o.tables ≡ true
+
+-- No statement of a script has an LF.
+abbrev pub HasLines : Script → Type 0
+HasLines script = (c i : ℕ) (text : List ℕ) → slice_get (texts_of script.clients c) i ≡ Some text → is_one_line text ≡ true

@@ -46,8 +46,7 @@ use Rattle.sdb_vacuum.specs.declared.work.VacuumStep.TheVariants as sweep
 use Rattle.sdb_vacuum.specs.Vacuum.{Gives, VacuumAt, vacuum_step}
 use Rattle.sdb_client.specs.declared.next.Next.{Next}
 use Rattle.sdb_client.specs.declared.next.Next.TheVariants as next
-use Rattle.sdb_client.specs.Client.{AskTold, BeginTold, CallTold, ClientAt, CommitNext, CommitTaken, GateTold, ImagesTold, IsIdle, IsMovedAt, IsTold, NextTold, OpenTold, ReplyTold, RollbackTold, RowsTold, StageTold, StatementTold, TableTold, Taking, TextTold, VacuumTold, after, answer_in, answer_of, client_pending, given_answer, given_left, gives, holding, is_covered, next_of, noting, pending_by, pending_of, plan_of, resting, starved, too_many, vacuum_left, written}
-use Rattle.sdb_steps.specs.Hands.{Takes}
+use Rattle.sdb_client.specs.Client.{AskTold, BeginTold, CallTold, ClientAt, CommitNext, CommitTaken, GateTold, ImagesTold, IsIdle, IsMovedAt, IsTold, NextTold, OpenTold, ReplyTold, RollbackTold, RowsTold, StageTold, StatementTold, TableTold, Taking, TextTold, VacuumTold, after, answer_in, answer_of, client_pending, given_answer, given_left, gives, holding, is_covered, next_of, noting, pending_by, pending_of, plan_of, resting, starved, too_many, vacuum_left, written, Takes}
 use Rattle.sdb_steps.proofs.Whole.{by_memory}
 use Rattle.sdb_plainness.proofs.Clear.{KeyClear, RecordsClear, ReplyClear, RequestClear}
 use Rattle.sdb_plainness.proofs.Statements.{AccessClear, AnswerClear, FoundAt, GivesClear, StatementClear, access_clear, gives_clear}

@@ -12,7 +12,7 @@ use Rattle.sdb_model.specs.declared.event.Event.TheVariants as event
 use Rattle.sdb_model.specs.declared.event.How.{How}
 use Rattle.sdb_model.specs.declared.script.Script.{Script}
 use Rattle.sdb_model.specs.Events.{IsCall, IsTrace, Shelf}
-use Rattle.sdb_model.specs.Plain.{is_one_line}
+use Rattle.sdb_model.specs.Plain.{is_one_line, HasLines}
 use Rattle.sdb_model.specs.Rows.{Name}
 use Rattle.sdb_spread.specs.Spread.{HoldAs, moved_events, one_shelf}
 use Rattle.sdb_spread.proofs.Single.{Single, one_held, one_left, single}
@@ -21,7 +21,6 @@ use Rattle.sdb_execution.specs.Execution.{AreFresh, CallStep, IsPath, State, Tak
 use Rattle.sdb_executions.specs.Laws.{ExecutionOf}
 use Rattle.sdb_executions.specs.Moments.{TraceOf}
 use Rattle.sdb_executions.proofs.Steps.{execution_about}
-use Rattle.sdb_plainness.specs.Runs.{HasLines}
 use Rattle.sdb_plainness.proofs.Lists.{get_all}
 use Rattle.sdb_plainness.proofs.Clear.{ReplyClear, RequestClear}
 use Rattle.sdb_plainness.proofs.Statements.{AnswerClear}

@@ -37,20 +37,21 @@ use Rattle.sdb_stores.specs.declared.place.Place.{Place}
 use Rattle.sdb_model.specs.Events.{Shelf, standing}
 use Rattle.sdb_model.specs.Exec.{Tables, all_rows, find_table, is_row_of, shown, sorted}
 use Rattle.sdb_model.specs.Images.{decision_on, row_at}
-use Rattle.sdb_model.specs.Plain.{HasPlainParts, IsFoundAt, IsPlain, IsPlainAnswer, IsPlainDump, IsPlainEvent, IsPlainGiven, IsPlainRow, are_rising, starts_after, values_fit}
+use Rattle.sdb_model.specs.Plain.{HasPlainParts, IsFoundAt, IsPlain, IsPlainAnswer, IsPlainDump, IsPlainEvent, IsPlainGiven, IsPlainRow, are_rising, starts_after, values_fit, HasLines}
 use Rattle.sdb_model.specs.Told.{AreImages, dumps_of, serial}
 use Rattle.sdb_reading.specs.OneLine.{AnswerHasNoLf, EventHasNoLf, KeyHasNoLf, RecordHasNoLf, ReplyHasNoLf, RequestHasNoLf, ValueHasNoLf, ValuesHaveNoLf}
 use Rattle.sdb_reading.proofs.LineLaws.{event_one, row_one}
-use Rattle.sdb_spread.specs.Spread.{HoldAs, is_played}
+use Rattle.sdb_spread.specs.Spread.{HoldAs}
 use Rattle.sdb_executions.specs.Laws.{ExecutionOf}
 use Rattle.sdb_executions.specs.Moments.{TraceOf}
 use Rattle.sdb_plainness.specs.Facts.{answer_fits, dump_fits, event_fits, given_fits, outcome_fits}
-use Rattle.sdb_plainness.specs.Runs.{HasLines, LineRun}
+use Rattle.sdb_plainness.specs.Runs.{LineRun}
 use Rattle.sdb_plainness.proofs.Lists.{filter_all}
 use Rattle.sdb_plainness.proofs.Clear.{AreClear, ColumnsClear, FoundClear, KeyClear, PairClear, RecordClear, RecordsClear, ReplyClear, RequestClear, before_clear, forward_clear, image_clear}
 use Rattle.sdb_plainness.proofs.Statements.{AnswerClear, FoundAt, ImageClear, shown_clear, sorted_clear}
 use Rattle.sdb_plainness.proofs.Contents.{HeldClear, TablesClear, rows_clear}
 use Rattle.sdb_plainness.proofs.Paths.{EventClear, WholeClear, execution_clear}
+use Rattle.sdb_model.specs.Tables.{is_played}
 
 ---- no LF, in the words of reports
 

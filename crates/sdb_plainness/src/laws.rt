@@ -1,11 +1,11 @@
 //! Laws of the outcomes of runs.
 ghost use Rattle.std.specs.Prelude.{All};
-ghost use Rattle.sdb_model.specs.Plain.{IsPlain};
+ghost use Rattle.sdb_model.specs.Plain.{IsPlain, HasLines};
 ghost use Rattle.sdb_reading.specs.OneLine.{EventHasNoLf};
 ghost use Rattle.sdb_executions.specs.Laws.{ExecutionOf};
 ghost use Rattle.sdb_executions.specs.Moments.{TraceOf};
 ghost use Rattle.sdb_plainness.specs.Facts.{outcome_fits};
-ghost use Rattle.sdb_plainness.specs.Runs.{HasLines, LineRun};
+ghost use Rattle.sdb_plainness.specs.Runs.{LineRun};
 
 /// Where the stores held nothing of a script's tables, and no statement of it has an LF, no text in the events of an execution has one.
 pub fn events_have_no_lf()

@@ -23,9 +23,10 @@ use Rattle.sdb_stores.specs.declared.place.Place.{Place}
 use Rattle.sdb_model.specs.Rows.{Name}
 use Rattle.sdb_model.specs.Events.{Shelf, store_of, table_asked, IsCall}
 use Rattle.sdb_laws.proofs.Effects.{after_put, after_delete, stands_in_store, stands_anywhere}
-use Rattle.sdb_spread.specs.Spread.{is_played, HoldAs}
+use Rattle.sdb_spread.specs.Spread.{HoldAs}
 use Rattle.sdb_types.proofs.Basics.{and_false}
 use Rattle.sdb_types.proofs.Keys.{same_key_tells}
+use Rattle.sdb_model.specs.Tables.{is_played}
 
 ---- contents that agree on a table
 

@@ -31,10 +31,11 @@ use Rattle.sdb_model.specs.Images.{decision_at, decision_on, row_at}
 use Rattle.sdb_model.specs.Transactions.{Said, IsOrder}
 use Rattle.sdb_model.specs.Told.{AreBodies, AreRead, answers_told, commit_answer, IsTold, KeepsRealTime, IsRun}
 use Rattle.sdb_model.specs.Form.{placed_script}
-use Rattle.sdb_spread.specs.Spread.{one_shelf, moved_events, moved_outcome, is_played, HoldAs}
+use Rattle.sdb_spread.specs.Spread.{one_shelf, moved_events, moved_outcome, HoldAs}
 use Rattle.sdb_spread.proofs.Moved.{begun_moved, body_moved, commit_moved, point_moved, said_moved}
 use Rattle.sdb_spread.proofs.Followed.{follows_moved}
 use Rattle.sdb_types.proofs.Basics.{or_true}
+use Rattle.sdb_model.specs.Tables.{is_played}
 
 ---- what is there
 

@@ -18,10 +18,11 @@ use Rattle.sdb_stores.specs.declared.place.Place.{Place}
 use Rattle.sdb_model.specs.Rows.{Name, same_name}
 use Rattle.sdb_model.specs.Events.{Shelf, held_by, with_contents, store_of, standing, table_asked, IsPerformed, IsCall, Effect, IsTrace}
 use Rattle.sdb_laws.proofs.Effects.{store_same, held_there, held_elsewhere}
-use Rattle.sdb_spread.specs.Spread.{one_shelf, moved_event, moved_events, is_played, AreAbout, HoldAs, AreShelved}
+use Rattle.sdb_spread.specs.Spread.{one_shelf, moved_event, moved_events, AreAbout, HoldAs, AreShelved}
 use Rattle.sdb_spread.proofs.Calls.{SameOf, same_reply, same_after, left_apart, held_as}
 use Rattle.sdb_types.proofs.Basics.{some_is as some_same}
 use Rattle.sdb_spread.proofs.Single.{one_held, one_left}
+use Rattle.sdb_model.specs.Tables.{is_played}
 
 ---- the one store
 

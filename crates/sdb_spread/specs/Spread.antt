@@ -1,18 +1,16 @@
 -- A run whose tables lie on one store, and the same run with its tables spread over several.
-use Rattle.std.specs.Prelude.{◌≡◌, Bool, true, ◌||◌, List, [], ◌∷◌, map, is_some, IsSome}
+use Rattle.std.specs.Prelude.{◌≡◌, true, List, [], ◌∷◌, map, IsSome}
 use Rattle.std.specs.List.{AllByRecursion}
 use Rattle.sdb_types.specs.declared.key.Key.{Key}
-use Rattle.sdb_types.specs.declared.key.TableName.{TableName}
 use Rattle.sdb_types.specs.Contents.{Contents, record_at}
 use Rattle.sdb_schema.specs.declared.table.Table.{Table}
-use Rattle.sdb_record.specs.Coordinator.{is_coordinator_table}
 use Rattle.sdb_model.specs.declared.event.Event.{Event}
 use Rattle.sdb_model.specs.declared.event.Event.TheVariants as event
 use Rattle.sdb_model.specs.declared.event.Outcome.{Outcome}
 use Rattle.sdb_stores.specs.declared.place.Place.{Place}
 use Rattle.sdb_model.specs.Rows.{Name}
-use Rattle.sdb_model.specs.Exec.{find_table}
 use Rattle.sdb_model.specs.Events.{Shelf, held_by, store_of, standing, table_asked}
+use Rattle.sdb_model.specs.Tables.{is_played}
 
 -- one store, and nothing else
 abbrev pub one_shelf : Name → Contents → List Shelf
@@ -32,10 +30,6 @@ moved_events at = map (moved_event at)
 -- an outcome, with its calls so moved
 abbrev pub moved_outcome : (Name → Name) → Outcome → Outcome
 moved_outcome at o = record { events = moved_events at o.events; order = o.order; tables = o.tables }
-
--- the tables that a run is about: those of its catalog, and the coordinator's
-abbrev pub is_played : List Table → TableName → Bool
-is_played catalog table = is_some (find_table catalog table) || is_coordinator_table table
 
 -- a call is about one of them
 abbrev pub IsAbout : List Table → Event → Type 0

@@ -15,7 +15,8 @@ ghost use Rattle.sdb_model.specs.Rows.{Name};
 ghost use Rattle.sdb_model.specs.Events.{Shelf, IsCall, IsTrace, held_by, store_of, table_asked};
 ghost use Rattle.sdb_model.specs.Told.{IsRun};
 ghost use Rattle.sdb_model.specs.Form.{placed_script};
-ghost use Rattle.sdb_spread.specs.Spread.{AreAbout, AreShelved, HoldAs, is_played, moved_events, moved_outcome, one_shelf};
+ghost use Rattle.sdb_spread.specs.Spread.{AreAbout, AreShelved, HoldAs, moved_events, moved_outcome, one_shelf};
+ghost use Rattle.sdb_model.specs.Tables.{is_played};
 
 /// A run on one store, whose events agree with several stores too, and leave in them what the one store holds, is a run on
 /// these: its calls go to the stores of their tables, and its order, its answers and its rows stay.

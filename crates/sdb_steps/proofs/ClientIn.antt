@@ -35,9 +35,8 @@ use Rattle.sdb_vacuum.specs.declared.work.VacuumStep.TheVariants as sweep
 use Rattle.sdb_vacuum.specs.Vacuum.{Gives, VacuumAt, begun, vacuum_step}
 use Rattle.sdb_client.specs.declared.next.Next.{Next}
 use Rattle.sdb_client.specs.declared.next.Next.TheVariants as next
-use Rattle.sdb_client.specs.Client.{AskTold, BeginTold, CallTold, ClientAt as Client, CommitNext, CommitTaken, GateTold, ImagesTold, IsIdle, IsTold, NextTold, OpenTold, ReplyTold, RollbackTold, RowsTold, StageTold, StatementTold, TableTold, Taking, TextTold, VacuumTold, after, client_pending, given_answer, given_left, gives, holding, is_covered, next_of, noting, pending_by, pending_of, plan_of, resting, starved, vacuum_left, written}
+use Rattle.sdb_client.specs.Client.{AskTold, BeginTold, CallTold, ClientAt as Client, CommitNext, CommitTaken, GateTold, ImagesTold, IsIdle, IsTold, NextTold, OpenTold, ReplyTold, RollbackTold, RowsTold, StageTold, StatementTold, TableTold, Taking, TextTold, VacuumTold, after, client_pending, given_answer, given_left, gives, holding, is_covered, next_of, noting, pending_by, pending_of, plan_of, resting, starved, vacuum_left, written, Takes}
 use Rattle.sdb_steps.specs.About.{AreRecordsIn, IsDoingIn, IsListed, IsOfTables, IsReadIn, IsSeenIn, IsStageIn, IsVacuumIn, IsWorkIn}
-use Rattle.sdb_steps.specs.Hands.{Takes}
 use Rattle.sdb_steps.proofs.InTables.{GivesIn, IsPlayed, access_in, access_table, commit_played, get_in, gives_in, read_played, scan_in, stepped_in, swept_in, sweep_played, written_in}
 use Rattle.sdb_steps.proofs.RowsFit.{found_itself}
 use Rattle.sdb_steps.proofs.Sweeps.{begun_in}

@@ -33,9 +33,9 @@ use Rattle.sdb_vacuum.specs.declared.work.VacuumStep.TheVariants as sweep
 use Rattle.sdb_vacuum.specs.Vacuum.{Gives, VacuumAt, begun, vacuum_step}
 use Rattle.sdb_client.specs.declared.next.Next.{Next}
 use Rattle.sdb_client.specs.declared.next.Next.TheVariants as next
-use Rattle.sdb_client.specs.Client.{AskTold, BeginTold, CallTold, ClientAt as Client, CommitNext, CommitTaken, GateTold, ImagesTold, IsIdle, IsTold, NextTold, OpenTold, ReplyTold, RollbackTold, RowsTold, StageTold, StatementTold, SweepTold, TableTold, Taking, TextTold, VacuumTold, after, answer_in, answer_of, gives, holding, is_covered, next_of, noting, plan_of, resting, starved, vacuum_left, with_begun}
+use Rattle.sdb_client.specs.Client.{AskTold, BeginTold, CallTold, ClientAt as Client, CommitNext, CommitTaken, GateTold, ImagesTold, IsIdle, IsTold, NextTold, OpenTold, ReplyTold, RollbackTold, RowsTold, StageTold, StatementTold, SweepTold, TableTold, Taking, TextTold, VacuumTold, after, answer_in, answer_of, gives, holding, is_covered, next_of, noting, plan_of, resting, starved, vacuum_left, with_begun, Takes}
 use Rattle.sdb_steps.specs.About.{AreListed, IsListed}
-use Rattle.sdb_steps.specs.Hands.{IsAfter, IsAskedBy, IsFitted, IsFittedBy, IsUsing, IsUsingTxn, Takes}
+use Rattle.sdb_steps.specs.Hands.{IsAfter, IsAskedBy, IsFitted, IsFittedBy, IsUsing, IsUsingTxn}
 use Rattle.sdb_steps.proofs.Sweeps.{begun_in, step_are}
 use Rattle.sdb_steps.proofs.Whole.{by_memory, literals_read}
 use Rattle.sdb_client.proofs.Left.{given_idle as left_idle}

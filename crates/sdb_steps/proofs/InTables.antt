@@ -69,12 +69,12 @@ use Rattle.sdb_read.specs.Read.{Asking, Bad, Ended, Firm, Kind, Open, ReadStage,
 use Rattle.sdb_snapshot.specs.Noted.{Note, base_at, is_noted, reads_of, with_images, with_note}
 use Rattle.sdb_snapshot.specs.Seen.{Seen, overlay, tables_seen, with_get, with_scan, with_written}
 use Rattle.sdb_snapshot.specs.Written.{with_change_of, with_write, with_writes, write_of}
-use Rattle.sdb_spread.specs.Spread.{is_played}
 use Rattle.sdb_vacuum.specs.declared.work.VacuumStep.{VacuumStep}
 use Rattle.sdb_vacuum.specs.Vacuum.{First, Malformed, Nothing, Over as Ends, Removing, Resolving as Resolves, Scanning as Scans, Tombstone, Unresolved, VacuumAt, VacuumStage, answered as sweep_answered, first_of, first_one, goes_on, going, next_table, pending_at, removal_answered, resolved as sweep_resolved, step_at as swept_at, tombstone_or}
 use Rattle.sdb_steps.specs.About.{AreListed, AreNotesIn, AreRecordsIn, AreWritesIn, IsIn, IsListed, IsRecordIn, IsSeenIn, IsStageIn, IsSweepIn, IsVacuumIn, IsWorkIn}
 use Rattle.sdb_types.specs.Exact.{equal_of}
 use Rattle.sdb_types.proofs.Basics.{append_all}
+use Rattle.sdb_model.specs.Tables.{is_played}
 
 ---- the keys of an access
 

@@ -14,7 +14,6 @@ use Rattle.sdb_model.specs.declared.event.Event.{Event}
 use Rattle.sdb_model.specs.declared.statement.Statement.{Statement}
 use Rattle.sdb_exec.specs.Plans.{Planned}
 use Rattle.sdb_laws.specs.History.{at}
-use Rattle.sdb_laws.specs.Lawful.{is_data}
 use Rattle.sdb_phases.specs.declared.step.Outcome.{Outcome}
 use Rattle.sdb_phases.specs.declared.step.Outcome.TheVariants as outcome
 use Rattle.sdb_phases.specs.declared.step.ValidateStep.{ValidateStep}
@@ -50,6 +49,7 @@ use Rattle.sdb_steps.specs.Sweeps.{sweep_at}
 use Rattle.sdb_steps.proofs.ReadReplies.{LedSo, RepliedSo, at_itself, replied_read}
 use Rattle.sdb_steps.proofs.Sweeps.{Leads, scan_data, step_leads, sweep_asks}
 use Rattle.sdb_steps.proofs.Taken.{moved, moved_so}
+use Rattle.sdb_model.specs.Tables.{is_data}
 
 ---- where a COMMIT goes
 

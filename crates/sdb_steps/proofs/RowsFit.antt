@@ -36,13 +36,13 @@ use Rattle.sdb_exec.proofs.Fits.{changes_fit}
 use Rattle.sdb_exec.proofs.Laid.{by_key, get-with_row, keyed}
 use Rattle.sdb_exec.proofs.Places.{named_is_table}
 use Rattle.sdb_exec.proofs.Whole.{fitting_is_exec}
-use Rattle.sdb_laws.specs.Lawful.{is_data}
 use Rattle.sdb_snapshot.specs.Seen.{Seen, overlay}
 use Rattle.sdb_story.specs.Body.{AnswersOn}
 use Rattle.sdb_story.specs.Left.{IsFitting}
 use Rattle.sdb_steps.specs.Fitting.{row_fits, tables_fit}
 use Rattle.sdb_types.proofs.Basics.{less_of, truth as true_from_T, by_test}
 use Rattle.sdb_types.specs.Exact.{equal_of}
+use Rattle.sdb_model.specs.Tables.{is_data}
 
 ---- rows of tables, by their keys
 

@@ -17,7 +17,6 @@ use Rattle.sdb_record.specs.Rolls.{is_tombstone}
 use Rattle.sdb_record.specs.declared.meta.Meta.{Meta}
 use Rattle.sdb_schema.specs.declared.table.Table.{Table}
 use Rattle.sdb_model.specs.Exec.{find_table}
-use Rattle.sdb_laws.specs.Lawful.{is_data}
 use Rattle.sdb_phases.specs.declared.step.RecoverStep.{RecoverStep}
 use Rattle.sdb_phases.specs.declared.step.RecoverStep.TheVariants as steps
 use Rattle.sdb_phases.specs.declared.step.RecoverPhase.{RecoverPhase}
@@ -33,6 +32,7 @@ use Rattle.sdb_turns.specs.Sweep.{SweepAt, remove_or, sweep, sweep_one, sweep_pe
 use Rattle.sdb_steps.specs.About.{AreListed, IsListed, IsVacuumIn}
 use Rattle.sdb_steps.specs.Sweeps.{sweep_at}
 use Rattle.sdb_steps.proofs.InTables.{inside_span}
+use Rattle.sdb_model.specs.Tables.{is_data}
 
 ---- the call that is pending
 

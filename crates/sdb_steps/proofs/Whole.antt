@@ -21,20 +21,19 @@ use Rattle.sdb_model.specs.Refused.{refusal_by, refusal_of}
 use Rattle.sdb_model.specs.Sql.{Reads, reads_commit, reads_rollback}
 use Rattle.sdb_exec.specs.Plans.{has_all_literals}
 use Rattle.sdb_exec.specs.Reads.{access_of}
-use Rattle.sdb_laws.specs.Lawful.{is_data}
 use Rattle.sdb_snapshot.specs.Held.{AreKept}
 use Rattle.sdb_sqltext.proofs.Clauses.{one_statement}
 use Rattle.sdb_sqltext.proofs.OneWord.{commit_read, rollback_read}
 use Rattle.sdb_txn.specs.declared.txn.Doing.TheVariants as doing
 use Rattle.sdb_txn.specs.Txn.{TxnAt}
-use Rattle.sdb_client.specs.Client.{AskTold, BeginTold, ClientAt as Client, CommitTaken, IsTold, RollbackTold, RowsTold, StatementTold, TableTold, Taking, TextTold, VacuumTold, GateTold, is_covered, plan_of, starved, next_id, with_begun as client_begun}
+use Rattle.sdb_client.specs.Client.{AskTold, BeginTold, ClientAt as Client, CommitTaken, IsTold, RollbackTold, RowsTold, StatementTold, TableTold, Taking, TextTold, VacuumTold, GateTold, is_covered, plan_of, starved, next_id, with_begun as client_begun, Takes}
 use Rattle.sdb_turns.specs.ReadAt.{IsOfData}
 use Rattle.sdb_turns.specs.System.{ClientOk}
 use Rattle.sdb_linked.specs.Going.{IsGoing, IsInner, IsMild}
 use Rattle.sdb_vacuum.specs.Vacuum.{whole}
 use Rattle.sdb_steps.specs.About.{IsListed}
 use Rattle.sdb_steps.specs.Fitting.{tables_fit}
-use Rattle.sdb_steps.specs.Hands.{Hand, IsGated, IsPlainAnswer, IsReady, Takes, doing_of, system_of}
+use Rattle.sdb_steps.specs.Hands.{Hand, IsGated, IsPlainAnswer, IsReady, doing_of, system_of}
 use Rattle.sdb_steps.proofs.RowsFit.{found_itself}
 use Rattle.sdb_steps.proofs.Asked.{IsAsked, told_known, told_unknown}
 use Rattle.sdb_steps.proofs.Taken.{IsSo, at_open, other_no_begin, other_no_commit, refused_no_commit, refused_plain, told_begun, told_commit, told_outside, told_rollback, told_same, told_starved, told_vacuum}
@@ -42,6 +41,7 @@ use Rattle.sdb_steps.proofs.Sweeps.{begun_in, scan_data}
 use Rattle.sdb_types.specs.Exact.{equal_of}
 use Rattle.sdb_exec.proofs.Whole.{own}
 use Rattle.sdb_types.proofs.Basics.{by_test}
+use Rattle.sdb_model.specs.Tables.{is_data}
 
 ---- the keys of an access are of its table
 

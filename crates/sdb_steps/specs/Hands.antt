@@ -7,7 +7,6 @@ use Rattle.sdb_record.specs.Meta.{is_moment}
 use Rattle.sdb_record.specs.declared.access.Access.{Access}
 use Rattle.sdb_schema.specs.declared.table.Table.{Table}
 use Rattle.sdb_model.specs.declared.answer.Answer.{Answer}
-use Rattle.sdb_model.specs.declared.answer.Answer.TheVariants as answer
 use Rattle.sdb_model.specs.declared.statement.Statement.{Statement}
 use Rattle.sdb_model.specs.Exec.{named_table}
 use Rattle.sdb_model.specs.Refused.{refusal_of}
@@ -19,7 +18,7 @@ use Rattle.sdb_txn.specs.declared.txn.Doing.{Doing}
 use Rattle.sdb_txn.specs.declared.txn.Doing.TheVariants as doing
 use Rattle.sdb_txn.specs.Txn.{TxnAt}
 use Rattle.sdb_vacuum.specs.Vacuum.{VacuumAt}
-use Rattle.sdb_client.specs.Client.{ClientAt as Client, IsBusy, IsIdle, Taking, TextTold, client_pending, starved}
+use Rattle.sdb_client.specs.Client.{ClientAt as Client, IsBusy, IsIdle, client_pending}
 use Rattle.sdb_client.specs.declared.gate.Gate.{Gate}
 use Rattle.sdb_model.specs.Transactions.{changes_nothing}
 use Rattle.sdb_linked.specs.Going.{IsMild}
@@ -79,11 +78,6 @@ pub record IsReady (hands : ℕ → Hand) (c : ℕ) : Type 0 where
 pub record IsGated (gate : Gate) (hands : ℕ → Hand) (c : ℕ) : Type 0 where
   pub sweeps : gate.vacuum_runs ≡ false → (d : ℕ) → d ≢ c → (hands d).stopped ≡ false → (hands d).client.vacuum ≡ None
   pub opens : gate.open_elsewhere ≡ false → (d : ℕ) → d ≢ c → (hands d).stopped ≡ false → (hands d).client.txn ≡ None
-
--- What the taking of a text by a client comes to: that, or out of memory.
-pub record Takes (q : Taking) (text : List ℕ) (c : Client) (result : Option Answer) (d : Client) : Type 0 where
-  pub memory : result ≡ Some answer.NoMemory → d ≡ starved text c
-  pub told : result ≢ Some answer.NoMemory → TextTold q text c result d
 
 -- an answer that changes nothing, and is neither of a BEGIN nor of an end
 pub record IsPlainAnswer (b : Answer) : Type 0 where

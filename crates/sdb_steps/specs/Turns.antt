@@ -16,13 +16,13 @@ use Rattle.sdb_model.specs.Refused.{refusal_of}
 use Rattle.sdb_exec.specs.declared.plan.PlanStep.TheVariants.{Finished}
 use Rattle.sdb_exec.specs.Plans.{Planned, has_all_literals, step_of}
 use Rattle.sdb_exec.specs.Reads.{access_of}
-use Rattle.sdb_client.specs.Client.{ClientAt as Client, ReplyTold, Taking, client_pending, next_id}
-use Rattle.sdb_laws.specs.Lawful.{is_data}
+use Rattle.sdb_client.specs.Client.{ClientAt as Client, ReplyTold, Taking, client_pending, next_id, Takes}
 use Rattle.sdb_snapshot.specs.Seen.{Seen, overlay}
 use Rattle.sdb_turns.specs.System.{ClientCall, call_event}
 use Rattle.sdb_linked.specs.Going.{IsGoing}
 use Rattle.sdb_steps.specs.Fitting.{tables_fit}
-use Rattle.sdb_steps.specs.Hands.{Hand, IsCalled, IsGated, IsReady, Takes, doing_of, system_of, with_hand}
+use Rattle.sdb_steps.specs.Hands.{Hand, IsCalled, IsGated, IsReady, doing_of, system_of, with_hand}
+use Rattle.sdb_model.specs.Tables.{is_data}
 
 ---- plans
 

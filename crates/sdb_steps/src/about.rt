@@ -5,11 +5,10 @@ ghost use Rattle.sdb_types.specs.Contents.{CanAnswer};
 ghost use Rattle.sdb_schema.specs.declared.table.Table.{Table};
 ghost use Rattle.sdb_model.specs.declared.answer.Answer.{Answer};
 ghost use Rattle.sdb_model.specs.Events.{table_asked};
-ghost use Rattle.sdb_client.specs.Client.{ClientAt as Client, IsIdle, Taking, client_pending, nothing_done};
-ghost use Rattle.sdb_spread.specs.Spread.{is_played};
+ghost use Rattle.sdb_client.specs.Client.{ClientAt as Client, IsIdle, Taking, client_pending, nothing_done, Takes};
 ghost use Rattle.sdb_steps.specs.About.{IsOfTables};
-ghost use Rattle.sdb_steps.specs.Hands.{Takes};
 ghost use Rattle.sdb_steps.specs.Turns.{ClientReplied};
+ghost use Rattle.sdb_model.specs.Tables.{is_played};
 
 /// A client that has done nothing is about tables of the catalog, and so it is after each text that it takes and each reply that
 /// its call can get. Each call that it has pending is about a table of the catalog, or the coordinator's.

@@ -3,11 +3,11 @@ ghost use Rattle.std.specs.Prelude.{◌≡◌, true, List, is_some};
 ghost use Rattle.sdb_types.specs.declared.key.Key.{Key};
 ghost use Rattle.sdb_schema.specs.declared.table.Table.{Table};
 ghost use Rattle.sdb_model.specs.Exec.{find_table};
-ghost use Rattle.sdb_laws.specs.Lawful.{is_data};
 ghost use Rattle.sdb_story.specs.Body.{AnswersOn};
 ghost use Rattle.sdb_story.specs.Left.{IsFitting};
 ghost use Rattle.sdb_steps.specs.Fitting.{tables_fit};
 ghost use Rattle.sdb_steps.specs.Turns.{FinishedPlan, access_in};
+ghost use Rattle.sdb_model.specs.Tables.{is_data};
 
 /// Empty tables fit, and tables that fit have no row outside the catalog's tables, of which none is the coordinator's. Where a plan
 /// finishes on the rows that a transaction sees, its answer and its changes are those of its statement on all tables that fit and have

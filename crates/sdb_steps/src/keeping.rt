@@ -2,8 +2,8 @@
 ghost use Rattle.std.specs.Prelude.{ℕ, List, Option};
 ghost use Rattle.sdb_schema.specs.declared.table.Table.{Table};
 ghost use Rattle.sdb_model.specs.declared.answer.Answer.{Answer};
-ghost use Rattle.sdb_client.specs.Client.{ClientAt as Client, IsIdle, Taking};
-ghost use Rattle.sdb_steps.specs.Hands.{IsAfter, IsFitted, Takes};
+ghost use Rattle.sdb_client.specs.Client.{ClientAt as Client, IsIdle, Taking, Takes};
+ghost use Rattle.sdb_steps.specs.Hands.{IsAfter, IsFitted};
 ghost use Rattle.sdb_steps.specs.Turns.{ClientReplied};
 
 /// Whatever a client takes and whatever reply it gets, it is the same client after it, and what it reads then is of a statement that

@@ -22,12 +22,13 @@ use Rattle.sdb_model.specs.declared.statement.Statement.{Statement}
 use Rattle.sdb_model.specs.Events.{Shelf}
 use Rattle.sdb_model.specs.Images.{row_at}
 use Rattle.sdb_model.specs.Told.{AreRead, serial}
-use Rattle.sdb_laws.specs.Lawful.{Played, is_data, talk}
+use Rattle.sdb_laws.specs.Lawful.{Played, talk}
 use Rattle.sdb_turns.specs.Noted.{SeenOk, work_of}
 use Rattle.sdb_model.specs.Noted.{Note, Got, Scanned, noted_in}
 use Rattle.sdb_phases.specs.Work.{Work}
 use Rattle.sdb_turns.specs.Owner.{plan_of}
 use Rattle.sdb_story.specs.Body.{BodyOk}
+use Rattle.sdb_model.specs.Tables.{is_data}
 
 -- Each record that is noted is that of some transaction, and shows the row that this one left there.
 abbrev pub AreLeft : (ℕ → Plan) → Seen → Type 0

@@ -28,7 +28,7 @@ use Rattle.sdb_model.specs.Rows.{Name}
 use Rattle.sdb_laws.specs.Plan.{Plan}
 use Rattle.sdb_laws.specs.History as laws
 use Rattle.sdb_laws.specs.History.{Role, Other, Removes}
-use Rattle.sdb_laws.specs.Lawful.{Played, MayPlay, talk, is_quiet, is_data, plays, ends_with}
+use Rattle.sdb_laws.specs.Lawful.{Played, MayPlay, talk, is_quiet, plays, ends_with}
 use Rattle.sdb_phases.specs.declared.step.RecoverStep.{RecoverStep}
 use Rattle.sdb_phases.specs.declared.step.RecoverStep.TheVariants as steps
 use Rattle.sdb_phases.specs.declared.step.RecoverPhase.{RecoverPhase}
@@ -50,6 +50,7 @@ use Rattle.sdb_turns.proofs.Rows.{rise_is, inside_each, rows_left, read_kept, re
 use Rattle.sdb_turns.proofs.Seen.{seen_later}
 use Rattle.sdb_types.proofs.Basics.{some_is, all_each as each_any}
 use Rattle.sdb_read.specs.Read.{request_of, Kind, Firm, Open, Bad}
+use Rattle.sdb_model.specs.Tables.{is_data}
 
 ---- parts of a recovery
 

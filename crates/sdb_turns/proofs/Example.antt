@@ -15,7 +15,7 @@ use Rattle.sdb_model.specs.declared.answer.Answer.{Answer}
 use Rattle.sdb_model.specs.declared.answer.Answer.TheVariants as answer
 use Rattle.sdb_model.specs.declared.event.Event.TheVariants as event
 use Rattle.sdb_laws.specs.History.{Other, Talk, Decides, Yes, heard}
-use Rattle.sdb_laws.specs.Lawful.{Played, is_data, talk, plays}
+use Rattle.sdb_laws.specs.Lawful.{Played, talk, plays}
 use Rattle.sdb_laws.specs.Plan.{Plan}
 use Rattle.sdb_laws.specs.Worked.{account, nothing as no_plan, inserts}
 use Rattle.sdb_laws.proofs.Texts.{begin_begins, commit_commits}
@@ -35,6 +35,7 @@ use Rattle.sdb_turns.proofs.Commit.{commit_turn}
 use Rattle.sdb_turns.proofs.Quiet.{quiet_turn, asks, notes, writes}
 use Rattle.sdb_turns.proofs.Take.{take_turn}
 use Rattle.sdb_read.specs.Read.{Kind, Bad}
+use Rattle.sdb_model.specs.Tables.{is_data}
 
 abbrev plans : ℕ → Plan
 plans t = no_plan

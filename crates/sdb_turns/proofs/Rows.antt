@@ -27,7 +27,7 @@ use Rattle.sdb_model.specs.declared.answer.Answer.{Answer}
 use Rattle.sdb_model.specs.declared.event.Event.TheVariants as event
 use Rattle.sdb_model.specs.declared.event.How.{How}
 use Rattle.sdb_model.specs.Rows.{Name}
-use Rattle.sdb_laws.specs.Lawful.{Played, is_data, IsShown, IsHeldShown, IsSettled, Itself, Forward, Back, plays}
+use Rattle.sdb_laws.specs.Lawful.{Played, IsShown, IsHeldShown, IsSettled, Itself, Forward, Back, plays}
 use Rattle.sdb_phases.specs.declared.step.RecoverStep.{RecoverStep}
 use Rattle.sdb_phases.specs.declared.step.RecoverStep.TheVariants as steps
 use Rattle.sdb_phases.specs.declared.step.RecoverPhase.{RecoverPhase}
@@ -41,6 +41,7 @@ use Rattle.sdb_turns.proofs.Reading.{IsImageOf, phase_kept, image_settled}
 use Rattle.sdb_types.proofs.Basics.{less_of, all_each as each_any}
 use Rattle.sdb_types.proofs.Keys.{same_key_self, same_key_is, same_key_turned}
 use Rattle.sdb_read.specs.Read.{request_of, Kind, Firm, Open, Bad}
+use Rattle.sdb_model.specs.Tables.{is_data}
 
 ---- what stays
 

@@ -25,7 +25,7 @@ use Rattle.sdb_record.specs.Meta.{id_in, is_moment}
 use Rattle.sdb_record.specs.Moved.{version_of, same_version}
 use Rattle.sdb_record.specs.Rolls.{IsBaseOf, IsWrite}
 use Rattle.sdb_record.specs.Among.{version_among}
-use Rattle.sdb_laws.specs.Lawful.{Played, is_data, IsSettled}
+use Rattle.sdb_laws.specs.Lawful.{Played, IsSettled}
 use Rattle.sdb_phases.specs.Checks.{base_of}
 use Rattle.sdb_snapshot.specs.Noted.{Note, IsUnmoved, has_moved, is_noted, base_at, with_note, with_images, reads_of}
 use Rattle.sdb_snapshot.specs.Written as snap
@@ -41,6 +41,7 @@ use Rattle.sdb_turns.proofs.Lists.{each_both, each_more, each_unmap}
 use Rattle.sdb_turns.proofs.Rows.{settled_later}
 use Rattle.sdb_types.proofs.Basics.{or_else, all_each as each_any}
 use Rattle.sdb_types.proofs.Keys.{same_key_tells, same_key_self, same_key_exact}
+use Rattle.sdb_model.specs.Tables.{is_data}
 
 ---- what stays
 

@@ -19,7 +19,7 @@ use Rattle.sdb_model.specs.Sql.{reads_commit}
 use Rattle.sdb_laws.specs.Plan.{Plan, write_at, noted, number_of}
 use Rattle.sdb_laws.specs.History.{Talk, Takes, heard, at}
 use Rattle.sdb_laws.specs.History as laws
-use Rattle.sdb_laws.specs.Lawful.{Played, id, talk, is_data, IsSettled, IsKnownCommitted, InCommit, MayTake}
+use Rattle.sdb_laws.specs.Lawful.{Played, id, talk, IsSettled, IsKnownCommitted, InCommit, MayTake}
 use Rattle.sdb_laws.proofs.Known.{write_key}
 use Rattle.sdb_phases.specs.declared.step.DecidePhase.TheVariants as phase
 use Rattle.sdb_phases.specs.declared.step.Outcome.{Outcome}
@@ -39,6 +39,7 @@ use Rattle.sdb_turns.proofs.Lists.{each_at, each_map, each_filter}
 use Rattle.sdb_turns.proofs.Seen.{sound_of, settled_of}
 use Rattle.sdb_turns.proofs.Work.{work_ok, got_says, scan_says, noted_by, not_noted}
 use Rattle.sdb_types.proofs.Basics.{append_all as each_append, all_each as each_any}
+use Rattle.sdb_model.specs.Tables.{is_data}
 
 plan_here : (plan : ℕ → Plan) (p : Work) → with_plan plan p p.id.0 ≡ plan_of p
 plan_here plan p = ap (λ b. if b then plan_of p else plan p.id.0) (itself p.id.0)

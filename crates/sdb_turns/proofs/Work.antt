@@ -21,7 +21,6 @@ use Rattle.sdb_record.specs.Rolls.{IsWrite}
 use Rattle.sdb_record.specs.Among.{version_among, write_among, is_written}
 use Rattle.sdb_laws.specs.Plan.{write_at, written, noted, number_of}
 use Rattle.sdb_model.specs.Noted.{Note, Got, Scanned, version_noted}
-use Rattle.sdb_laws.specs.Lawful.{is_data}
 use Rattle.sdb_phases.specs.declared.check.Check.{Check}
 use Rattle.sdb_phases.specs.Work.{Work}
 use Rattle.sdb_phases.specs.Checks.{checks, check_of_read, check_of_scan, base_of, first_difference, wanted, changed}
@@ -37,6 +36,7 @@ use Rattle.sdb_types.proofs.Basics.{none_some as some_apart, not_true, append_al
 use Rattle.sdb_types.proofs.Bools.{and_first as rises}
 use Rattle.sdb_types.specs.Order.{same_key}
 use Rattle.sdb_types.proofs.Keys.{same_key_tells, same_key_self}
+use Rattle.sdb_model.specs.Tables.{is_data}
 
 ---- the write of a key
 

@@ -17,7 +17,7 @@ use Rattle.sdb_record.specs.Rolls.{IsWrite}
 use Rattle.sdb_record.specs.Among.{version_among}
 use Rattle.sdb_laws.specs.History as laws
 use Rattle.sdb_laws.specs.History.{Talk}
-use Rattle.sdb_laws.specs.Lawful.{Played, is_data, IsSettled}
+use Rattle.sdb_laws.specs.Lawful.{Played, IsSettled}
 use Rattle.sdb_phases.specs.Work.{Work}
 use Rattle.sdb_phases.specs.Checks.{base_of}
 use Rattle.sdb_snapshot.specs.Noted.{Note, IsUnmoved, is_noted, base_at}
@@ -25,6 +25,7 @@ use Rattle.sdb_snapshot.specs.Written.{HaveKeysOnce}
 use Rattle.sdb_snapshot.specs.Seen.{Seen, with_get, with_scan}
 use Rattle.sdb_snapshot.specs.Held.{AreKept}
 use Rattle.sdb_validate.specs.Rescan.{reads_rise}
+use Rattle.sdb_model.specs.Tables.{is_data}
 
 ---- versions
 

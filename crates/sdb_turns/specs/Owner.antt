@@ -15,7 +15,7 @@ use Rattle.sdb_laws.specs.Plan.{Plan, write_at, written, noted}
 use Rattle.sdb_model.specs.Noted.{Note, Got, Scanned}
 use Rattle.sdb_laws.specs.History as laws
 use Rattle.sdb_laws.specs.History.{Role, Other, Prepares, Checks, Decides, Aborts, Rolls, Talk}
-use Rattle.sdb_laws.specs.Lawful.{Played, id, talk, is_data, word_of, InCommit, IsUnchanged, IsKnownCommitted, IsKnownAborted, IsBadRow}
+use Rattle.sdb_laws.specs.Lawful.{Played, id, talk, word_of, InCommit, IsUnchanged, IsKnownCommitted, IsKnownAborted, IsBadRow}
 use Rattle.sdb_phases.specs.declared.step.Outcome.{Outcome}
 use Rattle.sdb_phases.specs.declared.step.Outcome.TheVariants as outcome
 use Rattle.sdb_phases.specs.declared.check.Check.{Check}
@@ -24,6 +24,7 @@ use Rattle.sdb_phases.specs.Work.{Work}
 use Rattle.sdb_phases.specs.Checks.{checks}
 use Rattle.sdb_phases.specs.Commit.{Stage, Preparing, Checking, Deciding, Forward, Stopping, Back, Over}
 use Rattle.sdb_phases.specs.CommitLaws.{as_wished, IsLost}
+use Rattle.sdb_model.specs.Tables.{is_data}
 
 ---- the plan of a COMMIT
 

@@ -14,7 +14,7 @@ use Rattle.sdb_record.specs.declared.meta.Meta.{Meta}
 use Rattle.sdb_record.specs.Meta.{checked, is_committed, is_in, is_taken, is_unresolved}
 use Rattle.sdb_model.specs.Access.{in_access}
 use Rattle.sdb_laws.specs.History.{Role, Other}
-use Rattle.sdb_laws.specs.Lawful.{Played, is_data, IsShown, IsSettled}
+use Rattle.sdb_laws.specs.Lawful.{Played, IsShown, IsSettled}
 use Rattle.sdb_phases.specs.declared.step.RecoverStep.{RecoverStep}
 use Rattle.sdb_phases.specs.declared.step.RecoverStep.TheVariants as steps
 use Rattle.sdb_phases.specs.declared.step.RecoverPhase.{RecoverPhase}
@@ -22,6 +22,7 @@ use Rattle.sdb_phases.specs.declared.step.RecoverPhase.TheVariants as phase
 use Rattle.sdb_phases.specs.Recover.{recover_next, recover_request_at}
 use Rattle.sdb_turns.specs.Reader.{RecoverOk, recover_role}
 use Rattle.sdb_read.specs.Read.{request_of, Kind, Firm, Open, Bad}
+use Rattle.sdb_model.specs.Tables.{is_data}
 
 ---- rows
 

@@ -7,9 +7,10 @@ use Rattle.sdb_record.specs.declared.coordinator.Decision.TheVariants as decisio
 use Rattle.sdb_record.specs.declared.meta.Meta.{Meta}
 use Rattle.sdb_record.specs.Meta.{id_in, is_in, is_moment, is_committed, is_unresolved}
 use Rattle.sdb_laws.specs.History.{Role, Other, Aborts, Rolls}
-use Rattle.sdb_laws.specs.Lawful.{Played, is_data, word_of, talk, IsShown, IsRowShown}
+use Rattle.sdb_laws.specs.Lawful.{Played, word_of, talk, IsShown, IsRowShown}
 use Rattle.sdb_phases.specs.declared.step.RecoverPhase.{RecoverPhase}
 use Rattle.sdb_phases.specs.declared.step.RecoverPhase.TheVariants as phase
+use Rattle.sdb_model.specs.Tables.{is_data}
 
 -- The part of a recovery's call: a put of the row ABORTED of the record's transaction, or the roll of the record.
 abbrev pub recover_role : Record → Meta → RecoverPhase → Reply → Role

@@ -13,7 +13,7 @@ use Rattle.sdb_record.specs.declared.meta.Meta.{Meta}
 use Rattle.sdb_record.specs.Meta.{id_in}
 use Rattle.sdb_record.specs.Rolls.{is_tombstone, remove_request}
 use Rattle.sdb_laws.specs.History.{Role, Other, Removes}
-use Rattle.sdb_laws.specs.Lawful.{Played, is_data}
+use Rattle.sdb_laws.specs.Lawful.{Played}
 use Rattle.sdb_phases.specs.declared.step.RecoverStep.{RecoverStep}
 use Rattle.sdb_phases.specs.declared.step.RecoverStep.TheVariants as steps
 use Rattle.sdb_phases.specs.declared.step.RecoverPhase.{RecoverPhase}
@@ -22,6 +22,7 @@ use Rattle.sdb_phases.specs.Recover.{recover_next, recover_request_at}
 use Rattle.sdb_turns.specs.Reader.{RecoverOk, recover_role}
 use Rattle.sdb_turns.specs.ReadAt.{IsImage, IsLeft, IsOfData}
 use Rattle.sdb_read.specs.Read.{Kind, Firm, Open, Bad}
+use Rattle.sdb_model.specs.Tables.{is_data}
 
 ---- the model
 

@@ -11,13 +11,12 @@ use Rattle.sdb_stores.specs.declared.place.Place.{Place}
 use Rattle.sdb_model.specs.declared.script.Script.{Script}
 use Rattle.sdb_model.specs.Events.{Effect, IsTrace, Shelf}
 use Rattle.sdb_model.specs.Exec.{find_table}
-use Rattle.sdb_model.specs.Explained.{Explained}
+use Rattle.sdb_model.specs.Explained.{Explained, AreTaken}
 use Rattle.sdb_spread.specs.Spread.{HoldAs}
 use Rattle.sdb_stores.specs.Shelf.{Attached}
 use Rattle.sdb_board.specs.Board.{shown}
 use Rattle.sdb_steps.specs.Fitting.{tables_fit}
 use Rattle.sdb_steps.specs.Hands.{doing_of, system_of}
-use Rattle.sdb_endings.specs.Stores.{AreTaken}
 use Rattle.sdb_endings.proofs.Explains.{going_is_explained, going_is_taken}
 use Rattle.sdb_endings.proofs.Moments.{lone_effect}
 use Rattle.sdb_execution.specs.Execution.{IsExecution, IsPlayable, IsReachedBy}

@@ -16,20 +16,19 @@ use Rattle.sdb_model.specs.declared.event.How.{How}
 use Rattle.sdb_model.specs.Rows.{Name}
 use Rattle.sdb_model.specs.Events.{store_of, table_asked}
 use Rattle.sdb_model.specs.Follows.{texts_of}
-use Rattle.sdb_spread.specs.Spread.{is_played}
-use Rattle.sdb_client.specs.Client.{ClientAt, ReplyTold, client_pending, next_id}
+use Rattle.sdb_client.specs.Client.{ClientAt, ReplyTold, client_pending, next_id, Takes}
 use Rattle.sdb_client.specs.declared.gate.Gate.{Gate}
 use Rattle.sdb_board.specs.Board.{AreFit, IsMade, shown}
 use Rattle.sdb_board.proofs.Made.{asked}
 use Rattle.sdb_board.proofs.Shelves.{named_home}
-use Rattle.sdb_steps.specs.Hands.{Takes}
 use Rattle.sdb_execution.specs.declared.seat.Seat.{Seat}
 use Rattle.sdb_world.specs.declared.way.Way.{Way}
-use Rattle.sdb_causes.specs.Unfit.{shows_stored}
 use Rattle.sdb_executions.specs.World.{IsWorld, WorldAt}
 use Rattle.sdb_world.specs.Step.{HasCalled, HasLeft, HasTaken, IsHowOf, IsPendingAt}
 use Rattle.sdb_execution.specs.Execution.{IsGateAt}
 use Rattle.sdb_types.proofs.Basics.{some_is}
+use Rattle.sdb_model.specs.Tables.{is_played}
+use Rattle.sdb_model.specs.Calls.{shows_stored}
 
 -- the client that was read at a place is there
 pub read_there : (seats : List Seat) (i : ℕ) (s : Seat) → i < length seats → s ≡ get_or seats i s → slice_get seats i ≡ Some s

@@ -5,12 +5,11 @@ use Rattle.sdb_model.specs.declared.event.Event.{Event}
 use Rattle.sdb_stores.specs.declared.place.Place.{Place}
 use Rattle.sdb_model.specs.declared.script.Script.{Script}
 use Rattle.sdb_model.specs.Events.{IsTrace, Shelf}
-use Rattle.sdb_model.specs.Explained.{Explained}
+use Rattle.sdb_model.specs.Explained.{Explained, AreTaken}
 use Rattle.sdb_model.specs.Shown.{AreShown}
 use Rattle.sdb_spread.specs.Spread.{HoldAs}
 use Rattle.sdb_stores.specs.Shelf.{Attached}
 use Rattle.sdb_board.specs.Board.{AreFit, shown}
-use Rattle.sdb_endings.specs.Stores.{AreTaken}
 use Rattle.sdb_executions.specs.World.{WorldAt, state_of}
 use Rattle.sdb_execution.specs.Execution.{IsReachedBy}
 

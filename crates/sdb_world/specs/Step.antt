@@ -18,18 +18,17 @@ use Rattle.sdb_model.specs.declared.script.ScriptClient.{ScriptClient}
 use Rattle.sdb_model.specs.Rows.{Name}
 use Rattle.sdb_model.specs.Events.{IsTrace, Shelf, store_of, table_asked}
 use Rattle.sdb_model.specs.Follows.{AllIdle, AreMoved, AreStepsOf, IsActed, IsAmong, IsHowOfDiscard, IsHowOfLose, IsHowOfStep, IsMoved, has_work, texts_of}
-use Rattle.sdb_client.specs.Client.{ClientAt, IsBusy, IsIdle, ReplyTold, client_pending, next_id}
+use Rattle.sdb_client.specs.Client.{ClientAt, IsBusy, IsIdle, ReplyTold, client_pending, next_id, Takes}
 use Rattle.sdb_client.specs.declared.gate.Gate.{Gate}
-use Rattle.sdb_spread.specs.Spread.{is_played}
 use Rattle.sdb_stores.specs.Shelf.{Attached}
 use Rattle.sdb_board.specs.Board.{AreFit, IsMade, shown}
-use Rattle.sdb_causes.specs.Unfit.{shows_stored}
-use Rattle.sdb_steps.specs.Hands.{Takes}
 use Rattle.sdb_execution.specs.declared.seat.Seat.{Seat}
 use Rattle.sdb_world.specs.declared.way.Way.{Way}
 use Rattle.sdb_world.specs.declared.way.Way.TheVariants as way
 use Rattle.sdb_executions.specs.World.{WorldAt, state_of, with_event, with_seat}
 use Rattle.sdb_execution.specs.Execution.{IsGateAt, IsPath, moved_seat, stopped_seat}
+use Rattle.sdb_model.specs.Tables.{is_played}
+use Rattle.sdb_model.specs.Calls.{shows_stored}
 
 -- a client has that number
 abbrev pub IsNumber : Script → ℕ → Type 0

@@ -3,8 +3,7 @@ use Rattle.std.proofs.Common.{rules, ◌≡◌, ◌≢◌, ◌∙◌, ◌<◌, �
 use Rattle.sdb_types.specs.declared.txid.TxId.{TxId}
 use Rattle.sdb_model.specs.declared.answer.Answer.{Answer}
 use Rattle.sdb_model.specs.declared.answer.Answer.TheVariants as answer
-use Rattle.sdb_client.specs.Client.{TextTold, next_id}
-use Rattle.sdb_steps.specs.Hands.{Takes}
+use Rattle.sdb_client.specs.Client.{TextTold, next_id, Takes}
 use Rattle.sdb_execution.specs.declared.seat.Seat.{Seat}
 use Rattle.sdb_execution.specs.Execution.{IsGateAt, State, TakeStep, moved_seat, with_seat_at}
 use Rattle.sdb_executed.proofs.Steps.{took}

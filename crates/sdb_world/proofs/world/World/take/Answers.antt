@@ -1,10 +1,9 @@
 use mir.Val.{of_z, to_z}
 use Rattle.std.proofs.Common.{rules, ◌≡◌, ◌≢◌, ◌∙◌, ◌<◌, ◌^◌, ℤ, suc, Some, ap, arith, get_or, length, subst, w64}
 use Rattle.sdb_model.specs.declared.answer.Answer.TheVariants as answer
-use Rattle.sdb_client.specs.Client.{TextTold, next_id}
+use Rattle.sdb_client.specs.Client.{TextTold, next_id, Takes}
 use Rattle.sdb_client.specs.declared.gate.Gate.{Gate}
 use Rattle.sdb_model.specs.Follows.{texts_of}
-use Rattle.sdb_steps.specs.Hands.{Takes}
 use Rattle.sdb_types.specs.declared.txid.TxId.{TxId}
 use Rattle.sdb_executions.specs.World.{WorldAt}
 use Rattle.sdb_world.proofs.Takings.{next_short, some_left, took}
