@@ -7,6 +7,7 @@ use Rattle.sdb_types.specs.declared.key.Key.{Key}
 use Rattle.sdb_types.specs.declared.pair.Pair.{Pair}
 use Rattle.sdb_types.proofs.Basics.{clash}
 use Rattle.sdb_record.specs.Coordinator.{coordinator_table}
+use Rattle.sdb_model.specs.Noted.{read_finished}
 use Rattle.sdb_model.specs.declared.event.Event.{Event}
 use Rattle.sdb_stores.specs.Shelf.{Attached, Shelf as Counted, AreDistinct, HaveRisen, names_of, total_faults}
 use Rattle.sdb_model.specs.declared.event.Outcome.{Outcome}
@@ -19,7 +20,7 @@ use Rattle.sdb_model.specs.Events.{Shelf, store_of}
 use Rattle.sdb_model.specs.Exec.{find_table}
 use Rattle.sdb_model.specs.Follows.{Follows}
 use Rattle.sdb_model.specs.Told.{IsRun}
-use Rattle.sdb_model.specs.Transactions.{Said, is_answered_from_rows}
+use Rattle.sdb_model.specs.Transactions.{Said}
 use Rattle.sdb_spread.specs.Spread.{HoldAs}
 use Rattle.sdb_board.specs.Board.{AreFit, GoOn, HoldTheSame, known_before, shown}
 use Rattle.sdb_board.specs.Opening.{HoldNothing, IsFirstKey, first_key, opening_in, opening_records, run_tables}
@@ -161,9 +162,9 @@ shown_of script opening events none caused resolved explained moments end traced
     read : (c : ℕ) (s : Said) (key : Key) (row : Option (List Pair)) → WasRead script.catalog events c s key row → ReadBy script.catalog events c s key row
     read c s key row w = (by s.answer refl w.1.told, w.1.table, w.1.found)
       where
-        by : (o : Option Answer) → s.answer ≡ o → option_map_or is_answered_from_rows o false ≡ true → IsReader events c s
+        by : (o : Option Answer) → s.answer ≡ o → option_map_or read_finished o false ≡ true → IsReader events c s
         by None e h = clash (sym h)
-        by (Some a) e h = record { among = w.0; a = a; answer = e; from_rows = h; no_vacuum = w.1.no_vacuum }
+        by (Some a) e h = record { among = w.0; a = a; answer = e; finished = h; no_vacuum = w.1.no_vacuum }
 
 played_on : (script : Script) (old mid then : Attached) (new : List Shelf) (o : Outcome) → mid.places ≡ script.places → mid.shelves ≡ old.shelves → GoOn mid then → AreFit script.catalog mid
     → first_key (opening_in script.catalog mid) ≡ None → HoldTheSame mid then → (AreReady script then → IsRun script (shown then.shelves) new o) → (AreReady script then → IsExplained script o.events (shown then.shelves)) → AnswersHaveCauses script.catalog o.events → find_table script.catalog coordinator_table ≡ None → AreResolved o.events → IsPlayable script → IsExecution script o.events → outcome_fits o → IsPlayed script (shown old.shelves) new o

@@ -22,14 +22,14 @@ use Rattle.sdb_model.specs.Access.{with_row}
 use Rattle.sdb_model.specs.Calls.{Made, calls_of}
 use Rattle.sdb_model.specs.Exec.{Tables}
 use Rattle.sdb_model.specs.Sql.{reads_commit}
-use Rattle.sdb_model.specs.Told.{AreRead}
 use Rattle.sdb_model.specs.Transactions.{Said, changes_nothing, commit_of, ends, from_begin, id_of, point, rest_of, said}
 use Rattle.sdb_session.specs.Keys.{keys_on, keys_written, with_keys}
 use Rattle.sdb_causes.proofs.Conflicts.{prepared_is}
 use Rattle.sdb_causes.proofs.Given.{IsMiddle}
 use Rattle.sdb_causes.proofs.Takings.{middle_ends}
 use Rattle.sdb_executions.specs.Forged.{CommitText, InsertOn, SelectOn, StatementOn, decides_early, decides_unapplied, decides_unprepared, insert_key, prepare_first, prepares_unwritten}
-use Rattle.sdb_executions.specs.Found.{answered_body, found_by, nothing_found, with_found}
+use Rattle.sdb_executions.specs.Found.{AllRunAs, answered_inside, found_by, nothing_found, with_found}
+use Rattle.sdb_causes.proofs.Shows.{effective_by}
 use Rattle.sdb_executions.specs.Laws.{row_put}
 use Rattle.sdb_executions.specs.Written.{CommitsPrepareWritten, DecisionsFollowPoints, IsAfterPoint, PreparesAll, keys_of}
 use Rattle.sdb_executions.proofs.ForgedFound.{after_call, begin_said, begun, got_none, got_removed, insert_commits, one_running, select_commits, since_first}
@@ -63,7 +63,7 @@ module _ (f : StatementOn) (no_commit : reads_commit f.text ≡ false) (b : Answ
   since : rest_of (from_begin 1 (said 1 events)) ≡ s ∷ z ∷ []
   since = ap (λ ss. rest_of (from_begin 1 ss)) says ∙ since_first (begin_said f) (s ∷ z ∷ []) (begun f)
 
-  ran : answered_body events (id_of 1 1) ≡ s ∷ []
+  ran : answered_inside events (id_of 1 1) ≡ s ∷ []
   ran = ap running since ∙ running_ended (s ∷ []) z [] (goes_on, tt) over ∙ one_running s f.statement b (record { reads = f.reads; answered = refl; middle = middle; changes = changes; no_commit = no_commit })
 
   commits : commit_of events (id_of 1 1) ≡ Some z
@@ -76,9 +76,9 @@ module _ (f : StatementOn) (no_commit : reads_commit f.text ≡ false) (b : Answ
   abbrev found : Tables
   found = (with_found nothing_found (found_by (read_call q r ∷ []))).rows
 
-  keys_are : keys_of f.catalog events 1 (answered_body events (id_of 1 1)) (f.statement ∷ []) ≡ with_keys [] (keys_on f.table f.statement found)
+  keys_are : keys_of f.catalog events 1 (answered_inside events (id_of 1 1)) (Some f.statement ∷ []) ≡ with_keys [] (keys_on f.table f.statement found)
   keys_are =
-      ap (λ ss. keys_of f.catalog events 1 ss (f.statement ∷ [])) ran
+      ap (λ ss. keys_of f.catalog events 1 ss (Some f.statement ∷ [])) ran
       ∙ ap (λ ms. with_keys [] (keys_written f.catalog f.statement (with_found nothing_found (found_by ms)).rows)) reads
       ∙ ap (λ (o : Option Table). with_keys [] (option_map_or (λ x. keys_on x f.statement found) o [])) f.named
 
@@ -86,7 +86,7 @@ module _ (f : StatementOn) (no_commit : reads_commit f.text ≡ false) (b : Answ
   commit_prepares : CommitsPrepareWritten f.catalog events → PreparesAll (with_keys [] (keys_on f.table f.statement found)) (id_of 1 1) (calls_of events 1 z)
   commit_prepares law =
       subst (λ ks. PreparesAll ks (id_of 1 1) (calls_of events 1 z)) keys_are
-      (law 1 z (id_of 1 1) (record { commit = (refl, commits); statements = f.statement ∷ []; read = subst (λ ss. AreRead ss (f.statement ∷ [])) (sym ran) (f.reads, tt) }))
+      (law 1 z (id_of 1 1) (record { commit = (refl, commits); statements = Some f.statement ∷ []; run = subst (λ ss. AllRunAs ss (Some f.statement ∷ [])) (sym ran) ((effective_by s b false refl changes, f.reads), tt) }))
 
 ---- the forgeries
 

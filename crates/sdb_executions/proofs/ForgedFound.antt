@@ -36,7 +36,7 @@ use Rattle.sdb_model.specs.Access.{with_row}
 use Rattle.sdb_model.specs.Calls.{Made, calls_of, put_by}
 use Rattle.sdb_model.specs.Exec.{Tables, answer_of, cut, exec, exec_in, left_by, nat_of, passes, passing, row_of_entry, shown, sorted, with_named}
 use Rattle.sdb_model.specs.Sql.{Reads, reads_commit}
-use Rattle.sdb_model.specs.Told.{AreRead}
+use Rattle.sdb_model.specs.Noted.{has_finished}
 use Rattle.sdb_model.specs.Transactions.{Said, begins, changes_nothing, from_begin, is_effective, rest_of, said, through_end, statements_of, ends}
 use Rattle.sdb_sqltext.proofs.Clauses.{one_statement}
 use Rattle.sdb_steps.proofs.Taken.{other_no_commit}
@@ -44,8 +44,8 @@ use Rattle.sdb_causes.proofs.Given.{IsMiddle}
 use Rattle.sdb_causes.proofs.Shows.{effective_by}
 use Rattle.sdb_causes.proofs.Takings.{middle_ends}
 use Rattle.sdb_executions.specs.Forged.{FindsRow, InsertOn, SelectOn, ShowsRow, StatementOn, UpdateOn, answered_after, answered_at_once, counts_over, counts_twice, counts_unread, duplicates_none, insert_key, leaves_out, shows_two, shows_unread, reads_again, FindsUnresolved, shows_unrolled}
-use Rattle.sdb_model.specs.Noted.{meaning_of, rolls}
-use Rattle.sdb_executions.specs.Found.{IsRunOnFound, RunsOnFound, View, exec_on, found_by, found_in, is_answered, nothing_found, run_on_found, with_found, ReadsAreNew, was_found}
+use Rattle.sdb_model.specs.Noted.{meaning_of, rolls, has_finished}
+use Rattle.sdb_executions.specs.Found.{IsRunOnFound, RunsOnFound, View, exec_on, found_by, found_in, is_answered, nothing_found, run_on_found, with_found, ReadsAreNew, was_found, AllRunAs, takes_part}
 use Rattle.sdb_executions.proofs.Running.{is_running, running, running_more}
 
 ---- the statements of the first transaction of client 1
@@ -69,8 +69,8 @@ pub record IsPlain (s : Said) (st : Statement) (b : Answer) : Type 0 where
 
 runs_plain : (s : Said) (st : Statement) (b : Answer) → IsPlain s st b → is_running s ≡ true
 runs_plain s st b h =
-    ap (λ x. not x && is_effective s && is_answered s) (middle_ends s b h.answered h.middle h.no_commit)
-    ∙ ap (λ x. x && is_answered s) (effective_by s b false h.answered h.changes)
+    ap (λ x. not x && takes_part s && is_answered s) (middle_ends s b h.answered h.middle h.no_commit)
+    ∙ ap (λ x. (x || has_finished s) && is_answered s) (effective_by s b false h.answered h.changes)
     ∙ ap is_some h.answered
 
 pub one_running : (s : Said) (st : Statement) (b : Answer) → IsPlain s st b → running (s ∷ []) ≡ s ∷ []
@@ -82,31 +82,35 @@ two_running s z st a b h k = running_more (s ∷ []) z (middle_ends s a h.answer
 ---- what it is answered
 
 -- one statement, on what it found
-one_answer : (catalog : List Table) (events : List Event) (s : Said) (st : Statement) (b : Answer) → Reads s.text st → s.answer ≡ Some b → IsRunOnFound catalog events 1 (s ∷ []) → (exec catalog st (with_found nothing_found (found_by (calls_of events 1 s))).rows).0 ≡ b
-one_answer catalog events s st b reads answered r = by r.statements r.read r.answers
+one_answer : (catalog : List Table) (events : List Event) (s : Said) (st : Statement) (b : Answer) → is_effective s ≡ true → Reads s.text st → s.answer ≡ Some b → IsRunOnFound catalog events 1 (s ∷ []) → (exec catalog st (with_found nothing_found (found_by (calls_of events 1 s))).rows).0 ≡ b
+one_answer catalog events s st b effective reads answered r = by r.statements r.run (sym (ap (λ t. map (λ (x : Said). x.answer) (if t then s ∷ [] else [])) effective) ∙ r.answers)
   where
-    by : (sts : List Statement) → AreRead (s ∷ []) sts → s.answer ∷ [] ≡ map Some (run_on_found catalog (found_by (calls_of events 1 s) ∷ []) sts nothing_found).0 → (exec catalog st (with_found nothing_found (found_by (calls_of events 1 s))).rows).0 ≡ b
+    by : (sts : List (Option Statement)) → AllRunAs (s ∷ []) sts → s.answer ∷ [] ≡ map Some (run_on_found catalog (found_by (calls_of events 1 s) ∷ []) sts nothing_found).0 → (exec catalog st (with_found nothing_found (found_by (calls_of events 1 s))).rows).0 ≡ b
     by [] h e = absurd h
     by (y ∷ z ∷ zs) h e = absurd h.1
-    by (y ∷ []) h e =
-        let same : y ≡ st = one_statement s.text y st h.0 reads in
+    by (None ∷ []) h e = clash (sym effective ∙ h.0)
+    by (Some y ∷ []) h e =
+        let same : y ≡ st = one_statement s.text y st h.0.1 reads in
         let is : Some b ∷ [] ≡ Some (exec catalog y (with_found nothing_found (found_by (calls_of events 1 s))).rows).0 ∷ [] = ap (λ (o : Option Answer). o ∷ []) (sym answered) ∙ e in
         let here : b ≡ (exec catalog y (with_found nothing_found (found_by (calls_of events 1 s))).rows).0 = cc in
         sym (here ∙ ap (λ x. (exec catalog x (with_found nothing_found (found_by (calls_of events 1 s))).rows).0) same)
 
 -- two that read as one statement, the second on what the first left
-two_answers : (catalog : List Table) (events : List Event) (s z : Said) (st : Statement) (b : Answer) → Reads s.text st → Reads z.text st → z.answer ≡ Some b → IsRunOnFound catalog events 1 (s ∷ z ∷ [])
+two_answers : (catalog : List Table) (events : List Event) (s z : Said) (st : Statement) (b : Answer) → is_effective s ≡ true → is_effective z ≡ true → Reads s.text st → Reads z.text st → z.answer ≡ Some b → IsRunOnFound catalog events 1 (s ∷ z ∷ [])
     → (exec catalog st (with_found (exec_on catalog st (with_found nothing_found (found_by (calls_of events 1 s)))).1 (found_by (calls_of events 1 z))).rows).0 ≡ b
-two_answers catalog events s z st b reads again answered r = by r.statements r.read r.answers
+two_answers catalog events s z st b effective after reads again answered r =
+    by r.statements r.run (sym (ap (λ t. map (λ (x : Said). x.answer) (if t then s ∷ filter is_effective (z ∷ []) else filter is_effective (z ∷ []))) effective ∙ ap (λ t. s.answer ∷ map (λ (x : Said). x.answer) (if t then z ∷ [] else [])) after) ∙ r.answers)
   where
-    by : (sts : List Statement) → AreRead (s ∷ z ∷ []) sts → s.answer ∷ z.answer ∷ [] ≡ map Some (run_on_found catalog (found_by (calls_of events 1 s) ∷ found_by (calls_of events 1 z) ∷ []) sts nothing_found).0
+    by : (sts : List (Option Statement)) → AllRunAs (s ∷ z ∷ []) sts → s.answer ∷ z.answer ∷ [] ≡ map Some (run_on_found catalog (found_by (calls_of events 1 s) ∷ found_by (calls_of events 1 z) ∷ []) sts nothing_found).0
         → (exec catalog st (with_found (exec_on catalog st (with_found nothing_found (found_by (calls_of events 1 s)))).1 (found_by (calls_of events 1 z))).rows).0 ≡ b
     by [] h e = absurd h
     by (y ∷ []) h e = absurd h.1
     by (y ∷ w ∷ x ∷ xs) h e = absurd h.1.1
-    by (y ∷ w ∷ []) h e =
-        let one : y ≡ st = one_statement s.text y st h.0 reads in
-        let two : w ≡ st = one_statement z.text w st h.1.0 again in
+    by (None ∷ w ∷ []) h e = clash (sym effective ∙ h.0)
+    by (Some y ∷ None ∷ []) h e = clash (sym after ∙ h.1.0)
+    by (Some y ∷ Some w ∷ []) h e =
+        let one : y ≡ st = one_statement s.text y st h.0.1 reads in
+        let two : w ≡ st = one_statement z.text w st h.1.0.1 again in
         let is : z.answer ≡ Some (exec catalog w (with_found (exec_on catalog y (with_found nothing_found (found_by (calls_of events 1 s)))).1 (found_by (calls_of events 1 z))).rows).0 = cc in
         let here : b ≡ (exec catalog w (with_found (exec_on catalog y (with_found nothing_found (found_by (calls_of events 1 s)))).1 (found_by (calls_of events 1 z))).rows).0 = let k = sym answered ∙ is in cc in
         sym (here ∙ ap (λ x. (exec catalog x (with_found (exec_on catalog y (with_found nothing_found (found_by (calls_of events 1 s)))).1 (found_by (calls_of events 1 z))).rows).0) two ∙ ap (λ x. (exec catalog st (with_found (exec_on catalog x (with_found nothing_found (found_by (calls_of events 1 s)))).1 (found_by (calls_of events 1 z))).rows).0) one)
@@ -162,14 +166,14 @@ module _ (f : StatementOn) where
     once_answer law =
         let h : IsPlain (at_once b) f.statement b = record { reads = f.reads; answered = refl; middle = middle; changes = changes; no_commit = no_commit } in
         sym (ap (λ (x : Answer × Tables). x.0) (answers_on empty))
-        ∙ one_answer f.catalog (answered_at_once f b) (at_once b) f.statement b f.reads refl (subst (IsRunOnFound f.catalog (answered_at_once f b) 1) (one_running (at_once b) f.statement b h) (runs_of f.catalog (answered_at_once f b) begin_said (at_once b ∷ []) law begun refl))
+        ∙ one_answer f.catalog (answered_at_once f b) (at_once b) f.statement b (effective_by (at_once b) b false refl changes) f.reads refl (subst (IsRunOnFound f.catalog (answered_at_once f b) 1) (one_running (at_once b) f.statement b h) (runs_of f.catalog (answered_at_once f b) begin_said (at_once b ∷ []) law begun refl))
 
     -- after one
     after_answer : (q : Request) (r : Reply) → RunsOnFound f.catalog (answered_after f q r b) → answer_of f.table f.statement (with_found nothing_found (found_by (record { at = 3; store = []; request = q; how = Seen; reply = r } ∷ []))).rows ≡ b
     after_answer q r law =
         let h : IsPlain (after_call b) f.statement b = record { reads = f.reads; answered = refl; middle = middle; changes = changes; no_commit = no_commit } in
         sym (ap (λ (x : Answer × Tables). x.0) (answers_on (with_found nothing_found (found_by (record { at = 3; store = []; request = q; how = Seen; reply = r } ∷ []))).rows))
-        ∙ one_answer f.catalog (answered_after f q r b) (after_call b) f.statement b f.reads refl (subst (IsRunOnFound f.catalog (answered_after f q r b) 1) (one_running (after_call b) f.statement b h) (runs_of f.catalog (answered_after f q r b) begin_said (after_call b ∷ []) law begun refl))
+        ∙ one_answer f.catalog (answered_after f q r b) (after_call b) f.statement b (effective_by (after_call b) b false refl changes) f.reads refl (subst (IsRunOnFound f.catalog (answered_after f q r b) 1) (one_running (after_call b) f.statement b h) (runs_of f.catalog (answered_after f q r b) begin_said (after_call b ∷ []) law begun refl))
 
   -- what a get of a key of the table finds
   got : (key : Key) (found : Option Record) → key.table ≡ f.table.name → found_by (record { at = 3; store = []; request = ask.Get key; how = Seen; reply = reply.Found found } ∷ []) ≡ (key, option_and_then (meaning_of (record { at = 3; store = []; request = ask.Get key; how = Seen; reply = reply.Found found } ∷ [])) found) ∷ []
@@ -308,7 +312,7 @@ forgotten_refused f law = no_count (sym (ap (answer_of f.on.table f.on.statement
     answered : answer_of f.on.table f.on.statement (exec f.on.catalog f.on.statement w.rows).1 ≡ answer.Count 1
     answered =
         sym (ap (λ (x : Answer × Tables). x.0) (answers_on f.on (exec f.on.catalog f.on.statement w.rows).1))
-        ∙ two_answers f.on.catalog es s z f.on.statement (answer.Count 1) f.on.reads f.on.reads refl
+        ∙ two_answers f.on.catalog es s z f.on.statement (answer.Count 1) refl refl f.on.reads f.on.reads refl
         (subst (IsRunOnFound f.on.catalog es 1) (two_running s z f.on.statement (answer.Count 1) (answer.Count 1) plain_s plain_z) (runs_of f.on.catalog es (begin_said f.on) (s ∷ z ∷ []) law (begun f.on) refl))
 
     rows : (exec f.on.catalog f.on.statement w.rows).1 ≡ insert (with_row empty (insert_key f) None) (insert_key f) (with_named f.on.table f.insert.columns f.insert.values [])

@@ -28,6 +28,7 @@ use Rattle.sdb_model.specs.Calls.{Made, calls_of}
 use Rattle.sdb_model.specs.Exec.{find_table, table_of}
 use Rattle.sdb_model.specs.Rows.{Name}
 use Rattle.sdb_model.specs.Sql.{reads_commit, reads_rollback}
+use Rattle.sdb_model.specs.Noted.{read_finished}
 use Rattle.sdb_model.specs.Transactions.{Said, changes_nothing, ends, id_of, is_conflict, is_done}
 use Rattle.sdb_exec.specs.Plans.{Planned}
 use Rattle.sdb_read.specs.declared.read.ReadStep.TheVariants as step
@@ -194,8 +195,8 @@ module _ (catalog : List Table) (is : is_catalog catalog ≡ true) (apart : (k :
     as_left n m u v e f s = subst (λ (y : Next). Left y u) (sym e) (subst (λ (y : TxnAt). Left m y) (sym f) s)
 
     -- the statement has read nothing
-    fails : (b : Answer) → changes_nothing b ≡ true → Left (next.Answer b) (idle t)
-    fails b nothing = follows.held_follows catalog events c h k runs (ev (Some b)) t z.opened z.free (done b) (idle t) (follows.nothing_stays (done b) b refl nothing) refl refl (sees (Some b))
+    fails : (b : Answer) → changes_nothing b ≡ true → read_finished b ≡ false → Left (next.Answer b) (idle t)
+    fails b nothing unfinished = follows.held_follows catalog events c h k runs (ev (Some b)) t z.opened z.free (done b) (idle t) (follows.nothing_stays (done b) b refl nothing unfinished) refl refl (sees (Some b))
 
     further : (s : ReadStage) → Left next.Call (record t { doing = doing.Read z.access (record z.x { stage = s }) })
     further s = sees None
@@ -236,13 +237,13 @@ module _ (catalog : List Table) (is : is_catalog catalog ≡ true) (apart : (k :
     stage_case (Resolving images rec meta f left) e n u y = as_left n next.Call u _ y.0 y.1 (further (Resolving images rec meta f left))
     stage_case (Ended step.More) e n u y = as_left n next.Call u _ y.0 y.1 (further (Ended step.More))
     stage_case (Ended (step.Images images)) e n u y = images_case images e n u y
-    stage_case (Ended (step.Busy key id at)) e n u y = as_left n (next.Answer (answer.Busy key id at)) u (idle t) y.0 y.1 (fails (answer.Busy key id at) refl)
-    stage_case (Ended step.Faulted) e n u y = as_left n (next.Answer answer.Faulted) u (idle t) y.0 y.1 (fails answer.Faulted refl)
-    stage_case (Ended (step.BadRecord key)) e n u y = as_left n (next.Answer (answer.BadRecord key)) u (idle t) y.0 y.1 (fails (answer.BadRecord key) refl)
+    stage_case (Ended (step.Busy key id at)) e n u y = as_left n (next.Answer (answer.Busy key id at)) u (idle t) y.0 y.1 (fails (answer.Busy key id at) refl refl)
+    stage_case (Ended step.Faulted) e n u y = as_left n (next.Answer answer.Faulted) u (idle t) y.0 y.1 (fails answer.Faulted refl refl)
+    stage_case (Ended (step.BadRecord key)) e n u y = as_left n (next.Answer (answer.BadRecord key)) u (idle t) y.0 y.1 (fails (answer.BadRecord key) refl refl)
     stage_case (Ended step.NoMemory) e n u y = absurd y
 
     read_left : Left z.next z.u
-    read_left = by_next z.next (λ e. as_left z.next (next.Answer answer.NoMemory) z.u (idle t) e (z.told.memory e) (fails answer.NoMemory refl)) (λ n. stage_case (read_step z.x.stage now r) refl z.next z.u (z.told.told n))
+    read_left = by_next z.next (λ e. as_left z.next (next.Answer answer.NoMemory) z.u (idle t) e (z.told.memory e) (fails answer.NoMemory refl refl)) (λ n. stage_case (read_step z.x.stage now r) refl z.next z.u (z.told.told n))
 
     read_comes : Comes a d
     read_comes = as_comes a (answer_in z.next) (after h z.next z.u) z.answer z.left read_left

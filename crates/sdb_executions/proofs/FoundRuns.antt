@@ -28,7 +28,7 @@ use Rattle.sdb_story.proofs.Tellings.{others_silent, said_more}
 use Rattle.sdb_causes.specs.Tied.{IsWaiting, Knows}
 use Rattle.sdb_execution.specs.declared.seat.Seat.{Seat}
 use Rattle.sdb_execution.specs.Execution.{AreFresh, CallStep, IsExecution, IsPath, IsPlayable, IsStepFrom, State, TakeStep, moved_seat, stopped_seat, with_seat_at}
-use Rattle.sdb_executions.specs.Found.{IsRunOnFound, RunsOnFound, answered_body, is_answered}
+use Rattle.sdb_executions.specs.Found.{IsRunOnFound, RunsOnFound, answered_inside, is_answered}
 use Rattle.sdb_executions.specs.Linked.{on_one}
 use Rattle.sdb_executions.specs.World.{WorldAt, hand_in, hands_of, state_of}
 use Rattle.sdb_executions.proofs.Finding.{NothingMore}
@@ -174,5 +174,5 @@ module _ (script : Script) (events : List Event) (playable : IsPlayable script) 
       by None h = ap (running_of (ordinal_of id)) (sym (append-nil k.told))
       by (Some y) h = sym (running_waits (ordinal_of id) k.told y h.unanswered)
 
-      same : running_of (ordinal_of id) (answered_of (client_of id) events) ≡ answered_body events id
+      same : running_of (ordinal_of id) (answered_of (client_of id) events) ≡ answered_inside events id
       same = ap (running_of (ordinal_of id)) (answered_of_is script.catalog events (client_of id) (hands_of x.last.seats (client_of id)).client k) ∙ by k.waiting k.waits ∙ ap (running_of (ordinal_of id)) (sym k.same)

@@ -1,20 +1,21 @@
 -- What the transactions of a client ran on what they found, as it takes statements and replies.
 use Rattle.std.proofs.Common.{◌≡◌, ◌⊎◌, inl, inr, ℕ, Bool, true, false, not, List, [], ◌∷◌, ◌++◌, Option, Some, None, IfSome, refl, sym, ap, subst, ◌∙◌}
-use Rattle.std.specs.Prelude.{◌&&◌, if◌then◌else◌, filter, is_some}
+use Rattle.std.specs.Prelude.{◌&&◌, ◌||◌, if◌then◌else◌, filter, is_some}
 use Rattle.std.specs.List.{AllByRecursion}
 use Rattle.std.proofs.lemmas.List.{append-nil}
 use Rattle.std.proofs.lemmas.List.Elements.{filter-append}
-use Rattle.sdb_types.proofs.Basics.{clash, none_some}
+use Rattle.sdb_types.proofs.Basics.{clash, none_some, or_false}
 use Rattle.sdb_record.specs.declared.access.Access.{Access}
 use Rattle.sdb_record.specs.declared.write.Write.{Write}
 use Rattle.sdb_schema.specs.declared.table.Table.{Table}
 use Rattle.sdb_model.specs.declared.answer.Answer.{Answer}
 use Rattle.sdb_model.specs.declared.event.Event.{Event}
 use Rattle.sdb_model.specs.declared.statement.Statement.{Statement}
-use Rattle.sdb_model.specs.Calls.{calls_of}
+use Rattle.sdb_model.specs.Calls.{Made, calls_of}
 use Rattle.sdb_model.specs.Sql.{Reads, reads_commit}
-use Rattle.sdb_model.specs.Told.{AreRead}
+use Rattle.sdb_model.specs.Noted.{has_finished, read_finished}
 use Rattle.sdb_model.specs.Transactions.{Said, changes_nothing, ends, from_begin, is_effective, rest_of, said}
+use Rattle.std.specs.Option.{option_map_or}
 use Rattle.sdb_exec.specs.declared.plan.PlanStep.{PlanStep}
 use Rattle.sdb_exec.specs.declared.plan.PlanStep.TheVariants.{Finished, Read as Wants}
 use Rattle.sdb_exec.specs.Plans.{Planned, first_unfit}
@@ -29,12 +30,12 @@ use Rattle.sdb_causes.specs.Unfit.{SeesFit}
 use Rattle.sdb_causes.proofs.Lists.{since_more, since_none}
 use Rattle.sdb_causes.proofs.Shows.{effective_by}
 use Rattle.sdb_vacuum.specs.Vacuum.{VacuumAt}
-use Rattle.sdb_executions.specs.Found.{IsRunOnFound, found_by, is_answered, nothing_found, with_found}
+use Rattle.sdb_executions.specs.Found.{AllRunAs, IsRunOnFound, found_by, is_answered, nothing_found, scans_span, takes_part, was_scanned, with_found}
 use Rattle.sdb_executions.specs.Written.{keys_of, written_on_found}
 use Rattle.sdb_executions.proofs.FoundGiven.{IsPlannedOn, given_runs}
-use Rattle.sdb_executions.proofs.Running.{HoldsScans, RunsTo, each_more, each_running, finds_stay, goes_on, is_running, none_run, run_stays, running, running_more, running_of, running_same, runs_stay, view_after}
+use Rattle.sdb_executions.proofs.Running.{HoldsScans, RunsTo, each_more, each_running, finds_stay, goes_on, is_running, none_run, run_stays, running, running_more, running_of, running_same, runs_kept, runs_stay, scanned_more, view_after}
 use Rattle.sdb_executions.proofs.Views.{IsViewOf}
-use Rattle.sdb_executions.proofs.Writing.{read_once, write_keys}
+use Rattle.sdb_executions.proofs.Writing.{run_once, write_keys}
 use Rattle.sdb_executions.proofs.WroteCommits.{CommitsWrote, LastWrote, commits_more, commits_still}
 
 ---- a client
@@ -45,7 +46,7 @@ answered_of c events = filter is_answered (said c events)
 
 -- writes are of the keys that statements wrote
 abbrev pub WroteAs : List Table → List Event → ℕ → List Said → List Write → Type 0
-WroteAs catalog events c ss ws = (statements : List Statement) → AreRead ss statements → write_keys ws ≡ keys_of catalog events c ss statements
+WroteAs catalog events c ss ws = (statements : List (Option Statement)) → AllRunAs ss statements → write_keys ws ≡ keys_of catalog events c ss statements
 
 -- An open transaction has what its statements left, until its COMMIT is taken, which then writes what they wrote.
 abbrev pub SeesIn : List Table → List Event → ℕ → List Said → Seen → Doing → Type 0
@@ -62,7 +63,7 @@ pub record ClientRuns (catalog : List Table) (events : List Event) (c : ℕ) (h 
   pub commits : CommitsWrote catalog events c (answered_of c events)
 
 pub runs_wrote : (catalog : List Table) (events : List Event) (c : ℕ) (ss : List Said) (s : Seen) → RunsTo catalog events c ss s → WroteAs catalog events c ss s.writes
-runs_wrote catalog events c ss s r statements read = r.writes ∙ ap (keys_of catalog events c ss) (read_once ss r.run.statements statements r.run.read read)
+runs_wrote catalog events c ss s r statements read = r.writes ∙ ap (keys_of catalog events c ss) (run_once ss r.run.statements statements r.run.run read)
 
 wrote_stays : (catalog : List Table) (events : List Event) (e : Event) (c : ℕ) (ss : List Said) (ws : List Write) → AllByRecursion (IsAnswered catalog events c) ss → WroteAs catalog events c ss ws → WroteAs catalog (events ++ e ∷ []) c ss ws
 wrote_stays catalog events e c ss ws all h statements read = h statements read ∙ ap (λ fs. written_on_found catalog fs statements nothing_found []) (sym (finds_stay catalog events e c ss all))
@@ -82,20 +83,25 @@ answered_of_is catalog events c h k = ap (filter is_answered) k.same ∙ filter-
 
 -- the transaction that a statement leaves does nothing
 left_idle : (was v : TxnAt) (x : PlanStep) → was.doing ≡ doing.Idle → v.doing ≡ doing.Idle → (given_left was v x).doing ≡ doing.Idle
-left_idle was v (Finished b ks) h k = by (changes_nothing (given_answer v (Finished b ks)))
+left_idle was v (Finished b ks) h k = by (changes_nothing (given_answer v (Finished b ks))) (read_finished (given_answer v (Finished b ks)))
   where
-    by : (t : Bool) → (if t then was else written v ks).doing ≡ doing.Idle
-    by true = h
-    by false = k
+    by : (t f : Bool) → (if t then (if f then v else was) else written v ks).doing ≡ doing.Idle
+    by true true = k
+    by true false = h
+    by false f = k
 left_idle was v (Wants a) h k = h
 
 ---- statements that don't run
 
 pub ends_stays : (z : Said) → ends z ≡ true → is_running z ≡ false
-ends_stays z e = ap (λ b. not b && is_effective z && is_answered z) e
+ends_stays z e = ap (λ b. not b && takes_part z && is_answered z) e
 
-pub nothing_stays : (z : Said) (b : Answer) → z.answer ≡ Some b → changes_nothing b ≡ true → is_running z ≡ false
-nothing_stays z b is e = ap (λ x. goes_on z && x && is_answered z) (effective_by z b true is e) ∙ none (goes_on z)
+pub nothing_stays : (z : Said) (b : Answer) → z.answer ≡ Some b → changes_nothing b ≡ true → read_finished b ≡ false → is_running z ≡ false
+nothing_stays z b is e unfinished =
+    ap (λ x. goes_on z && (x || has_finished z) && is_answered z) (effective_by z b true is e)
+    ∙ ap (λ (o : Option Answer). goes_on z && option_map_or read_finished o false && is_answered z) is
+    ∙ ap (λ x. goes_on z && x && is_answered z) unfinished
+    ∙ none (goes_on z)
   where
     none : (x : Bool) → (x && false && is_answered z) ≡ false
     none true = refl
@@ -216,6 +222,31 @@ module _ (catalog : List Table) (events : List Event) (c : ℕ) (h : ClientAt) (
     pub held_follows : (z : Said) (u : TxnAt) → is_running z ≡ false → u.doing ≡ doing.Idle → u.seen ≡ t.seen → RunsTo catalog E c (running_of h.begun k.told) t.seen → Follows z (holding h u)
     held_follows z u none idle same r = (no_more z (inl none), sees_same z t.seen u none idle same r)
 
+    -- it is answered that nothing was changed, and what it found stays
+    pub kept_follows : (z : Said) (u : TxnAt) → is_running z ≡ true → is_effective z ≡ false → u.doing ≡ doing.Idle → (r : RunsTo catalog E c (running_of h.begun k.told) t.seen)
+        → IsViewOf (with_found (view_after catalog E c (running_of h.begun k.told) r.run) (found_by (calls_of E c z))) u.seen → HoldsScans E c (running_of h.begun k.told ++ z ∷ []) u.seen → write_keys u.seen.writes ≡ write_keys t.seen.writes → Follows z (holding h u)
+    kept_follows z u takes idle rests r now scans same =
+        let more : RunsTo catalog E c (running_of h.begun k.told ++ z ∷ []) u.seen = runs_kept catalog E c (running_of h.begun k.told) z r.run u.seen idle now scans (same ∙ r.writes) in (
+          λ opened_now runs_now. subst (λ n. IsRunOnFound catalog E c (running_of n k.told ++ z ∷ [])) k.begun more.run,
+          subst (SeesIn catalog E c (running_of h.begun (k.told ++ z ∷ [])) u.seen) (sym rests) (subst (λ xs. RunsTo catalog E c xs u.seen) (sym (running_of_more h.begun k.told z opened.begin opened.body opened.since opened.goes_on takes)) more),
+        )
+
+    -- it is answered so without a call, and the transaction is as it was
+    pub turned_open : (z : Said) (b : Answer) → z.answer ≡ Some b → changes_nothing b ≡ true → calls_of E c z ≡ [] → t.doing ≡ doing.Idle → Follows z h
+    turned_open z b is nothing none idle = by (is_running z) refl
+      where
+        r : RunsTo catalog E c (running_of h.begun k.told) t.seen
+        r = subst (SeesIn catalog E c (running_of h.begun k.told) t.seen) idle sees_open
+
+        scans : HoldsScans E c (running_of h.begun k.told ++ z ∷ []) t.seen
+        scans span e = r.scans span (sym (scanned_more E c (running_of h.begun k.told) z span ∙ ap (λ ms. was_scanned E c (running_of h.begun k.told) span || scans_span span ms) none ∙ or_false (was_scanned E c (running_of h.begun k.told) span)) ∙ e)
+
+        by : (x : Bool) → is_running z ≡ x → Follows z h
+        by false e = same_follows z (inl e)
+        by true e =
+            let f = kept_follows z t e (effective_by z b true is nothing) idle r (subst (λ (ms : List Made). IsViewOf (with_found (view_after catalog E c (running_of h.begun k.told) r.run) (found_by ms)) t.seen) (sym none) r.sees) scans refl in
+            (f.0, subst (λ (o : Option TxnAt). IfSome o (At z)) (sym some) f.1)
+
     -- it is answered from the rows that are seen
     pub given_follows : (z : Said) (p : Planned) (a : Access) (was v : TxnAt) → IsPlannedOn catalog p a → Reads z.text p.statement → reads_commit z.text ≡ false → z.answer ≡ Some (given_answer v (gives p a v)) → (was.doing ≡ doing.Idle) × (was.seen ≡ t.seen) → (v.doing ≡ doing.Idle) × (v.seen.writes ≡ t.seen.writes) → (r : RunsTo catalog E c (running_of h.begun k.told) t.seen)
         → IsViewOf (with_found (view_after catalog E c (running_of h.begun k.told) r.run) (found_by (calls_of E c z))) v.seen → (first_unfit p.table (overlay a v.seen) ≡ None → SeesFit catalog v.seen) → HoldsScans E c (running_of h.begun k.told ++ z ∷ []) v.seen → Follows z (holding h (given_left was v (gives p a v)))
@@ -231,3 +262,11 @@ module _ (catalog : List Table) (events : List Event) (c : ℕ) (h : ClientAt) (
               (subst (λ xs. RunsTo catalog E c xs (given_left was v (gives p a v)).seen) (sym (running_of_more h.begun k.told z opened.begin opened.body opened.since opened.goes_on x.0)) x.1),
         )
         by (inr x) = held_follows z (given_left was v (gives p a v)) x.0 rests (ap (λ (u : TxnAt). u.seen) x.1 ∙ same.1) r
+
+  -- it is answered that nothing was changed without a call, and the client is as it was
+  pub turned_follows : (z : Said) (b : Answer) → z.answer ≡ Some b → changes_nothing b ≡ true → calls_of E c z ≡ [] → h.vacuum ≡ None → IfSome h.txn (λ t. t.doing ≡ doing.Idle) → Follows z h
+  turned_follows z b is nothing none free idle = by h.txn refl idle
+    where
+      by : (o : Option TxnAt) → h.txn ≡ o → IfSome o (λ t. t.doing ≡ doing.Idle) → Follows z h
+      by None e i = same_follows z (inr e)
+      by (Some t) e i = turned_open t e free z b is nothing none i

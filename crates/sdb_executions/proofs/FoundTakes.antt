@@ -57,11 +57,11 @@ module _ (q : Taking) (is : is_catalog q.catalog ≡ true) (events : List Event)
 
   -- it is answered, and the client is as it was
   answer_comes : (b : Answer) (a : Option Answer) (d : ClientAt) → IsTold h b a d → (changes_nothing b ≡ true) ⊎ (h.txn ≡ None) → Comes a d
-  answer_comes b a d t none = as_comes a d (Some b) h t.answer t.same (steps.same_follows q.catalog events c h k runs (event.Take c text (Some b)) (one (Some b)) (by none))
+  answer_comes b a d t none = as_comes a d (Some b) h t.answer t.same (by none)
     where
-      by : (changes_nothing b ≡ true) ⊎ (h.txn ≡ None) → (is_running (one (Some b)) ≡ false) ⊎ (h.txn ≡ None)
-      by (inl e) = inl (steps.nothing_stays (one (Some b)) b refl e)
-      by (inr e) = inr e
+      by : (changes_nothing b ≡ true) ⊎ (h.txn ≡ None) → Comes (Some b) h
+      by (inl e) = steps.turned_follows q.catalog events c h k runs (event.Take c text (Some b)) (one (Some b)) b refl e (none_yet c events text (Some b)) idle.free idle.still
+      by (inr e) = steps.same_follows q.catalog events c h k runs (event.Take c text (Some b)) (one (Some b)) (inr e)
 
   gate_comes : (b : Bool) (a : Option Answer) (d : ClientAt) → h.txn ≡ None → Reads text statement.Begin → GateTold b q.fresh h a d → Comes a d
   gate_comes true a d none reads t = answer_comes answer.Vacuuming a d t (inr none)
@@ -175,7 +175,7 @@ module _ (q : Taking) (is : is_catalog q.catalog ≡ true) (events : List Event)
   starved_comes = by (reads_commit text)
     where
       none : is_running (one (Some answer.NoMemory)) ≡ false
-      none = steps.nothing_stays (one (Some answer.NoMemory)) answer.NoMemory refl refl
+      none = steps.nothing_stays (one (Some answer.NoMemory)) answer.NoMemory refl refl refl
 
       by : (b : Bool) → Comes (Some answer.NoMemory) (if b then resting h else h)
       by true = steps.ended_follows q.catalog events c h k runs (event.Take c text (Some answer.NoMemory)) (one (Some answer.NoMemory)) (resting h) (inl none) refl

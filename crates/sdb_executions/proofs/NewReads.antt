@@ -22,8 +22,7 @@ use Rattle.sdb_model.specs.Calls.{Made, calls_of}
 use Rattle.sdb_model.specs.Noted.{reads_rows}
 use Rattle.sdb_model.specs.Rows.{Name}
 use Rattle.sdb_model.specs.Sql.{reads_commit}
-use Rattle.sdb_model.specs.Told.{AreRead}
-use Rattle.sdb_model.specs.Transactions.{Said, ends, from_begin, is_effective, rest_of}
+use Rattle.sdb_model.specs.Transactions.{Said, ends, from_begin, rest_of}
 use Rattle.sdb_read.specs.Read.{Asking, Ended, ReadStage, Resolving, read_pending_at, request_of}
 use Rattle.sdb_snapshot.specs.Seen.{Seen}
 use Rattle.sdb_txn.specs.declared.progress.Progress.TheVariants as progress
@@ -43,7 +42,7 @@ use Rattle.sdb_causes.proofs.Lists.{each_in, each_kept, since_more, since_none}
 use Rattle.sdb_causes.proofs.Noting.{each_left, each_middle, since_all}
 use Rattle.sdb_causes.proofs.RolledSteps.{recovery_unread}
 use Rattle.sdb_causes.proofs.Takings.{none_yet}
-use Rattle.sdb_executions.specs.Found.{IsNewRead, View, exec_on, finds, found_by, has_found, is_answered, nothing_found, run_on_found, was_found, was_scanned, with_found}
+use Rattle.sdb_executions.specs.Found.{AllRunAs, IsNewRead, View, finds, found_by, has_found, is_answered, nothing_found, run_on_found, run_one, takes_part, was_found, was_scanned, with_found}
 use Rattle.sdb_executions.proofs.Finding.{NothingMore, reads_again}
 use Rattle.sdb_executions.proofs.FoundSteps.{ClientRuns, SeesIn, closed, sees_open}
 use Rattle.sdb_executions.proofs.OwnPrepares.{calls_again, goes_further}
@@ -63,22 +62,27 @@ any_at (e ∷ fs) q = by (same_key q e.0) (any_at fs q)
     by true ih = refl
     by false ih = ih
 
-view_finds : (catalog : List Table) (events : List Event) (c : ℕ) (ss : List Said) (sts : List Statement) (v : View) (q : Key) → AreRead ss sts → has_found (run_on_found catalog (finds events c ss) sts v).1 q ≡ (has_found v q || was_found events c ss q)
-view_finds catalog events c [] [] v q read = sym (or_false (has_found v q))
-view_finds catalog events c [] (y ∷ ys) v q read = absurd read
-view_finds catalog events c (s ∷ ss) [] v q read = absurd read
-view_finds catalog events c (s ∷ ss) (y ∷ ys) v q read =
-    view_finds catalog events c ss ys (exec_on catalog y (with_found v (found_by (calls_of events c s)))).1 q read.1
-    ∙ ap (λ b. b || was_found events c ss q) ((all_found v (found_by (calls_of events c s)) q).0 ∙ ap (λ b. has_found v q || b) (any_at (found_by (calls_of events c s)) q))
+view_finds : (catalog : List Table) (events : List Event) (c : ℕ) (ss : List Said) (os : List (Option Statement)) (v : View) (q : Key) → AllRunAs ss os → has_found (run_on_found catalog (finds events c ss) os v).1 q ≡ (has_found v q || was_found events c ss q)
+view_finds catalog events c [] [] v q run = sym (or_false (has_found v q))
+view_finds catalog events c [] (y ∷ ys) v q run = absurd run
+view_finds catalog events c (s ∷ ss) [] v q run = absurd run
+view_finds catalog events c (s ∷ ss) (y ∷ ys) v q run =
+    view_finds catalog events c ss ys (run_one catalog y (with_found v (found_by (calls_of events c s)))).1 q run.1
+    ∙ ap (λ b. b || was_found events c ss q) (as_found y (with_found v (found_by (calls_of events c s))) ∙ (all_found v (found_by (calls_of events c s)) q).0 ∙ ap (λ b. has_found v q || b) (any_at (found_by (calls_of events c s)) q))
     ∙ both (has_found v q) (list_any (λ e. same_key q e.0) (found_by (calls_of events c s))) (was_found events c ss q)
   where
+    -- a statement finds nothing more as it runs
+    as_found : (o : Option Statement) (w : View) → has_found (run_one catalog o w).1 q ≡ has_found w q
+    as_found None w = refl
+    as_found (Some st) w = refl
+
     both : (x y z : Bool) → ((x || y) || z) ≡ (x || (y || z))
     both true y z = refl
     both false y z = refl
 
 -- A read that what was read doesn't cover is new.
 pub new_of : (catalog : List Table) (events : List Event) (c : ℕ) (ss : List Said) (s : Seen) (a : Access) → RunsTo catalog events c ss s → is_covered s a ≡ false → IsNewRead events c ss (request_of a)
-new_of catalog events c ss s (access.Get key) r e = sym (view_finds catalog events c ss r.run.statements nothing_found key r.run.read) ∙ r.sees.keys key ∙ e
+new_of catalog events c ss s (access.Get key) r e = sym (view_finds catalog events c ss r.run.statements nothing_found key r.run.run) ∙ r.sees.keys key ∙ e
 new_of catalog events c ss s (access.Scan span) r e = by_test (was_scanned events c ss span) (λ t. clash (sym (r.scans span t) ∙ e)) (λ f. f)
 
 ---- as events come
@@ -102,7 +106,7 @@ all_stay catalog events e c past all k n begin body s tail since goes no_commit 
     let whole : AllByRecursion (IsAnswered catalog events c) (body ++ s ∷ tail) = since_all (IsAnswered catalog events c) n past begin (body ++ s ∷ tail) all since in
     let here : IsAnswered catalog events c s = each_middle (IsAnswered catalog events c) body tail s whole in
     let before : AllByRecursion (IsAnswered catalog events c) body = each_left (IsAnswered catalog events c) body (s ∷ tail) whole in
-    new_stays catalog events e c (running body) m.request (each_kept (IsAnswered catalog events c) is_answered (filter is_effective (take_while goes_on body)) (each_kept (IsAnswered catalog events c) is_effective (take_while goes_on body) (each_taken (IsAnswered catalog events c) goes_on body before)))
+    new_stays catalog events e c (running body) m.request (each_kept (IsAnswered catalog events c) is_answered (filter takes_part (take_while goes_on body)) (each_kept (IsAnswered catalog events c) takes_part (take_while goes_on body) (each_taken (IsAnswered catalog events c) goes_on body before)))
     (k n begin body s tail since goes no_commit m (subst (λ (ms : List Made). Contains ms m) (calls_stay c events e s here.given here.is here.answered) among) reads)
 
 -- with one statement more, which is of the open transaction or of none

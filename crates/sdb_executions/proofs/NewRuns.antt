@@ -11,7 +11,7 @@ use Rattle.sdb_model.specs.declared.event.Event.{Event}
 use Rattle.sdb_model.specs.declared.event.Event.TheVariants as event
 use Rattle.sdb_model.specs.declared.script.Script.{Script}
 use Rattle.sdb_model.specs.Calls.{calls_of}
-use Rattle.sdb_model.specs.Transactions.{Said, client_of, ends, from_begin, is_effective, ordinal_of, rest_of, said, through_end}
+use Rattle.sdb_model.specs.Transactions.{Said, client_of, ends, from_begin, ordinal_of, rest_of, said, through_end}
 use Rattle.sdb_exec.specs.Plans.{Planned}
 use Rattle.sdb_txn.specs.declared.txn.Doing.{Doing}
 use Rattle.sdb_txn.specs.declared.txn.Doing.TheVariants as doing
@@ -26,7 +26,7 @@ use Rattle.sdb_causes.specs.Tied.{IsAnswered, IsDoing, IsWaiting, Knows, StandsI
 use Rattle.sdb_causes.proofs.Calls.{call_said, silent_said}
 use Rattle.sdb_causes.proofs.Noting.{take_open}
 use Rattle.sdb_execution.specs.Execution.{IsExecution, IsPath, IsPlayable, IsStepFrom, State}
-use Rattle.sdb_executions.specs.Found.{IsNewRead, ReadsAreNew, is_answered}
+use Rattle.sdb_executions.specs.Found.{IsNewRead, ReadsAreNew, is_answered, takes_part}
 use Rattle.sdb_executions.specs.World.{WorldAt, hands_of, state_of}
 use Rattle.sdb_executions.proofs.Finding.{NothingMore}
 use Rattle.sdb_executions.proofs.FoundRuns.{AllRun, all_run, first_runs, hand_at, step_runs}
@@ -160,9 +160,9 @@ split_end (x ∷ xs) before s after e = by (ends x) refl (λ ys k. split_end xs 
     by true f ih k = last before k
     by false f ih k = more f ih before k
 
--- where none of them ends it, those that run are those that were answered and changed something
-running_open : (before : List Said) → AllByRecursion (λ x. ends x ≡ false) before → running before ≡ filter is_answered (filter is_effective before)
-running_open before opens = ap (λ xs. filter is_answered (filter is_effective xs)) (ap (take_while goes_on) (sym (append-nil before)) ∙ take_open before [] opens ∙ append-nil before)
+-- where none of them ends it, those that take part are those that were answered and changed something, or whose reads have finished
+running_open : (before : List Said) → AllByRecursion (λ x. ends x ≡ false) before → running before ≡ filter is_answered (filter takes_part before)
+running_open before opens = ap (λ xs. filter is_answered (filter takes_part xs)) (ap (take_while goes_on) (sym (append-nil before)) ∙ take_open before [] opens ∙ append-nil before)
 
 module _ (script : Script) (events : List Event) (playable : IsPlayable script) (x : IsExecution script events) where
   all_new : AllReadNew (record { script = script; seats = x.last.seats; events = events; clock = x.last.clock })
@@ -220,7 +220,7 @@ module _ (script : Script) (events : List Event) (playable : IsPlayable script) 
   pub execution_new : ReadsAreNew events
   execution_new id before s m r = by (from_begin (ordinal_of id) (said (client_of id) events)) refl
     where
-      by : (ss : List Said) → from_begin (ordinal_of id) (said (client_of id) events) ≡ ss → IsNewRead events (client_of id) (filter is_answered (filter is_effective before)) m.request
+      by : (ss : List Said) → from_begin (ordinal_of id) (said (client_of id) events) ≡ ss → IsNewRead events (client_of id) (filter is_answered (filter takes_part before)) m.request
       by [] e = absurd (none_left before s r.after (sym (ap (λ xs. through_end (rest_of xs)) e) ∙ r.statements))
       by (b ∷ ss) e =
           let p = split_end ss before s r.after (sym (ap (λ xs. through_end (rest_of xs)) e) ∙ r.statements) in

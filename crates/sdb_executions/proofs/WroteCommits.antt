@@ -1,5 +1,5 @@
 -- The COMMITs of a client prepare what the statements of their transactions wrote, as statements and events come.
-use Rattle.std.proofs.Common.{◌≡◌, ◌⊎◌, inl, inr, ℕ, true, false, List, [], ◌∷◌, ◌++◌, refl, sym, ap, subst, ◌∙◌}
+use Rattle.std.proofs.Common.{◌≡◌, ◌⊎◌, inl, inr, ℕ, true, false, List, [], ◌∷◌, ◌++◌, Option, refl, sym, ap, subst, ◌∙◌}
 use Rattle.std.specs.List.{AllByRecursion}
 use Rattle.sdb_types.specs.declared.txid.TxId.{TxId}
 use Rattle.sdb_schema.specs.declared.table.Table.{Table}
@@ -7,22 +7,21 @@ use Rattle.sdb_model.specs.declared.event.Event.{Event}
 use Rattle.sdb_model.specs.declared.statement.Statement.{Statement}
 use Rattle.sdb_model.specs.Calls.{Made, calls_of}
 use Rattle.sdb_model.specs.Sql.{reads_commit}
-use Rattle.sdb_model.specs.Told.{AreRead}
-use Rattle.sdb_model.specs.Transactions.{Said, ends, from_begin, id_of, is_effective, rest_of}
+use Rattle.sdb_model.specs.Transactions.{Said, ends, from_begin, id_of, rest_of}
 use Rattle.sdb_causes.specs.Counts.{ArePaired}
 use Rattle.sdb_causes.specs.Tied.{IsAnswered, begun_in, open_after}
 use Rattle.sdb_causes.proofs.Calls.{calls_stay}
 use Rattle.sdb_causes.proofs.CountsNotes.{last_or, open_only}
 use Rattle.sdb_causes.proofs.Lists.{each_kept, since_more, since_none}
 use Rattle.sdb_causes.proofs.Noting.{each_left, each_middle, since_all}
-use Rattle.sdb_executions.specs.Found.{is_answered, nothing_found}
+use Rattle.sdb_executions.specs.Found.{AllRunAs, is_answered, nothing_found, takes_part}
 use Rattle.sdb_executions.specs.Written.{PreparesAll, keys_of, written_on_found}
 use Rattle.sdb_executions.proofs.Running.{each_taken, finds_stay, goes_on, running, running_of}
 use Rattle.sdb_executions.proofs.Statements.{none_in}
 
 -- the calls of a COMMIT prepare what statements wrote
 abbrev pub CommitWrote : List Table → List Event → ℕ → List Said → TxId → List Made → Type 0
-CommitWrote catalog events c ss id calls = (statements : List Statement) → AreRead ss statements → PreparesAll (keys_of catalog events c ss statements) id calls
+CommitWrote catalog events c ss id calls = (statements : List (Option Statement)) → AllRunAs ss statements → PreparesAll (keys_of catalog events c ss statements) id calls
 
 -- A statement is the COMMIT that ends a client's transaction of that number, after these.
 pub record EndsAs (told : List Said) (n : ℕ) (body : List Said) (s : Said) : Type 0 where
@@ -49,7 +48,7 @@ commits_still catalog events e c told all k n body s x statements read =
     let whole : AllByRecursion (IsAnswered catalog events c) (body ++ s ∷ x.tail) = since_all (IsAnswered catalog events c) n told x.begin (body ++ s ∷ x.tail) all x.since in
     let here : IsAnswered catalog events c s = each_middle (IsAnswered catalog events c) body x.tail s whole in
     let ran : AllByRecursion (IsAnswered catalog events c) (running body) =
-    each_kept (IsAnswered catalog events c) is_answered _ (each_kept (IsAnswered catalog events c) is_effective _ (each_taken (IsAnswered catalog events c) goes_on body (each_left (IsAnswered catalog events c) body (s ∷ x.tail) whole))) in
+    each_kept (IsAnswered catalog events c) is_answered _ (each_kept (IsAnswered catalog events c) takes_part _ (each_taken (IsAnswered catalog events c) goes_on body (each_left (IsAnswered catalog events c) body (s ∷ x.tail) whole))) in
     subst (λ ks. PreparesAll ks (id_of c n) (calls_of (events ++ e ∷ []) c s)) (ap (λ fs. written_on_found catalog fs statements nothing_found []) (sym (finds_stay catalog events e c (running body) ran)))
     (subst (PreparesAll (keys_of catalog events c (running body) statements) (id_of c n)) (sym (calls_stay c events e s here.given here.is here.answered)) (k n body s x statements read))
 

@@ -12,7 +12,7 @@ use Rattle.sdb_model.specs.declared.event.Event.{Event}
 use Rattle.sdb_model.specs.declared.script.Script.{Script}
 use Rattle.sdb_model.specs.Calls.{calls_of}
 use Rattle.sdb_model.specs.Sql.{reads_commit}
-use Rattle.sdb_model.specs.Transactions.{Said, client_of, commit_of, ends, from_begin, id_of, is_effective, ordinal_of, rest_of, said}
+use Rattle.sdb_model.specs.Transactions.{Said, client_of, commit_of, ends, from_begin, id_of, ordinal_of, rest_of, said}
 use Rattle.sdb_model.proofs.Basics.{id_again}
 use Rattle.sdb_exec.specs.Plans.{Planned}
 use Rattle.sdb_txn.specs.declared.txn.Doing.{Doing}
@@ -25,7 +25,7 @@ use Rattle.sdb_causes.specs.Tied.{IsDoing, IsOpenAs, IsWaiting, Knows, StandsIn,
 use Rattle.sdb_causes.specs.Rolled.{AnsweredWereSeen}
 use Rattle.sdb_causes.proofs.Noting.{each_middle, since_all, take_ends, take_open}
 use Rattle.sdb_execution.specs.Execution.{IsExecution, IsPlayable}
-use Rattle.sdb_executions.specs.Found.{answered_body, is_answered}
+use Rattle.sdb_executions.specs.Found.{answered_inside, is_answered, takes_part}
 use Rattle.sdb_executions.specs.Written.{CommitsPrepareWritten, DecisionsFollowPoints, PreparesAll, PreparesAreAsMany, keys_of}
 use Rattle.sdb_executions.specs.World.{WorldAt, hands_of}
 use Rattle.sdb_executions.proofs.Finding.{NothingMore}
@@ -70,7 +70,7 @@ commit_is (Some x) s h = test (reads_commit x.text) refl h
 -- those that run are those before it
 pub running_ended : (body : List Said) (s : Said) (tail : List Said) → AllByRecursion (λ x. ends x ≡ false) body → ends s ≡ true → running (body ++ s ∷ tail) ≡ running body
 running_ended body s tail opens over =
-    ap (λ xs. filter is_answered (filter is_effective xs)) (take_open body (s ∷ tail) opens ∙ ap (λ xs. body ++ xs) (take_ends s tail over) ∙ sym (take_open body [] opens) ∙ ap (take_while goes_on) (append-nil body))
+    ap (λ xs. filter is_answered (filter takes_part xs)) (take_open body (s ∷ tail) opens ∙ ap (λ xs. body ++ xs) (take_ends s tail over) ∙ sym (take_open body [] opens) ∙ ap (take_while goes_on) (append-nil body))
 
 module _ (script : Script) (events : List Event) (playable : IsPlayable script) (x : IsExecution script events) where
   abbrev catalog : List Table
@@ -147,14 +147,14 @@ module _ (script : Script) (events : List Event) (playable : IsPlayable script) 
           each_middle (Contains (said (client_of id) events)) f.body f.tail s (subst (AllByRecursion (Contains (said (client_of id) events))) f.whole (since_all (Contains (said (client_of id) events)) (ordinal_of id) (said (client_of id) events) b rest itself from))
 
   -- by the COMMIT of a transaction
-  commit_wrote : (id : TxId) (s : Said) → commit_of events id ≡ Some s → CommitWrote catalog events (client_of id) (answered_body events id) id (calls_of events (client_of id) s)
+  commit_wrote : (id : TxId) (s : Said) → commit_of events id ≡ Some s → CommitWrote catalog events (client_of id) (answered_inside events id) id (calls_of events (client_of id) s)
   commit_wrote id s e = by (from_begin (ordinal_of id) (said (client_of id) events)) refl (commit_is (find ends (rest_of (from_begin (ordinal_of id) (said (client_of id) events)))) s e)
     where
-      by : (r : List Said) → from_begin (ordinal_of id) (said (client_of id) events) ≡ r → (find ends (rest_of (from_begin (ordinal_of id) (said (client_of id) events))) ≡ Some s) × (reads_commit s.text ≡ true) → CommitWrote catalog events (client_of id) (answered_body events id) id (calls_of events (client_of id) s)
+      by : (r : List Said) → from_begin (ordinal_of id) (said (client_of id) events) ≡ r → (find ends (rest_of (from_begin (ordinal_of id) (said (client_of id) events))) ≡ Some s) × (reads_commit s.text ≡ true) → CommitWrote catalog events (client_of id) (answered_inside events id) id (calls_of events (client_of id) s)
       by [] from z = none_some s (sym (ap (λ ss. find ends (rest_of ss)) from) ∙ z.0)
       by (b ∷ rest) from z =
           let f = end_found rest s (sym (ap (λ ss. find ends (rest_of ss)) from) ∙ z.0) in
-          let ran : running f.body ≡ answered_body events id = sym (ap (λ ss. running (rest_of ss)) from ∙ ap running f.whole ∙ running_ended f.body s f.tail f.opens f.over) in
+          let ran : running f.body ≡ answered_inside events id = sym (ap (λ ss. running (rest_of ss)) from ∙ ap running f.whole ∙ running_ended f.body s f.tail f.opens f.over) in
           subst (λ ss. CommitWrote catalog events (client_of id) ss id (calls_of events (client_of id) s)) ran
           (subst (λ i. CommitWrote catalog events (client_of id) (running f.body) i (calls_of events (client_of id) s)) (id_again id)
           (all_wrote (client_of id) (ordinal_of id) f.body s (record { begin = b; tail = f.tail; since = from ∙ ap (λ ss. b ∷ ss) f.whole; opens = f.opens; commits = z.1 })))
@@ -162,8 +162,8 @@ module _ (script : Script) (events : List Event) (playable : IsPlayable script) 
   -- Each COMMIT prepares what was written.
   pub execution_wrote : CommitsPrepareWritten catalog events
   execution_wrote client s id z =
-      subst (λ c. PreparesAll (keys_of catalog events c (answered_body events id) z.statements) id (calls_of events c s)) z.commit.0
-      (commit_wrote id s z.commit.1 z.statements z.read)
+      subst (λ c. PreparesAll (keys_of catalog events c (answered_inside events id) z.statements) id (calls_of events c s)) z.commit.0
+      (commit_wrote id s z.commit.1 z.statements z.run)
 
   ---- one that decides
 
@@ -171,11 +171,11 @@ module _ (script : Script) (events : List Event) (playable : IsPlayable script) 
   pub execution_many : PreparesAreAsMany catalog events
   execution_many client s id m z d =
       let h = execution_wrote client s id z in
-      as_many (keys_of catalog events client (answered_body events id) z.statements) id (calls_of events client s) m h (h.decided m d.call d.puts)
+      as_many (keys_of catalog events client (answered_inside events id) z.statements) id (calls_of events client s) m h (h.decided m d.call d.puts)
 
   -- Each COMMIT decides after its point.
   pub execution_points : AnsweredWereSeen events → DecisionsFollowPoints events
   execution_points seen client s id m d =
       let run = execution_runs script events playable x id in
-      follows_point events (execution_own script events playable x) (execution_belongs script events playable x) seen client s id m d (subst (λ c. Contains (said c events) s) d.commit.0 (commit_said id s d.commit.1)) (keys_of catalog events client (answered_body events id) run.statements)
-      (execution_wrote client s id (record { commit = d.commit; statements = run.statements; read = run.read }))
+      follows_point events (execution_own script events playable x) (execution_belongs script events playable x) seen client s id m d (subst (λ c. Contains (said c events) s) d.commit.0 (commit_said id s d.commit.1)) (keys_of catalog events client (answered_inside events id) run.statements)
+      (execution_wrote client s id (record { commit = d.commit; statements = run.statements; run = run.run }))

@@ -1,5 +1,5 @@
 -- What a transaction has found in the tables, and what its statements answer on that.
-use Rattle.std.specs.Prelude.{◌≡◌, Bool, false, if◌then◌else◌, ℕ, List, [], ◌∷◌, ◌++◌, filter, fold, map, Option, Some, is_some, true, Contains}
+use Rattle.std.specs.Prelude.{◌≡◌, Bool, false, if◌then◌else◌, ℕ, List, [], ◌∷◌, ◌++◌, filter, fold, map, Option, Some, is_some, true, Contains, ◌||◌}
 use Rattle.std.specs.FinMap.{empty}
 use Rattle.std.specs.List.{filter_map, flat_map, list_any}
 use Rattle.std.specs.Option.{option_and_then}
@@ -20,10 +20,9 @@ use Rattle.sdb_model.specs.declared.statement.Statement.{Statement}
 use Rattle.sdb_model.specs.Access.{with_row}
 use Rattle.sdb_model.specs.Calls.{Made, calls_of}
 use Rattle.sdb_model.specs.Exec.{Tables, exec}
-use Rattle.sdb_model.specs.Noted.{meaning_of, reads_rows}
-use Rattle.sdb_model.specs.Sql.{reads_commit}
-use Rattle.sdb_model.specs.Told.{AreRead}
-use Rattle.sdb_model.specs.Transactions.{Said, body, client_of, is_effective, statements_of}
+use Rattle.sdb_model.specs.Noted.{meaning_of, reads_rows, has_finished}
+use Rattle.sdb_model.specs.Sql.{reads_commit, Reads}
+use Rattle.sdb_model.specs.Transactions.{Said, client_of, is_effective, statements_of, statements_inside}
 use Rattle.sdb_snapshot.specs.Seen.{same_span}
 
 ---- what a statement found
@@ -67,33 +66,55 @@ with_found v found = fold with_one_found v found
 abbrev pub exec_on : List Table → Statement → View → Answer × View
 exec_on catalog s v = ((exec catalog s v.rows).0, record { keys = v.keys; rows = (exec catalog s v.rows).1 })
 
+-- A statement that runs, or none, on the rows of a view: its answer, if there is one, and the view with its changes.
+abbrev pub run_one : List Table → Option Statement → View → List Answer × View
+run_one catalog None v = ([], v)
+run_one catalog (Some s) v = ((exec_on catalog s v).0 ∷ [], (exec_on catalog s v).1)
+
 -- The answers to statements that run one after the other, each on what was found so far, with what it found itself; and the view after them.
-abbrev pub run_on_found : List Table → List (List (Key × Option Record)) → List Statement → View → List Answer × View
+-- One that was refused doesn't run, and what it found is found.
+abbrev pub run_on_found : List Table → List (List (Key × Option Record)) → List (Option Statement) → View → List Answer × View
 run_on_found catalog [] ss v = ([], v)
 run_on_found catalog (f ∷ fs) [] v = ([], v)
 run_on_found catalog (f ∷ fs) (s ∷ ss) v =
-    ((exec_on catalog s (with_found v f)).0 ∷ (run_on_found catalog fs ss (exec_on catalog s (with_found v f)).1).0, (run_on_found catalog fs ss (exec_on catalog s (with_found v f)).1).1)
+    ((run_one catalog s (with_found v f)).0 ++ (run_on_found catalog fs ss (run_one catalog s (with_found v f)).1).0, (run_on_found catalog fs ss (run_one catalog s (with_found v f)).1).1)
 
 -- what each of some statements of a client found
 abbrev pub finds : List Event → ℕ → List Said → List (List (Key × Option Record))
 finds events client ss = map (λ s. found_by (calls_of events client s)) ss
 
--- Statements that a client took read as these, which, run one after the other on what they found, give the answers that it got.
+-- a statement that changed something runs as what its text reads as, and no other runs
+abbrev pub RunsAs : Said → Option Statement → Type 0
+RunsAs s None = is_effective s ≡ false
+RunsAs s (Some st) = (is_effective s ≡ true) × Reads s.text st
+
+abbrev pub AllRunAs : List Said → List (Option Statement) → Type 0
+AllRunAs [] [] = Unit {0}
+AllRunAs [] (o ∷ os) = ⊥
+AllRunAs (s ∷ ss) [] = ⊥
+AllRunAs (s ∷ ss) (o ∷ os) = RunsAs s o × AllRunAs ss os
+
+-- Statements that a client took run as these, which, run one after the other on what they found, give the answers that those that changed
+-- something got.
 pub record IsRunOnFound (catalog : List Table) (events : List Event) (client : ℕ) (ss : List Said) : Type 0 where
-  pub statements : List Statement
-  pub read : AreRead ss statements
-  pub answers : map (λ s. s.answer) ss ≡ map Some (run_on_found catalog (finds events client ss) statements nothing_found).0
+  pub statements : List (Option Statement)
+  pub run : AllRunAs ss statements
+  pub answers : map (λ s. s.answer) (filter is_effective ss) ≡ map Some (run_on_found catalog (finds events client ss) statements nothing_found).0
 
 abbrev pub is_answered : Said → Bool
 is_answered s = is_some s.answer
 
--- the statements of a transaction's body that were answered
-abbrev pub answered_body : List Event → TxId → List Said
-answered_body events id = filter is_answered (body events id)
+-- a statement changed something, or its read has finished
+abbrev pub takes_part : Said → Bool
+takes_part s = is_effective s || has_finished s
+
+-- the statements of a transaction that were answered and changed something, or whose reads have finished
+abbrev pub answered_inside : List Event → TxId → List Said
+answered_inside events id = filter is_answered (filter takes_part (statements_inside events id))
 
 -- So it is of each transaction, recorded or not.
 abbrev pub RunsOnFound : List Table → List Event → Type 0
-RunsOnFound catalog events = (id : TxId) → IsRunOnFound catalog events (client_of id) (answered_body events id)
+RunsOnFound catalog events = (id : TxId) → IsRunOnFound catalog events (client_of id) (answered_inside events id)
 
 ---- new reads
 
@@ -127,6 +148,6 @@ pub record ReadsIn (events : List Event) (id : TxId) (before : List Said) (s : S
   pub call : Contains (calls_of events (client_of id) s) m
   pub reads : reads_rows m ≡ true
 
--- It is new after those before it that were answered, but for those that changed nothing.
+-- It is new after those before it that were answered and changed something, or whose reads have finished.
 abbrev pub ReadsAreNew : List Event → Type 0
-ReadsAreNew events = (id : TxId) (before : List Said) (s : Said) (m : Made) → ReadsIn events id before s m → IsNewRead events (client_of id) (filter is_answered (filter is_effective before)) m.request
+ReadsAreNew events = (id : TxId) (before : List Said) (s : Said) (m : Made) → ReadsIn events id before s m → IsNewRead events (client_of id) (filter is_answered (filter takes_part before)) m.request

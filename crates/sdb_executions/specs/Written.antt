@@ -1,5 +1,5 @@
 -- The keys that a transaction's statements write, and which of them its COMMIT prepares.
-use Rattle.std.specs.Prelude.{◌≡◌, ◌<◌, ◌≤◌, ◌^◌, true, ℕ, ℤ, List, [], ◌∷◌, length, take, filter, Option, Contains}
+use Rattle.std.specs.Prelude.{◌≡◌, ◌<◌, ◌≤◌, ◌^◌, true, ℕ, ℤ, List, [], ◌∷◌, length, take, filter, Option, Some, None, Contains}
 use Rattle.std.specs.List.{filter_map}
 use Rattle.sdb_types.specs.declared.key.Key.{Key}
 use Rattle.sdb_types.specs.declared.record.Record.{Record}
@@ -14,23 +14,28 @@ use Rattle.sdb_model.specs.declared.statement.Statement.{Statement}
 use Rattle.sdb_model.specs.Calls.{Made, calls_before, calls_of, key_asked}
 use Rattle.sdb_model.specs.Causes.{IsCommitOf}
 use Rattle.sdb_model.specs.Counted.{prepares_in}
-use Rattle.sdb_model.specs.Told.{AreRead}
+use Rattle.sdb_model.specs.Exec.{Tables}
 use Rattle.sdb_model.specs.Transactions.{Said, point, prepares}
 use Rattle.sdb_session.specs.Keys.{keys_written, with_keys}
-use Rattle.sdb_executions.specs.Found.{View, answered_body, exec_on, finds, nothing_found, with_found}
+use Rattle.sdb_executions.specs.Found.{AllRunAs, View, answered_inside, finds, nothing_found, run_one, with_found}
 use Rattle.sdb_executions.specs.Laws.{row_put}
 
 ---- keys that are written
 
+-- the keys that a statement that runs writes, or none
+abbrev pub keys_by : List Table → Option Statement → Tables → List Key
+keys_by catalog None d = []
+keys_by catalog (Some s) d = keys_written catalog s d
+
 -- The keys that statements write that run one after the other, each on what was found so far, with what it found itself: each once, in the
 -- order in which they are first written, after those that were written before.
-abbrev pub written_on_found : List Table → List (List (Key × Option Record)) → List Statement → View → List Key → List Key
+abbrev pub written_on_found : List Table → List (List (Key × Option Record)) → List (Option Statement) → View → List Key → List Key
 written_on_found catalog [] ss v ks = ks
 written_on_found catalog (f ∷ fs) [] v ks = ks
-written_on_found catalog (f ∷ fs) (s ∷ ss) v ks = written_on_found catalog fs ss (exec_on catalog s (with_found v f)).1 (with_keys ks (keys_written catalog s (with_found v f).rows))
+written_on_found catalog (f ∷ fs) (s ∷ ss) v ks = written_on_found catalog fs ss (run_one catalog s (with_found v f)).1 (with_keys ks (keys_by catalog s (with_found v f).rows))
 
--- those that statements of a client write, which read as these
-abbrev pub keys_of : List Table → List Event → ℕ → List Said → List Statement → List Key
+-- those that statements of a client write, which run as these
+abbrev pub keys_of : List Table → List Event → ℕ → List Said → List (Option Statement) → List Key
 keys_of catalog events client ss statements = written_on_found catalog (finds events client ss) statements nothing_found []
 
 ---- keys that are prepared
@@ -54,16 +59,16 @@ pub record PreparesAll (keys : List Key) (id : TxId) (calls : List Made) : Type 
   pub prepared : keys_prepared id calls ≡ take count keys
   pub decided : (m : Made) → Contains calls m → PutsCommitted id m → keys_applied id (calls_before m.at calls) ≡ keys
 
--- A COMMIT of a transaction, and what the answered statements of its body read as (`RunsOnFound` has them).
+-- A COMMIT of a transaction, and what its answered statements run as (`RunsOnFound` has them).
 pub record CommitOf (events : List Event) (client : ℕ) (s : Said) (id : TxId) : Type 0 where
   pub commit : IsCommitOf events client s id
-  pub statements : List Statement
-  pub read : AreRead (answered_body events id) statements
+  pub statements : List (Option Statement)
+  pub run : AllRunAs (answered_inside events id) statements
 
 -- Each COMMIT, answered or not, prepares the keys that the statements of its transaction wrote.
 abbrev pub CommitsPrepareWritten : List Table → List Event → Type 0
 CommitsPrepareWritten catalog events =
-    (client : ℕ) (s : Said) (id : TxId) (x : CommitOf events client s id) → PreparesAll (keys_of catalog events client (answered_body events id) x.statements) id (calls_of events client s)
+    (client : ℕ) (s : Said) (id : TxId) (x : CommitOf events client s id) → PreparesAll (keys_of catalog events client (answered_inside events id) x.statements) id (calls_of events client s)
 
 ---- one that decides
 
@@ -77,7 +82,7 @@ pub record Decides (events : List Event) (client : ℕ) (s : Said) (id : TxId) (
 -- Such a COMMIT makes as many prepares as keys were written.
 abbrev pub PreparesAreAsMany : List Table → List Event → Type 0
 PreparesAreAsMany catalog events =
-    (client : ℕ) (s : Said) (id : TxId) (m : Made) (x : CommitOf events client s id) → Decides events client s id m → length (prepares_in id (calls_of events client s)) ≡ length (keys_of catalog events client (answered_body events id) x.statements)
+    (client : ℕ) (s : Said) (id : TxId) (m : Made) (x : CommitOf events client s id) → Decides events client s id m → length (prepares_in id (calls_of events client s)) ≡ length (keys_of catalog events client (answered_inside events id) x.statements)
 
 -- Each prepare of the COMMIT was seen and applied, at the transaction's point or before it, and the call is after that.
 pub record IsAfterPoint (events : List Event) (client : ℕ) (s : Said) (id : TxId) (m : Made) : Type 0 where

@@ -31,8 +31,8 @@ pub fn calls_are_counted()
     ensures { (x : ExecutionOf) → FollowsMoves x → AreCounted x.script.catalog x.events }
 {}
 
-/// Where the events follow the script's moves, whoever was answered from rows had each unresolved record that it found rolled by calls that
-/// were seen.
+/// Where the events follow the script's moves, each statement whose read finished had each unresolved record that it found rolled by calls
+/// that were seen.
 pub fn records_are_resolved()
     ensures { (x : ExecutionOf) → FollowsMoves x → AreResolved x.events }
 {}
@@ -84,7 +84,7 @@ pub fn vacuums_sweep()
 {}
 
 /// The answered statements of each transaction's body, recorded or not, give the answers that its client got where they run one after the
-/// other, each on what the transaction has found so far, with what it made of it.
+/// other, each on what the transaction has found so far, with what it made of it. What a refused statement found is found too.
 pub fn transactions_run_on_found()
     ensures { (x : ExecutionOf) → RunsOnFound x.script.catalog x.events }
 {}

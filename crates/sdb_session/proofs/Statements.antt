@@ -307,6 +307,20 @@ module _ (catalog : List Table) (apart : IsApart catalog) (g h : Database) (soun
           }),
         )
 
+    -- it is refused, and what it read stays noted
+    kept_read : (v : TxnAt) (ks : List Keyed) → IsNoting t a images v → ks ≡ changes_on p.table p.statement (overlay a v.seen) → too_many v ks ≡ true → Led (next.Answer (refused 15)) v
+    kept_read v ks n is many = (
+      n.idle,
+      n.id,
+      Kept refl refl (λ _. passes_is v ks n is true many) (record {
+        past = past;
+        seen = subst (SeenAlone catalog past h) (sym n.seen) seen_now;
+        body = subst (BodyOk catalog (tables_fit catalog) statements answers) (sym n.seen) body_now;
+        keys = λ e same_rows fits. open_now.keys e same_rows fits ∙ ap (map (λ (w : Write). w.key)) (sym (writes_same a refl) ∙ ap (λ (y : Seen). y.writes) (sym n.seen));
+        new = open_now.new;
+      }),
+    )
+
     abbrev Answers : TxnAt → PlanStep → Type 0
     Answers v s = Led (next.Answer (given_answer v s)) (given_left (idle_of t) v s)
 
@@ -314,7 +328,7 @@ module _ (catalog : List Table) (apart : IsApart catalog) (g h : Database) (soun
     finished_at v b ks n gave is =
         let rows = answered b ks (step_seen v b ks n gave) in
         let some : changes_nothing b ≡ false = rows_change b rows in
-        by_test (too_many v ks) (λ m. rw (some, m) (kept (refused 15) refl refl (λ _. passes_is v ks n is true m))) (λ m. rw (some, m) (rw some (added v b ks n gave is rows m)))
+        by_test (too_many v ks) (λ m. rw (some, m) (kept_read v ks n is m)) (λ m. rw (some, m) (rw some (added v b ks n gave is rows m)))
 
     took : (v : TxnAt) → IsNoting t a images v → Answers v (gives p a v)
     took v n = by (first_unfit p.table (overlay a v.seen)) refl
