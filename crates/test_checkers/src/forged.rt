@@ -177,7 +177,7 @@ fn commits(alloc: Global) -> Result<(), Fail> {
     all_cases(alloc, "commits", COMMITS.as_slice())
 }
 
-static NARROW: [Judged; 14] = [
+static NARROW: [Judged; 15] = [
     // Causes that hold narrowly: beside each true answer one that differs from it in little.
     Judged(
         Asked::Caused,
@@ -216,8 +216,13 @@ static NARROW: [Judged; 14] = [
     ),
     Judged(
         Asked::Caused,
-        "scalardb report 1\nevents 4\n1 take 1 done : BEGIN\n2 take 1 - : SELECT * FROM bank.account WHERE id = 1\n3 call 1 ordered get bank.account(1) seen found bank.account(1){balance='much',tx_id='00000000-0000-0002-0000-000000000001',tx_prepared_at=0L,tx_state=1,tx_version=1} -\n4 call 1 ordered get coordinator.state('00000000-0000-0002-0000-000000000001') seen found coordinator.state('00000000-0000-0002-0000-000000000001'){tx_created_at=0L,tx_state=3} badrecord bank.account(1)\norder 0\ntables 0\nend\n",
+        "scalardb report 1\nevents 5\n1 take 1 done : BEGIN\n2 take 1 - : SELECT * FROM bank.account WHERE id = 1\n3 call 1 ordered get bank.account(1) seen found bank.account(1){balance='much',tx_id='00000000-0000-0002-0000-000000000001',tx_prepared_at=0L,tx_state=1,tx_version=1} -\n4 call 1 ordered get coordinator.state('00000000-0000-0002-0000-000000000001') seen found coordinator.state('00000000-0000-0002-0000-000000000001'){tx_created_at=0L,tx_state=3} -\n5 call 1 ordered put bank.account(1){balance='much',tx_committed_at=0L,tx_id='00000000-0000-0002-0000-000000000001',tx_prepared_at=0L,tx_state=3,tx_version=1} if 00000000-0000-0002-0000-000000000001 1 seen applied badrecord bank.account(1)\norder 0\ntables 0\nend\n",
         true,
+    ),
+    Judged(
+        Asked::Caused,
+        "scalardb report 1\nevents 4\n1 take 1 done : BEGIN\n2 take 1 - : SELECT * FROM bank.account WHERE id = 1\n3 call 1 ordered get bank.account(1) seen found bank.account(1){balance='much',tx_id='00000000-0000-0002-0000-000000000001',tx_prepared_at=0L,tx_state=1,tx_version=1} -\n4 call 1 ordered get coordinator.state('00000000-0000-0002-0000-000000000001') seen found coordinator.state('00000000-0000-0002-0000-000000000001'){tx_created_at=0L,tx_state=3} badrecord bank.account(1)\norder 0\ntables 0\nend\n",
+        false,
     ),
     Judged(
         Asked::Caused,
