@@ -17,7 +17,7 @@ use Rattle.sdb_model.specs.Exec.{Tables, exec}
 use Rattle.sdb_model.specs.Told.{AreBodies, AreRead, IsRun, run_body, serial}
 use Rattle.sdb_model.specs.Transactions.{body, point}
 use Rattle.sdb_bench.specs.Counts.{uneven_of}
-use Rattle.sdb_bench.specs.Script.{bench_clients, bench_moves, bench_script_of}
+use Rattle.sdb_bench.specs.Script.{bench_clients, bench_script_of}
 use Rattle.sdb_bench.specs.Setup.{bench_catalog}
 use Rattle.sdb_bench.proofs.Bodied.{other_body, setup_body, setup_id}
 use Rattle.sdb_bench.proofs.Even.{AreCells, HasNone, IsEven, all_zero, insert_zero, no_entries, none_zero, update_even, update_none}
