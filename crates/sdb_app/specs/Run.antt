@@ -180,7 +180,7 @@ pub record IsBadAfter (script : Script) (old new : Attached) (key : Key) : Type 
   pub odd : IsOddIn script.catalog (known_before old new) key
   pub foreign : AreReady script old → ⊥
 
--- Why a script that was was not played to its end.
+-- Why a script that was placed was not played to its end.
 abbrev pub StopsWorld : Script → Attached → Attached → Status → Type 0
 StopsWorld script old new = Stops old.shelves new.shelves (IsBadAfter script old new) (λ key. ⊥)
 
