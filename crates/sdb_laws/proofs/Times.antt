@@ -14,6 +14,7 @@ use Rattle.sdb_types.proofs.Keys.{tests}
 use Rattle.sdb_record.specs.declared.coordinator.Decision.TheVariants.{Committed, Aborted}
 use Rattle.sdb_stores.specs.declared.place.Place.{Place}
 use Rattle.sdb_model.specs.Events.{Shelf, IsTrace}
+use Rattle.sdb_model.specs.Tables.{is_data}
 use Rattle.sdb_laws.specs.Plan.{Plan, written}
 use Rattle.sdb_laws.specs.History.{Role, Begins, Prepares, Ends, Word, Talk, History, Standing, Firm, Held, base_of, firm_of, has_version, happens}
 use Rattle.sdb_laws.specs.Lawful.{Played, talk, id, answer_of, is_denial, IsBadRow, IsKnownAborted, MayTell}
@@ -149,7 +150,7 @@ stood_before plan places opening past p ss s t k word r role done =
     let a : Allowed plan (history plan places opening past ss) (Prepares t k word) true = subst (λ x. Allowed plan (history plan places opening past ss) x true) role m.allowed in
     i.held.records k (outside i.knows a.0 a.4) ∙ ap (option_map (record_for plan k)) (is_firm (w.rows k) (base_of (written (plan t) k)) (a.5 refl)) ∙ firm_for (base_of (written (plan t) k)) ∙ sym (held_before plan t k (i.knows.planned t a.0) a.4)
   where
-    outside : Knows plan (history plan places opening past ss) past → (history plan places opening past ss).talk.taken t ≡ true → written (plan t) k ≢ None → Rattle.sdb_laws.specs.Lawful.is_data k ≡ true
+    outside : Knows plan (history plan places opening past ss) past → (history plan places opening past ss).talk.taken t ≡ true → written (plan t) k ≢ None → is_data k ≡ true
     outside knows taken writes = ((knows.planned t taken).write k (Rattle.sdb_laws.specs.Records.write_there (plan t) k) (Rattle.sdb_laws.proofs.Known.writes_it (plan t) k writes)).1
 
     is_firm : (x : Option Standing) (v : Option ℕ) → has_version x v ≡ true → x ≡ firm_of v
