@@ -16,7 +16,7 @@ use crate::same::is_same_found;
 use crate::sign::{Sign, any};
 use sdb_model::{Event, Keyword};
 use sdb_order::{Said, is_word, statements_said};
-use sdb_plain::{Made, calls_of, id_of, is_prepared_record, noted_in, put_by, meaning_of};
+use sdb_plain::{Made, calls_of, id_of, is_prepared_record, meaning_of, noted_in, put_by};
 use sdb_record::{Scan, is_same_version, is_unchanged};
 use sdb_said::{Note, is_same_key, kept_writer, record_among, version_among, version_noted};
 use sdb_types::{Key, NoMemory, Record, Reply, Request, TxId};
