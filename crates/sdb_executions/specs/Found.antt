@@ -1,5 +1,5 @@
 -- What a transaction has found in the tables, and what its statements answer on that.
-use Rattle.std.specs.Prelude.{◌≡◌, Bool, false, if◌then◌else◌, ℕ, List, [], ◌∷◌, ◌++◌, filter, fold, map, Option, Some, is_some, true, Contains, ◌||◌}
+use Rattle.std.specs.Prelude.{◌≡◌, Bool, false, if◌then◌else◌, ℕ, List, [], ◌∷◌, ◌++◌, filter, fold, map, Option, Some, None, is_some, true, Contains, ◌||◌}
 use Rattle.std.specs.FinMap.{empty}
 use Rattle.std.specs.List.{filter_map, flat_map, list_any}
 use Rattle.std.specs.Option.{option_and_then}
