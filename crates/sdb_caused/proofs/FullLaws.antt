@@ -11,7 +11,7 @@ use Rattle.sdb_model.specs.declared.statement.Statement.TheVariants as statement
 use Rattle.sdb_model.specs.Calls as calls
 use Rattle.sdb_model.specs.Calls.{records_read}
 use Rattle.sdb_model.specs.Noted.{has_finished, reads_rows}
-use Rattle.sdb_model.specs.Causes.{MayPassMost, body_before, may_pass, records_found, counted_by}
+use Rattle.sdb_model.specs.Causes.{MayPassMost, body_before, finished_before, may_pass, records_found, counted_by}
 use Rattle.sdb_model.specs.Transactions.{Said, client_of, id_of, is_effective, ordinal_of, said}
 use Rattle.sdb_said.proofs.Lists.{right}
 use Rattle.sdb_plain.specs.declared.made.Made.{Made}
@@ -72,6 +72,9 @@ module _ (events : List Event) (client : ℕ) (s : Said) (o : Option Statement) 
 
   abbrev before : TxId → List Said
   before id = body_before events id s
+
+  abbrev finished : TxId → List Said
+  finished id = finished_before events id s
 
   abbrev here : TxId → Statement → Bool
   here id st = may_pass (sum_by counted_by (before id)) (sum_by (found_by events client) (finished id) + found_by events client s) st
