@@ -20,6 +20,7 @@ use Rattle.sdb_model.specs.declared.statement.Statement.{Statement}
 use Rattle.sdb_model.specs.declared.statement.Statement.TheVariants as statement
 use Rattle.sdb_model.specs.Causes.{refused}
 use Rattle.sdb_model.specs.Exec.{named_table}
+use Rattle.sdb_model.specs.Noted.{read_finished}
 use Rattle.sdb_model.specs.Plain.{is_one_line}
 use Rattle.sdb_model.specs.Refused.{refusal_by, refusal_of}
 use Rattle.sdb_model.specs.Sql.{reads_commit}
@@ -106,7 +107,12 @@ at_rest : (t : TxnAt) → RestsWith t → TxnClear t
 at_rest t h = subst (λ (x : Doing). DoingClear t.seen x) (sym h.0) h.1
 
 left_clear : (was t : TxnAt) (s : PlanStep) → RestsWith was → RestsWith t → GivesClear s → RestsWith (given_left was t s)
-left_clear was t (Finished a ks) w h g = elim (changes_nothing (given_answer t (Finished a ks))) as (λ b. RestsWith (cond b was (written t ks))) [ true ↦ w | false ↦ (h.0, written_clear t.seen ks g.1 h.1) ]
+left_clear was t (Finished a ks) w h g = by (changes_nothing (given_answer t (Finished a ks))) (read_finished (given_answer t (Finished a ks)))
+  where
+    by : (b f : Bool) → RestsWith (cond b (cond f t was) (written t ks))
+    by true true = h
+    by true false = w
+    by false f = (h.0, written_clear t.seen ks g.1 h.1)
 left_clear was t (Wants a) w h g = w
 
 plan_gives : (p : Planned) (a : Access) (t : TxnAt) → StatementClear p.statement → SeenClear t.seen → GivesClear (gives p a t)
