@@ -478,7 +478,7 @@ fn checks_refused(alloc: Global) -> Result<bool, Fail> {
 
 #[test]
 fn refused_insert_is_checked(rt: HostRuntime) -> Result<(), Fail> {
-    assert!(checks_refused(rt.alloc())?);
+    assert!(rt; checks_refused(rt.alloc())?);
     Ok(())
 }
 
